@@ -1,0 +1,115 @@
+-- What moves do to the sticker places (WCA Regulations, article 12; slices by common usage).
+use Rattle.std.specs.Prelude.{◌≡◌, ℕ, zero, suc, ◌*◌, ◌%◌, Bool, true, not, if◌then◌else◌, List, [], ◌∷◌, map, reverse}
+use Rattle.niss_moves.specs.Places.{Coord, negated, is_negative, is_zero, is_positive, Vector, Place, along}
+use Rattle.niss_moves.specs.declared.turn.Face.{Face}
+use Rattle.niss_moves.specs.declared.turn.Face.TheVariants.{U, D, R, L, F, B}
+use Rattle.niss_moves.specs.declared.turn.Power.{Power}
+use Rattle.niss_moves.specs.declared.turn.Power.TheVariants.{Quarter, Half, Counter}
+use Rattle.niss_moves.specs.declared.turn.Turn.{Turn}
+use Rattle.niss_moves.specs.declared.token.Slice.{Slice}
+use Rattle.niss_moves.specs.declared.token.Slice.TheVariants.{M, E, S}
+use Rattle.niss_moves.specs.declared.axis.Axis.{Axis}
+use Rattle.niss_moves.specs.declared.axis.Axis.TheVariants.{Rl, Ud, Fb}
+use Rattle.niss_moves.specs.declared.token.Token.{Token}
+use Rattle.niss_moves.specs.declared.token.Token.TheVariants as token
+
+-- one quarter about an axis, clockwise as seen from its positive end
+abbrev pub quarter : Axis → Vector → Vector
+quarter Rl v = record { x = v.x; y = v.z; z = negated v.y }
+quarter Ud v = record { x = negated v.z; y = v.y; z = v.x }
+quarter Fb v = record { x = v.y; y = negated v.x; z = v.z }
+
+abbrev pub quarters : Axis → ℕ → Vector → Vector
+quarters axis zero v = v
+quarters axis (suc n) v = quarters axis n (quarter axis v)
+
+-- A move turns the layers of one axis by a number of quarters.
+pub record Move : Type 0 where
+  pub axis : Axis
+  pub turns : Coord → Bool
+  pub quarters : ℕ
+
+-- where a move brings the sticker at a place
+abbrev pub moved : Move → Place → Place
+moved m q =
+    if m.turns (along m.axis q.cell)
+    then record { cell = quarters m.axis m.quarters q.cell; direction = quarters m.axis m.quarters q.direction }
+    else q
+
+abbrev pub times : Power → ℕ
+times Quarter = 1
+times Half = 2
+times Counter = 3
+
+-- counter to the axis
+abbrev pub against : ℕ → ℕ
+against n = (3 * n) % 4
+
+abbrev pub face_move : Face → (ℕ → Move)
+face_move R n = record { axis = Rl; turns = is_positive; quarters = n }
+face_move L n = record { axis = Rl; turns = is_negative; quarters = against n }
+face_move U n = record { axis = Ud; turns = is_positive; quarters = n }
+face_move D n = record { axis = Ud; turns = is_negative; quarters = against n }
+face_move F n = record { axis = Fb; turns = is_positive; quarters = n }
+face_move B n = record { axis = Fb; turns = is_negative; quarters = against n }
+
+-- the two outer layers
+abbrev pub wide_move : Face → ℕ → Move
+wide_move R n = record { axis = Rl; turns = λ c. not (is_negative c); quarters = n }
+wide_move L n = record { axis = Rl; turns = λ c. not (is_positive c); quarters = against n }
+wide_move U n = record { axis = Ud; turns = λ c. not (is_negative c); quarters = n }
+wide_move D n = record { axis = Ud; turns = λ c. not (is_positive c); quarters = against n }
+wide_move F n = record { axis = Fb; turns = λ c. not (is_negative c); quarters = n }
+wide_move B n = record { axis = Fb; turns = λ c. not (is_positive c); quarters = against n }
+
+abbrev pub slice_move : Slice → ℕ → Move
+slice_move M n = record { axis = Rl; turns = is_zero; quarters = against n }
+slice_move E n = record { axis = Ud; turns = is_zero; quarters = against n }
+slice_move S n = record { axis = Fb; turns = is_zero; quarters = n }
+
+abbrev pub rotation_move : Axis → ℕ → Move
+rotation_move axis n = record { axis = axis; turns = λ c. true; quarters = n }
+
+abbrev pub move_of : Token → Move
+move_of (token.Face t) = face_move t.face (times t.power)
+move_of (token.Wide face power) = wide_move face (times power)
+move_of (token.Slice slice power) = slice_move slice (times power)
+move_of (token.Rotation axis power) = rotation_move axis (times power)
+
+-- where one move of a line brings the sticker at a place
+abbrev pub moved_by : Token → Place → Place
+moved_by t = moved (move_of t)
+
+-- where a sequence, made from the left, brings the sticker at a place
+abbrev pub effect : List Token → Place → Place
+effect [] q = q
+effect (t ∷ ts) q = effect ts (moved_by t q)
+
+-- where one face turn brings the sticker at a place
+abbrev pub turned : Turn → Place → Place
+turned t = moved (face_move t.face (times t.power))
+
+-- where a sequence of face turns, made from the left, brings the sticker at a place
+abbrev pub effect_of_turns : List Turn → Place → Place
+effect_of_turns [] q = q
+effect_of_turns (t ∷ ts) q = effect_of_turns ts (turned t q)
+
+-- the inverse of a power, of a move, of a sequence
+abbrev pub inverse_power : Power → Power
+inverse_power Quarter = Counter
+inverse_power Half = Half
+inverse_power Counter = Quarter
+
+abbrev pub inverse_token : Token → Token
+inverse_token (token.Face t) = token.Face (record t { power = inverse_power t.power })
+inverse_token (token.Wide face power) = token.Wide face (inverse_power power)
+inverse_token (token.Slice slice power) = token.Slice slice (inverse_power power)
+inverse_token (token.Rotation axis power) = token.Rotation axis (inverse_power power)
+
+abbrev pub inverse : List Token → List Token
+inverse ts = reverse (map inverse_token ts)
+
+-- A sequence has the effect of the moves outside brackets and then the inverse of the effect of those inside:
+-- the moves inside bring each place back to where the moves outside bring it.
+abbrev pub HasMeaning : List Token → List Token → List Token → Type 0
+HasMeaning s normal bracketed = (q : Place) → effect bracketed (effect s q) ≡ effect normal q

@@ -1,0 +1,4 @@
+pub mod Places
+pub mod Facelets
+pub mod Effects
+pub mod Letters

@@ -1,0 +1,6 @@
+//! Turns, notation and move sequences of the 3x3x3 cube.
+#![tactic(auto)]
+
+pub mod axis;
+pub mod token;
+pub mod turn;
