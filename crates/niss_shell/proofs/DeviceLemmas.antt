@@ -1,0 +1,75 @@
+-- How the bytes that several calls move join.
+use Rattle.std.proofs.Common.{◌≡◌, ℕ, zero, suc, ◌≢◌, ◌<◌, ◌||◌, Bool, true, false, Option, Some, None, List, [], ◌∷◌, ◌++◌, length, refl, sym, ap, ◌∙◌, subst, append_assoc, append-nil, arith}
+use Rattle.std.proofs.Math.Bool.{or-false, or-true}
+use Rattle.niss_shell.specs.Device.{SourceState, TargetState, has_fault, GaveOf, Gave, AppendedOf, Appended, StaysSilentOf, StaysSilent, is_none_of}
+
+nothing_appended : (held : Option (List ℕ)) (failed : Bool) → AppendedOf held held failed []
+nothing_appended None failed = tt
+nothing_appended (Some all) failed = sym (append-nil all)
+
+pub appended_nothing : (a : TargetState) → Appended a a []
+appended_nothing a = nothing_appended a.held (has_fault a)
+
+more_appended : (a b c : Option (List ℕ)) (s t : Bool) (x y : List ℕ) → (s ≡ true → t ≡ true) → StaysSilentOf s b c
+    → AppendedOf a b s x → AppendedOf b c t y → AppendedOf a c t (x ++ y)
+more_appended None b c s t x y sticks silent p q = tt
+more_appended (Some old) None None s t x y sticks silent p q = sticks p
+more_appended (Some old) None (Some new) s t x y sticks silent p q =
+    absurd (let silenced : StaysSilentOf true None (Some new) = subst (λ f. StaysSilentOf f None (Some new)) p silent in silenced)
+more_appended (Some old) (Some mid) None s t x y sticks silent p q = q
+more_appended (Some old) (Some mid) (Some new) s t x y sticks silent p q = q ∙ ap (λ v. v ++ y) p ∙ append_assoc old x y
+
+-- two calls, also on a target that failed before
+pub appended_on : (a b c : TargetState) (x y : List ℕ) → (has_fault b ≡ true → has_fault c ≡ true) → StaysSilent b c
+    → Appended a b x → Appended b c y → Appended a c (x ++ y)
+appended_on a b c x y sticks silent p q = more_appended a.held b.held c.held (has_fault b) (has_fault c) x y sticks silent p q
+
+pub appended_more : (a b c : TargetState) (x y : List ℕ) → has_fault b ≡ false → Appended a b x → Appended b c y → Appended a c (x ++ y)
+appended_more a b c x y e p q =
+    appended_on a b c x y (λ h. absurd (cc (e, h))) (subst (λ f. StaysSilentOf f b.held c.held) (sym e) tt) p q
+
+-- a call that appends nothing, after one that worked
+pub appended_then : (a b c : TargetState) (x : List ℕ) → has_fault b ≡ false → Appended a b x → Appended b c [] → Appended a c x
+appended_then a b c x e p q = subst (λ v. Appended a c v) (append-nil x) (appended_more a b c x [] e p q)
+
+-- a flush after a failure
+pub appended_after_failure : (a b c : TargetState) (x : List ℕ) → has_fault c ≡ true → StaysSilent b c → Appended a b x → Appended b c [] → Appended a c x
+appended_after_failure a b c x e silent p q = subst (λ v. Appended a c v) (append-nil x) (appended_on a b c x [] (λ h. e) silent p q)
+
+-- a call that adds these faults
+pub same_fault : (s t : TargetState) (refused : Bool) → t.write_failed ≡ (s.write_failed || refused) → t.flush_failed ≡ s.flush_failed
+    → refused ≡ false → has_fault t ≡ has_fault s
+same_fault s t refused p q e =
+    ap (λ f. f || t.flush_failed) (p ∙ ap (λ f. s.write_failed || f) e ∙ or-false s.write_failed) ∙ ap (λ f. s.write_failed || f) q
+
+pub new_fault : (s t : TargetState) (refused : Bool) → t.write_failed ≡ (s.write_failed || refused) → refused ≡ true → t.write_failed ≡ true
+new_fault s t refused p e = p ∙ ap (λ f. s.write_failed || f) e ∙ or-true s.write_failed
+
+pub fault_of_write : (t : TargetState) → t.write_failed ≡ true → has_fault t ≡ true
+fault_of_write t e = ap (λ f. f || t.flush_failed) e
+
+nothing_given : (left : Option (List ℕ)) (failed : Bool) → GaveOf left left failed []
+nothing_given None failed = tt
+nothing_given (Some all) failed = refl
+
+pub gave_nothing : (a : SourceState) → Gave a a []
+gave_nothing a = nothing_given a.left a.has_failed
+
+more_given : (a b c : Option (List ℕ)) (s t : Bool) (x y : List ℕ) → s ≡ false → GaveOf a b s x → GaveOf b c t y → GaveOf a c t (x ++ y)
+more_given None b c s t x y e p q = tt
+more_given (Some old) None c s t x y e p q = absurd (cc (e, p.0))
+more_given (Some old) (Some mid) None s t x y e p q = (q.0, (q.1.0, p ∙ ap (λ v. x ++ v) q.1.1 ∙ sym (append_assoc x y q.1.0)))
+more_given (Some old) (Some mid) (Some new) s t x y e p q = p ∙ ap (λ v. x ++ v) q ∙ sym (append_assoc x y new)
+
+pub gave_more : (a b c : SourceState) (x y : List ℕ) → b.has_failed ≡ false → Gave a b x → Gave b c y → Gave a c (x ++ y)
+gave_more a b c x y e p q = more_given a.left b.left c.left b.has_failed c.has_failed x y e p q
+
+pub is_none_of-some : (n : ℕ) (bytes : List ℕ) → n ≢ 0 → is_none_of n bytes ≡ false
+is_none_of-some zero bytes h = absurd (h refl)
+is_none_of-some (suc n) [] h = refl
+is_none_of-some (suc n) (b ∷ bytes) h = refl
+
+pub is_none_of-none : (n : ℕ) (bytes : List ℕ) → n ≡ 0 → 0 < length bytes → is_none_of n bytes ≡ true
+is_none_of-none zero [] e h = absurd (omega (arith, h))
+is_none_of-none zero (b ∷ bytes) e h = refl
+is_none_of-none (suc n) bytes e h = absurd (omega (arith, e))

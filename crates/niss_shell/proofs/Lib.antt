@@ -1,0 +1,8 @@
+pub mod DeviceLemmas
+pub mod DigitLemmas
+pub mod LinesLemmas
+pub mod ReadingLemmas
+pub mod EngineLemmas
+pub mod AnswerLemmas
+pub mod RunLemmas
+pub mod WordsLemmas

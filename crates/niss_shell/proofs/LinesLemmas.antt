@@ -1,0 +1,102 @@
+-- Lines and answers of a text that comes in two parts.
+use Rattle.std.proofs.Common.{◌≡◌, ℕ, ◌+◌, ◌==◌, Bool, true, false, if◌then◌else◌, Option, Some, None, Result, Ok, Err, List, [], ◌∷◌, ◌++◌, length, refl, sym, ap, ◌∙◌, append_assoc, arith}
+use Rattle.niss_shell.specs.Lines.{ended_lines, last_part, written_text, text_before, first_fault, fault_before}
+
+ended_step : (c : Bool) (front xs ys : List ℕ) (b : ℕ)
+    → ended_lines [] (xs ++ ys) ≡ ended_lines [] xs ++ ended_lines (last_part [] xs) ys
+    → ended_lines (front ++ b ∷ []) (xs ++ ys) ≡ ended_lines (front ++ b ∷ []) xs ++ ended_lines (last_part (front ++ b ∷ []) xs) ys
+    → (if c then front ∷ ended_lines [] (xs ++ ys) else ended_lines (front ++ b ∷ []) (xs ++ ys))
+    ≡ (if c then front ∷ ended_lines [] xs else ended_lines (front ++ b ∷ []) xs) ++ ended_lines (if c then last_part [] xs else last_part (front ++ b ∷ []) xs) ys
+ended_step true front xs ys b p q = ap (λ v. front ∷ v) p
+ended_step false front xs ys b p q = q
+
+pub ended_lines-append : (front xs ys : List ℕ) → ended_lines front (xs ++ ys) ≡ ended_lines front xs ++ ended_lines (last_part front xs) ys
+unfolding ended_lines last_part
+ended_lines-append front [] ys = refl
+ended_lines-append front (b ∷ xs) ys = ended_step (b == 10) front xs ys b (ended_lines-append [] xs ys) (ended_lines-append (front ++ b ∷ []) xs ys)
+
+unended_step : (c : Bool) (front xs ys : List ℕ) (b : ℕ)
+    → last_part [] (xs ++ ys) ≡ last_part (last_part [] xs) ys
+    → last_part (front ++ b ∷ []) (xs ++ ys) ≡ last_part (last_part (front ++ b ∷ []) xs) ys
+    → (if c then last_part [] (xs ++ ys) else last_part (front ++ b ∷ []) (xs ++ ys))
+    ≡ last_part (if c then last_part [] xs else last_part (front ++ b ∷ []) xs) ys
+unended_step true front xs ys b p q = p
+unended_step false front xs ys b p q = q
+
+pub last_part-append : (front xs ys : List ℕ) → last_part front (xs ++ ys) ≡ last_part (last_part front xs) ys
+unfolding last_part
+last_part-append front [] ys = refl
+last_part-append front (b ∷ xs) ys = unended_step (b == 10) front xs ys b (last_part-append [] xs ys) (last_part-append (front ++ b ∷ []) xs ys)
+
+-- no fault in a line and the rest
+fault_none_step : {E : Type 0} (r : Result (List ℕ) E) (n : ℕ) (a b : Option (ℕ × E))
+    → (a ≡ None → b ≡ a) → fault_before r n a ≡ None → fault_before r n b ≡ fault_before r n a
+fault_none_step (Ok text) n a b same none = same none
+fault_none_step (Err e) n a b same none = refl
+
+pub first_fault-none_head : {E : Type 0} (r : Result (List ℕ) E) (n : ℕ) (a : Option (ℕ × E)) → fault_before r n a ≡ None → a ≡ None
+first_fault-none_head (Ok text) n a none = none
+first_fault-none_head (Err e) n a none = absurd (cc none)
+
+fault_ok_step : {E : Type 0} (r : Result (List ℕ) E) (n : ℕ) (a b c : Option (ℕ × E))
+    → fault_before r n a ≡ None → b ≡ c → fault_before r n b ≡ c
+fault_ok_step (Ok text) n a b c none same = same
+fault_ok_step (Err e) n a b c none same = absurd (cc none)
+
+pub first_fault-append : {E : Type 0} (f : List ℕ → Result (List ℕ) E) (n : ℕ) (xs ys : List (List ℕ))
+    → first_fault f n xs ≡ None → first_fault f n (xs ++ ys) ≡ first_fault f (n + length xs) ys
+unfolding first_fault
+first_fault-append f n [] ys none = ap (λ k. first_fault f k ys) (omega arith)
+first_fault-append f n (l ∷ xs) ys none =
+    fault_ok_step (f l) n (first_fault f (n + 1) xs) (first_fault f (n + 1) (xs ++ ys)) (first_fault f (n + length (l ∷ xs)) ys) none
+    (first_fault-append f (n + 1) xs ys (first_fault-none_head (f l) n (first_fault f (n + 1) xs) none)
+    ∙ ap (λ k. first_fault f k ys) (omega arith))
+
+fault_some_step : {E : Type 0} (r : Result (List ℕ) E) (n : ℕ) (a b : Option (ℕ × E)) (e : ℕ × E)
+    → (a ≡ Some e → b ≡ Some e) → fault_before r n a ≡ Some e → fault_before r n b ≡ Some e
+fault_some_step (Ok text) n a b e same some = same some
+fault_some_step (Err x) n a b e same some = some
+
+pub first_fault-stays : {E : Type 0} (f : List ℕ → Result (List ℕ) E) (n : ℕ) (xs ys : List (List ℕ)) (e : ℕ × E)
+    → first_fault f n xs ≡ Some e → first_fault f n (xs ++ ys) ≡ Some e
+unfolding first_fault
+first_fault-stays f n [] ys e some = absurd (cc some)
+first_fault-stays f n (l ∷ xs) ys e some =
+    fault_some_step (f l) n (first_fault f (n + 1) xs) (first_fault f (n + 1) (xs ++ ys)) e (first_fault-stays f (n + 1) xs ys e) some
+
+written_ok_step : {E : Type 0} (r : Result (List ℕ) E) (n : ℕ) (a : Option (ℕ × E)) (x y z : List ℕ)
+    → fault_before r n a ≡ None → x ≡ y ++ z → text_before r x ≡ text_before r y ++ z
+written_ok_step (Ok text) n a x y z none same = ap (λ v. text ++ v) same ∙ sym (append_assoc text y z)
+written_ok_step (Err e) n a x y z none same = absurd (cc none)
+
+pub written_text-append : {E : Type 0} (f : List ℕ → Result (List ℕ) E) (n : ℕ) (xs ys : List (List ℕ))
+    → first_fault f n xs ≡ None → written_text f (xs ++ ys) ≡ written_text f xs ++ written_text f ys
+unfolding first_fault written_text
+written_text-append f n [] ys none = refl
+written_text-append f n (l ∷ xs) ys none =
+    written_ok_step (f l) n (first_fault f (n + 1) xs) (written_text f (xs ++ ys)) (written_text f xs) (written_text f ys) none
+    (written_text-append f (n + 1) xs ys (first_fault-none_head (f l) n (first_fault f (n + 1) xs) none))
+
+written_some_step : {E : Type 0} (r : Result (List ℕ) E) (n : ℕ) (a : Option (ℕ × E)) (e : ℕ × E) (x y : List ℕ)
+    → (a ≡ Some e → x ≡ y) → fault_before r n a ≡ Some e → text_before r x ≡ text_before r y
+written_some_step (Ok text) n a e x y same some = ap (λ v. text ++ v) (same some)
+written_some_step (Err k) n a e x y same some = refl
+
+pub written_text-stays : {E : Type 0} (f : List ℕ → Result (List ℕ) E) (n : ℕ) (xs ys : List (List ℕ)) (e : ℕ × E)
+    → first_fault f n xs ≡ Some e → written_text f (xs ++ ys) ≡ written_text f xs
+unfolding first_fault written_text
+written_text-stays f n [] ys e some = absurd (cc some)
+written_text-stays f n (l ∷ xs) ys e some =
+    written_some_step (f l) n (first_fault f (n + 1) xs) e (written_text f (xs ++ ys)) (written_text f xs)
+    (written_text-stays f (n + 1) xs ys e) some
+
+-- what is written_text for some lines is a beginning of what is written_text for these and more
+written_front_step : {E : Type 0} (r : Result (List ℕ) E) (x y : List ℕ)
+    → ((rest : List ℕ) × (y ++ rest ≡ x)) → (rest : List ℕ) × (text_before r y ++ rest ≡ text_before r x)
+written_front_step (Ok text) x y p = (p.0, append_assoc text y p.0 ∙ ap (λ v. text ++ v) p.1)
+written_front_step (Err e) x y p = ([], refl)
+
+pub written_text-front : {E : Type 0} (f : List ℕ → Result (List ℕ) E) (xs ys : List (List ℕ)) → (rest : List ℕ) × (written_text f xs ++ rest ≡ written_text f (xs ++ ys))
+unfolding written_text
+written_text-front f [] ys = (written_text f ys, refl)
+written_text-front f (l ∷ xs) ys = written_front_step (f l) (written_text f (xs ++ ys)) (written_text f xs) (written_text-front f xs ys)

@@ -1,0 +1,24 @@
+use Rattle.std.proofs.Common.{◌≡◌, ℕ, List, ◌++◌, take, drop, ap, ◌∙◌, append_assoc, arith}
+use Rattle.std.proofs.lemmas.List.{take-append-drop}
+use Rattle.std.proofs.lemmas.Grind.{common_steps}
+use Rattle.niss_shell.specs.Device.{has_fault}
+use Rattle.niss_shell.proofs.DeviceLemmas.{appended_nothing, appended_on, same_fault, is_none_of-some}
+use Rattle.niss_shell.proofs.writing.write_all.Goals as goal
+
+-- what is gone and what is left after n more bytes
+split_again : (gone rest left piece : List ℕ) (n : ℕ) → gone ++ rest ≡ piece → left ≡ drop n rest → (gone ++ take n rest) ++ left ≡ piece
+split_again gone rest left piece n e l = append_assoc gone (take n rest) left ∙ ap (λ v. gone ++ (take n rest ++ v)) l ∙ ap (λ v. gone ++ v) (take-append-drop n rest) ∙ e
+
+pub loop-rest-preserved : goal.loop-rest-preserved
+loop-rest-preserved g c =
+    let some = is_none_of-some c.in-Ok.count c.loop-rest.rest.now c.in-Ok.count-test.1 in
+    let same : has_fault (g.W.Target.state c.write.new.self) ≡ has_fault (g.W.Target.state c.loop-rest.out) = same_fault (g.W.Target.state c.loop-rest.out) (g.W.Target.state c.write.new.self) _ c.in-Ok.ensures.write_failed c.in-Ok.ensures.flush_failed some in
+    record {
+      written = (
+        c.loop-rest.invariant.written.0 ++ take c.in-Ok.count c.loop-rest.rest.now,
+        split_again c.loop-rest.invariant.written.0 c.loop-rest.rest.now _ c.args.piece.now c.in-Ok.count c.loop-rest.invariant.written.1 (grind (arith, common_steps)),
+        appended_on (g.W.Target.state c.args.out.now) (g.W.Target.state c.loop-rest.out) (g.W.Target.state c.write.new.self) c.loop-rest.invariant.written.0 (take c.in-Ok.count c.loop-rest.rest.now)
+            (λ h. same ∙ h) c.in-Ok.ensures.silent c.loop-rest.invariant.written.2 c.in-Ok.ensures.bytes,
+      );
+      works = same ∙ c.loop-rest.invariant.works;
+    }

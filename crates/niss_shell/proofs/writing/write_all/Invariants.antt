@@ -1,0 +1,12 @@
+use Rattle.std.proofs.Common.{◌≡◌, List, ℕ, ◌++◌, length}
+use Rattle.niss_shell.specs.Device.{Appended, has_fault}
+use Rattle.niss_shell.proofs.writing.write_all.Given as goal
+
+abbrev pub invariant-loop-rest : goal.invariant-loop-rest
+invariant-loop-rest g l = record {
+  written : (part : List ℕ) × (part ++ l.rest ≡ l.piece) × Appended (g.W.Target.state l.initial.out) (g.W.Target.state l.out) part;
+  works : has_fault (g.W.Target.state l.out) ≡ has_fault (g.W.Target.state l.initial.out);
+}
+
+abbrev pub decreases-loop-rest : goal.decreases-loop-rest
+decreases-loop-rest g l = length l.rest

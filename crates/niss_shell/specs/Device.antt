@@ -1,0 +1,80 @@
+-- What a contract sees of a source and of a target of bytes, and what calls do to them.
+use Rattle.std.specs.Prelude.{◌≡◌, ℕ, zero, suc, ◌<◌, ◌||◌, Bool, true, false, Option, Some, None, Result, Ok, Err, List, [], ◌∷◌, ◌++◌, take, length}
+
+-- A source tells the bytes that it will give, or doesn't; whether a read failed; whether a read found the end.
+pub record SourceState : Type 0 where
+  pub left : Option (List ℕ)
+  pub has_failed : Bool
+  pub has_ended : Bool
+
+-- A target tells the bytes that it holds, or doesn't; whether a write failed; whether a flush failed; whether a good flush
+-- came behind the last byte.
+pub record TargetState : Type 0 where
+  pub held : Option (List ℕ)
+  pub write_failed : Bool
+  pub flush_failed : Bool
+  pub is_flushed : Bool
+
+-- a write or a flush failed
+abbrev pub has_fault : TargetState → Bool
+has_fault target = target.write_failed || target.flush_failed
+
+abbrev pub GaveOf : Option (List ℕ) → Option (List ℕ) → Bool → List ℕ → Type 0
+GaveOf None left_now failed bytes = Unit {0}
+GaveOf (Some all) None failed bytes = (failed ≡ true) × ((rest : List ℕ) × (all ≡ bytes ++ rest))
+GaveOf (Some all) (Some rest) failed bytes = all ≡ bytes ++ rest
+
+-- A source gave these bytes, the next ones that it had. One that failed may no longer tell what is left.
+abbrev pub Gave : SourceState → SourceState → List ℕ → Type 0
+Gave old new bytes = GaveOf old.left new.left new.has_failed bytes
+
+abbrev pub AppendedOf : Option (List ℕ) → Option (List ℕ) → Bool → List ℕ → Type 0
+AppendedOf None held_now failed bytes = Unit {0}
+AppendedOf (Some all) None failed bytes = failed ≡ true
+AppendedOf (Some all) (Some all_now) failed bytes = all_now ≡ all ++ bytes
+
+-- A target took these bytes behind what it held. One that failed may no longer tell what it holds.
+abbrev pub Appended : TargetState → TargetState → List ℕ → Type 0
+Appended old new bytes = AppendedOf old.held new.held (has_fault new) bytes
+
+abbrev pub StaysSilentOf : Bool → Option (List ℕ) → Option (List ℕ) → Type 0
+StaysSilentOf false held held_now = Unit {0}
+StaysSilentOf true (Some all) held_now = Unit {0}
+StaysSilentOf true None None = Unit {0}
+StaysSilentOf true None (Some all) = ⊥
+
+-- A target that failed and doesn't tell what it holds won't tell it later.
+abbrev pub StaysSilent : TargetState → TargetState → Type 0
+StaysSilent old new = StaysSilentOf (has_fault old) old.held new.held
+
+-- the bytes that a call with this answer gave or took
+abbrev pub moved_bytes : {E : Type 0} → Result ℕ E → List ℕ → List ℕ
+moved_bytes (Ok count) bytes = take count bytes
+moved_bytes (Err e) bytes = []
+
+-- the count is 0, though there are bytes
+abbrev pub is_none_of : ℕ → List ℕ → Bool
+is_none_of zero [] = false
+is_none_of zero (b ∷ bytes) = true
+is_none_of (suc n) bytes = false
+
+-- a read with this answer found the end
+abbrev pub found_end : {E : Type 0} → Result ℕ E → List ℕ → Bool
+found_end (Ok count) buf = is_none_of count buf
+found_end (Err e) buf = false
+
+-- a write with this answer failed
+abbrev pub is_refused : {E : Type 0} → Result ℕ E → List ℕ → Bool
+is_refused (Ok count) piece = is_none_of count piece
+is_refused (Err e) piece = true
+
+-- a beginning of the bytes, and not all of them
+abbrev pub IsCut : List ℕ → List ℕ → Type 0
+IsCut part bytes = (rest : List ℕ) × (part ++ rest ≡ bytes) × (0 < length rest)
+
+-- A write was refused before all of the text was written.
+pub record WriteRefused (text : List ℕ) (old new : TargetState) : Type 0 where
+  pub refused : new.write_failed ≡ true
+  pub part : List ℕ
+  pub cut : IsCut part text
+  pub appended : Appended old new part

@@ -1,0 +1,8 @@
+pub mod Device
+pub mod Notation
+pub mod Reading
+pub mod Lines
+pub mod Words
+pub mod Output
+pub mod Engine
+pub mod Run

@@ -1,0 +1,30 @@
+-- The lines of a text, and what is written for lines up to the first that has a fault.
+use Rattle.std.specs.Prelude.{ℕ, ◌+◌, ◌==◌, if◌then◌else◌, Option, Some, None, Result, Ok, Err, List, [], ◌∷◌, ◌++◌}
+
+-- the lines that a line feed ends, where `front` stands before the bytes
+unfoldable pub ended_lines : List ℕ → List ℕ → List (List ℕ)
+ended_lines front [] = []
+ended_lines front (b ∷ bs) = if b == 10 then front ∷ ended_lines [] bs else ended_lines (front ++ b ∷ []) bs
+
+-- what stands behind the last line feed
+unfoldable pub last_part : List ℕ → List ℕ → List ℕ
+last_part front [] = front
+last_part front (b ∷ bs) = if b == 10 then last_part [] bs else last_part (front ++ b ∷ []) bs
+
+abbrev pub text_before : {E : Type 0} → Result (List ℕ) E → List ℕ → List ℕ
+text_before (Ok text) rest = text ++ rest
+text_before (Err e) rest = []
+
+-- the answers to these lines, up to the first that has a fault
+unfoldable pub written_text : {E : Type 0} → (List ℕ → Result (List ℕ) E) → List (List ℕ) → List ℕ
+written_text answer [] = []
+written_text answer (line ∷ lines) = text_before (answer line) (written_text answer lines)
+
+abbrev pub fault_before : {E : Type 0} → Result (List ℕ) E → ℕ → Option (ℕ × E) → Option (ℕ × E)
+fault_before (Ok text) n rest = rest
+fault_before (Err e) n rest = Some (n, e)
+
+-- the number of the first line that has a fault, and the fault, where the first of these lines has the number n
+unfoldable pub first_fault : {E : Type 0} → (List ℕ → Result (List ℕ) E) → ℕ → List (List ℕ) → Option (ℕ × E)
+first_fault answer n [] = None
+first_fault answer n (line ∷ lines) = fault_before (answer line) n (first_fault answer (n + 1) lines)

@@ -1,0 +1,119 @@
+-- What a run is to write and to answer.
+use Rattle.std.specs.Prelude.{◌≡◌, ℕ, nat_lt, Bool, true, false, if◌then◌else◌, codes, decimal, Option, Some, None, Result, Ok, Err, List, [], ◌∷◌, ◌++◌, take, length}
+use Rattle.niss_shell.specs.Device.{SourceState}
+use Rattle.niss_shell.specs.Lines.{ended_lines, last_part, written_text, first_fault}
+use Rattle.niss_shell.specs.Notation.{inverse_turns, turns_text}
+use Rattle.niss_shell.specs.Reading.{read_line}
+use Rattle.niss_shell.specs.Words.{limit, Request, OnLines, request_of, joined}
+use Rattle.niss_shell.specs.declared.command.UsageFault.{UsageFault}
+use Rattle.niss_shell.specs.declared.command.LineCommand.{LineCommand}
+use Rattle.niss_shell.specs.declared.command.LineCommand.TheVariants.{Invert}
+use Rattle.niss_moves.specs.declared.turn.Turn.{Turn}
+use Rattle.niss_shell.specs.declared.notation.ReadFault.{ReadFault}
+use Rattle.niss_shell.specs.declared.notation.ReadFault.TheVariants.{NotAMove, TooLong}
+use Rattle.niss_shell.specs.declared.stop.Stop.{Stop}
+use Rattle.niss_shell.specs.declared.stop.Stop.TheVariants.{Done, Line, Usage, InputTooLong, CannotRead, CannotWrite, OutOfMemory}
+
+abbrev pub fault_column : ReadFault → ℕ
+fault_column (NotAMove column) = column
+fault_column (TooLong column) = column
+
+abbrev pub fault_text : ReadFault → List ℕ
+fault_text (NotAMove column) = codes "not a move"
+fault_text (TooLong column) = codes "more than 256 moves"
+
+abbrev pub line_fault_text : ℕ → ReadFault → List ℕ
+line_fault_text n fault = codes "nissy: line " ++ decimal n ++ codes ", column " ++ decimal (fault_column fault) ++ codes ": " ++ fault_text fault ++ 10 ∷ []
+
+-- what is written on the error writer
+abbrev pub error_text : Stop → List ℕ
+error_text Done = []
+error_text (Line n fault) = line_fault_text n fault
+error_text Usage = codes "usage: nissy COMMAND [ARGUMENTS]" ++ 10 ∷ []
+error_text InputTooLong = codes "nissy: input longer than 16777216 bytes" ++ 10 ∷ []
+error_text CannotRead = codes "nissy: cannot read" ++ 10 ∷ []
+error_text CannotWrite = codes "nissy: cannot write" ++ 10 ∷ []
+error_text OutOfMemory = codes "nissy: out of memory" ++ 10 ∷ []
+
+abbrev pub status_of : Stop → ℕ
+status_of Done = 0
+status_of (Line n fault) = 1
+status_of Usage = 2
+status_of InputTooLong = 3
+status_of CannotRead = 3
+status_of CannotWrite = 3
+status_of OutOfMemory = 3
+
+-- what a command writes for a line that was read so
+abbrev pub answer_to : LineCommand → Result (List Turn) ReadFault → Result (List ℕ) ReadFault
+answer_to command (Err fault) = Err fault
+answer_to Invert (Ok turns) = Ok (turns_text (inverse_turns turns) ++ 10 ∷ [])
+
+-- what a command writes for a line
+abbrev pub answer : LineCommand → List ℕ → Result (List ℕ) ReadFault
+answer command line = answer_to command (read_line line)
+
+-- how the source was left: with more to give, at its end, or failed
+pub data Ending : Type 0 where
+  More : Ending
+  End : Ending
+  Fail : Ending
+
+abbrev pub ending_of : Bool → Bool → Ending
+ending_of true has_ended = Fail
+ending_of false true = End
+ending_of false false = More
+
+abbrev pub ending : SourceState → Ending
+ending source = ending_of source.has_failed source.has_ended
+
+-- What is to be written, and how the run is to end.
+pub record Answer : Type 0 where
+  pub output : List ℕ
+  pub stop : Stop
+
+-- the line alone, or no line where it has no byte
+abbrev pub line_with_bytes : List ℕ → List (List ℕ)
+line_with_bytes [] = []
+line_with_bytes (b ∷ bytes) = (b ∷ bytes) ∷ []
+
+-- a last line without a line feed counts where it has a byte, at the end of an input that isn't too long
+abbrev pub last_line : Ending → List ℕ → List (List ℕ)
+last_line End input = if nat_lt limit (length input) then [] else line_with_bytes (last_part [] input)
+last_line More input = []
+last_line Fail input = []
+
+abbrev pub complete_lines : List ℕ → Ending → List (List ℕ)
+complete_lines input m = ended_lines [] (take limit input) ++ last_line m input
+
+abbrev pub stop_at_end : Ending → Stop
+stop_at_end Fail = CannotRead
+stop_at_end End = Done
+stop_at_end More = Done
+
+abbrev pub stop_of : Option (ℕ × ReadFault) → List ℕ → Ending → Stop
+stop_of (Some fault) input m = Line fault.0 fault.1
+stop_of None input m = if nat_lt limit (length input) then InputTooLong else stop_at_end m
+
+-- the answers to the complete lines of an input, up to the first fault
+abbrev pub answer_lines : (List ℕ → Result (List ℕ) ReadFault) → List ℕ → Ending → Answer
+answer_lines f input m = record {
+  output = written_text f (complete_lines input m);
+  stop = stop_of (first_fault f 1 (complete_lines input m)) input m;
+}
+
+-- Words that give the input take the source's place, and are refused as a whole where they are too long.
+abbrev pub answer_on_lines : (List ℕ → Result (List ℕ) ReadFault) → List (List ℕ) → List ℕ → Ending → Answer
+answer_on_lines f [] input m = answer_lines f input m
+answer_on_lines f (word ∷ words) input m =
+    if nat_lt limit (length (joined (word ∷ words)))
+    then record { output = []; stop = InputTooLong }
+    else answer_lines f (joined (word ∷ words)) End
+
+abbrev pub answer_request : Result Request UsageFault → List ℕ → Ending → Answer
+answer_request (Err fault) input m = record { output = []; stop = Usage }
+answer_request (Ok (OnLines command words)) input m = answer_on_lines (answer command) words input m
+
+-- what a run with these words is to write and to answer, where the source gave this input and was left so
+abbrev pub out_of : List (List ℕ) → List ℕ → SourceState → Answer
+out_of words input source = answer_request (request_of words) input (ending source)

@@ -1,0 +1,75 @@
+-- What a run does to its three devices.
+use Rattle.std.specs.Prelude.{◌≡◌, ℕ, ◌<◌, ◌||◌, Bool, true, false, Result, List, [], ◌++◌, length}
+use Rattle.niss_shell.specs.Device.{SourceState, TargetState, has_fault, Gave, Appended}
+use Rattle.niss_shell.specs.Words.{Request, request_of, reads_source, takes_memory}
+use Rattle.niss_shell.specs.Output.{Answer, out_of, error_text, status_of}
+use Rattle.niss_shell.specs.declared.command.UsageFault.{UsageFault}
+use Rattle.niss_shell.specs.declared.stop.Stop.{Stop}
+use Rattle.niss_shell.specs.declared.stop.Stop.TheVariants.{Done, Line, Usage, InputTooLong, CannotRead, CannotWrite, OutOfMemory}
+
+pub record Devices : Type 0 where
+  pub source : SourceState
+  pub output : TargetState
+  pub error : TargetState
+
+abbrev pub devices : SourceState → TargetState → TargetState → Devices
+devices source output error = record { source = source; output = output; error = error }
+
+-- Nothing ended the run before its end: it has no fault, and the source, where the input comes from there, was read to its end.
+pub record ReachesEnd (a : Answer) (asked : Result Request UsageFault) (source_now : SourceState) : Type 0 where
+  pub good : a.stop ≡ Done
+  pub read_whole : reads_source asked ≡ true → source_now.has_ended ≡ true
+
+-- A good run: the whole output was written, and flushed.
+pub record Finishes (a : Answer) (asked : Result Request UsageFault) (old new : Devices) : Type 0 where
+  pub ends : ReachesEnd a asked new.source
+  pub works : has_fault new.output ≡ false
+  pub written : Appended old.output new.output a.output
+
+-- `cannot write`: a write was refused and left a rest, or else the last flush of a run that has no fault was.
+pub record OutputRefused (a : Answer) (asked : Result Request UsageFault) (old new : Devices) : Type 0 where
+  pub refused : has_fault new.output ≡ true
+  pub text : List ℕ
+  pub rest : List ℕ
+  pub beginning : text ++ rest ≡ a.output
+  pub written : Appended old.output new.output text
+  pub cut : new.output.write_failed ≡ true → 0 < length rest
+  pub whole : new.output.write_failed ≡ false → rest ≡ []
+  pub last : new.output.write_failed ≡ false → ReachesEnd a asked new.source
+
+-- `out of memory`: the request takes memory, nothing was read, and nothing written.
+pub record MemoryRefused (asked : Result Request UsageFault) (old new : Devices) : Type 0 where
+  pub asks : takes_memory asked ≡ true
+  pub unread : new.source ≡ old.source
+  pub nothing : Appended old.output new.output []
+
+-- A fault of the words, of a line or of the input, which comes behind the answers before it.
+pub record EndsByFault (stop : Stop) (a : Answer) (old new : Devices) : Type 0 where
+  pub fault : a.stop ≡ stop
+  pub written : Appended old.output new.output a.output
+
+-- how a run ends, where `a` is what it is to write and to answer
+abbrev pub Ends : Stop → Answer → Result Request UsageFault → Devices → Devices → Type 0
+Ends Done a asked old new = Finishes a asked old new
+Ends CannotWrite a asked old new = OutputRefused a asked old new
+Ends OutOfMemory a asked old new = MemoryRefused asked old new
+Ends stop a asked old new = EndsByFault stop a old new
+
+-- The error writer took this text, or a beginning of it where it failed.
+pub record TellsError (text : List ℕ) (old new : TargetState) : Type 0 where
+  pub part : List ℕ
+  pub rest : List ℕ
+  pub beginning : part ++ rest ≡ text
+  pub whole : has_fault new ≡ false → rest ≡ []
+  pub written : Appended old new part
+
+pub record Runs (words : List (List ℕ)) (old new : Devices) (status : ℕ) : Type 0 where
+  -- the bytes that the source gave
+  pub input : List ℕ
+  pub gave : Gave old.source new.source input
+  -- how the run ended, and what was written
+  pub stop : Stop
+  pub ends : Ends stop (out_of words input new.source) (request_of words) old new
+  -- what was told on the error writer
+  pub tells : TellsError (error_text stop) old.error new.error
+  pub answers : status ≡ status_of stop

@@ -1,0 +1,51 @@
+-- The words of a command line.
+use Rattle.std.specs.Prelude.{◌≡◌, ℕ, nat_le, if◌then◌else◌, bytes_eq, codes, Bool, true, false, Result, Ok, Err, List, [], ◌∷◌, ◌++◌, length, map, flat_map, string_bytes}
+use Rattle.niss_shell.specs.declared.command.UsageFault.{UsageFault}
+use Rattle.niss_shell.specs.declared.command.UsageFault.TheVariants.{NoCommand, UnknownCommand}
+use Rattle.niss_shell.specs.declared.command.LineCommand.{LineCommand}
+use Rattle.niss_shell.specs.declared.command.LineCommand.TheVariants.{Invert}
+use Rattle.niss_shell.specs.declared.command.Command.{Command}
+use Rattle.niss_shell.specs.declared.command.Command.TheVariants as command
+
+-- the most bytes of input
+abbrev pub limit : ℕ
+limit = 16777216
+
+-- What the words of a command line ask for.
+pub data Request : Type 0 where
+  -- a command on each line of these words, or of the source where there are none
+  OnLines : LineCommand → List (List ℕ) → Request
+
+abbrev pub request_named : List ℕ → List (List ℕ) → Result Request UsageFault
+request_named name rest =
+    if bytes_eq name (codes "invert") then Ok (OnLines Invert rest)
+    else Err UnknownCommand
+
+-- what the words ask for, or their first fault
+abbrev pub request_of : List (List ℕ) → Result Request UsageFault
+request_of [] = Err NoCommand
+request_of (name ∷ rest) = request_named name rest
+
+-- what a command asks for, wherever its words lie
+abbrev pub requested : Command → Request
+requested (command.Invert rest) = OnLines Invert (map string_bytes rest.now)
+
+-- the words with single spaces, and a line feed behind them
+abbrev pub spaced_word : List ℕ → List ℕ
+spaced_word word = 32 ∷ word
+
+abbrev pub joined : List (List ℕ) → List ℕ
+joined [] = 10 ∷ []
+joined (word ∷ words) = word ++ flat_map spaced_word words ++ 10 ∷ []
+
+-- The input comes from the source.
+abbrev pub reads_source : Result Request UsageFault → Bool
+reads_source (Err fault) = false
+reads_source (Ok (OnLines command [])) = true
+reads_source (Ok (OnLines command (word ∷ words))) = false
+
+-- The request asks for memory: for the input, where words of at most the limit give it.
+abbrev pub takes_memory : Result Request UsageFault → Bool
+takes_memory (Err fault) = false
+takes_memory (Ok (OnLines command [])) = false
+takes_memory (Ok (OnLines command (word ∷ words))) = nat_le (length (joined (word ∷ words))) limit

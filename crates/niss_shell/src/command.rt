@@ -1,0 +1,39 @@
+ghost use Rattle.std.specs.Prelude.{◌≡◌, Ok, Err, MatchResult, map, string_bytes};
+ghost use Rattle.niss_shell.specs.Words.{request_of, requested};
+
+/// Why the words are no command.
+#[derive(Clone, Copy, Debug, PartialEq, Eq)]
+pub enum UsageFault {
+    /// There are no words.
+    NoCommand,
+    /// The first word names no command.
+    UnknownCommand,
+}
+
+/// A command on each line of the input.
+#[derive(Clone, Copy, Debug, PartialEq, Eq)]
+pub enum LineCommand {
+    Invert,
+}
+
+/// A command. The words that it lends are the input; where there are none, the input comes from the source.
+#[derive(Clone, Copy)]
+pub enum Command<'a> {
+    /// The inverse of each line.
+    Invert(&'a [String]),
+}
+
+/// The command that the words name, or their first fault.
+pub fn parse_words(words: &[String]) -> Result<Command<'_>, UsageFault>
+    ensures { MatchResult result
+        (λ command. request_of (map string_bytes words.now) ≡ Ok (requested command))
+        (λ fault. request_of (map string_bytes words.now) ≡ Err fault) }
+{
+    let Some((name, rest)) = words.split_first() else {
+        return Err(UsageFault::NoCommand);
+    };
+    match name.as_bytes() {
+        b"invert" => Ok(Command::Invert(rest)),
+        _ => Err(UsageFault::UnknownCommand),
+    }
+}

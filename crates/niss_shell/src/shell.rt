@@ -1,0 +1,174 @@
+ghost use Rattle.std.specs.Prelude.{◌≡◌, ◌||◌, ◌<◌, ◌≤◌, false, true, Ok, ◌++◌, [], map, flat_map, string_bytes, length, OnOk, IfOk, MatchOption};
+ghost use Rattle.niss_shell.specs.Device.{has_fault};
+ghost use Rattle.niss_shell.specs.Words.{limit, joined, spaced_word, request_of, reads_source, OnLines};
+ghost use Rattle.niss_shell.specs.Output.{error_text};
+ghost use Rattle.niss_shell.specs.Engine.{RunsUnflushed, FlushesLast};
+ghost use Rattle.niss_shell.specs.Run.{Runs, TellsError, devices};
+
+use crate::command::{Command, LineCommand, parse_words};
+use crate::device::{Source, Target};
+use crate::lines::{LIMIT, answer_source, answer_text};
+use crate::stop::Stop;
+use crate::writing::write_all;
+use std::alloc::{AllocError, Allocator, Global};
+
+/// How many bytes the words give, where these aren't too many.
+fn joined_length(words: &[String]) -> Option<usize>
+    requires { 0 < length words.now }
+    ensures { MatchOption result
+        (limit < length (joined (map string_bytes words.now)))
+        (λ n. (n ≡ length (joined (map string_bytes words.now))) × (n ≤ limit)) }
+{
+    let mut total = 0usize;
+    for word in words {
+        let length = word.as_bytes().len();
+        if length >= LIMIT - total {
+            return None;
+        }
+        total += length + 1;
+    }
+    Some(total)
+}
+
+fn push_more_words<A: Allocator>(words: &[String], text: &mut Vec<u8, A>) -> Result<(), AllocError>
+    ensures { OnOk result (text.new.items ≡ text.old.items ++ flat_map spaced_word (map string_bytes words.now)) }
+{
+    for word in words {
+        text.push(b' ')?;
+        text.extend_from_slice(word.as_bytes())?;
+    }
+    Ok(())
+}
+
+/// The words with single spaces, and a line feed.
+fn joined_words<A: Allocator>(
+    alloc: A,
+    words: &[String],
+    length: usize,
+) -> Result<Vec<u8, A>, AllocError>
+    ensures { IfOk result (λ text. text.items ≡ joined (map string_bytes words.now)) }
+{
+    let mut text = Vec::with_capacity(alloc, length)?;
+    if let Some((first, rest)) = words.split_first() {
+        text.extend_from_slice(first.as_bytes())?;
+        push_more_words(rest, &mut text)?;
+    }
+    text.push(b'\n')?;
+    Ok(text)
+}
+
+/// Answers the lines of the words, or of the source where there are none.
+fn answer_words<A: Allocator, R: Source, W: Target>(
+    alloc: A,
+    command: LineCommand,
+    words: &[String],
+    source: &mut R,
+    out: &mut W,
+) -> Stop
+    requires reads { (R.state source.old).has_failed ≡ false }
+    requires goes_on { (R.state source.old).has_ended ≡ false }
+    requires works { has_fault (W.state out.old) ≡ false }
+    ensures runs { RunsUnflushed (Ok (OnLines command (map string_bytes words.now))) result
+        (R.state source.old) (R.state source.new) (W.state out.old) (W.state out.new) }
+    ensures unread { reads_source (Ok (OnLines command (map string_bytes words.now))) ≡ false →
+        R.state source.new ≡ R.state source.old }
+{
+    if words.is_empty() {
+        return answer_source(command, source, out);
+    }
+    let Some(length) = joined_length(words) else {
+        return Stop::InputTooLong;
+    };
+    match joined_words(alloc, words, length) {
+        Ok(text) => answer_text(command, text.as_slice(), out),
+        Err(_) => Stop::OutOfMemory,
+    }
+}
+
+fn answer_command<A: Allocator, R: Source, W: Target>(
+    alloc: A,
+    words: &[String],
+    source: &mut R,
+    out: &mut W,
+) -> Stop
+    requires reads { (R.state source.old).has_failed ≡ false }
+    requires goes_on { (R.state source.old).has_ended ≡ false }
+    requires works { has_fault (W.state out.old) ≡ false }
+    ensures runs { RunsUnflushed (request_of (map string_bytes words.now)) result
+        (R.state source.old) (R.state source.new) (W.state out.old) (W.state out.new) }
+    ensures unread { reads_source (request_of (map string_bytes words.now)) ≡ false →
+        R.state source.new ≡ R.state source.old }
+{
+    match parse_words(words) {
+        Ok(Command::Invert(rest)) => answer_words(alloc, LineCommand::Invert, rest, source, out),
+        Err(_) => Stop::Usage,
+    }
+}
+
+/// The last flush. Where it is refused, a good run ends with a fault.
+fn flush_last<W: Target>(stop: Stop, out: &mut W) -> Stop
+    ensures flushes { FlushesLast stop result (W.state out.old) (W.state out.new) }
+    ensures tried { ((W.state out.new).is_flushed || (W.state out.new).flush_failed) ≡ true }
+{
+    match (stop, out.flush()) {
+        (Stop::Done, Err(_)) => Stop::CannotWrite,
+        (stop, _) => stop,
+    }
+}
+
+fn tell<E: Target>(stop: Stop, err: &mut E)
+    ensures { TellsError (error_text stop) (E.state err.old) (E.state err.new) }
+{
+    let text = stop.text();
+    let _ = write_all(err, text.as_slice());
+}
+
+/// `run` over any allocator, for a caller that has a heap of its own, or that refuses growths.
+pub fn run_in<A: Allocator, R: Source, W: Target, E: Target>(
+    alloc: A,
+    words: &[String],
+    input: &mut R,
+    out: &mut W,
+    err: &mut E,
+) -> u8
+    requires reads { (R.state input.old).has_failed ≡ false }
+    requires goes_on { (R.state input.old).has_ended ≡ false }
+    requires works { has_fault (W.state out.old) ≡ false }
+    ensures runs { Runs (map string_bytes words.now)
+        (devices (R.state input.old) (W.state out.old) (E.state err.old))
+        (devices (R.state input.new) (W.state out.new) (E.state err.new)) result }
+    // Nothing is read but by a command that takes its input from the source.
+    ensures unread { reads_source (request_of (map string_bytes words.now)) ≡ false → R.state input.new ≡ R.state input.old }
+    // However a run ends, it ends with a flush of the output.
+    ensures flushed { ((W.state out.new).is_flushed || (W.state out.new).flush_failed) ≡ true }
+{
+    let stop = flush_last(answer_command(alloc, words, input, out), out);
+    tell(stop, err);
+    stop.status()
+}
+
+/// Runs a command, and answers its exit status.
+///
+/// The words are those behind the program's name. The input, where no words give it, comes from `input`. The answers go to
+/// `out` and what went wrong to `err`. Memory is taken only to join words that give the input, and before anything is
+/// written; `nissy: out of memory` is told only where that growth was refused.
+pub fn run<R: Source, W: Target, E: Target>(
+    alloc: Global,
+    words: &[String],
+    input: &mut R,
+    out: &mut W,
+    err: &mut E,
+) -> u8
+    requires reads { (R.state input.old).has_failed ≡ false }
+    requires goes_on { (R.state input.old).has_ended ≡ false }
+    requires works { has_fault (W.state out.old) ≡ false }
+    ensures runs { Runs (map string_bytes words.now)
+        (devices (R.state input.old) (W.state out.old) (E.state err.old))
+        (devices (R.state input.new) (W.state out.new) (E.state err.new)) result }
+    // Nothing is read but by a command that takes its input from the source.
+    ensures unread { reads_source (request_of (map string_bytes words.now)) ≡ false → R.state input.new ≡ R.state input.old }
+    // However a run ends, it ends with a flush of the output.
+    ensures flushed { ((W.state out.new).is_flushed || (W.state out.new).flush_failed) ≡ true }
+{
+    run_in(alloc, words, input, out, err)
+}

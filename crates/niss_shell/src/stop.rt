@@ -1,0 +1,94 @@
+ghost use Rattle.std.specs.Prelude.{◌≡◌, decimal, ◌+◌, ◌++◌, ◌≤◌, length};
+ghost use Rattle.niss_shell.specs.Output.{error_text, status_of, fault_column, fault_text, line_fault_text};
+
+use crate::decimal::put_number;
+use crate::notation::{LineText, ReadFault};
+
+/// How a run ends.
+#[derive(Clone, Copy, Debug, PartialEq, Eq)]
+pub enum Stop {
+    Done,
+    Line { line: u32, fault: ReadFault },
+    Usage,
+    InputTooLong,
+    CannotRead,
+    CannotWrite,
+    OutOfMemory,
+}
+
+fn put_text(part: &[u8], text: &mut LineText)
+    requires { length text.old.items + length part.now ≤ 2048 }
+    ensures words { text.new.items ≡ text.old.items ++ part.now }
+    ensures room { length text.new.items ≡ length text.old.items + length part.now }
+{
+    for byte in part {
+        text.push(*byte);
+    }
+}
+
+impl ReadFault {
+    fn column(self) -> u32
+        ensures { result ≡ fault_column self }
+    {
+        match self {
+            ReadFault::NotAMove { column } => column,
+            ReadFault::TooLong { column } => column,
+        }
+    }
+
+    fn text(self) -> &'static [u8]
+        ensures text { result.now ≡ fault_text self }
+        ensures short { length result.now ≤ 100 }
+    {
+        match self {
+            ReadFault::NotAMove { .. } => b"not a move",
+            ReadFault::TooLong { .. } => b"more than 256 moves",
+        }
+    }
+}
+
+fn put_line_fault(line: u32, fault: ReadFault, text: &mut LineText)
+    requires { length text.old.items ≡ 0 }
+    ensures { text.new.items ≡ line_fault_text line fault }
+{
+    put_text(b"nissy: line ", text);
+    put_number(line, text);
+    put_text(b", column ", text);
+    put_number(fault.column(), text);
+    put_text(b": ", text);
+    put_text(fault.text(), text);
+    text.push(b'\n');
+}
+
+impl Stop {
+    /// The text for the error writer.
+    pub fn text(self) -> LineText
+        ensures { result.items ≡ error_text self }
+    {
+        let mut text = LineText::new();
+        match self {
+            Stop::Done => {}
+            Stop::Line { line, fault } => put_line_fault(line, fault, &mut text),
+            Stop::Usage => put_text(b"usage: nissy COMMAND [ARGUMENTS]\n", &mut text),
+            Stop::InputTooLong => {
+                put_text(b"nissy: input longer than 16777216 bytes\n", &mut text)
+            }
+            Stop::CannotRead => put_text(b"nissy: cannot read\n", &mut text),
+            Stop::CannotWrite => put_text(b"nissy: cannot write\n", &mut text),
+            Stop::OutOfMemory => put_text(b"nissy: out of memory\n", &mut text),
+        }
+        text
+    }
+
+    /// The exit status.
+    pub fn status(self) -> u8
+        ensures { result ≡ status_of self }
+    {
+        match self {
+            Stop::Done => 0,
+            Stop::Line { .. } => 1,
+            Stop::Usage => 2,
+            Stop::InputTooLong | Stop::CannotRead | Stop::CannotWrite | Stop::OutOfMemory => 3,
+        }
+    }
+}

@@ -1,0 +1,21 @@
+ghost use Rattle.std.specs.Prelude.{◌≡◌, OnOk, OnErr};
+ghost use Rattle.niss_shell.specs.Device.{Appended, WriteRefused, has_fault};
+
+use crate::device::{DeviceFault, Target};
+
+/// Writes the whole piece, or as much of it as the target takes before a write fails.
+pub fn write_all<W: Target>(out: &mut W, piece: &[u8]) -> Result<(), DeviceFault>
+    ensures whole { OnOk result (Appended (W.state out.old) (W.state out.new) piece.now) }
+    ensures works { OnOk result (has_fault (W.state out.new) ≡ has_fault (W.state out.old)) }
+    ensures refused { OnErr result (WriteRefused piece.now (W.state out.old) (W.state out.new)) }
+{
+    let mut rest = piece;
+    while !rest.is_empty() {
+        match out.write(rest) {
+            Ok(0) => return Err(DeviceFault),
+            Ok(count) => rest = &rest[count..],
+            Err(fault) => return Err(fault),
+        }
+    }
+    Ok(())
+}
