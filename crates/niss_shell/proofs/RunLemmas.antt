@@ -151,8 +151,9 @@ fault_after i j f works same e =
 ends_done : (a : Answer) (asked : Result Request UsageFault) (d e : Devices) (i : TargetState) (f : Bool)
     → Writes a Done d.output i → (reads_source asked ≡ true → e.source.has_ended ≡ true)
     → Appended i e.output [] → e.output.write_failed ≡ i.write_failed → e.output.flush_failed ≡ (i.flush_failed || f)
+    → (f ≡ false → e.output.is_flushed ≡ true)
     → Ends (flushed_stop Done f) a asked d e
-ends_done a asked d e i true w whole t same z = record {
+ends_done a asked d e i true w whole t same z flushed = record {
   refused = fault_after i e.output true w.1 same z;
   text = a.output;
   rest = [];
@@ -162,10 +163,11 @@ ends_done a asked d e i true w whole t same z = record {
   whole = λ good. refl;
   last = λ good. record { good = sym w.0; read_whole = whole };
 }
-ends_done a asked d e i false w whole t same z = record {
+ends_done a asked d e i false w whole t same z flushed = record {
   ends = record { good = sym w.0; read_whole = whole };
   works = fault_after i e.output false w.1 same z;
   written = appended_then d.output i e.output a.output w.1 w.2 t;
+  flushed = flushed refl;
 }
 
 ends_by_fault : (a : Answer) (d e : Devices) (i : TargetState) (stop : Stop)
@@ -192,14 +194,15 @@ ends_refused a asked d e i w t silent same =
 ends_flushed : (a : Answer) (asked : Result Request UsageFault) (stop : Stop) (d e : Devices) (i : TargetState) (f : Bool)
     → EndsUnflushed stop a asked d.source e.source d.output i → (stop ≡ Done → reads_source asked ≡ true → e.source.has_ended ≡ true)
     → Appended i e.output [] → StaysSilent i e.output → e.output.write_failed ≡ i.write_failed → e.output.flush_failed ≡ (i.flush_failed || f)
+    → (f ≡ false → e.output.is_flushed ≡ true)
     → Ends (flushed_stop stop f) a asked d e
-ends_flushed a asked Done d e i f w whole t s same z = ends_done a asked d e i f w (whole refl) t same z
-ends_flushed a asked (Line at fault) d e i f w whole t s same z = ends_by_fault a d e i (Line at fault) w t
-ends_flushed a asked Usage d e i f w whole t s same z = ends_by_fault a d e i Usage w t
-ends_flushed a asked InputTooLong d e i f w whole t s same z = ends_by_fault a d e i InputTooLong w t
-ends_flushed a asked CannotRead d e i f w whole t s same z = ends_by_fault a d e i CannotRead w t
-ends_flushed a asked CannotWrite d e i f w whole t s same z = ends_refused a asked d e i w t s same
-ends_flushed a asked OutOfMemory d e i f w whole t s same z =
+ends_flushed a asked Done d e i f w whole t s same z flushed = ends_done a asked d e i f w (whole refl) t same z flushed
+ends_flushed a asked (Line at fault) d e i f w whole t s same z flushed = ends_by_fault a d e i (Line at fault) w t
+ends_flushed a asked Usage d e i f w whole t s same z flushed = ends_by_fault a d e i Usage w t
+ends_flushed a asked InputTooLong d e i f w whole t s same z flushed = ends_by_fault a d e i InputTooLong w t
+ends_flushed a asked CannotRead d e i f w whole t s same z flushed = ends_by_fault a d e i CannotRead w t
+ends_flushed a asked CannotWrite d e i f w whole t s same z flushed = ends_refused a asked d e i w t s same
+ends_flushed a asked OutOfMemory d e i f w whole t s same z flushed =
     record { asks = w.0; unread = w.1; nothing = appended_then d.output i e.output [] w.2 w.3 t }
 
 pub runs_flushed : (words : List (List ℕ)) (status : ℕ) (stop stop_now : Stop) (a b : SourceState) (h i j : TargetState) (k l : TargetState)
@@ -212,7 +215,7 @@ runs_flushed words status stop stop_now a b h i j k l x flush tells answers = re
   stop = stop_now;
   ends = subst (λ v. Ends v (out_of words x.input b) (request_of words) (devices a h k) (devices b j l)) (sym flush.stop_is)
       (ends_flushed (out_of words x.input b) (request_of words) stop (devices a h k) (devices b j l) i flush.refused
-      x.ends x.read_whole flush.bytes flush.silent flush.write_failed flush.flush_failed);
+      x.ends x.read_whole flush.bytes flush.silent flush.write_failed flush.flush_failed flush.flushed);
   tells = tells;
   answers = answers;
 }

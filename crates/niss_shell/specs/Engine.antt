@@ -111,3 +111,4 @@ pub record FlushesLast (stop stop_now : Stop) (old new : TargetState) : Type 0 w
   pub write_failed : new.write_failed ≡ old.write_failed
   pub bytes : Appended old new []
   pub silent : StaysSilent old new
+  pub flushed : refused ≡ false → new.is_flushed ≡ true

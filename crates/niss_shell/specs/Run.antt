@@ -25,6 +25,7 @@ pub record Finishes (a : Answer) (asked : Result Request UsageFault) (old new : 
   pub ends : ReachesEnd a asked new.source
   pub works : has_fault new.output ≡ false
   pub written : Appended old.output new.output a.output
+  pub flushed : new.output.is_flushed ≡ true
 
 -- `cannot write`: a write was refused and left a rest, or else the last flush of a run that has no fault was.
 pub record OutputRefused (a : Answer) (asked : Result Request UsageFault) (old new : Devices) : Type 0 where

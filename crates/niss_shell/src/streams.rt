@@ -29,9 +29,9 @@ impl<R: io::Read> FromReader<R> {
 
 impl<R: io::Read> Source for FromReader<R> {
     ghost state = { λ s. record {
-        left = if s.failed then Option.None else R.remaining s.reader;
-        has_failed = s.failed;
-        has_ended = s.ended;
+      left = if s.failed then Option.None else R.remaining s.reader;
+      has_failed = s.failed;
+      has_ended = s.ended;
     } };
 
     fn read(&mut self, buf: &mut [u8]) -> Result<usize, DeviceFault> {
@@ -84,10 +84,10 @@ impl<W: io::Write> ToWriter<W> {
 
 impl<W: io::Write> Target for ToWriter<W> {
     ghost state = { λ t. record {
-        held = if t.write_failed || t.flush_failed then Option.None else W.contents t.writer;
-        write_failed = t.write_failed;
-        flush_failed = t.flush_failed;
-        is_flushed = t.flushed;
+      held = if t.write_failed || t.flush_failed then Option.None else W.contents t.writer;
+      write_failed = t.write_failed;
+      flush_failed = t.flush_failed;
+      is_flushed = t.flushed;
     } };
 
     fn write(&mut self, piece: &[u8]) -> Result<usize, DeviceFault> {

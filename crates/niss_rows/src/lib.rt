@@ -1,0 +1,15 @@
+//! Tests of the commands, from words and bytes to bytes, over devices in memory that may fail.
+#![tactic(auto)]
+
+#[cfg(test)]
+mod answers;
+#[cfg(test)]
+mod device_faults;
+#[cfg(test)]
+mod devices;
+#[cfg(test)]
+mod limits;
+#[cfg(test)]
+mod memory;
+#[cfg(test)]
+mod runs;
