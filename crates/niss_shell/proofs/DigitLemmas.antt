@@ -1,5 +1,5 @@
 -- The digits of a number.
-use Rattle.std.proofs.Common.{◌≡◌, ◌+◌, ◌/◌, ◌%◌, ◌≤◌, ◌<◌, ◌^◌, ◌++◌, ◌∷◌, [], ℕ, arith, ap, length-append, ◌∙◌}
+use Rattle.std.proofs.Common.{◌≡◌, ◌+◌, ◌/◌, ◌%◌, ◌≤◌, ◌<◌, ◌^◌, ◌++◌, ◌∷◌, [], ℕ, arith, ap, length-append}
 use Rattle.std.specs.Prelude.{decimal, length}
 use Rattle.std.proofs.lemmas.Fmt.{length-decimal-le_wide, decimal_step_wide, decimal_digit}
 

@@ -1,12 +1,11 @@
 -- How the engine's steps join.
-use Rattle.std.proofs.Common.{◌≡◌, ℕ, ◌+◌, ◌<◌, ◌==◌, take, drop, get_or, Bool, true, false, if◌then◌else◌, Option, None, Result, Ok, Err, List, [], ◌∷◌, ◌++◌, length, refl, sym, ap, ◌∙◌, subst, append_assoc, append-nil, length-append, arith}
-use Rattle.std.specs.Prelude.{OnOk}
+use Rattle.std.proofs.Common.{◌≡◌, ℕ, ◌+◌, ◌<◌, ◌==◌, take, drop, get_or, Bool, true, false, if◌then◌else◌, None, Result, Ok, Err, List, [], ◌∷◌, ◌++◌, length, refl, sym, ap, ◌∙◌, subst, append_assoc, append-nil, length-append, arith}
 use Rattle.std.proofs.lemmas.List.{take_more, take-append-drop}
 use Rattle.niss_shell.specs.Device.{TargetState, has_fault, Appended, IsCut, WriteRefused}
 use Rattle.niss_shell.specs.Lines.{ended_lines, last_part, written_text, text_before, first_fault, fault_before}
-use Rattle.niss_shell.specs.Reading.{Reading, IsFed}
+use Rattle.niss_shell.specs.Reading.{IsFed}
 use Rattle.niss_shell.specs.Output.{answer}
-use Rattle.niss_shell.specs.Engine.{AllAnswered, StopsWithin, Advanced, TakesBytes, AnswersLine}
+use Rattle.niss_shell.specs.Engine.{AllAnswered, StopsWithin, TakesBytes, AnswersLine}
 use Rattle.niss_shell.specs.declared.command.LineCommand.{LineCommand}
 use Rattle.niss_shell.specs.declared.notation.ReadFault.{ReadFault}
 use Rattle.niss_shell.specs.declared.stop.Stop.{Stop}

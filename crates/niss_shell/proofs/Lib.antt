@@ -2,6 +2,8 @@ pub mod DeviceLemmas
 pub mod DigitLemmas
 pub mod LinesLemmas
 pub mod ReadingLemmas
+pub mod GrammarLemmas
+pub mod FaultLemmas
 pub mod EngineLemmas
 pub mod AnswerLemmas
 pub mod RunLemmas

@@ -1,13 +1,13 @@
 -- From what was read and written to what a run says of it.
-use Rattle.std.proofs.Common.{◌≡◌, ◌≢◌, ℕ, ◌≤◌, ◌<◌, Bool, true, false, ◌||◌, if◌then◌else◌, Option, Some, None, Result, Ok, Err, List, [], ◌∷◌, ◌++◌, length, refl, sym, ap, ◌∙◌, subst, append-nil, arith}
+use Rattle.std.proofs.Common.{◌≡◌, ◌≢◌, ℕ, ◌≤◌, ◌<◌, Bool, true, false, ◌||◌, if◌then◌else◌, Option, Some, None, Result, Ok, Err, List, [], ◌∷◌, length, refl, sym, ap, ◌∙◌, subst, append-nil, arith}
 use Rattle.std.specs.Prelude.{OnOk, OnErr, nat_lt, nat_le}
 use Rattle.std.proofs.lemmas.Grind.{common_steps}
 use Rattle.std.proofs.lemmas.Bool.{or_parts}
-use Rattle.niss_shell.specs.Device.{SourceState, TargetState, has_fault, Gave, Appended, StaysSilent, WriteRefused}
-use Rattle.niss_shell.specs.Words.{limit, Request, OnLines, request_of, reads_source, takes_memory, joined}
-use Rattle.niss_shell.specs.Output.{Answer, Ending, More, End, Fail, ending, stop_at_end, answer, answer_lines, answer_request, stop_of, out_of, error_text, status_of}
+use Rattle.niss_shell.specs.Device.{SourceState, TargetState, has_fault, Appended, StaysSilent, WriteRefused}
+use Rattle.niss_shell.specs.Words.{limit, Request, OnLines, request_of, reads_source, joined}
+use Rattle.niss_shell.specs.Output.{Answer, Ending, More, End, Fail, ending, stop_at_end, answer, answer_lines, stop_of, out_of, error_text, status_of}
 use Rattle.niss_shell.specs.Engine.{AnswersSource, Writes, EndsUnflushed, RunsUnflushed, flushed_stop, FlushesLast}
-use Rattle.niss_shell.specs.Run.{Devices, devices, ReachesEnd, Finishes, OutputRefused, MemoryRefused, EndsByFault, Ends, TellsError, Runs}
+use Rattle.niss_shell.specs.Run.{Devices, devices, OutputRefused, EndsByFault, Ends, TellsError, Runs}
 use Rattle.niss_shell.specs.declared.device.DeviceFault.{DeviceFault}
 use Rattle.niss_shell.specs.declared.command.UsageFault.{UsageFault}
 use Rattle.niss_shell.specs.declared.command.LineCommand.{LineCommand}

@@ -1,5 +1,5 @@
 -- What the engine's steps do. `front` are the bytes of the line that is being read.
-use Rattle.std.specs.Prelude.{◌≡◌, ℕ, ◌+◌, ◌||◌, Bool, true, false, Option, Some, None, Result, Ok, Err, List, [], length}
+use Rattle.std.specs.Prelude.{◌≡◌, ℕ, ◌+◌, ◌||◌, Bool, true, false, Some, None, Result, Ok, Err, List, [], length}
 use Rattle.niss_shell.specs.Device.{SourceState, TargetState, has_fault, Gave, Appended, StaysSilent, WriteRefused}
 use Rattle.niss_shell.specs.Lines.{ended_lines, last_part, written_text, first_fault}
 use Rattle.niss_shell.specs.Reading.{IsFed}

@@ -1,5 +1,5 @@
 -- What a run is to write and to answer.
-use Rattle.std.specs.Prelude.{◌≡◌, ℕ, nat_lt, Bool, true, false, if◌then◌else◌, codes, decimal, Option, Some, None, Result, Ok, Err, List, [], ◌∷◌, ◌++◌, take, length}
+use Rattle.std.specs.Prelude.{ℕ, nat_lt, Bool, true, false, if◌then◌else◌, codes, decimal, Option, Some, None, Result, Ok, Err, List, [], ◌∷◌, ◌++◌, take, length}
 use Rattle.niss_shell.specs.Device.{SourceState}
 use Rattle.niss_shell.specs.Lines.{ended_lines, last_part, written_text, first_fault}
 use Rattle.niss_shell.specs.Notation.{inverse_turns, turns_text}

@@ -1,11 +1,11 @@
 -- What a run does to its three devices.
-use Rattle.std.specs.Prelude.{◌≡◌, ℕ, ◌<◌, ◌||◌, Bool, true, false, Result, List, [], ◌++◌, length}
+use Rattle.std.specs.Prelude.{◌≡◌, ℕ, ◌<◌, true, false, Result, List, [], ◌++◌, length}
 use Rattle.niss_shell.specs.Device.{SourceState, TargetState, has_fault, Gave, Appended}
 use Rattle.niss_shell.specs.Words.{Request, request_of, reads_source, takes_memory}
 use Rattle.niss_shell.specs.Output.{Answer, out_of, error_text, status_of}
 use Rattle.niss_shell.specs.declared.command.UsageFault.{UsageFault}
 use Rattle.niss_shell.specs.declared.stop.Stop.{Stop}
-use Rattle.niss_shell.specs.declared.stop.Stop.TheVariants.{Done, Line, Usage, InputTooLong, CannotRead, CannotWrite, OutOfMemory}
+use Rattle.niss_shell.specs.declared.stop.Stop.TheVariants.{Done, CannotWrite, OutOfMemory}
 
 pub record Devices : Type 0 where
   pub source : SourceState

@@ -1,5 +1,5 @@
 -- The words of a command line.
-use Rattle.std.specs.Prelude.{◌≡◌, ℕ, nat_le, if◌then◌else◌, bytes_eq, codes, Bool, true, false, Result, Ok, Err, List, [], ◌∷◌, ◌++◌, length, map, flat_map, string_bytes}
+use Rattle.std.specs.Prelude.{ℕ, nat_le, if◌then◌else◌, bytes_eq, codes, Bool, true, false, Result, Ok, Err, List, [], ◌∷◌, ◌++◌, length, map, flat_map, string_bytes}
 use Rattle.niss_shell.specs.declared.command.UsageFault.{UsageFault}
 use Rattle.niss_shell.specs.declared.command.UsageFault.TheVariants.{NoCommand, UnknownCommand}
 use Rattle.niss_shell.specs.declared.command.LineCommand.{LineCommand}

@@ -1,4 +1,4 @@
-use Rattle.std.proofs.Common.{◌≡◌, ◌++◌, ◌/◌, ◌∷◌, [], ap, sym, ◌∙◌, append_assoc, arith}
+use Rattle.std.proofs.Common.{◌/◌, append_assoc, arith}
 use Rattle.std.specs.Prelude.{decimal}
 use Rattle.niss_shell.proofs.DigitLemmas.{decimal_last}
 use Rattle.niss_shell.proofs.decimal.+put_digits.Goals as goal

@@ -1,4 +1,3 @@
-use Rattle.std.proofs.Common.{arith}
 use Rattle.niss_shell.proofs.AnswerLemmas.{text_stopped, text_done}
 use Rattle.niss_shell.proofs.lines.answer_text.Goals as goal
 

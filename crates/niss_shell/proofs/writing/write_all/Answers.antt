@@ -2,7 +2,7 @@ use Rattle.std.proofs.Common.{◌≡◌, ℕ, List, ◌++◌, take, drop, ap, �
 use Rattle.std.proofs.lemmas.List.{take-append-drop}
 use Rattle.std.proofs.lemmas.Grind.{common_steps}
 use Rattle.niss_shell.specs.Device.{has_fault}
-use Rattle.niss_shell.proofs.DeviceLemmas.{appended_nothing, appended_on, same_fault, is_none_of-some}
+use Rattle.niss_shell.proofs.DeviceLemmas.{appended_on, same_fault, is_none_of-some}
 use Rattle.niss_shell.proofs.writing.write_all.Goals as goal
 
 -- what is gone and what is left after n more bytes
