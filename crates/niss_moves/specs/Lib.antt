@@ -2,3 +2,4 @@ pub mod Places
 pub mod Facelets
 pub mod Effects
 pub mod Letters
+pub mod Turn
