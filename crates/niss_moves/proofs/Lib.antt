@@ -1,1 +1,9 @@
 pub mod Finite
+pub mod SymbolTable
+pub mod Completes
+pub mod Sound
+pub mod Whole
+pub mod Room
+pub mod OneFault
+pub mod ReaderSteps
+pub mod ReaderAnswers
