@@ -7,3 +7,7 @@ pub mod Room
 pub mod OneFault
 pub mod ReaderSteps
 pub mod ReaderAnswers
+pub mod ReadBack
+pub mod Words
+pub mod Inverses
+pub mod Stays

@@ -9,3 +9,5 @@ pub mod Faults
 pub mod Machine
 pub mod Reader
 pub mod Text
+pub mod ReadingLaws
+pub mod EffectLaws
