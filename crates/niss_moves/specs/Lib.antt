@@ -2,3 +2,12 @@ pub mod Places
 pub mod Facelets
 pub mod Effects
 pub mod Letters
+pub mod Turn
+pub mod Notation
+pub mod Line
+pub mod Faults
+pub mod Machine
+pub mod Reader
+pub mod Text
+pub mod ReadingLaws
+pub mod EffectLaws

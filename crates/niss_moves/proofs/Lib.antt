@@ -1,0 +1,13 @@
+pub mod Finite
+pub mod SymbolTable
+pub mod Completes
+pub mod Sound
+pub mod Whole
+pub mod Room
+pub mod OneFault
+pub mod ReaderSteps
+pub mod ReaderAnswers
+pub mod ReadBack
+pub mod Words
+pub mod Inverses
+pub mod Stays
