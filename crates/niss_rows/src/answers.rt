@@ -31,16 +31,50 @@ fn invert(rt: HostRuntime) -> Result<(), Fail> {
             "nissy: line 1, column 3: not a move\n",
             1,
         ),
-        Run::fault(
-            &["invert", "(R)"],
-            "nissy: line 1, column 1: not a move\n",
-            1,
-        ),
+        Run::good(&["invert", "(R)"], b"", "R\n"),
+        Run::good(&["invert", "R (U F') D"], b"", "U F' D' R'\n"),
+        Run::good(&["invert"], b"R\xe2\x80\x99\n", "R\n"),
+        Run {
+            words: &["invert"],
+            input: b"R\xe2\x80U\n",
+            output: "",
+            error: "nissy: line 1, column 2: not a move\n",
+            status: 1,
+        },
         Run {
             words: &["invert"],
             input: b"R\nq\nU",
             output: "R'\n",
             error: "nissy: line 2, column 1: not a move\n",
+            status: 1,
+        },
+    ];
+    for case in runs {
+        case.check(&rt, rt.alloc())?;
+    }
+    Ok(())
+}
+
+#[test]
+fn unniss(rt: HostRuntime) -> Result<(), Fail> {
+    let runs = [
+        Run::good(&["unniss", "R (U F') D"], b"", "R D F U'\n"),
+        Run::good(&["unniss", "r2' Mx'"], b"", "Rw2 M x'\n"),
+        Run::fault(
+            &["unniss", "(R (U))"],
+            "nissy: line 1, column 4: bracket inside a bracket\n",
+            1,
+        ),
+        Run::fault(
+            &["unniss", "R )"],
+            "nissy: line 1, column 3: bracket closed that was not opened\n",
+            1,
+        ),
+        Run {
+            words: &["unniss"],
+            input: b"R\n(U",
+            output: "R\n",
+            error: "nissy: line 2, column 1: bracket not closed\n",
             status: 1,
         },
     ];

@@ -14,6 +14,7 @@ pub enum UsageFault {
 #[derive(Clone, Copy, Debug, PartialEq, Eq)]
 pub enum LineCommand {
     Invert,
+    Unniss,
 }
 
 /// A command. The words that it lends are the input; where there are none, the input comes from the source.
@@ -21,6 +22,8 @@ pub enum LineCommand {
 pub enum Command<'a> {
     /// The inverse of each line.
     Invert(&'a [String]),
+    /// Each line without brackets: its normal moves, and then the inverse of its bracketed ones.
+    Unniss(&'a [String]),
 }
 
 /// The command that the words name, or their first fault.
@@ -34,6 +37,7 @@ pub fn parse_words(words: &[String]) -> Result<Command<'_>, UsageFault>
     };
     match name.as_bytes() {
         b"invert" => Ok(Command::Invert(rest)),
+        b"unniss" => Ok(Command::Unniss(rest)),
         _ => Err(UsageFault::UnknownCommand),
     }
 }

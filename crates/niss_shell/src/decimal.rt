@@ -1,6 +1,6 @@
 ghost use Rattle.std.specs.Prelude.{◌≡◌, ◌+◌, ◌≤◌, ◌++◌, decimal, length};
 
-use crate::notation::LineText;
+use niss_moves::LineText;
 
 /// Appends the number in decimal digits.
 #[tactic(auto, using(crate::proofs::DigitLemmas::decimal_last, crate::proofs::DigitLemmas::decimal_room, crate::proofs::DigitLemmas::decimal_one))]
