@@ -1,2 +1,4 @@
 pub mod Finite
 pub mod Rotations
+pub mod Expansions
+pub mod Pushed

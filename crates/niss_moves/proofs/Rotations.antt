@@ -1,5 +1,5 @@
 -- The 24 rotations, computed.
-use Rattle.std.proofs.Common.{◌≡◌, Bool, true, false, ◌&&◌, ◌||◌, refl, ap, sym, subst, ◌∙◌, List, [], ◌∷◌, ◌++◌, Option, None, Some}
+use Rattle.std.proofs.Common.{◌≡◌, Bool, true, ◌&&◌, refl, ap, sym, subst, ◌∙◌, List, [], ◌∷◌, ◌++◌, Option, None, Some}
 use Rattle.niss_moves.specs.Places.{Place, Vector, same_vector, same_place}
 use Rattle.niss_moves.specs.Effects.{effect, effect_of_turns, moved_by, turned, quarters, times}
 use Rattle.niss_moves.specs.Rotations.{face_before, face_before_power, face_before_top, face_before_vertical, renamed_turn, to_top, about_vertical, spelling}

@@ -2,6 +2,7 @@
 #![tactic(auto)]
 
 pub mod axis;
+pub mod faces;
 pub mod rotation;
 pub mod token;
 pub mod turn;
