@@ -2,6 +2,7 @@
 #![tactic(auto)]
 
 pub mod axis;
+pub mod canonical;
 pub mod faces;
 pub mod rotation;
 pub mod token;
