@@ -5,3 +5,4 @@ pub mod Letters
 pub mod Rotations
 pub mod Faces
 pub mod Canonical
+pub mod Cleaning

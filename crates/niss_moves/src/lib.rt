@@ -3,6 +3,7 @@
 
 pub mod axis;
 pub mod canonical;
+pub mod cleaning;
 pub mod faces;
 pub mod rotation;
 pub mod token;
