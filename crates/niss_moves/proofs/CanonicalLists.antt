@@ -1,6 +1,7 @@
 -- Canonical lists and their parts.
 use Rattle.std.proofs.Common.{◌≡◌, Bool, true, false, not, ◌&&◌, refl, ap, subst, List, [], ◌∷◌, ◌++◌, append_assoc, ◌⊎◌, inl, inr}
-use Rattle.niss_moves.specs.Canonical.{opposite, same_face, face_may_follow, IsCanonical}
+use Rattle.niss_moves.specs.Turn.{opposite, same_face}
+use Rattle.niss_moves.specs.Canonical.{face_may_follow, IsCanonical}
 use Rattle.niss_moves.specs.declared.turn.Face.{Face}
 use Rattle.niss_moves.specs.declared.turn.Turn.{Turn}
 use Rattle.niss_moves.proofs.Finite.{both, both_left, both_right, every_face, at_face, implies, by_implies}

@@ -2,7 +2,8 @@
 use Rattle.std.proofs.Common.{◌≡◌, Bool, true, false, refl, ap, sym, ◌∙◌, subst, List, [], ◌∷◌, ◌++◌}
 use Rattle.niss_moves.specs.Places.{Place, same_place}
 use Rattle.niss_moves.specs.Effects.{effect_of_turns}
-use Rattle.niss_moves.specs.Canonical.{opposite, same_face, face_may_follow, IsCanonical}
+use Rattle.niss_moves.specs.Turn.{opposite, same_face}
+use Rattle.niss_moves.specs.Canonical.{face_may_follow, IsCanonical}
 use Rattle.niss_moves.specs.Cleaning.{sum_of_turns, rewritten_pair, IsRewriting, Cleans, Clean, Rewrite}
 use Rattle.niss_moves.specs.declared.turn.Face.{Face}
 use Rattle.niss_moves.specs.declared.turn.Power.{Power}

@@ -1,6 +1,7 @@
 -- Cleaning in one pass.
 use Rattle.std.proofs.Common.{◌≡◌, Bool, true, false, ◌||◌, refl, ap, sym, ◌∙◌, subst, subst₂, List, [], ◌∷◌, ◌++◌, append_assoc, append-nil, inl, inr, Option, None, Some}
-use Rattle.niss_moves.specs.Canonical.{same_face, face_may_follow, IsCanonical}
+use Rattle.niss_moves.specs.Turn.{same_face}
+use Rattle.niss_moves.specs.Canonical.{face_may_follow, IsCanonical}
 use Rattle.niss_moves.specs.Cleaning.{turn_by, sum_of_powers, sum_of_turns, rewritten_pair, pair_of_turns, list_with_turn, Cleans, Clean, Rewrite}
 use Rattle.niss_moves.specs.declared.turn.Face.{Face}
 use Rattle.niss_moves.specs.declared.turn.Face.TheVariants.{U, D, R, L, F, B}

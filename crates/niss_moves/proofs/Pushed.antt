@@ -6,7 +6,7 @@ use Rattle.niss_moves.specs.Facelets.{centre}
 use Rattle.niss_moves.specs.Effects.{effect, effect_of_turns, moved_by, turned, inverse_power}
 use Rattle.niss_moves.specs.Rotations.{face_before, face_before_power, renamed_turn, spelling}
 use Rattle.niss_moves.specs.Faces.{BasicMove, FaceTurn, WholeRotation, faces, expanded, token_of_basic, faces_with}
-use Rattle.niss_moves.specs.Canonical.{opposite}
+use Rattle.niss_moves.specs.Turn.{opposite}
 use Rattle.niss_moves.specs.declared.turn.Face.{Face}
 use Rattle.niss_moves.specs.declared.turn.Face.TheVariants.{U}
 use Rattle.niss_moves.specs.declared.turn.Power.{Power}

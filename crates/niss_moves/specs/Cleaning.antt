@@ -2,7 +2,8 @@
 -- there are any.
 use Rattle.std.specs.Prelude.{◌≡◌, ℕ, zero, suc, ◌+◌, ◌%◌, false, List, [], ◌∷◌, ◌++◌, if◌then◌else◌, Option, None, Some}
 use Rattle.niss_moves.specs.Effects.{times}
-use Rattle.niss_moves.specs.Canonical.{same_face, face_may_follow, IsCanonical}
+use Rattle.niss_moves.specs.Turn.{same_face}
+use Rattle.niss_moves.specs.Canonical.{face_may_follow, IsCanonical}
 use Rattle.niss_moves.specs.declared.turn.Face.{Face}
 use Rattle.niss_moves.specs.declared.turn.Power.{Power}
 use Rattle.niss_moves.specs.declared.turn.Power.TheVariants.{Quarter, Half, Counter}

@@ -5,7 +5,8 @@ ghost use Rattle.niss_moves.specs.Places.{Place};
 ghost use Rattle.niss_moves.specs.Effects.{effect_of_turns};
 ghost use Rattle.niss_moves.specs.Rotations.{IsRotationOf};
 ghost use Rattle.niss_moves.specs.Faces.{faces};
-ghost use Rattle.niss_moves.specs.Canonical.{same_face, face_may_follow, IsCanonical};
+ghost use Rattle.niss_moves.specs.Turn.{same_face};
+ghost use Rattle.niss_moves.specs.Canonical.{face_may_follow, IsCanonical};
 ghost use Rattle.niss_moves.specs.Cleaning.{sum_of_powers, list_with_turn, Cleans};
 
 use crate::faces::{Faces, to_faces};

@@ -5,7 +5,7 @@ ghost use Rattle.niss_moves.specs.Places.{Place};
 ghost use Rattle.niss_moves.specs.Effects.{effect, effect_of_turns, moved_by, inverse_power};
 ghost use Rattle.niss_moves.specs.Rotations.{spelling, face_before, renamed_turn, IsRotationOf};
 ghost use Rattle.niss_moves.specs.Faces.{faces, faces_with, expanded, FaceTurn, WholeRotation};
-ghost use Rattle.niss_moves.specs.Canonical.{opposite};
+ghost use Rattle.niss_moves.specs.Turn.{opposite};
 ghost use Rattle.niss_moves.specs.declared.token.Token.TheVariants as token;
 
 use crate::axis::Axis;
