@@ -5,3 +5,6 @@ pub mod Pushed
 pub mod CanonicalLists
 pub mod Cleaned
 pub mod CleanEffect
+pub mod OneSpelling
+pub mod OneCleanList
+pub mod Disorder

@@ -7,3 +7,4 @@ pub mod Rotations
 pub mod Faces
 pub mod Canonical
 pub mod Cleaning
+pub mod RewritingLaws
