@@ -8,3 +8,4 @@ pub mod CleanEffect
 pub mod OneSpelling
 pub mod OneCleanList
 pub mod Disorder
+pub mod AllCanonical

@@ -1,12 +1,12 @@
 -- Laws of rotations, canonical sequences and cleaning, each proved as the contract of a function.
-use Rattle.std.specs.Prelude.{◌≡◌, ℕ, ◌+◌, ◌<◌, ◌⊎◌, Bool, ◌&&◌, List, [], ◌∷◌, map, length, count_by}
+use Rattle.std.specs.Prelude.{◌≡◌, ℕ, ◌+◌, ◌<◌, ◌⊎◌, Bool, ◌&&◌, List, [], ◌∷◌, map, length, count_by, All, Contains, ◌↔◌}
 use Rattle.niss_moves.specs.Places.{Place}
 use Rattle.niss_moves.specs.Facelets.{centre}
 use Rattle.niss_moves.specs.Effects.{effect, moved_by, turned}
 use Rattle.niss_moves.specs.Turn.{opposite, same_face, goes_first}
 use Rattle.niss_moves.specs.Rotations.{spelling, face_before, face_before_power, renamed_turn}
 use Rattle.niss_moves.specs.Faces.{expanded, token_of_basic}
-use Rattle.niss_moves.specs.Canonical.{IsCanonical}
+use Rattle.niss_moves.specs.Canonical.{IsCanonical, all_canonical}
 use Rattle.niss_moves.specs.Cleaning.{IsRewriting, Cleans}
 use Rattle.niss_moves.specs.declared.axis.Axis.{Axis}
 use Rattle.niss_moves.specs.declared.turn.Face.{Face}
@@ -37,6 +37,12 @@ abbrev pub RenamesByRotation : Type 0
 RenamesByRotation =
     (r : Rotation) (t : Turn) (q : Place) →
     turned t (effect (spelling r) q) ≡ effect (spelling r) (turned (renamed_turn (face_before r) t) q)
+
+-- The members of `all_canonical turns k` are the canonical sequences of length k of these turns.
+abbrev pub CanonicalMembers : Type 0
+CanonicalMembers =
+    (turns : List Turn) (k : ℕ) (s : List Turn) →
+    Contains (all_canonical turns k) s ↔ ((length s ≡ k) × IsCanonical s × All (Contains turns) s)
 
 -- Leftmost rewriting ends, for each list.
 abbrev pub CleaningEnds : Type 0

@@ -1,5 +1,5 @@
 //! Laws of rotations, canonical sequences and cleaning: each is the contract of a function that does nothing.
-ghost use Rattle.niss_moves.specs.RewritingLaws.{OneSpelling, ExpandsAlike, RenamesAboutAxis, RenamesByRotation, CleaningEnds, OneCleanList, CanonicalStays, RewritingLowers};
+ghost use Rattle.niss_moves.specs.RewritingLaws.{OneSpelling, ExpandsAlike, RenamesAboutAxis, RenamesByRotation, CanonicalMembers, CleaningEnds, OneCleanList, CanonicalStays, RewritingLowers};
 
 /// Two rotations that move the six centres alike are one. So each of the 24 has one spelling.
 pub fn one_spelling()
@@ -15,6 +15,11 @@ pub fn expands_alike()
 pub fn rotations_rename()
     ensures about_axis { RenamesAboutAxis }
     ensures by_rotation { RenamesByRotation }
+{}
+
+/// The list of all canonical sequences of a length has exactly these sequences.
+pub fn canonical_members()
+    ensures { CanonicalMembers }
 {}
 
 /// Leftmost rewriting ends for each list, since each rewriting shortens it or leaves fewer pairs in the wrong order.
