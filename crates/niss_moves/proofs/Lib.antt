@@ -9,3 +9,16 @@ pub mod OneSpelling
 pub mod OneCleanList
 pub mod Disorder
 pub mod AllCanonical
+pub mod SymbolTable
+pub mod Completes
+pub mod Sound
+pub mod Whole
+pub mod Room
+pub mod OneFault
+pub mod ReaderSteps
+pub mod ReaderAnswers
+pub mod ReadBack
+pub mod Words
+pub mod Inverses
+pub mod Stays
+pub mod CleanWords
