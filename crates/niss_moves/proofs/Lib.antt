@@ -22,3 +22,4 @@ pub mod Words
 pub mod Inverses
 pub mod Stays
 pub mod CleanWords
+pub mod Home
