@@ -23,3 +23,4 @@ pub mod Inverses
 pub mod Stays
 pub mod CleanWords
 pub mod Home
+pub mod RewritingRows
