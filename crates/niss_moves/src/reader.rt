@@ -9,6 +9,9 @@ use crate::niss::Niss;
 use crate::partial_line::PartialLine;
 use std::marker::Model;
 
+#[cfg(test)]
+mod tests;
+
 /// Reads a line byte by byte, in at most 16,777,216 bytes.
 #[derive(Drop)]
 pub struct LineReader {
@@ -29,7 +32,7 @@ impl Model for LineReader {
 }
 
 impl LineReader {
-    ghost use Rattle.std.specs.Prelude.{◌≡◌, ℕ, ◌+◌, ◌<◌, ◌≤◌, ◌↔◌, List, [], ◌∷◌, ◌++◌, length, IsOk, IfOk, IfErr, Ok, Err, None, Some};
+    ghost use Rattle.std.specs.Prelude.{◌≡◌, ℕ, ◌+◌, ◌<◌, ◌≤◌, ◌↔◌, List, [], ◌∷◌, ◌++◌, length, IsOk, IfOk, IfErr, MatchResult, Ok, Err, None, Some};
     ghost use Rattle.niss_moves.specs.Line.{Spells};
     ghost use Rattle.niss_moves.specs.Faults.{CanContinue, Stops, Faults};
     ghost use Rattle.niss_moves.specs.Reader.{IsFed, read_line};
@@ -66,7 +69,7 @@ impl LineReader {
         // A byte is taken where some line begins so, and else the fault is that of such a byte.
         ensures taken { (bytes : List ℕ) → IsFed self.old bytes → IsOk result ↔ CanContinue (bytes ++ byte ∷ []) }
         ensures fault { (bytes : List ℕ) → IsFed self.old bytes → IfErr result (λ f. Stops (bytes ++ byte ∷ []) f) }
-        ensures told { IfErr result (λ f. self.new.fault ≡ Some f) }
+        ensures told { MatchResult result (λ _. self.new.fault ≡ None) (λ f. self.new.fault ≡ Some f) }
         ensures again { (f : ReadFault) → self.old.fault ≡ Some f → (result ≡ Err f) × (self.new.fault ≡ Some f) }
     {
         let fed = self.fed;
