@@ -10,6 +10,9 @@ use crate::rotation::Rotation;
 use crate::text::{LineText, face_letter, put_gap, put_word};
 use crate::turn::{Face, Power, Turn};
 
+#[cfg(test)]
+mod tests;
+
 /// Appends the words of the face turns, with one space before each, but not at the beginning of the text or after `(`.
 pub fn put_faces(turns: &[Turn], text: &mut LineText)
     requires { array_vec_len text.old + 3 * length turns.now ≤ 2048 }
