@@ -1,4 +1,14 @@
 pub mod Finite
+pub mod Rotations
+pub mod Expansions
+pub mod Pushed
+pub mod CanonicalLists
+pub mod Cleaned
+pub mod CleanEffect
+pub mod OneSpelling
+pub mod OneCleanList
+pub mod Disorder
+pub mod AllCanonical
 pub mod SymbolTable
 pub mod Completes
 pub mod Sound
@@ -11,3 +21,8 @@ pub mod ReadBack
 pub mod Words
 pub mod Inverses
 pub mod Stays
+pub mod CleanWords
+pub mod Home
+pub mod RewritingRows
+pub mod MadeLists
+pub mod CanonicalOrder

@@ -3,6 +3,11 @@ pub mod Facelets
 pub mod Effects
 pub mod Letters
 pub mod Turn
+pub mod Rotations
+pub mod Faces
+pub mod Canonical
+pub mod Cleaning
+pub mod RewritingLaws
 pub mod Notation
 pub mod Line
 pub mod Faults
@@ -11,3 +16,4 @@ pub mod Reader
 pub mod Text
 pub mod ReadingLaws
 pub mod EffectLaws
+pub mod CleanText
