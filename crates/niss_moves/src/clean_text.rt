@@ -3,6 +3,7 @@ ghost use Rattle.std.specs.Prelude.{◌≡◌, ◌+◌, ◌*◌, ◌≤◌, leng
 ghost use Rattle.arrayvec.specs.ArrayVec.{array_vec_len};
 ghost use Rattle.niss_moves.specs.Text.{with_words};
 ghost use Rattle.niss_moves.specs.CleanText.{turn_words, rotation_words, cleaned_words, is_empty, PutsClean};
+ghost use Rattle.niss_moves.specs.CleanedLine.{with_clean_line};
 
 use crate::cleaning::cleanup;
 use crate::niss::Niss;
@@ -55,6 +56,7 @@ fn have_no_word(turns: &[Turn], rotation: Rotation) -> bool
 pub fn put_niss_clean(niss: &Niss, text: &mut LineText)
     requires { array_vec_len text.old + 1600 ≤ 2048 }
     ensures text { PutsClean niss.now text.old.items text.new.items }
+    ensures items { text.new.items ≡ with_clean_line text.old.items niss.now }
     ensures len { array_vec_len text.new ≤ array_vec_len text.old + 1600 }
 {
     let (turns, rotation) = cleanup(niss.normal());
