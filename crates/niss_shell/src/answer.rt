@@ -2,7 +2,7 @@ ghost use Rattle.std.specs.Prelude.{◌≡◌, ◌≤◌, length};
 ghost use Rattle.niss_shell.specs.Output.{line_text};
 
 use crate::command::LineCommand;
-use niss_moves::{LineText, Niss, invert, put_tokens, unniss};
+use niss_moves::{LineText, Niss, invert, put_niss_clean, put_tokens, unniss};
 
 /// What a command writes for a line, up to the line feed.
 pub fn put_answer(command: LineCommand, line: &Niss, text: &mut LineText)
@@ -13,5 +13,6 @@ pub fn put_answer(command: LineCommand, line: &Niss, text: &mut LineText)
     match command {
         LineCommand::Invert => put_tokens(invert(line).as_slice(), text),
         LineCommand::Unniss => put_tokens(unniss(line).as_slice(), text),
+        LineCommand::Cleanup => put_niss_clean(line, text),
     }
 }

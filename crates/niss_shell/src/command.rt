@@ -15,6 +15,7 @@ pub enum UsageFault {
 pub enum LineCommand {
     Invert,
     Unniss,
+    Cleanup,
 }
 
 /// A command. The words that it lends are the input; where there are none, the input comes from the source.
@@ -24,6 +25,8 @@ pub enum Command<'a> {
     Invert(&'a [String]),
     /// Each line without brackets: its normal moves, and then the inverse of its bracketed ones.
     Unniss(&'a [String]),
+    /// Each line as face turns and a rotation, the face turns canonical, the normal and the bracketed moves each by itself.
+    Cleanup(&'a [String]),
 }
 
 /// The command that the words name, or their first fault.
@@ -38,6 +41,7 @@ pub fn parse_words(words: &[String]) -> Result<Command<'_>, UsageFault>
     match name.as_bytes() {
         b"invert" => Ok(Command::Invert(rest)),
         b"unniss" => Ok(Command::Unniss(rest)),
+        b"cleanup" => Ok(Command::Cleanup(rest)),
         _ => Err(UsageFault::UnknownCommand),
     }
 }
