@@ -1,0 +1,17 @@
+pub mod CubieFacelets
+pub mod Cubies
+pub mod Map
+pub mod Sets
+pub mod Coordinates
+pub mod SameCubies
+pub mod Quarters
+pub mod Renamings
+pub mod RenamedFaces
+pub mod FaceletPositions
+pub mod CubieLists
+pub mod OccupiedPlaces
+pub mod FlipAfter
+pub mod TwistAfter
+pub mod SliceAfter
+pub mod AfterTurn
+pub mod Tables

@@ -1,0 +1,296 @@
+ghost use Rattle.std.specs.Prelude.{◌≡◌, ◌<◌, ◌+◌, ◌*◌, ◌%◌, ◌≤◌, length, EachIndex, slice_index};
+ghost use Rattle.niss_cube.specs.Cubies.{AreCubies};
+
+use crate::digits::{number_of, slice_number};
+use crate::letters::{CORNER_LETTERS, EDGE_LETTERS, FACELET_POSITIONS, FaceletPosition};
+use crate::quarter::quarter_turn;
+use crate::renaming::{Renaming, rename_homes, rename_orientations, table_of};
+use niss_moves::axis::Axis;
+use niss_moves::turn::{Face, Power, Turn};
+
+/// A cube with its centres home.
+#[derive(Clone, Copy, Debug)]
+pub struct Cube {
+    // which corner stands at each corner place, and its twist
+    corners: [u8; 8],
+    twists: [u8; 8],
+    // which edge stands at each edge place, and its flip
+    edges: [u8; 12],
+    flips: [u8; 12],
+    ghost are_cubies: { AreCubies corners twists edges flips },
+}
+
+// Writes to each place what stood at the place that the table names.
+fn bring(old: &[u8], from: &[u8], new: &mut [u8])
+    requires from_len { length from.now ≡ length new.old }
+    requires in_range { EachIndex from.now (λ k. slice_index from.now k < length old.now) }
+    ensures { EachIndex new.new (λ k. slice_index new.new k ≡ slice_index old.now (slice_index from.now k)) }
+{
+    for (k, x) in new.iter_mut().enumerate() {
+        *x = old[from[k] as usize];
+    }
+}
+
+// The same for twists or flips, to which the table adds.
+pub fn bring_oriented(old: &[u8], from: &[u8], added: &[u8], facelets: u8, new: &mut [u8])
+    requires from_len { length from.now ≡ length new.old }
+    requires added_len { length added.now ≡ length new.old }
+    requires in_range { EachIndex from.now (λ k. slice_index from.now k < length old.now) }
+    requires some { 0 < facelets }
+    requires small { EachIndex old.now (λ k. slice_index old.now k < 3) }
+    requires added_small { EachIndex added.now (λ k. slice_index added.now k < 3) }
+    ensures { EachIndex new.new (λ k. slice_index new.new k ≡ (slice_index old.now (slice_index from.now k) + slice_index added.now k) % facelets) }
+{
+    for (k, x) in new.iter_mut().enumerate() {
+        *x = (old[from[k] as usize] + added[k]) % facelets;
+    }
+}
+
+impl Cube {
+    ghost use Rattle.std.specs.Prelude.{◌≡◌, IsTrue};
+    ghost use Rattle.niss_moves.specs.Effects.{moved, face_move, times, turned, effect_of_turns};
+    ghost use Rattle.niss_moves.specs.Places.{SameMap};
+    ghost use Rattle.niss_cube.specs.Map.{map_of};
+    ghost use Rattle.niss_cube.specs.SameCubies.{same_cubies};
+    ghost use Rattle.std.specs.Prelude.{◌↔◌};
+    ghost use Rattle.niss_cube.specs.Sets.{Kept, flip_set, twist_set, slice_set};
+    ghost use Rattle.niss_cube.specs.Renamings.{renamed_by};
+    ghost use Rattle.std.specs.Prelude.{get_or};
+    ghost use Rattle.niss_moves.specs.declared.turn.Face.TheVariants.{U};
+    ghost use Rattle.niss_moves.specs.Facelets.{places, facelet};
+    ghost use Rattle.niss_moves.specs.Letters.{letter_of, letters};
+    ghost use Rattle.niss_cube.specs.CubieFacelets.{facelet_at, corner_facelets, edge_facelets};
+    ghost use Rattle.niss_cube.specs.Coordinates.{for_flip, for_twist, flip_of, twist_of, slice_of};
+
+    /// The solved cube.
+    pub fn solved() -> Self
+        ensures { SameMap (map_of result) (λ q. q) }
+    {
+        Cube {
+            corners: [0, 1, 2, 3, 4, 5, 6, 7],
+            twists: [0; 8],
+            edges: [0, 1, 2, 3, 4, 5, 6, 7, 8, 9, 10, 11],
+            flips: [0; 12],
+        }
+    }
+
+    // A clockwise quarter turn of the face.
+    fn quarter(&mut self, face: Face)
+        ensures { SameMap (map_of self.new) (λ q. moved (face_move face 1) (map_of self.old q)) }
+    {
+        let table = quarter_turn(face);
+        let mut corners = self.corners;
+        let mut twists = self.twists;
+        let mut edges = self.edges;
+        let mut flips = self.flips;
+        bring(&self.corners, &table.corners, &mut corners);
+        bring_oriented(&self.twists, &table.corners, &table.twists, 3, &mut twists);
+        bring(&self.edges, &table.edges, &mut edges);
+        bring_oriented(&self.flips, &table.edges, &table.flips, 2, &mut flips);
+        *self = Cube {
+            corners,
+            twists,
+            edges,
+            flips,
+        };
+    }
+
+    /// Turns a face.
+    pub fn turn(&mut self, turn: Turn)
+        ensures { SameMap (map_of self.new) (λ q. turned turn (map_of self.old q)) }
+    {
+        self.quarter(turn.face);
+        match turn.power {
+            Power::Quarter => {}
+            Power::Half => self.quarter(turn.face),
+            Power::Counter => {
+                self.quarter(turn.face);
+                self.quarter(turn.face);
+            }
+        }
+    }
+
+    /// Turns faces one after another.
+    pub fn apply(&mut self, turns: &[Turn])
+        ensures { SameMap (map_of self.new) (λ q. effect_of_turns turns.now (map_of self.old q)) }
+    {
+        for turn in turns {
+            self.turn(*turn);
+        }
+    }
+
+    // The cube renamed by a rotation.
+    fn renamed(&self, renaming: Renaming) -> Cube
+        ensures { SameMap (map_of result) (renamed_by renaming (map_of self.now)) }
+    {
+        let table = table_of(renaming);
+        let mut corners = self.corners;
+        let mut twists = self.twists;
+        let mut edges = self.edges;
+        let mut flips = self.flips;
+        rename_homes(
+            &self.corners,
+            &table.corners_from,
+            &table.corners_to,
+            &mut corners,
+        );
+        rename_orientations(
+            &self.corners,
+            &self.twists,
+            &table.corners_from,
+            &table.twists_in,
+            &table.twists_out,
+            3,
+            &mut twists,
+        );
+        rename_homes(&self.edges, &table.edges_from, &table.edges_to, &mut edges);
+        rename_orientations(
+            &self.edges,
+            &self.flips,
+            &table.edges_from,
+            &table.flips_in,
+            &table.flips_out,
+            2,
+            &mut flips,
+        );
+        Cube {
+            corners,
+            twists,
+            edges,
+            flips,
+        }
+    }
+
+    // The cube as the flip on an axis is read from it.
+    fn renamed_for_flip(&self, axis: Axis) -> Cube
+        ensures { SameMap (map_of result) (for_flip axis (map_of self.now)) }
+    {
+        match axis {
+            Axis::Ud => self.renamed(Renaming::XCounter),
+            Axis::Rl => self.renamed(Renaming::YQuarter),
+            Axis::Fb => *self,
+        }
+    }
+
+    // The cube as the twist and the slice on an axis are read from it.
+    fn renamed_for_twist(&self, axis: Axis) -> Cube
+        ensures { SameMap (map_of result) (for_twist axis (map_of self.now)) }
+    {
+        match axis {
+            Axis::Ud => *self,
+            Axis::Rl => self.renamed(Renaming::ZCounter),
+            Axis::Fb => self.renamed(Renaming::XQuarter),
+        }
+    }
+
+    /// The number of the flips on an axis.
+    pub fn flip(&self, axis: Axis) -> u16
+        ensures value { result ≡ flip_of axis (map_of self.now) }
+        ensures in_range { result < 2048 }
+        ensures kept { (result ≡ 0) ↔ Kept (flip_set axis) (map_of self.now) }
+    {
+        let renamed = self.renamed_for_flip(axis);
+        number_of(2, &renamed.flips[..11])
+    }
+
+    /// The number of the twists on an axis.
+    pub fn twist(&self, axis: Axis) -> u16
+        ensures value { result ≡ twist_of axis (map_of self.now) }
+        ensures in_range { result < 2187 }
+        ensures kept { (result ≡ 0) ↔ Kept (twist_set axis) (map_of self.now) }
+    {
+        let renamed = self.renamed_for_twist(axis);
+        number_of(3, &renamed.twists[..7])
+    }
+
+    /// The number of the places where the edges of a slice stand.
+    pub fn slice(&self, axis: Axis) -> u16
+        ensures value { result ≡ slice_of axis (map_of self.now) }
+        ensures in_range { result < 495 }
+        ensures kept { (result ≡ 0) ↔ Kept (slice_set axis) (map_of self.now) }
+    {
+        let renamed = self.renamed_for_twist(axis);
+        slice_number(&renamed.edges)
+    }
+
+    // Whether the same cubies stand at the same places, turned alike.
+    fn has_same_cubies(&self, other: &Cube) -> bool
+        ensures { result ≡ same_cubies self.now other.now }
+    {
+        self.corners == other.corners
+            && (self.twists == other.twists
+                && (self.edges == other.edges && self.flips == other.flips))
+    }
+
+    // The letter at a facelet of a corner place.
+    fn corner_letter(&self, place: u8, facelet: u8) -> u8
+        requires place { place < 8 }
+        requires facelet { facelet < 3 }
+        ensures { result ≡ letter_of (map_of self.now) places (facelet_at corner_facelets place facelet) }
+    {
+        let n = place as usize;
+        let from = (facelet + 3 - self.twists[n]) % 3;
+        CORNER_LETTERS[self.corners[n] as usize][from as usize]
+    }
+
+    // The letter at a facelet of an edge place.
+    fn edge_letter(&self, place: u8, facelet: u8) -> u8
+        requires place { place < 12 }
+        requires facelet { facelet < 2 }
+        ensures { result ≡ letter_of (map_of self.now) places (facelet_at edge_facelets place facelet) }
+    {
+        let n = place as usize;
+        let from = (facelet + 2 - self.flips[n]) % 2;
+        EDGE_LETTERS[self.edges[n] as usize][from as usize]
+    }
+
+    // The letter at a place, by its index in the text.
+    fn facelet_letter(&self, index: usize) -> u8
+        requires { index < 54 }
+        ensures { result ≡ letter_of (map_of self.now) places (get_or places index (facelet U 5)) }
+    {
+        match FACELET_POSITIONS[index] {
+            FaceletPosition::Corner(place, facelet) => self.corner_letter(place, facelet),
+            FaceletPosition::Edge(place, facelet) => self.edge_letter(place, facelet),
+            FaceletPosition::Centre(letter) => letter,
+        }
+    }
+
+    /// The facelet text of the cube.
+    pub fn letters(&self) -> [u8; 54]
+        ensures { result ≡ letters (map_of self.now) }
+    {
+        let mut text = [0; 54];
+        for (index, x) in text.iter_mut().enumerate() {
+            *x = self.facelet_letter(index);
+        }
+        text
+    }
+}
+
+impl PartialEq for Cube {
+    ghost use Rattle.std.specs.Prelude.{◌≡◌, ◌↔◌, ◌&&◌, IsTrue, nat_eq};
+    ghost use Rattle.std.specs.Cmp.Rules.{comparing};
+    ghost use Rattle.std.proofs.Common.{rules};
+    ghost use Rattle.niss_moves.specs.Places.{SameMap};
+    ghost use Rattle.niss_cube.specs.Map.{map_of};
+    ghost use Rattle.niss_cube.specs.SameCubies.{same_cubies};
+
+    ghost eq = { same_cubies };
+
+    ghost laws = { Prim.search (comparing, rules) };
+
+    fn eq(&self, other: &Cube) -> bool
+        ensures value { result ≡ same_cubies self.now other.now }
+        ensures map { IsTrue result ↔ SameMap (map_of self.now) (map_of other.now) }
+    {
+        self.has_same_cubies(other)
+    }
+}
+
+impl Eq for Cube {
+    ghost use Rattle.std.specs.Cmp.Rules.{comparing};
+    ghost use Rattle.std.proofs.Common.{rules};
+
+    ghost laws = { Prim.search (comparing, rules) };
+}

@@ -1,0 +1,12 @@
+//! The cube: its cubies, its map of the sticker places, and its coordinates.
+#![tactic(auto)]
+
+pub mod cube;
+mod digits;
+pub mod laws;
+mod letters;
+mod quarter;
+mod renaming;
+pub mod tables;
+
+pub use niss_moves::axis::Axis;
