@@ -2,5 +2,6 @@
 #![tactic(auto)]
 
 pub mod axis;
+pub mod rotation;
 pub mod token;
 pub mod turn;
