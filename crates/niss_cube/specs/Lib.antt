@@ -15,3 +15,4 @@ pub mod TwistAfter
 pub mod SliceAfter
 pub mod AfterTurn
 pub mod Tables
+pub mod RotatedText

@@ -5,7 +5,9 @@ use crate::digits::{number_of, slice_number};
 use crate::letters::{CORNER_LETTERS, EDGE_LETTERS, FACELET_POSITIONS, FaceletPosition};
 use crate::quarter::quarter_turn;
 use crate::renaming::{Renaming, rename_homes, rename_orientations, table_of};
+use crate::rotated_text::{bring_to_top, turn_about_vertical};
 use niss_moves::axis::Axis;
+use niss_moves::rotation::Rotation;
 use niss_moves::turn::{Face, Power, Turn};
 
 /// A cube with its centres home.
@@ -59,6 +61,8 @@ impl Cube {
     ghost use Rattle.niss_moves.specs.declared.turn.Face.TheVariants.{U};
     ghost use Rattle.niss_moves.specs.Facelets.{places, facelet};
     ghost use Rattle.niss_moves.specs.Letters.{letter_of, letters};
+    ghost use Rattle.niss_moves.specs.Effects.{effect};
+    ghost use Rattle.niss_moves.specs.Rotations.{spelling};
     ghost use Rattle.niss_cube.specs.CubieFacelets.{facelet_at, corner_facelets, edge_facelets};
     ghost use Rattle.niss_cube.specs.Coordinates.{for_flip, for_twist, flip_of, twist_of, slice_of};
 
@@ -256,8 +260,8 @@ impl Cube {
         }
     }
 
-    /// The facelet text of the cube.
-    pub fn letters(&self) -> [u8; 54]
+    // The facelet text of the cube as it stands.
+    fn letters(&self) -> [u8; 54]
         ensures { result ≡ letters (map_of self.now) }
     {
         let mut text = [0; 54];
@@ -265,6 +269,15 @@ impl Cube {
             *x = self.facelet_letter(index);
         }
         text
+    }
+
+    /// The facelet text of the cube, then rotated as a whole: the faces in the order U, R, F, D, L, B with nine letters
+    /// each, row by row as one looks at the face. The letter at a place names the face on which its sticker began.
+    pub fn facelets(&self, rotation: Rotation) -> [u8; 54]
+        ensures { result ≡ letters (λ q. effect (spelling rotation) (map_of self.now q)) }
+    {
+        let upright = bring_to_top(&self.letters(), rotation.top);
+        turn_about_vertical(&upright, rotation.vertical)
     }
 }
 
