@@ -4,7 +4,7 @@ ghost use Rattle.niss_cube.specs.Cubies.{AreCubies};
 use crate::digits::{number_of, slice_number};
 use crate::letters::{CORNER_LETTERS, EDGE_LETTERS, FACELET_POSITIONS, FaceletPosition};
 use crate::quarter::quarter_turn;
-use crate::renaming::{Renaming, rename_homes, rename_orientations, table_of};
+use crate::renaming::{Renaming, rename_corners, rename_edges};
 use crate::rotated_text::{bring_to_top, turn_about_vertical};
 use niss_moves::axis::Axis;
 use niss_moves::rotation::Rotation;
@@ -127,36 +127,8 @@ impl Cube {
     fn renamed(&self, renaming: Renaming) -> Cube
         ensures { SameMap (map_of result) (renamed_by renaming (map_of self.now)) }
     {
-        let table = table_of(renaming);
-        let mut corners = self.corners;
-        let mut twists = self.twists;
-        let mut edges = self.edges;
-        let mut flips = self.flips;
-        rename_homes(
-            &self.corners,
-            &table.corners_from,
-            &table.corners_to,
-            &mut corners,
-        );
-        rename_orientations(
-            &self.corners,
-            &self.twists,
-            &table.corners_from,
-            &table.twists_in,
-            &table.twists_out,
-            3,
-            &mut twists,
-        );
-        rename_homes(&self.edges, &table.edges_from, &table.edges_to, &mut edges);
-        rename_orientations(
-            &self.edges,
-            &self.flips,
-            &table.edges_from,
-            &table.flips_in,
-            &table.flips_out,
-            2,
-            &mut flips,
-        );
+        let (corners, twists) = rename_corners(&self.corners, &self.twists, renaming);
+        let (edges, flips) = rename_edges(&self.edges, &self.flips, renaming);
         Cube {
             corners,
             twists,
@@ -307,3 +279,6 @@ impl Eq for Cube {
 
     ghost laws = { Prim.search (comparing, rules) };
 }
+
+#[cfg(test)]
+mod tests;

@@ -171,34 +171,6 @@ impl TurnTables {
 mod tests {
     use super::*;
 
-    fn after(face: Face) -> Cube {
-        let mut cube = Cube::solved();
-        cube.turn(Turn {
-            face,
-            power: Power::Quarter,
-        });
-        cube
-    }
-
-    #[test]
-    fn coordinates_have_their_numbers(rt: HostRuntime) {
-        assert_eq!(rt; after(Face::F).flip(Axis::Fb), 550);
-        assert_eq!(rt; after(Face::F).slice(Axis::Ud), 33);
-        assert_eq!(rt; after(Face::F).slice(Axis::Rl), 33);
-        assert_eq!(rt; after(Face::R).twist(Axis::Ud), 1494);
-        assert_eq!(rt; after(Face::R).twist(Axis::Fb), 1494);
-        assert_eq!(rt; after(Face::R).flip(Axis::Rl), 550);
-        assert_eq!(rt; after(Face::U).flip(Axis::Ud), 550);
-        assert_eq!(rt; after(Face::D).twist(Axis::Rl), 1494);
-        assert_eq!(rt; after(Face::D).slice(Axis::Fb), 33);
-    }
-
-    #[test]
-    fn a_turned_cube_is_shown(rt: HostRuntime) {
-        let text = after(Face::R).letters();
-        assert!(rt; text == *b"UUFUUFUUFRRRRRRRRRFFDFFDFFDDDBDDBDDBLLLLLLLLLUBBUBBUBB");
-    }
-
     #[test]
     fn tables_turn_a_coordinate(rt: HostRuntime) {
         let turn = Turn {
