@@ -2,6 +2,10 @@
 #![tactic(auto)]
 
 pub mod axis;
+pub mod canonical;
+pub mod cleaning;
+pub mod faces;
+pub mod rewriting_laws;
 pub mod rotation;
 pub mod token;
 pub mod turn;
