@@ -9,3 +9,4 @@ pub mod OneSpelling
 pub mod OneCleanList
 pub mod Disorder
 pub mod AllCanonical
+pub mod CentresHome

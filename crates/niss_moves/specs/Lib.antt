@@ -8,3 +8,4 @@ pub mod Faces
 pub mod Canonical
 pub mod Cleaning
 pub mod RewritingLaws
+pub mod Centres

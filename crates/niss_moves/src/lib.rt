@@ -3,6 +3,7 @@
 
 pub mod axis;
 pub mod canonical;
+pub mod centres;
 pub mod cleaning;
 pub mod faces;
 pub mod rewriting_laws;
