@@ -1,11 +1,11 @@
 pub mod AfterRows
-pub mod AfterTurns
+pub mod AxisRenamings
+pub mod CodedLaws
+pub mod CoordinateLaws
 pub mod CoordinateValues
 pub mod Each
 pub mod EqualCubes
 pub mod FaceletLetters
-pub mod FlipTables
-pub mod FlipTurns
 pub mod KeptFlips
 pub mod KeptTests
 pub mod KeptTwists
@@ -14,6 +14,7 @@ pub mod MapPlaces
 pub mod Numbers
 pub mod OccupiedNumbers
 pub mod Once
+pub mod Orientations
 pub mod Origins
 pub mod PlaceTables
 pub mod QuarterSteps
@@ -22,6 +23,7 @@ pub mod RenamedCubies
 pub mod RenamingTables
 pub mod Rows
 pub mod ShownCubies
+pub mod SliceCodes
 pub mod SliceSteps
 pub mod StickerPlaces
 pub mod Sums

@@ -1,5 +1,5 @@
 -- The flip number after a turn: the number is decoded, the cube turned, and its number read again.
-use Rattle.std.specs.Prelude.{ℕ, zero, suc, ◌/◌, ◌%◌, List, [], ◌∷◌, ◌++◌, sum}
+use Rattle.std.specs.Prelude.{ℕ, List}
 use Rattle.niss_moves.specs.Places.{Place}
 use Rattle.niss_moves.specs.Effects.{turned}
 use Rattle.niss_moves.specs.declared.axis.Axis.{Axis}
@@ -9,15 +9,11 @@ use Rattle.niss_cube.specs.Map.{sticker_map}
 use Rattle.niss_cube.specs.CubieLists.{corners_home, twists_home, edges_home}
 use Rattle.niss_cube.specs.RenamedFaces.{face_for_flip}
 use Rattle.niss_cube.specs.Coordinates.{flip_of}
+use Rattle.niss_cube.specs.NumberedOrientations.{orientations_of_number}
 
--- the number i as n digits in base 2, the highest first
-abbrev pub binary : ℕ → ℕ → List ℕ
-binary zero i = []
-binary (suc n) i = binary n (i / 2) ++ (i % 2) ∷ []
-
--- the flips of the edges that have the number i: the last one makes their sum even
+-- the flips of the edges that have the number i
 unfoldable pub flips_of_number : ℕ → List ℕ
-flips_of_number i = binary 11 i ++ (sum (binary 11 i) % 2) ∷ []
+flips_of_number i = orientations_of_number 2 11 i
 
 -- the map of a cube whose cubies are at home and whose edges are flipped so
 abbrev pub flipped : List ℕ → Place → Place

@@ -10,8 +10,8 @@ pub mod RenamedFaces
 pub mod FaceletPositions
 pub mod CubieLists
 pub mod OccupiedPlaces
+pub mod NumberedOrientations
 pub mod FlipAfter
 pub mod TwistAfter
 pub mod SliceAfter
 pub mod AfterTurn
-pub mod Tables

@@ -7,6 +7,5 @@ pub mod laws;
 mod letters;
 mod quarter;
 mod renaming;
-pub mod tables;
 
 pub use niss_moves::axis::Axis;
