@@ -1,5 +1,5 @@
 -- The flips, the twists and the slices on an axis are coordinates.
-use Rattle.std.proofs.Common.{◌≡◌, ℕ, ◌+◌, ◌<◌, refl, sym, ◌∙◌, ap, List, [], ◌∷◌, length, get_or, map, take, reverse, Bool, true, arith}
+use Rattle.std.proofs.Common.{◌≡◌, ℕ, ◌+◌, ◌<◌, refl, sym, ◌∙◌, ap, subst, List, [], ◌∷◌, length, get_or, map, take, reverse, Bool, true, arith}
 use Rattle.std.specs.Prelude.{slice_index, count_by, nat_lt, nat_le, ◌==◌}
 use Rattle.std.proofs.lemmas.Bool.{eqb-true, ltb-true}
 use Rattle.niss_moves.specs.Effects.{times}
@@ -16,7 +16,7 @@ use Rattle.niss_cube.specs.AfterTurn.{FlipsAreCoordinates, TwistsAreCoordinates,
 use Rattle.niss_cube.proofs.PlaceTables.{all_below, at_below}
 use Rattle.niss_cube.proofs.Numbers.{number_from}
 use Rattle.niss_cube.proofs.CoordinateValues.{flip_of-cubies, twist_of-cubies, slice_of-cubies, flips-below, twists-below, slice-below, slice_occupied, slice_occupied-filled}
-use Rattle.niss_cube.proofs.ListTurns.{Valid, turned_lists, turned-part}
+use Rattle.niss_cube.proofs.ListTurns.{Valid, map_lists, turned_lists, turned-part}
 use Rattle.niss_cube.proofs.Orientations.{AreOriented, base_2, base_3, orientations_of_number-are, orientations_of_number-number, oriented-same}
 use Rattle.niss_cube.proofs.KeptFlips.{flips_home-are, are_flips, flip_zero-kept}
 use Rattle.niss_cube.proofs.KeptTwists.{twists_home-are, are_twists, twist_zero-kept, slice_zero-kept}
@@ -128,6 +128,37 @@ slices_code = record {
   of_number_code = of_number-rank;
   code_turned = slice_code-turned;
 }
+
+-- cubies with flips, twists or edges of a number
+pub with_flips-valid : (i : ℕ) (flips : List ℕ) → flips ≡ flips_of_number i → Valid (cubies_of twists_home edges_home flips)
+with_flips-valid i flips e =
+    let P : List ℕ → Type 0 = λ xs. Valid (cubies_of twists_home edges_home xs) in
+    subst P (sym e) (cubies_of-valid twists_home edges_home (flips_of_number i) twists_home-are edges_home-are (of_number-flips i))
+
+pub with_flips-number : (i : ℕ) (flips : List ℕ) → i < 2048 → flips ≡ flips_of_number i → flip_of Fb (map_lists (cubies_of twists_home edges_home flips)) ≡ i
+with_flips-number i flips l e =
+    flips_code.code_is Fb (map_lists (cubies_of twists_home edges_home flips)) (cubies_of twists_home edges_home flips) (with_flips-valid i flips e) (λ q p. refl)
+    ∙ ap (λ xs. number 2 (take 11 xs)) e ∙ of_number-flip i l
+
+pub with_twists-valid : (i : ℕ) (twists : List ℕ) → twists ≡ twists_of_number i → Valid (cubies_of twists edges_home flips_home)
+with_twists-valid i twists e =
+    let P : List ℕ → Type 0 = λ xs. Valid (cubies_of xs edges_home flips_home) in
+    subst P (sym e) (cubies_of-valid (twists_of_number i) edges_home flips_home (of_number-twists i) edges_home-are flips_home-are)
+
+pub with_twists-number : (i : ℕ) (twists : List ℕ) → i < 2187 → twists ≡ twists_of_number i → twist_of Ud (map_lists (cubies_of twists edges_home flips_home)) ≡ i
+with_twists-number i twists l e =
+    twists_code.code_is Ud (map_lists (cubies_of twists edges_home flips_home)) (cubies_of twists edges_home flips_home) (with_twists-valid i twists e) (λ q p. refl)
+    ∙ ap (λ xs. number 3 (take 7 xs)) e ∙ of_number-twist i l
+
+pub with_edges-valid : (i : ℕ) (edges : List ℕ) → i < 495 → edges ≡ edges_of_number i → Valid (cubies_of twists_home edges flips_home)
+with_edges-valid i edges l e =
+    let P : List ℕ → Type 0 = λ xs. Valid (cubies_of twists_home xs flips_home) in
+    subst P (sym e) (cubies_of-valid twists_home (edges_of_number i) flips_home twists_home-are (of_number-placed i l) flips_home-are)
+
+pub with_edges-number : (i : ℕ) (edges : List ℕ) → i < 495 → edges ≡ edges_of_number i → slice_of Ud (map_lists (cubies_of twists_home edges flips_home)) ≡ i
+with_edges-number i edges l e =
+    slices_code.code_is Ud (map_lists (cubies_of twists_home edges flips_home)) (cubies_of twists_home edges flips_home) (with_edges-valid i edges l e) (λ q p. refl)
+    ∙ ap (λ xs. rank (slice_occupied xs) 4) e ∙ of_number-rank i l
 
 pub flips_are_coordinates : FlipsAreCoordinates
 unfolding flip_after

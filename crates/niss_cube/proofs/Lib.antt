@@ -17,6 +17,7 @@ pub mod Once
 pub mod Orientations
 pub mod Origins
 pub mod PlaceTables
+pub mod PlacedEdges
 pub mod QuarterSteps
 pub mod QuarterTurned
 pub mod RenamedCubies
@@ -26,4 +27,6 @@ pub mod ShownCubies
 pub mod SliceCodes
 pub mod SliceSteps
 pub mod StickerPlaces
+pub mod TableSteps
 pub mod Sums
+pub mod WrittenOrientations

@@ -1,7 +1,7 @@
 -- The orientations of pieces, flips or twists, by their number.
-use Rattle.std.proofs.Common.{◌≡◌, ℕ, zero, suc, ◌+◌, ◌-◌, ◌*◌, ◌/◌, ◌%◌, ◌<◌, ◌≤◌, refl, sym, ◌∙◌, ap, subst, List, [], ◌∷◌, ◌++◌, length, get_or, set, take, drop, arith, min, inl, inr, append_assoc}
+use Rattle.std.proofs.Common.{◌≡◌, ℕ, zero, suc, ◌+◌, ◌-◌, ◌*◌, ◌/◌, ◌%◌, ◌<◌, ◌≤◌, refl, sym, ◌∙◌, ap, subst, List, [], ◌∷◌, ◌++◌, length, get_or, take, arith, min, inl, inr, ◌⊎◌}
 use Rattle.std.specs.Prelude.{slice_index, sum, ◌↔◌}
-use Rattle.std.proofs.lemmas.List.{ext_get_or, get_or-take, length-take, take-set, length-set}
+use Rattle.std.proofs.lemmas.List.{ext_get_or, get_or-take, length-take}
 use Rattle.std.proofs.lemmas.List.Sums.{sum_by-cons}
 use Rattle.std.proofs.lemmas.Bool.Decides.{eqb_tells}
 use Rattle.niss_cube.specs.Coordinates.{number}
@@ -17,13 +17,19 @@ pub record Base (b : ℕ) : Type 0 where
   pub small : (r : ℕ) → r % b < b
   pub lower : (r s : ℕ) → r < s * b → r / b < s
   pub completed : (s : ℕ) → (s + (b - s % b) % b) % b ≡ 0
+  pub none : 0 % b ≡ 0
+  pub added : (s d : ℕ) → (d + s) % b ≡ (s % b + d) % b
   pub last_same : (s x y : ℕ) → x < b → y < b → (s + x) % b ≡ 0 → (s + y) % b ≡ 0 → x ≡ y
 
 pub base_2 : Base 2
-base_2 = record { splits = splits-2; whole = λ r. omega arith; small = λ r. omega arith; lower = λ r s h. omega arith; completed = λ s. omega arith; last_same = λ s x y a b p q. omega arith }
+base_2 = record { splits = splits-2; whole = λ r. omega arith; small = λ r. omega arith; lower = λ r s h. omega arith; completed = λ s. omega arith; none = refl; added = λ s d. omega arith; last_same = λ s x y a b p q. omega arith }
 
 pub base_3 : Base 3
-base_3 = record { splits = splits-3; whole = λ r. omega arith; small = λ r. omega arith; lower = λ r s h. omega arith; completed = λ s. omega arith; last_same = λ s x y a b p q. omega arith }
+base_3 = record { splits = splits-3; whole = λ r. omega arith; small = λ r. omega arith; lower = λ r s h. omega arith; completed = λ s. omega arith; none = refl; added = λ s d. omega arith; last_same = λ s x y a b p q. omega arith }
+
+pub base_of : (b : ℕ) → (b ≡ 2) ⊎ (b ≡ 3) → Base b
+base_of b (inl e) = subst Base (sym e) base_2
+base_of b (inr e) = subst Base (sym e) base_3
 
 -- the orientations of n + 1 pieces that a cube can have
 pub record AreOriented (b n : ℕ) (xs : List ℕ) : Type 0 where

@@ -15,3 +15,5 @@ pub mod FlipAfter
 pub mod TwistAfter
 pub mod SliceAfter
 pub mod AfterTurn
+pub mod TableRows
+pub mod StandardCoordinates

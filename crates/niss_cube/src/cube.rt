@@ -8,6 +8,8 @@ use crate::renaming::{Renaming, rename_homes, rename_orientations, table_of};
 use niss_moves::axis::Axis;
 use niss_moves::turn::{Face, Power, Turn};
 
+pub mod numbered;
+
 /// A cube with its centres home.
 #[derive(Clone, Copy, Debug)]
 pub struct Cube {

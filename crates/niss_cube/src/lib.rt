@@ -7,5 +7,6 @@ pub mod laws;
 mod letters;
 mod quarter;
 mod renaming;
+pub mod turn_tables;
 
 pub use niss_moves::axis::Axis;
