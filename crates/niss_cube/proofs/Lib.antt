@@ -22,6 +22,7 @@ pub mod QuarterSteps
 pub mod QuarterTurned
 pub mod RenamedCubies
 pub mod RenamingTables
+pub mod RotatedPlaces
 pub mod Rows
 pub mod ShownCubies
 pub mod SliceCodes

@@ -193,9 +193,3 @@ module _ (v : Renaming) (corners twists edges flips corners' twists' edges' flip
           | inr e ↦ rw e (sym k.out_home)
         ])
       ]
-
--- the same for a table that is the renaming's
-pub renamed_by_table : (v : Renaming) (corners twists edges flips corners' twists' edges' flips' : List ℕ) (t : RenamingTable) → t ≡ renaming_table v → AreRenamed t corners twists edges flips corners' twists' edges' flips' → AreRenamed (renaming_table v) corners twists edges flips corners' twists' edges' flips'
-renamed_by_table v corners twists edges flips corners' twists' edges' flips' t e w =
-    let P : RenamingTable → Type 0 = λ t. AreRenamed t corners twists edges flips corners' twists' edges' flips' in
-    subst P e w

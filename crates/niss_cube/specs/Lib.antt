@@ -17,3 +17,4 @@ pub mod SliceAfter
 pub mod AfterTurn
 pub mod TableRows
 pub mod StandardCoordinates
+pub mod RotatedText

@@ -4,11 +4,13 @@ ghost use Rattle.niss_cube.specs.Cubies.{AreCubies};
 use crate::digits::{number_of, slice_number};
 use crate::letters::{CORNER_LETTERS, EDGE_LETTERS, FACELET_POSITIONS, FaceletPosition};
 use crate::quarter::quarter_turn;
-use crate::renaming::{Renaming, rename_homes, rename_orientations, table_of};
+use crate::renaming::{Renaming, rename_corners, rename_edges};
+use crate::rotated_text::{bring_to_top, turn_about_vertical};
 use niss_moves::axis::Axis;
+use niss_moves::rotation::Rotation;
 use niss_moves::turn::{Face, Power, Turn};
 
-pub mod numbered;
+pub(crate) mod numbered;
 
 /// A cube with its centres home.
 #[derive(Clone, Copy, Debug)]
@@ -34,7 +36,7 @@ fn bring(old: &[u8], from: &[u8], new: &mut [u8])
 }
 
 // The same for twists or flips, to which the table adds.
-pub fn bring_oriented(old: &[u8], from: &[u8], added: &[u8], facelets: u8, new: &mut [u8])
+fn bring_oriented(old: &[u8], from: &[u8], added: &[u8], facelets: u8, new: &mut [u8])
     requires from_len { length from.now ≡ length new.old }
     requires added_len { length added.now ≡ length new.old }
     requires in_range { EachIndex from.now (λ k. slice_index from.now k < length old.now) }
@@ -61,6 +63,8 @@ impl Cube {
     ghost use Rattle.niss_moves.specs.declared.turn.Face.TheVariants.{U};
     ghost use Rattle.niss_moves.specs.Facelets.{places, facelet};
     ghost use Rattle.niss_moves.specs.Letters.{letter_of, letters};
+    ghost use Rattle.niss_moves.specs.Effects.{effect};
+    ghost use Rattle.niss_moves.specs.Rotations.{spelling};
     ghost use Rattle.niss_cube.specs.CubieFacelets.{facelet_at, corner_facelets, edge_facelets};
     ghost use Rattle.niss_cube.specs.Coordinates.{for_flip, for_twist, flip_of, twist_of, slice_of};
 
@@ -125,36 +129,8 @@ impl Cube {
     fn renamed(&self, renaming: Renaming) -> Cube
         ensures { SameMap (map_of result) (renamed_by renaming (map_of self.now)) }
     {
-        let table = table_of(renaming);
-        let mut corners = self.corners;
-        let mut twists = self.twists;
-        let mut edges = self.edges;
-        let mut flips = self.flips;
-        rename_homes(
-            &self.corners,
-            &table.corners_from,
-            &table.corners_to,
-            &mut corners,
-        );
-        rename_orientations(
-            &self.corners,
-            &self.twists,
-            &table.corners_from,
-            &table.twists_in,
-            &table.twists_out,
-            3,
-            &mut twists,
-        );
-        rename_homes(&self.edges, &table.edges_from, &table.edges_to, &mut edges);
-        rename_orientations(
-            &self.edges,
-            &self.flips,
-            &table.edges_from,
-            &table.flips_in,
-            &table.flips_out,
-            2,
-            &mut flips,
-        );
+        let (corners, twists) = rename_corners(&self.corners, &self.twists, renaming);
+        let (edges, flips) = rename_edges(&self.edges, &self.flips, renaming);
         Cube {
             corners,
             twists,
@@ -258,8 +234,8 @@ impl Cube {
         }
     }
 
-    /// The facelet text of the cube.
-    pub fn letters(&self) -> [u8; 54]
+    // The facelet text of the cube as it stands.
+    fn letters(&self) -> [u8; 54]
         ensures { result ≡ letters (map_of self.now) }
     {
         let mut text = [0; 54];
@@ -267,6 +243,15 @@ impl Cube {
             *x = self.facelet_letter(index);
         }
         text
+    }
+
+    /// The facelet text of the cube, then rotated as a whole: the faces in the order U, R, F, D, L, B with nine letters
+    /// each, row by row as one looks at the face. The letter at a place names the face on which its sticker began.
+    pub fn facelets(&self, rotation: Rotation) -> [u8; 54]
+        ensures { result ≡ letters (λ q. effect (spelling rotation) (map_of self.now q)) }
+    {
+        let upright = bring_to_top(&self.letters(), rotation.top);
+        turn_about_vertical(&upright, rotation.vertical)
     }
 }
 
@@ -296,3 +281,6 @@ impl Eq for Cube {
 
     ghost laws = { Prim.search (comparing, rules) };
 }
+
+#[cfg(test)]
+mod tests;

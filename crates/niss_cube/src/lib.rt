@@ -7,6 +7,8 @@ pub mod laws;
 mod letters;
 mod quarter;
 mod renaming;
+mod rotated_text;
 pub mod turn_tables;
 
 pub use niss_moves::axis::Axis;
+pub use niss_moves::rotation::Rotation;

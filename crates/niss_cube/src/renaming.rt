@@ -1,5 +1,5 @@
-ghost use Rattle.niss_cube.specs.Renamings.{renaming_table};
-ghost use Rattle.std.specs.Prelude.{◌≡◌, ◌<◌, ◌+◌, ◌%◌, length, EachIndex, slice_index};
+ghost use Rattle.niss_cube.specs.Renamings.{renaming_table, renamed_home, renamed_orientation};
+ghost use Rattle.std.specs.Prelude.{◌≡◌, ◌<◌, length, EachIndex, slice_index};
 
 /// A rotation of the whole cube that renames the places. At each renamed place `_from` has its original place,
 /// and `_to` the other way round. The renamed first facelet of an original place is facelet `_in` there,
@@ -80,14 +80,14 @@ pub fn table_of(renaming: Renaming) -> RenamingTable
     }
 }
 
-// Which renamed cubie stands at each renamed place.
-pub fn rename_homes(homes: &[u8], from: &[u8], to: &[u8], new: &mut [u8])
+/// Writes which renamed cubie stands at each renamed place.
+fn rename_homes(homes: &[u8], from: &[u8], to: &[u8], new: &mut [u8])
     requires homes_len { length homes.now ≡ length new.old }
     requires from_len { length from.now ≡ length new.old }
     requires to_len { length to.now ≡ length new.old }
-    requires in_range { EachIndex from.now (λ k. slice_index from.now k < length homes.now) }
-    requires homes_in_range { EachIndex homes.now (λ k. slice_index homes.now k < length homes.now) }
-    ensures { EachIndex new.new (λ k. slice_index new.new k ≡ slice_index to.now (slice_index homes.now (slice_index from.now k))) }
+    requires from_range { EachIndex from.now (λ k. slice_index from.now k < length homes.now) }
+    requires home_range { EachIndex homes.now (λ k. slice_index homes.now k < length homes.now) }
+    ensures { EachIndex new.new (λ k. slice_index new.new k ≡ renamed_home from.now to.now homes.now k) }
 {
     for (k, x) in new.iter_mut().enumerate() {
         let home = homes[from[k] as usize];
@@ -95,8 +95,8 @@ pub fn rename_homes(homes: &[u8], from: &[u8], to: &[u8], new: &mut [u8])
     }
 }
 
-// How the renamed cubies are twisted or flipped at the renamed places.
-pub fn rename_orientations(
+/// Writes how the renamed cubies are twisted or flipped at the renamed places.
+fn rename_orientations(
     homes: &[u8],
     orientations: &[u8],
     from: &[u8],
@@ -111,16 +111,67 @@ pub fn rename_orientations(
     requires in_len { length inward.now ≡ length new.old }
     requires out_len { length outward.now ≡ length new.old }
     requires some { 0 < facelets }
-    requires in_range { EachIndex from.now (λ k. slice_index from.now k < length homes.now) }
-    requires homes_in_range { EachIndex homes.now (λ k. slice_index homes.now k < length homes.now) }
-    requires orientations_small { EachIndex orientations.now (λ k. slice_index orientations.now k < 3) }
-    requires in_small { EachIndex inward.now (λ k. slice_index inward.now k < 3) }
-    requires out_small { EachIndex outward.now (λ k. slice_index outward.now k < 3) }
-    ensures { EachIndex new.new (λ k. slice_index new.new k ≡ (slice_index inward.now (slice_index homes.now (slice_index from.now k)) + slice_index orientations.now (slice_index from.now k) + slice_index outward.now (slice_index from.now k)) % facelets) }
+    requires from_range { EachIndex from.now (λ k. slice_index from.now k < length homes.now) }
+    requires home_range { EachIndex homes.now (λ k. slice_index homes.now k < length homes.now) }
+    requires orientation_range { EachIndex orientations.now (λ k. slice_index orientations.now k < 3) }
+    requires in_range { EachIndex inward.now (λ k. slice_index inward.now k < 3) }
+    requires out_range { EachIndex outward.now (λ k. slice_index outward.now k < 3) }
+    ensures { EachIndex new.new (λ k. slice_index new.new k
+        ≡ renamed_orientation facelets from.now inward.now outward.now homes.now orientations.now k) }
 {
     for (k, x) in new.iter_mut().enumerate() {
         let place = from[k] as usize;
         let home = homes[place] as usize;
         *x = (inward[home] + orientations[place] + outward[place]) % facelets;
     }
+}
+
+/// The renamed corners by place: which stand there, and how they are twisted.
+pub fn rename_corners(corners: &[u8; 8], twists: &[u8; 8], renaming: Renaming) -> ([u8; 8], [u8; 8])
+    requires corner_range { EachIndex corners.now (λ k. slice_index corners.now k < 8) }
+    requires twist_range { EachIndex twists.now (λ k. slice_index twists.now k < 3) }
+    ensures corners { let t = renaming_table renaming in
+        EachIndex result.0 (λ k. slice_index result.0 k ≡ renamed_home t.corners_from t.corners_to corners.now k) }
+    ensures twists { let t = renaming_table renaming in
+        EachIndex result.1 (λ k. slice_index result.1 k
+        ≡ renamed_orientation 3 t.corners_from t.twists_in t.twists_out corners.now twists.now k) }
+{
+    let table = table_of(renaming);
+    let (mut homes, mut orientations) = ([0; 8], [0; 8]);
+    rename_homes(corners, &table.corners_from, &table.corners_to, &mut homes);
+    rename_orientations(
+        corners,
+        twists,
+        &table.corners_from,
+        &table.twists_in,
+        &table.twists_out,
+        3,
+        &mut orientations,
+    );
+    (homes, orientations)
+}
+
+/// The renamed edges by place: which stand there, and how they are flipped.
+pub fn rename_edges(edges: &[u8; 12], flips: &[u8; 12], renaming: Renaming) -> ([u8; 12], [u8; 12])
+    requires edge_range { EachIndex edges.now (λ k. slice_index edges.now k < 12) }
+    requires flip_range { EachIndex flips.now (λ k. slice_index flips.now k < 2) }
+    ensures edges { let t = renaming_table renaming in
+        EachIndex result.0 (λ k. slice_index result.0 k ≡ renamed_home t.edges_from t.edges_to edges.now k) }
+    ensures flips { let t = renaming_table renaming in
+        EachIndex result.1 (λ k. slice_index result.1 k
+        ≡ renamed_orientation 2 t.edges_from t.flips_in t.flips_out edges.now flips.now k) }
+{
+    let table = table_of(renaming);
+    let (mut homes, mut orientations) = ([0; 12], [0; 12]);
+    rename_homes(edges, &table.edges_from, &table.edges_to, &mut homes);
+    rename_orientations(
+        edges,
+        flips,
+        &table.edges_from,
+        &table.flips_in,
+        &table.flips_out,
+        2,
+        &mut orientations,
+    );
+    (homes, orientations)
 }
