@@ -12,11 +12,9 @@ use Rattle.niss_cube.specs.declared.renaming.Renaming.TheVariants.{XCounter, XQu
 use Rattle.niss_moves.specs.Facelets.{places}
 use Rattle.niss_cube.specs.Coordinates.{for_flip, for_twist, spun}
 use Rattle.niss_moves.specs.Effects.{turned}
-use Rattle.niss_cube.specs.CubieLists.{CubieLists}
+use Rattle.niss_cube.proofs.CubieLists.{CubieLists}
 use Rattle.niss_cube.specs.AfterTurn.{inverse_turn}
-use Rattle.niss_cube.specs.FlipAfter.{turn_for_flip}
-use Rattle.niss_cube.specs.TwistAfter.{turn_for_twist}
-use Rattle.niss_cube.specs.RenamedFaces.{face_for_flip, face_for_twist}
+use Rattle.niss_cube.specs.RenamedTurns.{turn_for_flip, turn_for_twist}
 use Rattle.niss_cube.proofs.Each.{and_left, and_right, same_place-is, at_place}
 use Rattle.niss_cube.proofs.PlaceTables.{all_faces, at_face}
 use Rattle.niss_cube.proofs.RenamingTables.{keeps_kinds}

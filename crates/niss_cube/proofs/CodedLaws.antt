@@ -10,7 +10,7 @@ use Rattle.niss_moves.specs.Facelets.{places}
 use Rattle.niss_cube.specs.Sets.{Kept}
 use Rattle.niss_cube.specs.Map.{map_of}
 use Rattle.niss_moves.specs.Effects.{turned}
-use Rattle.niss_cube.specs.CubieLists.{CubieLists}
+use Rattle.niss_cube.proofs.CubieLists.{CubieLists}
 use Rattle.niss_cube.specs.AfterTurn.{inverse_turn, TurnedIsCube, IsCoordinate}
 use Rattle.niss_cube.proofs.Each.{same_place-is, at_place}
 use Rattle.niss_cube.proofs.AxisRenamings.{all_turns, at_turn, KeepsPlaces, IsRenaming}

@@ -8,9 +8,11 @@ use Rattle.niss_moves.specs.declared.axis.Axis.{Axis}
 use Rattle.niss_moves.specs.declared.axis.Axis.TheVariants.{Ud, Fb}
 use Rattle.niss_cube.specs.Sets.{flip_set, twist_set, slice_set}
 use Rattle.niss_cube.specs.Coordinates.{number, rank, for_flip, for_twist, flip_of, twist_of, slice_of}
-use Rattle.niss_cube.specs.CubieLists.{CubieLists, flips_quarter, twists_quarter, edges_quarter, repeated, corners_home, edges_home, twists_home, flips_home}
-use Rattle.niss_cube.specs.FlipAfter.{flips_of_number, turn_for_flip, flip_after}
-use Rattle.niss_cube.specs.TwistAfter.{twists_of_number, turn_for_twist, twist_after}
+use Rattle.niss_cube.proofs.CubieLists.{CubieLists, flips_quarter, twists_quarter, edges_quarter, repeated}
+use Rattle.niss_cube.specs.Cubies.{corners_home, edges_home, twists_home, flips_home}
+use Rattle.niss_cube.specs.FlipAfter.{flips_of_number, flip_after}
+use Rattle.niss_cube.specs.TwistAfter.{twists_of_number, twist_after}
+use Rattle.niss_cube.specs.RenamedTurns.{turn_for_flip, turn_for_twist}
 use Rattle.niss_cube.specs.SliceAfter.{edges_of_number, slice_after}
 use Rattle.niss_cube.specs.AfterTurn.{FlipsAreCoordinates, TwistsAreCoordinates, SlicesAreCoordinates}
 use Rattle.niss_cube.proofs.PlaceTables.{all_below, at_below}

@@ -14,7 +14,8 @@ use Rattle.niss_cube.specs.declared.renaming.Renaming.{Renaming}
 use Rattle.niss_cube.specs.declared.renaming.Renaming.TheVariants.{XCounter, YQuarter}
 use Rattle.niss_cube.specs.Coordinates.{number, for_flip, flip_of}
 use Rattle.niss_cube.specs.Map.{sticker_place}
-use Rattle.niss_cube.specs.CubieLists.{CubieLists, flips_home}
+use Rattle.niss_cube.proofs.CubieLists.{CubieLists}
+use Rattle.niss_cube.specs.Cubies.{flips_home}
 use Rattle.niss_cube.proofs.Each.{and_left, at_place}
 use Rattle.niss_cube.proofs.Sums.{eqb-itself}
 use Rattle.niss_cube.proofs.Once.{times_in, place_in, place_in-found, place_in-is, count_by-times}

@@ -14,7 +14,8 @@ use Rattle.niss_moves.specs.declared.axis.Axis.TheVariants.{Ud, Rl, Fb}
 use Rattle.niss_cube.specs.declared.renaming.Renaming.TheVariants.{ZCounter, XQuarter}
 use Rattle.niss_cube.specs.Coordinates.{number, rank, for_twist, twist_of, slice_of}
 use Rattle.niss_cube.specs.Map.{sticker_place}
-use Rattle.niss_cube.specs.CubieLists.{CubieLists, twists_home}
+use Rattle.niss_cube.proofs.CubieLists.{CubieLists}
+use Rattle.niss_cube.specs.Cubies.{twists_home}
 use Rattle.niss_cube.proofs.Each.{and_left}
 use Rattle.niss_cube.proofs.Sums.{below, one_if, below_permuted}
 use Rattle.niss_cube.proofs.Once.{times_in, place_in, place_in-found, place_in-is, count_by-times}

@@ -3,6 +3,7 @@ pub mod AxisRenamings
 pub mod CodedLaws
 pub mod CoordinateLaws
 pub mod CoordinateValues
+pub mod CubieLists
 pub mod Each
 pub mod EqualCubes
 pub mod FaceletLetters

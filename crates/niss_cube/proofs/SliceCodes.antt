@@ -9,7 +9,7 @@ use Rattle.niss_moves.specs.declared.turn.Face.{Face}
 use Rattle.niss_cube.specs.Quarters.{quarter_table}
 use Rattle.niss_cube.specs.Coordinates.{rank}
 use Rattle.niss_cube.specs.OccupiedPlaces.{occupied_of_number}
-use Rattle.niss_cube.specs.CubieLists.{brought, edges_quarter, repeated}
+use Rattle.niss_cube.proofs.CubieLists.{brought, edges_quarter, repeated}
 use Rattle.niss_cube.specs.SliceAfter.{edges_at, edges_of_number}
 use Rattle.niss_cube.proofs.Sums.{one_if}
 use Rattle.niss_cube.proofs.PlaceTables.{all_below, at_below}

@@ -6,8 +6,8 @@ use Rattle.niss_moves.specs.declared.axis.Axis.{Axis}
 use Rattle.niss_moves.specs.declared.axis.Axis.TheVariants.{Fb}
 use Rattle.niss_moves.specs.declared.turn.Turn.{Turn}
 use Rattle.niss_cube.specs.Map.{sticker_map}
-use Rattle.niss_cube.specs.CubieLists.{corners_home, twists_home, edges_home}
-use Rattle.niss_cube.specs.RenamedFaces.{face_for_flip}
+use Rattle.niss_cube.specs.Cubies.{corners_home, twists_home, edges_home}
+use Rattle.niss_cube.specs.RenamedTurns.{turn_for_flip}
 use Rattle.niss_cube.specs.Coordinates.{flip_of}
 use Rattle.niss_cube.specs.NumberedOrientations.{orientations_of_number}
 
@@ -18,10 +18,6 @@ flips_of_number i = orientations_of_number 2 11 i
 -- the map of a cube whose cubies are at home and whose edges are flipped so
 abbrev pub flipped : List ℕ → Place → Place
 flipped flips = sticker_map corners_home twists_home edges_home flips
-
--- a turn of the renamed cube from which the flip on an axis is read
-abbrev pub turn_for_flip : Axis → Turn → Turn
-turn_for_flip a t = record { face = face_for_flip a t.face; power = t.power }
 
 -- the flip number after a turn
 unfoldable pub flip_after : Axis → ℕ → Turn → ℕ

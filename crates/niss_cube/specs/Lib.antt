@@ -6,9 +6,8 @@ pub mod Coordinates
 pub mod SameCubies
 pub mod Quarters
 pub mod Renamings
-pub mod RenamedFaces
+pub mod RenamedTurns
 pub mod FaceletPositions
-pub mod CubieLists
 pub mod OccupiedPlaces
 pub mod NumberedOrientations
 pub mod FlipAfter

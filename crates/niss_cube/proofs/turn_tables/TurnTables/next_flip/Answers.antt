@@ -1,7 +1,7 @@
 use Rattle.niss_moves.specs.declared.axis.Axis.TheVariants.{Fb}
 use Rattle.niss_cube.specs.Coordinates.{flip_of}
 use Rattle.niss_cube.specs.Sets.{flip_set}
-use Rattle.niss_cube.specs.RenamedFaces.{face_for_flip}
+use Rattle.niss_cube.specs.RenamedTurns.{face_for_flip}
 use Rattle.niss_cube.specs.FlipAfter.{flip_after}
 use Rattle.niss_cube.proofs.CoordinateLaws.{flips_are_coordinates}
 use Rattle.niss_cube.proofs.TableSteps.{looked_up, next_below, next_follows}

@@ -1,7 +1,7 @@
 use Rattle.niss_moves.specs.declared.axis.Axis.TheVariants.{Ud}
 use Rattle.niss_cube.specs.Coordinates.{slice_of}
 use Rattle.niss_cube.specs.Sets.{slice_set}
-use Rattle.niss_cube.specs.RenamedFaces.{face_for_twist}
+use Rattle.niss_cube.specs.RenamedTurns.{face_for_twist}
 use Rattle.niss_cube.specs.SliceAfter.{slice_after}
 use Rattle.niss_cube.proofs.CoordinateLaws.{slices_are_coordinates}
 use Rattle.niss_cube.proofs.TableSteps.{looked_up, next_below, next_follows}

@@ -1,7 +1,7 @@
 use Rattle.niss_moves.specs.declared.axis.Axis.TheVariants.{Ud}
 use Rattle.niss_cube.specs.Coordinates.{twist_of}
 use Rattle.niss_cube.specs.Sets.{twist_set}
-use Rattle.niss_cube.specs.RenamedFaces.{face_for_twist}
+use Rattle.niss_cube.specs.RenamedTurns.{face_for_twist}
 use Rattle.niss_cube.specs.TwistAfter.{twist_after}
 use Rattle.niss_cube.proofs.CoordinateLaws.{twists_are_coordinates}
 use Rattle.niss_cube.proofs.TableSteps.{looked_up, next_below, next_follows}
