@@ -14,7 +14,7 @@ use Rattle.niss_cube.specs.FlipAfter.{flip_after, flips_of_number, flipped}
 use Rattle.niss_cube.specs.TwistAfter.{twist_after, twists_of_number, twisted}
 use Rattle.niss_cube.specs.SliceAfter.{slice_after, edges_of_number, moved_edges}
 use Rattle.niss_cube.proofs.PlaceTables.{all_faces}
-use Rattle.niss_cube.proofs.FlipTurns.{all_powers}
+use Rattle.niss_cube.proofs.AxisRenamings.{all_powers}
 
 abbrev turn : Face → Turn
 turn f = record { face = f; power = Quarter }

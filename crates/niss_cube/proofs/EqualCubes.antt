@@ -10,7 +10,7 @@ use Rattle.niss_cube.proofs.ShownCubies.{and_both, corner_is, edge_is}
 use Rattle.niss_moves.specs.Places.{Place, is_place, is_corner, is_edge, SameMap}
 use Rattle.niss_cube.specs.CubieFacelets.{facelet_at, corner_facelets, edge_facelets}
 use Rattle.niss_cube.specs.Map.{sticker_place, sticker_map}
-use Rattle.niss_cube.specs.CubieLists.{CubieLists}
+use Rattle.niss_cube.proofs.CubieLists.{CubieLists}
 use Rattle.niss_cube.proofs.Once.{times_in, place_in, place_in-found, place_in-is, count_by-times}
 use Rattle.niss_cube.proofs.PlaceTables.{row_of, index_of, found_test, corners_found, edges_found}
 use Rattle.niss_cube.proofs.StickerPlaces.{sticker_place-at, found}

@@ -14,8 +14,8 @@ use Rattle.niss_cube.specs.declared.renaming.Renaming.{Renaming}
 use Rattle.niss_cube.specs.declared.renaming.Renaming.TheVariants.{XCounter, YQuarter}
 use Rattle.niss_cube.specs.Coordinates.{number, for_flip, flip_of}
 use Rattle.niss_cube.specs.Map.{sticker_place}
-use Rattle.niss_cube.specs.CubieLists.{CubieLists}
-use Rattle.niss_cube.specs.Tables.{AreFlips}
+use Rattle.niss_cube.proofs.CubieLists.{CubieLists}
+use Rattle.niss_cube.specs.Cubies.{flips_home}
 use Rattle.niss_cube.proofs.Each.{and_left, at_place}
 use Rattle.niss_cube.proofs.Sums.{eqb-itself}
 use Rattle.niss_cube.proofs.Once.{times_in, place_in, place_in-found, place_in-is, count_by-times}
@@ -24,10 +24,10 @@ use Rattle.niss_cube.proofs.StickerPlaces.{sticker_place-at, located, below-2}
 use Rattle.niss_cube.proofs.MapPlaces.{sticker_map-place}
 use Rattle.niss_cube.proofs.RenamingTables.{rotated, rotated_back, keeps_kinds, same_bool, same_bool-is}
 use Rattle.niss_cube.proofs.ShownCubies.{edge_is}
-use Rattle.niss_cube.proofs.CoordinateValues.{same_map-sym}
+use Rattle.niss_cube.proofs.CoordinateValues.{same_map-sym, flip_of-cubies}
 use Rattle.niss_cube.proofs.ListTurns.{Valid, map_lists}
-use Rattle.niss_cube.proofs.FlipTables.{flips-same}
-use Rattle.niss_cube.proofs.FlipTurns.{cubies_for_flip, cubies_for_flip-valid, cubies_for_flip-map, flip_number, are_flips}
+use Rattle.niss_cube.proofs.Orientations.{AreOriented, base_2, oriented_zero}
+use Rattle.niss_cube.proofs.AxisRenamings.{cubies_for_flip, cubies_for_flip-valid, cubies_for_flip-map}
 
 -- in each row one facelet, the s-th, belongs to the set
 abbrev pub row_test : ℕ → ℕ → List (List Place) → (Place → Bool) → ℕ → Bool
@@ -142,32 +142,30 @@ flip_renaming_kept Ud e keep = renaming_kept XCounter (flip_set Ud) (other_edges
 flip_renaming_kept Rl e keep = renaming_kept YQuarter (flip_set Rl) (flip_set Fb) rl_test (λ q h. edge_place q (and_left _ _ h)) (λ q h. edge_place q (and_left _ _ h)) e keep
 flip_renaming_kept Fb e keep = ((λ k. k), (λ k. k))
 
-no_flips : List ℕ
-no_flips = 0 ∷ 0 ∷ 0 ∷ 0 ∷ 0 ∷ 0 ∷ 0 ∷ 0 ∷ 0 ∷ 0 ∷ 0 ∷ 0 ∷ []
+flips_home-test : all_below 12 (λ i. get_or flips_home i 0 == 0) ≡ true
+flips_home-test = refl
 
-no_flips-test : all_below 12 (λ i. get_or no_flips i 0 == 0) ≡ true
-unfolding no_flips
-no_flips-test = refl
+flips_home-at : (i : ℕ) → i < 12 → get_or flips_home i 0 ≡ 0
+flips_home-at i l = eqb-true _ _ (at_below 12 (λ i. get_or flips_home i 0 == 0) flips_home-test i l)
 
-no_flips-at : (i : ℕ) → i < 12 → get_or no_flips i 0 ≡ 0
-no_flips-at i l = eqb-true _ _ (at_below 12 (λ i. get_or no_flips i 0 == 0) no_flips-test i l)
+pub flips_home-are : AreOriented 2 11 flips_home
+flips_home-are = record { places = refl; range = λ i l. rw (flips_home-at i l) (omega arith); whole = refl }
 
-flips_zero : (fs : List ℕ) → AreFlips fs → (number 2 (take 11 fs) ≡ 0) ↔ ((i : ℕ) → i < 12 → get_or fs i 0 ≡ 0)
-unfolding no_flips
-flips_zero fs a = (
-  (λ e i l. ap (λ xs. get_or xs i 0) (flips-same fs no_flips a zeros e) ∙ no_flips-at i l),
-  (λ h. ap (λ xs. number 2 (take 11 xs)) (ext_get_or 0 fs no_flips a.places (λ i li. h i (omega (arith, li, a.places)) ∙ sym (no_flips-at i (omega (arith, li, a.places)))))),
-)
-  where
-    zeros : AreFlips no_flips
-    zeros = record { places = refl; range = λ i l. rw (no_flips-at i l) (omega arith); even = refl }
+pub are_flips : (c : CubieLists) → Valid c → AreOriented 2 11 c.flips
+are_flips c v = record { places = v.flip_places; range = v.flip_range; whole = v.flip_sum }
+
+flips_zero : (c : CubieLists) → Valid c → (number 2 (take 11 c.flips) ≡ 0) ↔ ((i : ℕ) → i < 12 → get_or c.flips i 0 ≡ 0)
+flips_zero c v = oriented_zero 2 base_2 11 c.flips flips_home (are_flips c v) flips_home-are refl flips_home-at
+
+flip_number : (a : Axis) (c : CubieLists) → Valid c → flip_of a (map_lists c) ≡ number 2 (take 11 (cubies_for_flip a c).flips)
+flip_number a c v = let w = cubies_for_flip a c in flip_of-cubies a (map_lists c) w.corners w.twists w.edges w.flips (cubies_for_flip-valid a c v) (cubies_for_flip-map a c v)
 
 -- the flip number is 0 exactly where the flip set is kept
 pub flip_zero-kept : (a : Axis) (c : CubieLists) → Valid c → (flip_of a (map_lists c) ≡ 0) ↔ Kept (flip_set a) (map_lists c)
 flip_zero-kept a c v =
     let w : CubieLists = cubies_for_flip a c in
     let wv : Valid w = cubies_for_flip-valid a c v in
-    let z = flips_zero w.flips (are_flips w wv) in
+    let z = flips_zero w wv in
     let k = flip_renaming_kept a (map_lists c) (sticker_map-place c.corners c.twists c.edges c.flips v) in
     let is = edge_is w.corners w.twists w.edges w.flips wv (for_flip a (map_lists c)) (same_map-sym (map_lists w) (for_flip a (map_lists c)) (cubies_for_flip-map a c v)) in
     let once : (h : ℕ) → h < 12 → times_in w.edges h ≡ 1 = λ h l. sym (count_by-times w.edges h) ∙ wv.each_edge h l in (

@@ -14,7 +14,8 @@ use Rattle.niss_moves.specs.declared.axis.Axis.TheVariants.{Ud, Rl, Fb}
 use Rattle.niss_cube.specs.declared.renaming.Renaming.TheVariants.{ZCounter, XQuarter}
 use Rattle.niss_cube.specs.Coordinates.{number, rank, for_twist, twist_of, slice_of}
 use Rattle.niss_cube.specs.Map.{sticker_place}
-use Rattle.niss_cube.specs.CubieLists.{CubieLists}
+use Rattle.niss_cube.proofs.CubieLists.{CubieLists}
+use Rattle.niss_cube.specs.Cubies.{twists_home}
 use Rattle.niss_cube.proofs.Each.{and_left}
 use Rattle.niss_cube.proofs.Sums.{below, one_if, below_permuted}
 use Rattle.niss_cube.proofs.Once.{times_in, place_in, place_in-found, place_in-is, count_by-times}
@@ -24,71 +25,29 @@ use Rattle.niss_cube.proofs.MapPlaces.{sticker_map-place}
 use Rattle.niss_cube.proofs.RenamingTables.{rotated, rotated_back, same_bool, same_bool-is}
 use Rattle.niss_cube.proofs.ShownCubies.{edge_is, corner_is}
 use Rattle.niss_cube.proofs.CoordinateValues.{same_map-sym, twist_of-cubies, slice_of-cubies, digits_taken, slice_occupied, slice_occupied-length, slice_occupied-at, slice_occupied-filled}
-use Rattle.niss_cube.proofs.ListTurns.{Valid, map_lists, renamed_cubies, renamed_cubies-valid, renamed_lists-map}
-use Rattle.niss_cube.proofs.FlipTables.{sum_taken}
-use Rattle.niss_cube.proofs.Numbers.{number-same, splits-3, rank-same}
+use Rattle.niss_cube.proofs.ListTurns.{Valid, map_lists}
+use Rattle.niss_cube.proofs.Orientations.{AreOriented, base_3, oriented_zero}
+use Rattle.niss_cube.proofs.AxisRenamings.{cubies_for_twist, cubies_for_twist-valid, cubies_for_twist-map}
+use Rattle.niss_cube.proofs.Numbers.{rank-same}
 use Rattle.niss_cube.proofs.KeptFlips.{row_test, kept-unturned, unturned-kept, renaming_kept}
 
--- the cubies as the twist and the slice on an axis are read from them
-abbrev pub cubies_for_twist : Axis → CubieLists → CubieLists
-cubies_for_twist Ud c = c
-cubies_for_twist Rl c = renamed_cubies ZCounter c
-cubies_for_twist Fb c = renamed_cubies XQuarter c
-
-pub cubies_for_twist-valid : (a : Axis) (c : CubieLists) → Valid c → Valid (cubies_for_twist a c)
-cubies_for_twist-valid Ud c v = v
-cubies_for_twist-valid Rl c v = renamed_cubies-valid ZCounter c v
-cubies_for_twist-valid Fb c v = renamed_cubies-valid XQuarter c v
-
-pub cubies_for_twist-map : (a : Axis) (c : CubieLists) → Valid c → SameMap (map_lists (cubies_for_twist a c)) (for_twist a (map_lists c))
-cubies_for_twist-map Ud c v = λ q p. refl
-cubies_for_twist-map Rl c v = renamed_lists-map ZCounter c v
-cubies_for_twist-map Fb c v = renamed_lists-map XQuarter c v
-
-pub twist_number : (a : Axis) (c : CubieLists) → Valid c → twist_of a (map_lists c) ≡ number 3 (take 7 (cubies_for_twist a c).twists)
+twist_number : (a : Axis) (c : CubieLists) → Valid c → twist_of a (map_lists c) ≡ number 3 (take 7 (cubies_for_twist a c).twists)
 twist_number a c v = let w = cubies_for_twist a c in twist_of-cubies a (map_lists c) w.corners w.twists w.edges w.flips (cubies_for_twist-valid a c v) (cubies_for_twist-map a c v)
 
--- twists are same_cubie by their number
-pub twists-same : (fs gs : List ℕ) → length fs ≡ 8 → length gs ≡ 8 → ((i : ℕ) → i < 8 → get_or fs i 0 < 3) → ((i : ℕ) → i < 8 → get_or gs i 0 < 3) → sum fs % 3 ≡ 0 → sum gs % 3 ≡ 0 → number 3 (take 7 fs) ≡ number 3 (take 7 gs) → fs ≡ gs
-twists-same fs gs lf lg rf rg sf sg e =
-    ext_get_or 0 fs gs (lf ∙ sym lg) (λ i li. go i (omega arith))
-  where
-    front : take 7 fs ≡ take 7 gs
-    front = number-same 3 splits-3 (take 7 fs) (take 7 gs)
-        (length-take 7 fs ∙ ap (λ n. min 7 n) (lf ∙ sym lg) ∙ sym (length-take 7 gs))
-        (digits_taken 3 7 fs (omega arith) (λ i l. rf i (omega arith))) (digits_taken 3 7 gs (omega arith) (λ i l. rg i (omega arith))) e
+twists_home-test : all_below 8 (λ i. get_or twists_home i 0 == 0) ≡ true
+twists_home-test = refl
 
-    last : get_or fs 7 0 ≡ get_or gs 7 0
-    last =
-        let p : sum fs ≡ sum (take 7 fs) + get_or fs 7 0 = sum_taken 7 fs lf in
-        let q : sum gs ≡ sum (take 7 gs) + get_or gs 7 0 = sum_taken 7 gs lg in
-        let r : sum (take 7 fs) ≡ sum (take 7 gs) = ap sum front in
-        let x : get_or fs 7 0 < 3 = rf 7 (omega arith) in
-        let y : get_or gs 7 0 < 3 = rg 7 (omega arith) in
-        omega (arith, p, q, r, x, y, sf, sg)
+twists_home-at : (i : ℕ) → i < 8 → get_or twists_home i 0 ≡ 0
+twists_home-at i l = eqb-true _ _ (at_below 8 (λ i. get_or twists_home i 0 == 0) twists_home-test i l)
 
-    go : (i : ℕ) → i < 8 → get_or fs i 0 ≡ get_or gs i 0
-    go i l = elim (eqb_tells i 7) [
-      | inl w ↦ ap (λ k. get_or fs k 0) w.1 ∙ last ∙ ap (λ k. get_or gs k 0) (sym w.1)
-      | inr w ↦
-          let li : i < 7 = grind (arith, w.1) in
-          sym (get_or-take 7 fs i 0 li) ∙ ap (λ xs. get_or xs i 0) front ∙ get_or-take 7 gs i 0 li
-    ]
+pub twists_home-are : AreOriented 3 7 twists_home
+twists_home-are = record { places = refl; range = λ i l. rw (twists_home-at i l) (omega arith); whole = refl }
 
-abbrev no_twists : List ℕ
-no_twists = 0 ∷ 0 ∷ 0 ∷ 0 ∷ 0 ∷ 0 ∷ 0 ∷ 0 ∷ []
-
-no_twists-test : all_below 8 (λ i. get_or no_twists i 0 == 0) ≡ true
-no_twists-test = refl
-
-no_twists-at : (i : ℕ) → i < 8 → get_or no_twists i 0 ≡ 0
-no_twists-at i l = eqb-true _ _ (at_below 8 (λ i. get_or no_twists i 0 == 0) no_twists-test i l)
+pub are_twists : (c : CubieLists) → Valid c → AreOriented 3 7 c.twists
+are_twists c v = record { places = v.twist_places; range = v.twist_range; whole = v.twist_sum }
 
 twists_zero : (c : CubieLists) → Valid c → (number 3 (take 7 c.twists) ≡ 0) ↔ ((i : ℕ) → i < 8 → get_or c.twists i 0 ≡ 0)
-twists_zero c a = (
-  (λ e i l. ap (λ xs. get_or xs i 0) (twists-same c.twists no_twists a.twist_places refl a.twist_range (λ i l. rw (no_twists-at i l) (omega arith)) a.twist_sum refl e) ∙ no_twists-at i l),
-  (λ h. ap (λ xs. number 3 (take 7 xs)) (ext_get_or 0 c.twists no_twists a.twist_places (λ i li. h i (omega (arith, li, a.twist_places)) ∙ sym (no_twists-at i (omega (arith, li, a.twist_places)))))),
-)
+twists_zero c v = oriented_zero 3 base_3 7 c.twists twists_home (are_twists c v) twists_home-are refl twists_home-at
 
 twist_rl_test : list_all (λ q. same_bool (twist_set Rl q) (twist_set Ud (rotated ZCounter q))) places ≡ true
 twist_rl_test = refl

@@ -1,11 +1,12 @@
 pub mod AfterRows
-pub mod AfterTurns
+pub mod AxisRenamings
+pub mod CodedLaws
+pub mod CoordinateLaws
 pub mod CoordinateValues
+pub mod CubieLists
 pub mod Each
 pub mod EqualCubes
 pub mod FaceletLetters
-pub mod FlipTables
-pub mod FlipTurns
 pub mod KeptFlips
 pub mod KeptTests
 pub mod KeptTwists
@@ -14,8 +15,10 @@ pub mod MapPlaces
 pub mod Numbers
 pub mod OccupiedNumbers
 pub mod Once
+pub mod Orientations
 pub mod Origins
 pub mod PlaceTables
+pub mod PlacedEdges
 pub mod QuarterSteps
 pub mod QuarterTurned
 pub mod RenamedCubies
@@ -23,6 +26,9 @@ pub mod RenamingTables
 pub mod RotatedPlaces
 pub mod Rows
 pub mod ShownCubies
+pub mod SliceCodes
 pub mod SliceSteps
 pub mod StickerPlaces
+pub mod TableSteps
 pub mod Sums
+pub mod WrittenOrientations

@@ -1,5 +1,5 @@
 -- Turned and renamed cubies as lists.
-use Rattle.std.proofs.Common.{◌≡◌, ℕ, zero, suc, ◌+◌, ◌%◌, ◌<◌, refl, sym, ◌∙◌, ap, length, get_or, map, arith}
+use Rattle.std.proofs.Common.{◌≡◌, ℕ, zero, suc, ◌+◌, ◌%◌, ◌<◌, refl, sym, ◌∙◌, ap, List, length, get_or, map, arith}
 use Rattle.std.specs.Prelude.{slice_index}
 use Rattle.std.specs.List.{range_with_len}
 use Rattle.std.proofs.lemmas.List.FromFn.{get_or-map-range_with_len, length-map-range_with_len}
@@ -12,7 +12,7 @@ use Rattle.niss_moves.specs.declared.turn.Power.TheVariants.{Quarter, Half, Coun
 use Rattle.niss_cube.specs.Cubies.{AreCubies}
 use Rattle.niss_cube.specs.Map.{sticker_map}
 use Rattle.niss_cube.specs.Quarters.{quarter_table}
-use Rattle.niss_cube.specs.CubieLists.{CubieLists, flips_quarter, twists_quarter, edges_quarter, corners_quarter, repeated, flips_turned}
+use Rattle.niss_cube.proofs.CubieLists.{CubieLists, flips_quarter, twists_quarter, edges_quarter, corners_quarter, repeated}
 use Rattle.niss_cube.specs.Renamings.{renaming_table, renamed_by}
 use Rattle.niss_cube.specs.declared.renaming.Renaming.{Renaming}
 use Rattle.niss_cube.proofs.QuarterSteps.{Written, written-cubies, written-map}
@@ -60,12 +60,13 @@ repeated-valid (suc n) f c a = quartered-valid f (repeated n (quartered f) c) (r
 pub turned-valid : (t : Turn) (c : CubieLists) → Valid c → Valid (turned_lists t c)
 turned-valid t c a = repeated-valid (times t.power) t.face c a
 
-repeated-flips : (n : ℕ) (f : Face) (c : CubieLists) → (repeated n (quartered f) c).flips ≡ repeated n (flips_quarter f) c.flips
-repeated-flips zero f c = refl
-repeated-flips (suc n) f c = ap (flips_quarter f) (repeated-flips n f c)
-
-pub turned-flips : (t : Turn) (c : CubieLists) → (turned_lists t c).flips ≡ flips_turned t c.flips
-turned-flips t c = repeated-flips (times t.power) t.face c
+-- a part of the cubies that each quarter changes by itself, after a turn
+pub turned-part : (part : CubieLists → List ℕ) (step : Face → List ℕ → List ℕ) → ((f : Face) (c : CubieLists) → part (quartered f c) ≡ step f (part c)) → (t : Turn) (c : CubieLists) → part (turned_lists t c) ≡ repeated (times t.power) (step t.face) (part c)
+turned-part part step is t c = go (times t.power)
+  where
+    go : (n : ℕ) → part (repeated n (quartered t.face) c) ≡ repeated n (step t.face) (part c)
+    go zero = refl
+    go (suc n) = is t.face (repeated n (quartered t.face) c) ∙ ap (step t.face) (go n)
 
 power_map : (p : Power) (t : Turn) → t.power ≡ p → (c : CubieLists) → Valid c → SameMap (map_lists (repeated (times p) (quartered t.face) c)) (λ q. turned t (map_lists c q))
 power_map Quarter t e c a = λ q p. quartered-map t.face c a q p ∙ ap (λ w. moved (face_move t.face (times w)) (map_lists c q)) (sym e)

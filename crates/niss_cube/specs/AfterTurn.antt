@@ -6,9 +6,11 @@ use Rattle.niss_moves.specs.declared.axis.Axis.{Axis}
 use Rattle.niss_moves.specs.declared.turn.Turn.{Turn}
 use Rattle.niss_cube.specs.declared.cube.Cube.{Cube}
 use Rattle.niss_cube.specs.Map.{map_of}
-use Rattle.niss_cube.specs.Sets.{Kept, flip_set}
-use Rattle.niss_cube.specs.Coordinates.{flip_of}
+use Rattle.niss_cube.specs.Sets.{Kept, flip_set, twist_set, slice_set}
+use Rattle.niss_cube.specs.Coordinates.{flip_of, twist_of, slice_of}
 use Rattle.niss_cube.specs.FlipAfter.{flip_after}
+use Rattle.niss_cube.specs.TwistAfter.{twist_after}
+use Rattle.niss_cube.specs.SliceAfter.{slice_after}
 
 -- the map of some cube
 abbrev pub IsCube : (Place → Place) → Type 0
@@ -34,3 +36,9 @@ pub record IsCoordinate (of : (Place → Place) → ℕ) (after : ℕ → Turn �
 
 abbrev pub FlipsAreCoordinates : Type 0
 FlipsAreCoordinates = (a : Axis) → IsCoordinate (flip_of a) (flip_after a) 2048 (flip_set a)
+
+abbrev pub TwistsAreCoordinates : Type 0
+TwistsAreCoordinates = (a : Axis) → IsCoordinate (twist_of a) (twist_after a) 2187 (twist_set a)
+
+abbrev pub SlicesAreCoordinates : Type 0
+SlicesAreCoordinates = (a : Axis) → IsCoordinate (slice_of a) (slice_after a) 495 (slice_set a)

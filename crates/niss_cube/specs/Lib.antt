@@ -6,13 +6,14 @@ pub mod Coordinates
 pub mod SameCubies
 pub mod Quarters
 pub mod Renamings
-pub mod RenamedFaces
+pub mod RenamedTurns
 pub mod FaceletPositions
-pub mod CubieLists
 pub mod OccupiedPlaces
+pub mod NumberedOrientations
 pub mod FlipAfter
 pub mod TwistAfter
 pub mod SliceAfter
 pub mod AfterTurn
-pub mod Tables
+pub mod TableRows
+pub mod StandardCoordinates
 pub mod RotatedText

@@ -6,9 +6,9 @@ use Rattle.niss_moves.specs.declared.axis.Axis.{Axis}
 use Rattle.niss_moves.specs.declared.axis.Axis.TheVariants.{Ud}
 use Rattle.niss_moves.specs.declared.turn.Turn.{Turn}
 use Rattle.niss_cube.specs.Map.{sticker_map}
-use Rattle.niss_cube.specs.CubieLists.{corners_home, twists_home, flips_home}
+use Rattle.niss_cube.specs.Cubies.{corners_home, twists_home, flips_home}
 use Rattle.niss_cube.specs.OccupiedPlaces.{occupied_of_number}
-use Rattle.niss_cube.specs.TwistAfter.{turn_for_twist}
+use Rattle.niss_cube.specs.RenamedTurns.{turn_for_twist}
 use Rattle.niss_cube.specs.Coordinates.{slice_of}
 
 -- edges 8 and on at the occupied places, the others at the free ones, each in order

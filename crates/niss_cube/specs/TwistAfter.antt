@@ -1,31 +1,23 @@
 -- The twist number after a turn: the number is decoded, the cube turned, and its number read again.
-use Rattle.std.specs.Prelude.{ℕ, zero, suc, ◌*◌, ◌/◌, ◌%◌, List, [], ◌∷◌, ◌++◌, sum}
+use Rattle.std.specs.Prelude.{ℕ, List}
 use Rattle.niss_moves.specs.Places.{Place}
 use Rattle.niss_moves.specs.Effects.{turned}
 use Rattle.niss_moves.specs.declared.axis.Axis.{Axis}
 use Rattle.niss_moves.specs.declared.axis.Axis.TheVariants.{Ud}
 use Rattle.niss_moves.specs.declared.turn.Turn.{Turn}
 use Rattle.niss_cube.specs.Map.{sticker_map}
-use Rattle.niss_cube.specs.CubieLists.{corners_home, edges_home, flips_home}
-use Rattle.niss_cube.specs.RenamedFaces.{face_for_twist}
+use Rattle.niss_cube.specs.Cubies.{corners_home, edges_home, flips_home}
+use Rattle.niss_cube.specs.RenamedTurns.{turn_for_twist}
 use Rattle.niss_cube.specs.Coordinates.{twist_of}
+use Rattle.niss_cube.specs.NumberedOrientations.{orientations_of_number}
 
--- the number i as n digits in base 3, the highest first
-abbrev pub ternary : ℕ → ℕ → List ℕ
-ternary zero i = []
-ternary (suc n) i = ternary n (i / 3) ++ (i % 3) ∷ []
-
--- the twists of the corners that have the number i: the last one makes their sum a multiple of 3
+-- the twists of the corners that have the number i
 unfoldable pub twists_of_number : ℕ → List ℕ
-twists_of_number i = ternary 7 i ++ ((2 * sum (ternary 7 i)) % 3) ∷ []
+twists_of_number i = orientations_of_number 3 7 i
 
 -- the map of a cube whose cubies are at home and whose corners are twisted so
 abbrev pub twisted : List ℕ → Place → Place
 twisted twists = sticker_map corners_home twists edges_home flips_home
-
--- a turn of the renamed cube from which twist and slice on an axis are read
-abbrev pub turn_for_twist : Axis → Turn → Turn
-turn_for_twist a t = record { face = face_for_twist a t.face; power = t.power }
 
 -- the twist number after a turn
 unfoldable pub twist_after : Axis → ℕ → Turn → ℕ

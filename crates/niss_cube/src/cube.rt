@@ -10,6 +10,8 @@ use niss_moves::axis::Axis;
 use niss_moves::rotation::Rotation;
 use niss_moves::turn::{Face, Power, Turn};
 
+pub(crate) mod numbered;
+
 /// A cube with its centres home.
 #[derive(Clone, Copy, Debug)]
 pub struct Cube {
@@ -34,7 +36,7 @@ fn bring(old: &[u8], from: &[u8], new: &mut [u8])
 }
 
 // The same for twists or flips, to which the table adds.
-pub fn bring_oriented(old: &[u8], from: &[u8], added: &[u8], facelets: u8, new: &mut [u8])
+fn bring_oriented(old: &[u8], from: &[u8], added: &[u8], facelets: u8, new: &mut [u8])
     requires from_len { length from.now ≡ length new.old }
     requires added_len { length added.now ≡ length new.old }
     requires in_range { EachIndex from.now (λ k. slice_index from.now k < length old.now) }

@@ -1,6 +1,8 @@
-ghost use Rattle.std.specs.Prelude.{◌≡◌, ◌<◌, ◌≤◌, ◌^◌, ◌*◌, length, map, reverse, nat_le};
+ghost use Rattle.std.specs.Prelude.{◌≡◌, ◌<◌, ◌≤◌, ◌^◌, ◌*◌, ◌-◌, ◌⊎◌, length, map, reverse, nat_le};
 ghost use Rattle.niss_cube.specs.Coordinates.{number, rank};
+ghost use Rattle.niss_cube.specs.NumberedOrientations.{orientations_of_number};
 ghost use Rattle.niss_cube.specs.OccupiedPlaces.{occupied_of_number};
+ghost use Rattle.niss_cube.specs.SliceAfter.{edges_of_number};
 
 /// The digits as a number, the first digit the highest.
 pub fn number_of(base: u16, digits: &[u8]) -> u16
@@ -13,6 +15,24 @@ pub fn number_of(base: u16, digits: &[u8]) -> u16
         n = base * n + u16::from(*d);
     }
     n
+}
+
+/// Writes the orientations that have a number: its digits, and a last one that makes the sum a multiple of the base.
+pub fn write_orientations(base: u8, number: u16, orientations: &mut [u8])
+    requires some { 0 < length orientations.old }
+    requires base { (base ≡ 2) ⊎ (base ≡ 3) }
+    ensures { orientations.new ≡ orientations_of_number base (length orientations.old - 1) number }
+{
+    let last = orientations.len() - 1;
+    let mut rest = number;
+    let mut sum = 0;
+    for met in 0..last {
+        let digit = (rest % u16::from(base)) as u8;
+        orientations[last - 1 - met] = digit;
+        sum = (sum + digit) % base;
+        rest /= u16::from(base);
+    }
+    orientations[last] = (base - sum) % base;
 }
 
 /// At a number of places below, the choices of 0 to 3 of them.
@@ -72,4 +92,25 @@ pub fn occupied_places(index: u16) -> [bool; 12]
         occupied[met] = here;
     }
     occupied
+}
+
+/// The edges by place, those of the slice at the places that have a number.
+pub fn edges_with_slice(number: u16) -> [u8; 12]
+    requires { number < 495 }
+    ensures { result ≡ edges_of_number number }
+{
+    let occupied = occupied_places(number);
+    let mut edges = [0; 12];
+    let mut free = 0;
+    let mut of_slice = 8;
+    for (place, edge) in edges.iter_mut().enumerate() {
+        if occupied[11 - place] {
+            *edge = of_slice;
+            of_slice += 1;
+        } else {
+            *edge = free;
+            free += 1;
+        }
+    }
+    edges
 }

@@ -1,5 +1,5 @@
 //! Laws over the definitions, each as a contract.
-ghost use Rattle.niss_cube.specs.AfterTurn.{TurnedIsCube, FlipsAreCoordinates};
+ghost use Rattle.niss_cube.specs.AfterTurn.{TurnedIsCube, FlipsAreCoordinates, TwistsAreCoordinates, SlicesAreCoordinates};
 ghost use Rattle.niss_cube.specs.Sets.{KeptIsTested};
 
 /// A turned cube is a cube.
@@ -10,6 +10,16 @@ pub fn turned_is_cube()
 /// The flips on an axis are a coordinate.
 pub fn flips_are_coordinates()
     ensures { FlipsAreCoordinates }
+{}
+
+/// The twists on an axis are a coordinate.
+pub fn twists_are_coordinates()
+    ensures { TwistsAreCoordinates }
+{}
+
+/// The slices on an axis are a coordinate.
+pub fn slices_are_coordinates()
+    ensures { SlicesAreCoordinates }
 {}
 
 /// The test of a set is true exactly where the set is kept.

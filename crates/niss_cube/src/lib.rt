@@ -8,7 +8,7 @@ mod letters;
 mod quarter;
 mod renaming;
 mod rotated_text;
-pub mod tables;
+pub mod turn_tables;
 
 pub use niss_moves::axis::Axis;
 pub use niss_moves::rotation::Rotation;

@@ -1,5 +1,5 @@
 use Rattle.std.proofs.Common.{◌∙◌, sym, ℕ, ◌<◌, ◌+◌, ◌-◌, ◌%◌, get_or, arith}
-use Rattle.niss_cube.specs.CubieLists.{CubieLists}
+use Rattle.niss_cube.proofs.CubieLists.{CubieLists}
 use Rattle.niss_cube.proofs.Origins.{corner_letter}
 use Rattle.niss_cube.proofs.FaceletLetters.{corner_letters-are}
 use Rattle.niss_cube.proofs.cube.Cube.corner_letter.Goals as goal

@@ -1,5 +1,5 @@
 use Rattle.std.proofs.Common.{◌∙◌, sym, ℕ, ◌<◌, ◌+◌, ◌-◌, ◌%◌, get_or, arith}
-use Rattle.niss_cube.specs.CubieLists.{CubieLists}
+use Rattle.niss_cube.proofs.CubieLists.{CubieLists}
 use Rattle.niss_cube.proofs.Origins.{edge_letter}
 use Rattle.niss_cube.proofs.FaceletLetters.{edge_letters-are}
 use Rattle.niss_cube.proofs.cube.Cube.edge_letter.Goals as goal

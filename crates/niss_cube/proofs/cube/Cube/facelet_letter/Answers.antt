@@ -2,7 +2,7 @@ use Rattle.std.proofs.Common.{◌∙◌, ap, sym}
 use Rattle.niss_moves.specs.Facelets.{places}
 use Rattle.niss_moves.specs.Letters.{letter_of}
 use Rattle.niss_cube.specs.Map.{map_of}
-use Rattle.niss_cube.specs.CubieLists.{CubieLists}
+use Rattle.niss_cube.proofs.CubieLists.{CubieLists}
 use Rattle.niss_cube.proofs.Origins.{centre_letter}
 use Rattle.niss_cube.proofs.FaceletLetters.{corner_position, edge_position, centre_position}
 use Rattle.niss_cube.proofs.cube.Cube.facelet_letter.Goals as goal

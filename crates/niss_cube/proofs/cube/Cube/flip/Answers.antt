@@ -2,7 +2,7 @@ use Rattle.std.proofs.Common.{◌<◌, ◌≡◌, ◌∙◌, sym, arith, take}
 use Rattle.niss_cube.specs.Map.{map_of}
 use Rattle.niss_cube.specs.Coordinates.{flip_of, number}
 use Rattle.niss_cube.proofs.CoordinateValues.{flip_of-cubies, flips-below}
-use Rattle.niss_cube.specs.CubieLists.{CubieLists}
+use Rattle.niss_cube.proofs.CubieLists.{CubieLists}
 use Rattle.niss_cube.proofs.KeptFlips.{flip_zero-kept}
 use Rattle.niss_cube.proofs.cube.Cube.flip.Goals as goal
 

@@ -2,7 +2,7 @@ use Rattle.std.proofs.Common.{◌<◌, ◌≡◌, ◌∙◌, sym, arith}
 use Rattle.niss_cube.specs.Map.{map_of}
 use Rattle.niss_cube.specs.Coordinates.{slice_of, rank}
 use Rattle.niss_cube.proofs.CoordinateValues.{slice_of-cubies, slice-below, slice_occupied}
-use Rattle.niss_cube.specs.CubieLists.{CubieLists}
+use Rattle.niss_cube.proofs.CubieLists.{CubieLists}
 use Rattle.niss_cube.proofs.KeptTwists.{slice_zero-kept}
 use Rattle.niss_cube.proofs.cube.Cube.slice.Goals as goal
 

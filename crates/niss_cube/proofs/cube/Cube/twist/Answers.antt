@@ -2,7 +2,7 @@ use Rattle.std.proofs.Common.{◌<◌, ◌≡◌, ◌∙◌, sym, arith, take}
 use Rattle.niss_cube.specs.Map.{map_of}
 use Rattle.niss_cube.specs.Coordinates.{twist_of, number}
 use Rattle.niss_cube.proofs.CoordinateValues.{twist_of-cubies, twists-below}
-use Rattle.niss_cube.specs.CubieLists.{CubieLists}
+use Rattle.niss_cube.proofs.CubieLists.{CubieLists}
 use Rattle.niss_cube.proofs.KeptTwists.{twist_zero-kept}
 use Rattle.niss_cube.proofs.cube.Cube.twist.Goals as goal
 

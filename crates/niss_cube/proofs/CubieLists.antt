@@ -1,9 +1,7 @@
 -- The cubies as lists, and what turns do to them.
-use Rattle.std.specs.Prelude.{ℕ, zero, suc, ◌+◌, ◌%◌, List, [], ◌∷◌, map, slice_index}
+use Rattle.std.specs.Prelude.{ℕ, zero, suc, ◌+◌, ◌%◌, List, map, slice_index}
 use Rattle.std.specs.List.{range_with_len}
-use Rattle.niss_moves.specs.Effects.{times}
 use Rattle.niss_moves.specs.declared.turn.Face.{Face}
-use Rattle.niss_moves.specs.declared.turn.Turn.{Turn}
 use Rattle.niss_cube.specs.Quarters.{quarter_table}
 
 pub record CubieLists : Type 0 where
@@ -35,19 +33,3 @@ corners_quarter f = brought 8 (quarter_table f).corners
 abbrev pub repeated : {A : Type 0} → ℕ → (A → A) → A → A
 repeated zero f x = x
 repeated (suc n) f x = f (repeated n f x)
-
-abbrev pub flips_turned : Turn → List ℕ → List ℕ
-flips_turned t = repeated (times t.power) (flips_quarter t.face)
-
--- the cubies at home, not turned
-abbrev pub corners_home : List ℕ
-corners_home = 0 ∷ 1 ∷ 2 ∷ 3 ∷ 4 ∷ 5 ∷ 6 ∷ 7 ∷ []
-
-abbrev pub twists_home : List ℕ
-twists_home = 0 ∷ 0 ∷ 0 ∷ 0 ∷ 0 ∷ 0 ∷ 0 ∷ 0 ∷ []
-
-abbrev pub edges_home : List ℕ
-edges_home = 0 ∷ 1 ∷ 2 ∷ 3 ∷ 4 ∷ 5 ∷ 6 ∷ 7 ∷ 8 ∷ 9 ∷ 10 ∷ 11 ∷ []
-
-abbrev pub flips_home : List ℕ
-flips_home = 0 ∷ 0 ∷ 0 ∷ 0 ∷ 0 ∷ 0 ∷ 0 ∷ 0 ∷ 0 ∷ 0 ∷ 0 ∷ 0 ∷ []
