@@ -1,9 +1,9 @@
-ghost use Rattle.std.specs.Prelude.{◌≡◌, ◌<◌, ◌+◌, ◌*◌, ◌%◌, ◌≤◌, length, EachIndex, slice_index};
+ghost use Rattle.std.specs.Prelude.{◌≡◌, ◌<◌};
 ghost use Rattle.niss_cube.specs.Cubies.{AreCubies};
 
 use crate::digits::{number_of, slice_number};
 use crate::letters::{CORNER_LETTERS, EDGE_LETTERS, FACELET_POSITIONS, FaceletPosition};
-use crate::quarter::quarter_turn;
+use crate::quarter::{turn_corners, turn_edges};
 use crate::renaming::{Renaming, rename_corners, rename_edges};
 use crate::rotated_text::{bring_to_top, turn_about_vertical};
 use niss_moves::axis::Axis;
@@ -12,42 +12,19 @@ use niss_moves::turn::{Face, Power, Turn};
 
 pub(crate) mod numbered;
 
-/// A cube with its centres home.
+/// A cube with its centres home: which cubie stands at each place, and how it is twisted or flipped there.
+///
+/// Its contracts name it by `map_of`: where the sticker that began at each of the 54 places stands. The places, the cubies
+/// at home and the orientations are those of Kociemba's cubie level.
 #[derive(Clone, Copy, Debug)]
 pub struct Cube {
-    // which corner stands at each corner place, and its twist
+    // which corner stands at each corner place, and its twist there
     corners: [u8; 8],
     twists: [u8; 8],
-    // which edge stands at each edge place, and its flip
+    // which edge stands at each edge place, and its flip there
     edges: [u8; 12],
     flips: [u8; 12],
     ghost are_cubies: { AreCubies corners twists edges flips },
-}
-
-// Writes to each place what stood at the place that the table names.
-fn bring(old: &[u8], from: &[u8], new: &mut [u8])
-    requires from_len { length from.now ≡ length new.old }
-    requires in_range { EachIndex from.now (λ k. slice_index from.now k < length old.now) }
-    ensures { EachIndex new.new (λ k. slice_index new.new k ≡ slice_index old.now (slice_index from.now k)) }
-{
-    for (k, x) in new.iter_mut().enumerate() {
-        *x = old[from[k] as usize];
-    }
-}
-
-// The same for twists or flips, to which the table adds.
-fn bring_oriented(old: &[u8], from: &[u8], added: &[u8], facelets: u8, new: &mut [u8])
-    requires from_len { length from.now ≡ length new.old }
-    requires added_len { length added.now ≡ length new.old }
-    requires in_range { EachIndex from.now (λ k. slice_index from.now k < length old.now) }
-    requires some { 0 < facelets }
-    requires small { EachIndex old.now (λ k. slice_index old.now k < 3) }
-    requires added_small { EachIndex added.now (λ k. slice_index added.now k < 3) }
-    ensures { EachIndex new.new (λ k. slice_index new.new k ≡ (slice_index old.now (slice_index from.now k) + slice_index added.now k) % facelets) }
-{
-    for (k, x) in new.iter_mut().enumerate() {
-        *x = (old[from[k] as usize] + added[k]) % facelets;
-    }
 }
 
 impl Cube {
@@ -80,19 +57,13 @@ impl Cube {
         }
     }
 
-    // A clockwise quarter turn of the face.
+    /// A clockwise quarter turn of the face.
     fn quarter(&mut self, face: Face)
         ensures { SameMap (map_of self.new) (λ q. moved (face_move face 1) (map_of self.old q)) }
     {
-        let table = quarter_turn(face);
-        let mut corners = self.corners;
-        let mut twists = self.twists;
-        let mut edges = self.edges;
-        let mut flips = self.flips;
-        bring(&self.corners, &table.corners, &mut corners);
-        bring_oriented(&self.twists, &table.corners, &table.twists, 3, &mut twists);
-        bring(&self.edges, &table.edges, &mut edges);
-        bring_oriented(&self.flips, &table.edges, &table.flips, 2, &mut flips);
+        let before = *self;
+        let (corners, twists) = turn_corners(&before.corners, &before.twists, face);
+        let (edges, flips) = turn_edges(&before.edges, &before.flips, face);
         *self = Cube {
             corners,
             twists,
@@ -101,7 +72,7 @@ impl Cube {
         };
     }
 
-    /// Turns a face.
+    /// Turns a face, as WCA Regulations 12a say.
     pub fn turn(&mut self, turn: Turn)
         ensures { SameMap (map_of self.new) (λ q. turned turn (map_of self.old q)) }
     {
@@ -116,7 +87,7 @@ impl Cube {
         }
     }
 
-    /// Turns faces one after another.
+    /// Turns faces, from the first to the last.
     pub fn apply(&mut self, turns: &[Turn])
         ensures { SameMap (map_of self.new) (λ q. effect_of_turns turns.now (map_of self.old q)) }
     {
@@ -125,7 +96,7 @@ impl Cube {
         }
     }
 
-    // The cube renamed by a rotation.
+    /// The cube renamed by a rotation.
     fn renamed(&self, renaming: Renaming) -> Cube
         ensures { SameMap (map_of result) (renamed_by renaming (map_of self.now)) }
     {
@@ -139,7 +110,7 @@ impl Cube {
         }
     }
 
-    // The cube as the flip on an axis is read from it.
+    /// The cube as the flip on an axis is read from it.
     fn renamed_for_flip(&self, axis: Axis) -> Cube
         ensures { SameMap (map_of result) (for_flip axis (map_of self.now)) }
     {
@@ -150,7 +121,7 @@ impl Cube {
         }
     }
 
-    // The cube as the twist and the slice on an axis are read from it.
+    /// The cube as the twist and the slice on an axis are read from it.
     fn renamed_for_twist(&self, axis: Axis) -> Cube
         ensures { SameMap (map_of result) (for_twist axis (map_of self.now)) }
     {
@@ -161,7 +132,9 @@ impl Cube {
         }
     }
 
-    /// The number of the flips on an axis.
+    /// The edge orientation with respect to an axis, from 0 to 2,047: the flips at the first eleven edge places of the cube
+    /// that is renamed for this axis (by `x'` for Ud, by `y` for Rl), as a number in base 2. It is 0 where all edges are
+    /// oriented.
     pub fn flip(&self, axis: Axis) -> u16
         ensures value { result ≡ flip_of axis (map_of self.now) }
         ensures in_range { result < 2048 }
@@ -171,7 +144,9 @@ impl Cube {
         number_of(2, &renamed.flips[..11])
     }
 
-    /// The number of the twists on an axis.
+    /// The corner orientation with respect to an axis, from 0 to 2,186: the twists at the first seven corner places of the
+    /// cube that is renamed for this axis (by `z'` for Rl, by `x` for Fb), as a number in base 3. It is 0 where all corners
+    /// are oriented.
     pub fn twist(&self, axis: Axis) -> u16
         ensures value { result ≡ twist_of axis (map_of self.now) }
         ensures in_range { result < 2187 }
@@ -181,7 +156,9 @@ impl Cube {
         number_of(3, &renamed.twists[..7])
     }
 
-    /// The number of the places where the edges of a slice stand.
+    /// The slice coordinate of an axis, from 0 to 494: the number of the places at which the four edges between the axis's
+    /// two faces stand, in any order, on the cube that is renamed for this axis (by `z'` for Rl, by `x` for Fb). It is 0
+    /// where each of them stands in the slice.
     pub fn slice(&self, axis: Axis) -> u16
         ensures value { result ≡ slice_of axis (map_of self.now) }
         ensures in_range { result < 495 }
@@ -191,7 +168,7 @@ impl Cube {
         slice_number(&renamed.edges)
     }
 
-    // Whether the same cubies stand at the same places, turned alike.
+    /// Whether the same cubies stand at the same places, turned alike.
     fn has_same_cubies(&self, other: &Cube) -> bool
         ensures { result ≡ same_cubies self.now other.now }
     {
@@ -200,7 +177,7 @@ impl Cube {
                 && (self.edges == other.edges && self.flips == other.flips))
     }
 
-    // The letter at a facelet of a corner place.
+    /// The letter at a facelet of a corner place.
     fn corner_letter(&self, place: u8, facelet: u8) -> u8
         requires place { place < 8 }
         requires facelet { facelet < 3 }
@@ -211,7 +188,7 @@ impl Cube {
         CORNER_LETTERS[self.corners[n] as usize][from as usize]
     }
 
-    // The letter at a facelet of an edge place.
+    /// The letter at a facelet of an edge place.
     fn edge_letter(&self, place: u8, facelet: u8) -> u8
         requires place { place < 12 }
         requires facelet { facelet < 2 }
@@ -222,7 +199,7 @@ impl Cube {
         EDGE_LETTERS[self.edges[n] as usize][from as usize]
     }
 
-    // The letter at a place, by its index in the text.
+    /// The letter at a place, by its index in the text.
     fn facelet_letter(&self, index: usize) -> u8
         requires { index < 54 }
         ensures { result ≡ letter_of (map_of self.now) places (get_or places index (facelet U 5)) }
@@ -234,13 +211,13 @@ impl Cube {
         }
     }
 
-    // The facelet text of the cube as it stands.
+    /// The facelet text of the cube as it stands.
     fn letters(&self) -> [u8; 54]
         ensures { result ≡ letters (map_of self.now) }
     {
         let mut text = [0; 54];
-        for (index, x) in text.iter_mut().enumerate() {
-            *x = self.facelet_letter(index);
+        for (index, letter) in text.iter_mut().enumerate() {
+            *letter = self.facelet_letter(index);
         }
         text
     }

@@ -1,4 +1,7 @@
-/// A position of the facelet text: a facelet of a corner place or of an edge place, or a centre with its letter.
+//! The positions of the facelet text, and the letters of the cubies.
+
+/// A position of the facelet text: a corner place or an edge place and the number of its facelet, or a centre with its
+/// letter.
 #[derive(Clone, Copy)]
 pub enum FaceletPosition {
     Corner(u8, u8),
@@ -6,6 +9,7 @@ pub enum FaceletPosition {
     Centre(u8),
 }
 
+/// The 54 positions, in the order of the text.
 pub const FACELET_POSITIONS: [FaceletPosition; 54] = [
     FaceletPosition::Corner(2, 0),
     FaceletPosition::Edge(3, 0),
@@ -63,6 +67,7 @@ pub const FACELET_POSITIONS: [FaceletPosition; 54] = [
     FaceletPosition::Corner(6, 1),
 ];
 
+/// The letters of the corners, each in the order of its facelets.
 pub const CORNER_LETTERS: [[u8; 3]; 8] = [
     [b'U', b'R', b'F'],
     [b'U', b'F', b'L'],
@@ -74,6 +79,7 @@ pub const CORNER_LETTERS: [[u8; 3]; 8] = [
     [b'D', b'R', b'B'],
 ];
 
+/// The letters of the edges, each in the order of its facelets.
 pub const EDGE_LETTERS: [[u8; 2]; 12] = [
     [b'U', b'R'],
     [b'U', b'F'],

@@ -1,10 +1,11 @@
-ghost use Rattle.std.specs.Prelude.{◌≡◌};
+//! Quarter turns of the faces on cubies.
+ghost use Rattle.std.specs.Prelude.{◌≡◌, ◌<◌, ◌+◌, ◌%◌, length, EachIndex, slice_index};
 ghost use Rattle.niss_cube.specs.Quarters.{quarter_table};
 
 use niss_moves::turn::Face;
 
-/// A clockwise quarter turn of a face: at each place, from which place its cubie comes,
-/// and what is added to its twist or flip.
+/// A clockwise quarter turn of a face: for each place, from which place its cubie comes, and what is added to its twist or
+/// flip.
 #[derive(Clone, Copy)]
 pub struct QuarterTurn {
     pub corners: [u8; 8],
@@ -55,7 +56,8 @@ pub const BACK: QuarterTurn = QuarterTurn {
     flips: [0, 0, 0, 1, 0, 0, 0, 1, 0, 0, 1, 1],
 };
 
-pub fn quarter_turn(face: Face) -> QuarterTurn
+/// The table of a face.
+fn quarter_turn(face: Face) -> QuarterTurn
     ensures { result ≡ quarter_table face }
 {
     match face {
@@ -66,4 +68,63 @@ pub fn quarter_turn(face: Face) -> QuarterTurn
         Face::F => FRONT,
         Face::B => BACK,
     }
+}
+
+/// Writes which cubie stands at each place, after each came from the place that the table names.
+fn turn_homes(homes: &[u8], from: &[u8], new: &mut [u8])
+    requires from_len { length from.now ≡ length new.old }
+    requires from_range { EachIndex from.now (λ k. slice_index from.now k < length homes.now) }
+    ensures { EachIndex new.new (λ k. slice_index new.new k ≡ slice_index homes.now (slice_index from.now k)) }
+{
+    for (place, home) in new.iter_mut().enumerate() {
+        *home = homes[from[place] as usize];
+    }
+}
+
+/// Writes how the cubies are twisted or flipped at their new places.
+fn turn_orientations(orientations: &[u8], from: &[u8], added: &[u8], facelets: u8, new: &mut [u8])
+    requires from_len { length from.now ≡ length new.old }
+    requires added_len { length added.now ≡ length new.old }
+    requires from_range { EachIndex from.now (λ k. slice_index from.now k < length orientations.now) }
+    requires some { 0 < facelets }
+    requires orientation_range { EachIndex orientations.now (λ k. slice_index orientations.now k < 3) }
+    requires added_range { EachIndex added.now (λ k. slice_index added.now k < 3) }
+    ensures { EachIndex new.new (λ k. slice_index new.new k
+        ≡ (slice_index orientations.now (slice_index from.now k) + slice_index added.now k) % facelets) }
+{
+    for (place, orientation) in new.iter_mut().enumerate() {
+        *orientation = (orientations[from[place] as usize] + added[place]) % facelets;
+    }
+}
+
+/// The corners by place after a quarter turn of the face: which stand there, and how they are twisted.
+pub fn turn_corners(corners: &[u8; 8], twists: &[u8; 8], face: Face) -> ([u8; 8], [u8; 8])
+    requires { EachIndex twists.now (λ k. slice_index twists.now k < 3) }
+    ensures corners { let t = quarter_table face in
+        EachIndex result.0 (λ k. slice_index result.0 k ≡ slice_index corners.now (slice_index t.corners k)) }
+    ensures twists { let t = quarter_table face in
+        EachIndex result.1 (λ k. slice_index result.1 k
+        ≡ (slice_index twists.now (slice_index t.corners k) + slice_index t.twists k) % 3) }
+{
+    let table = quarter_turn(face);
+    let (mut homes, mut orientations) = ([0; 8], [0; 8]);
+    turn_homes(corners, &table.corners, &mut homes);
+    turn_orientations(twists, &table.corners, &table.twists, 3, &mut orientations);
+    (homes, orientations)
+}
+
+/// The edges by place after a quarter turn of the face: which stand there, and how they are flipped.
+pub fn turn_edges(edges: &[u8; 12], flips: &[u8; 12], face: Face) -> ([u8; 12], [u8; 12])
+    requires { EachIndex flips.now (λ k. slice_index flips.now k < 2) }
+    ensures edges { let t = quarter_table face in
+        EachIndex result.0 (λ k. slice_index result.0 k ≡ slice_index edges.now (slice_index t.edges k)) }
+    ensures flips { let t = quarter_table face in
+        EachIndex result.1 (λ k. slice_index result.1 k
+        ≡ (slice_index flips.now (slice_index t.edges k) + slice_index t.flips k) % 2) }
+{
+    let table = quarter_turn(face);
+    let (mut homes, mut orientations) = ([0; 12], [0; 12]);
+    turn_homes(edges, &table.edges, &mut homes);
+    turn_orientations(flips, &table.edges, &table.flips, 2, &mut orientations);
+    (homes, orientations)
 }

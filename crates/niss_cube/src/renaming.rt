@@ -1,9 +1,10 @@
+//! Cubies under a rotation that renames the places.
 ghost use Rattle.niss_cube.specs.Renamings.{renaming_table, renamed_home, renamed_orientation};
 ghost use Rattle.std.specs.Prelude.{◌≡◌, ◌<◌, length, EachIndex, slice_index};
 
-/// A rotation of the whole cube that renames the places. At each renamed place `_from` has its original place,
-/// and `_to` the other way round. The renamed first facelet of an original place is facelet `_in` there,
-/// and its original first facelet is facelet `_out` of the renamed place.
+/// A rotation of the whole cube that renames the places, by tables. For each renamed place `_from` has its original place,
+/// and `_to` the other way round. The renamed first facelet of an original place is facelet `_in` there, and its original
+/// first facelet is facelet `_out` of the renamed place.
 #[derive(Clone, Copy)]
 pub struct RenamingTable {
     pub corners_from: [u8; 8],
@@ -69,7 +70,8 @@ pub enum Renaming {
     ZCounter,
 }
 
-pub fn table_of(renaming: Renaming) -> RenamingTable
+/// The table of a renaming.
+fn table_of(renaming: Renaming) -> RenamingTable
     ensures { result ≡ renaming_table renaming }
 {
     match renaming {
@@ -89,9 +91,9 @@ fn rename_homes(homes: &[u8], from: &[u8], to: &[u8], new: &mut [u8])
     requires home_range { EachIndex homes.now (λ k. slice_index homes.now k < length homes.now) }
     ensures { EachIndex new.new (λ k. slice_index new.new k ≡ renamed_home from.now to.now homes.now k) }
 {
-    for (k, x) in new.iter_mut().enumerate() {
-        let home = homes[from[k] as usize];
-        *x = to[home as usize];
+    for (place, home) in new.iter_mut().enumerate() {
+        let old_home = homes[from[place] as usize];
+        *home = to[old_home as usize];
     }
 }
 
@@ -119,10 +121,10 @@ fn rename_orientations(
     ensures { EachIndex new.new (λ k. slice_index new.new k
         ≡ renamed_orientation facelets from.now inward.now outward.now homes.now orientations.now k) }
 {
-    for (k, x) in new.iter_mut().enumerate() {
-        let place = from[k] as usize;
-        let home = homes[place] as usize;
-        *x = (inward[home] + orientations[place] + outward[place]) % facelets;
+    for (place, orientation) in new.iter_mut().enumerate() {
+        let old_place = from[place] as usize;
+        let home = homes[old_place] as usize;
+        *orientation = (inward[home] + orientations[old_place] + outward[old_place]) % facelets;
     }
 }
 

@@ -11,25 +11,28 @@ ghost use Rattle.niss_moves.specs.declared.turn.Power.TheVariants.{Quarter};
 use niss_moves::axis::Axis;
 use niss_moves::turn::{Face, Power};
 
-// For each position of the facelet text, the position from which its letter comes by a quarter rotation.
+/// By the rotation `y`: for each position of the facelet text, the position from which its letter comes.
 pub const Y_SOURCES: [u8; 54] = [
     6, 3, 0, 7, 4, 1, 8, 5, 2, 45, 46, 47, 48, 49, 50, 51, 52, 53, 9, 10, 11, 12, 13, 14, 15, 16,
     17, 29, 32, 35, 28, 31, 34, 27, 30, 33, 18, 19, 20, 21, 22, 23, 24, 25, 26, 36, 37, 38, 39, 40,
     41, 42, 43, 44,
 ];
 
+/// The same by the rotation `x`.
 pub const X_SOURCES: [u8; 54] = [
     18, 19, 20, 21, 22, 23, 24, 25, 26, 15, 12, 9, 16, 13, 10, 17, 14, 11, 27, 28, 29, 30, 31, 32,
     33, 34, 35, 53, 52, 51, 50, 49, 48, 47, 46, 45, 38, 41, 44, 37, 40, 43, 36, 39, 42, 8, 7, 6, 5,
     4, 3, 2, 1, 0,
 ];
 
+/// The same by the rotation `z`.
 pub const Z_SOURCES: [u8; 54] = [
     42, 39, 36, 43, 40, 37, 44, 41, 38, 6, 3, 0, 7, 4, 1, 8, 5, 2, 24, 21, 18, 25, 22, 19, 26, 23,
     20, 15, 12, 9, 16, 13, 10, 17, 14, 11, 33, 30, 27, 34, 31, 28, 35, 32, 29, 47, 50, 53, 46, 49,
     52, 45, 48, 51,
 ];
 
+/// The table of a quarter rotation about the axis.
 fn sources(axis: Axis) -> [u8; 54]
     ensures { result ≡ sources_of axis }
 {

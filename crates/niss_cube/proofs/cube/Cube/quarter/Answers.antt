@@ -1,33 +1,36 @@
-use Rattle.std.proofs.Common.{arith}
+use Rattle.std.proofs.Common.{arith, refl}
+use Rattle.niss_cube.specs.Quarters.{quarter_table}
 use Rattle.niss_cube.proofs.QuarterSteps.{Written, written-cubies, written-map}
 use Rattle.niss_cube.proofs.cube.Cube.quarter.Goals as goal
 
 pub invariant_of-self : goal.invariant_of-self
 invariant_of-self c =
-    let w : Written c.quarter_turn-table.result c.args.self.now.corners c.args.self.now.twists c.args.self.now.edges c.args.self.now.flips c.bring.new.new c.bring_oriented.new.new c.bring-2.new.new c.bring_oriented-2.new.new =
+    let a = c.args.self.now in
+    let w : Written (quarter_table c.args.face) a.corners a.twists a.edges a.flips c.turn_corners.result.0 c.turn_corners.result.1 c.turn_edges.result.0 c.turn_edges.result.1 =
     record {
-      corners_len = omega (arith, c.bring.auto.new, c.args.self.now.are_cubies.corner_places);
-      twists_len = omega (arith, c.bring_oriented.auto.new, c.args.self.now.are_cubies.twist_places);
-      edges_len = omega (arith, c.bring-2.auto.new, c.args.self.now.are_cubies.edge_places);
-      flips_len = omega (arith, c.bring_oriented-2.auto.new, c.args.self.now.are_cubies.flip_places);
-      corners_are = c.bring.ensures;
-      twists_are = c.bring_oriented.ensures;
-      edges_are = c.bring-2.ensures;
-      flips_are = c.bring_oriented-2.ensures;
+      corners_len = omega arith;
+      twists_len = omega arith;
+      edges_len = omega arith;
+      flips_len = omega arith;
+      corners_are = c.turn_corners.ensures.corners;
+      twists_are = c.turn_corners.ensures.twists;
+      edges_are = c.turn_edges.ensures.edges;
+      flips_are = c.turn_edges.ensures.flips;
     } in
-    record { are_cubies = written-cubies c.args.face _ _ _ _ _ _ _ _ c.quarter_turn-table.result c.quarter_turn-table.ensures c.args.self.now.are_cubies w }
+    record { are_cubies = written-cubies c.args.face _ _ _ _ _ _ _ _ (quarter_table c.args.face) refl a.are_cubies w }
 
 pub returns : goal.returns
 returns c =
-    let w : Written c.quarter_turn-table.result c.args.self.now.corners c.args.self.now.twists c.args.self.now.edges c.args.self.now.flips c.bring.new.new c.bring_oriented.new.new c.bring-2.new.new c.bring_oriented-2.new.new =
+    let a = c.args.self.now in
+    let w : Written (quarter_table c.args.face) a.corners a.twists a.edges a.flips c.turn_corners.result.0 c.turn_corners.result.1 c.turn_edges.result.0 c.turn_edges.result.1 =
     record {
-      corners_len = omega (arith, c.bring.auto.new, c.args.self.now.are_cubies.corner_places);
-      twists_len = omega (arith, c.bring_oriented.auto.new, c.args.self.now.are_cubies.twist_places);
-      edges_len = omega (arith, c.bring-2.auto.new, c.args.self.now.are_cubies.edge_places);
-      flips_len = omega (arith, c.bring_oriented-2.auto.new, c.args.self.now.are_cubies.flip_places);
-      corners_are = c.bring.ensures;
-      twists_are = c.bring_oriented.ensures;
-      edges_are = c.bring-2.ensures;
-      flips_are = c.bring_oriented-2.ensures;
+      corners_len = omega arith;
+      twists_len = omega arith;
+      edges_len = omega arith;
+      flips_len = omega arith;
+      corners_are = c.turn_corners.ensures.corners;
+      twists_are = c.turn_corners.ensures.twists;
+      edges_are = c.turn_edges.ensures.edges;
+      flips_are = c.turn_edges.ensures.flips;
     } in
-    written-map c.args.face _ _ _ _ _ _ _ _ c.quarter_turn-table.result c.quarter_turn-table.ensures c.args.self.now.are_cubies w
+    written-map c.args.face _ _ _ _ _ _ _ _ (quarter_table c.args.face) refl a.are_cubies w
