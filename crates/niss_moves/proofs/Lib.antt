@@ -1,2 +1,12 @@
 pub mod Finite
 pub mod Rotations
+pub mod Expansions
+pub mod Pushed
+pub mod CanonicalLists
+pub mod Cleaned
+pub mod CleanEffect
+pub mod OneSpelling
+pub mod OneCleanList
+pub mod Disorder
+pub mod AllCanonical
+pub mod CentresHome

@@ -1,9 +1,10 @@
 -- The 24 rotations, computed.
-use Rattle.std.proofs.Common.{◌≡◌, Bool, true, false, ◌&&◌, ◌||◌, refl, ap, sym, subst, ◌∙◌, List, [], ◌∷◌, ◌++◌, Option, None, Some}
+use Rattle.std.proofs.Common.{◌≡◌, Bool, true, ◌&&◌, refl, ap, sym, subst, ◌∙◌, List, [], ◌∷◌, ◌++◌, Option, None, Some}
 use Rattle.niss_moves.specs.Places.{Place, Vector, same_vector, same_place}
 use Rattle.niss_moves.specs.Effects.{effect, effect_of_turns, moved_by, turned, quarters, times}
 use Rattle.niss_moves.specs.Rotations.{face_before, face_before_power, face_before_top, face_before_vertical, renamed_turn, to_top, about_vertical, spelling}
-use Rattle.niss_moves.specs.Canonical.{same_face, is_beside}
+use Rattle.niss_moves.specs.Turn.{same_face}
+use Rattle.niss_moves.specs.Canonical.{is_beside}
 use Rattle.niss_moves.proofs.Finite.{both_left, both_right, every_coord, every_vector, at_vector, same_vector_is, every_place, at_place, same_place_is, every_face, at_face, every_power, at_power, every_axis, at_axis, every_optional_power, at_optional_power, implies, by_implies}
 use Rattle.niss_moves.specs.declared.turn.Face.{Face}
 use Rattle.niss_moves.specs.declared.turn.Face.TheVariants.{U, D, R, L, F, B}

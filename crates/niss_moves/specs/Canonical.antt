@@ -1,37 +1,11 @@
 -- Canonical sequences of face turns, and all of them of one length.
-use Rattle.std.specs.Prelude.{ℕ, zero, suc, Bool, true, false, not, ◌&&◌, ◌||◌, ◌-◌, List, [], ◌∷◌, ◌++◌, map, filter, flat_map, length, slice_get, Option, None, Some, IsTrue}
+use Rattle.std.specs.Prelude.{ℕ, zero, suc, Bool, true, not, ◌&&◌, ◌||◌, ◌-◌, List, [], ◌∷◌, ◌++◌, map, filter, flat_map, length, slice_get, Option, None, Some, IsTrue}
+use Rattle.niss_moves.specs.Turn.{opposite, same_face, goes_first}
 use Rattle.niss_moves.specs.declared.turn.Face.{Face}
 use Rattle.niss_moves.specs.declared.turn.Face.TheVariants.{U, D, R, L, F, B}
 use Rattle.niss_moves.specs.declared.turn.Power.{Power}
 use Rattle.niss_moves.specs.declared.turn.Power.TheVariants.{Quarter, Half, Counter}
 use Rattle.niss_moves.specs.declared.turn.Turn.{Turn}
-
--- the face on the other side
-abbrev pub opposite : Face → Face
-opposite U = D
-opposite D = U
-opposite R = L
-opposite L = R
-opposite F = B
-opposite B = F
-
-abbrev pub same_face : Face → Face → Bool
-same_face U U = true
-same_face D D = true
-same_face R R = true
-same_face L L = true
-same_face F F = true
-same_face B B = true
-same_face _ _ = false
-
--- of two opposite faces the one that stands first
-abbrev pub goes_first : Face → Bool
-goes_first U = true
-goes_first R = true
-goes_first F = true
-goes_first D = false
-goes_first L = false
-goes_first B = false
 
 -- two faces with an edge in common
 abbrev pub is_beside : Face → Face → Bool

@@ -2,6 +2,10 @@ pub mod Places
 pub mod Facelets
 pub mod Effects
 pub mod Letters
+pub mod Turn
 pub mod Rotations
 pub mod Faces
 pub mod Canonical
+pub mod Cleaning
+pub mod RewritingLaws
+pub mod Centres

@@ -1,0 +1,5 @@
+use Rattle.niss_moves.proofs.AllCanonical.{canonical_members}
+use Rattle.niss_moves.proofs.rewriting_laws.canonical_members.Goals as goal
+
+pub returns : goal.returns
+returns c = canonical_members

@@ -1,0 +1,35 @@
+//! Laws of rotations, canonical sequences and cleaning: each is the contract of a function that does nothing.
+ghost use Rattle.niss_moves.specs.RewritingLaws.{OneSpelling, ExpandsAlike, RenamesAboutAxis, RenamesByRotation, CanonicalMembers, CleaningEnds, OneCleanList, CanonicalStays, RewritingLowers};
+
+/// Two rotations that move the six centres alike are one. So each of the 24 has one spelling.
+pub fn one_spelling()
+    ensures { OneSpelling }
+{}
+
+/// Wide turns and slices have the effect of the face turns and rotations to which they are expanded.
+pub fn expands_alike()
+    ensures { ExpandsAlike }
+{}
+
+/// A rotation renames the face turns behind it.
+pub fn rotations_rename()
+    ensures about_axis { RenamesAboutAxis }
+    ensures by_rotation { RenamesByRotation }
+{}
+
+/// The list of all canonical sequences of a length has exactly these sequences.
+pub fn canonical_members()
+    ensures { CanonicalMembers }
+{}
+
+/// Leftmost rewriting ends for each list, since each rewriting shortens it or leaves fewer pairs in the wrong order.
+pub fn cleaning_ends()
+    ensures ends { CleaningEnds }
+    ensures lowers { RewritingLowers }
+{}
+
+/// Cleaning has one result, and leaves a canonical list as it is.
+pub fn one_clean_list()
+    ensures one { OneCleanList }
+    ensures stays { CanonicalStays }
+{}
