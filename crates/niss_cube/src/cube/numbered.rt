@@ -8,6 +8,7 @@ use super::Cube;
 use crate::digits::{edges_with_slice, write_orientations};
 
 const CORNERS_HOME: [u8; 8] = [0, 1, 2, 3, 4, 5, 6, 7];
+
 const EDGES_HOME: [u8; 12] = [0, 1, 2, 3, 4, 5, 6, 7, 8, 9, 10, 11];
 
 /// A cube with this flip number, its cubies at home.
