@@ -2,17 +2,17 @@
 use Rattle.std.proofs.Common.{◌≡◌, refl, true, Bool, ℕ, ◌==◌, ◌&&◌}
 use Rattle.niss_moves.specs.declared.turn.Face.{Face}
 use Rattle.niss_moves.specs.declared.turn.Turn.{Turn}
-use Rattle.niss_moves.specs.declared.turn.Face.TheVariants.{U, D, R, L, F, B}
-use Rattle.niss_moves.specs.declared.turn.Power.TheVariants.{Quarter, Half, Counter}
+use Rattle.niss_moves.specs.declared.turn.Face.TheVariants.{U, D, R, F}
+use Rattle.niss_moves.specs.declared.turn.Power.TheVariants.{Quarter, Counter}
 use Rattle.niss_moves.specs.declared.axis.Axis.{Axis}
 use Rattle.niss_moves.specs.declared.axis.Axis.TheVariants.{Ud, Rl, Fb}
 use Rattle.niss_moves.specs.Places.{Place}
 use Rattle.niss_moves.specs.Effects.{turned}
 use Rattle.niss_cube.specs.OccupiedPlaces.{occupied_of_number}
 use Rattle.niss_cube.specs.Coordinates.{flip_of, twist_of, slice_of}
-use Rattle.niss_cube.specs.FlipAfter.{flip_after, flips_of_number, flipped}
-use Rattle.niss_cube.specs.TwistAfter.{twist_after, twists_of_number, twisted}
-use Rattle.niss_cube.specs.SliceAfter.{slice_after, edges_of_number, moved_edges}
+use Rattle.niss_cube.specs.FlipAfter.{flip_after, flips_of_number}
+use Rattle.niss_cube.specs.TwistAfter.{twist_after, twists_of_number}
+use Rattle.niss_cube.specs.SliceAfter.{slice_after, edges_of_number}
 use Rattle.niss_cube.proofs.PlaceTables.{all_faces}
 use Rattle.niss_cube.proofs.AxisRenamings.{all_powers}
 

@@ -1,10 +1,9 @@
 -- The flips, the twists and the slices on an axis are coordinates.
-use Rattle.std.proofs.Common.{◌≡◌, ℕ, ◌+◌, ◌<◌, refl, sym, ◌∙◌, ap, subst, List, [], ◌∷◌, length, get_or, map, take, reverse, Bool, true, arith}
-use Rattle.std.specs.Prelude.{slice_index, count_by, nat_lt, nat_le, ◌==◌}
+use Rattle.std.proofs.Common.{◌≡◌, ℕ, ◌<◌, refl, sym, ◌∙◌, ap, subst, List, get_or, map, take, reverse}
+use Rattle.std.specs.Prelude.{count_by, nat_lt, nat_le, ◌==◌}
 use Rattle.std.proofs.lemmas.Bool.{eqb-true, ltb-true}
 use Rattle.niss_moves.specs.Effects.{times}
 use Rattle.niss_moves.specs.declared.turn.Turn.{Turn}
-use Rattle.niss_moves.specs.declared.axis.Axis.{Axis}
 use Rattle.niss_moves.specs.declared.axis.Axis.TheVariants.{Ud, Fb}
 use Rattle.niss_cube.specs.Sets.{flip_set, twist_set, slice_set}
 use Rattle.niss_cube.specs.Coordinates.{number, rank, for_flip, for_twist, flip_of, twist_of, slice_of}
@@ -15,8 +14,7 @@ use Rattle.niss_cube.specs.TwistAfter.{twists_of_number, twist_after}
 use Rattle.niss_cube.specs.RenamedTurns.{turn_for_flip, turn_for_twist}
 use Rattle.niss_cube.specs.SliceAfter.{edges_of_number, slice_after}
 use Rattle.niss_cube.specs.AfterTurn.{FlipsAreCoordinates, TwistsAreCoordinates, SlicesAreCoordinates}
-use Rattle.niss_cube.proofs.PlaceTables.{all_below, at_below}
-use Rattle.niss_cube.proofs.Numbers.{number_from}
+use Rattle.niss_cube.proofs.PlaceTables.{at_below}
 use Rattle.niss_cube.proofs.CoordinateValues.{flip_of-cubies, twist_of-cubies, slice_of-cubies, flips-below, twists-below, slice-below, slice_occupied, slice_occupied-filled}
 use Rattle.niss_cube.proofs.ListTurns.{Valid, map_lists, turned_lists, turned-part}
 use Rattle.niss_cube.proofs.Orientations.{AreOriented, base_2, base_3, orientations_of_number-are, orientations_of_number-number, oriented-same}

@@ -1,9 +1,8 @@
 -- A coordinate is 0 exactly where its set of places is kept.
-use Rattle.std.proofs.Common.{◌≡◌, ℕ, ◌+◌, ◌%◌, ◌<◌, refl, sym, ◌∙◌, ap, List, [], ◌∷◌, length, get_or, take, Bool, true, ◌&&◌, not, arith}
+use Rattle.std.proofs.Common.{◌≡◌, ℕ, ◌+◌, ◌%◌, ◌<◌, refl, sym, ◌∙◌, ap, List, length, get_or, take, Bool, true, ◌&&◌, not, arith}
 use Rattle.std.specs.Prelude.{◌==◌, ◌↔◌}
 use Rattle.std.specs.List.{list_all}
 use Rattle.std.proofs.lemmas.Bool.{eqb-true, ltb-true}
-use Rattle.std.proofs.lemmas.List.{ext_get_or}
 use Rattle.niss_moves.specs.Places.{Place, is_place, is_corner, is_edge}
 use Rattle.niss_moves.specs.Facelets.{places}
 use Rattle.niss_cube.specs.CubieFacelets.{facelet_at, edge_facelets}

@@ -1,13 +1,12 @@
 -- A set is kept where the test says so.
-use Rattle.std.proofs.Common.{◌≡◌, refl, Bool, true, false, not, ◌&&◌, ◌||◌, List, [], ◌∷◌}
+use Rattle.std.proofs.Common.{◌≡◌, refl, Bool, true, false, not, ◌||◌, List, [], ◌∷◌}
 use Rattle.std.specs.Prelude.{IsTrue, ◌↔◌}
 use Rattle.std.specs.List.{list_all}
 use Rattle.niss_moves.specs.Places.{Place, is_place}
 use Rattle.niss_moves.specs.Facelets.{places}
-use Rattle.niss_cube.specs.Sets.{Kept, flip_set}
+use Rattle.niss_cube.specs.Sets.{Kept}
 use Rattle.niss_cube.specs.Sets.{is_kept, KeptIsTested}
-use Rattle.niss_moves.specs.declared.axis.Axis.{Axis}
-use Rattle.niss_cube.proofs.Each.{at_place, and_left, and_right}
+use Rattle.niss_cube.proofs.Each.{at_place}
 
 pub implied : (a b : Bool) → (not a || b) ≡ true → a ≡ true → b ≡ true
 implied true b h e = h

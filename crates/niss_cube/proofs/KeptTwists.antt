@@ -1,11 +1,11 @@
 -- The twist and slice numbers are 0 exactly where their sets of places are kept.
-use Rattle.std.proofs.Common.{◌≡◌, ℕ, zero, suc, ◌+◌, ◌-◌, ◌%◌, ◌<◌, ◌≤◌, refl, sym, ◌∙◌, ap, List, [], ◌∷◌, length, get_or, take, min, Bool, true, false, ◌&&◌, not, arith, inl, inr}
-use Rattle.std.specs.Prelude.{◌==◌, ◌↔◌, nat_le, sum}
+use Rattle.std.proofs.Common.{◌≡◌, ℕ, zero, suc, ◌+◌, ◌-◌, ◌%◌, ◌<◌, ◌≤◌, refl, sym, ◌∙◌, ap, List, [], ◌∷◌, length, get_or, take, Bool, true, false, ◌&&◌, not, arith, inl, inr}
+use Rattle.std.specs.Prelude.{◌==◌, ◌↔◌, nat_le}
 use Rattle.std.specs.List.{list_all}
 use Rattle.std.proofs.lemmas.Bool.{eqb-true, ltb-true}
-use Rattle.std.proofs.lemmas.List.{ext_get_or, get_or-take, length-take}
+use Rattle.std.proofs.lemmas.List.{ext_get_or}
 use Rattle.std.proofs.lemmas.Bool.Decides.{eqb_tells}
-use Rattle.niss_moves.specs.Places.{Place, is_place, is_corner, is_edge, SameMap}
+use Rattle.niss_moves.specs.Places.{Place, is_place, is_corner, is_edge}
 use Rattle.niss_moves.specs.Facelets.{places}
 use Rattle.niss_cube.specs.CubieFacelets.{facelet_at, edge_facelets, corner_facelets}
 use Rattle.niss_cube.specs.Sets.{twist_set, slice_set, Kept}
@@ -24,7 +24,7 @@ use Rattle.niss_cube.proofs.StickerPlaces.{sticker_place-at, located, below-3, b
 use Rattle.niss_cube.proofs.MapPlaces.{sticker_map-place}
 use Rattle.niss_cube.proofs.RenamingTables.{rotated, rotated_back, same_bool, same_bool-is}
 use Rattle.niss_cube.proofs.ShownCubies.{edge_is, corner_is}
-use Rattle.niss_cube.proofs.CoordinateValues.{same_map-sym, twist_of-cubies, slice_of-cubies, digits_taken, slice_occupied, slice_occupied-length, slice_occupied-at, slice_occupied-filled}
+use Rattle.niss_cube.proofs.CoordinateValues.{same_map-sym, twist_of-cubies, slice_of-cubies, slice_occupied, slice_occupied-length, slice_occupied-at, slice_occupied-filled}
 use Rattle.niss_cube.proofs.ListTurns.{Valid, map_lists}
 use Rattle.niss_cube.proofs.Orientations.{AreOriented, base_3, oriented_zero}
 use Rattle.niss_cube.proofs.AxisRenamings.{cubies_for_twist, cubies_for_twist-valid, cubies_for_twist-map}

@@ -1,6 +1,6 @@
 -- The steps of the loop that places the edges of a slice.
-use Rattle.std.proofs.Common.{◌≡◌, ℕ, zero, suc, ◌+◌, ◌-◌, ◌<◌, ◌≤◌, refl, sym, ◌∙◌, ap, subst, List, [], ◌∷◌, ◌++◌, length, get_or, set, take, drop, reverse, Bool, true, false, arith, append_assoc}
-use Rattle.std.proofs.lemmas.List.{take_more_set, length-set, get_or-reverse, length-reverse, append-nil}
+use Rattle.std.proofs.Common.{◌≡◌, ℕ, suc, ◌+◌, ◌-◌, ◌<◌, refl, sym, ◌∙◌, ap, subst, List, [], ◌∷◌, ◌++◌, length, get_or, set, take, drop, reverse, Bool, true, false, arith, append_assoc}
+use Rattle.std.proofs.lemmas.List.{take_more_set, length-set, get_or-reverse, append-nil}
 use Rattle.std.proofs.Math.Seq.{drop-cons, drop-length, take-length}
 use Rattle.niss_cube.specs.SliceAfter.{edges_at}
 

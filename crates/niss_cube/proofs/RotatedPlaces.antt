@@ -1,8 +1,8 @@
 -- The letters of a map that is followed by a rotation of the whole cube.
-use Rattle.std.proofs.Common.{◌≡◌, ℕ, ◌<◌, refl, sym, ◌∙◌, ap, List, [], ◌∷◌, ◌++◌, length, get_or, map, Bool, true, ◌&&◌, arith}
+use Rattle.std.proofs.Common.{◌≡◌, ℕ, ◌<◌, refl, sym, ◌∙◌, ap, List, [], ◌∷◌, ◌++◌, length, get_or, Bool, true, ◌&&◌}
 use Rattle.std.specs.Prelude.{nat_lt, if◌then◌else◌}
 use Rattle.std.proofs.lemmas.Bool.{ltb-true}
-use Rattle.std.proofs.lemmas.List.{get_or-map, length-map}
+use Rattle.std.proofs.lemmas.List.{get_or-map}
 use Rattle.niss_moves.specs.Places.{Place, same_place}
 use Rattle.niss_moves.specs.Facelets.{places, facelet}
 use Rattle.niss_moves.specs.Effects.{effect, moved_by}

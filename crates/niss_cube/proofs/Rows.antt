@@ -1,5 +1,5 @@
 -- Worked values of the coordinates.
-use Rattle.std.proofs.Common.{◌≡◌, refl, true, false, List, [], ◌∷◌, reverse}
+use Rattle.std.proofs.Common.{◌≡◌, refl, true, false, [], ◌∷◌, reverse}
 use Rattle.std.specs.List.{list_all}
 use Rattle.niss_moves.specs.Places.{Place, is_place}
 use Rattle.niss_moves.specs.Effects.{moved, face_move}

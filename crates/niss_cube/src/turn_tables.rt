@@ -15,6 +15,7 @@ ghost use Rattle.niss_cube.specs.StandardCoordinates.{number_of, count_of, after
 use crate::cube::Cube;
 use crate::cube::numbered::{cube_with_flip, cube_with_slice, cube_with_twist};
 use niss_moves::axis::Axis;
+use niss_moves::rotation::Rotation;
 use niss_moves::turn::{Face, Power, Turn};
 use std::alloc::Global;
 
@@ -124,42 +125,40 @@ fn power_number(power: Power) -> usize
     }
 }
 
-// The face to which the renaming for a flip brings a face.
+// The face of the renamed cube from which the flip on an axis is read: that before `x`, before `y'`, itself.
 fn renamed_face_for_flip(axis: Axis, face: Face) -> Face
     ensures { result ≡ face_for_flip axis face }
 {
-    match (axis, face) {
-        (Axis::Fb, _) => face,
-        (Axis::Ud, Face::U) => Face::F,
-        (Axis::Ud, Face::F) => Face::D,
-        (Axis::Ud, Face::D) => Face::B,
-        (Axis::Ud, Face::B) => Face::U,
-        (Axis::Ud, _) => face,
-        (Axis::Rl, Face::F) => Face::L,
-        (Axis::Rl, Face::L) => Face::B,
-        (Axis::Rl, Face::B) => Face::R,
-        (Axis::Rl, Face::R) => Face::F,
-        (Axis::Rl, _) => face,
-    }
+    let rotation = match axis {
+        Axis::Ud => Rotation {
+            top: Face::F,
+            vertical: None,
+        },
+        Axis::Rl => Rotation {
+            top: Face::U,
+            vertical: Some(Power::Counter),
+        },
+        Axis::Fb => Rotation::IDENTITY,
+    };
+    rotation.face_before(face)
 }
 
-// The face to which the renaming for a twist or a slice brings a face.
+// The face of the renamed cube from which twist and slice on an axis are read: itself, that before `z`, before `x'`.
 fn renamed_face_for_twist(axis: Axis, face: Face) -> Face
     ensures { result ≡ face_for_twist axis face }
 {
-    match (axis, face) {
-        (Axis::Ud, _) => face,
-        (Axis::Rl, Face::U) => Face::L,
-        (Axis::Rl, Face::L) => Face::D,
-        (Axis::Rl, Face::D) => Face::R,
-        (Axis::Rl, Face::R) => Face::U,
-        (Axis::Rl, _) => face,
-        (Axis::Fb, Face::F) => Face::U,
-        (Axis::Fb, Face::U) => Face::B,
-        (Axis::Fb, Face::B) => Face::D,
-        (Axis::Fb, Face::D) => Face::F,
-        (Axis::Fb, _) => face,
-    }
+    let rotation = match axis {
+        Axis::Ud => Rotation::IDENTITY,
+        Axis::Rl => Rotation {
+            top: Face::L,
+            vertical: None,
+        },
+        Axis::Fb => Rotation {
+            top: Face::B,
+            vertical: None,
+        },
+    };
+    rotation.face_before(face)
 }
 
 // The entry of a number at a turn.

@@ -1,5 +1,4 @@
 use Rattle.std.proofs.Common.{◌≤◌, ◌+◌, reverse}
-use Rattle.niss_cube.specs.OccupiedPlaces.{occupied_of_number}
 use Rattle.niss_cube.proofs.PlacedEdges.{Placed}
 use Rattle.niss_cube.proofs.digits.edges_with_slice.Given as goal
 

@@ -1,4 +1,3 @@
-use Rattle.std.proofs.Common.{length, ◌-◌}
 use Rattle.niss_cube.proofs.WrittenOrientations.{Written}
 use Rattle.niss_cube.proofs.digits.write_orientations.Given as goal
 
