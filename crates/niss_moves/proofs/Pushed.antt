@@ -18,9 +18,10 @@ use Rattle.niss_moves.specs.declared.token.Token.TheVariants as token
 use Rattle.niss_moves.specs.declared.rotation.Rotation.{Rotation}
 use Rattle.niss_moves.proofs.Finite.{every_face, every_power, at_face, same_place_is}
 use Rattle.niss_moves.proofs.Expansions.{effect_of_expanded}
-use Rattle.niss_moves.proofs.Rotations.{turn, rotation, every_turn, at_turn, IsNext, turn_after, effect_of_turns-append, effect-append}
+use Rattle.niss_moves.proofs.Rotations.{turn, rotation, every_turn, at_turn, IsNext, turn_after, effect_of_turns-append}
+use Rattle.niss_moves.proofs.Inverses.{effect-append}
 
-abbrev pub before : Rotation → Turn → Turn
+abbrev before : Rotation → Turn → Turn
 before r = renamed_turn (face_before r)
 
 -- After the rotation, these basic moves add these turns and leave that rotation.
@@ -38,7 +39,7 @@ pushes_turn r f p moves old mid new n e h =
       effect = λ q. h.effect q ∙ ap (λ s. effect (map token_of_basic moves) (effect (spelling r) (effect_of_turns s q))) e ∙ ap (λ x. effect (map token_of_basic moves) (effect (spelling r) x)) (effect_of_turns-append old (before r (turn f p) ∷ []) q) ∙ ap (effect (map token_of_basic moves)) (sym (turn_after r (turn f p) (effect_of_turns old q)));
     }
 
-pub map_before : (r : Rotation) (a : Axis) (p : Power) (m : Rotation) → IsNext r a p m → (s : List Turn) → map (before m) s ≡ map (before r) (map (renamed_turn (face_before_power a p)) s)
+map_before : (r : Rotation) (a : Axis) (p : Power) (m : Rotation) → IsNext r a p m → (s : List Turn) → map (before m) s ≡ map (before r) (map (renamed_turn (face_before_power a p)) s)
 map_before r a p m h [] = refl
 map_before r a p m h (t ∷ s) = λ i. turn (h.faces t.face i) t.power ∷ map_before r a p m h s i
 

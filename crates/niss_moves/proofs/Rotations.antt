@@ -6,6 +6,7 @@ use Rattle.niss_moves.specs.Rotations.{face_before, face_before_power, face_befo
 use Rattle.niss_moves.specs.Turn.{same_face}
 use Rattle.niss_moves.specs.Canonical.{is_beside}
 use Rattle.niss_moves.proofs.Finite.{both_left, both_right, every_coord, every_vector, at_vector, same_vector_is, every_place, at_place, same_place_is, every_face, at_face, every_power, at_power, every_axis, at_axis, every_optional_power, at_optional_power, implies, by_implies}
+use Rattle.niss_moves.proofs.Inverses.{effect-append}
 use Rattle.niss_moves.specs.declared.turn.Face.{Face}
 use Rattle.niss_moves.specs.declared.turn.Face.TheVariants.{U, D, R, L, F, B}
 use Rattle.niss_moves.specs.declared.turn.Power.{Power}
@@ -13,7 +14,6 @@ use Rattle.niss_moves.specs.declared.turn.Power.TheVariants.{Quarter, Half, Coun
 use Rattle.niss_moves.specs.declared.turn.Turn.{Turn}
 use Rattle.niss_moves.specs.declared.axis.Axis.{Axis}
 use Rattle.niss_moves.specs.declared.axis.Axis.TheVariants.{Ud, Rl, Fb}
-use Rattle.niss_moves.specs.declared.token.Token.{Token}
 use Rattle.niss_moves.specs.declared.token.Token.TheVariants as token
 use Rattle.niss_moves.specs.declared.rotation.Rotation.{Rotation}
 
@@ -181,10 +181,6 @@ turn_after_top R t q = renames_power Fb Counter t q
 turn_after_vertical : (o : Option Power) (t : Turn) (q : Place) → turned t (effect (about_vertical o) q) ≡ effect (about_vertical o) (turned (renamed_turn (face_before_vertical o) t) q)
 turn_after_vertical None t q = refl
 turn_after_vertical (Some p) t q = renames_power Ud p t q
-
-pub effect-append : (s t : List Token) (q : Place) → effect (s ++ t) q ≡ effect t (effect s q)
-effect-append [] t q = refl
-effect-append (x ∷ s) t q = effect-append s t (moved_by x q)
 
 pub turn_after : (r : Rotation) (t : Turn) (q : Place) → turned t (effect (spelling r) q) ≡ effect (spelling r) (turned (renamed_turn (face_before r) t) q)
 turn_after r t q =

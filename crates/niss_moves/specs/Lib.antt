@@ -8,4 +8,12 @@ pub mod Faces
 pub mod Canonical
 pub mod Cleaning
 pub mod RewritingLaws
-pub mod Centres
+pub mod Notation
+pub mod Line
+pub mod Faults
+pub mod Machine
+pub mod Reader
+pub mod Text
+pub mod ReadingLaws
+pub mod EffectLaws
+pub mod CleanText

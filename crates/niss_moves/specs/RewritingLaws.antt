@@ -2,10 +2,10 @@
 use Rattle.std.specs.Prelude.{◌≡◌, ℕ, ◌+◌, ◌<◌, ◌⊎◌, Bool, ◌&&◌, List, [], ◌∷◌, map, length, count_by, All, Contains, ◌↔◌}
 use Rattle.niss_moves.specs.Places.{Place}
 use Rattle.niss_moves.specs.Facelets.{centre}
-use Rattle.niss_moves.specs.Effects.{effect, moved_by, turned}
+use Rattle.niss_moves.specs.Effects.{effect, effect_of_turns, moved_by, turned}
 use Rattle.niss_moves.specs.Turn.{opposite, same_face, goes_first}
 use Rattle.niss_moves.specs.Rotations.{spelling, face_before, face_before_power, renamed_turn}
-use Rattle.niss_moves.specs.Faces.{expanded, token_of_basic}
+use Rattle.niss_moves.specs.Faces.{expanded, token_of_basic, faces}
 use Rattle.niss_moves.specs.Canonical.{IsCanonical, all_canonical}
 use Rattle.niss_moves.specs.Cleaning.{IsRewriting, Cleans}
 use Rattle.niss_moves.specs.declared.axis.Axis.{Axis}
@@ -37,6 +37,18 @@ abbrev pub RenamesByRotation : Type 0
 RenamesByRotation =
     (r : Rotation) (t : Turn) (q : Place) →
     turned t (effect (spelling r) q) ≡ effect (spelling r) (turned (renamed_turn (face_before r) t) q)
+
+-- After each sequence some rotation brings the centres home.
+abbrev pub CentresComeHome : Type 0
+CentresComeHome =
+    (s : List Token) → (home : Rotation) × ((f : Face) → effect (spelling home) (effect s (centre f)) ≡ centre f)
+
+-- With the centres brought home, a sequence has the effect of its face turns.
+abbrev pub FacesAreHome : Type 0
+FacesAreHome =
+    (s : List Token) (home : Rotation) →
+    ((f : Face) → effect (spelling home) (effect s (centre f)) ≡ centre f) →
+    (q : Place) → effect (spelling home) (effect s q) ≡ effect_of_turns (faces s) q
 
 -- The members of `all_canonical turns k` are the canonical sequences of length k of these turns.
 abbrev pub CanonicalMembers : Type 0

@@ -1,5 +1,5 @@
 //! Laws of rotations, canonical sequences and cleaning: each is the contract of a function that does nothing.
-ghost use Rattle.niss_moves.specs.RewritingLaws.{OneSpelling, ExpandsAlike, RenamesAboutAxis, RenamesByRotation, CanonicalMembers, CleaningEnds, OneCleanList, CanonicalStays, RewritingLowers};
+ghost use Rattle.niss_moves.specs.RewritingLaws.{OneSpelling, ExpandsAlike, RenamesAboutAxis, RenamesByRotation, CentresComeHome, FacesAreHome, CanonicalMembers, CleaningEnds, OneCleanList, CanonicalStays, RewritingLowers};
 
 /// Two rotations that move the six centres alike are one. So each of the 24 has one spelling.
 pub fn one_spelling()
@@ -15,6 +15,13 @@ pub fn expands_alike()
 pub fn rotations_rename()
     ensures about_axis { RenamesAboutAxis }
     ensures by_rotation { RenamesByRotation }
+{}
+
+/// A sequence and then the rotation that brings the centres home has the effect of its face turns, and there is such a
+/// rotation.
+pub fn faces_are_home()
+    ensures rotation { CentresComeHome }
+    ensures effect { FacesAreHome }
 {}
 
 /// The list of all canonical sequences of a length has exactly these sequences.
