@@ -13,7 +13,7 @@ use Rattle.niss_moves.specs.Facelets.{places}
 use Rattle.niss_cube.specs.Coordinates.{for_flip, for_twist, spun}
 use Rattle.niss_moves.specs.Effects.{turned}
 use Rattle.niss_cube.proofs.CubieLists.{CubieLists}
-use Rattle.niss_cube.specs.AfterTurn.{inverse_turn}
+use Rattle.niss_moves.specs.Turn.{inverse_turn}
 use Rattle.niss_cube.specs.RenamedTurns.{turn_for_flip, turn_for_twist}
 use Rattle.niss_cube.proofs.Each.{and_left, and_right, same_place-is, at_place}
 use Rattle.niss_cube.proofs.PlaceTables.{all_faces, at_face}

@@ -11,7 +11,8 @@ use Rattle.niss_cube.specs.Sets.{Kept}
 use Rattle.niss_cube.specs.Map.{map_of}
 use Rattle.niss_moves.specs.Effects.{turned}
 use Rattle.niss_cube.proofs.CubieLists.{CubieLists}
-use Rattle.niss_cube.specs.AfterTurn.{inverse_turn, TurnedIsCube, IsCoordinate}
+use Rattle.niss_moves.specs.Turn.{inverse_turn}
+use Rattle.niss_cube.specs.AfterTurn.{TurnedIsCube, IsCoordinate}
 use Rattle.niss_cube.proofs.Each.{same_place-is, at_place}
 use Rattle.niss_cube.proofs.AxisRenamings.{all_turns, at_turn, KeepsPlaces, IsRenaming}
 use Rattle.niss_cube.proofs.MapPlaces.{sticker_map-place}
@@ -38,7 +39,7 @@ turned-inverse_turn t q h =
 pub lists_keep_places : (c : CubieLists) → Valid c → KeepsPlaces (map_lists c)
 lists_keep_places c v = sticker_map-place c.corners c.twists c.edges c.flips v
 
--- cubies turned and turned inverse_turn have the map that they had
+-- cubies turned and turned back have the map that they had
 turned_back-map : (t : Turn) (c : CubieLists) → Valid c → SameMap (map_lists (turned_lists (inverse_turn t) (turned_lists t c))) (map_lists c)
 turned_back-map t c v = λ q p.
     turned-map (inverse_turn t) (turned_lists t c) (turned-valid t c v) q p

@@ -1,7 +1,8 @@
 -- A coordinate, and how its number follows the turns.
 use Rattle.std.specs.Prelude.{◌≡◌, ℕ, ◌<◌, Bool, ◌↔◌}
 use Rattle.niss_moves.specs.Places.{Place, SameMap}
-use Rattle.niss_moves.specs.Effects.{turned, inverse_power}
+use Rattle.niss_moves.specs.Effects.{turned}
+use Rattle.niss_moves.specs.Turn.{inverse_turn}
 use Rattle.niss_moves.specs.declared.axis.Axis.{Axis}
 use Rattle.niss_moves.specs.declared.turn.Turn.{Turn}
 use Rattle.niss_cube.specs.declared.cube.Cube.{Cube}
@@ -19,10 +20,6 @@ IsCube e = (c : Cube) × SameMap (map_of c) e
 -- A turned cube is a cube.
 abbrev pub TurnedIsCube : Type 0
 TurnedIsCube = (c : Cube) (t : Turn) → IsCube (λ q. turned t (map_of c q))
-
--- the turn that takes a turn back
-abbrev pub inverse_turn : Turn → Turn
-inverse_turn t = record t { power = inverse_power t.power }
 
 -- A coordinate: the number `of` the map of a cube, one of `count`. It is 0 where the set is kept, and the number after
 -- a turn follows from the number alone.

@@ -6,9 +6,7 @@ use crate::letters::{CORNER_LETTERS, EDGE_LETTERS, FACELET_POSITIONS, FaceletPos
 use crate::quarter::{turn_corners, turn_edges};
 use crate::renaming::{Renaming, rename_corners, rename_edges};
 use crate::rotated_text::{bring_to_top, turn_about_vertical};
-use niss_moves::axis::Axis;
-use niss_moves::rotation::Rotation;
-use niss_moves::turn::{Face, Power, Turn};
+use niss_moves::{Axis, Face, Power, Rotation, Turn};
 
 pub(crate) mod numbered;
 

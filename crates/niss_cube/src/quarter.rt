@@ -2,7 +2,7 @@
 ghost use Rattle.std.specs.Prelude.{◌≡◌, ◌<◌, ◌+◌, ◌%◌, length, EachIndex, slice_index};
 ghost use Rattle.niss_cube.specs.Quarters.{quarter_table};
 
-use niss_moves::turn::Face;
+use niss_moves::Face;
 
 /// A clockwise quarter turn of a face: for each place, from which place its cubie comes, and what is added to its twist or
 /// flip.

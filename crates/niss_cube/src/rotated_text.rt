@@ -8,8 +8,7 @@ ghost use Rattle.niss_moves.specs.declared.token.Token.TheVariants as token;
 ghost use Rattle.niss_cube.specs.RotatedText.{sources_of};
 ghost use Rattle.niss_moves.specs.declared.turn.Power.TheVariants.{Quarter};
 
-use niss_moves::axis::Axis;
-use niss_moves::turn::{Face, Power};
+use niss_moves::{Axis, Face, Power};
 
 /// By the rotation `y`: for each position of the facelet text, the position from which its letter comes.
 pub const Y_SOURCES: [u8; 54] = [

@@ -14,17 +14,16 @@ ghost use Rattle.niss_cube.specs.StandardCoordinates.{number_of, count_of, after
 
 use crate::cube::Cube;
 use crate::cube::numbered::{cube_with_flip, cube_with_slice, cube_with_twist};
-use niss_moves::axis::Axis;
-use niss_moves::rotation::Rotation;
-use niss_moves::turn::{Face, Power, Turn};
+use niss_moves::{Axis, Face, Power, Rotation, Turn};
 use std::alloc::Global;
 
 /// A number after each turn, by face and by power.
 type Row = [[u16; 3]; 6];
 
+/// A row that is still to be written.
 const NO_ROW: Row = [[0; 3]; 6];
 
-// A coordinate on its standard axis.
+/// A coordinate on its standard axis.
 #[derive(Clone, Copy)]
 enum Coordinate {
     Flip,
@@ -33,7 +32,7 @@ enum Coordinate {
 }
 
 impl Coordinate {
-    // The number of a cube.
+    /// The number of a cube.
     fn number(self, cube: &Cube) -> u16
         ensures { result ≡ number_of self (map_of cube.now) }
     {
@@ -44,7 +43,7 @@ impl Coordinate {
         }
     }
 
-    // A cube with a number.
+    /// A cube with a number.
     fn cube_with(self, number: u16) -> Cube
         requires { number < count_of self }
         ensures { number_of self (map_of result) ≡ number }
@@ -56,7 +55,7 @@ impl Coordinate {
         }
     }
 
-    // The numbers after a quarter, a half and a counter turn of a face.
+    /// The numbers after a quarter, a half and a counter turn of a face.
     fn numbers_after(self, cube: &Cube, face: Face) -> [u16; 3]
         ensures { (p : Power) → slice_index result (power_index p) ≡ number_of self (λ q. turned (record { face = face; power = p }) (map_of cube.now q)) }
     {
@@ -77,7 +76,7 @@ impl Coordinate {
         ]
     }
 
-    // The numbers after each turn.
+    /// The numbers after each turn.
     fn row(self, cube: &Cube) -> Row
         ensures { (t : Turn) → entry_at result t ≡ number_of self (λ q. turned t (map_of cube.now q)) }
     {
@@ -91,7 +90,7 @@ impl Coordinate {
         ]
     }
 
-    // Writes the row of each number.
+    /// Writes the row of each number.
     fn fill(self, rows: &mut [Row])
         requires { length rows.old ≡ count_of self }
         ensures { AreRows (after_of self) (count_of self) rows.new }
@@ -102,6 +101,7 @@ impl Coordinate {
     }
 }
 
+/// The index of a face in a row.
 fn face_number(face: Face) -> usize
     ensures { result ≡ face_index face }
 {
@@ -115,6 +115,7 @@ fn face_number(face: Face) -> usize
     }
 }
 
+/// The index of a power in the entries of a face.
 fn power_number(power: Power) -> usize
     ensures { result ≡ power_index power }
 {
@@ -125,7 +126,7 @@ fn power_number(power: Power) -> usize
     }
 }
 
-// The face of the renamed cube from which the flip on an axis is read: that before `x`, before `y'`, itself.
+/// The face of the renamed cube from which the flip on an axis is read: that before `x`, before `y'`, itself.
 fn renamed_face_for_flip(axis: Axis, face: Face) -> Face
     ensures { result ≡ face_for_flip axis face }
 {
@@ -143,7 +144,7 @@ fn renamed_face_for_flip(axis: Axis, face: Face) -> Face
     rotation.face_before(face)
 }
 
-// The face of the renamed cube from which twist and slice on an axis are read: itself, that before `z`, before `x'`.
+/// The face of the renamed cube from which twist and slice on an axis are read: itself, that before `z`, before `x'`.
 fn renamed_face_for_twist(axis: Axis, face: Face) -> Face
     ensures { result ≡ face_for_twist axis face }
 {
@@ -161,7 +162,7 @@ fn renamed_face_for_twist(axis: Axis, face: Face) -> Face
     rotation.face_before(face)
 }
 
-// The entry of a number at a turn.
+/// The entry of a number at a turn.
 fn entry(rows: &[Row], number: u16, face: Face, power: Power) -> u16
     requires { number < length rows.now }
     ensures { result ≡ entry_at (get_or rows.now number []) (record { face = face; power = power }) }
