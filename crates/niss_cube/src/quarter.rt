@@ -57,16 +57,16 @@ pub const BACK: QuarterTurn = QuarterTurn {
 };
 
 /// The table of a face.
-fn quarter_turn(face: Face) -> QuarterTurn
-    ensures { result ≡ quarter_table face }
+fn quarter_turn(face: Face) -> &'static QuarterTurn
+    ensures { result.now ≡ quarter_table face }
 {
     match face {
-        Face::U => UP,
-        Face::D => DOWN,
-        Face::R => RIGHT,
-        Face::L => LEFT,
-        Face::F => FRONT,
-        Face::B => BACK,
+        Face::U => &UP,
+        Face::D => &DOWN,
+        Face::R => &RIGHT,
+        Face::L => &LEFT,
+        Face::F => &FRONT,
+        Face::B => &BACK,
     }
 }
 
