@@ -1,4 +1,3 @@
-pub mod AfterRows
 pub mod AxisRenamings
 pub mod CodedLaws
 pub mod CoordinateLaws
@@ -24,11 +23,12 @@ pub mod QuarterTurned
 pub mod RenamedCubies
 pub mod RenamingTables
 pub mod RotatedPlaces
-pub mod Rows
 pub mod ShownCubies
 pub mod SliceCodes
 pub mod SliceSteps
 pub mod StickerPlaces
-pub mod TableSteps
 pub mod Sums
+pub mod TableSteps
+pub mod WorkedTurns
+pub mod WorkedValues
 pub mod WrittenOrientations

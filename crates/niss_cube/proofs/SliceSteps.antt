@@ -5,7 +5,7 @@ use Rattle.std.proofs.lemmas.Bool.{eqb-true, le-leb, leb-true, false_from_ne_tru
 use Rattle.std.proofs.Math.Seq.{drop-cons}
 use Rattle.std.proofs.lemmas.List.{length-drop}
 use Rattle.niss_cube.specs.Coordinates.{choose, rank}
-use Rattle.niss_cube.specs.declared.digits.TheConstants.{CHOICES}
+use Rattle.niss_cube.specs.declared.slice_places.TheConstants.{CHOICES}
 use Rattle.niss_cube.proofs.PlaceTables.{all_below, at_below}
 use Rattle.niss_cube.proofs.CoordinateValues.{slice_occupied, slice_occupied-length, slice_occupied-at}
 

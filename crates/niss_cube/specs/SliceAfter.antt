@@ -12,10 +12,10 @@ use Rattle.niss_cube.specs.RenamedTurns.{turn_for_twist}
 use Rattle.niss_cube.specs.Coordinates.{slice_of}
 
 -- edges 8 and on at the occupied places, the others at the free ones, each in order
-abbrev pub edges_at : List Bool → (free held : ℕ) → List ℕ
-edges_at [] free held = []
-edges_at (true ∷ os) free held = held ∷ edges_at os free (suc held)
-edges_at (false ∷ os) free held = free ∷ edges_at os (suc free) held
+abbrev pub edges_at : List Bool → (free of_slice : ℕ) → List ℕ
+edges_at [] free of_slice = []
+edges_at (true ∷ os) free of_slice = of_slice ∷ edges_at os free (suc of_slice)
+edges_at (false ∷ os) free of_slice = free ∷ edges_at os (suc free) of_slice
 
 -- edges whose places have the number i
 unfoldable pub edges_of_number : ℕ → List ℕ

@@ -1,11 +1,12 @@
 ghost use Rattle.std.specs.Prelude.{◌≡◌, ◌<◌};
 ghost use Rattle.niss_cube.specs.Cubies.{AreCubies};
 
-use crate::digits::{number_of, slice_number};
+use crate::digits::number_of;
 use crate::letters::{CORNER_LETTERS, EDGE_LETTERS, FACELET_POSITIONS, FaceletPosition};
 use crate::quarter::{turn_corners, turn_edges};
 use crate::renaming::{Renaming, rename_corners, rename_edges};
 use crate::rotated_text::{bring_to_top, turn_about_vertical};
+use crate::slice_places::slice_number;
 use niss_moves::{Axis, Face, Power, Rotation, Turn};
 
 pub(crate) mod numbered;

@@ -23,6 +23,7 @@ mod letters;
 mod quarter;
 mod renaming;
 mod rotated_text;
+mod slice_places;
 mod turn_tables;
 
 pub use cube::Cube;

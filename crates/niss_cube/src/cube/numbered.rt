@@ -5,7 +5,8 @@ ghost use Rattle.niss_cube.specs.Map.{map_of};
 ghost use Rattle.niss_cube.specs.Coordinates.{flip_of, twist_of, slice_of};
 
 use super::Cube;
-use crate::digits::{edges_with_slice, write_orientations};
+use crate::digits::write_orientations;
+use crate::slice_places::edges_with_slice;
 
 const CORNERS_HOME: [u8; 8] = [0, 1, 2, 3, 4, 5, 6, 7];
 

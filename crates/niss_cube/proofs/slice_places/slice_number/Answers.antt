@@ -1,8 +1,8 @@
 use Rattle.std.proofs.Common.{arith}
 use Rattle.niss_cube.proofs.CoordinateValues.{slice-at_most}
 use Rattle.niss_cube.proofs.SliceSteps.{counted_yes, counted_no, counted_none, kept_sum}
-use Rattle.niss_cube.proofs.digits.slice_number.Goals.{then-wanted-gt0+then-edges-place-ge8, then-wanted-gt0+else-edges-place-ge8, else-wanted-gt0}
-use Rattle.niss_cube.proofs.digits.slice_number.Goals as goal
+use Rattle.niss_cube.proofs.slice_places.slice_number.Goals.{then-wanted-gt0+then-edges-place-ge8, then-wanted-gt0+else-edges-place-ge8, else-wanted-gt0}
+use Rattle.niss_cube.proofs.slice_places.slice_number.Goals as goal
 
 pub overflow_add-n : goal.overflow_add-n
 overflow_add-n c =

@@ -1,7 +1,7 @@
 use Rattle.std.proofs.Common.{arith}
 use Rattle.niss_cube.proofs.OccupiedNumbers.{written-yes, written-no, written-none, written-at, written-end}
-use Rattle.niss_cube.proofs.digits.occupied_places.Goals.{then-wanted-gt0+then-rest-with, then-wanted-gt0+else-rest-with, else-wanted-gt0}
-use Rattle.niss_cube.proofs.digits.occupied_places.Goals as goal
+use Rattle.niss_cube.proofs.slice_places.occupied_places.Goals.{then-wanted-gt0+then-rest-with, then-wanted-gt0+else-rest-with, else-wanted-gt0}
+use Rattle.niss_cube.proofs.slice_places.occupied_places.Goals as goal
 
 pub loop-met-preserved : goal.loop-met-preserved
 loop-met-preserved c =
