@@ -1,4 +1,4 @@
-//! The coordinates after a turn, looked up.
+//! Tables of the coordinates after a turn.
 ghost use Rattle.std.specs.Prelude.{◌≡◌, ◌<◌, length, get_or, slice_index, []};
 ghost use Rattle.niss_moves.specs.Effects.{turned};
 ghost use Rattle.niss_moves.specs.declared.turn.Turn.{Turn};
@@ -17,7 +17,7 @@ use crate::cube::numbered::{cube_with_flip, cube_with_slice, cube_with_twist};
 use niss_moves::{Axis, Face, Power, Rotation, Turn};
 use std::alloc::Global;
 
-/// A number after each turn, by face and by power.
+/// The numbers after the 18 turns, by face (U, D, R, L, F, B) and by power (quarter, half, counter).
 type Row = [[u16; 3]; 6];
 
 /// A row that is still to be written.
@@ -126,7 +126,8 @@ fn power_number(power: Power) -> usize
     }
 }
 
-/// The face of the renamed cube from which the flip on an axis is read: that before `x`, before `y'`, itself.
+/// The face of the renamed cube from which the flip on an axis is read:
+// that before `x` (Ud), that before `y'` (Rl), itself (Fb).
 fn renamed_face_for_flip(axis: Axis, face: Face) -> Face
     ensures { result ≡ face_for_flip axis face }
 {
@@ -144,7 +145,8 @@ fn renamed_face_for_flip(axis: Axis, face: Face) -> Face
     rotation.face_before(face)
 }
 
-/// The face of the renamed cube from which twist and slice on an axis are read: itself, that before `z`, before `x'`.
+/// The face of the renamed cube from which the twist and the slice on an axis are read:
+// itself (Ud), that before `z` (Rl), that before `x'` (Fb).
 fn renamed_face_for_twist(axis: Axis, face: Face) -> Face
     ensures { result ≡ face_for_twist axis face }
 {
@@ -170,11 +172,12 @@ fn entry(rows: &[Row], number: u16, face: Face, power: Power) -> u16
     rows[number as usize][face_number(face)][power_number(power)]
 }
 
-/// Memory was refused.
+/// The allocator refused memory. Nothing is kept then.
 #[derive(Clone, Copy, Debug, PartialEq, Eq)]
 pub struct OutOfMemory;
 
-/// The coordinates after a turn: the number of a turned cube follows from the number before the turn.
+/// The coordinates after a turn. The number of a turned cube follows from its number before the turn alone, so each
+/// table has a row for each number, and one table serves the three axes of a coordinate.
 #[derive(Drop)]
 pub struct TurnTables {
     flips: Vec<Row>,
@@ -189,7 +192,8 @@ impl TurnTables {
     ghost use Rattle.niss_cube.specs.declared.cube.Cube.{Cube};
     ghost use Rattle.niss_cube.specs.Coordinates.{flip_of, twist_of, slice_of};
 
-    /// The tables: their memory is taken first, and none is kept where some is refused.
+    /// Builds the tables, of 170,280 bytes in all. The memory of all three is taken before any is filled, and
+    /// where some is refused none is kept.
     pub fn build(alloc: Global) -> Result<TurnTables, OutOfMemory> {
         let Ok(mut flips) = Vec::from_elem(alloc, NO_ROW, 2048) else {
             return Err(OutOfMemory);
@@ -210,7 +214,7 @@ impl TurnTables {
         })
     }
 
-    /// The flip number after a turn, of every cube that has this flip number before.
+    /// The flip number on an axis, below 2048, after a turn of any cube that has this flip number before it.
     pub fn next_flip(&self, axis: Axis, coordinate: u16, turn: Turn) -> u16
         requires { coordinate < 2048 }
         ensures value { result ≡ flip_after axis coordinate turn }
@@ -221,7 +225,7 @@ impl TurnTables {
         entry(&self.flips, coordinate, face, turn.power)
     }
 
-    /// The twist number after a turn, of every cube that has this twist number before.
+    /// The twist number on an axis, below 2187, after a turn of any cube that has this twist number before it.
     pub fn next_twist(&self, axis: Axis, coordinate: u16, turn: Turn) -> u16
         requires { coordinate < 2187 }
         ensures value { result ≡ twist_after axis coordinate turn }
@@ -232,7 +236,7 @@ impl TurnTables {
         entry(&self.twists, coordinate, face, turn.power)
     }
 
-    /// The slice number after a turn, of every cube that has this slice number before.
+    /// The slice number on an axis, below 495, after a turn of any cube that has this slice number before it.
     pub fn next_slice(&self, axis: Axis, coordinate: u16, turn: Turn) -> u16
         requires { coordinate < 495 }
         ensures value { result ≡ slice_after axis coordinate turn }
