@@ -127,7 +127,7 @@ fn power_number(power: Power) -> usize
 }
 
 /// The face of the renamed cube from which the flip on an axis is read:
-// that before `x` (Ud), that before `y'` (Rl), itself (Fb).
+/// that before `x` (Ud), that before `y'` (Rl), itself (Fb).
 fn renamed_face_for_flip(axis: Axis, face: Face) -> Face
     ensures { result ≡ face_for_flip axis face }
 {
@@ -146,7 +146,7 @@ fn renamed_face_for_flip(axis: Axis, face: Face) -> Face
 }
 
 /// The face of the renamed cube from which the twist and the slice on an axis are read:
-// itself (Ud), that before `z` (Rl), that before `x'` (Fb).
+/// itself (Ud), that before `z` (Rl), that before `x'` (Fb).
 fn renamed_face_for_twist(axis: Axis, face: Face) -> Face
     ensures { result ≡ face_for_twist axis face }
 {
