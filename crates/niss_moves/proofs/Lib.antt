@@ -24,3 +24,5 @@ pub mod Stays
 pub mod CleanWords
 pub mod Home
 pub mod RewritingRows
+pub mod MadeLists
+pub mod CanonicalOrder

@@ -1,5 +1,5 @@
 -- Laws of rotations, canonical sequences and cleaning, each proved as the contract of a function.
-use Rattle.std.specs.Prelude.{◌≡◌, ℕ, ◌+◌, ◌<◌, ◌⊎◌, Bool, ◌&&◌, List, [], ◌∷◌, map, length, count_by, All, Contains, ◌↔◌}
+use Rattle.std.specs.Prelude.{◌≡◌, ℕ, ◌+◌, ◌<◌, ◌⊎◌, Bool, ◌&&◌, List, [], ◌∷◌, ◌++◌, map, length, count_by, All, AllPairs, Contains, IsTrue, ◌↔◌}
 use Rattle.niss_moves.specs.Places.{Place}
 use Rattle.niss_moves.specs.Facelets.{centre}
 use Rattle.niss_moves.specs.Effects.{effect, effect_of_turns, moved_by, turned}
@@ -55,6 +55,24 @@ abbrev pub CanonicalMembers : Type 0
 CanonicalMembers =
     (turns : List Turn) (k : ℕ) (s : List Turn) →
     Contains (all_canonical turns k) s ↔ ((length s ≡ k) × IsCanonical s × All (Contains turns) s)
+
+-- Where two sequences first differ, the turn of the first one comes before the turn of the second.
+pub record DiffersFirst (comes_before : Turn → Turn → Bool) (first second : List Turn) : Type 0 where
+  pub front : List Turn
+  pub left : Turn
+  pub right : Turn
+  pub after_left : List Turn
+  pub after_right : List Turn
+  pub first_is : first ≡ front ++ left ∷ after_left
+  pub second_is : second ≡ front ++ right ∷ after_right
+  pub order : IsTrue (comes_before left right)
+
+-- If the turns are in some order, `all_canonical turns k` is in that order at the first turn where two members differ.
+-- So with turns that differ, each sequence is there once.
+abbrev pub CanonicalInOrder : Type 0
+CanonicalInOrder =
+    (comes_before : Turn → Turn → Bool) (turns : List Turn) (k : ℕ) →
+    AllPairs (λ t u. IsTrue (comes_before t u)) turns → AllPairs (DiffersFirst comes_before) (all_canonical turns k)
 
 -- Leftmost rewriting ends, for each list.
 abbrev pub CleaningEnds : Type 0

@@ -83,8 +83,9 @@ fn push_clean(turns: &mut Faces, turn: Turn)
     }
 }
 
-/// The face turns of a sequence made canonical, and the rotation that is left at its end. Of the face turns, the
-/// leftmost two neighbours that break the order are summed or exchanged as long as there are any.
+/// The face turns of a sequence made canonical, and the rotation that is left at its end. As long as two neighbours break
+/// the order, the leftmost two are summed, where they are of one face, or exchanged: `R L R` is `R2 L`, `U D U'` is `D`.
+/// That the list is the shortest of its effect isn't said.
 pub fn cleanup(tokens: &[Token]) -> (Faces, Rotation)
     requires { length tokens.now ≤ 256 }
     ensures len { array_vec_len result.0 ≤ 2 * length tokens.now }

@@ -14,7 +14,7 @@ use crate::token::{Slice, Token};
 use crate::turn::{Face, Power, Turn};
 use arrayvec::ArrayVec;
 
-/// Face turns: those of a line of 256 moves are at most 512.
+/// Face turns. A line has at most 256 moves, and a move at most two face turns.
 pub type Faces = ArrayVec<Turn, 512>;
 
 /// The rotation of the whole cube that turns as a face does.
@@ -77,8 +77,8 @@ fn push_move(turns: &mut Faces, rotation: Rotation, token: Token) -> Rotation
     }
 }
 
-/// The face turns of a sequence, with wide turns and slices as face turns and the rotations pushed to the end, and the
-/// rotation that is left there. The effect of the sequence is that of the face turns and then the rotation.
+/// The face turns of a sequence, and the rotation that is left at its end: `Rw U` is `L F` and then `x`. Wide turns and
+/// slices are written as face turns and rotations, and a rotation renames the face turns behind it.
 pub fn to_faces(tokens: &[Token]) -> (Faces, Rotation)
     requires { length tokens.now ≤ 256 }
     ensures len { array_vec_len result.0 ≤ 2 * length tokens.now }

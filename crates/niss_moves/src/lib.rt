@@ -1,4 +1,18 @@
 //! Turns, notation and move sequences of the 3x3x3 cube.
+//!
+//! A line of moves is read as solvers write it: face turns, wide turns, slice turns and rotations by article 12 of the WCA
+//! Regulations (slices by common usage), with or without blanks between them. Moves in brackets are made on the inverse
+//! scramble. Bytes that are no line have one fault, told with its column.
+//!
+//!     let line = read(b"R (U F') D")?;
+//!     let mut text = LineText::new();
+//!     put_tokens(&unniss(&line), &mut text);      // R D F U'
+//!
+//! A line that comes in pieces goes into a `LineReader`, byte by byte. No call takes memory.
+//!
+//! Contracts speak of moves by what they do to the 54 sticker places (`specs/Places`, `specs/Effects`), and of lines by
+//! their grammar and their faults (`specs/Notation`, `specs/Line`, `specs/Faults`). What follows from these
+//! definitions alone stands in `reading_laws` and `effect_laws`, as functions that do nothing.
 #![tactic(auto)]
 
 pub mod axis;

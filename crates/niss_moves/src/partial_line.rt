@@ -42,9 +42,9 @@ pub struct PartialLine {
 }
 
 impl PartialLine {
-    ghost use Rattle.std.specs.Prelude.{◌≡◌, ℕ, ◌+◌, ◌<◌, ◌≤◌};
+    ghost use Rattle.std.specs.Prelude.{◌≡◌, ℕ, ◌+◌, ◌<◌, ◌≤◌, Ok};
     ghost use Rattle.arrayvec.specs.ArrayVec.{array_vec_len};
-    ghost use Rattle.niss_moves.specs.Machine.{start, added, settled, opened, closed, begun, widened, doubled, primed, cut, step_by, step, ended_at, state_of, IsStep, HasRoom};
+    ghost use Rattle.niss_moves.specs.Machine.{start, added, settled, opened, closed, begun, widened, doubled, primed, cut, step_by, step, ended, state_of, IsStep, HasRoom};
 
     /// The line before its first byte.
     pub fn new() -> PartialLine
@@ -89,7 +89,7 @@ impl PartialLine {
     /// The line that ends behind `fed` bytes.
     pub fn end(self, fed: u32) -> Result<Niss, ReadFault>
         requires { HasRoom (state_of self 0) }
-        ensures { result ≡ ended_at self.last (state_of self fed) }
+        ensures { result ≡ ended (Ok (state_of self fed)) }
     {
         let mut line = self;
         match line.last {

@@ -1,5 +1,5 @@
 //! Laws of rotations, canonical sequences and cleaning: each is the contract of a function that does nothing.
-ghost use Rattle.niss_moves.specs.RewritingLaws.{OneSpelling, ExpandsAlike, RenamesAboutAxis, RenamesByRotation, CentresComeHome, FacesAreHome, CanonicalMembers, CleaningEnds, OneCleanList, CanonicalStays, RewritingLowers};
+ghost use Rattle.niss_moves.specs.RewritingLaws.{OneSpelling, ExpandsAlike, RenamesAboutAxis, RenamesByRotation, CentresComeHome, FacesAreHome, CanonicalMembers, CanonicalInOrder, CleaningEnds, OneCleanList, CanonicalStays, RewritingLowers};
 
 /// Two rotations that move the six centres alike are one. So each of the 24 has one spelling.
 pub fn one_spelling()
@@ -24,9 +24,10 @@ pub fn faces_are_home()
     ensures effect { FacesAreHome }
 {}
 
-/// The list of all canonical sequences of a length has exactly these sequences.
+/// The list of all canonical sequences of a length has exactly these sequences, in the order of the turns.
 pub fn canonical_members()
-    ensures { CanonicalMembers }
+    ensures members { CanonicalMembers }
+    ensures order { CanonicalInOrder }
 {}
 
 /// Leftmost rewriting ends for each list, since each rewriting shortens it or leaves fewer pairs in the wrong order.
