@@ -108,6 +108,49 @@ fn cleanup(rt: HostRuntime) -> Result<(), Fail> {
     Ok(())
 }
 
+// the superflip, by a sequence of 20 turns
+const SUPERFLIP: &str = "U R2 F B R B2 R U2 L B2 R U' D' R2 F R' L B2 U2 F2";
+
+#[test]
+fn print(rt: HostRuntime) -> Result<(), Fail> {
+    let runs = [
+        Run::good(
+            &["print", "R"],
+            b"",
+            "UUFUUFUUFRRRRRRRRRFFDFFDFFDDDBDDBDDBLLLLLLLLLUBBUBBUBB\n",
+        ),
+        Run::good(
+            &["print", "x"],
+            b"",
+            "FFFFFFFFFRRRRRRRRRDDDDDDDDDBBBBBBBBBLLLLLLLLLUUUUUUUUU\n",
+        ),
+        Run::good(
+            &["print", "M"],
+            b"",
+            "UBUUBUUBURRRRRRRRRFUFFUFFUFDFDDFDDFDLLLLLLLLLBDBBDBBDB\n",
+        ),
+        Run::good(
+            &["print", ""],
+            b"",
+            "UUUUUUUUURRRRRRRRRFFFFFFFFFDDDDDDDDDLLLLLLLLLBBBBBBBBB\n",
+        ),
+        Run::good(
+            &["print", "M2 E2 S2"],
+            b"",
+            "UDUDUDUDURLRLRLRLRFBFBFBFBFDUDUDUDUDLRLRLRLRLBFBFBFBFB\n",
+        ),
+        Run::good(
+            &["print", SUPERFLIP],
+            b"",
+            "UBULURUFURURFRBRDRFUFLFRFDFDFDLDRDBDLULBLFLDLBUBRBLBDB\n",
+        ),
+    ];
+    for case in runs {
+        case.check(&rt, rt.alloc())?;
+    }
+    Ok(())
+}
+
 /// This many turns `U`.
 fn turns(alloc: Global, count: u32) -> Result<String, AllocError> {
     let mut moves = String::new(alloc);

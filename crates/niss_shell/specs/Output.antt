@@ -3,14 +3,15 @@ use Rattle.std.specs.Prelude.{ℕ, nat_lt, Bool, true, false, if◌then◌else�
 use Rattle.niss_shell.specs.Device.{SourceState}
 use Rattle.niss_shell.specs.Lines.{ended_lines, last_part, written_text, first_fault}
 use Rattle.niss_moves.specs.CleanedLine.{with_clean_line}
-use Rattle.niss_moves.specs.Effects.{inverse}
+use Rattle.niss_moves.specs.Effects.{effect, inverse}
+use Rattle.niss_moves.specs.Letters.{letters}
 use Rattle.niss_moves.specs.Line.{Moves}
 use Rattle.niss_moves.specs.Reader.{read_line}
 use Rattle.niss_moves.specs.Text.{word, with_words}
 use Rattle.niss_shell.specs.Words.{limit, Request, OnLines, request_of, joined}
 use Rattle.niss_shell.specs.declared.command.UsageFault.{UsageFault}
 use Rattle.niss_shell.specs.declared.command.LineCommand.{LineCommand}
-use Rattle.niss_shell.specs.declared.command.LineCommand.TheVariants.{Invert, Unniss, Cleanup}
+use Rattle.niss_shell.specs.declared.command.LineCommand.TheVariants.{Invert, Unniss, Cleanup, Print}
 use Rattle.niss_moves.specs.declared.token.Token.{Token}
 use Rattle.niss_moves.specs.declared.fault.ReadFault.{ReadFault}
 use Rattle.niss_moves.specs.declared.fault.ReadFault.TheVariants.{NotAMove, Nested, Unopened, Unclosed, TooLong}
@@ -66,6 +67,7 @@ abbrev pub line_text : LineCommand → Moves → List ℕ
 line_text Invert line = tokens_text (inverse (moves_of line))
 line_text Unniss line = tokens_text (moves_of line)
 line_text Cleanup line = with_clean_line [] line
+line_text Print line = letters (effect (moves_of line))
 
 -- what a command answers to a line that was read so
 abbrev pub answer_to : LineCommand → Result Moves ReadFault → Result (List ℕ) ReadFault

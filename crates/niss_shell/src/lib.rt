@@ -13,12 +13,12 @@
 
 mod answer;
 mod command;
-mod decimal;
 mod device;
 mod lines;
 mod shell;
 mod stop;
 mod streams;
+mod text;
 mod writing;
 
 pub use command::{Command, UsageFault, parse_words};

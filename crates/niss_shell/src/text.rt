@@ -26,3 +26,14 @@ pub fn put_number(number: u32, text: &mut LineText)
 {
     put_digits(number as u128, text);
 }
+
+/// Appends bytes.
+pub fn put_text(part: &[u8], text: &mut LineText)
+    requires { length text.old.items + length part.now ≤ 2048 }
+    ensures words { text.new.items ≡ text.old.items ++ part.now }
+    ensures room { length text.new.items ≡ length text.old.items + length part.now }
+{
+    for byte in part {
+        text.push(*byte);
+    }
+}

@@ -1,7 +1,7 @@
 use Rattle.std.proofs.Common.{◌/◌, append_assoc, arith}
 use Rattle.std.specs.Prelude.{decimal}
 use Rattle.niss_shell.proofs.DigitLemmas.{decimal_last}
-use Rattle.niss_shell.proofs.decimal.+put_digits.Goals as goal
+use Rattle.niss_shell.proofs.text.+put_digits.Goals as goal
 
 pub returns-clause-words : goal.returns-clause-words
 returns-clause-words t c =
