@@ -1,12 +1,11 @@
 -- The facelet text of maps that are the same on the sticker places.
-use Rattle.std.proofs.Common.{◌≡◌, ℕ, Bool, true, false, ◌&&◌, if◌then◌else◌, List, [], ◌∷◌, map, refl, sym, ap, ◌∙◌, subst}
+use Rattle.std.proofs.Common.{◌≡◌, Bool, true, false, ◌&&◌, if◌then◌else◌, List, [], ◌∷◌, map, refl, sym, ap, ◌∙◌}
 use Rattle.std.specs.List.{list_all}
-use Rattle.niss_moves.specs.Places.{Place, same_place, is_place, IsPlace, SameMap}
+use Rattle.niss_moves.specs.Places.{Place, same_place, is_place, SameMap}
 use Rattle.niss_moves.specs.Facelets.{places}
-use Rattle.niss_moves.specs.Effects.{effect, effect_of_turns}
+use Rattle.niss_moves.specs.Effects.{effect_of_turns}
 use Rattle.niss_moves.specs.Letters.{letter_at, letter_of, letters}
 use Rattle.niss_moves.specs.declared.turn.Turn.{Turn}
-use Rattle.niss_moves.specs.declared.token.Token.{Token}
 
 first_part : (a b : Bool) → (a && b) ≡ true → a ≡ true
 first_part true b e = refl

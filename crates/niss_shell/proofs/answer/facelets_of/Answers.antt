@@ -13,6 +13,6 @@ returns c =
     ∙ turned_and_rotated (map_of c.solved-cube.result) (map_of c.apply.new.self) (effect (spelling faces.result.1)) (effect (moves_of c.args.line.now)) c.as_slice-2.result.now
     c.solved-cube.ensures c.apply.ensures
     (λ q.
-        ap (λ t. effect t q) (sym (c.as_slice.ensures.value ∙ c.unniss.ensures.moves))
-        ∙ faces.ensures.effect q
-        ∙ ap (λ t. effect (spelling faces.result.1) (effect_of_turns t q)) (sym c.as_slice-2.ensures.value))
+    ap (λ t. effect t q) (sym (c.as_slice.ensures.value ∙ c.unniss.ensures.moves))
+    ∙ faces.ensures.effect q
+    ∙ ap (λ t. effect (spelling faces.result.1) (effect_of_turns t q)) (sym c.as_slice-2.ensures.value))
