@@ -6,7 +6,7 @@ use Rattle.std.proofs.lemmas.List.{take_all}
 use Rattle.std.proofs.Math.Seq.{take-append-add}
 use Rattle.niss_shell.specs.Device.{SourceState, TargetState, has_fault, Gave, Appended, WriteRefused}
 use Rattle.niss_shell.specs.Lines.{ended_lines, last_part, written_text, first_fault}
-use Rattle.niss_shell.specs.Reading.{Reading, IsFed}
+use Rattle.niss_moves.specs.Reader.{Reader, IsFed}
 use Rattle.niss_shell.specs.Words.{limit}
 use Rattle.niss_shell.specs.Output.{Ending, More, End, Fail, ending, ending_of, answer, answer_lines, line_with_bytes, last_line, complete_lines, stop_of}
 use Rattle.niss_shell.specs.Engine.{stop_unless, AllAnswered, StopsWithin, TakesBytes, TakesEnd, AnswersLine, IsAt, AnswersSource, Writes}
@@ -15,7 +15,6 @@ use Rattle.niss_shell.specs.declared.stop.Stop.TheVariants.{Done, Line, Usage, I
 use Rattle.niss_shell.specs.declared.command.LineCommand.{LineCommand}
 use Rattle.niss_shell.specs.declared.lines.Progress.{Progress}
 use Rattle.niss_shell.proofs.DeviceLemmas.{appended_nothing, gave_nothing, gave_more}
-use Rattle.niss_shell.proofs.ReadingLemmas.{fed_count}
 use Rattle.niss_shell.proofs.LinesLemmas.{first_fault-stays, written_text-stays}
 use Rattle.niss_shell.proofs.EngineLemmas.{answered_line, stopped_line, answered_more, stopped_more, stopped_front, takes_none, takes_more}
 
@@ -29,11 +28,11 @@ one_line : (front : List ℕ) → length front ≢ 0 → line_with_bytes front �
 one_line [] e = absurd (e refl)
 one_line (b ∷ bs) e = refl
 
-pub takes_no_line : (command : LineCommand) (front : List ℕ) (n : ℕ) (r : Reading) (out : TargetState)
+pub takes_no_line : (command : LineCommand) (front : List ℕ) (n : ℕ) (r : Reader) (out : TargetState)
     → IsFed r front → r.fed ≡ 0 → has_fault out ≡ false → AllAnswered (answer command) n (line_with_bytes front) out out
 unfolding first_fault written_text
 takes_no_line command front n r out at none works =
-    subst (λ ls. AllAnswered (answer command) n ls out out) (sym (no_line front (sym (fed_count r front at) ∙ none)))
+    subst (λ ls. AllAnswered (answer command) n ls out out) (sym (no_line front (sym (at.fed) ∙ none)))
     (record { faultless = refl; works = works; written = appended_nothing out })
 
 last_taken : (command : LineCommand) (front : List ℕ) (n : ℕ) (result : Result (Unit {0}) Stop) (old new : TargetState)
@@ -46,11 +45,11 @@ last_taken command front n (Err stop) old new answers e =
     subst (λ ls. StopsWithin (answer command) n ls stop old new) (sym e)
     (stopped_line (answer command) n front (answer command front) stop old new refl answers)
 
-pub takes_last_line : (command : LineCommand) (front : List ℕ) (n : ℕ) (r : Reading) (result : Result (Unit {0}) Stop) (old new : TargetState)
+pub takes_last_line : (command : LineCommand) (front : List ℕ) (n : ℕ) (r : Reader) (result : Result (Unit {0}) Stop) (old new : TargetState)
     → IsFed r front → r.fed ≢ 0 → AnswersLine (answer command front) n result old new
     → TakesEnd command front n result old new
 takes_last_line command front n r result old new at some answers =
-    last_taken command front n result old new answers (one_line front (λ z. some (fed_count r front at ∙ z)))
+    last_taken command front n result old new answers (one_line front (λ z. some (at.fed ∙ z)))
 
 -- a run that was stopped within the lines that count
 

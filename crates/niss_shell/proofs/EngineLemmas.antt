@@ -3,11 +3,11 @@ use Rattle.std.proofs.Common.{◌≡◌, ℕ, ◌+◌, ◌<◌, ◌==◌, take, 
 use Rattle.std.proofs.lemmas.List.{take_more, take-append-drop}
 use Rattle.niss_shell.specs.Device.{TargetState, has_fault, Appended, IsCut, WriteRefused}
 use Rattle.niss_shell.specs.Lines.{ended_lines, last_part, written_text, text_before, first_fault, fault_before}
-use Rattle.niss_shell.specs.Reading.{IsFed}
+use Rattle.niss_moves.specs.Reader.{IsFed}
 use Rattle.niss_shell.specs.Output.{answer}
 use Rattle.niss_shell.specs.Engine.{AllAnswered, StopsWithin, TakesBytes, AnswersLine}
 use Rattle.niss_shell.specs.declared.command.LineCommand.{LineCommand}
-use Rattle.niss_shell.specs.declared.notation.ReadFault.{ReadFault}
+use Rattle.niss_moves.specs.declared.fault.ReadFault.{ReadFault}
 use Rattle.niss_shell.specs.declared.stop.Stop.{Stop}
 use Rattle.niss_shell.specs.declared.stop.Stop.TheVariants.{Done, Line, Usage, InputTooLong, CannotRead, CannotWrite, OutOfMemory}
 use Rattle.niss_shell.specs.declared.lines.Progress.{Progress}

@@ -1,9 +1,7 @@
 pub mod DeviceLemmas
 pub mod DigitLemmas
 pub mod LinesLemmas
-pub mod ReadingLemmas
-pub mod GrammarLemmas
-pub mod FaultLemmas
+pub mod FaceletLemmas
 pub mod EngineLemmas
 pub mod AnswerLemmas
 pub mod RunLemmas

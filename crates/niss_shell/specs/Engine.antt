@@ -2,12 +2,12 @@
 use Rattle.std.specs.Prelude.{◌≡◌, ℕ, ◌+◌, ◌||◌, Bool, true, false, Some, None, Result, Ok, Err, List, [], length}
 use Rattle.niss_shell.specs.Device.{SourceState, TargetState, has_fault, Gave, Appended, StaysSilent, WriteRefused}
 use Rattle.niss_shell.specs.Lines.{ended_lines, last_part, written_text, first_fault}
-use Rattle.niss_shell.specs.Reading.{IsFed}
+use Rattle.niss_moves.specs.Reader.{IsFed}
 use Rattle.niss_shell.specs.Words.{Request, reads_source, takes_memory}
 use Rattle.niss_shell.specs.Output.{Answer, answer, answer_lines, answer_request, line_with_bytes, ending}
 use Rattle.niss_shell.specs.declared.command.UsageFault.{UsageFault}
 use Rattle.niss_shell.specs.declared.command.LineCommand.{LineCommand}
-use Rattle.niss_shell.specs.declared.notation.ReadFault.{ReadFault}
+use Rattle.niss_moves.specs.declared.fault.ReadFault.{ReadFault}
 use Rattle.niss_shell.specs.declared.stop.Stop.{Stop}
 use Rattle.niss_shell.specs.declared.stop.Stop.TheVariants.{Done, Line, Usage, InputTooLong, CannotRead, CannotWrite, OutOfMemory}
 use Rattle.niss_shell.specs.declared.lines.Progress.{Progress}

@@ -1,6 +1,4 @@
 pub mod Device
-pub mod Notation
-pub mod Reading
 pub mod Lines
 pub mod Words
 pub mod Output

@@ -1,25 +1,35 @@
 -- What a run is to write and to answer.
-use Rattle.std.specs.Prelude.{ℕ, nat_lt, Bool, true, false, if◌then◌else◌, codes, decimal, Option, Some, None, Result, Ok, Err, List, [], ◌∷◌, ◌++◌, take, length}
+use Rattle.std.specs.Prelude.{ℕ, nat_lt, Bool, true, false, if◌then◌else◌, codes, decimal, Option, Some, None, Result, Ok, Err, List, [], ◌∷◌, ◌++◌, map, take, length}
 use Rattle.niss_shell.specs.Device.{SourceState}
 use Rattle.niss_shell.specs.Lines.{ended_lines, last_part, written_text, first_fault}
-use Rattle.niss_shell.specs.Notation.{inverse_turns, turns_text}
-use Rattle.niss_shell.specs.Reading.{read_line}
+use Rattle.niss_moves.specs.CleanedLine.{with_clean_line}
+use Rattle.niss_moves.specs.Effects.{effect, inverse}
+use Rattle.niss_moves.specs.Letters.{letters}
+use Rattle.niss_moves.specs.Line.{Moves}
+use Rattle.niss_moves.specs.Reader.{read_line}
+use Rattle.niss_moves.specs.Text.{word, with_words}
 use Rattle.niss_shell.specs.Words.{limit, Request, OnLines, request_of, joined}
 use Rattle.niss_shell.specs.declared.command.UsageFault.{UsageFault}
 use Rattle.niss_shell.specs.declared.command.LineCommand.{LineCommand}
-use Rattle.niss_shell.specs.declared.command.LineCommand.TheVariants.{Invert}
-use Rattle.niss_moves.specs.declared.turn.Turn.{Turn}
-use Rattle.niss_shell.specs.declared.notation.ReadFault.{ReadFault}
-use Rattle.niss_shell.specs.declared.notation.ReadFault.TheVariants.{NotAMove, TooLong}
+use Rattle.niss_shell.specs.declared.command.LineCommand.TheVariants.{Invert, Unniss, Cleanup, Print}
+use Rattle.niss_moves.specs.declared.token.Token.{Token}
+use Rattle.niss_moves.specs.declared.fault.ReadFault.{ReadFault}
+use Rattle.niss_moves.specs.declared.fault.ReadFault.TheVariants.{NotAMove, Nested, Unopened, Unclosed, TooLong}
 use Rattle.niss_shell.specs.declared.stop.Stop.{Stop}
 use Rattle.niss_shell.specs.declared.stop.Stop.TheVariants.{Done, Line, Usage, InputTooLong, CannotRead, CannotWrite, OutOfMemory}
 
 abbrev pub fault_column : ReadFault → ℕ
 fault_column (NotAMove column) = column
+fault_column (Nested column) = column
+fault_column (Unopened column) = column
+fault_column (Unclosed column) = column
 fault_column (TooLong column) = column
 
 abbrev pub fault_text : ReadFault → List ℕ
 fault_text (NotAMove column) = codes "not a move"
+fault_text (Nested column) = codes "bracket inside a bracket"
+fault_text (Unopened column) = codes "bracket closed that was not opened"
+fault_text (Unclosed column) = codes "bracket not closed"
 fault_text (TooLong column) = codes "more than 256 moves"
 
 abbrev pub line_fault_text : ℕ → ReadFault → List ℕ
@@ -44,12 +54,27 @@ status_of CannotRead = 3
 status_of CannotWrite = 3
 status_of OutOfMemory = 3
 
--- what a command writes for a line that was read so
-abbrev pub answer_to : LineCommand → Result (List Turn) ReadFault → Result (List ℕ) ReadFault
-answer_to command (Err fault) = Err fault
-answer_to Invert (Ok turns) = Ok (turns_text (inverse_turns turns) ++ 10 ∷ [])
+-- the list that a line stands for: its normal moves, and then the inverse of its bracketed ones
+abbrev pub moves_of : Moves → List Token
+moves_of line = line.normal ++ inverse line.bracketed
 
--- what a command writes for a line
+-- the words with single spaces
+abbrev pub tokens_text : List Token → List ℕ
+tokens_text tokens = with_words [] (map word tokens)
+
+-- what a command writes for a line, up to the line feed
+abbrev pub line_text : LineCommand → Moves → List ℕ
+line_text Invert line = tokens_text (inverse (moves_of line))
+line_text Unniss line = tokens_text (moves_of line)
+line_text Cleanup line = with_clean_line [] line
+line_text Print line = letters (effect (moves_of line))
+
+-- what a command answers to a line that was read so
+abbrev pub answer_to : LineCommand → Result Moves ReadFault → Result (List ℕ) ReadFault
+answer_to command (Ok line) = Ok (line_text command line ++ 10 ∷ [])
+answer_to command (Err fault) = Err fault
+
+-- what a command answers to the bytes of a line: what it writes, or the fault of the line
 abbrev pub answer : LineCommand → List ℕ → Result (List ℕ) ReadFault
 answer command line = answer_to command (read_line line)
 

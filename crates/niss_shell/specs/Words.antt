@@ -3,7 +3,7 @@ use Rattle.std.specs.Prelude.{ℕ, nat_le, if◌then◌else◌, bytes_eq, codes,
 use Rattle.niss_shell.specs.declared.command.UsageFault.{UsageFault}
 use Rattle.niss_shell.specs.declared.command.UsageFault.TheVariants.{NoCommand, UnknownCommand}
 use Rattle.niss_shell.specs.declared.command.LineCommand.{LineCommand}
-use Rattle.niss_shell.specs.declared.command.LineCommand.TheVariants.{Invert}
+use Rattle.niss_shell.specs.declared.command.LineCommand.TheVariants.{Invert, Unniss, Cleanup, Print}
 use Rattle.niss_shell.specs.declared.command.Command.{Command}
 use Rattle.niss_shell.specs.declared.command.Command.TheVariants as command
 
@@ -19,6 +19,9 @@ pub data Request : Type 0 where
 abbrev pub request_named : List ℕ → List (List ℕ) → Result Request UsageFault
 request_named name rest =
     if bytes_eq name (codes "invert") then Ok (OnLines Invert rest)
+    else if bytes_eq name (codes "unniss") then Ok (OnLines Unniss rest)
+    else if bytes_eq name (codes "cleanup") then Ok (OnLines Cleanup rest)
+    else if bytes_eq name (codes "print") then Ok (OnLines Print rest)
     else Err UnknownCommand
 
 -- what the words ask for, or their first fault
@@ -29,6 +32,9 @@ request_of (name ∷ rest) = request_named name rest
 -- what a command asks for, wherever its words lie
 abbrev pub requested : Command → Request
 requested (command.Invert rest) = OnLines Invert (map string_bytes rest.now)
+requested (command.Unniss rest) = OnLines Unniss (map string_bytes rest.now)
+requested (command.Cleanup rest) = OnLines Cleanup (map string_bytes rest.now)
+requested (command.Print rest) = OnLines Print (map string_bytes rest.now)
 
 -- the words with single spaces, and a line feed behind them
 abbrev pub spaced_word : List ℕ → List ℕ

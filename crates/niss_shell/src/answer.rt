@@ -1,55 +1,33 @@
-ghost use Rattle.std.specs.Prelude.{◌≡◌, ◌+◌, ◌*◌, ◌≤◌, ◌++◌, flat_map, length};
-ghost use Rattle.niss_shell.specs.Notation.{inverse_turns, turns_text, spaced_turn_word, turn_word, max_moves};
+ghost use Rattle.std.specs.Prelude.{◌≡◌, ◌≤◌, length};
+ghost use Rattle.niss_moves.specs.Effects.{effect};
+ghost use Rattle.niss_moves.specs.Letters.{letters};
+ghost use Rattle.niss_shell.specs.Output.{line_text, moves_of};
 
-use crate::notation::{LineText, Turns, letter_of, opposite_power};
-use niss_moves::turn::{Power, Turn};
+use crate::command::LineCommand;
+use crate::text::put_text;
+use niss_cube::Cube;
+use niss_moves::{LineText, Niss, invert, put_niss_clean, put_tokens, to_faces, unniss};
 
-/// The turns that undo these.
-pub fn inverted(mut turns: Turns) -> Turns
-    requires { length turns.items ≤ max_moves }
-    ensures { result.items ≡ inverse_turns turns.items }
+/// The facelet text of a line: its face turns on the solved cube, which is then turned by the rotation that is left.
+fn facelets_of(line: &Niss) -> [u8; 54]
+    ensures { result ≡ letters (effect (moves_of line.now)) }
 {
-    let mut found = Turns::new();
-    while let Some(turn) = turns.pop() {
-        found.push(Turn {
-            face: turn.face,
-            power: opposite_power(turn.power),
-        });
-    }
-    found
+    let (turns, rotation) = to_faces(unniss(line).as_slice());
+    let mut cube = Cube::solved();
+    cube.apply(turns.as_slice());
+    cube.facelets(rotation)
 }
 
-fn put_word(turn: Turn, text: &mut LineText)
-    requires { length text.old.items + 2 ≤ 2048 }
-    ensures { text.new.items ≡ text.old.items ++ turn_word turn }
+/// What a command writes for a line, up to the line feed.
+pub fn put_answer(command: LineCommand, line: &Niss, text: &mut LineText)
+    requires { length text.old.items ≡ 0 }
+    ensures words { text.new.items ≡ line_text command line.now }
+    ensures room { length text.new.items ≤ 2000 }
 {
-    text.push(letter_of(turn.face));
-    match turn.power {
-        Power::Quarter => {}
-        Power::Half => text.push(b'2'),
-        Power::Counter => text.push(b'\''),
-    }
-}
-
-fn put_more_words(turns: &[Turn], text: &mut LineText)
-    requires { length text.old.items + 3 * length turns.now ≤ 2048 }
-    ensures words { text.new.items ≡ text.old.items ++ flat_map spaced_turn_word turns.now }
-    ensures room { length text.new.items ≤ length text.old.items + 3 * length turns.now }
-{
-    for turn in turns {
-        text.push(b' ');
-        put_word(*turn, text);
-    }
-}
-
-/// Appends the words with single spaces.
-pub fn put_turns(turns: &[Turn], text: &mut LineText)
-    requires { length text.old.items + 3 * length turns.now ≤ 2048 }
-    ensures words { text.new.items ≡ text.old.items ++ turns_text turns.now }
-    ensures room { length text.new.items ≤ length text.old.items + 3 * length turns.now }
-{
-    if let Some((first, rest)) = turns.split_first() {
-        put_word(*first, text);
-        put_more_words(rest, text);
+    match command {
+        LineCommand::Invert => put_tokens(invert(line).as_slice(), text),
+        LineCommand::Unniss => put_tokens(unniss(line).as_slice(), text),
+        LineCommand::Cleanup => put_niss_clean(line, text),
+        LineCommand::Print => put_text(&facelets_of(line), text),
     }
 }

@@ -14,6 +14,9 @@ pub enum UsageFault {
 #[derive(Clone, Copy, Debug, PartialEq, Eq)]
 pub enum LineCommand {
     Invert,
+    Unniss,
+    Cleanup,
+    Print,
 }
 
 /// A command. The words that it lends are the input; where there are none, the input comes from the source.
@@ -21,6 +24,12 @@ pub enum LineCommand {
 pub enum Command<'a> {
     /// The inverse of each line.
     Invert(&'a [String]),
+    /// Each line without brackets: its normal moves, and then the inverse of its bracketed ones.
+    Unniss(&'a [String]),
+    /// Each line as face turns and a rotation, the face turns canonical, the normal and the bracketed moves each by itself.
+    Cleanup(&'a [String]),
+    /// The facelet text of each line.
+    Print(&'a [String]),
 }
 
 /// The command that the words name, or their first fault.
@@ -32,8 +41,11 @@ pub fn parse_words(words: &[String]) -> Result<Command<'_>, UsageFault>
     let Some((name, rest)) = words.split_first() else {
         return Err(UsageFault::NoCommand);
     };
-    match name.as_bytes() {
-        b"invert" => Ok(Command::Invert(rest)),
+    match name.as_str() {
+        "invert" => Ok(Command::Invert(rest)),
+        "unniss" => Ok(Command::Unniss(rest)),
+        "cleanup" => Ok(Command::Cleanup(rest)),
+        "print" => Ok(Command::Print(rest)),
         _ => Err(UsageFault::UnknownCommand),
     }
 }

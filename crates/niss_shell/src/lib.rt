@@ -13,18 +13,15 @@
 
 mod answer;
 mod command;
-mod decimal;
 mod device;
-mod laws;
 mod lines;
-mod notation;
 mod shell;
 mod stop;
 mod streams;
+mod text;
 mod writing;
 
 pub use command::{Command, UsageFault, parse_words};
 pub use device::{DeviceFault, Source, Target};
-pub use laws::lines_are_read;
 pub use shell::{run, run_in};
 pub use streams::{FromReader, ToWriter};

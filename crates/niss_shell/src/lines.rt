@@ -1,16 +1,16 @@
 ghost use Rattle.std.specs.Prelude.{◌≡◌, ◌+◌, ◌≤◌, false, List, ℕ, [], ◌∷◌, ◌++◌, length, OnOk};
 ghost use Rattle.niss_shell.specs.Device.{has_fault};
-ghost use Rattle.niss_shell.specs.Reading.{IsFed};
+ghost use Rattle.niss_moves.specs.Reader.{IsFed};
 ghost use Rattle.niss_shell.specs.Words.{limit};
 ghost use Rattle.niss_shell.specs.Output.{answer, answer_lines, End};
 ghost use Rattle.niss_shell.specs.Engine.{AnswersLine, AnswersSource, Writes, stop_unless};
 
-use crate::answer::{inverted, put_turns};
+use crate::answer::put_answer;
 use crate::command::LineCommand;
 use crate::device::{Source, Target};
-use crate::notation::{LineReader, LineText};
 use crate::stop::Stop;
 use crate::writing::write_all;
+use niss_moves::{LineReader, LineText};
 use std::mem;
 
 /// The most bytes of input.
@@ -38,14 +38,12 @@ fn answer_line<W: Target>(
         AnswersLine (answer command bytes) line result (W.state out.old) (W.state out.new) }
     ensures works { OnOk result (has_fault (W.state out.new) ≡ false) }
 {
-    let turns = match reader.finish() {
-        Ok(turns) => turns,
+    let niss = match reader.finish() {
+        Ok(niss) => niss,
         Err(fault) => return Err(Stop::Line { line, fault }),
     };
     let mut text = LineText::new();
-    match command {
-        LineCommand::Invert => put_turns(inverted(turns).as_slice(), &mut text),
-    }
+    put_answer(command, &niss, &mut text);
     text.push(b'\n');
     match write_all(out, text.as_slice()) {
         Ok(()) => Ok(()),

@@ -101,6 +101,9 @@ fn answer_command<A: Allocator, R: Source, W: Target>(
 {
     match parse_words(words) {
         Ok(Command::Invert(rest)) => answer_words(alloc, LineCommand::Invert, rest, source, out),
+        Ok(Command::Unniss(rest)) => answer_words(alloc, LineCommand::Unniss, rest, source, out),
+        Ok(Command::Cleanup(rest)) => answer_words(alloc, LineCommand::Cleanup, rest, source, out),
+        Ok(Command::Print(rest)) => answer_words(alloc, LineCommand::Print, rest, source, out),
         Err(_) => Stop::Usage,
     }
 }

@@ -1,8 +1,8 @@
 ghost use Rattle.std.specs.Prelude.{◌≡◌, decimal, ◌+◌, ◌++◌, ◌≤◌, length};
 ghost use Rattle.niss_shell.specs.Output.{error_text, status_of, fault_column, fault_text, line_fault_text};
 
-use crate::decimal::put_number;
-use crate::notation::{LineText, ReadFault};
+use crate::text::{put_number, put_text};
+use niss_moves::{LineText, ReadFault};
 
 /// How a run ends.
 #[derive(Clone, Copy, Debug, PartialEq, Eq)]
@@ -16,34 +16,28 @@ pub enum Stop {
     OutOfMemory,
 }
 
-fn put_text(part: &[u8], text: &mut LineText)
-    requires { length text.old.items + length part.now ≤ 2048 }
-    ensures words { text.new.items ≡ text.old.items ++ part.now }
-    ensures room { length text.new.items ≡ length text.old.items + length part.now }
+fn column_of(fault: ReadFault) -> u32
+    ensures { result ≡ fault_column fault }
 {
-    for byte in part {
-        text.push(*byte);
+    match fault {
+        ReadFault::NotAMove { column } => column,
+        ReadFault::Nested { column } => column,
+        ReadFault::Unopened { column } => column,
+        ReadFault::Unclosed { column } => column,
+        ReadFault::TooLong { column } => column,
     }
 }
 
-impl ReadFault {
-    fn column(self) -> u32
-        ensures { result ≡ fault_column self }
-    {
-        match self {
-            ReadFault::NotAMove { column } => column,
-            ReadFault::TooLong { column } => column,
-        }
-    }
-
-    fn text(self) -> &'static [u8]
-        ensures text { result.now ≡ fault_text self }
-        ensures short { length result.now ≤ 100 }
-    {
-        match self {
-            ReadFault::NotAMove { .. } => b"not a move",
-            ReadFault::TooLong { .. } => b"more than 256 moves",
-        }
+fn text_of(fault: ReadFault) -> &'static [u8]
+    ensures text { result.now ≡ fault_text fault }
+    ensures short { length result.now ≤ 100 }
+{
+    match fault {
+        ReadFault::NotAMove { .. } => b"not a move",
+        ReadFault::Nested { .. } => b"bracket inside a bracket",
+        ReadFault::Unopened { .. } => b"bracket closed that was not opened",
+        ReadFault::Unclosed { .. } => b"bracket not closed",
+        ReadFault::TooLong { .. } => b"more than 256 moves",
     }
 }
 
@@ -54,9 +48,9 @@ fn put_line_fault(line: u32, fault: ReadFault, text: &mut LineText)
     put_text(b"nissy: line ", text);
     put_number(line, text);
     put_text(b", column ", text);
-    put_number(fault.column(), text);
+    put_number(column_of(fault), text);
     put_text(b": ", text);
-    put_text(fault.text(), text);
+    put_text(text_of(fault), text);
     text.push(b'\n');
 }
 

@@ -1,6 +1,6 @@
 use Rattle.std.proofs.Common.{◌≡◌, ◌+◌, ◌≤◌, List, ℕ, take, false, Ok}
 use Rattle.niss_shell.specs.Device.{has_fault}
-use Rattle.niss_shell.specs.Reading.{IsFed}
+use Rattle.niss_moves.specs.Reader.{IsFed}
 use Rattle.niss_shell.specs.Engine.{TakesBytes}
 use Rattle.niss_shell.proofs.lines.Progress.take_bytes.Given as goal
 

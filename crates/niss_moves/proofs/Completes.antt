@@ -1,0 +1,291 @@
+-- What is spelled is read.
+use Rattle.std.proofs.Common.{◌≡◌, ℕ, ◌+◌, ◌<◌, ◌≤◌, refl, ap, sym, ◌∙◌, List, [], ◌∷◌, ◌++◌, length, flat_map, append_assoc, append-nil, Option, None, Some, Result, Ok, Err, arith, length-append, cond, ap₂}
+use Rattle.std.proofs.lemmas.Bool.{lt-ltb}
+use Rattle.niss_moves.specs.Letters.{face_letter}
+use Rattle.niss_moves.specs.Notation.{lower_letter, slice_letter, rotation_letter, base_bytes, token_of, Plain, Typographic, Suffix, Nothing, Two, Prime, TwoPrime, suffix_bytes, suffix_power, Blank, Space, Tab, Return, blank_byte}
+use Rattle.niss_moves.specs.Line.{Piece, Gap, Move, piece_bytes, piece_moves, Item, Outside, Bracket, item_bytes, item_normal, item_bracketed, Spells}
+use Rattle.niss_moves.specs.Machine.{symbol_of, State, start, outside, inside, added, settled, opened, closed, count, counted, with_last, step_by, step_at, step_within, and_then, run_within}
+use Rattle.niss_moves.specs.declared.turn.Face.{Face}
+use Rattle.niss_moves.specs.declared.turn.Face.TheVariants.{U, D, R, L, F, B}
+use Rattle.niss_moves.specs.declared.turn.Power.TheVariants.{Half, Counter}
+use Rattle.niss_moves.specs.declared.token.Slice.{Slice}
+use Rattle.niss_moves.specs.declared.token.Slice.TheVariants.{M, E, S}
+use Rattle.niss_moves.specs.declared.axis.Axis.{Axis}
+use Rattle.niss_moves.specs.declared.axis.Axis.TheVariants.{Ud, Rl, Fb}
+use Rattle.niss_moves.specs.declared.token.Token.{Token}
+use Rattle.niss_moves.specs.declared.base.Base.{Base}
+use Rattle.niss_moves.specs.declared.base.Base.TheVariants as base
+use Rattle.niss_moves.specs.declared.partial_line.LastMove.{LastMove}
+use Rattle.niss_moves.specs.declared.partial_line.LastMove.TheVariants as last
+use Rattle.niss_moves.specs.declared.symbol.Symbol.TheVariants as symbol
+use Rattle.niss_moves.specs.declared.fault.ReadFault.{ReadFault}
+use Rattle.niss_moves.specs.declared.fault.ReadFault.TheVariants.{TooLong}
+
+pub and_then-assoc : (r : Result State ReadFault) (f g h : State → Result State ReadFault) → ((t : State) → h t ≡ and_then (f t) g) → and_then r h ≡ and_then (and_then r f) g
+and_then-assoc (Ok t) f g h e = e t
+and_then-assoc (Err x) f g h e = refl
+
+pub run-append : (limit : ℕ) → (s : State) (a b : List ℕ) → run_within limit s (a ++ b) ≡ and_then (run_within limit s a) (λ t. run_within limit t b)
+run-append limit s [] b = refl
+run-append limit s (x ∷ a) b =
+    and_then-assoc (step_within limit s x) (λ t. run_within limit t a) (λ t. run_within limit t b) (λ t. run_within limit t (a ++ b)) (λ t. run-append limit t a b)
+
+-- no U+2019 is cut
+abbrev pub IsReady : LastMove → Type 0
+IsReady (last.FirstByte b two) = ⊥
+IsReady (last.SecondByte b two) = ⊥
+IsReady _ = Unit {0}
+
+pub step_ready : (limit : ℕ) → (s : State) (byte : ℕ) → IsReady s.last → step_within limit s byte ≡ step_by limit (symbol_of byte) s
+unfolding step_within
+step_ready limit s byte h = at s.last h
+  where
+    at : (t : LastMove) → IsReady t → step_at limit t s byte ≡ step_by limit (symbol_of byte) s
+    at last.Finished h = refl
+    at (last.Bare b) h = refl
+    at (last.Doubled b) h = refl
+    at (last.FirstByte b two) h = absurd h
+    at (last.SecondByte b two) h = absurd h
+
+-- what each byte is
+pub symbol_of_face : (f : Face) → symbol_of (face_letter f) ≡ symbol.Base (base.Face f)
+unfolding symbol_of
+symbol_of_face U = refl
+symbol_of_face D = refl
+symbol_of_face R = refl
+symbol_of_face L = refl
+symbol_of_face F = refl
+symbol_of_face B = refl
+
+pub symbol_of_lower : (f : Face) → symbol_of (lower_letter f) ≡ symbol.Base (base.LowerCase f)
+unfolding symbol_of
+symbol_of_lower U = refl
+symbol_of_lower D = refl
+symbol_of_lower R = refl
+symbol_of_lower L = refl
+symbol_of_lower F = refl
+symbol_of_lower B = refl
+
+pub symbol_of_slice : (l : Slice) → symbol_of (slice_letter l) ≡ symbol.Base (base.Slice l)
+unfolding symbol_of
+symbol_of_slice M = refl
+symbol_of_slice E = refl
+symbol_of_slice S = refl
+
+pub symbol_of_rotation : (a : Axis) → symbol_of (rotation_letter a) ≡ symbol.Base (base.Rotation a)
+unfolding symbol_of
+symbol_of_rotation Rl = refl
+symbol_of_rotation Ud = refl
+symbol_of_rotation Fb = refl
+
+symbol_of_blank : (b : Blank) → symbol_of (blank_byte b) ≡ symbol.Blank
+unfolding symbol_of
+symbol_of_blank Space = refl
+symbol_of_blank Tab = refl
+symbol_of_blank Return = refl
+
+-- a base is read
+begun_ready : (limit : ℕ) → (s : State) (byte : ℕ) (b : Base) → IsReady s.last → count (settled s) < limit → symbol_of byte ≡ symbol.Base b → step_within limit s byte ≡ Ok (counted (with_last (last.Bare b) (settled s)))
+begun_ready limit s byte b h room e =
+    step_ready limit s byte h ∙ ap (λ k. step_by limit k s) e ∙ ap (λ c. cond c (Ok (counted (with_last (last.Bare b) (settled s)))) (Err (TooLong (s.fed + 1)))) (lt-ltb _ _ room)
+
+run_one : (limit : ℕ) → (s t : State) (x : ℕ) → step_within limit s x ≡ Ok t → run_within limit s (x ∷ []) ≡ Ok t
+run_one limit s t x e = ap (λ r. and_then r (λ s. run_within limit s [])) e
+
+run_on : (limit : ℕ) → (s t : State) (x : ℕ) (bs : List ℕ) → step_within limit s x ≡ Ok t → run_within limit s (x ∷ bs) ≡ run_within limit t bs
+run_on limit s t x bs e = ap (λ r. and_then r (λ s. run_within limit s bs)) e
+
+based : State → Base → ℕ → State
+based s b n = record (settled s) { last = last.Bare b; fed = n }
+
+step_wide : (limit : ℕ) → (s : State) (f : Face) (n : ℕ) → step_within limit (based s (base.Face f) n) 119 ≡ Ok (based s (base.Wide f) (n + 1))
+unfolding step_within symbol_of based
+step_wide limit s f n = refl
+
+run_base : (limit : ℕ) → (s : State) (b : Base) → IsReady s.last → count (settled s) < limit → (n : ℕ) × (run_within limit s (base_bytes b) ≡ Ok (based s b n))
+unfolding based
+run_base limit s (base.Face f) h room =
+    (s.fed + 1, run_one limit s _ (face_letter f) (begun_ready limit s _ (base.Face f) h room (symbol_of_face f)))
+run_base limit s (base.Wide f) h room =
+    (s.fed + 1 + 1, run_on limit s _ (face_letter f) (119 ∷ []) (begun_ready limit s _ (base.Face f) h room (symbol_of_face f)) ∙ run_one limit _ _ 119 (step_wide limit s f (s.fed + 1)))
+run_base limit s (base.LowerCase f) h room =
+    (s.fed + 1, run_one limit s _ (lower_letter f) (begun_ready limit s _ (base.LowerCase f) h room (symbol_of_lower f)))
+run_base limit s (base.Slice l) h room =
+    (s.fed + 1, run_one limit s _ (slice_letter l) (begun_ready limit s _ (base.Slice l) h room (symbol_of_slice l)))
+run_base limit s (base.Rotation a) h room =
+    (s.fed + 1, run_one limit s _ (rotation_letter a) (begun_ready limit s _ (base.Rotation a) h room (symbol_of_rotation a)))
+
+-- what was read from a state on: these moves, where the bracket is as it was
+pub record Ran (limit : ℕ) (s : State) (bytes : List ℕ) (moves : List Token) : Type 0 where
+  pub end : State
+  pub ran : run_within limit s bytes ≡ Ok end
+  pub ready : IsReady end.last
+  pub normal : (settled end).normal ≡ outside s.bracket (settled s).normal moves
+  pub bracketed : (settled end).bracketed ≡ inside s.bracket (settled s).bracketed moves
+  pub bracket : end.bracket ≡ s.bracket
+
+run_suffix : (limit : ℕ) → (s : State) (b : Base) (n : ℕ) (x : Suffix) → (end : State) × (run_within limit (based s b n) (suffix_bytes x) ≡ Ok end) × IsReady end.last × ((settled end).normal ≡ outside s.bracket (settled s).normal (token_of b (suffix_power x) ∷ [])) × ((settled end).bracketed ≡ inside s.bracket (settled s).bracketed (token_of b (suffix_power x) ∷ [])) × (end.bracket ≡ s.bracket)
+unfolding step_within symbol_of based
+run_suffix limit s b n Nothing = (based s b n, refl, tt, refl, refl, refl)
+run_suffix limit s b n Two = (counted (with_last (last.Doubled b) (based s b n)), refl, tt, refl, refl, refl)
+run_suffix limit s b n (Prime Plain) = (counted (added (based s b n) (token_of b Counter)), refl, tt, refl, refl, refl)
+run_suffix limit s b n (Prime Typographic) =
+    (counted (counted (counted (added (based s b n) (token_of b Counter)))), refl, tt, refl, refl, refl)
+run_suffix limit s b n (TwoPrime Plain) = (counted (counted (added (based s b n) (token_of b Half))), refl, tt, refl, refl, refl)
+run_suffix limit s b n (TwoPrime Typographic) =
+    (counted (counted (counted (counted (added (based s b n) (token_of b Half))))), refl, tt, refl, refl, refl)
+
+pub outside_none : (o : Option ℕ) (n : List Token) → n ≡ outside o n []
+outside_none None n = sym (append-nil n)
+outside_none (Some c) n = refl
+
+pub inside_none : (o : Option ℕ) (n : List Token) → n ≡ inside o n []
+inside_none None n = refl
+inside_none (Some c) n = sym (append-nil n)
+
+outside_more : (o : Option ℕ) (n a b : List Token) → outside o (outside o n a) b ≡ outside o n (a ++ b)
+outside_more None n a b = append_assoc n a b
+outside_more (Some c) n a b = refl
+
+inside_more : (o : Option ℕ) (n a b : List Token) → inside o (inside o n a) b ≡ inside o n (a ++ b)
+inside_more None n a b = refl
+inside_more (Some c) n a b = append_assoc n a b
+
+pub count_more : (o : Option ℕ) (n b m : List Token) → length (outside o n m) + length (inside o b m) ≡ length n + length b + length m
+count_more None n b m = omega (arith, length-append n m)
+count_more (Some c) n b m = omega (arith, length-append b m)
+
+ran_none : (limit : ℕ) → (s : State) → IsReady s.last → Ran limit s [] []
+ran_none limit s h =
+    record { end = s; ran = refl; ready = h; normal = outside_none _ _; bracketed = inside_none _ _; bracket = refl }
+
+ran_more : (limit : ℕ) → (s : State) (a b : List ℕ) (m k : List Token) (h : Ran limit s a m) → Ran limit h.end b k → Ran limit s (a ++ b) (m ++ k)
+ran_more limit s a b m k h g =
+    record {
+      end = g.end;
+      ran = run-append limit s a b ∙ ap (λ r. and_then r (λ t. run_within limit t b)) h.ran ∙ g.ran;
+      ready = g.ready;
+      normal = g.normal ∙ ap (λ o. outside o (settled h.end).normal k) h.bracket ∙ ap (λ n. outside s.bracket n k) h.normal ∙ outside_more s.bracket (settled s).normal m k;
+      bracketed = g.bracketed ∙ ap (λ o. inside o (settled h.end).bracketed k) h.bracket ∙ ap (λ n. inside s.bracket n k) h.bracketed ∙ inside_more s.bracket (settled s).bracketed m k;
+      bracket = g.bracket ∙ h.bracket;
+    }
+
+ran_count : (limit : ℕ) → (s : State) (a : List ℕ) (m : List Token) (h : Ran limit s a m) → count (settled h.end) ≡ count (settled s) + length m
+ran_count limit s a m h =
+    ap₂ (λ (x y : List Token). length x + length y) h.normal h.bracketed ∙ count_more s.bracket (settled s).normal (settled s).bracketed m
+
+ran_piece : (limit : ℕ) → (s : State) (p : Piece) → IsReady s.last → count (settled s) + length (piece_moves p) ≤ limit → Ran limit s (piece_bytes p) (piece_moves p)
+ran_piece limit s (Gap b) h room =
+    record {
+      end = counted (settled s);
+      ran = run_one limit s _ (blank_byte b) (step_ready limit s _ h ∙ ap (λ k. step_by limit k s) (symbol_of_blank b));
+      ready = tt;
+      normal = outside_none _ _;
+      bracketed = inside_none _ _;
+      bracket = refl;
+    }
+ran_piece limit s (Move b x) h room =
+    let base = run_base limit s b h (omega arith) in
+    let rest = run_suffix limit s b base.0 x in
+    record {
+      end = rest.0;
+      ran = run-append limit s (base_bytes b) (suffix_bytes x) ∙ ap (λ r. and_then r (λ t. run_within limit t (suffix_bytes x))) base.1 ∙ rest.1;
+      ready = rest.2;
+      normal = rest.3;
+      bracketed = rest.4;
+      bracket = rest.5;
+    }
+
+ran_pieces : (limit : ℕ) → (s : State) (ps : List Piece) → IsReady s.last → count (settled s) + length (flat_map piece_moves ps) ≤ limit → Ran limit s (flat_map piece_bytes ps) (flat_map piece_moves ps)
+ran_pieces limit s [] h room = ran_none limit s h
+ran_pieces limit s (p ∷ ps) h room =
+    let l = length-append (piece_moves p) (flat_map piece_moves ps) in
+    let one = ran_piece limit s p h (omega arith) in
+    ran_more limit s (piece_bytes p) (flat_map piece_bytes ps) _ _ one (ran_pieces limit one.end ps one.ready (omega (arith, ran_count limit s _ _ one)))
+
+-- what was read outside brackets: these normal and these bracketed moves
+pub record Read (limit : ℕ) (s : State) (bytes : List ℕ) (n b : List Token) : Type 0 where
+  pub end : State
+  pub ran : run_within limit s bytes ≡ Ok end
+  pub ready : IsReady end.last
+  pub normal : (settled end).normal ≡ (settled s).normal ++ n
+  pub bracketed : (settled end).bracketed ≡ (settled s).bracketed ++ b
+  pub bracket : end.bracket ≡ None
+
+read_none : (limit : ℕ) → (s : State) → IsReady s.last → s.bracket ≡ None → Read limit s [] [] []
+read_none limit s h o =
+    record { end = s; ran = refl; ready = h; normal = sym (append-nil _); bracketed = sym (append-nil _); bracket = o }
+
+read_more : (limit : ℕ) → (s : State) (a b : List ℕ) (m k p q : List Token) (h : Read limit s a m p) → Read limit h.end b k q → Read limit s (a ++ b) (m ++ k) (p ++ q)
+read_more limit s a b m k p q h g =
+    record {
+      end = g.end;
+      ran = run-append limit s a b ∙ ap (λ r. and_then r (λ t. run_within limit t b)) h.ran ∙ g.ran;
+      ready = g.ready;
+      normal = g.normal ∙ ap (λ n. n ++ k) h.normal ∙ append_assoc (settled s).normal m k;
+      bracketed = g.bracketed ∙ ap (λ n. n ++ q) h.bracketed ∙ append_assoc (settled s).bracketed p q;
+      bracket = g.bracket;
+    }
+
+read_count : (limit : ℕ) → (s : State) (a : List ℕ) (m p : List Token) (h : Read limit s a m p) → count (settled h.end) ≡ count (settled s) + length m + length p
+read_count limit s a m p h =
+    let e = ap length h.normal in
+    let f = ap length h.bracketed in
+    omega (arith, length-append (settled s).normal m, length-append (settled s).bracketed p)
+
+entered : State → State
+entered s = counted (record (settled s) { bracket = Some (s.fed + 1) })
+
+step_open : (limit : ℕ) → (s : State) → IsReady s.last → s.bracket ≡ None → step_within limit s 40 ≡ Ok (entered s)
+unfolding symbol_of entered
+step_open limit s h o = step_ready limit s 40 h ∙ ap (λ b. opened b s) o
+
+step_close : (limit : ℕ) → (s : State) (c : ℕ) → IsReady s.last → s.bracket ≡ Some c → step_within limit s 41 ≡ Ok (counted (record (settled s) { bracket = None }))
+unfolding symbol_of
+step_close limit s c h o = step_ready limit s 41 h ∙ ap (λ b. closed b s) o
+
+read_item : (limit : ℕ) → (s : State) (x : Item) → IsReady s.last → s.bracket ≡ None → count (settled s) + length (item_normal x) + length (item_bracketed x) ≤ limit → Read limit s (item_bytes x) (item_normal x) (item_bracketed x)
+unfolding entered
+read_item limit s (Outside p) h o room =
+    let r = ran_piece limit s p h (omega arith) in
+    record {
+      end = r.end;
+      ran = r.ran;
+      ready = r.ready;
+      normal = r.normal ∙ ap (λ o. outside o (settled s).normal (piece_moves p)) o;
+      bracketed = r.bracketed ∙ ap (λ o. inside o (settled s).bracketed (piece_moves p)) o ∙ sym (append-nil _);
+      bracket = r.bracket ∙ o;
+    }
+read_item limit s (Bracket ps) h o room =
+    let r = ran_pieces limit (entered s) ps tt (omega arith) in
+    record {
+      end = counted (record (settled r.end) { bracket = None });
+      ran = run_on limit s (entered s) 40 (flat_map piece_bytes ps ++ 41 ∷ []) (step_open limit s h o) ∙ run-append limit (entered s) (flat_map piece_bytes ps) (41 ∷ []) ∙ ap (λ q. and_then q (λ t. run_within limit t (41 ∷ []))) r.ran ∙ run_one limit r.end _ 41 (step_close limit r.end (s.fed + 1) r.ready r.bracket);
+      ready = tt;
+      normal = r.normal ∙ sym (append-nil _);
+      bracketed = r.bracketed;
+      bracket = refl;
+    }
+
+read_items : (limit : ℕ) → (s : State) (xs : List Item) → IsReady s.last → s.bracket ≡ None → count (settled s) + length (flat_map item_normal xs) + length (flat_map item_bracketed xs) ≤ limit → Read limit s (flat_map item_bytes xs) (flat_map item_normal xs) (flat_map item_bracketed xs)
+read_items limit s [] h o room = read_none limit s h o
+read_items limit s (x ∷ xs) h o room =
+    let l = length-append (item_normal x) (flat_map item_normal xs) in
+    let k = length-append (item_bracketed x) (flat_map item_bracketed xs) in
+    let one = read_item limit s x h o (omega arith) in
+    read_more limit s (item_bytes x) (flat_map item_bytes xs) _ _ _ _ one (read_items limit one.end xs one.ready one.bracket (omega (arith, read_count limit s _ _ _ one)))
+
+-- A line that is spelled by at most 256 moves is read as these.
+pub completes : (limit : ℕ) → (bytes : List ℕ) (n b : List Token) → Spells bytes n b → length n + length b ≤ limit → Read limit start bytes n b
+completes limit bytes n b h room =
+    let e = ap length h.normal_are in
+    let f = ap length h.bracketed_are in
+    let r = read_items limit start h.items tt refl (omega arith) in
+    record {
+      end = r.end;
+      ran = ap (run_within limit start) h.bytes_are ∙ r.ran;
+      ready = r.ready;
+      normal = r.normal ∙ sym h.normal_are;
+      bracketed = r.bracketed ∙ sym h.bracketed_are;
+      bracket = r.bracket;
+    }

@@ -1,0 +1,132 @@
+-- What is written is spelled.
+use Rattle.std.proofs.Common.{◌≡◌, ℕ, ◌-◌, refl, ap, sym, ◌∙◌, List, [], ◌∷◌, ◌++◌, length, map, flat_map, append_assoc, append-nil, Some, slice_get, arith, length-append}
+use Rattle.niss_moves.specs.Letters.{face_letter}
+use Rattle.niss_moves.specs.Notation.{base_bytes, Suffix, Nothing, Two, Prime, Plain, suffix_bytes, suffix_power, Space}
+use Rattle.niss_moves.specs.Line.{Gap, Move, Item, Outside, item_bytes, item_normal, item_bracketed, Spells}
+use Rattle.niss_moves.specs.Text.{word, power_bytes, gap, gap_after, with_word, with_words}
+use Rattle.niss_moves.specs.declared.turn.Face.{Face}
+use Rattle.niss_moves.specs.declared.turn.Face.TheVariants.{U, D, R, L, F, B}
+use Rattle.niss_moves.specs.declared.turn.Power.{Power}
+use Rattle.niss_moves.specs.declared.turn.Power.TheVariants.{Quarter, Half, Counter}
+use Rattle.niss_moves.specs.declared.token.Slice.TheVariants.{M, E, S}
+use Rattle.niss_moves.specs.declared.axis.Axis.TheVariants.{Ud, Rl, Fb}
+use Rattle.niss_moves.specs.declared.token.Token.{Token}
+use Rattle.niss_moves.specs.declared.token.Token.TheVariants as token
+use Rattle.niss_moves.specs.declared.base.Base.{Base}
+use Rattle.niss_moves.specs.declared.base.Base.TheVariants as base
+
+base_of : Token → Base
+base_of (token.Face t) = base.Face t.face
+base_of (token.Wide f p) = base.Wide f
+base_of (token.Slice l p) = base.Slice l
+base_of (token.Rotation a p) = base.Rotation a
+
+suffix_of : Power → Suffix
+suffix_of Quarter = Nothing
+suffix_of Half = Two
+suffix_of Counter = Prime Plain
+
+power_of : Token → Power
+power_of (token.Face t) = t.power
+power_of (token.Wide f p) = p
+power_of (token.Slice l p) = p
+power_of (token.Rotation a p) = p
+
+move_item : Token → Item
+move_item t = Outside (Move (base_of t) (suffix_of (power_of t)))
+
+suffix_is : (p : Power) → suffix_bytes (suffix_of p) ≡ power_bytes p
+unfolding suffix_of
+suffix_is Quarter = refl
+suffix_is Half = refl
+suffix_is Counter = refl
+
+power_is : (p : Power) → suffix_power (suffix_of p) ≡ p
+unfolding suffix_of
+power_is Quarter = refl
+power_is Half = refl
+power_is Counter = refl
+
+item_word : (t : Token) → item_bytes (move_item t) ≡ word t
+unfolding move_item base_of power_of
+item_word (token.Face t) = ap (λ x. face_letter t.face ∷ x) (suffix_is t.power)
+item_word (token.Wide f p) = ap (λ x. face_letter f ∷ 119 ∷ x) (suffix_is p)
+item_word (token.Slice l p) = ap (λ x. base_bytes (base.Slice l) ++ x) (suffix_is p)
+item_word (token.Rotation a p) = ap (λ x. base_bytes (base.Rotation a) ++ x) (suffix_is p)
+
+item_move : (t : Token) → item_normal (move_item t) ≡ t ∷ []
+unfolding move_item base_of power_of
+item_move (token.Face t) = ap (λ p. token.Face (record t { power = p }) ∷ []) (power_is t.power)
+item_move (token.Wide f p) = ap (λ p. token.Wide f p ∷ []) (power_is p)
+item_move (token.Slice l p) = ap (λ p. token.Slice l p ∷ []) (power_is p)
+item_move (token.Rotation a p) = ap (λ p. token.Rotation a p ∷ []) (power_is p)
+
+item_inside : (t : Token) → item_bracketed (move_item t) ≡ []
+unfolding move_item
+item_inside t = refl
+
+-- behind a word stands a space
+gap_snoc : (a : List ℕ) (b : ℕ) → gap (a ++ b ∷ []) ≡ gap_after (Some b)
+gap_snoc a b =
+    let n : length (a ++ b ∷ []) - 1 ≡ length a = omega (arith, length-append a (b ∷ [])) in
+    ap gap_after (ap (slice_get (a ++ b ∷ [])) n ∙ last a)
+  where
+    last : (a : List ℕ) → slice_get (a ++ b ∷ []) (length a) ≡ Some b
+    last [] = refl
+    last (x ∷ a) = last a
+
+gap_two : (a : List ℕ) (b : ℕ) (p : Power) → gap_after (Some b) ≡ 32 ∷ [] → gap (a ++ b ∷ power_bytes p) ≡ 32 ∷ []
+gap_two a b Quarter e = gap_snoc a b ∙ e
+gap_two a b Half e = ap gap (sym (append_assoc a (b ∷ []) (50 ∷ []))) ∙ gap_snoc (a ++ b ∷ []) 50
+gap_two a b Counter e = ap gap (sym (append_assoc a (b ∷ []) (39 ∷ []))) ∙ gap_snoc (a ++ b ∷ []) 39
+
+letter_gap : (f : Face) → gap_after (Some (face_letter f)) ≡ 32 ∷ []
+letter_gap U = refl
+letter_gap D = refl
+letter_gap R = refl
+letter_gap L = refl
+letter_gap F = refl
+letter_gap B = refl
+
+gap_word : (a : List ℕ) (t : Token) → gap (a ++ word t) ≡ 32 ∷ []
+gap_word a (token.Face t) = gap_two a (face_letter t.face) t.power (letter_gap t.face)
+gap_word a (token.Wide f p) =
+    ap gap (sym (append_assoc a (face_letter f ∷ []) (119 ∷ power_bytes p))) ∙ gap_two (a ++ face_letter f ∷ []) 119 p refl
+gap_word a (token.Slice M p) = gap_two a 77 p refl
+gap_word a (token.Slice E p) = gap_two a 69 p refl
+gap_word a (token.Slice S p) = gap_two a 83 p refl
+gap_word a (token.Rotation Rl p) = gap_two a 120 p refl
+gap_word a (token.Rotation Ud p) = gap_two a 121 p refl
+gap_word a (token.Rotation Fb p) = gap_two a 122 p refl
+
+spaced : List Token → List Item
+spaced [] = []
+spaced (t ∷ ts) = Outside (Gap Space) ∷ move_item t ∷ spaced ts
+
+spaced_bytes : (text : List ℕ) (ts : List Token) → gap text ≡ 32 ∷ [] → with_words text (map word ts) ≡ text ++ flat_map item_bytes (spaced ts)
+unfolding spaced
+spaced_bytes text [] e = sym (append-nil text)
+spaced_bytes text (t ∷ ts) e =
+    spaced_bytes (with_word text (word t)) ts (gap_word (text ++ gap text) t) ∙ ap (λ g. ((text ++ g) ++ word t) ++ flat_map item_bytes (spaced ts)) e ∙ ap (λ w. ((text ++ 32 ∷ []) ++ w) ++ flat_map item_bytes (spaced ts)) (sym (item_word t)) ∙ simp append_assoc
+
+spaced_moves : (ts : List Token) → ts ≡ flat_map item_normal (spaced ts)
+unfolding spaced
+spaced_moves [] = refl
+spaced_moves (t ∷ ts) =
+    ap (λ s. t ∷ s) (spaced_moves ts) ∙ ap (λ s. s ++ flat_map item_normal (spaced ts)) (sym (item_move t))
+
+spaced_inside : (ts : List Token) → [] ≡ flat_map item_bracketed (spaced ts)
+unfolding spaced move_item
+spaced_inside [] = refl
+spaced_inside (t ∷ ts) = spaced_inside ts
+
+pub words_are_read : (s : List Token) → Spells (with_words [] (map word s)) s []
+unfolding move_item
+words_are_read [] = record { items = []; bytes_are = refl; normal_are = refl; bracketed_are = refl }
+words_are_read (t ∷ ts) =
+    record {
+      items = move_item t ∷ spaced ts;
+      bytes_are = spaced_bytes (word t) ts (gap_word [] t) ∙ ap (λ w. w ++ flat_map item_bytes (spaced ts)) (sym (item_word t));
+      normal_are = ap (λ s. t ∷ s) (spaced_moves ts) ∙ ap (λ s. s ++ flat_map item_normal (spaced ts)) (sym (item_move t));
+      bracketed_are = spaced_inside ts;
+    }

@@ -1,0 +1,247 @@
+-- What the reader's answers mean.
+use Rattle.std.proofs.Common.{◌≡◌, ℕ, ◌+◌, ◌-◌, ◌<◌, ◌≤◌, ◌↔◌, refl, ap, sym, ◌∙◌, subst, subst₂, List, [], ◌∷◌, ◌++◌, length, append_assoc, append-nil, Option, None, Some, Result, Ok, Err, IsOk, IfErr, IfOk, arith, inl, inr, length-append}
+use Rattle.std.specs.Result.{result_err}
+use Rattle.std.proofs.Math.Path.{subst₃}
+use Rattle.niss_moves.specs.Line.{Moves, Spells, IsLine}
+use Rattle.niss_moves.specs.Faults.{Whole, cut_length, cut_ending, bracket_ending, CanContinue, Stops, Faults}
+use Rattle.niss_moves.specs.Machine.{State, start, settled, count, step, step_within, symbol_of, and_then, run, ended, ended_at, ended_in, answer, answer_after, state_of, state_or, outcome_of, HasRoom, HasRoomUnless, IsStep}
+use Rattle.niss_moves.specs.Reader.{Reader, IsFed, line_with, read_line}
+use Rattle.niss_moves.specs.declared.token.Token.{Token}
+use Rattle.niss_moves.specs.declared.partial_line.PartialLine.{PartialLine}
+use Rattle.niss_moves.specs.declared.partial_line.LastMove.{LastMove}
+use Rattle.niss_moves.specs.declared.partial_line.LastMove.TheVariants as last
+use Rattle.niss_moves.specs.declared.fault.ReadFault.{ReadFault}
+use Rattle.niss_moves.proofs.Completes.{IsReady, and_then-assoc, run-append, completes}
+use Rattle.niss_moves.proofs.Sound.{last_bytes, cut_of, is_open, long_enough}
+use Rattle.niss_moves.proofs.Whole.{reads_all, run_stops, ends_whole, lacks_bracket, lacks_apostrophe}
+use Rattle.niss_moves.proofs.OneFault.{fault_ended}
+use Rattle.niss_moves.proofs.Room.{room_kept}
+
+-- the end of a line
+abbrev Final : List ℕ → Result Moves ReadFault → Type 0
+Final bytes (Ok m) = Spells bytes m.normal m.bracketed
+Final bytes (Err f) = Faults bytes f
+
+final : (bytes : List ℕ) (r : Result State ReadFault) → r ≡ run start bytes → Final bytes (ended r)
+final bytes (Err f) e = inl (run_stops bytes f (sym e))
+final bytes (Ok s) e = by_last s.last refl
+  where
+    by_bracket : (o : Option ℕ) → cut_of s.last ≡ Whole → s.bracket ≡ o → Final bytes (ended_in o s)
+    by_bracket None w o = ends_whole bytes s (sym e) w o
+    by_bracket (Some c) w o = inr (lacks_bracket bytes s c (sym e) w o)
+
+    by_last : (t : LastMove) → s.last ≡ t → Final bytes (ended_at t s)
+    by_last last.Finished t = by_bracket s.bracket (ap cut_of t) refl
+    by_last (last.Bare b) t = by_bracket s.bracket (ap cut_of t) refl
+    by_last (last.Doubled b) t = by_bracket s.bracket (ap cut_of t) refl
+    by_last (last.FirstByte b two) t =
+        let h = reads_all bytes s (sym e) in
+        inr (lacks_apostrophe bytes s s.fed (sym e) (subst (λ (x : LastMove). 0 < cut_length (cut_of x)) (sym t) (omega arith)) (λ r. subst (λ (x : LastMove). IsReady x) t r) (subst (λ (x : LastMove). s.fed + cut_length (cut_of x) ≡ length bytes + 1) (sym t) (omega (arith, h.fed))))
+    by_last (last.SecondByte b two) t =
+        let h = reads_all bytes s (sym e) in
+        let long = long_enough h.front [] two b bytes (h.bytes_are ∙ ap (λ t. h.front ++ last_bytes t) t) in
+        inr (lacks_apostrophe bytes s (s.fed - 1) (sym e) (subst (λ (x : LastMove). 0 < cut_length (cut_of x)) (sym t) (omega arith)) (λ r. subst (λ (x : LastMove). IsReady x) t r) (subst (λ (x : LastMove). s.fed - 1 + cut_length (cut_of x) ≡ length bytes + 1) (sym t) (omega (arith, h.fed))))
+
+final_spelled : (bytes : List ℕ) (n b : List Token) → Spells bytes n b → length n + length b ≤ 256 → ended (run start bytes) ≡ Ok (record { normal = n; bracketed = b })
+final_spelled bytes n b h fits =
+    let d = completes 256 bytes n b h fits in
+    ap ended d.ran ∙ by_last d.end.last refl d.ready ∙ ap (λ o. ended_in o d.end) d.bracket ∙ (λ i. Ok (record { normal = d.normal i; bracketed = d.bracketed i }))
+  where
+    by_last : (t : LastMove) → (completes 256 bytes n b h fits).end.last ≡ t → IsReady t → ended_at t (completes 256 bytes n b h fits).end ≡ ended_in (completes 256 bytes n b h fits).end.bracket (completes 256 bytes n b h fits).end
+    by_last last.Finished t r = refl
+    by_last (last.Bare b) t r = refl
+    by_last (last.Doubled b) t r = refl
+    by_last (last.FirstByte b two) t r = absurd r
+    by_last (last.SecondByte b two) t r = absurd r
+
+-- a line has at most 256 moves
+abbrev HasFew : Result Moves ReadFault → Type 0
+HasFew (Ok m) = length m.normal + length m.bracketed ≤ 256
+HasFew (Err f) = Unit {0}
+
+few_ended : (s : State) → count (settled s) ≤ 256 → HasFew (ended_at s.last s)
+few_ended s h = by_last s.last
+  where
+    by_bracket : (o : Option ℕ) → HasFew (ended_in o s)
+    by_bracket None = h
+    by_bracket (Some c) = tt
+
+    by_last : (t : LastMove) → HasFew (ended_at t s)
+    by_last last.Finished = by_bracket s.bracket
+    by_last (last.Bare b) = by_bracket s.bracket
+    by_last (last.Doubled b) = by_bracket s.bracket
+    by_last (last.FirstByte b two) = tt
+    by_last (last.SecondByte b two) = tt
+
+few : (bytes : List ℕ) (r : Result State ReadFault) → r ≡ run start bytes → HasFew (ended r)
+few bytes (Ok s) e = few_ended s (reads_all bytes s (sym e)).room
+few bytes (Err f) e = tt
+
+-- what the answer for all bytes says
+pub line_spells : (bytes : List ℕ) (m : Moves) → read_line bytes ≡ Ok m → Spells bytes m.normal m.bracketed
+unfolding read_line
+line_spells bytes m e = subst (Final bytes) e (final bytes (run start bytes) refl)
+
+pub line_fits : (bytes : List ℕ) (m : Moves) → read_line bytes ≡ Ok m → length m.normal + length m.bracketed ≤ 256
+unfolding read_line
+line_fits bytes m e = subst HasFew e (few bytes (run start bytes) refl)
+
+pub line_faults : (bytes : List ℕ) (f : ReadFault) → read_line bytes ≡ Err f → Faults bytes f
+unfolding read_line
+line_faults bytes f e = subst (Final bytes) e (final bytes (run start bytes) refl)
+
+pub spelled_line : (bytes : List ℕ) (n b : List Token) → Spells bytes n b → length n + length b ≤ 256 → read_line bytes ≡ Ok (record { normal = n; bracketed = b })
+unfolding read_line
+spelled_line bytes n b h fits = final_spelled bytes n b h fits
+
+pub faulty_line : (bytes : List ℕ) (f : ReadFault) → Faults bytes f → read_line bytes ≡ Err f
+unfolding read_line
+faulty_line bytes f h = fault_ended bytes f h
+
+line_of : (bytes : List ℕ) (m : Moves) → read_line bytes ≡ Ok m → IsLine bytes
+line_of bytes m e =
+    record { normal = m.normal; bracketed = m.bracketed; spells = line_spells bytes m e; fits = line_fits bytes m e }
+
+of_line : (bytes : List ℕ) (line : IsLine bytes) → read_line bytes ≡ Ok (record { normal = line.normal; bracketed = line.bracketed })
+of_line bytes line = spelled_line bytes line.normal line.bracketed line.spells line.fits
+
+pub no_line : (bytes : List ℕ) (f : ReadFault) → read_line bytes ≡ Err f → IsLine bytes → ⊥
+no_line bytes f e line = let h = of_line bytes line in cc
+
+-- two readings are one
+pub one_reading : (bytes : List ℕ) (n b m c : List Token) → Spells bytes n b → Spells bytes m c → (n ≡ m) × (b ≡ c)
+one_reading bytes n b m c h k =
+    let limit = length n + length b + (length m + length c) in
+    let x = completes limit bytes n b h (omega arith) in
+    let y = completes limit bytes m c k (omega arith) in
+    let e : Ok x.end ≡ Ok y.end = sym x.ran ∙ y.ran in
+    let q : x.end ≡ y.end = cc in
+    (sym x.normal ∙ ap (λ s. (settled s).normal) q ∙ y.normal, sym x.bracketed ∙ ap (λ s. (settled s).bracketed) q ∙ y.bracketed)
+
+-- each state can be ended
+state : List Token → List Token → Option ℕ → LastMove → ℕ → State
+state n b o t k = record { normal = n; bracketed = b; bracket = o; last = t; fed = k }
+
+can_end : (s : State) → (m : Moves) × (answer_after (Ok s) (cut_ending (cut_of s.last) ++ bracket_ending (is_open s.bracket)) ≡ Ok m)
+unfolding step_within symbol_of state
+can_end s = by_last s.normal s.bracketed s.bracket s.last s.fed
+  where
+    by_last : (n b : List Token) (o : Option ℕ) (t : LastMove) (k : ℕ) → (m : Moves) × (answer_after (Ok (state n b o t k)) (cut_ending (cut_of t) ++ bracket_ending (is_open o)) ≡ Ok m)
+    by_last n b None last.Finished k = (_, refl)
+    by_last n b None (last.Bare x) k = (_, refl)
+    by_last n b None (last.Doubled x) k = (_, refl)
+    by_last n b None (last.FirstByte x two) k = (_, refl)
+    by_last n b None (last.SecondByte x two) k = (_, refl)
+    by_last n b (Some c) last.Finished k = (_, refl)
+    by_last n b (Some c) (last.Bare x) k = (_, refl)
+    by_last n b (Some c) (last.Doubled x) k = (_, refl)
+    by_last n b (Some c) (last.FirstByte x two) k = (_, refl)
+    by_last n b (Some c) (last.SecondByte x two) k = (_, refl)
+
+-- The outcome is that of these bytes, whatever bytes follow.
+abbrev pub IsOutcome : Result State ReadFault → List ℕ → Type 0
+IsOutcome r bytes = (more : List ℕ) → answer_after r more ≡ read_line (bytes ++ more)
+
+pub outcome_of_none : IsOutcome (Ok start) []
+unfolding read_line
+outcome_of_none more = refl
+
+pub outcome_of_more : (r next : Result State ReadFault) (bytes : List ℕ) (byte : ℕ) → next ≡ and_then r (λ s. step s byte) → IsOutcome r bytes → IsOutcome next (bytes ++ byte ∷ [])
+outcome_of_more r next bytes byte e h more =
+    ap (λ r. answer_after r more) e ∙ ap ended (sym (and_then-assoc r (λ s. step s byte) (λ s. run s more) (λ s. run s (byte ∷ more)) (λ t. refl))) ∙ h (byte ∷ more) ∙ ap read_line (sym (append_assoc bytes (byte ∷ []) more))
+
+pub taken_iff : (r : Result State ReadFault) (bytes : List ℕ) → IsOutcome r bytes → IsOk (answer r) ↔ CanContinue bytes
+taken_iff (Ok s) bytes h =
+    let e = can_end s in
+    let q : read_line (bytes ++ cut_ending (cut_of s.last) ++ bracket_ending (is_open s.bracket)) ≡ Ok e.0 = ap read_line (append_assoc bytes (cut_ending (cut_of s.last)) (bracket_ending (is_open s.bracket))) ∙ sym (h _) ∙ e.1 in
+    (λ _. (cut_of s.last, is_open s.bracket, line_of _ e.0 q), λ _. refl)
+taken_iff (Err f) bytes h =
+    (λ k. absurd (cc), λ k. absurd (no_line _ f (ap read_line (append_assoc bytes (cut_ending k.0) (bracket_ending k.1)) ∙ sym (h (cut_ending k.0 ++ bracket_ending k.1))) k.2))
+
+read_of : (bytes more : List ℕ) → read_line (bytes ++ more) ≡ answer_after (run start bytes) more
+unfolding read_line
+read_of bytes more = ap ended (run-append 256 start bytes more)
+
+pub refused_stops : (r : Result State ReadFault) (bytes : List ℕ) → IsOutcome r bytes → IfErr (answer r) (λ f. Stops bytes f)
+refused_stops (Ok s) bytes h = tt
+refused_stops (Err f) bytes h = by_run (run start bytes) refl
+  where
+    line_with : (r : Result State ReadFault) (more : List ℕ) → run start bytes ≡ r → read_line (bytes ++ more) ≡ answer_after r more
+    line_with r more e = read_of bytes more ∙ ap (λ r. answer_after r more) e
+
+    by_run : (r : Result State ReadFault) → run start bytes ≡ r → Stops bytes f
+    by_run (Ok t) e =
+        let w = can_end t in
+        let q : Err f ≡ Ok w.0 = h _ ∙ line_with (Ok t) (cut_ending (cut_of t.last) ++ bracket_ending (is_open t.bracket)) e ∙ w.1 in
+        absurd (cc)
+    by_run (Err g) e =
+        let q : Err f ≡ Err g = h [] ∙ line_with (Err g) [] e in
+        let w : f ≡ g = cc in
+        run_stops bytes f (e ∙ ap Err (sym w))
+
+-- what a reader answers at the end
+pub line_end : (r : Reader) (bytes : List ℕ) → IsFed r bytes → read_line bytes ≡ ended (state_or r.fault r.so_far)
+unfolding line_with
+line_end r bytes h =
+    ap read_line (sym (append-nil bytes)) ∙ sym (h.line []) ∙ ap ended (same (state_or r.fault r.so_far))
+  where
+    same : (r : Result State ReadFault) → and_then r (λ s. Ok s) ≡ r
+    same (Ok s) = refl
+    same (Err f) = refl
+
+pub told_line : (fault : Option ReadFault) (p : PartialLine) (n : ℕ) (bytes : List ℕ) (f : ReadFault) → fault ≡ Some f → IsFed (record { fed = n; fault = fault; so_far = state_of p n }) bytes → Err f ≡ read_line bytes
+told_line fault p n bytes f e h = sym (line_end _ bytes h ∙ ap (λ o. ended (state_or o (state_of p n))) e)
+
+pub ended_line : (fault : Option ReadFault) (p : PartialLine) (n : ℕ) (bytes : List ℕ) → fault ≡ None → IsFed (record { fed = n; fault = fault; so_far = state_of p n }) bytes → ended_at p.last (state_of p n) ≡ read_line bytes
+ended_line fault p n bytes e h = sym (line_end _ bytes h ∙ ap (λ o. ended (state_or o (state_of p n))) e)
+
+pub found_if : (bytes : List ℕ) (r : Result Moves ReadFault) → r ≡ read_line bytes → IfOk r (λ m. Spells bytes m.normal m.bracketed)
+found_if bytes (Ok m) e = line_spells bytes m (sym e)
+found_if bytes (Err f) e = tt
+
+pub fault_if : (bytes : List ℕ) (r : Result Moves ReadFault) → r ≡ read_line bytes → IfErr r (λ f. Faults bytes f)
+fault_if bytes (Ok m) e = tt
+fault_if bytes (Err f) e = line_faults bytes f (sym e)
+
+-- a byte fed to a reader
+pub record IsFedOn (fault : Option ReadFault) (p : PartialLine) (n byte : ℕ) (next : Option ReadFault) (q : PartialLine) (m : ℕ) (result : Result (Unit {0}) ReadFault) : Type 0 where
+  pub fed : m ≡ n + 1
+  pub outcome : outcome_of next q m ≡ and_then (outcome_of fault p n) (λ s. step s byte)
+  pub answered : result ≡ answer (outcome_of next q m)
+  pub room : HasRoomUnless next (state_of q 0)
+
+at_ok : (p q : PartialLine) (n byte : ℕ) (r : Result (Unit {0}) ReadFault) → HasRoom (state_of p 0) → IsStep (λ s. step s byte) p n r q → IsFedOn None p n byte (result_err r) q (n + 1) r
+at_ok p q n byte (Ok u) h e = record { fed = refl; outcome = sym e; answered = refl; room = room_kept p q n byte h e }
+at_ok p q n byte (Err f) h e = record { fed = refl; outcome = sym e; answered = refl; room = tt }
+
+pub fed_on : (fault next : Option ReadFault) (p q t : PartialLine) (n m byte : ℕ) (result r : Result (Unit {0}) ReadFault) → fault ≡ None → HasRoomUnless fault (state_of p 0) → IsStep (λ s. step s byte) p n r t → result ≡ r → next ≡ result_err result → q ≡ t → m ≡ n + 1 → IsFedOn fault p n byte next q m result
+fed_on fault next p q t n m byte result r none room h er en eq em =
+    let one = at_ok p t n byte r (subst (λ (o : Option ReadFault). HasRoomUnless o (state_of p 0)) none room) h in
+    subst₂ (λ (o : Option ReadFault) (x : Result (Unit {0}) ReadFault). IsFedOn o p n byte next q m x) (sym none) (sym er) (subst₃ (λ (o : Option ReadFault) (x : PartialLine) (k : ℕ). IsFedOn None p n byte o x k r) (sym (en ∙ ap result_err er)) (sym eq) (sym em) one)
+
+pub fed_again : (fault next : Option ReadFault) (p q : PartialLine) (n m byte : ℕ) (result : Result (Unit {0}) ReadFault) (f : ReadFault) → fault ≡ Some f → result ≡ Err f → next ≡ result_err result → m ≡ n + 1 → IsFedOn fault p n byte next q m result
+fed_again fault next p q n m byte result f some er en em =
+    let one : IsFedOn (Some f) p n byte (Some f) q (n + 1) (Err f) = record { fed = refl; outcome = refl; answered = refl; room = tt } in
+    subst₂ (λ (o : Option ReadFault) (x : Result (Unit {0}) ReadFault). IsFedOn o p n byte next q m x) (sym some) (sym er) (subst₂ (λ (o : Option ReadFault) (k : ℕ). IsFedOn (Some f) p n byte o q k (Err f)) (sym (en ∙ ap result_err er)) (sym em) one)
+
+pub is_fed_on : (fault next : Option ReadFault) (p q : PartialLine) (n m byte : ℕ) (result : Result (Unit {0}) ReadFault) (bytes : List ℕ) → IsFedOn fault p n byte next q m result → IsFed (record { fed = n; fault = fault; so_far = state_of p n }) bytes → IsFed (record { fed = m; fault = next; so_far = state_of q m }) (bytes ++ byte ∷ [])
+unfolding line_with
+is_fed_on fault next p q n m byte result bytes h k =
+    record {
+      fed = let e = k.fed in omega (arith, h.fed, length-append bytes (byte ∷ []));
+      line = outcome_of_more (outcome_of fault p n) (outcome_of next q m) bytes byte h.outcome k.line;
+    }
+
+pub fed_taken : (fault next : Option ReadFault) (p q : PartialLine) (n m byte : ℕ) (result : Result (Unit {0}) ReadFault) (bytes : List ℕ) → IsFedOn fault p n byte next q m result → IsFed (record { fed = n; fault = fault; so_far = state_of p n }) bytes → IsOk result ↔ CanContinue (bytes ++ byte ∷ [])
+unfolding line_with
+fed_taken fault next p q n m byte result bytes h k =
+    subst (λ (x : Result (Unit {0}) ReadFault). IsOk x ↔ CanContinue (bytes ++ byte ∷ [])) (sym h.answered) (taken_iff (outcome_of next q m) (bytes ++ byte ∷ []) (outcome_of_more (outcome_of fault p n) (outcome_of next q m) bytes byte h.outcome k.line))
+
+pub fed_stops : (fault next : Option ReadFault) (p q : PartialLine) (n m byte : ℕ) (result : Result (Unit {0}) ReadFault) (bytes : List ℕ) → IsFedOn fault p n byte next q m result → IsFed (record { fed = n; fault = fault; so_far = state_of p n }) bytes → IfErr result (λ f. Stops (bytes ++ byte ∷ []) f)
+unfolding line_with
+fed_stops fault next p q n m byte result bytes h k =
+    subst (λ (x : Result (Unit {0}) ReadFault). IfErr x (λ f. Stops (bytes ++ byte ∷ []) f)) (sym h.answered) (refused_stops (outcome_of next q m) (bytes ++ byte ∷ []) (outcome_of_more (outcome_of fault p n) (outcome_of next q m) bytes byte h.outcome k.line))
+
+pub new_fed : (p : PartialLine) → state_of p 0 ≡ start → IsFed (record { fed = 0; fault = None; so_far = state_of p 0 }) []
+unfolding line_with read_line
+new_fed p e = record { fed = refl; line = λ more. ap (λ s. answer_after (Ok s) more) e }

@@ -1,0 +1,111 @@
+-- A step keeps the moves within their bound.
+use Rattle.std.proofs.Common.{◌≡◌, ℕ, ◌+◌, ◌-◌, ◌<◌, ◌≤◌, Bool, true, false, cond, nat_lt, eqb, refl, subst, List, [], ◌∷◌, length, Option, None, Some, Result, Ok, Err, arith}
+use Rattle.std.proofs.lemmas.Bool.{ltb-true}
+use Rattle.niss_moves.specs.Notation.{token_of}
+use Rattle.niss_moves.specs.Machine.{symbol_of, State, outside, inside, settled, settled_by, opened, closed, begun, count, counted, with_last, step_by, step_at, step, step_within, HasRoom, HasRoomUnless, state_of}
+use Rattle.niss_moves.specs.declared.turn.Power.TheVariants.{Quarter, Half, Counter}
+use Rattle.niss_moves.specs.declared.token.Token.{Token}
+use Rattle.niss_moves.specs.declared.base.Base.{Base}
+use Rattle.niss_moves.specs.declared.base.Base.TheVariants as base
+use Rattle.niss_moves.specs.declared.partial_line.PartialLine.{PartialLine}
+use Rattle.niss_moves.specs.declared.partial_line.LastMove.{LastMove}
+use Rattle.niss_moves.specs.declared.partial_line.LastMove.TheVariants as last
+use Rattle.niss_moves.specs.declared.symbol.Symbol.{Symbol}
+use Rattle.niss_moves.specs.declared.symbol.Symbol.TheVariants as symbol
+use Rattle.niss_moves.specs.declared.fault.ReadFault.{ReadFault}
+use Rattle.niss_moves.specs.declared.fault.ReadFault.TheVariants.{NotAMove, TooLong}
+use Rattle.niss_moves.proofs.Completes.{count_more}
+
+abbrev Roomy : Result State ReadFault → Type 0
+Roomy (Ok t) = HasRoom t
+Roomy (Err f) = Unit {0}
+
+pub state : List Token → List Token → Option ℕ → LastMove → ℕ → State
+state n b o t k = record { normal = n; bracketed = b; bracket = o; last = t; fed = k }
+
+room_one : (n b : List Token) (o : Option ℕ) (x y : Token) → length (outside o n (x ∷ [])) + length (inside o b (x ∷ [])) ≤ 256 → length (outside o n (y ∷ [])) + length (inside o b (y ∷ [])) ≤ 256
+room_one n b o x y h = omega (arith, count_more o n b (x ∷ []), count_more o n b (y ∷ []))
+
+room_begun : (s : State) (b : Base) → HasRoom s → Roomy (begun 256 b s)
+room_begun s b h = chosen (nat_lt (count (settled s)) 256) refl
+  where
+    chosen : (c : Bool) → nat_lt (count (settled s)) 256 ≡ c → Roomy (cond c (Ok (counted (with_last (last.Bare b) (settled s)))) (Err (TooLong (s.fed + 1))))
+    chosen true e =
+        let room : count (settled s) < 256 = ltb-true _ _ e in
+        omega (arith, count_more s.bracket (settled s).normal (settled s).bracketed (token_of b Quarter ∷ []))
+    chosen false e = tt
+
+room_open : (o : Option ℕ) (s : State) → HasRoom s → Roomy (opened o s)
+room_open None s h = h
+room_open (Some c) s h = tt
+
+room_close : (o : Option ℕ) (s : State) → HasRoom s → Roomy (closed o s)
+room_close None s h = tt
+room_close (Some c) s h = h
+
+room_symbol : (x : Symbol) (n b : List Token) (o : Option ℕ) (t : LastMove) (k : ℕ) → HasRoom (state n b o t k) → Roomy (step_by 256 x (state n b o t k))
+unfolding state
+room_symbol symbol.Blank n b o t k h = h
+room_symbol symbol.Open n b o t k h = room_open o (state n b o t k) h
+room_symbol symbol.Close n b o t k h = room_close o (state n b o t k) h
+room_symbol (symbol.Base x) n b o t k h = room_begun (state n b o t k) x h
+room_symbol symbol.Wide n b o (last.Bare (base.Face f)) k h =
+    room_one n b o (token_of (base.Face f) Quarter) (token_of (base.Wide f) Quarter) h
+room_symbol symbol.Wide n b o (last.Bare (base.Wide f)) k h = tt
+room_symbol symbol.Wide n b o (last.Bare (base.LowerCase f)) k h = tt
+room_symbol symbol.Wide n b o (last.Bare (base.Slice f)) k h = tt
+room_symbol symbol.Wide n b o (last.Bare (base.Rotation f)) k h = tt
+room_symbol symbol.Wide n b o last.Finished k h = tt
+room_symbol symbol.Wide n b o (last.Doubled f) k h = tt
+room_symbol symbol.Wide n b o (last.FirstByte f two) k h = tt
+room_symbol symbol.Wide n b o (last.SecondByte f two) k h = tt
+room_symbol symbol.Two n b o (last.Bare f) k h = room_one n b o (token_of f Quarter) (token_of f Half) h
+room_symbol symbol.Two n b o last.Finished k h = tt
+room_symbol symbol.Two n b o (last.Doubled f) k h = tt
+room_symbol symbol.Two n b o (last.FirstByte f two) k h = tt
+room_symbol symbol.Two n b o (last.SecondByte f two) k h = tt
+room_symbol symbol.Apostrophe n b o (last.Bare f) k h = room_one n b o (token_of f Quarter) (token_of f Counter) h
+room_symbol symbol.Apostrophe n b o last.Finished k h = tt
+room_symbol symbol.Apostrophe n b o (last.Doubled f) k h = h
+room_symbol symbol.Apostrophe n b o (last.FirstByte f two) k h = tt
+room_symbol symbol.Apostrophe n b o (last.SecondByte f two) k h = tt
+room_symbol symbol.Cut n b o (last.Bare f) k h = room_one n b o (token_of f Quarter) (token_of f Counter) h
+room_symbol symbol.Cut n b o last.Finished k h = tt
+room_symbol symbol.Cut n b o (last.Doubled f) k h = h
+room_symbol symbol.Cut n b o (last.FirstByte f two) k h = tt
+room_symbol symbol.Cut n b o (last.SecondByte f two) k h = tt
+room_symbol symbol.Other n b o t k h = tt
+
+room_step : (s : State) (byte : ℕ) → HasRoom s → Roomy (step s byte)
+unfolding step_within state
+room_step s byte h = by_last s.normal s.bracketed s.bracket s.last s.fed h
+  where
+    chosen : (c : Bool) (t : State) (f : ReadFault) → HasRoom t → Roomy (cond c (Ok t) (Err f))
+    chosen true t f h = h
+    chosen false t f h = tt
+
+    by_last : (n b : List Token) (o : Option ℕ) (t : LastMove) (k : ℕ) → HasRoom (state n b o t k) → Roomy (step_at 256 t (state n b o t k) byte)
+    by_last n b o last.Finished k h = room_symbol (symbol_of byte) n b o last.Finished k h
+    by_last n b o (last.Bare f) k h = room_symbol (symbol_of byte) n b o (last.Bare f) k h
+    by_last n b o (last.Doubled f) k h = room_symbol (symbol_of byte) n b o (last.Doubled f) k h
+    by_last n b o (last.FirstByte f two) k h = chosen (eqb byte 0x80) (counted (with_last (last.SecondByte f two) (state n b o (last.FirstByte f two) k))) (NotAMove k) h
+    by_last n b o (last.SecondByte f two) k h = chosen (eqb byte 0x99) (counted (settled (state n b o (last.SecondByte f two) k))) (NotAMove (k - 1)) h
+
+-- how many bytes were fed is nothing to it
+room_fed : (p : PartialLine) (m n : ℕ) → HasRoom (state_of p m) → HasRoom (state_of p n)
+room_fed p m n h = by_last p.last h
+  where
+    by_last : (t : LastMove) → length (settled_by t (state_of p m)).normal + length (settled_by t (state_of p m)).bracketed ≤ 256 → length (settled_by t (state_of p n)).normal + length (settled_by t (state_of p n)).bracketed ≤ 256
+    by_last last.Finished h = h
+    by_last (last.Bare b) h = h
+    by_last (last.Doubled b) h = h
+    by_last (last.FirstByte b two) h = h
+    by_last (last.SecondByte b two) h = h
+
+pub room_kept : (p q : PartialLine) (n : ℕ) (byte : ℕ) → HasRoom (state_of p 0) → step (state_of p n) byte ≡ Ok (state_of q (n + 1)) → HasRoom (state_of q 0)
+room_kept p q n byte h e =
+    room_fed q (n + 1) 0 (subst (λ (r : Result State ReadFault). Roomy r) e (room_step (state_of p n) byte (room_fed p 0 n h)))
+
+pub room_unless : (f : Option ReadFault) (p q : PartialLine) (n : ℕ) (byte : ℕ) → f ≡ None → HasRoomUnless f (state_of p 0) → step (state_of p n) byte ≡ Ok (state_of q (n + 1)) → HasRoomUnless f (state_of q 0)
+room_unless None p q n byte e h k = room_kept p q n byte h k
+room_unless (Some f) p q n byte e h k = tt

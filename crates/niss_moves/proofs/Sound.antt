@@ -1,0 +1,417 @@
+-- What is read is spelled.
+use Rattle.std.proofs.Common.{◌≡◌, ℕ, ◌+◌, ◌-◌, ◌<◌, ◌≤◌, Bool, true, false, cond, nat_lt, eqb, refl, ap, ap₂, sym, ◌∙◌, subst, subst₂, List, [], ◌∷◌, ◌++◌, length, flat_map, append_assoc, append-nil, Option, None, Some, Result, Ok, Err, arith, length-append}
+use Rattle.std.proofs.lemmas.Bool.{ltb-true, eqb-true}
+use Rattle.std.proofs.lemmas.List.Concat.{flat_map-append}
+use Rattle.niss_moves.specs.Letters.{face_letter}
+use Rattle.niss_moves.specs.Notation.{lower_letter, slice_letter, rotation_letter, token_of, base_bytes, Typographic, Plain, Suffix, Nothing, Two, Prime, TwoPrime, Blank, Space, Tab, Return, blank_byte}
+use Rattle.niss_moves.specs.Line.{Piece, Gap, Move, piece_bytes, piece_moves, Item, Outside, Bracket, item_bytes, item_normal, item_bracketed}
+use Rattle.niss_moves.specs.Faults.{Cut, Whole, LacksOne, LacksTwo, cut_ending, BeginsBase}
+use Rattle.niss_moves.specs.Machine.{Entry, bytes_of_a_line, look_up, symbol_of, State, start, outside, inside, added, settled, settled_by, opened, closed, widened, doubled, primed, cut, begun, count, counted, with_last, step_by, step_at, step, step_within}
+use Rattle.niss_moves.specs.declared.turn.Power.TheVariants.{Quarter, Half, Counter}
+use Rattle.niss_moves.specs.declared.token.Token.{Token}
+use Rattle.niss_moves.specs.declared.base.Base.{Base}
+use Rattle.niss_moves.specs.declared.base.Base.TheVariants as base
+use Rattle.niss_moves.specs.declared.partial_line.LastMove.{LastMove}
+use Rattle.niss_moves.specs.declared.partial_line.LastMove.TheVariants as last
+use Rattle.niss_moves.specs.declared.symbol.Symbol.{Symbol}
+use Rattle.niss_moves.specs.declared.symbol.Symbol.TheVariants as symbol
+use Rattle.niss_moves.specs.declared.fault.ReadFault.{ReadFault}
+use Rattle.niss_moves.specs.declared.fault.ReadFault.TheVariants.{NotAMove, Nested, Unopened, Unclosed, TooLong}
+use Rattle.niss_moves.proofs.Completes.{IsReady, count_more, outside_none, inside_none, symbol_of_face, symbol_of_lower, symbol_of_slice, symbol_of_rotation}
+
+-- what a kind says of its byte
+abbrev pub IsSymbol : Symbol → ℕ → Type 0
+IsSymbol symbol.Blank b = (x : Blank) × (b ≡ blank_byte x)
+IsSymbol symbol.Open b = b ≡ 40
+IsSymbol symbol.Close b = b ≡ 41
+IsSymbol (symbol.Base x) b = (base_bytes x ≡ b ∷ [])
+IsSymbol symbol.Wide b = b ≡ 119
+IsSymbol symbol.Two b = b ≡ 50
+IsSymbol symbol.Apostrophe b = b ≡ 39
+IsSymbol symbol.Cut b = b ≡ 0xE2
+IsSymbol symbol.Other b = Unit {0}
+
+abbrev IsTable : List Entry → Type 0
+IsTable [] = Unit {0}
+IsTable (e ∷ es) = IsSymbol e.symbol e.byte × IsTable es
+
+look_up_is : (es : List Entry) → IsTable es → (b : ℕ) → IsSymbol (look_up es b) b
+look_up_is [] h b = tt
+look_up_is (e ∷ es) h b = chosen (eqb b e.byte) refl (look_up_is es h.1 b)
+  where
+    chosen : (c : Bool) → eqb b e.byte ≡ c → IsSymbol (look_up es b) b → IsSymbol (cond c e.symbol (look_up es b)) b
+    chosen true q k = subst (λ (x : ℕ). IsSymbol e.symbol x) (sym (eqb-true b e.byte q)) h.0
+    chosen false q k = k
+
+table : IsTable bytes_of_a_line
+table = ((Space, refl), ((Tab, refl), ((Return, refl), (refl, (refl, (refl, (refl, (refl, (refl, (refl, (refl, (refl, (refl, (refl, (refl, (refl, (refl, (refl, (refl, (refl, (refl, (refl, (refl, (refl, (refl, (refl, (refl, tt)))))))))))))))))))))))))))
+
+pub symbol_is : (b : ℕ) → IsSymbol (symbol_of b) b
+unfolding symbol_of
+symbol_is b = look_up_is bytes_of_a_line table b
+
+-- the bytes so far as whole items, and an open bracket with its pieces if there is one
+abbrev pub front_bytes : List Item → Option (List Piece) → List ℕ
+front_bytes items None = flat_map item_bytes items
+front_bytes items (Some ps) = flat_map item_bytes items ++ 40 ∷ flat_map piece_bytes ps
+
+abbrev pub front_bracketed : List Item → Option (List Piece) → List Token
+front_bracketed items None = flat_map item_bracketed items
+front_bracketed items (Some ps) = flat_map item_bracketed items ++ flat_map piece_moves ps
+
+abbrev pub IsBracket : Option ℕ → List Item → Option (List Piece) → Type 0
+IsBracket None items None = Unit {0}
+IsBracket (Some c) items (Some ps) = c ≡ length (flat_map item_bytes items) + 1
+IsBracket None items (Some ps) = ⊥
+IsBracket (Some c) items None = ⊥
+
+pub record WholeItems (o : Option ℕ) (bytes : List ℕ) (n b : List Token) : Type 0 where
+  pub items : List Item
+  pub inner : Option (List Piece)
+  pub bytes_are : bytes ≡ front_bytes items inner
+  pub normal_are : n ≡ flat_map item_normal items
+  pub bracketed_are : b ≡ front_bracketed items inner
+  pub bracket_is : IsBracket o items inner
+
+flat_push : {X A : Type 0} (f : X → List A) (xs : List X) (x : X) → flat_map f (xs ++ x ∷ []) ≡ flat_map f xs ++ f x
+flat_push f xs x = flat_map-append f xs (x ∷ []) ∙ ap (λ y. flat_map f xs ++ y) (append-nil (f x))
+
+pub front_piece : (o : Option ℕ) (bytes : List ℕ) (n b : List Token) (p : Piece) → WholeItems o bytes n b → WholeItems o (bytes ++ piece_bytes p) (outside o n (piece_moves p)) (inside o b (piece_moves p))
+front_piece o bytes n b p h = by_inner o h.items h.inner h.bytes_are h.normal_are h.bracketed_are h.bracket_is
+  where
+    by_inner : (o : Option ℕ) (items : List Item) (inner : Option (List Piece)) → bytes ≡ front_bytes items inner → n ≡ flat_map item_normal items → b ≡ front_bracketed items inner → IsBracket o items inner → WholeItems o (bytes ++ piece_bytes p) (outside o n (piece_moves p)) (inside o b (piece_moves p))
+    by_inner None items None e f g k =
+        record {
+          items = items ++ Outside p ∷ [];
+          inner = None;
+          bytes_are = ap (λ x. x ++ piece_bytes p) e ∙ sym (flat_push item_bytes items (Outside p));
+          normal_are = ap (λ x. x ++ piece_moves p) f ∙ sym (flat_push item_normal items (Outside p));
+          bracketed_are = g ∙ sym (append-nil _) ∙ sym (flat_push item_bracketed items (Outside p));
+          bracket_is = tt;
+        }
+    by_inner (Some c) items (Some ps) e f g k =
+        record {
+          items = items;
+          inner = Some (ps ++ p ∷ []);
+          bytes_are = ap (λ x. x ++ piece_bytes p) e ∙ append_assoc (flat_map item_bytes items) (40 ∷ flat_map piece_bytes ps) (piece_bytes p) ∙ ap (λ x. flat_map item_bytes items ++ 40 ∷ x) (sym (flat_push piece_bytes ps p));
+          normal_are = f;
+          bracketed_are = ap (λ x. x ++ piece_moves p) g ∙ append_assoc (flat_map item_bracketed items) (flat_map piece_moves ps) (piece_moves p) ∙ ap (λ x. flat_map item_bracketed items ++ x) (sym (flat_push piece_moves ps p));
+          bracket_is = k;
+        }
+    by_inner None items (Some ps) e f g k = absurd k
+    by_inner (Some c) items None e f g k = absurd k
+
+pub front_open : (o : Option ℕ) (c : ℕ) (bytes : List ℕ) (n b : List Token) → o ≡ None → c ≡ length bytes + 1 → WholeItems o bytes n b → WholeItems (Some c) (bytes ++ 40 ∷ []) n b
+front_open o c bytes n b none col h =
+    by_inner h.items h.inner h.bytes_are h.normal_are h.bracketed_are (subst (λ (o : Option ℕ). IsBracket o h.items h.inner) none h.bracket_is)
+  where
+    by_inner : (items : List Item) (inner : Option (List Piece)) → bytes ≡ front_bytes items inner → n ≡ flat_map item_normal items → b ≡ front_bracketed items inner → IsBracket None items inner → WholeItems (Some c) (bytes ++ 40 ∷ []) n b
+    by_inner items None e f g k =
+        record {
+          items = items;
+          inner = Some [];
+          bytes_are = ap (λ x. x ++ 40 ∷ []) e;
+          normal_are = f;
+          bracketed_are = g ∙ sym (append-nil _);
+          bracket_is = col ∙ ap (λ x. length x + 1) e;
+        }
+    by_inner items (Some ps) e f g k = absurd k
+
+pub front_close : (o : Option ℕ) (c : ℕ) (bytes : List ℕ) (n b : List Token) → o ≡ Some c → WholeItems o bytes n b → WholeItems None (bytes ++ 41 ∷ []) n b
+front_close o c bytes n b some h =
+    by_inner h.items h.inner h.bytes_are h.normal_are h.bracketed_are (subst (λ (o : Option ℕ). IsBracket o h.items h.inner) some h.bracket_is)
+  where
+    by_inner : (items : List Item) (inner : Option (List Piece)) → bytes ≡ front_bytes items inner → n ≡ flat_map item_normal items → b ≡ front_bracketed items inner → IsBracket (Some c) items inner → WholeItems None (bytes ++ 41 ∷ []) n b
+    by_inner items (Some ps) e f g k =
+        record {
+          items = items ++ Bracket ps ∷ [];
+          inner = None;
+          bytes_are = ap (λ x. x ++ 41 ∷ []) e ∙ append_assoc (flat_map item_bytes items) (40 ∷ flat_map piece_bytes ps) (41 ∷ []) ∙ sym (flat_push item_bytes items (Bracket ps));
+          normal_are = f ∙ sym (append-nil _) ∙ sym (flat_push item_normal items (Bracket ps));
+          bracketed_are = g ∙ sym (flat_push item_bracketed items (Bracket ps));
+          bracket_is = tt;
+        }
+    by_inner items None e f g k = absurd k
+
+-- the bytes of the last move as far as it goes
+abbrev pub two_bytes : Bool → List ℕ
+two_bytes true = 50 ∷ []
+two_bytes false = []
+
+abbrev pub last_bytes : LastMove → List ℕ
+last_bytes last.Finished = []
+last_bytes (last.Bare b) = base_bytes b
+last_bytes (last.Doubled b) = base_bytes b ++ 50 ∷ []
+last_bytes (last.FirstByte b two) = base_bytes b ++ two_bytes two ++ 0xE2 ∷ []
+last_bytes (last.SecondByte b two) = base_bytes b ++ two_bytes two ++ 0xE2 ∷ 0x80 ∷ []
+
+-- The state is what is read of the bytes.
+pub record Reads (s : State) (bytes : List ℕ) : Type 0 where
+  pub front : List ℕ
+  pub is_front : WholeItems s.bracket front s.normal s.bracketed
+  pub bytes_are : bytes ≡ front ++ last_bytes s.last
+  pub fed : s.fed ≡ length bytes
+  pub room : count (settled s) ≤ 256
+
+pub reads_start : Reads start []
+reads_start =
+    record {
+      front = [];
+      is_front = record { items = []; inner = None; bytes_are = refl; normal_are = refl; bracketed_are = refl; bracket_is = tt };
+      bytes_are = refl;
+      fed = refl;
+      room = omega arith;
+    }
+
+abbrev pub cut_of : LastMove → Cut
+cut_of (last.FirstByte b two) = LacksTwo
+cut_of (last.SecondByte b two) = LacksOne
+cut_of _ = Whole
+
+abbrev cut_suffix : Bool → Suffix
+cut_suffix true = TwoPrime Typographic
+cut_suffix false = Prime Typographic
+
+-- the bytes with the end of a cut U+2019, as whole pieces
+pub settled_front : (s : State) (bytes : List ℕ) → Reads s bytes → WholeItems s.bracket (bytes ++ cut_ending (cut_of s.last)) (settled s).normal (settled s).bracketed
+settled_front s bytes h = by_last s.last refl
+  where
+    front_is : (t : LastMove) → s.last ≡ t → bytes ≡ h.front ++ last_bytes t
+    front_is t e = h.bytes_are ∙ ap (λ t. h.front ++ last_bytes t) e
+
+    by_last : (t : LastMove) → s.last ≡ t → WholeItems s.bracket (bytes ++ cut_ending (cut_of t)) (settled_by t s).normal (settled_by t s).bracketed
+    by_last last.Finished e =
+        subst (λ (x : List ℕ). WholeItems s.bracket x s.normal s.bracketed) (sym (append-nil _ ∙ (h.bytes_are ∙ ap (λ t. h.front ++ last_bytes t) e) ∙ append-nil _)) h.is_front
+    by_last (last.Bare b) e =
+        subst (λ (x : List ℕ). WholeItems s.bracket x (added s (token_of b Quarter)).normal (added s (token_of b Quarter)).bracketed) (sym (append-nil _ ∙ (h.bytes_are ∙ ap (λ t. h.front ++ last_bytes t) e) ∙ ap (λ x. h.front ++ x) (sym (append-nil (base_bytes b))))) (front_piece _ _ _ _ (Move b Nothing) h.is_front)
+    by_last (last.Doubled b) e =
+        subst (λ (x : List ℕ). WholeItems s.bracket x (added s (token_of b Half)).normal (added s (token_of b Half)).bracketed) (sym (append-nil _ ∙ (h.bytes_are ∙ ap (λ t. h.front ++ last_bytes t) e))) (front_piece _ _ _ _ (Move b Two) h.is_front)
+    by_last (last.FirstByte b true) e =
+        subst (λ (x : List ℕ). WholeItems s.bracket x (added s (token_of b Half)).normal (added s (token_of b Half)).bracketed) (sym (ap (λ x. x ++ 0x80 ∷ 0x99 ∷ []) (h.bytes_are ∙ ap (λ t. h.front ++ last_bytes t) e) ∙ simp append_assoc)) (front_piece _ _ _ _ (Move b (TwoPrime Typographic)) h.is_front)
+    by_last (last.FirstByte b false) e =
+        subst (λ (x : List ℕ). WholeItems s.bracket x (added s (token_of b Counter)).normal (added s (token_of b Counter)).bracketed) (sym (ap (λ x. x ++ 0x80 ∷ 0x99 ∷ []) (h.bytes_are ∙ ap (λ t. h.front ++ last_bytes t) e) ∙ simp append_assoc)) (front_piece _ _ _ _ (Move b (Prime Typographic)) h.is_front)
+    by_last (last.SecondByte b true) e =
+        subst (λ (x : List ℕ). WholeItems s.bracket x (added s (token_of b Half)).normal (added s (token_of b Half)).bracketed) (sym (ap (λ x. x ++ 0x99 ∷ []) (h.bytes_are ∙ ap (λ t. h.front ++ last_bytes t) e) ∙ simp append_assoc)) (front_piece _ _ _ _ (Move b (TwoPrime Typographic)) h.is_front)
+    by_last (last.SecondByte b false) e =
+        subst (λ (x : List ℕ). WholeItems s.bracket x (added s (token_of b Counter)).normal (added s (token_of b Counter)).bracketed) (sym (ap (λ x. x ++ 0x99 ∷ []) (h.bytes_are ∙ ap (λ t. h.front ++ last_bytes t) e) ∙ simp append_assoc)) (front_piece _ _ _ _ (Move b (Prime Typographic)) h.is_front)
+
+ready_front : (s : State) (bytes : List ℕ) → IsReady s.last → Reads s bytes → WholeItems s.bracket bytes (settled s).normal (settled s).bracketed
+ready_front s bytes r h =
+    subst (λ (x : List ℕ). WholeItems s.bracket x (settled s).normal (settled s).bracketed) (ap (λ c. bytes ++ cut_ending c) (whole s.last r) ∙ append-nil bytes) (settled_front s bytes h)
+  where
+    whole : (t : LastMove) → IsReady t → cut_of t ≡ Whole
+    whole last.Finished r = refl
+    whole (last.Bare b) r = refl
+    whole (last.Doubled b) r = refl
+    whole (last.FirstByte b two) r = absurd r
+    whole (last.SecondByte b two) r = absurd r
+
+abbrev pub is_open : Option ℕ → Bool
+is_open None = false
+is_open (Some c) = true
+
+-- what a refused byte means, behind n bytes
+abbrev pub Refusal : Cut → Bool → ℕ → ℕ → ReadFault → Type 0
+Refusal Whole o byte n (NotAMove c) =
+    (c ≡ n + 1) × ((byte ≡ 40) × (o ≡ true) → ⊥) × ((byte ≡ 41) × (o ≡ false) → ⊥) × (BeginsBase byte → ⊥)
+Refusal Whole o byte n (Nested c) = (c ≡ n + 1) × (byte ≡ 40) × (o ≡ true)
+Refusal Whole o byte n (Unopened c) = (c ≡ n + 1) × (byte ≡ 41) × (o ≡ false)
+Refusal Whole o byte n (TooLong c) = (c ≡ n + 1) × BeginsBase byte
+Refusal Whole o byte n (Unclosed c) = ⊥
+Refusal LacksOne o byte n (NotAMove c) = c + 2 ≡ n + 1
+Refusal LacksTwo o byte n (NotAMove c) = c + 1 ≡ n + 1
+Refusal _ o byte n _ = ⊥
+
+abbrev pub Outcome : Cut → Bool → List ℕ → ℕ → Result State ReadFault → Type 0
+Outcome c o bytes byte (Ok t) = Reads t (bytes ++ byte ∷ [])
+Outcome c o bytes byte (Err f) = Refusal c o byte (length bytes) f
+
+-- bytes that begin no item
+abbrev IsFollower : Symbol → Type 0
+IsFollower symbol.Wide = Unit {0}
+IsFollower symbol.Two = Unit {0}
+IsFollower symbol.Apostrophe = Unit {0}
+IsFollower symbol.Cut = Unit {0}
+IsFollower symbol.Other = Unit {0}
+IsFollower _ = ⊥
+
+pub symbol_of_open : symbol_of 40 ≡ symbol.Open
+unfolding symbol_of
+symbol_of_open = refl
+
+pub symbol_of_close : symbol_of 41 ≡ symbol.Close
+unfolding symbol_of
+symbol_of_close = refl
+
+pub first_symbol : (b : Base) (byte : ℕ) (more : List ℕ) → base_bytes b ≡ byte ∷ more → (x : Base) × (symbol_of byte ≡ symbol.Base x)
+first_symbol (base.Face f) byte more e = let q : face_letter f ≡ byte = cc in (base.Face f, ap symbol_of (sym q) ∙ symbol_of_face f)
+first_symbol (base.Wide f) byte more e = let q : face_letter f ≡ byte = cc in (base.Face f, ap symbol_of (sym q) ∙ symbol_of_face f)
+first_symbol (base.LowerCase f) byte more e = let q : lower_letter f ≡ byte = cc in (base.LowerCase f, ap symbol_of (sym q) ∙ symbol_of_lower f)
+first_symbol (base.Slice l) byte more e = let q : slice_letter l ≡ byte = cc in (base.Slice l, ap symbol_of (sym q) ∙ symbol_of_slice l)
+first_symbol (base.Rotation a) byte more e = let q : rotation_letter a ≡ byte = cc in (base.Rotation a, ap symbol_of (sym q) ∙ symbol_of_rotation a)
+
+told_other : (o : Bool) (byte n k : ℕ) (x : Symbol) → symbol_of byte ≡ x → IsFollower x → k ≡ n → Refusal Whole o byte n (NotAMove (k + 1))
+told_other o byte n k x e f q =
+    (ap (λ n. n + 1) q, λ h. subst IsFollower (sym e ∙ ap symbol_of h.0 ∙ symbol_of_open) f, λ h. subst IsFollower (sym e ∙ ap symbol_of h.0 ∙ symbol_of_close) f, λ h. let w = first_symbol h.0 byte h.1 h.2 in subst IsFollower (sym e ∙ w.1) f)
+
+state : List Token → List Token → Option ℕ → LastMove → ℕ → State
+state n b o t k = record { normal = n; bracketed = b; bracket = o; last = t; fed = k }
+
+front_reads : (s : State) (bytes : List ℕ) → WholeItems s.bracket bytes s.normal s.bracketed → s.last ≡ last.Finished → s.fed ≡ length bytes → count (settled s) ≤ 256 → Reads s bytes
+front_reads s bytes h e k r =
+    record { front = bytes; is_front = h; bytes_are = sym (append-nil bytes) ∙ ap (λ t. bytes ++ last_bytes t) (sym e); fed = k; room = r }
+
+fed_more : (k byte : ℕ) (bytes : List ℕ) → k ≡ length bytes → k + 1 ≡ length (bytes ++ byte ∷ [])
+fed_more k byte bytes e = omega (arith, length-append bytes (byte ∷ []))
+
+blank_means : (s : State) (bytes : List ℕ) (byte : ℕ) → IsReady s.last → Reads s bytes → IsSymbol symbol.Blank byte → Reads (counted (settled s)) (bytes ++ byte ∷ [])
+blank_means s bytes byte r h k =
+    front_reads (counted (settled s)) _ (subst (λ (x : ℕ). WholeItems s.bracket (bytes ++ x ∷ []) (settled s).normal (settled s).bracketed) (sym k.1) (subst₂ (λ (n b : List Token). WholeItems s.bracket (bytes ++ blank_byte k.0 ∷ []) n b) (sym (outside_none s.bracket _)) (sym (inside_none s.bracket _)) (front_piece _ _ _ _ (Gap k.0) (ready_front s bytes r h)))) refl (fed_more _ _ _ h.fed) h.room
+
+open_means : (o : Option ℕ) (s : State) (bytes : List ℕ) (byte : ℕ) → s.bracket ≡ o → IsReady s.last → Reads s bytes → byte ≡ 40 → Outcome Whole (is_open o) bytes byte (opened o s)
+open_means None s bytes byte e r h k =
+    front_reads _ _ (subst (λ (x : ℕ). WholeItems (Some (s.fed + 1)) (bytes ++ x ∷ []) (settled s).normal (settled s).bracketed) (sym k) (front_open _ (s.fed + 1) _ _ _ e (ap (λ n. n + 1) h.fed) (ready_front s bytes r h))) refl (fed_more _ _ _ h.fed) h.room
+open_means (Some c) s bytes byte e r h k = (ap (λ n. n + 1) h.fed, k, refl)
+
+close_means : (o : Option ℕ) (s : State) (bytes : List ℕ) (byte : ℕ) → s.bracket ≡ o → IsReady s.last → Reads s bytes → byte ≡ 41 → Outcome Whole (is_open o) bytes byte (closed o s)
+close_means None s bytes byte e r h k = (ap (λ n. n + 1) h.fed, k, refl)
+close_means (Some c) s bytes byte e r h k =
+    front_reads _ _ (subst (λ (x : ℕ). WholeItems None (bytes ++ x ∷ []) (settled s).normal (settled s).bracketed) (sym k) (front_close _ c _ _ _ e (ready_front s bytes r h))) refl (fed_more _ _ _ h.fed) h.room
+
+base_means : (o : Bool) (s : State) (bytes : List ℕ) (byte : ℕ) (b : Base) → IsReady s.last → Reads s bytes → base_bytes b ≡ byte ∷ [] → Outcome Whole o bytes byte (begun 256 b s)
+base_means o s bytes byte b r h k = chosen (nat_lt (count (settled s)) 256) refl
+  where
+    chosen : (c : Bool) → nat_lt (count (settled s)) 256 ≡ c → Outcome Whole o bytes byte (cond c (Ok (counted (with_last (last.Bare b) (settled s)))) (Err (TooLong (s.fed + 1))))
+    chosen true e =
+        let room : count (settled s) < 256 = ltb-true _ _ e in
+        record {
+          front = bytes;
+          is_front = ready_front s bytes r h;
+          bytes_are = ap (λ x. bytes ++ x) (sym k);
+          fed = fed_more _ _ _ h.fed;
+          room = omega (arith, count_more s.bracket (settled s).normal (settled s).bracketed (token_of b Quarter ∷ []));
+        }
+    chosen false e = (ap (λ n. n + 1) h.fed, (b, [], k))
+
+-- the last move goes on
+wide_means : (q : Bool) (n b : List Token) (o : Option ℕ) (t : LastMove) (k : ℕ) (bytes : List ℕ) (byte : ℕ) → symbol_of byte ≡ symbol.Wide → byte ≡ 119 → Reads (state n b o t k) bytes → Outcome Whole q bytes byte (widened t (state n b o t k))
+unfolding state
+wide_means q n b o (last.Bare (base.Face f)) k bytes byte e x h =
+    record {
+      front = h.front;
+      is_front = h.is_front;
+      bytes_are = ap₂ (λ (y : List ℕ) (z : ℕ). y ++ z ∷ []) h.bytes_are x ∙ append_assoc h.front (face_letter f ∷ []) (119 ∷ []);
+      fed = fed_more _ _ _ h.fed;
+      room = omega (arith, h.room, count_more o n b (token_of (base.Face f) Quarter ∷ []), count_more o n b (token_of (base.Wide f) Quarter ∷ []));
+    }
+wide_means q n b o (last.Bare (base.Wide f)) k bytes byte e x h = told_other q byte (length bytes) k symbol.Wide e tt h.fed
+wide_means q n b o (last.Bare (base.LowerCase f)) k bytes byte e x h = told_other q byte (length bytes) k symbol.Wide e tt h.fed
+wide_means q n b o (last.Bare (base.Slice f)) k bytes byte e x h = told_other q byte (length bytes) k symbol.Wide e tt h.fed
+wide_means q n b o (last.Bare (base.Rotation f)) k bytes byte e x h = told_other q byte (length bytes) k symbol.Wide e tt h.fed
+wide_means q n b o last.Finished k bytes byte e x h = told_other q byte (length bytes) k symbol.Wide e tt h.fed
+wide_means q n b o (last.Doubled f) k bytes byte e x h = told_other q byte (length bytes) k symbol.Wide e tt h.fed
+wide_means q n b o (last.FirstByte f two) k bytes byte e x h = told_other q byte (length bytes) k symbol.Wide e tt h.fed
+wide_means q n b o (last.SecondByte f two) k bytes byte e x h = told_other q byte (length bytes) k symbol.Wide e tt h.fed
+
+two_means : (q : Bool) (n b : List Token) (o : Option ℕ) (t : LastMove) (k : ℕ) (bytes : List ℕ) (byte : ℕ) → symbol_of byte ≡ symbol.Two → byte ≡ 50 → Reads (state n b o t k) bytes → Outcome Whole q bytes byte (doubled t (state n b o t k))
+unfolding state
+two_means q n b o (last.Bare f) k bytes byte e x h =
+    record {
+      front = h.front;
+      is_front = h.is_front;
+      bytes_are = ap₂ (λ (y : List ℕ) (z : ℕ). y ++ z ∷ []) h.bytes_are x ∙ append_assoc h.front (base_bytes f) (50 ∷ []);
+      fed = fed_more _ _ _ h.fed;
+      room = omega (arith, h.room, count_more o n b (token_of f Quarter ∷ []), count_more o n b (token_of f Half ∷ []));
+    }
+two_means q n b o last.Finished k bytes byte e x h = told_other q byte (length bytes) k symbol.Two e tt h.fed
+two_means q n b o (last.Doubled f) k bytes byte e x h = told_other q byte (length bytes) k symbol.Two e tt h.fed
+two_means q n b o (last.FirstByte f two) k bytes byte e x h = told_other q byte (length bytes) k symbol.Two e tt h.fed
+two_means q n b o (last.SecondByte f two) k bytes byte e x h = told_other q byte (length bytes) k symbol.Two e tt h.fed
+
+prime_means : (q : Bool) (n b : List Token) (o : Option ℕ) (t : LastMove) (k : ℕ) (bytes : List ℕ) (byte : ℕ) → symbol_of byte ≡ symbol.Apostrophe → byte ≡ 39 → Reads (state n b o t k) bytes → Outcome Whole q bytes byte (primed t (state n b o t k))
+unfolding state
+prime_means q n b o (last.Bare f) k bytes byte e x h =
+    front_reads _ _ (subst (λ (z : List ℕ). WholeItems o z (outside o n (token_of f Counter ∷ [])) (inside o b (token_of f Counter ∷ []))) (sym (ap₂ (λ (y : List ℕ) (z : ℕ). y ++ z ∷ []) h.bytes_are x ∙ append_assoc h.front (base_bytes f) (39 ∷ []))) (front_piece _ _ _ _ (Move f (Prime Plain)) h.is_front)) refl (fed_more _ _ _ h.fed) (omega (arith, h.room, count_more o n b (token_of f Quarter ∷ []), count_more o n b (token_of f Counter ∷ [])))
+prime_means q n b o (last.Doubled f) k bytes byte e x h =
+    front_reads _ _ (subst (λ (z : List ℕ). WholeItems o z (outside o n (token_of f Half ∷ [])) (inside o b (token_of f Half ∷ []))) (sym (ap₂ (λ (y : List ℕ) (z : ℕ). y ++ z ∷ []) h.bytes_are x ∙ append_assoc h.front (base_bytes f ++ 50 ∷ []) (39 ∷ []) ∙ ap (λ y. h.front ++ y) (append_assoc (base_bytes f) (50 ∷ []) (39 ∷ [])))) (front_piece _ _ _ _ (Move f (TwoPrime Plain)) h.is_front)) refl (fed_more _ _ _ h.fed) h.room
+prime_means q n b o last.Finished k bytes byte e x h = told_other q byte (length bytes) k symbol.Apostrophe e tt h.fed
+prime_means q n b o (last.FirstByte f two) k bytes byte e x h = told_other q byte (length bytes) k symbol.Apostrophe e tt h.fed
+prime_means q n b o (last.SecondByte f two) k bytes byte e x h = told_other q byte (length bytes) k symbol.Apostrophe e tt h.fed
+
+cut_means : (q : Bool) (n b : List Token) (o : Option ℕ) (t : LastMove) (k : ℕ) (bytes : List ℕ) (byte : ℕ) → symbol_of byte ≡ symbol.Cut → byte ≡ 0xE2 → Reads (state n b o t k) bytes → Outcome Whole q bytes byte (cut t (state n b o t k))
+unfolding state
+cut_means q n b o (last.Bare f) k bytes byte e x h =
+    record {
+      front = h.front;
+      is_front = h.is_front;
+      bytes_are = ap₂ (λ (y : List ℕ) (z : ℕ). y ++ z ∷ []) h.bytes_are x ∙ append_assoc h.front (base_bytes f) (0xE2 ∷ []) ∙ ap (λ y. h.front ++ (y ++ 0xE2 ∷ [])) (sym (append-nil (base_bytes f)));
+      fed = fed_more _ _ _ h.fed;
+      room = omega (arith, h.room, count_more o n b (token_of f Quarter ∷ []), count_more o n b (token_of f Counter ∷ []));
+    }
+cut_means q n b o (last.Doubled f) k bytes byte e x h =
+    record {
+      front = h.front;
+      is_front = h.is_front;
+      bytes_are = ap₂ (λ (y : List ℕ) (z : ℕ). y ++ z ∷ []) h.bytes_are x ∙ append_assoc h.front (base_bytes f ++ 50 ∷ []) (0xE2 ∷ []);
+      fed = fed_more _ _ _ h.fed;
+      room = h.room;
+    }
+cut_means q n b o last.Finished k bytes byte e x h = told_other q byte (length bytes) k symbol.Cut e tt h.fed
+cut_means q n b o (last.FirstByte f two) k bytes byte e x h = told_other q byte (length bytes) k symbol.Cut e tt h.fed
+cut_means q n b o (last.SecondByte f two) k bytes byte e x h = told_other q byte (length bytes) k symbol.Cut e tt h.fed
+
+symbol_means : (x : Symbol) (n b : List Token) (o : Option ℕ) (t : LastMove) (k : ℕ) (bytes : List ℕ) (byte : ℕ) → symbol_of byte ≡ x → IsSymbol x byte → IsReady t → Reads (state n b o t k) bytes → Outcome Whole (is_open o) bytes byte (step_by 256 x (state n b o t k))
+unfolding state
+symbol_means symbol.Blank n b o t k bytes byte e i r h = blank_means _ bytes byte r h i
+symbol_means symbol.Open n b o t k bytes byte e i r h = open_means o _ bytes byte refl r h i
+symbol_means symbol.Close n b o t k bytes byte e i r h = close_means o _ bytes byte refl r h i
+symbol_means (symbol.Base x) n b o t k bytes byte e i r h = base_means _ _ bytes byte x r h i
+symbol_means symbol.Wide n b o t k bytes byte e i r h = wide_means _ n b o t k bytes byte e i h
+symbol_means symbol.Two n b o t k bytes byte e i r h = two_means _ n b o t k bytes byte e i h
+symbol_means symbol.Apostrophe n b o t k bytes byte e i r h = prime_means _ n b o t k bytes byte e i h
+symbol_means symbol.Cut n b o t k bytes byte e i r h = cut_means _ n b o t k bytes byte e i h
+symbol_means symbol.Other n b o t k bytes byte e i r h = told_other _ byte (length bytes) k symbol.Other e tt h.fed
+
+first_means : (n b : List Token) (o : Option ℕ) (f : Base) (two : Bool) (k : ℕ) (bytes : List ℕ) (byte : ℕ) → Reads (state n b o (last.FirstByte f two) k) bytes → Outcome LacksTwo (is_open o) bytes byte (step_at 256 (last.FirstByte f two) (state n b o (last.FirstByte f two) k) byte)
+unfolding state
+first_means n b o f two k bytes byte h = chosen (eqb byte 0x80) refl
+  where
+    chosen : (c : Bool) → eqb byte 0x80 ≡ c → Outcome LacksTwo (is_open o) bytes byte (cond c (Ok (counted (with_last (last.SecondByte f two) (state n b o (last.FirstByte f two) k)))) (Err (NotAMove k)))
+    chosen true e =
+        record {
+          front = h.front;
+          is_front = h.is_front;
+          bytes_are = ap₂ (λ (y : List ℕ) (z : ℕ). y ++ z ∷ []) h.bytes_are (eqb-true _ _ e) ∙ simp append_assoc;
+          fed = fed_more _ _ _ h.fed;
+          room = h.room;
+        }
+    chosen false e = ap (λ n. n + 1) h.fed
+
+pub long_enough : (front more : List ℕ) (two : Bool) (b : Base) (bytes : List ℕ) → bytes ≡ front ++ last_bytes (last.SecondByte b two) → 2 ≤ length bytes
+long_enough front more true b bytes e =
+    let q = ap length e in
+    omega (arith, length-append front (last_bytes (last.SecondByte b true)), length-append (base_bytes b ++ 50 ∷ []) (0xE2 ∷ 0x80 ∷ []))
+long_enough front more false b bytes e =
+    let q = ap length e in
+    omega (arith, length-append front (last_bytes (last.SecondByte b false)), length-append (base_bytes b ++ []) (0xE2 ∷ 0x80 ∷ []))
+
+second_means : (n b : List Token) (o : Option ℕ) (f : Base) (two : Bool) (k : ℕ) (bytes : List ℕ) (byte : ℕ) → Reads (state n b o (last.SecondByte f two) k) bytes → Outcome LacksOne (is_open o) bytes byte (step_at 256 (last.SecondByte f two) (state n b o (last.SecondByte f two) k) byte)
+unfolding state
+second_means n b o f two k bytes byte h = chosen (eqb byte 0x99) refl
+  where
+    chosen : (c : Bool) → eqb byte 0x99 ≡ c → Outcome LacksOne (is_open o) bytes byte (cond c (Ok (counted (settled (state n b o (last.SecondByte f two) k)))) (Err (NotAMove (k - 1))))
+    chosen true e =
+        front_reads _ _ (subst (λ (z : ℕ). WholeItems o (bytes ++ z ∷ []) (settled (state n b o (last.SecondByte f two) k)).normal (settled (state n b o (last.SecondByte f two) k)).bracketed) (sym (eqb-true _ _ e)) (settled_front _ bytes h)) refl (fed_more _ _ _ h.fed) h.room
+    chosen false e = let long = long_enough h.front [] two f bytes h.bytes_are in omega (arith, h.fed)
+
+-- A step on keeps what the state stands for, or tells what the byte is.
+pub step_means : (s : State) (bytes : List ℕ) (byte : ℕ) → Reads s bytes → Outcome (cut_of s.last) (is_open s.bracket) bytes byte (step s byte)
+unfolding step_within state
+step_means s bytes byte h = by_last s.normal s.bracketed s.bracket s.last s.fed h
+  where
+    by_last : (n b : List Token) (o : Option ℕ) (t : LastMove) (k : ℕ) → Reads (state n b o t k) bytes → Outcome (cut_of t) (is_open o) bytes byte (step_at 256 t (state n b o t k) byte)
+    by_last n b o last.Finished k h = symbol_means (symbol_of byte) n b o last.Finished k bytes byte refl (symbol_is byte) tt h
+    by_last n b o (last.Bare f) k h = symbol_means (symbol_of byte) n b o (last.Bare f) k bytes byte refl (symbol_is byte) tt h
+    by_last n b o (last.Doubled f) k h = symbol_means (symbol_of byte) n b o (last.Doubled f) k bytes byte refl (symbol_is byte) tt h
+    by_last n b o (last.FirstByte f two) k h = first_means n b o f two k bytes byte h
+    by_last n b o (last.SecondByte f two) k h = second_means n b o f two k bytes byte h

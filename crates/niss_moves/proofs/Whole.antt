@@ -1,0 +1,258 @@
+-- Whole lines: what is read of them, and which fault.
+use Rattle.std.proofs.Common.{◌≡◌, ℕ, ◌+◌, ◌-◌, ◌<◌, ◌≤◌, Bool, true, false, refl, ap, sym, ◌∙◌, subst, subst₂, List, [], ◌∷◌, ◌++◌, length, flat_map, append_assoc, append-nil, Option, None, Some, Result, Ok, Err, arith, length-append, take, drop, get_or, inl, inr, ◌==◌, ◌||◌, not}
+use Rattle.std.proofs.lemmas.List.{take-append-le, take-append-drop}
+use Rattle.std.proofs.Math.Path.{subst₃}
+use Rattle.std.proofs.Math.Seq.{take-append_seam, take-append-add, get_or-append_seam}
+use Rattle.niss_moves.specs.Line.{Gap, Move, piece_bytes, Piece, item_bytes, Spells, IsLine}
+use Rattle.niss_moves.specs.Faults.{has_no_bracket, Cut, Whole, LacksOne, LacksTwo, cut_ending, cut_length, bracket_ending, Continues, CanContinue, StopsAt, EndsEarly, OpensAt, Stops, Lacks}
+use Rattle.niss_moves.specs.Machine.{State, start, settled, step, and_then, run}
+use Rattle.niss_moves.specs.Notation.{base_bytes, Plain, Typographic, Suffix, Nothing, Two, Prime, TwoPrime, suffix_bytes, Space, Tab, Return}
+use Rattle.niss_moves.specs.declared.turn.Face.TheVariants.{U, D, R, L, F, B}
+use Rattle.niss_moves.specs.declared.token.Slice.TheVariants.{M, E, S}
+use Rattle.niss_moves.specs.declared.axis.Axis.TheVariants.{Ud, Rl, Fb}
+use Rattle.niss_moves.specs.declared.base.Base.{Base}
+use Rattle.niss_moves.specs.declared.base.Base.TheVariants as base
+use Rattle.niss_moves.proofs.Finite.{both, both_left, both_right}
+use Rattle.niss_moves.specs.declared.token.Token.{Token}
+use Rattle.niss_moves.specs.declared.partial_line.LastMove.{LastMove}
+use Rattle.niss_moves.specs.declared.partial_line.LastMove.TheVariants as last
+use Rattle.niss_moves.specs.declared.fault.ReadFault.{ReadFault}
+use Rattle.niss_moves.specs.declared.fault.ReadFault.TheVariants.{NotAMove, Nested, Unopened, Unclosed, TooLong}
+use Rattle.niss_moves.proofs.Completes.{IsReady, run-append, completes}
+use Rattle.niss_moves.proofs.Sound.{last_bytes, WholeItems, front_bytes, front_bracketed, front_close, IsBracket, Reads, reads_start, settled_front, cut_of, is_open, Refusal, Outcome, step_means}
+
+-- the state after more bytes
+reads_run : (more bytes : List ℕ) (s t : State) → Reads s bytes → run s more ≡ Ok t → Reads t (bytes ++ more)
+reads_run [] bytes s t h e =
+    let q : s ≡ t = cc in
+    subst (λ (x : List ℕ). Reads t x) (sym (append-nil bytes)) (subst (λ (x : State). Reads x bytes) q h)
+reads_run (x ∷ more) bytes s t h e =
+    by_step (step s x) (step_means s bytes x h) e (λ u k r. reads_run more (bytes ++ x ∷ []) u t k r)
+  where
+    by_step : (r : Result State ReadFault) → Outcome (cut_of s.last) (is_open s.bracket) bytes x r → and_then r (λ u. run u more) ≡ Ok t → ((u : State) → Reads u (bytes ++ x ∷ []) → run u more ≡ Ok t → Reads t ((bytes ++ x ∷ []) ++ more)) → Reads t (bytes ++ x ∷ more)
+    by_step (Ok u) k e f = subst (λ (y : List ℕ). Reads t y) (append_assoc bytes (x ∷ []) more) (f u k e)
+    by_step (Err g) k e f = cc
+
+pub reads_all : (bytes : List ℕ) (s : State) → run start bytes ≡ Ok s → Reads s bytes
+reads_all bytes s e = reads_run bytes [] start s reads_start e
+
+-- whole items spell a line
+front_spells : (bytes : List ℕ) (n b : List Token) → WholeItems None bytes n b → Spells bytes n b
+front_spells bytes n b h = by_inner h.inner h.bytes_are h.bracketed_are h.bracket_is
+  where
+    by_inner : (inner : Option (List Piece)) → bytes ≡ front_bytes h.items inner → b ≡ front_bracketed h.items inner → IsBracket None h.items inner → Spells bytes n b
+    by_inner None e g k =
+        record { items = h.items; bytes_are = e; normal_are = h.normal_are; bracketed_are = g }
+    by_inner (Some ps) e g k = absurd k
+
+closed_front : (o : Option ℕ) (bytes : List ℕ) (n b : List Token) → WholeItems o bytes n b → WholeItems None (bytes ++ bracket_ending (is_open o)) n b
+closed_front None bytes n b h = subst (λ (x : List ℕ). WholeItems None x n b) (sym (append-nil bytes)) h
+closed_front (Some c) bytes n b h = front_close (Some c) c bytes n b refl h
+
+pub continues : (s : State) (bytes : List ℕ) → Reads s bytes → Continues bytes (cut_of s.last) (is_open s.bracket)
+continues s bytes h =
+    record {
+      normal = (settled s).normal;
+      bracketed = (settled s).bracketed;
+      spells = front_spells _ _ _ (closed_front s.bracket _ _ _ (settled_front s bytes h));
+      fits = h.room;
+    }
+
+pub can_continue : (bytes : List ℕ) (s : State) → run start bytes ≡ Ok s → CanContinue bytes
+can_continue bytes s e = (cut_of s.last, is_open s.bracket, continues s bytes (reads_all bytes s e))
+
+-- what can be continued is read without a fault
+front_ok : (r : Result State ReadFault) (f : State → Result State ReadFault) (t : State) → and_then r f ≡ Ok t → (s : State) × (r ≡ Ok s)
+front_ok (Ok s) f t e = (s, refl)
+front_ok (Err x) f t e = cc
+
+pub run_front : (a b : List ℕ) (s t : State) → run s (a ++ b) ≡ Ok t → (u : State) × (run s a ≡ Ok u)
+run_front a b s t e = front_ok (run s a) (λ u. run u b) t (sym (run-append 256 s a b) ∙ e)
+
+pub continued_ok : (bytes : List ℕ) → CanContinue bytes → (s : State) × (run start bytes ≡ Ok s)
+continued_ok bytes h =
+    let line = h.2 in
+    let r = completes 256 _ _ _ line.spells line.fits in
+    let one = run_front (bytes ++ cut_ending h.0) (bracket_ending h.1) start r.end r.ran in
+    run_front bytes (cut_ending h.0) start one.0 one.1
+
+-- a byte that is refused
+pub stop_at : (front rest : List ℕ) (byte : ℕ) (s : State) (f : ReadFault) → run start front ≡ Ok s → step s byte ≡ Err f → StopsAt (front ++ byte ∷ rest) (length front + 1) (cut_of s.last) (is_open s.bracket) byte
+stop_at front rest byte s f e g =
+    let here : length front + 1 - 1 ≡ length front = omega arith in
+    let whole : take (length front + 1 - 1) (front ++ byte ∷ rest) ≡ front = ap (λ n. take n (front ++ byte ∷ rest)) here ∙ take-append_seam front (byte ∷ rest) in
+    record {
+      positive = omega arith;
+      within = omega (arith, length-append front (byte ∷ rest));
+      byte_is = sym (ap (λ n. get_or (front ++ byte ∷ rest) n 0) here ∙ get_or-append_seam front byte rest 0);
+      before = λ k h.
+          let le : k ≤ length front = omega arith in
+          let t = run_front (take k front) (drop k front) start s (ap (run start) (take-append-drop k front) ∙ e) in
+          subst CanContinue (sym (take-append-le k front (byte ∷ rest) le)) (can_continue (take k front) t.0 t.1);
+      ends_so = subst (λ (x : List ℕ). Continues x (cut_of s.last) (is_open s.bracket)) (sym whole) (continues s front (reads_all front s e));
+      stops = λ h.
+          let w = continued_ok (front ++ byte ∷ []) (subst CanContinue (take-append-add front (byte ∷ rest) 1) h) in
+          let q : run start (front ++ byte ∷ []) ≡ and_then (step s byte) (λ t. Ok t) = run-append 256 start front (byte ∷ []) ∙ ap (λ r. and_then r (λ t. run t (byte ∷ []))) e in
+          let r : Err f ≡ Ok w.0 = sym (q ∙ ap (λ r. and_then r (λ t. Ok t)) g) ∙ w.1 in
+          cc;
+    }
+
+pub told_stops : (c : Cut) (o : Bool) (byte n : ℕ) (bytes : List ℕ) (f : ReadFault) → Refusal c o byte n f → StopsAt bytes (n + 1) c o byte → Stops bytes f
+told_stops Whole o byte n bytes (NotAMove col) t h =
+    inl (byte, o, subst (λ (x : ℕ). StopsAt bytes x Whole o byte) (sym t.0) h, t.1, t.2, t.3)
+told_stops Whole o byte n bytes (Nested col) t h =
+    subst₃ (λ (x y : ℕ) (z : Bool). StopsAt bytes x Whole z y) (sym t.0) t.1 t.2 h
+told_stops Whole o byte n bytes (Unopened col) t h =
+    subst₃ (λ (x y : ℕ) (z : Bool). StopsAt bytes x Whole z y) (sym t.0) t.1 t.2 h
+told_stops Whole o byte n bytes (TooLong col) t h =
+    (byte, o, t.1, subst (λ (x : ℕ). StopsAt bytes x Whole o byte) (sym t.0) h)
+told_stops Whole o byte n bytes (Unclosed col) t h = absurd t
+told_stops LacksOne o byte n bytes (NotAMove col) t h =
+    inr (byte, o, LacksOne, omega arith, subst (λ (x : ℕ). StopsAt bytes x LacksOne o byte) (sym t) h)
+told_stops LacksTwo o byte n bytes (NotAMove col) t h =
+    inr (byte, o, LacksTwo, omega arith, subst (λ (x : ℕ). StopsAt bytes x LacksTwo o byte) (sym t) h)
+told_stops LacksOne o byte n bytes (Nested col) t h = absurd t
+told_stops LacksOne o byte n bytes (Unopened col) t h = absurd t
+told_stops LacksOne o byte n bytes (TooLong col) t h = absurd t
+told_stops LacksOne o byte n bytes (Unclosed col) t h = absurd t
+told_stops LacksTwo o byte n bytes (Nested col) t h = absurd t
+told_stops LacksTwo o byte n bytes (Unopened col) t h = absurd t
+told_stops LacksTwo o byte n bytes (TooLong col) t h = absurd t
+told_stops LacksTwo o byte n bytes (Unclosed col) t h = absurd t
+
+pub step_stops : (front rest : List ℕ) (byte : ℕ) (s : State) (f : ReadFault) → run start front ≡ Ok s → step s byte ≡ Err f → Stops (front ++ byte ∷ rest) f
+step_stops front rest byte s f e g =
+    told_stops _ _ byte (length front) _ f (subst (λ (r : Result State ReadFault). Outcome (cut_of s.last) (is_open s.bracket) front byte r) g (step_means s front byte (reads_all front s e))) (stop_at front rest byte s f e g)
+
+-- where a run was refused
+pub record Refused (s : State) (bytes : List ℕ) (f : ReadFault) : Type 0 where
+  pub front : List ℕ
+  pub byte : ℕ
+  pub rest : List ℕ
+  pub before : State
+  pub bytes_are : bytes ≡ front ++ byte ∷ rest
+  pub reads : run s front ≡ Ok before
+  pub refuses : step before byte ≡ Err f
+
+pub refused_at : (bytes : List ℕ) (s : State) (f : ReadFault) → run s bytes ≡ Err f → Refused s bytes f
+refused_at [] s f e = cc
+refused_at (x ∷ bytes) s f e = by_step (step s x) refl e (λ t h. refused_at bytes t f h)
+  where
+    by_step : (r : Result State ReadFault) → step s x ≡ r → and_then r (λ t. run t bytes) ≡ Err f → ((t : State) → run t bytes ≡ Err f → Refused t bytes f) → Refused s (x ∷ bytes) f
+    by_step (Ok t) q e k =
+        let h = k t e in
+        record {
+          front = x ∷ h.front;
+          byte = h.byte;
+          rest = h.rest;
+          before = h.before;
+          bytes_are = ap (λ y. x ∷ y) h.bytes_are;
+          reads = ap (λ r. and_then r (λ t. run t h.front)) q ∙ h.reads;
+          refuses = h.refuses;
+        }
+    by_step (Err g) q e k =
+        let w : g ≡ f = cc in
+        record { front = []; byte = x; rest = bytes; before = s; bytes_are = refl; reads = refl; refuses = q ∙ e }
+
+pub run_stops : (bytes : List ℕ) (f : ReadFault) → run start bytes ≡ Err f → Stops bytes f
+run_stops bytes f e =
+    let h = refused_at bytes start f e in
+    subst (λ (x : List ℕ). Stops x f) (sym h.bytes_are) (step_stops h.front h.rest h.byte h.before f h.reads h.refuses)
+
+-- the end of a line
+pub ends_whole : (bytes : List ℕ) (s : State) → run start bytes ≡ Ok s → cut_of s.last ≡ Whole → s.bracket ≡ None → Spells bytes (settled s).normal (settled s).bracketed
+ends_whole bytes s e c o =
+    let h = reads_all bytes s e in
+    front_spells _ _ _ (subst₂ (λ (x : List ℕ) (o : Option ℕ). WholeItems o x (settled s).normal (settled s).bracketed) (ap (λ c. bytes ++ cut_ending c) c ∙ append-nil bytes) o (settled_front s bytes h))
+
+pub line_ends : (bytes : List ℕ) (s : State) → run start bytes ≡ Ok s → IsLine bytes → IsReady s.last × (s.bracket ≡ None)
+line_ends bytes s e h =
+    let r = completes 256 _ _ _ h.spells h.fits in
+    let q : r.end ≡ s = (let w : Ok r.end ≡ Ok s = sym r.ran ∙ e in cc) in
+    (subst (λ (t : State). IsReady t.last) q r.ready, ap (λ t. t.bracket) (sym q) ∙ r.bracket)
+
+ends_early : (bytes : List ℕ) (s : State) → run start bytes ≡ Ok s → (IsReady s.last × (s.bracket ≡ None) → ⊥) → EndsEarly bytes (cut_of s.last) (is_open s.bracket)
+ends_early bytes s e n =
+    record {
+      before = λ k h.
+          let t = run_front (take k bytes) (drop k bytes) start s (ap (run start) (take-append-drop k bytes) ∙ e) in
+          can_continue (take k bytes) t.0 t.1;
+      ends_so = continues s bytes (reads_all bytes s e);
+      no_line = λ h. n (line_ends bytes s e h);
+    }
+
+-- no bracket stands in a move
+no_bracket_base : (b : Base) → has_no_bracket (base_bytes b) ≡ true
+no_bracket_base (base.Face U) = refl
+no_bracket_base (base.Face D) = refl
+no_bracket_base (base.Face R) = refl
+no_bracket_base (base.Face L) = refl
+no_bracket_base (base.Face F) = refl
+no_bracket_base (base.Face B) = refl
+no_bracket_base (base.Wide U) = refl
+no_bracket_base (base.Wide D) = refl
+no_bracket_base (base.Wide R) = refl
+no_bracket_base (base.Wide L) = refl
+no_bracket_base (base.Wide F) = refl
+no_bracket_base (base.Wide B) = refl
+no_bracket_base (base.LowerCase U) = refl
+no_bracket_base (base.LowerCase D) = refl
+no_bracket_base (base.LowerCase R) = refl
+no_bracket_base (base.LowerCase L) = refl
+no_bracket_base (base.LowerCase F) = refl
+no_bracket_base (base.LowerCase B) = refl
+no_bracket_base (base.Slice M) = refl
+no_bracket_base (base.Slice E) = refl
+no_bracket_base (base.Slice S) = refl
+no_bracket_base (base.Rotation Rl) = refl
+no_bracket_base (base.Rotation Ud) = refl
+no_bracket_base (base.Rotation Fb) = refl
+
+no_bracket_suffix : (s : Suffix) → has_no_bracket (suffix_bytes s) ≡ true
+no_bracket_suffix Nothing = refl
+no_bracket_suffix Two = refl
+no_bracket_suffix (Prime Plain) = refl
+no_bracket_suffix (Prime Typographic) = refl
+no_bracket_suffix (TwoPrime Plain) = refl
+no_bracket_suffix (TwoPrime Typographic) = refl
+
+no_bracket_append : (a b : List ℕ) → has_no_bracket a ≡ true → has_no_bracket b ≡ true → has_no_bracket (a ++ b) ≡ true
+no_bracket_append [] b p q = q
+no_bracket_append (x ∷ a) b p q =
+    both _ _ (both_left _ _ p) (no_bracket_append a b (both_right (not (x == 40 || x == 41)) _ p) q)
+
+no_bracket_pieces : (ps : List Piece) → has_no_bracket (flat_map piece_bytes ps) ≡ true
+no_bracket_pieces [] = refl
+no_bracket_pieces (Gap Space ∷ ps) = no_bracket_pieces ps
+no_bracket_pieces (Gap Tab ∷ ps) = no_bracket_pieces ps
+no_bracket_pieces (Gap Return ∷ ps) = no_bracket_pieces ps
+no_bracket_pieces (Move b s ∷ ps) =
+    no_bracket_append (base_bytes b ++ suffix_bytes s) _ (no_bracket_append (base_bytes b) _ (no_bracket_base b) (no_bracket_suffix s)) (no_bracket_pieces ps)
+
+no_bracket_last : (t : LastMove) → has_no_bracket (last_bytes t) ≡ true
+no_bracket_last last.Finished = refl
+no_bracket_last (last.Bare b) = no_bracket_base b
+no_bracket_last (last.Doubled b) = no_bracket_append (base_bytes b) _ (no_bracket_base b) refl
+no_bracket_last (last.FirstByte b true) = no_bracket_append (base_bytes b ++ 50 ∷ []) _ (no_bracket_append (base_bytes b) _ (no_bracket_base b) refl) refl
+no_bracket_last (last.FirstByte b false) = no_bracket_append (base_bytes b ++ []) _ (no_bracket_append (base_bytes b) _ (no_bracket_base b) refl) refl
+no_bracket_last (last.SecondByte b true) = no_bracket_append (base_bytes b ++ 50 ∷ []) _ (no_bracket_append (base_bytes b) _ (no_bracket_base b) refl) refl
+no_bracket_last (last.SecondByte b false) = no_bracket_append (base_bytes b ++ []) _ (no_bracket_append (base_bytes b) _ (no_bracket_base b) refl) refl
+
+pub opens_at : (bytes : List ℕ) (s : State) (c : ℕ) → Reads s bytes → s.bracket ≡ Some c → OpensAt bytes c
+opens_at bytes s c h o =
+    by_inner h.is_front.inner h.is_front.bytes_are (subst (λ (o : Option ℕ). IsBracket o h.is_front.items h.is_front.inner) o h.is_front.bracket_is)
+  where
+    by_inner : (inner : Option (List Piece)) → h.front ≡ front_bytes h.is_front.items inner → IsBracket (Some c) h.is_front.items inner → OpensAt bytes c
+    by_inner None e k = absurd k
+    by_inner (Some ps) e k =
+        (flat_map item_bytes h.is_front.items, flat_map piece_bytes ps ++ last_bytes s.last, h.bytes_are ∙ ap (λ x. x ++ last_bytes s.last) e ∙ append_assoc (flat_map item_bytes h.is_front.items) (40 ∷ flat_map piece_bytes ps) (last_bytes s.last), no_bracket_append (flat_map piece_bytes ps) _ (no_bracket_pieces ps) (no_bracket_last s.last), k)
+
+-- the faults of the end
+pub lacks_bracket : (bytes : List ℕ) (s : State) (c : ℕ) → run start bytes ≡ Ok s → cut_of s.last ≡ Whole → s.bracket ≡ Some c → Lacks bytes (Unclosed c)
+lacks_bracket bytes s c e w o =
+    let h = ends_early bytes s e (λ r. let q : Some c ≡ None = sym o ∙ r.1 in cc) in
+    (subst₂ (λ (x : Cut) (y : Bool). EndsEarly bytes x y) w (ap is_open o) h, opens_at bytes s c (reads_all bytes s e) o)
+
+pub lacks_apostrophe : (bytes : List ℕ) (s : State) (column : ℕ) → run start bytes ≡ Ok s → 0 < cut_length (cut_of s.last) → (IsReady s.last → ⊥) → column + cut_length (cut_of s.last) ≡ length bytes + 1 → Lacks bytes (NotAMove column)
+lacks_apostrophe bytes s column e w n c =
+    (is_open s.bracket, cut_of s.last, w, ends_early bytes s e (λ r. n r.0), c)

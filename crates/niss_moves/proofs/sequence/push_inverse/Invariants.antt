@@ -1,0 +1,13 @@
+use Rattle.std.proofs.Common.{◌≡◌, ◌+◌, ◌≤◌, ◌++◌, length}
+use Rattle.arrayvec.specs.ArrayVec.{array_vec_len}
+use Rattle.niss_moves.specs.Effects.{inverse}
+use Rattle.niss_moves.proofs.sequence.push_inverse.Given as goal
+
+abbrev pub invariant-loop-last : goal.invariant-loop-last
+invariant-loop-last l = record {
+  room : array_vec_len l.moves + length l.rest ≤ 256;
+  moves : l.moves.items ++ inverse l.rest ≡ l.initial.moves.items ++ inverse l.tokens;
+}
+
+abbrev pub decreases-loop-last : goal.decreases-loop-last
+decreases-loop-last l = length l.rest

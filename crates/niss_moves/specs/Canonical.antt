@@ -1,0 +1,57 @@
+-- Canonical sequences of face turns, and all of them of one length.
+use Rattle.std.specs.Prelude.{ℕ, zero, suc, Bool, true, not, ◌&&◌, ◌||◌, ◌-◌, List, [], ◌∷◌, ◌++◌, map, filter, flat_map, length, slice_get, Option, None, Some, IsTrue}
+use Rattle.niss_moves.specs.Turn.{opposite, same_face, goes_first}
+use Rattle.niss_moves.specs.declared.turn.Face.{Face}
+use Rattle.niss_moves.specs.declared.turn.Face.TheVariants.{U, D, R, L, F, B}
+use Rattle.niss_moves.specs.declared.turn.Power.{Power}
+use Rattle.niss_moves.specs.declared.turn.Power.TheVariants.{Quarter, Half, Counter}
+use Rattle.niss_moves.specs.declared.turn.Turn.{Turn}
+
+-- two faces with an edge in common
+abbrev pub is_beside : Face → Face → Bool
+is_beside f g = not (same_face f g) && not (same_face (opposite f) g)
+
+-- May a turn of the second face stand directly after one of the first? They are two faces, and of two opposite ones
+-- U, R or F is first.
+abbrev pub face_may_follow : Face → Face → Bool
+face_may_follow f g = not (same_face f g) && (goes_first f || not (same_face (opposite f) g))
+
+-- May a turn stand directly after the last one, if there is one?
+abbrev pub may_follow : Option Turn → Turn → Bool
+may_follow None t = true
+may_follow (Some last) t = face_may_follow last.face t.face
+
+-- each turn may stand directly after the one before it, and the first one after `last`
+abbrev pub is_canonical_after : Option Turn → List Turn → Bool
+is_canonical_after last [] = true
+is_canonical_after last (t ∷ ts) = may_follow last t && is_canonical_after (Some t) ts
+
+-- No two neighbours break the rule.
+abbrev pub is_canonical : List Turn → Bool
+is_canonical s = is_canonical_after None s
+
+abbrev pub IsCanonical : List Turn → Type 0
+IsCanonical s = IsTrue (is_canonical s)
+
+-- the 18 turns in turn order: the faces U D R L F B, each by a quarter, a half and counterclockwise
+abbrev pub powers : List Power
+powers = Quarter ∷ Half ∷ Counter ∷ []
+
+abbrev pub face_order : List Face
+face_order = U ∷ D ∷ R ∷ L ∷ F ∷ B ∷ []
+
+abbrev pub turn_order : List Turn
+turn_order = flat_map (λ f. map (λ p. record { face = f; power = p }) powers) face_order
+
+-- the last turn, if there is one
+abbrev pub last_turn : List Turn → Option Turn
+last_turn s = slice_get s (length s - 1)
+
+-- a sequence with one turn more, for each of the turns that may follow, in their order
+abbrev pub canonical_extensions : List Turn → List Turn → List (List Turn)
+canonical_extensions turns s = map (λ t. s ++ t ∷ []) (filter (may_follow (last_turn s)) turns)
+
+-- all canonical sequences of a length over some turns, in the order of the turns at the first place where they differ
+unfoldable pub all_canonical : List Turn → ℕ → List (List Turn)
+all_canonical turns zero = [] ∷ []
+all_canonical turns (suc k) = flat_map (canonical_extensions turns) (all_canonical turns k)

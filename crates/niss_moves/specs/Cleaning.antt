@@ -1,0 +1,60 @@
+-- Cleaning a list of face turns: the leftmost neighbours that break the order are merged or change places, as long as
+-- there are any.
+use Rattle.std.specs.Prelude.{◌≡◌, ℕ, zero, suc, ◌+◌, ◌%◌, false, List, [], ◌∷◌, ◌++◌, if◌then◌else◌, Option, None, Some}
+use Rattle.niss_moves.specs.Effects.{times}
+use Rattle.niss_moves.specs.Turn.{same_face}
+use Rattle.niss_moves.specs.Canonical.{face_may_follow, IsCanonical}
+use Rattle.niss_moves.specs.declared.turn.Face.{Face}
+use Rattle.niss_moves.specs.declared.turn.Power.{Power}
+use Rattle.niss_moves.specs.declared.turn.Power.TheVariants.{Quarter, Half, Counter}
+use Rattle.niss_moves.specs.declared.turn.Turn.{Turn}
+
+-- the power of a number of quarters below four, if they turn anything
+abbrev pub power_of_quarters : ℕ → Option Power
+power_of_quarters zero = None
+power_of_quarters (suc zero) = Some Quarter
+power_of_quarters (suc (suc zero)) = Some Half
+power_of_quarters _ = Some Counter
+
+-- the power of two turns of one face together; whole rounds drop out
+abbrev pub sum_of_powers : Power → Power → Option Power
+sum_of_powers p q = power_of_quarters ((times p + times q) % 4)
+
+-- a turn of the face, or none
+abbrev pub turn_by : Face → Option Power → List Turn
+turn_by f None = []
+turn_by f (Some p) = record { face = f; power = p } ∷ []
+
+-- two turns of one face as the turn of their sum, or as nothing where the sum is a whole round
+abbrev pub sum_of_turns : Turn → Turn → List Turn
+sum_of_turns t u = turn_by t.face (sum_of_powers t.power u.power)
+
+-- what stands in the place of two neighbours that break the order: their sum, or the two exchanged
+abbrev pub rewritten_pair : Turn → Turn → List Turn
+rewritten_pair t u = if same_face t.face u.face then sum_of_turns t u else u ∷ t ∷ []
+
+-- one rewriting: the leftmost neighbours that break the order
+pub record IsRewriting (old new : List Turn) : Type 0 where
+  pub front : List Turn
+  pub left : Turn
+  pub right : Turn
+  pub rest : List Turn
+  pub at : old ≡ front ++ left ∷ right ∷ rest
+  pub leftmost : IsCanonical (front ++ left ∷ [])
+  pub breaks : face_may_follow left.face right.face ≡ false
+  pub result : new ≡ front ++ rewritten_pair left right ++ rest
+
+-- the list as it stands once nothing is left to rewrite
+pub data Cleans : List Turn → List Turn → Type 0 where
+  Clean : {s : List Turn} → IsCanonical s → Cleans s s
+  Rewrite : {s t c : List Turn} → IsRewriting s t → Cleans t c → Cleans s c
+
+-- one turn behind another: their sum where they are of one face, and else both
+abbrev pub pair_of_turns : Turn → Turn → List Turn
+pair_of_turns t u = if same_face t.face u.face then sum_of_turns t u else t ∷ u ∷ []
+
+-- a list with one turn more, summed with the last one where that is of its face
+abbrev pub list_with_turn : List Turn → Turn → List Turn
+list_with_turn [] t = t ∷ []
+list_with_turn (x ∷ []) t = pair_of_turns x t
+list_with_turn (x ∷ y ∷ s) t = x ∷ list_with_turn (y ∷ s) t

@@ -1,0 +1,217 @@
+-- The steps by which a line is read, byte by byte. They are private: no public contract names them, and what a line is
+-- and which fault it has is said by Line and Faults.
+use Rattle.std.specs.Prelude.{ℕ, ◌+◌, ◌-◌, ◌≤◌, Bool, true, false, if◌then◌else◌, ◌==◌, nat_lt, List, [], ◌∷◌, ◌++◌, length, Option, None, Some, Result, Ok, Err, MatchResult, ◌≡◌}
+use Rattle.niss_moves.specs.Notation.{token_of}
+use Rattle.niss_moves.specs.Line.{Moves}
+use Rattle.niss_moves.specs.declared.turn.Face.TheVariants.{U, D, R, L, F, B}
+use Rattle.niss_moves.specs.declared.turn.Power.{Power}
+use Rattle.niss_moves.specs.declared.turn.Power.TheVariants.{Quarter, Half, Counter}
+use Rattle.niss_moves.specs.declared.token.Slice.TheVariants.{M, E, S}
+use Rattle.niss_moves.specs.declared.axis.Axis.TheVariants.{Ud, Rl, Fb}
+use Rattle.niss_moves.specs.declared.token.Token.{Token}
+use Rattle.niss_moves.specs.declared.base.Base.{Base}
+use Rattle.niss_moves.specs.declared.base.Base.TheVariants as base
+use Rattle.niss_moves.specs.declared.symbol.Symbol.{Symbol}
+use Rattle.niss_moves.specs.declared.symbol.Symbol.TheVariants as symbol
+use Rattle.niss_moves.specs.declared.partial_line.LastMove.{LastMove}
+use Rattle.niss_moves.specs.declared.partial_line.LastMove.TheVariants as last
+use Rattle.niss_moves.specs.declared.partial_line.PartialLine.{PartialLine}
+use Rattle.niss_moves.specs.declared.fault.ReadFault.{ReadFault}
+use Rattle.niss_moves.specs.declared.fault.ReadFault.TheVariants.{NotAMove, Nested, Unopened, Unclosed, TooLong}
+
+pub record Entry : Type 0 where
+  pub byte : ℕ
+  pub symbol : Symbol
+
+abbrev pub entry : ℕ → Symbol → Entry
+entry b s = record { byte = b; symbol = s }
+
+-- each byte that may stand in a line, but for the second and third of U+2019
+abbrev pub bytes_of_a_line : List Entry
+bytes_of_a_line =
+    entry 32 symbol.Blank ∷ entry 9 symbol.Blank ∷ entry 13 symbol.Blank ∷ entry 40 symbol.Open ∷ entry 41 symbol.Close
+    ∷ entry 85 (symbol.Base (base.Face U)) ∷ entry 68 (symbol.Base (base.Face D)) ∷ entry 82 (symbol.Base (base.Face R))
+    ∷ entry 76 (symbol.Base (base.Face L)) ∷ entry 70 (symbol.Base (base.Face F)) ∷ entry 66 (symbol.Base (base.Face B))
+    ∷ entry 117 (symbol.Base (base.LowerCase U)) ∷ entry 100 (symbol.Base (base.LowerCase D)) ∷ entry 114 (symbol.Base (base.LowerCase R))
+    ∷ entry 108 (symbol.Base (base.LowerCase L)) ∷ entry 102 (symbol.Base (base.LowerCase F)) ∷ entry 98 (symbol.Base (base.LowerCase B))
+    ∷ entry 77 (symbol.Base (base.Slice M)) ∷ entry 69 (symbol.Base (base.Slice E)) ∷ entry 83 (symbol.Base (base.Slice S))
+    ∷ entry 120 (symbol.Base (base.Rotation Rl)) ∷ entry 121 (symbol.Base (base.Rotation Ud)) ∷ entry 122 (symbol.Base (base.Rotation Fb))
+    ∷ entry 119 symbol.Wide ∷ entry 50 symbol.Two ∷ entry 39 symbol.Apostrophe ∷ entry 0xE2 symbol.Cut ∷ []
+
+abbrev pub look_up : List Entry → ℕ → Symbol
+look_up [] b = symbol.Other
+look_up (e ∷ es) b = if b == e.byte then e.symbol else look_up es b
+
+unfoldable pub symbol_of : ℕ → Symbol
+symbol_of b = look_up bytes_of_a_line b
+
+-- what is read so far: the whole moves, the column of the open bracket, the last move as far as it goes
+pub record State : Type 0 where
+  pub normal : List Token
+  pub bracketed : List Token
+  pub bracket : Option ℕ
+  pub last : LastMove
+  pub fed : ℕ
+
+abbrev pub start : State
+start = record { normal = []; bracketed = []; bracket = None; last = last.Finished; fed = 0 }
+
+abbrev pub outside : Option ℕ → List Token → List Token → List Token
+outside None ts more = ts ++ more
+outside (Some c) ts more = ts
+
+abbrev pub inside : Option ℕ → List Token → List Token → List Token
+inside None ts more = ts
+inside (Some c) ts more = ts ++ more
+
+abbrev pub added : State → Token → State
+added s t =
+    record s { normal = outside s.bracket s.normal (t ∷ []); bracketed = inside s.bracket s.bracketed (t ∷ []); last = last.Finished }
+
+-- the power of a move that ends in an apostrophe, behind a `2` or not
+abbrev pub apostrophe_power : Bool → Power
+apostrophe_power true = Half
+apostrophe_power false = Counter
+
+-- the state with its last move made whole
+abbrev pub settled_by : LastMove → State → State
+settled_by last.Finished s = s
+settled_by (last.Bare b) s = added s (token_of b Quarter)
+settled_by (last.Doubled b) s = added s (token_of b Half)
+settled_by (last.FirstByte b two) s = added s (token_of b (apostrophe_power two))
+settled_by (last.SecondByte b two) s = added s (token_of b (apostrophe_power two))
+
+abbrev pub settled : State → State
+settled s =
+    record s { normal = (settled_by s.last s).normal; bracketed = (settled_by s.last s).bracketed; last = last.Finished }
+
+abbrev pub count : State → ℕ
+count s = length s.normal + length s.bracketed
+
+-- one more byte was fed
+abbrev pub counted : State → State
+counted s = record s { fed = s.fed + 1 }
+
+abbrev pub with_last : LastMove → State → State
+with_last l s = record s { last = l }
+
+abbrev pub refused : State → Result State ReadFault
+refused s = Err (NotAMove (s.fed + 1))
+
+abbrev pub opened : Option ℕ → State → Result State ReadFault
+opened None s = Ok (counted (record (settled s) { bracket = Some (s.fed + 1) }))
+opened (Some c) s = Err (Nested (s.fed + 1))
+
+abbrev pub closed : Option ℕ → State → Result State ReadFault
+closed None s = Err (Unopened (s.fed + 1))
+closed (Some c) s = Ok (counted (record (settled s) { bracket = None }))
+
+abbrev pub widened : LastMove → State → Result State ReadFault
+widened (last.Bare (base.Face f)) s = Ok (counted (with_last (last.Bare (base.Wide f)) s))
+widened _ s = refused s
+
+abbrev pub doubled : LastMove → State → Result State ReadFault
+doubled (last.Bare b) s = Ok (counted (with_last (last.Doubled b) s))
+doubled _ s = refused s
+
+abbrev pub primed : LastMove → State → Result State ReadFault
+primed (last.Bare b) s = Ok (counted (added s (token_of b Counter)))
+primed (last.Doubled b) s = Ok (counted (added s (token_of b Half)))
+primed _ s = refused s
+
+abbrev pub cut : LastMove → State → Result State ReadFault
+cut (last.Bare b) s = Ok (counted (with_last (last.FirstByte b false) s))
+cut (last.Doubled b) s = Ok (counted (with_last (last.FirstByte b true) s))
+cut _ s = refused s
+
+-- a move begins, where fewer than so many stand before it
+abbrev pub begun : ℕ → Base → State → Result State ReadFault
+begun limit b s =
+    if nat_lt (count (settled s)) limit then Ok (counted (with_last (last.Bare b) (settled s))) else Err (TooLong (s.fed + 1))
+
+-- one more byte where no U+2019 is cut
+abbrev pub step_by : ℕ → Symbol → State → Result State ReadFault
+step_by limit symbol.Blank s = Ok (counted (settled s))
+step_by limit symbol.Open s = opened s.bracket s
+step_by limit symbol.Close s = closed s.bracket s
+step_by limit (symbol.Base b) s = begun limit b s
+step_by limit symbol.Wide s = widened s.last s
+step_by limit symbol.Two s = doubled s.last s
+step_by limit symbol.Apostrophe s = primed s.last s
+step_by limit symbol.Cut s = cut s.last s
+step_by limit symbol.Other s = refused s
+
+-- one more byte
+abbrev pub step_at : ℕ → LastMove → State → ℕ → Result State ReadFault
+step_at limit (last.FirstByte b two) s byte =
+    if byte == 0x80 then Ok (counted (with_last (last.SecondByte b two) s)) else Err (NotAMove s.fed)
+step_at limit (last.SecondByte b two) s byte =
+    if byte == 0x99 then Ok (counted (settled s)) else Err (NotAMove (s.fed - 1))
+step_at limit _ s byte = step_by limit (symbol_of byte) s
+
+-- one more byte of a line of at most so many moves
+unfoldable pub step_within : ℕ → State → ℕ → Result State ReadFault
+step_within limit s byte = step_at limit s.last s byte
+
+abbrev pub and_then : Result State ReadFault → (State → Result State ReadFault) → Result State ReadFault
+and_then (Ok s) f = f s
+and_then (Err e) f = Err e
+
+abbrev pub run_within : ℕ → State → List ℕ → Result State ReadFault
+run_within limit s [] = Ok s
+run_within limit s (b ∷ bs) = and_then (step_within limit s b) (λ s. run_within limit s bs)
+
+-- the same for the limit of a line
+abbrev pub step : State → ℕ → Result State ReadFault
+step s byte = step_within 256 s byte
+
+abbrev pub run : State → List ℕ → Result State ReadFault
+run s bytes = run_within 256 s bytes
+
+-- what is read so far, behind so many bytes
+abbrev pub state_of : PartialLine → ℕ → State
+state_of p n =
+    record { normal = p.normal.items; bracketed = p.bracketed.items; bracket = p.bracket; last = p.last; fed = n }
+
+-- A step behind so many bytes answers a fault, or leaves the next state.
+abbrev pub IsStep : (State → Result State ReadFault) → PartialLine → ℕ → Result (Unit {0}) ReadFault → PartialLine → Type 0
+IsStep next old n result new =
+    MatchResult result (λ _. next (state_of old n) ≡ Ok (state_of new (n + 1))) (λ f. next (state_of old n) ≡ Err f)
+
+abbrev pub HasRoom : State → Type 0
+HasRoom s = count (settled s) ≤ 256
+
+abbrev pub state_or : Option ReadFault → State → Result State ReadFault
+state_or None s = Ok s
+state_or (Some f) s = Err f
+
+-- the state of a line, or the fault that was told
+abbrev pub outcome_of : Option ReadFault → PartialLine → ℕ → Result State ReadFault
+outcome_of fault p n = state_or fault (state_of p n)
+
+-- A state has room, unless a fault was told.
+abbrev pub HasRoomUnless : Option ReadFault → State → Type 0
+HasRoomUnless None s = HasRoom s
+HasRoomUnless (Some f) s = Unit {0}
+
+abbrev pub answer : Result State ReadFault → Result (Unit {0}) ReadFault
+answer (Ok s) = Ok tt
+answer (Err f) = Err f
+
+abbrev pub ended_in : Option ℕ → State → Result Moves ReadFault
+ended_in None s = Ok (record { normal = (settled s).normal; bracketed = (settled s).bracketed })
+ended_in (Some c) s = Err (Unclosed c)
+
+abbrev pub ended_at : LastMove → State → Result Moves ReadFault
+ended_at (last.FirstByte b two) s = Err (NotAMove s.fed)
+ended_at (last.SecondByte b two) s = Err (NotAMove (s.fed - 1))
+ended_at _ s = ended_in s.bracket s
+
+-- what the end of the line makes of it
+abbrev pub ended : Result State ReadFault → Result Moves ReadFault
+ended (Ok s) = ended_at s.last s
+ended (Err f) = Err f
+
+-- what the line is, with these bytes behind those that were fed
+abbrev pub answer_after : Result State ReadFault → List ℕ → Result Moves ReadFault
+answer_after r bytes = ended (and_then r (λ s. run s bytes))

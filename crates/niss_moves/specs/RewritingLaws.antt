@@ -1,0 +1,101 @@
+-- Laws of rotations, canonical sequences and cleaning, each proved as the contract of a function.
+use Rattle.std.specs.Prelude.{◌≡◌, ℕ, ◌+◌, ◌<◌, ◌⊎◌, Bool, ◌&&◌, List, [], ◌∷◌, ◌++◌, map, length, count_by, All, AllPairs, Contains, IsTrue, ◌↔◌}
+use Rattle.niss_moves.specs.Places.{Place}
+use Rattle.niss_moves.specs.Facelets.{centre}
+use Rattle.niss_moves.specs.Effects.{effect, effect_of_turns, moved_by, turned}
+use Rattle.niss_moves.specs.Turn.{opposite, same_face, goes_first}
+use Rattle.niss_moves.specs.Rotations.{spelling, face_before, face_before_power, renamed_turn}
+use Rattle.niss_moves.specs.Faces.{expanded, token_of_basic, faces}
+use Rattle.niss_moves.specs.Canonical.{IsCanonical, all_canonical}
+use Rattle.niss_moves.specs.Cleaning.{IsRewriting, Cleans}
+use Rattle.niss_moves.specs.declared.axis.Axis.{Axis}
+use Rattle.niss_moves.specs.declared.turn.Face.{Face}
+use Rattle.niss_moves.specs.declared.turn.Power.{Power}
+use Rattle.niss_moves.specs.declared.turn.Turn.{Turn}
+use Rattle.niss_moves.specs.declared.token.Token.{Token}
+use Rattle.niss_moves.specs.declared.token.Token.TheVariants as token
+use Rattle.niss_moves.specs.declared.rotation.Rotation.{Rotation}
+
+-- Two rotations that move the six centres alike are the same one, with one spelling.
+abbrev pub OneSpelling : Type 0
+OneSpelling =
+    (r s : Rotation) → ((f : Face) → effect (spelling r) (centre f) ≡ effect (spelling s) (centre f)) → r ≡ s
+
+-- A move has the effect of the basic moves to which it is expanded.
+abbrev pub ExpandsAlike : Type 0
+ExpandsAlike = (t : Token) (q : Place) → effect (map token_of_basic (expanded t)) q ≡ moved_by t q
+
+-- A rotation about an axis and then a face turn is the renamed face turn and then the rotation.
+abbrev pub RenamesAboutAxis : Type 0
+RenamesAboutAxis =
+    (axis : Axis) (p : Power) (t : Turn) (q : Place) →
+    turned t (moved_by (token.Rotation axis p) q)
+    ≡ moved_by (token.Rotation axis p) (turned (renamed_turn (face_before_power axis p) t) q)
+
+-- The same for each of the 24 rotations.
+abbrev pub RenamesByRotation : Type 0
+RenamesByRotation =
+    (r : Rotation) (t : Turn) (q : Place) →
+    turned t (effect (spelling r) q) ≡ effect (spelling r) (turned (renamed_turn (face_before r) t) q)
+
+-- After each sequence some rotation brings the centres home.
+abbrev pub CentresComeHome : Type 0
+CentresComeHome =
+    (s : List Token) → (home : Rotation) × ((f : Face) → effect (spelling home) (effect s (centre f)) ≡ centre f)
+
+-- With the centres brought home, a sequence has the effect of its face turns.
+abbrev pub FacesAreHome : Type 0
+FacesAreHome =
+    (s : List Token) (home : Rotation) →
+    ((f : Face) → effect (spelling home) (effect s (centre f)) ≡ centre f) →
+    (q : Place) → effect (spelling home) (effect s q) ≡ effect_of_turns (faces s) q
+
+-- The members of `all_canonical turns k` are the canonical sequences of length k of these turns.
+abbrev pub CanonicalMembers : Type 0
+CanonicalMembers =
+    (turns : List Turn) (k : ℕ) (s : List Turn) →
+    Contains (all_canonical turns k) s ↔ ((length s ≡ k) × IsCanonical s × All (Contains turns) s)
+
+-- Where two sequences first differ, the turn of the first one comes before the turn of the second.
+pub record DiffersFirst (comes_before : Turn → Turn → Bool) (first second : List Turn) : Type 0 where
+  pub front : List Turn
+  pub left : Turn
+  pub right : Turn
+  pub after_left : List Turn
+  pub after_right : List Turn
+  pub first_is : first ≡ front ++ left ∷ after_left
+  pub second_is : second ≡ front ++ right ∷ after_right
+  pub order : IsTrue (comes_before left right)
+
+-- If the turns are in some order, `all_canonical turns k` is in that order at the first turn where two members differ.
+-- So with turns that differ, each sequence is there once.
+abbrev pub CanonicalInOrder : Type 0
+CanonicalInOrder =
+    (comes_before : Turn → Turn → Bool) (turns : List Turn) (k : ℕ) →
+    AllPairs (λ t u. IsTrue (comes_before t u)) turns → AllPairs (DiffersFirst comes_before) (all_canonical turns k)
+
+-- Leftmost rewriting ends, for each list.
+abbrev pub CleaningEnds : Type 0
+CleaningEnds = (s : List Turn) → (c : List Turn) × Cleans s c
+
+-- Cleaning has one result.
+abbrev pub OneCleanList : Type 0
+OneCleanList = (s c d : List Turn) → Cleans s c → Cleans s d → c ≡ d
+
+-- Cleaning leaves a canonical list as it is.
+abbrev pub CanonicalStays : Type 0
+CanonicalStays = (s c : List Turn) → IsCanonical s → Cleans s c → c ≡ s
+
+-- two turns of opposite faces of which the second goes first
+abbrev pub are_disordered : Turn → Turn → Bool
+are_disordered t u = same_face (opposite t.face) u.face && goes_first u.face
+
+-- how many pairs of turns of opposite faces, neighbours or not, stand in the wrong order
+abbrev pub disorder : List Turn → ℕ
+disorder [] = 0
+disorder (t ∷ ts) = count_by (are_disordered t) ts + disorder ts
+
+-- Each rewriting shortens the list, or keeps its length and leaves fewer pairs in the wrong order.
+abbrev pub RewritingLowers : Type 0
+RewritingLowers =
+    (s t : List Turn) → IsRewriting s t → (length t < length s) ⊎ ((length t ≡ length s) × (disorder t < disorder s))

@@ -1,0 +1,83 @@
+-- The 24 rotations of the whole cube: their one spelling, and how they rename the face turns behind them.
+use Rattle.std.specs.Prelude.{◌≡◌, List, [], ◌∷◌, ◌++◌, Option, None, Some}
+use Rattle.niss_moves.specs.Effects.{effect}
+use Rattle.niss_moves.specs.Facelets.{centre}
+use Rattle.niss_moves.specs.declared.axis.Axis.{Axis}
+use Rattle.niss_moves.specs.declared.axis.Axis.TheVariants.{Ud, Rl, Fb}
+use Rattle.niss_moves.specs.declared.turn.Face.{Face}
+use Rattle.niss_moves.specs.declared.turn.Face.TheVariants.{U, D, R, L, F, B}
+use Rattle.niss_moves.specs.declared.turn.Power.{Power}
+use Rattle.niss_moves.specs.declared.turn.Power.TheVariants.{Quarter, Half, Counter}
+use Rattle.niss_moves.specs.declared.turn.Turn.{Turn}
+use Rattle.niss_moves.specs.declared.token.Token.{Token}
+use Rattle.niss_moves.specs.declared.token.Token.TheVariants as token
+use Rattle.niss_moves.specs.declared.rotation.Rotation.{Rotation}
+
+-- The one spelling of each of the 24 rotations: what brings a face to the top, then a turn about the vertical axis.
+abbrev pub to_top : Face → List Token
+to_top U = []
+to_top F = token.Rotation Rl Quarter ∷ []
+to_top D = token.Rotation Rl Half ∷ []
+to_top B = token.Rotation Rl Counter ∷ []
+to_top L = token.Rotation Fb Quarter ∷ []
+to_top R = token.Rotation Fb Counter ∷ []
+
+abbrev pub about_vertical : Option Power → List Token
+about_vertical None = []
+about_vertical (Some p) = token.Rotation Ud p ∷ []
+
+abbrev pub spelling : Rotation → List Token
+spelling r = to_top r.top ++ about_vertical r.vertical
+
+-- The rotation moves the six centres as the sequence does.
+abbrev pub IsRotationOf : List Token → Rotation → Type 0
+IsRotationOf ts r = (f : Face) → effect (spelling r) (centre f) ≡ effect ts (centre f)
+
+-- The face that a quarter rotation brings to the place of a face. So the rotation and then a turn of the second is a
+-- turn of the first and then the rotation: `x U` is `F x`.
+abbrev pub face_before_quarter : Axis → Face → Face
+face_before_quarter Rl U = F
+face_before_quarter Rl F = D
+face_before_quarter Rl D = B
+face_before_quarter Rl B = U
+face_before_quarter Rl R = R
+face_before_quarter Rl L = L
+face_before_quarter Ud U = U
+face_before_quarter Ud F = R
+face_before_quarter Ud D = D
+face_before_quarter Ud B = L
+face_before_quarter Ud R = B
+face_before_quarter Ud L = F
+face_before_quarter Fb U = L
+face_before_quarter Fb F = F
+face_before_quarter Fb D = R
+face_before_quarter Fb B = B
+face_before_quarter Fb R = U
+face_before_quarter Fb L = D
+
+-- the same for one, two or three quarters
+abbrev pub face_before_power : Axis → Power → Face → Face
+face_before_power axis Quarter f = face_before_quarter axis f
+face_before_power axis Half f = face_before_quarter axis (face_before_quarter axis f)
+face_before_power axis Counter f = face_before_quarter axis (face_before_quarter axis (face_before_quarter axis f))
+
+-- the same for what brings a face to the top, and for the turn about the vertical axis
+abbrev pub face_before_top : Face → Face → Face
+face_before_top U f = f
+face_before_top F f = face_before_power Rl Quarter f
+face_before_top D f = face_before_power Rl Half f
+face_before_top B f = face_before_power Rl Counter f
+face_before_top L f = face_before_power Fb Quarter f
+face_before_top R f = face_before_power Fb Counter f
+
+abbrev pub face_before_vertical : Option Power → Face → Face
+face_before_vertical None f = f
+face_before_vertical (Some p) f = face_before_power Ud p f
+
+-- the same for the 24 rotations
+abbrev pub face_before : Rotation → Face → Face
+face_before r f = face_before_top r.top (face_before_vertical r.vertical f)
+
+-- a turn of the same power of a renamed face
+abbrev pub renamed_turn : (Face → Face) → Turn → Turn
+renamed_turn name t = record { face = name t.face; power = t.power }

@@ -1,0 +1,49 @@
+//! Canonical sequences of face turns.
+ghost use Rattle.std.specs.Prelude.{◌≡◌, ◌↔◌, [], ◌∷◌, ◌||◌, IsTrue, MatchOption};
+ghost use Rattle.niss_moves.specs.Turn.{same_face};
+ghost use Rattle.niss_moves.specs.Canonical.{face_may_follow, may_follow, turn_order, IsCanonical};
+
+use crate::turn::{Face, Power, Turn};
+
+/// The turns of each face by a quarter, a half and counterclockwise.
+macro_rules! turns_of {
+    ($($face:ident)*) => {
+        [$(
+            Turn { face: Face::$face, power: Power::Quarter },
+            Turn { face: Face::$face, power: Power::Half },
+            Turn { face: Face::$face, power: Power::Counter },
+        )*]
+    };
+}
+
+/// The 18 face turns, in turn order.
+const TURN_ORDER: [Turn; 18] = turns_of!(U D R L F B);
+
+/// The 18 face turns, in turn order: `U U2 U' D D2 D' R R2 R' L L2 L' F F2 F' B B2 B'`.
+pub fn turn_order() -> &'static [Turn; 18]
+    ensures { result.now ≡ turn_order }
+{
+    &TURN_ORDER
+}
+
+impl Face {
+    /// Whether a turn of `next` may stand directly after one of this face in a canonical sequence.
+    pub(crate) fn may_precede(self, next: Face) -> bool
+        ensures { result ≡ face_may_follow self next }
+    {
+        self != next && (self.goes_first() || self.opposite() != next)
+    }
+}
+
+/// Whether `turn` may stand directly after the last one in a canonical sequence: no two neighbours are of one face, and
+/// of two neighbours of opposite faces the first is U, R or F. Any turn may stand first.
+pub fn allowed(last: Option<Turn>, turn: Turn) -> bool
+    ensures rule { result ≡ may_follow last turn }
+    ensures pair { MatchOption last (IsTrue result)
+        (λ t. IsTrue result ↔ IsCanonical (t ∷ turn ∷ [])) }
+{
+    match last {
+        None => true,
+        Some(last) => last.face.may_precede(turn.face),
+    }
+}

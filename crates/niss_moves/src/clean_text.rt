@@ -1,0 +1,77 @@
+//! Face turns, rotations and cleaned lines written out.
+ghost use Rattle.std.specs.Prelude.{◌≡◌, ◌+◌, ◌*◌, ◌≤◌, length};
+ghost use Rattle.arrayvec.specs.ArrayVec.{array_vec_len};
+ghost use Rattle.niss_moves.specs.Text.{with_words};
+ghost use Rattle.niss_moves.specs.CleanText.{turn_words, rotation_words, cleaned_words, is_empty, PutsClean};
+ghost use Rattle.niss_moves.specs.CleanedLine.{with_clean_line};
+
+use crate::cleaning::cleanup;
+use crate::niss::Niss;
+use crate::rotation::Rotation;
+use crate::text::{LineText, face_letter, put_gap, put_word};
+use crate::turn::{Face, Power, Turn};
+
+#[cfg(test)]
+mod tests;
+
+/// Appends the words of the face turns, with one space before each word, but not at the beginning of the text or after
+/// `(`. A turn takes at most three bytes.
+pub fn put_faces(turns: &[Turn], text: &mut LineText)
+    requires { array_vec_len text.old + 3 * length turns.now ≤ 2048 }
+    ensures items { text.new.items ≡ with_words text.old.items (turn_words turns.now) }
+    ensures len { array_vec_len text.new ≤ array_vec_len text.old + 3 * length turns.now }
+{
+    for turn in turns {
+        put_word(face_letter(turn.face), turn.power, text);
+    }
+}
+
+/// Appends the one spelling of the rotation, as `x2 y2`, with one space before each word, but not at the beginning of the
+/// text or after `(`. The identity has no word.
+pub fn put_rotation(rotation: Rotation, text: &mut LineText)
+    requires { array_vec_len text.old + 6 ≤ 2048 }
+    ensures items { text.new.items ≡ with_words text.old.items (rotation_words rotation) }
+    ensures len { array_vec_len text.new ≤ array_vec_len text.old + 6 }
+{
+    match rotation.top {
+        Face::U => {}
+        Face::F => put_word(b'x', Power::Quarter, text),
+        Face::D => put_word(b'x', Power::Half, text),
+        Face::B => put_word(b'x', Power::Counter, text),
+        Face::L => put_word(b'z', Power::Quarter, text),
+        Face::R => put_word(b'z', Power::Counter, text),
+    }
+    if let Some(power) = rotation.vertical {
+        put_word(b'y', power, text);
+    }
+}
+
+/// Whether there is no word to write.
+fn have_no_word(turns: &[Turn], rotation: Rotation) -> bool
+    ensures { result ≡ is_empty (cleaned_words turns.now rotation) }
+{
+    turns.is_empty() && rotation == Rotation::IDENTITY
+}
+
+/// Appends the cleaned line, as `R (U2 x)`: the normal face turns and rotation, and then the bracketed ones in a bracket,
+/// where any word of these is left. The normal and the bracketed moves are cleaned each by itself. That takes at most
+/// three bytes for each of 512 face turns, six for each rotation and three for the bracket.
+pub fn put_niss_clean(niss: &Niss, text: &mut LineText)
+    requires { array_vec_len text.old + 1600 ≤ 2048 }
+    ensures text { PutsClean niss.now text.old.items text.new.items }
+    ensures items { text.new.items ≡ with_clean_line text.old.items niss.now }
+    ensures len { array_vec_len text.new ≤ array_vec_len text.old + 1600 }
+{
+    let (turns, rotation) = cleanup(niss.normal());
+    put_faces(&turns, text);
+    put_rotation(rotation, text);
+    let (turns, rotation) = cleanup(niss.inverse());
+    if have_no_word(&turns, rotation) {
+        return;
+    }
+    put_gap(text);
+    text.push(b'(');
+    put_faces(&turns, text);
+    put_rotation(rotation, text);
+    text.push(b')');
+}

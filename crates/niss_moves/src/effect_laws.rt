@@ -1,0 +1,17 @@
+//! What holds of all moves and sequences. Each law is the contract of a function that does nothing.
+ghost use Rattle.niss_moves.specs.EffectLaws.{PlacesStay, InverseUndoes, InverseIsUndone};
+
+/// A move brings places to places.
+pub fn places_stay()
+    ensures { PlacesStay }
+{}
+
+/// The inverse of a sequence, made behind it, brings each place back.
+pub fn inverse_undoes()
+    ensures { InverseUndoes }
+{}
+
+/// A sequence, made behind its inverse, brings each place back.
+pub fn inverse_is_undone()
+    ensures { InverseIsUndone }
+{}

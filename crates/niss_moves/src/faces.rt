@@ -1,0 +1,99 @@
+//! Sequences as face turns.
+ghost use Rattle.std.specs.Prelude.{◌≡◌, ◌+◌, ◌*◌, ◌≤◌, List, [], ◌∷◌, ◌++◌, map, length};
+ghost use Rattle.arrayvec.specs.ArrayVec.{array_vec_len};
+ghost use Rattle.niss_moves.specs.Places.{Place};
+ghost use Rattle.niss_moves.specs.Effects.{effect, effect_of_turns, moved_by, inverse_power};
+ghost use Rattle.niss_moves.specs.Rotations.{spelling, face_before, renamed_turn, IsRotationOf};
+ghost use Rattle.niss_moves.specs.Faces.{faces, faces_with, expanded, FaceTurn, WholeRotation};
+ghost use Rattle.niss_moves.specs.Turn.{opposite};
+ghost use Rattle.niss_moves.specs.declared.token.Token.TheVariants as token;
+
+use crate::axis::Axis;
+use crate::rotation::Rotation;
+use crate::token::{Slice, Token};
+use crate::turn::{Face, Power, Turn};
+use arrayvec::ArrayVec;
+
+/// Face turns. A line has at most 256 moves, and a move at most two face turns.
+pub type Faces = ArrayVec<Turn, 512>;
+
+/// The rotation of the whole cube that turns as a face does.
+fn rotation_with_face(face: Face, power: Power) -> (Axis, Power)
+    ensures { expanded (token.Wide face power)
+        ≡ FaceTurn (opposite face) power ∷ WholeRotation result.0 result.1 ∷ [] }
+{
+    match face {
+        Face::U => (Axis::Ud, power),
+        Face::D => (Axis::Ud, power.inverse()),
+        Face::R => (Axis::Rl, power),
+        Face::L => (Axis::Rl, power.inverse()),
+        Face::F => (Axis::Fb, power),
+        Face::B => (Axis::Fb, power.inverse()),
+    }
+}
+
+/// A slice turn is a turn of this face, the inverse one of the opposite face, and the inverse rotation about this axis.
+fn face_turn_of_slice(slice: Slice, power: Power) -> (Turn, Axis)
+    ensures { expanded (token.Slice slice power)
+        ≡ FaceTurn result.0.face result.0.power
+        ∷ FaceTurn (opposite result.0.face) (inverse_power result.0.power)
+        ∷ WholeRotation result.1 (inverse_power result.0.power) ∷ [] }
+{
+    let (face, power, axis) = match slice {
+        Slice::M => (Face::R, power, Axis::Rl),
+        Slice::E => (Face::U, power, Axis::Ud),
+        Slice::S => (Face::F, power.inverse(), Axis::Fb),
+    };
+    (Turn { face, power }, axis)
+}
+
+/// Appends the face turns of one more move, after `rotation`, and answers the rotation after it.
+fn push_move(turns: &mut Faces, rotation: Rotation, token: Token) -> Rotation
+    requires { array_vec_len turns.old ≤ 510 }
+    ensures len { array_vec_len turns.new ≤ array_vec_len turns.old + 2 }
+    ensures faces { (rest : List Turn) →
+        turns.new.items ++ map (renamed_turn (face_before result)) rest
+        ≡ turns.old.items ++ map (renamed_turn (face_before rotation)) (faces_with (expanded token) rest) }
+    ensures effect { (q : Place) →
+        effect (spelling result) (effect_of_turns turns.new.items q)
+        ≡ moved_by token (effect (spelling rotation) (effect_of_turns turns.old.items q)) }
+{
+    match token {
+        Token::Face(turn) => {
+            turns.push(rotation.turn_before(turn));
+            rotation
+        }
+        Token::Wide(face, power) => {
+            let other = face.opposite();
+            turns.push(rotation.turn_before(Turn { face: other, power }));
+            let (axis, power) = rotation_with_face(face, power);
+            rotation.then(axis, power)
+        }
+        Token::Slice(slice, power) => {
+            let (turn, axis) = face_turn_of_slice(slice, power);
+            let (face, power) = (turn.face.opposite(), turn.power.inverse());
+            turns.push(rotation.turn_before(turn));
+            turns.push(rotation.turn_before(Turn { face, power }));
+            rotation.then(axis, power)
+        }
+        Token::Rotation(axis, power) => rotation.then(axis, power),
+    }
+}
+
+/// The face turns of a sequence, and the rotation that is left at its end: `Rw U` is `L F` and then `x`. Wide turns and
+/// slices are written as face turns and rotations, and a rotation renames the face turns behind it.
+pub fn to_faces(tokens: &[Token]) -> (Faces, Rotation)
+    requires { length tokens.now ≤ 256 }
+    ensures len { array_vec_len result.0 ≤ 2 * length tokens.now }
+    ensures faces { result.0.items ≡ faces tokens.now }
+    ensures rotation { IsRotationOf tokens.now result.1 }
+    ensures effect { (q : Place) →
+        effect tokens.now q ≡ effect (spelling result.1) (effect_of_turns result.0.items q) }
+{
+    let mut turns = Faces::new();
+    let mut rotation = Rotation::IDENTITY;
+    for token in tokens {
+        rotation = push_move(&mut turns, rotation, *token);
+    }
+    (turns, rotation)
+}

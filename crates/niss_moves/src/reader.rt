@@ -1,0 +1,116 @@
+ghost use Rattle.std.specs.Prelude.{◌≡◌, ◌+◌, ◌≤◌, List, length, IfOk, IfErr, Ok};
+ghost use Rattle.niss_moves.specs.Line.{Spells};
+ghost use Rattle.niss_moves.specs.Faults.{Faults};
+ghost use Rattle.niss_moves.specs.Reader.{read_line};
+ghost use Rattle.niss_moves.specs.declared.token.Token.{Token};
+
+use crate::fault::ReadFault;
+use crate::niss::Niss;
+use crate::partial_line::PartialLine;
+use std::marker::Model;
+
+#[cfg(test)]
+mod tests;
+
+/// Reads a line byte by byte, in at most 16,777,216 bytes.
+#[derive(Drop)]
+pub struct LineReader {
+    line: PartialLine,
+    fed: u32,
+    fault: Option<ReadFault>,
+}
+
+impl Model for LineReader {
+    ghost use Rattle.niss_moves.specs.Machine.{state_of, HasRoomUnless};
+    ghost use Rattle.niss_moves.specs.Reader.{Reader};
+
+    ghost Value = { Reader };
+
+    ghost view = { λ r. record { fed = r.fed; fault = r.fault; so_far = state_of r.line r.fed } };
+
+    ghost invariant = { λ r. HasRoomUnless r.fault (state_of r.line 0) };
+}
+
+impl LineReader {
+    ghost use Rattle.std.specs.Prelude.{◌≡◌, ℕ, ◌+◌, ◌<◌, ◌≤◌, ◌↔◌, List, [], ◌∷◌, ◌++◌, length, IsOk, IfOk, IfErr, MatchResult, Ok, Err, None, Some};
+    ghost use Rattle.niss_moves.specs.Line.{Spells};
+    ghost use Rattle.niss_moves.specs.Faults.{CanContinue, Stops, Faults};
+    ghost use Rattle.niss_moves.specs.Reader.{IsFed, read_line};
+    ghost use Rattle.niss_moves.specs.declared.token.Token.{Token};
+    ghost use Rattle.niss_moves.specs.declared.fault.ReadFault.{ReadFault};
+
+    /// A reader before the first byte of a line.
+    pub fn new() -> LineReader
+        ensures fed { result.fed ≡ 0 }
+        ensures bytes { IsFed result [] }
+        ensures no_fault { result.fault ≡ None }
+    {
+        LineReader {
+            line: PartialLine::new(),
+            fed: 0,
+            fault: None,
+        }
+    }
+
+    /// How many bytes were fed, refused ones among them.
+    pub fn fed(&self) -> u32
+        ensures { result ≡ self.now.fed }
+    {
+        self.fed
+    }
+
+    /// Takes one byte. It answers a fault as soon as the bytes are the beginning of no line, and from then on always
+    /// that fault.
+    pub fn feed(&mut self, byte: u8) -> Result<(), ReadFault>
+        requires { self.old.fed < 16777216 }
+        ensures fed { self.new.fed ≡ self.old.fed + 1 }
+        ensures bytes { (bytes : List ℕ) → IsFed self.old bytes → IsFed self.new (bytes ++ byte ∷ []) }
+
+        // A byte is taken where some line begins so, and else the fault is that of such a byte.
+        ensures taken { (bytes : List ℕ) → IsFed self.old bytes → IsOk result ↔ CanContinue (bytes ++ byte ∷ []) }
+        ensures fault { (bytes : List ℕ) → IsFed self.old bytes → IfErr result (λ f. Stops (bytes ++ byte ∷ []) f) }
+        ensures told { MatchResult result (λ _. self.new.fault ≡ None) (λ f. self.new.fault ≡ Some f) }
+        ensures again { (f : ReadFault) → self.old.fault ≡ Some f → (result ≡ Err f) × (self.new.fault ≡ Some f) }
+    {
+        let fed = self.fed;
+        self.fed = fed + 1;
+        let taken = match self.fault {
+            Some(fault) => Err(fault),
+            None => self.line.step(byte, fed),
+        };
+        self.fault = taken.err();
+        taken
+    }
+
+    /// The line that the bytes spell, or its fault.
+    pub fn finish(self) -> Result<Niss, ReadFault>
+        ensures value { (bytes : List ℕ) → IsFed self bytes → result ≡ read_line bytes }
+        ensures found { (bytes : List ℕ) → IsFed self bytes → IfOk result (λ n. Spells bytes n.normal n.bracketed) }
+        ensures only { (bytes : List ℕ) (n b : List Token) → IsFed self bytes → Spells bytes n b → length n + length b ≤ 256 →
+            result ≡ Ok (record { normal = n; bracketed = b }) }
+        ensures fault { (bytes : List ℕ) → IsFed self bytes → IfErr result (λ f. Faults bytes f) }
+        ensures again { (f : ReadFault) → self.fault ≡ Some f → result ≡ Err f }
+    {
+        match self.fault {
+            Some(fault) => Err(fault),
+            None => self.line.end(self.fed),
+        }
+    }
+}
+
+/// The line that the bytes spell, or its fault.
+pub fn read(bytes: &[u8]) -> Result<Niss, ReadFault>
+    requires { length bytes.now ≤ 16777216 }
+    ensures value { result ≡ read_line bytes.now }
+    ensures found { IfOk result (λ n. Spells bytes.now n.normal n.bracketed) }
+    ensures only { (n b : List Token) → Spells bytes.now n b → length n + length b ≤ 256 →
+        result ≡ Ok (record { normal = n; bracketed = b }) }
+    ensures fault { IfErr result (λ f. Faults bytes.now f) }
+{
+    let mut reader = LineReader::new();
+    for byte in bytes {
+        // A fault is told again at the end.
+        let _ = reader.feed(*byte);
+    }
+    reader.finish()
+}

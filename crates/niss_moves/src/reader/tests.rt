@@ -1,0 +1,51 @@
+ghost use Rattle.std.specs.Prelude.{◌≤◌, length};
+
+use super::*;
+
+fn fault_of(line: &[u8]) -> Option<ReadFault>
+    requires { length line.now ≤ 16777216 }
+{
+    read(line).err()
+}
+
+#[test]
+fn tells_a_fault_again(rt: HostRuntime) {
+    let unopened = ReadFault::Unopened { column: 2 };
+    let mut reader = LineReader::new();
+    assert_eq!(rt; reader.feed(b'R'), Ok(()));
+    assert_eq!(rt; reader.feed(b')'), Err(unopened));
+    assert_eq!(rt; reader.feed(b'U'), Err(unopened));
+    assert_eq!(rt; reader.fed(), 3);
+    assert_eq!(rt; reader.finish().err(), Some(unopened));
+}
+
+#[test]
+fn reads_each_single_byte(rt: HostRuntime) {
+    let mut lines = 0u32;
+    let mut others = 0u32;
+    for byte in 0..=255u8 {
+        match fault_of(&[byte]) {
+            None => lines = lines.saturating_add(1),
+            Some(ReadFault::Unclosed { column }) => assert!(rt; byte == b'(' && column == 1),
+            Some(ReadFault::Unopened { column }) => assert!(rt; byte == b')' && column == 1),
+            Some(fault) => {
+                assert_eq!(rt; fault, ReadFault::NotAMove { column: 1 }, "at {byte}");
+                others = others.saturating_add(1);
+            }
+        }
+    }
+    assert_eq!(rt; (lines, others), (21, 233));
+}
+
+#[test]
+fn reads_each_prefix(rt: HostRuntime) {
+    let line = b"R2\xE2\x80\x99 (Uw) x'";
+    for length in 0..14 {
+        let expected = match length {
+            3 | 4 => Some(ReadFault::NotAMove { column: 3 }),
+            7..=9 => Some(ReadFault::Unclosed { column: 7 }),
+            _ => None,
+        };
+        assert_eq!(rt; fault_of(&line[..length]), expected, "of {length} bytes");
+    }
+}

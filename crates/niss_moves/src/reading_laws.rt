@@ -1,0 +1,28 @@
+//! What holds of all lines. Each law is the contract of a function that does nothing.
+ghost use Rattle.niss_moves.specs.ReadingLaws.{LineIsSpelled, LineIsFaulty, OneReading, OneFault, OneEnding, WordsAreRead};
+
+/// What `read` answers is the moves that spell the line, and else its fault.
+pub fn line_is_read()
+    ensures spelled { LineIsSpelled }
+    ensures faulty { LineIsFaulty }
+{}
+
+/// A line has one reading.
+pub fn one_reading()
+    ensures { OneReading }
+{}
+
+/// A line has one fault.
+pub fn one_fault()
+    ensures { OneFault }
+{}
+
+/// The ending that makes bytes a line is one.
+pub fn one_ending()
+    ensures { OneEnding }
+{}
+
+/// Moves written with single spaces, as by `put_tokens`, are read as normal moves, and no bracketed ones.
+pub fn words_are_read()
+    ensures { WordsAreRead }
+{}

@@ -1,0 +1,53 @@
+ghost use Rattle.std.specs.Prelude.{◌≡◌, ◌+◌, ◌≤◌, List, ◌++◌, length};
+ghost use Rattle.arrayvec.specs.ArrayVec.{array_vec_len};
+ghost use Rattle.niss_moves.specs.Places.{Place};
+ghost use Rattle.niss_moves.specs.Effects.{effect, inverse, HasMeaning};
+
+use crate::niss::Niss;
+use crate::token::Token;
+use arrayvec::ArrayVec;
+
+#[cfg(test)]
+mod tests;
+
+/// The normal moves of a line, and then the inverse of its bracketed ones.
+pub fn unniss(niss: &Niss) -> ArrayVec<Token, 256>
+    ensures moves { result.items ≡ niss.now.normal ++ inverse niss.now.bracketed }
+    ensures meaning { HasMeaning result.items niss.now.normal niss.now.bracketed }
+{
+    let mut moves = ArrayVec::new();
+    push_all(&mut moves, niss.normal());
+    push_inverse(&mut moves, niss.inverse());
+    moves
+}
+
+/// The inverse of the list that `unniss` gives.
+pub fn invert(niss: &Niss) -> ArrayVec<Token, 256>
+    ensures moves { result.items ≡ inverse (niss.now.normal ++ inverse niss.now.bracketed) }
+    ensures effect { (q : Place) → effect result.items (effect (niss.now.normal ++ inverse niss.now.bracketed) q) ≡ q }
+{
+    let mut moves = ArrayVec::new();
+    push_all(&mut moves, niss.inverse());
+    push_inverse(&mut moves, niss.normal());
+    moves
+}
+
+fn push_all(moves: &mut ArrayVec<Token, 256>, tokens: &[Token])
+    requires { array_vec_len moves.old + length tokens.now ≤ 256 }
+    ensures { moves.new.items ≡ moves.old.items ++ tokens.now }
+{
+    for token in tokens {
+        moves.push(*token);
+    }
+}
+
+fn push_inverse(moves: &mut ArrayVec<Token, 256>, tokens: &[Token])
+    requires { array_vec_len moves.old + length tokens.now ≤ 256 }
+    ensures { moves.new.items ≡ moves.old.items ++ inverse tokens.now }
+{
+    let mut rest = tokens;
+    while let Some((last, front)) = rest.split_last() {
+        moves.push(last.inverse());
+        rest = front;
+    }
+}
