@@ -122,14 +122,12 @@ impl<W: io::Write> Target for ToWriter<W> {
     }
 
     fn flush(&mut self) -> Result<(), DeviceFault> {
+        let answer = self.writer.flush();
         self.flush_tried = true;
-        match self.writer.flush() {
-            Ok(()) => {
-                self.flushed = true;
-                Ok(())
-            }
+        self.flushed = answer.is_ok();
+        match answer {
+            Ok(()) => Ok(()),
             Err(_) => {
-                self.flushed = false;
                 self.flush_failed = true;
                 Err(DeviceFault)
             }
