@@ -1,7 +1,7 @@
+pub mod CutLemmas
 pub mod DeviceLemmas
 pub mod DigitLemmas
 pub mod LinesLemmas
-pub mod CutLemmas
 pub mod EngineLemmas
 pub mod AnswerLemmas
 pub mod RunLemmas
