@@ -1,8 +1,6 @@
 use crate::devices::{Bytes, Held};
 use crate::runs::words_of;
-use niss_shell::{FromReader, ToWriter, run};
-use std::io;
-use std::io::Cursor;
+use niss_shell::run;
 use std::test::Fail;
 
 const CANNOT_READ: &[u8] = b"nissy: cannot read\n";
@@ -94,48 +92,5 @@ fn faults_behind_a_fault(rt: HostRuntime) -> Result<(), Fail> {
         assert_eq!(rt; err.bytes.as_slice(), &NOT_A_MOVE[..before]);
         assert_eq!(rt; status, 1);
     }
-    Ok(())
-}
-
-/// A writer that takes all and refuses each flush.
-#[derive(Drop)]
-struct Unflushed;
-
-impl io::Write for Unflushed {
-    fn write(&mut self, buf: &[u8]) -> io::Result<usize> {
-        Ok(buf.len())
-    }
-
-    fn flush(&mut self) -> io::Result<()> {
-        Err(io::Error::from(io::ErrorKind::BrokenPipe))
-    }
-}
-
-#[test]
-fn std_readers_and_writers(rt: HostRuntime) -> Result<(), Fail> {
-    let words = words_of(rt.alloc(), &["invert"])?;
-    let mut output = Vec::new(rt.alloc());
-    let mut error = Vec::new(rt.alloc());
-    let status = run(
-        rt.alloc(),
-        words.as_slice(),
-        &mut FromReader::new(Cursor::new(b"R U\n".as_slice())),
-        &mut ToWriter::new(&mut output),
-        &mut ToWriter::new(&mut error),
-    );
-    assert_eq!(rt; status, 0);
-    assert_eq!(rt; output.as_slice(), b"U' R'\n".as_slice());
-    assert_eq!(rt; error.as_slice(), b"".as_slice());
-
-    let mut err = Held::new(rt.alloc(), 1000);
-    let status = run(
-        rt.alloc(),
-        words.as_slice(),
-        &mut FromReader::new(Cursor::new(b"R U\n".as_slice())),
-        &mut ToWriter::new(Unflushed),
-        &mut err,
-    );
-    assert_eq!(rt; status, 3);
-    assert_eq!(rt; err.bytes.as_slice(), CANNOT_WRITE);
     Ok(())
 }

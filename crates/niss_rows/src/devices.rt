@@ -100,6 +100,7 @@ pub struct Held {
     pub flushes: usize,
     write_failed: bool,
     flush_failed: bool,
+    flush_tried: bool,
     flushed: bool,
 }
 
@@ -124,6 +125,7 @@ impl Held {
             flushes: 0,
             write_failed: false,
             flush_failed: false,
+            flush_tried: false,
             flushed: false,
         }
     }
@@ -143,11 +145,13 @@ impl Target for Held {
       held = Some t.bytes.items;
       write_failed = t.write_failed;
       flush_failed = t.flush_failed;
+      flush_tried = t.flush_tried;
       is_flushed = t.flushed;
     } };
 
     fn write(&mut self, piece: &[u8]) -> Result<usize, DeviceFault> {
         self.writes = self.writes.saturating_add(1);
+        self.flush_tried = false;
         self.flushed = false;
         if self.writes == self.fails_at {
             self.write_failed = true;
@@ -168,7 +172,9 @@ impl Target for Held {
 
     fn flush(&mut self) -> Result<(), DeviceFault> {
         self.flushes = self.flushes.saturating_add(1);
+        self.flush_tried = true;
         if self.flush_fails {
+            self.flushed = false;
             self.flush_failed = true;
             return Err(DeviceFault);
         }

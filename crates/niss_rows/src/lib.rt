@@ -13,3 +13,5 @@ mod limits;
 mod memory;
 #[cfg(test)]
 mod runs;
+#[cfg(test)]
+mod std_streams;

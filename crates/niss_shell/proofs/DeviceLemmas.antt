@@ -1,7 +1,8 @@
 -- How the bytes that several calls move join.
 use Rattle.std.proofs.Common.{◌≡◌, ℕ, zero, suc, ◌≢◌, ◌<◌, ◌||◌, Bool, true, false, Option, Some, None, List, [], ◌∷◌, ◌++◌, length, refl, sym, ap, ◌∙◌, subst, append_assoc, append-nil, arith}
 use Rattle.std.proofs.Math.Bool.{or-false, or-true}
-use Rattle.niss_shell.specs.Device.{SourceState, TargetState, has_fault, GaveOf, Gave, AppendedOf, Appended, StaysSilentOf, StaysSilent, is_none_of}
+use Rattle.std.proofs.lemmas.Bool.{or_parts}
+use Rattle.niss_shell.specs.Device.{SourceState, TargetState, has_fault, GaveOf, Gave, AppendedOf, Appended, StaysSilentOf, StaysSilent, is_empty_answer}
 
 nothing_appended : (held : Option (List ℕ)) (failed : Bool) → AppendedOf held held failed []
 nothing_appended None failed = tt
@@ -48,6 +49,12 @@ new_fault s t refused p e = p ∙ ap (λ f. s.write_failed || f) e ∙ or-true s
 pub fault_of_write : (t : TargetState) → t.write_failed ≡ true → has_fault t ≡ true
 fault_of_write t e = ap (λ f. f || t.flush_failed) e
 
+pub no_write_fault : (h : TargetState) → has_fault h ≡ false → h.write_failed ≡ false
+no_write_fault h e = (or_parts h.write_failed h.flush_failed e).0
+
+pub no_flush_fault : (h : TargetState) → has_fault h ≡ false → h.flush_failed ≡ false
+no_flush_fault h e = (or_parts h.write_failed h.flush_failed e).1
+
 nothing_given : (left : Option (List ℕ)) (failed : Bool) → GaveOf left left failed []
 nothing_given None failed = tt
 nothing_given (Some all) failed = refl
@@ -64,12 +71,12 @@ more_given (Some old) (Some mid) (Some new) s t x y e p q = p ∙ ap (λ v. x ++
 pub gave_more : (a b c : SourceState) (x y : List ℕ) → b.has_failed ≡ false → Gave a b x → Gave b c y → Gave a c (x ++ y)
 gave_more a b c x y e p q = more_given a.left b.left c.left b.has_failed c.has_failed x y e p q
 
-pub is_none_of-some : (n : ℕ) (bytes : List ℕ) → n ≢ 0 → is_none_of n bytes ≡ false
-is_none_of-some zero bytes h = absurd (h refl)
-is_none_of-some (suc n) [] h = refl
-is_none_of-some (suc n) (b ∷ bytes) h = refl
+pub is_empty_answer-some : (n : ℕ) (bytes : List ℕ) → n ≢ 0 → is_empty_answer n bytes ≡ false
+is_empty_answer-some zero bytes h = absurd (h refl)
+is_empty_answer-some (suc n) [] h = refl
+is_empty_answer-some (suc n) (b ∷ bytes) h = refl
 
-pub is_none_of-none : (n : ℕ) (bytes : List ℕ) → n ≡ 0 → 0 < length bytes → is_none_of n bytes ≡ true
-is_none_of-none zero [] e h = absurd (omega (arith, h))
-is_none_of-none zero (b ∷ bytes) e h = refl
-is_none_of-none (suc n) bytes e h = absurd (omega (arith, e))
+pub is_empty_answer-none : (n : ℕ) (bytes : List ℕ) → n ≡ 0 → 0 < length bytes → is_empty_answer n bytes ≡ true
+is_empty_answer-none zero [] e h = absurd (omega (arith, h))
+is_empty_answer-none zero (b ∷ bytes) e h = refl
+is_empty_answer-none (suc n) bytes e h = absurd (omega (arith, e))

@@ -11,7 +11,7 @@ use Rattle.niss_moves.specs.declared.fault.ReadFault.{ReadFault}
 use Rattle.niss_shell.specs.declared.stop.Stop.{Stop}
 use Rattle.niss_shell.specs.declared.stop.Stop.TheVariants.{Done, Line, Usage, InputTooLong, CannotRead, CannotWrite, OutOfMemory}
 use Rattle.niss_shell.specs.declared.lines.Progress.{Progress}
-use Rattle.niss_shell.proofs.DeviceLemmas.{appended_nothing, appended_more}
+use Rattle.niss_shell.proofs.DeviceLemmas.{appended_nothing, appended_more, no_flush_fault}
 use Rattle.niss_shell.proofs.LinesLemmas.{ended_lines-append, last_part-append, first_fault-append, first_fault-stays, written_text-append, written_text-stays, written_text-front}
 
 -- one line that is answered
@@ -35,6 +35,7 @@ stopped_line f n front (Ok text) stop old new e p =
       part = p.1.part;
       cut = subst (λ t. IsCut p.1.part t) (sym (ap (λ r. text_before r []) e ∙ append-nil text)) p.1.cut;
       appended = p.1.appended;
+      flushes_work = p.1.flushes_work;
     })
 stopped_line f n front (Err fault) stop old new e p =
     subst (λ s. StopsWithin f n (front ∷ []) s old new) (sym p.0)
@@ -116,6 +117,7 @@ refused_more xs ys zs a b c e works p q = record {
   part = xs ++ q.part;
   cut = subst (λ v. IsCut (xs ++ q.part) v) (sym e) (cut_more q.part xs ys q.cut);
   appended = appended_more a b c xs q.part works p q.appended;
+  flushes_work = λ e. q.flushes_work (no_flush_fault b works);
 }
 
 refused_front : (xs ys zs : List ℕ) (a c : TargetState) → xs ++ ys ≡ zs → WriteRefused xs a c → WriteRefused zs a c
@@ -124,6 +126,7 @@ refused_front xs ys zs a c e q = record {
   part = q.part;
   cut = subst (λ v. IsCut q.part v) e (cut_front q.part xs ys q.cut);
   appended = q.appended;
+  flushes_work = q.flushes_work;
 }
 
 pub stopped_more : (f : List ℕ → Result (List ℕ) ReadFault) (n m : ℕ) (xs ys : List (List ℕ)) (stop : Stop) (a b c : TargetState)

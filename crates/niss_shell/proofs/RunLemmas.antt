@@ -1,8 +1,7 @@
 -- From what was read and written to what a run says of it.
-use Rattle.std.proofs.Common.{◌≡◌, ◌≢◌, ℕ, ◌≤◌, ◌<◌, Bool, true, false, ◌||◌, if◌then◌else◌, Option, Some, None, Result, Ok, Err, List, [], ◌∷◌, length, refl, sym, ap, ◌∙◌, subst, append-nil, arith}
+use Rattle.std.proofs.Common.{◌≡◌, ◌≢◌, ℕ, ◌≤◌, ◌<◌, Bool, true, false, ◌||◌, not, if◌then◌else◌, Option, Some, None, Result, Ok, Err, List, [], ◌∷◌, length, refl, sym, ap, ◌∙◌, subst, append-nil, arith}
 use Rattle.std.specs.Prelude.{OnOk, OnErr, nat_lt, nat_le}
 use Rattle.std.proofs.lemmas.Grind.{common_steps}
-use Rattle.std.proofs.lemmas.Bool.{or_parts}
 use Rattle.niss_shell.specs.Device.{SourceState, TargetState, has_fault, Appended, StaysSilent, WriteRefused}
 use Rattle.niss_shell.specs.Words.{limit, Request, OnLines, request_of, reads_source, joined}
 use Rattle.niss_shell.specs.Output.{Answer, Ending, More, End, Fail, ending, stop_at_end, answer, answer_lines, stop_of, out_of, error_text, status_of}
@@ -14,7 +13,7 @@ use Rattle.niss_shell.specs.declared.command.LineCommand.{LineCommand}
 use Rattle.niss_moves.specs.declared.fault.ReadFault.{ReadFault}
 use Rattle.niss_shell.specs.declared.stop.Stop.{Stop}
 use Rattle.niss_shell.specs.declared.stop.Stop.TheVariants.{Done, Line, Usage, InputTooLong, CannotRead, CannotWrite, OutOfMemory}
-use Rattle.niss_shell.proofs.DeviceLemmas.{appended_nothing, appended_then, appended_after_failure, gave_nothing, fault_of_write}
+use Rattle.niss_shell.proofs.DeviceLemmas.{appended_nothing, appended_then, appended_after_failure, gave_nothing, fault_of_write, no_write_fault, no_flush_fault}
 use Rattle.niss_shell.proofs.AnswerLemmas.{short_test, long_test, choose_false, choose_true}
 
 -- the error writer
@@ -32,7 +31,7 @@ told text piece (Err x) a b e whole refused = record {
   part = refused.part;
   rest = refused.cut.0;
   beginning = refused.cut.1 ∙ e;
-  whole = λ good. absurd (cc (good, fault_of_write b refused.refused));
+  whole = λ good. absurd (cc (good, refused.refused));
   written = refused.appended;
 }
 
@@ -138,12 +137,6 @@ rest_some : (xs : List ℕ) → 0 < length xs → xs ≡ [] → ⊥
 rest_some [] h e = omega arith
 rest_some (x ∷ xs) h e = cc e
 
-no_write_fault : (h : TargetState) → has_fault h ≡ false → h.write_failed ≡ false
-no_write_fault h e = (or_parts h.write_failed h.flush_failed e).0
-
-no_flush_fault : (h : TargetState) → has_fault h ≡ false → h.flush_failed ≡ false
-no_flush_fault h e = (or_parts h.write_failed h.flush_failed e).1
-
 fault_after : (i j : TargetState) (f : Bool) → has_fault i ≡ false → j.write_failed ≡ i.write_failed → j.flush_failed ≡ (i.flush_failed || f) → has_fault j ≡ f
 fault_after i j f works same e =
     ap (λ v. v || j.flush_failed) (same ∙ no_write_fault i works) ∙ e ∙ ap (λ v. v || f) (no_flush_fault i works)
@@ -151,7 +144,7 @@ fault_after i j f works same e =
 ends_done : (a : Answer) (asked : Result Request UsageFault) (d e : Devices) (i : TargetState) (f : Bool)
     → Writes a Done d.output i → (reads_source asked ≡ true → e.source.has_ended ≡ true)
     → Appended i e.output [] → e.output.write_failed ≡ i.write_failed → e.output.flush_failed ≡ (i.flush_failed || f)
-    → (f ≡ false → e.output.is_flushed ≡ true)
+    → e.output.is_flushed ≡ not f
     → Ends (flushed_stop Done f) a asked d e
 ends_done a asked d e i true w whole t same z flushed = record {
   refused = fault_after i e.output true w.1 same z;
@@ -162,18 +155,23 @@ ends_done a asked d e i true w whole t same z flushed = record {
   cut = λ bad. absurd (cc (bad, same ∙ no_write_fault i w.1));
   whole = λ good. refl;
   last = λ good. record { good = sym w.0; read_whole = whole };
+  last_flush = λ good. flushed;
 }
 ends_done a asked d e i false w whole t same z flushed = record {
   ends = record { good = sym w.0; read_whole = whole };
   works = fault_after i e.output false w.1 same z;
   written = appended_then d.output i e.output a.output w.1 w.2 t;
-  flushed = flushed refl;
+  flushed = flushed;
 }
 
 ends_by_fault : (a : Answer) (d e : Devices) (i : TargetState) (stop : Stop)
-    → (stop ≡ a.stop) × (has_fault i ≡ false) × Appended d.output i a.output → Appended i e.output []
+    → (stop ≡ a.stop) × (has_fault i ≡ false) × Appended d.output i a.output → Appended i e.output [] → e.output.write_failed ≡ i.write_failed
     → EndsByFault stop a d e
-ends_by_fault a d e i stop w t = record { fault = sym w.0; written = appended_then d.output i e.output a.output w.1 w.2 t }
+ends_by_fault a d e i stop w t same = record {
+  fault = sym w.0;
+  written = appended_then d.output i e.output a.output w.1 w.2 t;
+  unrefused = same ∙ no_write_fault i w.1;
+}
 
 ends_refused : (a : Answer) (asked : Result Request UsageFault) (d e : Devices) (i : TargetState)
     → WriteRefused a.output d.output i → Appended i e.output [] → StaysSilent i e.output → e.output.write_failed ≡ i.write_failed
@@ -189,21 +187,42 @@ ends_refused a asked d e i w t silent same =
       cut = λ b. w.cut.2;
       whole = λ good. absurd (cc (good, bad));
       last = λ good. absurd (cc (good, bad));
+      last_flush = λ good. absurd (cc (good, bad));
     }
 
 ends_flushed : (a : Answer) (asked : Result Request UsageFault) (stop : Stop) (d e : Devices) (i : TargetState) (f : Bool)
     → EndsUnflushed stop a asked d.source e.source d.output i → (stop ≡ Done → reads_source asked ≡ true → e.source.has_ended ≡ true)
     → Appended i e.output [] → StaysSilent i e.output → e.output.write_failed ≡ i.write_failed → e.output.flush_failed ≡ (i.flush_failed || f)
-    → (f ≡ false → e.output.is_flushed ≡ true)
+    → e.output.is_flushed ≡ not f
     → Ends (flushed_stop stop f) a asked d e
 ends_flushed a asked Done d e i f w whole t s same z flushed = ends_done a asked d e i f w (whole refl) t same z flushed
-ends_flushed a asked (Line at fault) d e i f w whole t s same z flushed = ends_by_fault a d e i (Line at fault) w t
-ends_flushed a asked Usage d e i f w whole t s same z flushed = ends_by_fault a d e i Usage w t
-ends_flushed a asked InputTooLong d e i f w whole t s same z flushed = ends_by_fault a d e i InputTooLong w t
-ends_flushed a asked CannotRead d e i f w whole t s same z flushed = ends_by_fault a d e i CannotRead w t
+ends_flushed a asked (Line at fault) d e i f w whole t s same z flushed = ends_by_fault a d e i (Line at fault) w t same
+ends_flushed a asked Usage d e i f w whole t s same z flushed = ends_by_fault a d e i Usage w t same
+ends_flushed a asked InputTooLong d e i f w whole t s same z flushed = ends_by_fault a d e i InputTooLong w t same
+ends_flushed a asked CannotRead d e i f w whole t s same z flushed = ends_by_fault a d e i CannotRead w t same
 ends_flushed a asked CannotWrite d e i f w whole t s same z flushed = ends_refused a asked d e i w t s same
 ends_flushed a asked OutOfMemory d e i f w whole t s same z flushed =
-    record { asks = w.0; unread = w.1; nothing = appended_then d.output i e.output [] w.2 w.3 t }
+    record { asks = w.0; unread = w.1; nothing = appended_then d.output i e.output [] w.2 w.3 t; unrefused = same ∙ no_write_fault i w.2 }
+
+flushes_worked : (a : Answer) (asked : Result Request UsageFault) (stop : Stop) (source source_now : SourceState) (h i : TargetState)
+    → has_fault h ≡ false → EndsUnflushed stop a asked source source_now h i → i.flush_failed ≡ false
+flushes_worked a asked Done source source_now h i works w = no_flush_fault i w.1
+flushes_worked a asked (Line at fault) source source_now h i works w = no_flush_fault i w.1
+flushes_worked a asked Usage source source_now h i works w = no_flush_fault i w.1
+flushes_worked a asked InputTooLong source source_now h i works w = no_flush_fault i w.1
+flushes_worked a asked CannotRead source source_now h i works w = no_flush_fault i w.1
+flushes_worked a asked CannotWrite source source_now h i works w = w.flushes_work (no_flush_fault h works)
+flushes_worked a asked OutOfMemory source source_now h i works w = no_flush_fault i w.2
+
+not_flushed : (c f r : Bool) → c ≡ not r → f ≡ r → f ≡ not c
+not_flushed c f true e h = h ∙ sym (ap not e)
+not_flushed c f false e h = h ∙ sym (ap not e)
+
+-- no flush before the last one was refused
+pub one_flush : (asked : Result Request UsageFault) (stop stop_now : Stop) (a b : SourceState) (h i j : TargetState)
+    → has_fault h ≡ false → RunsUnflushed asked stop a b h i → FlushesLast stop stop_now i j → j.flush_failed ≡ not j.is_flushed
+one_flush asked stop stop_now a b h i j works x flush = not_flushed j.is_flushed j.flush_failed flush.refused flush.flushed
+    (flush.flush_failed ∙ ap (λ v. v || flush.refused) (flushes_worked _ asked stop a b h i works x.ends))
 
 pub runs_flushed : (words : List (List ℕ)) (status : ℕ) (stop stop_now : Stop) (a b : SourceState) (h i j : TargetState) (k l : TargetState)
     → RunsUnflushed (request_of words) stop a b h i → FlushesLast stop stop_now i j

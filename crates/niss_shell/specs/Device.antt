@@ -7,18 +7,20 @@ pub record SourceState : Type 0 where
   pub has_failed : Bool
   pub has_ended : Bool
 
--- A target tells the bytes that it holds, or doesn't; whether a write failed; whether a flush failed; whether a good flush
--- came behind the last byte.
+-- A target tells the bytes that it holds, or doesn't; whether a write failed; whether a flush failed; whether a flush came
+-- behind the last byte, good or refused; whether the last one that came so was good.
 pub record TargetState : Type 0 where
   pub held : Option (List ℕ)
   pub write_failed : Bool
   pub flush_failed : Bool
+  pub flush_tried : Bool
   pub is_flushed : Bool
 
 -- a write or a flush failed
 abbrev pub has_fault : TargetState → Bool
 has_fault target = target.write_failed || target.flush_failed
 
+-- what `Gave` says of the bytes left before and after; nothing of a source that doesn't tell them
 abbrev pub GaveOf : Option (List ℕ) → Option (List ℕ) → Bool → List ℕ → Type 0
 GaveOf None left_now failed bytes = Unit {0}
 GaveOf (Some all) None failed bytes = (failed ≡ true) × ((rest : List ℕ) × (all ≡ bytes ++ rest))
@@ -28,6 +30,7 @@ GaveOf (Some all) (Some rest) failed bytes = all ≡ bytes ++ rest
 abbrev pub Gave : SourceState → SourceState → List ℕ → Type 0
 Gave old new bytes = GaveOf old.left new.left new.has_failed bytes
 
+-- what `Appended` says of the bytes held before and after; nothing of a target that doesn't tell them
 abbrev pub AppendedOf : Option (List ℕ) → Option (List ℕ) → Bool → List ℕ → Type 0
 AppendedOf None held_now failed bytes = Unit {0}
 AppendedOf (Some all) None failed bytes = failed ≡ true
@@ -37,6 +40,7 @@ AppendedOf (Some all) (Some all_now) failed bytes = all_now ≡ all ++ bytes
 abbrev pub Appended : TargetState → TargetState → List ℕ → Type 0
 Appended old new bytes = AppendedOf old.held new.held (has_fault new) bytes
 
+-- what `StaysSilent` says of the bytes held before and after, where the target had failed or hadn't
 abbrev pub StaysSilentOf : Bool → Option (List ℕ) → Option (List ℕ) → Type 0
 StaysSilentOf false held held_now = Unit {0}
 StaysSilentOf true (Some all) held_now = Unit {0}
@@ -52,20 +56,20 @@ abbrev pub moved_bytes : {E : Type 0} → Result ℕ E → List ℕ → List ℕ
 moved_bytes (Ok count) bytes = take count bytes
 moved_bytes (Err e) bytes = []
 
--- the count is 0, though there are bytes
-abbrev pub is_none_of : ℕ → List ℕ → Bool
-is_none_of zero [] = false
-is_none_of zero (b ∷ bytes) = true
-is_none_of (suc n) bytes = false
+-- the answer is 0, though there are bytes
+abbrev pub is_empty_answer : ℕ → List ℕ → Bool
+is_empty_answer zero [] = false
+is_empty_answer zero (b ∷ bytes) = true
+is_empty_answer (suc n) bytes = false
 
 -- a read with this answer found the end
 abbrev pub found_end : {E : Type 0} → Result ℕ E → List ℕ → Bool
-found_end (Ok count) buf = is_none_of count buf
+found_end (Ok count) buf = is_empty_answer count buf
 found_end (Err e) buf = false
 
 -- a write with this answer failed
 abbrev pub is_refused : {E : Type 0} → Result ℕ E → List ℕ → Bool
-is_refused (Ok count) piece = is_none_of count piece
+is_refused (Ok count) piece = is_empty_answer count piece
 is_refused (Err e) piece = true
 
 -- a beginning of the bytes, and not all of them
@@ -78,3 +82,5 @@ pub record WriteRefused (text : List ℕ) (old new : TargetState) : Type 0 where
   pub part : List ℕ
   pub cut : IsCut part text
   pub appended : Appended old new part
+  -- no flush was refused on the way
+  pub flushes_work : old.flush_failed ≡ false → new.flush_failed ≡ false

@@ -1,5 +1,5 @@
 -- What the engine's steps do. `front` are the bytes of the line that is being read.
-use Rattle.std.specs.Prelude.{◌≡◌, ℕ, ◌+◌, ◌||◌, Bool, true, false, Some, None, Result, Ok, Err, List, [], length}
+use Rattle.std.specs.Prelude.{◌≡◌, ℕ, ◌+◌, ◌||◌, not, Bool, true, false, Some, None, Result, Ok, Err, List, [], length}
 use Rattle.niss_shell.specs.Device.{SourceState, TargetState, has_fault, Gave, Appended, StaysSilent, WriteRefused}
 use Rattle.niss_shell.specs.Lines.{ended_lines, last_part, written_text, first_fault}
 use Rattle.niss_moves.specs.Reader.{IsFed}
@@ -111,4 +111,5 @@ pub record FlushesLast (stop stop_now : Stop) (old new : TargetState) : Type 0 w
   pub write_failed : new.write_failed ≡ old.write_failed
   pub bytes : Appended old new []
   pub silent : StaysSilent old new
-  pub flushed : refused ≡ false → new.is_flushed ≡ true
+  pub tried : new.flush_tried ≡ true
+  pub flushed : new.is_flushed ≡ not refused

@@ -1,5 +1,6 @@
 pub mod Device
 pub mod Lines
+pub mod LinesLaws
 pub mod Words
 pub mod Output
 pub mod Engine

@@ -11,20 +11,22 @@ unfoldable pub last_part : List ℕ → List ℕ → List ℕ
 last_part front [] = front
 last_part front (b ∷ bs) = if b == 10 then last_part [] bs else last_part (front ++ b ∷ []) bs
 
+-- what is written for a line and behind it: the line's answer and the rest, or nothing from a fault on
 abbrev pub text_before : {E : Type 0} → Result (List ℕ) E → List ℕ → List ℕ
 text_before (Ok text) rest = text ++ rest
 text_before (Err e) rest = []
 
 -- the answers to these lines, up to the first that has a fault
 unfoldable pub written_text : {E : Type 0} → (List ℕ → Result (List ℕ) E) → List (List ℕ) → List ℕ
-written_text answer [] = []
-written_text answer (line ∷ lines) = text_before (answer line) (written_text answer lines)
+written_text answer_of [] = []
+written_text answer_of (line ∷ lines) = text_before (answer_of line) (written_text answer_of lines)
 
+-- the first fault from line n on: that of line n, or else the first of the rest
 abbrev pub fault_before : {E : Type 0} → Result (List ℕ) E → ℕ → Option (ℕ × E) → Option (ℕ × E)
 fault_before (Ok text) n rest = rest
 fault_before (Err e) n rest = Some (n, e)
 
 -- the number of the first line that has a fault, and the fault, where the first of these lines has the number n
 unfoldable pub first_fault : {E : Type 0} → (List ℕ → Result (List ℕ) E) → ℕ → List (List ℕ) → Option (ℕ × E)
-first_fault answer n [] = None
-first_fault answer n (line ∷ lines) = fault_before (answer line) n (first_fault answer (n + 1) lines)
+first_fault answer_of n [] = None
+first_fault answer_of n (line ∷ lines) = fault_before (answer_of line) n (first_fault answer_of (n + 1) lines)

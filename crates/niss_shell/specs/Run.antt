@@ -37,17 +37,20 @@ pub record OutputRefused (a : Answer) (asked : Result Request UsageFault) (old n
   pub cut : new.output.write_failed ≡ true → 0 < length rest
   pub whole : new.output.write_failed ≡ false → rest ≡ []
   pub last : new.output.write_failed ≡ false → ReachesEnd a asked new.source
+  pub last_flush : new.output.write_failed ≡ false → new.output.is_flushed ≡ false
 
--- `out of memory`: the request takes memory, nothing was read, and nothing written.
+-- `out of memory`: the request takes memory, nothing was read, and nothing written or refused.
 pub record MemoryRefused (asked : Result Request UsageFault) (old new : Devices) : Type 0 where
   pub asks : takes_memory asked ≡ true
   pub unread : new.source ≡ old.source
   pub nothing : Appended old.output new.output []
+  pub unrefused : new.output.write_failed ≡ false
 
--- A fault of the words, of a line or of the input, which comes behind the answers before it.
+-- A fault of the words, of a line or of the input, which comes behind the answers before it. No write was refused.
 pub record EndsByFault (stop : Stop) (a : Answer) (old new : Devices) : Type 0 where
   pub fault : a.stop ≡ stop
   pub written : Appended old.output new.output a.output
+  pub unrefused : new.output.write_failed ≡ false
 
 -- how a run ends, where `a` is what it is to write and to answer
 abbrev pub Ends : Stop → Answer → Result Request UsageFault → Devices → Devices → Type 0
@@ -56,12 +59,12 @@ Ends CannotWrite a asked old new = OutputRefused a asked old new
 Ends OutOfMemory a asked old new = MemoryRefused asked old new
 Ends stop a asked old new = EndsByFault stop a old new
 
--- The error writer took this text, or a beginning of it where it failed.
+-- The error writer took this text, or a beginning of it where it refused a write.
 pub record TellsError (text : List ℕ) (old new : TargetState) : Type 0 where
   pub part : List ℕ
   pub rest : List ℕ
   pub beginning : part ++ rest ≡ text
-  pub whole : has_fault new ≡ false → rest ≡ []
+  pub whole : new.write_failed ≡ false → rest ≡ []
   pub written : Appended old new part
 
 pub record Runs (words : List (List ℕ)) (old new : Devices) (status : ℕ) : Type 0 where

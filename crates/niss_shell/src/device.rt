@@ -1,4 +1,4 @@
-ghost use Rattle.std.specs.Prelude.{◌≡◌, ◌<◌, ◌≤◌, Bool, true, false, ◌||◌, List, [], length, is_err, IfOk, OnOk};
+ghost use Rattle.std.specs.Prelude.{◌≡◌, ◌<◌, ◌≤◌, Bool, true, false, ◌||◌, List, [], length, is_ok, is_err, IfOk};
 ghost use Rattle.niss_shell.specs.Device.{SourceState, TargetState, Gave, Appended, StaysSilent, has_fault, moved_bytes, found_end, is_refused};
 
 /// A read, a write or a flush failed. It carries nothing.
@@ -31,7 +31,7 @@ pub trait Source {
 
 /// Something that bytes are written to.
 pub trait Target {
-    // the bytes held, where the target tells them, its flags, and whether a flush came behind the last byte
+    // the bytes held, where the target tells them, its flags, and which flush came behind the last byte
     ghost state: { Self → TargetState };
 
     /// Takes some first bytes of the piece, and answers how many. To take none of a piece that isn't empty is a failure, as
@@ -42,6 +42,7 @@ pub trait Target {
         ensures silent { StaysSilent (state self.old) (state self.new) }
         ensures write_failed { (state self.new).write_failed ≡ ((state self.old).write_failed || is_refused result piece.now) }
         ensures flush_failed { (state self.new).flush_failed ≡ (state self.old).flush_failed }
+        ensures untried { 0 < length (moved_bytes result piece.now) → (state self.new).flush_tried ≡ false }
         ensures unflushed { 0 < length (moved_bytes result piece.now) → (state self.new).is_flushed ≡ false };
 
     /// Passes on what was taken.
@@ -50,7 +51,8 @@ pub trait Target {
         ensures silent { StaysSilent (state self.old) (state self.new) }
         ensures write_failed { (state self.new).write_failed ≡ (state self.old).write_failed }
         ensures flush_failed { (state self.new).flush_failed ≡ ((state self.old).flush_failed || is_err result) }
-        ensures flushed { OnOk result ((state self.new).is_flushed ≡ true) };
+        ensures tried { (state self.new).flush_tried ≡ true }
+        ensures flushed { (state self.new).is_flushed ≡ is_ok result };
 
     /// Whether a write or a flush failed.
     fn failed(&self) -> bool

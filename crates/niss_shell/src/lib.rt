@@ -14,6 +14,7 @@
 mod answer;
 mod command;
 mod device;
+mod laws;
 mod lines;
 mod shell;
 mod stop;
@@ -23,5 +24,6 @@ mod writing;
 
 pub use command::{Command, UsageFault, parse_words};
 pub use device::{DeviceFault, Source, Target};
+pub use laws::lines_are_cut;
 pub use shell::{run, run_in};
 pub use streams::{FromReader, ToWriter};

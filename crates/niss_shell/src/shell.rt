@@ -1,4 +1,4 @@
-ghost use Rattle.std.specs.Prelude.{◌≡◌, ◌||◌, ◌<◌, ◌≤◌, false, true, Ok, ◌++◌, [], map, flat_map, string_bytes, length, OnOk, IfOk, MatchOption};
+ghost use Rattle.std.specs.Prelude.{◌≡◌, ◌<◌, ◌≤◌, not, false, true, Ok, ◌++◌, [], map, flat_map, string_bytes, length, OnOk, IfOk, MatchOption};
 ghost use Rattle.niss_shell.specs.Device.{has_fault};
 ghost use Rattle.niss_shell.specs.Words.{limit, joined, spaced_word, request_of, reads_source, OnLines};
 ghost use Rattle.niss_shell.specs.Output.{error_text};
@@ -111,7 +111,6 @@ fn answer_command<A: Allocator, R: Source, W: Target>(
 /// The last flush. Where it is refused, a good run ends with a fault.
 fn flush_last<W: Target>(stop: Stop, out: &mut W) -> Stop
     ensures flushes { FlushesLast stop result (W.state out.old) (W.state out.new) }
-    ensures tried { ((W.state out.new).is_flushed || (W.state out.new).flush_failed) ≡ true }
 {
     match (stop, out.flush()) {
         (Stop::Done, Err(_)) => Stop::CannotWrite,
@@ -142,8 +141,10 @@ pub fn run_in<A: Allocator, R: Source, W: Target, E: Target>(
         (devices (R.state input.new) (W.state out.new) (E.state err.new)) result }
     // Nothing is read but by a command that takes its input from the source.
     ensures unread { reads_source (request_of (map string_bytes words.now)) ≡ false → R.state input.new ≡ R.state input.old }
-    // However a run ends, it ends with a flush of the output.
-    ensures flushed { ((W.state out.new).is_flushed || (W.state out.new).flush_failed) ≡ true }
+    // However a run ends, a flush of the output is tried behind its last byte.
+    ensures tried { (W.state out.new).flush_tried ≡ true }
+    // No flush but that last one is refused. So none comes earlier, since an earlier one may be refused and the last one not.
+    ensures one_flush { (W.state out.new).flush_failed ≡ not (W.state out.new).is_flushed }
 {
     let stop = flush_last(answer_command(alloc, words, input, out), out);
     tell(stop, err);
@@ -170,8 +171,10 @@ pub fn run<R: Source, W: Target, E: Target>(
         (devices (R.state input.new) (W.state out.new) (E.state err.new)) result }
     // Nothing is read but by a command that takes its input from the source.
     ensures unread { reads_source (request_of (map string_bytes words.now)) ≡ false → R.state input.new ≡ R.state input.old }
-    // However a run ends, it ends with a flush of the output.
-    ensures flushed { ((W.state out.new).is_flushed || (W.state out.new).flush_failed) ≡ true }
+    // However a run ends, a flush of the output is tried behind its last byte.
+    ensures tried { (W.state out.new).flush_tried ≡ true }
+    // No flush but that last one is refused. So none comes earlier, since an earlier one may be refused and the last one not.
+    ensures one_flush { (W.state out.new).flush_failed ≡ not (W.state out.new).is_flushed }
 {
     run_in(alloc, words, input, out, err)
 }

@@ -1,5 +1,6 @@
-ghost use Rattle.std.specs.Prelude.{◌≡◌, Bool, true, false, ◌||◌, Option, List, ℕ, if◌then◌else◌};
-ghost use Rattle.niss_shell.specs.Device.{SourceState, TargetState, has_fault};
+ghost use Rattle.std.specs.Prelude.{◌≡◌, ◌≤◌, Bool, true, false, ◌||◌, Option, List, ℕ, length, is_err, if◌then◌else◌, IfOk};
+ghost use Rattle.std.specs.Io.KnownBytes.{IsAtEnd};
+ghost use Rattle.niss_shell.specs.Device.{SourceState, TargetState, Gave, has_fault, moved_bytes, found_end};
 
 use crate::device::{DeviceFault, Source, Target};
 use std::io;
@@ -34,7 +35,17 @@ impl<R: io::Read> Source for FromReader<R> {
       has_ended = s.ended;
     } };
 
-    fn read(&mut self, buf: &mut [u8]) -> Result<usize, DeviceFault> {
+    fn read(&mut self, buf: &mut [u8]) -> Result<usize, DeviceFault>
+        requires works { (⟦<FromReader<R> as Source>⟧.state self.old).has_failed ≡ false }
+        requires goes_on { (⟦<FromReader<R> as Source>⟧.state self.old).has_ended ≡ false }
+        ensures bound { IfOk result (λ count. count ≤ length buf.new) }
+        ensures bytes { Gave (⟦<FromReader<R> as Source>⟧.state self.old) (⟦<FromReader<R> as Source>⟧.state self.new)
+            (moved_bytes result buf.new) }
+        ensures failed { (⟦<FromReader<R> as Source>⟧.state self.new).has_failed ≡ is_err result }
+        ensures ended { (⟦<FromReader<R> as Source>⟧.state self.new).has_ended ≡ found_end result buf.new }
+        // What it finds as the end is the reader's end, and no failed read.
+        ensures whole { found_end result buf.new ≡ true → IsAtEnd (⟦<FromReader<R> as Source>⟧.state self.new).left }
+    {
         match self.reader.read(buf) {
             Ok(count) => {
                 if count == 0 && !buf.is_empty() {
@@ -64,6 +75,7 @@ pub struct ToWriter<W> {
     writer: W,
     write_failed: bool,
     flush_failed: bool,
+    flush_tried: bool,
     flushed: bool,
 }
 
@@ -77,6 +89,7 @@ impl<W: io::Write> ToWriter<W> {
             writer,
             write_failed: false,
             flush_failed: false,
+            flush_tried: false,
             flushed: false,
         }
     }
@@ -87,10 +100,12 @@ impl<W: io::Write> Target for ToWriter<W> {
       held = if t.write_failed || t.flush_failed then Option.None else W.contents t.writer;
       write_failed = t.write_failed;
       flush_failed = t.flush_failed;
+      flush_tried = t.flush_tried;
       is_flushed = t.flushed;
     } };
 
     fn write(&mut self, piece: &[u8]) -> Result<usize, DeviceFault> {
+        self.flush_tried = false;
         self.flushed = false;
         match self.writer.write(piece) {
             Ok(count) => {
@@ -107,11 +122,11 @@ impl<W: io::Write> Target for ToWriter<W> {
     }
 
     fn flush(&mut self) -> Result<(), DeviceFault> {
-        match self.writer.flush() {
-            Ok(()) => {
-                self.flushed = true;
-                Ok(())
-            }
+        let answer = self.writer.flush();
+        self.flush_tried = true;
+        self.flushed = answer.is_ok();
+        match answer {
+            Ok(()) => Ok(()),
             Err(_) => {
                 self.flush_failed = true;
                 Err(DeviceFault)

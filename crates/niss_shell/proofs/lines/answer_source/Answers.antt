@@ -1,7 +1,7 @@
 use Rattle.std.proofs.Common.{◌≡◌, take, length, ◌-◌, ◌∙◌, arith}
 use Rattle.niss_shell.specs.Words.{limit}
 use Rattle.niss_shell.proofs.AnswerLemmas.{length_taken, at_start, at_more, at_failure, at_end, at_limit, at_stop, gave_nothing_of}
-use Rattle.niss_shell.proofs.DeviceLemmas.{is_none_of-some, is_none_of-none}
+use Rattle.niss_shell.proofs.DeviceLemmas.{is_empty_answer-some, is_empty_answer-none}
 use Rattle.niss_shell.proofs.lines.answer_source.Goals as goal
 
 pub loop-given-init : goal.loop-given-init
@@ -31,7 +31,7 @@ returns-then-given-eq0 g c = at_end c.args.command c.loop-given.count c.loop-giv
     c.loop-given.invariant.at c.loop-given.invariant.room c.loop-given.invariant.reads
     (gave_nothing_of (g.S.Source.state c.loop-given.source) (g.S.Source.state c.read.new.self) c.in-Ok.given c.read.new.buf c.if-given-eq0.true c.in-Ok.ensures.bytes)
     c.in-Ok.ensures.failed
-    (c.in-Ok.ensures.ended ∙ is_none_of-none c.in-Ok.given c.read.new.buf c.if-given-eq0.true (rw c.read.auto.buf c.loop-given.invariant.block))
+    (c.in-Ok.ensures.ended ∙ is_empty_answer-none c.in-Ok.given c.read.new.buf c.if-given-eq0.true (rw c.read.auto.buf c.loop-given.invariant.block))
     c.take_end.ensures c.stop_after.ensures
 
 pub returns-then-given-room : goal.returns-then-given-room
@@ -40,7 +40,7 @@ returns-then-given-room g c = at_limit c.args.command c.loop-given.count c.in-Ok
     (g.W.Target.state c.args.out.now) (g.W.Target.state c.loop-given.out) (g.W.Target.state c.take_bytes.new.out)
     c.take_bytes.result c.stop_after-then-given-room.result
     c.loop-given.invariant.at (omega (arith, c.loop-given.invariant.room)) c.if-given-room.true c.in-Ok.ensures.bound c.loop-given.invariant.reads c.in-Ok.ensures.bytes c.in-Ok.ensures.failed
-    (c.in-Ok.ensures.ended ∙ is_none_of-some c.in-Ok.given c.read.new.buf c.if-given-eq0.false) c.take_bytes.ensures.takes c.stop_after-then-given-room.ensures
+    (c.in-Ok.ensures.ended ∙ is_empty_answer-some c.in-Ok.given c.read.new.buf c.if-given-eq0.false) c.take_bytes.ensures.takes c.stop_after-then-given-room.ensures
 
 pub returns-in-Err-take_bytes : goal.returns-in-Err-take_bytes
 returns-in-Err-take_bytes g c = at_stop c.args.command c.loop-given.count c.in-Ok.given c.read.new.buf c.loop-given.progress c.take_bytes-in-loop-given.new.self
@@ -48,7 +48,7 @@ returns-in-Err-take_bytes g c = at_stop c.args.command c.loop-given.count c.in-O
     (g.W.Target.state c.args.out.now) (g.W.Target.state c.loop-given.out) (g.W.Target.state c.take_bytes-in-loop-given.new.out)
     c.in-Err-take_bytes.stop
     c.loop-given.invariant.at (omega (arith, c.loop-given.invariant.room, c.if-given-room.false)) c.in-Ok.ensures.bound c.loop-given.invariant.reads c.in-Ok.ensures.bytes c.in-Ok.ensures.failed
-    (c.in-Ok.ensures.ended ∙ is_none_of-some c.in-Ok.given c.read.new.buf c.if-given-eq0.false) c.in-Err-take_bytes.ensures.takes
+    (c.in-Ok.ensures.ended ∙ is_empty_answer-some c.in-Ok.given c.read.new.buf c.if-given-eq0.false) c.in-Err-take_bytes.ensures.takes
 
 pub loop-given-preserved : goal.loop-given-preserved
 loop-given-preserved g c =
@@ -59,7 +59,7 @@ loop-given-preserved g c =
           (g.W.Target.state c.args.out.now) (g.W.Target.state c.loop-given.out) (g.W.Target.state c.take_bytes-in-loop-given.new.out)
           c.loop-given.invariant.at c.loop-given.invariant.reads c.in-Ok.ensures.bytes c.in-Ok.ensures.bound c.in_default.ensures.takes;
       reads = c.in-Ok.ensures.failed;
-      goes_on = c.in-Ok.ensures.ended ∙ is_none_of-some c.in-Ok.given c.read.new.buf c.if-given-eq0.false;
+      goes_on = c.in-Ok.ensures.ended ∙ is_empty_answer-some c.in-Ok.given c.read.new.buf c.if-given-eq0.false;
       works = c.in_default.ensures.works;
       room = omega (arith, c.loop-given.invariant.room, c.if-given-room.false);
       column = omega (arith, e, c.in_default.ensures.column, c.loop-given.invariant.column);

@@ -2,7 +2,7 @@ use Rattle.std.proofs.Common.{◌≡◌, ℕ, List, ◌++◌, take, drop, ap, �
 use Rattle.std.proofs.lemmas.List.{take-append-drop}
 use Rattle.std.proofs.lemmas.Grind.{common_steps}
 use Rattle.niss_shell.specs.Device.{has_fault}
-use Rattle.niss_shell.proofs.DeviceLemmas.{appended_on, same_fault, is_none_of-some}
+use Rattle.niss_shell.proofs.DeviceLemmas.{appended_on, same_fault, is_empty_answer-some}
 use Rattle.niss_shell.proofs.writing.write_all.Goals as goal
 
 -- what is gone and what is left after n more bytes
@@ -11,7 +11,7 @@ split_again gone rest left piece n e l = append_assoc gone (take n rest) left �
 
 pub loop-rest-preserved : goal.loop-rest-preserved
 loop-rest-preserved g c =
-    let some = is_none_of-some c.in-Ok.count c.loop-rest.rest.now c.in-Ok.count-test.1 in
+    let some = is_empty_answer-some c.in-Ok.count c.loop-rest.rest.now c.in-Ok.count-test.1 in
     let same : has_fault (g.W.Target.state c.write.new.self) ≡ has_fault (g.W.Target.state c.loop-rest.out) = same_fault (g.W.Target.state c.loop-rest.out) (g.W.Target.state c.write.new.self) _ c.in-Ok.ensures.write_failed c.in-Ok.ensures.flush_failed some in
     record {
       written = (
@@ -21,4 +21,5 @@ loop-rest-preserved g c =
             (λ h. same ∙ h) c.in-Ok.ensures.silent c.loop-rest.invariant.written.2 c.in-Ok.ensures.bytes,
       );
       works = same ∙ c.loop-rest.invariant.works;
+      flushes = c.in-Ok.ensures.flush_failed ∙ c.loop-rest.invariant.flushes;
     }

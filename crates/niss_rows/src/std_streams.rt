@@ -1,0 +1,259 @@
+//! Runs over readers and writers of `std::io`.
+use crate::devices::Held;
+use crate::runs::words_of;
+use niss_shell::{FromReader, ToWriter, run};
+use std::io;
+use std::io::{Cursor, Read};
+use std::test::Fail;
+
+const CANNOT_READ: &[u8] = b"nissy: cannot read\n";
+
+const CANNOT_WRITE: &[u8] = b"nissy: cannot write\n";
+
+/// A reader of a byte a call, whose call number `fails_at`, from 1, fails with `kind`. It gives the rest to later calls.
+#[derive(Drop)]
+struct FailingReader<'a> {
+    rest: Cursor<&'a [u8]>,
+    calls: usize,
+    fails_at: usize,
+    kind: io::ErrorKind,
+}
+
+impl<'a> FailingReader<'a> {
+    fn new(bytes: &'a [u8], fails_at: usize, kind: io::ErrorKind) -> FailingReader<'a> {
+        FailingReader {
+            rest: Cursor::new(bytes),
+            calls: 0,
+            fails_at,
+            kind,
+        }
+    }
+}
+
+impl io::Read for FailingReader<'_> {
+    fn read(&mut self, buf: &mut [u8]) -> io::Result<usize> {
+        self.calls = self.calls.saturating_add(1);
+        if self.calls == self.fails_at {
+            return Err(io::Error::from(self.kind));
+        }
+        let count = buf.len().min(1);
+        self.rest.read(&mut buf[..count])
+    }
+}
+
+/// A writer of a byte a call, whose call number `fails_at`, from 1, fails with `kind`. It takes what later calls bring.
+#[derive(Drop)]
+struct FailingWriter {
+    calls: usize,
+    fails_at: usize,
+    kind: io::ErrorKind,
+}
+
+impl FailingWriter {
+    fn new(fails_at: usize, kind: io::ErrorKind) -> FailingWriter {
+        FailingWriter {
+            calls: 0,
+            fails_at,
+            kind,
+        }
+    }
+}
+
+impl io::Write for FailingWriter {
+    fn write(&mut self, buf: &[u8]) -> io::Result<usize> {
+        self.calls = self.calls.saturating_add(1);
+        if self.calls == self.fails_at {
+            return Err(io::Error::from(self.kind));
+        }
+        Ok(buf.len().min(1))
+    }
+
+    fn flush(&mut self) -> io::Result<()> {
+        Ok(())
+    }
+}
+
+/// A writer that takes none of the bytes.
+#[derive(Drop)]
+struct FullWriter {
+    calls: usize,
+}
+
+impl io::Write for FullWriter {
+    fn write(&mut self, buf: &[u8]) -> io::Result<usize> {
+        let _ = buf;
+        self.calls = self.calls.saturating_add(1);
+        Ok(0)
+    }
+
+    fn flush(&mut self) -> io::Result<()> {
+        Ok(())
+    }
+}
+
+/// A writer that takes all and refuses each flush.
+#[derive(Drop)]
+struct UnflushedWriter;
+
+impl io::Write for UnflushedWriter {
+    fn write(&mut self, buf: &[u8]) -> io::Result<usize> {
+        Ok(buf.len())
+    }
+
+    fn flush(&mut self) -> io::Result<()> {
+        Err(io::Error::from(io::ErrorKind::BrokenPipe))
+    }
+}
+
+/// A writer that counts its bytes, its flushes, and the bytes that came before the first flush.
+#[derive(Drop)]
+struct CountingWriter {
+    bytes: usize,
+    flushes: usize,
+    bytes_before_flush: usize,
+}
+
+impl io::Write for CountingWriter {
+    fn write(&mut self, buf: &[u8]) -> io::Result<usize> {
+        self.bytes = self.bytes.saturating_add(buf.len());
+        Ok(buf.len())
+    }
+
+    fn flush(&mut self) -> io::Result<()> {
+        if self.flushes == 0 {
+            self.bytes_before_flush = self.bytes;
+        }
+        self.flushes = self.flushes.saturating_add(1);
+        Ok(())
+    }
+}
+
+#[test]
+fn all_works(rt: HostRuntime) -> Result<(), Fail> {
+    let words = words_of(rt.alloc(), &["invert"])?;
+    let mut output = Vec::new(rt.alloc());
+    let mut error = Vec::new(rt.alloc());
+    let status = run(
+        rt.alloc(),
+        words.as_slice(),
+        &mut FromReader::new(Cursor::new(b"R U\n".as_slice())),
+        &mut ToWriter::new(&mut output),
+        &mut ToWriter::new(&mut error),
+    );
+    assert_eq!(rt; status, 0);
+    assert_eq!(rt; output.as_slice(), b"U' R'\n".as_slice());
+    assert_eq!(rt; error.as_slice(), b"".as_slice());
+    Ok(())
+}
+
+#[test]
+fn each_read_fails_once(rt: HostRuntime) -> Result<(), Fail> {
+    let words = words_of(rt.alloc(), &["invert"])?;
+    let outputs: [&[u8]; 6] = [b"", b"", b"R'\n", b"R'\n", b"R'\nU'\n", b"R'\nU'\n"];
+    for kind in [io::ErrorKind::Interrupted, io::ErrorKind::BrokenPipe] {
+        for (before, output) in outputs.iter().enumerate() {
+            let mut reader = FailingReader::new(b"R\nU\nF", before + 1, kind);
+            let mut out = Held::new(rt.alloc(), 1000);
+            let mut err = Held::new(rt.alloc(), 1000);
+            let status = run(
+                rt.alloc(),
+                words.as_slice(),
+                &mut FromReader::new(&mut reader),
+                &mut out,
+                &mut err,
+            );
+            assert_eq!(rt; out.bytes.as_slice(), *output, "after {before} reads");
+            assert_eq!(rt; err.bytes.as_slice(), CANNOT_READ);
+            assert_eq!(rt; status, 3);
+            assert_eq!(rt; reader.calls, before + 1);
+        }
+    }
+    Ok(())
+}
+
+#[test]
+fn each_write_fails_once(rt: HostRuntime) -> Result<(), Fail> {
+    let words = words_of(rt.alloc(), &["invert", "R U' F2"])?;
+    for kind in [io::ErrorKind::Interrupted, io::ErrorKind::BrokenPipe] {
+        for before in 0..8usize {
+            let mut writer = FailingWriter::new(before + 1, kind);
+            let mut err = Held::new(rt.alloc(), 1000);
+            let status = run(
+                rt.alloc(),
+                words.as_slice(),
+                &mut FromReader::new(Cursor::new(b"".as_slice())),
+                &mut ToWriter::new(&mut writer),
+                &mut err,
+            );
+            assert_eq!(rt; err.bytes.as_slice(), CANNOT_WRITE);
+            assert_eq!(rt; status, 3);
+            assert_eq!(rt; writer.calls, before + 1, "after {before} writes");
+        }
+    }
+    Ok(())
+}
+
+#[test]
+fn no_bytes_taken(rt: HostRuntime) -> Result<(), Fail> {
+    let words = words_of(rt.alloc(), &["invert", "R U' F2"])?;
+    let mut writer = FullWriter { calls: 0 };
+    let mut err = Held::new(rt.alloc(), 1000);
+    let status = run(
+        rt.alloc(),
+        words.as_slice(),
+        &mut FromReader::new(Cursor::new(b"".as_slice())),
+        &mut ToWriter::new(&mut writer),
+        &mut err,
+    );
+    assert_eq!(rt; err.bytes.as_slice(), CANNOT_WRITE);
+    assert_eq!(rt; status, 3);
+    assert_eq!(rt; writer.calls, 1);
+    Ok(())
+}
+
+#[test]
+fn last_flush_fails(rt: HostRuntime) -> Result<(), Fail> {
+    let words = words_of(rt.alloc(), &["invert"])?;
+    let mut err = Held::new(rt.alloc(), 1000);
+    let status = run(
+        rt.alloc(),
+        words.as_slice(),
+        &mut FromReader::new(Cursor::new(b"R U\n".as_slice())),
+        &mut ToWriter::new(UnflushedWriter),
+        &mut err,
+    );
+    assert_eq!(rt; status, 3);
+    assert_eq!(rt; err.bytes.as_slice(), CANNOT_WRITE);
+    Ok(())
+}
+
+/// One flush, behind the last byte: of a good run, of one that a line's fault ends, and of one that writes nothing.
+#[test]
+fn one_flush(rt: HostRuntime) -> Result<(), Fail> {
+    let runs: [(&str, &[u8], usize, u8); 3] = [
+        ("invert", b"R\nU\nF2\n", 9, 0),
+        ("invert", b"R\nU\nR '\n", 6, 1),
+        ("", b"", 0, 2),
+    ];
+    for (command, input, bytes, status) in runs {
+        let words = words_of(rt.alloc(), &[command])?;
+        let mut writer = CountingWriter {
+            bytes: 0,
+            flushes: 0,
+            bytes_before_flush: 0,
+        };
+        let mut err = Held::new(rt.alloc(), 1000);
+        let answered = run(
+            rt.alloc(),
+            words.as_slice(),
+            &mut FromReader::new(Cursor::new(input)),
+            &mut ToWriter::new(&mut writer),
+            &mut err,
+        );
+        assert_eq!(rt; answered, status);
+        assert_eq!(rt; writer.bytes, bytes);
+        assert_eq!(rt; writer.flushes, 1);
+        assert_eq!(rt; writer.bytes_before_flush, bytes);
+    }
+    Ok(())
+}
