@@ -68,7 +68,8 @@ fn push_clean(turns: &mut Faces, turn: Turn)
     requires room { array_vec_len turns.old < 512 }
     ensures len { array_vec_len turns.new ≤ array_vec_len turns.old + 1 }
     ensures canonical { IsCanonical turns.new.items }
-    ensures cleans { (rest c : List Turn) → Cleans (turns.new.items ++ rest) c → Cleans (turns.old.items ++ turn ∷ rest) c }
+    ensures cleans { (rest c : List Turn) →
+        Cleans (turns.new.items ++ rest) c → Cleans (turns.old.items ++ turn ∷ rest) c }
 {
     let Some(last) = turns.pop() else {
         turns.push(turn);
@@ -92,7 +93,8 @@ pub fn cleanup(tokens: &[Token]) -> (Faces, Rotation)
     ensures clean { Cleans (faces tokens.now) result.0.items }
     ensures canonical { IsCanonical result.0.items }
     ensures rotation { IsRotationOf tokens.now result.1 }
-    ensures effect { (q : Place) → effect_of_turns result.0.items q ≡ effect_of_turns (faces tokens.now) q }
+    ensures effect { (q : Place) →
+        effect_of_turns result.0.items q ≡ effect_of_turns (faces tokens.now) q }
 {
     let (turns, rotation) = to_faces(tokens);
     let mut clean = Faces::new();

@@ -118,8 +118,10 @@ impl Rotation {
 
     /// This rotation and then one about an axis, as one rotation: `z` and then `z` is `x2 y2`.
     pub fn then(self, axis: Axis, power: Power) -> Rotation
-        ensures effect { (q : Place) → effect (spelling result) q ≡ moved_by (token.Rotation axis power) (effect (spelling self) q) }
-        ensures faces { (f : Face) → face_before result f ≡ face_before self (face_before_power axis power f) }
+        ensures effect { (q : Place) →
+            effect (spelling result) q ≡ moved_by (token.Rotation axis power) (effect (spelling self) q) }
+        ensures faces { (f : Face) →
+            face_before result f ≡ face_before self (face_before_power axis power f) }
     {
         let top = self.face_before(axis.face_before(power, Face::U));
         let front = self.face_before(axis.face_before(power, Face::F));
