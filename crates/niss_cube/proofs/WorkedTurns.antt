@@ -1,4 +1,4 @@
--- Rows of the coordinates after a turn.
+-- Worked values of the coordinates after a turn.
 use Rattle.std.proofs.Common.{◌≡◌, refl, true, Bool, ℕ, ◌==◌, ◌&&◌}
 use Rattle.niss_moves.specs.declared.turn.Face.{Face}
 use Rattle.niss_moves.specs.declared.turn.Turn.{Turn}
@@ -19,13 +19,13 @@ use Rattle.niss_cube.proofs.AxisRenamings.{all_powers}
 abbrev turn : Face → Turn
 turn f = record { face = f; power = Quarter }
 
-row_28 : (flip_after Fb 0 (turn F) == 550) && (twist_after Ud 0 (turn R) == 1494) && (slice_after Ud 0 (turn F) == 33) ≡ true
+on_standard_axes : (flip_after Fb 0 (turn F) == 550) && (twist_after Ud 0 (turn R) == 1494) && (slice_after Ud 0 (turn F) == 33) ≡ true
 unfolding flip_after twist_after slice_after flips_of_number twists_of_number edges_of_number flip_of twist_of slice_of occupied_of_number
-row_28 = refl
+on_standard_axes = refl
 
-row_others : (slice_after Rl 0 (turn F) == 33) && (twist_after Fb 0 (turn R) == 1494) && (flip_after Rl 0 (turn R) == 550) && (flip_after Ud 0 (turn U) == 550) && (twist_after Rl 0 (turn D) == 1494) && (slice_after Fb 0 (turn D) == 33) ≡ true
+on_other_axes : (slice_after Rl 0 (turn F) == 33) && (twist_after Fb 0 (turn R) == 1494) && (flip_after Rl 0 (turn R) == 550) && (flip_after Ud 0 (turn U) == 550) && (twist_after Rl 0 (turn D) == 1494) && (slice_after Fb 0 (turn D) == 33) ≡ true
 unfolding flip_after twist_after slice_after flips_of_number twists_of_number edges_of_number flip_of twist_of slice_of occupied_of_number
-row_others = refl
+on_other_axes = refl
 
 -- all axes and turns, after R F2 U': the number follows
 abbrev pub mixed : Place → Place

@@ -15,45 +15,45 @@ after f = moved (face_move f 1)
 places_are : list_all is_place places ≡ true
 places_are = refl
 
-solved_1 : flip_of Fb (λ q. q) ≡ 0
+solved_flip_Fb : flip_of Fb (λ q. q) ≡ 0
 unfolding flip_of
-solved_1 = refl
+solved_flip_Fb = refl
 
-row_F : flip_of Fb (after F) ≡ 550
+after_F_flip_Fb : flip_of Fb (after F) ≡ 550
 unfolding flip_of
-row_F = refl
+after_F_flip_Fb = refl
 
-row_F2 : slice_of Ud (after F) ≡ 33
+after_F_slice_Ud : slice_of Ud (after F) ≡ 33
 unfolding slice_of
-row_F2 = refl
+after_F_slice_Ud = refl
 
-row_F3 : slice_of Rl (after F) ≡ 33
+after_F_slice_Rl : slice_of Rl (after F) ≡ 33
 unfolding slice_of
-row_F3 = refl
+after_F_slice_Rl = refl
 
-row_R : twist_of Ud (after R) ≡ 1494
+after_R_twist_Ud : twist_of Ud (after R) ≡ 1494
 unfolding twist_of
-row_R = refl
+after_R_twist_Ud = refl
 
-row_R2 : twist_of Fb (after R) ≡ 1494
+after_R_twist_Fb : twist_of Fb (after R) ≡ 1494
 unfolding twist_of
-row_R2 = refl
+after_R_twist_Fb = refl
 
-row_R3 : flip_of Rl (after R) ≡ 550
+after_R_flip_Rl : flip_of Rl (after R) ≡ 550
 unfolding flip_of
-row_R3 = refl
+after_R_flip_Rl = refl
 
-row_U : flip_of Ud (after U) ≡ 550
+after_U_flip_Ud : flip_of Ud (after U) ≡ 550
 unfolding flip_of
-row_U = refl
+after_U_flip_Ud = refl
 
-row_D : twist_of Rl (after D) ≡ 1494
+after_D_twist_Rl : twist_of Rl (after D) ≡ 1494
 unfolding twist_of
-row_D = refl
+after_D_twist_Rl = refl
 
-row_D2 : slice_of Fb (after D) ≡ 33
+after_D_slice_Fb : slice_of Fb (after D) ≡ 33
 unfolding slice_of
-row_D2 = refl
+after_D_slice_Fb = refl
 
 solved_flip_Ud : flip_of Ud (λ q. q) ≡ 0
 unfolding flip_of

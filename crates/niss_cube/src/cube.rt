@@ -3,7 +3,7 @@ ghost use Rattle.niss_cube.specs.Cubies.{AreCubies};
 
 use crate::digits::number_of;
 use crate::letters::{CORNER_LETTERS, EDGE_LETTERS, FACELET_POSITIONS, FaceletPosition};
-use crate::quarter::{turn_corners, turn_edges};
+use crate::quarter::{turn_corners, turn_edges, turn_flips, turn_twists};
 use crate::renaming::{Renaming, rename_corners, rename_edges};
 use crate::rotated_text::{bring_to_top, turn_about_vertical};
 use crate::slice_places::slice_number;
@@ -60,14 +60,11 @@ impl Cube {
     fn quarter(&mut self, face: Face)
         ensures { SameMap (map_of self.new) (λ q. moved (face_move face 1) (map_of self.old q)) }
     {
-        let before = *self;
-        let (corners, twists) = turn_corners(&before.corners, &before.twists, face);
-        let (edges, flips) = turn_edges(&before.edges, &before.flips, face);
         *self = Cube {
-            corners,
-            twists,
-            edges,
-            flips,
+            corners: turn_corners(&self.corners, face),
+            twists: turn_twists(&self.twists, face),
+            edges: turn_edges(&self.edges, face),
+            flips: turn_flips(&self.flips, face),
         };
     }
 

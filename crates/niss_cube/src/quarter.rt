@@ -97,34 +97,46 @@ fn turn_orientations(orientations: &[u8], from: &[u8], added: &[u8], facelets: u
     }
 }
 
-/// The corners by place after a quarter turn of the face: which stand there, and how they are twisted.
-pub fn turn_corners(corners: &[u8; 8], twists: &[u8; 8], face: Face) -> ([u8; 8], [u8; 8])
+/// Which corner stands at each place after a quarter turn of the face.
+pub fn turn_corners(corners: &[u8; 8], face: Face) -> [u8; 8]
+    ensures { EachIndex result (λ k. slice_index result k ≡ slice_index corners.now (slice_index (quarter_table face).corners k)) }
+{
+    let mut turned = [0; 8];
+    turn_homes(corners, &quarter_turn(face).corners, &mut turned);
+    turned
+}
+
+/// Which edge stands at each place after a quarter turn of the face.
+pub fn turn_edges(edges: &[u8; 12], face: Face) -> [u8; 12]
+    ensures { EachIndex result (λ k. slice_index result k ≡ slice_index edges.now (slice_index (quarter_table face).edges k)) }
+{
+    let mut turned = [0; 12];
+    turn_homes(edges, &quarter_turn(face).edges, &mut turned);
+    turned
+}
+
+/// How the corner at each place is twisted after a quarter turn of the face.
+pub fn turn_twists(twists: &[u8; 8], face: Face) -> [u8; 8]
     requires { EachIndex twists.now (λ k. slice_index twists.now k < 3) }
-    ensures corners { let t = quarter_table face in
-        EachIndex result.0 (λ k. slice_index result.0 k ≡ slice_index corners.now (slice_index t.corners k)) }
-    ensures twists { let t = quarter_table face in
-        EachIndex result.1 (λ k. slice_index result.1 k
+    ensures { let t = quarter_table face in
+        EachIndex result (λ k. slice_index result k
         ≡ (slice_index twists.now (slice_index t.corners k) + slice_index t.twists k) % 3) }
 {
     let table = quarter_turn(face);
-    let (mut homes, mut orientations) = ([0; 8], [0; 8]);
-    turn_homes(corners, &table.corners, &mut homes);
-    turn_orientations(twists, &table.corners, &table.twists, 3, &mut orientations);
-    (homes, orientations)
+    let mut turned = [0; 8];
+    turn_orientations(twists, &table.corners, &table.twists, 3, &mut turned);
+    turned
 }
 
-/// The edges by place after a quarter turn of the face: which stand there, and how they are flipped.
-pub fn turn_edges(edges: &[u8; 12], flips: &[u8; 12], face: Face) -> ([u8; 12], [u8; 12])
+/// How the edge at each place is flipped after a quarter turn of the face.
+pub fn turn_flips(flips: &[u8; 12], face: Face) -> [u8; 12]
     requires { EachIndex flips.now (λ k. slice_index flips.now k < 2) }
-    ensures edges { let t = quarter_table face in
-        EachIndex result.0 (λ k. slice_index result.0 k ≡ slice_index edges.now (slice_index t.edges k)) }
-    ensures flips { let t = quarter_table face in
-        EachIndex result.1 (λ k. slice_index result.1 k
+    ensures { let t = quarter_table face in
+        EachIndex result (λ k. slice_index result k
         ≡ (slice_index flips.now (slice_index t.edges k) + slice_index t.flips k) % 2) }
 {
     let table = quarter_turn(face);
-    let (mut homes, mut orientations) = ([0; 12], [0; 12]);
-    turn_homes(edges, &table.edges, &mut homes);
-    turn_orientations(flips, &table.edges, &table.flips, 2, &mut orientations);
-    (homes, orientations)
+    let mut turned = [0; 12];
+    turn_orientations(flips, &table.edges, &table.flips, 2, &mut turned);
+    turned
 }

@@ -6,31 +6,31 @@ use Rattle.niss_cube.proofs.cube.Cube.quarter.Goals as goal
 pub invariant_of-self : goal.invariant_of-self
 invariant_of-self c =
     let a = c.args.self.now in
-    let w : Written (quarter_table c.args.face) a.corners a.twists a.edges a.flips c.turn_corners.result.0 c.turn_corners.result.1 c.turn_edges.result.0 c.turn_edges.result.1 =
+    let w : Written (quarter_table c.args.face) a.corners a.twists a.edges a.flips c.turn_corners.result c.turn_twists.result c.turn_edges.result c.turn_flips.result =
     record {
       corners_len = omega arith;
       twists_len = omega arith;
       edges_len = omega arith;
       flips_len = omega arith;
-      corners_are = c.turn_corners.ensures.corners;
-      twists_are = c.turn_corners.ensures.twists;
-      edges_are = c.turn_edges.ensures.edges;
-      flips_are = c.turn_edges.ensures.flips;
+      corners_are = c.turn_corners.ensures;
+      twists_are = c.turn_twists.ensures;
+      edges_are = c.turn_edges.ensures;
+      flips_are = c.turn_flips.ensures;
     } in
     record { are_cubies = written-cubies c.args.face _ _ _ _ _ _ _ _ (quarter_table c.args.face) refl a.are_cubies w }
 
 pub returns : goal.returns
 returns c =
     let a = c.args.self.now in
-    let w : Written (quarter_table c.args.face) a.corners a.twists a.edges a.flips c.turn_corners.result.0 c.turn_corners.result.1 c.turn_edges.result.0 c.turn_edges.result.1 =
+    let w : Written (quarter_table c.args.face) a.corners a.twists a.edges a.flips c.turn_corners.result c.turn_twists.result c.turn_edges.result c.turn_flips.result =
     record {
       corners_len = omega arith;
       twists_len = omega arith;
       edges_len = omega arith;
       flips_len = omega arith;
-      corners_are = c.turn_corners.ensures.corners;
-      twists_are = c.turn_corners.ensures.twists;
-      edges_are = c.turn_edges.ensures.edges;
-      flips_are = c.turn_edges.ensures.flips;
+      corners_are = c.turn_corners.ensures;
+      twists_are = c.turn_twists.ensures;
+      edges_are = c.turn_edges.ensures;
+      flips_are = c.turn_flips.ensures;
     } in
     written-map c.args.face _ _ _ _ _ _ _ _ (quarter_table c.args.face) refl a.are_cubies w
