@@ -2,8 +2,8 @@
 ghost use Rattle.std.specs.Prelude.{◌≡◌, ◌+◌, ◌*◌, ◌<◌, ◌≤◌, List, [], ◌∷◌, ◌++◌, ◌||◌, length, IsTrue};
 ghost use Rattle.arrayvec.specs.ArrayVec.{array_vec_len};
 ghost use Rattle.niss_moves.specs.Places.{Place};
-ghost use Rattle.niss_moves.specs.Effects.{effect_of_turns};
-ghost use Rattle.niss_moves.specs.Rotations.{IsRotationOf};
+ghost use Rattle.niss_moves.specs.Effects.{effect, effect_of_turns};
+ghost use Rattle.niss_moves.specs.Rotations.{spelling, IsRotationOf};
 ghost use Rattle.niss_moves.specs.Faces.{faces};
 ghost use Rattle.niss_moves.specs.Turn.{same_face};
 ghost use Rattle.niss_moves.specs.Canonical.{face_may_follow, IsCanonical};
@@ -95,6 +95,8 @@ pub fn cleanup(tokens: &[Token]) -> (Faces, Rotation)
     ensures rotation { IsRotationOf tokens.now result.1 }
     ensures effect { (q : Place) →
         effect_of_turns result.0.items q ≡ effect_of_turns (faces tokens.now) q }
+    ensures whole_effect { (q : Place) →
+        effect tokens.now q ≡ effect (spelling result.1) (effect_of_turns result.0.items q) }
 {
     let (turns, rotation) = to_faces(tokens);
     let mut clean = Faces::new();
