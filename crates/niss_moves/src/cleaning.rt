@@ -7,7 +7,8 @@ ghost use Rattle.niss_moves.specs.Rotations.{spelling, IsRotationOf};
 ghost use Rattle.niss_moves.specs.Faces.{faces};
 ghost use Rattle.niss_moves.specs.Turn.{same_face};
 ghost use Rattle.niss_moves.specs.Canonical.{face_may_follow, IsCanonical};
-ghost use Rattle.niss_moves.specs.Cleaning.{sum_of_powers, list_with_turn, Cleans};
+ghost use Rattle.niss_moves.specs.Cleaning.{sum_of_powers, Cleans};
+ghost use Rattle.niss_moves.specs.Helpers.{list_with_turn};
 
 use crate::faces::{Faces, to_faces};
 use crate::rotation::Rotation;
@@ -86,7 +87,8 @@ fn push_clean(turns: &mut Faces, turn: Turn)
 
 /// The face turns of a sequence made canonical, and the rotation that is left at its end. As long as two neighbours break
 /// the order, the leftmost two are summed, where they are of one face, or exchanged: `R L R` is `R2 L`, `U D U'` is `D`.
-/// That the list is the shortest of its effect isn't said.
+/// A sum that is a whole round leaves nothing: so does `F F F F`. That the list is the shortest of its effect isn't said.
+/// A sequence has at most 256 moves.
 pub fn cleanup(tokens: &[Token]) -> (Faces, Rotation)
     requires { length tokens.now ≤ 256 }
     ensures len { array_vec_len result.0 ≤ 2 * length tokens.now }
