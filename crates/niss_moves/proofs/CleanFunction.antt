@@ -1,5 +1,5 @@
 -- Cleaning as a function is the relation.
-use Rattle.std.proofs.Common.{◌≡◌, ℕ, zero, suc, ◌+◌, ◌*◌, ◌<◌, ◌≤◌, ◌⊎◌, inl, inr, Bool, true, false, ◌&&◌, refl, ap, sym, ◌∙◌, subst, List, [], ◌∷◌, ◌++◌, length, cond, arith, Option, None, Some}
+use Rattle.std.proofs.Common.{◌≡◌, ℕ, zero, suc, ◌+◌, ◌*◌, ◌<◌, ◌≤◌, inl, inr, Bool, true, false, refl, ap, ◌∙◌, subst, List, [], ◌∷◌, ◌++◌, length, cond, arith, Option, None, Some}
 use Rattle.std.specs.Option.{option_map_or}
 use Rattle.std.specs.List.{count_by}
 use Rattle.std.proofs.Math.Nat.{mul-le-mul_left, mul_comm}
@@ -9,7 +9,7 @@ use Rattle.niss_moves.specs.Cleaning.{rewritten_pair, IsRewriting, Cleans, Clean
 use Rattle.niss_moves.specs.RewritingLaws.{are_disordered, disorder}
 use Rattle.niss_moves.specs.CleanedLine.{behind_first, rewritten_once, rewritten_within, most_rewritings, clean_turns, CleanTurnsAreClean}
 use Rattle.niss_moves.specs.declared.turn.Turn.{Turn}
-use Rattle.niss_moves.proofs.Finite.{both, both_left, both_right}
+use Rattle.niss_moves.proofs.Finite.{both}
 use Rattle.niss_moves.proofs.Disorder.{rewriting_lowers}
 
 -- where nothing is rewritten, nothing breaks the order

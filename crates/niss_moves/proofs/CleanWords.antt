@@ -1,7 +1,8 @@
 -- A cleaned line written out.
 use Rattle.std.proofs.Common.{◌≡◌, ℕ, refl, ap, sym, ◌∙◌, subst, true, false, List, [], ◌∷◌, ◌++◌, length, ◌==◌}
 use Rattle.niss_moves.specs.Text.{gap, with_word, with_words}
-use Rattle.niss_moves.specs.CleanText.{turn_words, rotation_words, cleaned_words, is_empty, with_bracket, IsCleaned, PutsClean}
+use Rattle.niss_moves.specs.CleanText.{turn_words, rotation_words, cleaned_words, with_bracket, IsCleaned, PutsClean}
+use Rattle.niss_moves.specs.Helpers.{is_empty}
 use Rattle.niss_moves.specs.Line.{Moves}
 use Rattle.niss_moves.specs.Rotations.{IsRotationOf}
 use Rattle.niss_moves.specs.Faces.{faces}

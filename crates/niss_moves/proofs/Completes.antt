@@ -3,7 +3,7 @@ use Rattle.std.proofs.Common.{◌≡◌, ℕ, ◌+◌, ◌<◌, ◌≤◌, refl,
 use Rattle.std.proofs.lemmas.Bool.{lt-ltb}
 use Rattle.niss_moves.specs.Letters.{face_letter}
 use Rattle.niss_moves.specs.Notation.{lower_letter, slice_letter, rotation_letter, base_bytes, token_of, Plain, Typographic, Suffix, Nothing, Two, Prime, TwoPrime, suffix_bytes, suffix_power, Blank, Space, Tab, Return, blank_byte}
-use Rattle.niss_moves.specs.Line.{Piece, Gap, Move, piece_bytes, piece_moves, Item, Outside, Bracket, item_bytes, item_normal, item_bracketed, Spells}
+use Rattle.niss_moves.specs.Line.{Piece, Gap, Spelled, piece_bytes, piece_moves, Item, Outside, Bracket, item_bytes, item_normal, item_bracketed, Spells}
 use Rattle.niss_moves.specs.Machine.{symbol_of, State, start, outside, inside, added, settled, opened, closed, count, counted, with_last, step_by, step_at, step_within, and_then, run_within}
 use Rattle.niss_moves.specs.declared.turn.Face.{Face}
 use Rattle.niss_moves.specs.declared.turn.Face.TheVariants.{U, D, R, L, F, B}
@@ -184,7 +184,7 @@ ran_piece limit s (Gap b) h room =
       bracketed = inside_none _ _;
       bracket = refl;
     }
-ran_piece limit s (Move b x) h room =
+ran_piece limit s (Spelled b x) h room =
     let base = run_base limit s b h (omega arith) in
     let rest = run_suffix limit s b base.0 x in
     record {

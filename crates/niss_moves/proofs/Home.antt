@@ -79,7 +79,7 @@ turns_after a p (t ∷ s) q =
     ap (effect_of_turns s) (renames_power a p t q) ∙ turns_after a p s (turned (renamed_turn (face_before_power a p) t) q)
 
 -- A sequence has the effect of its face turns and then some rotation.
-abbrev IsLeft : (Place → Place) → List Turn → Rotation → Type 0
+abbrev pub IsLeft : (Place → Place) → List Turn → Rotation → Type 0
 IsLeft e turns n = (q : Place) → e q ≡ effect (spelling n) (effect_of_turns turns q)
 
 left_by_moves : (moves : List BasicMove) (rest : List Turn) (r : Rotation) → (n : Rotation) × IsLeft (λ q. effect (spelling r) (effect_of_turns rest (effect (map token_of_basic moves) q))) (faces_with moves rest) n
@@ -93,7 +93,7 @@ left_by_moves (WholeRotation a p ∷ moves) rest r =
     let turns : List Turn = map (renamed_turn (face_before_power a p)) (faces_with moves rest) in
     (n.0, λ q. w.1 (moved_by (token.Rotation a p) q) ∙ ap (effect (spelling w.0)) (turns_after a p (faces_with moves rest) q) ∙ ap (effect (spelling w.0)) (sym (first.1 (effect_of_turns turns q))) ∙ sym (n.1 (effect_of_turns turns q)))
 
-left_by : (s : List Token) → (n : Rotation) × IsLeft (effect s) (faces s) n
+pub left_by : (s : List Token) → (n : Rotation) × IsLeft (effect s) (faces s) n
 left_by [] = (rotation U None, λ q. refl)
 left_by (t ∷ s) =
     let w = left_by s in

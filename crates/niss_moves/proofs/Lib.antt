@@ -23,6 +23,7 @@ pub mod Inverses
 pub mod Stays
 pub mod CleanWords
 pub mod Home
+pub mod WholeEffect
 pub mod RewritingRows
 pub mod MadeLists
 pub mod CanonicalOrder

@@ -2,7 +2,7 @@
 use Rattle.std.proofs.Common.{◌≡◌, ℕ, ◌-◌, refl, ap, sym, ◌∙◌, List, [], ◌∷◌, ◌++◌, length, map, flat_map, append_assoc, append-nil, Some, slice_get, arith, length-append}
 use Rattle.niss_moves.specs.Letters.{face_letter}
 use Rattle.niss_moves.specs.Notation.{base_bytes, Suffix, Nothing, Two, Prime, Plain, suffix_bytes, suffix_power, Space}
-use Rattle.niss_moves.specs.Line.{Gap, Move, Item, Outside, item_bytes, item_normal, item_bracketed, Spells}
+use Rattle.niss_moves.specs.Line.{Gap, Spelled, Item, Outside, item_bytes, item_normal, item_bracketed, Spells}
 use Rattle.niss_moves.specs.Text.{word, power_bytes, gap, gap_after, with_word, with_words}
 use Rattle.niss_moves.specs.declared.turn.Face.{Face}
 use Rattle.niss_moves.specs.declared.turn.Face.TheVariants.{U, D, R, L, F, B}
@@ -33,7 +33,7 @@ power_of (token.Slice l p) = p
 power_of (token.Rotation a p) = p
 
 move_item : Token → Item
-move_item t = Outside (Move (base_of t) (suffix_of (power_of t)))
+move_item t = Outside (Spelled (base_of t) (suffix_of (power_of t)))
 
 suffix_is : (p : Power) → suffix_bytes (suffix_of p) ≡ power_bytes p
 unfolding suffix_of

@@ -7,7 +7,7 @@ use Rattle.niss_moves.specs.Faces.{faces}
 use Rattle.niss_moves.specs.Canonical.{all_canonical, turn_order, is_canonical}
 use Rattle.niss_moves.specs.Cleaning.{Cleans, Clean, Rewrite}
 use Rattle.niss_moves.specs.Text.{with_words}
-use Rattle.niss_moves.specs.CleanText.{cleaned_words, with_bracket}
+use Rattle.niss_moves.specs.CleanText.{rotation_words, cleaned_words, with_bracket}
 use Rattle.niss_moves.specs.declared.axis.Axis.TheVariants.{Ud, Rl, Fb}
 use Rattle.niss_moves.specs.declared.turn.Face.TheVariants.{U, D, R, L, F, B}
 use Rattle.niss_moves.specs.declared.turn.Power.TheVariants.{Quarter, Half, Counter}
@@ -37,14 +37,30 @@ in_order = refl
 out_of_order : is_canonical (turn D Quarter ∷ turn U Quarter ∷ []) ≡ false
 out_of_order = refl
 
--- `Rw U` is `L F x`, and `M` is `R L' x'`
+-- `Rw U` is `L F` and then `x`, and `M` is `R L'` and then `x'`
 wide_turn : faces (token.Wide R Quarter ∷ token.Face (turn U Quarter) ∷ []) ≡ turn L Quarter ∷ turn F Quarter ∷ []
 wide_turn = refl
 
 slice_turn : faces (token.Slice M Quarter ∷ []) ≡ turn R Quarter ∷ turn L Counter ∷ []
 slice_turn = refl
 
--- `z z` is `x2 y2`, and `x y x'` is `z`
+rotation_of_wide_turn : IsRotationOf (token.Wide R Quarter ∷ token.Face (turn U Quarter) ∷ []) (rotation F None)
+rotation_of_wide_turn U = refl
+rotation_of_wide_turn D = refl
+rotation_of_wide_turn R = refl
+rotation_of_wide_turn L = refl
+rotation_of_wide_turn F = refl
+rotation_of_wide_turn B = refl
+
+rotation_of_slice_turn : IsRotationOf (token.Slice M Quarter ∷ []) (rotation B None)
+rotation_of_slice_turn U = refl
+rotation_of_slice_turn D = refl
+rotation_of_slice_turn R = refl
+rotation_of_slice_turn L = refl
+rotation_of_slice_turn F = refl
+rotation_of_slice_turn B = refl
+
+-- `z z` is `x2 y2`, spelled so, and `x y x'` is `z`
 two_rotations : IsRotationOf (token.Rotation Fb Quarter ∷ token.Rotation Fb Quarter ∷ []) (rotation D (Some Half))
 two_rotations U = refl
 two_rotations D = refl
@@ -52,6 +68,9 @@ two_rotations R = refl
 two_rotations L = refl
 two_rotations F = refl
 two_rotations B = refl
+
+two_words : rotation_words (rotation D (Some Half)) ≡ codes "x2" ∷ codes "y2" ∷ []
+two_words = refl
 
 three_rotations : IsRotationOf (token.Rotation Rl Quarter ∷ token.Rotation Ud Quarter ∷ token.Rotation Rl Counter ∷ []) (rotation L None)
 three_rotations U = refl
@@ -65,6 +84,25 @@ three_rotations B = refl
 passed : Cleans (turn U Quarter ∷ turn D Quarter ∷ turn U Counter ∷ []) (turn D Quarter ∷ [])
 passed =
     Rewrite {t = turn U Quarter ∷ turn U Counter ∷ turn D Quarter ∷ []} (record { front = turn U Quarter ∷ []; left = turn D Quarter; right = turn U Counter; rest = []; at = refl; leftmost = refl; breaks = refl; result = refl }) (Rewrite {t = turn D Quarter ∷ []} (record { front = []; left = turn U Quarter; right = turn U Counter; rest = turn D Quarter ∷ []; at = refl; leftmost = refl; breaks = refl; result = refl }) (Clean refl))
+
+-- `D U D'` is cleaned to `U`, by `U D D'`
+exchanged : Cleans (turn D Quarter ∷ turn U Quarter ∷ turn D Counter ∷ []) (turn U Quarter ∷ [])
+exchanged =
+    Rewrite {t = turn U Quarter ∷ turn D Quarter ∷ turn D Counter ∷ []} (record { front = []; left = turn D Quarter; right = turn U Quarter; rest = turn D Counter ∷ []; at = refl; leftmost = refl; breaks = refl; result = refl }) (Rewrite {t = turn U Quarter ∷ []} (record { front = turn U Quarter ∷ []; left = turn D Quarter; right = turn D Counter; rest = []; at = refl; leftmost = refl; breaks = refl; result = refl }) (Clean refl))
+
+-- `F F F F` is cleaned to nothing, by `F2 F F` and `F' F`
+whole_round : Cleans (turn F Quarter ∷ turn F Quarter ∷ turn F Quarter ∷ turn F Quarter ∷ []) []
+whole_round =
+    Rewrite {t = turn F Half ∷ turn F Quarter ∷ turn F Quarter ∷ []} (record { front = []; left = turn F Quarter; right = turn F Quarter; rest = turn F Quarter ∷ turn F Quarter ∷ []; at = refl; leftmost = refl; breaks = refl; result = refl }) (Rewrite {t = turn F Counter ∷ turn F Quarter ∷ []} (record { front = []; left = turn F Half; right = turn F Quarter; rest = turn F Quarter ∷ []; at = refl; leftmost = refl; breaks = refl; result = refl }) (Rewrite {t = []} (record { front = []; left = turn F Counter; right = turn F Quarter; rest = []; at = refl; leftmost = refl; breaks = refl; result = refl }) (Clean refl)))
+
+-- `R R'` is cleaned to nothing, and `U U` to `U2`
+undone : Cleans (turn R Quarter ∷ turn R Counter ∷ []) []
+undone =
+    Rewrite {t = []} (record { front = []; left = turn R Quarter; right = turn R Counter; rest = []; at = refl; leftmost = refl; breaks = refl; result = refl }) (Clean refl)
+
+doubled : Cleans (turn U Quarter ∷ turn U Quarter ∷ []) (turn U Half ∷ [])
+doubled =
+    Rewrite {t = turn U Half ∷ []} (record { front = []; left = turn U Quarter; right = turn U Quarter; rest = []; at = refl; leftmost = refl; breaks = refl; result = refl }) (Clean refl)
 
 -- `R L R` is cleaned to `R2 L`, by `R R L`
 summed : Cleans (turn R Quarter ∷ turn L Quarter ∷ turn R Quarter ∷ []) (turn R Half ∷ turn L Quarter ∷ [])
@@ -96,7 +134,7 @@ alike_test = refl
 one_effect : (q : Place) → effect_of_turns right_first q ≡ effect_of_turns up_first q
 one_effect q = same_place_is _ _ (at_place (λ q. AreAlike q) alike_test q)
 
--- `(U2)`, `x (y)` and `L F x`
+-- nothing left and then `U2` in a bracket, `x` and then `y` in a bracket, `L F x` and then nothing
 bracket_text : with_bracket (with_words [] (cleaned_words [] (rotation U None))) (cleaned_words (turn U Half ∷ []) (rotation U None)) ≡ codes "(U2)"
 bracket_text = refl
 

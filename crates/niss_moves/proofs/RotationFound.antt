@@ -1,14 +1,13 @@
 -- The rotation that is found among the 24 is the one that is left.
-use Rattle.std.proofs.Common.{◌≡◌, ℕ, ◌⊎◌, inl, inr, Bool, true, false, ◌&&◌, refl, ap, sym, ◌∙◌, subst, List, [], ◌∷◌, ◌++◌, map, cond, arith, Option, None, Some}
-use Rattle.std.specs.List.{Contains, find, list_all, flat_map}
+use Rattle.std.proofs.Common.{◌≡◌, ℕ, inl, inr, Bool, true, false, refl, ap, sym, ◌∙◌, subst, List, [], ◌∷◌, map, cond, arith, Option, None, Some}
+use Rattle.std.specs.List.{Contains, find, list_all}
 use Rattle.std.specs.Prelude.{unwrap_or}
-use Rattle.niss_moves.specs.Places.{Place, same_place}
+use Rattle.niss_moves.specs.Places.{same_place}
 use Rattle.niss_moves.specs.Facelets.{centre}
 use Rattle.niss_moves.specs.Effects.{effect}
 use Rattle.niss_moves.specs.Rotations.{spelling, IsRotationOf}
 use Rattle.niss_moves.specs.Faces.{faces}
 use Rattle.niss_moves.specs.Canonical.{face_order}
-use Rattle.niss_moves.specs.Cleaning.{Cleans}
 use Rattle.niss_moves.specs.Line.{Moves}
 use Rattle.niss_moves.specs.Text.{with_words}
 use Rattle.niss_moves.specs.CleanText.{cleaned_words, with_bracket, PutsClean}

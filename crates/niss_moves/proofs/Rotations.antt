@@ -1,10 +1,11 @@
 -- The 24 rotations, computed.
 use Rattle.std.proofs.Common.{◌≡◌, Bool, true, ◌&&◌, refl, ap, sym, subst, ◌∙◌, List, [], ◌∷◌, ◌++◌, Option, None, Some}
 use Rattle.niss_moves.specs.Places.{Place, Vector, same_vector, same_place}
+use Rattle.niss_moves.specs.Facelets.{centre}
 use Rattle.niss_moves.specs.Effects.{effect, effect_of_turns, moved_by, turned, quarters, times}
 use Rattle.niss_moves.specs.Rotations.{face_before, face_before_power, face_before_top, face_before_vertical, renamed_turn, to_top, about_vertical, spelling}
 use Rattle.niss_moves.specs.Turn.{same_face}
-use Rattle.niss_moves.specs.Canonical.{is_beside}
+use Rattle.niss_moves.specs.Helpers.{is_beside}
 use Rattle.niss_moves.proofs.Finite.{both_left, both_right, every_coord, every_vector, at_vector, same_vector_is, every_place, at_place, same_place_is, every_face, at_face, every_power, at_power, every_axis, at_axis, every_optional_power, at_optional_power, implies, by_implies}
 use Rattle.niss_moves.proofs.Inverses.{effect-append}
 use Rattle.niss_moves.specs.declared.turn.Face.{Face}
@@ -93,6 +94,22 @@ effect_of_rotation B (Some p) q = refl
 
 pub effect_of_spelling : (r : Rotation) (q : Place) → effect (spelling r) q ≡ on_place (rotated_vector r) q
 effect_of_spelling r q = effect_of_rotation r.top r.vertical q
+
+-- The rotation brings the centre of the face before to the centre of the face.
+abbrev Brings : Rotation → Face → Bool
+Brings r f = same_place (on_place (rotated_vector r) (centre (face_before r f))) (centre f)
+
+brings_test : every_rotation (λ r. every_face (λ f. Brings r f)) ≡ true
+unfolding every_rotation every_optional_power every_power every_face
+brings_test = refl
+
+pub centre_before : (r : Rotation) (f : Face) → effect (spelling r) (centre (face_before r f)) ≡ centre f
+centre_before r f =
+    effect_of_spelling r (centre (face_before r f))
+    ∙ same_place_is _ _ (at_face (λ f. Brings r f) (at_rotation (λ r. every_face (λ f. Brings r f)) brings_test r) f)
+
+pub brings_of : (r : Rotation) (f g : Face) → g ≡ face_before r f → effect (spelling r) (centre g) ≡ centre f
+brings_of r f g e = ap (λ g. effect (spelling r) (centre g)) e ∙ centre_before r f
 
 -- What a rotation and one more come to: the top and the front are known, and some vertical turn fits.
 abbrev pub next_top : Rotation → Axis → Power → Face

@@ -4,7 +4,7 @@ use Rattle.std.proofs.lemmas.Bool.{ltb-true, eqb-true}
 use Rattle.std.proofs.lemmas.List.Concat.{flat_map-append}
 use Rattle.niss_moves.specs.Letters.{face_letter}
 use Rattle.niss_moves.specs.Notation.{lower_letter, slice_letter, rotation_letter, token_of, base_bytes, Typographic, Plain, Suffix, Nothing, Two, Prime, TwoPrime, Blank, Space, Tab, Return, blank_byte}
-use Rattle.niss_moves.specs.Line.{Piece, Gap, Move, piece_bytes, piece_moves, Item, Outside, Bracket, item_bytes, item_normal, item_bracketed}
+use Rattle.niss_moves.specs.Line.{Piece, Gap, Spelled, piece_bytes, piece_moves, Item, Outside, Bracket, item_bytes, item_normal, item_bracketed}
 use Rattle.niss_moves.specs.Faults.{Cut, Whole, LacksOne, LacksTwo, cut_ending, BeginsBase}
 use Rattle.niss_moves.specs.Machine.{Entry, bytes_of_a_line, look_up, symbol_of, State, start, outside, inside, added, settled, settled_by, opened, closed, widened, doubled, primed, cut, begun, count, counted, with_last, step_by, step_at, step, step_within}
 use Rattle.niss_moves.specs.declared.turn.Power.TheVariants.{Quarter, Half, Counter}
@@ -183,17 +183,17 @@ settled_front s bytes h = by_last s.last refl
     by_last last.Finished e =
         subst (λ (x : List ℕ). WholeItems s.bracket x s.normal s.bracketed) (sym (append-nil _ ∙ (h.bytes_are ∙ ap (λ t. h.front ++ last_bytes t) e) ∙ append-nil _)) h.is_front
     by_last (last.Bare b) e =
-        subst (λ (x : List ℕ). WholeItems s.bracket x (added s (token_of b Quarter)).normal (added s (token_of b Quarter)).bracketed) (sym (append-nil _ ∙ (h.bytes_are ∙ ap (λ t. h.front ++ last_bytes t) e) ∙ ap (λ x. h.front ++ x) (sym (append-nil (base_bytes b))))) (front_piece _ _ _ _ (Move b Nothing) h.is_front)
+        subst (λ (x : List ℕ). WholeItems s.bracket x (added s (token_of b Quarter)).normal (added s (token_of b Quarter)).bracketed) (sym (append-nil _ ∙ (h.bytes_are ∙ ap (λ t. h.front ++ last_bytes t) e) ∙ ap (λ x. h.front ++ x) (sym (append-nil (base_bytes b))))) (front_piece _ _ _ _ (Spelled b Nothing) h.is_front)
     by_last (last.Doubled b) e =
-        subst (λ (x : List ℕ). WholeItems s.bracket x (added s (token_of b Half)).normal (added s (token_of b Half)).bracketed) (sym (append-nil _ ∙ (h.bytes_are ∙ ap (λ t. h.front ++ last_bytes t) e))) (front_piece _ _ _ _ (Move b Two) h.is_front)
+        subst (λ (x : List ℕ). WholeItems s.bracket x (added s (token_of b Half)).normal (added s (token_of b Half)).bracketed) (sym (append-nil _ ∙ (h.bytes_are ∙ ap (λ t. h.front ++ last_bytes t) e))) (front_piece _ _ _ _ (Spelled b Two) h.is_front)
     by_last (last.FirstByte b true) e =
-        subst (λ (x : List ℕ). WholeItems s.bracket x (added s (token_of b Half)).normal (added s (token_of b Half)).bracketed) (sym (ap (λ x. x ++ 0x80 ∷ 0x99 ∷ []) (h.bytes_are ∙ ap (λ t. h.front ++ last_bytes t) e) ∙ simp append_assoc)) (front_piece _ _ _ _ (Move b (TwoPrime Typographic)) h.is_front)
+        subst (λ (x : List ℕ). WholeItems s.bracket x (added s (token_of b Half)).normal (added s (token_of b Half)).bracketed) (sym (ap (λ x. x ++ 0x80 ∷ 0x99 ∷ []) (h.bytes_are ∙ ap (λ t. h.front ++ last_bytes t) e) ∙ simp append_assoc)) (front_piece _ _ _ _ (Spelled b (TwoPrime Typographic)) h.is_front)
     by_last (last.FirstByte b false) e =
-        subst (λ (x : List ℕ). WholeItems s.bracket x (added s (token_of b Counter)).normal (added s (token_of b Counter)).bracketed) (sym (ap (λ x. x ++ 0x80 ∷ 0x99 ∷ []) (h.bytes_are ∙ ap (λ t. h.front ++ last_bytes t) e) ∙ simp append_assoc)) (front_piece _ _ _ _ (Move b (Prime Typographic)) h.is_front)
+        subst (λ (x : List ℕ). WholeItems s.bracket x (added s (token_of b Counter)).normal (added s (token_of b Counter)).bracketed) (sym (ap (λ x. x ++ 0x80 ∷ 0x99 ∷ []) (h.bytes_are ∙ ap (λ t. h.front ++ last_bytes t) e) ∙ simp append_assoc)) (front_piece _ _ _ _ (Spelled b (Prime Typographic)) h.is_front)
     by_last (last.SecondByte b true) e =
-        subst (λ (x : List ℕ). WholeItems s.bracket x (added s (token_of b Half)).normal (added s (token_of b Half)).bracketed) (sym (ap (λ x. x ++ 0x99 ∷ []) (h.bytes_are ∙ ap (λ t. h.front ++ last_bytes t) e) ∙ simp append_assoc)) (front_piece _ _ _ _ (Move b (TwoPrime Typographic)) h.is_front)
+        subst (λ (x : List ℕ). WholeItems s.bracket x (added s (token_of b Half)).normal (added s (token_of b Half)).bracketed) (sym (ap (λ x. x ++ 0x99 ∷ []) (h.bytes_are ∙ ap (λ t. h.front ++ last_bytes t) e) ∙ simp append_assoc)) (front_piece _ _ _ _ (Spelled b (TwoPrime Typographic)) h.is_front)
     by_last (last.SecondByte b false) e =
-        subst (λ (x : List ℕ). WholeItems s.bracket x (added s (token_of b Counter)).normal (added s (token_of b Counter)).bracketed) (sym (ap (λ x. x ++ 0x99 ∷ []) (h.bytes_are ∙ ap (λ t. h.front ++ last_bytes t) e) ∙ simp append_assoc)) (front_piece _ _ _ _ (Move b (Prime Typographic)) h.is_front)
+        subst (λ (x : List ℕ). WholeItems s.bracket x (added s (token_of b Counter)).normal (added s (token_of b Counter)).bracketed) (sym (ap (λ x. x ++ 0x99 ∷ []) (h.bytes_are ∙ ap (λ t. h.front ++ last_bytes t) e) ∙ simp append_assoc)) (front_piece _ _ _ _ (Spelled b (Prime Typographic)) h.is_front)
 
 ready_front : (s : State) (bytes : List ℕ) → IsReady s.last → Reads s bytes → WholeItems s.bracket bytes (settled s).normal (settled s).bracketed
 ready_front s bytes r h =
@@ -331,9 +331,9 @@ two_means q n b o (last.SecondByte f two) k bytes byte e x h = told_other q byte
 prime_means : (q : Bool) (n b : List Token) (o : Option ℕ) (t : LastMove) (k : ℕ) (bytes : List ℕ) (byte : ℕ) → symbol_of byte ≡ symbol.Apostrophe → byte ≡ 39 → Reads (state n b o t k) bytes → Outcome Whole q bytes byte (primed t (state n b o t k))
 unfolding state
 prime_means q n b o (last.Bare f) k bytes byte e x h =
-    front_reads _ _ (subst (λ (z : List ℕ). WholeItems o z (outside o n (token_of f Counter ∷ [])) (inside o b (token_of f Counter ∷ []))) (sym (ap₂ (λ (y : List ℕ) (z : ℕ). y ++ z ∷ []) h.bytes_are x ∙ append_assoc h.front (base_bytes f) (39 ∷ []))) (front_piece _ _ _ _ (Move f (Prime Plain)) h.is_front)) refl (fed_more _ _ _ h.fed) (omega (arith, h.room, count_more o n b (token_of f Quarter ∷ []), count_more o n b (token_of f Counter ∷ [])))
+    front_reads _ _ (subst (λ (z : List ℕ). WholeItems o z (outside o n (token_of f Counter ∷ [])) (inside o b (token_of f Counter ∷ []))) (sym (ap₂ (λ (y : List ℕ) (z : ℕ). y ++ z ∷ []) h.bytes_are x ∙ append_assoc h.front (base_bytes f) (39 ∷ []))) (front_piece _ _ _ _ (Spelled f (Prime Plain)) h.is_front)) refl (fed_more _ _ _ h.fed) (omega (arith, h.room, count_more o n b (token_of f Quarter ∷ []), count_more o n b (token_of f Counter ∷ [])))
 prime_means q n b o (last.Doubled f) k bytes byte e x h =
-    front_reads _ _ (subst (λ (z : List ℕ). WholeItems o z (outside o n (token_of f Half ∷ [])) (inside o b (token_of f Half ∷ []))) (sym (ap₂ (λ (y : List ℕ) (z : ℕ). y ++ z ∷ []) h.bytes_are x ∙ append_assoc h.front (base_bytes f ++ 50 ∷ []) (39 ∷ []) ∙ ap (λ y. h.front ++ y) (append_assoc (base_bytes f) (50 ∷ []) (39 ∷ [])))) (front_piece _ _ _ _ (Move f (TwoPrime Plain)) h.is_front)) refl (fed_more _ _ _ h.fed) h.room
+    front_reads _ _ (subst (λ (z : List ℕ). WholeItems o z (outside o n (token_of f Half ∷ [])) (inside o b (token_of f Half ∷ []))) (sym (ap₂ (λ (y : List ℕ) (z : ℕ). y ++ z ∷ []) h.bytes_are x ∙ append_assoc h.front (base_bytes f ++ 50 ∷ []) (39 ∷ []) ∙ ap (λ y. h.front ++ y) (append_assoc (base_bytes f) (50 ∷ []) (39 ∷ [])))) (front_piece _ _ _ _ (Spelled f (TwoPrime Plain)) h.is_front)) refl (fed_more _ _ _ h.fed) h.room
 prime_means q n b o last.Finished k bytes byte e x h = told_other q byte (length bytes) k symbol.Apostrophe e tt h.fed
 prime_means q n b o (last.FirstByte f two) k bytes byte e x h = told_other q byte (length bytes) k symbol.Apostrophe e tt h.fed
 prime_means q n b o (last.SecondByte f two) k bytes byte e x h = told_other q byte (length bytes) k symbol.Apostrophe e tt h.fed

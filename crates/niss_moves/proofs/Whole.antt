@@ -3,7 +3,7 @@ use Rattle.std.proofs.Common.{◌≡◌, ℕ, ◌+◌, ◌-◌, ◌<◌, ◌≤�
 use Rattle.std.proofs.lemmas.List.{take-append-le, take-append-drop}
 use Rattle.std.proofs.Math.Path.{subst₃}
 use Rattle.std.proofs.Math.Seq.{take-append_seam, take-append-add, get_or-append_seam}
-use Rattle.niss_moves.specs.Line.{Gap, Move, piece_bytes, Piece, item_bytes, Spells, IsLine}
+use Rattle.niss_moves.specs.Line.{Gap, Spelled, piece_bytes, Piece, item_bytes, Spells, IsLine}
 use Rattle.niss_moves.specs.Faults.{has_no_bracket, Cut, Whole, LacksOne, LacksTwo, cut_ending, cut_length, bracket_ending, Continues, CanContinue, StopsAt, EndsEarly, OpensAt, Stops, Lacks}
 use Rattle.niss_moves.specs.Machine.{State, start, settled, step, and_then, run}
 use Rattle.niss_moves.specs.Notation.{base_bytes, Plain, Typographic, Suffix, Nothing, Two, Prime, TwoPrime, suffix_bytes, Space, Tab, Return}
@@ -226,7 +226,7 @@ no_bracket_pieces [] = refl
 no_bracket_pieces (Gap Space ∷ ps) = no_bracket_pieces ps
 no_bracket_pieces (Gap Tab ∷ ps) = no_bracket_pieces ps
 no_bracket_pieces (Gap Return ∷ ps) = no_bracket_pieces ps
-no_bracket_pieces (Move b s ∷ ps) =
+no_bracket_pieces (Spelled b s ∷ ps) =
     no_bracket_append (base_bytes b ++ suffix_bytes s) _ (no_bracket_append (base_bytes b) _ (no_bracket_base b) (no_bracket_suffix s)) (no_bracket_pieces ps)
 
 no_bracket_last : (t : LastMove) → has_no_bracket (last_bytes t) ≡ true

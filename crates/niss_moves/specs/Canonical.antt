@@ -7,10 +7,6 @@ use Rattle.niss_moves.specs.declared.turn.Power.{Power}
 use Rattle.niss_moves.specs.declared.turn.Power.TheVariants.{Quarter, Half, Counter}
 use Rattle.niss_moves.specs.declared.turn.Turn.{Turn}
 
--- two faces with an edge in common
-abbrev pub is_beside : Face → Face → Bool
-is_beside f g = not (same_face f g) && not (same_face (opposite f) g)
-
 -- May a turn of the second face stand directly after one of the first? They are two faces, and of two opposite ones
 -- U, R or F is first.
 abbrev pub face_may_follow : Face → Face → Bool

@@ -1,5 +1,5 @@
 -- How face turns, rotations and cleaned lines are written out.
-use Rattle.std.specs.Prelude.{◌≡◌, ℕ, Bool, true, false, List, [], ◌∷◌, ◌++◌, map}
+use Rattle.std.specs.Prelude.{◌≡◌, ℕ, List, [], ◌∷◌, ◌++◌, map}
 use Rattle.niss_moves.specs.Rotations.{spelling, IsRotationOf}
 use Rattle.niss_moves.specs.Faces.{faces}
 use Rattle.niss_moves.specs.Cleaning.{Cleans}
@@ -20,10 +20,6 @@ rotation_words r = map word (spelling r)
 -- face turns and the rotation behind them
 abbrev pub cleaned_words : List Turn → Rotation → List (List ℕ)
 cleaned_words ts r = turn_words ts ++ rotation_words r
-
-abbrev pub is_empty : List (List ℕ) → Bool
-is_empty [] = true
-is_empty (w ∷ ws) = false
 
 -- the text with words in a bracket appended, where there is a word
 abbrev pub with_bracket : List ℕ → List (List ℕ) → List ℕ

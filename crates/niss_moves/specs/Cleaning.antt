@@ -48,13 +48,3 @@ pub record IsRewriting (old new : List Turn) : Type 0 where
 pub data Cleans : List Turn → List Turn → Type 0 where
   Clean : {s : List Turn} → IsCanonical s → Cleans s s
   Rewrite : {s t c : List Turn} → IsRewriting s t → Cleans t c → Cleans s c
-
--- one turn behind another: their sum where they are of one face, and else both
-abbrev pub pair_of_turns : Turn → Turn → List Turn
-pair_of_turns t u = if same_face t.face u.face then sum_of_turns t u else t ∷ u ∷ []
-
--- a list with one turn more, summed with the last one where that is of its face
-abbrev pub list_with_turn : List Turn → Turn → List Turn
-list_with_turn [] t = t ∷ []
-list_with_turn (x ∷ []) t = pair_of_turns x t
-list_with_turn (x ∷ y ∷ s) t = x ∷ list_with_turn (y ∷ s) t

@@ -1,8 +1,10 @@
 -- What holds of all moves and sequences, each proved as the contract of a function.
-use Rattle.std.specs.Prelude.{◌≡◌, List}
+use Rattle.std.specs.Prelude.{◌≡◌, List, ◌++◌, map}
 use Rattle.niss_moves.specs.Places.{Place, IsPlace}
-use Rattle.niss_moves.specs.Effects.{effect, moved_by, inverse}
+use Rattle.niss_moves.specs.Effects.{effect, effect_of_turns, moved_by, inverse, HasMeaning}
+use Rattle.niss_moves.specs.declared.turn.Turn.{Turn}
 use Rattle.niss_moves.specs.declared.token.Token.{Token}
+use Rattle.niss_moves.specs.declared.token.Token.TheVariants as token
 
 -- A move brings places to places.
 abbrev pub PlacesStay : Type 0
@@ -15,3 +17,17 @@ InverseUndoes = (s : List Token) (q : Place) → effect (inverse s) (effect s q)
 -- So does a sequence behind its inverse.
 abbrev pub InverseIsUndone : Type 0
 InverseIsUndone = (s : List Token) (q : Place) → effect s (effect (inverse s) q) ≡ q
+
+-- The effect of two sequences, one behind the other, is the effect of the first and then that of the second.
+abbrev pub EffectsCompose : Type 0
+EffectsCompose = (s t : List Token) (q : Place) → effect (s ++ t) q ≡ effect t (effect s q)
+
+-- Face turns have one effect, by themselves and as moves of a line.
+abbrev pub TurnsAreMoves : Type 0
+TurnsAreMoves = (ts : List Turn) (q : Place) → effect (map token.Face ts) q ≡ effect_of_turns ts q
+
+-- A line has one meaning: sequences with the meaning of the same normal and bracketed moves have the same effect.
+abbrev pub OneMeaning : Type 0
+OneMeaning =
+    (s t normal bracketed : List Token) → HasMeaning s normal bracketed → HasMeaning t normal bracketed →
+    (q : Place) → effect s q ≡ effect t q

@@ -18,3 +18,4 @@ pub mod ReadingLaws
 pub mod EffectLaws
 pub mod CleanText
 pub mod CleanedLine
+pub mod Helpers

@@ -4,18 +4,18 @@ use Rattle.niss_moves.specs.Notation.{token_of, base_bytes, Suffix, suffix_bytes
 use Rattle.niss_moves.specs.declared.base.Base.{Base}
 use Rattle.niss_moves.specs.declared.token.Token.{Token}
 
--- a blank, or a move: a base and then a suffix, with nothing between
+-- a blank, or a move as it is spelled: a base and then a suffix, with nothing between
 pub data Piece : Type 0 where
   Gap : Blank → Piece
-  Move : Base → Suffix → Piece
+  Spelled : Base → Suffix → Piece
 
 abbrev pub piece_bytes : Piece → List ℕ
 piece_bytes (Gap b) = blank_byte b ∷ []
-piece_bytes (Move b s) = base_bytes b ++ suffix_bytes s
+piece_bytes (Spelled b s) = base_bytes b ++ suffix_bytes s
 
 abbrev pub piece_moves : Piece → List Token
 piece_moves (Gap b) = []
-piece_moves (Move b s) = token_of b (suffix_power s) ∷ []
+piece_moves (Spelled b s) = token_of b (suffix_power s) ∷ []
 
 -- a piece outside brackets, or a bracket with its pieces: 40 is `(` and 41 is `)`
 pub data Item : Type 0 where

@@ -16,7 +16,7 @@ OneReading =
 abbrev pub OneFault : Type 0
 OneFault = (bytes : List ℕ) (f g : ReadFault) → Faults bytes f → Faults bytes g → f ≡ g
 
--- The ending that makes bytes a line is one.
+-- At most one ending makes bytes a line.
 abbrev pub OneEnding : Type 0
 OneEnding =
     (bytes : List ℕ) (c d : Cut) (p q : Bool) → Continues bytes c p → Continues bytes d q → (c ≡ d) × (p ≡ q)

@@ -2,9 +2,9 @@
 use Rattle.std.specs.Prelude.{◌≡◌, ℕ, ◌+◌, ◌<◌, ◌⊎◌, Bool, ◌&&◌, List, [], ◌∷◌, ◌++◌, map, length, count_by, All, AllPairs, Contains, IsTrue, ◌↔◌}
 use Rattle.niss_moves.specs.Places.{Place}
 use Rattle.niss_moves.specs.Facelets.{centre}
-use Rattle.niss_moves.specs.Effects.{effect, effect_of_turns, moved_by, turned}
+use Rattle.niss_moves.specs.Effects.{effect, effect_of_turns, moved_by, turned, inverse, HasMeaning}
 use Rattle.niss_moves.specs.Turn.{opposite, same_face, goes_first}
-use Rattle.niss_moves.specs.Rotations.{spelling, face_before, face_before_power, renamed_turn}
+use Rattle.niss_moves.specs.Rotations.{spelling, face_before, face_before_power, renamed_turn, IsRotationOf}
 use Rattle.niss_moves.specs.Faces.{expanded, token_of_basic, faces}
 use Rattle.niss_moves.specs.Canonical.{IsCanonical, all_canonical}
 use Rattle.niss_moves.specs.Cleaning.{IsRewriting, Cleans}
@@ -50,6 +50,20 @@ FacesAreHome =
     ((f : Face) → effect (spelling home) (effect s (centre f)) ≡ centre f) →
     (q : Place) → effect (spelling home) (effect s q) ≡ effect_of_turns (faces s) q
 
+-- The same for a line of normal and bracketed moves: with the centres brought home, each sequence that has the meaning of
+-- the line has the effect of the face turns of the normal moves and then the inverse of the bracketed ones.
+abbrev pub LineIsHome : Type 0
+LineIsHome =
+    (normal bracketed s : List Token) (home : Rotation) → HasMeaning s normal bracketed →
+    ((f : Face) → effect (spelling home) (effect s (centre f)) ≡ centre f) →
+    (q : Place) → effect (spelling home) (effect s q) ≡ effect_of_turns (faces (normal ++ inverse bracketed)) q
+
+-- A sequence has the effect of its face turns and then the rotation that is left.
+abbrev pub FacesAndRotation : Type 0
+FacesAndRotation =
+    (s : List Token) (r : Rotation) → IsRotationOf s r →
+    (q : Place) → effect s q ≡ effect (spelling r) (effect_of_turns (faces s) q)
+
 -- The members of `all_canonical turns k` are the canonical sequences of length k of these turns.
 abbrev pub CanonicalMembers : Type 0
 CanonicalMembers =
@@ -81,6 +95,12 @@ CleaningEnds = (s : List Turn) → (c : List Turn) × Cleans s c
 -- Cleaning has one result.
 abbrev pub OneCleanList : Type 0
 OneCleanList = (s c d : List Turn) → Cleans s c → Cleans s d → c ≡ d
+
+-- A sequence has the effect of its cleaned face turns and then the rotation that is left.
+abbrev pub CleanedEffect : Type 0
+CleanedEffect =
+    (s : List Token) (c : List Turn) (r : Rotation) → Cleans (faces s) c → IsRotationOf s r →
+    (q : Place) → effect s q ≡ effect (spelling r) (effect_of_turns c q)
 
 -- Cleaning leaves a canonical list as it is.
 abbrev pub CanonicalStays : Type 0

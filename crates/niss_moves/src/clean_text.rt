@@ -2,7 +2,8 @@
 ghost use Rattle.std.specs.Prelude.{◌≡◌, ◌+◌, ◌*◌, ◌≤◌, length};
 ghost use Rattle.arrayvec.specs.ArrayVec.{array_vec_len};
 ghost use Rattle.niss_moves.specs.Text.{with_words};
-ghost use Rattle.niss_moves.specs.CleanText.{turn_words, rotation_words, cleaned_words, is_empty, PutsClean};
+ghost use Rattle.niss_moves.specs.CleanText.{turn_words, rotation_words, cleaned_words, PutsClean};
+ghost use Rattle.niss_moves.specs.Helpers.{is_empty};
 ghost use Rattle.niss_moves.specs.CleanedLine.{with_clean_line};
 
 use crate::cleaning::cleanup;

@@ -2,12 +2,13 @@
 ghost use Rattle.std.specs.Prelude.{◌≡◌, ◌+◌, ◌*◌, ◌<◌, ◌≤◌, List, [], ◌∷◌, ◌++◌, ◌||◌, length, IsTrue};
 ghost use Rattle.arrayvec.specs.ArrayVec.{array_vec_len};
 ghost use Rattle.niss_moves.specs.Places.{Place};
-ghost use Rattle.niss_moves.specs.Effects.{effect_of_turns};
-ghost use Rattle.niss_moves.specs.Rotations.{IsRotationOf};
+ghost use Rattle.niss_moves.specs.Effects.{effect, effect_of_turns};
+ghost use Rattle.niss_moves.specs.Rotations.{spelling, IsRotationOf};
 ghost use Rattle.niss_moves.specs.Faces.{faces};
 ghost use Rattle.niss_moves.specs.Turn.{same_face};
 ghost use Rattle.niss_moves.specs.Canonical.{face_may_follow, IsCanonical};
-ghost use Rattle.niss_moves.specs.Cleaning.{sum_of_powers, list_with_turn, Cleans};
+ghost use Rattle.niss_moves.specs.Cleaning.{sum_of_powers, Cleans};
+ghost use Rattle.niss_moves.specs.Helpers.{list_with_turn};
 
 use crate::faces::{Faces, to_faces};
 use crate::rotation::Rotation;
@@ -86,7 +87,8 @@ fn push_clean(turns: &mut Faces, turn: Turn)
 
 /// The face turns of a sequence made canonical, and the rotation that is left at its end. As long as two neighbours break
 /// the order, the leftmost two are summed, where they are of one face, or exchanged: `R L R` is `R2 L`, `U D U'` is `D`.
-/// That the list is the shortest of its effect isn't said.
+/// A sum that is a whole round leaves nothing: so does `F F F F`. That the list is the shortest of its effect isn't said.
+/// A sequence has at most 256 moves.
 pub fn cleanup(tokens: &[Token]) -> (Faces, Rotation)
     requires { length tokens.now ≤ 256 }
     ensures len { array_vec_len result.0 ≤ 2 * length tokens.now }
@@ -95,6 +97,8 @@ pub fn cleanup(tokens: &[Token]) -> (Faces, Rotation)
     ensures rotation { IsRotationOf tokens.now result.1 }
     ensures effect { (q : Place) →
         effect_of_turns result.0.items q ≡ effect_of_turns (faces tokens.now) q }
+    ensures whole_effect { (q : Place) →
+        effect tokens.now q ≡ effect (spelling result.1) (effect_of_turns result.0.items q) }
 {
     let (turns, rotation) = to_faces(tokens);
     let mut clean = Faces::new();

@@ -1,5 +1,5 @@
 //! What holds of all moves and sequences. Each law is the contract of a function that does nothing.
-ghost use Rattle.niss_moves.specs.EffectLaws.{PlacesStay, InverseUndoes, InverseIsUndone};
+ghost use Rattle.niss_moves.specs.EffectLaws.{PlacesStay, InverseUndoes, InverseIsUndone, EffectsCompose, TurnsAreMoves, OneMeaning};
 
 /// A move brings places to places.
 pub fn places_stay()
@@ -14,4 +14,19 @@ pub fn inverse_undoes()
 /// A sequence, made behind its inverse, brings each place back.
 pub fn inverse_is_undone()
     ensures { InverseIsUndone }
+{}
+
+/// The effect of a sequence behind another is made of theirs, one after the other.
+pub fn effects_compose()
+    ensures { EffectsCompose }
+{}
+
+/// Face turns have one effect, by themselves and as moves of a line.
+pub fn turns_are_moves()
+    ensures { TurnsAreMoves }
+{}
+
+/// A line has one meaning.
+pub fn one_meaning()
+    ensures { OneMeaning }
 {}

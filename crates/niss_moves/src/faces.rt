@@ -53,7 +53,8 @@ fn push_move(turns: &mut Faces, rotation: Rotation, token: Token) -> Rotation
     ensures len { array_vec_len turns.new ≤ array_vec_len turns.old + 2 }
     ensures faces { (rest : List Turn) →
         turns.new.items ++ map (renamed_turn (face_before result)) rest
-        ≡ turns.old.items ++ map (renamed_turn (face_before rotation)) (faces_with (expanded token) rest) }
+        ≡ turns.old.items
+        ++ map (renamed_turn (face_before rotation)) (faces_with (expanded token) rest) }
     ensures effect { (q : Place) →
         effect (spelling result) (effect_of_turns turns.new.items q)
         ≡ moved_by token (effect (spelling rotation) (effect_of_turns turns.old.items q)) }
@@ -81,7 +82,8 @@ fn push_move(turns: &mut Faces, rotation: Rotation, token: Token) -> Rotation
 }
 
 /// The face turns of a sequence, and the rotation that is left at its end: `Rw U` is `L F` and then `x`. Wide turns and
-/// slices are written as face turns and rotations, and a rotation renames the face turns behind it.
+/// slices are written as face turns and rotations, and a rotation renames the face turns behind it. The sequence has the
+/// effect of the face turns and then the rotation. It has at most 256 moves.
 pub fn to_faces(tokens: &[Token]) -> (Faces, Rotation)
     requires { length tokens.now ≤ 256 }
     ensures len { array_vec_len result.0 ≤ 2 * length tokens.now }

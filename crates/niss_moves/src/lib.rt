@@ -21,7 +21,7 @@
 //! `reading_laws`, `rewriting_laws` and `effect_laws`, as functions that do nothing.
 #![tactic(auto)]
 
-pub mod axis;
+mod axis;
 mod base;
 mod canonical;
 mod clean_text;
@@ -38,8 +38,8 @@ mod rotation;
 mod sequence;
 mod symbol;
 mod text;
-pub mod token;
-pub mod turn;
+mod token;
+mod turn;
 
 pub use axis::Axis;
 pub use canonical::{allowed, turn_order};

@@ -75,6 +75,7 @@ impl PartialLine {
             }
             LastMove::SecondByte(_, _) => {
                 if byte != 0x99 {
+                    // Two bytes of U+2019 were fed, and `fed` is at least 2.
                     return Err(ReadFault::NotAMove {
                         column: fed.saturating_sub(1),
                     });
@@ -95,6 +96,7 @@ impl PartialLine {
         match line.last {
             LastMove::FirstByte(_, _) => return Err(ReadFault::NotAMove { column: fed }),
             LastMove::SecondByte(_, _) => {
+                // Here too.
                 return Err(ReadFault::NotAMove {
                     column: fed.saturating_sub(1),
                 });
@@ -111,7 +113,8 @@ impl PartialLine {
     /// Takes the byte at this column where no U+2019 is cut.
     fn step_by(&mut self, symbol: Symbol, column: u32) -> Result<(), ReadFault>
         requires { HasRoom (state_of self.old 0) }
-        ensures { (fed : ℕ) → column ≡ fed + 1 → IsStep (step_by 256 symbol) self.old fed result self.new }
+        ensures { (fed : ℕ) → column ≡ fed + 1 →
+            IsStep (step_by 256 symbol) self.old fed result self.new }
     {
         match symbol {
             Symbol::Blank => {
@@ -131,7 +134,8 @@ impl PartialLine {
 
     fn open_bracket(&mut self, column: u32) -> Result<(), ReadFault>
         requires { HasRoom (state_of self.old 0) }
-        ensures { (fed : ℕ) → column ≡ fed + 1 → IsStep (λ s. opened s.bracket s) self.old fed result self.new }
+        ensures { (fed : ℕ) → column ≡ fed + 1 →
+            IsStep (λ s. opened s.bracket s) self.old fed result self.new }
     {
         if self.bracket.is_some() {
             return Err(ReadFault::Nested { column });
@@ -143,7 +147,8 @@ impl PartialLine {
 
     fn close_bracket(&mut self, column: u32) -> Result<(), ReadFault>
         requires { HasRoom (state_of self.old 0) }
-        ensures { (fed : ℕ) → column ≡ fed + 1 → IsStep (λ s. closed s.bracket s) self.old fed result self.new }
+        ensures { (fed : ℕ) → column ≡ fed + 1 →
+            IsStep (λ s. closed s.bracket s) self.old fed result self.new }
     {
         if self.bracket.is_none() {
             return Err(ReadFault::Unopened { column });
@@ -155,7 +160,8 @@ impl PartialLine {
 
     fn begin_move(&mut self, base: Base, column: u32) -> Result<(), ReadFault>
         requires { HasRoom (state_of self.old 0) }
-        ensures { (fed : ℕ) → column ≡ fed + 1 → IsStep (begun 256 base) self.old fed result self.new }
+        ensures { (fed : ℕ) → column ≡ fed + 1 →
+            IsStep (begun 256 base) self.old fed result self.new }
     {
         self.settle();
         if self.normal.len() + self.bracketed.len() >= 256 {
@@ -166,7 +172,8 @@ impl PartialLine {
     }
 
     fn widen(&mut self, column: u32) -> Result<(), ReadFault>
-        ensures { (fed : ℕ) → column ≡ fed + 1 → IsStep (λ s. widened s.last s) self.old fed result self.new }
+        ensures { (fed : ℕ) → column ≡ fed + 1 →
+            IsStep (λ s. widened s.last s) self.old fed result self.new }
     {
         let LastMove::Bare(Base::Face(face)) = self.last else {
             return Err(ReadFault::NotAMove { column });
@@ -176,7 +183,8 @@ impl PartialLine {
     }
 
     fn double(&mut self, column: u32) -> Result<(), ReadFault>
-        ensures { (fed : ℕ) → column ≡ fed + 1 → IsStep (λ s. doubled s.last s) self.old fed result self.new }
+        ensures { (fed : ℕ) → column ≡ fed + 1 →
+            IsStep (λ s. doubled s.last s) self.old fed result self.new }
     {
         let LastMove::Bare(base) = self.last else {
             return Err(ReadFault::NotAMove { column });
@@ -188,7 +196,8 @@ impl PartialLine {
     /// Takes the apostrophe that ends a move.
     fn finish_move(&mut self, column: u32) -> Result<(), ReadFault>
         requires { HasRoom (state_of self.old 0) }
-        ensures { (fed : ℕ) → column ≡ fed + 1 → IsStep (λ s. primed s.last s) self.old fed result self.new }
+        ensures { (fed : ℕ) → column ≡ fed + 1 →
+            IsStep (λ s. primed s.last s) self.old fed result self.new }
     {
         match self.last {
             LastMove::Bare(base) => self.push(base.token(Power::Counter)),
@@ -200,7 +209,8 @@ impl PartialLine {
 
     /// Takes the first byte of U+2019.
     fn cut_apostrophe(&mut self, column: u32) -> Result<(), ReadFault>
-        ensures { (fed : ℕ) → column ≡ fed + 1 → IsStep (λ s. cut s.last s) self.old fed result self.new }
+        ensures { (fed : ℕ) → column ≡ fed + 1 →
+            IsStep (λ s. cut s.last s) self.old fed result self.new }
     {
         self.last = match self.last {
             LastMove::Bare(base) => LastMove::FirstByte(base, false),

@@ -60,17 +60,23 @@ impl LineReader {
     }
 
     /// Takes one byte. It answers a fault as soon as the bytes are the beginning of no line, and from then on always
-    /// that fault.
+    /// that fault. At most 16,777,216 bytes can be fed.
     pub fn feed(&mut self, byte: u8) -> Result<(), ReadFault>
         requires { self.old.fed < 16777216 }
         ensures fed { self.new.fed ≡ self.old.fed + 1 }
-        ensures bytes { (bytes : List ℕ) → IsFed self.old bytes → IsFed self.new (bytes ++ byte ∷ []) }
+        ensures bytes { (bytes : List ℕ) → IsFed self.old bytes →
+            IsFed self.new (bytes ++ byte ∷ []) }
 
         // A byte is taken where some line begins so, and else the fault is that of such a byte.
-        ensures taken { (bytes : List ℕ) → IsFed self.old bytes → IsOk result ↔ CanContinue (bytes ++ byte ∷ []) }
-        ensures fault { (bytes : List ℕ) → IsFed self.old bytes → IfErr result (λ f. Stops (bytes ++ byte ∷ []) f) }
-        ensures told { MatchResult result (λ _. self.new.fault ≡ None) (λ f. self.new.fault ≡ Some f) }
-        ensures again { (f : ReadFault) → self.old.fault ≡ Some f → (result ≡ Err f) × (self.new.fault ≡ Some f) }
+        ensures taken { (bytes : List ℕ) → IsFed self.old bytes →
+            IsOk result ↔ CanContinue (bytes ++ byte ∷ []) }
+        ensures fault { (bytes : List ℕ) → IsFed self.old bytes →
+            IfErr result (λ f. Stops (bytes ++ byte ∷ []) f) }
+        ensures told { MatchResult result
+            (λ _. self.new.fault ≡ None)
+            (λ f. self.new.fault ≡ Some f) }
+        ensures again { (f : ReadFault) → self.old.fault ≡ Some f →
+            (result ≡ Err f) × (self.new.fault ≡ Some f) }
     {
         let fed = self.fed;
         self.fed = fed + 1;
@@ -85,8 +91,11 @@ impl LineReader {
     /// The line that the bytes spell, or its fault.
     pub fn finish(self) -> Result<Niss, ReadFault>
         ensures value { (bytes : List ℕ) → IsFed self bytes → result ≡ read_line bytes }
-        ensures found { (bytes : List ℕ) → IsFed self bytes → IfOk result (λ n. Spells bytes n.normal n.bracketed) }
-        ensures only { (bytes : List ℕ) (n b : List Token) → IsFed self bytes → Spells bytes n b → length n + length b ≤ 256 →
+        ensures found { (bytes : List ℕ) → IsFed self bytes →
+            IfOk result (λ n. Spells bytes n.normal n.bracketed) }
+        ensures fits { IfOk result (λ n. length n.normal + length n.bracketed ≤ 256) }
+        ensures only { (bytes : List ℕ) (n b : List Token) → IsFed self bytes →
+            Spells bytes n b → length n + length b ≤ 256 →
             result ≡ Ok (record { normal = n; bracketed = b }) }
         ensures fault { (bytes : List ℕ) → IsFed self bytes → IfErr result (λ f. Faults bytes f) }
         ensures again { (f : ReadFault) → self.fault ≡ Some f → result ≡ Err f }
@@ -98,11 +107,12 @@ impl LineReader {
     }
 }
 
-/// The line that the bytes spell, or its fault.
+/// The line that the bytes spell, or its fault. There may be at most 16,777,216 bytes.
 pub fn read(bytes: &[u8]) -> Result<Niss, ReadFault>
     requires { length bytes.now ≤ 16777216 }
     ensures value { result ≡ read_line bytes.now }
     ensures found { IfOk result (λ n. Spells bytes.now n.normal n.bracketed) }
+    ensures fits { IfOk result (λ n. length n.normal + length n.bracketed ≤ 256) }
     ensures only { (n b : List Token) → Spells bytes.now n b → length n + length b ≤ 256 →
         result ≡ Ok (record { normal = n; bracketed = b }) }
     ensures fault { IfErr result (λ f. Faults bytes.now f) }

@@ -1,7 +1,8 @@
 //! What holds of all lines. Each law is the contract of a function that does nothing.
 ghost use Rattle.niss_moves.specs.ReadingLaws.{LineIsSpelled, LineIsFaulty, OneReading, OneFault, OneEnding, WordsAreRead};
 
-/// What `read` answers is the moves that spell the line, and else its fault.
+/// `read_line`, the answer of `read` and `finish`, is the moves that spell the line, where they are at most 256, and else
+/// the fault of the line.
 pub fn line_is_read()
     ensures spelled { LineIsSpelled }
     ensures faulty { LineIsFaulty }
@@ -17,7 +18,7 @@ pub fn one_fault()
     ensures { OneFault }
 {}
 
-/// The ending that makes bytes a line is one.
+/// At most one ending makes bytes a line.
 pub fn one_ending()
     ensures { OneEnding }
 {}

@@ -1,5 +1,5 @@
 //! Laws of rotations, canonical sequences and cleaning: each is the contract of a function that does nothing.
-ghost use Rattle.niss_moves.specs.RewritingLaws.{OneSpelling, ExpandsAlike, RenamesAboutAxis, RenamesByRotation, CentresComeHome, FacesAreHome, CanonicalMembers, CanonicalInOrder, CleaningEnds, OneCleanList, CanonicalStays, RewritingLowers};
+ghost use Rattle.niss_moves.specs.RewritingLaws.{OneSpelling, ExpandsAlike, RenamesAboutAxis, RenamesByRotation, CentresComeHome, FacesAreHome, LineIsHome, FacesAndRotation, CleanedEffect, CanonicalMembers, CanonicalInOrder, CleaningEnds, OneCleanList, CanonicalStays, RewritingLowers};
 ghost use Rattle.niss_moves.specs.CleanedLine.{CleanTurnsAreClean, RotationIsLeft};
 
 /// Two rotations that move the six centres alike are one. So each of the 24 has one spelling.
@@ -19,10 +19,17 @@ pub fn rotations_rename()
 {}
 
 /// A sequence and then the rotation that brings the centres home has the effect of its face turns, and there is such a
-/// rotation.
+/// rotation. So does a line of normal and bracketed moves.
 pub fn faces_are_home()
     ensures rotation { CentresComeHome }
     ensures effect { FacesAreHome }
+    ensures line { LineIsHome }
+{}
+
+/// A sequence has the effect of its face turns, cleaned or not, and then the rotation that is left at its end.
+pub fn whole_effect()
+    ensures faces { FacesAndRotation }
+    ensures cleaned { CleanedEffect }
 {}
 
 /// The list of all canonical sequences of a length has exactly these sequences, in the order of the turns.

@@ -1,10 +1,13 @@
 ghost use Rattle.std.specs.Prelude.{◌≡◌, IsTrue};
 ghost use Rattle.niss_moves.specs.Rotations.{face_before, face_before_quarter, face_before_power, face_before_top};
-ghost use Rattle.niss_moves.specs.Canonical.{is_beside};
+ghost use Rattle.niss_moves.specs.Helpers.{is_beside};
 ghost use Rattle.niss_moves.specs.declared.turn.Face.TheVariants.{F};
 
 use crate::axis::Axis;
 use crate::turn::{Face, Power, Turn};
+
+#[cfg(test)]
+mod tests;
 
 /// One of the 24 rotations of the whole cube (WCA Regulations, article 12). Each value is another rotation. It is spelled
 /// by the rotation that brings `top` to the top (none for U, `x` for F, `x2` for D, `x'` for B, `z` for L, `z'` for R)
@@ -84,6 +87,7 @@ fn vertical_turn(top: Face, front: Face) -> Option<Power>
 
 impl Rotation {
     ghost use Rattle.std.specs.Prelude.{◌≡◌, []};
+    ghost use Rattle.niss_moves.specs.Facelets.{centre};
     ghost use Rattle.niss_moves.specs.Effects.{effect, moved_by};
     ghost use Rattle.niss_moves.specs.Rotations.{face_before, face_before_power, renamed_turn, spelling};
     ghost use Rattle.niss_moves.specs.Places.{Place};
@@ -97,7 +101,8 @@ impl Rotation {
 
     /// The face that this rotation brings to the place of `face`: `x` brings F to the place of U.
     pub fn face_before(self, face: Face) -> Face
-        ensures { result ≡ face_before self face }
+        ensures renames { result ≡ face_before self face }
+        ensures brings { effect (spelling self) (centre result) ≡ centre face }
     {
         let face = match self.vertical {
             None => face,
@@ -119,7 +124,8 @@ impl Rotation {
     /// This rotation and then one about an axis, as one rotation: `z` and then `z` is `x2 y2`.
     pub fn then(self, axis: Axis, power: Power) -> Rotation
         ensures effect { (q : Place) →
-            effect (spelling result) q ≡ moved_by (token.Rotation axis power) (effect (spelling self) q) }
+            effect (spelling result) q
+            ≡ moved_by (token.Rotation axis power) (effect (spelling self) q) }
         ensures faces { (f : Face) →
             face_before result f ≡ face_before self (face_before_power axis power f) }
     {

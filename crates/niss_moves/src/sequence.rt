@@ -24,7 +24,8 @@ pub fn unniss(niss: &Niss) -> ArrayVec<Token, 256>
 /// The inverse of the list that `unniss` gives.
 pub fn invert(niss: &Niss) -> ArrayVec<Token, 256>
     ensures moves { result.items ≡ inverse (niss.now.normal ++ inverse niss.now.bracketed) }
-    ensures effect { (q : Place) → effect result.items (effect (niss.now.normal ++ inverse niss.now.bracketed) q) ≡ q }
+    ensures effect { (q : Place) →
+        effect result.items (effect (niss.now.normal ++ inverse niss.now.bracketed) q) ≡ q }
 {
     let mut moves = ArrayVec::new();
     push_all(&mut moves, niss.inverse());

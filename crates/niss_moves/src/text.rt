@@ -13,7 +13,8 @@ use arrayvec::ArrayVec;
 pub type LineText = ArrayVec<u8, 2048>;
 
 /// Appends the words of the moves, with one space before each word, but not at the beginning of the text or after
-/// `(`. A wide turn is written with `w`, a turn of three quarters with `'`.
+/// `(`. A wide turn is written with `w`, a half turn with `2`, a quarter turn counterclockwise with `'`. The text needs
+/// four free bytes for each move.
 pub fn put_tokens(tokens: &[Token], text: &mut LineText)
     requires { array_vec_len text.old + 4 * length tokens.now ≤ 2048 }
     ensures items { text.new.items ≡ with_words text.old.items (map word tokens.now) }

@@ -1,0 +1,5 @@
+use Rattle.niss_moves.proofs.WholeEffect.{one_meaning}
+use Rattle.niss_moves.proofs.effect_laws.one_meaning.Goals as goal
+
+pub returns : goal.returns
+returns c = one_meaning
