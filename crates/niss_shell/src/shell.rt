@@ -141,7 +141,8 @@ pub fn run_in<A: Allocator, R: Source, W: Target, E: Target>(
         (devices (R.state input.old) (W.state out.old) (E.state err.old))
         (devices (R.state input.new) (W.state out.new) (E.state err.new)) result }
     // Nothing is read but by a command that takes its input from the source.
-    ensures unread { reads_source (request_of (map string_bytes words.now)) ≡ false → R.state input.new ≡ R.state input.old }
+    ensures unread { reads_source (request_of (map string_bytes words.now)) ≡ false →
+        R.state input.new ≡ R.state input.old }
     // However a run ends, it ends with a flush of the output.
     ensures flushed { ((W.state out.new).is_flushed || (W.state out.new).flush_failed) ≡ true }
 {
@@ -152,9 +153,9 @@ pub fn run_in<A: Allocator, R: Source, W: Target, E: Target>(
 
 /// Runs a command, and answers its exit status.
 ///
-/// The words are those behind the program's name. The input, where no words give it, comes from `input`. The answers go to
-/// `out` and what went wrong to `err`. Memory is taken only to join words that give the input, and before anything is
-/// written; `nissy: out of memory` is told only where that growth was refused.
+/// The words are those behind the program's name. The input, where no words give it, comes from `input`. The answers go
+/// to `out` and what went wrong to `err`. Memory is taken only to join words that give the input, and before anything
+/// is written; `nissy: out of memory` is told only where that growth was refused.
 pub fn run<R: Source, W: Target, E: Target>(
     alloc: Global,
     words: &[String],
@@ -169,7 +170,8 @@ pub fn run<R: Source, W: Target, E: Target>(
         (devices (R.state input.old) (W.state out.old) (E.state err.old))
         (devices (R.state input.new) (W.state out.new) (E.state err.new)) result }
     // Nothing is read but by a command that takes its input from the source.
-    ensures unread { reads_source (request_of (map string_bytes words.now)) ≡ false → R.state input.new ≡ R.state input.old }
+    ensures unread { reads_source (request_of (map string_bytes words.now)) ≡ false →
+        R.state input.new ≡ R.state input.old }
     // However a run ends, it ends with a flush of the output.
     ensures flushed { ((W.state out.new).is_flushed || (W.state out.new).flush_failed) ≡ true }
 {
