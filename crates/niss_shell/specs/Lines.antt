@@ -33,6 +33,7 @@ fault_before (Ok text) n rest = rest
 fault_before (Err e) n rest = Some (n, e)
 
 -- the number of the first line that has a fault, and the fault, where the first of these lines has the number n
-unfoldable pub first_fault : {E : Type 0} → (List ℕ → Result (List ℕ) E) → ℕ → List (List ℕ) → Option (ℕ × E)
+unfoldable pub first_fault :
+    {E : Type 0} → (List ℕ → Result (List ℕ) E) → ℕ → List (List ℕ) → Option (ℕ × E)
 first_fault answer n [] = None
 first_fault answer n (line ∷ lines) = fault_before (answer line) n (first_fault answer (n + 1) lines)
