@@ -4,7 +4,7 @@ use Rattle.niss_moves.specs.Places.{Place}
 use Rattle.niss_moves.specs.Facelets.{centre}
 use Rattle.niss_moves.specs.Effects.{effect, effect_of_turns, moved_by, turned, inverse}
 use Rattle.niss_moves.specs.Turn.{same_face}
-use Rattle.niss_moves.specs.Rotations.{face_before, face_before_power, face_before_top, renamed_turn, to_top, about_vertical, spelling}
+use Rattle.niss_moves.specs.Rotations.{face_before, face_before_power, face_before_top, renamed_turn, to_top, about_vertical, spelling, IsRotationOf}
 use Rattle.niss_moves.specs.Faces.{BasicMove, FaceTurn, WholeRotation, token_of_basic, expanded, faces_with, faces}
 use Rattle.niss_moves.specs.RewritingLaws.{CentresComeHome, FacesAreHome}
 use Rattle.niss_moves.specs.declared.axis.Axis.{Axis}
@@ -133,3 +133,8 @@ faces_are_home s home h q =
     let whole : (q : Place) → effect (spelling n.0) (effect_of_turns (faces s) q) ≡ effect (spelling home) (effect s q) = λ q. n.1 (effect_of_turns (faces s) q) ∙ ap (effect (spelling home)) (sym (r.1 q)) in
     let none : n.0 ≡ rotation U None = one_spelling n.0 (rotation U None) (λ f. ap (effect (spelling n.0)) (sym (keep_centre (faces s) f)) ∙ whole (centre f) ∙ h f) in
     sym (whole q) ∙ ap (λ n. effect (spelling n) (effect_of_turns (faces s) q)) none
+
+-- Some rotation moves the six centres as a sequence does.
+pub some_rotation : (s : List Token) → (r : Rotation) × IsRotationOf s r
+some_rotation s =
+    let r = left_by s in (r.0, λ f. sym (r.1 (centre f) ∙ ap (effect (spelling r.0)) (keep_centre (faces s) f)))

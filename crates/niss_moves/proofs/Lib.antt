@@ -26,3 +26,5 @@ pub mod Home
 pub mod RewritingRows
 pub mod MadeLists
 pub mod CanonicalOrder
+pub mod CleanFunction
+pub mod RotationFound

@@ -17,3 +17,4 @@ pub mod Text
 pub mod ReadingLaws
 pub mod EffectLaws
 pub mod CleanText
+pub mod CleanedLine

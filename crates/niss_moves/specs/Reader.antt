@@ -15,11 +15,11 @@ pub record Reader : Type 0 where
   pub fault : Option ReadFault
   pub so_far : State
 
--- what a reader takes the line for, once these bytes follow
+-- the line of what a reader was fed and of these bytes behind it
 unfoldable pub line_with : Reader → List ℕ → Result Moves ReadFault
 line_with reader more = answer_after (state_or reader.fault reader.so_far) more
 
--- These bytes were fed: whatever bytes follow, the reader takes the line for these and those.
+-- These bytes were fed: whatever bytes follow, the reader finds the line of these and those.
 pub record IsFed (reader : Reader) (bytes : List ℕ) : Type 0 where
   pub fed : reader.fed ≡ length bytes
   pub line : (more : List ℕ) → line_with reader more ≡ read_line (bytes ++ more)

@@ -39,7 +39,8 @@ impl Face {
 /// of two neighbours of opposite faces the first is U, R or F. Any turn may stand first.
 pub fn allowed(last: Option<Turn>, turn: Turn) -> bool
     ensures rule { result ≡ may_follow last turn }
-    ensures pair { MatchOption last (IsTrue result) (λ t. IsTrue result ↔ IsCanonical (t ∷ turn ∷ [])) }
+    ensures pair { MatchOption last (IsTrue result)
+        (λ t. IsTrue result ↔ IsCanonical (t ∷ turn ∷ [])) }
 {
     match last {
         None => true,

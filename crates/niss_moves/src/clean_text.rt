@@ -3,6 +3,7 @@ ghost use Rattle.std.specs.Prelude.{◌≡◌, ◌+◌, ◌*◌, ◌≤◌, leng
 ghost use Rattle.arrayvec.specs.ArrayVec.{array_vec_len};
 ghost use Rattle.niss_moves.specs.Text.{with_words};
 ghost use Rattle.niss_moves.specs.CleanText.{turn_words, rotation_words, cleaned_words, is_empty, PutsClean};
+ghost use Rattle.niss_moves.specs.CleanedLine.{with_clean_line};
 
 use crate::cleaning::cleanup;
 use crate::niss::Niss;
@@ -13,7 +14,8 @@ use crate::turn::{Face, Power, Turn};
 #[cfg(test)]
 mod tests;
 
-/// Appends the words of the face turns, with one space before each, but not at the beginning of the text or after `(`.
+/// Appends the words of the face turns, with one space before each word, but not at the beginning of the text or after
+/// `(`. A turn takes at most three bytes.
 pub fn put_faces(turns: &[Turn], text: &mut LineText)
     requires { array_vec_len text.old + 3 * length turns.now ≤ 2048 }
     ensures items { text.new.items ≡ with_words text.old.items (turn_words turns.now) }
@@ -24,7 +26,8 @@ pub fn put_faces(turns: &[Turn], text: &mut LineText)
     }
 }
 
-/// Appends the one spelling of the rotation, as `x2 y2`. The identity has no word.
+/// Appends the one spelling of the rotation, as `x2 y2`, with one space before each word, but not at the beginning of the
+/// text or after `(`. The identity has no word.
 pub fn put_rotation(rotation: Rotation, text: &mut LineText)
     requires { array_vec_len text.old + 6 ≤ 2048 }
     ensures items { text.new.items ≡ with_words text.old.items (rotation_words rotation) }
@@ -50,11 +53,13 @@ fn have_no_word(turns: &[Turn], rotation: Rotation) -> bool
     turns.is_empty() && rotation == Rotation::IDENTITY
 }
 
-/// Appends the cleaned line: the normal face turns and rotation, and then the bracketed ones in a bracket, where any
-/// word of these is left. The normal and the bracketed moves are cleaned each by itself.
+/// Appends the cleaned line, as `R (U2 x)`: the normal face turns and rotation, and then the bracketed ones in a bracket,
+/// where any word of these is left. The normal and the bracketed moves are cleaned each by itself. That takes at most
+/// three bytes for each of 512 face turns, six for each rotation and three for the bracket.
 pub fn put_niss_clean(niss: &Niss, text: &mut LineText)
     requires { array_vec_len text.old + 1600 ≤ 2048 }
     ensures text { PutsClean niss.now text.old.items text.new.items }
+    ensures items { text.new.items ≡ with_clean_line text.old.items niss.now }
     ensures len { array_vec_len text.new ≤ array_vec_len text.old + 1600 }
 {
     let (turns, rotation) = cleanup(niss.normal());

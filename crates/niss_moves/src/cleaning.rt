@@ -68,7 +68,8 @@ fn push_clean(turns: &mut Faces, turn: Turn)
     requires room { array_vec_len turns.old < 512 }
     ensures len { array_vec_len turns.new ≤ array_vec_len turns.old + 1 }
     ensures canonical { IsCanonical turns.new.items }
-    ensures cleans { (rest c : List Turn) → Cleans (turns.new.items ++ rest) c → Cleans (turns.old.items ++ turn ∷ rest) c }
+    ensures cleans { (rest c : List Turn) →
+        Cleans (turns.new.items ++ rest) c → Cleans (turns.old.items ++ turn ∷ rest) c }
 {
     let Some(last) = turns.pop() else {
         turns.push(turn);
@@ -83,15 +84,17 @@ fn push_clean(turns: &mut Faces, turn: Turn)
     }
 }
 
-/// The face turns of a sequence made canonical, and the rotation that is left at its end. Of the face turns, the
-/// leftmost two neighbours that break the order are summed or exchanged as long as there are any.
+/// The face turns of a sequence made canonical, and the rotation that is left at its end. As long as two neighbours break
+/// the order, the leftmost two are summed, where they are of one face, or exchanged: `R L R` is `R2 L`, `U D U'` is `D`.
+/// That the list is the shortest of its effect isn't said.
 pub fn cleanup(tokens: &[Token]) -> (Faces, Rotation)
     requires { length tokens.now ≤ 256 }
     ensures len { array_vec_len result.0 ≤ 2 * length tokens.now }
     ensures clean { Cleans (faces tokens.now) result.0.items }
     ensures canonical { IsCanonical result.0.items }
     ensures rotation { IsRotationOf tokens.now result.1 }
-    ensures effect { (q : Place) → effect_of_turns result.0.items q ≡ effect_of_turns (faces tokens.now) q }
+    ensures effect { (q : Place) →
+        effect_of_turns result.0.items q ≡ effect_of_turns (faces tokens.now) q }
 {
     let (turns, rotation) = to_faces(tokens);
     let mut clean = Faces::new();

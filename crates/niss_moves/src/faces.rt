@@ -14,12 +14,13 @@ use crate::token::{Slice, Token};
 use crate::turn::{Face, Power, Turn};
 use arrayvec::ArrayVec;
 
-/// Face turns: those of a line of 256 moves are at most 512.
+/// Face turns. A line has at most 256 moves, and a move at most two face turns.
 pub type Faces = ArrayVec<Turn, 512>;
 
 /// The rotation of the whole cube that turns as a face does.
 fn rotation_with_face(face: Face, power: Power) -> (Axis, Power)
-    ensures { expanded (token.Wide face power) ≡ FaceTurn (opposite face) power ∷ WholeRotation result.0 result.1 ∷ [] }
+    ensures { expanded (token.Wide face power)
+        ≡ FaceTurn (opposite face) power ∷ WholeRotation result.0 result.1 ∷ [] }
 {
     match face {
         Face::U => (Axis::Ud, power),
@@ -34,7 +35,9 @@ fn rotation_with_face(face: Face, power: Power) -> (Axis, Power)
 /// A slice turn is a turn of this face, the inverse one of the opposite face, and the inverse rotation about this axis.
 fn face_turn_of_slice(slice: Slice, power: Power) -> (Turn, Axis)
     ensures { expanded (token.Slice slice power)
-        ≡ FaceTurn result.0.face result.0.power ∷ FaceTurn (opposite result.0.face) (inverse_power result.0.power) ∷ WholeRotation result.1 (inverse_power result.0.power) ∷ [] }
+        ≡ FaceTurn result.0.face result.0.power
+        ∷ FaceTurn (opposite result.0.face) (inverse_power result.0.power)
+        ∷ WholeRotation result.1 (inverse_power result.0.power) ∷ [] }
 {
     let (face, power, axis) = match slice {
         Slice::M => (Face::R, power, Axis::Rl),
@@ -77,14 +80,15 @@ fn push_move(turns: &mut Faces, rotation: Rotation, token: Token) -> Rotation
     }
 }
 
-/// The face turns of a sequence, with wide turns and slices as face turns and the rotations pushed to the end, and the
-/// rotation that is left there. The effect of the sequence is that of the face turns and then the rotation.
+/// The face turns of a sequence, and the rotation that is left at its end: `Rw U` is `L F` and then `x`. Wide turns and
+/// slices are written as face turns and rotations, and a rotation renames the face turns behind it.
 pub fn to_faces(tokens: &[Token]) -> (Faces, Rotation)
     requires { length tokens.now ≤ 256 }
     ensures len { array_vec_len result.0 ≤ 2 * length tokens.now }
     ensures faces { result.0.items ≡ faces tokens.now }
     ensures rotation { IsRotationOf tokens.now result.1 }
-    ensures effect { (q : Place) → effect tokens.now q ≡ effect (spelling result.1) (effect_of_turns result.0.items q) }
+    ensures effect { (q : Place) →
+        effect tokens.now q ≡ effect (spelling result.1) (effect_of_turns result.0.items q) }
 {
     let mut turns = Faces::new();
     let mut rotation = Rotation::IDENTITY;

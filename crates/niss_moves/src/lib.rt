@@ -10,9 +10,15 @@
 //!
 //! A line that comes in pieces goes into a `LineReader`, byte by byte. No call takes memory.
 //!
+//! Any sequence is face turns and one rotation behind them (`to_faces`), and the face turns are made canonical (`cleanup`):
+//!
+//!     let mut text = LineText::new();
+//!     put_niss_clean(&read(b"Rw U")?, &mut text); // L F x
+//!
 //! Contracts speak of moves by what they do to the 54 sticker places (`specs/Places`, `specs/Effects`), and of lines by
-//! their grammar and their faults (`specs/Notation`, `specs/Line`, `specs/Faults`). What follows from these
-//! definitions alone stands in `reading_laws` and `effect_laws`, as functions that do nothing.
+//! their grammar and their faults (`specs/Notation`, `specs/Line`, `specs/Faults`); of face turns by `specs/Rotations`,
+//! `specs/Faces`, `specs/Canonical` and `specs/Cleaning`. What follows from these definitions alone stands in
+//! `reading_laws`, `rewriting_laws` and `effect_laws`, as functions that do nothing.
 #![tactic(auto)]
 
 pub mod axis;

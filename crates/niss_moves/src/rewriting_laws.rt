@@ -1,5 +1,6 @@
 //! Laws of rotations, canonical sequences and cleaning: each is the contract of a function that does nothing.
 ghost use Rattle.niss_moves.specs.RewritingLaws.{OneSpelling, ExpandsAlike, RenamesAboutAxis, RenamesByRotation, CentresComeHome, FacesAreHome, CanonicalMembers, CanonicalInOrder, CleaningEnds, OneCleanList, CanonicalStays, RewritingLowers};
+ghost use Rattle.niss_moves.specs.CleanedLine.{CleanTurnsAreClean, RotationIsLeft};
 
 /// Two rotations that move the six centres alike are one. So each of the 24 has one spelling.
 pub fn one_spelling()
@@ -40,4 +41,10 @@ pub fn cleaning_ends()
 pub fn one_clean_list()
     ensures one { OneCleanList }
     ensures stays { CanonicalStays }
+{}
+
+/// Cleaning and the rotation that is left are the functions `clean_turns` and `rotation_left`.
+pub fn cleaned_lines()
+    ensures turns { CleanTurnsAreClean }
+    ensures rotation { RotationIsLeft }
 {}

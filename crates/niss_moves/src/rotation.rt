@@ -6,14 +6,14 @@ ghost use Rattle.niss_moves.specs.declared.turn.Face.TheVariants.{F};
 use crate::axis::Axis;
 use crate::turn::{Face, Power, Turn};
 
-/// One of the 24 rotations of the whole cube. Each value is another one, spelled by the rotation that brings `top` to
-/// the top (none for U, `x` for F, `x2` for D, `x'` for B, `z` for L, `z'` for R), and then the turn about the vertical
-/// axis (`y`, `y2`, `y'` or none).
+/// One of the 24 rotations of the whole cube (WCA Regulations, article 12). Each value is another rotation. It is spelled
+/// by the rotation that brings `top` to the top (none for U, `x` for F, `x2` for D, `x'` for B, `z` for L, `z'` for R)
+/// and then the one about the vertical axis (`y`, `y2`, `y'` or none).
 #[derive(Clone, Copy, Debug, PartialEq, Eq)]
 pub struct Rotation {
     /// The face that comes to the top.
     pub top: Face,
-    /// The turn about the vertical axis that follows.
+    /// The rotation about the vertical axis that follows.
     pub vertical: Option<Power>,
 }
 
@@ -66,7 +66,7 @@ fn face_before_top(top: Face, face: Face) -> Face
     }
 }
 
-/// The turn about the vertical axis that brings `front` to the front, once `top` is at the top.
+/// The rotation about the vertical axis that brings `front` to the front, once `top` is at the top.
 fn vertical_turn(top: Face, front: Face) -> Option<Power>
     requires { IsTrue (is_beside top front) }
     ensures { face_before (record { top = top; vertical = result }) F ≡ front }
@@ -95,7 +95,7 @@ impl Rotation {
         vertical: None,
     };
 
-    /// The face that this rotation brings to the place of `face`.
+    /// The face that this rotation brings to the place of `face`: `x` brings F to the place of U.
     pub fn face_before(self, face: Face) -> Face
         ensures { result ≡ face_before self face }
     {
@@ -106,7 +106,7 @@ impl Rotation {
         face_before_top(self.top, face)
     }
 
-    /// This rotation and then `turn` is the answer and then this rotation.
+    /// This rotation and then `turn` is the answer and then this rotation: `x U` is `F x`.
     pub(crate) fn turn_before(self, turn: Turn) -> Turn
         ensures { result ≡ renamed_turn (face_before self) turn }
     {
@@ -116,10 +116,12 @@ impl Rotation {
         }
     }
 
-    /// This rotation and then one about an axis.
+    /// This rotation and then one about an axis, as one rotation: `z` and then `z` is `x2 y2`.
     pub fn then(self, axis: Axis, power: Power) -> Rotation
-        ensures effect { (q : Place) → effect (spelling result) q ≡ moved_by (token.Rotation axis power) (effect (spelling self) q) }
-        ensures faces { (f : Face) → face_before result f ≡ face_before self (face_before_power axis power f) }
+        ensures effect { (q : Place) →
+            effect (spelling result) q ≡ moved_by (token.Rotation axis power) (effect (spelling self) q) }
+        ensures faces { (f : Face) →
+            face_before result f ≡ face_before self (face_before_power axis power f) }
     {
         let top = self.face_before(axis.face_before(power, Face::U));
         let front = self.face_before(axis.face_before(power, Face::F));

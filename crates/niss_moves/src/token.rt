@@ -1,3 +1,4 @@
+//! The moves of a line.
 ghost use Rattle.std.specs.Prelude.{◌≡◌};
 ghost use Rattle.niss_moves.specs.Effects.{inverse_token};
 
@@ -23,6 +24,13 @@ pub enum Token {
 
 /// The turn `U`, which fills the unused cells of a sequence of bounded length.
 impl Default for Token {
+    ghost use Rattle.std.specs.Prelude.{◌≡◌};
+    ghost use Rattle.niss_moves.specs.declared.token.Token.TheVariants as token;
+    ghost use Rattle.niss_moves.specs.declared.turn.Face.TheVariants.{U};
+    ghost use Rattle.niss_moves.specs.declared.turn.Power.TheVariants.{Quarter};
+
+    ghost is_default = { λ t. t ≡ token.Face (record { face = U; power = Quarter }) };
+
     fn default() -> Token {
         Token::Face(Turn::default())
     }

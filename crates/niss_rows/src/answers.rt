@@ -1,4 +1,5 @@
 use crate::runs::{Run, USAGE};
+use std::alloc::{AllocError, Global};
 use std::test::Fail;
 
 #[test]
@@ -85,19 +86,112 @@ fn unniss(rt: HostRuntime) -> Result<(), Fail> {
 }
 
 #[test]
+fn cleanup(rt: HostRuntime) -> Result<(), Fail> {
+    let runs = [
+        Run::good(&["cleanup", "Rw U"], b"", "L F x\n"),
+        Run::good(&["cleanup", "r U"], b"", "L F x\n"),
+        Run::good(&["cleanup", "M"], b"", "R L' x'\n"),
+        Run::good(&["cleanup", "z z"], b"", "x2 y2\n"),
+        Run::good(&["cleanup", "x y x'"], b"", "z\n"),
+        Run::good(&["cleanup", "U D U'"], b"", "D\n"),
+        Run::good(&["cleanup", "R L R"], b"", "R2 L\n"),
+        Run::good(&["cleanup", "F F F F"], b"", "\n"),
+        Run::good(&["cleanup", "R (U U) R'"], b"", "(U2)\n"),
+        Run::good(&["cleanup", "x (y)"], b"", "x (y)\n"),
+        Run::good(&["cleanup", "R (U2 x)"], b"", "R (U2 x)\n"),
+        Run::good(&["cleanup", "D U D'"], b"", "U\n"),
+        Run::good(&["cleanup", "R2'"], b"", "R2\n"),
+    ];
+    for case in runs {
+        case.check(&rt, rt.alloc())?;
+    }
+    Ok(())
+}
+
+// the superflip, by a sequence of 20 turns
+const SUPERFLIP: &str = "U R2 F B R B2 R U2 L B2 R U' D' R2 F R' L B2 U2 F2";
+
+#[test]
+fn print(rt: HostRuntime) -> Result<(), Fail> {
+    let runs = [
+        Run::good(
+            &["print", "R"],
+            b"",
+            "UUFUUFUUFRRRRRRRRRFFDFFDFFDDDBDDBDDBLLLLLLLLLUBBUBBUBB\n",
+        ),
+        Run::good(
+            &["print", "x"],
+            b"",
+            "FFFFFFFFFRRRRRRRRRDDDDDDDDDBBBBBBBBBLLLLLLLLLUUUUUUUUU\n",
+        ),
+        Run::good(
+            &["print", "M"],
+            b"",
+            "UBUUBUUBURRRRRRRRRFUFFUFFUFDFDDFDDFDLLLLLLLLLBDBBDBBDB\n",
+        ),
+        Run::good(
+            &["print", ""],
+            b"",
+            "UUUUUUUUURRRRRRRRRFFFFFFFFFDDDDDDDDDLLLLLLLLLBBBBBBBBB\n",
+        ),
+        Run::good(
+            &["print", "M2 E2 S2"],
+            b"",
+            "UDUDUDUDURLRLRLRLRFBFBFBFBFDUDUDUDUDLRLRLRLRLBFBFBFBFB\n",
+        ),
+        Run::good(
+            &["print", SUPERFLIP],
+            b"",
+            "UBULURUFURURFRBRDRFUFLFRFDFDFDLDRDBDLULBLFLDLBUBRBLBDB\n",
+        ),
+    ];
+    for case in runs {
+        case.check(&rt, rt.alloc())?;
+    }
+    Ok(())
+}
+
+/// This many turns `U`.
+fn turns(alloc: Global, count: u32) -> Result<String, AllocError> {
+    let mut moves = String::new(alloc);
+    for _ in 0..count {
+        moves.push('U')?;
+    }
+    Ok(moves)
+}
+
+#[test]
 fn most_moves(rt: HostRuntime) -> Result<(), Fail> {
     let alloc = rt.alloc();
-    let mut moves = String::new(alloc);
+    let moves = turns(alloc, 256)?;
     let mut inverses = String::new(alloc);
     for count in 0..256u32 {
-        moves.push('U')?;
         inverses.push_str(if count == 0 { "U'" } else { " U'" })?;
     }
     inverses.push('\n')?;
     Run::good(&["invert", moves.as_str()], b"", inverses.as_str()).check(&rt, alloc)?;
+    Ok(())
+}
 
-    moves.push('U')?;
-    let error = "nissy: line 1, column 257: more than 256 moves\n";
-    Run::fault(&["invert", moves.as_str()], error, 1).check(&rt, alloc)?;
+#[test]
+fn most_moves_cleaned(rt: HostRuntime) -> Result<(), Fail> {
+    let moves = turns(rt.alloc(), 256)?;
+    Run::good(&["cleanup", moves.as_str()], b"", "\n").check(&rt, rt.alloc())?;
+    Ok(())
+}
+
+const TOO_MANY: &str = "nissy: line 1, column 257: more than 256 moves\n";
+
+#[test]
+fn too_many_moves(rt: HostRuntime) -> Result<(), Fail> {
+    let moves = turns(rt.alloc(), 257)?;
+    Run::fault(&["invert", moves.as_str()], TOO_MANY, 1).check(&rt, rt.alloc())?;
+    Ok(())
+}
+
+#[test]
+fn too_many_moves_cleaned(rt: HostRuntime) -> Result<(), Fail> {
+    let moves = turns(rt.alloc(), 257)?;
+    Run::fault(&["cleanup", moves.as_str()], TOO_MANY, 1).check(&rt, rt.alloc())?;
     Ok(())
 }

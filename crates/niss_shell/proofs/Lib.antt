@@ -2,6 +2,7 @@ pub mod CutLemmas
 pub mod DeviceLemmas
 pub mod DigitLemmas
 pub mod LinesLemmas
+pub mod FaceletLemmas
 pub mod EngineLemmas
 pub mod AnswerLemmas
 pub mod RunLemmas

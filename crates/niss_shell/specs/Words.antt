@@ -1,9 +1,10 @@
 -- The words of a command line.
 use Rattle.std.specs.Prelude.{ℕ, nat_le, if◌then◌else◌, bytes_eq, codes, Bool, true, false, Result, Ok, Err, List, [], ◌∷◌, ◌++◌, length, map, flat_map, string_bytes}
+use Rattle.niss_shell.specs.Lines.{line_feed, space}
 use Rattle.niss_shell.specs.declared.command.UsageFault.{UsageFault}
 use Rattle.niss_shell.specs.declared.command.UsageFault.TheVariants.{NoCommand, UnknownCommand}
 use Rattle.niss_shell.specs.declared.command.LineCommand.{LineCommand}
-use Rattle.niss_shell.specs.declared.command.LineCommand.TheVariants.{Invert, Unniss}
+use Rattle.niss_shell.specs.declared.command.LineCommand.TheVariants.{Invert, Unniss, Cleanup, Print}
 use Rattle.niss_shell.specs.declared.command.Command.{Command}
 use Rattle.niss_shell.specs.declared.command.Command.TheVariants as command
 
@@ -20,6 +21,8 @@ abbrev pub request_named : List ℕ → List (List ℕ) → Result Request Usage
 request_named name rest =
     if bytes_eq name (codes "invert") then Ok (OnLines Invert rest)
     else if bytes_eq name (codes "unniss") then Ok (OnLines Unniss rest)
+    else if bytes_eq name (codes "cleanup") then Ok (OnLines Cleanup rest)
+    else if bytes_eq name (codes "print") then Ok (OnLines Print rest)
     else Err UnknownCommand
 
 -- what the words ask for, or their first fault
@@ -31,14 +34,16 @@ request_of (name ∷ rest) = request_named name rest
 abbrev pub requested : Command → Request
 requested (command.Invert rest) = OnLines Invert (map string_bytes rest.now)
 requested (command.Unniss rest) = OnLines Unniss (map string_bytes rest.now)
+requested (command.Cleanup rest) = OnLines Cleanup (map string_bytes rest.now)
+requested (command.Print rest) = OnLines Print (map string_bytes rest.now)
+
+abbrev pub spaced_word : List ℕ → List ℕ
+spaced_word word = space ∷ word
 
 -- the words with single spaces, and a line feed behind them
-abbrev pub spaced_word : List ℕ → List ℕ
-spaced_word word = 32 ∷ word
-
 abbrev pub joined : List (List ℕ) → List ℕ
-joined [] = 10 ∷ []
-joined (word ∷ words) = word ++ flat_map spaced_word words ++ 10 ∷ []
+joined [] = line_feed ∷ []
+joined (word ∷ words) = word ++ flat_map spaced_word words ++ line_feed ∷ []
 
 -- The input comes from the source.
 abbrev pub reads_source : Result Request UsageFault → Bool

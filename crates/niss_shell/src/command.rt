@@ -15,6 +15,8 @@ pub enum UsageFault {
 pub enum LineCommand {
     Invert,
     Unniss,
+    Cleanup,
+    Print,
 }
 
 /// A command. The words that it lends are the input; where there are none, the input comes from the source.
@@ -24,6 +26,10 @@ pub enum Command<'a> {
     Invert(&'a [String]),
     /// Each line without brackets: its normal moves, and then the inverse of its bracketed ones.
     Unniss(&'a [String]),
+    /// Each line as canonical face turns and a rotation, the normal and the bracketed moves each by itself.
+    Cleanup(&'a [String]),
+    /// The facelet text of each line.
+    Print(&'a [String]),
 }
 
 /// The command that the words name, or their first fault.
@@ -35,9 +41,11 @@ pub fn parse_words(words: &[String]) -> Result<Command<'_>, UsageFault>
     let Some((name, rest)) = words.split_first() else {
         return Err(UsageFault::NoCommand);
     };
-    match name.as_bytes() {
-        b"invert" => Ok(Command::Invert(rest)),
-        b"unniss" => Ok(Command::Unniss(rest)),
+    match name.as_str() {
+        "invert" => Ok(Command::Invert(rest)),
+        "unniss" => Ok(Command::Unniss(rest)),
+        "cleanup" => Ok(Command::Cleanup(rest)),
+        "print" => Ok(Command::Print(rest)),
         _ => Err(UsageFault::UnknownCommand),
     }
 }

@@ -1,7 +1,7 @@
 ghost use Rattle.std.specs.Prelude.{◌≡◌, decimal, ◌+◌, ◌++◌, ◌≤◌, length};
 ghost use Rattle.niss_shell.specs.Output.{error_text, status_of, fault_column, fault_text, line_fault_text};
 
-use crate::decimal::put_number;
+use crate::text::{put_number, put_text};
 use niss_moves::{LineText, ReadFault};
 
 /// How a run ends.
@@ -14,16 +14,6 @@ pub enum Stop {
     CannotRead,
     CannotWrite,
     OutOfMemory,
-}
-
-fn put_text(part: &[u8], text: &mut LineText)
-    requires { length text.old.items + length part.now ≤ 2048 }
-    ensures words { text.new.items ≡ text.old.items ++ part.now }
-    ensures room { length text.new.items ≡ length text.old.items + length part.now }
-{
-    for byte in part {
-        text.push(*byte);
-    }
 }
 
 fn column_of(fault: ReadFault) -> u32

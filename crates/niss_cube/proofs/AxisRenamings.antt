@@ -1,0 +1,130 @@
+-- The cubies, the maps and the turns of the cube as it is renamed for a coordinate on an axis.
+use Rattle.std.proofs.Common.{◌≡◌, refl, Bool, true, ◌&&◌, ap}
+use Rattle.std.specs.List.{list_all}
+use Rattle.niss_moves.specs.Places.{Place, is_place, same_place, SameMap}
+use Rattle.niss_moves.specs.declared.axis.Axis.TheVariants.{Rl, Ud, Fb}
+use Rattle.niss_moves.specs.declared.turn.Face.{Face}
+use Rattle.niss_moves.specs.declared.turn.Turn.{Turn}
+use Rattle.niss_moves.specs.declared.turn.Power.{Power}
+use Rattle.niss_moves.specs.declared.turn.Power.TheVariants.{Quarter, Half, Counter}
+use Rattle.niss_moves.specs.declared.axis.Axis.{Axis}
+use Rattle.niss_cube.specs.declared.renaming.Renaming.TheVariants.{XCounter, XQuarter, YQuarter, ZCounter}
+use Rattle.niss_moves.specs.Facelets.{places}
+use Rattle.niss_cube.specs.Coordinates.{for_flip, for_twist, spun}
+use Rattle.niss_moves.specs.Effects.{turned}
+use Rattle.niss_cube.proofs.CubieLists.{CubieLists}
+use Rattle.niss_moves.specs.Turn.{inverse_turn}
+use Rattle.niss_cube.specs.RenamedTurns.{turn_for_flip, turn_for_twist}
+use Rattle.niss_cube.proofs.Each.{and_left, and_right, same_place-is, at_place}
+use Rattle.niss_cube.proofs.PlaceTables.{all_faces, at_face}
+use Rattle.niss_cube.proofs.RenamingTables.{keeps_kinds}
+use Rattle.niss_cube.proofs.ListTurns.{Valid, map_lists, renamed_cubies, renamed_cubies-valid, renamed_lists-map}
+
+abbrev pub all_powers : (Power → Bool) → Bool
+all_powers t = t Quarter && (t Half && t Counter)
+
+pub at_power : (t : Power → Bool) → all_powers t ≡ true → (p : Power) → t p ≡ true
+at_power t h Quarter = and_left _ _ h
+at_power t h Half = and_left _ _ (and_right (t Quarter) _ h)
+at_power t h Counter = and_right (t Half) _ (and_right (t Quarter) _ h)
+
+abbrev turn_of : Face → Power → Turn
+turn_of f p = record { face = f; power = p }
+
+abbrev pub all_turns : (Turn → Bool) → Bool
+all_turns t = all_faces (λ f. all_powers (λ p. t (turn_of f p)))
+
+-- a test of each turn holds at each
+pub at_turn : (t : Turn → Bool) → all_turns t ≡ true → (s : Turn) → t s ≡ true
+at_turn t h s = at_power (λ p. t (turn_of s.face p)) (at_face (λ f. all_powers (λ p. t (turn_of f p))) h s.face) s.power
+
+abbrev pub KeepsPlaces : (Place → Place) → Type 0
+KeepsPlaces e = (q : Place) → is_place q ≡ true → is_place (e q) ≡ true
+
+-- how the cube is renamed for a coordinate on each axis: its map, its turns and its cubies
+pub record IsRenaming (renamed_for : Axis → (Place → Place) → Place → Place) (turn_for : Axis → Turn → Turn) (cubies_for : Axis → CubieLists → CubieLists) : Type 0 where
+  pub valid : (a : Axis) (c : CubieLists) → Valid c → Valid (cubies_for a c)
+  pub map_is : (a : Axis) (c : CubieLists) → Valid c → SameMap (map_lists (cubies_for a c)) (renamed_for a (map_lists c))
+  pub same : (a : Axis) (d e : Place → Place) → SameMap d e → SameMap (renamed_for a d) (renamed_for a e)
+  pub turned_is : (a : Axis) (t : Turn) (e : Place → Place) → KeepsPlaces e → SameMap (renamed_for a (λ q. turned t (e q))) (λ q. turned (turn_for a t) (renamed_for a e q))
+  pub back_is : (a : Axis) (t : Turn) → turn_for a (inverse_turn t) ≡ inverse_turn (turn_for a t)
+
+-- under a renaming a turn becomes that of the face to which the face is brought
+abbrev renamed_turn_test : (Turn → Turn) → (Place → Place) → Bool
+renamed_turn_test renamed rotated = all_turns (λ t. list_all (λ q. same_place (rotated (turned t q)) (turned (renamed t) (rotated q))) places)
+
+renamed-turn : (renamed : Turn → Turn) (rotated : Place → Place) → renamed_turn_test renamed rotated ≡ true → (t : Turn) (q : Place) → is_place q ≡ true → rotated (turned t q) ≡ turned (renamed t) (rotated q)
+renamed-turn renamed rotated h t q p =
+    same_place-is _ _
+    (at_place (λ q. same_place (rotated (turned t q)) (turned (renamed t) (rotated q)))
+    (at_turn (λ t. list_all (λ q. same_place (rotated (turned t q)) (turned (renamed t) (rotated q))) places) h t) q p)
+
+-- the cubies as the flip on an axis is read from them
+abbrev pub cubies_for_flip : Axis → CubieLists → CubieLists
+cubies_for_flip Ud c = renamed_cubies XCounter c
+cubies_for_flip Rl c = renamed_cubies YQuarter c
+cubies_for_flip Fb c = c
+
+pub cubies_for_flip-valid : (a : Axis) (c : CubieLists) → Valid c → Valid (cubies_for_flip a c)
+cubies_for_flip-valid Ud c v = renamed_cubies-valid XCounter c v
+cubies_for_flip-valid Rl c v = renamed_cubies-valid YQuarter c v
+cubies_for_flip-valid Fb c v = v
+
+pub cubies_for_flip-map : (a : Axis) (c : CubieLists) → Valid c → SameMap (map_lists (cubies_for_flip a c)) (for_flip a (map_lists c))
+cubies_for_flip-map Ud c v = renamed_lists-map XCounter c v
+cubies_for_flip-map Rl c v = renamed_lists-map YQuarter c v
+cubies_for_flip-map Fb c v = λ q p. refl
+
+renamed_flip_ud : renamed_turn_test (turn_for_flip Ud) (spun Rl 3) ≡ true
+renamed_flip_ud = refl
+
+renamed_flip_rl : renamed_turn_test (turn_for_flip Rl) (spun Ud 1) ≡ true
+renamed_flip_rl = refl
+
+for_flip-turned : (a : Axis) (t : Turn) (e : Place → Place) → KeepsPlaces e → SameMap (for_flip a (λ q. turned t (e q))) (λ q. turned (turn_for_flip a t) (for_flip a e q))
+for_flip-turned Ud t e keep = λ q p. renamed-turn (turn_for_flip Ud) (spun Rl 3) renamed_flip_ud t (e (spun Rl 1 q)) (keep (spun Rl 1 q) (keeps_kinds XCounter q p).home_place)
+for_flip-turned Rl t e keep = λ q p. renamed-turn (turn_for_flip Rl) (spun Ud 1) renamed_flip_rl t (e (spun Ud 3 q)) (keep (spun Ud 3 q) (keeps_kinds YQuarter q p).home_place)
+for_flip-turned Fb t e keep = λ q p. refl
+
+for_flip-same : (a : Axis) (d e : Place → Place) → SameMap d e → SameMap (for_flip a d) (for_flip a e)
+for_flip-same Ud d e s = λ q p. ap (spun Rl 3) (s (spun Rl 1 q) (keeps_kinds XCounter q p).home_place)
+for_flip-same Rl d e s = λ q p. ap (spun Ud 1) (s (spun Ud 3 q) (keeps_kinds YQuarter q p).home_place)
+for_flip-same Fb d e s = s
+
+pub flip_renaming : IsRenaming for_flip turn_for_flip cubies_for_flip
+flip_renaming = record { valid = cubies_for_flip-valid; map_is = cubies_for_flip-map; same = for_flip-same; turned_is = for_flip-turned; back_is = λ a t. refl }
+
+-- the cubies as the twist and the slice on an axis are read from them
+abbrev pub cubies_for_twist : Axis → CubieLists → CubieLists
+cubies_for_twist Ud c = c
+cubies_for_twist Rl c = renamed_cubies ZCounter c
+cubies_for_twist Fb c = renamed_cubies XQuarter c
+
+pub cubies_for_twist-valid : (a : Axis) (c : CubieLists) → Valid c → Valid (cubies_for_twist a c)
+cubies_for_twist-valid Ud c v = v
+cubies_for_twist-valid Rl c v = renamed_cubies-valid ZCounter c v
+cubies_for_twist-valid Fb c v = renamed_cubies-valid XQuarter c v
+
+pub cubies_for_twist-map : (a : Axis) (c : CubieLists) → Valid c → SameMap (map_lists (cubies_for_twist a c)) (for_twist a (map_lists c))
+cubies_for_twist-map Ud c v = λ q p. refl
+cubies_for_twist-map Rl c v = renamed_lists-map ZCounter c v
+cubies_for_twist-map Fb c v = renamed_lists-map XQuarter c v
+
+renamed_twist_rl : renamed_turn_test (turn_for_twist Rl) (spun Fb 3) ≡ true
+renamed_twist_rl = refl
+
+renamed_twist_fb : renamed_turn_test (turn_for_twist Fb) (spun Rl 1) ≡ true
+renamed_twist_fb = refl
+
+for_twist-turned : (a : Axis) (t : Turn) (e : Place → Place) → KeepsPlaces e → SameMap (for_twist a (λ q. turned t (e q))) (λ q. turned (turn_for_twist a t) (for_twist a e q))
+for_twist-turned Ud t e keep = λ q p. refl
+for_twist-turned Rl t e keep = λ q p. renamed-turn (turn_for_twist Rl) (spun Fb 3) renamed_twist_rl t (e (spun Fb 1 q)) (keep (spun Fb 1 q) (keeps_kinds ZCounter q p).home_place)
+for_twist-turned Fb t e keep = λ q p. renamed-turn (turn_for_twist Fb) (spun Rl 1) renamed_twist_fb t (e (spun Rl 3 q)) (keep (spun Rl 3 q) (keeps_kinds XQuarter q p).home_place)
+
+for_twist-same : (a : Axis) (d e : Place → Place) → SameMap d e → SameMap (for_twist a d) (for_twist a e)
+for_twist-same Ud d e s = s
+for_twist-same Rl d e s = λ q p. ap (spun Fb 3) (s (spun Fb 1 q) (keeps_kinds ZCounter q p).home_place)
+for_twist-same Fb d e s = λ q p. ap (spun Rl 1) (s (spun Rl 3 q) (keeps_kinds XQuarter q p).home_place)
+
+pub twist_renaming : IsRenaming for_twist turn_for_twist cubies_for_twist
+twist_renaming = record { valid = cubies_for_twist-valid; map_is = cubies_for_twist-map; same = for_twist-same; turned_is = for_twist-turned; back_is = λ a t. refl }

@@ -1,0 +1,69 @@
+-- The steps of the number of a slice.
+use Rattle.std.proofs.Common.{◌≡◌, ℕ, zero, suc, ◌+◌, ◌-◌, ◌<◌, ◌≤◌, refl, sym, ◌∙◌, ap, List, [], ◌∷◌, length, get_or, drop, Bool, true, false, arith}
+use Rattle.std.specs.Prelude.{nat_le, ◌==◌}
+use Rattle.std.proofs.lemmas.Bool.{eqb-true, le-leb, leb-true, false_from_ne_true}
+use Rattle.std.proofs.Math.Seq.{drop-cons}
+use Rattle.std.proofs.lemmas.List.{length-drop}
+use Rattle.niss_cube.specs.Coordinates.{choose, rank}
+use Rattle.niss_cube.specs.declared.slice_places.TheConstants.{CHOICES}
+use Rattle.niss_cube.proofs.PlaceTables.{all_below, at_below}
+use Rattle.niss_cube.proofs.CoordinateValues.{slice_occupied, slice_occupied-length, slice_occupied-at}
+
+choices_test : all_below 12 (λ n. all_below 4 (λ k. get_or (get_or CHOICES n []) k 0 == choose n k)) ≡ true
+choices_test = refl
+
+pub choices-are : (n k : ℕ) → n < 12 → k < 4 → get_or (get_or CHOICES n []) k 0 ≡ choose n k
+choices-are n k ln lk =
+    eqb-true _ _ (at_below 4 (λ k. get_or (get_or CHOICES n []) k 0 == choose n k)
+    (at_below 12 (λ n. all_below 4 (λ k. get_or (get_or CHOICES n []) k 0 == choose n k)) choices_test n ln) k lk)
+
+lt-leb_false : (a b : ℕ) → b < a → nat_le a b ≡ false
+lt-leb_false a b h = false_from_ne_true (nat_le a b) (λ e. let l : a ≤ b = leb-true a b e in omega arith)
+
+rank-zero : (os : List Bool) → rank os 0 ≡ 0
+rank-zero [] = refl
+rank-zero (o ∷ os) = refl
+
+module _ (edges : List ℕ) (l : length edges ≡ 12) (met n : ℕ) (lm : met < 12) where
+  next : drop met (slice_occupied edges) ≡ nat_le 8 (get_or edges (11 - met) 0) ∷ drop (suc met) (slice_occupied edges)
+  next =
+      drop-cons (slice_occupied edges) met false (omega (arith, slice_occupied-length edges l))
+      ∙ ap (λ b. b ∷ drop (suc met) (slice_occupied edges)) (slice_occupied-at edges l met lm)
+
+  left : length (drop (suc met) (slice_occupied edges)) ≡ 11 - met
+  left = omega (arith, length-drop (suc met) (slice_occupied edges), slice_occupied-length edges l)
+
+  step_yes : (w : ℕ) → 8 ≤ get_or edges (11 - met) 0 → rank (drop met (slice_occupied edges)) (suc w) ≡ rank (drop (suc met) (slice_occupied edges)) w
+  step_yes w h =
+      ap (λ os. rank os (suc w)) next
+      ∙ ap (λ b. rank (b ∷ drop (suc met) (slice_occupied edges)) (suc w)) (le-leb 8 (get_or edges (11 - met) 0) h)
+
+  step_no : (w : ℕ) → get_or edges (11 - met) 0 < 8 → rank (drop met (slice_occupied edges)) (suc w) ≡ choose (11 - met) w + rank (drop (suc met) (slice_occupied edges)) (suc w)
+  step_no w h =
+      ap (λ os. rank os (suc w)) next
+      ∙ ap (λ b. rank (b ∷ drop (suc met) (slice_occupied edges)) (suc w)) (lt-leb_false 8 (get_or edges (11 - met) 0) h)
+      ∙ ap (λ k. choose k w + rank (drop (suc met) (slice_occupied edges)) (suc w)) left
+
+  pub counted_yes : (w total : ℕ) → 0 < w → 8 ≤ get_or edges (11 - met) 0 → n + rank (drop met (slice_occupied edges)) w ≡ total → n + rank (drop (met + 1) (slice_occupied edges)) (w - 1) ≡ total
+  counted_yes zero total p h e = absurd (omega arith)
+  counted_yes (suc w) total p h e =
+      ap (λ k. n + rank (drop k (slice_occupied edges)) (suc w - 1)) (let a : met + 1 ≡ suc met = omega arith in a)
+      ∙ ap (λ k. n + rank (drop (suc met) (slice_occupied edges)) k) (let a : suc w - 1 ≡ w = omega arith in a)
+      ∙ ap (λ k. n + k) (sym (step_yes w h)) ∙ e
+
+  pub counted_no : (w total : ℕ) → 0 < w → w ≤ 4 → get_or edges (11 - met) 0 < 8 → n + rank (drop met (slice_occupied edges)) w ≡ total → (n + get_or (get_or CHOICES (11 - met) []) (w - 1) 0) + rank (drop (met + 1) (slice_occupied edges)) w ≡ total
+  counted_no zero total p q h e = absurd (omega arith)
+  counted_no (suc w) total p q h e =
+      let a : met + 1 ≡ suc met = omega arith in
+      let b : suc w - 1 ≡ w = omega arith in
+      let c : get_or (get_or CHOICES (11 - met) []) (suc w - 1) 0 ≡ choose (11 - met) w = ap (λ k. get_or (get_or CHOICES (11 - met) []) k 0) b ∙ choices-are (11 - met) w (omega arith) (omega arith) in
+      let d : rank (drop (met + 1) (slice_occupied edges)) (suc w) ≡ rank (drop (suc met) (slice_occupied edges)) (suc w) = ap (λ k. rank (drop k (slice_occupied edges)) (suc w)) a in
+      omega (arith, step_no w h, c, d, e)
+
+  pub counted_none : (w total : ℕ) → w ≤ 0 → n + rank (drop met (slice_occupied edges)) w ≡ total → n + rank (drop (met + 1) (slice_occupied edges)) w ≡ total
+  counted_none zero total p e = omega (arith, rank-zero (drop met (slice_occupied edges)), rank-zero (drop (met + 1) (slice_occupied edges)), e)
+  counted_none (suc w) total p e = absurd (omega arith)
+
+-- the sum that a loop keeps, at equal parts
+pub kept_sum : (n n' w w' total : ℕ) (os : List Bool) → n' ≡ n → w' ≡ w → n + rank os w ≡ total → n' + rank os w' ≡ total
+kept_sum n n' w w' total os p q e = ap (λ k. k + rank os w') p ∙ ap (λ k. n + rank os k) q ∙ e

@@ -1,0 +1,90 @@
+-- Sums over the numbers below a bound, and over the places of a permutation.
+use Rattle.std.proofs.Common.{◌≡◌, ℕ, zero, suc, ◌+◌, ◌*◌, ◌<◌, ◌≤◌, refl, sym, ◌∙◌, ap, List, [], ◌∷◌, length, get_or, Bool, true, false, cond, arith, inl, inr}
+use Rattle.std.specs.Prelude.{◌==◌}
+use Rattle.std.specs.List.{sum_by}
+use Rattle.std.proofs.lemmas.List.Sums.{sum_by-cons}
+use Rattle.std.proofs.lemmas.Bool.{eqb-true, eq-eqb, false_from_ne_true}
+use Rattle.std.proofs.lemmas.Bool.Decides.{eqb_tells}
+
+abbrev pub below : ℕ → (ℕ → ℕ) → ℕ
+below zero f = 0
+below (suc n) f = below n f + f n
+
+abbrev pub one_if : Bool → ℕ
+one_if b = cond b 1 0
+
+pub below_same : (n : ℕ) (f g : ℕ → ℕ) → ((k : ℕ) → k < n → f k ≡ g k) → below n f ≡ below n g
+below_same zero f g h = refl
+below_same (suc n) f g h =
+    let a : below n f ≡ below n g = below_same n f g (λ k l. h k (omega arith)) in
+    let b : f n ≡ g n = h n (omega arith) in
+    cc
+
+pub below_zero : (n : ℕ) → below n (λ _. 0) ≡ 0
+below_zero zero = refl
+below_zero (suc n) = omega (arith, below_zero n)
+
+pub below_add : (n : ℕ) (f g : ℕ → ℕ) → below n (λ k. f k + g k) ≡ below n f + below n g
+below_add zero f g = refl
+below_add (suc n) f g = omega (arith, below_add n f g)
+
+-- the order of two sums can be changed
+pub below_swap : (n m : ℕ) (f : ℕ → ℕ → ℕ) → below n (λ i. below m (λ j. f i j)) ≡ below m (λ j. below n (λ i. f i j))
+below_swap zero m f = sym (below_zero m)
+below_swap (suc n) m f =
+    ap (λ x. x + below m (λ j. f n j)) (below_swap n m f)
+    ∙ sym (below_add m (λ j. below n (λ i. f i j)) (λ j. f n j))
+
+pub below_times : (n : ℕ) (f : ℕ → ℕ) (c : ℕ) → below n (λ k. f k * c) ≡ below n f * c
+below_times zero f c = omega arith
+below_times (suc n) f c = grind (arith, below_times n f c)
+
+pub eqb-itself : (x : ℕ) → (x == x) ≡ true
+eqb-itself x = eq-eqb x x refl
+
+pub eqb-other : (x y : ℕ) → (x ≡ y → ⊥) → (x == y) ≡ false
+eqb-other x y h = false_from_ne_true (x == y) (λ e. h (eqb-true x y e))
+
+pub one_above : (n x : ℕ) (f : ℕ → ℕ) → n ≤ x → below n (λ h. one_if (x == h) * f h) ≡ 0
+one_above zero x f l = refl
+one_above (suc n) x f l =
+    let e : (x == n) ≡ false = eqb-other x n (λ q. omega arith) in
+    let a : below n (λ h. one_if (x == h) * f h) ≡ 0 = one_above n x f (omega arith) in
+    rw (e, a) (omega arith)
+
+one_of_step : (n x : ℕ) (f : ℕ → ℕ) → x < suc n → (x < n → below n (λ h. one_if (x == h) * f h) ≡ f x) → below n (λ h. one_if (x == h) * f h) + one_if (x == n) * f n ≡ f x
+one_of_step n x f l rest = elim (eqb_tells x n) [
+  | inl w ↦
+      let a : below n (λ h. one_if (x == h) * f h) ≡ 0 = one_above n x f (omega (arith, w.1)) in
+      let e : f n ≡ f x = ap f (sym w.1) in
+      rw (w.0, a) (omega (arith, e))
+  | inr w ↦
+      let a : below n (λ h. one_if (x == h) * f h) ≡ f x = rest (grind (arith, w.1)) in
+      rw (w.0, a) (omega arith)
+]
+
+-- the one term of a sum that a test picks
+pub one_of : (n x : ℕ) (f : ℕ → ℕ) → x < n → below n (λ h. one_if (x == h) * f h) ≡ f x
+one_of zero x f l = absurd (omega arith)
+one_of (suc n) x f l = one_of_step n x f l (λ q. one_of n x f q)
+
+-- What each number below n is taken by once, sums as these numbers do.
+pub below_permuted : (n : ℕ) (home f : ℕ → ℕ) → ((k : ℕ) → k < n → home k < n) → ((h : ℕ) → h < n → below n (λ k. one_if (home k == h)) ≡ 1) → below n (λ k. f (home k)) ≡ below n f
+below_permuted n home f small once =
+    below_same n (λ k. f (home k)) (λ k. below n (λ h. one_if (home k == h) * f h)) (λ k l. sym (one_of n (home k) f (small k l)))
+    ∙ below_swap n n (λ k h. one_if (home k == h) * f h)
+    ∙ below_same n (λ h. below n (λ k. one_if (home k == h) * f h)) f
+    (λ h l.
+    let a : below n (λ k. one_if (home k == h)) ≡ 1 = once h l in
+    let b : below n (λ k. one_if (home k == h) * f h) ≡ below n (λ k. one_if (home k == h)) * f h = below_times n (λ k. one_if (home k == h)) (f h) in
+    b ∙ rw a (omega arith))
+
+pub below_front : (n : ℕ) (f : ℕ → ℕ) → below (suc n) f ≡ f 0 + below n (λ k. f (suc k))
+below_front zero f = omega arith
+below_front (suc n) f = omega (arith, below_front n f)
+
+-- a sum over a list, by its places
+pub sum_by-below : (f : ℕ → ℕ) (xs : List ℕ) → sum_by f xs ≡ below (length xs) (λ k. f (get_or xs k 0))
+sum_by-below f [] = refl
+sum_by-below f (x ∷ xs) =
+    sum_by-cons f x xs ∙ ap (λ n. f x + n) (sum_by-below f xs) ∙ sym (below_front (length xs) (λ k. f (get_or (x ∷ xs) k 0)))

@@ -1,0 +1,79 @@
+-- The steps of the loop that writes the orientations with a number.
+use Rattle.std.proofs.Common.{◌≡◌, ℕ, suc, ◌+◌, ◌-◌, ◌/◌, ◌%◌, ◌<◌, sym, ◌∙◌, ap, subst, List, [], ◌∷◌, ◌++◌, length, set, take, drop, arith, append_assoc}
+use Rattle.std.specs.Prelude.{sum}
+use Rattle.std.proofs.lemmas.List.{length-set, append-nil}
+use Rattle.std.proofs.lemmas.List.Sums.{sum_by-cons}
+use Rattle.std.proofs.lemmas.Grind.{drop-set_at}
+use Rattle.std.proofs.Math.Seq.{take-suc-set, take-length}
+use Rattle.niss_cube.specs.NumberedOrientations.{digits_of_number, orientations_of_number}
+use Rattle.niss_cube.proofs.Orientations.{Base}
+
+-- the last digits of n
+abbrev last_digits : (n met : ℕ) → List ℕ → List ℕ
+last_digits n met xs = take met (drop (n - met) xs)
+
+last_digits-set : (n met : ℕ) (xs : List ℕ) (d : ℕ) → met < n → length xs ≡ suc n → last_digits n (met + 1) (set xs (n - 1 - met) d) ≡ d ∷ last_digits n met xs
+last_digits-set n met xs d h l =
+    ap (λ k. take k (drop (n - (met + 1)) (set xs (n - 1 - met) d))) (let a : met + 1 ≡ suc met = omega arith in a)
+    ∙ ap (take (suc met)) (drop-set_at xs (n - 1 - met) (n - (met + 1)) d (omega arith) (omega arith))
+    ∙ ap (λ k. d ∷ take met (drop k xs)) (let a : (n - 1 - met) + 1 ≡ n - met = omega arith in a)
+
+-- what the loop keeps: the digits still to come and those written are those of the number, and the sum of those written
+pub record Written (b n number met rest total : ℕ) (xs : List ℕ) : Type 0 where
+  pub places : length xs ≡ suc n
+  pub digits : digits_of_number b (n - met) rest ++ last_digits n met xs ≡ digits_of_number b n number
+  pub total_is : sum (last_digits n met xs) % b ≡ total
+
+pub written-start : (b n number : ℕ) → Base b → (xs : List ℕ) → length xs ≡ suc n → Written b n number 0 number 0 xs
+written-start b n number base xs l = record { places = l; digits = append-nil (digits_of_number b (n - 0) number) ∙ ap (λ k. digits_of_number b k number) (let a : n - 0 ≡ n = omega arith in a); total_is = base.none }
+
+pub written-step : (b n number met rest total : ℕ) → Base b → (xs : List ℕ) → met < n → Written b n number met rest total xs → Written b n number (met + 1) (rest / b) ((total + rest % b) % b) (set xs (n - 1 - met) (rest % b))
+written-step b n number met rest total base xs h w =
+    let d : ℕ = rest % b in
+    let e : last_digits n (met + 1) (set xs (n - 1 - met) d) ≡ d ∷ last_digits n met xs = last_digits-set n met xs d h w.places in
+    record {
+      places = length-set xs (n - 1 - met) d ∙ w.places;
+      digits =
+          ap (λ ys. digits_of_number b (n - (met + 1)) (rest / b) ++ ys) e
+          ∙ sym (append_assoc (digits_of_number b (n - (met + 1)) (rest / b)) (d ∷ []) (last_digits n met xs))
+          ∙ ap (λ k. digits_of_number b k rest ++ last_digits n met xs) (let a : suc (n - (met + 1)) ≡ n - met = omega arith in a)
+          ∙ w.digits;
+      total_is =
+          ap (λ ys. sum ys % b) e
+          ∙ ap (λ k. k % b) (sum_by-cons (λ x. x) d (last_digits n met xs))
+          ∙ base.added (sum (last_digits n met xs)) d
+          ∙ ap (λ k. (k + d) % b) w.total_is;
+    }
+
+-- the same at other names of the base
+pub written-step-at : (b n number met rest total u v : ℕ) → Base b → (xs : List ℕ) → met < n → u ≡ b → v ≡ b → Written b n number met rest total xs → Written b n number (met + 1) (rest / v) ((total + rest % u) % b) (set xs (n - 1 - met) (rest % u))
+written-step-at b n number met rest total u v base xs h p q w =
+    let P : ℕ → Type 0 = λ k. Written b n number (met + 1) (rest / v) ((total + rest % k) % b) (set xs (n - 1 - met) (rest % k)) in
+    let Q : ℕ → Type 0 = λ k. Written b n number (met + 1) (rest / k) ((total + rest % b) % b) (set xs (n - 1 - met) (rest % b)) in
+    subst P (sym p) (subst Q (sym q) (written-step b n number met rest total base xs h w))
+
+set_last : (n : ℕ) (xs : List ℕ) (d : ℕ) → length xs ≡ suc n → set xs n d ≡ take n xs ++ d ∷ []
+set_last n xs d l =
+    sym (take-length (set xs n d))
+    ∙ ap (λ k. take k (set xs n d)) (length-set xs n d ∙ l)
+    ∙ take-suc-set xs n d (omega arith)
+
+pub written-end : (b n number met rest total : ℕ) (xs : List ℕ) → met ≡ n → Written b n number met rest total xs → set xs n ((b - total) % b) ≡ orientations_of_number b n number
+written-end b n number met rest total xs e w =
+    let none : n - met ≡ 0 = omega arith in
+    let all : take n xs ≡ digits_of_number b n number =
+    ap (λ k. take k xs) (sym e)
+    ∙ ap (λ k. take met (drop k xs)) (sym none)
+    ∙ ap (λ k. digits_of_number b k rest ++ last_digits n met xs) (sym none)
+    ∙ w.digits in
+    let total_of : total ≡ sum (digits_of_number b n number) % b =
+    sym w.total_is
+    ∙ ap (λ k. sum (take met (drop k xs)) % b) none
+    ∙ ap (λ k. sum (take k xs) % b) e
+    ∙ ap (λ ys. sum ys % b) all in
+    set_last n xs ((b - total) % b) w.places
+    ∙ ap (λ ys. ys ++ ((b - total) % b) ∷ []) all
+    ∙ ap (λ k. digits_of_number b n number ++ ((b - k) % b) ∷ []) total_of
+
+pub total-small : (b n number met rest total : ℕ) → Base b → (xs : List ℕ) → Written b n number met rest total xs → total < b
+total-small b n number met rest total base xs w = let s : sum (last_digits n met xs) % b < b = base.small (sum (last_digits n met xs)) in omega (arith, w.total_is, s)

@@ -1,0 +1,25 @@
+-- A cube as a map of the sticker places.
+use Rattle.std.specs.Prelude.{ℕ, ◌+◌, ◌%◌, ◌==◌, if◌then◌else◌, List, slice_index}
+use Rattle.std.specs.List.{list_any}
+use Rattle.niss_moves.specs.Places.{Place, same_place, is_corner, is_edge}
+use Rattle.niss_cube.specs.CubieFacelets.{index_in, row_at, facelet_at, corner_facelets, edge_facelets}
+use Rattle.niss_cube.specs.declared.cube.Cube.{Cube}
+
+-- Where the sticker that began at p stands: p is facelet k of the home of cubie h, which stands at place n.
+abbrev pub sticker_place : (facelets : ℕ) → List (List Place) → (homes orientations : List ℕ) → Place → Place
+sticker_place facelets rows homes orientations p =
+    let h : ℕ = index_in (λ row. list_any (same_place p) row) rows in
+    let k : ℕ = index_in (same_place p) (row_at rows h) in
+    let n : ℕ = index_in (λ x. x == h) homes in
+    facelet_at rows n ((k + slice_index orientations n) % facelets)
+
+-- where the sticker that began at a place stands, with the centres home
+abbrev pub sticker_map : (corners twists edges flips : List ℕ) → Place → Place
+sticker_map corners twists edges flips p =
+    if is_corner p
+    then sticker_place 3 corner_facelets corners twists p
+    else (if is_edge p then sticker_place 2 edge_facelets edges flips p else p)
+
+-- where the cube has the sticker that began at a place
+abbrev pub map_of : Cube → Place → Place
+map_of c = sticker_map c.corners c.twists c.edges c.flips

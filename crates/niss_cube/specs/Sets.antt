@@ -1,0 +1,41 @@
+-- The sets of sticker places that the coordinates tell of.
+use Rattle.std.specs.Prelude.{Bool, ◌&&◌, ◌||◌, not, IsTrue, ◌↔◌}
+use Rattle.std.specs.List.{list_all}
+use Rattle.niss_moves.specs.Places.{Place, along, looks_along, is_zero, is_corner, is_edge, IsPlace}
+use Rattle.niss_moves.specs.Facelets.{places}
+use Rattle.niss_moves.specs.declared.axis.Axis.{Axis}
+use Rattle.niss_moves.specs.declared.axis.Axis.TheVariants.{Ud, Rl, Fb}
+
+-- the helper axis of the flips on an axis
+abbrev pub helper_of : Axis → Axis
+helper_of Ud = Rl
+helper_of Rl = Ud
+helper_of Fb = Ud
+
+-- corner places whose direction lies along the axis
+abbrev pub twist_set : Axis → Place → Bool
+twist_set a q = is_corner q && looks_along a q
+
+-- edge places whose cell has 0 on the axis
+abbrev pub slice_set : Axis → Place → Bool
+slice_set a q = is_edge q && is_zero (along a q.cell)
+
+-- edge places whose direction lies along the helper axis,
+-- and those whose cell has 0 on the helper axis and whose direction lies along the axis
+abbrev pub flip_set : Axis → Place → Bool
+flip_set a q =
+    is_edge q
+    && (looks_along (helper_of a) q
+    || (is_zero (along (helper_of a) q.cell) && looks_along a q))
+
+-- A map of places brings each place of the set to one of the set.
+abbrev pub Kept : (Place → Bool) → (Place → Place) → Type 0
+Kept set e = (q : Place) → IsTrue (set q) → IsTrue (set (e q))
+
+-- the same as a test over the 54 places
+abbrev pub is_kept : (Place → Bool) → (Place → Place) → Bool
+is_kept set e = list_all (λ q. not (set q) || set (e q)) places
+
+-- The test tells where a set is kept, for each set of the 54 places.
+abbrev pub KeptIsTested : Type 0
+KeptIsTested = (set : Place → Bool) (e : Place → Place) → ((q : Place) → IsTrue (set q) → IsPlace q) → IsTrue (is_kept set e) ↔ Kept set e

@@ -1,0 +1,121 @@
+use super::*;
+
+fn turn(face: Face, power: Power) -> Turn {
+    Turn { face, power }
+}
+
+fn after(turns: &[Turn]) -> Cube {
+    let mut cube = Cube::solved();
+    cube.apply(turns);
+    cube
+}
+
+fn quarter(face: Face) -> Cube {
+    after(&[turn(face, Power::Quarter)])
+}
+
+// The cube with every edge flipped and all else home: U R2 F B R B2 R U2 L B2 R U' D' R2 F R' L B2 U2 F2.
+fn superflip() -> Cube {
+    after(&[
+        turn(Face::U, Power::Quarter),
+        turn(Face::R, Power::Half),
+        turn(Face::F, Power::Quarter),
+        turn(Face::B, Power::Quarter),
+        turn(Face::R, Power::Quarter),
+        turn(Face::B, Power::Half),
+        turn(Face::R, Power::Quarter),
+        turn(Face::U, Power::Half),
+        turn(Face::L, Power::Quarter),
+        turn(Face::B, Power::Half),
+        turn(Face::R, Power::Quarter),
+        turn(Face::U, Power::Counter),
+        turn(Face::D, Power::Counter),
+        turn(Face::R, Power::Half),
+        turn(Face::F, Power::Quarter),
+        turn(Face::R, Power::Counter),
+        turn(Face::L, Power::Quarter),
+        turn(Face::B, Power::Half),
+        turn(Face::U, Power::Half),
+        turn(Face::F, Power::Half),
+    ])
+}
+
+#[test]
+fn facelets_are_those_of_the_cube(rt: HostRuntime) {
+    let solved = Cube::solved().facelets(Rotation::IDENTITY);
+    assert!(rt; solved == *b"UUUUUUUUURRRRRRRRRFFFFFFFFFDDDDDDDDDLLLLLLLLLBBBBBBBBB");
+    let right = quarter(Face::R).facelets(Rotation::IDENTITY);
+    assert!(rt; right == *b"UUFUUFUUFRRRRRRRRRFFDFFDFFDDDBDDBDDBLLLLLLLLLUBBUBBUBB");
+    let superflip = superflip().facelets(Rotation::IDENTITY);
+    assert!(rt; superflip == *b"UBULURUFURURFRBRDRFUFLFRFDFDFDLDRDBDLULBLFLDLBUBRBLBDB");
+}
+
+#[test]
+fn facelets_are_rotated_as_a_whole(rt: HostRuntime) {
+    let x = Rotation {
+        top: Face::F,
+        vertical: None,
+    };
+    let tilted = Cube::solved().facelets(x);
+    assert!(rt; tilted == *b"FFFFFFFFFRRRRRRRRRDDDDDDDDDBBBBBBBBBLLLLLLLLLUUUUUUUUU");
+    // The slice M is R L' and then x'.
+    let x_counter = Rotation {
+        top: Face::B,
+        vertical: None,
+    };
+    let middle = after(&[turn(Face::R, Power::Quarter), turn(Face::L, Power::Counter)]);
+    assert!(rt;
+        middle.facelets(x_counter) == *b"UBUUBUUBURRRRRRRRRFUFFUFFUFDFDDFDDFDLLLLLLLLLBDBBDBBDB"
+    );
+}
+
+#[test]
+fn right_and_up_return_after_105_times(rt: HostRuntime) {
+    let turns = [turn(Face::R, Power::Quarter), turn(Face::U, Power::Quarter)];
+    let mut cube = Cube::solved();
+    for _ in 0..104 {
+        cube.apply(&turns);
+        assert!(rt; cube != Cube::solved());
+    }
+    cube.apply(&turns);
+    assert!(rt; cube == Cube::solved());
+}
+
+#[test]
+fn a_solved_cube_has_coordinates_0(rt: HostRuntime) {
+    let cube = Cube::solved();
+    for axis in [Axis::Ud, Axis::Rl, Axis::Fb] {
+        assert_eq!(rt; cube.flip(axis), 0);
+        assert_eq!(rt; cube.twist(axis), 0);
+        assert_eq!(rt; cube.slice(axis), 0);
+    }
+}
+
+#[test]
+fn turned_cubes_have_their_coordinates(rt: HostRuntime) {
+    let front = quarter(Face::F);
+    assert_eq!(rt; front.flip(Axis::Fb), 550);
+    assert_eq!(rt; front.slice(Axis::Ud), 33);
+    assert_eq!(rt; front.slice(Axis::Rl), 33);
+    let right = quarter(Face::R);
+    assert_eq!(rt; right.twist(Axis::Ud), 1494);
+    assert_eq!(rt; right.twist(Axis::Fb), 1494);
+    assert_eq!(rt; right.flip(Axis::Rl), 550);
+    assert_eq!(rt; quarter(Face::U).flip(Axis::Ud), 550);
+    let down = quarter(Face::D);
+    assert_eq!(rt; down.twist(Axis::Rl), 1494);
+    assert_eq!(rt; down.slice(Axis::Fb), 33);
+}
+
+// R U R2 B' L' brings the edges FR, FL, BL, BR to the places of UR, UF, UL, UB.
+#[test]
+fn the_largest_slice_number_is_494(rt: HostRuntime) {
+    let cube = after(&[
+        turn(Face::R, Power::Quarter),
+        turn(Face::U, Power::Quarter),
+        turn(Face::R, Power::Half),
+        turn(Face::B, Power::Counter),
+        turn(Face::L, Power::Counter),
+    ]);
+    assert_eq!(rt; cube.slice(Axis::Ud), 494);
+}

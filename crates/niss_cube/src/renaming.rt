@@ -1,0 +1,179 @@
+//! Cubies under a rotation that renames the places.
+ghost use Rattle.niss_cube.specs.Renamings.{renaming_table, renamed_home, renamed_orientation};
+ghost use Rattle.std.specs.Prelude.{◌≡◌, ◌<◌, length, EachIndex, slice_index};
+
+/// A rotation of the whole cube that renames the places, by tables. For each renamed place `_from` has its original place,
+/// and `_to` the other way round. The renamed first facelet of an original place is facelet `_in` there, and its original
+/// first facelet is facelet `_out` of the renamed place.
+#[derive(Clone, Copy)]
+pub struct RenamingTable {
+    pub corners_from: [u8; 8],
+    pub corners_to: [u8; 8],
+    pub twists_in: [u8; 8],
+    pub twists_out: [u8; 8],
+    pub edges_from: [u8; 12],
+    pub edges_to: [u8; 12],
+    pub flips_in: [u8; 12],
+    pub flips_out: [u8; 12],
+}
+
+pub const X_COUNTER: RenamingTable = RenamingTable {
+    corners_from: [3, 2, 6, 7, 0, 1, 5, 4],
+    corners_to: [4, 5, 1, 0, 7, 6, 2, 3],
+    twists_in: [2, 1, 2, 1, 1, 2, 1, 2],
+    twists_out: [1, 2, 1, 2, 2, 1, 2, 1],
+    edges_from: [11, 3, 10, 7, 8, 1, 9, 5, 0, 2, 6, 4],
+    edges_to: [8, 5, 9, 1, 11, 7, 10, 3, 4, 6, 2, 0],
+    flips_in: [0, 1, 0, 1, 0, 1, 0, 1, 0, 0, 0, 0],
+    flips_out: [0, 1, 0, 1, 0, 1, 0, 1, 0, 0, 0, 0],
+};
+
+pub const Y_QUARTER: RenamingTable = RenamingTable {
+    corners_from: [3, 0, 1, 2, 7, 4, 5, 6],
+    corners_to: [1, 2, 3, 0, 5, 6, 7, 4],
+    twists_in: [0, 0, 0, 0, 0, 0, 0, 0],
+    twists_out: [0, 0, 0, 0, 0, 0, 0, 0],
+    edges_from: [3, 0, 1, 2, 7, 4, 5, 6, 11, 8, 9, 10],
+    edges_to: [1, 2, 3, 0, 5, 6, 7, 4, 9, 10, 11, 8],
+    flips_in: [0, 0, 0, 0, 0, 0, 0, 0, 1, 1, 1, 1],
+    flips_out: [0, 0, 0, 0, 0, 0, 0, 0, 1, 1, 1, 1],
+};
+
+pub const Z_COUNTER: RenamingTable = RenamingTable {
+    corners_from: [4, 0, 3, 7, 5, 1, 2, 6],
+    corners_to: [1, 5, 6, 2, 0, 4, 7, 3],
+    twists_in: [1, 2, 1, 2, 2, 1, 2, 1],
+    twists_out: [2, 1, 2, 1, 1, 2, 1, 2],
+    edges_from: [4, 8, 0, 11, 6, 9, 2, 10, 5, 1, 3, 7],
+    edges_to: [2, 9, 6, 10, 0, 8, 4, 11, 1, 5, 7, 3],
+    flips_in: [1, 1, 1, 1, 1, 1, 1, 1, 1, 1, 1, 1],
+    flips_out: [1, 1, 1, 1, 1, 1, 1, 1, 1, 1, 1, 1],
+};
+
+pub const X_QUARTER: RenamingTable = RenamingTable {
+    corners_from: [4, 5, 1, 0, 7, 6, 2, 3],
+    corners_to: [3, 2, 6, 7, 0, 1, 5, 4],
+    twists_in: [2, 1, 2, 1, 1, 2, 1, 2],
+    twists_out: [1, 2, 1, 2, 2, 1, 2, 1],
+    edges_from: [8, 5, 9, 1, 11, 7, 10, 3, 4, 6, 2, 0],
+    edges_to: [11, 3, 10, 7, 8, 1, 9, 5, 0, 2, 6, 4],
+    flips_in: [0, 1, 0, 1, 0, 1, 0, 1, 0, 0, 0, 0],
+    flips_out: [0, 1, 0, 1, 0, 1, 0, 1, 0, 0, 0, 0],
+};
+
+/// The rotations by which a cube is renamed for a coordinate.
+#[derive(Clone, Copy, Debug, PartialEq, Eq)]
+pub enum Renaming {
+    XCounter,
+    XQuarter,
+    YQuarter,
+    ZCounter,
+}
+
+/// The table of a renaming.
+fn table_of(renaming: Renaming) -> RenamingTable
+    ensures { result ≡ renaming_table renaming }
+{
+    match renaming {
+        Renaming::XCounter => X_COUNTER,
+        Renaming::XQuarter => X_QUARTER,
+        Renaming::YQuarter => Y_QUARTER,
+        Renaming::ZCounter => Z_COUNTER,
+    }
+}
+
+/// Writes which renamed cubie stands at each renamed place.
+fn rename_homes(homes: &[u8], from: &[u8], to: &[u8], new: &mut [u8])
+    requires homes_len { length homes.now ≡ length new.old }
+    requires from_len { length from.now ≡ length new.old }
+    requires to_len { length to.now ≡ length new.old }
+    requires from_range { EachIndex from.now (λ k. slice_index from.now k < length homes.now) }
+    requires home_range { EachIndex homes.now (λ k. slice_index homes.now k < length homes.now) }
+    ensures { EachIndex new.new (λ k. slice_index new.new k ≡ renamed_home from.now to.now homes.now k) }
+{
+    for (place, home) in new.iter_mut().enumerate() {
+        let old_home = homes[from[place] as usize];
+        *home = to[old_home as usize];
+    }
+}
+
+/// Writes how the renamed cubies are twisted or flipped at the renamed places.
+fn rename_orientations(
+    homes: &[u8],
+    orientations: &[u8],
+    from: &[u8],
+    inward: &[u8],
+    outward: &[u8],
+    facelets: u8,
+    new: &mut [u8],
+)
+    requires homes_len { length homes.now ≡ length new.old }
+    requires orientations_len { length orientations.now ≡ length new.old }
+    requires from_len { length from.now ≡ length new.old }
+    requires in_len { length inward.now ≡ length new.old }
+    requires out_len { length outward.now ≡ length new.old }
+    requires some { 0 < facelets }
+    requires from_range { EachIndex from.now (λ k. slice_index from.now k < length homes.now) }
+    requires home_range { EachIndex homes.now (λ k. slice_index homes.now k < length homes.now) }
+    requires orientation_range { EachIndex orientations.now (λ k. slice_index orientations.now k < 3) }
+    requires in_range { EachIndex inward.now (λ k. slice_index inward.now k < 3) }
+    requires out_range { EachIndex outward.now (λ k. slice_index outward.now k < 3) }
+    ensures { EachIndex new.new (λ k. slice_index new.new k
+        ≡ renamed_orientation facelets from.now inward.now outward.now homes.now orientations.now k) }
+{
+    for (place, orientation) in new.iter_mut().enumerate() {
+        let old_place = from[place] as usize;
+        let home = homes[old_place] as usize;
+        *orientation = (inward[home] + orientations[old_place] + outward[old_place]) % facelets;
+    }
+}
+
+/// The renamed corners by place: which stand there, and how they are twisted.
+pub fn rename_corners(corners: &[u8; 8], twists: &[u8; 8], renaming: Renaming) -> ([u8; 8], [u8; 8])
+    requires corner_range { EachIndex corners.now (λ k. slice_index corners.now k < 8) }
+    requires twist_range { EachIndex twists.now (λ k. slice_index twists.now k < 3) }
+    ensures corners { let t = renaming_table renaming in
+        EachIndex result.0 (λ k. slice_index result.0 k ≡ renamed_home t.corners_from t.corners_to corners.now k) }
+    ensures twists { let t = renaming_table renaming in
+        EachIndex result.1 (λ k. slice_index result.1 k
+        ≡ renamed_orientation 3 t.corners_from t.twists_in t.twists_out corners.now twists.now k) }
+{
+    let table = table_of(renaming);
+    let (mut homes, mut orientations) = ([0; 8], [0; 8]);
+    rename_homes(corners, &table.corners_from, &table.corners_to, &mut homes);
+    rename_orientations(
+        corners,
+        twists,
+        &table.corners_from,
+        &table.twists_in,
+        &table.twists_out,
+        3,
+        &mut orientations,
+    );
+    (homes, orientations)
+}
+
+/// The renamed edges by place: which stand there, and how they are flipped.
+pub fn rename_edges(edges: &[u8; 12], flips: &[u8; 12], renaming: Renaming) -> ([u8; 12], [u8; 12])
+    requires edge_range { EachIndex edges.now (λ k. slice_index edges.now k < 12) }
+    requires flip_range { EachIndex flips.now (λ k. slice_index flips.now k < 2) }
+    ensures edges { let t = renaming_table renaming in
+        EachIndex result.0 (λ k. slice_index result.0 k ≡ renamed_home t.edges_from t.edges_to edges.now k) }
+    ensures flips { let t = renaming_table renaming in
+        EachIndex result.1 (λ k. slice_index result.1 k
+        ≡ renamed_orientation 2 t.edges_from t.flips_in t.flips_out edges.now flips.now k) }
+{
+    let table = table_of(renaming);
+    let (mut homes, mut orientations) = ([0; 12], [0; 12]);
+    rename_homes(edges, &table.edges_from, &table.edges_to, &mut homes);
+    rename_orientations(
+        edges,
+        flips,
+        &table.edges_from,
+        &table.flips_in,
+        &table.flips_out,
+        2,
+        &mut orientations,
+    );
+    (homes, orientations)
+}

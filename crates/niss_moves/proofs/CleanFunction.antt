@@ -1,0 +1,135 @@
+-- Cleaning as a function is the relation.
+use Rattle.std.proofs.Common.{◌≡◌, ℕ, zero, suc, ◌+◌, ◌*◌, ◌<◌, ◌≤◌, ◌⊎◌, inl, inr, Bool, true, false, ◌&&◌, refl, ap, sym, ◌∙◌, subst, List, [], ◌∷◌, ◌++◌, length, cond, arith, Option, None, Some}
+use Rattle.std.specs.Option.{option_map_or}
+use Rattle.std.specs.List.{count_by}
+use Rattle.std.proofs.Math.Nat.{mul-le-mul_left, mul_comm}
+use Rattle.std.proofs.lemmas.List.Sums.{count_by-le-length}
+use Rattle.niss_moves.specs.Canonical.{face_may_follow, IsCanonical}
+use Rattle.niss_moves.specs.Cleaning.{rewritten_pair, IsRewriting, Cleans, Clean, Rewrite}
+use Rattle.niss_moves.specs.RewritingLaws.{are_disordered, disorder}
+use Rattle.niss_moves.specs.CleanedLine.{behind_first, rewritten_once, rewritten_within, most_rewritings, clean_turns, CleanTurnsAreClean}
+use Rattle.niss_moves.specs.declared.turn.Turn.{Turn}
+use Rattle.niss_moves.proofs.Finite.{both, both_left, both_right}
+use Rattle.niss_moves.proofs.Disorder.{rewriting_lowers}
+
+-- where nothing is rewritten, nothing breaks the order
+
+behind_none : (t : Turn) (o : Option (List Turn)) → behind_first t o ≡ None → o ≡ None
+behind_none t None e = refl
+behind_none t (Some s) e = cc
+
+none_step : (t u : Turn) (s : List Turn) (b : Bool) → face_may_follow t.face u.face ≡ b
+    → cond b (behind_first t (rewritten_once (u ∷ s))) (Some (rewritten_pair t u ++ s)) ≡ None
+    → (rewritten_once (u ∷ s) ≡ None → IsCanonical (u ∷ s)) → IsCanonical (t ∷ u ∷ s)
+none_step t u s true e h rest = both _ _ e (rest (behind_none t (rewritten_once (u ∷ s)) h))
+none_step t u s false e h rest = cc
+
+none_is_canonical : (s : List Turn) → rewritten_once s ≡ None → IsCanonical s
+unfolding rewritten_once
+none_is_canonical [] e = refl
+none_is_canonical (t ∷ []) e = refl
+none_is_canonical (t ∷ u ∷ s) e = none_step t u s (face_may_follow t.face u.face) refl e (none_is_canonical (u ∷ s))
+
+-- what is rewritten is the leftmost pair that breaks the order
+
+behind_some : (t : Turn) (o : Option (List Turn)) (c : List Turn) → behind_first t o ≡ Some c → (r : List Turn) × (o ≡ Some r) × (c ≡ t ∷ r)
+behind_some t None c e = cc
+behind_some t (Some s) c e = (s, refl, let h : c ≡ t ∷ s = cc in h)
+
+canonical_behind : (t u : Turn) (s front : List Turn) (left : Turn) (rest : List Turn) → u ∷ s ≡ front ++ left ∷ rest
+    → face_may_follow t.face u.face ≡ true → IsCanonical (front ++ left ∷ []) → IsCanonical (t ∷ front ++ left ∷ [])
+canonical_behind t u s [] left rest e k h = both _ _ (let same : u ≡ left = cc in subst (λ (x : Turn). face_may_follow t.face x.face ≡ true) same k) refl
+canonical_behind t u s (x ∷ front) left rest e k h = both _ _ (let same : u ≡ x = cc in subst (λ (x : Turn). face_may_follow t.face x.face ≡ true) same k) h
+
+rewriting_behind : (t u : Turn) (s r c : List Turn) → face_may_follow t.face u.face ≡ true → c ≡ t ∷ r → IsRewriting (u ∷ s) r → IsRewriting (t ∷ u ∷ s) c
+rewriting_behind t u s r c k e w = record {
+  front = t ∷ w.front;
+  left = w.left;
+  right = w.right;
+  rest = w.rest;
+  at = ap (λ v. t ∷ v) w.at;
+  leftmost = canonical_behind t u s w.front w.left (w.right ∷ w.rest) w.at k w.leftmost;
+  breaks = w.breaks;
+  result = e ∙ ap (λ v. t ∷ v) w.result;
+}
+
+some_step : (t u : Turn) (s c : List Turn) (b : Bool) → face_may_follow t.face u.face ≡ b
+    → cond b (behind_first t (rewritten_once (u ∷ s))) (Some (rewritten_pair t u ++ s)) ≡ Some c
+    → ((r : List Turn) → rewritten_once (u ∷ s) ≡ Some r → IsRewriting (u ∷ s) r) → IsRewriting (t ∷ u ∷ s) c
+some_step t u s c true e h rest =
+    let w = behind_some t (rewritten_once (u ∷ s)) c h in rewriting_behind t u s w.0 c e w.2 (rest w.0 w.1)
+some_step t u s c false e h rest = record {
+  front = [];
+  left = t;
+  right = u;
+  rest = s;
+  at = refl;
+  leftmost = refl;
+  breaks = e;
+  result = let k : c ≡ rewritten_pair t u ++ s = cc in k;
+}
+
+some_is_rewriting : (s c : List Turn) → rewritten_once s ≡ Some c → IsRewriting s c
+unfolding rewritten_once
+some_is_rewriting [] c e = cc
+some_is_rewriting (t ∷ []) c e = cc
+some_is_rewriting (t ∷ u ∷ s) c e = some_step t u s c (face_may_follow t.face u.face) refl e (some_is_rewriting (u ∷ s))
+
+-- how many rewritings there can be
+
+square-le : (m n : ℕ) → m ≤ n → m * m ≤ n * n
+square-le m n h =
+    let a : m * m ≤ m * n = mul-le-mul_left m h in
+    let b : n * m ≤ n * n = mul-le-mul_left n h in
+    omega (arith, a, b, mul_comm m n)
+
+disorder-le : (s : List Turn) → disorder s ≤ length s * length s
+disorder-le [] = omega arith
+disorder-le (t ∷ s) =
+    let a : count_by (are_disordered t) s ≤ length s = count_by-le-length (are_disordered t) s in
+    let b : disorder s ≤ length s * length s = disorder-le s in
+    omega (arith, a, b)
+
+left_over : ℕ → List Turn → ℕ
+left_over m s = length s * suc m + disorder s
+
+shorter_lowers : (l k m d e : ℕ) → l < k → d ≤ m → l * suc m + d < k * suc m + e
+shorter_lowers l k m d e h b =
+    let a : suc m * suc l ≤ suc m * k = mul-le-mul_left (suc m) (let g : suc l ≤ k = omega arith in g) in
+    omega (arith, a, b)
+
+lowers : (m : ℕ) (s t : List Turn) → length s * length s ≤ m → IsRewriting s t → (left_over m t < left_over m s) × (length t * length t ≤ m)
+unfolding left_over
+lowers m s t cap w = elim (rewriting_lowers s t w) [
+  | inl a ↦
+      (let le : length t ≤ length s = omega (arith, a) in
+      let room : length t * length t ≤ m = (let q : length t * length t ≤ length s * length s = square-le (length t) (length s) le in omega (arith, q, cap)) in
+      let few : disorder t ≤ m = (let q : disorder t ≤ length t * length t = disorder-le t in omega (arith, q, room)) in
+      (shorter_lowers (length t) (length s) m (disorder t) (disorder s) a few, room))
+  | inr b ↦
+      (rw b.0 (omega (arith, b.1)), rw b.0 cap)
+]
+
+-- the rewritings to the end
+
+within_step : (m n : ℕ) (s : List Turn) (o : Option (List Turn)) → rewritten_once s ≡ o → length s * length s ≤ m → left_over m s ≤ suc n
+    → ((t : List Turn) → length t * length t ≤ m → left_over m t ≤ n → Cleans t (rewritten_within n t))
+    → Cleans s (option_map_or (rewritten_within n) o s)
+within_step m n s None e cap fuel more = Clean (none_is_canonical s e)
+within_step m n s (Some t) e cap fuel more =
+    let w = some_is_rewriting s t e in
+    let l = lowers m s t cap w in
+    Rewrite w (more t l.1 (omega (arith, l.0, fuel)))
+
+end_step : (m : ℕ) (s : List Turn) (o : Option (List Turn)) → rewritten_once s ≡ o → length s * length s ≤ m → left_over m s ≤ 0 → Cleans s s
+end_step m s None e cap fuel = Clean (none_is_canonical s e)
+end_step m s (Some t) e cap fuel = absurd (let l = lowers m s t cap (some_is_rewriting s t e) in omega (arith, l.0, fuel))
+
+within_cleans : (m n : ℕ) (s : List Turn) → length s * length s ≤ m → left_over m s ≤ n → Cleans s (rewritten_within n s)
+unfolding rewritten_within
+within_cleans m zero s cap fuel = end_step m s (rewritten_once s) refl cap fuel
+within_cleans m (suc n) s cap fuel = within_step m n s (rewritten_once s) refl cap fuel (within_cleans m n)
+
+pub clean_turns_are_clean : CleanTurnsAreClean
+unfolding clean_turns left_over
+clean_turns_are_clean s = within_cleans (length s * length s) (most_rewritings s) s (omega arith) (omega arith)
