@@ -14,3 +14,5 @@ decimal_room n h k = omega (arith, ap length (decimal_last n h k), length-append
 
 pub decimal_one : (n : ℕ) → n < 10 → decimal n ≡ (48 + n) ∷ []
 decimal_one = decimal_digit
+
+pub ruleset digit_laws = (decimal_last, decimal_room, decimal_one)

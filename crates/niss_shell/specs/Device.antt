@@ -7,8 +7,8 @@ pub record SourceState : Type 0 where
   pub has_failed : Bool
   pub has_ended : Bool
 
--- A target tells the bytes that it holds, or doesn't; whether a write failed; whether a flush failed; whether a flush came
--- behind the last byte, good or refused; whether the last one that came so was good.
+-- A target tells the bytes that it holds, or doesn't; whether a write failed; whether a flush failed; whether a flush
+-- came behind the last byte, good or refused; whether the last one that came so was good.
 pub record TargetState : Type 0 where
   pub held : Option (List ℕ)
   pub write_failed : Bool

@@ -13,19 +13,22 @@ use Rattle.niss_shell.specs.declared.stop.Stop.TheVariants.{Done, Line, Usage, I
 use Rattle.niss_shell.specs.declared.lines.Progress.{Progress}
 
 -- None of the lines has a fault, and all answers are written.
-pub record AllAnswered (f : List ℕ → Result (List ℕ) ReadFault) (n : ℕ) (lines : List (List ℕ)) (old new : TargetState) : Type 0 where
+pub record AllAnswered (f : List ℕ → Result (List ℕ) ReadFault) (n : ℕ) (lines : List (List ℕ))
+    (old new : TargetState) : Type 0 where
   pub faultless : first_fault f n lines ≡ None
   pub works : has_fault new ≡ false
   pub written : Appended old new (written_text f lines)
 
 -- The first fault of the lines came, behind the answers before it.
-pub record FaultCame (f : List ℕ → Result (List ℕ) ReadFault) (n : ℕ) (lines : List (List ℕ)) (at : ℕ) (fault : ReadFault) (old new : TargetState) : Type 0 where
+pub record FaultCame (f : List ℕ → Result (List ℕ) ReadFault) (n : ℕ) (lines : List (List ℕ))
+    (at : ℕ) (fault : ReadFault) (old new : TargetState) : Type 0 where
   pub first : first_fault f n lines ≡ Some (at, fault)
   pub works : has_fault new ≡ false
   pub written : Appended old new (written_text f lines)
 
 -- how the lines stop a run
-abbrev pub StopsWithin : (List ℕ → Result (List ℕ) ReadFault) → ℕ → List (List ℕ) → Stop → TargetState → TargetState → Type 0
+abbrev pub StopsWithin :
+    (List ℕ → Result (List ℕ) ReadFault) → ℕ → List (List ℕ) → Stop → TargetState → TargetState → Type 0
 StopsWithin f n lines CannotWrite old new = WriteRefused (written_text f lines) old new
 StopsWithin f n lines (Line at fault) old new = FaultCame f n lines at fault old new
 StopsWithin f n lines Done old new = ⊥
@@ -40,24 +43,31 @@ pub record Advanced (front bytes : List ℕ) (n : ℕ) (progress : Progress) : T
   pub line : progress.line ≡ n + length (ended_lines front bytes)
 
 -- The bytes behind `front`, in line n, were taken.
-abbrev pub TakesBytes : LineCommand → List ℕ → List ℕ → ℕ → Progress → Result (Unit {0}) Stop → TargetState → TargetState → Type 0
-TakesBytes command front bytes n progress (Ok u) old new = AllAnswered (answer command) n (ended_lines front bytes) old new × Advanced front bytes n progress
-TakesBytes command front bytes n progress (Err stop) old new = StopsWithin (answer command) n (ended_lines front bytes) stop old new
+abbrev pub TakesBytes :
+    LineCommand → List ℕ → List ℕ → ℕ → Progress → Result (Unit {0}) Stop → TargetState → TargetState → Type 0
+TakesBytes command front bytes n progress (Ok u) old new =
+    AllAnswered (answer command) n (ended_lines front bytes) old new × Advanced front bytes n progress
+TakesBytes command front bytes n progress (Err stop) old new =
+    StopsWithin (answer command) n (ended_lines front bytes) stop old new
 
 -- The end of the input behind `front`, in line n, was taken.
 abbrev pub TakesEnd : LineCommand → List ℕ → ℕ → Result (Unit {0}) Stop → TargetState → TargetState → Type 0
-TakesEnd command front n (Ok u) old new = AllAnswered (answer command) n (line_with_bytes front) old new
-TakesEnd command front n (Err stop) old new = StopsWithin (answer command) n (line_with_bytes front) stop old new
+TakesEnd command front n (Ok u) old new =
+    AllAnswered (answer command) n (line_with_bytes front) old new
+TakesEnd command front n (Err stop) old new =
+    StopsWithin (answer command) n (line_with_bytes front) stop old new
 
 -- One line was answered.
-abbrev pub AnswersLine : Result (List ℕ) ReadFault → ℕ → Result (Unit {0}) Stop → TargetState → TargetState → Type 0
+abbrev pub AnswersLine :
+    Result (List ℕ) ReadFault → ℕ → Result (Unit {0}) Stop → TargetState → TargetState → Type 0
 AnswersLine (Ok text) n (Ok u) old new = (has_fault new ≡ false) × Appended old new text
 AnswersLine (Ok text) n (Err stop) old new = (stop ≡ CannotWrite) × WriteRefused text old new
 AnswersLine (Err fault) n (Ok u) old new = ⊥
 AnswersLine (Err fault) n (Err stop) old new = (stop ≡ Line n fault) × (has_fault new ≡ false) × Appended old new []
 
 -- This many bytes of the input were read and taken.
-pub record IsAt (command : LineCommand) (count : ℕ) (progress : Progress) (source source_now : SourceState) (output output_now : TargetState) : Type 0 where
+pub record IsAt (command : LineCommand) (count : ℕ) (progress : Progress)
+    (source source_now : SourceState) (output output_now : TargetState) : Type 0 where
   pub input : List ℕ
   pub gave : Gave source source_now input
   pub takes : TakesBytes command [] input 1 progress (Ok tt) output output_now
@@ -69,23 +79,27 @@ Writes a CannotWrite old new = WriteRefused a.output old new
 Writes a stop old new = (stop ≡ a.stop) × (has_fault new ≡ false) × Appended old new a.output
 
 -- The source was read as far as needed, and its lines answered.
-pub record AnswersSource (command : LineCommand) (stop : Stop) (source source_now : SourceState) (output output_now : TargetState) : Type 0 where
+pub record AnswersSource (command : LineCommand) (stop : Stop)
+    (source source_now : SourceState) (output output_now : TargetState) : Type 0 where
   pub input : List ℕ
   pub gave : Gave source source_now input
   pub writes : Writes (answer_lines (answer command) input (ending source_now)) stop output output_now
   pub read_whole : stop ≡ Done → source_now.has_ended ≡ true
 
 -- how a run ends before its last flush
-abbrev pub EndsUnflushed : Stop → Answer → Result Request UsageFault → SourceState → SourceState → TargetState → TargetState → Type 0
+abbrev pub EndsUnflushed :
+    Stop → Answer → Result Request UsageFault → SourceState → SourceState → TargetState → TargetState → Type 0
 EndsUnflushed OutOfMemory a asked source source_now old new =
     (takes_memory asked ≡ true) × (source_now ≡ source) × (has_fault new ≡ false) × Appended old new []
 EndsUnflushed stop a asked source source_now old new = Writes a stop old new
 
 -- What a run does before its last flush.
-pub record RunsUnflushed (asked : Result Request UsageFault) (stop : Stop) (source source_now : SourceState) (output output_now : TargetState) : Type 0 where
+pub record RunsUnflushed (asked : Result Request UsageFault) (stop : Stop)
+    (source source_now : SourceState) (output output_now : TargetState) : Type 0 where
   pub input : List ℕ
   pub gave : Gave source source_now input
-  pub ends : EndsUnflushed stop (answer_request asked input (ending source_now)) asked source source_now output output_now
+  pub ends :
+      EndsUnflushed stop (answer_request asked input (ending source_now)) asked source source_now output output_now
   pub read_whole : stop ≡ Done → reads_source asked ≡ true → source_now.has_ended ≡ true
 
 abbrev pub stop_unless : Result (Unit {0}) Stop → Stop → Stop

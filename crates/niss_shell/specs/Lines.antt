@@ -1,15 +1,23 @@
 -- The lines of a text, and what is written for lines up to the first that has a fault.
 use Rattle.std.specs.Prelude.{ℕ, ◌+◌, ◌==◌, if◌then◌else◌, Option, Some, None, Result, Ok, Err, List, [], ◌∷◌, ◌++◌}
 
+abbrev pub line_feed : ℕ
+line_feed = 10
+
+abbrev pub space : ℕ
+space = 32
+
 -- the lines that a line feed ends, where `front` stands before the bytes
 unfoldable pub ended_lines : List ℕ → List ℕ → List (List ℕ)
 ended_lines front [] = []
-ended_lines front (b ∷ bs) = if b == 10 then front ∷ ended_lines [] bs else ended_lines (front ++ b ∷ []) bs
+ended_lines front (b ∷ bs) =
+    if b == line_feed then front ∷ ended_lines [] bs else ended_lines (front ++ b ∷ []) bs
 
 -- what stands behind the last line feed
 unfoldable pub last_part : List ℕ → List ℕ → List ℕ
 last_part front [] = front
-last_part front (b ∷ bs) = if b == 10 then last_part [] bs else last_part (front ++ b ∷ []) bs
+last_part front (b ∷ bs) =
+    if b == line_feed then last_part [] bs else last_part (front ++ b ∷ []) bs
 
 -- what is written for a line and behind it: the line's answer and the rest, or nothing from a fault on
 abbrev pub text_before : {E : Type 0} → Result (List ℕ) E → List ℕ → List ℕ
@@ -27,6 +35,7 @@ fault_before (Ok text) n rest = rest
 fault_before (Err e) n rest = Some (n, e)
 
 -- the number of the first line that has a fault, and the fault, where the first of these lines has the number n
-unfoldable pub first_fault : {E : Type 0} → (List ℕ → Result (List ℕ) E) → ℕ → List (List ℕ) → Option (ℕ × E)
+unfoldable pub first_fault :
+    {E : Type 0} → (List ℕ → Result (List ℕ) E) → ℕ → List (List ℕ) → Option (ℕ × E)
 first_fault answer_of n [] = None
 first_fault answer_of n (line ∷ lines) = fault_before (answer_of line) n (first_fault answer_of (n + 1) lines)

@@ -1,14 +1,14 @@
 -- What holds of the lines of all texts, each proved as the contract of a function.
 use Rattle.std.specs.Prelude.{◌≡◌, ◌≢◌, ℕ, List, [], ◌∷◌, ◌++◌, All, flat_map}
-use Rattle.niss_shell.specs.Lines.{ended_lines, last_part}
+use Rattle.niss_shell.specs.Lines.{line_feed, ended_lines, last_part}
 
 -- None of the bytes is a line feed.
 abbrev pub HasNoLineFeed : List ℕ → Type 0
-HasNoLineFeed bytes = All (λ b. b ≢ 10) bytes
+HasNoLineFeed bytes = All (λ b. b ≢ line_feed) bytes
 
 -- a line, and the line feed that ends it
 abbrev pub line_to_feed : List ℕ → List ℕ
-line_to_feed line = line ++ 10 ∷ []
+line_to_feed line = line ++ line_feed ∷ []
 
 -- The text is these lines, each with the line feed that ends it, and the last part behind them.
 pub record IsCutInto (text : List ℕ) (lines : List (List ℕ)) (last : List ℕ) : Type 0 where

@@ -1,7 +1,7 @@
 -- What a run is to write and to answer.
 use Rattle.std.specs.Prelude.{ℕ, nat_lt, Bool, true, false, if◌then◌else◌, codes, decimal, Option, Some, None, Result, Ok, Err, List, [], ◌∷◌, ◌++◌, map, take, length}
 use Rattle.niss_shell.specs.Device.{SourceState}
-use Rattle.niss_shell.specs.Lines.{ended_lines, last_part, written_text, first_fault}
+use Rattle.niss_shell.specs.Lines.{line_feed, ended_lines, last_part, written_text, first_fault}
 use Rattle.niss_moves.specs.CleanedLine.{with_clean_line}
 use Rattle.niss_moves.specs.Effects.{effect, inverse}
 use Rattle.niss_moves.specs.Letters.{letters}
@@ -33,17 +33,19 @@ fault_text (Unclosed column) = codes "bracket not closed"
 fault_text (TooLong column) = codes "more than 256 moves"
 
 abbrev pub line_fault_text : ℕ → ReadFault → List ℕ
-line_fault_text n fault = codes "nissy: line " ++ decimal n ++ codes ", column " ++ decimal (fault_column fault) ++ codes ": " ++ fault_text fault ++ 10 ∷ []
+line_fault_text n fault =
+    codes "nissy: line " ++ decimal n ++ codes ", column " ++ decimal (fault_column fault) ++ codes ": "
+    ++ fault_text fault ++ line_feed ∷ []
 
 -- what is written on the error writer
 abbrev pub error_text : Stop → List ℕ
 error_text Done = []
 error_text (Line n fault) = line_fault_text n fault
-error_text Usage = codes "usage: nissy COMMAND [ARGUMENTS]" ++ 10 ∷ []
-error_text InputTooLong = codes "nissy: input longer than 16777216 bytes" ++ 10 ∷ []
-error_text CannotRead = codes "nissy: cannot read" ++ 10 ∷ []
-error_text CannotWrite = codes "nissy: cannot write" ++ 10 ∷ []
-error_text OutOfMemory = codes "nissy: out of memory" ++ 10 ∷ []
+error_text Usage = codes "usage: nissy COMMAND [ARGUMENTS]" ++ line_feed ∷ []
+error_text InputTooLong = codes "nissy: input longer than 16777216 bytes" ++ line_feed ∷ []
+error_text CannotRead = codes "nissy: cannot read" ++ line_feed ∷ []
+error_text CannotWrite = codes "nissy: cannot write" ++ line_feed ∷ []
+error_text OutOfMemory = codes "nissy: out of memory" ++ line_feed ∷ []
 
 abbrev pub status_of : Stop → ℕ
 status_of Done = 0
@@ -71,7 +73,7 @@ line_text Print line = letters (effect (moves_of line))
 
 -- what a command answers to a line that was read so
 abbrev pub answer_to : LineCommand → Result Moves ReadFault → Result (List ℕ) ReadFault
-answer_to command (Ok line) = Ok (line_text command line ++ 10 ∷ [])
+answer_to command (Ok line) = Ok (line_text command line ++ line_feed ∷ [])
 answer_to command (Err fault) = Err fault
 
 -- what a command answers to the bytes of a line: what it writes, or the fault of the line
@@ -109,7 +111,7 @@ last_line More input = []
 last_line Fail input = []
 
 abbrev pub complete_lines : List ℕ → Ending → List (List ℕ)
-complete_lines input m = ended_lines [] (take limit input) ++ last_line m input
+complete_lines input ended = ended_lines [] (take limit input) ++ last_line ended input
 
 abbrev pub stop_at_end : Ending → Stop
 stop_at_end Fail = CannotRead
@@ -117,27 +119,27 @@ stop_at_end End = Done
 stop_at_end More = Done
 
 abbrev pub stop_of : Option (ℕ × ReadFault) → List ℕ → Ending → Stop
-stop_of (Some fault) input m = Line fault.0 fault.1
-stop_of None input m = if nat_lt limit (length input) then InputTooLong else stop_at_end m
+stop_of (Some fault) input ended = Line fault.0 fault.1
+stop_of None input ended = if nat_lt limit (length input) then InputTooLong else stop_at_end ended
 
 -- the answers to the complete lines of an input, up to the first fault
 abbrev pub answer_lines : (List ℕ → Result (List ℕ) ReadFault) → List ℕ → Ending → Answer
-answer_lines f input m = record {
-  output = written_text f (complete_lines input m);
-  stop = stop_of (first_fault f 1 (complete_lines input m)) input m;
+answer_lines answers input ended = record {
+  output = written_text answers (complete_lines input ended);
+  stop = stop_of (first_fault answers 1 (complete_lines input ended)) input ended;
 }
 
 -- Words that give the input take the source's place, and are refused as a whole where they are too long.
 abbrev pub answer_on_lines : (List ℕ → Result (List ℕ) ReadFault) → List (List ℕ) → List ℕ → Ending → Answer
-answer_on_lines f [] input m = answer_lines f input m
-answer_on_lines f (word ∷ words) input m =
+answer_on_lines answers [] input ended = answer_lines answers input ended
+answer_on_lines answers (word ∷ words) input ended =
     if nat_lt limit (length (joined (word ∷ words)))
     then record { output = []; stop = InputTooLong }
-    else answer_lines f (joined (word ∷ words)) End
+    else answer_lines answers (joined (word ∷ words)) End
 
 abbrev pub answer_request : Result Request UsageFault → List ℕ → Ending → Answer
-answer_request (Err fault) input m = record { output = []; stop = Usage }
-answer_request (Ok (OnLines command words)) input m = answer_on_lines (answer command) words input m
+answer_request (Err fault) input ended = record { output = []; stop = Usage }
+answer_request (Ok (OnLines command words)) input ended = answer_on_lines (answer command) words input ended
 
 -- what a run with these words is to write and to answer, where the source gave this input and was left so
 abbrev pub out_of : List (List ℕ) → List ℕ → SourceState → Answer

@@ -7,6 +7,7 @@ use Rattle.niss_shell.specs.declared.command.UsageFault.{UsageFault}
 use Rattle.niss_shell.specs.declared.stop.Stop.{Stop}
 use Rattle.niss_shell.specs.declared.stop.Stop.TheVariants.{Done, CannotWrite, OutOfMemory}
 
+-- the source, the output and the error writer
 pub record Devices : Type 0 where
   pub source : SourceState
   pub output : TargetState
@@ -15,28 +16,30 @@ pub record Devices : Type 0 where
 abbrev pub devices : SourceState → TargetState → TargetState → Devices
 devices source output error = record { source = source; output = output; error = error }
 
--- Nothing ended the run before its end: it has no fault, and the source, where the input comes from there, was read to its end.
-pub record ReachesEnd (a : Answer) (asked : Result Request UsageFault) (source_now : SourceState) : Type 0 where
-  pub good : a.stop ≡ Done
+-- Nothing ended the run before its end: it has no fault, and where the input comes from the source, that was read to its
+-- end.
+pub record ReachesEnd (due : Answer) (asked : Result Request UsageFault) (source_now : SourceState) : Type 0 where
+  pub good : due.stop ≡ Done
   pub read_whole : reads_source asked ≡ true → source_now.has_ended ≡ true
 
 -- A good run: the whole output was written, and flushed.
-pub record Finishes (a : Answer) (asked : Result Request UsageFault) (old new : Devices) : Type 0 where
-  pub ends : ReachesEnd a asked new.source
+pub record Finishes (due : Answer) (asked : Result Request UsageFault) (old new : Devices) : Type 0 where
+  pub ends : ReachesEnd due asked new.source
   pub works : has_fault new.output ≡ false
-  pub written : Appended old.output new.output a.output
+  pub written : Appended old.output new.output due.output
   pub flushed : new.output.is_flushed ≡ true
 
--- `cannot write`: a write was refused and left a rest, or else the last flush of a run that has no fault was.
-pub record OutputRefused (a : Answer) (asked : Result Request UsageFault) (old new : Devices) : Type 0 where
+-- `cannot write`: a write was refused and left a rest, or else all was written and the last flush was refused, of a run
+-- that has no fault.
+pub record OutputRefused (due : Answer) (asked : Result Request UsageFault) (old new : Devices) : Type 0 where
   pub refused : has_fault new.output ≡ true
   pub text : List ℕ
   pub rest : List ℕ
-  pub beginning : text ++ rest ≡ a.output
+  pub beginning : text ++ rest ≡ due.output
   pub written : Appended old.output new.output text
   pub cut : new.output.write_failed ≡ true → 0 < length rest
   pub whole : new.output.write_failed ≡ false → rest ≡ []
-  pub last : new.output.write_failed ≡ false → ReachesEnd a asked new.source
+  pub last : new.output.write_failed ≡ false → ReachesEnd due asked new.source
   pub last_flush : new.output.write_failed ≡ false → new.output.is_flushed ≡ false
 
 -- `out of memory`: the request takes memory, nothing was read, and nothing written or refused.
@@ -47,17 +50,17 @@ pub record MemoryRefused (asked : Result Request UsageFault) (old new : Devices)
   pub unrefused : new.output.write_failed ≡ false
 
 -- A fault of the words, of a line or of the input, which comes behind the answers before it. No write was refused.
-pub record EndsByFault (stop : Stop) (a : Answer) (old new : Devices) : Type 0 where
-  pub fault : a.stop ≡ stop
-  pub written : Appended old.output new.output a.output
+pub record EndsByFault (stop : Stop) (due : Answer) (old new : Devices) : Type 0 where
+  pub fault : due.stop ≡ stop
+  pub written : Appended old.output new.output due.output
   pub unrefused : new.output.write_failed ≡ false
 
--- how a run ends, where `a` is what it is to write and to answer
+-- how a run ends, where `due` is what it is to write and to answer
 abbrev pub Ends : Stop → Answer → Result Request UsageFault → Devices → Devices → Type 0
-Ends Done a asked old new = Finishes a asked old new
-Ends CannotWrite a asked old new = OutputRefused a asked old new
-Ends OutOfMemory a asked old new = MemoryRefused asked old new
-Ends stop a asked old new = EndsByFault stop a old new
+Ends Done due asked old new = Finishes due asked old new
+Ends CannotWrite due asked old new = OutputRefused due asked old new
+Ends OutOfMemory due asked old new = MemoryRefused asked old new
+Ends stop due asked old new = EndsByFault stop due old new
 
 -- The error writer took this text, or a beginning of it where it refused a write.
 pub record TellsError (text : List ℕ) (old new : TargetState) : Type 0 where
@@ -67,6 +70,7 @@ pub record TellsError (text : List ℕ) (old new : TargetState) : Type 0 where
   pub whole : new.write_failed ≡ false → rest ≡ []
   pub written : Appended old new part
 
+-- What a run with these words does to its devices, and the status that it answers.
 pub record Runs (words : List (List ℕ)) (old new : Devices) (status : ℕ) : Type 0 where
   -- the bytes that the source gave
   pub input : List ℕ

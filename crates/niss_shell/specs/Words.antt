@@ -1,5 +1,6 @@
 -- The words of a command line.
 use Rattle.std.specs.Prelude.{ℕ, nat_le, if◌then◌else◌, bytes_eq, codes, Bool, true, false, Result, Ok, Err, List, [], ◌∷◌, ◌++◌, length, map, flat_map, string_bytes}
+use Rattle.niss_shell.specs.Lines.{line_feed, space}
 use Rattle.niss_shell.specs.declared.command.UsageFault.{UsageFault}
 use Rattle.niss_shell.specs.declared.command.UsageFault.TheVariants.{NoCommand, UnknownCommand}
 use Rattle.niss_shell.specs.declared.command.LineCommand.{LineCommand}
@@ -36,13 +37,13 @@ requested (command.Unniss rest) = OnLines Unniss (map string_bytes rest.now)
 requested (command.Cleanup rest) = OnLines Cleanup (map string_bytes rest.now)
 requested (command.Print rest) = OnLines Print (map string_bytes rest.now)
 
--- the words with single spaces, and a line feed behind them
 abbrev pub spaced_word : List ℕ → List ℕ
-spaced_word word = 32 ∷ word
+spaced_word word = space ∷ word
 
+-- the words with single spaces, and a line feed behind them
 abbrev pub joined : List (List ℕ) → List ℕ
-joined [] = 10 ∷ []
-joined (word ∷ words) = word ++ flat_map spaced_word words ++ 10 ∷ []
+joined [] = line_feed ∷ []
+joined (word ∷ words) = word ++ flat_map spaced_word words ++ line_feed ∷ []
 
 -- The input comes from the source.
 abbrev pub reads_source : Result Request UsageFault → Bool

@@ -26,7 +26,7 @@ pub enum Command<'a> {
     Invert(&'a [String]),
     /// Each line without brackets: its normal moves, and then the inverse of its bracketed ones.
     Unniss(&'a [String]),
-    /// Each line as face turns and a rotation, the face turns canonical, the normal and the bracketed moves each by itself.
+    /// Each line as canonical face turns and a rotation, the normal and the bracketed moves each by itself.
     Cleanup(&'a [String]),
     /// The facelet text of each line.
     Print(&'a [String]),

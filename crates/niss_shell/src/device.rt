@@ -10,8 +10,8 @@ pub trait Source {
     // the bytes left, where the source tells them, and its two flags
     ghost state: { Self → SourceState };
 
-    /// Reads the next bytes into the beginning of `buf`, and answers how many. `Ok(0)` for a buffer that isn't empty is the
-    /// end. Nothing is read after a failure or the end.
+    /// Reads the next bytes into the beginning of `buf`, and answers how many. `Ok(0)` for a buffer that isn't empty is
+    /// the end. Nothing is read after a failure or the end.
     fn read(&mut self, buf: &mut [u8]) -> Result<usize, DeviceFault>
         requires works { (state self.old).has_failed ≡ false }
         requires goes_on { (state self.old).has_ended ≡ false }
@@ -34,23 +34,27 @@ pub trait Target {
     // the bytes held, where the target tells them, its flags, and which flush came behind the last byte
     ghost state: { Self → TargetState };
 
-    /// Takes some first bytes of the piece, and answers how many. To take none of a piece that isn't empty is a failure, as
-    /// an `Err` is.
+    /// Takes some first bytes of the piece, and answers how many. To take none of a piece that isn't empty is a failure,
+    /// as an `Err` is.
     fn write(&mut self, piece: &[u8]) -> Result<usize, DeviceFault>
         ensures bound { IfOk result (λ count. count ≤ length piece.now) }
         ensures bytes { Appended (state self.old) (state self.new) (moved_bytes result piece.now) }
         ensures silent { StaysSilent (state self.old) (state self.new) }
-        ensures write_failed { (state self.new).write_failed ≡ ((state self.old).write_failed || is_refused result piece.now) }
+        ensures write_failed { (state self.new).write_failed
+            ≡ ((state self.old).write_failed || is_refused result piece.now) }
         ensures flush_failed { (state self.new).flush_failed ≡ (state self.old).flush_failed }
-        ensures untried { 0 < length (moved_bytes result piece.now) → (state self.new).flush_tried ≡ false }
-        ensures unflushed { 0 < length (moved_bytes result piece.now) → (state self.new).is_flushed ≡ false };
+        ensures untried { 0 < length (moved_bytes result piece.now) →
+            (state self.new).flush_tried ≡ false }
+        ensures unflushed { 0 < length (moved_bytes result piece.now) →
+            (state self.new).is_flushed ≡ false };
 
     /// Passes on what was taken.
     fn flush(&mut self) -> Result<(), DeviceFault>
         ensures bytes { Appended (state self.old) (state self.new) [] }
         ensures silent { StaysSilent (state self.old) (state self.new) }
         ensures write_failed { (state self.new).write_failed ≡ (state self.old).write_failed }
-        ensures flush_failed { (state self.new).flush_failed ≡ ((state self.old).flush_failed || is_err result) }
+        ensures flush_failed { (state self.new).flush_failed
+            ≡ ((state self.old).flush_failed || is_err result) }
         ensures tried { (state self.new).flush_tried ≡ true }
         ensures flushed { (state self.new).is_flushed ≡ is_ok result };
 

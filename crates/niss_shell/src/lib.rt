@@ -1,8 +1,8 @@
 //! The engine of `nissy`, a tool for move sequences of the 3x3x3 cube.
 //!
-//! `run` takes the words of a command line, reads lines of moves from a `Source`, writes the answers to one `Target` and
-//! what went wrong to another, and answers the exit status. Its contract says every byte of both as a function of the
-//! words and of the bytes read, whatever the devices do:
+//! `run` takes the words of a command line, reads lines of moves from a `Source`, writes the answers to one `Target`
+//! and what went wrong to another, and answers the exit status. Its contract says every byte of both as a function of
+//! the words and of the bytes read, whatever the devices do:
 //!
 //! ```text
 //! run(alloc, &["invert", "R U' F2"], source, output, error)   writes `F2 U R'` and a line feed, and answers 0

@@ -94,7 +94,8 @@ impl Progress {
         requires column { self.old.reader.fed + 1 ≤ limit }
         requires lines { self.old.line ≤ limit }
         ensures takes { (front : List ℕ) → IsFed self.old.reader front →
-            TakesBytes command front (byte ∷ []) self.old.line self.new result (W.state out.old) (W.state out.new) }
+            TakesBytes command front (byte ∷ []) self.old.line self.new result
+            (W.state out.old) (W.state out.new) }
         ensures works { OnOk result (has_fault (W.state out.new) ≡ false) }
         ensures column { self.new.reader.fed ≤ self.old.reader.fed + 1 }
         ensures lines { self.new.line ≤ self.old.line + 1 }
@@ -118,7 +119,8 @@ impl Progress {
         requires column { self.old.reader.fed + length bytes.now ≤ limit }
         requires lines { self.old.line + length bytes.now ≤ limit + 1 }
         ensures takes { (front : List ℕ) → IsFed self.old.reader front →
-            TakesBytes command front bytes.now self.old.line self.new result (W.state out.old) (W.state out.new) }
+            TakesBytes command front bytes.now self.old.line self.new result
+            (W.state out.old) (W.state out.new) }
         ensures works { OnOk result (has_fault (W.state out.new) ≡ false) }
         ensures column { OnOk result (self.new.reader.fed ≤ self.old.reader.fed + length bytes.now) }
         ensures lines { OnOk result (self.new.line ≤ self.old.line + length bytes.now) }
@@ -154,7 +156,8 @@ pub fn answer_source<S: Source, W: Target>(
     requires reads { (S.state source.old).has_failed ≡ false }
     requires goes_on { (S.state source.old).has_ended ≡ false }
     requires works { has_fault (W.state out.old) ≡ false }
-    ensures { AnswersSource command result (S.state source.old) (S.state source.new) (W.state out.old) (W.state out.new) }
+    ensures { AnswersSource command result
+        (S.state source.old) (S.state source.new) (W.state out.old) (W.state out.new) }
 {
     let mut block = [0u8; BLOCK];
     let mut progress = Progress::new();

@@ -140,10 +140,12 @@ pub fn run_in<A: Allocator, R: Source, W: Target, E: Target>(
         (devices (R.state input.old) (W.state out.old) (E.state err.old))
         (devices (R.state input.new) (W.state out.new) (E.state err.new)) result }
     // Nothing is read but by a command that takes its input from the source.
-    ensures unread { reads_source (request_of (map string_bytes words.now)) ≡ false → R.state input.new ≡ R.state input.old }
+    ensures unread { reads_source (request_of (map string_bytes words.now)) ≡ false →
+        R.state input.new ≡ R.state input.old }
     // However a run ends, a flush of the output is tried behind its last byte.
     ensures tried { (W.state out.new).flush_tried ≡ true }
-    // No flush but that last one is refused. So none comes earlier, since an earlier one may be refused and the last one not.
+    // No flush but that last one is refused. So none comes earlier, since an earlier one may be refused and the last
+    // one not.
     ensures one_flush { (W.state out.new).flush_failed ≡ not (W.state out.new).is_flushed }
 {
     let stop = flush_last(answer_command(alloc, words, input, out), out);
@@ -153,9 +155,9 @@ pub fn run_in<A: Allocator, R: Source, W: Target, E: Target>(
 
 /// Runs a command, and answers its exit status.
 ///
-/// The words are those behind the program's name. The input, where no words give it, comes from `input`. The answers go to
-/// `out` and what went wrong to `err`. Memory is taken only to join words that give the input, and before anything is
-/// written; `nissy: out of memory` is told only where that growth was refused.
+/// The words are those behind the program's name. The input, where no words give it, comes from `input`. The answers go
+/// to `out` and what went wrong to `err`. Memory is taken only to join words that give the input, and before anything
+/// is written; `nissy: out of memory` is told only where that growth was refused.
 pub fn run<R: Source, W: Target, E: Target>(
     alloc: Global,
     words: &[String],
@@ -170,10 +172,12 @@ pub fn run<R: Source, W: Target, E: Target>(
         (devices (R.state input.old) (W.state out.old) (E.state err.old))
         (devices (R.state input.new) (W.state out.new) (E.state err.new)) result }
     // Nothing is read but by a command that takes its input from the source.
-    ensures unread { reads_source (request_of (map string_bytes words.now)) ≡ false → R.state input.new ≡ R.state input.old }
+    ensures unread { reads_source (request_of (map string_bytes words.now)) ≡ false →
+        R.state input.new ≡ R.state input.old }
     // However a run ends, a flush of the output is tried behind its last byte.
     ensures tried { (W.state out.new).flush_tried ≡ true }
-    // No flush but that last one is refused. So none comes earlier, since an earlier one may be refused and the last one not.
+    // No flush but that last one is refused. So none comes earlier, since an earlier one may be refused and the last
+    // one not.
     ensures one_flush { (W.state out.new).flush_failed ≡ not (W.state out.new).is_flushed }
 {
     run_in(alloc, words, input, out, err)

@@ -39,12 +39,14 @@ impl<R: io::Read> Source for FromReader<R> {
         requires works { (⟦<FromReader<R> as Source>⟧.state self.old).has_failed ≡ false }
         requires goes_on { (⟦<FromReader<R> as Source>⟧.state self.old).has_ended ≡ false }
         ensures bound { IfOk result (λ count. count ≤ length buf.new) }
-        ensures bytes { Gave (⟦<FromReader<R> as Source>⟧.state self.old) (⟦<FromReader<R> as Source>⟧.state self.new)
-            (moved_bytes result buf.new) }
+        ensures bytes { Gave (⟦<FromReader<R> as Source>⟧.state self.old)
+            (⟦<FromReader<R> as Source>⟧.state self.new) (moved_bytes result buf.new) }
         ensures failed { (⟦<FromReader<R> as Source>⟧.state self.new).has_failed ≡ is_err result }
-        ensures ended { (⟦<FromReader<R> as Source>⟧.state self.new).has_ended ≡ found_end result buf.new }
+        ensures ended { (⟦<FromReader<R> as Source>⟧.state self.new).has_ended
+            ≡ found_end result buf.new }
         // What it finds as the end is the reader's end, and no failed read.
-        ensures whole { found_end result buf.new ≡ true → IsAtEnd (⟦<FromReader<R> as Source>⟧.state self.new).left }
+        ensures whole { found_end result buf.new ≡ true →
+            IsAtEnd (⟦<FromReader<R> as Source>⟧.state self.new).left }
     {
         match self.reader.read(buf) {
             Ok(count) => {

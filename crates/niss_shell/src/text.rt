@@ -3,7 +3,7 @@ ghost use Rattle.std.specs.Prelude.{◌≡◌, ◌+◌, ◌≤◌, ◌++◌, dec
 use niss_moves::LineText;
 
 /// Appends the number in decimal digits.
-#[tactic(auto, using(crate::proofs::DigitLemmas::decimal_last, crate::proofs::DigitLemmas::decimal_room, crate::proofs::DigitLemmas::decimal_one))]
+#[tactic(auto, using(crate::proofs::DigitLemmas::digit_laws))]
 pub fn put_digits(number: u128, text: &mut LineText)
     requires { length text.old.items + length (decimal number) ≤ 2048 }
     ensures words { text.new.items ≡ text.old.items ++ decimal number }
