@@ -24,6 +24,7 @@ pub mod Stays
 pub mod CleanWords
 pub mod Home
 pub mod WholeEffect
+pub mod ListedPlaces
 pub mod RewritingRows
 pub mod MadeLists
 pub mod CanonicalOrder

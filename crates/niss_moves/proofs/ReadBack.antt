@@ -1,5 +1,6 @@
 -- What is written is spelled.
 use Rattle.std.proofs.Common.{◌≡◌, ℕ, ◌-◌, refl, ap, sym, ◌∙◌, List, [], ◌∷◌, ◌++◌, length, map, flat_map, append_assoc, append-nil, Some, slice_get, arith, length-append}
+use Rattle.std.specs.List.{join_with_byte}
 use Rattle.niss_moves.specs.Letters.{face_letter}
 use Rattle.niss_moves.specs.Notation.{base_bytes, Suffix, Nothing, Two, Prime, Plain, suffix_bytes, suffix_power, Space}
 use Rattle.niss_moves.specs.Line.{Gap, Spelled, Item, Outside, item_bytes, item_normal, item_bracketed, Spells}
@@ -130,3 +131,14 @@ words_are_read (t ∷ ts) =
       normal_are = ap (λ s. t ∷ s) (spaced_moves ts) ∙ ap (λ s. s ++ flat_map item_normal (spaced ts)) (sym (item_move t));
       bracketed_are = spaced_inside ts;
     }
+
+-- One space stands between each two words.
+joined_behind : (t : Token) (ts : List Token) (text : List ℕ) → with_words (text ++ word t) (map word ts) ≡ text ++ join_with_byte 32 (map word (t ∷ ts))
+joined_behind t [] text = refl
+joined_behind t (u ∷ us) text =
+    joined_behind u us ((text ++ word t) ++ gap (text ++ word t))
+    ∙ ap (λ g. ((text ++ word t) ++ g) ++ join_with_byte 32 (map word (u ∷ us))) (gap_word text t) ∙ simp append_assoc
+
+pub words_are_joined : (s : List Token) → with_words [] (map word s) ≡ join_with_byte 32 (map word s)
+words_are_joined [] = refl
+words_are_joined (t ∷ ts) = joined_behind t ts []

@@ -1,6 +1,7 @@
 -- What holds of all moves and sequences, each proved as the contract of a function.
-use Rattle.std.specs.Prelude.{◌≡◌, List, ◌++◌, map}
+use Rattle.std.specs.Prelude.{◌≡◌, ◌≢◌, ◌↔◌, List, ◌++◌, map, length, Contains, AllPairs}
 use Rattle.niss_moves.specs.Places.{Place, IsPlace}
+use Rattle.niss_moves.specs.Facelets.{places}
 use Rattle.niss_moves.specs.Effects.{effect, effect_of_turns, moved_by, inverse, HasMeaning}
 use Rattle.niss_moves.specs.declared.turn.Turn.{Turn}
 use Rattle.niss_moves.specs.declared.token.Token.{Token}
@@ -9,6 +10,18 @@ use Rattle.niss_moves.specs.declared.token.Token.TheVariants as token
 -- A move brings places to places.
 abbrev pub PlacesStay : Type 0
 PlacesStay = (t : Token) (q : Place) → IsPlace q → IsPlace (moved_by t q)
+
+-- The list of the sticker places has each place, and nothing else.
+abbrev pub PlacesAreListed : Type 0
+PlacesAreListed = (q : Place) → IsPlace q ↔ Contains places q
+
+-- It has no place twice.
+abbrev pub PlacesDiffer : Type 0
+PlacesDiffer = AllPairs (λ p q. p ≢ q) places
+
+-- There are 54.
+abbrev pub PlacesAre54 : Type 0
+PlacesAre54 = length places ≡ 54
 
 -- The inverse of a sequence, made behind it, brings each place back.
 abbrev pub InverseUndoes : Type 0

@@ -1,5 +1,5 @@
--- The steps by which a line is read, byte by byte. They are private: no public contract names them, and what a line is
--- and which fault it has is said by Line and Faults.
+-- The steps by which a line is read, byte by byte. What a line is and which fault it has is said by Line and Faults, and
+-- a caller needs no more: these steps stand behind `read_line` and, as what a reader holds, behind `IsFed`.
 use Rattle.std.specs.Prelude.{ℕ, ◌+◌, ◌-◌, ◌≤◌, Bool, true, false, if◌then◌else◌, ◌==◌, nat_lt, List, [], ◌∷◌, ◌++◌, length, Option, None, Some, Result, Ok, Err, MatchResult, ◌≡◌}
 use Rattle.niss_moves.specs.Notation.{token_of}
 use Rattle.niss_moves.specs.Line.{Moves}

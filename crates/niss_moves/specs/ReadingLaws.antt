@@ -1,5 +1,6 @@
 -- What holds of all lines, each proved as the contract of a function.
 use Rattle.std.specs.Prelude.{◌≡◌, ◌≤◌, ◌+◌, ◌↔◌, ℕ, Bool, List, [], map, length, Ok, Err}
+use Rattle.std.specs.List.{join_with_byte}
 use Rattle.niss_moves.specs.Faults.{Faults, Cut, Continues}
 use Rattle.niss_moves.specs.Line.{Moves, Spells, IsLine}
 use Rattle.niss_moves.specs.Reader.{read_line}
@@ -35,3 +36,7 @@ LineIsFaulty =
 -- Moves written with single spaces are read as normal moves, and no bracketed ones.
 abbrev pub WordsAreRead : Type 0
 WordsAreRead = (s : List Token) → Spells (with_words [] (map word s)) s []
+
+-- Between each two words stands one space; 32 is the space.
+abbrev pub WordsAreJoined : Type 0
+WordsAreJoined = (s : List Token) → with_words [] (map word s) ≡ join_with_byte 32 (map word s)

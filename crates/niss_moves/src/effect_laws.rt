@@ -1,9 +1,16 @@
 //! What holds of all moves and sequences. Each law is the contract of a function that does nothing.
-ghost use Rattle.niss_moves.specs.EffectLaws.{PlacesStay, InverseUndoes, InverseIsUndone, EffectsCompose, TurnsAreMoves, OneMeaning};
+ghost use Rattle.niss_moves.specs.EffectLaws.{PlacesStay, PlacesAreListed, PlacesDiffer, PlacesAre54, InverseUndoes, InverseIsUndone, EffectsCompose, TurnsAreMoves, OneMeaning};
 
 /// A move brings places to places.
 pub fn places_stay()
     ensures { PlacesStay }
+{}
+
+/// The list `places` has the 54 sticker places, each once.
+pub fn places_are_listed()
+    ensures members { PlacesAreListed }
+    ensures once { PlacesDiffer }
+    ensures number { PlacesAre54 }
 {}
 
 /// The inverse of a sequence, made behind it, brings each place back.

@@ -1,5 +1,5 @@
 //! What holds of all lines. Each law is the contract of a function that does nothing.
-ghost use Rattle.niss_moves.specs.ReadingLaws.{LineIsSpelled, LineIsFaulty, OneReading, OneFault, OneEnding, WordsAreRead};
+ghost use Rattle.niss_moves.specs.ReadingLaws.{LineIsSpelled, LineIsFaulty, OneReading, OneFault, OneEnding, WordsAreRead, WordsAreJoined};
 
 /// `read_line`, the answer of `read` and `finish`, is the moves that spell the line, where they are at most 256, and else
 /// the fault of the line.
@@ -26,4 +26,9 @@ pub fn one_ending()
 /// Moves written with single spaces, as by `put_tokens`, are read as normal moves, and no bracketed ones.
 pub fn words_are_read()
     ensures { WordsAreRead }
+{}
+
+/// Moves are written, as by `put_tokens`, with one space between each two words.
+pub fn words_are_joined()
+    ensures { WordsAreJoined }
 {}

@@ -1,0 +1,30 @@
+use super::*;
+
+// WCA Regulations, 12a4: the whole cube is turned as by R, U and F.
+#[test]
+fn turns_the_cube_as_r_u_and_f(rt: HostRuntime) {
+    let x = Rotation::IDENTITY.then(Axis::Rl, Power::Quarter);
+    assert_eq!(rt; x.face_before(Face::U), Face::F);
+    assert_eq!(rt; x.face_before(Face::B), Face::U);
+    assert_eq!(rt; x.face_before(Face::R), Face::R);
+
+    let y = Rotation::IDENTITY.then(Axis::Ud, Power::Quarter);
+    assert_eq!(rt; y.face_before(Face::F), Face::R);
+    assert_eq!(rt; y.face_before(Face::L), Face::F);
+    assert_eq!(rt; y.face_before(Face::U), Face::U);
+
+    let z = Rotation::IDENTITY.then(Axis::Fb, Power::Quarter);
+    assert_eq!(rt; z.face_before(Face::R), Face::U);
+    assert_eq!(rt; z.face_before(Face::U), Face::L);
+    assert_eq!(rt; z.face_before(Face::F), Face::F);
+}
+
+#[test]
+fn turns_about_two_axes(rt: HostRuntime) {
+    let x2_then_y = Rotation::IDENTITY
+        .then(Axis::Rl, Power::Half)
+        .then(Axis::Ud, Power::Quarter);
+    assert_eq!(rt; x2_then_y.face_before(Face::U), Face::D);
+    assert_eq!(rt; x2_then_y.face_before(Face::F), Face::R);
+    assert_eq!(rt; x2_then_y.face_before(Face::L), Face::B);
+}
