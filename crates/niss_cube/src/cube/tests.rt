@@ -117,7 +117,7 @@ fn turned_cubes_have_their_coordinates(rt: HostRuntime) {
     assert_eq!(rt; down.slice(Axis::Fb), 33);
 }
 
-// R U R2 B' L' brings the four edges of the slice to the places UR, UF, UL, UB, in some order.
+// R U R2 B' L' brings the edges FR, FL, BL, BR to the places UF, UL, UB, UR.
 #[test]
 fn the_largest_slice_number_is_494(rt: HostRuntime) {
     let cube = after(&[
