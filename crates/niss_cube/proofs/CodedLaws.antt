@@ -7,7 +7,7 @@ use Rattle.niss_moves.specs.declared.turn.Turn.{Turn}
 use Rattle.niss_moves.specs.declared.axis.Axis.{Axis}
 use Rattle.niss_cube.specs.declared.cube.Cube.{Cube}
 use Rattle.niss_moves.specs.Facelets.{places}
-use Rattle.niss_cube.specs.Sets.{Kept}
+use Rattle.niss_cube.specs.Sets.{Kept, ArePlaces}
 use Rattle.niss_cube.specs.Map.{map_of}
 use Rattle.niss_moves.specs.Effects.{turned}
 use Rattle.niss_cube.proofs.CubieLists.{CubieLists}
@@ -16,6 +16,7 @@ use Rattle.niss_cube.specs.AfterTurn.{TurnedIsCube, IsCoordinate}
 use Rattle.niss_cube.proofs.Each.{same_place-is, at_place}
 use Rattle.niss_cube.proofs.AxisRenamings.{all_turns, at_turn, KeepsPlaces, IsRenaming}
 use Rattle.niss_cube.proofs.MapPlaces.{sticker_map-place}
+use Rattle.niss_cube.proofs.SetPlaces.{kept_same}
 use Rattle.niss_cube.proofs.ListTurns.{Valid, map_lists, turned_lists, turned-valid, turned-map}
 
 -- The number of a renamed cube is a code of its cubies, below the count; each number has cubies of its own,
@@ -108,13 +109,19 @@ module _ (renamed_for : Axis → (Place → Place) → Place → Place) (turn_fo
       ∙ k.code_is standard (map_lists u) c cv (λ q p. sym (turned_back-map s c cv q p) ∙ sym (k.unrenamed (map_lists u) q))
       ∙ k.of_number_code i l
 
-  pub coordinate : (set : Axis → Place → Bool) → ((a : Axis) (c : CubieLists) → Valid c → (of a (map_lists c) ≡ 0) ↔ Kept (set a) (map_lists c)) → (a : Axis) → IsCoordinate (of a) (after a) count (set a)
-  coordinate set zero_kept a = record {
+  number_of_places : (a : Axis) (c : Cube) (e : Place → Place) → SameMap (map_of c) e → of a e ≡ of a (map_of c)
+  number_of_places a c e s =
+      k.code_is a e (cubies_for a (lists_of c)) (r.valid a (lists_of c) c.are_cubies) (λ q p. r.map_is a (lists_of c) c.are_cubies q p ∙ r.same a (map_of c) e s q p)
+      ∙ sym (code_of a (lists_of c) c.are_cubies)
+
+  pub coordinate : (set : Axis → Place → Bool) → ((a : Axis) → ArePlaces (set a)) → ((a : Axis) (c : CubieLists) → Valid c → (of a (map_lists c) ≡ 0) ↔ Kept (set a) (map_lists c)) → (a : Axis) → IsCoordinate (of a) (after a) count (set a)
+  coordinate set inside zero_kept a = record {
     below = λ c. let P : ℕ → Type 0 = λ n. n < count in subst P (sym (code_of a (lists_of c) c.are_cubies)) (k.below (cubies_for a (lists_of c)) (r.valid a (lists_of c) c.are_cubies));
-    zero_where_kept = λ c. zero_kept a (lists_of c) c.are_cubies;
-    of_places = λ c e s.
-        k.code_is a e (cubies_for a (lists_of c)) (r.valid a (lists_of c) c.are_cubies) (λ q p. r.map_is a (lists_of c) c.are_cubies q p ∙ r.same a (map_of c) e s q p)
-        ∙ sym (code_of a (lists_of c) c.are_cubies);
+    zero_where_kept = λ c e s.
+        let same : of a e ≡ of a (map_of c) = number_of_places a c e s in
+        let z = zero_kept a (lists_of c) c.are_cubies in
+        ((λ h. kept_same (set a) (map_of c) e (inside a) s (z.0 (sym same ∙ h))), (λ k. same ∙ z.1 (kept_same (set a) e (map_of c) (inside a) (λ q p. sym (s q p)) k)));
+    of_places = number_of_places a;
     follows = λ c t. follow a (lists_of c) t c.are_cubies;
     after_below = stays_below a;
     back_again = goes_back a;

@@ -15,6 +15,7 @@ use Rattle.niss_cube.specs.RenamedTurns.{turn_for_flip, turn_for_twist}
 use Rattle.niss_cube.specs.SliceAfter.{edges_of_number, slice_after}
 use Rattle.niss_cube.specs.AfterTurn.{FlipsAreCoordinates, TwistsAreCoordinates, SlicesAreCoordinates}
 use Rattle.niss_cube.proofs.PlaceTables.{at_below}
+use Rattle.niss_cube.proofs.SetPlaces.{sets_are_places}
 use Rattle.niss_cube.proofs.CoordinateValues.{flip_of-cubies, twist_of-cubies, slice_of-cubies, flips-below, twists-below, slice-below, slice_occupied, slice_occupied-filled}
 use Rattle.niss_cube.proofs.ListTurns.{Valid, map_lists, turned_lists, turned-part}
 use Rattle.niss_cube.proofs.Orientations.{AreOriented, base_2, base_3, orientations_of_number-are, orientations_of_number-number, oriented-same}
@@ -164,16 +165,16 @@ pub flips_are_coordinates : FlipsAreCoordinates
 unfolding flip_after
 flips_are_coordinates =
     coordinate for_flip turn_for_flip cubies_for_flip flip_renaming Fb flip_of flip_code (λ i. cubies_of twists_home edges_home (flips_of_number i)) 2048 flips_code
-    flip_after (λ a i t. refl) flip_set flip_zero-kept
+    flip_after (λ a i t. refl) flip_set sets_are_places.flips flip_zero-kept
 
 pub twists_are_coordinates : TwistsAreCoordinates
 unfolding twist_after
 twists_are_coordinates =
     coordinate for_twist turn_for_twist cubies_for_twist twist_renaming Ud twist_of twist_code (λ i. cubies_of (twists_of_number i) edges_home flips_home) 2187 twists_code
-    twist_after (λ a i t. refl) twist_set twist_zero-kept
+    twist_after (λ a i t. refl) twist_set sets_are_places.twists twist_zero-kept
 
 pub slices_are_coordinates : SlicesAreCoordinates
 unfolding slice_after
 slices_are_coordinates =
     coordinate for_twist turn_for_twist cubies_for_twist twist_renaming Ud slice_of slice_code (λ i. cubies_of twists_home (edges_of_number i) flips_home) 495 slices_code
-    slice_after (λ a i t. refl) slice_set slice_zero-kept
+    slice_after (λ a i t. refl) slice_set sets_are_places.slices slice_zero-kept

@@ -16,6 +16,7 @@ pub mod OccupiedNumbers
 pub mod Once
 pub mod Orientations
 pub mod Origins
+pub mod Permutations
 pub mod PlaceTables
 pub mod PlacedEdges
 pub mod QuarterSteps
@@ -23,6 +24,8 @@ pub mod QuarterTurned
 pub mod RenamedCubies
 pub mod RenamingTables
 pub mod RotatedPlaces
+pub mod SameLetters
+pub mod SetPlaces
 pub mod ShownCubies
 pub mod SliceCodes
 pub mod SliceSteps

@@ -41,26 +41,26 @@ any_brought e q p (r ∷ rs) h some = go (same_place p r) refl some (any_brought
         or_second true b h = refl
         or_second false b h = h
 
-all_places : list_all is_place places ≡ true
+pub all_places : list_all is_place places ≡ true
 all_places = refl
 
 pub letter_of-is : (e : Place → Place) (q p : Place) → is_place p ≡ true → e p ≡ q → ((p' : Place) → is_place p' ≡ true → e p' ≡ q → p' ≡ p) → letter_of e places q ≡ letter_at p
 letter_of-is e q p l h only =
     letter_of-only e q (letter_at p) places all_places (λ p' l' h'. ap letter_at (only p' l' h')) (any_brought e q p places h (listed p l))
 
-is_true : (b : Bool) → (b ≡ true) ⊎ (b ≡ false)
+pub is_true : (b : Bool) → (b ≡ true) ⊎ (b ≡ false)
 is_true true = inl refl
 is_true false = inr refl
 
-clash : (b : Bool) → b ≡ true → b ≡ false → ⊥
+pub clash : (b : Bool) → b ≡ true → b ≡ false → ⊥
 clash b p q = cc
 
-not_is : (b : Bool) → not b ≡ true → b ≡ false
+pub not_is : (b : Bool) → not b ≡ true → b ≡ false
 not_is true h = sym h
 not_is false h = refl
 
 -- among the facelets of one kind, the one whose sticker stands at facelet k of place i
-origin : (n m : ℕ) (rows : List (List Place)) (member : Place → Bool) → found_test n m rows member ≡ true → ((a : ℕ) → a % m < m) → (homes turns : List ℕ) → length homes ≡ n → ((h : ℕ) → h < n → times_in homes h ≡ 1) → ((i : ℕ) → i < n → get_or homes i 0 < n) →
+pub origin : (n m : ℕ) (rows : List (List Place)) (member : Place → Bool) → found_test n m rows member ≡ true → ((a : ℕ) → a % m < m) → (homes turns : List ℕ) → length homes ≡ n → ((h : ℕ) → h < n → times_in homes h ≡ 1) → ((i : ℕ) → i < n → get_or homes i 0 < n) →
     (i k j : ℕ) → i < n → k < m → j < m → (j + get_or turns i 0) % m ≡ k → sticker_place m rows homes turns (facelet_at rows (get_or homes i 0) j) ≡ facelet_at rows i k
 origin n m rows member test low homes turns len once small i k j li lk lj e =
     let h : ℕ = get_or homes i 0 in
@@ -68,7 +68,7 @@ origin n m rows member test low homes turns len once small i k j li lk lj e =
     let p : place_in homes h ≡ i = place_in-is homes h i (once h lh) (omega arith) refl in
     sticker_place-at n m rows member test homes turns h j lh lj ∙ ap (λ x. facelet_at rows x ((j + get_or turns x 0) % m)) p ∙ ap (facelet_at rows i) e
 
-only_origin : (n m : ℕ) (rows : List (List Place)) (member : Place → Bool) → found_test n m rows member ≡ true → ((a : ℕ) → a % m < m) → (homes turns : List ℕ) → length homes ≡ n → ((h : ℕ) → h < n → times_in homes h ≡ 1) →
+pub only_origin : (n m : ℕ) (rows : List (List Place)) (member : Place → Bool) → found_test n m rows member ≡ true → ((a : ℕ) → a % m < m) → (homes turns : List ℕ) → length homes ≡ n → ((h : ℕ) → h < n → times_in homes h ≡ 1) →
     (i k : ℕ) → i < n → k < m → (h j : ℕ) → h < n → j < m → sticker_place m rows homes turns (facelet_at rows h j) ≡ facelet_at rows i k → (h ≡ get_or homes i 0) × ((j + get_or turns i 0) % m ≡ k)
 only_origin n m rows member test low homes turns len once i k li lk h j lh lj e =
     let there : (place_in homes h < length homes) × (get_or homes (place_in homes h) 0 ≡ h) = place_in-found homes h (omega (arith, once h lh)) in
@@ -83,29 +83,29 @@ only_origin n m rows member test low homes turns len once i k li lk h j lh lj e 
     )
 
 module _ (c : CubieLists) (v : Valid c) where
-  corner_once : (h : ℕ) → h < 8 → times_in c.corners h ≡ 1
+  pub corner_once : (h : ℕ) → h < 8 → times_in c.corners h ≡ 1
   corner_once h l = sym (count_by-times c.corners h) ∙ v.each_corner h l
 
-  edge_once : (h : ℕ) → h < 12 → times_in c.edges h ≡ 1
+  pub edge_once : (h : ℕ) → h < 12 → times_in c.edges h ≡ 1
   edge_once h l = sym (count_by-times c.edges h) ∙ v.each_edge h l
 
-  corner_from : (h j : ℕ) → h < 8 → j < 3 → map_lists c (facelet_at corner_facelets h j) ≡ sticker_place 3 corner_facelets c.corners c.twists (facelet_at corner_facelets h j)
+  pub corner_from : (h j : ℕ) → h < 8 → j < 3 → map_lists c (facelet_at corner_facelets h j) ≡ sticker_place 3 corner_facelets c.corners c.twists (facelet_at corner_facelets h j)
   corner_from = corner_is c.corners c.twists c.edges c.flips v (map_lists c) (λ q p. refl)
 
-  edge_from : (h j : ℕ) → h < 12 → j < 2 → map_lists c (facelet_at edge_facelets h j) ≡ sticker_place 2 edge_facelets c.edges c.flips (facelet_at edge_facelets h j)
+  pub edge_from : (h j : ℕ) → h < 12 → j < 2 → map_lists c (facelet_at edge_facelets h j) ≡ sticker_place 2 edge_facelets c.edges c.flips (facelet_at edge_facelets h j)
   edge_from = edge_is c.corners c.twists c.edges c.flips v (map_lists c) (λ q p. refl)
 
   -- an edge's sticker is brought to no corner's place, a corner's to no edge's
-  edge_not_corner : (p : Place) → is_place p ≡ true → is_corner p ≡ false → is_edge p ≡ true → is_corner (map_lists c p) ≡ false
+  pub edge_not_corner : (p : Place) → is_place p ≡ true → is_corner p ≡ false → is_edge p ≡ true → is_corner (map_lists c p) ≡ false
   edge_not_corner p l w u = not_is _ (and_left _ _ (and_right (is_edge (map_lists c p)) _ (sticker_map-edge c.corners c.twists c.edges c.flips v p l w u)))
 
-  corner_stays : (p : Place) → is_place p ≡ true → is_corner p ≡ true → is_corner (map_lists c p) ≡ true
+  pub corner_stays : (p : Place) → is_place p ≡ true → is_corner p ≡ true → is_corner (map_lists c p) ≡ true
   corner_stays p l w = and_left _ _ (sticker_map-corner c.corners c.twists c.edges c.flips v p l w)
 
-  edge_stays : (p : Place) → is_place p ≡ true → is_corner p ≡ false → is_edge p ≡ true → is_edge (map_lists c p) ≡ true
+  pub edge_stays : (p : Place) → is_place p ≡ true → is_corner p ≡ false → is_edge p ≡ true → is_edge (map_lists c p) ≡ true
   edge_stays p l w u = and_left _ _ (sticker_map-edge c.corners c.twists c.edges c.flips v p l w u)
 
-  centre_stays : (p : Place) → is_corner p ≡ false → is_edge p ≡ false → map_lists c p ≡ p
+  pub centre_stays : (p : Place) → is_corner p ≡ false → is_edge p ≡ false → map_lists c p ≡ p
   centre_stays p w u = rw (w, u) refl
 
   pub corner_letter : (i k j : ℕ) → i < 8 → k < 3 → j < 3 → (j + get_or c.twists i 0) % 3 ≡ k → letter_of (map_lists c) places (facelet_at corner_facelets i k) ≡ letter_at (facelet_at corner_facelets (get_or c.corners i 0) j)

@@ -17,7 +17,7 @@ use Rattle.niss_cube.specs.declared.turn_tables.Coordinate.TheVariants.{Flip, Tw
 use Rattle.niss_cube.specs.Map.{map_of}
 use Rattle.niss_cube.specs.Sets.{flip_set, twist_set, slice_set}
 use Rattle.niss_cube.specs.AfterTurn.{IsCoordinate}
-use Rattle.niss_cube.specs.StandardCoordinates.{number_of, count_of, after_of}
+use Rattle.niss_cube.specs.StandardCoordinates.{coordinate_of, count_of, after_of}
 use Rattle.niss_cube.specs.TableRows.{AreRows, entry_at, face_index, power_index}
 use Rattle.niss_cube.proofs.MapPlaces.{half_map, counter_map}
 use Rattle.niss_cube.proofs.CodedLaws.{lists_of, lists_keep_places}
@@ -28,7 +28,7 @@ set_of Flip = flip_set Fb
 set_of Twist = twist_set Ud
 set_of Slice = slice_set Ud
 
-law : (k : Coordinate) → IsCoordinate (number_of k) (after_of k) (count_of k) (set_of k)
+law : (k : Coordinate) → IsCoordinate (coordinate_of k) (after_of k) (count_of k) (set_of k)
 law Flip = flips_are_coordinates Fb
 law Twist = twists_are_coordinates Ud
 law Slice = slices_are_coordinates Ud
@@ -47,20 +47,20 @@ module _ (k : Coordinate) (f : Face) (c once twice thrice : Cube)
   counter : SameMap (map_of thrice) (λ q. turned (turn_of f Counter) (map_of c q))
   counter = counter_map (turn_of f Counter) (map_of c) (map_of once) (map_of twice) (map_of thrice) refl a b d (lists_keep_places (lists_of c) c.are_cubies)
 
-  pub numbers_after-are : (n m l : ℕ) → n ≡ number_of k (map_of once) → m ≡ number_of k (map_of twice) → l ≡ number_of k (map_of thrice) →
-      (p : Power) → slice_index (n ∷ m ∷ l ∷ []) (power_index p) ≡ number_of k (λ q. turned (turn_of f p) (map_of c q))
+  pub numbers_after-are : (n m l : ℕ) → n ≡ coordinate_of k (map_of once) → m ≡ coordinate_of k (map_of twice) → l ≡ coordinate_of k (map_of thrice) →
+      (p : Power) → slice_index (n ∷ m ∷ l ∷ []) (power_index p) ≡ coordinate_of k (λ q. turned (turn_of f p) (map_of c q))
   numbers_after-are n m l x y z Quarter = x ∙ sym ((law k).of_places once (λ q. turned (turn_of f Quarter) (map_of c q)) a)
   numbers_after-are n m l x y z Half = y ∙ sym ((law k).of_places twice (λ q. turned (turn_of f Half) (map_of c q)) half)
   numbers_after-are n m l x y z Counter = z ∙ sym ((law k).of_places thrice (λ q. turned (turn_of f Counter) (map_of c q)) counter)
 
 abbrev pub AreNumbersAfter : Coordinate → Cube → Face → List ℕ → Type 0
-AreNumbersAfter k c f numbers = (p : Power) → slice_index numbers (power_index p) ≡ number_of k (λ q. turned (turn_of f p) (map_of c q))
+AreNumbersAfter k c f numbers = (p : Power) → slice_index numbers (power_index p) ≡ coordinate_of k (λ q. turned (turn_of f p) (map_of c q))
 
 pub row-is : (k : Coordinate) (c : Cube) (u d r l f b : List ℕ) → AreNumbersAfter k c U u → AreNumbersAfter k c D d → AreNumbersAfter k c R r → AreNumbersAfter k c L l → AreNumbersAfter k c F f → AreNumbersAfter k c B b →
-    (t : Turn) → entry_at (u ∷ d ∷ r ∷ l ∷ f ∷ b ∷ []) t ≡ number_of k (λ q. turned t (map_of c q))
+    (t : Turn) → entry_at (u ∷ d ∷ r ∷ l ∷ f ∷ b ∷ []) t ≡ coordinate_of k (λ q. turned t (map_of c q))
 row-is k c u d r l f b hu hd hr hl hf hb t = at t.face t.power
   where
-    at : (g : Face) (p : Power) → slice_index (get_or (u ∷ d ∷ r ∷ l ∷ f ∷ b ∷ []) (face_index g) []) (power_index p) ≡ number_of k (λ q. turned (turn_of g p) (map_of c q))
+    at : (g : Face) (p : Power) → slice_index (get_or (u ∷ d ∷ r ∷ l ∷ f ∷ b ∷ []) (face_index g) []) (power_index p) ≡ coordinate_of k (λ q. turned (turn_of g p) (map_of c q))
     at U p = hu p
     at D p = hd p
     at R p = hr p
@@ -77,7 +77,7 @@ pub filled-start : (k : Coordinate) (rows : List (List (List ℕ))) → length r
 filled-start k rows l = record { rows_count = l; entries = λ i t h. absurd (omega arith) }
 
 -- one more row
-pub filled-step : (k : Coordinate) (n : ℕ) (rows : List (List (List ℕ))) (row : List (List ℕ)) (c : Cube) → n < length rows → number_of k (map_of c) ≡ n → ((t : Turn) → entry_at row t ≡ number_of k (λ q. turned t (map_of c q))) →
+pub filled-step : (k : Coordinate) (n : ℕ) (rows : List (List (List ℕ))) (row : List (List ℕ)) (c : Cube) → n < length rows → coordinate_of k (map_of c) ≡ n → ((t : Turn) → entry_at row t ≡ coordinate_of k (λ q. turned t (map_of c q))) →
     Filled k n rows → Filled k (n + 1) (set rows n row)
 filled-step k n rows row c l e r done = record { rows_count = length-set rows n row ∙ done.rows_count; entries = λ i t h. at i t h }
   where

@@ -25,7 +25,7 @@ TurnedIsCube = (c : Cube) (t : Turn) → IsCube (λ q. turned t (map_of c q))
 -- a turn follows from the number alone.
 pub record IsCoordinate (of : (Place → Place) → ℕ) (after : ℕ → Turn → ℕ) (count : ℕ) (set : Place → Bool) : Type 0 where
   pub below : (c : Cube) → of (map_of c) < count
-  pub zero_where_kept : (c : Cube) → (of (map_of c) ≡ 0) ↔ Kept set (map_of c)
+  pub zero_where_kept : (c : Cube) (e : Place → Place) → SameMap (map_of c) e → (of e ≡ 0) ↔ Kept set e
   pub of_places : (c : Cube) (e : Place → Place) → SameMap (map_of c) e → of e ≡ of (map_of c)
   pub follows : (c : Cube) (t : Turn) → of (λ q. turned t (map_of c q)) ≡ after (of (map_of c)) t
   pub after_below : (i : ℕ) (t : Turn) → i < count → after i t < count

@@ -2,6 +2,8 @@ pub mod CubieFacelets
 pub mod Cubies
 pub mod Map
 pub mod Sets
+pub mod Permutations
+pub mod SameLetters
 pub mod Coordinates
 pub mod SameCubies
 pub mod Quarters

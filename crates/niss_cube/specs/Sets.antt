@@ -28,7 +28,8 @@ flip_set a q =
     && (looks_along (helper_of a) q
     || (is_zero (along (helper_of a) q.cell) && looks_along a q))
 
--- A map of places brings each place of the set to one of the set.
+-- A map of places brings each place of the set to one of the set. The map of a cube permutes the places, so it then
+-- brings the set to itself: no other place comes into it.
 abbrev pub Kept : (Place → Bool) → (Place → Place) → Type 0
 Kept set e = (q : Place) → IsTrue (set q) → IsTrue (set (e q))
 
@@ -39,3 +40,13 @@ is_kept set e = list_all (λ q. not (set q) || set (e q)) places
 -- The test tells where a set is kept, for each set of the 54 places.
 abbrev pub KeptIsTested : Type 0
 KeptIsTested = (set : Place → Bool) (e : Place → Place) → ((q : Place) → IsTrue (set q) → IsPlace q) → IsTrue (is_kept set e) ↔ Kept set e
+
+-- The set has sticker places only.
+abbrev pub ArePlaces : (Place → Bool) → Type 0
+ArePlaces set = (q : Place) → IsTrue (set q) → IsPlace q
+
+-- The sets of the coordinates have sticker places only, so that the test tells of them.
+pub record SetsArePlaces : Type 0 where
+  pub flips : (a : Axis) → ArePlaces (flip_set a)
+  pub twists : (a : Axis) → ArePlaces (twist_set a)
+  pub slices : (a : Axis) → ArePlaces (slice_set a)

@@ -10,10 +10,10 @@ use Rattle.niss_cube.specs.SliceAfter.{slice_after}
 use Rattle.niss_cube.specs.declared.turn_tables.Coordinate.{Coordinate}
 use Rattle.niss_cube.specs.declared.turn_tables.Coordinate.TheVariants.{Flip, Twist, Slice}
 
-abbrev pub number_of : Coordinate → (Place → Place) → ℕ
-number_of Flip = flip_of Fb
-number_of Twist = twist_of Ud
-number_of Slice = slice_of Ud
+abbrev pub coordinate_of : Coordinate → (Place → Place) → ℕ
+coordinate_of Flip = flip_of Fb
+coordinate_of Twist = twist_of Ud
+coordinate_of Slice = slice_of Ud
 
 abbrev pub count_of : Coordinate → ℕ
 count_of Flip = 2048

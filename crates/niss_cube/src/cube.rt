@@ -129,8 +129,8 @@ impl Cube {
     }
 
     /// The edge orientation with respect to an axis, from 0 to 2,047: the flips at the first eleven edge places of the cube
-    /// that is renamed for this axis (by `x'` for Ud, by `y` for Rl), as a number in base 2. It is 0 where all edges are
-    /// oriented.
+    /// that is renamed for this axis (by `x'` for Ud, by `y` for Rl), as a number in base 2. It is 0 exactly where all
+    /// edges are oriented: where their stickers of the set `flip_set` stand on places of this set.
     pub fn flip(&self, axis: Axis) -> u16
         ensures value { result ≡ flip_of axis (map_of self.now) }
         ensures in_range { result < 2048 }
@@ -141,8 +141,8 @@ impl Cube {
     }
 
     /// The corner orientation with respect to an axis, from 0 to 2,186: the twists at the first seven corner places of the
-    /// cube that is renamed for this axis (by `z'` for Rl, by `x` for Fb), as a number in base 3. It is 0 where all corners
-    /// are oriented.
+    /// cube that is renamed for this axis (by `z'` for Rl, by `x` for Fb), as a number in base 3. It is 0 exactly where all
+    /// corners are oriented: where their stickers of the set `twist_set` stand on places of this set.
     pub fn twist(&self, axis: Axis) -> u16
         ensures value { result ≡ twist_of axis (map_of self.now) }
         ensures in_range { result < 2187 }
@@ -154,7 +154,7 @@ impl Cube {
 
     /// The slice coordinate of an axis, from 0 to 494: the number of the places at which the four edges between the axis's
     /// two faces stand, in any order, on the cube that is renamed for this axis (by `z'` for Rl, by `x` for Fb). It is 0
-    /// where each of them stands in the slice.
+    /// exactly where each of them stands in the slice.
     pub fn slice(&self, axis: Axis) -> u16
         ensures value { result ≡ slice_of axis (map_of self.now) }
         ensures in_range { result < 495 }
@@ -177,7 +177,8 @@ impl Cube {
     fn corner_letter(&self, place: u8, facelet: u8) -> u8
         requires place { place < 8 }
         requires facelet { facelet < 3 }
-        ensures { result ≡ letter_of (map_of self.now) places (facelet_at corner_facelets place facelet) }
+        ensures { result
+            ≡ letter_of (map_of self.now) places (facelet_at corner_facelets place facelet) }
     {
         let n = place as usize;
         let from = (facelet + 3 - self.twists[n]) % 3;
@@ -188,7 +189,8 @@ impl Cube {
     fn edge_letter(&self, place: u8, facelet: u8) -> u8
         requires place { place < 12 }
         requires facelet { facelet < 2 }
-        ensures { result ≡ letter_of (map_of self.now) places (facelet_at edge_facelets place facelet) }
+        ensures { result
+            ≡ letter_of (map_of self.now) places (facelet_at edge_facelets place facelet) }
     {
         let n = place as usize;
         let from = (facelet + 2 - self.flips[n]) % 2;

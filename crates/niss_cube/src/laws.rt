@@ -1,10 +1,27 @@
 //! Laws over the definitions, each as a contract.
 ghost use Rattle.niss_cube.specs.AfterTurn.{TurnedIsCube, FlipsAreCoordinates, TwistsAreCoordinates, SlicesAreCoordinates};
-ghost use Rattle.niss_cube.specs.Sets.{KeptIsTested};
+ghost use Rattle.niss_cube.specs.Sets.{KeptIsTested, SetsArePlaces};
+ghost use Rattle.niss_cube.specs.Permutations.{CubesPermutePlaces, KeptIsEqual};
+ghost use Rattle.niss_cube.specs.SameLetters.{SameLetters};
 
 /// A turned cube is a cube.
 pub fn turned_is_cube()
     ensures { TurnedIsCube }
+{}
+
+/// A cube's map permutes the 54 sticker places.
+pub fn cubes_permute_places()
+    ensures { CubesPermutePlaces }
+{}
+
+/// A set of places that a cube's map keeps is brought to itself: no other place comes into it.
+pub fn kept_is_equal()
+    ensures { KeptIsEqual }
+{}
+
+/// Maps that are the same on the 54 places have the same facelet text.
+pub fn same_letters()
+    ensures { SameLetters }
 {}
 
 /// The flips on an axis are a coordinate.
@@ -25,4 +42,9 @@ pub fn slices_are_coordinates()
 /// The test of a set is true exactly where the set is kept.
 pub fn kept_is_tested()
     ensures { KeptIsTested }
+{}
+
+/// The sets of the coordinates have sticker places only.
+pub fn sets_are_places()
+    ensures { SetsArePlaces }
 {}

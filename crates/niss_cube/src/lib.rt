@@ -27,5 +27,5 @@ mod slice_places;
 mod turn_tables;
 
 pub use cube::Cube;
-pub use niss_moves::{Axis, Rotation};
+pub use niss_moves::{Axis, Face, Power, Rotation, Turn};
 pub use turn_tables::{OutOfMemory, TurnTables};

@@ -74,7 +74,8 @@ fn quarter_turn(face: Face) -> &'static QuarterTurn
 fn turn_homes(homes: &[u8], from: &[u8], new: &mut [u8])
     requires from_len { length from.now ≡ length new.old }
     requires from_range { EachIndex from.now (λ k. slice_index from.now k < length homes.now) }
-    ensures { EachIndex new.new (λ k. slice_index new.new k ≡ slice_index homes.now (slice_index from.now k)) }
+    ensures { EachIndex new.new (λ k. slice_index new.new k
+        ≡ slice_index homes.now (slice_index from.now k)) }
 {
     for (place, home) in new.iter_mut().enumerate() {
         *home = homes[from[place] as usize];
@@ -85,12 +86,15 @@ fn turn_homes(homes: &[u8], from: &[u8], new: &mut [u8])
 fn turn_orientations(orientations: &[u8], from: &[u8], added: &[u8], facelets: u8, new: &mut [u8])
     requires from_len { length from.now ≡ length new.old }
     requires added_len { length added.now ≡ length new.old }
-    requires from_range { EachIndex from.now (λ k. slice_index from.now k < length orientations.now) }
+    requires from_range { EachIndex from.now (λ k.
+        slice_index from.now k < length orientations.now) }
     requires some { 0 < facelets }
-    requires orientation_range { EachIndex orientations.now (λ k. slice_index orientations.now k < 3) }
+    requires orientation_range { EachIndex orientations.now (λ k.
+        slice_index orientations.now k < 3) }
     requires added_range { EachIndex added.now (λ k. slice_index added.now k < 3) }
     ensures { EachIndex new.new (λ k. slice_index new.new k
-        ≡ (slice_index orientations.now (slice_index from.now k) + slice_index added.now k) % facelets) }
+        ≡ (slice_index orientations.now (slice_index from.now k) + slice_index added.now k)
+        % facelets) }
 {
     for (place, orientation) in new.iter_mut().enumerate() {
         *orientation = (orientations[from[place] as usize] + added[place]) % facelets;
@@ -99,7 +103,8 @@ fn turn_orientations(orientations: &[u8], from: &[u8], added: &[u8], facelets: u
 
 /// Which corner stands at each place after a quarter turn of the face.
 pub fn turn_corners(corners: &[u8; 8], face: Face) -> [u8; 8]
-    ensures { EachIndex result (λ k. slice_index result k ≡ slice_index corners.now (slice_index (quarter_table face).corners k)) }
+    ensures { EachIndex result (λ k. slice_index result k
+        ≡ slice_index corners.now (slice_index (quarter_table face).corners k)) }
 {
     let mut turned = [0; 8];
     turn_homes(corners, &quarter_turn(face).corners, &mut turned);
@@ -108,7 +113,8 @@ pub fn turn_corners(corners: &[u8; 8], face: Face) -> [u8; 8]
 
 /// Which edge stands at each place after a quarter turn of the face.
 pub fn turn_edges(edges: &[u8; 12], face: Face) -> [u8; 12]
-    ensures { EachIndex result (λ k. slice_index result k ≡ slice_index edges.now (slice_index (quarter_table face).edges k)) }
+    ensures { EachIndex result (λ k. slice_index result k
+        ≡ slice_index edges.now (slice_index (quarter_table face).edges k)) }
 {
     let mut turned = [0; 12];
     turn_homes(edges, &quarter_turn(face).edges, &mut turned);

@@ -62,7 +62,7 @@ pub const X_QUARTER: RenamingTable = RenamingTable {
 };
 
 /// The rotations by which a cube is renamed for a coordinate.
-#[derive(Clone, Copy, Debug, PartialEq, Eq)]
+#[derive(Clone, Copy)]
 pub enum Renaming {
     XCounter,
     XQuarter,
@@ -89,7 +89,8 @@ fn rename_homes(homes: &[u8], from: &[u8], to: &[u8], new: &mut [u8])
     requires to_len { length to.now ≡ length new.old }
     requires from_range { EachIndex from.now (λ k. slice_index from.now k < length homes.now) }
     requires home_range { EachIndex homes.now (λ k. slice_index homes.now k < length homes.now) }
-    ensures { EachIndex new.new (λ k. slice_index new.new k ≡ renamed_home from.now to.now homes.now k) }
+    ensures { EachIndex new.new (λ k. slice_index new.new k
+        ≡ renamed_home from.now to.now homes.now k) }
 {
     for (place, home) in new.iter_mut().enumerate() {
         let old_home = homes[from[place] as usize];
@@ -115,11 +116,13 @@ fn rename_orientations(
     requires some { 0 < facelets }
     requires from_range { EachIndex from.now (λ k. slice_index from.now k < length homes.now) }
     requires home_range { EachIndex homes.now (λ k. slice_index homes.now k < length homes.now) }
-    requires orientation_range { EachIndex orientations.now (λ k. slice_index orientations.now k < 3) }
+    requires orientation_range { EachIndex orientations.now (λ k.
+        slice_index orientations.now k < 3) }
     requires in_range { EachIndex inward.now (λ k. slice_index inward.now k < 3) }
     requires out_range { EachIndex outward.now (λ k. slice_index outward.now k < 3) }
     ensures { EachIndex new.new (λ k. slice_index new.new k
-        ≡ renamed_orientation facelets from.now inward.now outward.now homes.now orientations.now k) }
+        ≡ renamed_orientation facelets from.now inward.now outward.now
+        homes.now orientations.now k) }
 {
     for (place, orientation) in new.iter_mut().enumerate() {
         let old_place = from[place] as usize;
@@ -133,7 +136,8 @@ pub fn rename_corners(corners: &[u8; 8], twists: &[u8; 8], renaming: Renaming) -
     requires corner_range { EachIndex corners.now (λ k. slice_index corners.now k < 8) }
     requires twist_range { EachIndex twists.now (λ k. slice_index twists.now k < 3) }
     ensures corners { let t = renaming_table renaming in
-        EachIndex result.0 (λ k. slice_index result.0 k ≡ renamed_home t.corners_from t.corners_to corners.now k) }
+        EachIndex result.0 (λ k. slice_index result.0 k
+        ≡ renamed_home t.corners_from t.corners_to corners.now k) }
     ensures twists { let t = renaming_table renaming in
         EachIndex result.1 (λ k. slice_index result.1 k
         ≡ renamed_orientation 3 t.corners_from t.twists_in t.twists_out corners.now twists.now k) }
@@ -158,7 +162,8 @@ pub fn rename_edges(edges: &[u8; 12], flips: &[u8; 12], renaming: Renaming) -> (
     requires edge_range { EachIndex edges.now (λ k. slice_index edges.now k < 12) }
     requires flip_range { EachIndex flips.now (λ k. slice_index flips.now k < 2) }
     ensures edges { let t = renaming_table renaming in
-        EachIndex result.0 (λ k. slice_index result.0 k ≡ renamed_home t.edges_from t.edges_to edges.now k) }
+        EachIndex result.0 (λ k. slice_index result.0 k
+        ≡ renamed_home t.edges_from t.edges_to edges.now k) }
     ensures flips { let t = renaming_table renaming in
         EachIndex result.1 (λ k. slice_index result.1 k
         ≡ renamed_orientation 2 t.edges_from t.flips_in t.flips_out edges.now flips.now k) }

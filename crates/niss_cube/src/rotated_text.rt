@@ -44,7 +44,8 @@ fn sources(axis: Axis) -> [u8; 54]
 
 /// The text after a quarter rotation about the axis.
 fn rotate_quarter(text: &[u8; 54], axis: Axis) -> [u8; 54]
-    ensures { (e : Place → Place) → text.now ≡ letters e → result ≡ letters (λ q. moved_by (token.Rotation axis Quarter) (e q)) }
+    ensures { (e : Place → Place) → text.now ≡ letters e →
+        result ≡ letters (λ q. moved_by (token.Rotation axis Quarter) (e q)) }
 {
     let sources = sources(axis);
     let mut rotated = [0; 54];
@@ -56,7 +57,8 @@ fn rotate_quarter(text: &[u8; 54], axis: Axis) -> [u8; 54]
 
 /// The text after a rotation about the axis.
 fn rotate(text: &[u8; 54], axis: Axis, power: Power) -> [u8; 54]
-    ensures { (e : Place → Place) → text.now ≡ letters e → result ≡ letters (λ q. moved_by (token.Rotation axis power) (e q)) }
+    ensures { (e : Place → Place) → text.now ≡ letters e →
+        result ≡ letters (λ q. moved_by (token.Rotation axis power) (e q)) }
 {
     let once = rotate_quarter(text, axis);
     match power {
@@ -68,7 +70,8 @@ fn rotate(text: &[u8; 54], axis: Axis, power: Power) -> [u8; 54]
 
 /// The text after the rotation that brings the face to the top.
 pub fn bring_to_top(text: &[u8; 54], face: Face) -> [u8; 54]
-    ensures { (e : Place → Place) → text.now ≡ letters e → result ≡ letters (λ q. effect (to_top face) (e q)) }
+    ensures { (e : Place → Place) → text.now ≡ letters e →
+        result ≡ letters (λ q. effect (to_top face) (e q)) }
 {
     match face {
         Face::U => *text,
@@ -82,7 +85,8 @@ pub fn bring_to_top(text: &[u8; 54], face: Face) -> [u8; 54]
 
 /// The text after a rotation about the vertical axis.
 pub fn turn_about_vertical(text: &[u8; 54], power: Option<Power>) -> [u8; 54]
-    ensures { (e : Place → Place) → text.now ≡ letters e → result ≡ letters (λ q. effect (about_vertical power) (e q)) }
+    ensures { (e : Place → Place) → text.now ≡ letters e →
+        result ≡ letters (λ q. effect (about_vertical power) (e q)) }
 {
     match power {
         None => *text,

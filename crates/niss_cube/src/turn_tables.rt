@@ -10,7 +10,7 @@ ghost use Rattle.niss_cube.specs.FlipAfter.{flip_after};
 ghost use Rattle.niss_cube.specs.TwistAfter.{twist_after};
 ghost use Rattle.niss_cube.specs.SliceAfter.{slice_after};
 ghost use Rattle.niss_cube.specs.TableRows.{AreRows, entry_at, face_index, power_index};
-ghost use Rattle.niss_cube.specs.StandardCoordinates.{number_of, count_of, after_of};
+ghost use Rattle.niss_cube.specs.StandardCoordinates.{coordinate_of, count_of, after_of};
 
 use crate::cube::Cube;
 use crate::cube::numbered::{cube_with_flip, cube_with_slice, cube_with_twist};
@@ -34,7 +34,7 @@ enum Coordinate {
 impl Coordinate {
     /// The number of a cube.
     fn number(self, cube: &Cube) -> u16
-        ensures { result ≡ number_of self (map_of cube.now) }
+        ensures { result ≡ coordinate_of self (map_of cube.now) }
     {
         match self {
             Coordinate::Flip => cube.flip(Axis::Fb),
@@ -46,7 +46,7 @@ impl Coordinate {
     /// A cube with a number.
     fn cube_with(self, number: u16) -> Cube
         requires { number < count_of self }
-        ensures { number_of self (map_of result) ≡ number }
+        ensures { coordinate_of self (map_of result) ≡ number }
     {
         match self {
             Coordinate::Flip => cube_with_flip(number),
@@ -57,7 +57,8 @@ impl Coordinate {
 
     /// The numbers after a quarter, a half and a counter turn of a face.
     fn numbers_after(self, cube: &Cube, face: Face) -> [u16; 3]
-        ensures { (p : Power) → slice_index result (power_index p) ≡ number_of self (λ q. turned (record { face = face; power = p }) (map_of cube.now q)) }
+        ensures { (p : Power) → slice_index result (power_index p)
+            ≡ coordinate_of self (λ q. turned (record { face = face; power = p }) (map_of cube.now q)) }
     {
         let quarter = Turn {
             face,
@@ -78,7 +79,8 @@ impl Coordinate {
 
     /// The numbers after each turn.
     fn row(self, cube: &Cube) -> Row
-        ensures { (t : Turn) → entry_at result t ≡ number_of self (λ q. turned t (map_of cube.now q)) }
+        ensures { (t : Turn) →
+            entry_at result t ≡ coordinate_of self (λ q. turned t (map_of cube.now q)) }
     {
         [
             self.numbers_after(cube, Face::U),
@@ -167,7 +169,8 @@ fn renamed_face_for_twist(axis: Axis, face: Face) -> Face
 /// The entry of a number at a turn.
 fn entry(rows: &[Row], number: u16, face: Face, power: Power) -> u16
     requires { number < length rows.now }
-    ensures { result ≡ entry_at (get_or rows.now number []) (record { face = face; power = power }) }
+    ensures { result
+        ≡ entry_at (get_or rows.now number []) (record { face = face; power = power }) }
 {
     rows[number as usize][face_number(face)][power_number(power)]
 }
@@ -192,8 +195,8 @@ impl TurnTables {
     ghost use Rattle.niss_cube.specs.declared.cube.Cube.{Cube};
     ghost use Rattle.niss_cube.specs.Coordinates.{flip_of, twist_of, slice_of};
 
-    /// Builds the tables, of 170,280 bytes in all. The memory of all three is taken before any is filled, and
-    /// where some is refused none is kept.
+    /// Builds the tables, of 170,280 bytes in all. It takes the memory of each of the three, then fills them. Where the
+    /// allocator refuses one of the three it answers `OutOfMemory`, and what was taken before is given back.
     pub fn build(alloc: Global) -> Result<TurnTables, OutOfMemory> {
         let Ok(mut flips) = Vec::from_elem(alloc, NO_ROW, 2048) else {
             return Err(OutOfMemory);
@@ -219,7 +222,8 @@ impl TurnTables {
         requires { coordinate < 2048 }
         ensures value { result ≡ flip_after axis coordinate turn }
         ensures in_range { result < 2048 }
-        ensures of_each { (c : Cube) → flip_of axis (map_of c) ≡ coordinate → result ≡ flip_of axis (λ q. turned turn (map_of c q)) }
+        ensures of_each { (c : Cube) → flip_of axis (map_of c) ≡ coordinate →
+            result ≡ flip_of axis (λ q. turned turn (map_of c q)) }
     {
         let face = renamed_face_for_flip(axis, turn.face);
         entry(&self.flips, coordinate, face, turn.power)
@@ -230,7 +234,8 @@ impl TurnTables {
         requires { coordinate < 2187 }
         ensures value { result ≡ twist_after axis coordinate turn }
         ensures in_range { result < 2187 }
-        ensures of_each { (c : Cube) → twist_of axis (map_of c) ≡ coordinate → result ≡ twist_of axis (λ q. turned turn (map_of c q)) }
+        ensures of_each { (c : Cube) → twist_of axis (map_of c) ≡ coordinate →
+            result ≡ twist_of axis (λ q. turned turn (map_of c q)) }
     {
         let face = renamed_face_for_twist(axis, turn.face);
         entry(&self.twists, coordinate, face, turn.power)
@@ -241,7 +246,8 @@ impl TurnTables {
         requires { coordinate < 495 }
         ensures value { result ≡ slice_after axis coordinate turn }
         ensures in_range { result < 495 }
-        ensures of_each { (c : Cube) → slice_of axis (map_of c) ≡ coordinate → result ≡ slice_of axis (λ q. turned turn (map_of c q)) }
+        ensures of_each { (c : Cube) → slice_of axis (map_of c) ≡ coordinate →
+            result ≡ slice_of axis (λ q. turned turn (map_of c q)) }
     {
         let face = renamed_face_for_twist(axis, turn.face);
         entry(&self.slices, coordinate, face, turn.power)

@@ -46,6 +46,16 @@ fn facelets_are_those_of_the_cube(rt: HostRuntime) {
     assert!(rt; solved == *b"UUUUUUUUURRRRRRRRRFFFFFFFFFDDDDDDDDDLLLLLLLLLBBBBBBBBB");
     let right = quarter(Face::R).facelets(Rotation::IDENTITY);
     assert!(rt; right == *b"UUFUUFUUFRRRRRRRRRFFDFFDFFDDDBDDBDDBLLLLLLLLLUBBUBBUBB");
+    let checkerboard = after(&[
+        turn(Face::R, Power::Half),
+        turn(Face::L, Power::Half),
+        turn(Face::U, Power::Half),
+        turn(Face::D, Power::Half),
+        turn(Face::F, Power::Half),
+        turn(Face::B, Power::Half),
+    ]);
+    let checkered = checkerboard.facelets(Rotation::IDENTITY);
+    assert!(rt; checkered == *b"UDUDUDUDURLRLRLRLRFBFBFBFBFDUDUDUDUDLRLRLRLRLBFBFBFBFB");
     let superflip = superflip().facelets(Rotation::IDENTITY);
     assert!(rt; superflip == *b"UBULURUFURURFRBRDRFUFLFRFDFDFDLDRDBDLULBLFLDLBUBRBLBDB");
 }
@@ -107,7 +117,7 @@ fn turned_cubes_have_their_coordinates(rt: HostRuntime) {
     assert_eq!(rt; down.slice(Axis::Fb), 33);
 }
 
-// R U R2 B' L' brings the edges FR, FL, BL, BR to the places of UR, UF, UL, UB.
+// R U R2 B' L' brings the edges FR, FL, BL, BR to the places UF, UL, UB, UR.
 #[test]
 fn the_largest_slice_number_is_494(rt: HostRuntime) {
     let cube = after(&[

@@ -1,0 +1,27 @@
+-- The sets of the coordinates have places only, and whether a set of places is kept tells of the places alone.
+use Rattle.std.proofs.Common.{◌≡◌, refl, sym, ◌∙◌, ap, Bool, true, ◌||◌, not}
+use Rattle.niss_moves.specs.Places.{Place, is_place, is_corner, is_edge, SameMap}
+use Rattle.niss_cube.specs.Sets.{Kept, ArePlaces, SetsArePlaces}
+use Rattle.niss_cube.proofs.Each.{and_left, each_record, at_record, or_then}
+
+corners_test : each_record (λ q. not (is_corner q) || is_place q) ≡ true
+corners_test = refl
+
+edges_test : each_record (λ q. not (is_edge q) || is_place q) ≡ true
+edges_test = refl
+
+corner-place : (q : Place) → is_corner q ≡ true → is_place q ≡ true
+corner-place q h = or_then (is_corner q) (is_place q) (at_record (λ q. not (is_corner q) || is_place q) corners_test q) h
+
+edge-place : (q : Place) → is_edge q ≡ true → is_place q ≡ true
+edge-place q h = or_then (is_edge q) (is_place q) (at_record (λ q. not (is_edge q) || is_place q) edges_test q) h
+
+pub sets_are_places : SetsArePlaces
+sets_are_places = record {
+  flips = λ a q h. edge-place q (and_left (is_edge q) _ h);
+  twists = λ a q h. corner-place q (and_left (is_corner q) _ h);
+  slices = λ a q h. edge-place q (and_left (is_edge q) _ h);
+}
+
+pub kept_same : (set : Place → Bool) (d e : Place → Place) → ArePlaces set → SameMap d e → Kept set d → Kept set e
+kept_same set d e inside s kept q m = ap set (sym (s q (inside q m))) ∙ kept q m

@@ -1,0 +1,5 @@
+use Rattle.niss_cube.proofs.Permutations.{kept_is_equal}
+use Rattle.niss_cube.proofs.laws.kept_is_equal.Goals as goal
+
+pub returns : goal.returns
+returns c = kept_is_equal

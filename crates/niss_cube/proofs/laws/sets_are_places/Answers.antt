@@ -1,0 +1,5 @@
+use Rattle.niss_cube.proofs.SetPlaces.{sets_are_places}
+use Rattle.niss_cube.proofs.laws.sets_are_places.Goals as goal
+
+pub returns : goal.returns
+returns c = sets_are_places
