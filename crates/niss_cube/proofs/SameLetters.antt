@@ -1,5 +1,5 @@
 -- Maps that are the same on the 54 places have the same facelet text.
-use Rattle.std.proofs.Common.{◌≡◌, ℕ, refl, ap, List, [], ◌∷◌, map, Bool, true}
+use Rattle.std.proofs.Common.{◌≡◌, refl, List, [], ◌∷◌, map, true}
 use Rattle.std.specs.Prelude.{if◌then◌else◌}
 use Rattle.std.specs.List.{list_all}
 use Rattle.niss_moves.specs.Places.{Place, same_place, is_place, SameMap}
