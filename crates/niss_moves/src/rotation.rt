@@ -121,6 +121,13 @@ impl Rotation {
         }
     }
 
+    /// The face that this rotation and then one about an axis bring to the place of `face`.
+    fn face_before_both(self, axis: Axis, power: Power, face: Face) -> Face
+        ensures { result ≡ face_before self (face_before_power axis power face) }
+    {
+        self.face_before(axis.face_before(power, face))
+    }
+
     /// This rotation and then one about an axis, as one rotation: `z` and then `z` is `x2 y2`.
     pub fn then(self, axis: Axis, power: Power) -> Rotation
         ensures effect { (q : Place) →
@@ -129,8 +136,8 @@ impl Rotation {
         ensures faces { (f : Face) →
             face_before result f ≡ face_before self (face_before_power axis power f) }
     {
-        let top = self.face_before(axis.face_before(power, Face::U));
-        let front = self.face_before(axis.face_before(power, Face::F));
+        let top = self.face_before_both(axis, power, Face::U);
+        let front = self.face_before_both(axis, power, Face::F);
         Rotation {
             top,
             vertical: vertical_turn(top, front),
