@@ -15,8 +15,7 @@ use Rattle.niss_moves.specs.Effects.{turned}
 use Rattle.niss_cube.proofs.CubieLists.{CubieLists}
 use Rattle.niss_moves.specs.Turn.{inverse_turn}
 use Rattle.niss_cube.specs.RenamedTurns.{turn_for_flip, turn_for_twist}
-use Rattle.niss_cube.specs.SamePlaces.{and_left, and_right, same_place-is}
-use Rattle.niss_cube.proofs.Each.{at_place}
+use Rattle.niss_cube.proofs.Each.{and_left, and_right, same_place-is, at_place}
 use Rattle.niss_cube.proofs.PlaceTables.{all_faces, at_face}
 use Rattle.niss_cube.proofs.RenamingTables.{keeps_kinds}
 use Rattle.niss_cube.proofs.ListTurns.{Valid, map_lists, renamed_cubies, renamed_cubies-valid, renamed_lists-map}

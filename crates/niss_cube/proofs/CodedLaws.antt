@@ -13,8 +13,7 @@ use Rattle.niss_moves.specs.Effects.{turned}
 use Rattle.niss_cube.proofs.CubieLists.{CubieLists}
 use Rattle.niss_moves.specs.Turn.{inverse_turn}
 use Rattle.niss_cube.specs.AfterTurn.{TurnedIsCube, IsCoordinate}
-use Rattle.niss_cube.specs.SamePlaces.{same_place-is}
-use Rattle.niss_cube.proofs.Each.{at_place}
+use Rattle.niss_cube.proofs.Each.{same_place-is, at_place}
 use Rattle.niss_cube.proofs.AxisRenamings.{all_turns, at_turn, KeepsPlaces, IsRenaming}
 use Rattle.niss_cube.proofs.MapPlaces.{sticker_map-place}
 use Rattle.niss_cube.proofs.SetPlaces.{kept_same}

@@ -5,7 +5,7 @@ use Rattle.std.specs.Prelude.{nat_eq, ◌↔◌}
 use lib.Pointwise.{pointwise}
 use Rattle.std.specs.Cmp.Lexicographic.{same_text, other_text}
 use Rattle.std.proofs.lemmas.Bool.{true_from_ne_false}
-use Rattle.niss_cube.specs.SamePlaces.{and_left, and_right}
+use Rattle.niss_cube.proofs.Each.{and_left, and_right}
 use Rattle.niss_cube.proofs.ShownCubies.{and_both, corner_is, edge_is}
 use Rattle.niss_moves.specs.Places.{Place, is_place, is_corner, is_edge, SameMap}
 use Rattle.niss_cube.specs.CubieFacelets.{facelet_at, corner_facelets, edge_facelets}

@@ -12,7 +12,7 @@ use Rattle.niss_cube.specs.FaceletPositions.{is_position_at}
 use Rattle.niss_cube.specs.declared.letters.FaceletPosition.{FaceletPosition}
 use Rattle.niss_cube.specs.declared.letters.FaceletPosition.TheVariants.{Corner, Edge, Centre}
 use Rattle.niss_cube.specs.declared.letters.TheConstants.{FACELET_POSITIONS, CORNER_LETTERS, EDGE_LETTERS}
-use Rattle.niss_cube.specs.SamePlaces.{and_left, and_right, same_place-is}
+use Rattle.niss_cube.proofs.Each.{and_left, and_right, same_place-is}
 use Rattle.niss_cube.proofs.PlaceTables.{all_below, at_below}
 
 positions_test : all_below 54 (λ i. is_position_at (get_or FACELET_POSITIONS i (Centre 0)) (get_or places i (facelet U 5))) ≡ true

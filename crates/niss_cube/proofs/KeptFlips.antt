@@ -15,8 +15,7 @@ use Rattle.niss_cube.specs.Coordinates.{number, for_flip, flip_of}
 use Rattle.niss_cube.specs.Map.{sticker_place}
 use Rattle.niss_cube.proofs.CubieLists.{CubieLists}
 use Rattle.niss_cube.specs.Cubies.{flips_home}
-use Rattle.niss_cube.specs.SamePlaces.{and_left}
-use Rattle.niss_cube.proofs.Each.{at_place}
+use Rattle.niss_cube.proofs.Each.{and_left, at_place}
 use Rattle.niss_cube.proofs.Sums.{eqb-itself}
 use Rattle.niss_cube.proofs.Once.{times_in, place_in, place_in-found, place_in-is, count_by-times}
 use Rattle.niss_cube.proofs.PlaceTables.{all_below, at_below, row_of, index_of, located_test, found_test, edges_located, edges_found}

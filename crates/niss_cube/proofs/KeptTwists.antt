@@ -16,7 +16,7 @@ use Rattle.niss_cube.specs.Coordinates.{number, rank, for_twist, twist_of, slice
 use Rattle.niss_cube.specs.Map.{sticker_place}
 use Rattle.niss_cube.proofs.CubieLists.{CubieLists}
 use Rattle.niss_cube.specs.Cubies.{twists_home}
-use Rattle.niss_cube.specs.SamePlaces.{and_left}
+use Rattle.niss_cube.proofs.Each.{and_left}
 use Rattle.niss_cube.proofs.Sums.{below, one_if, below_permuted}
 use Rattle.niss_cube.proofs.Once.{times_in, place_in, place_in-found, place_in-is, count_by-times}
 use Rattle.niss_cube.proofs.PlaceTables.{all_below, at_below, row_of, index_of, edges_located, edges_found, corners_located, corners_found}

@@ -5,7 +5,6 @@ pub mod CoordinateValues
 pub mod CubieLists
 pub mod Each
 pub mod EqualCubes
-pub mod EqualMaps
 pub mod FaceletLetters
 pub mod KeptFlips
 pub mod KeptTests

@@ -11,8 +11,7 @@ use Rattle.niss_moves.specs.Facelets.{places}
 use Rattle.niss_cube.specs.CubieFacelets.{facelet_at, corner_facelets, edge_facelets}
 use Rattle.niss_cube.specs.Cubies.{AreCubies}
 use Rattle.niss_cube.specs.Map.{sticker_place, sticker_map}
-use Rattle.niss_cube.specs.SamePlaces.{and_right, same_place-is}
-use Rattle.niss_cube.proofs.Each.{at_place}
+use Rattle.niss_cube.proofs.Each.{and_right, same_place-is, at_place}
 use Rattle.niss_cube.proofs.Once.{times_in, place_in, place_in-found, count_by-times}
 use Rattle.niss_cube.proofs.PlaceTables.{row_of, index_of, found_test, at_face, all_faces, corners_located, edges_located, corners_found, edges_found}
 use Rattle.niss_cube.proofs.StickerPlaces.{sticker_place-at, found, located, below-3, below-2}

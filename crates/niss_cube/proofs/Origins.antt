@@ -9,8 +9,7 @@ use Rattle.niss_cube.specs.CubieFacelets.{facelet_at, corner_facelets, edge_face
 use Rattle.niss_cube.specs.Map.{sticker_place}
 use Rattle.niss_moves.specs.Letters.{letter_of, letter_at}
 use Rattle.niss_cube.proofs.CubieLists.{CubieLists}
-use Rattle.niss_cube.specs.SamePlaces.{and_left, and_right, same_place-is, same_place-refl}
-use Rattle.niss_cube.proofs.Each.{listed}
+use Rattle.niss_cube.proofs.Each.{and_left, and_right, same_place-is, same_place-refl, listed}
 use Rattle.niss_cube.proofs.Once.{times_in, place_in, place_in-found, place_in-is, count_by-times}
 use Rattle.niss_cube.proofs.PlaceTables.{row_of, index_of, found_test, corners_located, edges_located, corners_found, edges_found}
 use Rattle.niss_cube.proofs.StickerPlaces.{sticker_place-at, found, located, below-3, below-2}

@@ -13,8 +13,7 @@ use Rattle.niss_cube.specs.Sets.{Kept}
 use Rattle.niss_cube.specs.Permutations.{PermutesPlaces, CubesPermutePlaces, KeptIsEqual}
 use Rattle.niss_cube.proofs.CodedLaws.{lists_of}
 use Rattle.niss_cube.proofs.CubieLists.{CubieLists}
-use Rattle.niss_cube.specs.SamePlaces.{and_left, and_right, same_place-is}
-use Rattle.niss_cube.proofs.Each.{at_place}
+use Rattle.niss_cube.proofs.Each.{and_left, and_right, same_place-is, at_place}
 use Rattle.niss_cube.proofs.ListTurns.{Valid, map_lists}
 use Rattle.niss_cube.proofs.MapPlaces.{sticker_map-place}
 use Rattle.niss_cube.proofs.Once.{times_in, place_in, place_in-found}

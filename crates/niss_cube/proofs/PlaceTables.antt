@@ -10,7 +10,7 @@ use Rattle.niss_moves.specs.declared.turn.Face.TheVariants.{U, D, R, L, F, B}
 use Rattle.niss_moves.specs.Facelets.{places}
 use Rattle.niss_cube.specs.CubieFacelets.{index_in, row_at, facelet_at, corner_facelets, edge_facelets}
 use Rattle.niss_cube.specs.Quarters.{quarter_table}
-use Rattle.niss_cube.specs.SamePlaces.{and_left, and_right, same_place-is}
+use Rattle.niss_cube.proofs.Each.{and_left, and_right, same_place-is}
 
 abbrev pub all_below : ℕ → (ℕ → Bool) → Bool
 all_below zero t = true

@@ -12,8 +12,7 @@ use Rattle.niss_cube.specs.CubieFacelets.{facelet_at, corner_facelets, edge_face
 use Rattle.niss_cube.specs.Cubies.{AreCubies}
 use Rattle.niss_cube.specs.Map.{sticker_place, sticker_map}
 use Rattle.niss_cube.specs.Quarters.{quarter_table}
-use Rattle.niss_cube.specs.SamePlaces.{same_place-is}
-use Rattle.niss_cube.proofs.Each.{at_place}
+use Rattle.niss_cube.proofs.Each.{same_place-is, at_place}
 use Rattle.niss_cube.proofs.Once.{count_by-times}
 use Rattle.niss_cube.proofs.PlaceTables.{row_of, index_of, at_face, corner_table, edge_table, corners_located, edges_located, corners_found, edges_found, centres_stay}
 use Rattle.niss_cube.proofs.StickerPlaces.{Brought, sticker_place-brought, located, add-mod-3, add-mod-2, below-3, below-2}

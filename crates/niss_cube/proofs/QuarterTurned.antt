@@ -5,7 +5,7 @@ use Rattle.std.proofs.lemmas.Bool.{eqb-true, ltb-true}
 use Rattle.niss_moves.specs.declared.turn.Face.{Face}
 use Rattle.niss_cube.specs.Cubies.{AreCubies}
 use Rattle.niss_cube.specs.Quarters.{quarter_table}
-use Rattle.niss_cube.specs.SamePlaces.{and_left, and_right}
+use Rattle.niss_cube.proofs.Each.{and_left, and_right}
 use Rattle.niss_cube.proofs.Sums.{below, one_if, below_same, below_add, below_permuted, sum_by-below}
 use Rattle.niss_cube.proofs.Once.{times_in, count_by-times}
 use Rattle.niss_cube.proofs.PlaceTables.{all_below, at_below, all_faces, at_face}

@@ -5,7 +5,7 @@ use Rattle.std.proofs.lemmas.Bool.{eqb-true, ltb-true, eq-eqb}
 use Rattle.niss_moves.specs.Places.{Place, same_place}
 use Rattle.niss_cube.specs.CubieFacelets.{facelet_at}
 use Rattle.niss_cube.specs.Map.{sticker_place}
-use Rattle.niss_cube.specs.SamePlaces.{and_left, and_right, same_place-is}
+use Rattle.niss_cube.proofs.Each.{and_left, and_right, same_place-is}
 use Rattle.niss_cube.proofs.Sums.{below, one_if, below_same, below_add, below_permuted, sum_by-below}
 use Rattle.niss_cube.proofs.Once.{times_in, place_in, place_in-found, place_in-is}
 use Rattle.niss_cube.proofs.PlaceTables.{all_below, at_below, found_test}

@@ -14,8 +14,7 @@ use Rattle.niss_cube.specs.Cubies.{AreCubies}
 use Rattle.niss_cube.specs.Coordinates.{spun}
 use Rattle.niss_cube.specs.Map.{sticker_place, sticker_map}
 use Rattle.niss_cube.specs.Renamings.{renaming_table, renamed_by}
-use Rattle.niss_cube.specs.SamePlaces.{and_left, and_right, same_place-is}
-use Rattle.niss_cube.proofs.Each.{at_place}
+use Rattle.niss_cube.proofs.Each.{and_left, and_right, same_place-is, at_place}
 use Rattle.niss_cube.proofs.Once.{times_in, count_by-times}
 use Rattle.niss_cube.proofs.PlaceTables.{row_of, index_of, corners_located, edges_located, corners_found, edges_found}
 use Rattle.niss_cube.proofs.StickerPlaces.{located, below-3, below-2}

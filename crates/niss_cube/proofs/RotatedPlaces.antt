@@ -15,8 +15,7 @@ use Rattle.niss_moves.specs.declared.axis.Axis.TheVariants.{Ud, Rl, Fb}
 use Rattle.niss_moves.specs.declared.turn.Face.TheVariants.{U}
 use Rattle.niss_cube.specs.Coordinates.{spun}
 use Rattle.niss_cube.specs.RotatedText.{sources_of}
-use Rattle.niss_cube.specs.SamePlaces.{and_left, and_right, same_place-is, same_place-refl}
-use Rattle.niss_cube.proofs.Each.{each_record, at_record}
+use Rattle.niss_cube.proofs.Each.{and_left, and_right, each_record, at_record, same_place-is, same_place-refl}
 use Rattle.niss_cube.proofs.PlaceTables.{all_below, at_below}
 use Rattle.niss_cube.proofs.ShownCubies.{same_test}
 use Rattle.niss_cube.proofs.FaceletLetters.{letters-is}

@@ -6,7 +6,7 @@ use Rattle.niss_moves.specs.Places.{Place, same_place, is_place, SameMap}
 use Rattle.niss_moves.specs.Facelets.{places}
 use Rattle.niss_moves.specs.Letters.{letter_at, letter_of, letters}
 use Rattle.niss_cube.specs.SameLetters.{SameLetters}
-use Rattle.niss_cube.specs.SamePlaces.{and_left, and_right}
+use Rattle.niss_cube.proofs.Each.{and_left, and_right}
 use Rattle.niss_cube.proofs.Origins.{all_places}
 
 letter_of-same : (d e : Place → Place) → SameMap d e → (q : Place) (ps : List Place) → list_all is_place ps ≡ true → letter_of d ps q ≡ letter_of e ps q

@@ -2,8 +2,7 @@
 use Rattle.std.proofs.Common.{◌≡◌, refl, sym, ◌∙◌, ap, Bool, true, ◌||◌, not}
 use Rattle.niss_moves.specs.Places.{Place, is_place, is_corner, is_edge, SameMap}
 use Rattle.niss_cube.specs.Sets.{Kept, ArePlaces, SetsArePlaces}
-use Rattle.niss_cube.specs.SamePlaces.{and_left}
-use Rattle.niss_cube.proofs.Each.{each_record, at_record, or_then}
+use Rattle.niss_cube.proofs.Each.{and_left, each_record, at_record, or_then}
 
 corners_test : each_record (λ q. not (is_corner q) || is_place q) ≡ true
 corners_test = refl

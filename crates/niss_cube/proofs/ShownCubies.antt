@@ -12,7 +12,7 @@ use Rattle.niss_cube.specs.CubieFacelets.{index_in, row_at, facelet_at, corner_f
 use Rattle.niss_cube.specs.Cubies.{AreCubies}
 use Rattle.niss_cube.specs.Map.{sticker_place, sticker_map}
 use Rattle.niss_cube.specs.Coordinates.{firsts, brings, orientations, occupied}
-use Rattle.niss_cube.specs.SamePlaces.{and_left, and_right, same_place-is, same_place-refl}
+use Rattle.niss_cube.proofs.Each.{and_left, and_right, same_place-is, same_place-refl}
 use Rattle.niss_cube.proofs.Sums.{eqb-itself, eqb-other}
 use Rattle.niss_cube.proofs.Once.{times_in, place_in, place_in-found, place_in-is, count_by-times}
 use Rattle.niss_cube.proofs.PlaceTables.{all_below, at_below, row_of, index_of, found_test, corners_found, edges_found}

@@ -7,8 +7,7 @@ use Rattle.niss_moves.specs.Places.{Place, same_place, is_place}
 use Rattle.niss_moves.specs.Facelets.{places}
 use Rattle.niss_cube.specs.CubieFacelets.{facelet_at}
 use Rattle.niss_cube.specs.Map.{sticker_place}
-use Rattle.niss_cube.specs.SamePlaces.{and_left, and_right, same_place-is}
-use Rattle.niss_cube.proofs.Each.{at_place, or_then}
+use Rattle.niss_cube.proofs.Each.{and_left, and_right, same_place-is, at_place, or_then}
 use Rattle.niss_cube.proofs.Once.{times_in, place_in, place_in-found, place_in-is}
 use Rattle.niss_cube.proofs.PlaceTables.{all_below, at_below, row_of, index_of, located_test, found_test}
 

@@ -6,8 +6,6 @@ pub mod Permutations
 pub mod SameLetters
 pub mod Coordinates
 pub mod SameCubies
-pub mod SameMaps
-pub mod SamePlaces
 pub mod Quarters
 pub mod Renamings
 pub mod RenamedTurns

@@ -231,17 +231,19 @@ impl Cube {
 }
 
 impl PartialEq for Cube {
-    ghost use Rattle.std.specs.Prelude.{◌≡◌, ◌↔◌, IsTrue};
+    ghost use Rattle.std.specs.Prelude.{◌≡◌, ◌↔◌, ◌&&◌, IsTrue, nat_eq};
+    ghost use Rattle.std.specs.Cmp.Rules.{comparing};
+    ghost use Rattle.std.proofs.Common.{rules};
     ghost use Rattle.niss_moves.specs.Places.{SameMap};
     ghost use Rattle.niss_cube.specs.Map.{map_of};
-    ghost use Rattle.niss_cube.specs.SameMaps.{same_maps, same_maps-partial};
+    ghost use Rattle.niss_cube.specs.SameCubies.{same_cubies};
 
-    ghost eq = { same_maps };
+    ghost eq = { same_cubies };
 
-    ghost laws = { same_maps-partial };
+    ghost laws = { Prim.search (comparing, rules) };
 
     fn eq(&self, other: &Cube) -> bool
-        ensures value { result ≡ same_maps self.now other.now }
+        ensures value { result ≡ same_cubies self.now other.now }
         ensures map { IsTrue result ↔ SameMap (map_of self.now) (map_of other.now) }
     {
         self.has_same_cubies(other)
@@ -249,9 +251,10 @@ impl PartialEq for Cube {
 }
 
 impl Eq for Cube {
-    ghost use Rattle.niss_cube.specs.SameMaps.{same_maps-equivalence};
+    ghost use Rattle.std.specs.Cmp.Rules.{comparing};
+    ghost use Rattle.std.proofs.Common.{rules};
 
-    ghost laws = { same_maps-equivalence };
+    ghost laws = { Prim.search (comparing, rules) };
 }
 
 #[cfg(test)]

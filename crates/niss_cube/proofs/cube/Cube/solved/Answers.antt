@@ -3,8 +3,7 @@ use Rattle.std.specs.List.{list_all}
 use Rattle.niss_moves.specs.Places.{Place, same_place}
 use Rattle.niss_cube.specs.Map.{sticker_map}
 use Rattle.niss_moves.specs.Facelets.{places}
-use Rattle.niss_cube.specs.SamePlaces.{same_place-is}
-use Rattle.niss_cube.proofs.Each.{at_place}
+use Rattle.niss_cube.proofs.Each.{at_place, same_place-is}
 use Rattle.niss_cube.proofs.cube.Cube.solved.Goals as goal
 
 abbrev solved_map : Place → Place
