@@ -9,7 +9,7 @@ SOURCES := HANDLES crates.txt $(shell find crates \( -name out -o -name must-fai
 all: build/nissy
 
 build/nissy: $(SOURCES)
-	@echo "Proving and building. The first time this takes about FIRST_BUILD on two cores; later, seconds."
+	@echo "Proving and building. The first time this takes about five minutes on two cores; later, seconds."
 	cd crates/nissy && rt run -- invert "" > /dev/null
 	mkdir -p build
 	cp crates/nissy/out/nissy build/nissy
