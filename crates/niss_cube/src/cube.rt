@@ -256,6 +256,3 @@ impl Eq for Cube {
 
     ghost laws = { Prim.search (comparing, rules) };
 }
-
-#[cfg(test)]
-mod tests;

@@ -253,24 +253,3 @@ impl TurnTables {
         entry(&self.slices, coordinate, face, turn.power)
     }
 }
-
-#[cfg(test)]
-mod tests {
-    use super::*;
-
-    #[test]
-    fn tables_turn_the_solved_cube(rt: HostRuntime) {
-        let after = |face| Turn {
-            face,
-            power: Power::Quarter,
-        };
-        match TurnTables::build(rt.alloc()) {
-            Ok(tables) => {
-                assert_eq!(rt; tables.next_flip(Axis::Fb, 0, after(Face::F)), 550);
-                assert_eq!(rt; tables.next_twist(Axis::Ud, 0, after(Face::R)), 1494);
-                assert_eq!(rt; tables.next_slice(Axis::Ud, 0, after(Face::F)), 33);
-            }
-            Err(_) => assert!(rt; false),
-        }
-    }
-}
