@@ -1,6 +1,8 @@
 //! Coordinates of cubes, and the tables that turn them.
 use crate::cubes::{after, quarter, turn};
-use niss_cube::{Axis, Cube, Face, Power, TurnTables};
+use niss_cube::{Axis, Cube, Face, OutOfMemory, Power, TurnTables};
+use std::alloc::Allocator;
+use std::process::Abort;
 
 #[test]
 fn a_solved_cube_has_coordinates_0(rt: HostRuntime) {
@@ -41,9 +43,9 @@ fn the_largest_slice_number_is_494(rt: HostRuntime) {
     assert_eq!(rt; cube.slice(Axis::Ud), 494);
 }
 
-#[test]
-fn tables_turn_the_solved_cube(rt: HostRuntime) {
-    match TurnTables::build(rt.alloc()) {
+/// Turns the numbers of the solved cube by tables that were to be built.
+pub fn check_tables<A: Allocator>(rt: &impl Abort, built: &Result<TurnTables<A>, OutOfMemory>) {
+    match built {
         Ok(tables) => {
             let front = turn(Face::F, Power::Quarter);
             let right = turn(Face::R, Power::Quarter);
@@ -53,4 +55,9 @@ fn tables_turn_the_solved_cube(rt: HostRuntime) {
         }
         Err(_) => assert!(rt; false),
     }
+}
+
+#[test]
+fn tables_turn_the_solved_cube(rt: HostRuntime) {
+    check_tables(&rt, &TurnTables::build(rt.alloc()));
 }
