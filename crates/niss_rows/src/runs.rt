@@ -1,7 +1,7 @@
 ghost use Rattle.std.specs.Prelude.{◌≡◌, Bool, true, false};
 
 use crate::devices::{Bytes, Held};
-use niss_shell::{Source, run_in};
+use niss_shell::{Source, run, run_in};
 use std::alloc::{AllocError, Allocator, Global};
 use std::process::Abort;
 
@@ -54,6 +54,13 @@ impl<'a> Outcome<'a> {
         }
     }
 
+    /// Compares it with what a run answered and what its targets hold.
+    fn compare(self, rt: &impl Abort, status: u8, out: &Held, err: &Held) {
+        assert_eq!(rt; out.bytes.as_slice(), self.output);
+        assert_eq!(rt; err.bytes.as_slice(), self.error);
+        assert_eq!(rt; status, self.status);
+    }
+
     /// Runs the words over these devices, with memory of `heap`.
     pub fn check<A: Allocator, R: Source>(
         self,
@@ -70,9 +77,7 @@ impl<'a> Outcome<'a> {
         requires flush_works { out.old.flush_failed ≡ false }
     {
         let status = run_in(heap, words, input, out, err);
-        assert_eq!(rt; out.bytes.as_slice(), self.output);
-        assert_eq!(rt; err.bytes.as_slice(), self.error);
-        assert_eq!(rt; status, self.status);
+        self.compare(rt, status, out, err);
     }
 
     /// Runs the words over this source and over targets that take all.
@@ -132,12 +137,13 @@ impl<'a> Run<'a> {
         let mut input = Bytes::new(self.input, 3);
         let mut out = Held::new(alloc, 5);
         let mut err = Held::new(alloc, 1);
+        let status = run(alloc, &words, &mut input, &mut out, &mut err);
         let outcome = Outcome {
             output: self.output.as_bytes(),
             error: self.error.as_bytes(),
             status: self.status,
         };
-        outcome.check(rt, alloc, &words, &mut input, &mut out, &mut err);
+        outcome.compare(rt, status, &out, &err);
         assert_eq!(rt; out.flushes, 1);
         Ok(())
     }
