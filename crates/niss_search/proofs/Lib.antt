@@ -7,3 +7,4 @@ pub mod Levels
 pub mod Bounds
 pub mod CountLaws
 pub mod PositionLemmas
+pub mod Transfer
