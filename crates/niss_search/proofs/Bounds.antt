@@ -11,6 +11,7 @@ use Rattle.niss_search.specs.Looks.{is_looked_at, looks, all_looks}
 use Rattle.niss_cube.specs.declared.step.Step.{Step}
 use Rattle.niss_cube.specs.declared.step.Step.TheVariants.{Eofb, Eorl, Eoud, DrudEofb, DrrlEofb, DrudEorl, DrfbEorl, DrrlEoud, DrfbEoud}
 use Rattle.niss_cube.specs.Steps.{turns_of}
+use Rattle.niss_search.specs.Laws.{BoundIsSmall}
 
 -- the looks of a deepening are at most the canonical sequences of its lengths
 pub looks-le : (turns : List Turn) (far : List Turn → ℕ) (d : ℕ) → looks turns far d ≤ sum_by (count_of_length turns) (up_to d)
@@ -102,3 +103,9 @@ unfolding all_looks look_bound least_length
 all_looks-bound turns reaches far n =
     let within = least-le (λ k. list_any reaches (all_canonical turns k)) 0 (n + 1) n n (omega arith) (omega arith) in
     prefix-le (looks turns far) (λ d. sum_by (count_of_length turns) (up_to d)) 0 (unwrap_or (least_length turns reaches n) n + 1) (n + 1) (looks-le turns far) (omega (arith, within))
+
+-- the bound of a step is small
+pub bound-small : BoundIsSmall
+unfolding look_bound
+bound-small s n h =
+    omega (arith, range-le (λ d. sum_by (count_of_length (turns_of s)) (up_to d)) (21 * 18 ^ 20) 0 (n + 1) (λ d l. omega (arith, range-le (count_of_length (turns_of s)) (18 ^ 20) 0 (d + 1) (λ j m. count-small (turns_of s) j (turns_of-length s) (omega arith)))))

@@ -1,5 +1,5 @@
 -- The laws over the counts.
-use Rattle.std.proofs.Common.{◌≡◌, ℕ, zero, suc, ◌+◌, ◌-◌, ◌*◌, ◌≤◌, Bool, true, false, cond, List, [], ◌∷◌, ◌++◌, length, length-append, filter, sum_by, Some, slice_get, refl, sym, ap, ◌∙◌, arith}
+use Rattle.std.proofs.Common.{◌≡◌, ℕ, zero, suc, ◌+◌, ◌-◌, ◌*◌, ◌≤◌, Bool, true, false, cond, List, [], ◌∷◌, ◌++◌, length, length-append, filter, sum_by, Some, slice_get, refl, sym, ap, ◌∙◌, arith, subst}
 use Rattle.std.proofs.lemmas.List.Sums.{sum_by-cons, sum_by-le-sum_by}
 use Rattle.std.proofs.lemmas.List.Concat.{length-flat_map}
 use Rattle.niss_moves.specs.declared.turn.Turn.{Turn}
@@ -7,8 +7,9 @@ use Rattle.niss_moves.specs.declared.turn.Face.{Face}
 use Rattle.niss_moves.specs.declared.turn.Face.TheVariants.{U, D, R, L, F, B}
 use Rattle.niss_moves.specs.Turn.{goes_first}
 use Rattle.niss_moves.specs.Canonical.{may_follow, face_may_follow, turn_order, last_turn, canonical_extensions}
-use Rattle.niss_search.specs.Solutions.{count_of_length}
-use Rattle.niss_search.specs.Laws.{CountRecurrence, PartHasNoMore}
+use Rattle.niss_search.specs.Solutions.{count_of_length, look_bound, up_to}
+use Rattle.niss_cube.specs.StepLaws.{StepTurnsInOrder}
+use Rattle.niss_search.specs.Laws.{CountRecurrence, PartHasNoMore, StepBoundIsLess}
 use Rattle.niss_search.proofs.ListLemmas.{sum_by-kept, sum_by-same}
 use Rattle.niss_search.proofs.DepthFirst.{below, below-all}
 
@@ -95,3 +96,13 @@ count-recurrence (suc k) h =
     let e₂ : suc k + 2 ≡ suc (suc (suc k)) = omega arith in
     let e₁ : suc k + 1 ≡ suc (suc k) = omega arith in
     omega (arith, ap (count_of_length turn_order) e₂, ap (count_of_length turn_order) e₁, count-suc (suc (suc k)), count-suc (suc k), count-suc k)
+
+-- a part of the turns has no larger bound
+part-bound : (part : Turn → Bool) (turns : List Turn) (n : ℕ) → look_bound (filter part turns) n ≤ look_bound turns n
+unfolding look_bound
+part-bound part turns n =
+    sum_by-le-sum_by (λ d. sum_by (count_of_length (filter part turns)) (up_to d)) (λ d. sum_by (count_of_length turns) (up_to d)) (up_to n) (λ d. sum_by-le-sum_by (count_of_length (filter part turns)) (count_of_length turns) (up_to d) (part-has-no-more part turns))
+
+pub step-bound : StepTurnsInOrder → StepBoundIsLess
+step-bound in_order s n =
+    subst (λ (turns : List Turn). look_bound turns n ≤ look_bound turn_order n) (sym (in_order s).1) (part-bound (in_order s).0 turn_order n)

@@ -10,7 +10,8 @@ use Rattle.niss_moves.specs.Canonical.{all_canonical}
 use Rattle.niss_search.specs.Solutions.{least_length, solutions, reaching}
 use Rattle.niss_search.specs.Looks.{looks, all_looks}
 use Rattle.niss_search.specs.Descent.{found_below, looks_below}
-use Rattle.niss_search.specs.Positions.{Coordinates, position_after, is_reached_at, look_at}
+use Rattle.niss_search.specs.declared.tables.position.Coordinates.{Coordinates}
+use Rattle.niss_search.specs.Positions.{position_after, is_reached_at, look_at}
 use Rattle.niss_search.proofs.ListLemmas.{filter-none, filter-some, range_with_len-more}
 use Rattle.niss_search.proofs.DepthFirst.{reach, far, found_all, visits_all}
 use Rattle.niss_search.proofs.LookLemmas.{look_at-goal, look_at-turn}

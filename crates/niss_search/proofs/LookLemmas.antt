@@ -1,7 +1,8 @@
 -- The look: 0 exactly at the goal, and never more than one beyond that after a turn.
 use Rattle.std.proofs.Common.{◌≡◌, ℕ, ◌+◌, ◌≤◌, leb, Bool, true, false, cond, List, Contains, refl, arith}
 use Rattle.niss_moves.specs.declared.turn.Turn.{Turn}
-use Rattle.niss_search.specs.Positions.{Coordinates, position_after, is_reached_at, look_at}
+use Rattle.niss_search.specs.declared.tables.position.Coordinates.{Coordinates}
+use Rattle.niss_search.specs.Positions.{position_after, is_reached_at, look_at}
 
 pub look_at-goal : (x : List Coordinates) → leb (look_at x) 0 ≡ is_reached_at x
 unfolding look_at

@@ -20,7 +20,8 @@ use Rattle.niss_cube.specs.declared.step.Goal.{Goal}
 use Rattle.niss_cube.specs.declared.step.Goal.TheVariants.{Edges, Domino}
 use Rattle.niss_cube.specs.declared.step.Step.{Step}
 use Rattle.niss_cube.specs.declared.step.Step.TheVariants.{Eofb, Eorl, Eoud, DrudEofb, DrrlEofb, DrudEorl, DrfbEorl, DrrlEoud, DrfbEoud}
-use Rattle.niss_search.specs.Positions.{Flip, coordinates_of, coordinates_after, are_zero, position_of, position_after, is_reached_at}
+use Rattle.niss_search.specs.declared.tables.position.Coordinates.TheVariants.{Flip}
+use Rattle.niss_search.specs.Positions.{coordinates_of, coordinates_after, are_zero, position_of, position_after, is_reached_at}
 use Rattle.niss_search.specs.Laws.{PositionsTell}
 
 same_bool : (a b : Bool) → (IsTrue a → IsTrue b) → (IsTrue b → IsTrue a) → a ≡ b

@@ -13,7 +13,8 @@ use Rattle.niss_cube.specs.declared.step.Step.{Step}
 use Rattle.niss_search.specs.Solutions.{least_length, solutions, reaching, up_to}
 use Rattle.niss_search.specs.Distance.{all_sequences, distance}
 use Rattle.niss_search.specs.Looks.{is_looked_at, looks, all_looks}
-use Rattle.niss_search.specs.Positions.{Coordinates, position_after, is_reached_at, look_at}
+use Rattle.niss_search.specs.declared.tables.position.Coordinates.{Coordinates}
+use Rattle.niss_search.specs.Positions.{position_after, is_reached_at, look_at}
 use Rattle.niss_search.specs.Cubes.{HasPosition, reaches, least_length_of, solutions_of, look_answer, all_looks_of}
 use Rattle.niss_search.specs.Laws.{PositionsTell}
 use Rattle.niss_search.proofs.ListLemmas.{Contains-first, Contains-later, find-same}

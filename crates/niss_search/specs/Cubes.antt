@@ -9,7 +9,8 @@ use Rattle.niss_cube.specs.declared.step.Step.{Step}
 use Rattle.niss_search.specs.Solutions.{least_length, solutions}
 use Rattle.niss_search.specs.Distance.{distance}
 use Rattle.niss_search.specs.Looks.{all_looks}
-use Rattle.niss_search.specs.Positions.{Coordinates, position_of}
+use Rattle.niss_search.specs.declared.tables.position.Coordinates.{Coordinates}
+use Rattle.niss_search.specs.Positions.{position_of}
 
 -- Does the sequence s, made on the cube e, reach the step?
 abbrev pub reaches : Step → (Place → Place) → List Turn → Bool

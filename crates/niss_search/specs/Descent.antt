@@ -4,7 +4,8 @@ use Rattle.niss_moves.specs.declared.turn.Turn.{Turn}
 use Rattle.niss_moves.specs.Canonical.{may_follow, last_turn}
 use Rattle.niss_cube.specs.declared.step.Step.{Step}
 use Rattle.niss_cube.specs.Steps.{turns_of}
-use Rattle.niss_search.specs.Positions.{Coordinates, position_after, look_at}
+use Rattle.niss_search.specs.declared.tables.position.Coordinates.{Coordinates}
+use Rattle.niss_search.specs.Positions.{position_after, look_at}
 
 module _ {P : Type 0} (turns : List Turn) (after : P → Turn → P) (look : P → ℕ) where
   -- the paths handed out below the path p at the position x, with `left` turns left

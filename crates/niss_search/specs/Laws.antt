@@ -9,7 +9,8 @@ use Rattle.niss_cube.specs.Steps.{turns_of, may_start, reached}
 use Rattle.niss_cube.specs.declared.step.Step.{Step}
 use Rattle.niss_search.specs.Solutions.{count_of_length, look_bound}
 use Rattle.niss_search.specs.Looks.{all_looks}
-use Rattle.niss_search.specs.Positions.{Coordinates, position_of, position_after, is_reached_at}
+use Rattle.niss_search.specs.declared.tables.position.Coordinates.{Coordinates}
+use Rattle.niss_search.specs.Positions.{position_of, position_after, is_reached_at}
 use Rattle.niss_search.specs.Cubes.{HasPosition}
 
 -- Over the 18 turns, c(k + 2) = 12 c(k + 1) + 18 c(k) for k of at least 1.

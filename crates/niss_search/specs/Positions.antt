@@ -1,5 +1,5 @@
 -- What a step looks at in a cube, and how that follows the turns.
-use Rattle.std.specs.Prelude.{ℕ, Bool, ◌==◌, ◌&&◌, if◌then◌else◌, List, map}
+use Rattle.std.specs.Prelude.{ℕ, Bool, ◌<◌, ◌==◌, ◌&&◌, if◌then◌else◌, List, map}
 use Rattle.std.specs.List.{list_any}
 use Rattle.niss_moves.specs.Places.{Place}
 use Rattle.niss_moves.specs.declared.axis.Axis.{Axis}
@@ -12,13 +12,10 @@ use Rattle.niss_cube.specs.Steps.{goals_of}
 use Rattle.niss_cube.specs.declared.step.Goal.{Goal}
 use Rattle.niss_cube.specs.declared.step.Goal.TheVariants.{Edges, Domino}
 use Rattle.niss_cube.specs.declared.step.Step.{Step}
+use Rattle.niss_search.specs.declared.tables.position.Coordinates.{Coordinates}
+use Rattle.niss_search.specs.declared.tables.position.Coordinates.TheVariants.{Flip, TwistAndSlice}
 
--- the coordinates that tell whether a goal holds where the step may start: the flip on an axis, or twist and slice on one
-pub data Coordinates : Type 0 where
-  Flip : Axis → ℕ → Coordinates
-  TwistAndSlice : Axis → ℕ → ℕ → Coordinates
-
--- those of a map of the places
+-- the coordinates of a map of the places that tell whether a goal holds, where the step may start
 abbrev pub coordinates_of : Goal → (Place → Place) → Coordinates
 coordinates_of (Edges axis) e = Flip axis (flip_of axis e)
 coordinates_of (Domino edges axis) e = TwistAndSlice axis (twist_of axis e) (slice_of axis e)
@@ -33,6 +30,11 @@ coordinates_after (TwistAndSlice axis twist slice) t =
 abbrev pub are_zero : Coordinates → Bool
 are_zero (Flip axis flip) = flip == 0
 are_zero (TwistAndSlice axis twist slice) = twist == 0 && slice == 0
+
+-- Each is below the number of its values.
+abbrev pub AreInRange : Coordinates → Type 0
+AreInRange (Flip axis flip) = flip < 2048
+AreInRange (TwistAndSlice axis twist slice) = (twist < 2187) × (slice < 495)
 
 -- the position of a map of the places: the coordinates of each goal of the step
 unfoldable pub position_of : Step → (Place → Place) → List Coordinates
