@@ -26,3 +26,5 @@ mod rotations;
 mod runs;
 #[cfg(test)]
 mod std_streams;
+#[cfg(test)]
+mod steps;
