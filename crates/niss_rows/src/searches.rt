@@ -3,6 +3,7 @@ use crate::steps::cube_after;
 use niss_cube::Step;
 use niss_moves::{LineText, put_faces};
 use niss_search::{Limit, Meter, Outcome, Sink, Tables, TurnPath, search};
+use std::alloc::Global;
 use std::process::Abort;
 
 /// Its path was one too many.
@@ -10,6 +11,7 @@ use std::process::Abort;
 struct Refused;
 
 /// Compares what it takes with the paths that are wanted, and refuses all paths behind the first `room`.
+#[derive(Drop)]
 struct Comparison<'a> {
     wanted: &'a [&'a str],
     room: usize,
@@ -44,6 +46,7 @@ impl Sink for Comparison<'_> {
 }
 
 /// A search from the solved cube after some moves: the paths that are wanted and the looks.
+#[derive(Drop)]
 struct Row {
     moves: &'static str,
     limit: u8,
@@ -77,8 +80,8 @@ fn check_row(rt: &impl Abort, tables: &Tables, row: &Row) {
     assert!(rt; path.turns().is_empty(), "{}", row.moves);
 }
 
-fn check_rows(rt: &HostRuntime, step: Step, rows: &[Row]) {
-    let tables = Tables::build(rt.alloc(), step, &mut Meter::new()).expect(rt, "tables");
+fn check_rows(rt: &impl Abort, alloc: Global, step: Step, rows: &[Row]) {
+    let tables = Tables::build(alloc, step, &mut Meter::new()).expect(rt, "tables");
     assert!(rt; tables.step() == step);
     for row in rows {
         check_row(rt, &tables, row);
@@ -97,7 +100,7 @@ const fn nothing(moves: &'static str, limit: u8, looks: u128) -> Row {
 
 #[test]
 fn edge_orientation(rt: HostRuntime) {
-    check_rows(&rt, Step::Eofb, &[
+    check_rows(&rt, rt.alloc(), Step::Eofb, &[
         found("F", 7, &["F", "F'"], 1, 20),
         found("F B", 5, &["F B", "F B'", "F' B", "F' B'"], 2, 282),
         found("", 20, &[""], 0, 1),
@@ -111,13 +114,13 @@ fn edge_orientation(rt: HostRuntime) {
 
 #[test]
 fn domino_reduction(rt: HostRuntime) {
-    check_rows(&rt, Step::DrudEofb, &[
+    check_rows(&rt, rt.alloc(), Step::DrudEofb, &[
         found("R U", 5, &["U' R", "U' R'"], 2, 170),
         found("R", 5, &["R", "R'"], 1, 16),
         // four turns are needed
         nothing("R U L D", 3, 1692),
     ]);
-    check_rows(&rt, Step::DrrlEofb, &[found("R", 5, &[""], 0, 1)]);
+    check_rows(&rt, rt.alloc(), Step::DrrlEofb, &[found("R", 5, &[""], 0, 1)]);
 }
 
 #[test]
