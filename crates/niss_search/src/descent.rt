@@ -32,6 +32,7 @@ pub(crate) fn visit<K: Sink, A: Allocator>(
     ensures err { OnErr result (StoppedIn K.took K.refused sink.old (found_below tables.now position.now path.old.turns left) sink.new) }
     ensures looks { OnOk result (meter.new ≡ meter.old + looks_below tables.now position.now path.old.turns left) }
     ensures looks_at_most { meter.new ≤ meter.old + looks_below tables.now position.now path.old.turns left }
+    ensures rises { meter.old ≤ meter.new }
 {
     let distance = tables.look(position, meter);
     if distance > left {
@@ -72,6 +73,7 @@ fn visit_turn<K: Sink, A: Allocator>(
     ensures err { OnErr result (StoppedIn K.took K.refused sink.old (found_after tables.now position.now path.old.turns left turn) sink.new) }
     ensures looks { OnOk result (meter.new ≡ meter.old + looks_after tables.now position.now path.old.turns left turn) }
     ensures looks_at_most { meter.new ≤ meter.old + looks_after tables.now position.now path.old.turns left turn }
+    ensures rises { meter.old ≤ meter.new }
 {
     if !allowed(last, turn) {
         return Ok(0);
