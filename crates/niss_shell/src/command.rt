@@ -1,5 +1,5 @@
 ghost use Rattle.std.specs.Prelude.{◌≡◌, Ok, Err, MatchResult, map, string_bytes};
-ghost use Rattle.niss_shell.specs.Words.{request_of, requested};
+ghost use Rattle.niss_shell.specs.Words.{OnLines, request_of, requested};
 
 /// Why the words are no command.
 #[derive(Clone, Copy, Debug, PartialEq, Eq)]
@@ -30,6 +30,20 @@ pub enum Command<'a> {
     Cleanup(&'a [String]),
     /// The facelet text of each line.
     Print(&'a [String]),
+}
+
+impl<'a> Command<'a> {
+    /// The command on lines, and the words that are its input.
+    pub(crate) fn on_lines(self) -> (LineCommand, &'a [String])
+        ensures { requested self.entry ≡ OnLines result.0 (map string_bytes result.1.now) }
+    {
+        match self {
+            Command::Invert(rest) => (LineCommand::Invert, rest),
+            Command::Unniss(rest) => (LineCommand::Unniss, rest),
+            Command::Cleanup(rest) => (LineCommand::Cleanup, rest),
+            Command::Print(rest) => (LineCommand::Print, rest),
+        }
+    }
 }
 
 /// The command that the words name, or their first fault.

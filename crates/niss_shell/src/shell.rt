@@ -5,7 +5,7 @@ ghost use Rattle.niss_shell.specs.Output.{error_text};
 ghost use Rattle.niss_shell.specs.Engine.{RunsUnflushed, FlushesLast};
 ghost use Rattle.niss_shell.specs.Run.{Runs, TellsError, devices};
 
-use crate::command::{Command, LineCommand, parse_words};
+use crate::command::{LineCommand, parse_words};
 use crate::device::{Source, Target};
 use crate::lines::{LIMIT, answer_source, answer_text};
 use crate::stop::Stop;
@@ -99,13 +99,11 @@ fn answer_command<A: Allocator, R: Source, W: Target>(
     ensures unread { reads_source (request_of (map string_bytes words.now)) ≡ false →
         R.state source.new ≡ R.state source.old }
 {
-    match parse_words(words) {
-        Ok(Command::Invert(rest)) => answer_words(alloc, LineCommand::Invert, rest, source, out),
-        Ok(Command::Unniss(rest)) => answer_words(alloc, LineCommand::Unniss, rest, source, out),
-        Ok(Command::Cleanup(rest)) => answer_words(alloc, LineCommand::Cleanup, rest, source, out),
-        Ok(Command::Print(rest)) => answer_words(alloc, LineCommand::Print, rest, source, out),
-        Err(_) => Stop::Usage,
-    }
+    let Ok(command) = parse_words(words) else {
+        return Stop::Usage;
+    };
+    let (command, rest) = command.on_lines();
+    answer_words(alloc, command, rest, source, out)
 }
 
 /// The last flush. Where it is refused, a good run ends with a fault.

@@ -33,7 +33,5 @@ pub fn put_text(part: &[u8], text: &mut LineText)
     ensures words { text.new.items ≡ text.old.items ++ part.now }
     ensures room { length text.new.items ≡ length text.old.items + length part.now }
 {
-    for byte in part {
-        text.push(*byte);
-    }
+    text.try_extend_from_slice(part).unwrap();
 }
