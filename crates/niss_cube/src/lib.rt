@@ -24,8 +24,10 @@ mod quarter;
 mod renaming;
 mod rotated_text;
 mod slice_places;
+mod step;
 mod turn_tables;
 
 pub use cube::Cube;
 pub use niss_moves::{Axis, Face, Power, Rotation, Turn};
+pub use step::{Goal, Step};
 pub use turn_tables::{OutOfMemory, TurnTables};
