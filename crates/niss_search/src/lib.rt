@@ -1,0 +1,14 @@
+//! Search for the shortest solutions of a step.
+#![tactic(auto)]
+
+mod limit;
+mod outcome;
+mod sink;
+mod tables;
+mod turn_path;
+
+pub use limit::Limit;
+pub use outcome::Outcome;
+pub use sink::Sink;
+pub use tables::Meter;
+pub use turn_path::TurnPath;
