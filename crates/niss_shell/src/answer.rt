@@ -3,7 +3,7 @@ ghost use Rattle.niss_moves.specs.Effects.{effect};
 ghost use Rattle.niss_moves.specs.Letters.{letters};
 ghost use Rattle.niss_shell.specs.Output.{line_text, moves_of};
 
-use crate::command::LineCommand;
+use crate::command::Rewriting;
 use crate::text::put_text;
 use niss_cube::Cube;
 use niss_moves::{LineText, Niss, invert, put_niss_clean, put_tokens, to_faces, unniss};
@@ -18,16 +18,16 @@ fn facelets_of(line: &Niss) -> [u8; 54]
     cube.facelets(rotation)
 }
 
-/// What a command writes for a line, up to the line feed.
-pub fn put_answer(command: LineCommand, line: &Niss, text: &mut LineText)
+/// Appends what is written for a line without a search, up to the line feed.
+pub fn put_rewritten(rewriting: Rewriting, line: &Niss, text: &mut LineText)
     requires { length text.old.items ≡ 0 }
-    ensures words { text.new.items ≡ line_text command line.now }
+    ensures words { text.new.items ≡ line_text rewriting line.now }
     ensures room { length text.new.items ≤ 2000 }
 {
-    match command {
-        LineCommand::Invert => put_tokens(invert(line).as_slice(), text),
-        LineCommand::Unniss => put_tokens(unniss(line).as_slice(), text),
-        LineCommand::Cleanup => put_niss_clean(line, text),
-        LineCommand::Print => put_text(&facelets_of(line), text),
+    match rewriting {
+        Rewriting::Invert => put_tokens(invert(line).as_slice(), text),
+        Rewriting::Unniss => put_tokens(unniss(line).as_slice(), text),
+        Rewriting::Cleanup => put_niss_clean(line, text),
+        Rewriting::Print => put_text(&facelets_of(line), text),
     }
 }

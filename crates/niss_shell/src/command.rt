@@ -1,5 +1,5 @@
-ghost use Rattle.std.specs.Prelude.{◌≡◌, Ok, Err, MatchResult, map, string_bytes};
-ghost use Rattle.niss_shell.specs.Words.{OnLines, request_of, requested};
+ghost use Rattle.std.specs.Prelude.{◌≡◌, Ok, Err, MatchOption, MatchResult, map, string_bytes};
+ghost use Rattle.niss_shell.specs.Words.{OnLines, ListSteps, request_of, requested};
 
 /// Why the words are no command.
 #[derive(Clone, Copy, Debug, PartialEq, Eq)]
@@ -8,15 +8,23 @@ pub enum UsageFault {
     NoCommand,
     /// The first word names no command.
     UnknownCommand,
+    /// The command takes another number of words.
+    WrongCount,
 }
 
-/// A command on each line of the input.
+/// What is written for a line without a search.
 #[derive(Clone, Copy, Debug, PartialEq, Eq)]
-pub enum LineCommand {
+pub enum Rewriting {
     Invert,
     Unniss,
     Cleanup,
     Print,
+}
+
+/// A command on each line of the input.
+#[derive(Clone, Copy, Debug)]
+pub enum LineCommand {
+    Rewrite(Rewriting),
 }
 
 /// A command. The words that it lends are the input; where there are none, the input comes from the source.
@@ -30,23 +38,28 @@ pub enum Command<'a> {
     Cleanup(&'a [String]),
     /// The facelet text of each line.
     Print(&'a [String]),
+    /// The names of the steps.
+    Steps,
 }
 
 impl<'a> Command<'a> {
-    /// The command on lines, and the words that are its input.
-    pub(crate) fn on_lines(self) -> (LineCommand, &'a [String])
-        ensures { requested self.entry ≡ OnLines result.0 (map string_bytes result.1.now) }
+    /// The command on lines and the words that are its input, where it is one.
+    pub(crate) fn on_lines(self) -> Option<(LineCommand, &'a [String])>
+        ensures { MatchOption result
+            (requested self.entry ≡ ListSteps)
+            (λ parts. requested self.entry ≡ OnLines parts.0 (map string_bytes parts.1.now)) }
     {
         match self {
-            Command::Invert(rest) => (LineCommand::Invert, rest),
-            Command::Unniss(rest) => (LineCommand::Unniss, rest),
-            Command::Cleanup(rest) => (LineCommand::Cleanup, rest),
-            Command::Print(rest) => (LineCommand::Print, rest),
+            Command::Invert(rest) => Some((LineCommand::Rewrite(Rewriting::Invert), rest)),
+            Command::Unniss(rest) => Some((LineCommand::Rewrite(Rewriting::Unniss), rest)),
+            Command::Cleanup(rest) => Some((LineCommand::Rewrite(Rewriting::Cleanup), rest)),
+            Command::Print(rest) => Some((LineCommand::Rewrite(Rewriting::Print), rest)),
+            Command::Steps => None,
         }
     }
 }
 
-/// The command that the words name, or their first fault.
+/// The command that the words name, or their first fault: of the command, and then of the count of words.
 pub fn parse_words(words: &[String]) -> Result<Command<'_>, UsageFault>
     ensures { MatchResult result
         (λ command. request_of (map string_bytes words.now) ≡ Ok (requested command))
@@ -60,6 +73,8 @@ pub fn parse_words(words: &[String]) -> Result<Command<'_>, UsageFault>
         "unniss" => Ok(Command::Unniss(rest)),
         "cleanup" => Ok(Command::Cleanup(rest)),
         "print" => Ok(Command::Print(rest)),
+        "steps" if rest.is_empty() => Ok(Command::Steps),
+        "steps" => Err(UsageFault::WrongCount),
         _ => Err(UsageFault::UnknownCommand),
     }
 }
