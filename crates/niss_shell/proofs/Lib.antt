@@ -3,6 +3,7 @@ pub mod DeviceLemmas
 pub mod DigitLemmas
 pub mod LinesLemmas
 pub mod FaceletLemmas
+pub mod StateLemmas
 pub mod EngineLemmas
 pub mod AnswerLemmas
 pub mod RunLemmas

@@ -1,12 +1,11 @@
 -- What the engine's steps do. `front` are the bytes of the line that is being read.
-use Rattle.std.specs.Prelude.{◌≡◌, ℕ, ◌+◌, ◌≤◌, ◌||◌, not, Bool, true, false, Some, None, Result, Ok, Err, List, [], length}
+use Rattle.std.specs.Prelude.{◌≡◌, ℕ, ◌+◌, ◌*◌, ◌^◌, ◌≤◌, ◌||◌, not, Bool, true, false, Some, None, Result, Ok, Err, List, [], length}
 use Rattle.niss_shell.specs.Device.{SourceState, TargetState, has_fault, Gave, Appended, StaysSilent, WriteRefused}
 use Rattle.niss_shell.specs.Lines.{ended_lines, last_part, written_text, first_fault}
 use Rattle.niss_moves.specs.Reader.{IsFed}
 use Rattle.niss_shell.specs.Words.{Request, reads_source, takes_memory}
-use Rattle.niss_shell.specs.Output.{Answer, LineAnswers, line_answers, looks_for, most_looks_for, answer_lines, answer_request, line_with_bytes, ending}
+use Rattle.niss_shell.specs.Output.{Answer, LineAnswers, looks_for, most_looks_for, answer_lines, answer_request, line_with_bytes, ending}
 use Rattle.niss_shell.specs.declared.command.UsageFault.{UsageFault}
-use Rattle.niss_shell.specs.declared.command.LineCommand.{LineCommand}
 use Rattle.niss_shell.specs.declared.stop.LineFault.{LineFault}
 use Rattle.niss_shell.specs.declared.stop.Stop.{Stop}
 use Rattle.niss_shell.specs.declared.stop.Stop.TheVariants.{Done, Line, Usage, InputTooLong, CannotRead, CannotWrite, OutOfMemory}
@@ -91,6 +90,11 @@ AnswersLine (Err fault) looks most_looks n (Err stop) old new = (stop ≡ Line n
 abbrev pub AnswersBytes :
     LineAnswers → List ℕ → ℕ → Result (Unit {0}) Stop → AnswerState → AnswerState → Type 0
 AnswersBytes f bytes n result old new = AnswersLine (f.answer_of bytes) (f.looks_of bytes) f.most_looks n result old new
+
+-- The looks before line n leave room for those of the rest of a run: at most 2 ^ 64 before the first line, and less
+-- than 2 ^ 93 at each.
+abbrev pub HasRoom : ℕ → ℕ → Type 0
+HasRoom n looks = looks ≤ 2 ^ 64 + n * 2 ^ 93
 
 -- This many bytes of the input were read and taken.
 pub record IsAt (f : LineAnswers) (count : ℕ) (progress : Progress)

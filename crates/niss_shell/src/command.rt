@@ -1,5 +1,5 @@
 ghost use Rattle.std.specs.Prelude.{◌≡◌, Ok, Err, MatchOption, MatchResult, map, string_bytes};
-ghost use Rattle.niss_shell.specs.Words.{OnLines, ListSteps, request_of, requested};
+ghost use Rattle.niss_shell.specs.Words.{OnLines, ListSteps, without_words, request_of, requested};
 
 /// Why the words are no command.
 #[derive(Clone, Copy, Debug, PartialEq, Eq)]
@@ -59,6 +59,18 @@ impl<'a> Command<'a> {
     }
 }
 
+/// The command `steps`, which takes no words.
+fn parse_steps(words: &[String]) -> Result<Command<'_>, UsageFault>
+    ensures { MatchResult result
+        (λ command. without_words ListSteps (map string_bytes words.now) ≡ Ok (requested command))
+        (λ fault. without_words ListSteps (map string_bytes words.now) ≡ Err fault) }
+{
+    match words {
+        [] => Ok(Command::Steps),
+        _ => Err(UsageFault::WrongCount),
+    }
+}
+
 /// The command that the words name, or their first fault: of the command, and then of the count of words.
 pub fn parse_words(words: &[String]) -> Result<Command<'_>, UsageFault>
     ensures { MatchResult result
@@ -73,8 +85,7 @@ pub fn parse_words(words: &[String]) -> Result<Command<'_>, UsageFault>
         "unniss" => Ok(Command::Unniss(rest)),
         "cleanup" => Ok(Command::Cleanup(rest)),
         "print" => Ok(Command::Print(rest)),
-        "steps" if rest.is_empty() => Ok(Command::Steps),
-        "steps" => Err(UsageFault::WrongCount),
+        "steps" => parse_steps(rest),
         _ => Err(UsageFault::UnknownCommand),
     }
 }

@@ -1,15 +1,21 @@
-ghost use Rattle.std.specs.Prelude.{◌≡◌, ◌<◌, ◌≤◌, not, false, true, Ok, ◌++◌, [], map, flat_map, string_bytes, length, OnOk, IfOk, MatchOption};
+ghost use Rattle.std.specs.Prelude.{◌≡◌, ◌<◌, ◌≤◌, ◌^◌, not, false, true, Ok, ◌++◌, ℕ, [], map, flat_map, string_bytes, length, OnOk, IfOk, MatchOption};
 ghost use Rattle.niss_shell.specs.Device.{has_fault};
 ghost use Rattle.niss_shell.specs.Words.{limit, joined, spaced_word, request_of, reads_source, OnLines};
-ghost use Rattle.niss_shell.specs.Output.{error_text};
-ghost use Rattle.niss_shell.specs.Engine.{RunsUnflushed, FlushesLast};
+ghost use Rattle.niss_shell.specs.Output.{error_text, step_line, unsearched};
+ghost use Rattle.niss_cube.specs.Steps.{steps};
+ghost use Rattle.niss_shell.specs.declared.stop.Stop.TheVariants.{Done};
+ghost use Rattle.niss_shell.specs.Engine.{Answers, RunsUnflushed, FlushesLast, answer_state};
 ghost use Rattle.niss_shell.specs.Run.{Runs, TellsError, devices};
 
 use crate::command::{LineCommand, parse_words};
 use crate::device::{Source, Target};
 use crate::lines::{LIMIT, answer_source, answer_text};
 use crate::stop::Stop;
+use crate::text::put_text;
 use crate::writing::write_all;
+use niss_cube::Step;
+use niss_moves::LineText;
+use niss_search::Meter;
 use std::alloc::{AllocError, Allocator, Global};
 
 /// How many bytes the words give, where these aren't too many.
@@ -64,24 +70,44 @@ fn answer_words<A: Allocator, R: Source, W: Target>(
     words: &[String],
     source: &mut R,
     out: &mut W,
+    looks: &mut Meter,
 ) -> Stop
     requires reads { (R.state source.old).has_failed ≡ false }
     requires goes_on { (R.state source.old).has_ended ≡ false }
     requires works { has_fault (W.state out.old) ≡ false }
+    requires meter { looks.old ≤ 2 ^ 64 }
     ensures runs { RunsUnflushed (Ok (OnLines command (map string_bytes words.now))) result
-        (R.state source.old) (R.state source.new) (W.state out.old) (W.state out.new) }
+        (R.state source.old) (R.state source.new)
+        (answer_state (W.state out.old) looks.old) (answer_state (W.state out.new) looks.new) }
     ensures unread { reads_source (Ok (OnLines command (map string_bytes words.now))) ≡ false →
         R.state source.new ≡ R.state source.old }
 {
     if words.is_empty() {
-        return answer_source(command, source, out);
+        return answer_source(command, source, out, looks);
     }
     let Some(length) = joined_length(words) else {
         return Stop::InputTooLong;
     };
     match joined_words(alloc, words, length) {
-        Ok(text) => answer_text(command, text.as_slice(), out),
+        Ok(text) => answer_text(command, text.as_slice(), out, looks),
         Err(_) => Stop::OutOfMemory,
+    }
+}
+
+/// Writes the names of the steps, each on a line. It takes neither input nor memory.
+fn write_steps<W: Target>(out: &mut W) -> Stop
+    requires { has_fault (W.state out.old) ≡ false }
+    ensures { (looks : ℕ) → Answers (unsearched (flat_map step_line steps) Done) result
+        (answer_state (W.state out.old) looks) (answer_state (W.state out.new) looks) }
+{
+    let mut text = LineText::new();
+    for step in Step::all() {
+        put_text(step.name().as_bytes(), &mut text);
+        text.push(b'\n');
+    }
+    match write_all(out, text.as_slice()) {
+        Ok(()) => Stop::Done,
+        Err(_) => Stop::CannotWrite,
     }
 }
 
@@ -90,20 +116,25 @@ fn answer_command<A: Allocator, R: Source, W: Target>(
     words: &[String],
     source: &mut R,
     out: &mut W,
+    looks: &mut Meter,
 ) -> Stop
     requires reads { (R.state source.old).has_failed ≡ false }
     requires goes_on { (R.state source.old).has_ended ≡ false }
     requires works { has_fault (W.state out.old) ≡ false }
+    requires meter { looks.old ≤ 2 ^ 64 }
     ensures runs { RunsUnflushed (request_of (map string_bytes words.now)) result
-        (R.state source.old) (R.state source.new) (W.state out.old) (W.state out.new) }
+        (R.state source.old) (R.state source.new)
+        (answer_state (W.state out.old) looks.old) (answer_state (W.state out.new) looks.new) }
     ensures unread { reads_source (request_of (map string_bytes words.now)) ≡ false →
         R.state source.new ≡ R.state source.old }
 {
     let Ok(command) = parse_words(words) else {
         return Stop::Usage;
     };
-    let (command, rest) = command.on_lines();
-    answer_words(alloc, command, rest, source, out)
+    match command.on_lines() {
+        Some((command, rest)) => answer_words(alloc, command, rest, source, out, looks),
+        None => write_steps(out),
+    }
 }
 
 /// The last flush. Where it is refused, a good run ends with a fault.
@@ -130,13 +161,15 @@ pub fn run_in<A: Allocator, R: Source, W: Target, E: Target>(
     input: &mut R,
     out: &mut W,
     err: &mut E,
+    looks: &mut Meter,
 ) -> u8
     requires reads { (R.state input.old).has_failed ≡ false }
     requires goes_on { (R.state input.old).has_ended ≡ false }
     requires works { has_fault (W.state out.old) ≡ false }
+    requires meter { looks.old ≤ 2 ^ 64 }
     ensures runs { Runs (map string_bytes words.now)
         (devices (R.state input.old) (W.state out.old) (E.state err.old))
-        (devices (R.state input.new) (W.state out.new) (E.state err.new)) result }
+        (devices (R.state input.new) (W.state out.new) (E.state err.new)) looks.old looks.new result }
     // Nothing is read but by a command that takes its input from the source.
     ensures unread { reads_source (request_of (map string_bytes words.now)) ≡ false →
         R.state input.new ≡ R.state input.old }
@@ -146,7 +179,7 @@ pub fn run_in<A: Allocator, R: Source, W: Target, E: Target>(
     // one not.
     ensures one_flush { (W.state out.new).flush_failed ≡ not (W.state out.new).is_flushed }
 {
-    let stop = flush_last(answer_command(alloc, words, input, out), out);
+    let stop = flush_last(answer_command(alloc, words, input, out, looks), out);
     tell(stop, err);
     stop.status()
 }
@@ -162,13 +195,15 @@ pub fn run<R: Source, W: Target, E: Target>(
     input: &mut R,
     out: &mut W,
     err: &mut E,
+    looks: &mut Meter,
 ) -> u8
     requires reads { (R.state input.old).has_failed ≡ false }
     requires goes_on { (R.state input.old).has_ended ≡ false }
     requires works { has_fault (W.state out.old) ≡ false }
+    requires meter { looks.old ≤ 2 ^ 64 }
     ensures runs { Runs (map string_bytes words.now)
         (devices (R.state input.old) (W.state out.old) (E.state err.old))
-        (devices (R.state input.new) (W.state out.new) (E.state err.new)) result }
+        (devices (R.state input.new) (W.state out.new) (E.state err.new)) looks.old looks.new result }
     // Nothing is read but by a command that takes its input from the source.
     ensures unread { reads_source (request_of (map string_bytes words.now)) ≡ false →
         R.state input.new ≡ R.state input.old }
@@ -178,5 +213,5 @@ pub fn run<R: Source, W: Target, E: Target>(
     // one not.
     ensures one_flush { (W.state out.new).flush_failed ≡ not (W.state out.new).is_flushed }
 {
-    run_in(alloc, words, input, out, err)
+    run_in(alloc, words, input, out, err, looks)
 }
