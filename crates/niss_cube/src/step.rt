@@ -100,18 +100,10 @@ impl Step {
         ensures known { IfSome result (λ step. name_of step ≡ name.now) }
         ensures unknown { IfNone result ((step : Step) → name_of step ≢ name.now) }
     {
-        match name {
-            b"eofb" => Some(Step::Eofb),
-            b"eorl" => Some(Step::Eorl),
-            b"eoud" => Some(Step::Eoud),
-            b"drud-eofb" => Some(Step::DrudEofb),
-            b"drrl-eofb" => Some(Step::DrrlEofb),
-            b"drud-eorl" => Some(Step::DrudEorl),
-            b"drfb-eorl" => Some(Step::DrfbEorl),
-            b"drrl-eoud" => Some(Step::DrrlEoud),
-            b"drfb-eoud" => Some(Step::DrfbEoud),
-            _ => None,
-        }
+        Step::all()
+            .iter()
+            .copied()
+            .find(|step| step.name().as_bytes() == name)
     }
 
     /// The axis on which the edges must be oriented before the step; `None` where it needs nothing.

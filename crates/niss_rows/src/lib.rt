@@ -15,3 +15,5 @@ mod memory;
 mod runs;
 #[cfg(test)]
 mod std_streams;
+#[cfg(test)]
+mod steps;
