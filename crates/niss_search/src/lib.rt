@@ -1,6 +1,7 @@
 //! Search for the shortest solutions of a step.
 #![tactic(auto)]
 
+pub mod laws;
 mod limit;
 mod outcome;
 mod sink;
@@ -10,5 +11,5 @@ mod turn_path;
 pub use limit::Limit;
 pub use outcome::Outcome;
 pub use sink::Sink;
-pub use tables::Meter;
+pub use tables::{Meter, Position, Tables};
 pub use turn_path::TurnPath;

@@ -2,7 +2,7 @@
 use std::marker::Model;
 
 /// A greatest number of turns, from 0 to 20.
-#[derive(Clone, Copy, Debug)]
+#[derive(Clone, Copy, Debug, PartialEq, Eq)]
 pub struct Limit {
     turns: u8,
 }

@@ -1,4 +1,107 @@
-//! What a step knows of its positions.
+//! What a search knows of its step: where a turn leads, and what a look at a position answers.
 mod meter;
+mod position;
+
+use crate::laws::positions_tell;
+use niss_cube::{Cube, Goal, OutOfMemory, Step, Turn, TurnTables};
+use position::Coordinates;
+use std::alloc::Global;
+use std::marker::Model;
 
 pub use meter::Meter;
+pub use position::Position;
+
+/// What a search needs of a step.
+#[derive(Drop)]
+pub struct Tables {
+    step: Step,
+    turn_tables: TurnTables,
+}
+
+impl Model for Tables {
+    ghost use Rattle.niss_cube.specs.declared.step.Step as steps;
+
+    ghost Value = { steps.Step };
+
+    ghost view = { λ t. t.step };
+}
+
+impl Tables {
+    ghost use Rattle.std.specs.Prelude.{◌≡◌, ◌+◌, ◌<◌, ◌≤◌, ◌^◌, ◌↔◌, ◌∷◌, [], IsTrue, Contains, IfOk};
+    ghost use Rattle.niss_moves.specs.Places.{Place, SameMap};
+    ghost use Rattle.niss_moves.specs.Effects.{turned};
+    ghost use Rattle.niss_cube.specs.Map.{map_of};
+    ghost use Rattle.niss_cube.specs.Steps.{goals_of, turns_of, may_start, reached};
+    ghost use Rattle.niss_search.specs.Positions.{position_after, look_at};
+    ghost use Rattle.niss_search.specs.Cubes.{HasPosition, IsPosition, distance_of, look_answer};
+
+    /// Builds the tables of a step. It takes all memory before the meter rises, and nothing is kept where the allocator
+    /// refuses some.
+    pub fn build(alloc: Global, step: Step, meter: &mut Meter) -> Result<Tables, OutOfMemory>
+        requires { meter.old ≤ 2 ^ 127 }
+        ensures step { IfOk result (λ tables. tables ≡ step) }
+        ensures meter { meter.new ≡ meter.old }
+    {
+        let turn_tables = TurnTables::build(alloc)?;
+        Ok(Tables { step, turn_tables })
+    }
+
+    /// The step.
+    pub fn step(&self) -> Step
+        ensures { result ≡ self.now }
+    {
+        self.step
+    }
+
+    /// The position of a cube on which the step may start.
+    pub fn position(&self, cube: &Cube) -> Position
+        requires { IsTrue (may_start self.now (map_of cube.now)) }
+        ensures { (e : Place → Place) → SameMap (map_of cube.now) e → HasPosition self.now e result }
+    {
+        positions_tell();
+        Position {
+            coordinates: Coordinates::of(self.goal(), cube),
+        }
+    }
+
+    /// The position after one of the step's turns.
+    pub fn after(&self, position: &Position, turn: Turn) -> Position
+        requires position { IsPosition self.now position.now }
+        requires of_step { Contains (turns_of self.now) turn }
+        ensures value { result ≡ position_after position.now turn }
+        ensures turned { (e : Place → Place) → HasPosition self.now e position.now
+            → HasPosition self.now (λ q. turned turn (e q)) result }
+    {
+        positions_tell();
+        Position {
+            coordinates: position.coordinates.after(turn, &self.turn_tables),
+        }
+    }
+
+    /// A bound from below on the turns to the goal: 0 where the step is reached and 1 elsewhere. The meter rises by one.
+    pub fn look(&self, position: &Position, meter: &mut Meter) -> u8
+        requires position { IsPosition self.now position.now }
+        requires meter { meter.old + 1 < 2 ^ 128 }
+        ensures tick { meter.new ≡ meter.old + 1 }
+        ensures of_position { result ≡ look_at position.now }
+        ensures value { (e : Place → Place) → HasPosition self.now e position.now → result ≡ look_answer self.now e }
+        ensures zero { (e : Place → Place) → HasPosition self.now e position.now
+            → (result ≡ 0) ↔ IsTrue (reached self.now e) }
+        ensures never_above { (e : Place → Place) → HasPosition self.now e position.now → result ≤ distance_of self.now e }
+    {
+        positions_tell();
+        meter.tick();
+        if position.coordinates.are_zero() {
+            0
+        } else {
+            1
+        }
+    }
+
+    /// The goal of the step: each step has one.
+    fn goal(&self) -> Goal
+        ensures { goals_of self.now ≡ result ∷ [] }
+    {
+        self.step.goals()[0]
+    }
+}
