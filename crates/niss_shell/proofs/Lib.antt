@@ -7,4 +7,5 @@ pub mod StateLemmas
 pub mod EngineLemmas
 pub mod AnswerLemmas
 pub mod RunLemmas
+pub mod NumberLemmas
 pub mod WordsLemmas

@@ -123,14 +123,14 @@ pub fn parse_words(words: &[String]) -> Result<Command<'_>, UsageFault>
         "unniss" => Ok(Command::Unniss(rest)),
         "cleanup" => Ok(Command::Cleanup(rest)),
         "print" => Ok(Command::Print(rest)),
-        "solve" => {
-            let (step, limit, rest) = parse_search(rest)?;
-            Ok(Command::Solve(step, limit, rest))
-        }
-        "count" => {
-            let (step, limit, rest) = parse_search(rest)?;
-            Ok(Command::Count(step, limit, rest))
-        }
+        "solve" => match parse_search(rest) {
+            Ok((step, limit, rest)) => Ok(Command::Solve(step, limit, rest)),
+            Err(fault) => Err(fault),
+        },
+        "count" => match parse_search(rest) {
+            Ok((step, limit, rest)) => Ok(Command::Count(step, limit, rest)),
+            Err(fault) => Err(fault),
+        },
         "steps" => parse_steps(rest),
         _ => Err(UsageFault::UnknownCommand),
     }
