@@ -6,6 +6,7 @@ pub mod FaceletLemmas
 pub mod StateLemmas
 pub mod EngineLemmas
 pub mod AnswerLemmas
+pub mod SearchLemmas
 pub mod RunLemmas
 pub mod NumberLemmas
 pub mod WordsLemmas
