@@ -27,6 +27,8 @@ mod runs;
 #[cfg(test)]
 mod searches;
 #[cfg(test)]
+mod solving;
+#[cfg(test)]
 mod std_streams;
 #[cfg(test)]
 mod steps;

@@ -1,5 +1,11 @@
-ghost use Rattle.std.specs.Prelude.{◌≡◌, Ok, Err, MatchResult, map, string_bytes};
-ghost use Rattle.niss_shell.specs.Words.{request_of, requested};
+ghost use Rattle.std.specs.Prelude.{◌≡◌, Ok, Err, MatchOption, MatchResult, map, string_bytes};
+ghost use Rattle.niss_shell.specs.declared.command.LineCommand.TheVariants.{Search};
+ghost use Rattle.niss_shell.specs.declared.command.Report.{Report};
+ghost use Rattle.niss_shell.specs.Words.{OnLines, ListSteps, search_words, without_words, request_of, requested};
+
+use crate::number::limit_of;
+use niss_cube::Step;
+use niss_search::Limit;
 
 /// Why the words are no command.
 #[derive(Clone, Copy, Debug, PartialEq, Eq)]
@@ -8,15 +14,37 @@ pub enum UsageFault {
     NoCommand,
     /// The first word names no command.
     UnknownCommand,
+    /// The command takes another number of words.
+    WrongCount,
+    /// A word that should be a number is none, or is out of its range.
+    BadNumber,
+    /// No step has this name.
+    UnknownStep,
 }
 
-/// A command on each line of the input.
+/// What is written for a line without a search.
 #[derive(Clone, Copy, Debug, PartialEq, Eq)]
-pub enum LineCommand {
+pub enum Rewriting {
     Invert,
     Unniss,
     Cleanup,
     Print,
+}
+
+/// What is told of a search.
+#[derive(Clone, Copy, Debug, PartialEq, Eq)]
+pub enum Report {
+    /// Each solution.
+    Solutions,
+    /// The length of the solutions, how many they are, and how often the search looked at a position.
+    Counts,
+}
+
+/// A command on each line of the input.
+#[derive(Clone, Copy, Debug)]
+pub enum LineCommand {
+    Rewrite(Rewriting),
+    Search(Report, Step, Limit),
 }
 
 /// A command. The words that it lends are the input; where there are none, the input comes from the source.
@@ -30,9 +58,70 @@ pub enum Command<'a> {
     Cleanup(&'a [String]),
     /// The facelet text of each line.
     Print(&'a [String]),
+    /// The shortest solutions of a step for each line, of at most so many turns.
+    Solve(Step, Limit, &'a [String]),
+    /// Their length, how many they are, and how often the search looks at a position, for each line.
+    Count(Step, Limit, &'a [String]),
+    /// The names of the steps.
+    Steps,
 }
 
-/// The command that the words name, or their first fault.
+impl<'a> Command<'a> {
+    /// The command on lines and the words that are its input, where it is one.
+    pub(crate) fn on_lines(self) -> Option<(LineCommand, &'a [String])>
+        ensures { MatchOption result
+            (requested self.entry ≡ ListSteps)
+            (λ parts. requested self.entry ≡ OnLines parts.0 (map string_bytes parts.1.now)) }
+    {
+        match self {
+            Command::Invert(rest) => Some((LineCommand::Rewrite(Rewriting::Invert), rest)),
+            Command::Unniss(rest) => Some((LineCommand::Rewrite(Rewriting::Unniss), rest)),
+            Command::Cleanup(rest) => Some((LineCommand::Rewrite(Rewriting::Cleanup), rest)),
+            Command::Print(rest) => Some((LineCommand::Rewrite(Rewriting::Print), rest)),
+            Command::Solve(step, limit, rest) => {
+                Some((LineCommand::Search(Report::Solutions, step, limit), rest))
+            }
+            Command::Count(step, limit, rest) => {
+                Some((LineCommand::Search(Report::Counts, step, limit), rest))
+            }
+            Command::Steps => None,
+        }
+    }
+}
+
+/// The step, the limit and the words that are the input, of a command that searches.
+fn parse_search(words: &[String]) -> Result<(Step, Limit, &[String]), UsageFault>
+    ensures { (report : Report) → MatchResult result
+        (λ parts. search_words report (map string_bytes words.now)
+        ≡ Ok (OnLines (Search report parts.0 parts.1) (map string_bytes parts.2.now)))
+        (λ fault. search_words report (map string_bytes words.now) ≡ Err fault) }
+{
+    let [step, most, rest @ ..] = words else {
+        return Err(UsageFault::WrongCount);
+    };
+    let Some(step) = Step::from_name(step.as_bytes()) else {
+        return Err(UsageFault::UnknownStep);
+    };
+    let Some(limit) = limit_of(most.as_str()) else {
+        return Err(UsageFault::BadNumber);
+    };
+    Ok((step, limit, rest))
+}
+
+/// The command `steps`, which takes no words.
+fn parse_steps(words: &[String]) -> Result<Command<'_>, UsageFault>
+    ensures { MatchResult result
+        (λ command. without_words ListSteps (map string_bytes words.now) ≡ Ok (requested command))
+        (λ fault. without_words ListSteps (map string_bytes words.now) ≡ Err fault) }
+{
+    match words {
+        [] => Ok(Command::Steps),
+        _ => Err(UsageFault::WrongCount),
+    }
+}
+
+/// The command that the words name, or their first fault: of the command, then of the count of words, of the step, and of
+/// the numbers from left to right.
 pub fn parse_words(words: &[String]) -> Result<Command<'_>, UsageFault>
     ensures { MatchResult result
         (λ command. request_of (map string_bytes words.now) ≡ Ok (requested command))
@@ -46,6 +135,15 @@ pub fn parse_words(words: &[String]) -> Result<Command<'_>, UsageFault>
         "unniss" => Ok(Command::Unniss(rest)),
         "cleanup" => Ok(Command::Cleanup(rest)),
         "print" => Ok(Command::Print(rest)),
+        "solve" => match parse_search(rest) {
+            Ok((step, limit, rest)) => Ok(Command::Solve(step, limit, rest)),
+            Err(fault) => Err(fault),
+        },
+        "count" => match parse_search(rest) {
+            Ok((step, limit, rest)) => Ok(Command::Count(step, limit, rest)),
+            Err(fault) => Err(fault),
+        },
+        "steps" => parse_steps(rest),
         _ => Err(UsageFault::UnknownCommand),
     }
 }
