@@ -6,3 +6,4 @@ pub mod DistanceLemmas
 pub mod Levels
 pub mod Bounds
 pub mod CountLaws
+pub mod DrawLemmas

@@ -3,12 +3,14 @@
 
 mod limit;
 mod outcome;
+mod scramble;
 mod sink;
 mod tables;
 mod turn_path;
 
 pub use limit::Limit;
 pub use outcome::Outcome;
+pub use scramble::random_turns;
 pub use sink::Sink;
 pub use tables::Meter;
 pub use turn_path::TurnPath;
