@@ -8,6 +8,8 @@ mod device_faults;
 #[cfg(test)]
 mod devices;
 #[cfg(test)]
+mod draws;
+#[cfg(test)]
 mod limits;
 #[cfg(test)]
 mod memory;

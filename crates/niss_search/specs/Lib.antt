@@ -7,3 +7,4 @@ pub mod Cubes
 pub mod Delivery
 pub mod Laws
 pub mod Descent
+pub mod Draw

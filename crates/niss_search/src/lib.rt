@@ -4,12 +4,14 @@
 pub mod laws;
 mod limit;
 mod outcome;
+mod scramble;
 mod sink;
 mod tables;
 mod turn_path;
 
 pub use limit::Limit;
 pub use outcome::Outcome;
+pub use scramble::random_turns;
 pub use sink::Sink;
 pub use tables::{Meter, Position, Tables};
 pub use turn_path::TurnPath;
