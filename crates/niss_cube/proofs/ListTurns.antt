@@ -1,5 +1,5 @@
 -- Turned and renamed cubies as lists.
-use Rattle.std.proofs.Common.{◌≡◌, ℕ, zero, suc, ◌+◌, ◌%◌, ◌<◌, refl, sym, ◌∙◌, ap, List, length, get_or, map, arith}
+use Rattle.std.proofs.Common.{◌≡◌, ℕ, zero, suc, ◌+◌, ◌-◌, ◌%◌, ◌<◌, refl, sym, ◌∙◌, ap, List, length, get_or, map, arith}
 use Rattle.std.specs.Prelude.{slice_index}
 use Rattle.std.specs.List.{range_with_len}
 use Rattle.std.proofs.lemmas.List.FromFn.{get_or-map-range_with_len, length-map-range_with_len}
@@ -88,9 +88,9 @@ turned-map t c a = power_map t.power t refl c a
 abbrev pub renamed_cubies : Renaming → CubieLists → CubieLists
 renamed_cubies v c = record {
   corners = map (λ i. slice_index (renaming_table v).corners_to (slice_index c.corners (slice_index (renaming_table v).corners_from i))) (range_with_len 0 8);
-  twists = map (λ i. (slice_index (renaming_table v).twists_in (slice_index c.corners (slice_index (renaming_table v).corners_from i)) + slice_index c.twists (slice_index (renaming_table v).corners_from i) + slice_index (renaming_table v).twists_out (slice_index (renaming_table v).corners_from i)) % 3) (range_with_len 0 8);
+  twists = map (λ i. (slice_index (renaming_table v).twists_in (slice_index c.corners (slice_index (renaming_table v).corners_from i)) + slice_index c.twists (slice_index (renaming_table v).corners_from i) + (3 - slice_index (renaming_table v).twists_in (slice_index (renaming_table v).corners_from i))) % 3) (range_with_len 0 8);
   edges = map (λ i. slice_index (renaming_table v).edges_to (slice_index c.edges (slice_index (renaming_table v).edges_from i))) (range_with_len 0 12);
-  flips = map (λ i. (slice_index (renaming_table v).flips_in (slice_index c.edges (slice_index (renaming_table v).edges_from i)) + slice_index c.flips (slice_index (renaming_table v).edges_from i) + slice_index (renaming_table v).flips_out (slice_index (renaming_table v).edges_from i)) % 2) (range_with_len 0 12);
+  flips = map (λ i. (slice_index (renaming_table v).flips_in (slice_index c.edges (slice_index (renaming_table v).edges_from i)) + slice_index c.flips (slice_index (renaming_table v).edges_from i) + (2 - slice_index (renaming_table v).flips_in (slice_index (renaming_table v).edges_from i))) % 2) (range_with_len 0 12);
 }
 
 renamed_cubies-is : (v : Renaming) (c : CubieLists) → AreRenamed (renaming_table v) c.corners c.twists c.edges c.flips (renamed_cubies v c).corners (renamed_cubies v c).twists (renamed_cubies v c).edges (renamed_cubies v c).flips
@@ -100,9 +100,9 @@ renamed_cubies-is v c = record {
   edges_len = refl;
   flips_len = refl;
   corners_are = at-range 8 (λ i. slice_index (renaming_table v).corners_to (slice_index c.corners (slice_index (renaming_table v).corners_from i)));
-  twists_are = at-range 8 (λ i. (slice_index (renaming_table v).twists_in (slice_index c.corners (slice_index (renaming_table v).corners_from i)) + slice_index c.twists (slice_index (renaming_table v).corners_from i) + slice_index (renaming_table v).twists_out (slice_index (renaming_table v).corners_from i)) % 3);
+  twists_are = at-range 8 (λ i. (slice_index (renaming_table v).twists_in (slice_index c.corners (slice_index (renaming_table v).corners_from i)) + slice_index c.twists (slice_index (renaming_table v).corners_from i) + (3 - slice_index (renaming_table v).twists_in (slice_index (renaming_table v).corners_from i))) % 3);
   edges_are = at-range 12 (λ i. slice_index (renaming_table v).edges_to (slice_index c.edges (slice_index (renaming_table v).edges_from i)));
-  flips_are = at-range 12 (λ i. (slice_index (renaming_table v).flips_in (slice_index c.edges (slice_index (renaming_table v).edges_from i)) + slice_index c.flips (slice_index (renaming_table v).edges_from i) + slice_index (renaming_table v).flips_out (slice_index (renaming_table v).edges_from i)) % 2);
+  flips_are = at-range 12 (λ i. (slice_index (renaming_table v).flips_in (slice_index c.edges (slice_index (renaming_table v).edges_from i)) + slice_index c.flips (slice_index (renaming_table v).edges_from i) + (2 - slice_index (renaming_table v).flips_in (slice_index (renaming_table v).edges_from i))) % 2);
 }
 
 pub renamed_cubies-valid : (v : Renaming) (c : CubieLists) → Valid c → Valid (renamed_cubies v c)

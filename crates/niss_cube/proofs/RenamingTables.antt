@@ -1,5 +1,5 @@
 -- The renamings: their tables, and the map of a renamed cube.
-use Rattle.std.proofs.Common.{◌≡◌, ℕ, ◌+◌, ◌%◌, ◌<◌, refl, sym, ◌∙◌, subst, List, length, Bool, true, false, ◌&&◌, not, arith, inl, inr, ◌⊎◌}
+use Rattle.std.proofs.Common.{◌≡◌, ℕ, ◌+◌, ◌-◌, ◌%◌, ◌<◌, refl, sym, ◌∙◌, subst, List, length, Bool, true, false, ◌&&◌, not, arith, inl, inr, ◌⊎◌}
 use Rattle.std.specs.Prelude.{EachIndex, slice_index}
 use Rattle.std.specs.List.{list_all}
 use Rattle.std.proofs.lemmas.Bool.{ltb-true}
@@ -49,10 +49,10 @@ at_renaming t h YQuarter = and_left _ _ (and_right (t XQuarter) _ (and_right (t 
 at_renaming t h ZCounter = and_right (t YQuarter) _ (and_right (t XQuarter) _ (and_right (t XCounter) _ h))
 
 abbrev corners_test : Renaming → Bool
-corners_test v = renames 8 3 corner_facelets (renaming_table v).corners_from (renaming_table v).corners_to (renaming_table v).twists_in (renaming_table v).twists_out (rotated v) (rotated_back v)
+corners_test v = renames 8 3 corner_facelets (renaming_table v).corners_from (renaming_table v).corners_to (renaming_table v).twists_in (rotated v) (rotated_back v)
 
 abbrev edges_test : Renaming → Bool
-edges_test v = renames 12 2 edge_facelets (renaming_table v).edges_from (renaming_table v).edges_to (renaming_table v).flips_in (renaming_table v).flips_out (rotated v) (rotated_back v)
+edges_test v = renames 12 2 edge_facelets (renaming_table v).edges_from (renaming_table v).edges_to (renaming_table v).flips_in (rotated v) (rotated_back v)
 
 corners_tests : all_renamings corners_test ≡ true
 corners_tests = refl
@@ -102,11 +102,11 @@ keeps_kinds v q p =
       home_out = same_place-is _ _ (and_right (same_place (rotated v (rotated_back v q)) q) _ t4);
     }
 
-pub corners_renamed : (v : Renaming) → Renames 8 3 corner_facelets (renaming_table v).corners_from (renaming_table v).corners_to (renaming_table v).twists_in (renaming_table v).twists_out (rotated v) (rotated_back v)
-corners_renamed v = renames-is 8 3 corner_facelets _ _ _ _ (rotated v) (rotated_back v) (at_renaming corners_test corners_tests v)
+pub corners_renamed : (v : Renaming) → Renames 8 3 corner_facelets (renaming_table v).corners_from (renaming_table v).corners_to (renaming_table v).twists_in (rotated v) (rotated_back v)
+corners_renamed v = renames-is 8 3 corner_facelets _ _ _ (rotated v) (rotated_back v) (at_renaming corners_test corners_tests v)
 
-pub edges_renamed : (v : Renaming) → Renames 12 2 edge_facelets (renaming_table v).edges_from (renaming_table v).edges_to (renaming_table v).flips_in (renaming_table v).flips_out (rotated v) (rotated_back v)
-edges_renamed v = renames-is 12 2 edge_facelets _ _ _ _ (rotated v) (rotated_back v) (at_renaming edges_test edges_tests v)
+pub edges_renamed : (v : Renaming) → Renames 12 2 edge_facelets (renaming_table v).edges_from (renaming_table v).edges_to (renaming_table v).flips_in (rotated v) (rotated_back v)
+edges_renamed v = renames-is 12 2 edge_facelets _ _ _ (rotated v) (rotated_back v) (at_renaming edges_test edges_tests v)
 
 -- what a renaming writes
 pub record AreRenamed (t : RenamingTable) (corners twists edges flips corners' twists' edges' flips' : List ℕ) : Type 0 where
@@ -115,12 +115,12 @@ pub record AreRenamed (t : RenamingTable) (corners twists edges flips corners' t
   pub edges_len : length edges' ≡ 12
   pub flips_len : length flips' ≡ 12
   pub corners_are : EachIndex corners' (λ k. slice_index corners' k ≡ slice_index t.corners_to (slice_index corners (slice_index t.corners_from k)))
-  pub twists_are : EachIndex twists' (λ k. slice_index twists' k ≡ (slice_index t.twists_in (slice_index corners (slice_index t.corners_from k)) + slice_index twists (slice_index t.corners_from k) + slice_index t.twists_out (slice_index t.corners_from k)) % 3)
+  pub twists_are : EachIndex twists' (λ k. slice_index twists' k ≡ (slice_index t.twists_in (slice_index corners (slice_index t.corners_from k)) + slice_index twists (slice_index t.corners_from k) + (3 - slice_index t.twists_in (slice_index t.corners_from k))) % 3)
   pub edges_are : EachIndex edges' (λ k. slice_index edges' k ≡ slice_index t.edges_to (slice_index edges (slice_index t.edges_from k)))
-  pub flips_are : EachIndex flips' (λ k. slice_index flips' k ≡ (slice_index t.flips_in (slice_index edges (slice_index t.edges_from k)) + slice_index flips (slice_index t.edges_from k) + slice_index t.flips_out (slice_index t.edges_from k)) % 2)
+  pub flips_are : EachIndex flips' (λ k. slice_index flips' k ≡ (slice_index t.flips_in (slice_index edges (slice_index t.edges_from k)) + slice_index flips (slice_index t.edges_from k) + (2 - slice_index t.flips_in (slice_index t.edges_from k))) % 2)
 
 module _ (v : Renaming) (corners twists edges flips corners' twists' edges' flips' : List ℕ) (a : AreCubies corners twists edges flips) (w : AreRenamed (renaming_table v) corners twists edges flips corners' twists' edges' flips') where
-  corners_is : IsRenamed 8 3 (renaming_table v).corners_from (renaming_table v).corners_to (renaming_table v).twists_in (renaming_table v).twists_out corners twists corners' twists'
+  corners_is : IsRenamed 8 3 (renaming_table v).corners_from (renaming_table v).corners_to (renaming_table v).twists_in corners twists corners' twists'
   corners_is = record {
     homes_len = a.corner_places;
     turns_len = a.twist_places;
@@ -130,7 +130,7 @@ module _ (v : Renaming) (corners twists edges flips corners' twists' edges' flip
     turns_are = λ i l. w.twists_are i (omega (arith, l, w.twists_len));
   }
 
-  edges_is : IsRenamed 12 2 (renaming_table v).edges_from (renaming_table v).edges_to (renaming_table v).flips_in (renaming_table v).flips_out edges flips edges' flips'
+  edges_is : IsRenamed 12 2 (renaming_table v).edges_from (renaming_table v).edges_to (renaming_table v).flips_in edges flips edges' flips'
   edges_is = record {
     homes_len = a.edge_places;
     turns_len = a.flip_places;
@@ -152,14 +152,14 @@ module _ (v : Renaming) (corners twists edges flips corners' twists' edges' flip
     twist_places = w.twists_len;
     edge_places = w.edges_len;
     flip_places = w.flips_len;
-    each_corner = λ h l. count_by-times corners' h ∙ renamed-once 8 3 corner_facelets _ _ _ _ (rotated v) (rotated_back v) (corners_renamed v) corners twists corners' twists' corners_is a.corner_range corners_once h l;
-    each_edge = λ h l. count_by-times edges' h ∙ renamed-once 12 2 edge_facelets _ _ _ _ (rotated v) (rotated_back v) (edges_renamed v) edges flips edges' flips' edges_is a.edge_range edges_once h l;
-    corner_range = renamed-small 8 3 corner_facelets _ _ _ _ (rotated v) (rotated_back v) (corners_renamed v) corners twists corners' twists' corners_is a.corner_range corners_once;
-    edge_range = renamed-small 12 2 edge_facelets _ _ _ _ (rotated v) (rotated_back v) (edges_renamed v) edges flips edges' flips' edges_is a.edge_range edges_once;
+    each_corner = λ h l. count_by-times corners' h ∙ renamed-once 8 3 corner_facelets _ _ _ (rotated v) (rotated_back v) (corners_renamed v) corners twists corners' twists' corners_is a.corner_range corners_once h l;
+    each_edge = λ h l. count_by-times edges' h ∙ renamed-once 12 2 edge_facelets _ _ _ (rotated v) (rotated_back v) (edges_renamed v) edges flips edges' flips' edges_is a.edge_range edges_once h l;
+    corner_range = renamed-small 8 3 corner_facelets _ _ _ (rotated v) (rotated_back v) (corners_renamed v) corners twists corners' twists' corners_is a.corner_range corners_once;
+    edge_range = renamed-small 12 2 edge_facelets _ _ _ (rotated v) (rotated_back v) (edges_renamed v) edges flips edges' flips' edges_is a.edge_range edges_once;
     twist_range = λ i l. rw (corners_is.turns_are i l) (mod_3.small _);
     flip_range = λ i l. rw (edges_is.turns_are i l) (mod_2.small _);
-    twist_sum = renamed-sum 8 3 corner_facelets _ _ _ _ (rotated v) (rotated_back v) (corners_renamed v) corners twists corners' twists' corners_is a.corner_range corners_once mod_3 a.twist_sum;
-    flip_sum = renamed-sum 12 2 edge_facelets _ _ _ _ (rotated v) (rotated_back v) (edges_renamed v) edges flips edges' flips' edges_is a.edge_range edges_once mod_2 a.flip_sum;
+    twist_sum = renamed-sum 8 3 corner_facelets _ _ _ (rotated v) (rotated_back v) (corners_renamed v) corners twists corners' twists' corners_is a.corner_range corners_once mod_3 a.twist_sum;
+    flip_sum = renamed-sum 12 2 edge_facelets _ _ _ (rotated v) (rotated_back v) (edges_renamed v) edges flips edges' flips' edges_is a.edge_range edges_once mod_2 a.flip_sum;
   }
 
   is_true : (b : Bool) → (b ≡ true) ⊎ (b ≡ false)
@@ -169,14 +169,14 @@ module _ (v : Renaming) (corners twists edges flips corners' twists' edges' flip
   corner : (q : Place) → is_place q ≡ true → is_corner q ≡ true → sticker_place 3 corner_facelets corners' twists' q ≡ rotated v (sticker_place 3 corner_facelets corners twists (rotated_back v q))
   corner q p c =
       let at = located 8 3 corner_facelets is_corner corners_located q p c in
-      let r = renamed-sticker_place 8 3 corner_facelets _ _ _ _ (rotated v) (rotated_back v) (corners_renamed v) corners twists corners' twists' corners_is a.corner_range corners_once (λ q. is_corner q && is_place q) corners_found regroups_3 below-3 (row_of corner_facelets q) (index_of corner_facelets q) (ltb-true _ _ at.0) (ltb-true _ _ at.1) in
+      let r = renamed-sticker_place 8 3 corner_facelets _ _ _ (rotated v) (rotated_back v) (corners_renamed v) corners twists corners' twists' corners_is a.corner_range corners_once (λ q. is_corner q && is_place q) corners_found regroups_3 below-3 (row_of corner_facelets q) (index_of corner_facelets q) (ltb-true _ _ at.0) (ltb-true _ _ at.1) in
       let P : Place → Type 0 = λ z. sticker_place 3 corner_facelets corners' twists' z ≡ rotated v (sticker_place 3 corner_facelets corners twists (rotated_back v z)) in
       subst P (sym at.2) r
 
   edge : (q : Place) → is_place q ≡ true → is_edge q ≡ true → sticker_place 2 edge_facelets edges' flips' q ≡ rotated v (sticker_place 2 edge_facelets edges flips (rotated_back v q))
   edge q p c =
       let at = located 12 2 edge_facelets is_edge edges_located q p c in
-      let r = renamed-sticker_place 12 2 edge_facelets _ _ _ _ (rotated v) (rotated_back v) (edges_renamed v) edges flips edges' flips' edges_is a.edge_range edges_once (λ q. is_edge q && (not (is_corner q) && is_place q)) edges_found regroups_2 below-2 (row_of edge_facelets q) (index_of edge_facelets q) (ltb-true _ _ at.0) (ltb-true _ _ at.1) in
+      let r = renamed-sticker_place 12 2 edge_facelets _ _ _ (rotated v) (rotated_back v) (edges_renamed v) edges flips edges' flips' edges_is a.edge_range edges_once (λ q. is_edge q && (not (is_corner q) && is_place q)) edges_found regroups_2 below-2 (row_of edge_facelets q) (index_of edge_facelets q) (ltb-true _ _ at.0) (ltb-true _ _ at.1) in
       let P : Place → Type 0 = λ z. sticker_place 2 edge_facelets edges' flips' z ≡ rotated v (sticker_place 2 edge_facelets edges flips (rotated_back v z)) in
       subst P (sym at.2) r
 

@@ -20,10 +20,6 @@ choices-are n k ln lk =
 lt-leb_false : (a b : ℕ) → b < a → nat_le a b ≡ false
 lt-leb_false a b h = false_from_ne_true (nat_le a b) (λ e. let l : a ≤ b = leb-true a b e in omega arith)
 
-rank-zero : (os : List Bool) → rank os 0 ≡ 0
-rank-zero [] = refl
-rank-zero (o ∷ os) = refl
-
 module _ (edges : List ℕ) (l : length edges ≡ 12) (met n : ℕ) (lm : met < 12) where
   next : drop met (slice_occupied edges) ≡ nat_le 8 (get_or edges (11 - met) 0) ∷ drop (suc met) (slice_occupied edges)
   next =
@@ -59,10 +55,6 @@ module _ (edges : List ℕ) (l : length edges ≡ 12) (met n : ℕ) (lm : met < 
       let c : get_or (get_or CHOICES (11 - met) []) (suc w - 1) 0 ≡ choose (11 - met) w = ap (λ k. get_or (get_or CHOICES (11 - met) []) k 0) b ∙ choices-are (11 - met) w (omega arith) (omega arith) in
       let d : rank (drop (met + 1) (slice_occupied edges)) (suc w) ≡ rank (drop (suc met) (slice_occupied edges)) (suc w) = ap (λ k. rank (drop k (slice_occupied edges)) (suc w)) a in
       omega (arith, step_no w h, c, d, e)
-
-  pub counted_none : (w total : ℕ) → w ≤ 0 → n + rank (drop met (slice_occupied edges)) w ≡ total → n + rank (drop (met + 1) (slice_occupied edges)) w ≡ total
-  counted_none zero total p e = omega (arith, rank-zero (drop met (slice_occupied edges)), rank-zero (drop (met + 1) (slice_occupied edges)), e)
-  counted_none (suc w) total p e = absurd (omega arith)
 
 -- the sum that a loop keeps, at equal parts
 pub kept_sum : (n n' w w' total : ℕ) (os : List Bool) → n' ≡ n → w' ≡ w → n + rank os w ≡ total → n' + rank os w' ≡ total

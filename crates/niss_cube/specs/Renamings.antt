@@ -1,5 +1,5 @@
 -- The rotations of the whole cube by which a cube is renamed before a coordinate is read.
-use Rattle.std.specs.Prelude.{ℕ, ◌+◌, ◌%◌, List, slice_index}
+use Rattle.std.specs.Prelude.{ℕ, ◌+◌, ◌-◌, ◌%◌, List, slice_index}
 use Rattle.niss_moves.specs.Places.{Place}
 use Rattle.niss_moves.specs.declared.axis.Axis.TheVariants.{Rl, Ud, Fb}
 use Rattle.niss_cube.specs.Coordinates.{renamed}
@@ -26,7 +26,7 @@ abbrev pub renamed_home : (from to homes : List ℕ) (place : ℕ) → ℕ
 renamed_home from to homes place = slice_index to (slice_index homes (slice_index from place))
 
 -- how it is twisted or flipped there
-abbrev pub renamed_orientation : (facelets : ℕ) (from inward outward homes orientations : List ℕ) (place : ℕ) → ℕ
-renamed_orientation facelets from inward outward homes orientations place =
+abbrev pub renamed_orientation : (facelets : ℕ) (from inward homes orientations : List ℕ) (place : ℕ) → ℕ
+renamed_orientation facelets from inward homes orientations place =
     (slice_index inward (slice_index homes (slice_index from place)) + slice_index orientations (slice_index from place)
-    + slice_index outward (slice_index from place)) % facelets
+    + (facelets - slice_index inward (slice_index from place))) % facelets

@@ -11,6 +11,12 @@ use niss_moves::{Axis, Face, Power, Rotation, Turn};
 
 pub(crate) mod numbered;
 
+/// The corners by place, each at home.
+const CORNERS_HOME: [u8; 8] = [0, 1, 2, 3, 4, 5, 6, 7];
+
+/// The edges by place, each at home.
+const EDGES_HOME: [u8; 12] = [0, 1, 2, 3, 4, 5, 6, 7, 8, 9, 10, 11];
+
 /// A cube with its centres home: which cubie stands at each place, and how it is twisted or flipped there.
 ///
 /// Its contracts name it by `map_of`: where the sticker that began at each of the 54 places stands. The places, the cubies
@@ -49,9 +55,9 @@ impl Cube {
         ensures { SameMap (map_of result) (λ q. q) }
     {
         Cube {
-            corners: [0, 1, 2, 3, 4, 5, 6, 7],
+            corners: CORNERS_HOME,
             twists: [0; 8],
-            edges: [0, 1, 2, 3, 4, 5, 6, 7, 8, 9, 10, 11],
+            edges: EDGES_HOME,
             flips: [0; 12],
         }
     }
@@ -256,6 +262,3 @@ impl Eq for Cube {
 
     ghost laws = { Prim.search (comparing, rules) };
 }
-
-#[cfg(test)]
-mod tests;

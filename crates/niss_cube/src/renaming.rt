@@ -1,64 +1,71 @@
 //! Cubies under a rotation that renames the places.
 ghost use Rattle.niss_cube.specs.Renamings.{renaming_table, renamed_home, renamed_orientation};
-ghost use Rattle.std.specs.Prelude.{◌≡◌, ◌<◌, length, EachIndex, slice_index};
+ghost use Rattle.std.specs.Prelude.{◌≡◌, ◌<◌, ◌⊎◌, length, EachIndex, slice_index};
 
 /// A rotation of the whole cube that renames the places, by tables. For each renamed place `_from` has its original place,
-/// and `_to` the other way round. The renamed first facelet of an original place is facelet `_in` there, and its original
-/// first facelet is facelet `_out` of the renamed place.
+/// and `_to` the other way round. The renamed first facelet of an original place is facelet `_in` there.
 #[derive(Clone, Copy)]
 pub struct RenamingTable {
     pub corners_from: [u8; 8],
     pub corners_to: [u8; 8],
     pub twists_in: [u8; 8],
-    pub twists_out: [u8; 8],
     pub edges_from: [u8; 12],
     pub edges_to: [u8; 12],
     pub flips_in: [u8; 12],
-    pub flips_out: [u8; 12],
 }
 
+/// The original place of each renamed corner place, by `x`.
+const CORNERS_BY_X: [u8; 8] = [4, 5, 1, 0, 7, 6, 2, 3];
+
+/// The same by `x'`, which takes `x` back.
+const CORNERS_BY_X_COUNTER: [u8; 8] = [3, 2, 6, 7, 0, 1, 5, 4];
+
+/// The original place of each renamed edge place, by `x`.
+const EDGES_BY_X: [u8; 12] = [8, 5, 9, 1, 11, 7, 10, 3, 4, 6, 2, 0];
+
+/// The same by `x'`.
+const EDGES_BY_X_COUNTER: [u8; 12] = [11, 3, 10, 7, 8, 1, 9, 5, 0, 2, 6, 4];
+
+/// The corner facelets on F and B, which come to U and D by `x` and by `x'`.
+const TWISTS_ABOUT_X: [u8; 8] = [2, 1, 2, 1, 1, 2, 1, 2];
+
+/// The renamed first edge facelets, by `x` and by `x'`.
+const FLIPS_ABOUT_X: [u8; 12] = [0, 1, 0, 1, 0, 1, 0, 1, 0, 0, 0, 0];
+
+pub const X_QUARTER: RenamingTable = RenamingTable {
+    corners_from: CORNERS_BY_X,
+    corners_to: CORNERS_BY_X_COUNTER,
+    twists_in: TWISTS_ABOUT_X,
+    edges_from: EDGES_BY_X,
+    edges_to: EDGES_BY_X_COUNTER,
+    flips_in: FLIPS_ABOUT_X,
+};
+
 pub const X_COUNTER: RenamingTable = RenamingTable {
-    corners_from: [3, 2, 6, 7, 0, 1, 5, 4],
-    corners_to: [4, 5, 1, 0, 7, 6, 2, 3],
-    twists_in: [2, 1, 2, 1, 1, 2, 1, 2],
-    twists_out: [1, 2, 1, 2, 2, 1, 2, 1],
-    edges_from: [11, 3, 10, 7, 8, 1, 9, 5, 0, 2, 6, 4],
-    edges_to: [8, 5, 9, 1, 11, 7, 10, 3, 4, 6, 2, 0],
-    flips_in: [0, 1, 0, 1, 0, 1, 0, 1, 0, 0, 0, 0],
-    flips_out: [0, 1, 0, 1, 0, 1, 0, 1, 0, 0, 0, 0],
+    corners_from: CORNERS_BY_X_COUNTER,
+    corners_to: CORNERS_BY_X,
+    twists_in: TWISTS_ABOUT_X,
+    edges_from: EDGES_BY_X_COUNTER,
+    edges_to: EDGES_BY_X,
+    flips_in: FLIPS_ABOUT_X,
 };
 
 pub const Y_QUARTER: RenamingTable = RenamingTable {
     corners_from: [3, 0, 1, 2, 7, 4, 5, 6],
     corners_to: [1, 2, 3, 0, 5, 6, 7, 4],
     twists_in: [0, 0, 0, 0, 0, 0, 0, 0],
-    twists_out: [0, 0, 0, 0, 0, 0, 0, 0],
     edges_from: [3, 0, 1, 2, 7, 4, 5, 6, 11, 8, 9, 10],
     edges_to: [1, 2, 3, 0, 5, 6, 7, 4, 9, 10, 11, 8],
     flips_in: [0, 0, 0, 0, 0, 0, 0, 0, 1, 1, 1, 1],
-    flips_out: [0, 0, 0, 0, 0, 0, 0, 0, 1, 1, 1, 1],
 };
 
 pub const Z_COUNTER: RenamingTable = RenamingTable {
     corners_from: [4, 0, 3, 7, 5, 1, 2, 6],
     corners_to: [1, 5, 6, 2, 0, 4, 7, 3],
     twists_in: [1, 2, 1, 2, 2, 1, 2, 1],
-    twists_out: [2, 1, 2, 1, 1, 2, 1, 2],
     edges_from: [4, 8, 0, 11, 6, 9, 2, 10, 5, 1, 3, 7],
     edges_to: [2, 9, 6, 10, 0, 8, 4, 11, 1, 5, 7, 3],
     flips_in: [1, 1, 1, 1, 1, 1, 1, 1, 1, 1, 1, 1],
-    flips_out: [1, 1, 1, 1, 1, 1, 1, 1, 1, 1, 1, 1],
-};
-
-pub const X_QUARTER: RenamingTable = RenamingTable {
-    corners_from: [4, 5, 1, 0, 7, 6, 2, 3],
-    corners_to: [3, 2, 6, 7, 0, 1, 5, 4],
-    twists_in: [2, 1, 2, 1, 1, 2, 1, 2],
-    twists_out: [1, 2, 1, 2, 2, 1, 2, 1],
-    edges_from: [8, 5, 9, 1, 11, 7, 10, 3, 4, 6, 2, 0],
-    edges_to: [11, 3, 10, 7, 8, 1, 9, 5, 0, 2, 6, 4],
-    flips_in: [0, 1, 0, 1, 0, 1, 0, 1, 0, 0, 0, 0],
-    flips_out: [0, 1, 0, 1, 0, 1, 0, 1, 0, 0, 0, 0],
 };
 
 /// The rotations by which a cube is renamed for a coordinate.
@@ -71,14 +78,14 @@ pub enum Renaming {
 }
 
 /// The table of a renaming.
-fn table_of(renaming: Renaming) -> RenamingTable
-    ensures { result ≡ renaming_table renaming }
+fn table_of(renaming: Renaming) -> &'static RenamingTable
+    ensures { result.now ≡ renaming_table renaming }
 {
     match renaming {
-        Renaming::XCounter => X_COUNTER,
-        Renaming::XQuarter => X_QUARTER,
-        Renaming::YQuarter => Y_QUARTER,
-        Renaming::ZCounter => Z_COUNTER,
+        Renaming::XCounter => &X_COUNTER,
+        Renaming::XQuarter => &X_QUARTER,
+        Renaming::YQuarter => &Y_QUARTER,
+        Renaming::ZCounter => &Z_COUNTER,
     }
 }
 
@@ -104,7 +111,6 @@ fn rename_orientations(
     orientations: &[u8],
     from: &[u8],
     inward: &[u8],
-    outward: &[u8],
     facelets: u8,
     new: &mut [u8],
 )
@@ -112,22 +118,21 @@ fn rename_orientations(
     requires orientations_len { length orientations.now ≡ length new.old }
     requires from_len { length from.now ≡ length new.old }
     requires in_len { length inward.now ≡ length new.old }
-    requires out_len { length outward.now ≡ length new.old }
-    requires some { 0 < facelets }
+    requires facelets { (facelets ≡ 2) ⊎ (facelets ≡ 3) }
     requires from_range { EachIndex from.now (λ k. slice_index from.now k < length homes.now) }
     requires home_range { EachIndex homes.now (λ k. slice_index homes.now k < length homes.now) }
     requires orientation_range { EachIndex orientations.now (λ k.
         slice_index orientations.now k < 3) }
-    requires in_range { EachIndex inward.now (λ k. slice_index inward.now k < 3) }
-    requires out_range { EachIndex outward.now (λ k. slice_index outward.now k < 3) }
+    requires in_range { EachIndex inward.now (λ k. slice_index inward.now k < facelets) }
     ensures { EachIndex new.new (λ k. slice_index new.new k
-        ≡ renamed_orientation facelets from.now inward.now outward.now
-        homes.now orientations.now k) }
+        ≡ renamed_orientation facelets from.now inward.now homes.now orientations.now k) }
 {
     for (place, orientation) in new.iter_mut().enumerate() {
         let old_place = from[place] as usize;
         let home = homes[old_place] as usize;
-        *orientation = (inward[home] + orientations[old_place] + outward[old_place]) % facelets;
+        // The original first facelet of the place, seen from the renamed one.
+        let outward = facelets - inward[old_place];
+        *orientation = (inward[home] + orientations[old_place] + outward) % facelets;
     }
 }
 
@@ -140,7 +145,7 @@ pub fn rename_corners(corners: &[u8; 8], twists: &[u8; 8], renaming: Renaming) -
         ≡ renamed_home t.corners_from t.corners_to corners.now k) }
     ensures twists { let t = renaming_table renaming in
         EachIndex result.1 (λ k. slice_index result.1 k
-        ≡ renamed_orientation 3 t.corners_from t.twists_in t.twists_out corners.now twists.now k) }
+        ≡ renamed_orientation 3 t.corners_from t.twists_in corners.now twists.now k) }
 {
     let table = table_of(renaming);
     let (mut homes, mut orientations) = ([0; 8], [0; 8]);
@@ -150,7 +155,6 @@ pub fn rename_corners(corners: &[u8; 8], twists: &[u8; 8], renaming: Renaming) -
         twists,
         &table.corners_from,
         &table.twists_in,
-        &table.twists_out,
         3,
         &mut orientations,
     );
@@ -166,7 +170,7 @@ pub fn rename_edges(edges: &[u8; 12], flips: &[u8; 12], renaming: Renaming) -> (
         ≡ renamed_home t.edges_from t.edges_to edges.now k) }
     ensures flips { let t = renaming_table renaming in
         EachIndex result.1 (λ k. slice_index result.1 k
-        ≡ renamed_orientation 2 t.edges_from t.flips_in t.flips_out edges.now flips.now k) }
+        ≡ renamed_orientation 2 t.edges_from t.flips_in edges.now flips.now k) }
 {
     let table = table_of(renaming);
     let (mut homes, mut orientations) = ([0; 12], [0; 12]);
@@ -176,7 +180,6 @@ pub fn rename_edges(edges: &[u8; 12], flips: &[u8; 12], renaming: Renaming) -> (
         flips,
         &table.edges_from,
         &table.flips_in,
-        &table.flips_out,
         2,
         &mut orientations,
     );

@@ -32,13 +32,13 @@ pub const Z_SOURCES: [u8; 54] = [
 ];
 
 /// The table of a quarter rotation about the axis.
-fn sources(axis: Axis) -> [u8; 54]
-    ensures { result ≡ sources_of axis }
+fn sources(axis: Axis) -> &'static [u8; 54]
+    ensures { result.now ≡ sources_of axis }
 {
     match axis {
-        Axis::Ud => Y_SOURCES,
-        Axis::Rl => X_SOURCES,
-        Axis::Fb => Z_SOURCES,
+        Axis::Ud => &Y_SOURCES,
+        Axis::Rl => &X_SOURCES,
+        Axis::Fb => &Z_SOURCES,
     }
 }
 

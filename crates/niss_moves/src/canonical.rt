@@ -5,9 +5,6 @@ ghost use Rattle.niss_moves.specs.Canonical.{face_may_follow, may_follow, turn_o
 
 use crate::turn::{Face, Power, Turn};
 
-#[cfg(test)]
-mod tests;
-
 /// The turns of each face by a quarter, a half and counterclockwise.
 macro_rules! turns_of {
     ($($face:ident)*) => {

@@ -12,9 +12,6 @@ use crate::rotation::Rotation;
 use crate::text::{LineText, face_letter, put_gap, put_word};
 use crate::turn::{Face, Power, Turn};
 
-#[cfg(test)]
-mod tests;
-
 /// Appends the words of the face turns, with one space before each word, but not at the beginning of the text or after
 /// `(`. A turn takes at most three bytes.
 pub fn put_faces(turns: &[Turn], text: &mut LineText)

@@ -9,9 +9,6 @@ use crate::niss::Niss;
 use crate::partial_line::PartialLine;
 use std::marker::Model;
 
-#[cfg(test)]
-mod tests;
-
 /// Reads a line byte by byte, in at most 16,777,216 bytes.
 #[derive(Drop)]
 pub struct LineReader {

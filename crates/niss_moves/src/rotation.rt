@@ -6,9 +6,6 @@ ghost use Rattle.niss_moves.specs.declared.turn.Face.TheVariants.{F};
 use crate::axis::Axis;
 use crate::turn::{Face, Power, Turn};
 
-#[cfg(test)]
-mod tests;
-
 /// One of the 24 rotations of the whole cube (WCA Regulations, article 12). Each value is another rotation. It is spelled
 /// by the rotation that brings `top` to the top (none for U, `x` for F, `x2` for D, `x'` for B, `z` for L, `z'` for R)
 /// and then the one about the vertical axis (`y`, `y2`, `y'` or none).

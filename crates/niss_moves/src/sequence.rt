@@ -7,9 +7,6 @@ use crate::niss::Niss;
 use crate::token::Token;
 use arrayvec::ArrayVec;
 
-#[cfg(test)]
-mod tests;
-
 /// The normal moves of a line, and then the inverse of its bracketed ones.
 pub fn unniss(niss: &Niss) -> ArrayVec<Token, 256>
     ensures moves { result.items ≡ niss.now.normal ++ inverse niss.now.bracketed }

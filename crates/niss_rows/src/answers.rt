@@ -160,38 +160,31 @@ fn turns(alloc: Global, count: u32) -> Result<String, AllocError> {
     Ok(moves)
 }
 
-#[test]
-fn most_moves(rt: HostRuntime) -> Result<(), Fail> {
-    let alloc = rt.alloc();
-    let moves = turns(alloc, 256)?;
-    let mut inverses = String::new(alloc);
-    for count in 0..256u32 {
-        inverses.push_str(if count == 0 { "U'" } else { " U'" })?;
-    }
-    inverses.push('\n')?;
-    Run::good(&["invert", moves.as_str()], b"", inverses.as_str()).check(&rt, alloc)?;
-    Ok(())
-}
-
-#[test]
-fn most_moves_cleaned(rt: HostRuntime) -> Result<(), Fail> {
-    let moves = turns(rt.alloc(), 256)?;
-    Run::good(&["cleanup", moves.as_str()], b"", "\n").check(&rt, rt.alloc())?;
-    Ok(())
-}
-
 const TOO_MANY: &str = "nissy: line 1, column 257: more than 256 moves\n";
 
 #[test]
-fn too_many_moves(rt: HostRuntime) -> Result<(), Fail> {
-    let moves = turns(rt.alloc(), 257)?;
-    Run::fault(&["invert", moves.as_str()], TOO_MANY, 1).check(&rt, rt.alloc())?;
-    Ok(())
-}
-
-#[test]
-fn too_many_moves_cleaned(rt: HostRuntime) -> Result<(), Fail> {
-    let moves = turns(rt.alloc(), 257)?;
-    Run::fault(&["cleanup", moves.as_str()], TOO_MANY, 1).check(&rt, rt.alloc())?;
+fn most_moves(rt: HostRuntime) -> Result<(), Fail> {
+    let alloc = rt.alloc();
+    let (most, more) = (turns(alloc, 256)?, turns(alloc, 257)?);
+    let mut inverses = String::from_str(alloc, "U'")?;
+    for _ in 1..256u32 {
+        inverses.push_str(" U'")?;
+    }
+    inverses.push('\n')?;
+    for (command, moves, output, error, status) in [
+        ("invert", most.as_str(), inverses.as_str(), "", 0),
+        ("cleanup", most.as_str(), "\n", "", 0),
+        ("invert", more.as_str(), "", TOO_MANY, 1),
+        ("cleanup", more.as_str(), "", TOO_MANY, 1),
+    ] {
+        let case = Run {
+            words: &[command, moves],
+            input: b"",
+            output,
+            error,
+            status,
+        };
+        case.check(&rt, alloc)?;
+    }
     Ok(())
 }

@@ -1,8 +1,13 @@
-//! Tests of the commands, from words and bytes to bytes, over devices in memory that may fail.
+//! Tests of all crates below the program: of calls of the notation and of the cube, and of the commands, from words and
+//! bytes to bytes, over devices in memory that may fail.
 #![tactic(auto)]
 
 #[cfg(test)]
 mod answers;
+#[cfg(test)]
+mod coordinates;
+#[cfg(test)]
+mod cubes;
 #[cfg(test)]
 mod device_faults;
 #[cfg(test)]
@@ -13,6 +18,12 @@ mod draws;
 mod limits;
 #[cfg(test)]
 mod memory;
+#[cfg(test)]
+mod reading;
+#[cfg(test)]
+mod rewriting;
+#[cfg(test)]
+mod rotations;
 #[cfg(test)]
 mod runs;
 #[cfg(test)]

@@ -1,7 +1,9 @@
-use crate::devices::{Bytes, Held};
-use crate::runs::{TOO_LONG, words_of};
+//! Heaps that refuse memory.
+use crate::coordinates::check_tables;
+use crate::devices::Bytes;
+use crate::runs::{OUT_OF_MEMORY, Outcome, TOO_LONG, words_of};
 use linked_list_allocator::LocalHeap;
-use niss_shell::run_in;
+use niss_cube::{OutOfMemory, TurnTables};
 use std::alloc::{AllocError, Global};
 use std::test::Fail;
 
@@ -20,20 +22,15 @@ fn spaces(alloc: Global, count: usize) -> Result<Vec<String>, AllocError> {
 fn growth_refused(rt: HostRuntime) -> Result<(), Fail> {
     let words = spaces(rt.alloc(), 1000)?;
     // the one growth asks for 1001 bytes
-    for (size, output, error, status) in [
-        (16usize, "", "nissy: out of memory\n", 3u8),
-        (992, "", "nissy: out of memory\n", 3),
-        (4096, "\n", "", 0),
+    for (size, outcome) in [
+        (16usize, Outcome::failure(b"", OUT_OF_MEMORY)),
+        (992, Outcome::failure(b"", OUT_OF_MEMORY)),
+        (4096, Outcome::good(b"\n")),
     ] {
         let heap = LocalHeap::new(rt.alloc(), size)?;
         let mut input = Bytes::new(b"R", 1);
-        let mut out = Held::new(rt.alloc(), 1000);
-        let mut err = Held::new(rt.alloc(), 1000);
-        let answered = run_in(&heap, words.as_slice(), &mut input, &mut out, &mut err);
-        assert_eq!(rt; out.bytes.as_slice(), output.as_bytes(), "a heap of {size}");
-        assert_eq!(rt; err.bytes.as_slice(), error.as_bytes(), "a heap of {size}");
-        assert_eq!(rt; answered, status, "a heap of {size}");
-        assert_eq!(rt; input.reads, 0);
+        outcome.check_input(&rt, rt.alloc(), &heap, &words, &mut input);
+        assert_eq!(rt; input.reads, 0, "a heap of {size}");
     }
     Ok(())
 }
@@ -43,31 +40,14 @@ fn words_at_the_limit(rt: HostRuntime) -> Result<(), Fail> {
     // no growth is asked for where the words are too many
     let heap = LocalHeap::new(rt.alloc(), 16)?;
     let words = spaces(rt.alloc(), 16_777_216)?;
-    let mut out = Held::new(rt.alloc(), 1000);
-    let mut err = Held::new(rt.alloc(), 1000);
-    let status = run_in(
-        &heap,
-        words.as_slice(),
-        &mut Bytes::new(b"", 1),
-        &mut out,
-        &mut err,
-    );
-    assert_eq!(rt; out.bytes.as_slice(), b"".as_slice());
-    assert_eq!(rt; err.bytes.as_slice(), TOO_LONG.as_bytes());
-    assert_eq!(rt; status, 3);
+    let mut input = Bytes::new(b"", 1);
+    let outcome = Outcome::failure(b"", TOO_LONG);
+    outcome.check_input(&rt, rt.alloc(), &heap, &words, &mut input);
 
     let words = spaces(rt.alloc(), 16_777_215)?;
-    let mut out = Held::new(rt.alloc(), 1000);
-    let mut err = Held::new(rt.alloc(), 1000);
-    let status = run_in(
-        rt.alloc(),
-        words.as_slice(),
-        &mut Bytes::new(b"", 1),
-        &mut out,
-        &mut err,
-    );
-    assert_eq!(rt; out.bytes.as_slice(), b"\n".as_slice());
-    assert_eq!(rt; status, 0);
+    let mut input = Bytes::new(b"", 1);
+    let outcome = Outcome::good(b"\n");
+    outcome.check_input(&rt, rt.alloc(), rt.alloc(), &words, &mut input);
     Ok(())
 }
 
@@ -75,17 +55,27 @@ fn words_at_the_limit(rt: HostRuntime) -> Result<(), Fail> {
 fn no_growth_where_the_source_is_read(rt: HostRuntime) -> Result<(), Fail> {
     let heap = LocalHeap::new(rt.alloc(), 16)?;
     let words = words_of(rt.alloc(), &["invert"])?;
-    let mut out = Held::new(rt.alloc(), 1000);
-    let mut err = Held::new(rt.alloc(), 1000);
-    let status = run_in(
-        &heap,
-        words.as_slice(),
-        &mut Bytes::new(b"R\nU", 1),
-        &mut out,
-        &mut err,
-    );
-    assert_eq!(rt; out.bytes.as_slice(), b"R'\nU'\n".as_slice());
-    assert_eq!(rt; err.bytes.as_slice(), b"".as_slice());
-    assert_eq!(rt; status, 0);
+    let mut input = Bytes::new(b"R\nU", 1);
+    let outcome = Outcome::good(b"R'\nU'\n");
+    outcome.check_input(&rt, rt.alloc(), &heap, &words, &mut input);
+    Ok(())
+}
+
+#[test]
+fn tables_refused(rt: HostRuntime) -> Result<(), Fail> {
+    // the three growths ask for 73728, 78732 and 17820 bytes, and each takes a multiple of 16
+    for size in [73_712usize, 152_448, 170_272] {
+        let heap = LocalHeap::new(rt.alloc(), size)?;
+        let refused = TurnTables::build_in(&heap).err();
+        assert_eq!(rt; refused, Some(OutOfMemory), "a heap of {size}");
+        assert_eq!(rt; heap.used(), 0, "a heap of {size}");
+    }
+    let heap = LocalHeap::new(rt.alloc(), 170_288)?;
+    let tables = TurnTables::build_in(&heap);
+    check_tables(&rt, &tables);
+    assert_eq!(rt; TurnTables::build_in(&heap).err(), Some(OutOfMemory));
+    check_tables(&rt, &tables);
+    drop(tables);
+    check_tables(&rt, &TurnTables::build_in(&heap));
     Ok(())
 }

@@ -1,15 +1,21 @@
 ghost use Rattle.std.specs.Prelude.{◌≡◌, Bool, true, false};
 
 use crate::devices::{Bytes, Held};
-use niss_shell::run;
-use std::alloc::{AllocError, Global};
+use niss_shell::{Source, run_in};
+use std::alloc::{AllocError, Allocator, Global};
 use std::process::Abort;
 
 /// What is told of wrong words.
 pub const USAGE: &str = "usage: nissy COMMAND [ARGUMENTS]\n";
 
 /// What is told of an input above the limit.
-pub const TOO_LONG: &str = "nissy: input longer than 16777216 bytes\n";
+pub const TOO_LONG: &[u8] = b"nissy: input longer than 16777216 bytes\n";
+
+pub const CANNOT_READ: &[u8] = b"nissy: cannot read\n";
+
+pub const CANNOT_WRITE: &[u8] = b"nissy: cannot write\n";
+
+pub const OUT_OF_MEMORY: &[u8] = b"nissy: out of memory\n";
 
 pub fn words_of(alloc: Global, texts: &[&str]) -> Result<Vec<String>, AllocError> {
     let mut words = Vec::new(alloc);
@@ -17,6 +23,74 @@ pub fn words_of(alloc: Global, texts: &[&str]) -> Result<Vec<String>, AllocError
         words.push(String::from_str(alloc, text)?)?;
     }
     Ok(words)
+}
+
+/// What a run has to write and to answer.
+#[derive(Clone, Copy)]
+pub struct Outcome<'a> {
+    pub output: &'a [u8],
+    pub error: &'a [u8],
+    pub status: u8,
+}
+
+impl<'a> Outcome<'a> {
+    ghost use Rattle.std.specs.Prelude.{◌≡◌, Bool, true, false};
+
+    /// Of a good run.
+    pub fn good(output: &'a [u8]) -> Outcome<'a> {
+        Outcome {
+            output,
+            error: b"",
+            status: 0,
+        }
+    }
+
+    /// Of a run that ends with status 3, behind this output.
+    pub fn failure(output: &'a [u8], error: &'a [u8]) -> Outcome<'a> {
+        Outcome {
+            output,
+            error,
+            status: 3,
+        }
+    }
+
+    /// Runs the words over these devices, with memory of `heap`.
+    pub fn check<A: Allocator, R: Source>(
+        self,
+        rt: &impl Abort,
+        heap: A,
+        words: &[String],
+        input: &mut R,
+        out: &mut Held,
+        err: &mut Held,
+    )
+        requires reads { (R.state input.old).has_failed ≡ false }
+        requires goes_on { (R.state input.old).has_ended ≡ false }
+        requires write_works { out.old.write_failed ≡ false }
+        requires flush_works { out.old.flush_failed ≡ false }
+    {
+        let status = run_in(heap, words, input, out, err);
+        assert_eq!(rt; out.bytes.as_slice(), self.output);
+        assert_eq!(rt; err.bytes.as_slice(), self.error);
+        assert_eq!(rt; status, self.status);
+    }
+
+    /// Runs the words over this source and over targets that take all.
+    pub fn check_input<A: Allocator, R: Source>(
+        self,
+        rt: &impl Abort,
+        alloc: Global,
+        heap: A,
+        words: &[String],
+        input: &mut R,
+    )
+        requires reads { (R.state input.old).has_failed ≡ false }
+        requires goes_on { (R.state input.old).has_ended ≡ false }
+    {
+        let mut out = Held::new(alloc, 1000);
+        let mut err = Held::new(alloc, 1000);
+        self.check(rt, heap, words, input, &mut out, &mut err);
+    }
 }
 
 /// A run, and what it has to write and to answer.
@@ -58,10 +132,12 @@ impl<'a> Run<'a> {
         let mut input = Bytes::new(self.input, 3);
         let mut out = Held::new(alloc, 5);
         let mut err = Held::new(alloc, 1);
-        let status = run(alloc, words.as_slice(), &mut input, &mut out, &mut err);
-        assert_eq!(rt; out.bytes.as_slice(), self.output.as_bytes());
-        assert_eq!(rt; err.bytes.as_slice(), self.error.as_bytes());
-        assert_eq!(rt; status, self.status);
+        let outcome = Outcome {
+            output: self.output.as_bytes(),
+            error: self.error.as_bytes(),
+            status: self.status,
+        };
+        outcome.check(rt, alloc, &words, &mut input, &mut out, &mut err);
         assert_eq!(rt; out.flushes, 1);
         Ok(())
     }

@@ -1,14 +1,10 @@
 //! Runs over readers and writers of `std::io`.
 use crate::devices::Held;
-use crate::runs::words_of;
+use crate::runs::{CANNOT_READ, CANNOT_WRITE, Outcome, words_of};
 use niss_shell::{FromReader, ToWriter, run};
 use std::io;
 use std::io::{Cursor, Read};
 use std::test::Fail;
-
-const CANNOT_READ: &[u8] = b"nissy: cannot read\n";
-
-const CANNOT_WRITE: &[u8] = b"nissy: cannot write\n";
 
 /// A reader of a byte a call, whose call number `fails_at`, from 1, fails with `kind`. It gives the rest to later calls.
 #[derive(Drop)]
@@ -153,19 +149,14 @@ fn each_read_fails_once(rt: HostRuntime) -> Result<(), Fail> {
     for kind in [io::ErrorKind::Interrupted, io::ErrorKind::BrokenPipe] {
         for (before, output) in outputs.iter().enumerate() {
             let mut reader = FailingReader::new(b"R\nU\nF", before + 1, kind);
-            let mut out = Held::new(rt.alloc(), 1000);
-            let mut err = Held::new(rt.alloc(), 1000);
-            let status = run(
+            Outcome::failure(output, CANNOT_READ).check_input(
+                &rt,
                 rt.alloc(),
-                words.as_slice(),
+                rt.alloc(),
+                &words,
                 &mut FromReader::new(&mut reader),
-                &mut out,
-                &mut err,
             );
-            assert_eq!(rt; out.bytes.as_slice(), *output, "after {before} reads");
-            assert_eq!(rt; err.bytes.as_slice(), CANNOT_READ);
-            assert_eq!(rt; status, 3);
-            assert_eq!(rt; reader.calls, before + 1);
+            assert_eq!(rt; reader.calls, before + 1, "after {before} reads");
         }
     }
     Ok(())

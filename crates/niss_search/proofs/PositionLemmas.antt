@@ -16,6 +16,7 @@ use Rattle.niss_cube.specs.TwistAfter.{twist_after}
 use Rattle.niss_cube.specs.SliceAfter.{slice_after}
 use Rattle.niss_cube.specs.Steps.{goals_of, may_start, reached, holds}
 use Rattle.niss_cube.specs.StepLaws.{StartIsKept, StepsSeePlaces}
+use Rattle.niss_cube.specs.declared.cube.Cube.{Cube}
 use Rattle.niss_cube.specs.declared.step.Goal.{Goal}
 use Rattle.niss_cube.specs.declared.step.Goal.TheVariants.{Edges, Domino}
 use Rattle.niss_cube.specs.declared.step.Step.{Step}
@@ -43,6 +44,14 @@ same_in_turn c d e h k q p = h q p ∙ k q p
 -- a map that is the same on the places as a cube's is a cube's
 alike_is_cube : (d e : Place → Place) → IsCube d → SameMap d e → IsCube e
 alike_is_cube d e h same = (h.0, same_in_turn (map_of h.0) d e h.1 same)
+
+pub cube-itself : (c : Cube) → IsCube (map_of c)
+cube-itself c = (c, λ q p. refl)
+
+-- the position of a step with one goal
+pub position-alone : (s : Step) (g : Goal) (e : Place → Place) → goals_of s ≡ g ∷ [] → position_of s e ≡ coordinates_of g e ∷ []
+unfolding position_of
+position-alone s g e q = ap (map (λ goal. coordinates_of goal e)) q
 
 module _ (of : (Place → Place) → ℕ) (after : ℕ → Turn → ℕ) (count : ℕ) (set : Place → Bool) (law : IsCoordinate of after count set) where
   alike : (d e : Place → Place) → IsCube d → SameMap d e → of d ≡ of e

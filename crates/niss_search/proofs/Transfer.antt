@@ -1,6 +1,7 @@
 -- What holds of a position holds of every cube that has it.
-use Rattle.std.proofs.Common.{◌≡◌, ℕ, zero, suc, ◌-◌, nat_le, Bool, true, false, cond, List, [], ◌∷◌, ◌++◌, length, take, map, filter, fold, sum_by, count_by, unwrap_or, Option, Some, None, Contains, refl, ap, arith}
-use Rattle.std.specs.Prelude.{flat_map}
+use Rattle.std.proofs.Common.{◌≡◌, ℕ, zero, suc, ◌-◌, nat_le, Bool, true, false, cond, List, [], ◌∷◌, ◌++◌, length, take, map, filter, fold, sum_by, count_by, unwrap_or, Option, Some, None, Contains, refl, ap, arith, ◌∙◌, IsTrue, ◌≤◌, leb, sym}
+use Rattle.std.specs.Prelude.{flat_map, ◌↔◌}
+use Rattle.std.proofs.lemmas.Bool.{leb-false}
 use Rattle.std.specs.List.{list_any}
 use Rattle.std.specs.Option.{option_map_or}
 use Rattle.std.proofs.lemmas.List.Sums.{sum_by-cons}
@@ -8,18 +9,18 @@ use Rattle.niss_moves.specs.Places.{Place}
 use Rattle.niss_moves.specs.Effects.{turned, effect_of_turns}
 use Rattle.niss_moves.specs.Canonical.{may_follow, last_turn, all_canonical, canonical_extensions}
 use Rattle.niss_moves.specs.declared.turn.Turn.{Turn}
-use Rattle.niss_cube.specs.Steps.{turns_of}
+use Rattle.niss_cube.specs.Steps.{turns_of, reached}
 use Rattle.niss_cube.specs.declared.step.Step.{Step}
 use Rattle.niss_search.specs.Solutions.{least_length, solutions, reaching, up_to}
 use Rattle.niss_search.specs.Distance.{all_sequences, distance}
 use Rattle.niss_search.specs.Looks.{is_looked_at, looks, all_looks}
 use Rattle.niss_search.specs.declared.tables.position.Coordinates.{Coordinates}
 use Rattle.niss_search.specs.Positions.{position_after, is_reached_at, look_at}
-use Rattle.niss_search.specs.Cubes.{HasPosition, reaches, least_length_of, solutions_of, look_answer, all_looks_of}
+use Rattle.niss_search.specs.Cubes.{HasPosition, distance_of, reaches, least_length_of, solutions_of, look_answer, all_looks_of}
 use Rattle.niss_search.specs.Laws.{PositionsTell}
 use Rattle.niss_search.proofs.ListLemmas.{Contains-first, Contains-later, find-same}
 use Rattle.niss_search.proofs.DepthFirst.{reach, far}
-use Rattle.niss_search.proofs.DistanceLemmas.{reached_in}
+use Rattle.niss_search.proofs.DistanceLemmas.{reached_in, distance-zero}
 
 -- P of each element
 abbrev pub Each : {X : Type 0} → (X → Type 0) → List X → Type 0
@@ -157,3 +158,20 @@ module _ (tell : PositionsTell) (step : Step) where
         (sum_by-each (λ d. Unit {0}) _ _ (up_to (unwrap_or (least_length (turns_of step) (reach (turns_of step) position_after look_at is_reached_at x) n) n)) (λ d u.
         looks-same (turns_of step) _ _ (λ s over. look-cube (λ q. effect_of_turns s (e q)) _ (has_position-all s e x h over)) d)
         (Each-all (λ d. Unit {0}) _ (λ d m. tt)))
+
+  module _ (e : Place → Place) (x : List Coordinates) (h : HasPosition step e x) where
+    -- the look is 0 exactly where the step is reached
+    pub look-zero : (look_at x ≡ 0) ↔ IsTrue (reached step e)
+    unfolding look_at
+    look-zero = by_test (is_reached_at x) (reached step e) (tell.goal step e x h) where
+      by_test : (b r : Bool) → r ≡ b → (cond {A = ℕ} b 0 1 ≡ 0) ↔ IsTrue r
+      by_test true r q = (λ z. q, λ k. refl)
+      by_test false r q = (λ z. absurd (omega (arith, z)), λ k. absurd (cc (k, q)))
+
+    -- and never above the distance
+    pub look-below : look_at x ≤ distance_of step e
+    unfolding look_at
+    look-below = by_test (is_reached_at x) (sym (distance-zero (turns_of step) (reaches step e) ∙ tell.goal step e x h)) where
+      by_test : (b : Bool) → b ≡ leb (distance_of step e) 0 → cond {A = ℕ} b 0 1 ≤ distance_of step e
+      by_test true q = omega arith
+      by_test false q = omega (arith, leb-false (distance_of step e) 0 (sym q))

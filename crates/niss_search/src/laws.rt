@@ -2,8 +2,8 @@
 ghost use Rattle.niss_search.specs.Laws.{CountRecurrence, PartHasNoMore, LooksWithinBound, StepBoundIsLess, BoundIsSmall, PositionsTell};
 
 use niss_cube::laws::{
-    flips_are_coordinates, kept_is_tested, sets_are_places, slices_are_coordinates,
-    turned_is_cube, twists_are_coordinates,
+    flips_are_coordinates, kept_is_tested, sets_are_places, slices_are_coordinates, start_is_kept,
+    step_turns_in_order, steps_see_places, turned_is_cube, twists_are_coordinates,
 };
 
 /// How many canonical sequences there are, and how often a search looks.
@@ -13,7 +13,9 @@ pub fn counts_and_bounds()
     ensures within { LooksWithinBound }
     ensures step { StepBoundIsLess }
     ensures small { BoundIsSmall }
-{}
+{
+    step_turns_in_order();
+}
 
 /// What a position tells of each cube that has it.
 pub fn positions_tell()
@@ -25,4 +27,6 @@ pub fn positions_tell()
     turned_is_cube();
     kept_is_tested();
     sets_are_places();
+    start_is_kept();
+    steps_see_places();
 }

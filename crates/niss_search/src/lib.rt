@@ -1,6 +1,8 @@
 //! Search for the shortest solutions of a step.
 #![tactic(auto)]
 
+mod deepening;
+mod descent;
 pub mod laws;
 mod limit;
 mod outcome;
@@ -9,6 +11,7 @@ mod sink;
 mod tables;
 mod turn_path;
 
+pub use deepening::search;
 pub use limit::Limit;
 pub use outcome::Outcome;
 pub use scramble::random_turns;

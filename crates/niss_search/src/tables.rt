@@ -4,7 +4,6 @@ mod position;
 
 use crate::laws::positions_tell;
 use niss_cube::{Cube, Goal, OutOfMemory, Step, Turn, TurnTables};
-use position::Coordinates;
 use std::alloc::Global;
 use std::marker::Model;
 
@@ -59,9 +58,7 @@ impl Tables {
         ensures { (e : Place → Place) → SameMap (map_of cube.now) e → HasPosition self.now e result }
     {
         positions_tell();
-        Position {
-            coordinates: Coordinates::of(self.goal(), cube),
-        }
+        Position::of(self.goal(), cube)
     }
 
     /// The position after one of the step's turns.
@@ -73,9 +70,7 @@ impl Tables {
             → HasPosition self.now (λ q. turned turn (e q)) result }
     {
         positions_tell();
-        Position {
-            coordinates: position.coordinates.after(turn, &self.turn_tables),
-        }
+        position.after(turn, &self.turn_tables)
     }
 
     /// A bound from below on the turns to the goal: 0 where the step is reached and 1 elsewhere. The meter rises by one.
@@ -91,11 +86,7 @@ impl Tables {
     {
         positions_tell();
         meter.tick();
-        if position.coordinates.are_zero() {
-            0
-        } else {
-            1
-        }
+        position.look()
     }
 
     /// The goal of the step: each step has one.

@@ -4,13 +4,9 @@ ghost use Rattle.niss_moves.specs.declared.axis.Axis.TheVariants.{Ud, Fb};
 ghost use Rattle.niss_cube.specs.Map.{map_of};
 ghost use Rattle.niss_cube.specs.Coordinates.{flip_of, twist_of, slice_of};
 
-use super::Cube;
+use super::{CORNERS_HOME, Cube, EDGES_HOME};
 use crate::digits::write_orientations;
 use crate::slice_places::edges_with_slice;
-
-const CORNERS_HOME: [u8; 8] = [0, 1, 2, 3, 4, 5, 6, 7];
-
-const EDGES_HOME: [u8; 12] = [0, 1, 2, 3, 4, 5, 6, 7, 8, 9, 10, 11];
 
 /// A cube with this flip number, its cubies at home.
 pub fn cube_with_flip(number: u16) -> Cube

@@ -17,7 +17,7 @@ pub enum Coordinates {
 
 impl Coordinates {
     /// Those of a cube.
-    pub(super) fn of(goal: Goal, cube: &Cube) -> Coordinates
+    fn of(goal: Goal, cube: &Cube) -> Coordinates
         ensures value { result ≡ coordinates_of goal (map_of cube.now) }
         ensures in_range { AreInRange result }
     {
@@ -35,7 +35,7 @@ impl Coordinates {
     }
 
     /// Those after a turn.
-    pub(super) fn after(self, turn: Turn, turn_tables: &TurnTables) -> Coordinates
+    fn after(self, turn: Turn, turn_tables: &TurnTables) -> Coordinates
         requires { AreInRange self }
         ensures value { result ≡ coordinates_after self turn }
         ensures in_range { AreInRange result }
@@ -54,7 +54,7 @@ impl Coordinates {
     }
 
     /// Whether they are those of the goal.
-    pub(super) fn are_zero(self) -> bool
+    fn are_zero(self) -> bool
         ensures { result ≡ are_zero self }
     {
         match self {
@@ -67,7 +67,7 @@ impl Coordinates {
 /// What a step looks at in a cube: the flip on an axis for an edge orientation, twist and slice for a domino reduction.
 #[derive(Drop)]
 pub struct Position {
-    pub(super) coordinates: Coordinates,
+    coordinates: Coordinates,
 }
 
 impl Model for Position {
@@ -80,4 +80,36 @@ impl Model for Position {
     ghost view = { λ p. p.coordinates ∷ [] };
 
     ghost invariant = { λ p. AreInRange p.coordinates };
+}
+
+impl Position {
+    ghost use Rattle.std.specs.Prelude.{◌∷◌, []};
+    ghost use Rattle.niss_search.specs.Positions.{position_after, look_at};
+
+    /// The position of a cube, by the goal of the step.
+    pub(super) fn of(goal: Goal, cube: &Cube) -> Position
+        ensures { result ≡ coordinates_of goal (map_of cube.now) ∷ [] }
+    {
+        Position {
+            coordinates: Coordinates::of(goal, cube),
+        }
+    }
+
+    /// The position after a turn.
+    #[tactic(auto, unfolding(crate::specs::Positions::position_after))]
+    pub(super) fn after(&self, turn: Turn, turn_tables: &TurnTables) -> Position
+        ensures { result ≡ position_after self.now turn }
+    {
+        Position {
+            coordinates: self.coordinates.after(turn, turn_tables),
+        }
+    }
+
+    /// A bound from below on the turns to the goal: 0 at the goal and 1 elsewhere.
+    #[tactic(auto, unfolding(crate::specs::Positions::look_at, crate::specs::Positions::is_reached_at))]
+    pub(super) fn look(&self) -> u8
+        ensures { result ≡ look_at self.now }
+    {
+        if self.coordinates.are_zero() { 0 } else { 1 }
+    }
 }

@@ -6,7 +6,7 @@ use Rattle.niss_cube.proofs.rotated_text.rotate_quarter.Goals as goal
 pub bounds-text-sources : goal.bounds-text-sources
 bounds-text-sources c =
     let b : get_or (sources_of c.args.axis) c.loop-position.position 0 < 54 = sources-below c.args.axis c.loop-position.position (omega (arith, c.loop-position-test.true)) in
-    let e : get_or c.sources-sources.result c.loop-position.position 0 ≡ get_or (sources_of c.args.axis) c.loop-position.position 0 = ap (λ s. get_or s c.loop-position.position 0) c.sources-sources.ensures in
+    let e : get_or c.sources-sources.result.now c.loop-position.position 0 ≡ get_or (sources_of c.args.axis) c.loop-position.position 0 = ap (λ s. get_or s c.loop-position.position 0) c.sources-sources.ensures in
     omega (arith, b, e)
 
 pub returns : goal.returns

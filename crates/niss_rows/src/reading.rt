@@ -1,6 +1,7 @@
+//! Lines that are read, byte by byte and as a whole.
 ghost use Rattle.std.specs.Prelude.{◌≤◌, length};
 
-use super::*;
+use niss_moves::{LineReader, ReadFault, read};
 
 fn fault_of(line: &[u8]) -> Option<ReadFault>
     requires { length line.now ≤ 16777216 }

@@ -1,16 +1,17 @@
-use super::*;
+//! Cubes: their facelets, and the round of a sequence.
+use niss_cube::{Cube, Face, Power, Rotation, Turn};
 
-fn turn(face: Face, power: Power) -> Turn {
+pub fn turn(face: Face, power: Power) -> Turn {
     Turn { face, power }
 }
 
-fn after(turns: &[Turn]) -> Cube {
+pub fn after(turns: &[Turn]) -> Cube {
     let mut cube = Cube::solved();
     cube.apply(turns);
     cube
 }
 
-fn quarter(face: Face) -> Cube {
+pub fn quarter(face: Face) -> Cube {
     after(&[turn(face, Power::Quarter)])
 }
 
@@ -89,43 +90,4 @@ fn right_and_up_return_after_105_times(rt: HostRuntime) {
     }
     cube.apply(&turns);
     assert!(rt; cube == Cube::solved());
-}
-
-#[test]
-fn a_solved_cube_has_coordinates_0(rt: HostRuntime) {
-    let cube = Cube::solved();
-    for axis in [Axis::Ud, Axis::Rl, Axis::Fb] {
-        assert_eq!(rt; cube.flip(axis), 0);
-        assert_eq!(rt; cube.twist(axis), 0);
-        assert_eq!(rt; cube.slice(axis), 0);
-    }
-}
-
-#[test]
-fn turned_cubes_have_their_coordinates(rt: HostRuntime) {
-    let front = quarter(Face::F);
-    assert_eq!(rt; front.flip(Axis::Fb), 550);
-    assert_eq!(rt; front.slice(Axis::Ud), 33);
-    assert_eq!(rt; front.slice(Axis::Rl), 33);
-    let right = quarter(Face::R);
-    assert_eq!(rt; right.twist(Axis::Ud), 1494);
-    assert_eq!(rt; right.twist(Axis::Fb), 1494);
-    assert_eq!(rt; right.flip(Axis::Rl), 550);
-    assert_eq!(rt; quarter(Face::U).flip(Axis::Ud), 550);
-    let down = quarter(Face::D);
-    assert_eq!(rt; down.twist(Axis::Rl), 1494);
-    assert_eq!(rt; down.slice(Axis::Fb), 33);
-}
-
-// R U R2 B' L' brings the edges FR, FL, BL, BR to the places UF, UL, UB, UR.
-#[test]
-fn the_largest_slice_number_is_494(rt: HostRuntime) {
-    let cube = after(&[
-        turn(Face::R, Power::Quarter),
-        turn(Face::U, Power::Quarter),
-        turn(Face::R, Power::Half),
-        turn(Face::B, Power::Counter),
-        turn(Face::L, Power::Counter),
-    ]);
-    assert_eq!(rt; cube.slice(Axis::Ud), 494);
 }

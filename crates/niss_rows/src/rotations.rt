@@ -1,4 +1,5 @@
-use super::*;
+//! Rotations of the whole cube.
+use niss_moves::{Axis, Face, Power, Rotation};
 
 // WCA Regulations, 12a4: the whole cube is turned as by R, U and F.
 #[test]

@@ -1,0 +1,83 @@
+//! One deepening of the search, depth first.
+ghost use Rattle.std.specs.Prelude.{◌≡◌, ◌+◌, ◌<◌, ◌≤◌, ◌^◌, length, IfOk, OnOk, OnErr, Contains};
+ghost use Rattle.niss_moves.specs.Canonical.{last_turn};
+ghost use Rattle.niss_cube.specs.Steps.{turns_of};
+ghost use Rattle.niss_search.specs.Cubes.{IsPosition};
+ghost use Rattle.niss_search.specs.Delivery.{WentThrough, StoppedIn};
+ghost use Rattle.niss_search.specs.Descent.{found_below, looks_below, found_after, looks_after};
+
+use crate::sink::Sink;
+use crate::tables::{Meter, Position, Tables};
+use crate::turn_path::TurnPath;
+use niss_moves::{Turn, allowed};
+
+/// Looks at the position of the path and, where the look allows, below it with `left` turns more. Hands what it finds to
+/// the sink and says how much that was.
+#[cycle(descent)]
+pub(crate) fn visit<K: Sink>(
+    tables: &Tables,
+    position: &Position,
+    left: u8,
+    path: &mut TurnPath,
+    meter: &mut Meter,
+    sink: &mut K,
+) -> Result<u128, K::Fault>
+    requires position { IsPosition tables.now position.now }
+    requires room { length path.old.turns + left ≤ path.old.limit }
+    requires meter { meter.old + looks_below tables.now position.now path.old.turns left < 2 ^ 128 }
+    ensures count { IfOk result (λ n. n ≡ length (found_below tables.now position.now path.old.turns left)) }
+    ensures path { path.new ≡ path.old }
+    ensures ok { OnOk result (WentThrough K.took sink.old (found_below tables.now position.now path.old.turns left) sink.new) }
+    ensures err { OnErr result (StoppedIn K.took K.refused sink.old (found_below tables.now position.now path.old.turns left) sink.new) }
+    ensures looks { OnOk result (meter.new ≡ meter.old + looks_below tables.now position.now path.old.turns left) }
+    ensures looks_at_most { meter.new ≤ meter.old + looks_below tables.now position.now path.old.turns left }
+{
+    let distance = tables.look(position, meter);
+    if distance > left {
+        return Ok(0);
+    }
+    if left == 0 {
+        sink.take(path)?;
+        return Ok(1);
+    }
+    let last = path.last();
+    let mut count = 0;
+    for turn in tables.step().turns() {
+        count += visit_turn(tables, position, last, *turn, left - 1, path, meter, sink)?;
+    }
+    Ok(count)
+}
+
+/// Does the same below the path and one turn more, where that turn may stand after the last one.
+#[cycle(descent)]
+fn visit_turn<K: Sink>(
+    tables: &Tables,
+    position: &Position,
+    last: Option<Turn>,
+    turn: Turn,
+    left: u8,
+    path: &mut TurnPath,
+    meter: &mut Meter,
+    sink: &mut K,
+) -> Result<u128, K::Fault>
+    requires position { IsPosition tables.now position.now }
+    requires last { last ≡ last_turn path.old.turns }
+    requires of_step { Contains (turns_of tables.now) turn }
+    requires room { length path.old.turns + 1 + left ≤ path.old.limit }
+    requires meter { meter.old + looks_after tables.now position.now path.old.turns left turn < 2 ^ 128 }
+    ensures count { IfOk result (λ n. n ≡ length (found_after tables.now position.now path.old.turns left turn)) }
+    ensures path { path.new ≡ path.old }
+    ensures ok { OnOk result (WentThrough K.took sink.old (found_after tables.now position.now path.old.turns left turn) sink.new) }
+    ensures err { OnErr result (StoppedIn K.took K.refused sink.old (found_after tables.now position.now path.old.turns left turn) sink.new) }
+    ensures looks { OnOk result (meter.new ≡ meter.old + looks_after tables.now position.now path.old.turns left turn) }
+    ensures looks_at_most { meter.new ≤ meter.old + looks_after tables.now position.now path.old.turns left turn }
+{
+    if !allowed(last, turn) {
+        return Ok(0);
+    }
+    let next = tables.after(position, turn);
+    path.push(turn);
+    let below = visit(tables, &next, left, path, meter, sink);
+    path.pop();
+    below
+}
