@@ -16,6 +16,7 @@ mod command;
 mod device;
 mod laws;
 mod lines;
+mod scrambles;
 mod shell;
 mod stop;
 mod streams;
