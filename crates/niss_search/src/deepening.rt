@@ -12,11 +12,12 @@ use crate::outcome::Outcome;
 use crate::sink::Sink;
 use crate::tables::{Meter, Position, Tables};
 use crate::turn_path::TurnPath;
+use std::alloc::Allocator;
 
 /// Hands each solution of least length within the path's limit to the sink, in turn order, until the sink refuses one.
 /// The path is empty again at the end. What is said here holds of every cube that has the position.
-pub fn search<K: Sink>(
-    tables: &Tables,
+pub fn search<K: Sink, A: Allocator>(
+    tables: &Tables<A>,
     position: &Position,
     path: &mut TurnPath,
     meter: &mut Meter,

@@ -10,12 +10,13 @@ use crate::sink::Sink;
 use crate::tables::{Meter, Position, Tables};
 use crate::turn_path::TurnPath;
 use niss_moves::{Turn, allowed};
+use std::alloc::Allocator;
 
 /// Looks at the position of the path and, where the look allows, below it with `left` turns more. Hands what it finds to
 /// the sink and says how much that was.
 #[cycle(descent)]
-pub(crate) fn visit<K: Sink>(
-    tables: &Tables,
+pub(crate) fn visit<K: Sink, A: Allocator>(
+    tables: &Tables<A>,
     position: &Position,
     left: u8,
     path: &mut TurnPath,
@@ -50,8 +51,8 @@ pub(crate) fn visit<K: Sink>(
 
 /// Does the same below the path and one turn more, where that turn may stand after the last one.
 #[cycle(descent)]
-fn visit_turn<K: Sink>(
-    tables: &Tables,
+fn visit_turn<K: Sink, A: Allocator>(
+    tables: &Tables<A>,
     position: &Position,
     last: Option<Turn>,
     turn: Turn,

@@ -3,21 +3,20 @@ mod meter;
 mod position;
 
 use crate::laws::positions_tell;
-use niss_cube::{Cube, Goal, OutOfMemory, Step, Turn, TurnTables};
-use std::alloc::Global;
-use std::marker::Model;
-
 pub use meter::Meter;
+use niss_cube::{Cube, Goal, OutOfMemory, Step, Turn, TurnTables};
 pub use position::Position;
+use std::alloc::{Allocator, Global};
+use std::marker::Model;
 
 /// What a search needs of a step.
 #[derive(Drop)]
-pub struct Tables {
+pub struct Tables<A: Allocator = Global> {
     step: Step,
-    turn_tables: TurnTables,
+    turn_tables: TurnTables<A>,
 }
 
-impl Model for Tables {
+impl<A: Allocator> Model for Tables<A> {
     ghost use Rattle.niss_cube.specs.declared.step.Step as steps;
 
     ghost Value = { steps.Step };
@@ -26,13 +25,7 @@ impl Model for Tables {
 }
 
 impl Tables {
-    ghost use Rattle.std.specs.Prelude.{◌≡◌, ◌+◌, ◌<◌, ◌≤◌, ◌^◌, ◌↔◌, ◌∷◌, [], IsTrue, Contains, IfOk};
-    ghost use Rattle.niss_moves.specs.Places.{Place, SameMap};
-    ghost use Rattle.niss_moves.specs.Effects.{turned};
-    ghost use Rattle.niss_cube.specs.Map.{map_of};
-    ghost use Rattle.niss_cube.specs.Steps.{goals_of, turns_of, may_start, reached};
-    ghost use Rattle.niss_search.specs.Positions.{position_after, look_at};
-    ghost use Rattle.niss_search.specs.Cubes.{HasPosition, IsPosition, distance_of, look_answer};
+    ghost use Rattle.std.specs.Prelude.{◌≡◌, ◌≤◌, ◌^◌, IfOk};
 
     /// Builds the tables of a step. It takes all memory before the meter rises, and nothing is kept where the allocator
     /// refuses some.
@@ -41,7 +34,28 @@ impl Tables {
         ensures step { IfOk result (λ tables. tables ≡ step) }
         ensures meter { meter.new ≡ meter.old }
     {
-        let turn_tables = TurnTables::build(alloc)?;
+        Tables::build_in(alloc, step, meter)
+    }
+}
+
+impl<A: Allocator> Tables<A> {
+    ghost use Rattle.std.specs.Prelude.{◌≡◌, ◌+◌, ◌<◌, ◌≤◌, ◌^◌, ◌↔◌, ◌∷◌, [], IsTrue, Contains, IfOk};
+    ghost use Rattle.niss_moves.specs.Places.{Place, SameMap};
+    ghost use Rattle.niss_moves.specs.Effects.{turned};
+    ghost use Rattle.niss_cube.specs.Map.{map_of};
+    ghost use Rattle.niss_cube.specs.Steps.{goals_of, turns_of, may_start, reached};
+    ghost use Rattle.niss_search.specs.Positions.{position_after, look_at};
+    ghost use Rattle.niss_search.specs.Cubes.{HasPosition, IsPosition, distance_of, look_answer};
+
+    /// `build` over any allocator, for a caller that has a heap of its own, or that refuses growths.
+    pub fn build_in(alloc: A, step: Step, meter: &mut Meter) -> Result<Tables<A>, OutOfMemory>
+    where
+        A: Copy,
+        requires { meter.old ≤ 2 ^ 127 }
+        ensures step { IfOk result (λ tables. tables ≡ step) }
+        ensures meter { meter.new ≡ meter.old }
+    {
+        let turn_tables = TurnTables::build_in(alloc)?;
         Ok(Tables { step, turn_tables })
     }
 

@@ -8,4 +8,5 @@ pub mod EngineLemmas
 pub mod ScrambleLemmas
 pub mod AnswerLemmas
 pub mod RunLemmas
+pub mod NumberLemmas
 pub mod WordsLemmas

@@ -1,10 +1,15 @@
 -- The words of a command line.
-use Rattle.std.specs.Prelude.{ℕ, nat_le, if◌then◌else◌, bytes_eq, codes, Bool, true, false, Result, Ok, Err, List, [], ◌∷◌, ◌++◌, length, map, flat_map, string_bytes}
+use Rattle.std.specs.Prelude.{ℕ, nat_le, nat_lt, if◌then◌else◌, bytes_eq, codes, Bool, true, false, ◌&&◌, Option, Some, None, find, Result, Ok, Err, List, [], ◌∷◌, ◌++◌, length, map, flat_map, string_bytes}
+use Rattle.std.specs.Char.{is_ascii_digit}
+use Rattle.std.specs.List.{list_all}
+use Rattle.std.specs.Str.Parse.{digits_value}
+use Rattle.niss_cube.specs.Steps.{name_of, steps}
+use Rattle.niss_cube.specs.declared.step.Step.{Step}
 use Rattle.niss_shell.specs.Lines.{line_feed, space}
 use Rattle.niss_shell.specs.declared.command.UsageFault.{UsageFault}
-use Rattle.niss_shell.specs.declared.command.UsageFault.TheVariants.{NoCommand, UnknownCommand, WrongCount}
+use Rattle.niss_shell.specs.declared.command.UsageFault.TheVariants.{NoCommand, UnknownCommand, WrongCount, BadNumber, UnknownStep}
 use Rattle.niss_shell.specs.declared.command.LineCommand.{LineCommand}
-use Rattle.niss_shell.specs.declared.command.LineCommand.TheVariants.{Rewrite}
+use Rattle.niss_shell.specs.declared.command.LineCommand.TheVariants.{Rewrite, Solve, Count}
 use Rattle.niss_shell.specs.declared.command.Rewriting.TheVariants.{Invert, Unniss, Cleanup, Print}
 use Rattle.niss_shell.specs.declared.command.Command.{Command}
 use Rattle.niss_shell.specs.declared.command.Command.TheVariants as command
@@ -12,6 +17,17 @@ use Rattle.niss_shell.specs.declared.command.Command.TheVariants as command
 -- the most bytes of input
 abbrev pub limit : ℕ
 limit = 16777216
+
+-- the number that a word of one or more decimal digits spells, where it is at most `most`
+abbrev pub number_of : ℕ → List ℕ → Option ℕ
+number_of most word =
+    if list_all is_ascii_digit word && nat_lt 0 (length word) && nat_le (digits_value 10 word) most
+    then Some (digits_value 10 word)
+    else None
+
+-- the step of this name
+abbrev pub step_named : List ℕ → Option Step
+step_named name = find (λ step. bytes_eq name (name_of step)) steps
 
 -- What the words of a command line ask for.
 pub data Request : Type 0 where
@@ -25,12 +41,26 @@ abbrev pub without_words : Request → List (List ℕ) → Result Request UsageF
 without_words request [] = Ok request
 without_words request (word ∷ words) = Err WrongCount
 
+-- a command on a step, with the greatest number of turns
+abbrev pub search_with : (Step → ℕ → LineCommand) → Option Step → Option ℕ → List (List ℕ) → Result Request UsageFault
+search_with command None most rest = Err UnknownStep
+search_with command (Some step) None rest = Err BadNumber
+search_with command (Some step) (Some n) rest = Ok (OnLines (command step n) rest)
+
+-- the same from its words: the step, the number, and the words that are the input
+abbrev pub search_words : (Step → ℕ → LineCommand) → List (List ℕ) → Result Request UsageFault
+search_words command [] = Err WrongCount
+search_words command (step ∷ []) = Err WrongCount
+search_words command (step ∷ most ∷ rest) = search_with command (step_named step) (number_of 20 most) rest
+
 abbrev pub request_named : List ℕ → List (List ℕ) → Result Request UsageFault
 request_named name rest =
     if bytes_eq name (codes "invert") then Ok (OnLines (Rewrite Invert) rest)
     else if bytes_eq name (codes "unniss") then Ok (OnLines (Rewrite Unniss) rest)
     else if bytes_eq name (codes "cleanup") then Ok (OnLines (Rewrite Cleanup) rest)
     else if bytes_eq name (codes "print") then Ok (OnLines (Rewrite Print) rest)
+    else if bytes_eq name (codes "solve") then search_words Solve rest
+    else if bytes_eq name (codes "count") then search_words Count rest
     else if bytes_eq name (codes "steps") then without_words ListSteps rest
     else Err UnknownCommand
 
@@ -45,6 +75,8 @@ requested (command.Invert rest) = OnLines (Rewrite Invert) (map string_bytes res
 requested (command.Unniss rest) = OnLines (Rewrite Unniss) (map string_bytes rest.now)
 requested (command.Cleanup rest) = OnLines (Rewrite Cleanup) (map string_bytes rest.now)
 requested (command.Print rest) = OnLines (Rewrite Print) (map string_bytes rest.now)
+requested (command.Solve step n rest) = OnLines (Solve step n) (map string_bytes rest.now)
+requested (command.Count step n rest) = OnLines (Count step n) (map string_bytes rest.now)
 requested command.Steps = ListSteps
 
 abbrev pub spaced_word : List ℕ → List ℕ
@@ -62,9 +94,15 @@ reads_source (Ok (OnLines command [])) = true
 reads_source (Ok (OnLines command (word ∷ words))) = false
 reads_source (Ok ListSteps) = false
 
--- The request asks for memory: for the input, where words of at most the limit give it.
+-- The command searches, and has tables of its step.
+abbrev pub has_step : LineCommand → Bool
+has_step (Rewrite rewriting) = false
+has_step (Solve step n) = true
+has_step (Count step n) = true
+
+-- The request asks for memory: for the tables of a step, and for the input, where words of at most the limit give it.
 abbrev pub takes_memory : Result Request UsageFault → Bool
 takes_memory (Err fault) = false
-takes_memory (Ok (OnLines command [])) = false
+takes_memory (Ok (OnLines command [])) = has_step command
 takes_memory (Ok (OnLines command (word ∷ words))) = nat_le (length (joined (word ∷ words))) limit
 takes_memory (Ok ListSteps) = false

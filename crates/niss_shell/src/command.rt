@@ -1,5 +1,11 @@
-ghost use Rattle.std.specs.Prelude.{◌≡◌, Ok, Err, MatchOption, MatchResult, map, string_bytes};
-ghost use Rattle.niss_shell.specs.Words.{OnLines, ListSteps, without_words, request_of, requested};
+ghost use Rattle.std.specs.Prelude.{◌≡◌, ℕ, Ok, Err, MatchOption, MatchResult, map, string_bytes};
+ghost use Rattle.niss_shell.specs.declared.command.LineCommand.{LineCommand};
+ghost use Rattle.niss_cube.specs.declared.step.Step.{Step};
+ghost use Rattle.niss_shell.specs.Words.{OnLines, ListSteps, search_words, without_words, request_of, requested};
+
+use crate::number::limit_of;
+use niss_cube::Step;
+use niss_search::Limit;
 
 /// Why the words are no command.
 #[derive(Clone, Copy, Debug, PartialEq, Eq)]
@@ -10,6 +16,10 @@ pub enum UsageFault {
     UnknownCommand,
     /// The command takes another number of words.
     WrongCount,
+    /// A word that should be a number is none, or is out of its range.
+    BadNumber,
+    /// No step has this name.
+    UnknownStep,
 }
 
 /// What is written for a line without a search.
@@ -25,6 +35,8 @@ pub enum Rewriting {
 #[derive(Clone, Copy, Debug)]
 pub enum LineCommand {
     Rewrite(Rewriting),
+    Solve(Step, Limit),
+    Count(Step, Limit),
 }
 
 /// A command. The words that it lends are the input; where there are none, the input comes from the source.
@@ -38,6 +50,10 @@ pub enum Command<'a> {
     Cleanup(&'a [String]),
     /// The facelet text of each line.
     Print(&'a [String]),
+    /// The shortest solutions of a step for each line, of at most so many turns.
+    Solve(Step, Limit, &'a [String]),
+    /// Their length, how many they are, and how often the search looks at a position, for each line.
+    Count(Step, Limit, &'a [String]),
     /// The names of the steps.
     Steps,
 }
@@ -54,9 +70,30 @@ impl<'a> Command<'a> {
             Command::Unniss(rest) => Some((LineCommand::Rewrite(Rewriting::Unniss), rest)),
             Command::Cleanup(rest) => Some((LineCommand::Rewrite(Rewriting::Cleanup), rest)),
             Command::Print(rest) => Some((LineCommand::Rewrite(Rewriting::Print), rest)),
+            Command::Solve(step, limit, rest) => Some((LineCommand::Solve(step, limit), rest)),
+            Command::Count(step, limit, rest) => Some((LineCommand::Count(step, limit), rest)),
             Command::Steps => None,
         }
     }
+}
+
+/// The step, the limit and the words that are the input, of a command that searches.
+fn parse_search(words: &[String]) -> Result<(Step, Limit, &[String]), UsageFault>
+    ensures { (command : Step → ℕ → LineCommand) → MatchResult result
+        (λ parts. search_words command (map string_bytes words.now)
+            ≡ Ok (OnLines (command parts.0 parts.1) (map string_bytes parts.2.now)))
+        (λ fault. search_words command (map string_bytes words.now) ≡ Err fault) }
+{
+    let [step, most, rest @ ..] = words else {
+        return Err(UsageFault::WrongCount);
+    };
+    let Some(step) = Step::from_name(step.as_bytes()) else {
+        return Err(UsageFault::UnknownStep);
+    };
+    let Some(limit) = limit_of(most.as_str()) else {
+        return Err(UsageFault::BadNumber);
+    };
+    Ok((step, limit, rest))
 }
 
 /// The command `steps`, which takes no words.
@@ -71,7 +108,8 @@ fn parse_steps(words: &[String]) -> Result<Command<'_>, UsageFault>
     }
 }
 
-/// The command that the words name, or their first fault: of the command, and then of the count of words.
+/// The command that the words name, or their first fault: of the command, then of the count of words, of the step, and of
+/// the numbers from left to right.
 pub fn parse_words(words: &[String]) -> Result<Command<'_>, UsageFault>
     ensures { MatchResult result
         (λ command. request_of (map string_bytes words.now) ≡ Ok (requested command))
@@ -85,6 +123,14 @@ pub fn parse_words(words: &[String]) -> Result<Command<'_>, UsageFault>
         "unniss" => Ok(Command::Unniss(rest)),
         "cleanup" => Ok(Command::Cleanup(rest)),
         "print" => Ok(Command::Print(rest)),
+        "solve" => match parse_search(rest) {
+            Ok((step, limit, rest)) => Ok(Command::Solve(step, limit, rest)),
+            Err(fault) => Err(fault),
+        },
+        "count" => match parse_search(rest) {
+            Ok((step, limit, rest)) => Ok(Command::Count(step, limit, rest)),
+            Err(fault) => Err(fault),
+        },
         "steps" => parse_steps(rest),
         _ => Err(UsageFault::UnknownCommand),
     }

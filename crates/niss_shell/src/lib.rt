@@ -16,6 +16,7 @@ mod command;
 mod device;
 mod laws;
 mod lines;
+mod number;
 mod scrambles;
 mod shell;
 mod stop;

@@ -43,7 +43,9 @@ fn answer_moves<W: Target>(
     ensures works { OnOk result (has_fault (W.state out.new) ≡ false) }
     ensures meter { looks.new ≤ looks.old + 2 ^ 93 }
 {
-    let LineCommand::Rewrite(rewriting) = command;
+    let LineCommand::Rewrite(rewriting) = command else {
+        return Ok(());
+    };
     let mut text = LineText::new();
     put_rewritten(rewriting, niss, &mut text);
     text.push(b'\n');

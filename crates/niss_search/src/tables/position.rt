@@ -4,6 +4,7 @@ ghost use Rattle.niss_cube.specs.Map.{map_of};
 ghost use Rattle.niss_search.specs.Positions.{coordinates_of, coordinates_after, are_zero, AreInRange};
 
 use niss_cube::{Axis, Cube, Goal, Turn, TurnTables};
+use std::alloc::Allocator;
 use std::marker::Model;
 
 /// The coordinates that tell whether a goal holds on a cube on which the step may start.
@@ -35,7 +36,7 @@ impl Coordinates {
     }
 
     /// Those after a turn.
-    fn after(self, turn: Turn, turn_tables: &TurnTables) -> Coordinates
+    fn after<A: Allocator>(self, turn: Turn, turn_tables: &TurnTables<A>) -> Coordinates
         requires { AreInRange self }
         ensures value { result ≡ coordinates_after self turn }
         ensures in_range { AreInRange result }
@@ -97,7 +98,7 @@ impl Position {
 
     /// The position after a turn.
     #[tactic(auto, unfolding(crate::specs::Positions::position_after))]
-    pub(super) fn after(&self, turn: Turn, turn_tables: &TurnTables) -> Position
+    pub(super) fn after<A: Allocator>(&self, turn: Turn, turn_tables: &TurnTables<A>) -> Position
         ensures { result ≡ position_after self.now turn }
     {
         Position {

@@ -1,4 +1,4 @@
-use Rattle.std.proofs.Common.{arith, ◌≡◌, ◌+◌, ◌<◌, ◌≤◌, length, ◌-◌, List, [], ◌∷◌, ◌++◌, Contains, true, false, refl, sym, ap, ◌∙◌, get_or, add-zero, subst, ◌^◌, length-append}
+use Rattle.std.proofs.Common.{arith, ◌≡◌, ◌+◌, ◌<◌, ◌≤◌, length, ◌-◌, List, [], ◌∷◌, ◌++◌, Contains, true, false, refl, sym, ◌∙◌, get_or, add-zero, subst, ◌^◌, length-append}
 use Rattle.std.proofs.lemmas.List.Elements.{Contains-get_or}
 use Rattle.std.proofs.lemmas.List.Sums.{sum_by_more}
 use Rattle.std.proofs.lemmas.Result.{err_from_is_err_and}
@@ -79,7 +79,7 @@ visit-visit_turn-requires g t c κs within =
     let Metered : Path → Type 0 = λ q. c.loop-turn.meter + looks_after step c.args.position.now q.turns (c.args.left - 1) d < 2 ^ 128 in
     let OfStep : List Turn → Type 0 = λ ts. Contains ts d in
     let more = looks_below-more step c.args.position.now c.args.path.now.turns c.args.left inv.some_left inv.near items inv.items c.loop-turn.turn-index record { face = U; power = Quarter } c.loop-turn-test.true in
-    (omega arith, (within.0, (within.1, (c.requires.position, (subst Last same inv.last, (subst OfStep inv.items (Contains-get_or items c.loop-turn.turn-index record { face = U; power = Quarter } c.loop-turn-test.true), (subst Room same (omega arith), subst Metered same (omega (arith, more)))))))))
+    (omega arith, (within.0, (within.1.0, (within.1.1, (c.requires.position, (subst Last same inv.last, (subst OfStep inv.items (Contains-get_or items c.loop-turn.turn-index record { face = U; power = Quarter } c.loop-turn-test.true), (subst Room same (omega arith), subst Metered same (omega (arith, more))))))))))
 
 pub visit-returns-in_err-count-clause-err : goal.visit-returns-in_err-count-clause-err
 visit-returns-in_err-count-clause-err g t c =
@@ -138,7 +138,7 @@ visit-returns-clause-count g t c =
     let inv = c.loop-turn.invariant in
     let step = c.args.tables.now in
     let all = found_below-all step c.args.position.now c.args.path.now.turns c.args.left inv.some_left inv.near c.turns-turn-items.result.now inv.items c.loop-turn.turn-index c.loop-turn-test.false in
-    inv.counted ∙ ap length (sym all)
+    rw all inv.counted
 
 pub visit-returns-clause-ok : goal.visit-returns-clause-ok
 visit-returns-clause-ok g t c =
@@ -181,7 +181,7 @@ visit_turn-visit-below-requires g t c κs within =
     let may : may_follow (last_turn c.args.path.now.turns) c.args.turn ≡ true = cc in
     let more = looks_after-may c.args.tables.now c.args.position.now c.args.path.now.turns c.args.left c.args.turn may in
     let room : length (c.args.path.now.turns ++ c.args.turn ∷ []) + c.args.left ≤ c.args.path.now.limit = omega (arith, length-append {A = Turn}) in
-    (omega arith, (within.0, (within.1, (((λ q. turned c.args.turn (c.requires.position.0 q)), c.after-next.ensures.turned c.requires.position.0 c.requires.position.1), (rw c.push.ensures room, rw (c.push.ensures, c.after-next.ensures.value) (omega arith))))))
+    (omega arith, (within.0, (within.1.0, (within.1.1, (((λ q. turned c.args.turn (c.requires.position.0 q)), c.after-next.ensures.turned c.requires.position.0 c.requires.position.1), (rw c.push.ensures room, rw (c.push.ensures, c.after-next.ensures.value) (omega arith)))))))
 
 pub visit_turn-returns-clause-count : goal.visit_turn-returns-clause-count
 visit_turn-returns-clause-count g t c =

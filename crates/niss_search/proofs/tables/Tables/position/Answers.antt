@@ -3,6 +3,6 @@ use Rattle.niss_search.proofs.PositionLemmas.{position-alone, cube-itself}
 use Rattle.niss_search.proofs.tables.Tables.position.Goals as goal
 
 pub returns : goal.returns
-returns c = λ e same.
+returns g c = λ e same.
     rw (c.of.ensures, ← position-alone c.args.self.now c.goal.result (map_of c.args.cube.now) c.goal.ensures)
     (c.positions_tell.ensures.alike c.args.self.now (map_of c.args.cube.now) e (cube-itself c.args.cube.now) same c.requires)
