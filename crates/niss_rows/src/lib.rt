@@ -27,6 +27,8 @@ mod rotations;
 #[cfg(test)]
 mod runs;
 #[cfg(test)]
+mod scrambles;
+#[cfg(test)]
 mod std_streams;
 #[cfg(test)]
 mod steps;
