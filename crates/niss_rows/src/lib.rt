@@ -29,6 +29,8 @@ mod runs;
 #[cfg(test)]
 mod scrambles;
 #[cfg(test)]
+mod searches;
+#[cfg(test)]
 mod std_streams;
 #[cfg(test)]
 mod steps;

@@ -50,7 +50,7 @@ fn steps_have_their_names_and_turns(rt: HostRuntime) {
 }
 
 // The solved cube after face turns.
-fn cube_after(rt: &impl Abort, moves: &str) -> Cube {
+pub fn cube_after(rt: &impl Abort, moves: &str) -> Cube {
     assert!(rt; moves.len() <= 256, "{moves}");
     let line = read(moves.as_bytes()).expect(rt, "face turns");
     let (turns, _) = to_faces(line.normal());

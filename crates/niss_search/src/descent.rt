@@ -31,6 +31,7 @@ pub(crate) fn visit<K: Sink, A: Allocator>(
     ensures ok { OnOk result (WentThrough K.took sink.old (found_below tables.now position.now path.old.turns left) sink.new) }
     ensures err { OnErr result (StoppedIn K.took K.refused sink.old (found_below tables.now position.now path.old.turns left) sink.new) }
     ensures looks { OnOk result (meter.new ≡ meter.old + looks_below tables.now position.now path.old.turns left) }
+    ensures rises { meter.old ≤ meter.new }
     ensures looks_at_most { meter.new ≤ meter.old + looks_below tables.now position.now path.old.turns left }
 {
     let distance = tables.look(position, meter);
@@ -71,6 +72,7 @@ fn visit_turn<K: Sink, A: Allocator>(
     ensures ok { OnOk result (WentThrough K.took sink.old (found_after tables.now position.now path.old.turns left turn) sink.new) }
     ensures err { OnErr result (StoppedIn K.took K.refused sink.old (found_after tables.now position.now path.old.turns left turn) sink.new) }
     ensures looks { OnOk result (meter.new ≡ meter.old + looks_after tables.now position.now path.old.turns left turn) }
+    ensures rises { meter.old ≤ meter.new }
     ensures looks_at_most { meter.new ≤ meter.old + looks_after tables.now position.now path.old.turns left turn }
 {
     if !allowed(last, turn) {

@@ -5,7 +5,7 @@ use Rattle.std.proofs.lemmas.Grind.{common_steps}
 use Rattle.rand_pcg.specs.Lcg.{Lcg}
 use Rattle.niss_shell.specs.Device.{SourceState, TargetState, has_fault, Appended, StaysSilent, WriteRefused}
 use Rattle.niss_shell.specs.Scrambles.{generator_of, scramble_text}
-use Rattle.niss_shell.specs.Words.{limit, Request, OnLines, ListSteps, DrawScrambles, request_of, reads_source, joined}
+use Rattle.niss_shell.specs.Words.{limit, Request, OnLines, ListSteps, DrawScrambles, request_of, reads_source, has_step, joined}
 use Rattle.niss_shell.specs.Output.{Answer, Ending, More, End, Fail, ending, stop_at_end, line_answers, answer_lines, unsearched, step_line, stop_of, out_of, error_text, status_of}
 use Rattle.niss_cube.specs.Steps.{steps}
 use Rattle.niss_shell.specs.Engine.{AnswerState, answer_state, AnswersSource, Answers, Writes, Refuses, EndsUnflushed, RunsUnflushed, flushed_stop, FlushesLast}
@@ -122,6 +122,17 @@ runs_memory command (v ∷ ws) a h n works fits = record {
   ends = (fits_test (length (joined (v ∷ ws))) fits, refl, writes_nothing h works);
   read_whole = λ d r. absurd (cc r);
 }
+
+pub runs_memory_source : (command : LineCommand) (ws : List (List ℕ)) (a : SourceState) (h : AnswerState)
+    → length ws ≡ 0 → has_fault h.target ≡ false → has_step command ≡ true
+    → RunsUnflushed (Ok (OnLines command ws)) OutOfMemory a a h h
+runs_memory_source command [] a h n works asks = record {
+  input = [];
+  gave = gave_nothing a;
+  ends = (asks, refl, writes_nothing h works);
+  read_whole = λ d r. absurd (cc d);
+}
+runs_memory_source command (v ∷ ws) a h n works asks = absurd (omega arith)
 
 pub runs_usage : (asked : Result Request UsageFault) (fault : UsageFault) (a : SourceState) (h : AnswerState)
     → asked ≡ Err fault → has_fault h.target ≡ false → RunsUnflushed asked Usage a a h h

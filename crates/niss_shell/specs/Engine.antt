@@ -6,6 +6,7 @@ use Rattle.niss_moves.specs.Reader.{IsFed}
 use Rattle.niss_shell.specs.Words.{Request, reads_source, takes_memory}
 use Rattle.niss_shell.specs.Output.{Answer, LineAnswers, looks_for, most_looks_for, answer_lines, answer_request, line_with_bytes, ending}
 use Rattle.niss_shell.specs.declared.command.UsageFault.{UsageFault}
+use Rattle.niss_shell.specs.declared.device.DeviceFault.{DeviceFault}
 use Rattle.niss_shell.specs.declared.stop.LineFault.{LineFault}
 use Rattle.niss_shell.specs.declared.stop.Stop.{Stop}
 use Rattle.niss_shell.specs.declared.stop.Stop.TheVariants.{Done, Line, Usage, InputTooLong, CannotRead, CannotWrite, OutOfMemory}
@@ -32,6 +33,17 @@ pub record Refuses (text : List ℕ) (looks most_looks : ℕ) (old new : AnswerS
   pub rises : old.looks ≤ new.looks
   pub looked : new.looks ≤ old.looks + looks
   pub bounded : new.looks ≤ old.looks + most_looks
+
+-- The text was written, or a write of it was refused.
+abbrev pub WritesOrRefuses :
+    {T : Type 0} → Result T DeviceFault → List ℕ → ℕ → ℕ → AnswerState → AnswerState → Type 0
+WritesOrRefuses (Ok x) text looks most_looks old new = Writes text looks most_looks old new
+WritesOrRefuses (Err e) text looks most_looks old new = Refuses text looks most_looks old new
+
+-- a refused write ends a run
+abbrev pub stop_if_refused : Result (Unit {0}) DeviceFault → Result (Unit {0}) Stop
+stop_if_refused (Ok u) = Ok u
+stop_if_refused (Err e) = Err CannotWrite
 
 -- the answers to these lines, up to the first fault, were written
 abbrev pub WritesAnswers : LineAnswers → List (List ℕ) → AnswerState → AnswerState → Type 0

@@ -4,5 +4,6 @@ pub mod LinesLaws
 pub mod Words
 pub mod Scrambles
 pub mod Output
+pub mod Work
 pub mod Engine
 pub mod Run

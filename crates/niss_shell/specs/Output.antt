@@ -1,23 +1,29 @@
 -- What a run is to write and to answer.
-use Rattle.std.specs.Prelude.{ℕ, ◌*◌, nat_lt, Bool, true, false, if◌then◌else◌, codes, decimal, Option, Some, None, Result, Ok, Err, List, [], ◌∷◌, ◌++◌, map, flat_map, take, length, sum_by, unwrap_or}
+use Rattle.std.specs.Prelude.{ℕ, zero, suc, ◌*◌, nat_lt, Bool, true, false, if◌then◌else◌, codes, decimal, Option, Some, None, Result, Ok, Err, List, [], ◌∷◌, ◌++◌, map, flat_map, take, length, sum_by, unwrap_or}
 use Rattle.niss_shell.specs.Device.{SourceState}
-use Rattle.niss_shell.specs.Lines.{line_feed, ended_lines, last_part, written_text, answered_lines, first_fault}
-use Rattle.niss_cube.specs.Steps.{name_of, start_name_of, steps}
+use Rattle.niss_shell.specs.Lines.{line_feed, space, ended_lines, last_part, written_text, answered_lines, first_fault}
+use Rattle.niss_cube.specs.Steps.{name_of, start_name_of, steps, turns_of, may_start}
 use Rattle.niss_moves.specs.CleanedLine.{with_clean_line}
-use Rattle.niss_moves.specs.Effects.{effect, inverse}
+use Rattle.niss_moves.specs.CleanText.{turn_words}
+use Rattle.niss_moves.specs.Effects.{effect, effect_of_turns, inverse}
+use Rattle.niss_moves.specs.Faces.{faces}
 use Rattle.niss_moves.specs.Letters.{letters}
 use Rattle.niss_moves.specs.Line.{Moves}
+use Rattle.niss_moves.specs.Places.{Place}
 use Rattle.niss_moves.specs.Reader.{read_line}
 use Rattle.niss_moves.specs.Text.{word, with_words}
+use Rattle.niss_search.specs.Cubes.{least_length_of, solutions_of, all_looks_of}
+use Rattle.niss_search.specs.Solutions.{look_bound}
 use Rattle.niss_shell.specs.Scrambles.{generator_of, scramble_text}
 use Rattle.niss_shell.specs.Words.{limit, Request, OnLines, ListSteps, DrawScrambles, request_of, joined}
 use Rattle.niss_shell.specs.declared.command.UsageFault.{UsageFault}
 use Rattle.niss_shell.specs.declared.command.LineCommand.{LineCommand}
-use Rattle.niss_shell.specs.declared.command.LineCommand.TheVariants.{Rewrite}
+use Rattle.niss_shell.specs.declared.command.LineCommand.TheVariants.{Rewrite, Solve, Count}
 use Rattle.niss_shell.specs.declared.command.Rewriting.{Rewriting}
 use Rattle.niss_shell.specs.declared.command.Rewriting.TheVariants.{Invert, Unniss, Cleanup, Print}
 use Rattle.niss_cube.specs.declared.step.Step.{Step}
 use Rattle.niss_moves.specs.declared.token.Token.{Token}
+use Rattle.niss_moves.specs.declared.turn.Turn.{Turn}
 use Rattle.niss_moves.specs.declared.fault.ReadFault.{ReadFault}
 use Rattle.niss_moves.specs.declared.fault.ReadFault.TheVariants.{NotAMove, Nested, Unopened, Unclosed, TooLong}
 use Rattle.niss_shell.specs.declared.stop.LineFault.{LineFault}
@@ -84,9 +90,50 @@ line_text Unniss line = tokens_text (moves_of line)
 line_text Cleanup line = with_clean_line [] line
 line_text Print line = letters (effect (moves_of line))
 
+-- the cube of a line, by where it has each sticker: the effect of its face turns, with its rotations pushed to the end
+abbrev pub home : Moves → Place → Place
+home line q = effect_of_turns (faces (moves_of line)) q
+
+-- the turns with single spaces, and a space behind them where there are any
+abbrev pub turns_text : List Turn → List ℕ
+turns_text [] = []
+turns_text (turn ∷ turns) = with_words [] (turn_words (turn ∷ turns)) ++ space ∷ []
+
+-- a solution on a line: its turns, and their number in brackets
+abbrev pub solution_line : List Turn → List ℕ
+solution_line turns = turns_text turns ++ codes "(" ++ decimal (length turns) ++ codes ")" ++ line_feed ∷ []
+
+-- the line that tells that there are no solutions, where they are 0
+abbrev pub none_line : ℕ → ℕ → List ℕ
+none_line n zero = codes "no solution within " ++ decimal n ++ codes " moves" ++ line_feed ∷ []
+none_line n (suc count) = []
+
+-- each solution on a line, or that there are none, and an empty line
+abbrev pub solve_text : ℕ → List (List Turn) → List ℕ
+solve_text n solutions = flat_map solution_line solutions ++ none_line n (length solutions) ++ line_feed ∷ []
+
+abbrev pub length_text : Option ℕ → List ℕ
+length_text None = codes "none"
+length_text (Some k) = decimal k
+
+abbrev pub count_text : Option ℕ → ℕ → ℕ → List ℕ
+count_text least solutions looks =
+    codes "length " ++ length_text least ++ codes " solutions " ++ decimal solutions ++ codes " nodes " ++ decimal looks
+    ++ line_feed ∷ []
+
+-- what a search writes where the step may start on the cube, and else the fault
+abbrev pub where_it_starts : Step → Bool → List ℕ → Result (List ℕ) LineFault
+where_it_starts step true text = Ok text
+where_it_starts step false text = Err (NoStart step)
+
 -- what a command writes for the moves of a line, or why it can't
 abbrev pub answer_to_moves : LineCommand → Moves → Result (List ℕ) LineFault
 answer_to_moves (Rewrite rewriting) line = Ok (line_text rewriting line ++ line_feed ∷ [])
+answer_to_moves (Solve step n) line =
+    where_it_starts step (may_start step (home line)) (solve_text n (solutions_of step (home line) n))
+answer_to_moves (Count step n) line =
+    where_it_starts step (may_start step (home line))
+    (count_text (least_length_of step (home line) n) (length (solutions_of step (home line) n)) (all_looks_of step (home line) n))
 
 -- what a command answers to a line that was read so
 abbrev pub answer_to : LineCommand → Result Moves ReadFault → Result (List ℕ) LineFault
@@ -100,6 +147,8 @@ answer command line = answer_to command (read_line line)
 -- the looks of a command at the moves of a line
 abbrev pub looks_at_moves : LineCommand → Moves → ℕ
 looks_at_moves (Rewrite rewriting) line = 0
+looks_at_moves (Solve step n) line = all_looks_of step (home line) n
+looks_at_moves (Count step n) line = all_looks_of step (home line) n
 
 abbrev pub looks_at : LineCommand → Result Moves ReadFault → ℕ
 looks_at command (Ok line) = looks_at_moves command line
@@ -112,6 +161,8 @@ line_looks command line = looks_at command (read_line line)
 -- the most looks of a command at one line
 abbrev pub most_line_looks : LineCommand → ℕ
 most_line_looks (Rewrite rewriting) = 0
+most_line_looks (Solve step n) = look_bound (turns_of step) n
+most_line_looks (Count step n) = look_bound (turns_of step) n
 
 -- what is answered to each line, the looks that it takes, and the most that any line may take
 pub record LineAnswers : Type 0 where

@@ -13,15 +13,20 @@
 
 mod answer;
 mod command;
+mod count;
 mod device;
 mod laws;
+mod line_cube;
 mod lines;
 mod number;
 mod scrambles;
+mod search_text;
 mod shell;
+mod solve;
 mod stop;
 mod streams;
 mod text;
+mod work;
 mod writing;
 
 pub use command::{Command, UsageFault, parse_words};

@@ -13,6 +13,7 @@ use crate::lines::{LIMIT, answer_source, answer_text};
 use crate::scrambles::write_scrambles;
 use crate::stop::Stop;
 use crate::text::put_text;
+use crate::work::Work;
 use crate::writing::write_all;
 use niss_cube::Step;
 use niss_moves::LineText;
@@ -65,8 +66,9 @@ fn joined_words<A: Allocator>(
     Ok(text)
 }
 
-/// Answers the lines of the words, or of the source where there are none.
-fn answer_words<A: Allocator, R: Source, W: Target>(
+/// Answers the lines of the words, or of the source where there are none. All memory is taken before the first byte is
+/// read.
+fn answer_words<A: Allocator + Copy, R: Source, W: Target>(
     alloc: A,
     command: LineCommand,
     words: &[String],
@@ -85,15 +87,21 @@ fn answer_words<A: Allocator, R: Source, W: Target>(
         R.state source.new ≡ R.state source.old }
 {
     if words.is_empty() {
-        return answer_source(command, source, out, looks);
+        let Ok(work) = Work::new(alloc, command) else {
+            return Stop::OutOfMemory;
+        };
+        return answer_source(&work, source, out, looks);
     }
     let Some(length) = joined_length(words) else {
         return Stop::InputTooLong;
     };
-    match joined_words(alloc, words, length) {
-        Ok(text) => answer_text(command, text.as_slice(), out, looks),
-        Err(_) => Stop::OutOfMemory,
-    }
+    let Ok(text) = joined_words(alloc, words, length) else {
+        return Stop::OutOfMemory;
+    };
+    let Ok(work) = Work::new(alloc, command) else {
+        return Stop::OutOfMemory;
+    };
+    answer_text(&work, text.as_slice(), out, looks)
 }
 
 /// Writes the names of the steps, each on a line. It takes neither input nor memory.
@@ -113,7 +121,7 @@ fn write_steps<W: Target>(out: &mut W) -> Stop
     }
 }
 
-fn answer_command<A: Allocator, R: Source, W: Target>(
+fn answer_command<A: Allocator + Copy, R: Source, W: Target>(
     alloc: A,
     words: &[String],
     source: &mut R,
@@ -163,7 +171,7 @@ fn tell<E: Target>(stop: Stop, err: &mut E)
 }
 
 /// `run` over any allocator, for a caller that has a heap of its own, or that refuses growths.
-pub fn run_in<A: Allocator, R: Source, W: Target, E: Target>(
+pub fn run_in<A: Allocator + Copy, R: Source, W: Target, E: Target>(
     alloc: A,
     words: &[String],
     input: &mut R,

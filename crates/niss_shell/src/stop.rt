@@ -58,7 +58,7 @@ fn put_read_fault(fault: ReadFault, text: &mut LineText)
         ++ fault_text fault ++ line_feed ∷ [] }
 {
     put_text(b", column ", text);
-    put_number(column_of(fault), text);
+    put_number(column_of(fault) as u128, text);
     put_text(b": ", text);
     put_text(text_of(fault), text);
     text.push(b'\n');
@@ -80,7 +80,7 @@ fn put_line_fault(line: u32, fault: LineFault, text: &mut LineText)
     ensures { text.new.items ≡ line_fault_text line fault }
 {
     put_text(b"nissy: line ", text);
-    put_number(line, text);
+    put_number(line as u128, text);
     match fault {
         LineFault::Unread(fault) => put_read_fault(fault, text),
         LineFault::NoStart(step) => put_start_fault(step, text),

@@ -3,7 +3,6 @@ use Rattle.std.proofs.lemmas.List.Elements.{Contains-get_or}
 use Rattle.std.proofs.lemmas.List.Sums.{sum_by_more}
 use Rattle.std.proofs.lemmas.Result.{err_from_is_err_and}
 use Rattle.niss_moves.specs.Canonical.{may_follow, last_turn}
-use Rattle.niss_moves.specs.Effects.{turned}
 use Rattle.niss_moves.specs.declared.turn.Turn.{Turn}
 use Rattle.niss_search.specs.Descent.{found_after, looks_after}
 use Rattle.niss_search.specs.Positions.{look_at}
@@ -181,7 +180,7 @@ visit_turn-visit-below-requires g t c κs within =
     let may : may_follow (last_turn c.args.path.now.turns) c.args.turn ≡ true = cc in
     let more = looks_after-may c.args.tables.now c.args.position.now c.args.path.now.turns c.args.left c.args.turn may in
     let room : length (c.args.path.now.turns ++ c.args.turn ∷ []) + c.args.left ≤ c.args.path.now.limit = omega (arith, length-append {A = Turn}) in
-    (omega arith, (within.0, (within.1.0, (within.1.1, (((λ q. turned c.args.turn (c.requires.position.0 q)), c.after-next.ensures.turned c.requires.position.0 c.requires.position.1), (rw c.push.ensures room, rw (c.push.ensures, c.after-next.ensures.value) (omega arith)))))))
+    (omega arith, (within.0, (within.1.0, (within.1.1, (c.after-next.ensures.position, (rw c.push.ensures room, rw (c.push.ensures, c.after-next.ensures.value) (omega arith)))))))
 
 pub visit_turn-returns-clause-count : goal.visit_turn-returns-clause-count
 visit_turn-returns-clause-count g t c =

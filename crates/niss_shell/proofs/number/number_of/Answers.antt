@@ -1,5 +1,5 @@
 use Rattle.std.proofs.Common.{rules}
-use Rattle.niss_shell.proofs.NumberLemmas.{no_digits, number_parsed, number_too_large}
+use Rattle.niss_shell.proofs.NumberLemmas.{number_parsed, number_too_large}
 use Rattle.niss_shell.proofs.number.number_of.Goals as goal
 
 pub returns-in-Ok : goal.returns-in-Ok
