@@ -119,7 +119,7 @@ impl<'a> Command<'a> {
 fn parse_search(words: &[String]) -> Result<(Step, Limit, &[String]), UsageFault>
     ensures { (command : Step → ℕ → LineCommand) → MatchResult result
         (λ parts. search_words command (map string_bytes words.now)
-            ≡ Ok (OnLines (command parts.0 parts.1) (map string_bytes parts.2.now)))
+        ≡ Ok (OnLines (command parts.0 parts.1) (map string_bytes parts.2.now)))
         (λ fault. search_words command (map string_bytes words.now) ≡ Err fault) }
 {
     let [step, most, rest @ ..] = words else {
@@ -148,11 +148,10 @@ fn parse_steps(words: &[String]) -> Result<Command<'_>, UsageFault>
 
 /// The command `scramble` by its four numbers, where each is one.
 fn scramble_of(state: &str, stream: &str, length: &str, count: &str) -> Option<Command<'static>>
-    ensures command { MatchOption result
-        (scramble_with (number_of most_state state.now) (number_of most_state stream.now)
-            (number_of most_turns length.now) (number_of most_scrambles count.now) ≡ Err UsageFault.BadNumber)
-        (λ command. scramble_with (number_of most_state state.now) (number_of most_state stream.now)
-            (number_of most_turns length.now) (number_of most_scrambles count.now) ≡ Ok (requested command)) }
+    ensures command { let asked =
+        scramble_with (number_of most_state state.now) (number_of most_state stream.now)
+        (number_of most_turns length.now) (number_of most_scrambles count.now) in
+        MatchOption result (asked ≡ Err UsageFault.BadNumber) (λ command. asked ≡ Ok (requested command)) }
     ensures in_range { IfSome result (λ command. IsInRange (requested command)) }
 {
     let state = number_of(state, u64::MAX)?;
@@ -177,7 +176,12 @@ fn parse_scramble(words: &[String]) -> Result<Command<'_>, UsageFault>
     let [state, stream, length, count] = words else {
         return Err(UsageFault::WrongCount);
     };
-    match scramble_of(state.as_str(), stream.as_str(), length.as_str(), count.as_str()) {
+    match scramble_of(
+        state.as_str(),
+        stream.as_str(),
+        length.as_str(),
+        count.as_str(),
+    ) {
         Some(command) => Ok(command),
         None => Err(UsageFault::BadNumber),
     }

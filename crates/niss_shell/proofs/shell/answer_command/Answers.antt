@@ -1,6 +1,6 @@
-use Rattle.std.proofs.Common.{map, Ok, ap, sym, subst, ◌∙◌}
+use Rattle.std.proofs.Common.{map, Ok, ap, ◌∙◌}
 use Rattle.std.specs.Prelude.{string_bytes}
-use Rattle.niss_shell.specs.Words.{IsInRange, request_of}
+use Rattle.niss_shell.specs.Words.{request_of}
 use Rattle.niss_shell.specs.Engine.{answer_state}
 use Rattle.niss_shell.proofs.RunLemmas.{runs_usage, runs_steps, runs_scrambles}
 use Rattle.niss_shell.proofs.shell.answer_command.Goals as goal
