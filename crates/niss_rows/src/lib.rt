@@ -31,6 +31,8 @@ mod scrambles;
 #[cfg(test)]
 mod searches;
 #[cfg(test)]
+mod solving;
+#[cfg(test)]
 mod std_streams;
 #[cfg(test)]
 mod steps;

@@ -1,12 +1,16 @@
 ghost use Rattle.std.specs.Prelude.{◌≡◌, Bool, true, false};
 
 use crate::devices::{Bytes, Held};
-use niss_shell::{Source, run_in};
+use niss_shell::{Meter, Source, run_in};
 use std::alloc::{AllocError, Allocator, Global};
 use std::process::Abort;
 
 /// What is told of wrong words.
 pub const USAGE: &str = "usage: nissy COMMAND [ARGUMENTS]\n";
+
+/// What `steps` writes.
+pub const STEPS: &str =
+    "eofb\neorl\neoud\ndrud-eofb\ndrrl-eofb\ndrud-eorl\ndrfb-eorl\ndrrl-eoud\ndrfb-eoud\n";
 
 /// What is told of an input above the limit.
 pub const TOO_LONG: &[u8] = b"nissy: input longer than 16777216 bytes\n";
@@ -54,8 +58,8 @@ impl<'a> Outcome<'a> {
         }
     }
 
-    /// Runs the words over these devices, with memory of `heap`.
-    pub fn check<A: Allocator, R: Source>(
+    /// Runs the words over these devices, with memory of `heap`, and answers the looks at positions.
+    pub fn check<A: Allocator + Copy, R: Source>(
         self,
         rt: &impl Abort,
         heap: A,
@@ -63,20 +67,22 @@ impl<'a> Outcome<'a> {
         input: &mut R,
         out: &mut Held,
         err: &mut Held,
-    )
+    ) -> u128
         requires reads { (R.state input.old).has_failed ≡ false }
         requires goes_on { (R.state input.old).has_ended ≡ false }
         requires write_works { out.old.write_failed ≡ false }
         requires flush_works { out.old.flush_failed ≡ false }
     {
-        let status = run_in(heap, words, input, out, err);
+        let mut looks = Meter::new();
+        let status = run_in(heap, words, input, out, err, &mut looks);
         assert_eq!(rt; out.bytes.as_slice(), self.output);
         assert_eq!(rt; err.bytes.as_slice(), self.error);
         assert_eq!(rt; status, self.status);
+        looks.count()
     }
 
     /// Runs the words over this source and over targets that take all.
-    pub fn check_input<A: Allocator, R: Source>(
+    pub fn check_input<A: Allocator + Copy, R: Source>(
         self,
         rt: &impl Abort,
         alloc: Global,
@@ -126,8 +132,9 @@ impl<'a> Run<'a> {
         }
     }
 
-    /// Runs it over a source that gives few bytes in a read, and targets that take few in a write.
-    pub fn check(self, rt: &impl Abort, alloc: Global) -> Result<(), AllocError> {
+    /// Runs it over a source that gives few bytes in a read, and targets that take few in a write, and answers the looks
+    /// at positions.
+    pub fn check(self, rt: &impl Abort, alloc: Global) -> Result<u128, AllocError> {
         let words = words_of(alloc, self.words)?;
         let mut input = Bytes::new(self.input, 3);
         let mut out = Held::new(alloc, 5);
@@ -137,8 +144,8 @@ impl<'a> Run<'a> {
             error: self.error.as_bytes(),
             status: self.status,
         };
-        outcome.check(rt, alloc, &words, &mut input, &mut out, &mut err);
+        let looks = outcome.check(rt, alloc, &words, &mut input, &mut out, &mut err);
         assert_eq!(rt; out.flushes, 1);
-        Ok(())
+        Ok(looks)
     }
 }
