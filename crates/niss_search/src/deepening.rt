@@ -37,7 +37,6 @@ pub fn search<K: Sink, A: Allocator>(
         → OnErr result (StoppedIn K.took K.refused sink.old (solutions_of tables.now e path.old.limit) sink.new) }
     ensures looks { (e : Place → Place) → HasPosition tables.now e position.now
         → OnOk result (meter.new ≡ meter.old + all_looks_of tables.now e path.old.limit) }
-    ensures rises { meter.old ≤ meter.new }
     ensures looks_at_most { (e : Place → Place) → HasPosition tables.now e position.now
         → meter.new ≤ meter.old + all_looks_of tables.now e path.old.limit }
     ensures rises { meter.old ≤ meter.new }

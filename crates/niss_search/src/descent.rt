@@ -31,7 +31,6 @@ pub(crate) fn visit<K: Sink, A: Allocator>(
     ensures ok { OnOk result (WentThrough K.took sink.old (found_below tables.now position.now path.old.turns left) sink.new) }
     ensures err { OnErr result (StoppedIn K.took K.refused sink.old (found_below tables.now position.now path.old.turns left) sink.new) }
     ensures looks { OnOk result (meter.new ≡ meter.old + looks_below tables.now position.now path.old.turns left) }
-    ensures rises { meter.old ≤ meter.new }
     ensures looks_at_most { meter.new ≤ meter.old + looks_below tables.now position.now path.old.turns left }
     ensures rises { meter.old ≤ meter.new }
 {
@@ -99,7 +98,6 @@ fn extend_by<K: Sink, A: Allocator>(
     ensures ok { OnOk result (WentThrough K.took sink.old (found_after tables.now position.now path.old.turns left turn) sink.new) }
     ensures err { OnErr result (StoppedIn K.took K.refused sink.old (found_after tables.now position.now path.old.turns left turn) sink.new) }
     ensures looks { OnOk result (meter.new ≡ meter.old + looks_after tables.now position.now path.old.turns left turn) }
-    ensures rises { meter.old ≤ meter.new }
     ensures looks_at_most { meter.new ≤ meter.old + looks_after tables.now position.now path.old.turns left turn }
     ensures rises { meter.old ≤ meter.new }
 {
