@@ -10,8 +10,8 @@ use Rattle.std.proofs.lemmas.Str.Parse.{IsDigitsTest, IsNumeralModel, numerals_b
 use Rattle.niss_cube.specs.Steps.{name_of, steps}
 use Rattle.niss_cube.specs.declared.step.Step.{Step}
 use Rattle.niss_cube.specs.declared.step.Step.TheVariants.{Eofb, Eorl, Eoud, DrudEofb, DrrlEofb, DrudEorl, DrfbEorl, DrrlEoud, DrfbEoud}
-use Rattle.niss_shell.specs.Words.{number_of, step_named, search_with, search_words}
-use Rattle.niss_shell.specs.declared.command.LineCommand.{LineCommand}
+use Rattle.niss_shell.specs.Words.{number_of, step_named, search_for, search_words}
+use Rattle.niss_shell.specs.declared.command.Report.{Report}
 use Rattle.niss_shell.specs.declared.command.UsageFault.TheVariants.{WrongCount}
 
 -- numbers
@@ -75,20 +75,20 @@ number_too_large E most word (Err e) digits small parsed large =
 -- names of steps
 
 -- a command that searches, by its words
-pub searched : {S : Type 0} (bytes : S → List ℕ) (command : Step → ℕ → LineCommand) (words : List S) (step most : S) → 2 ≤ length words
+pub searched : {S : Type 0} (bytes : S → List ℕ) (report : Report) (words : List S) (step most : S) → 2 ≤ length words
     → step ≡ get_or words 0 step → most ≡ get_or words 1 most
-    → search_words command (map bytes words) ≡ search_with command (step_named (bytes step)) (number_of 20 (bytes most)) (map bytes (drop 2 words))
-searched bytes command [] step most h e f = absurd (omega arith)
-searched bytes command (a ∷ []) step most h e f = absurd (omega arith)
-searched bytes command (a ∷ b ∷ rest) step most h e f =
-    ap (λ v. search_with command (step_named (bytes v)) (number_of 20 (bytes b)) (map bytes rest)) (sym e)
-    ∙ ap (λ v. search_with command (step_named (bytes step)) (number_of 20 (bytes v)) (map bytes rest)) (sym f)
+    → search_words report (map bytes words) ≡ search_for report (step_named (bytes step)) (number_of 20 (bytes most)) (map bytes (drop 2 words))
+searched bytes report [] step most h e f = absurd (omega arith)
+searched bytes report (a ∷ []) step most h e f = absurd (omega arith)
+searched bytes report (a ∷ b ∷ rest) step most h e f =
+    ap (λ v. search_for report (step_named (bytes v)) (number_of 20 (bytes b)) (map bytes rest)) (sym e)
+    ∙ ap (λ v. search_for report (step_named (bytes step)) (number_of 20 (bytes v)) (map bytes rest)) (sym f)
 
-pub too_few : {S : Type 0} (bytes : S → List ℕ) (command : Step → ℕ → LineCommand) (words : List S) → length words < 2
-    → search_words command (map bytes words) ≡ Err WrongCount
-too_few bytes command [] h = refl
-too_few bytes command (a ∷ []) h = refl
-too_few bytes command (a ∷ b ∷ rest) h = absurd (omega arith)
+pub too_few : {S : Type 0} (bytes : S → List ℕ) (report : Report) (words : List S) → length words < 2
+    → search_words report (map bytes words) ≡ Err WrongCount
+too_few bytes report [] h = refl
+too_few bytes report (a ∷ []) h = refl
+too_few bytes report (a ∷ b ∷ rest) h = absurd (omega arith)
 
 own_name : (step : Step) → step_named (name_of step) ≡ Some step
 own_name Eofb = refl

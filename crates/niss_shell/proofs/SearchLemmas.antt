@@ -33,11 +33,9 @@ search_keeps name took refused keeps last ps a b (Err x) h k = stop_keeps name t
 
 -- the lines of the paths are written one behind the other
 
-
 module _ {K : Type 0} (target : K → TargetState) (line : List Turn → List ℕ) (took refused : K → List Turn → K → Type 0)
     (wrote : (a : K) (p : List Turn) (b : K) → took a p b → (has_fault (target b) ≡ has_fault (target a)) × Appended (target a) (target b) (line p))
     (cut : (a : K) (p : List Turn) (b : K) → refused a p b → WriteRefused (line p) (target a) (target b)) where
-
   walk_writes : (ps : List (List Turn)) (a b : K) → has_fault (target a) ≡ false → WentThrough took a ps b
       → (has_fault (target b) ≡ false) × Appended (target a) (target b) (flat_map line ps)
   walk_writes [] a b works h = (

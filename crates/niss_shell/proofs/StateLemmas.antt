@@ -115,14 +115,14 @@ pub looks_for-front : (f : LineAnswers) (xs ys : List (List ℕ)) → looks_for 
 looks_for-front f xs ys =
     let p = answered_lines-front f.answer_of xs ys in
     let e : looks_for f (xs ++ ys) ≡ looks_for f xs + sum_by f.looks_of p.0 =
-        ap (sum_by f.looks_of) (sym p.1) ∙ sum_by-append f.looks_of (answered_lines f.answer_of xs) p.0 in
+    ap (sum_by f.looks_of) (sym p.1) ∙ sum_by-append f.looks_of (answered_lines f.answer_of xs) p.0 in
     omega (arith, e)
 
 pub most_looks_for-front : (f : LineAnswers) (xs ys : List (List ℕ)) → most_looks_for f xs ≤ most_looks_for f (xs ++ ys)
 most_looks_for-front f xs ys =
     let p = answered_lines-front f.answer_of xs ys in
     let e : most_looks_for f (xs ++ ys) ≡ most_looks_for f xs + f.most_looks * length p.0 =
-        ap (λ v. f.most_looks * length v) (sym p.1)
-        ∙ ap (λ v. f.most_looks * v) (length-append (answered_lines f.answer_of xs) p.0)
-        ∙ times_sum f.most_looks (length (answered_lines f.answer_of xs)) (length p.0) in
+    ap (λ v. f.most_looks * length v) (sym p.1)
+    ∙ ap (λ v. f.most_looks * v) (length-append (answered_lines f.answer_of xs) p.0)
+    ∙ times_sum f.most_looks (length (answered_lines f.answer_of xs)) (length p.0) in
     omega (arith, e)

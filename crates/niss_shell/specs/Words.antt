@@ -9,7 +9,9 @@ use Rattle.niss_shell.specs.Lines.{line_feed, space}
 use Rattle.niss_shell.specs.declared.command.UsageFault.{UsageFault}
 use Rattle.niss_shell.specs.declared.command.UsageFault.TheVariants.{NoCommand, UnknownCommand, WrongCount, BadNumber, UnknownStep}
 use Rattle.niss_shell.specs.declared.command.LineCommand.{LineCommand}
-use Rattle.niss_shell.specs.declared.command.LineCommand.TheVariants.{Rewrite, Solve, Count}
+use Rattle.niss_shell.specs.declared.command.LineCommand.TheVariants.{Rewrite, Search}
+use Rattle.niss_shell.specs.declared.command.Report.{Report}
+use Rattle.niss_shell.specs.declared.command.Report.TheVariants.{Solutions, Counts}
 use Rattle.niss_shell.specs.declared.command.Rewriting.TheVariants.{Invert, Unniss, Cleanup, Print}
 use Rattle.niss_shell.specs.declared.command.Command.{Command}
 use Rattle.niss_shell.specs.declared.command.Command.TheVariants as command
@@ -45,17 +47,17 @@ abbrev pub without_words : Request → List (List ℕ) → Result Request UsageF
 without_words request [] = Ok request
 without_words request (word ∷ words) = Err WrongCount
 
--- a command on a step, with the greatest number of turns
-abbrev pub search_with : (Step → ℕ → LineCommand) → Option Step → Option ℕ → List (List ℕ) → Result Request UsageFault
-search_with command None most rest = Err UnknownStep
-search_with command (Some step) None rest = Err BadNumber
-search_with command (Some step) (Some n) rest = Ok (OnLines (command step n) rest)
+-- a search for a step, with the greatest number of turns
+abbrev pub search_for : Report → Option Step → Option ℕ → List (List ℕ) → Result Request UsageFault
+search_for report None most rest = Err UnknownStep
+search_for report (Some step) None rest = Err BadNumber
+search_for report (Some step) (Some n) rest = Ok (OnLines (Search report step n) rest)
 
 -- the same from its words: the step, the number, and the words that are the input
-abbrev pub search_words : (Step → ℕ → LineCommand) → List (List ℕ) → Result Request UsageFault
-search_words command [] = Err WrongCount
-search_words command (step ∷ []) = Err WrongCount
-search_words command (step ∷ most ∷ rest) = search_with command (step_named step) (number_of 20 most) rest
+abbrev pub search_words : Report → List (List ℕ) → Result Request UsageFault
+search_words report [] = Err WrongCount
+search_words report (step ∷ []) = Err WrongCount
+search_words report (step ∷ most ∷ rest) = search_for report (step_named step) (number_of 20 most) rest
 
 -- the most turns of a scramble, the most scrambles, and the greatest state and stream of a generator
 abbrev pub most_turns : ℕ
@@ -90,8 +92,8 @@ request_named name rest =
     else if bytes_eq name (codes "unniss") then Ok (OnLines (Rewrite Unniss) rest)
     else if bytes_eq name (codes "cleanup") then Ok (OnLines (Rewrite Cleanup) rest)
     else if bytes_eq name (codes "print") then Ok (OnLines (Rewrite Print) rest)
-    else if bytes_eq name (codes "solve") then search_words Solve rest
-    else if bytes_eq name (codes "count") then search_words Count rest
+    else if bytes_eq name (codes "solve") then search_words Solutions rest
+    else if bytes_eq name (codes "count") then search_words Counts rest
     else if bytes_eq name (codes "steps") then without_words ListSteps rest
     else if bytes_eq name (codes "scramble") then scramble_words rest
     else Err UnknownCommand
@@ -107,8 +109,8 @@ requested (command.Invert rest) = OnLines (Rewrite Invert) (map string_bytes res
 requested (command.Unniss rest) = OnLines (Rewrite Unniss) (map string_bytes rest.now)
 requested (command.Cleanup rest) = OnLines (Rewrite Cleanup) (map string_bytes rest.now)
 requested (command.Print rest) = OnLines (Rewrite Print) (map string_bytes rest.now)
-requested (command.Solve step n rest) = OnLines (Solve step n) (map string_bytes rest.now)
-requested (command.Count step n rest) = OnLines (Count step n) (map string_bytes rest.now)
+requested (command.Solve step n rest) = OnLines (Search Solutions step n) (map string_bytes rest.now)
+requested (command.Count step n rest) = OnLines (Search Counts step n) (map string_bytes rest.now)
 requested command.Steps = ListSteps
 requested (command.Scramble state stream turns count) = DrawScrambles state stream turns count
 
@@ -137,8 +139,7 @@ reads_source (Ok (DrawScrambles state stream turns count)) = false
 -- The command searches, and has tables of its step.
 abbrev pub has_step : LineCommand → Bool
 has_step (Rewrite rewriting) = false
-has_step (Solve step n) = true
-has_step (Count step n) = true
+has_step (Search report step n) = true
 
 -- The request asks for memory: for the tables of a step, and for the input, where words of at most the limit give it.
 abbrev pub takes_memory : Result Request UsageFault → Bool

@@ -1,6 +1,6 @@
-ghost use Rattle.std.specs.Prelude.{◌≡◌, ℕ, Ok, Err, IfSome, IfOk, MatchOption, MatchResult, map, string_bytes};
-ghost use Rattle.niss_shell.specs.declared.command.LineCommand.{LineCommand};
-ghost use Rattle.niss_cube.specs.declared.step.Step.{Step};
+ghost use Rattle.std.specs.Prelude.{◌≡◌, Ok, Err, IfSome, IfOk, MatchOption, MatchResult, map, string_bytes};
+ghost use Rattle.niss_shell.specs.declared.command.LineCommand.TheVariants.{Search};
+ghost use Rattle.niss_shell.specs.declared.command.Report.{Report};
 ghost use Rattle.niss_shell.specs.Words.{OnLines, ListSteps, number_of, most_state, most_turns, most_scrambles, search_words, scramble_with, scramble_words, without_words, request_of, requested, request_for, IsInRange};
 
 use crate::number::{limit_of, number_of};
@@ -37,12 +37,20 @@ pub enum Rewriting {
     Print,
 }
 
+/// What is told of a search.
+#[derive(Clone, Copy, Debug, PartialEq, Eq)]
+pub enum Report {
+    /// Each solution.
+    Solutions,
+    /// The length of the solutions, how many they are, and how often the search looked at a position.
+    Counts,
+}
+
 /// A command on each line of the input.
 #[derive(Clone, Copy, Debug)]
 pub enum LineCommand {
     Rewrite(Rewriting),
-    Solve(Step, Limit),
-    Count(Step, Limit),
+    Search(Report, Step, Limit),
 }
 
 /// A command. The words that it lends are the input; where there are none, the input comes from the source.
@@ -97,8 +105,12 @@ impl<'a> Command<'a> {
             Command::Unniss(rest) => Task::Lines(LineCommand::Rewrite(Rewriting::Unniss), rest),
             Command::Cleanup(rest) => Task::Lines(LineCommand::Rewrite(Rewriting::Cleanup), rest),
             Command::Print(rest) => Task::Lines(LineCommand::Rewrite(Rewriting::Print), rest),
-            Command::Solve(step, limit, rest) => Task::Lines(LineCommand::Solve(step, limit), rest),
-            Command::Count(step, limit, rest) => Task::Lines(LineCommand::Count(step, limit), rest),
+            Command::Solve(step, limit, rest) => {
+                Task::Lines(LineCommand::Search(Report::Solutions, step, limit), rest)
+            }
+            Command::Count(step, limit, rest) => {
+                Task::Lines(LineCommand::Search(Report::Counts, step, limit), rest)
+            }
             Command::Steps => Task::Steps,
             Command::Scramble {
                 state,
@@ -117,10 +129,10 @@ impl<'a> Command<'a> {
 
 /// The step, the limit and the words that are the input, of a command that searches.
 fn parse_search(words: &[String]) -> Result<(Step, Limit, &[String]), UsageFault>
-    ensures { (command : Step → ℕ → LineCommand) → MatchResult result
-        (λ parts. search_words command (map string_bytes words.now)
-        ≡ Ok (OnLines (command parts.0 parts.1) (map string_bytes parts.2.now)))
-        (λ fault. search_words command (map string_bytes words.now) ≡ Err fault) }
+    ensures { (report : Report) → MatchResult result
+        (λ parts. search_words report (map string_bytes words.now)
+        ≡ Ok (OnLines (Search report parts.0 parts.1) (map string_bytes parts.2.now)))
+        (λ fault. search_words report (map string_bytes words.now) ≡ Err fault) }
 {
     let [step, most, rest @ ..] = words else {
         return Err(UsageFault::WrongCount);

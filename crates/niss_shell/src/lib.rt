@@ -32,6 +32,6 @@ mod writing;
 pub use command::{Command, UsageFault, parse_words};
 pub use device::{DeviceFault, Source, Target};
 pub use laws::lines_are_cut;
-pub use shell::{run, run_in};
 pub use niss_search::Meter;
+pub use shell::{run, run_in};
 pub use streams::{FromReader, ToWriter};

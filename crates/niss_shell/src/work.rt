@@ -5,10 +5,10 @@ ghost use Rattle.niss_shell.specs.Engine.{AnswersLine, answer_state, stop_if_ref
 ghost use Rattle.niss_shell.specs.Output.{answer_to_moves, looks_at_moves, most_line_looks};
 ghost use Rattle.niss_shell.specs.Words.{has_step};
 ghost use Rattle.niss_shell.specs.Work.{command_of};
-ghost use Rattle.niss_shell.specs.declared.command.LineCommand.TheVariants.{Solve, Count};
+ghost use Rattle.niss_shell.specs.declared.command.LineCommand.TheVariants.{Search};
 
 use crate::answer::write_rewritten;
-use crate::command::{LineCommand, Rewriting};
+use crate::command::{LineCommand, Report, Rewriting};
 use crate::count::write_count;
 use crate::device::{DeviceFault, Target};
 use crate::line_cube::start_position;
@@ -24,8 +24,7 @@ use std::alloc::Allocator;
 #[derive(Drop)]
 pub enum Work<A: Allocator> {
     Rewrite(Rewriting),
-    Solve(Tables<A>, Limit),
-    Count(Tables<A>, Limit),
+    Search(Report, Tables<A>, Limit),
 }
 
 impl<A: Allocator> Work<A> {
@@ -40,13 +39,9 @@ impl<A: Allocator> Work<A> {
         let mut fill = Meter::new();
         match command {
             LineCommand::Rewrite(rewriting) => Ok(Work::Rewrite(rewriting)),
-            LineCommand::Solve(step, limit) => {
+            LineCommand::Search(report, step, limit) => {
                 let tables = Tables::build_in(alloc, step, &mut fill)?;
-                Ok(Work::Solve(tables, limit))
-            }
-            LineCommand::Count(step, limit) => {
-                let tables = Tables::build_in(alloc, step, &mut fill)?;
-                Ok(Work::Count(tables, limit))
+                Ok(Work::Search(report, tables, limit))
             }
         }
     }
@@ -69,8 +64,9 @@ impl<A: Allocator> Work<A> {
     {
         match self {
             Work::Rewrite(rewriting) => or_cannot_write(write_rewritten(*rewriting, niss, out)),
-            Work::Solve(tables, limit) => answer_solve(tables, *limit, niss, line, out, looks),
-            Work::Count(tables, limit) => answer_count(tables, *limit, niss, line, out, looks),
+            Work::Search(report, tables, limit) => {
+                answer_search(*report, tables, *limit, niss, line, out, looks)
+            }
         }
     }
 }
@@ -84,8 +80,9 @@ fn or_cannot_write(written: Result<(), DeviceFault>) -> Result<(), Stop>
     }
 }
 
-/// Writes the answer of `solve`, where the step may start on the line's cube.
-fn answer_solve<A: Allocator, W: Target>(
+/// Writes what is told of the search from the line's cube, where the step may start there.
+fn answer_search<A: Allocator, W: Target>(
+    report: Report,
     tables: &Tables<A>,
     limit: Limit,
     niss: &Niss,
@@ -95,8 +92,9 @@ fn answer_solve<A: Allocator, W: Target>(
 ) -> Result<(), Stop>
     requires works { has_fault (W.state out.old) ≡ false }
     requires meter { looks.old ≤ 2 ^ 127 }
-    ensures answers { AnswersLine (answer_to_moves (Solve tables.now limit) niss.now)
-        (looks_at_moves (Solve tables.now limit) niss.now) (most_line_looks (Solve tables.now limit)) line result
+    ensures answers { AnswersLine (answer_to_moves (Search report tables.now limit) niss.now)
+        (looks_at_moves (Search report tables.now limit) niss.now)
+        (most_line_looks (Search report tables.now limit)) line result
         (answer_state (W.state out.old) looks.old) (answer_state (W.state out.new) looks.new) }
     ensures works { OnOk result (has_fault (W.state out.new) ≡ false) }
     ensures meter { looks.new ≤ looks.old + 2 ^ 93 }
@@ -104,38 +102,11 @@ fn answer_solve<A: Allocator, W: Target>(
     counts_and_bounds();
     let _at_most_20 = limit.get();
     let Some(position) = start_position(tables, niss) else {
-        return Err(Stop::Line {
-            line,
-            fault: LineFault::NoStart(tables.step()),
-        });
+        let fault = LineFault::NoStart(tables.step());
+        return Err(Stop::Line { line, fault });
     };
-    or_cannot_write(write_solutions(tables, &position, limit, out, looks))
-}
-
-/// Writes the answer of `count`, where the step may start on the line's cube.
-fn answer_count<A: Allocator, W: Target>(
-    tables: &Tables<A>,
-    limit: Limit,
-    niss: &Niss,
-    line: u32,
-    out: &mut W,
-    looks: &mut Meter,
-) -> Result<(), Stop>
-    requires works { has_fault (W.state out.old) ≡ false }
-    requires meter { looks.old ≤ 2 ^ 127 }
-    ensures answers { AnswersLine (answer_to_moves (Count tables.now limit) niss.now)
-        (looks_at_moves (Count tables.now limit) niss.now) (most_line_looks (Count tables.now limit)) line result
-        (answer_state (W.state out.old) looks.old) (answer_state (W.state out.new) looks.new) }
-    ensures works { OnOk result (has_fault (W.state out.new) ≡ false) }
-    ensures meter { looks.new ≤ looks.old + 2 ^ 93 }
-{
-    counts_and_bounds();
-    let _at_most_20 = limit.get();
-    let Some(position) = start_position(tables, niss) else {
-        return Err(Stop::Line {
-            line,
-            fault: LineFault::NoStart(tables.step()),
-        });
-    };
-    or_cannot_write(write_count(tables, &position, limit, out, looks))
+    or_cannot_write(match report {
+        Report::Solutions => write_solutions(tables, &position, limit, out, looks),
+        Report::Counts => write_count(tables, &position, limit, out, looks),
+    })
 }
