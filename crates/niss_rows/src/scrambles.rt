@@ -6,6 +6,8 @@ use std::test::Fail;
 #[test]
 fn scramble(rt: HostRuntime) -> Result<(), Fail> {
     const GREATEST: &str = "18446744073709551615";
+    const GREATEST_SEED: &str =
+        "U' L2 F2 D' L D' B2 R D2 R2 F' U2\nL F' U2 L2 D' B2 L2 U D2 B D2 B\n";
     let runs = [
         Run::good(
             &["scramble", "42", "54", "6", "1"],
@@ -26,6 +28,12 @@ fn scramble(rt: HostRuntime) -> Result<(), Fail> {
             "L' D' F'\n",
         ),
         Run::good(&["scramble", GREATEST, GREATEST, "256", "0"], b"", ""),
+        // by a program of our own in another language, after PCG's C code
+        Run::good(
+            &["scramble", GREATEST, GREATEST, "12", "2"],
+            b"",
+            GREATEST_SEED,
+        ),
     ];
     for case in runs {
         case.check(&rt, rt.alloc())?;
