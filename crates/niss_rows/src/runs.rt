@@ -1,7 +1,7 @@
 ghost use Rattle.std.specs.Prelude.{◌≡◌, Bool, true, false};
 
 use crate::devices::{Bytes, Held};
-use niss_shell::{Meter, Source, run_in};
+use niss_shell::{Meter, Source, run, run_in};
 use std::alloc::{AllocError, Allocator, Global};
 use std::process::Abort;
 
@@ -58,7 +58,14 @@ impl<'a> Outcome<'a> {
         }
     }
 
-    /// Runs the words over these devices, with memory of `heap`, and answers the looks at positions.
+    /// Compares it with what a run answered and what its targets hold.
+    fn compare(self, rt: &impl Abort, status: u8, out: &Held, err: &Held) {
+        assert_eq!(rt; out.bytes.as_slice(), self.output);
+        assert_eq!(rt; err.bytes.as_slice(), self.error);
+        assert_eq!(rt; status, self.status);
+    }
+
+    /// Runs the words over these devices, with memory of `heap`.
     pub fn check<A: Allocator + Copy, R: Source>(
         self,
         rt: &impl Abort,
@@ -67,18 +74,14 @@ impl<'a> Outcome<'a> {
         input: &mut R,
         out: &mut Held,
         err: &mut Held,
-    ) -> u128
+    )
         requires reads { (R.state input.old).has_failed ≡ false }
         requires goes_on { (R.state input.old).has_ended ≡ false }
         requires write_works { out.old.write_failed ≡ false }
         requires flush_works { out.old.flush_failed ≡ false }
     {
-        let mut looks = Meter::new();
-        let status = run_in(heap, words, input, out, err, &mut looks);
-        assert_eq!(rt; out.bytes.as_slice(), self.output);
-        assert_eq!(rt; err.bytes.as_slice(), self.error);
-        assert_eq!(rt; status, self.status);
-        looks.count()
+        let status = run_in(heap, words, input, out, err, &mut Meter::new());
+        self.compare(rt, status, out, err);
     }
 
     /// Runs the words over this source and over targets that take all.
@@ -139,13 +142,15 @@ impl<'a> Run<'a> {
         let mut input = Bytes::new(self.input, 3);
         let mut out = Held::new(alloc, 5);
         let mut err = Held::new(alloc, 1);
+        let mut looks = Meter::new();
+        let status = run(alloc, &words, &mut input, &mut out, &mut err, &mut looks);
         let outcome = Outcome {
             output: self.output.as_bytes(),
             error: self.error.as_bytes(),
             status: self.status,
         };
-        let looks = outcome.check(rt, alloc, &words, &mut input, &mut out, &mut err);
+        outcome.compare(rt, status, &out, &err);
         assert_eq!(rt; out.flushes, 1);
-        Ok(looks)
+        Ok(looks.count())
     }
 }

@@ -89,38 +89,71 @@ fn check_rows(rt: &impl Abort, alloc: Global, step: Step, rows: &[Row]) {
 }
 
 /// A search that finds something.
-const fn found(moves: &'static str, limit: u8, paths: &'static [&'static str], length: u8, looks: u128) -> Row {
-    Row { moves, limit, paths, length: Some(length), looks }
+const fn found(
+    moves: &'static str,
+    limit: u8,
+    paths: &'static [&'static str],
+    length: u8,
+    looks: u128,
+) -> Row {
+    Row {
+        moves,
+        limit,
+        paths,
+        length: Some(length),
+        looks,
+    }
 }
 
 /// A search that finds nothing: it looks at each canonical sequence of each length up to the limit, once in each deepening.
 const fn nothing(moves: &'static str, limit: u8, looks: u128) -> Row {
-    Row { moves, limit, paths: &[], length: None, looks }
+    Row {
+        moves,
+        limit,
+        paths: &[],
+        length: None,
+        looks,
+    }
 }
 
 #[test]
 fn edge_orientation(rt: HostRuntime) {
-    check_rows(&rt, rt.alloc(), Step::Eofb, &[
-        found("F", 7, &["F", "F'"], 1, 20),
-        found("F B", 5, &["F B", "F B'", "F' B", "F' B'"], 2, 282),
-        found("", 20, &[""], 0, 1),
-        nothing("F B", 1, 20),
-        nothing("F", 0, 1),
-        // four turns are needed
-        nothing("F R U B", 2, 282),
-        nothing("F R U B", 3, 3784),
-    ]);
+    check_rows(
+        &rt,
+        rt.alloc(),
+        Step::Eofb,
+        &[
+            found("F", 7, &["F", "F'"], 1, 20),
+            found("F B", 5, &["F B", "F B'", "F' B", "F' B'"], 2, 282),
+            found("", 20, &[""], 0, 1),
+            nothing("F B", 1, 20),
+            nothing("F", 0, 1),
+            // four turns are needed
+            nothing("F R U B", 2, 282),
+            nothing("F R U B", 3, 3784),
+        ],
+    );
 }
 
 #[test]
 fn domino_reduction(rt: HostRuntime) {
-    check_rows(&rt, rt.alloc(), Step::DrudEofb, &[
-        found("R U", 5, &["U' R", "U' R'"], 2, 170),
-        found("R", 5, &["R", "R'"], 1, 16),
-        // four turns are needed
-        nothing("R U L D", 3, 1692),
-    ]);
-    check_rows(&rt, rt.alloc(), Step::DrrlEofb, &[found("R", 5, &[""], 0, 1)]);
+    check_rows(
+        &rt,
+        rt.alloc(),
+        Step::DrudEofb,
+        &[
+            found("R U", 5, &["U' R", "U' R'"], 2, 170),
+            found("R", 5, &["R", "R'"], 1, 16),
+            // four turns are needed
+            nothing("R U L D", 3, 1692),
+        ],
+    );
+    check_rows(
+        &rt,
+        rt.alloc(),
+        Step::DrrlEofb,
+        &[found("R", 5, &[""], 0, 1)],
+    );
 }
 
 #[test]

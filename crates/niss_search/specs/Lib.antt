@@ -7,4 +7,5 @@ pub mod Cubes
 pub mod Delivery
 pub mod Laws
 pub mod Descent
+pub mod Followers
 pub mod Draw

@@ -1,6 +1,7 @@
 //! What a search knows of its step: where a turn leads, and what a look at a position answers.
 mod meter;
 mod position;
+mod step_turns;
 
 use crate::laws::positions_tell;
 pub use meter::Meter;
@@ -8,11 +9,12 @@ use niss_cube::{Cube, Goal, OutOfMemory, Step, Turn, TurnTables};
 pub use position::Position;
 use std::alloc::{Allocator, Global};
 use std::marker::Model;
+use step_turns::StepTurns;
 
 /// What a search needs of a step.
 #[derive(Drop)]
 pub struct Tables<A: Allocator = Global> {
-    step: Step,
+    turns: StepTurns,
     turn_tables: TurnTables<A>,
 }
 
@@ -21,7 +23,7 @@ impl<A: Allocator> Model for Tables<A> {
 
     ghost Value = { steps.Step };
 
-    ghost view = { λ t. t.step };
+    ghost view = { λ t. t.turns };
 }
 
 impl Tables {
@@ -39,7 +41,8 @@ impl Tables {
 }
 
 impl<A: Allocator> Tables<A> {
-    ghost use Rattle.std.specs.Prelude.{◌≡◌, ◌+◌, ◌<◌, ◌≤◌, ◌^◌, ◌↔◌, ◌∷◌, [], IsTrue, Contains, IfOk};
+    ghost use Rattle.std.specs.Prelude.{◌≡◌, ◌+◌, ◌<◌, ◌≤◌, ◌^◌, ◌↔◌, ◌∷◌, [], IsTrue, Contains, IfOk, filter};
+    ghost use Rattle.niss_moves.specs.Canonical.{may_follow};
     ghost use Rattle.niss_moves.specs.Places.{Place, SameMap};
     ghost use Rattle.niss_moves.specs.Effects.{turned};
     ghost use Rattle.niss_cube.specs.Map.{map_of};
@@ -56,14 +59,24 @@ impl<A: Allocator> Tables<A> {
         ensures meter { meter.new ≡ meter.old }
     {
         let turn_tables = TurnTables::build_in(alloc)?;
-        Ok(Tables { step, turn_tables })
+        Ok(Tables {
+            turns: StepTurns::of(step),
+            turn_tables,
+        })
     }
 
     /// The step.
     pub fn step(&self) -> Step
         ensures { result ≡ self.now }
     {
-        self.step
+        self.turns.step()
+    }
+
+    /// The step's turns that may stand directly after the last one, in turn order.
+    pub(crate) fn turns_after(&self, last: Option<Turn>) -> &[Turn]
+        ensures { result.now ≡ filter (may_follow last) (turns_of self.now) }
+    {
+        self.turns.after(last)
     }
 
     /// The position of a cube on which the step may start.
@@ -109,6 +122,6 @@ impl<A: Allocator> Tables<A> {
     fn goal(&self) -> Goal
         ensures { goals_of self.now ≡ result ∷ [] }
     {
-        self.step.goals()[0]
+        self.step().goals()[0]
     }
 }

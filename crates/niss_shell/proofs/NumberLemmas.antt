@@ -9,25 +9,16 @@ use Rattle.std.proofs.lemmas.Slice.Eq.{bytes_eq-Decides}
 use Rattle.std.proofs.lemmas.Str.Parse.{IsDigitsTest, IsNumeralModel, numerals_by_value, parse_digits}
 use Rattle.niss_cube.specs.Steps.{name_of, steps}
 use Rattle.niss_cube.specs.declared.step.Step.{Step}
-use Rattle.niss_cube.specs.declared.step.Step.TheVariants.{Eofb, Eorl, Eoud, DrudEofb, DrrlEofb, DrudEorl, DrfbEorl, DrrlEoud, DrfbEoud}
 use Rattle.niss_shell.specs.Words.{number_of, step_named, search_for, search_words}
 use Rattle.niss_shell.specs.declared.command.Report.{Report}
-use Rattle.niss_shell.specs.declared.command.UsageFault.TheVariants.{WrongCount}
 
 -- numbers
-
-are_digits : List ℕ → Type 0
-are_digits ds = list_all is_ascii_digit ds ≡ true
 
 digits_test : IsDigitsTest (λ ds. list_all is_ascii_digit ds ≡ true)
 digits_test = search rules
 
 digits_model : IsNumeralModel (λ ds. list_all is_ascii_digit ds ≡ true) (digits_value 10)
 digits_model = numerals_by_value (λ ds. list_all is_ascii_digit ds ≡ true) digits_test
-
--- a word that has no digits alone
-pub no_digits : (most : ℕ) (word : List ℕ) → list_all is_ascii_digit word ≡ false → None ≡ number_of most word
-no_digits most word e = sym (ap (λ b. if b && nat_lt 0 (length word) && nat_le (digits_value 10 word) most then Some (digits_value 10 word) else None) e)
 
 number_by : (most n v : ℕ) (word : List ℕ) (a b c : Bool) → n ≡ v → a ≡ true → b ≡ true → c ≡ true → Some n ≡ (if a && b && c then Some v else None)
 number_by most n v word true true true e f g h = ap Some e
@@ -72,7 +63,7 @@ number_too_large E most word (Err e) digits small parsed large =
     no_number_by (digits_value 10 word) (list_all is_ascii_digit word) (nat_lt 0 (length word)) (nat_le (digits_value 10 word) most)
     (λ some fits. p (below_tested 0 (length word) some, omega (arith, small, most_tested (digits_value 10 word) most fits)))
 
--- names of steps
+-- steps
 
 -- a command that searches, by its words
 pub searched : {S : Type 0} (bytes : S → List ℕ) (report : Report) (words : List S) (step most : S) → 2 ≤ length words
@@ -83,26 +74,6 @@ searched bytes report (a ∷ []) step most h e f = absurd (omega arith)
 searched bytes report (a ∷ b ∷ rest) step most h e f =
     ap (λ v. search_for report (step_named (bytes v)) (number_of 20 (bytes b)) (map bytes rest)) (sym e)
     ∙ ap (λ v. search_for report (step_named (bytes step)) (number_of 20 (bytes v)) (map bytes rest)) (sym f)
-
-pub too_few : {S : Type 0} (bytes : S → List ℕ) (report : Report) (words : List S) → length words < 2
-    → search_words report (map bytes words) ≡ Err WrongCount
-too_few bytes report [] h = refl
-too_few bytes report (a ∷ []) h = refl
-too_few bytes report (a ∷ b ∷ rest) h = absurd (omega arith)
-
-own_name : (step : Step) → step_named (name_of step) ≡ Some step
-own_name Eofb = refl
-own_name Eorl = refl
-own_name Eoud = refl
-own_name DrudEofb = refl
-own_name DrrlEofb = refl
-own_name DrudEorl = refl
-own_name DrfbEorl = refl
-own_name DrrlEoud = refl
-own_name DrfbEoud = refl
-
-pub step_known : (step : Step) (name : List ℕ) → name_of step ≡ name → step_named name ≡ Some step
-step_known step name e = subst (λ n. step_named n ≡ Some step) e (own_name step)
 
 find_none : (name : List ℕ) (candidates : List Step) → ((step : Step) → name_of step ≢ name) → find (λ step. bytes_eq name (name_of step)) candidates ≡ None
 find_none name [] other = refl
