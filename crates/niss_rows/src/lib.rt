@@ -13,6 +13,8 @@ mod device_faults;
 #[cfg(test)]
 mod devices;
 #[cfg(test)]
+mod draws;
+#[cfg(test)]
 mod limits;
 #[cfg(test)]
 mod memory;
@@ -24,6 +26,8 @@ mod rewriting;
 mod rotations;
 #[cfg(test)]
 mod runs;
+#[cfg(test)]
+mod scrambles;
 #[cfg(test)]
 mod searches;
 #[cfg(test)]

@@ -8,3 +8,4 @@ pub mod Delivery
 pub mod Laws
 pub mod Descent
 pub mod Followers
+pub mod Draw

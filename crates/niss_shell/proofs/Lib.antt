@@ -5,6 +5,7 @@ pub mod LinesLemmas
 pub mod FaceletLemmas
 pub mod StateLemmas
 pub mod EngineLemmas
+pub mod ScrambleLemmas
 pub mod AnswerLemmas
 pub mod SearchLemmas
 pub mod RunLemmas

@@ -2,8 +2,10 @@
 use Rattle.std.proofs.Common.{◌≡◌, ◌≢◌, ℕ, ◌+◌, ◌≤◌, ◌<◌, Bool, true, false, ◌||◌, not, if◌then◌else◌, Option, Some, None, Result, Ok, Err, List, [], ◌∷◌, length, refl, sym, ap, ◌∙◌, subst, append-nil, add-zero, arith}
 use Rattle.std.specs.Prelude.{OnOk, OnErr, nat_lt, nat_le, flat_map}
 use Rattle.std.proofs.lemmas.Grind.{common_steps}
+use Rattle.rand_pcg.specs.Lcg.{Lcg}
 use Rattle.niss_shell.specs.Device.{SourceState, TargetState, has_fault, Appended, StaysSilent, WriteRefused}
-use Rattle.niss_shell.specs.Words.{limit, Request, OnLines, ListSteps, request_of, reads_source, has_step, joined}
+use Rattle.niss_shell.specs.Scrambles.{generator_of, scramble_text}
+use Rattle.niss_shell.specs.Words.{limit, Request, OnLines, ListSteps, DrawScrambles, request_of, reads_source, has_step, joined}
 use Rattle.niss_shell.specs.Output.{Answer, Ending, More, End, Fail, ending, stop_at_end, line_answers, answer_lines, unsearched, step_line, stop_of, out_of, error_text, status_of}
 use Rattle.niss_cube.specs.Steps.{steps}
 use Rattle.niss_shell.specs.Engine.{AnswerState, answer_state, AnswersSource, Answers, Writes, Refuses, EndsUnflushed, RunsUnflushed, flushed_stop, FlushesLast}
@@ -149,6 +151,21 @@ runs_steps asked stop a h i e w = subst (λ x. RunsUnflushed x stop a a h i) (sy
   input = [];
   gave = gave_nothing a;
   ends = ends_of_answers (unsearched (flat_map step_line steps) Done) (Ok ListSteps) stop a a h i (λ n. cc n) w;
+  read_whole = λ d r. absurd (cc r);
+})
+
+-- scrambles
+
+pub runs_scrambles : (asked : Result Request UsageFault) (state stream turns count : ℕ) (rng : Lcg) (stop : Stop) (a : SourceState) (h i : AnswerState)
+    → asked ≡ Ok (DrawScrambles state stream turns count) → rng ≡ generator_of state stream
+    → Answers (unsearched (scramble_text turns count rng) Done) stop h i → RunsUnflushed asked stop a a h i
+runs_scrambles asked state stream turns count rng stop a h i e r w = subst (λ x. RunsUnflushed x stop a a h i) (sym e) (record {
+  input = [];
+  gave = gave_nothing a;
+  ends =
+      let text = scramble_text turns count (generator_of state stream) in
+      ends_of_answers (unsearched text Done) (Ok (DrawScrambles state stream turns count)) stop a a h i (λ n. cc n)
+      (subst (λ x. Answers (unsearched (scramble_text turns count x) Done) stop h i) r w);
   read_whole = λ d r. absurd (cc r);
 })
 

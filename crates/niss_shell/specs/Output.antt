@@ -14,7 +14,8 @@ use Rattle.niss_moves.specs.Reader.{read_line}
 use Rattle.niss_moves.specs.Text.{word, with_words}
 use Rattle.niss_search.specs.Cubes.{least_length_of, solutions_of, all_looks_of}
 use Rattle.niss_search.specs.Solutions.{look_bound}
-use Rattle.niss_shell.specs.Words.{limit, Request, OnLines, ListSteps, request_of, joined}
+use Rattle.niss_shell.specs.Scrambles.{generator_of, scramble_text}
+use Rattle.niss_shell.specs.Words.{limit, Request, OnLines, ListSteps, DrawScrambles, request_of, joined}
 use Rattle.niss_shell.specs.declared.command.UsageFault.{UsageFault}
 use Rattle.niss_shell.specs.declared.command.LineCommand.{LineCommand}
 use Rattle.niss_shell.specs.declared.command.LineCommand.TheVariants.{Rewrite, Search}
@@ -258,6 +259,8 @@ abbrev pub answer_request : Result Request UsageFault → List ℕ → Ending �
 answer_request (Err fault) input ended = unsearched [] Usage
 answer_request (Ok (OnLines command words)) input ended = answer_on_lines (line_answers command) words input ended
 answer_request (Ok ListSteps) input ended = unsearched (flat_map step_line steps) Done
+answer_request (Ok (DrawScrambles state stream turns count)) input ended =
+    unsearched (scramble_text turns count (generator_of state stream)) Done
 
 -- what a run with these words is to write and to answer, where the source gave this input and was left so
 abbrev pub out_of : List (List ℕ) → List ℕ → SourceState → Answer

@@ -1,5 +1,5 @@
 -- The words of a command line.
-use Rattle.std.specs.Prelude.{ℕ, nat_le, nat_lt, if◌then◌else◌, bytes_eq, codes, Bool, true, false, ◌&&◌, Option, Some, None, find, Result, Ok, Err, List, [], ◌∷◌, ◌++◌, length, map, flat_map, string_bytes}
+use Rattle.std.specs.Prelude.{ℕ, ◌-◌, ◌^◌, ◌≤◌, nat_le, nat_lt, if◌then◌else◌, bytes_eq, codes, Bool, true, false, ◌&&◌, Option, Some, None, find, Result, Ok, Err, List, [], ◌∷◌, ◌++◌, length, map, flat_map, string_bytes}
 use Rattle.std.specs.Char.{is_ascii_digit}
 use Rattle.std.specs.List.{list_all}
 use Rattle.std.specs.Str.Parse.{digits_value}
@@ -15,6 +15,8 @@ use Rattle.niss_shell.specs.declared.command.Report.TheVariants.{Solutions, Coun
 use Rattle.niss_shell.specs.declared.command.Rewriting.TheVariants.{Invert, Unniss, Cleanup, Print}
 use Rattle.niss_shell.specs.declared.command.Command.{Command}
 use Rattle.niss_shell.specs.declared.command.Command.TheVariants as command
+use Rattle.niss_shell.specs.declared.command.Task.{Task}
+use Rattle.niss_shell.specs.declared.command.Task.TheVariants as task
 
 -- the most bytes of input
 abbrev pub limit : ℕ
@@ -37,6 +39,8 @@ pub data Request : Type 0 where
   OnLines : LineCommand → List (List ℕ) → Request
   -- the names of the steps
   ListSteps : Request
+  -- scrambles by one generator: its state and its stream, how many turns each has, and how many scrambles
+  DrawScrambles : ℕ → ℕ → ℕ → ℕ → Request
 
 -- a command that takes no words
 abbrev pub without_words : Request → List (List ℕ) → Result Request UsageFault
@@ -55,6 +59,33 @@ search_words report [] = Err WrongCount
 search_words report (step ∷ []) = Err WrongCount
 search_words report (step ∷ most ∷ rest) = search_for report (step_named step) (number_of 20 most) rest
 
+-- the most turns of a scramble, the most scrambles, and the greatest state and stream of a generator
+abbrev pub most_turns : ℕ
+most_turns = 256
+
+abbrev pub most_scrambles : ℕ
+most_scrambles = 10000
+
+abbrev pub most_state : ℕ
+most_state = 2 ^ 64 - 1
+
+-- scrambles, where each of the numbers is one
+abbrev pub scramble_with : Option ℕ → Option ℕ → Option ℕ → Option ℕ → Result Request UsageFault
+scramble_with (Some state) (Some stream) (Some turns) (Some count) = Ok (DrawScrambles state stream turns count)
+scramble_with _ _ _ _ = Err BadNumber
+
+-- the same from its four words
+abbrev pub scramble_words : List (List ℕ) → Result Request UsageFault
+scramble_words (state ∷ stream ∷ turns ∷ count ∷ []) =
+    scramble_with (number_of most_state state) (number_of most_state stream) (number_of most_turns turns) (number_of most_scrambles count)
+scramble_words _ = Err WrongCount
+
+-- The numbers of a request are in their ranges.
+abbrev pub IsInRange : Request → Type 0
+IsInRange (OnLines command words) = Unit {0}
+IsInRange ListSteps = Unit {0}
+IsInRange (DrawScrambles state stream turns count) = (turns ≤ most_turns) × (count ≤ most_scrambles)
+
 abbrev pub request_named : List ℕ → List (List ℕ) → Result Request UsageFault
 request_named name rest =
     if bytes_eq name (codes "invert") then Ok (OnLines (Rewrite Invert) rest)
@@ -64,6 +95,7 @@ request_named name rest =
     else if bytes_eq name (codes "solve") then search_words Solutions rest
     else if bytes_eq name (codes "count") then search_words Counts rest
     else if bytes_eq name (codes "steps") then without_words ListSteps rest
+    else if bytes_eq name (codes "scramble") then scramble_words rest
     else Err UnknownCommand
 
 -- what the words ask for, or their first fault
@@ -80,6 +112,13 @@ requested (command.Print rest) = OnLines (Rewrite Print) (map string_bytes rest.
 requested (command.Solve step n rest) = OnLines (Search Solutions step n) (map string_bytes rest.now)
 requested (command.Count step n rest) = OnLines (Search Counts step n) (map string_bytes rest.now)
 requested command.Steps = ListSteps
+requested (command.Scramble state stream turns count) = DrawScrambles state stream turns count
+
+-- what it asks for by what it does
+abbrev pub request_for : Task → Request
+request_for (task.Lines command words) = OnLines command (map string_bytes words.now)
+request_for task.Steps = ListSteps
+request_for (task.Scrambles state stream turns count) = DrawScrambles state stream turns count
 
 abbrev pub spaced_word : List ℕ → List ℕ
 spaced_word word = space ∷ word
@@ -95,6 +134,7 @@ reads_source (Err fault) = false
 reads_source (Ok (OnLines command [])) = true
 reads_source (Ok (OnLines command (word ∷ words))) = false
 reads_source (Ok ListSteps) = false
+reads_source (Ok (DrawScrambles state stream turns count)) = false
 
 -- The command searches, and has tables of its step.
 abbrev pub has_step : LineCommand → Bool
@@ -107,3 +147,4 @@ takes_memory (Err fault) = false
 takes_memory (Ok (OnLines command [])) = has_step command
 takes_memory (Ok (OnLines command (word ∷ words))) = nat_le (length (joined (word ∷ words))) limit
 takes_memory (Ok ListSteps) = false
+takes_memory (Ok (DrawScrambles state stream turns count)) = false

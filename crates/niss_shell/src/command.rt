@@ -1,11 +1,17 @@
-ghost use Rattle.std.specs.Prelude.{◌≡◌, Ok, Err, MatchOption, MatchResult, map, string_bytes};
+ghost use Rattle.std.specs.Prelude.{◌≡◌, Ok, Err, IfSome, IfOk, MatchOption, MatchResult, map, string_bytes};
 ghost use Rattle.niss_shell.specs.declared.command.LineCommand.TheVariants.{Search};
 ghost use Rattle.niss_shell.specs.declared.command.Report.{Report};
-ghost use Rattle.niss_shell.specs.Words.{OnLines, ListSteps, search_words, without_words, request_of, requested};
+ghost use Rattle.niss_shell.specs.Words.{OnLines, ListSteps, number_of, most_state, most_turns, most_scrambles, search_words, scramble_with, scramble_words, without_words, request_of, requested, request_for, IsInRange};
 
-use crate::number::limit_of;
+use crate::number::{limit_of, number_of};
 use niss_cube::Step;
 use niss_search::Limit;
+
+/// The most turns of a scramble.
+const MOST_TURNS: u64 = 256;
+
+/// The most scrambles.
+const MOST_SCRAMBLES: u64 = 10_000;
 
 /// Why the words are no command.
 #[derive(Clone, Copy, Debug, PartialEq, Eq)]
@@ -64,27 +70,59 @@ pub enum Command<'a> {
     Count(Step, Limit, &'a [String]),
     /// The names of the steps.
     Steps,
+    /// So many scrambles of so many turns, at most 256, by one generator of a state and a stream.
+    Scramble {
+        state: u64,
+        stream: u64,
+        length: usize,
+        count: usize,
+    },
+}
+
+/// What a command does.
+#[derive(Clone, Copy)]
+pub(crate) enum Task<'a> {
+    /// It answers each line of these words, or of the source where there are none.
+    Lines(LineCommand, &'a [String]),
+    /// It lists the steps.
+    Steps,
+    /// It draws scrambles.
+    Scrambles {
+        state: u64,
+        stream: u64,
+        turns: usize,
+        count: usize,
+    },
 }
 
 impl<'a> Command<'a> {
-    /// The command on lines and the words that are its input, where it is one.
-    pub(crate) fn on_lines(self) -> Option<(LineCommand, &'a [String])>
-        ensures { MatchOption result
-            (requested self.entry ≡ ListSteps)
-            (λ parts. requested self.entry ≡ OnLines parts.0 (map string_bytes parts.1.now)) }
+    /// What the command does.
+    pub(crate) fn task(self) -> Task<'a>
+        ensures { requested self.entry ≡ request_for result }
     {
         match self {
-            Command::Invert(rest) => Some((LineCommand::Rewrite(Rewriting::Invert), rest)),
-            Command::Unniss(rest) => Some((LineCommand::Rewrite(Rewriting::Unniss), rest)),
-            Command::Cleanup(rest) => Some((LineCommand::Rewrite(Rewriting::Cleanup), rest)),
-            Command::Print(rest) => Some((LineCommand::Rewrite(Rewriting::Print), rest)),
+            Command::Invert(rest) => Task::Lines(LineCommand::Rewrite(Rewriting::Invert), rest),
+            Command::Unniss(rest) => Task::Lines(LineCommand::Rewrite(Rewriting::Unniss), rest),
+            Command::Cleanup(rest) => Task::Lines(LineCommand::Rewrite(Rewriting::Cleanup), rest),
+            Command::Print(rest) => Task::Lines(LineCommand::Rewrite(Rewriting::Print), rest),
             Command::Solve(step, limit, rest) => {
-                Some((LineCommand::Search(Report::Solutions, step, limit), rest))
+                Task::Lines(LineCommand::Search(Report::Solutions, step, limit), rest)
             }
             Command::Count(step, limit, rest) => {
-                Some((LineCommand::Search(Report::Counts, step, limit), rest))
+                Task::Lines(LineCommand::Search(Report::Counts, step, limit), rest)
             }
-            Command::Steps => None,
+            Command::Steps => Task::Steps,
+            Command::Scramble {
+                state,
+                stream,
+                length,
+                count,
+            } => Task::Scrambles {
+                state,
+                stream,
+                turns: length,
+                count,
+            },
         }
     }
 }
@@ -120,12 +158,54 @@ fn parse_steps(words: &[String]) -> Result<Command<'_>, UsageFault>
     }
 }
 
+/// The command `scramble` by its four numbers, where each is one.
+fn scramble_of(state: &str, stream: &str, length: &str, count: &str) -> Option<Command<'static>>
+    ensures command { let asked =
+        scramble_with (number_of most_state state.now) (number_of most_state stream.now)
+        (number_of most_turns length.now) (number_of most_scrambles count.now) in
+        MatchOption result (asked ≡ Err UsageFault.BadNumber) (λ command. asked ≡ Ok (requested command)) }
+    ensures in_range { IfSome result (λ command. IsInRange (requested command)) }
+{
+    let state = number_of(state, u64::MAX)?;
+    let stream = number_of(stream, u64::MAX)?;
+    let length = number_of(length, MOST_TURNS)?;
+    let count = number_of(count, MOST_SCRAMBLES)?;
+    Some(Command::Scramble {
+        state,
+        stream,
+        length: length as usize,
+        count: count as usize,
+    })
+}
+
+/// The command `scramble`, which takes four numbers.
+fn parse_scramble(words: &[String]) -> Result<Command<'_>, UsageFault>
+    ensures command { MatchResult result
+        (λ command. scramble_words (map string_bytes words.now) ≡ Ok (requested command))
+        (λ fault. scramble_words (map string_bytes words.now) ≡ Err fault) }
+    ensures in_range { IfOk result (λ command. IsInRange (requested command)) }
+{
+    let [state, stream, length, count] = words else {
+        return Err(UsageFault::WrongCount);
+    };
+    match scramble_of(
+        state.as_str(),
+        stream.as_str(),
+        length.as_str(),
+        count.as_str(),
+    ) {
+        Some(command) => Ok(command),
+        None => Err(UsageFault::BadNumber),
+    }
+}
+
 /// The command that the words name, or their first fault: of the command, then of the count of words, of the step, and of
 /// the numbers from left to right.
 pub fn parse_words(words: &[String]) -> Result<Command<'_>, UsageFault>
-    ensures { MatchResult result
+    ensures command { MatchResult result
         (λ command. request_of (map string_bytes words.now) ≡ Ok (requested command))
         (λ fault. request_of (map string_bytes words.now) ≡ Err fault) }
+    ensures in_range { IfOk result (λ command. IsInRange (requested command)) }
 {
     let Some((name, rest)) = words.split_first() else {
         return Err(UsageFault::NoCommand);
@@ -144,6 +224,7 @@ pub fn parse_words(words: &[String]) -> Result<Command<'_>, UsageFault>
             Err(fault) => Err(fault),
         },
         "steps" => parse_steps(rest),
+        "scramble" => parse_scramble(rest),
         _ => Err(UsageFault::UnknownCommand),
     }
 }

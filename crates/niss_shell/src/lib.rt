@@ -19,6 +19,7 @@ mod laws;
 mod line_cube;
 mod lines;
 mod number;
+mod scrambles;
 mod search_text;
 mod shell;
 mod solve;

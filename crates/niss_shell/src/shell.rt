@@ -7,9 +7,10 @@ ghost use Rattle.niss_shell.specs.declared.stop.Stop.TheVariants.{Done};
 ghost use Rattle.niss_shell.specs.Engine.{Answers, RunsUnflushed, FlushesLast, answer_state};
 ghost use Rattle.niss_shell.specs.Run.{Runs, TellsError, devices};
 
-use crate::command::{LineCommand, parse_words};
+use crate::command::{LineCommand, Task, parse_words};
 use crate::device::{Source, Target};
 use crate::lines::{LIMIT, answer_source, answer_text};
+use crate::scrambles::write_scrambles;
 use crate::stop::Stop;
 use crate::text::put_text;
 use crate::work::Work;
@@ -17,6 +18,7 @@ use crate::writing::write_all;
 use niss_cube::Step;
 use niss_moves::LineText;
 use niss_search::Meter;
+use rand_pcg::Lcg64Xsh32;
 use std::alloc::{AllocError, Allocator, Global};
 
 /// How many bytes the words give, where these aren't too many.
@@ -139,9 +141,15 @@ fn answer_command<A: Allocator + Copy, R: Source, W: Target>(
     let Ok(command) = parse_words(words) else {
         return Stop::Usage;
     };
-    match command.on_lines() {
-        Some((command, rest)) => answer_words(alloc, command, rest, source, out, looks),
-        None => write_steps(out),
+    match command.task() {
+        Task::Lines(command, rest) => answer_words(alloc, command, rest, source, out, looks),
+        Task::Steps => write_steps(out),
+        Task::Scrambles {
+            state,
+            stream,
+            turns,
+            count,
+        } => write_scrambles(Lcg64Xsh32::new(state, stream), turns, count, out),
     }
 }
 
