@@ -8,3 +8,4 @@ pub mod Bounds
 pub mod CountLaws
 pub mod PositionLemmas
 pub mod Transfer
+pub mod ScanLemmas
