@@ -8,4 +8,7 @@ pub mod Bounds
 pub mod CountLaws
 pub mod PositionLemmas
 pub mod Transfer
+pub mod EntryLemmas
+pub mod FillLemmas
+pub mod TickLemmas
 pub mod ScanLemmas

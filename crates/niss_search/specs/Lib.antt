@@ -5,5 +5,7 @@ pub mod Looks
 pub mod Positions
 pub mod Cubes
 pub mod Delivery
+pub mod Entries
 pub mod Laws
 pub mod Descent
+pub mod Filling

@@ -6,7 +6,7 @@ use Rattle.niss_moves.specs.Canonical.{may_follow, last_turn}
 use Rattle.niss_moves.specs.Effects.{turned}
 use Rattle.niss_moves.specs.declared.turn.Turn.{Turn}
 use Rattle.niss_search.specs.Descent.{found_after, looks_after}
-use Rattle.niss_search.specs.Positions.{look_at}
+use Rattle.niss_search.specs.Positions.{distance_at}
 use Rattle.niss_search.proofs.DescentLemmas.{found_below-far, looks_below-far, found_below-end, looks_below-end, found_below-each, found_after-may, looks_after-may, found_after-not, looks_after-not, looks_below-some, length-found_after, WentThrough-one, StoppedIn-one, looks_below-more, looks_below-all, found_below-all, found-so-far, WentThrough-each, StoppedIn-each, length-flat_map-each}
 use Rattle.niss_search.specs.Path.{Path}
 use Rattle.niss_moves.specs.declared.turn.Face.TheVariants.{U}
@@ -19,28 +19,28 @@ visit-look-distance-requires-clause-meter g t c =
 
 pub visit-returns-then-distance-left-clause-count : goal.visit-returns-then-distance-left-clause-count
 visit-returns-then-distance-left-clause-count g t c =
-    let far : c.args.left < look_at c.args.position.now = omega arith in
+    let far : c.args.left < distance_at c.args.tables.now c.args.position.now = omega arith in
     rw (found_below-far _ _ _ _ far)
 
 pub visit-returns-then-distance-left-clause-ok : goal.visit-returns-then-distance-left-clause-ok
 visit-returns-then-distance-left-clause-ok g t c =
-    let far : c.args.left < look_at c.args.position.now = omega arith in
+    let far : c.args.left < distance_at c.args.tables.now c.args.position.now = omega arith in
     rw (found_below-far _ _ _ _ far) refl
 
 pub visit-returns-then-distance-left-clause-looks : goal.visit-returns-then-distance-left-clause-looks
 visit-returns-then-distance-left-clause-looks g t c =
-    let far : c.args.left < look_at c.args.position.now = omega arith in
+    let far : c.args.left < distance_at c.args.tables.now c.args.position.now = omega arith in
     omega (arith, looks_below-far c.args.tables.now c.args.position.now c.args.path.now.turns c.args.left far)
 
 pub visit-returns-then-distance-left-clause-looks_at_most : goal.visit-returns-then-distance-left-clause-looks_at_most
 visit-returns-then-distance-left-clause-looks_at_most g t c =
-    let far : c.args.left < look_at c.args.position.now = omega arith in
+    let far : c.args.left < distance_at c.args.tables.now c.args.position.now = omega arith in
     omega (arith, looks_below-far c.args.tables.now c.args.position.now c.args.path.now.turns c.args.left far)
 
 pub visit-returns-in_err-take-clause-err : goal.visit-returns-in_err-take-clause-err
 visit-returns-in_err-take-clause-err g t c =
     let p = err_from_is_err_and c.from_residual.result c.from_residual.ensures.1 in
-    let near : look_at c.args.position.now ≤ c.args.left = omega arith in
+    let near : distance_at c.args.tables.now c.args.position.now ≤ c.args.left = omega arith in
     rw (p.1, found_below-end _ _ _ _ c.if-left-eq0.true near)
     (StoppedIn-one g.K.Sink.took g.K.Sink.refused _ _ _ c.in_err-take.ensures.err)
 
@@ -50,12 +50,12 @@ visit-returns-in_err-take-clause-looks_at_most g t c =
 
 pub visit-returns-then-left-eq0-clause-count : goal.visit-returns-then-left-eq0-clause-count
 visit-returns-then-left-eq0-clause-count g t c =
-    let near : look_at c.args.position.now ≤ c.args.left = omega arith in
+    let near : distance_at c.args.tables.now c.args.position.now ≤ c.args.left = omega arith in
     rw (found_below-end _ _ _ _ c.if-left-eq0.true near)
 
 pub visit-returns-then-left-eq0-clause-ok : goal.visit-returns-then-left-eq0-clause-ok
 visit-returns-then-left-eq0-clause-ok g t c =
-    let near : look_at c.args.position.now ≤ c.args.left = omega arith in
+    let near : distance_at c.args.tables.now c.args.position.now ≤ c.args.left = omega arith in
     rw (found_below-end _ _ _ _ c.if-left-eq0.true near)
     (WentThrough-one g.K.Sink.took g.K.Sink.refused _ _ _ c.in_ok-take.ensures.ok)
 
