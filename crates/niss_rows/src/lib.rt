@@ -25,4 +25,8 @@ mod rotations;
 #[cfg(test)]
 mod runs;
 #[cfg(test)]
+mod searches;
+#[cfg(test)]
 mod std_streams;
+#[cfg(test)]
+mod steps;

@@ -14,7 +14,7 @@ use Rattle.niss_cube.specs.Steps.{turns_of}
 use Rattle.niss_search.specs.declared.tables.position.Coordinates.{Coordinates}
 use Rattle.niss_search.specs.Positions.{position_after, distance_at}
 use Rattle.niss_search.specs.Delivery.{WentThrough, StoppedIn}
-use Rattle.niss_search.specs.Descent.{found, visits, found_below, looks_below, found_after, looks_after}
+use Rattle.niss_search.specs.Descent.{found, visits, found_below, looks_below, looks_beyond, found_after, looks_after}
 
 module _ (step : Step) (x : List Coordinates) (p : List Turn) where
   pub found_below-far : (left : ℕ) → left < distance_at step x → found_below step x p left ≡ []
@@ -59,6 +59,10 @@ module _ (step : Step) (x : List Coordinates) (p : List Turn) where
   unfolding visits looks_below
   looks_below-some zero = omega arith
   looks_below-some (suc k) = omega arith
+
+  pub looks_below-one : (left : ℕ) → looks_below step x p left ≡ 1 + looks_beyond step x p left
+  unfolding looks_beyond
+  looks_below-one left = omega (arith, looks_below-some left)
 
   pub found_after-may : (left : ℕ) (t : Turn) → may_follow (last_turn p) t ≡ true → found_after step x p left t ≡ found_below step (position_after x t) (p ++ t ∷ []) left
   unfolding found_after

@@ -1,5 +1,5 @@
 -- One deepening of the search, below a path: what it finds and how often it looks. (For the search's own functions.)
-use Rattle.std.specs.Prelude.{ℕ, zero, suc, ◌+◌, nat_le, List, [], ◌∷◌, ◌++◌, flat_map, sum_by, if◌then◌else◌}
+use Rattle.std.specs.Prelude.{ℕ, zero, suc, ◌+◌, ◌-◌, nat_le, List, [], ◌∷◌, ◌++◌, flat_map, sum_by, if◌then◌else◌}
 use Rattle.niss_moves.specs.declared.turn.Turn.{Turn}
 use Rattle.niss_moves.specs.Canonical.{may_follow, last_turn}
 use Rattle.niss_cube.specs.declared.step.Step.{Step}
@@ -30,7 +30,11 @@ found_below step x p left = found (turns_of step) position_after (distance_at st
 unfoldable pub looks_below : Step → List Coordinates → List Turn → ℕ → ℕ
 looks_below step x p left = visits (turns_of step) position_after (distance_at step) x p left
 
--- the same below the path and one turn more, where the turn may follow
+-- those but for the one at x itself
+unfoldable pub looks_beyond : Step → List Coordinates → List Turn → ℕ → ℕ
+looks_beyond step x p left = looks_below step x p left - 1
+
+-- what is found, and the looks, below the path and one turn more, where the turn may follow
 unfoldable pub found_after : Step → List Coordinates → List Turn → ℕ → Turn → List (List Turn)
 found_after step x p left t =
     if may_follow (last_turn p) t then found_below step (position_after x t) (p ++ t ∷ []) left else []

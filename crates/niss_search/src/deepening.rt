@@ -39,6 +39,7 @@ pub fn search<K: Sink, A: Allocator>(
         → OnOk result (meter.new ≡ meter.old + all_looks_of tables.now e path.old.limit) }
     ensures looks_at_most { (e : Place → Place) → HasPosition tables.now e position.now
         → meter.new ≤ meter.old + all_looks_of tables.now e path.old.limit }
+    ensures rises { meter.old ≤ meter.new }
     ensures bound { meter.new ≤ meter.old + look_bound (turns_of tables.now) path.old.limit }
 {
     positions_tell();

@@ -94,7 +94,8 @@ impl<A: Allocator> Tables<A> {
     /// The position of a cube on which the step may start.
     pub fn position(&self, cube: &Cube) -> Position
         requires { IsTrue (may_start self.now (map_of cube.now)) }
-        ensures { (e : Place → Place) → SameMap (map_of cube.now) e → HasPosition self.now e result }
+        ensures of_cube { (e : Place → Place) → SameMap (map_of cube.now) e → HasPosition self.now e result }
+        ensures position { IsPosition self.now result }
     {
         positions_tell();
         Position::of(goal_of(self.step), cube)
@@ -107,6 +108,7 @@ impl<A: Allocator> Tables<A> {
         ensures value { result ≡ position_after position.now turn }
         ensures turned { (e : Place → Place) → HasPosition self.now e position.now
             → HasPosition self.now (λ q. turned turn (e q)) result }
+        ensures position { IsPosition self.now result }
     {
         positions_tell();
         position.after(turn, &self.turn_tables)

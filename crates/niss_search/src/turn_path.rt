@@ -42,8 +42,9 @@ impl TurnPath {
         ensures within { length self.now.turns ≤ result }
         ensures in_range { result ≤ 20 }
     {
-        let _in_range = self.limit.get();
-        self.limit
+        let limit = self.limit;
+        let _in_range = limit.get();
+        limit
     }
 
     /// Its turns, from the first.
@@ -57,7 +58,7 @@ impl TurnPath {
     pub(crate) fn last(&self) -> Option<Turn>
         ensures { result ≡ last_turn self.now.turns }
     {
-        self.turns.as_slice().last().copied()
+        self.turns().last().copied()
     }
 
     /// Adds a last turn.

@@ -3,72 +3,41 @@ use Rattle.std.proofs.lemmas.List.Elements.{Contains-get_or}
 use Rattle.std.proofs.lemmas.List.Sums.{sum_by_more}
 use Rattle.std.proofs.lemmas.Result.{err_from_is_err_and}
 use Rattle.niss_moves.specs.Canonical.{may_follow, last_turn}
-use Rattle.niss_moves.specs.Effects.{turned}
 use Rattle.niss_moves.specs.declared.turn.Turn.{Turn}
-use Rattle.niss_search.specs.Descent.{found_after, looks_after}
-use Rattle.niss_search.specs.Positions.{distance_at}
-use Rattle.niss_search.proofs.DescentLemmas.{found_below-far, looks_below-far, found_below-end, looks_below-end, found_below-each, found_after-may, looks_after-may, found_after-not, looks_after-not, looks_below-some, length-found_after, WentThrough-one, StoppedIn-one, looks_below-more, looks_below-all, found_below-all, found-so-far, WentThrough-each, StoppedIn-each, length-flat_map-each}
+use Rattle.niss_search.specs.Descent.{found_after, looks_after, looks_below, looks_beyond}
+use Rattle.niss_search.specs.Positions.{distance_at, position_after}
+use Rattle.niss_search.proofs.DescentLemmas.{found_below-far, looks_below-far, found_below-end, looks_below-end, looks_below-far, found_below-far, looks_below-one, looks_below-some, found_below-each, found_after-may, looks_after-may, found_after-not, looks_after-not, looks_below-some, length-found_after, WentThrough-one, StoppedIn-one, looks_below-more, looks_below-all, found_below-all, found-so-far, WentThrough-each, StoppedIn-each, length-flat_map-each}
 use Rattle.niss_search.specs.Path.{Path}
 use Rattle.niss_moves.specs.declared.turn.Face.TheVariants.{U}
 use Rattle.niss_moves.specs.declared.turn.Power.TheVariants.{Quarter}
 use Rattle.niss_search.proofs.descent.+descent.Goals as goal
 
-pub visit-look-distance-requires-clause-meter : goal.visit-look-distance-requires-clause-meter
-visit-look-distance-requires-clause-meter g t c =
-    omega (arith, looks_below-some c.args.tables.now c.args.position.now c.args.path.now.turns c.args.left)
-
-pub visit-returns-then-distance-left-clause-count : goal.visit-returns-then-distance-left-clause-count
-visit-returns-then-distance-left-clause-count g t c =
-    let far : c.args.left < distance_at c.args.tables.now c.args.position.now = omega arith in
-    rw (found_below-far _ _ _ _ far)
-
-pub visit-returns-then-distance-left-clause-ok : goal.visit-returns-then-distance-left-clause-ok
-visit-returns-then-distance-left-clause-ok g t c =
-    let far : c.args.left < distance_at c.args.tables.now c.args.position.now = omega arith in
-    rw (found_below-far _ _ _ _ far) refl
-
-pub visit-returns-then-distance-left-clause-looks : goal.visit-returns-then-distance-left-clause-looks
-visit-returns-then-distance-left-clause-looks g t c =
-    let far : c.args.left < distance_at c.args.tables.now c.args.position.now = omega arith in
-    omega (arith, looks_below-far c.args.tables.now c.args.position.now c.args.path.now.turns c.args.left far)
-
-pub visit-returns-then-distance-left-clause-looks_at_most : goal.visit-returns-then-distance-left-clause-looks_at_most
-visit-returns-then-distance-left-clause-looks_at_most g t c =
-    let far : c.args.left < distance_at c.args.tables.now c.args.position.now = omega arith in
-    omega (arith, looks_below-far c.args.tables.now c.args.position.now c.args.path.now.turns c.args.left far)
-
-pub visit-returns-in_err-take-clause-err : goal.visit-returns-in_err-take-clause-err
-visit-returns-in_err-take-clause-err g t c =
+pub extend-returns-in_err-take-clause-err : goal.extend-returns-in_err-take-clause-err
+extend-returns-in_err-take-clause-err g t c =
     let p = err_from_is_err_and c.from_residual.result c.from_residual.ensures.1 in
     let near : distance_at c.args.tables.now c.args.position.now ≤ c.args.left = omega arith in
     rw (p.1, found_below-end _ _ _ _ c.if-left-eq0.true near)
     (StoppedIn-one g.K.Sink.took g.K.Sink.refused _ _ _ c.in_err-take.ensures.err)
 
-pub visit-returns-in_err-take-clause-looks_at_most : goal.visit-returns-in_err-take-clause-looks_at_most
-visit-returns-in_err-take-clause-looks_at_most g t c =
-    omega (arith, looks_below-end c.args.tables.now c.args.position.now c.args.path.now.turns _ c.if-left-eq0.true)
-
-pub visit-returns-then-left-eq0-clause-count : goal.visit-returns-then-left-eq0-clause-count
-visit-returns-then-left-eq0-clause-count g t c =
+pub extend-returns-then-left-eq0-clause-count : goal.extend-returns-then-left-eq0-clause-count
+extend-returns-then-left-eq0-clause-count g t c =
     let near : distance_at c.args.tables.now c.args.position.now ≤ c.args.left = omega arith in
     rw (found_below-end _ _ _ _ c.if-left-eq0.true near)
 
-pub visit-returns-then-left-eq0-clause-ok : goal.visit-returns-then-left-eq0-clause-ok
-visit-returns-then-left-eq0-clause-ok g t c =
+pub extend-returns-then-left-eq0-clause-ok : goal.extend-returns-then-left-eq0-clause-ok
+extend-returns-then-left-eq0-clause-ok g t c =
     let near : distance_at c.args.tables.now c.args.position.now ≤ c.args.left = omega arith in
     rw (found_below-end _ _ _ _ c.if-left-eq0.true near)
     (WentThrough-one g.K.Sink.took g.K.Sink.refused _ _ _ c.in_ok-take.ensures.ok)
 
-pub visit-returns-then-left-eq0-clause-looks : goal.visit-returns-then-left-eq0-clause-looks
-visit-returns-then-left-eq0-clause-looks g t c =
+pub extend-returns-then-left-eq0-clause-looks : goal.extend-returns-then-left-eq0-clause-looks
+extend-returns-then-left-eq0-clause-looks g t c =
+    let one = looks_below-one c.args.tables.now c.args.position.now c.args.path.now.turns c.args.left in
     omega (arith, looks_below-end c.args.tables.now c.args.position.now c.args.path.now.turns _ c.if-left-eq0.true)
 
-pub visit-returns-then-left-eq0-clause-looks_at_most : goal.visit-returns-then-left-eq0-clause-looks_at_most
-visit-returns-then-left-eq0-clause-looks_at_most g t c =
-    omega (arith, looks_below-end c.args.tables.now c.args.position.now c.args.path.now.turns _ c.if-left-eq0.true)
-
-pub visit-visit_turn-requires : goal.visit-visit_turn-requires
-visit-visit_turn-requires g t c κs within =
+pub extend-extend_by-requires : goal.extend-extend_by-requires
+extend-extend_by-requires g t c κs within =
+    let one = looks_below-one c.args.tables.now c.args.position.now c.args.path.now.turns c.args.left in
     let inv = c.loop-turn.invariant in
     let step = c.args.tables.now in
     let items = c.turns-turn-items.result.now in
@@ -81,8 +50,8 @@ visit-visit_turn-requires g t c κs within =
     let more = looks_below-more step c.args.position.now c.args.path.now.turns c.args.left inv.some_left inv.near items inv.items c.loop-turn.turn-index record { face = U; power = Quarter } c.loop-turn-test.true in
     (omega arith, (within.0, (within.1.0, (within.1.1, (c.requires.position, (subst Last same inv.last, (subst OfStep inv.items (Contains-get_or items c.loop-turn.turn-index record { face = U; power = Quarter } c.loop-turn-test.true), (subst Room same (omega arith), subst Metered same (omega (arith, more))))))))))
 
-pub visit-returns-in_err-count-clause-err : goal.visit-returns-in_err-count-clause-err
-visit-returns-in_err-count-clause-err g t c =
+pub extend-returns-in_err-count-clause-err : goal.extend-returns-in_err-count-clause-err
+extend-returns-in_err-count-clause-err g t c =
     let p = err_from_is_err_and c.from_residual-in_err-count.result c.from_residual-in_err-count.ensures.1 in
     let inv = c.loop-turn.invariant in
     let items = c.turns-turn-items.result.now in
@@ -91,16 +60,18 @@ visit-returns-in_err-count-clause-err g t c =
     rw (p.1, found_below-each step c.args.position.now c.args.path.now.turns c.args.left inv.some_left inv.near, ← inv.items)
     (StoppedIn-each g.K.Sink.took g.K.Sink.refused (found_after step c.args.position.now c.args.path.now.turns (c.args.left - 1)) items c.loop-turn.turn-index record { face = U; power = Quarter } c.loop-turn-test.true _ _ _ inv.took stopped)
 
-pub visit-returns-in_err-count-clause-looks_at_most : goal.visit-returns-in_err-count-clause-looks_at_most
-visit-returns-in_err-count-clause-looks_at_most g t c =
+pub extend-returns-in_err-count-clause-looks_at_most : goal.extend-returns-in_err-count-clause-looks_at_most
+extend-returns-in_err-count-clause-looks_at_most g t c =
+    let one = looks_below-one c.args.tables.now c.args.position.now c.args.path.now.turns c.args.left in
     let inv = c.loop-turn.invariant in
     let items = c.turns-turn-items.result.now in
     let more = looks_below-more c.args.tables.now c.args.position.now c.args.path.now.turns c.args.left inv.some_left inv.near items inv.items c.loop-turn.turn-index record { face = U; power = Quarter } c.loop-turn-test.true in
-    let here = rw inv.path at c.visit_turn.ensures.looks_at_most in
+    let here = rw inv.path at c.extend_by.ensures.looks_at_most in
     omega arith
 
-pub visit-overflow_add-count : goal.visit-overflow_add-count
-visit-overflow_add-count g t c =
+pub extend-overflow_add-count : goal.extend-overflow_add-count
+extend-overflow_add-count g t c =
+    let one = looks_below-one c.args.tables.now c.args.position.now c.args.path.now.turns c.args.left in
     let inv = c.loop-turn.invariant in
     let step = c.args.tables.now in
     let items = c.turns-turn-items.result.now in
@@ -111,8 +82,8 @@ visit-overflow_add-count g t c =
     let bound = length-found_after step c.args.position.now c.args.path.now.turns (c.args.left - 1) d in
     omega arith
 
-pub visit-loop-turn-preserved : goal.visit-loop-turn-preserved
-visit-loop-turn-preserved g t c =
+pub extend-loop-turn-preserved : goal.extend-loop-turn-preserved
+extend-loop-turn-preserved g t c =
     let inv = c.loop-turn.invariant in
     let step = c.args.tables.now in
     let items = c.turns-turn-items.result.now in
@@ -124,7 +95,7 @@ visit-loop-turn-preserved g t c =
     let looked_here = rw inv.path at c.in_ok-count.ensures.looks in
     record {
       items = inv.items;
-      path = c.visit_turn.ensures.path ∙ inv.path;
+      path = c.extend_by.ensures.path ∙ inv.path;
       last = inv.last;
       some_left = inv.some_left;
       near = inv.near;
@@ -133,82 +104,124 @@ visit-loop-turn-preserved g t c =
       looked = omega (arith, sum_by_more (looks_after step c.args.position.now c.args.path.now.turns (c.args.left - 1)) items i d c.loop-turn-test.true);
     }
 
-pub visit-returns-clause-count : goal.visit-returns-clause-count
-visit-returns-clause-count g t c =
+pub extend-returns-clause-count : goal.extend-returns-clause-count
+extend-returns-clause-count g t c =
     let inv = c.loop-turn.invariant in
     let step = c.args.tables.now in
     let all = found_below-all step c.args.position.now c.args.path.now.turns c.args.left inv.some_left inv.near c.turns-turn-items.result.now inv.items c.loop-turn.turn-index c.loop-turn-test.false in
     rw all inv.counted
 
-pub visit-returns-clause-ok : goal.visit-returns-clause-ok
-visit-returns-clause-ok g t c =
+pub extend-returns-clause-ok : goal.extend-returns-clause-ok
+extend-returns-clause-ok g t c =
     let inv = c.loop-turn.invariant in
     let step = c.args.tables.now in
     let all = found_below-all step c.args.position.now c.args.path.now.turns c.args.left inv.some_left inv.near c.turns-turn-items.result.now inv.items c.loop-turn.turn-index c.loop-turn-test.false in
     rw all inv.took
 
-pub visit-returns-clause-looks : goal.visit-returns-clause-looks
-visit-returns-clause-looks g t c =
+pub extend-returns-clause-looks : goal.extend-returns-clause-looks
+extend-returns-clause-looks g t c =
+    let one = looks_below-one c.args.tables.now c.args.position.now c.args.path.now.turns c.args.left in
     let inv = c.loop-turn.invariant in
     let step = c.args.tables.now in
     let all = looks_below-all step c.args.position.now c.args.path.now.turns c.args.left inv.some_left inv.near c.turns-turn-items.result.now inv.items c.loop-turn.turn-index c.loop-turn-test.false in
     omega arith
 
-pub visit-returns-clause-looks_at_most : goal.visit-returns-clause-looks_at_most
-visit-returns-clause-looks_at_most g t c =
+pub extend-returns-clause-looks_at_most : goal.extend-returns-clause-looks_at_most
+extend-returns-clause-looks_at_most g t c =
+    let one = looks_below-one c.args.tables.now c.args.position.now c.args.path.now.turns c.args.left in
     let inv = c.loop-turn.invariant in
     let step = c.args.tables.now in
     let all = looks_below-all step c.args.position.now c.args.path.now.turns c.args.left inv.some_left inv.near c.turns-turn-items.result.now inv.items c.loop-turn.turn-index c.loop-turn-test.false in
     omega arith
 
-pub visit_turn-returns-then-not-allowed-clause-count : goal.visit_turn-returns-then-not-allowed-clause-count
-visit_turn-returns-then-not-allowed-clause-count g t c =
+pub extend_by-returns-then-not-allowed-clause-count : goal.extend_by-returns-then-not-allowed-clause-count
+extend_by-returns-then-not-allowed-clause-count g t c =
     let not_allowed : may_follow (last_turn c.args.path.now.turns) c.args.turn ≡ false = cc in
     rw (found_after-not _ _ _ _ _ not_allowed)
 
-pub visit_turn-returns-then-not-allowed-clause-ok : goal.visit_turn-returns-then-not-allowed-clause-ok
-visit_turn-returns-then-not-allowed-clause-ok g t c =
+pub extend_by-returns-then-not-allowed-clause-ok : goal.extend_by-returns-then-not-allowed-clause-ok
+extend_by-returns-then-not-allowed-clause-ok g t c =
     let not_allowed : may_follow (last_turn c.args.path.now.turns) c.args.turn ≡ false = cc in
     rw (found_after-not _ _ _ _ _ not_allowed) refl
 
-pub visit_turn-returns-then-not-allowed-clause-looks : goal.visit_turn-returns-then-not-allowed-clause-looks
-visit_turn-returns-then-not-allowed-clause-looks g t c =
+pub extend_by-returns-then-not-allowed-clause-looks : goal.extend_by-returns-then-not-allowed-clause-looks
+extend_by-returns-then-not-allowed-clause-looks g t c =
     let not_allowed : may_follow (last_turn c.args.path.now.turns) c.args.turn ≡ false = cc in
     rw (looks_after-not _ _ _ _ _ not_allowed, add-zero)
 
-pub visit_turn-visit-below-requires : goal.visit_turn-visit-below-requires
-visit_turn-visit-below-requires g t c κs within =
+pub extend_by-look-requires-clause-meter : goal.extend_by-look-requires-clause-meter
+extend_by-look-requires-clause-meter g t c =
     let may : may_follow (last_turn c.args.path.now.turns) c.args.turn ≡ true = cc in
+    let all = looks_after-may c.args.tables.now c.args.position.now c.args.path.now.turns c.args.left c.args.turn may in
+    omega (arith, looks_below-some c.args.tables.now (position_after c.args.position.now c.args.turn) (c.args.path.now.turns ++ c.args.turn ∷ []) c.args.left)
+
+pub extend_by-returns-then-look-left-clause-count : goal.extend_by-returns-then-look-left-clause-count
+extend_by-returns-then-look-left-clause-count g t c =
+    let may : may_follow (last_turn c.args.path.now.turns) c.args.turn ≡ true = cc in
+    let all = found_after-may c.args.tables.now c.args.position.now c.args.path.now.turns c.args.left c.args.turn may in
+    let far : c.args.left < distance_at c.args.tables.now c.after-next.result = omega arith in
+    rw (all, ← c.after-next.ensures.value, found_below-far c.args.tables.now c.after-next.result (c.args.path.now.turns ++ c.args.turn ∷ []) c.args.left far)
+
+pub extend_by-returns-then-look-left-clause-ok : goal.extend_by-returns-then-look-left-clause-ok
+extend_by-returns-then-look-left-clause-ok g t c =
+    let may : may_follow (last_turn c.args.path.now.turns) c.args.turn ≡ true = cc in
+    let all = found_after-may c.args.tables.now c.args.position.now c.args.path.now.turns c.args.left c.args.turn may in
+    let far : c.args.left < distance_at c.args.tables.now c.after-next.result = omega arith in
+    rw (all, ← c.after-next.ensures.value, found_below-far c.args.tables.now c.after-next.result (c.args.path.now.turns ++ c.args.turn ∷ []) c.args.left far) refl
+
+pub extend_by-returns-then-look-left-clause-looks : goal.extend_by-returns-then-look-left-clause-looks
+extend_by-returns-then-look-left-clause-looks g t c =
+    let may : may_follow (last_turn c.args.path.now.turns) c.args.turn ≡ true = cc in
+    let all = looks_after-may c.args.tables.now c.args.position.now c.args.path.now.turns c.args.left c.args.turn may in
+    let far : c.args.left < distance_at c.args.tables.now c.after-next.result = omega arith in
+    rw (all, ← c.after-next.ensures.value) (omega (arith, looks_below-far c.args.tables.now c.after-next.result (c.args.path.now.turns ++ c.args.turn ∷ []) c.args.left far))
+
+pub extend_by-returns-then-look-left-clause-looks_at_most : goal.extend_by-returns-then-look-left-clause-looks_at_most
+extend_by-returns-then-look-left-clause-looks_at_most g t c =
+    let may : may_follow (last_turn c.args.path.now.turns) c.args.turn ≡ true = cc in
+    let all = looks_after-may c.args.tables.now c.args.position.now c.args.path.now.turns c.args.left c.args.turn may in
+    let far : c.args.left < distance_at c.args.tables.now c.after-next.result = omega arith in
+    rw (all, ← c.after-next.ensures.value) (omega (arith, looks_below-far c.args.tables.now c.after-next.result (c.args.path.now.turns ++ c.args.turn ∷ []) c.args.left far))
+
+pub extend_by-extend-below-requires : goal.extend_by-extend-below-requires
+extend_by-extend-below-requires g t c κs within =
+    let may : may_follow (last_turn c.args.path.now.turns) c.args.turn ≡ true = cc in
+    let next = position_after c.args.position.now c.args.turn in
     let more = looks_after-may c.args.tables.now c.args.position.now c.args.path.now.turns c.args.left c.args.turn may in
+    let one = looks_below-one c.args.tables.now next (c.args.path.now.turns ++ c.args.turn ∷ []) c.args.left in
     let room : length (c.args.path.now.turns ++ c.args.turn ∷ []) + c.args.left ≤ c.args.path.now.limit = omega (arith, length-append {A = Turn}) in
-    (omega arith, (within.0, (within.1.0, (within.1.1, (((λ q. turned c.args.turn (c.requires.position.0 q)), c.after-next.ensures.turned c.requires.position.0 c.requires.position.1), (rw c.push.ensures room, rw (c.push.ensures, c.after-next.ensures.value) (omega arith)))))))
+    (omega arith, (within.0, (within.1.0, (within.1.1, (c.after-next.ensures.position, (omega arith, (rw c.push.ensures room, rw (c.push.ensures, c.after-next.ensures.value) (omega arith))))))))
 
-pub visit_turn-returns-clause-count : goal.visit_turn-returns-clause-count
-visit_turn-returns-clause-count g t c =
+pub extend_by-returns-clause-count : goal.extend_by-returns-clause-count
+extend_by-returns-clause-count g t c =
     let may : may_follow (last_turn c.args.path.now.turns) c.args.turn ≡ true = cc in
     let all = found_after-may c.args.tables.now c.args.position.now c.args.path.now.turns c.args.left c.args.turn may in
-    rw (all, ← c.after-next.ensures.value) (rw c.push.ensures at c.visit-below.ensures.count)
+    rw (all, ← c.after-next.ensures.value) (rw c.push.ensures at c.extend-below.ensures.count)
 
-pub visit_turn-returns-clause-ok : goal.visit_turn-returns-clause-ok
-visit_turn-returns-clause-ok g t c =
+pub extend_by-returns-clause-ok : goal.extend_by-returns-clause-ok
+extend_by-returns-clause-ok g t c =
     let may : may_follow (last_turn c.args.path.now.turns) c.args.turn ≡ true = cc in
     let all = found_after-may c.args.tables.now c.args.position.now c.args.path.now.turns c.args.left c.args.turn may in
-    rw (all, ← c.after-next.ensures.value) (rw c.push.ensures at c.visit-below.ensures.ok)
+    rw (all, ← c.after-next.ensures.value) (rw c.push.ensures at c.extend-below.ensures.ok)
 
-pub visit_turn-returns-clause-err : goal.visit_turn-returns-clause-err
-visit_turn-returns-clause-err g t c =
+pub extend_by-returns-clause-err : goal.extend_by-returns-clause-err
+extend_by-returns-clause-err g t c =
     let may : may_follow (last_turn c.args.path.now.turns) c.args.turn ≡ true = cc in
     let all = found_after-may c.args.tables.now c.args.position.now c.args.path.now.turns c.args.left c.args.turn may in
-    rw (all, ← c.after-next.ensures.value) (rw c.push.ensures at c.visit-below.ensures.err)
+    rw (all, ← c.after-next.ensures.value) (rw c.push.ensures at c.extend-below.ensures.err)
 
-pub visit_turn-returns-clause-looks : goal.visit_turn-returns-clause-looks
-visit_turn-returns-clause-looks g t c =
+pub extend_by-returns-clause-looks : goal.extend_by-returns-clause-looks
+extend_by-returns-clause-looks g t c =
     let may : may_follow (last_turn c.args.path.now.turns) c.args.turn ≡ true = cc in
     let all = looks_after-may c.args.tables.now c.args.position.now c.args.path.now.turns c.args.left c.args.turn may in
-    rw (all, ← c.after-next.ensures.value) (rw c.push.ensures at c.visit-below.ensures.looks)
+    let one = looks_below-one c.args.tables.now c.after-next.result (c.args.path.now.turns ++ c.args.turn ∷ []) c.args.left in
+    let after_look : c.args.meter.now + looks_below c.args.tables.now c.after-next.result (c.args.path.now.turns ++ c.args.turn ∷ []) c.args.left ≡ c.look.new.meter + looks_beyond c.args.tables.now c.after-next.result (c.args.path.now.turns ++ c.args.turn ∷ []) c.args.left = omega arith in
+    rw (all, ← c.after-next.ensures.value, after_look) (rw c.push.ensures at c.extend-below.ensures.looks)
 
-pub visit_turn-returns-clause-looks_at_most : goal.visit_turn-returns-clause-looks_at_most
-visit_turn-returns-clause-looks_at_most g t c =
+pub extend_by-returns-clause-looks_at_most : goal.extend_by-returns-clause-looks_at_most
+extend_by-returns-clause-looks_at_most g t c =
     let may : may_follow (last_turn c.args.path.now.turns) c.args.turn ≡ true = cc in
     let all = looks_after-may c.args.tables.now c.args.position.now c.args.path.now.turns c.args.left c.args.turn may in
-    rw (all, ← c.after-next.ensures.value) (rw c.push.ensures at c.visit-below.ensures.looks_at_most)
+    let one = looks_below-one c.args.tables.now c.after-next.result (c.args.path.now.turns ++ c.args.turn ∷ []) c.args.left in
+    let here = rw c.push.ensures at c.extend-below.ensures.looks_at_most in
+    rw (all, ← c.after-next.ensures.value) (omega arith)

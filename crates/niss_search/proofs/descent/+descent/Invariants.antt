@@ -7,14 +7,14 @@ use Rattle.niss_search.specs.Positions.{distance_at}
 use Rattle.niss_moves.specs.Canonical.{last_turn}
 use Rattle.niss_search.proofs.descent.+descent.Given as goal
 
-abbrev pub decreases-visit : goal.decreases-visit
-decreases-visit g l = 2 * l.left
+abbrev pub decreases-extend : goal.decreases-extend
+decreases-extend g l = 2 * l.left
 
-abbrev pub decreases-visit_turn : goal.decreases-visit_turn
-decreases-visit_turn g l = 2 * l.left + 1
+abbrev pub decreases-extend_by : goal.decreases-extend_by
+decreases-extend_by g l = 2 * l.left + 1
 
-abbrev pub invariant-visit-loop-turn : goal.invariant-visit-loop-turn
-invariant-visit-loop-turn g l = record {
+abbrev pub invariant-extend-loop-turn : goal.invariant-extend-loop-turn
+invariant-extend-loop-turn g l = record {
   items : l.turn-items ≡ turns_of l.tables;
   path : l.path ≡ l.fn.path;
   last : l.last ≡ last_turn l.fn.path.turns;
@@ -22,5 +22,5 @@ invariant-visit-loop-turn g l = record {
   near : distance_at l.tables l.position ≤ l.left;
   took : WentThrough g.K.Sink.took l.fn.sink (flat_map (found_after l.tables l.position l.fn.path.turns (l.left - 1)) (take l.turn-index l.turn-items)) l.sink;
   counted : l.count ≡ length (flat_map (found_after l.tables l.position l.fn.path.turns (l.left - 1)) (take l.turn-index l.turn-items));
-  looked : l.meter ≡ l.fn.meter + 1 + sum_by (looks_after l.tables l.position l.fn.path.turns (l.left - 1)) (take l.turn-index l.turn-items);
+  looked : l.meter ≡ l.fn.meter + sum_by (looks_after l.tables l.position l.fn.path.turns (l.left - 1)) (take l.turn-index l.turn-items);
 }
