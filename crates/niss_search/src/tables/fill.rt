@@ -12,6 +12,7 @@ use crate::laws::entries_turn;
 use crate::scan::next_at;
 use niss_cube::{Step, TurnTables};
 use std::alloc::Allocator;
+use std::mem;
 
 /// Tries each turn from an entry of the level, and gives the next level to each entry that wasn't met before.
 fn extend_entry<A: Allocator>(
@@ -78,7 +79,10 @@ pub(super) fn fill_table<A: Allocator>(
     ensures ticks { meter.new ≡ meter.old + fill_ticks step }
 {
     let turns = StepTurns::of(step);
+    // the meter is held by value meanwhile: behind the borrow each tick would be written to memory
+    let mut held = mem::replace(meter, Meter::new());
     for level in 0..20 {
-        extend_level(turn_tables, &turns, distances, level, meter);
+        extend_level(turn_tables, &turns, distances, level, &mut held);
     }
+    *meter = held;
 }

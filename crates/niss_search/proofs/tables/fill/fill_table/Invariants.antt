@@ -8,5 +8,5 @@ use Rattle.niss_search.proofs.tables.fill.fill_table.Given as goal
 abbrev pub invariant-loop-level : goal.invariant-loop-level
 invariant-loop-level g l = record {
   filled : IsFilled l.turns l.level l.distances;
-  ticks : l.meter ≡ l.fn.meter + length (turns_of l.turns) * count_by (λ x. nat_lt (entry_distance l.turns x) l.level) (range_with_len 0 (entry_count l.turns));
+  ticks : l.held ≡ l.fn.meter + length (turns_of l.turns) * count_by (λ x. nat_lt (entry_distance l.turns x) l.level) (range_with_len 0 (entry_count l.turns));
 }
