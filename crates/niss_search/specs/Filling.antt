@@ -1,5 +1,5 @@
 -- The pruning table while it is filled, level by level. (For the functions of the tables.)
-use Rattle.std.specs.Prelude.{◌≡◌, ℕ, ◌+◌, ◌*◌, ◌/◌, ◌%◌, ◌<◌, ◌≤◌, ◌⊎◌, List, [], ◌∷◌, length, slice_index, slice_get, unwrap_or, Contains}
+use Rattle.std.specs.Prelude.{◌≡◌, ℕ, ◌+◌, ◌*◌, ◌/◌, ◌%◌, ◌<◌, ◌≤◌, ◌⊎◌, List, [], ◌∷◌, length, slice_index, slice_get, unwrap_or, min, Contains}
 use Rattle.niss_moves.specs.declared.axis.Axis.TheVariants.{Ud, Fb}
 use Rattle.niss_moves.specs.Turn.{inverse_turn}
 use Rattle.niss_moves.specs.declared.turn.Turn.{Turn}
@@ -75,6 +75,10 @@ pub record IsFilling (step : Step) (level : ℕ) (xs : List ℕ) : Type 0 where
 -- the entries after each turn from entry i have been met
 abbrev pub IsExtended : Step → List ℕ → ℕ → Type 0
 IsExtended step xs i = (t : Turn) → Contains (turns_of step) t → slice_index xs (entry_after step i t) < 21
+
+-- bytes by which an entry that is met from a level changes: the lesser of what it is and the next level
+abbrev pub AreLesser : ℕ → List ℕ → Type 0
+AreLesser level bytes = (byte : ℕ) → byte < 256 → slice_index bytes byte ≡ min byte (level + 1)
 
 -- no entry that was met is lost
 abbrev pub KeepsMet : List ℕ → List ℕ → Type 0

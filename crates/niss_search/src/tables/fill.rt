@@ -4,7 +4,7 @@ ghost use Rattle.std.specs.List.{range_with_len};
 ghost use Rattle.niss_moves.specs.declared.turn.Turn.{Turn};
 ghost use Rattle.niss_cube.specs.Steps.{turns_of};
 ghost use Rattle.niss_search.specs.Entries.{entry_count, fill_ticks};
-ghost use Rattle.niss_search.specs.Filling.{entry_distance, IsFilled, IsFilling, IsExtended, KeepsMet};
+ghost use Rattle.niss_search.specs.Filling.{entry_distance, IsFilled, IsFilling, IsExtended, KeepsMet, AreLesser};
 
 use super::meter::Meter;
 use super::step_turns::StepTurns;
@@ -14,6 +14,19 @@ use niss_cube::{Step, TurnTables};
 use std::alloc::Allocator;
 use std::mem;
 
+/// What each byte becomes where it is met from a level: the lesser of it and the next level. Looked up in a table, that
+/// has no branch, and none that is guessed wrong.
+fn lesser_bytes(level: u8) -> [u8; 256]
+    requires { level < 20 }
+    ensures { AreLesser level result }
+{
+    let mut lesser = [0; 256];
+    for byte in 0..256usize {
+        lesser[byte] = (byte as u8).min(level + 1);
+    }
+    lesser
+}
+
 /// Tries each turn from an entry of the level, and gives the next level to each entry that wasn't met before.
 fn extend_entry<A: Allocator>(
     turn_tables: &TurnTables<A>,
@@ -21,12 +34,14 @@ fn extend_entry<A: Allocator>(
     distances: &mut [u8],
     entry: usize,
     level: u8,
+    lesser: &[u8; 256],
     meter: &mut Meter,
 )
     requires filling { IsFilling turns.now level distances.old }
     requires in_range { entry < entry_count turns.now }
     requires at_level { entry_distance turns.now entry ≡ level }
     requires level { level < 20 }
+    requires lesser { AreLesser level lesser.now }
     requires meter { meter.old + length (turns_of turns.now) < 2 ^ 128 }
     ensures filling { IsFilling turns.now level distances.new }
     ensures extended { IsExtended turns.now distances.new entry }
@@ -37,7 +52,7 @@ fn extend_entry<A: Allocator>(
     for turn in turns.spelled() {
         meter.tick();
         let next = turns.after(turn_tables, entry, *turn);
-        distances[next] = distances[next].min(level + 1);
+        distances[next] = lesser[distances[next] as usize];
     }
 }
 
@@ -59,9 +74,10 @@ fn extend_level<A: Allocator>(
         * count_by (λ i. entry_distance turns.now i == level) (range_with_len 0 (entry_count turns.now)) }
 {
     entries_turn();
+    let lesser = lesser_bytes(level);
     let mut from = 0;
     while let Some(entry) = next_at(distances, from, level) {
-        extend_entry(turn_tables, turns, distances, entry, level, meter);
+        extend_entry(turn_tables, turns, distances, entry, level, &lesser, meter);
         from = entry + 1;
     }
 }
