@@ -1,5 +1,5 @@
 -- What one deepening finds and looks at, case by case, and how a sink goes through joined lists.
-use Rattle.std.proofs.Common.{◌≡◌, ℕ, zero, suc, ◌+◌, ◌-◌, ◌<◌, ◌≤◌, Bool, true, false, cond, leb, List, [], ◌∷◌, ◌++◌, length, take, drop, get_or, sum_by, refl, sym, ap, ◌∙◌, subst, arith, inl, inr, length-append}
+use Rattle.std.proofs.Common.{◌≡◌, ℕ, zero, suc, ◌+◌, ◌-◌, ◌<◌, ◌≤◌, Bool, true, false, cond, leb, List, [], ◌∷◌, ◌++◌, length, take, drop, get_or, sum_by, filter, refl, sym, ap, ◌∙◌, subst, arith, inl, inr, length-append}
 use Rattle.std.specs.Prelude.{flat_map}
 use Rattle.std.proofs.lemmas.Bool.{le-leb, lt-leb}
 use Rattle.std.proofs.lemmas.List.Sums.{sum_by_more_le, sum_by-le-sum_by}
@@ -14,6 +14,7 @@ use Rattle.niss_cube.specs.Steps.{turns_of}
 use Rattle.niss_search.specs.declared.tables.position.Coordinates.{Coordinates}
 use Rattle.niss_search.specs.Positions.{position_after, distance_at}
 use Rattle.niss_search.specs.Delivery.{WentThrough, StoppedIn}
+use Rattle.niss_search.proofs.ListLemmas.{flat_map-filter, sum_by-filter}
 use Rattle.niss_search.specs.Descent.{found, visits, found_below, looks_below, looks_beyond, found_after, looks_after}
 
 module _ (step : Step) (x : List Coordinates) (p : List Turn) where
@@ -157,19 +158,29 @@ module _ {K : Type 0} (took refused : K → List Turn → K → Type 0) where
         sym (ap (flat_map f) (take-append-drop i ts)) ∙ flat_map-append f (take i ts) (drop i ts) ∙ ap (λ (us : List Turn). flat_map f (take i ts) ++ flat_map f us) (drop-cons ts i d here) in
         rw parts (StoppedIn-after a b c (flat_map f (take i ts)) _ h (StoppedIn-before b c (f (get_or ts i d)) _ k))
 
-module _ (step : Step) (x : List Coordinates) (p : List Turn) (left : ℕ) (some : 0 < left) (near : distance_at step x ≤ left) (ts : List Turn) (all : ts ≡ turns_of step) where
+module _ (step : Step) (x : List Coordinates) (p : List Turn) (left : ℕ) (some : 0 < left) (near : distance_at step x ≤ left) (ts : List Turn) (all : ts ≡ filter (may_follow (last_turn p)) (turns_of step)) where
+  -- by the turns that may follow alone
+  pub found_below-listed : found_below step x p left ≡ flat_map (found_after step x p (left - 1)) ts
+  found_below-listed =
+      found_below-each step x p left some near
+      ∙ sym (flat_map-filter (found_after step x p (left - 1)) (may_follow (last_turn p)) (turns_of step) (found_after-not step x p (left - 1)))
+      ∙ ap (flat_map (found_after step x p (left - 1))) (sym all)
+
+  looks_below-listed : looks_below step x p left ≡ 1 + sum_by (looks_after step x p (left - 1)) ts
+  looks_below-listed =
+      let listed = sum_by-filter (looks_after step x p (left - 1)) (may_follow (last_turn p)) (turns_of step) (looks_after-not step x p (left - 1)) in
+      omega (arith, looks_below-each step x p left some near, listed, ap (sum_by (looks_after step x p (left - 1))) all)
+
   -- the looks so far and those of one turn more are within the looks
   pub looks_below-more : (i : ℕ) (d : Turn) → i < length ts → 1 + sum_by (looks_after step x p (left - 1)) (take i ts) + looks_after step x p (left - 1) (get_or ts i d) ≤ looks_below step x p left
   looks_below-more i d here =
-      let each = looks_below-each step x p left some near in
-      let e = ap (sum_by (looks_after step x p (left - 1))) all in
-      omega (arith, sum_by_more_le (looks_after step x p (left - 1)) ts i d here)
+      omega (arith, looks_below-listed, sum_by_more_le (looks_after step x p (left - 1)) ts i d here)
 
   pub looks_below-all : (i : ℕ) → length ts ≤ i → looks_below step x p left ≡ 1 + sum_by (looks_after step x p (left - 1)) (take i ts)
-  looks_below-all i past = looks_below-each step x p left some near ∙ ap (λ (us : List Turn). 1 + sum_by (looks_after step x p (left - 1)) us) (sym (take_all i ts past ∙ all))
+  looks_below-all i past = looks_below-listed ∙ ap (λ (us : List Turn). 1 + sum_by (looks_after step x p (left - 1)) us) (sym (take_all i ts past))
 
   pub found_below-all : (i : ℕ) → length ts ≤ i → found_below step x p left ≡ flat_map (found_after step x p (left - 1)) (take i ts)
-  found_below-all i past = found_below-each step x p left some near ∙ ap (flat_map (found_after step x p (left - 1))) (sym (take_all i ts past ∙ all))
+  found_below-all i past = found_below-listed ∙ ap (flat_map (found_after step x p (left - 1))) (sym (take_all i ts past))
 
   -- no more is found so far than was looked at
   pub found-so-far : (i : ℕ) → length (flat_map (found_after step x p (left - 1)) (take i ts)) ≤ sum_by (looks_after step x p (left - 1)) (take i ts)

@@ -123,3 +123,36 @@ range_with_len-more a zero = ap (λ k. k ∷ []) (sym (add-zero a))
 range_with_len-more a (suc n) =
     let next : a + 1 + n ≡ a + suc n = omega arith in
     ap (λ (l : List ℕ). a ∷ l) (range_with_len-more (a + 1) n ∙ ap (λ k. range_with_len (a + 1) n ++ k ∷ []) next)
+
+module _ {X : Type 0} where
+  -- what has nothing where a test fails may leave those out
+  pub flat_map-filter : {A : Type 0} (f : X → List A) (m : X → Bool) (xs : List X) → ((x : X) → m x ≡ false → f x ≡ []) → flat_map f (filter m xs) ≡ flat_map f xs
+  flat_map-filter f m [] h = refl
+  flat_map-filter {A = A} f m (x ∷ xs) h = by_test (m x) refl (flat_map-filter f m xs h) where
+    by_test : (b : Bool) → m x ≡ b → flat_map f (filter m xs) ≡ flat_map f xs → flat_map f (cond b (x ∷ filter m xs) (filter m xs)) ≡ f x ++ flat_map f xs
+    by_test true e rest = ap (λ (l : List A). f x ++ l) rest
+    by_test false e rest = rw (h x e) rest
+
+  pub sum_by-filter : (f : X → ℕ) (m : X → Bool) (xs : List X) → ((x : X) → m x ≡ false → f x ≡ 0) → sum_by f (filter m xs) ≡ sum_by f xs
+  sum_by-filter f m [] h = refl
+  sum_by-filter f m (x ∷ xs) h = by_test (m x) refl (sum_by-filter f m xs h) where
+    by_test : (b : Bool) → m x ≡ b → sum_by f (filter m xs) ≡ sum_by f xs → sum_by f (cond b (x ∷ filter m xs) (filter m xs)) ≡ sum_by f (x ∷ xs)
+    by_test true e rest = omega (arith, sum_by-cons f x (filter m xs), sum_by-cons f x xs)
+    by_test false e rest = omega (arith, sum_by-cons f x xs, h x e)
+
+  -- what passed the test is of the list
+  pub Contains-filter : (m : X → Bool) (xs : List X) (x : X) → Contains (filter m xs) x → Contains xs x
+  Contains-filter m [] x h = h
+  Contains-filter m (y ∷ ys) x h = by_test (m y) (Contains-filter m ys x) h where
+    by_test : (b : Bool) → (Contains (filter m ys) x → Contains ys x) → Contains (cond b (y ∷ filter m ys) (filter m ys)) x → Contains (y ∷ ys) x
+    by_test true rest (zero, l, e) = (0, omega arith, e)
+    by_test true rest (suc k, l, e) = Contains-later y ys x (rest (k, omega arith, e))
+    by_test false rest k = Contains-later y ys x (rest k)
+
+  pub passes-filter : (m : X → Bool) (xs : List X) (x : X) → Contains (filter m xs) x → m x ≡ true
+  passes-filter m [] x h = absurd (omega (arith, h.1))
+  passes-filter m (y ∷ ys) x h = by_test (m y) refl (passes-filter m ys x) h where
+    by_test : (b : Bool) → m y ≡ b → (Contains (filter m ys) x → m x ≡ true) → Contains (cond b (y ∷ filter m ys) (filter m ys)) x → m x ≡ true
+    by_test true e rest (zero, l, q) = ap m (sym q) ∙ e
+    by_test true e rest (suc k, l, q) = rest (k, omega arith, q)
+    by_test false e rest k = rest k

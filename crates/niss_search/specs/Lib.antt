@@ -8,4 +8,5 @@ pub mod Delivery
 pub mod Entries
 pub mod Laws
 pub mod Descent
+pub mod Followers
 pub mod Filling

@@ -1,6 +1,6 @@
 //! One deepening of the search, depth first.
-ghost use Rattle.std.specs.Prelude.{◌≡◌, ◌+◌, ◌<◌, ◌≤◌, ◌^◌, length, IfOk, OnOk, OnErr, Contains};
-ghost use Rattle.niss_moves.specs.Canonical.{last_turn};
+ghost use Rattle.std.specs.Prelude.{◌≡◌, ◌+◌, ◌<◌, ◌≤◌, ◌^◌, length, IfOk, OnOk, OnErr, IsTrue, Contains};
+ghost use Rattle.niss_moves.specs.Canonical.{may_follow, last_turn};
 ghost use Rattle.niss_cube.specs.Steps.{turns_of};
 ghost use Rattle.niss_search.specs.Cubes.{IsPosition};
 ghost use Rattle.niss_search.specs.Positions.{distance_at};
@@ -10,7 +10,7 @@ ghost use Rattle.niss_search.specs.Descent.{found_below, looks_below, looks_beyo
 use crate::sink::Sink;
 use crate::tables::{Meter, Position, Tables};
 use crate::turn_path::TurnPath;
-use niss_moves::{Turn, allowed};
+use niss_moves::Turn;
 use std::alloc::Allocator;
 
 /// Looks at the position of the path and, where the look allows, goes on below it with `left` turns more. Hands what it
@@ -67,21 +67,18 @@ fn extend<K: Sink, A: Allocator>(
         sink.take(path)?;
         return Ok(1);
     }
-    let last = path.last();
     let mut count = 0;
-    for turn in tables.step().turns() {
-        count += extend_by(tables, position, last, *turn, left - 1, path, meter, sink)?;
+    for turn in tables.turns_after(path.last()) {
+        count += extend_by(tables, position, *turn, left - 1, path, meter, sink)?;
     }
     Ok(count)
 }
 
-/// Looks at the position after the turn, where the turn may stand after the last one, and goes on below it with `left`
-/// turns more where the look allows.
+/// Looks at the position after a turn that may follow, and goes on below it with `left` turns more where the look allows.
 #[cycle(descent)]
 fn extend_by<K: Sink, A: Allocator>(
     tables: &Tables<A>,
     position: &Position,
-    last: Option<Turn>,
     turn: Turn,
     left: u8,
     path: &mut TurnPath,
@@ -89,8 +86,8 @@ fn extend_by<K: Sink, A: Allocator>(
     sink: &mut K,
 ) -> Result<u128, K::Fault>
     requires position { IsPosition tables.now position.now }
-    requires last { last ≡ last_turn path.old.turns }
     requires of_step { Contains (turns_of tables.now) turn }
+    requires follows { IsTrue (may_follow (last_turn path.old.turns) turn) }
     requires room { length path.old.turns + 1 + left ≤ path.old.limit }
     requires meter { meter.old + looks_after tables.now position.now path.old.turns left turn < 2 ^ 128 }
     ensures count { IfOk result (λ n. n ≡ length (found_after tables.now position.now path.old.turns left turn)) }
@@ -101,9 +98,6 @@ fn extend_by<K: Sink, A: Allocator>(
     ensures looks_at_most { meter.new ≤ meter.old + looks_after tables.now position.now path.old.turns left turn }
     ensures rises { meter.old ≤ meter.new }
 {
-    if !allowed(last, turn) {
-        return Ok(0);
-    }
     let next = tables.after(position, turn);
     if tables.look(&next, meter) > left {
         return Ok(0);

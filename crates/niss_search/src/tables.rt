@@ -1,11 +1,13 @@
 //! What a search knows of its step: where a turn leads, and what a look at a position answers.
 mod fill;
+mod followers;
 mod meter;
 mod position;
 mod step_turns;
 
 use crate::laws::positions_tell;
 use fill::fill_table;
+use followers::Followers;
 pub use meter::Meter;
 use niss_cube::{Cube, OutOfMemory, Step, Turn, TurnTables};
 pub use position::Position;
@@ -16,7 +18,7 @@ use step_turns::{count_for, goal_of};
 /// What a search needs of a step: where its turns lead, and its pruning table, a byte for each entry.
 #[derive(Drop)]
 pub struct Tables<A: Allocator = Global> {
-    step: Step,
+    followers: Followers,
     turn_tables: TurnTables<A>,
     distances: Vec<u8, A>,
 }
@@ -27,9 +29,9 @@ impl<A: Allocator> Model for Tables<A> {
 
     ghost Value = { steps.Step };
 
-    ghost view = { λ t. t.step };
+    ghost view = { λ t. t.followers };
 
-    ghost invariant = { λ t. IsTable t.step t.distances.items };
+    ghost invariant = { λ t. IsTable t.followers t.distances.items };
 }
 
 impl Tables {
@@ -52,7 +54,8 @@ impl Tables {
 }
 
 impl<A: Allocator> Tables<A> {
-    ghost use Rattle.std.specs.Prelude.{◌≡◌, ◌+◌, ◌*◌, ◌<◌, ◌≤◌, ◌^◌, ◌↔◌, length, IsTrue, Contains, IfOk, OnOk, OnErr};
+    ghost use Rattle.std.specs.Prelude.{◌≡◌, ◌+◌, ◌*◌, ◌<◌, ◌≤◌, ◌^◌, ◌↔◌, length, IsTrue, Contains, IfOk, OnOk, OnErr, filter};
+    ghost use Rattle.niss_moves.specs.Canonical.{may_follow};
     ghost use Rattle.niss_moves.specs.Places.{Place, SameMap};
     ghost use Rattle.niss_moves.specs.Effects.{turned};
     ghost use Rattle.niss_cube.specs.Map.{map_of};
@@ -78,7 +81,7 @@ impl<A: Allocator> Tables<A> {
         distances[0] = 0;
         fill_table(&turn_tables, step, &mut distances, meter);
         Ok(Tables {
-            step,
+            followers: Followers::of(step),
             turn_tables,
             distances,
         })
@@ -88,7 +91,14 @@ impl<A: Allocator> Tables<A> {
     pub fn step(&self) -> Step
         ensures { result ≡ self.now }
     {
-        self.step
+        self.followers.step()
+    }
+
+    /// The step's turns that may stand directly after the last one, in turn order.
+    pub(crate) fn turns_after(&self, last: Option<Turn>) -> &[Turn]
+        ensures { result.now ≡ filter (may_follow last) (turns_of self.now) }
+    {
+        self.followers.after(last)
     }
 
     /// The position of a cube on which the step may start.
@@ -98,7 +108,7 @@ impl<A: Allocator> Tables<A> {
         ensures position { IsPosition self.now result }
     {
         positions_tell();
-        Position::of(goal_of(self.step), cube)
+        Position::of(goal_of(self.step()), cube)
     }
 
     /// The position after one of the step's turns.

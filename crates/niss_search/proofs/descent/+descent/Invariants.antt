@@ -1,10 +1,10 @@
-use Rattle.std.proofs.Common.{◌≡◌, ◌+◌, ◌-◌, ◌*◌, ◌<◌, ◌≤◌, length, take, sum_by}
+use Rattle.std.proofs.Common.{◌≡◌, ◌+◌, ◌-◌, ◌*◌, ◌<◌, ◌≤◌, length, take, filter, sum_by}
 use Rattle.std.specs.Prelude.{flat_map}
 use Rattle.niss_cube.specs.Steps.{turns_of}
 use Rattle.niss_search.specs.Delivery.{WentThrough}
 use Rattle.niss_search.specs.Descent.{found_after, looks_after}
 use Rattle.niss_search.specs.Positions.{distance_at}
-use Rattle.niss_moves.specs.Canonical.{last_turn}
+use Rattle.niss_moves.specs.Canonical.{may_follow, last_turn}
 use Rattle.niss_search.proofs.descent.+descent.Given as goal
 
 abbrev pub decreases-extend : goal.decreases-extend
@@ -15,9 +15,8 @@ decreases-extend_by g l = 2 * l.left + 1
 
 abbrev pub invariant-extend-loop-turn : goal.invariant-extend-loop-turn
 invariant-extend-loop-turn g l = record {
-  items : l.turn-items ≡ turns_of l.tables;
+  items : l.turn-items ≡ filter (may_follow (last_turn l.fn.path.turns)) (turns_of l.tables);
   path : l.path ≡ l.fn.path;
-  last : l.last ≡ last_turn l.fn.path.turns;
   some_left : 0 < l.left;
   near : distance_at l.tables l.position ≤ l.left;
   took : WentThrough g.K.Sink.took l.fn.sink (flat_map (found_after l.tables l.position l.fn.path.turns (l.left - 1)) (take l.turn-index l.turn-items)) l.sink;

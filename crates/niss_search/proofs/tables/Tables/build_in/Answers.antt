@@ -21,7 +21,7 @@ invariant_of-result g c =
     let filled = c.fill_table.ensures.filled in
     let count : c.count_for.result ≡ entry_count c.args.step = omega (arith, entry_count-goal c.args.step, ap count_for c.goal_of.ensures, c.count_for.ensures) in
     let size : length c.fill_table.new.distances ≡ c.in-Ok.distances.len = omega (arith, filled.size, count, c.in-Ok.ensures.len) in
-    rw (take_at c.fill_table.new.distances _ _ size) (filled-all c.args.step c.fill_table.new.distances filled)
+    rw (take_at c.fill_table.new.distances _ _ size, c.of.ensures) (filled-all c.args.step c.fill_table.new.distances filled)
 
 pub returns-clause-at_most : goal.returns-clause-at_most
 returns-clause-at_most g c = omega (arith, c.fill_table.ensures.ticks, ticks-at-most c.args.step)
