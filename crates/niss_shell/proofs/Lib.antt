@@ -7,6 +7,7 @@ pub mod StateLemmas
 pub mod EngineLemmas
 pub mod AnswerLemmas
 pub mod SearchLemmas
+pub mod SolveLemmas
 pub mod RunLemmas
 pub mod NumberLemmas
 pub mod WordsLemmas

@@ -6,3 +6,4 @@ pub mod Output
 pub mod Work
 pub mod Engine
 pub mod Run
+pub mod SolveLaw
