@@ -1,20 +1,20 @@
 //! What a search knows of its step: where a turn leads, and what a look at a position answers.
+mod followers;
 mod meter;
 mod position;
-mod step_turns;
 
 use crate::laws::positions_tell;
+use followers::Followers;
 pub use meter::Meter;
 use niss_cube::{Cube, Goal, OutOfMemory, Step, Turn, TurnTables};
 pub use position::Position;
 use std::alloc::{Allocator, Global};
 use std::marker::Model;
-use step_turns::StepTurns;
 
 /// What a search needs of a step.
 #[derive(Drop)]
 pub struct Tables<A: Allocator = Global> {
-    turns: StepTurns,
+    followers: Followers,
     turn_tables: TurnTables<A>,
 }
 
@@ -23,7 +23,7 @@ impl<A: Allocator> Model for Tables<A> {
 
     ghost Value = { steps.Step };
 
-    ghost view = { λ t. t.turns };
+    ghost view = { λ t. t.followers };
 }
 
 impl Tables {
@@ -60,7 +60,7 @@ impl<A: Allocator> Tables<A> {
     {
         let turn_tables = TurnTables::build_in(alloc)?;
         Ok(Tables {
-            turns: StepTurns::of(step),
+            followers: Followers::of(step),
             turn_tables,
         })
     }
@@ -69,14 +69,14 @@ impl<A: Allocator> Tables<A> {
     pub fn step(&self) -> Step
         ensures { result ≡ self.now }
     {
-        self.turns.step()
+        self.followers.step()
     }
 
     /// The step's turns that may stand directly after the last one, in turn order.
     pub(crate) fn turns_after(&self, last: Option<Turn>) -> &[Turn]
         ensures { result.now ≡ filter (may_follow last) (turns_of self.now) }
     {
-        self.turns.after(last)
+        self.followers.after(last)
     }
 
     /// The position of a cube on which the step may start.

@@ -1,4 +1,4 @@
-use Rattle.std.proofs.Common.{arith, ◌≡◌, ◌+◌, ◌<◌, ◌≤◌, length, ◌-◌, List, [], ◌∷◌, ◌++◌, Contains, refl, sym, ◌∙◌, get_or, IsTrue, subst, ◌^◌, length-append}
+use Rattle.std.proofs.Common.{filter, arith, ◌≡◌, ◌+◌, ◌<◌, ◌≤◌, length, ◌-◌, List, [], ◌∷◌, ◌++◌, Contains, refl, sym, ◌∙◌, get_or, IsTrue, subst, ◌^◌, length-append}
 use Rattle.std.proofs.lemmas.List.Elements.{Contains-get_or}
 use Rattle.std.proofs.lemmas.List.Sums.{sum_by_more}
 use Rattle.std.proofs.lemmas.Result.{err_from_is_err_and}
@@ -51,7 +51,7 @@ extend-extend_by-requires g t c κs within =
     let Room : Path → Type 0 = λ q. length q.turns + 1 + (c.args.left - 1) ≤ q.limit in
     let Metered : Path → Type 0 = λ q. c.loop-turn.meter + looks_after step c.args.position.now q.turns (c.args.left - 1) d < 2 ^ 128 in
     let Listed : List Turn → Type 0 = λ ts. Contains ts d in
-    let listed = subst Listed inv.items (Contains-get_or items i record { face = U; power = Quarter } c.loop-turn-test.true) in
+    let listed = subst Listed {y = filter may (turns_of step)} inv.items (Contains-get_or items i record { face = U; power = Quarter } c.loop-turn-test.true) in
     let more = looks_below-more step c.args.position.now c.args.path.now.turns c.args.left inv.some_left inv.near items inv.items i record { face = U; power = Quarter } c.loop-turn-test.true in
     (omega arith, (within.0, (within.1.0, (within.1.1, (c.requires.position, (Contains-filter may (turns_of step) d listed, (subst Follows same (passes-filter may (turns_of step) d listed), (subst Room same (omega arith), subst Metered same (omega (arith, more))))))))))
 

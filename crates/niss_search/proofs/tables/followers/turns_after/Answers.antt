@@ -1,7 +1,7 @@
 use Rattle.std.proofs.Common.{arith, length, ap}
 use Rattle.niss_moves.specs.declared.turn.Turn.{Turn}
 use Rattle.niss_search.proofs.Bounds.{turns_of-length}
-use Rattle.niss_search.proofs.tables.step_turns.turns_after.Goals as goal
+use Rattle.niss_search.proofs.tables.followers.turns_after.Goals as goal
 
 pub loop-turn-init : goal.loop-turn-init
 loop-turn-init c =

@@ -1,4 +1,4 @@
-//! The turns of a step, listed by what they may follow.
+//! The turns of a step that may follow a turn.
 ghost use Rattle.std.specs.Prelude.{◌≡◌, None, filter};
 ghost use Rattle.niss_moves.specs.Canonical.{may_follow};
 ghost use Rattle.niss_moves.specs.declared.turn.Face.TheVariants.{U, D, R, L, F, B};
@@ -27,7 +27,7 @@ fn turns_after(step: Step, last: Option<Turn>) -> TurnList
 }
 
 /// The turns of a step that may stand directly after a turn of the face.
-fn followers(step: Step, face: Face) -> TurnList
+fn turns_after_face(step: Step, face: Face) -> TurnList
     ensures { result.items ≡ followers step face }
 {
     let last = Turn {
@@ -39,7 +39,7 @@ fn followers(step: Step, face: Face) -> TurnList
 
 /// A step with its turns, listed once by the face of the turn before them, so that a search need not test each turn.
 #[derive(Drop)]
-pub struct StepTurns {
+pub struct Followers {
     step: Step,
     first: TurnList,
     after_up: TurnList,
@@ -57,7 +57,7 @@ pub struct StepTurns {
     ghost back_are: { after_back.items ≡ followers step B },
 }
 
-impl Model for StepTurns {
+impl Model for Followers {
     ghost use Rattle.niss_cube.specs.declared.step.Step as steps;
 
     ghost Value = { steps.Step };
@@ -65,20 +65,20 @@ impl Model for StepTurns {
     ghost view = { λ s. s.step };
 }
 
-impl StepTurns {
+impl Followers {
     /// The turns of a step.
-    pub(super) fn of(step: Step) -> StepTurns
+    pub(super) fn of(step: Step) -> Followers
         ensures { result ≡ step }
     {
-        StepTurns {
+        Followers {
             step,
             first: turns_after(step, None),
-            after_up: followers(step, Face::U),
-            after_down: followers(step, Face::D),
-            after_right: followers(step, Face::R),
-            after_left: followers(step, Face::L),
-            after_front: followers(step, Face::F),
-            after_back: followers(step, Face::B),
+            after_up: turns_after_face(step, Face::U),
+            after_down: turns_after_face(step, Face::D),
+            after_right: turns_after_face(step, Face::R),
+            after_left: turns_after_face(step, Face::L),
+            after_front: turns_after_face(step, Face::F),
+            after_back: turns_after_face(step, Face::B),
         }
     }
 

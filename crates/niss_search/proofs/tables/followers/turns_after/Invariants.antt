@@ -1,7 +1,7 @@
 use Rattle.std.proofs.Common.{◌≡◌, ◌≤◌, length, take, filter}
 use Rattle.niss_moves.specs.Canonical.{may_follow}
 use Rattle.niss_cube.specs.Steps.{turns_of}
-use Rattle.niss_search.proofs.tables.step_turns.turns_after.Given as goal
+use Rattle.niss_search.proofs.tables.followers.turns_after.Given as goal
 
 abbrev pub invariant-loop-turn : goal.invariant-loop-turn
 invariant-loop-turn l = record {
