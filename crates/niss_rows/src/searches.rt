@@ -1,10 +1,12 @@
 //! Searches: what is handed out, how often positions are looked at, and what a refusal leaves.
 use crate::steps::cube_after;
-use niss_cube::Step;
+use linked_list_allocator::LocalHeap;
+use niss_cube::{OutOfMemory, Step};
 use niss_moves::{LineText, put_faces};
 use niss_search::{Limit, Meter, Outcome, Sink, Tables, TurnPath, next_at, search};
 use std::alloc::Global;
 use std::process::Abort;
+use std::test::Fail;
 
 /// Its path was one too many.
 #[derive(Clone, Copy, Debug, PartialEq, Eq)]
@@ -180,6 +182,29 @@ fn a_fill_counts_each_turn_it_tries(rt: HostRuntime) {
     let mut meter = Meter::new();
     assert!(rt; Tables::build(rt.alloc(), Step::DrudEofb, &mut meter).is_ok());
     assert_eq!(rt; meter.count(), 15_155_910u128);
+}
+
+#[test]
+fn tables_refused(rt: HostRuntime) -> Result<(), Fail> {
+    // three growths for the turn tables, of 170,288 bytes in all, and one for a byte an entry: each takes a multiple of 16
+    for (step, size) in [(Step::Eofb, 172_336usize), (Step::DrudEofb, 1_252_864)] {
+        for refused in [73_712usize, 152_448, 170_272, 170_288, size - 16] {
+            let heap = LocalHeap::new(rt.alloc(), refused)?;
+            let mut meter = Meter::new();
+            let answer = Tables::build_in(&heap, step, &mut meter).err();
+            assert_eq!(rt; answer, Some(OutOfMemory), "a heap of {refused}");
+            assert_eq!(rt; meter.count(), 0u128, "a heap of {refused}");
+            assert_eq!(rt; heap.used(), 0, "a heap of {refused}");
+        }
+        let heap = LocalHeap::new(rt.alloc(), size)?;
+        let mut meter = Meter::new();
+        assert!(rt;
+            Tables::build_in(&heap, step, &mut meter).is_ok(),
+            "a heap of {size}"
+        );
+        assert_eq!(rt; heap.used(), 0, "a heap of {size}");
+    }
+    Ok(())
 }
 
 #[test]

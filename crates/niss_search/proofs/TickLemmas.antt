@@ -1,5 +1,5 @@
 -- How many turns the fill tries: those of the entries at a distance of at most 19, counted by their numbers.
-use Rattle.std.proofs.Common.{◌≡◌, ℕ, zero, suc, ◌+◌, ◌*◌, ◌/◌, ◌%◌, ◌≤◌, ◌<◌, Bool, cond, List, [], ◌∷◌, ◌++◌, length, map, count_by, refl, sym, ap, ◌∙◌, arith, add-zero}
+use Rattle.std.proofs.Common.{◌≡◌, ℕ, zero, suc, ◌+◌, ◌*◌, ◌/◌, ◌%◌, ◌≤◌, ◌<◌, Bool, cond, List, [], ◌∷◌, ◌++◌, length, map, count_by, refl, sym, ap, ◌∙◌, arith, add-zero, lit≤, None}
 use Rattle.std.specs.Prelude.{flat_map, nat_le}
 use Rattle.std.specs.List.{range_with_len}
 use Rattle.std.proofs.lemmas.Nat.{div-mul-add, mod-mul-add}
@@ -8,10 +8,12 @@ use Rattle.std.proofs.lemmas.List.Sums.{sum_by-cons}
 use Rattle.std.proofs.lemmas.Grind.{flat_map-append}
 use Rattle.std.proofs.Math.Nat.{mul-le-mul, mul_comm}
 use Rattle.niss_moves.specs.declared.axis.Axis.{Axis}
-use Rattle.niss_cube.specs.Steps.{turns_of}
+use Rattle.niss_cube.specs.Steps.{start_of, turns_of}
 use Rattle.niss_cube.specs.declared.step.Goal.{Goal}
 use Rattle.niss_cube.specs.declared.step.Goal.TheVariants.{Edges, Domino}
 use Rattle.niss_cube.specs.declared.step.Step.{Step}
+use Rattle.niss_cube.specs.declared.step.Step.TheVariants.{Eofb, Eorl, Eoud, DrudEofb, DrrlEofb, DrudEorl, DrfbEorl, DrrlEoud, DrfbEoud}
+use Rattle.niss_search.specs.Laws.{EdgeFillIsSmall, FillIsSmall}
 use Rattle.niss_search.specs.declared.tables.position.Coordinates.{Coordinates}
 use Rattle.niss_search.specs.declared.tables.position.Coordinates.TheVariants.{Flip, TwistAndSlice}
 use Rattle.niss_search.specs.Positions.{distance_at}
@@ -101,3 +103,33 @@ ticks-at-most s =
     omega (arith, ticks-numbered s, within, mul_comm (length (turns_of s)) count) where
       turns-le : (n : ℕ) → n ≤ n
       turns-le n = omega arith
+
+most-ticks : (s : Step) → entry_count s * length (turns_of s) ≤ 15155910
+unfolding entry_count count_for turns_of
+most-ticks Eofb = lit≤ tt
+most-ticks Eorl = lit≤ tt
+most-ticks Eoud = lit≤ tt
+most-ticks DrudEofb = lit≤ tt
+most-ticks DrrlEofb = lit≤ tt
+most-ticks DrudEorl = lit≤ tt
+most-ticks DrfbEorl = lit≤ tt
+most-ticks DrrlEoud = lit≤ tt
+most-ticks DrfbEoud = lit≤ tt
+
+most-edge-ticks : (s : Step) → start_of s ≡ None → entry_count s * length (turns_of s) ≤ 36864
+unfolding entry_count count_for turns_of
+most-edge-ticks Eofb e = lit≤ tt
+most-edge-ticks Eorl e = lit≤ tt
+most-edge-ticks Eoud e = lit≤ tt
+most-edge-ticks DrudEofb e = absurd (cc)
+most-edge-ticks DrrlEofb e = absurd (cc)
+most-edge-ticks DrudEorl e = absurd (cc)
+most-edge-ticks DrfbEorl e = absurd (cc)
+most-edge-ticks DrrlEoud e = absurd (cc)
+most-edge-ticks DrfbEoud e = absurd (cc)
+
+pub fill-small : FillIsSmall
+fill-small s = omega (arith, ticks-at-most s, most-ticks s)
+
+pub edge-fill-small : EdgeFillIsSmall
+edge-fill-small s e = omega (arith, ticks-at-most s, most-edge-ticks s e)

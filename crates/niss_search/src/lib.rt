@@ -9,8 +9,8 @@
 //! ```
 //!
 //! The sink is handed every canonical sequence of least length that reaches the step, in turn order, and nothing else. The meter
-//! counts how often a position was looked at. A look is the only way to judge a position, and only a look makes the meter rise:
-//! both stand in `tables`, and the search sees neither the coordinates of a position nor the tick of a meter.
+//! counts the turns that a fill of the tables tries and the looks of searches. A look at a position answers its distance, by the
+//! pruning table. It is the only way to judge a position: the search sees neither its coordinates nor the tick of a meter.
 //!
 //! Contracts name a cube by its map of the 54 sticker places, and what is said of a position is said of every cube that has it
 //! (`specs/Cubes`). The functions of `laws` state what follows from the definitions alone.

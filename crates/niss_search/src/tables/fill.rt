@@ -14,8 +14,8 @@ use niss_cube::{Step, TurnTables};
 use std::alloc::Allocator;
 use std::mem;
 
-/// What each byte becomes where it is met from a level: the lesser of it and the next level. Looked up in a table, that
-/// has no branch, and none that is guessed wrong.
+/// What each byte becomes where it is met from a level: the lesser of it and the next level. Compared anew at each turn it
+/// would cost a branch that is often guessed wrong, and the fill almost twice its time.
 fn lesser_bytes(level: u8) -> [u8; 256]
     requires { level < 20 }
     ensures { AreLesser level result }

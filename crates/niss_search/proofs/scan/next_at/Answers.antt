@@ -25,9 +25,9 @@ returns-then-place-lt32-clause-found c =
     let inv = c.loop-block.invariant in
     let i = c.loop-block.block-index in
     let table = c.args.table.now in
-    let inside : i < length (drop c.args.from table) / 32 = within table c.args.from i c.as_chunks.result.0.now inv.blocks c.loop-block-test.true in
+    let inside : i < length (drop c.args.from table) / 32 = within table c.args.from i c.as_chunks.result.0.now inv.in_blocks c.loop-block-test.true in
     let room : c.loop-block.at + 32 ≤ length table = omega (arith, block-room c.args.from i table c.requires inside) in
-    let n = counted table c.args.from i c.loop-block.at c.first_in_block-place.result c.args.level c.as_chunks.result.0.now inv.blocks inside inv.at c.first_in_block-place.ensures in
+    let n = counted table c.args.from i c.loop-block.at c.first_in_block-place.result c.args.level c.as_chunks.result.0.now inv.in_blocks inside inv.at c.first_in_block-place.ensures in
     let stops = run_in_chunk_stops (λ x. x == c.args.level) table c.loop-block.at 32 c.first_in_block-place.result 0 room n c.if-place-lt32.true in
     (omega arith, omega arith, eqb-true _ _ stops)
 
@@ -43,9 +43,9 @@ returns-then-place-lt32-clause-least c =
     let inv = c.loop-block.invariant in
     let i = c.loop-block.block-index in
     let table = c.args.table.now in
-    let inside : i < length (drop c.args.from table) / 32 = within table c.args.from i c.as_chunks.result.0.now inv.blocks c.loop-block-test.true in
+    let inside : i < length (drop c.args.from table) / 32 = within table c.args.from i c.as_chunks.result.0.now inv.in_blocks c.loop-block-test.true in
     let room : c.loop-block.at + 32 ≤ length table = omega (arith, block-room c.args.from i table c.requires inside) in
-    let n = counted table c.args.from i c.loop-block.at c.first_in_block-place.result c.args.level c.as_chunks.result.0.now inv.blocks inside inv.at c.first_in_block-place.ensures in
+    let n = counted table c.args.from i c.loop-block.at c.first_in_block-place.result c.args.level c.as_chunks.result.0.now inv.in_blocks inside inv.at c.first_in_block-place.ensures in
     let fails = run_in_chunk_fails (λ x. x == c.args.level) table c.loop-block.at 32 c.first_in_block-place.result 0 room n in
     joined (λ k. slice_index table k ≢ c.args.level) c.args.from c.loop-block.at c.first_in_block-place.result inv.passed (λ k low high. eqb-false _ _ (fails k low high))
 
@@ -54,12 +54,12 @@ loop-block-preserved c =
     let inv = c.loop-block.invariant in
     let i = c.loop-block.block-index in
     let table = c.args.table.now in
-    let inside : i < length (drop c.args.from table) / 32 = within table c.args.from i c.as_chunks.result.0.now inv.blocks c.loop-block-test.true in
+    let inside : i < length (drop c.args.from table) / 32 = within table c.args.from i c.as_chunks.result.0.now inv.in_blocks c.loop-block-test.true in
     let room : c.loop-block.at + 32 ≤ length table = omega (arith, block-room c.args.from i table c.requires inside) in
-    let n = counted table c.args.from i c.loop-block.at c.first_in_block-place.result c.args.level c.as_chunks.result.0.now inv.blocks inside inv.at c.first_in_block-place.ensures in
+    let n = counted table c.args.from i c.loop-block.at c.first_in_block-place.result c.args.level c.as_chunks.result.0.now inv.in_blocks inside inv.at c.first_in_block-place.ensures in
     let fails = run_in_chunk_fails (λ x. x == c.args.level) table c.loop-block.at 32 c.first_in_block-place.result 0 room n in
     record {
-      blocks = inv.blocks;
+      in_blocks = inv.in_blocks;
       rest = inv.rest;
       at = omega arith;
       passed = joined (λ k. slice_index table k ≢ c.args.level) c.args.from c.loop-block.at 32 inv.passed (λ k low high. eqb-false _ _ (fails k low (omega arith)));
