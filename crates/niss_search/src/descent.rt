@@ -3,7 +3,7 @@ ghost use Rattle.std.specs.Prelude.{◌≡◌, ◌+◌, ◌<◌, ◌≤◌, ◌^
 ghost use Rattle.niss_moves.specs.Canonical.{may_follow, last_turn};
 ghost use Rattle.niss_cube.specs.Steps.{turns_of};
 ghost use Rattle.niss_search.specs.Cubes.{IsPosition};
-ghost use Rattle.niss_search.specs.Positions.{look_at};
+ghost use Rattle.niss_search.specs.Positions.{distance_at};
 ghost use Rattle.niss_search.specs.Delivery.{WentThrough, StoppedIn};
 ghost use Rattle.niss_search.specs.Descent.{found_below, looks_below, looks_beyond, found_after, looks_after};
 
@@ -52,7 +52,7 @@ fn extend<K: Sink, A: Allocator>(
     sink: &mut K,
 ) -> Result<u128, K::Fault>
     requires position { IsPosition tables.now position.now }
-    requires near { look_at position.now ≤ left }
+    requires near { distance_at tables.now position.now ≤ left }
     requires room { length path.old.turns + left ≤ path.old.limit }
     requires meter { meter.old + looks_beyond tables.now position.now path.old.turns left < 2 ^ 128 }
     ensures count { IfOk result (λ n. n ≡ length (found_below tables.now position.now path.old.turns left)) }

@@ -5,7 +5,7 @@ use Rattle.std.proofs.lemmas.Result.{err_from_is_err_and}
 use Rattle.niss_moves.specs.Canonical.{may_follow, last_turn}
 use Rattle.niss_moves.specs.declared.turn.Turn.{Turn}
 use Rattle.niss_search.specs.Descent.{found_after, looks_after, looks_below, looks_beyond}
-use Rattle.niss_search.specs.Positions.{look_at, position_after}
+use Rattle.niss_search.specs.Positions.{distance_at, position_after}
 use Rattle.niss_search.proofs.DescentLemmas.{found_below-far, looks_below-far, found_below-end, looks_below-end, looks_below-far, found_below-far, looks_below-one, looks_below-some, found_below-listed, found_after-may, looks_after-may, looks_below-some, length-found_after, WentThrough-one, StoppedIn-one, looks_below-more, looks_below-all, found_below-all, found-so-far, WentThrough-each, StoppedIn-each, length-flat_map-each}
 use Rattle.niss_cube.specs.Steps.{turns_of}
 use Rattle.niss_search.proofs.ListLemmas.{Contains-filter, passes-filter}
@@ -17,18 +17,18 @@ use Rattle.niss_search.proofs.descent.+descent.Goals as goal
 pub extend-returns-in_err-take-clause-err : goal.extend-returns-in_err-take-clause-err
 extend-returns-in_err-take-clause-err g t c =
     let p = err_from_is_err_and c.from_residual.result c.from_residual.ensures.1 in
-    let near : look_at c.args.position.now ≤ c.args.left = omega arith in
+    let near : distance_at c.args.tables.now c.args.position.now ≤ c.args.left = omega arith in
     rw (p.1, found_below-end _ _ _ _ c.if-left-eq0.true near)
     (StoppedIn-one g.K.Sink.took g.K.Sink.refused _ _ _ c.in_err-take.ensures.err)
 
 pub extend-returns-then-left-eq0-clause-count : goal.extend-returns-then-left-eq0-clause-count
 extend-returns-then-left-eq0-clause-count g t c =
-    let near : look_at c.args.position.now ≤ c.args.left = omega arith in
+    let near : distance_at c.args.tables.now c.args.position.now ≤ c.args.left = omega arith in
     rw (found_below-end _ _ _ _ c.if-left-eq0.true near)
 
 pub extend-returns-then-left-eq0-clause-ok : goal.extend-returns-then-left-eq0-clause-ok
 extend-returns-then-left-eq0-clause-ok g t c =
-    let near : look_at c.args.position.now ≤ c.args.left = omega arith in
+    let near : distance_at c.args.tables.now c.args.position.now ≤ c.args.left = omega arith in
     rw (found_below-end _ _ _ _ c.if-left-eq0.true near)
     (WentThrough-one g.K.Sink.took g.K.Sink.refused _ _ _ c.in_ok-take.ensures.ok)
 
@@ -148,28 +148,28 @@ pub extend_by-returns-then-look-left-clause-count : goal.extend_by-returns-then-
 extend_by-returns-then-look-left-clause-count g t c =
     let may = c.requires.follows in
     let all = found_after-may c.args.tables.now c.args.position.now c.args.path.now.turns c.args.left c.args.turn may in
-    let far : c.args.left < look_at c.after-next.result = omega arith in
+    let far : c.args.left < distance_at c.args.tables.now c.after-next.result = omega arith in
     rw (all, ← c.after-next.ensures.value, found_below-far c.args.tables.now c.after-next.result (c.args.path.now.turns ++ c.args.turn ∷ []) c.args.left far)
 
 pub extend_by-returns-then-look-left-clause-ok : goal.extend_by-returns-then-look-left-clause-ok
 extend_by-returns-then-look-left-clause-ok g t c =
     let may = c.requires.follows in
     let all = found_after-may c.args.tables.now c.args.position.now c.args.path.now.turns c.args.left c.args.turn may in
-    let far : c.args.left < look_at c.after-next.result = omega arith in
+    let far : c.args.left < distance_at c.args.tables.now c.after-next.result = omega arith in
     rw (all, ← c.after-next.ensures.value, found_below-far c.args.tables.now c.after-next.result (c.args.path.now.turns ++ c.args.turn ∷ []) c.args.left far) refl
 
 pub extend_by-returns-then-look-left-clause-looks : goal.extend_by-returns-then-look-left-clause-looks
 extend_by-returns-then-look-left-clause-looks g t c =
     let may = c.requires.follows in
     let all = looks_after-may c.args.tables.now c.args.position.now c.args.path.now.turns c.args.left c.args.turn may in
-    let far : c.args.left < look_at c.after-next.result = omega arith in
+    let far : c.args.left < distance_at c.args.tables.now c.after-next.result = omega arith in
     rw (all, ← c.after-next.ensures.value) (omega (arith, looks_below-far c.args.tables.now c.after-next.result (c.args.path.now.turns ++ c.args.turn ∷ []) c.args.left far))
 
 pub extend_by-returns-then-look-left-clause-looks_at_most : goal.extend_by-returns-then-look-left-clause-looks_at_most
 extend_by-returns-then-look-left-clause-looks_at_most g t c =
     let may = c.requires.follows in
     let all = looks_after-may c.args.tables.now c.args.position.now c.args.path.now.turns c.args.left c.args.turn may in
-    let far : c.args.left < look_at c.after-next.result = omega arith in
+    let far : c.args.left < distance_at c.args.tables.now c.after-next.result = omega arith in
     rw (all, ← c.after-next.ensures.value) (omega (arith, looks_below-far c.args.tables.now c.after-next.result (c.args.path.now.turns ++ c.args.turn ∷ []) c.args.left far))
 
 pub extend_by-extend-below-requires : goal.extend_by-extend-below-requires
