@@ -1,11 +1,9 @@
-//! Heaps with more and more room, up to one with room for all. In each earlier one some growth is refused. A room has
-//! fewer bytes more than the one before it than any growth behind the first asks for, so each growth is refused in one of
-//! them.
-use crate::coordinates::check_tables;
+//! Each growth refused in turn: in rooms that grow until one has room for all. Rooms differ by less than the smallest
+//! growth, so each growth is refused in one of them, whatever sizes the growths have.
 use crate::devices::{Bytes, Held};
 use crate::runs::{OUT_OF_MEMORY, Outcome, STEPS, words_of};
 use linked_list_allocator::LocalHeap;
-use niss_cube::{Cube, OutOfMemory, Step, TurnTables};
+use niss_cube::{Cube, OutOfMemory, Step};
 use niss_search::{Meter, Tables};
 use niss_shell::{run, run_in};
 use std::alloc::{AllocError, Global};
@@ -15,14 +13,18 @@ use std::test::Fail;
 /// The bytes of a heap with room for all.
 const AMPLE: usize = 1 << 21;
 
-// The words' bytes are the only growth.
-const BYTES_MORE_FOR_WORDS: u16 = 16;
+/// By how many bytes rooms differ where the words ask for the only growth.
+const FOR_WORDS: u16 = 16;
 
-// The smallest table has 2,048 bytes or more.
-const BYTES_MORE_FOR_EDGES: u16 = 2_000;
+/// The same for an edge orientation: each of its tables has 2,048 bytes or more. In the least room that isn't 0 the words
+/// fit.
+const FOR_EDGES: u16 = 2_000;
 
-// The smallest table has 17,820 bytes.
-const BYTES_MORE_FOR_DOMINOES: u16 = 16_000;
+/// The same for a domino reduction: each of its tables has 17,820 bytes or more.
+const FOR_DOMINOES: u16 = 16_000;
+
+/// What the source gives to a run that reads it.
+const INPUT: &[u8] = b"F";
 
 /// What leaves room for this many bytes.
 fn filler(heap: &LocalHeap, room: usize) -> Result<Vec<u8, &LocalHeap>, AllocError> {
@@ -31,7 +33,7 @@ fn filler(heap: &LocalHeap, room: usize) -> Result<Vec<u8, &LocalHeap>, AllocErr
 
 /// What a run of the words writes with ample memory.
 fn output_of(rt: &impl Abort, alloc: Global, words: &[String]) -> Vec<u8> {
-    let mut input = Bytes::new(b"", 1);
+    let mut input = Bytes::new(INPUT, 1);
     let mut out = Held::new(alloc, 1000);
     let mut err = Held::new(alloc, 1000);
     let status = run(
@@ -58,7 +60,7 @@ fn runs_in_room(
 ) -> Result<bool, AllocError> {
     let filled = filler(heap, room)?;
     let used = heap.used();
-    let mut input = Bytes::new(b"R", 1);
+    let mut input = Bytes::new(INPUT, 1);
     let mut out = Held::new(alloc, 1000);
     let mut err = Held::new(alloc, 1000);
     let mut looks = Meter::new();
@@ -68,8 +70,8 @@ fn runs_in_room(
         _ => Outcome::failure(b"", OUT_OF_MEMORY),
     };
     outcome.compare(rt, status, &out, &err);
-    assert_eq!(rt; input.reads, 0, "in {room} bytes");
-    assert!(rt; status == 0 || looks.count() == 0, "in {room} bytes");
+    let is_untouched = input.reads == 0 && out.writes == 0 && looks.count() == 0;
+    assert!(rt; status == 0 || is_untouched, "in {room} bytes");
     assert_eq!(rt; heap.used(), used, "in {room} bytes");
     drop(filled);
     Ok(status == 0)
@@ -93,13 +95,11 @@ fn check_run(rt: &impl Abort, alloc: Global, words: &[&str], more: u16) -> Resul
 
 #[test]
 fn each_growth_of_a_run(rt: HostRuntime) -> Result<(), Fail> {
-    let runs: [(&[&str], u16); 3] = [
-        (&["invert", "R U' F2"], BYTES_MORE_FOR_WORDS),
-        (&["solve", "eofb", "7", "F"], BYTES_MORE_FOR_EDGES),
-        (
-            &["count", "drud-eofb", "5", "R", "U"],
-            BYTES_MORE_FOR_DOMINOES,
-        ),
+    let runs: [(&[&str], u16); 4] = [
+        (&["invert", "R U' F2"], FOR_WORDS),
+        (&["solve", "eofb", "7", "F"], FOR_EDGES),
+        (&["solve", "eofb", "7"], FOR_EDGES),
+        (&["count", "drud-eofb", "5", "R", "U"], FOR_DOMINOES),
     ];
     for (words, more) in runs {
         check_run(&rt, rt.alloc(), words, more)?;
@@ -135,36 +135,6 @@ fn no_growth(rt: HostRuntime) -> Result<(), Fail> {
     };
     outcome.check_input(&rt, rt.alloc(), &heap, &words, &mut input);
     drop(filled);
-    Ok(())
-}
-
-/// Builds turn tables where a heap has this room, and answers whether that was enough.
-fn turn_tables_fit(rt: &impl Abort, heap: &LocalHeap, room: usize) -> Result<bool, AllocError> {
-    let filled = filler(heap, room)?;
-    let used = heap.used();
-    let built = TurnTables::build_in(heap);
-    let fit = built.is_ok();
-    if fit {
-        check_tables(rt, &built);
-    } else {
-        assert_eq!(rt; heap.used(), used, "in {room} bytes");
-    }
-    drop(built);
-    drop(filled);
-    Ok(fit)
-}
-
-#[test]
-fn each_growth_of_turn_tables(rt: HostRuntime) -> Result<(), Fail> {
-    let heap = LocalHeap::new(rt.alloc(), AMPLE)?;
-    for refused in 0..1000usize {
-        let room = refused * BYTES_MORE_FOR_DOMINOES as usize;
-        if turn_tables_fit(&rt, &heap, room)? {
-            assert!(rt; refused > 0);
-            return Ok(());
-        }
-    }
-    assert!(rt; false, "no room is enough");
     Ok(())
 }
 
@@ -215,8 +185,8 @@ fn check_step(rt: &impl Abort, alloc: Global, step: Step, more: u16) -> Result<(
 fn each_growth_of_a_step(rt: HostRuntime) -> Result<(), Fail> {
     for step in Step::all() {
         let more = match step.start_name() {
-            None => BYTES_MORE_FOR_EDGES,
-            Some(_) => BYTES_MORE_FOR_DOMINOES,
+            None => FOR_EDGES,
+            Some(_) => FOR_DOMINOES,
         };
         check_step(&rt, rt.alloc(), *step, more)?;
     }
