@@ -59,7 +59,7 @@ impl<'a> Outcome<'a> {
     }
 
     /// Compares it with what a run answered and what its targets hold.
-    fn compare(self, rt: &impl Abort, status: u8, out: &Held, err: &Held) {
+    pub fn compare(self, rt: &impl Abort, status: u8, out: &Held, err: &Held) {
         assert_eq!(rt; out.bytes.as_slice(), self.output);
         assert_eq!(rt; err.bytes.as_slice(), self.error);
         assert_eq!(rt; status, self.status);

@@ -257,3 +257,36 @@ fn limits_reach_20(rt: HostRuntime) {
     assert!(rt; Limit::new(21).is_none());
     assert!(rt; Limit::new(255).is_none());
 }
+
+/// The looks of a search whose sink refuses all paths behind the first `room`, at the cube that both F and B disorient.
+fn looks_until_refused(rt: &impl Abort, tables: &Tables, room: usize) -> u128 {
+    let cube = cube_after(rt, "F B");
+    assert!(rt; tables.step().may_start(&cube));
+    let mut path = TurnPath::new(Limit::new(5).expect(rt, "a limit"));
+    let mut meter = Meter::new();
+    let mut sink = Comparison {
+        wanted: &["F B", "F B'", "F' B", "F' B'"],
+        room,
+        taken: 0,
+        is_same: true,
+    };
+    let position = tables.position(&cube);
+    let answer = search(tables, &position, &mut path, &mut meter, &mut sink);
+    assert!(rt; answer.is_err() == (room < 4), "{room} paths");
+    assert!(rt; sink.is_same, "{room} paths");
+    assert_eq!(rt; sink.taken, room, "{room} paths");
+    assert!(rt; path.turns().is_empty(), "{room} paths");
+    assert_eq!(rt; path.limit().get(), 5, "{room} paths");
+    meter.count()
+}
+
+#[test]
+fn each_path_is_refused(rt: HostRuntime) {
+    let tables = Tables::build(rt.alloc(), Step::Eofb, &mut Meter::new()).expect(&rt, "tables");
+    let mut looks = looks_until_refused(&rt, &tables, 4);
+    for room in [3, 2, 1, 0] {
+        let fewer = looks_until_refused(&rt, &tables, room);
+        assert!(rt; fewer < looks, "{room} paths");
+        looks = fewer;
+    }
+}
