@@ -22,6 +22,7 @@ all_of t [] h = refl
 all_of t (x ∷ xs) h = rw (h x) (all_of t xs h)
 
 pub kept-tested : (set : Place → Bool) (e : Place → Place) → ((q : Place) → set q ≡ true → is_place q ≡ true) → IsTrue (is_kept set e) ↔ Kept set e
+unfolding is_kept
 kept-tested set e inside = (
   (λ h q m. implied (set q) (set (e q)) (at_place (λ q. not (set q) || set (e q)) h q (inside q m)) m),
   (λ k. all_of (λ q. not (set q) || set (e q)) places (λ q. implies (set q) (set (e q)) (k q))),

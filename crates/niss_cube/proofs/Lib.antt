@@ -29,6 +29,8 @@ pub mod SetPlaces
 pub mod ShownCubies
 pub mod SliceCodes
 pub mod SliceSteps
+pub mod StepMaps
+pub mod StepTurns
 pub mod StickerPlaces
 pub mod Sums
 pub mod TableSteps

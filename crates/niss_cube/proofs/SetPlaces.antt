@@ -1,8 +1,11 @@
 -- The sets of the coordinates have places only, and whether a set of places is kept tells of the places alone.
-use Rattle.std.proofs.Common.{◌≡◌, refl, sym, ◌∙◌, ap, Bool, true, ◌||◌, not}
+use Rattle.std.proofs.Common.{◌≡◌, refl, sym, ◌∙◌, ap, ℕ, ◌==◌, Bool, true, false, ◌||◌, not, inl, inr}
+use Rattle.std.specs.Prelude.{◌↔◌}
+use Rattle.std.proofs.lemmas.Bool.Decides.{eqb_tells}
 use Rattle.niss_moves.specs.Places.{Place, is_place, is_corner, is_edge, SameMap}
-use Rattle.niss_cube.specs.Sets.{Kept, ArePlaces, SetsArePlaces}
+use Rattle.niss_cube.specs.Sets.{Kept, ArePlaces, SetsArePlaces, is_kept}
 use Rattle.niss_cube.proofs.Each.{and_left, each_record, at_record, or_then}
+use Rattle.niss_cube.proofs.KeptTests.{kept-tested}
 
 corners_test : each_record (λ q. not (is_corner q) || is_place q) ≡ true
 corners_test = refl
@@ -25,3 +28,14 @@ sets_are_places = record {
 
 pub kept_same : (set : Place → Bool) (d e : Place → Place) → ArePlaces set → SameMap d e → Kept set d → Kept set e
 kept_same set d e inside s kept q m = ap set (sym (s q (inside q m))) ∙ kept q m
+
+is_false : (b : Bool) → (b ≡ true → ⊥) → b ≡ false
+is_false true h = absurd (h refl)
+is_false false h = refl
+
+-- A number that is 0 where a set is kept gives the test of the set.
+pub zero_tells : (set : Place → Bool) (e : Place → Place) (n : ℕ) → ArePlaces set → (n ≡ 0) ↔ Kept set e → (n == 0) ≡ is_kept set e
+zero_tells set e n inside zero = elim (eqb_tells n 0) [
+  | inl w ↦ w.0 ∙ sym ((kept-tested set e inside).1 (zero.0 w.1))
+  | inr w ↦ w.0 ∙ sym (is_false (is_kept set e) (λ t. w.1 (zero.1 ((kept-tested set e inside).0 t))))
+]

@@ -19,3 +19,5 @@ pub mod AfterTurn
 pub mod TableRows
 pub mod StandardCoordinates
 pub mod RotatedText
+pub mod Steps
+pub mod StepLaws

@@ -34,7 +34,7 @@ abbrev pub Kept : (Place → Bool) → (Place → Place) → Type 0
 Kept set e = (q : Place) → IsTrue (set q) → IsTrue (set (e q))
 
 -- the same as a test over the 54 places
-abbrev pub is_kept : (Place → Bool) → (Place → Place) → Bool
+unfoldable pub is_kept : (Place → Bool) → (Place → Place) → Bool
 is_kept set e = list_all (λ q. not (set q) || set (e q)) places
 
 -- The test tells where a set is kept, for each set of the 54 places.

@@ -3,6 +3,7 @@ ghost use Rattle.niss_cube.specs.AfterTurn.{TurnedIsCube, FlipsAreCoordinates, T
 ghost use Rattle.niss_cube.specs.Sets.{KeptIsTested, SetsArePlaces};
 ghost use Rattle.niss_cube.specs.Permutations.{CubesPermutePlaces, KeptIsEqual};
 ghost use Rattle.niss_cube.specs.SameLetters.{SameLetters};
+ghost use Rattle.niss_cube.specs.StepLaws.{StartIsKept, StepsSeePlaces, InversesOfSteps, StepTurnsInOrder};
 
 /// A turned cube is a cube.
 pub fn turned_is_cube()
@@ -47,4 +48,24 @@ pub fn kept_is_tested()
 /// The sets of the coordinates have sticker places only.
 pub fn sets_are_places()
     ensures { SetsArePlaces }
+{}
+
+/// A step that may start may start after each of its turns too.
+pub fn start_is_kept()
+    ensures { StartIsKept }
+{}
+
+/// Whether a step may start and whether it is reached tells of the 54 sticker places alone.
+pub fn steps_see_places()
+    ensures { StepsSeePlaces }
+{}
+
+/// The turns of a step hold their inverses.
+pub fn inverses_of_steps()
+    ensures { InversesOfSteps }
+{}
+
+/// The turns of a step are some of the 18, in turn order.
+pub fn step_turns_in_order()
+    ensures { StepTurnsInOrder }
 {}

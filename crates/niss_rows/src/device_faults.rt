@@ -33,6 +33,21 @@ fn each_write_fails(rt: HostRuntime) -> Result<(), Fail> {
 }
 
 #[test]
+fn each_write_of_solutions_fails(rt: HostRuntime) -> Result<(), Fail> {
+    let words = words_of(rt.alloc(), &["solve", "eofb", "5", "F B"])?;
+    let output = b"F B (2)\nF B' (2)\nF' B (2)\nF' B' (2)\n\n";
+    for before in 0..output.len() {
+        let mut input = Bytes::new(b"", 1);
+        let mut out = Held::failing_at(rt.alloc(), 1, before + 1);
+        let mut err = Held::new(rt.alloc(), 1000);
+        let outcome = Outcome::failure(&output[..before], CANNOT_WRITE);
+        outcome.check(&rt, rt.alloc(), &words, &mut input, &mut out, &mut err);
+        assert_eq!(rt; out.writes, before + 1, "after {before} writes");
+    }
+    Ok(())
+}
+
+#[test]
 fn no_bytes_taken(rt: HostRuntime) -> Result<(), Fail> {
     let words = words_of(rt.alloc(), &["invert", "R U' F2"])?;
     let mut input = Bytes::new(b"", 1);

@@ -13,6 +13,8 @@ mod device_faults;
 #[cfg(test)]
 mod devices;
 #[cfg(test)]
+mod draws;
+#[cfg(test)]
 mod limits;
 #[cfg(test)]
 mod memory;
@@ -25,4 +27,12 @@ mod rotations;
 #[cfg(test)]
 mod runs;
 #[cfg(test)]
+mod scrambles;
+#[cfg(test)]
+mod searches;
+#[cfg(test)]
+mod solving;
+#[cfg(test)]
 mod std_streams;
+#[cfg(test)]
+mod steps;

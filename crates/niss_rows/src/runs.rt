@@ -1,12 +1,16 @@
 ghost use Rattle.std.specs.Prelude.{◌≡◌, Bool, true, false};
 
 use crate::devices::{Bytes, Held};
-use niss_shell::{Source, run, run_in};
+use niss_shell::{Meter, Source, run, run_in};
 use std::alloc::{AllocError, Allocator, Global};
 use std::process::Abort;
 
 /// What is told of wrong words.
 pub const USAGE: &str = "usage: nissy COMMAND [ARGUMENTS]\n";
+
+/// What `steps` writes.
+pub const STEPS: &str =
+    "eofb\neorl\neoud\ndrud-eofb\ndrrl-eofb\ndrud-eorl\ndrfb-eorl\ndrrl-eoud\ndrfb-eoud\n";
 
 /// What is told of an input above the limit.
 pub const TOO_LONG: &[u8] = b"nissy: input longer than 16777216 bytes\n";
@@ -62,7 +66,7 @@ impl<'a> Outcome<'a> {
     }
 
     /// Runs the words over these devices, with memory of `heap`.
-    pub fn check<A: Allocator, R: Source>(
+    pub fn check<A: Allocator + Copy, R: Source>(
         self,
         rt: &impl Abort,
         heap: A,
@@ -76,12 +80,12 @@ impl<'a> Outcome<'a> {
         requires write_works { out.old.write_failed ≡ false }
         requires flush_works { out.old.flush_failed ≡ false }
     {
-        let status = run_in(heap, words, input, out, err);
+        let status = run_in(heap, words, input, out, err, &mut Meter::new());
         self.compare(rt, status, out, err);
     }
 
     /// Runs the words over this source and over targets that take all.
-    pub fn check_input<A: Allocator, R: Source>(
+    pub fn check_input<A: Allocator + Copy, R: Source>(
         self,
         rt: &impl Abort,
         alloc: Global,
@@ -131,13 +135,15 @@ impl<'a> Run<'a> {
         }
     }
 
-    /// Runs it over a source that gives few bytes in a read, and targets that take few in a write.
-    pub fn check(self, rt: &impl Abort, alloc: Global) -> Result<(), AllocError> {
+    /// Runs it over a source that gives few bytes in a read, and targets that take few in a write, and answers the looks
+    /// at positions.
+    pub fn check(self, rt: &impl Abort, alloc: Global) -> Result<u128, AllocError> {
         let words = words_of(alloc, self.words)?;
         let mut input = Bytes::new(self.input, 3);
         let mut out = Held::new(alloc, 5);
         let mut err = Held::new(alloc, 1);
-        let status = run(alloc, &words, &mut input, &mut out, &mut err);
+        let mut looks = Meter::new();
+        let status = run(alloc, &words, &mut input, &mut out, &mut err, &mut looks);
         let outcome = Outcome {
             output: self.output.as_bytes(),
             error: self.error.as_bytes(),
@@ -145,6 +151,6 @@ impl<'a> Run<'a> {
         };
         outcome.compare(rt, status, &out, &err);
         assert_eq!(rt; out.flushes, 1);
-        Ok(())
+        Ok(looks.count())
     }
 }

@@ -1,7 +1,7 @@
 //! Runs over readers and writers of `std::io`.
 use crate::devices::Held;
 use crate::runs::{CANNOT_READ, CANNOT_WRITE, Outcome, words_of};
-use niss_shell::{FromReader, ToWriter, run};
+use niss_shell::{FromReader, Meter, ToWriter, run};
 use std::io;
 use std::io::{Cursor, Read};
 use std::test::Fail;
@@ -135,6 +135,7 @@ fn all_works(rt: HostRuntime) -> Result<(), Fail> {
         &mut FromReader::new(Cursor::new(b"R U\n".as_slice())),
         &mut ToWriter::new(&mut output),
         &mut ToWriter::new(&mut error),
+        &mut Meter::new(),
     );
     assert_eq!(rt; status, 0);
     assert_eq!(rt; output.as_slice(), b"U' R'\n".as_slice());
@@ -175,6 +176,7 @@ fn each_write_fails_once(rt: HostRuntime) -> Result<(), Fail> {
                 &mut FromReader::new(Cursor::new(b"".as_slice())),
                 &mut ToWriter::new(&mut writer),
                 &mut err,
+                &mut Meter::new(),
             );
             assert_eq!(rt; err.bytes.as_slice(), CANNOT_WRITE);
             assert_eq!(rt; status, 3);
@@ -195,6 +197,7 @@ fn no_bytes_taken(rt: HostRuntime) -> Result<(), Fail> {
         &mut FromReader::new(Cursor::new(b"".as_slice())),
         &mut ToWriter::new(&mut writer),
         &mut err,
+        &mut Meter::new(),
     );
     assert_eq!(rt; err.bytes.as_slice(), CANNOT_WRITE);
     assert_eq!(rt; status, 3);
@@ -212,6 +215,7 @@ fn last_flush_fails(rt: HostRuntime) -> Result<(), Fail> {
         &mut FromReader::new(Cursor::new(b"R U\n".as_slice())),
         &mut ToWriter::new(UnflushedWriter),
         &mut err,
+        &mut Meter::new(),
     );
     assert_eq!(rt; status, 3);
     assert_eq!(rt; err.bytes.as_slice(), CANNOT_WRITE);
@@ -240,6 +244,7 @@ fn one_flush(rt: HostRuntime) -> Result<(), Fail> {
             &mut FromReader::new(Cursor::new(input)),
             &mut ToWriter::new(&mut writer),
             &mut err,
+            &mut Meter::new(),
         );
         assert_eq!(rt; answered, status);
         assert_eq!(rt; writer.bytes, bytes);

@@ -1,6 +1,6 @@
 -- How the bytes that several calls move join.
 use Rattle.std.proofs.Common.{◌≡◌, ℕ, zero, suc, ◌≢◌, ◌<◌, ◌||◌, Bool, true, false, Option, Some, None, List, [], ◌∷◌, ◌++◌, length, refl, sym, ap, ◌∙◌, subst, append_assoc, append-nil, arith}
-use Rattle.std.proofs.Math.Bool.{or-false, or-true}
+use Rattle.std.proofs.Math.Bool.{or-false}
 use Rattle.std.proofs.lemmas.Bool.{or_parts}
 use Rattle.niss_shell.specs.Device.{SourceState, TargetState, has_fault, GaveOf, Gave, AppendedOf, Appended, StaysSilentOf, StaysSilent, is_empty_answer}
 
@@ -42,9 +42,6 @@ pub same_fault : (s t : TargetState) (refused : Bool) → t.write_failed ≡ (s.
     → refused ≡ false → has_fault t ≡ has_fault s
 same_fault s t refused p q e =
     ap (λ f. f || t.flush_failed) (p ∙ ap (λ f. s.write_failed || f) e ∙ or-false s.write_failed) ∙ ap (λ f. s.write_failed || f) q
-
-pub new_fault : (s t : TargetState) (refused : Bool) → t.write_failed ≡ (s.write_failed || refused) → refused ≡ true → t.write_failed ≡ true
-new_fault s t refused p e = p ∙ ap (λ f. s.write_failed || f) e ∙ or-true s.write_failed
 
 pub fault_of_write : (t : TargetState) → t.write_failed ≡ true → has_fault t ≡ true
 fault_of_write t e = ap (λ f. f || t.flush_failed) e

@@ -1,71 +1,91 @@
 -- How the engine's steps join.
-use Rattle.std.proofs.Common.{◌≡◌, ℕ, ◌+◌, ◌<◌, ◌==◌, take, drop, get_or, Bool, true, false, if◌then◌else◌, None, Result, Ok, Err, List, [], ◌∷◌, ◌++◌, length, refl, sym, ap, ◌∙◌, subst, append_assoc, append-nil, length-append, arith}
+use Rattle.std.proofs.Common.{◌≡◌, ℕ, ◌+◌, ◌*◌, ◌<◌, ◌==◌, take, drop, get_or, Bool, true, false, if◌then◌else◌, Some, None, Result, Ok, Err, List, [], ◌∷◌, ◌++◌, length, refl, sym, ap, ◌∙◌, subst, append-nil, length-append, arith}
+use Rattle.std.specs.Prelude.{sum_by}
 use Rattle.std.proofs.lemmas.List.{take_more, take-append-drop}
-use Rattle.niss_shell.specs.Device.{TargetState, has_fault, Appended, IsCut, WriteRefused}
-use Rattle.niss_shell.specs.Lines.{ended_lines, last_part, written_text, text_before, first_fault, fault_before}
+use Rattle.niss_shell.specs.Device.{has_fault}
+use Rattle.niss_shell.specs.Lines.{ended_lines, last_part, written_text, text_before, answered_lines, lines_before, first_fault, fault_before}
 use Rattle.niss_moves.specs.Reader.{IsFed}
-use Rattle.niss_shell.specs.Output.{answer}
-use Rattle.niss_shell.specs.Engine.{AllAnswered, StopsWithin, TakesBytes, AnswersLine}
-use Rattle.niss_shell.specs.declared.command.LineCommand.{LineCommand}
-use Rattle.niss_moves.specs.declared.fault.ReadFault.{ReadFault}
+use Rattle.niss_shell.specs.Output.{LineAnswers, looks_for, most_looks_for}
+use Rattle.niss_shell.specs.Engine.{AnswerState, WritesAnswers, Refuses, AllAnswered, StopsWithin, TakesBytes, AnswersLine, AnswersBytes}
+use Rattle.niss_shell.specs.declared.stop.LineFault.{LineFault}
 use Rattle.niss_shell.specs.declared.stop.Stop.{Stop}
 use Rattle.niss_shell.specs.declared.stop.Stop.TheVariants.{Done, Line, Usage, InputTooLong, CannotRead, CannotWrite, OutOfMemory}
 use Rattle.niss_shell.specs.declared.lines.Progress.{Progress}
-use Rattle.niss_shell.proofs.DeviceLemmas.{appended_nothing, appended_more, no_flush_fault}
+use Rattle.niss_shell.proofs.StateLemmas.{writes_nothing, writes_more, writes_as, refuses_more, refuses_front, refuses_as, looks_for-append, most_looks_for-append, looks_for-stays, most_looks_for-stays, looks_for-front, most_looks_for-front}
 use Rattle.niss_shell.proofs.LinesLemmas.{ended_lines-append, last_part-append, first_fault-append, first_fault-stays, written_text-append, written_text-stays, written_text-front}
 
 -- one line that is answered
-pub answered_line : (f : List ℕ → Result (List ℕ) ReadFault) (n : ℕ) (front : List ℕ) (r : Result (List ℕ) ReadFault) (u : Unit {0}) (old new : TargetState)
-    → f front ≡ r → AnswersLine r n (Ok u) old new → AllAnswered f n (front ∷ []) old new
-unfolding first_fault written_text
+
+one_text : (f : LineAnswers) (front text : List ℕ) → f.answer_of front ≡ Ok text → text ≡ written_text f.answer_of (front ∷ [])
+unfolding written_text
+one_text f front text e = sym (ap (λ r. text_before r []) e ∙ append-nil text)
+
+one_look : (f : LineAnswers) (front text : List ℕ) → f.answer_of front ≡ Ok text → f.looks_of front ≡ looks_for f (front ∷ [])
+unfolding answered_lines
+one_look f front text e =
+    let k : looks_for f (front ∷ []) ≡ 0 + f.looks_of front = ap (λ r. sum_by f.looks_of (lines_before r front [])) e in omega (arith, k)
+
+one_most : (f : LineAnswers) (front text : List ℕ) → f.answer_of front ≡ Ok text → f.most_looks ≡ most_looks_for f (front ∷ [])
+unfolding answered_lines
+one_most f front text e =
+    let k : most_looks_for f (front ∷ []) ≡ f.most_looks * 1 = ap (λ r. f.most_looks * length (lines_before r front [])) e in omega (arith, k)
+
+no_text : (f : LineAnswers) (front : List ℕ) (fault : LineFault) → f.answer_of front ≡ Err fault → [] ≡ written_text f.answer_of (front ∷ [])
+unfolding written_text
+no_text f front fault e = sym (ap (λ r. text_before r []) e)
+
+no_look : (f : LineAnswers) (front : List ℕ) (fault : LineFault) → f.answer_of front ≡ Err fault → 0 ≡ looks_for f (front ∷ [])
+unfolding answered_lines
+no_look f front fault e = sym (ap (λ r. sum_by f.looks_of (lines_before r front [])) e)
+
+no_most : (f : LineAnswers) (front : List ℕ) (fault : LineFault) → f.answer_of front ≡ Err fault → 0 ≡ most_looks_for f (front ∷ [])
+unfolding answered_lines
+no_most f front fault e =
+    let k : most_looks_for f (front ∷ []) ≡ f.most_looks * 0 = ap (λ r. f.most_looks * length (lines_before r front [])) e in omega (arith, k)
+
+pub answered_line : (f : LineAnswers) (n : ℕ) (front : List ℕ) (r : Result (List ℕ) LineFault) (u : Unit {0}) (old new : AnswerState)
+    → f.answer_of front ≡ r → AnswersLine r (f.looks_of front) f.most_looks n (Ok u) old new → AllAnswered f n (front ∷ []) old new
+unfolding first_fault
 answered_line f n front (Ok text) u old new e p = record {
   faultless = ap (λ r. fault_before r n None) e;
-  works = p.0;
-  written = subst (λ t. Appended old new t) (sym (ap (λ r. text_before r []) e ∙ append-nil text)) p.1;
+  writes = writes_as text _ (f.looks_of front) f.most_looks _ _ old new (one_text f front text e) (one_look f front text e) (one_most f front text e) p;
 }
 answered_line f n front (Err fault) u old new e p = absurd p
 
-pub stopped_line : (f : List ℕ → Result (List ℕ) ReadFault) (n : ℕ) (front : List ℕ) (r : Result (List ℕ) ReadFault) (stop : Stop) (old new : TargetState)
-    → f front ≡ r → AnswersLine r n (Err stop) old new → StopsWithin f n (front ∷ []) stop old new
-unfolding first_fault written_text
+pub stopped_line : (f : LineAnswers) (n : ℕ) (front : List ℕ) (r : Result (List ℕ) LineFault) (stop : Stop) (old new : AnswerState)
+    → f.answer_of front ≡ r → AnswersLine r (f.looks_of front) f.most_looks n (Err stop) old new → StopsWithin f n (front ∷ []) stop old new
+unfolding first_fault
 stopped_line f n front (Ok text) stop old new e p =
     subst (λ s. StopsWithin f n (front ∷ []) s old new) (sym p.0)
-    (record {
-      refused = p.1.refused;
-      part = p.1.part;
-      cut = subst (λ t. IsCut p.1.part t) (sym (ap (λ r. text_before r []) e ∙ append-nil text)) p.1.cut;
-      appended = p.1.appended;
-      flushes_work = p.1.flushes_work;
-    })
+    (refuses_as text _ (f.looks_of front) f.most_looks _ _ old new (one_text f front text e) (one_look f front text e) (one_most f front text e) p.1)
 stopped_line f n front (Err fault) stop old new e p =
     subst (λ s. StopsWithin f n (front ∷ []) s old new) (sym p.0)
     (record {
       first = ap (λ r. fault_before r n None) e;
-      works = p.1;
-      written = subst (λ t. Appended old new t) (sym (ap (λ r. text_before r []) e)) p.2;
+      writes = writes_as [] _ 0 0 _ _ old new (no_text f front fault e) (no_look f front fault e) (no_most f front fault e) p.1;
     })
 
 -- a line feed
-takes_line_feed : (command : LineCommand) (front : List ℕ) (n : ℕ) (q : Progress) (result : Result (Unit {0}) Stop) (old new : TargetState)
-    → AnswersLine (answer command front) n result old new
+takes_line_feed : (f : LineAnswers) (front : List ℕ) (n : ℕ) (q : Progress) (result : Result (Unit {0}) Stop) (old new : AnswerState)
+    → AnswersBytes f front n result old new
     → IsFed q.reader [] → q.line ≡ n + 1
-    → TakesBytes command front (10 ∷ []) n q result old new
+    → TakesBytes f front (10 ∷ []) n q result old new
 unfolding ended_lines last_part
-takes_line_feed command front n q (Ok u) old new answers reader line = (
-  answered_line (answer command) n front (answer command front) u old new refl answers,
+takes_line_feed f front n q (Ok u) old new answers reader line = (
+  answered_line f n front (f.answer_of front) u old new refl answers,
   record { reader = reader; line = line },
 )
-takes_line_feed command front n q (Err stop) old new answers reader line =
-    stopped_line (answer command) n front (answer command front) stop old new refl answers
+takes_line_feed f front n q (Err stop) old new answers reader line =
+    stopped_line f n front (f.answer_of front) stop old new refl answers
 
-pub takes_end_of_line : (command : LineCommand) (front : List ℕ) (byte n : ℕ) (q : Progress) (result : Result (Unit {0}) Stop) (old new : TargetState)
+pub takes_end_of_line : (f : LineAnswers) (front : List ℕ) (byte n : ℕ) (q : Progress) (result : Result (Unit {0}) Stop) (old new : AnswerState)
     → byte ≡ 10
-    → AnswersLine (answer command front) n result old new
+    → AnswersBytes f front n result old new
     → IsFed q.reader [] → q.line ≡ n + 1
-    → TakesBytes command front (byte ∷ []) n q result old new
-takes_end_of_line command front byte n q result old new e answers reader line =
-    subst (λ b. TakesBytes command front (b ∷ []) n q result old new) (sym e)
-    (takes_line_feed command front n q result old new answers reader line)
+    → TakesBytes f front (byte ∷ []) n q result old new
+takes_end_of_line f front byte n q result old new e answers reader line =
+    subst (λ b. TakesBytes f front (b ∷ []) n q result old new) (sym e)
+    (takes_line_feed f front n q result old new answers reader line)
 
 -- another byte
 other_ended : (c : Bool) (front : List ℕ) (b : ℕ) → c ≡ false → (if c then front ∷ ended_lines [] [] else ended_lines (front ++ b ∷ []) []) ≡ []
@@ -78,65 +98,69 @@ unfolding last_part
 other_last true front b e = absurd (cc e)
 other_last false front b e = refl
 
-pub takes_other_byte : (command : LineCommand) (front : List ℕ) (byte n : ℕ) (q : Progress) (out : TargetState) (u : Unit {0})
-    → (byte == 10) ≡ false → IsFed q.reader (front ++ byte ∷ []) → q.line ≡ n → has_fault out ≡ false
-    → TakesBytes command front (byte ∷ []) n q (Ok u) out out
-unfolding ended_lines last_part first_fault written_text
-takes_other_byte command front byte n q out u e reader line works = (
+no_line_ended : (front : List ℕ) (byte : ℕ) → (byte == 10) ≡ false → ended_lines front (byte ∷ []) ≡ []
+unfolding ended_lines
+no_line_ended front byte e = other_ended (byte == 10) front byte e
+
+still_open : (front : List ℕ) (byte : ℕ) → (byte == 10) ≡ false → last_part front (byte ∷ []) ≡ front ++ byte ∷ []
+unfolding last_part
+still_open front byte e = other_last (byte == 10) front byte e
+
+pub answered_none : (f : LineAnswers) (n : ℕ) (out : AnswerState) → has_fault out.target ≡ false → AllAnswered f n [] out out
+unfolding first_fault written_text answered_lines
+answered_none f n out works = record {
+  faultless = refl;
+  writes = writes_as [] [] 0 0 0 (f.most_looks * 0) out out refl refl (omega arith) (writes_nothing out works);
+}
+
+pub takes_other_byte : (f : LineAnswers) (front : List ℕ) (byte n : ℕ) (q : Progress) (out : AnswerState) (u : Unit {0})
+    → (byte == 10) ≡ false → IsFed q.reader (front ++ byte ∷ []) → q.line ≡ n → has_fault out.target ≡ false
+    → TakesBytes f front (byte ∷ []) n q (Ok u) out out
+takes_other_byte f front byte n q out u e reader line works = (
+  subst (λ ls. AllAnswered f n ls out out) (sym (no_line_ended front byte e)) (answered_none f n out works),
   record {
-    faultless = ap (λ ls. first_fault (answer command) n ls) (other_ended (byte == 10) front byte e);
-    works = works;
-    written = subst (λ ls. Appended out out (written_text (answer command) ls)) (sym (other_ended (byte == 10) front byte e)) (appended_nothing out);
-  },
-  record {
-    reader = subst (λ v. IsFed q.reader v) (sym (other_last (byte == 10) front byte e)) reader;
-    line = let none : length (ended_lines front (byte ∷ [])) ≡ 0 = ap length (other_ended (byte == 10) front byte e) in omega (arith, line, none);
+    reader = subst (λ v. IsFed q.reader v) (sym (still_open front byte e)) reader;
+    line = let none : length (ended_lines front (byte ∷ [])) ≡ 0 = ap length (no_line_ended front byte e) in omega (arith, line, none);
   },
 )
 
 -- lines, and more lines
 
-pub answered_more : (f : List ℕ → Result (List ℕ) ReadFault) (n m : ℕ) (xs ys : List (List ℕ)) (a b c : TargetState)
+written_more : (f : LineAnswers) (n : ℕ) (xs ys : List (List ℕ)) (a b c : AnswerState)
+    → AllAnswered f n xs a b → WritesAnswers f ys b c → WritesAnswers f (xs ++ ys) a c
+written_more f n xs ys a b c p q =
+    writes_as (written_text f.answer_of xs ++ written_text f.answer_of ys) (written_text f.answer_of (xs ++ ys))
+    (looks_for f xs + looks_for f ys) (most_looks_for f xs + most_looks_for f ys) (looks_for f (xs ++ ys)) (most_looks_for f (xs ++ ys)) a c
+    (sym (written_text-append f.answer_of n xs ys p.faultless)) (sym (looks_for-append f n xs ys p.faultless)) (sym (most_looks_for-append f n xs ys p.faultless))
+    (writes_more (written_text f.answer_of xs) (written_text f.answer_of ys) (looks_for f xs) (most_looks_for f xs) (looks_for f ys) (most_looks_for f ys) a b c p.writes q)
+
+refused_behind : (f : LineAnswers) (n : ℕ) (xs ys : List (List ℕ)) (a b c : AnswerState)
+    → AllAnswered f n xs a b → Refuses (written_text f.answer_of ys) (looks_for f ys) (most_looks_for f ys) b c
+    → Refuses (written_text f.answer_of (xs ++ ys)) (looks_for f (xs ++ ys)) (most_looks_for f (xs ++ ys)) a c
+refused_behind f n xs ys a b c p q =
+    refuses_as (written_text f.answer_of xs ++ written_text f.answer_of ys) (written_text f.answer_of (xs ++ ys))
+    (looks_for f xs + looks_for f ys) (most_looks_for f xs + most_looks_for f ys) (looks_for f (xs ++ ys)) (most_looks_for f (xs ++ ys)) a c
+    (sym (written_text-append f.answer_of n xs ys p.faultless)) (sym (looks_for-append f n xs ys p.faultless)) (sym (most_looks_for-append f n xs ys p.faultless))
+    (refuses_more (written_text f.answer_of xs) (written_text f.answer_of ys) (looks_for f xs) (most_looks_for f xs) (looks_for f ys) (most_looks_for f ys) a b c p.writes q)
+
+-- the first fault of the lines behind is the first of all
+later_fault : (f : LineAnswers) (n m : ℕ) (xs ys : List (List ℕ)) → m ≡ n + length xs → first_fault f.answer_of n xs ≡ None
+    → first_fault f.answer_of n (xs ++ ys) ≡ first_fault f.answer_of m ys
+later_fault f n m xs ys e none = first_fault-append f.answer_of n xs ys none ∙ ap (λ k. first_fault f.answer_of k ys) (sym e)
+
+pub answered_more : (f : LineAnswers) (n m : ℕ) (xs ys : List (List ℕ)) (a b c : AnswerState)
     → m ≡ n + length xs → AllAnswered f n xs a b → AllAnswered f m ys b c → AllAnswered f n (xs ++ ys) a c
 answered_more f n m xs ys a b c e p q = record {
-  faultless = first_fault-append f n xs ys p.faultless ∙ ap (λ k. first_fault f k ys) (sym e) ∙ q.faultless;
-  works = q.works;
-  written = subst (λ text. Appended a c text) (sym (written_text-append f n xs ys p.faultless)) (appended_more a b c (written_text f xs) (written_text f ys) p.works p.written q.written);
+  faultless = later_fault f n m xs ys e p.faultless ∙ q.faultless;
+  writes = written_more f n xs ys a b c p q.writes;
 }
 
-cut_more : (part xs ys : List ℕ) → IsCut part ys → IsCut (xs ++ part) (xs ++ ys)
-cut_more part xs ys p = (p.0, append_assoc xs part p.0 ∙ ap (λ v. xs ++ v) p.1, p.2)
-
-cut_front : (part xs ys : List ℕ) → IsCut part xs → IsCut part (xs ++ ys)
-cut_front part xs ys p = (p.0 ++ ys, sym (append_assoc part p.0 ys) ∙ ap (λ v. v ++ ys) p.1, omega (arith, p.2, length-append p.0 ys))
-
-refused_more : (xs ys zs : List ℕ) (a b c : TargetState)
-    → zs ≡ xs ++ ys → has_fault b ≡ false → Appended a b xs → WriteRefused ys b c → WriteRefused zs a c
-refused_more xs ys zs a b c e works p q = record {
-  refused = q.refused;
-  part = xs ++ q.part;
-  cut = subst (λ v. IsCut (xs ++ q.part) v) (sym e) (cut_more q.part xs ys q.cut);
-  appended = appended_more a b c xs q.part works p q.appended;
-  flushes_work = λ e. q.flushes_work (no_flush_fault b works);
-}
-
-refused_front : (xs ys zs : List ℕ) (a c : TargetState) → xs ++ ys ≡ zs → WriteRefused xs a c → WriteRefused zs a c
-refused_front xs ys zs a c e q = record {
-  refused = q.refused;
-  part = q.part;
-  cut = subst (λ v. IsCut q.part v) e (cut_front q.part xs ys q.cut);
-  appended = q.appended;
-  flushes_work = q.flushes_work;
-}
-
-pub stopped_more : (f : List ℕ → Result (List ℕ) ReadFault) (n m : ℕ) (xs ys : List (List ℕ)) (stop : Stop) (a b c : TargetState)
+pub stopped_more : (f : LineAnswers) (n m : ℕ) (xs ys : List (List ℕ)) (stop : Stop) (a b c : AnswerState)
     → m ≡ n + length xs → AllAnswered f n xs a b → StopsWithin f m ys stop b c → StopsWithin f n (xs ++ ys) stop a c
-stopped_more f n m xs ys CannotWrite a b c e p q =
-    refused_more (written_text f xs) (written_text f ys) (written_text f (xs ++ ys)) a b c (written_text-append f n xs ys p.faultless) p.works p.written q
+stopped_more f n m xs ys CannotWrite a b c e p q = refused_behind f n xs ys a b c p q
 stopped_more f n m xs ys (Line at fault) a b c e p q = record {
-  first = first_fault-append f n xs ys p.faultless ∙ ap (λ k. first_fault f k ys) (sym e) ∙ q.first;
-  works = q.works;
-  written = subst (λ text. Appended a c text) (sym (written_text-append f n xs ys p.faultless)) (appended_more a b c (written_text f xs) (written_text f ys) p.works p.written q.written);
+  first = later_fault f n m xs ys e p.faultless ∙ q.first;
+  writes = written_more f n xs ys a b c p q.writes;
 }
 stopped_more f n m xs ys Done a b c e p q = absurd q
 stopped_more f n m xs ys Usage a b c e p q = absurd q
@@ -144,15 +168,30 @@ stopped_more f n m xs ys InputTooLong a b c e p q = absurd q
 stopped_more f n m xs ys CannotRead a b c e p q = absurd q
 stopped_more f n m xs ys OutOfMemory a b c e p q = absurd q
 
+-- lines behind a fault change nothing
+pub writes_stays : (f : LineAnswers) (n : ℕ) (xs ys : List (List ℕ)) (e : ℕ × LineFault) (a c : AnswerState)
+    → first_fault f.answer_of n xs ≡ Some e → WritesAnswers f xs a c → WritesAnswers f (xs ++ ys) a c
+writes_stays f n xs ys e a c some p =
+    writes_as (written_text f.answer_of xs) (written_text f.answer_of (xs ++ ys)) (looks_for f xs) (most_looks_for f xs) (looks_for f (xs ++ ys)) (most_looks_for f (xs ++ ys)) a c
+    (sym (written_text-stays f.answer_of n xs ys e some)) (sym (looks_for-stays f n xs ys e some)) (sym (most_looks_for-stays f n xs ys e some)) p
+
+-- nor do they behind a refused write
+pub refuses_stays : (f : LineAnswers) (xs ys : List (List ℕ)) (a c : AnswerState)
+    → Refuses (written_text f.answer_of xs) (looks_for f xs) (most_looks_for f xs) a c
+    → Refuses (written_text f.answer_of (xs ++ ys)) (looks_for f (xs ++ ys)) (most_looks_for f (xs ++ ys)) a c
+refuses_stays f xs ys a c q =
+    let p = written_text-front f.answer_of xs ys in
+    subst (λ t. Refuses t (looks_for f (xs ++ ys)) (most_looks_for f (xs ++ ys)) a c) p.1
+    (refuses_front (written_text f.answer_of xs) p.0 (looks_for f xs) (most_looks_for f xs) (looks_for f (xs ++ ys)) (most_looks_for f (xs ++ ys)) a c
+    (looks_for-front f xs ys) (most_looks_for-front f xs ys) q)
+
 -- lines behind the one that stopped the run change nothing
-pub stopped_front : (f : List ℕ → Result (List ℕ) ReadFault) (n : ℕ) (xs ys : List (List ℕ)) (stop : Stop) (a c : TargetState)
+pub stopped_front : (f : LineAnswers) (n : ℕ) (xs ys : List (List ℕ)) (stop : Stop) (a c : AnswerState)
     → StopsWithin f n xs stop a c → StopsWithin f n (xs ++ ys) stop a c
-stopped_front f n xs ys CannotWrite a c q =
-    refused_front (written_text f xs) (written_text-front f xs ys).0 (written_text f (xs ++ ys)) a c (written_text-front f xs ys).1 q
+stopped_front f n xs ys CannotWrite a c q = refuses_stays f xs ys a c q
 stopped_front f n xs ys (Line at fault) a c q = record {
-  first = first_fault-stays f n xs ys (at, fault) q.first;
-  works = q.works;
-  written = subst (λ text. Appended a c text) (sym (written_text-stays f n xs ys (at, fault) q.first)) q.written;
+  first = first_fault-stays f.answer_of n xs ys (at, fault) q.first;
+  writes = writes_stays f n xs ys (at, fault) a c q.first q.writes;
 }
 stopped_front f n xs ys Done a c q = absurd q
 stopped_front f n xs ys Usage a c q = absurd q
@@ -162,18 +201,30 @@ stopped_front f n xs ys OutOfMemory a c q = absurd q
 
 -- bytes, and more bytes
 
-pub takes_none : (command : LineCommand) (front : List ℕ) (n : ℕ) (p : Progress) (out : TargetState) (u : Unit {0})
-    → IsFed p.reader front → p.line ≡ n → has_fault out ≡ false → TakesBytes command front [] n p (Ok u) out out
-unfolding ended_lines last_part first_fault written_text
-takes_none command front n p out u at line works =
-    (record { faultless = refl; works = works; written = appended_nothing out }, record { reader = at; line = omega (arith, line) })
+none_ended : (front : List ℕ) → ended_lines front [] ≡ []
+unfolding ended_lines
+none_ended front = refl
 
-pub takes_more : (command : LineCommand) (front xs ys : List ℕ) (n : ℕ) (q r : Progress) (u : Unit {0}) (result : Result (Unit {0}) Stop) (a b c : TargetState)
-    → TakesBytes command front xs n q (Ok u) a b → TakesBytes command (last_part front xs) ys q.line r result b c
-    → TakesBytes command front (xs ++ ys) n r result a c
-takes_more command front xs ys n q r u (Ok v) a b c x y = (
-  subst (λ ls. AllAnswered (answer command) n ls a c) (sym (ended_lines-append front xs ys))
-      (answered_more (answer command) n q.line (ended_lines front xs) (ended_lines (last_part front xs) ys) a b c x.1.line x.0 y.0),
+all_open : (front : List ℕ) → last_part front [] ≡ front
+unfolding last_part
+all_open front = refl
+
+pub takes_none : (f : LineAnswers) (front : List ℕ) (n : ℕ) (p : Progress) (out : AnswerState) (u : Unit {0})
+    → IsFed p.reader front → p.line ≡ n → has_fault out.target ≡ false → TakesBytes f front [] n p (Ok u) out out
+takes_none f front n p out u at line works = (
+  subst (λ ls. AllAnswered f n ls out out) (sym (none_ended front)) (answered_none f n out works),
+  record {
+    reader = subst (λ v. IsFed p.reader v) (sym (all_open front)) at;
+    line = let e : length (ended_lines front []) ≡ 0 = ap length (none_ended front) in omega (arith, line, e);
+  },
+)
+
+pub takes_more : (f : LineAnswers) (front xs ys : List ℕ) (n : ℕ) (q r : Progress) (u : Unit {0}) (result : Result (Unit {0}) Stop) (a b c : AnswerState)
+    → TakesBytes f front xs n q (Ok u) a b → TakesBytes f (last_part front xs) ys q.line r result b c
+    → TakesBytes f front (xs ++ ys) n r result a c
+takes_more f front xs ys n q r u (Ok v) a b c x y = (
+  subst (λ ls. AllAnswered f n ls a c) (sym (ended_lines-append front xs ys))
+      (answered_more f n q.line (ended_lines front xs) (ended_lines (last_part front xs) ys) a b c x.1.line x.0 y.0),
   record {
     reader = subst (λ v. IsFed r.reader v) (sym (last_part-append front xs ys)) y.1.reader;
     line = let e : length (ended_lines front (xs ++ ys)) ≡ length (ended_lines front xs) + length (ended_lines (last_part front xs) ys) =
@@ -181,30 +232,30 @@ takes_more command front xs ys n q r u (Ok v) a b c x y = (
         in omega (arith, e, x.1.line, y.1.line);
   },
 )
-takes_more command front xs ys n q r u (Err stop) a b c x y =
-    subst (λ ls. StopsWithin (answer command) n ls stop a c) (sym (ended_lines-append front xs ys))
-    (stopped_more (answer command) n q.line (ended_lines front xs) (ended_lines (last_part front xs) ys) stop a b c x.1.line x.0 y)
+takes_more f front xs ys n q r u (Err stop) a b c x y =
+    subst (λ ls. StopsWithin f n ls stop a c) (sym (ended_lines-append front xs ys))
+    (stopped_more f n q.line (ended_lines front xs) (ended_lines (last_part front xs) ys) stop a b c x.1.line x.0 y)
 
 -- a run that was stopped within these bytes stays so, whatever comes behind them
-pub takes_front : (command : LineCommand) (front xs ys : List ℕ) (n : ℕ) (q : Progress) (stop : Stop) (a c : TargetState)
-    → TakesBytes command front xs n q (Err stop) a c → TakesBytes command front (xs ++ ys) n q (Err stop) a c
-takes_front command front xs ys n q stop a c x =
-    subst (λ ls. StopsWithin (answer command) n ls stop a c) (sym (ended_lines-append front xs ys))
-    (stopped_front (answer command) n (ended_lines front xs) (ended_lines (last_part front xs) ys) stop a c x)
+pub takes_front : (f : LineAnswers) (front xs ys : List ℕ) (n : ℕ) (q : Progress) (stop : Stop) (a c : AnswerState)
+    → TakesBytes f front xs n q (Err stop) a c → TakesBytes f front (xs ++ ys) n q (Err stop) a c
+takes_front f front xs ys n q stop a c x =
+    subst (λ ls. StopsWithin f n ls stop a c) (sym (ended_lines-append front xs ys))
+    (stopped_front f n (ended_lines front xs) (ended_lines (last_part front xs) ys) stop a c x)
 
 -- one byte of a block more
-pub takes_push : (command : LineCommand) (front bytes : List ℕ) (i n : ℕ) (q r : Progress) (u : Unit {0}) (result : Result (Unit {0}) Stop) (a b c : TargetState)
+pub takes_push : (f : LineAnswers) (front bytes : List ℕ) (i n : ℕ) (q r : Progress) (u : Unit {0}) (result : Result (Unit {0}) Stop) (a b c : AnswerState)
     → i < length bytes
-    → TakesBytes command front (take i bytes) n q (Ok u) a b
-    → ((f : List ℕ) → IsFed q.reader f → TakesBytes command f (get_or bytes i 0 ∷ []) q.line r result b c)
-    → TakesBytes command front (take (i + 1) bytes) n r result a c
-takes_push command front bytes i n q r u result a b c h x y =
-    subst (λ xs. TakesBytes command front xs n r result a c) (sym (take_more bytes i 0 h))
-    (takes_more command front (take i bytes) (get_or bytes i 0 ∷ []) n q r u result a b c x (y (last_part front (take i bytes)) x.1.reader))
+    → TakesBytes f front (take i bytes) n q (Ok u) a b
+    → ((open_line : List ℕ) → IsFed q.reader open_line → TakesBytes f open_line (get_or bytes i 0 ∷ []) q.line r result b c)
+    → TakesBytes f front (take (i + 1) bytes) n r result a c
+takes_push f front bytes i n q r u result a b c h x y =
+    subst (λ xs. TakesBytes f front xs n r result a c) (sym (take_more bytes i 0 h))
+    (takes_more f front (take i bytes) (get_or bytes i 0 ∷ []) n q r u result a b c x (y (last_part front (take i bytes)) x.1.reader))
 
 -- a block in which the run was stopped
-pub takes_stopped : (command : LineCommand) (front bytes : List ℕ) (i n : ℕ) (q : Progress) (stop : Stop) (a c : TargetState)
-    → TakesBytes command front (take i bytes) n q (Err stop) a c → TakesBytes command front bytes n q (Err stop) a c
-takes_stopped command front bytes i n q stop a c x =
-    subst (λ xs. TakesBytes command front xs n q (Err stop) a c) (take-append-drop i bytes)
-    (takes_front command front (take i bytes) (drop i bytes) n q stop a c x)
+pub takes_stopped : (f : LineAnswers) (front bytes : List ℕ) (i n : ℕ) (q : Progress) (stop : Stop) (a c : AnswerState)
+    → TakesBytes f front (take i bytes) n q (Err stop) a c → TakesBytes f front bytes n q (Err stop) a c
+takes_stopped f front bytes i n q stop a c x =
+    subst (λ xs. TakesBytes f front xs n q (Err stop) a c) (take-append-drop i bytes)
+    (takes_front f front (take i bytes) (drop i bytes) n q stop a c x)

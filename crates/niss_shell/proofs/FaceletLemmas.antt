@@ -3,9 +3,7 @@ use Rattle.std.proofs.Common.{◌≡◌, Bool, true, false, ◌&&◌, if◌then�
 use Rattle.std.specs.List.{list_all}
 use Rattle.niss_moves.specs.Places.{Place, same_place, is_place, SameMap}
 use Rattle.niss_moves.specs.Facelets.{places}
-use Rattle.niss_moves.specs.Effects.{effect_of_turns}
 use Rattle.niss_moves.specs.Letters.{letter_at, letter_of, letters}
-use Rattle.niss_moves.specs.declared.turn.Turn.{Turn}
 
 first_part : (a b : Bool) → (a && b) ≡ true → a ≡ true
 first_part true b e = refl
@@ -29,11 +27,9 @@ pub letters-same : (d e : Place → Place) → SameMap d e → letters d ≡ let
 unfolding letters
 letters-same d e same = ap (λ f. map f places) (λ i q. letter_of-same d e same places are_places q i)
 
--- a solved cube that is turned, and then rotated
-pub turned_and_rotated : (solved cube last whole : Place → Place) (turns : List Turn)
-    → SameMap solved (λ q. q) → SameMap cube (λ q. effect_of_turns turns (solved q))
-    → ((q : Place) → whole q ≡ last (effect_of_turns turns q))
-    → letters (λ q. last (cube q)) ≡ letters whole
-turned_and_rotated solved cube last whole turns home applied effects =
-    letters-same (λ q. last (cube q)) whole
-    (λ q h. ap last (applied q h ∙ ap (effect_of_turns turns) (home q h)) ∙ sym (effects q))
+-- a cube at home, and the rotation that is left
+pub rotated_letters : (cube at_home rotation whole : Place → Place)
+    → SameMap cube at_home → ((q : Place) → whole q ≡ rotation (at_home q))
+    → letters (λ q. rotation (cube q)) ≡ letters whole
+rotated_letters cube at_home rotation whole same effects =
+    letters-same (λ q. rotation (cube q)) whole (λ q h. ap rotation (same q h) ∙ sym (effects q))

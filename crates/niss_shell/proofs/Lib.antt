@@ -3,7 +3,11 @@ pub mod DeviceLemmas
 pub mod DigitLemmas
 pub mod LinesLemmas
 pub mod FaceletLemmas
+pub mod StateLemmas
 pub mod EngineLemmas
+pub mod ScrambleLemmas
 pub mod AnswerLemmas
+pub mod SearchLemmas
 pub mod RunLemmas
+pub mod NumberLemmas
 pub mod WordsLemmas

@@ -1,6 +1,6 @@
 -- Lines and answers of a text that comes in two parts.
 use Rattle.std.proofs.Common.{◌≡◌, ℕ, ◌+◌, ◌==◌, Bool, true, false, if◌then◌else◌, Option, Some, None, Result, Ok, Err, List, [], ◌∷◌, ◌++◌, length, refl, sym, ap, ◌∙◌, append_assoc, arith}
-use Rattle.niss_shell.specs.Lines.{ended_lines, last_part, written_text, text_before, first_fault, fault_before}
+use Rattle.niss_shell.specs.Lines.{ended_lines, last_part, written_text, text_before, answered_lines, lines_before, first_fault, fault_before}
 
 ended_step : (c : Bool) (front xs ys : List ℕ) (b : ℕ)
     → ended_lines [] (xs ++ ys) ≡ ended_lines [] xs ++ ended_lines (last_part [] xs) ys
@@ -100,3 +100,41 @@ pub written_text-front : {E : Type 0} (f : List ℕ → Result (List ℕ) E) (xs
 unfolding written_text
 written_text-front f [] ys = (written_text f ys, refl)
 written_text-front f (l ∷ xs) ys = written_front_step (f l) (written_text f (xs ++ ys)) (written_text f xs) (written_text-front f xs ys)
+
+-- the lines that are answered, in the same way
+
+answered_ok_step : {E : Type 0} (r : Result (List ℕ) E) (n : ℕ) (a : Option (ℕ × E)) (line : List ℕ) (x y z : List (List ℕ))
+    → fault_before r n a ≡ None → x ≡ y ++ z → lines_before r line x ≡ lines_before r line y ++ z
+answered_ok_step (Ok text) n a line x y z none same = ap (λ v. line ∷ v) same
+answered_ok_step (Err e) n a line x y z none same = absurd (cc none)
+
+pub answered_lines-append : {E : Type 0} (f : List ℕ → Result (List ℕ) E) (n : ℕ) (xs ys : List (List ℕ))
+    → first_fault f n xs ≡ None → answered_lines f (xs ++ ys) ≡ answered_lines f xs ++ answered_lines f ys
+unfolding first_fault answered_lines
+answered_lines-append f n [] ys none = refl
+answered_lines-append f n (l ∷ xs) ys none =
+    answered_ok_step (f l) n (first_fault f (n + 1) xs) l (answered_lines f (xs ++ ys)) (answered_lines f xs) (answered_lines f ys) none
+    (answered_lines-append f (n + 1) xs ys (first_fault-none_head (f l) n (first_fault f (n + 1) xs) none))
+
+answered_some_step : {E : Type 0} (r : Result (List ℕ) E) (n : ℕ) (a : Option (ℕ × E)) (e : ℕ × E) (line : List ℕ) (x y : List (List ℕ))
+    → (a ≡ Some e → x ≡ y) → fault_before r n a ≡ Some e → lines_before r line x ≡ lines_before r line y
+answered_some_step (Ok text) n a e line x y same some = ap (λ v. line ∷ v) (same some)
+answered_some_step (Err k) n a e line x y same some = refl
+
+pub answered_lines-stays : {E : Type 0} (f : List ℕ → Result (List ℕ) E) (n : ℕ) (xs ys : List (List ℕ)) (e : ℕ × E)
+    → first_fault f n xs ≡ Some e → answered_lines f (xs ++ ys) ≡ answered_lines f xs
+unfolding first_fault answered_lines
+answered_lines-stays f n [] ys e some = absurd (cc some)
+answered_lines-stays f n (l ∷ xs) ys e some =
+    answered_some_step (f l) n (first_fault f (n + 1) xs) e l (answered_lines f (xs ++ ys)) (answered_lines f xs)
+    (answered_lines-stays f (n + 1) xs ys e) some
+
+answered_front_step : {E : Type 0} (r : Result (List ℕ) E) (line : List ℕ) (x y : List (List ℕ))
+    → ((rest : List (List ℕ)) × (y ++ rest ≡ x)) → (rest : List (List ℕ)) × (lines_before r line y ++ rest ≡ lines_before r line x)
+answered_front_step (Ok text) line x y p = (p.0, ap (λ v. line ∷ v) p.1)
+answered_front_step (Err e) line x y p = ([], refl)
+
+pub answered_lines-front : {E : Type 0} (f : List ℕ → Result (List ℕ) E) (xs ys : List (List ℕ)) → (rest : List (List ℕ)) × (answered_lines f xs ++ rest ≡ answered_lines f (xs ++ ys))
+unfolding answered_lines
+answered_lines-front f [] ys = (answered_lines f ys, refl)
+answered_lines-front f (l ∷ xs) ys = answered_front_step (f l) l (answered_lines f (xs ++ ys)) (answered_lines f xs) (answered_lines-front f xs ys)

@@ -1,19 +1,23 @@
 -- From what was read and written to what a run says of it.
-use Rattle.std.proofs.Common.{◌≡◌, ◌≢◌, ℕ, ◌≤◌, ◌<◌, Bool, true, false, ◌||◌, not, if◌then◌else◌, Option, Some, None, Result, Ok, Err, List, [], ◌∷◌, length, refl, sym, ap, ◌∙◌, subst, append-nil, arith}
-use Rattle.std.specs.Prelude.{OnOk, OnErr, nat_lt, nat_le}
+use Rattle.std.proofs.Common.{◌≡◌, ◌≢◌, ℕ, ◌+◌, ◌≤◌, ◌<◌, Bool, true, false, ◌||◌, not, if◌then◌else◌, Option, Some, None, Result, Ok, Err, List, [], ◌∷◌, length, refl, sym, ap, ◌∙◌, subst, append-nil, add-zero, arith}
+use Rattle.std.specs.Prelude.{OnOk, OnErr, nat_lt, nat_le, flat_map}
 use Rattle.std.proofs.lemmas.Grind.{common_steps}
+use Rattle.rand_pcg.specs.Lcg.{Lcg}
 use Rattle.niss_shell.specs.Device.{SourceState, TargetState, has_fault, Appended, StaysSilent, WriteRefused}
-use Rattle.niss_shell.specs.Words.{limit, Request, OnLines, request_of, reads_source, joined}
-use Rattle.niss_shell.specs.Output.{Answer, Ending, More, End, Fail, ending, stop_at_end, answer, answer_lines, stop_of, out_of, error_text, status_of}
-use Rattle.niss_shell.specs.Engine.{AnswersSource, Writes, EndsUnflushed, RunsUnflushed, flushed_stop, FlushesLast}
-use Rattle.niss_shell.specs.Run.{Devices, devices, OutputRefused, EndsByFault, Ends, TellsError, Runs}
+use Rattle.niss_shell.specs.Scrambles.{generator_of, scramble_text}
+use Rattle.niss_shell.specs.Words.{limit, Request, OnLines, ListSteps, DrawScrambles, request_of, reads_source, has_step, joined}
+use Rattle.niss_shell.specs.Output.{Answer, Ending, More, End, Fail, ending, stop_at_end, line_answers, answer_lines, unsearched, step_line, stop_of, out_of, error_text, status_of}
+use Rattle.niss_cube.specs.Steps.{steps}
+use Rattle.niss_shell.specs.Engine.{AnswerState, answer_state, AnswersSource, Answers, Writes, Refuses, EndsUnflushed, RunsUnflushed, flushed_stop, FlushesLast}
+use Rattle.niss_shell.specs.Run.{Devices, devices, OutputRefused, EndsByFault, Ends, TellsError, Looked, Runs}
 use Rattle.niss_shell.specs.declared.device.DeviceFault.{DeviceFault}
 use Rattle.niss_shell.specs.declared.command.UsageFault.{UsageFault}
 use Rattle.niss_shell.specs.declared.command.LineCommand.{LineCommand}
-use Rattle.niss_moves.specs.declared.fault.ReadFault.{ReadFault}
+use Rattle.niss_shell.specs.declared.stop.LineFault.{LineFault}
 use Rattle.niss_shell.specs.declared.stop.Stop.{Stop}
 use Rattle.niss_shell.specs.declared.stop.Stop.TheVariants.{Done, Line, Usage, InputTooLong, CannotRead, CannotWrite, OutOfMemory}
-use Rattle.niss_shell.proofs.DeviceLemmas.{appended_nothing, appended_then, appended_after_failure, gave_nothing, fault_of_write, no_write_fault, no_flush_fault}
+use Rattle.niss_shell.proofs.DeviceLemmas.{appended_then, appended_after_failure, gave_nothing, fault_of_write, no_write_fault, no_flush_fault}
+use Rattle.niss_shell.proofs.StateLemmas.{writes_nothing}
 use Rattle.niss_shell.proofs.AnswerLemmas.{short_test, long_test, choose_false, choose_true}
 
 -- the error writer
@@ -46,27 +50,27 @@ end_stop Fail = λ e. cc e
 end_stop End = λ e. cc e
 end_stop More = λ e. cc e
 
-no_stop_of_memory : (o : Option (ℕ × ReadFault)) (input : List ℕ) (m : Ending) → stop_of o input m ≢ OutOfMemory
+no_stop_of_memory : (o : Option (ℕ × LineFault)) (input : List ℕ) (m : Ending) → stop_of o input m ≢ OutOfMemory
 no_stop_of_memory (Some fault) input m = λ e. cc e
 no_stop_of_memory None input m = either_stop (nat_lt limit (length input)) InputTooLong (stop_at_end m) (λ e. cc e) (end_stop m)
 
-ends_of_writes : (a : Answer) (asked : Result Request UsageFault) (stop : Stop) (source source_now : SourceState) (h i : TargetState)
-    → a.stop ≢ OutOfMemory → Writes a stop h i → EndsUnflushed stop a asked source source_now h i
-ends_of_writes a asked Done source source_now h i n w = w
-ends_of_writes a asked (Line at fault) source source_now h i n w = w
-ends_of_writes a asked Usage source source_now h i n w = w
-ends_of_writes a asked InputTooLong source source_now h i n w = w
-ends_of_writes a asked CannotRead source source_now h i n w = w
-ends_of_writes a asked CannotWrite source source_now h i n w = w
-ends_of_writes a asked OutOfMemory source source_now h i n w = absurd (n (sym w.0))
+ends_of_answers : (a : Answer) (asked : Result Request UsageFault) (stop : Stop) (source source_now : SourceState) (h i : AnswerState)
+    → a.stop ≢ OutOfMemory → Answers a stop h i → EndsUnflushed stop a asked source source_now h i
+ends_of_answers a asked Done source source_now h i n w = w
+ends_of_answers a asked (Line at fault) source source_now h i n w = w
+ends_of_answers a asked Usage source source_now h i n w = w
+ends_of_answers a asked InputTooLong source source_now h i n w = w
+ends_of_answers a asked CannotRead source source_now h i n w = w
+ends_of_answers a asked CannotWrite source source_now h i n w = w
+ends_of_answers a asked OutOfMemory source source_now h i n w = absurd (n (sym w.0))
 
 -- the input comes from the source
-pub runs_source : (command : LineCommand) (ws : List (List ℕ)) (stop : Stop) (a b : SourceState) (h i : TargetState)
-    → length ws ≡ 0 → AnswersSource command stop a b h i → RunsUnflushed (Ok (OnLines command ws)) stop a b h i
+pub runs_source : (command : LineCommand) (ws : List (List ℕ)) (stop : Stop) (a b : SourceState) (h i : AnswerState)
+    → length ws ≡ 0 → AnswersSource (line_answers command) stop a b h i → RunsUnflushed (Ok (OnLines command ws)) stop a b h i
 runs_source command [] stop a b h i e x = record {
   input = x.input;
   gave = x.gave;
-  ends = ends_of_writes (answer_lines (answer command) x.input (ending b)) (Ok (OnLines command [])) stop a b h i (no_stop_of_memory _ x.input (ending b)) x.writes;
+  ends = ends_of_answers (answer_lines (line_answers command) x.input (ending b)) (Ok (OnLines command [])) stop a b h i (no_stop_of_memory _ x.input (ending b)) x.answers;
   read_whole = λ d r. x.read_whole d;
 }
 runs_source command (w ∷ ws) stop a b h i e x = absurd (omega arith)
@@ -77,11 +81,8 @@ reads_without_words command (w ∷ ws) e r = absurd (omega arith)
 
 -- the input comes from the words
 
-too_long : Answer
-too_long = record { output = []; stop = InputTooLong }
-
-pub runs_text : (command : LineCommand) (ws : List (List ℕ)) (text : List ℕ) (stop : Stop) (a : SourceState) (h i : TargetState)
-    → 0 < length ws → text ≡ joined ws → length (joined ws) ≤ limit → Writes (answer_lines (answer command) text End) stop h i
+pub runs_text : (command : LineCommand) (ws : List (List ℕ)) (text : List ℕ) (stop : Stop) (a : SourceState) (h i : AnswerState)
+    → 0 < length ws → text ≡ joined ws → length (joined ws) ≤ limit → Answers (answer_lines (line_answers command) text End) stop h i
     → RunsUnflushed (Ok (OnLines command ws)) stop a a h i
 runs_text command [] text stop a h i n e fits w = absurd (omega arith)
 runs_text command (v ∷ ws) text stop a h i n e fits w = record {
@@ -89,13 +90,13 @@ runs_text command (v ∷ ws) text stop a h i n e fits w = record {
   gave = gave_nothing a;
   ends =
       subst (λ x. EndsUnflushed stop x (Ok (OnLines command (v ∷ ws))) a a h i)
-      (ap (λ t. answer_lines (answer command) t End) e ∙ sym (choose_false (nat_lt limit (length (joined (v ∷ ws)))) (record { output = []; stop = InputTooLong }) (answer_lines (answer command) (joined (v ∷ ws)) End) (short_test (length (joined (v ∷ ws))) fits)))
-      (ends_of_writes (answer_lines (answer command) text End) (Ok (OnLines command (v ∷ ws))) stop a a h i (no_stop_of_memory _ text End) w);
+      (ap (λ t. answer_lines (line_answers command) t End) e ∙ sym (choose_false (nat_lt limit (length (joined (v ∷ ws)))) (unsearched [] InputTooLong) (answer_lines (line_answers command) (joined (v ∷ ws)) End) (short_test (length (joined (v ∷ ws))) fits)))
+      (ends_of_answers (answer_lines (line_answers command) text End) (Ok (OnLines command (v ∷ ws))) stop a a h i (no_stop_of_memory _ text End) w);
   read_whole = λ d r. absurd (cc r);
 }
 
-pub runs_too_long : (command : LineCommand) (ws : List (List ℕ)) (a : SourceState) (h : TargetState)
-    → 0 < length ws → has_fault h ≡ false → limit < length (joined ws)
+pub runs_too_long : (command : LineCommand) (ws : List (List ℕ)) (a : SourceState) (h : AnswerState)
+    → 0 < length ws → has_fault h.target ≡ false → limit < length (joined ws)
     → RunsUnflushed (Ok (OnLines command ws)) InputTooLong a a h h
 runs_too_long command [] a h n works long = absurd (omega arith)
 runs_too_long command (v ∷ ws) a h n works long = record {
@@ -103,31 +104,68 @@ runs_too_long command (v ∷ ws) a h n works long = record {
   gave = gave_nothing a;
   ends =
       subst (λ x. EndsUnflushed InputTooLong x (Ok (OnLines command (v ∷ ws))) a a h h)
-      (sym (choose_true (nat_lt limit (length (joined (v ∷ ws)))) (record { output = []; stop = InputTooLong }) (answer_lines (answer command) (joined (v ∷ ws)) End) (long_test (length (joined (v ∷ ws))) long)))
-      (refl, works, appended_nothing h);
+      (sym (choose_true (nat_lt limit (length (joined (v ∷ ws)))) (unsearched [] InputTooLong) (answer_lines (line_answers command) (joined (v ∷ ws)) End) (long_test (length (joined (v ∷ ws))) long)))
+      (refl, writes_nothing h works);
   read_whole = λ d r. absurd (cc r);
 }
 
 fits_test : (n : ℕ) → n ≤ limit → nat_le n limit ≡ true
 fits_test n h = grind (arith, common_steps)
 
-pub runs_memory : (command : LineCommand) (ws : List (List ℕ)) (a : SourceState) (h : TargetState)
-    → 0 < length ws → has_fault h ≡ false → length (joined ws) ≤ limit
+pub runs_memory : (command : LineCommand) (ws : List (List ℕ)) (a : SourceState) (h : AnswerState)
+    → 0 < length ws → has_fault h.target ≡ false → length (joined ws) ≤ limit
     → RunsUnflushed (Ok (OnLines command ws)) OutOfMemory a a h h
 runs_memory command [] a h n works fits = absurd (omega arith)
 runs_memory command (v ∷ ws) a h n works fits = record {
   input = [];
   gave = gave_nothing a;
-  ends = (fits_test (length (joined (v ∷ ws))) fits, refl, works, appended_nothing h);
+  ends = (fits_test (length (joined (v ∷ ws))) fits, refl, writes_nothing h works);
   read_whole = λ d r. absurd (cc r);
 }
 
-pub runs_usage : (asked : Result Request UsageFault) (fault : UsageFault) (a : SourceState) (h : TargetState)
-    → asked ≡ Err fault → has_fault h ≡ false → RunsUnflushed asked Usage a a h h
+pub runs_memory_source : (command : LineCommand) (ws : List (List ℕ)) (a : SourceState) (h : AnswerState)
+    → length ws ≡ 0 → has_fault h.target ≡ false → has_step command ≡ true
+    → RunsUnflushed (Ok (OnLines command ws)) OutOfMemory a a h h
+runs_memory_source command [] a h n works asks = record {
+  input = [];
+  gave = gave_nothing a;
+  ends = (asks, refl, writes_nothing h works);
+  read_whole = λ d r. absurd (cc d);
+}
+runs_memory_source command (v ∷ ws) a h n works asks = absurd (omega arith)
+
+pub runs_usage : (asked : Result Request UsageFault) (fault : UsageFault) (a : SourceState) (h : AnswerState)
+    → asked ≡ Err fault → has_fault h.target ≡ false → RunsUnflushed asked Usage a a h h
 runs_usage asked fault a h e works = subst (λ x. RunsUnflushed x Usage a a h h) (sym e) (record {
   input = [];
   gave = gave_nothing a;
-  ends = (refl, works, appended_nothing h);
+  ends = (refl, writes_nothing h works);
+  read_whole = λ d r. absurd (cc r);
+})
+
+-- the names of the steps
+
+pub runs_steps : (asked : Result Request UsageFault) (stop : Stop) (a : SourceState) (h i : AnswerState)
+    → asked ≡ Ok ListSteps → Answers (unsearched (flat_map step_line steps) Done) stop h i → RunsUnflushed asked stop a a h i
+runs_steps asked stop a h i e w = subst (λ x. RunsUnflushed x stop a a h i) (sym e) (record {
+  input = [];
+  gave = gave_nothing a;
+  ends = ends_of_answers (unsearched (flat_map step_line steps) Done) (Ok ListSteps) stop a a h i (λ n. cc n) w;
+  read_whole = λ d r. absurd (cc r);
+})
+
+-- scrambles
+
+pub runs_scrambles : (asked : Result Request UsageFault) (state stream turns count : ℕ) (rng : Lcg) (stop : Stop) (a : SourceState) (h i : AnswerState)
+    → asked ≡ Ok (DrawScrambles state stream turns count) → rng ≡ generator_of state stream
+    → Answers (unsearched (scramble_text turns count rng) Done) stop h i → RunsUnflushed asked stop a a h i
+runs_scrambles asked state stream turns count rng stop a h i e r w = subst (λ x. RunsUnflushed x stop a a h i) (sym e) (record {
+  input = [];
+  gave = gave_nothing a;
+  ends =
+      let text = scramble_text turns count (generator_of state stream) in
+      ends_of_answers (unsearched text Done) (Ok (DrawScrambles state stream turns count)) stop a a h i (λ n. cc n)
+      (subst (λ x. Answers (unsearched (scramble_text turns count x) Done) stop h i) r w);
   read_whole = λ d r. absurd (cc r);
 })
 
@@ -141,100 +179,173 @@ fault_after : (i j : TargetState) (f : Bool) → has_fault i ≡ false → j.wri
 fault_after i j f works same e =
     ap (λ v. v || j.flush_failed) (same ∙ no_write_fault i works) ∙ e ∙ ap (λ v. v || f) (no_flush_fault i works)
 
-ends_done : (a : Answer) (asked : Result Request UsageFault) (d e : Devices) (i : TargetState) (f : Bool)
-    → Writes a Done d.output i → (reads_source asked ≡ true → e.source.has_ended ≡ true)
-    → Appended i e.output [] → e.output.write_failed ≡ i.write_failed → e.output.flush_failed ≡ (i.flush_failed || f)
-    → e.output.is_flushed ≡ not f
+-- a flush that was refused or wasn't
+record FlushesAs (old new : TargetState) (refused : Bool) : Type 0 where
+  bytes : Appended old new []
+  silent : StaysSilent old new
+  write_failed : new.write_failed ≡ old.write_failed
+  flush_failed : new.flush_failed ≡ (old.flush_failed || refused)
+  flushed : new.is_flushed ≡ not refused
+
+flushes_as : (stop stop_now : Stop) (old new : TargetState) (flush : FlushesLast stop stop_now old new) → FlushesAs old new flush.refused
+flushes_as stop stop_now old new flush = record {
+  bytes = flush.bytes;
+  silent = flush.silent;
+  write_failed = flush.write_failed;
+  flush_failed = flush.flush_failed;
+  flushed = flush.flushed;
+}
+
+ends_done : (a : Answer) (asked : Result Request UsageFault) (d e : Devices) (h i : AnswerState) (f : Bool)
+    → h.target ≡ d.output → Answers a Done h i → (reads_source asked ≡ true → e.source.has_ended ≡ true)
+    → FlushesAs i.target e.output f
     → Ends (flushed_stop Done f) a asked d e
-ends_done a asked d e i true w whole t same z flushed = record {
-  refused = fault_after i e.output true w.1 same z;
+ends_done a asked d e h i true at w whole flush = record {
+  refused = fault_after i.target e.output true w.1.works flush.write_failed flush.flush_failed;
   text = a.output;
   rest = [];
   beginning = append-nil a.output;
-  written = appended_then d.output i e.output a.output w.1 w.2 t;
-  cut = λ bad. absurd (cc (bad, same ∙ no_write_fault i w.1));
+  written = appended_then d.output i.target e.output a.output w.1.works (subst (λ t. Appended t i.target a.output) at w.1.written) flush.bytes;
+  cut = λ bad. absurd (cc (bad, flush.write_failed ∙ no_write_fault i.target w.1.works));
   whole = λ good. refl;
   last = λ good. record { good = sym w.0; read_whole = whole };
-  last_flush = λ good. flushed;
+  last_flush = λ good. flush.flushed;
 }
-ends_done a asked d e i false w whole t same z flushed = record {
+ends_done a asked d e h i false at w whole flush = record {
   ends = record { good = sym w.0; read_whole = whole };
-  works = fault_after i e.output false w.1 same z;
-  written = appended_then d.output i e.output a.output w.1 w.2 t;
-  flushed = flushed;
+  works = fault_after i.target e.output false w.1.works flush.write_failed flush.flush_failed;
+  written = appended_then d.output i.target e.output a.output w.1.works (subst (λ t. Appended t i.target a.output) at w.1.written) flush.bytes;
+  flushed = flush.flushed;
 }
 
-ends_by_fault : (a : Answer) (d e : Devices) (i : TargetState) (stop : Stop)
-    → (stop ≡ a.stop) × (has_fault i ≡ false) × Appended d.output i a.output → Appended i e.output [] → e.output.write_failed ≡ i.write_failed
+ends_by_fault : (a : Answer) (d e : Devices) (h i : AnswerState) (stop : Stop) (f : Bool)
+    → h.target ≡ d.output → (stop ≡ a.stop) × Writes a.output a.looks a.most_looks h i → FlushesAs i.target e.output f
     → EndsByFault stop a d e
-ends_by_fault a d e i stop w t same = record {
+ends_by_fault a d e h i stop f at w flush = record {
   fault = sym w.0;
-  written = appended_then d.output i e.output a.output w.1 w.2 t;
-  unrefused = same ∙ no_write_fault i w.1;
+  written = appended_then d.output i.target e.output a.output w.1.works (subst (λ t. Appended t i.target a.output) at w.1.written) flush.bytes;
+  unrefused = flush.write_failed ∙ no_write_fault i.target w.1.works;
 }
 
-ends_refused : (a : Answer) (asked : Result Request UsageFault) (d e : Devices) (i : TargetState)
-    → WriteRefused a.output d.output i → Appended i e.output [] → StaysSilent i e.output → e.output.write_failed ≡ i.write_failed
+ends_refused : (a : Answer) (asked : Result Request UsageFault) (d e : Devices) (h i : AnswerState) (f : Bool)
+    → h.target ≡ d.output → Refuses a.output a.looks a.most_looks h i → FlushesAs i.target e.output f
     → OutputRefused a asked d e
-ends_refused a asked d e i w t silent same =
-    let bad : e.output.write_failed ≡ true = same ∙ w.refused in
+ends_refused a asked d e h i f at w flush =
+    let bad : e.output.write_failed ≡ true = flush.write_failed ∙ w.refused.refused in
     record {
       refused = fault_of_write e.output bad;
-      text = w.part;
-      rest = w.cut.0;
-      beginning = w.cut.1;
-      written = appended_after_failure d.output i e.output w.part (fault_of_write e.output bad) silent w.appended t;
-      cut = λ b. w.cut.2;
+      text = w.refused.part;
+      rest = w.refused.cut.0;
+      beginning = w.refused.cut.1;
+      written = appended_after_failure d.output i.target e.output w.refused.part (fault_of_write e.output bad) flush.silent
+          (subst (λ t. Appended t i.target w.refused.part) at w.refused.appended) flush.bytes;
+      cut = λ b. w.refused.cut.2;
       whole = λ good. absurd (cc (good, bad));
       last = λ good. absurd (cc (good, bad));
       last_flush = λ good. absurd (cc (good, bad));
     }
 
-ends_flushed : (a : Answer) (asked : Result Request UsageFault) (stop : Stop) (d e : Devices) (i : TargetState) (f : Bool)
-    → EndsUnflushed stop a asked d.source e.source d.output i → (stop ≡ Done → reads_source asked ≡ true → e.source.has_ended ≡ true)
-    → Appended i e.output [] → StaysSilent i e.output → e.output.write_failed ≡ i.write_failed → e.output.flush_failed ≡ (i.flush_failed || f)
-    → e.output.is_flushed ≡ not f
+ends_flushed : (a : Answer) (asked : Result Request UsageFault) (stop : Stop) (d e : Devices) (h i : AnswerState) (f : Bool)
+    → h.target ≡ d.output → EndsUnflushed stop a asked d.source e.source h i → (stop ≡ Done → reads_source asked ≡ true → e.source.has_ended ≡ true)
+    → FlushesAs i.target e.output f
     → Ends (flushed_stop stop f) a asked d e
-ends_flushed a asked Done d e i f w whole t s same z flushed = ends_done a asked d e i f w (whole refl) t same z flushed
-ends_flushed a asked (Line at fault) d e i f w whole t s same z flushed = ends_by_fault a d e i (Line at fault) w t same
-ends_flushed a asked Usage d e i f w whole t s same z flushed = ends_by_fault a d e i Usage w t same
-ends_flushed a asked InputTooLong d e i f w whole t s same z flushed = ends_by_fault a d e i InputTooLong w t same
-ends_flushed a asked CannotRead d e i f w whole t s same z flushed = ends_by_fault a d e i CannotRead w t same
-ends_flushed a asked CannotWrite d e i f w whole t s same z flushed = ends_refused a asked d e i w t s same
-ends_flushed a asked OutOfMemory d e i f w whole t s same z flushed =
-    record { asks = w.0; unread = w.1; nothing = appended_then d.output i e.output [] w.2 w.3 t; unrefused = same ∙ no_write_fault i w.2 }
+ends_flushed a asked Done d e h i f at w whole flush = ends_done a asked d e h i f at w (whole refl) flush
+ends_flushed a asked (Line n fault) d e h i f at w whole flush = ends_by_fault a d e h i (Line n fault) f at w flush
+ends_flushed a asked Usage d e h i f at w whole flush = ends_by_fault a d e h i Usage f at w flush
+ends_flushed a asked InputTooLong d e h i f at w whole flush = ends_by_fault a d e h i InputTooLong f at w flush
+ends_flushed a asked CannotRead d e h i f at w whole flush = ends_by_fault a d e h i CannotRead f at w flush
+ends_flushed a asked CannotWrite d e h i f at w whole flush = ends_refused a asked d e h i f at w flush
+ends_flushed a asked OutOfMemory d e h i f at w whole flush = record {
+  asks = w.0;
+  unread = w.1;
+  nothing = appended_then d.output i.target e.output [] w.2.works (subst (λ t. Appended t i.target []) at w.2.written) flush.bytes;
+  unrefused = flush.write_failed ∙ no_write_fault i.target w.2.works;
+}
 
-flushes_worked : (a : Answer) (asked : Result Request UsageFault) (stop : Stop) (source source_now : SourceState) (h i : TargetState)
-    → has_fault h ≡ false → EndsUnflushed stop a asked source source_now h i → i.flush_failed ≡ false
-flushes_worked a asked Done source source_now h i works w = no_flush_fault i w.1
-flushes_worked a asked (Line at fault) source source_now h i works w = no_flush_fault i w.1
-flushes_worked a asked Usage source source_now h i works w = no_flush_fault i w.1
-flushes_worked a asked InputTooLong source source_now h i works w = no_flush_fault i w.1
-flushes_worked a asked CannotRead source source_now h i works w = no_flush_fault i w.1
-flushes_worked a asked CannotWrite source source_now h i works w = w.flushes_work (no_flush_fault h works)
-flushes_worked a asked OutOfMemory source source_now h i works w = no_flush_fault i w.2
+-- the looks
+
+-- where no write was refused
+exact_looks : (stop : Stop) (failed : Bool) (due looks looks_now : ℕ) → stop ≢ OutOfMemory → failed ≡ false → looks_now ≡ looks + due → Looked stop failed due looks looks_now
+exact_looks Done false due looks looks_now n e p = p
+exact_looks (Line at fault) false due looks looks_now n e p = p
+exact_looks Usage false due looks looks_now n e p = p
+exact_looks InputTooLong false due looks looks_now n e p = p
+exact_looks CannotRead false due looks looks_now n e p = p
+exact_looks CannotWrite false due looks looks_now n e p = p
+exact_looks OutOfMemory false due looks looks_now n e p = absurd (n refl)
+exact_looks stop true due looks looks_now n e p = absurd (cc e)
+
+refused_looks : (failed : Bool) (due looks looks_now : ℕ) → failed ≡ true → looks ≤ looks_now → looks_now ≤ looks + due → Looked CannotWrite failed due looks looks_now
+refused_looks true due looks looks_now e p q = (p, q)
+refused_looks false due looks looks_now e p q = absurd (cc e)
+
+done_flushed : (f : Bool) → flushed_stop Done f ≢ OutOfMemory
+done_flushed true e = cc e
+done_flushed false e = cc e
+
+looked_flushed : (a : Answer) (asked : Result Request UsageFault) (stop : Stop) (source source_now : SourceState) (h i : AnswerState) (j : TargetState) (f : Bool)
+    → EndsUnflushed stop a asked source source_now h i → FlushesAs i.target j f
+    → Looked (flushed_stop stop f) j.write_failed a.looks h.looks i.looks
+looked_flushed a asked Done source source_now h i j f w flush =
+    exact_looks (flushed_stop Done f) j.write_failed a.looks h.looks i.looks (done_flushed f) (flush.write_failed ∙ no_write_fault i.target w.1.works) w.1.looked
+looked_flushed a asked (Line n fault) source source_now h i j f w flush =
+    exact_looks (Line n fault) j.write_failed a.looks h.looks i.looks (λ e. cc e) (flush.write_failed ∙ no_write_fault i.target w.1.works) w.1.looked
+looked_flushed a asked Usage source source_now h i j f w flush =
+    exact_looks Usage j.write_failed a.looks h.looks i.looks (λ e. cc e) (flush.write_failed ∙ no_write_fault i.target w.1.works) w.1.looked
+looked_flushed a asked InputTooLong source source_now h i j f w flush =
+    exact_looks InputTooLong j.write_failed a.looks h.looks i.looks (λ e. cc e) (flush.write_failed ∙ no_write_fault i.target w.1.works) w.1.looked
+looked_flushed a asked CannotRead source source_now h i j f w flush =
+    exact_looks CannotRead j.write_failed a.looks h.looks i.looks (λ e. cc e) (flush.write_failed ∙ no_write_fault i.target w.1.works) w.1.looked
+looked_flushed a asked CannotWrite source source_now h i j f w flush =
+    refused_looks j.write_failed a.looks h.looks i.looks (flush.write_failed ∙ w.refused.refused) w.rises w.looked
+looked_flushed a asked OutOfMemory source source_now h i j f w flush = w.2.looked ∙ add-zero h.looks
+
+bounded_looks : (a : Answer) (asked : Result Request UsageFault) (stop : Stop) (source source_now : SourceState) (h i : AnswerState)
+    → EndsUnflushed stop a asked source source_now h i → i.looks ≤ h.looks + a.most_looks
+bounded_looks a asked Done source source_now h i w = w.1.bounded
+bounded_looks a asked (Line n fault) source source_now h i w = w.1.bounded
+bounded_looks a asked Usage source source_now h i w = w.1.bounded
+bounded_looks a asked InputTooLong source source_now h i w = w.1.bounded
+bounded_looks a asked CannotRead source source_now h i w = w.1.bounded
+bounded_looks a asked CannotWrite source source_now h i w = w.bounded
+bounded_looks a asked OutOfMemory source source_now h i w = omega (arith, w.2.bounded)
+
+flushes_worked : (a : Answer) (asked : Result Request UsageFault) (stop : Stop) (source source_now : SourceState) (h i : AnswerState)
+    → has_fault h.target ≡ false → EndsUnflushed stop a asked source source_now h i → i.target.flush_failed ≡ false
+flushes_worked a asked Done source source_now h i works w = no_flush_fault i.target w.1.works
+flushes_worked a asked (Line at fault) source source_now h i works w = no_flush_fault i.target w.1.works
+flushes_worked a asked Usage source source_now h i works w = no_flush_fault i.target w.1.works
+flushes_worked a asked InputTooLong source source_now h i works w = no_flush_fault i.target w.1.works
+flushes_worked a asked CannotRead source source_now h i works w = no_flush_fault i.target w.1.works
+flushes_worked a asked CannotWrite source source_now h i works w = w.refused.flushes_work (no_flush_fault h.target works)
+flushes_worked a asked OutOfMemory source source_now h i works w = no_flush_fault i.target w.2.works
 
 not_flushed : (c f r : Bool) → c ≡ not r → f ≡ r → f ≡ not c
 not_flushed c f true e h = h ∙ sym (ap not e)
 not_flushed c f false e h = h ∙ sym (ap not e)
 
 -- no flush before the last one was refused
-pub one_flush : (asked : Result Request UsageFault) (stop stop_now : Stop) (a b : SourceState) (h i j : TargetState)
-    → has_fault h ≡ false → RunsUnflushed asked stop a b h i → FlushesLast stop stop_now i j → j.flush_failed ≡ not j.is_flushed
+pub one_flush : (asked : Result Request UsageFault) (stop stop_now : Stop) (a b : SourceState) (h i : AnswerState) (j : TargetState)
+    → has_fault h.target ≡ false → RunsUnflushed asked stop a b h i → FlushesLast stop stop_now i.target j → j.flush_failed ≡ not j.is_flushed
 one_flush asked stop stop_now a b h i j works x flush = not_flushed j.is_flushed j.flush_failed flush.refused flush.flushed
     (flush.flush_failed ∙ ap (λ v. v || flush.refused) (flushes_worked _ asked stop a b h i works x.ends))
 
-pub runs_flushed : (words : List (List ℕ)) (status : ℕ) (stop stop_now : Stop) (a b : SourceState) (h i j : TargetState) (k l : TargetState)
-    → RunsUnflushed (request_of words) stop a b h i → FlushesLast stop stop_now i j
+pub runs_flushed : (words : List (List ℕ)) (status : ℕ) (stop stop_now : Stop) (a b : SourceState) (h i j : TargetState) (k l : TargetState) (looks looks_now : ℕ)
+    → RunsUnflushed (request_of words) stop a b (answer_state h looks) (answer_state i looks_now) → FlushesLast stop stop_now i j
     → TellsError (error_text stop_now) k l → status ≡ status_of stop_now
-    → Runs words (devices a h k) (devices b j l) status
-runs_flushed words status stop stop_now a b h i j k l x flush tells answers = record {
-  input = x.input;
-  gave = x.gave;
-  stop = stop_now;
-  ends = subst (λ v. Ends v (out_of words x.input b) (request_of words) (devices a h k) (devices b j l)) (sym flush.stop_is)
-      (ends_flushed (out_of words x.input b) (request_of words) stop (devices a h k) (devices b j l) i flush.refused
-      x.ends x.read_whole flush.bytes flush.silent flush.write_failed flush.flush_failed flush.flushed);
-  tells = tells;
-  answers = answers;
-}
+    → Runs words (devices a h k) (devices b j l) looks looks_now status
+runs_flushed words status stop stop_now a b h i j k l looks looks_now x flush tells answers =
+    let how = flushes_as stop stop_now i j flush in
+    record {
+      input = x.input;
+      gave = x.gave;
+      stop = stop_now;
+      ends = subst (λ v. Ends v (out_of words x.input b) (request_of words) (devices a h k) (devices b j l)) (sym flush.stop_is)
+          (ends_flushed (out_of words x.input b) (request_of words) stop (devices a h k) (devices b j l) (answer_state h looks) (answer_state i looks_now) flush.refused
+          refl x.ends x.read_whole how);
+      looked = subst (λ v. Looked v j.write_failed (out_of words x.input b).looks looks looks_now) (sym flush.stop_is)
+          (looked_flushed (out_of words x.input b) (request_of words) stop a b (answer_state h looks) (answer_state i looks_now) j flush.refused x.ends how);
+      within_bound = bounded_looks (out_of words x.input b) (request_of words) stop a b (answer_state h looks) (answer_state i looks_now) x.ends;
+      tells = tells;
+      answers = answers;
+    }

@@ -1,35 +1,70 @@
 -- What the engine's steps do. `front` are the bytes of the line that is being read.
-use Rattle.std.specs.Prelude.{◌≡◌, ℕ, ◌+◌, ◌||◌, not, Bool, true, false, Some, None, Result, Ok, Err, List, [], length}
+use Rattle.std.specs.Prelude.{◌≡◌, ℕ, ◌+◌, ◌*◌, ◌^◌, ◌≤◌, ◌||◌, not, Bool, true, false, Some, None, Result, Ok, Err, List, [], length}
 use Rattle.niss_shell.specs.Device.{SourceState, TargetState, has_fault, Gave, Appended, StaysSilent, WriteRefused}
 use Rattle.niss_shell.specs.Lines.{ended_lines, last_part, written_text, first_fault}
 use Rattle.niss_moves.specs.Reader.{IsFed}
 use Rattle.niss_shell.specs.Words.{Request, reads_source, takes_memory}
-use Rattle.niss_shell.specs.Output.{Answer, answer, answer_lines, answer_request, line_with_bytes, ending}
+use Rattle.niss_shell.specs.Output.{Answer, LineAnswers, looks_for, most_looks_for, answer_lines, answer_request, line_with_bytes, ending}
 use Rattle.niss_shell.specs.declared.command.UsageFault.{UsageFault}
-use Rattle.niss_shell.specs.declared.command.LineCommand.{LineCommand}
-use Rattle.niss_moves.specs.declared.fault.ReadFault.{ReadFault}
+use Rattle.niss_shell.specs.declared.device.DeviceFault.{DeviceFault}
+use Rattle.niss_shell.specs.declared.stop.LineFault.{LineFault}
 use Rattle.niss_shell.specs.declared.stop.Stop.{Stop}
 use Rattle.niss_shell.specs.declared.stop.Stop.TheVariants.{Done, Line, Usage, InputTooLong, CannotRead, CannotWrite, OutOfMemory}
 use Rattle.niss_shell.specs.declared.lines.Progress.{Progress}
 
+-- What answers to lines change: the target that they are written to, and the count of the looks.
+pub record AnswerState : Type 0 where
+  pub target : TargetState
+  pub looks : ℕ
+
+abbrev pub answer_state : TargetState → ℕ → AnswerState
+answer_state target looks = record { target = target; looks = looks }
+
+-- A text was written, with so many looks, of which there may be so many at most.
+pub record Writes (text : List ℕ) (looks most_looks : ℕ) (old new : AnswerState) : Type 0 where
+  pub works : has_fault new.target ≡ false
+  pub written : Appended old.target new.target text
+  pub looked : new.looks ≡ old.looks + looks
+  pub bounded : new.looks ≤ old.looks + most_looks
+
+-- A write was refused before all of the text was written, with no more looks than the text takes.
+pub record Refuses (text : List ℕ) (looks most_looks : ℕ) (old new : AnswerState) : Type 0 where
+  pub refused : WriteRefused text old.target new.target
+  pub rises : old.looks ≤ new.looks
+  pub looked : new.looks ≤ old.looks + looks
+  pub bounded : new.looks ≤ old.looks + most_looks
+
+-- The text was written, or a write of it was refused.
+abbrev pub WritesOrRefuses :
+    {T : Type 0} → Result T DeviceFault → List ℕ → ℕ → ℕ → AnswerState → AnswerState → Type 0
+WritesOrRefuses (Ok x) text looks most_looks old new = Writes text looks most_looks old new
+WritesOrRefuses (Err e) text looks most_looks old new = Refuses text looks most_looks old new
+
+-- a refused write ends a run
+abbrev pub stop_if_refused : Result (Unit {0}) DeviceFault → Result (Unit {0}) Stop
+stop_if_refused (Ok u) = Ok u
+stop_if_refused (Err e) = Err CannotWrite
+
+-- the answers to these lines, up to the first fault, were written
+abbrev pub WritesAnswers : LineAnswers → List (List ℕ) → AnswerState → AnswerState → Type 0
+WritesAnswers f lines old new =
+    Writes (written_text f.answer_of lines) (looks_for f lines) (most_looks_for f lines) old new
+
 -- None of the lines has a fault, and all answers are written.
-pub record AllAnswered (f : List ℕ → Result (List ℕ) ReadFault) (n : ℕ) (lines : List (List ℕ))
-    (old new : TargetState) : Type 0 where
-  pub faultless : first_fault f n lines ≡ None
-  pub works : has_fault new ≡ false
-  pub written : Appended old new (written_text f lines)
+pub record AllAnswered (f : LineAnswers) (n : ℕ) (lines : List (List ℕ)) (old new : AnswerState) : Type 0 where
+  pub faultless : first_fault f.answer_of n lines ≡ None
+  pub writes : WritesAnswers f lines old new
 
 -- The first fault of the lines came, behind the answers before it.
-pub record FaultCame (f : List ℕ → Result (List ℕ) ReadFault) (n : ℕ) (lines : List (List ℕ))
-    (at : ℕ) (fault : ReadFault) (old new : TargetState) : Type 0 where
-  pub first : first_fault f n lines ≡ Some (at, fault)
-  pub works : has_fault new ≡ false
-  pub written : Appended old new (written_text f lines)
+pub record FaultCame (f : LineAnswers) (n : ℕ) (lines : List (List ℕ))
+    (at : ℕ) (fault : LineFault) (old new : AnswerState) : Type 0 where
+  pub first : first_fault f.answer_of n lines ≡ Some (at, fault)
+  pub writes : WritesAnswers f lines old new
 
 -- how the lines stop a run
-abbrev pub StopsWithin :
-    (List ℕ → Result (List ℕ) ReadFault) → ℕ → List (List ℕ) → Stop → TargetState → TargetState → Type 0
-StopsWithin f n lines CannotWrite old new = WriteRefused (written_text f lines) old new
+abbrev pub StopsWithin : LineAnswers → ℕ → List (List ℕ) → Stop → AnswerState → AnswerState → Type 0
+StopsWithin f n lines CannotWrite old new =
+    Refuses (written_text f.answer_of lines) (looks_for f lines) (most_looks_for f lines) old new
 StopsWithin f n lines (Line at fault) old new = FaultCame f n lines at fault old new
 StopsWithin f n lines Done old new = ⊥
 StopsWithin f n lines Usage old new = ⊥
@@ -44,62 +79,69 @@ pub record Advanced (front bytes : List ℕ) (n : ℕ) (progress : Progress) : T
 
 -- The bytes behind `front`, in line n, were taken.
 abbrev pub TakesBytes :
-    LineCommand → List ℕ → List ℕ → ℕ → Progress → Result (Unit {0}) Stop → TargetState → TargetState → Type 0
-TakesBytes command front bytes n progress (Ok u) old new =
-    AllAnswered (answer command) n (ended_lines front bytes) old new × Advanced front bytes n progress
-TakesBytes command front bytes n progress (Err stop) old new =
-    StopsWithin (answer command) n (ended_lines front bytes) stop old new
+    LineAnswers → List ℕ → List ℕ → ℕ → Progress → Result (Unit {0}) Stop → AnswerState → AnswerState → Type 0
+TakesBytes f front bytes n progress (Ok u) old new =
+    AllAnswered f n (ended_lines front bytes) old new × Advanced front bytes n progress
+TakesBytes f front bytes n progress (Err stop) old new =
+    StopsWithin f n (ended_lines front bytes) stop old new
 
 -- The end of the input behind `front`, in line n, was taken.
-abbrev pub TakesEnd : LineCommand → List ℕ → ℕ → Result (Unit {0}) Stop → TargetState → TargetState → Type 0
-TakesEnd command front n (Ok u) old new =
-    AllAnswered (answer command) n (line_with_bytes front) old new
-TakesEnd command front n (Err stop) old new =
-    StopsWithin (answer command) n (line_with_bytes front) stop old new
+abbrev pub TakesEnd : LineAnswers → List ℕ → ℕ → Result (Unit {0}) Stop → AnswerState → AnswerState → Type 0
+TakesEnd f front n (Ok u) old new = AllAnswered f n (line_with_bytes front) old new
+TakesEnd f front n (Err stop) old new = StopsWithin f n (line_with_bytes front) stop old new
 
--- One line was answered.
+-- One line was answered, which takes so many looks, and at most so many.
 abbrev pub AnswersLine :
-    Result (List ℕ) ReadFault → ℕ → Result (Unit {0}) Stop → TargetState → TargetState → Type 0
-AnswersLine (Ok text) n (Ok u) old new = (has_fault new ≡ false) × Appended old new text
-AnswersLine (Ok text) n (Err stop) old new = (stop ≡ CannotWrite) × WriteRefused text old new
-AnswersLine (Err fault) n (Ok u) old new = ⊥
-AnswersLine (Err fault) n (Err stop) old new = (stop ≡ Line n fault) × (has_fault new ≡ false) × Appended old new []
+    Result (List ℕ) LineFault → ℕ → ℕ → ℕ → Result (Unit {0}) Stop → AnswerState → AnswerState → Type 0
+AnswersLine (Ok text) looks most_looks n (Ok u) old new = Writes text looks most_looks old new
+AnswersLine (Ok text) looks most_looks n (Err stop) old new = (stop ≡ CannotWrite) × Refuses text looks most_looks old new
+AnswersLine (Err fault) looks most_looks n (Ok u) old new = ⊥
+AnswersLine (Err fault) looks most_looks n (Err stop) old new = (stop ≡ Line n fault) × Writes [] 0 0 old new
+
+-- the same of a line by its bytes
+abbrev pub AnswersBytes :
+    LineAnswers → List ℕ → ℕ → Result (Unit {0}) Stop → AnswerState → AnswerState → Type 0
+AnswersBytes f bytes n result old new = AnswersLine (f.answer_of bytes) (f.looks_of bytes) f.most_looks n result old new
+
+-- The looks before line n leave room for those of the rest of a run: at most 2 ^ 64 before the first line, and less
+-- than 2 ^ 93 at each.
+abbrev pub HasRoom : ℕ → ℕ → Type 0
+HasRoom n looks = looks ≤ 2 ^ 64 + n * 2 ^ 93
 
 -- This many bytes of the input were read and taken.
-pub record IsAt (command : LineCommand) (count : ℕ) (progress : Progress)
-    (source source_now : SourceState) (output output_now : TargetState) : Type 0 where
+pub record IsAt (f : LineAnswers) (count : ℕ) (progress : Progress)
+    (source source_now : SourceState) (old new : AnswerState) : Type 0 where
   pub input : List ℕ
   pub gave : Gave source source_now input
-  pub takes : TakesBytes command [] input 1 progress (Ok tt) output output_now
+  pub takes : TakesBytes f [] input 1 progress (Ok tt) old new
   pub count_is : count ≡ length input
 
--- what a run does to the output before its last flush, where a write may be refused
-abbrev pub Writes : Answer → Stop → TargetState → TargetState → Type 0
-Writes a CannotWrite old new = WriteRefused a.output old new
-Writes a stop old new = (stop ≡ a.stop) × (has_fault new ≡ false) × Appended old new a.output
+-- what a run does before its last flush, where a write may be refused
+abbrev pub Answers : Answer → Stop → AnswerState → AnswerState → Type 0
+Answers a CannotWrite old new = Refuses a.output a.looks a.most_looks old new
+Answers a stop old new = (stop ≡ a.stop) × Writes a.output a.looks a.most_looks old new
 
 -- The source was read as far as needed, and its lines answered.
-pub record AnswersSource (command : LineCommand) (stop : Stop)
-    (source source_now : SourceState) (output output_now : TargetState) : Type 0 where
+pub record AnswersSource (f : LineAnswers) (stop : Stop)
+    (source source_now : SourceState) (old new : AnswerState) : Type 0 where
   pub input : List ℕ
   pub gave : Gave source source_now input
-  pub writes : Writes (answer_lines (answer command) input (ending source_now)) stop output output_now
+  pub answers : Answers (answer_lines f input (ending source_now)) stop old new
   pub read_whole : stop ≡ Done → source_now.has_ended ≡ true
 
 -- how a run ends before its last flush
 abbrev pub EndsUnflushed :
-    Stop → Answer → Result Request UsageFault → SourceState → SourceState → TargetState → TargetState → Type 0
+    Stop → Answer → Result Request UsageFault → SourceState → SourceState → AnswerState → AnswerState → Type 0
 EndsUnflushed OutOfMemory a asked source source_now old new =
-    (takes_memory asked ≡ true) × (source_now ≡ source) × (has_fault new ≡ false) × Appended old new []
-EndsUnflushed stop a asked source source_now old new = Writes a stop old new
+    (takes_memory asked ≡ true) × (source_now ≡ source) × Writes [] 0 0 old new
+EndsUnflushed stop a asked source source_now old new = Answers a stop old new
 
 -- What a run does before its last flush.
 pub record RunsUnflushed (asked : Result Request UsageFault) (stop : Stop)
-    (source source_now : SourceState) (output output_now : TargetState) : Type 0 where
+    (source source_now : SourceState) (old new : AnswerState) : Type 0 where
   pub input : List ℕ
   pub gave : Gave source source_now input
-  pub ends :
-      EndsUnflushed stop (answer_request asked input (ending source_now)) asked source source_now output output_now
+  pub ends : EndsUnflushed stop (answer_request asked input (ending source_now)) asked source source_now old new
   pub read_whole : stop ≡ Done → reads_source asked ≡ true → source_now.has_ended ≡ true
 
 abbrev pub stop_unless : Result (Unit {0}) Stop → Stop → Stop

@@ -29,6 +29,16 @@ unfoldable pub written_text : {E : Type 0} → (List ℕ → Result (List ℕ) E
 written_text answer_of [] = []
 written_text answer_of (line ∷ lines) = text_before (answer_of line) (written_text answer_of lines)
 
+-- what is answered of a line and the lines behind it: the line and those, or none from a fault on
+abbrev pub lines_before : {E : Type 0} → Result (List ℕ) E → List ℕ → List (List ℕ) → List (List ℕ)
+lines_before (Ok text) line rest = line ∷ rest
+lines_before (Err e) line rest = []
+
+-- the lines that are answered: those before the first that has a fault
+unfoldable pub answered_lines : {E : Type 0} → (List ℕ → Result (List ℕ) E) → List (List ℕ) → List (List ℕ)
+answered_lines answer_of [] = []
+answered_lines answer_of (line ∷ lines) = lines_before (answer_of line) line (answered_lines answer_of lines)
+
 -- the first fault from line n on: that of line n, or else the first of the rest
 abbrev pub fault_before : {E : Type 0} → Result (List ℕ) E → ℕ → Option (ℕ × E) → Option (ℕ × E)
 fault_before (Ok text) n rest = rest

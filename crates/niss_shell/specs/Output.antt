@@ -1,20 +1,35 @@
 -- What a run is to write and to answer.
-use Rattle.std.specs.Prelude.{ℕ, nat_lt, Bool, true, false, if◌then◌else◌, codes, decimal, Option, Some, None, Result, Ok, Err, List, [], ◌∷◌, ◌++◌, map, take, length}
+use Rattle.std.specs.Prelude.{ℕ, zero, suc, ◌*◌, nat_lt, Bool, true, false, if◌then◌else◌, codes, decimal, Option, Some, None, Result, Ok, Err, List, [], ◌∷◌, ◌++◌, map, flat_map, take, length, sum_by, unwrap_or}
 use Rattle.niss_shell.specs.Device.{SourceState}
-use Rattle.niss_shell.specs.Lines.{line_feed, ended_lines, last_part, written_text, first_fault}
+use Rattle.niss_shell.specs.Lines.{line_feed, space, ended_lines, last_part, written_text, answered_lines, first_fault}
+use Rattle.niss_cube.specs.Steps.{name_of, start_name_of, steps, turns_of, may_start}
 use Rattle.niss_moves.specs.CleanedLine.{with_clean_line}
-use Rattle.niss_moves.specs.Effects.{effect, inverse}
+use Rattle.niss_moves.specs.CleanText.{turn_words}
+use Rattle.niss_moves.specs.Effects.{effect, effect_of_turns, inverse}
+use Rattle.niss_moves.specs.Faces.{faces}
 use Rattle.niss_moves.specs.Letters.{letters}
 use Rattle.niss_moves.specs.Line.{Moves}
+use Rattle.niss_moves.specs.Places.{Place}
 use Rattle.niss_moves.specs.Reader.{read_line}
 use Rattle.niss_moves.specs.Text.{word, with_words}
-use Rattle.niss_shell.specs.Words.{limit, Request, OnLines, request_of, joined}
+use Rattle.niss_search.specs.Cubes.{least_length_of, solutions_of, all_looks_of}
+use Rattle.niss_search.specs.Solutions.{look_bound}
+use Rattle.niss_shell.specs.Scrambles.{generator_of, scramble_text}
+use Rattle.niss_shell.specs.Words.{limit, Request, OnLines, ListSteps, DrawScrambles, request_of, joined}
 use Rattle.niss_shell.specs.declared.command.UsageFault.{UsageFault}
 use Rattle.niss_shell.specs.declared.command.LineCommand.{LineCommand}
-use Rattle.niss_shell.specs.declared.command.LineCommand.TheVariants.{Invert, Unniss, Cleanup, Print}
+use Rattle.niss_shell.specs.declared.command.LineCommand.TheVariants.{Rewrite, Search}
+use Rattle.niss_shell.specs.declared.command.Report.{Report}
+use Rattle.niss_shell.specs.declared.command.Report.TheVariants.{Solutions, Counts}
+use Rattle.niss_shell.specs.declared.command.Rewriting.{Rewriting}
+use Rattle.niss_shell.specs.declared.command.Rewriting.TheVariants.{Invert, Unniss, Cleanup, Print}
+use Rattle.niss_cube.specs.declared.step.Step.{Step}
 use Rattle.niss_moves.specs.declared.token.Token.{Token}
+use Rattle.niss_moves.specs.declared.turn.Turn.{Turn}
 use Rattle.niss_moves.specs.declared.fault.ReadFault.{ReadFault}
 use Rattle.niss_moves.specs.declared.fault.ReadFault.TheVariants.{NotAMove, Nested, Unopened, Unclosed, TooLong}
+use Rattle.niss_shell.specs.declared.stop.LineFault.{LineFault}
+use Rattle.niss_shell.specs.declared.stop.LineFault.TheVariants.{Unread, NoStart}
 use Rattle.niss_shell.specs.declared.stop.Stop.{Stop}
 use Rattle.niss_shell.specs.declared.stop.Stop.TheVariants.{Done, Line, Usage, InputTooLong, CannotRead, CannotWrite, OutOfMemory}
 
@@ -32,10 +47,16 @@ fault_text (Unopened column) = codes "bracket closed that was not opened"
 fault_text (Unclosed column) = codes "bracket not closed"
 fault_text (TooLong column) = codes "more than 256 moves"
 
-abbrev pub line_fault_text : ℕ → ReadFault → List ℕ
-line_fault_text n fault =
+-- the name of the step that must hold before this one
+abbrev pub start_text : Step → List ℕ
+start_text step = unwrap_or (start_name_of step) []
+
+abbrev pub line_fault_text : ℕ → LineFault → List ℕ
+line_fault_text n (Unread fault) =
     codes "nissy: line " ++ decimal n ++ codes ", column " ++ decimal (fault_column fault) ++ codes ": "
     ++ fault_text fault ++ line_feed ∷ []
+line_fault_text n (NoStart step) =
+    codes "nissy: line " ++ decimal n ++ codes ": " ++ start_text step ++ codes " does not hold" ++ line_feed ∷ []
 
 -- what is written on the error writer
 abbrev pub error_text : Stop → List ℕ
@@ -64,21 +85,106 @@ moves_of line = line.normal ++ inverse line.bracketed
 abbrev pub tokens_text : List Token → List ℕ
 tokens_text tokens = with_words [] (map word tokens)
 
--- what a command writes for a line, up to the line feed
-abbrev pub line_text : LineCommand → Moves → List ℕ
+-- what is written for a line without a search, up to the line feed
+abbrev pub line_text : Rewriting → Moves → List ℕ
 line_text Invert line = tokens_text (inverse (moves_of line))
 line_text Unniss line = tokens_text (moves_of line)
 line_text Cleanup line = with_clean_line [] line
 line_text Print line = letters (effect (moves_of line))
 
+-- the cube of a line, by where it has each sticker: the effect of its face turns, with its rotations pushed to the end
+abbrev pub home : Moves → Place → Place
+home line q = effect_of_turns (faces (moves_of line)) q
+
+-- the turns with single spaces, and a space behind them where there are any
+abbrev pub turns_text : List Turn → List ℕ
+turns_text [] = []
+turns_text (turn ∷ turns) = with_words [] (turn_words (turn ∷ turns)) ++ space ∷ []
+
+-- a solution on a line: its turns, and their number in brackets
+abbrev pub solution_line : List Turn → List ℕ
+solution_line turns = turns_text turns ++ codes "(" ++ decimal (length turns) ++ codes ")" ++ line_feed ∷ []
+
+-- the line that tells that there are no solutions, where they are 0
+abbrev pub none_line : ℕ → ℕ → List ℕ
+none_line n zero = codes "no solution within " ++ decimal n ++ codes " moves" ++ line_feed ∷ []
+none_line n (suc count) = []
+
+-- each solution on a line, or that there are none, and an empty line
+abbrev pub solve_text : ℕ → List (List Turn) → List ℕ
+solve_text n solutions = flat_map solution_line solutions ++ none_line n (length solutions) ++ line_feed ∷ []
+
+abbrev pub length_text : Option ℕ → List ℕ
+length_text None = codes "none"
+length_text (Some k) = decimal k
+
+abbrev pub count_text : Option ℕ → ℕ → ℕ → List ℕ
+count_text least solutions looks =
+    codes "length " ++ length_text least ++ codes " solutions " ++ decimal solutions ++ codes " nodes " ++ decimal looks
+    ++ line_feed ∷ []
+
+-- what is told of the search for a step, of at most n turns, from a cube
+abbrev pub search_text : Report → Step → ℕ → (Place → Place) → List ℕ
+search_text Solutions step n e = solve_text n (solutions_of step e n)
+search_text Counts step n e = count_text (least_length_of step e n) (length (solutions_of step e n)) (all_looks_of step e n)
+
+-- what a search writes where the step may start on the cube, and else the fault
+abbrev pub where_it_starts : Step → Bool → List ℕ → Result (List ℕ) LineFault
+where_it_starts step true text = Ok text
+where_it_starts step false text = Err (NoStart step)
+
+-- what a command writes for the moves of a line, or why it can't
+abbrev pub answer_to_moves : LineCommand → Moves → Result (List ℕ) LineFault
+answer_to_moves (Rewrite rewriting) line = Ok (line_text rewriting line ++ line_feed ∷ [])
+answer_to_moves (Search report step n) line =
+    where_it_starts step (may_start step (home line)) (search_text report step n (home line))
+
 -- what a command answers to a line that was read so
-abbrev pub answer_to : LineCommand → Result Moves ReadFault → Result (List ℕ) ReadFault
-answer_to command (Ok line) = Ok (line_text command line ++ line_feed ∷ [])
-answer_to command (Err fault) = Err fault
+abbrev pub answer_to : LineCommand → Result Moves ReadFault → Result (List ℕ) LineFault
+answer_to command (Ok line) = answer_to_moves command line
+answer_to command (Err fault) = Err (Unread fault)
 
 -- what a command answers to the bytes of a line: what it writes, or the fault of the line
-abbrev pub answer : LineCommand → List ℕ → Result (List ℕ) ReadFault
+abbrev pub answer : LineCommand → List ℕ → Result (List ℕ) LineFault
 answer command line = answer_to command (read_line line)
+
+-- the looks of a command at the moves of a line
+abbrev pub looks_at_moves : LineCommand → Moves → ℕ
+looks_at_moves (Rewrite rewriting) line = 0
+looks_at_moves (Search report step n) line = all_looks_of step (home line) n
+
+abbrev pub looks_at : LineCommand → Result Moves ReadFault → ℕ
+looks_at command (Ok line) = looks_at_moves command line
+looks_at command (Err fault) = 0
+
+-- the looks of a command at the bytes of a line
+abbrev pub line_looks : LineCommand → List ℕ → ℕ
+line_looks command line = looks_at command (read_line line)
+
+-- the most looks of a command at one line
+abbrev pub most_line_looks : LineCommand → ℕ
+most_line_looks (Rewrite rewriting) = 0
+most_line_looks (Search report step n) = look_bound (turns_of step) n
+
+-- what is answered to each line, the looks that it takes, and the most that any line may take
+pub record LineAnswers : Type 0 where
+  pub answer_of : List ℕ → Result (List ℕ) LineFault
+  pub looks_of : List ℕ → ℕ
+  pub most_looks : ℕ
+
+abbrev pub line_answers : LineCommand → LineAnswers
+line_answers command = record {
+  answer_of = answer command;
+  looks_of = line_looks command;
+  most_looks = most_line_looks command;
+}
+
+-- the looks that the answers to these lines take, up to the first that has a fault
+abbrev pub looks_for : LineAnswers → List (List ℕ) → ℕ
+looks_for answers lines = sum_by answers.looks_of (answered_lines answers.answer_of lines)
+
+abbrev pub most_looks_for : LineAnswers → List (List ℕ) → ℕ
+most_looks_for answers lines = answers.most_looks * length (answered_lines answers.answer_of lines)
 
 -- how the source was left: with more to give, at its end, or failed
 pub data Ending : Type 0 where
@@ -94,10 +200,16 @@ ending_of false false = More
 abbrev pub ending : SourceState → Ending
 ending source = ending_of source.has_failed source.has_ended
 
--- What is to be written, and how the run is to end.
+-- What is to be written, how the run is to end, the looks that all of it takes, and the most that it may take.
 pub record Answer : Type 0 where
   pub output : List ℕ
   pub stop : Stop
+  pub looks : ℕ
+  pub most_looks : ℕ
+
+-- an answer without a search
+abbrev pub unsearched : List ℕ → Stop → Answer
+unsearched output stop = record { output = output; stop = stop; looks = 0; most_looks = 0 }
 
 -- the line alone, or no line where it has no byte
 abbrev pub line_with_bytes : List ℕ → List (List ℕ)
@@ -118,28 +230,37 @@ stop_at_end Fail = CannotRead
 stop_at_end End = Done
 stop_at_end More = Done
 
-abbrev pub stop_of : Option (ℕ × ReadFault) → List ℕ → Ending → Stop
+abbrev pub stop_of : Option (ℕ × LineFault) → List ℕ → Ending → Stop
 stop_of (Some fault) input ended = Line fault.0 fault.1
 stop_of None input ended = if nat_lt limit (length input) then InputTooLong else stop_at_end ended
 
 -- the answers to the complete lines of an input, up to the first fault
-abbrev pub answer_lines : (List ℕ → Result (List ℕ) ReadFault) → List ℕ → Ending → Answer
+abbrev pub answer_lines : LineAnswers → List ℕ → Ending → Answer
 answer_lines answers input ended = record {
-  output = written_text answers (complete_lines input ended);
-  stop = stop_of (first_fault answers 1 (complete_lines input ended)) input ended;
+  output = written_text answers.answer_of (complete_lines input ended);
+  stop = stop_of (first_fault answers.answer_of 1 (complete_lines input ended)) input ended;
+  looks = looks_for answers (complete_lines input ended);
+  most_looks = most_looks_for answers (complete_lines input ended);
 }
 
 -- Words that give the input take the source's place, and are refused as a whole where they are too long.
-abbrev pub answer_on_lines : (List ℕ → Result (List ℕ) ReadFault) → List (List ℕ) → List ℕ → Ending → Answer
+abbrev pub answer_on_lines : LineAnswers → List (List ℕ) → List ℕ → Ending → Answer
 answer_on_lines answers [] input ended = answer_lines answers input ended
 answer_on_lines answers (word ∷ words) input ended =
     if nat_lt limit (length (joined (word ∷ words)))
-    then record { output = []; stop = InputTooLong }
+    then unsearched [] InputTooLong
     else answer_lines answers (joined (word ∷ words)) End
 
+-- a step's name on a line
+abbrev pub step_line : Step → List ℕ
+step_line step = name_of step ++ line_feed ∷ []
+
 abbrev pub answer_request : Result Request UsageFault → List ℕ → Ending → Answer
-answer_request (Err fault) input ended = record { output = []; stop = Usage }
-answer_request (Ok (OnLines command words)) input ended = answer_on_lines (answer command) words input ended
+answer_request (Err fault) input ended = unsearched [] Usage
+answer_request (Ok (OnLines command words)) input ended = answer_on_lines (line_answers command) words input ended
+answer_request (Ok ListSteps) input ended = unsearched (flat_map step_line steps) Done
+answer_request (Ok (DrawScrambles state stream turns count)) input ended =
+    unsearched (scramble_text turns count (generator_of state stream)) Done
 
 -- what a run with these words is to write and to answer, where the source gave this input and was left so
 abbrev pub out_of : List (List ℕ) → List ℕ → SourceState → Answer

@@ -1,5 +1,5 @@
 -- What a run does to its three devices.
-use Rattle.std.specs.Prelude.{◌≡◌, ℕ, ◌<◌, true, false, Result, List, [], ◌++◌, length}
+use Rattle.std.specs.Prelude.{◌≡◌, ℕ, ◌+◌, ◌<◌, ◌≤◌, Bool, true, false, Result, List, [], ◌++◌, length}
 use Rattle.niss_shell.specs.Device.{SourceState, TargetState, has_fault, Gave, Appended}
 use Rattle.niss_shell.specs.Words.{Request, request_of, reads_source, takes_memory}
 use Rattle.niss_shell.specs.Output.{Answer, out_of, error_text, status_of}
@@ -70,14 +70,24 @@ pub record TellsError (text : List ℕ) (old new : TargetState) : Type 0 where
   pub whole : new.write_failed ≡ false → rest ≡ []
   pub written : Appended old new part
 
--- What a run with these words does to its devices, and the status that it answers.
-pub record Runs (words : List (List ℕ)) (old new : Devices) (status : ℕ) : Type 0 where
+-- how far the meter rises, where the run is due to look so often: not at all where memory was refused, and no further
+-- where a write was
+abbrev pub Looked : Stop → Bool → ℕ → ℕ → ℕ → Type 0
+Looked OutOfMemory write_refused due looks looks_now = looks_now ≡ looks
+Looked stop true due looks looks_now = (looks ≤ looks_now) × (looks_now ≤ looks + due)
+Looked stop false due looks looks_now = looks_now ≡ looks + due
+
+-- What a run with these words does to its devices and to the meter of its looks, and the status that it answers.
+pub record Runs (words : List (List ℕ)) (old new : Devices) (looks looks_now : ℕ) (status : ℕ) : Type 0 where
   -- the bytes that the source gave
   pub input : List ℕ
   pub gave : Gave old.source new.source input
   -- how the run ended, and what was written
   pub stop : Stop
   pub ends : Ends stop (out_of words input new.source) (request_of words) old new
+  -- the looks at positions
+  pub looked : Looked stop new.output.write_failed (out_of words input new.source).looks looks looks_now
+  pub within_bound : looks_now ≤ looks + (out_of words input new.source).most_looks
   -- what was told on the error writer
   pub tells : TellsError (error_text stop) old.error new.error
   pub answers : status ≡ status_of stop

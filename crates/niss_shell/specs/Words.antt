@@ -1,28 +1,101 @@
 -- The words of a command line.
-use Rattle.std.specs.Prelude.{ℕ, nat_le, if◌then◌else◌, bytes_eq, codes, Bool, true, false, Result, Ok, Err, List, [], ◌∷◌, ◌++◌, length, map, flat_map, string_bytes}
+use Rattle.std.specs.Prelude.{ℕ, ◌-◌, ◌^◌, ◌≤◌, nat_le, nat_lt, if◌then◌else◌, bytes_eq, codes, Bool, true, false, ◌&&◌, Option, Some, None, find, Result, Ok, Err, List, [], ◌∷◌, ◌++◌, length, map, flat_map, string_bytes}
+use Rattle.std.specs.Char.{is_ascii_digit}
+use Rattle.std.specs.List.{list_all}
+use Rattle.std.specs.Str.Parse.{digits_value}
+use Rattle.niss_cube.specs.Steps.{name_of, steps}
+use Rattle.niss_cube.specs.declared.step.Step.{Step}
 use Rattle.niss_shell.specs.Lines.{line_feed, space}
 use Rattle.niss_shell.specs.declared.command.UsageFault.{UsageFault}
-use Rattle.niss_shell.specs.declared.command.UsageFault.TheVariants.{NoCommand, UnknownCommand}
+use Rattle.niss_shell.specs.declared.command.UsageFault.TheVariants.{NoCommand, UnknownCommand, WrongCount, BadNumber, UnknownStep}
 use Rattle.niss_shell.specs.declared.command.LineCommand.{LineCommand}
-use Rattle.niss_shell.specs.declared.command.LineCommand.TheVariants.{Invert, Unniss, Cleanup, Print}
+use Rattle.niss_shell.specs.declared.command.LineCommand.TheVariants.{Rewrite, Search}
+use Rattle.niss_shell.specs.declared.command.Report.{Report}
+use Rattle.niss_shell.specs.declared.command.Report.TheVariants.{Solutions, Counts}
+use Rattle.niss_shell.specs.declared.command.Rewriting.TheVariants.{Invert, Unniss, Cleanup, Print}
 use Rattle.niss_shell.specs.declared.command.Command.{Command}
 use Rattle.niss_shell.specs.declared.command.Command.TheVariants as command
+use Rattle.niss_shell.specs.declared.command.Task.{Task}
+use Rattle.niss_shell.specs.declared.command.Task.TheVariants as task
 
 -- the most bytes of input
 abbrev pub limit : ℕ
 limit = 16777216
 
+-- the number that a word of one or more decimal digits spells, where it is at most `most`
+abbrev pub number_of : ℕ → List ℕ → Option ℕ
+number_of most word =
+    if list_all is_ascii_digit word && nat_lt 0 (length word) && nat_le (digits_value 10 word) most
+    then Some (digits_value 10 word)
+    else None
+
+-- the step of this name
+abbrev pub step_named : List ℕ → Option Step
+step_named name = find (λ step. bytes_eq name (name_of step)) steps
+
 -- What the words of a command line ask for.
 pub data Request : Type 0 where
   -- a command on each line of these words, or of the source where there are none
   OnLines : LineCommand → List (List ℕ) → Request
+  -- the names of the steps
+  ListSteps : Request
+  -- scrambles by one generator: its state and its stream, how many turns each has, and how many scrambles
+  DrawScrambles : ℕ → ℕ → ℕ → ℕ → Request
+
+-- a command that takes no words
+abbrev pub without_words : Request → List (List ℕ) → Result Request UsageFault
+without_words request [] = Ok request
+without_words request (word ∷ words) = Err WrongCount
+
+-- a search for a step, with the greatest number of turns
+abbrev pub search_for : Report → Option Step → Option ℕ → List (List ℕ) → Result Request UsageFault
+search_for report None most rest = Err UnknownStep
+search_for report (Some step) None rest = Err BadNumber
+search_for report (Some step) (Some n) rest = Ok (OnLines (Search report step n) rest)
+
+-- the same from its words: the step, the number, and the words that are the input
+abbrev pub search_words : Report → List (List ℕ) → Result Request UsageFault
+search_words report [] = Err WrongCount
+search_words report (step ∷ []) = Err WrongCount
+search_words report (step ∷ most ∷ rest) = search_for report (step_named step) (number_of 20 most) rest
+
+-- the most turns of a scramble, the most scrambles, and the greatest state and stream of a generator
+abbrev pub most_turns : ℕ
+most_turns = 256
+
+abbrev pub most_scrambles : ℕ
+most_scrambles = 10000
+
+abbrev pub most_state : ℕ
+most_state = 2 ^ 64 - 1
+
+-- scrambles, where each of the numbers is one
+abbrev pub scramble_with : Option ℕ → Option ℕ → Option ℕ → Option ℕ → Result Request UsageFault
+scramble_with (Some state) (Some stream) (Some turns) (Some count) = Ok (DrawScrambles state stream turns count)
+scramble_with _ _ _ _ = Err BadNumber
+
+-- the same from its four words
+abbrev pub scramble_words : List (List ℕ) → Result Request UsageFault
+scramble_words (state ∷ stream ∷ turns ∷ count ∷ []) =
+    scramble_with (number_of most_state state) (number_of most_state stream) (number_of most_turns turns) (number_of most_scrambles count)
+scramble_words _ = Err WrongCount
+
+-- The numbers of a request are in their ranges.
+abbrev pub IsInRange : Request → Type 0
+IsInRange (OnLines command words) = Unit {0}
+IsInRange ListSteps = Unit {0}
+IsInRange (DrawScrambles state stream turns count) = (turns ≤ most_turns) × (count ≤ most_scrambles)
 
 abbrev pub request_named : List ℕ → List (List ℕ) → Result Request UsageFault
 request_named name rest =
-    if bytes_eq name (codes "invert") then Ok (OnLines Invert rest)
-    else if bytes_eq name (codes "unniss") then Ok (OnLines Unniss rest)
-    else if bytes_eq name (codes "cleanup") then Ok (OnLines Cleanup rest)
-    else if bytes_eq name (codes "print") then Ok (OnLines Print rest)
+    if bytes_eq name (codes "invert") then Ok (OnLines (Rewrite Invert) rest)
+    else if bytes_eq name (codes "unniss") then Ok (OnLines (Rewrite Unniss) rest)
+    else if bytes_eq name (codes "cleanup") then Ok (OnLines (Rewrite Cleanup) rest)
+    else if bytes_eq name (codes "print") then Ok (OnLines (Rewrite Print) rest)
+    else if bytes_eq name (codes "solve") then search_words Solutions rest
+    else if bytes_eq name (codes "count") then search_words Counts rest
+    else if bytes_eq name (codes "steps") then without_words ListSteps rest
+    else if bytes_eq name (codes "scramble") then scramble_words rest
     else Err UnknownCommand
 
 -- what the words ask for, or their first fault
@@ -32,10 +105,20 @@ request_of (name ∷ rest) = request_named name rest
 
 -- what a command asks for, wherever its words lie
 abbrev pub requested : Command → Request
-requested (command.Invert rest) = OnLines Invert (map string_bytes rest.now)
-requested (command.Unniss rest) = OnLines Unniss (map string_bytes rest.now)
-requested (command.Cleanup rest) = OnLines Cleanup (map string_bytes rest.now)
-requested (command.Print rest) = OnLines Print (map string_bytes rest.now)
+requested (command.Invert rest) = OnLines (Rewrite Invert) (map string_bytes rest.now)
+requested (command.Unniss rest) = OnLines (Rewrite Unniss) (map string_bytes rest.now)
+requested (command.Cleanup rest) = OnLines (Rewrite Cleanup) (map string_bytes rest.now)
+requested (command.Print rest) = OnLines (Rewrite Print) (map string_bytes rest.now)
+requested (command.Solve step n rest) = OnLines (Search Solutions step n) (map string_bytes rest.now)
+requested (command.Count step n rest) = OnLines (Search Counts step n) (map string_bytes rest.now)
+requested command.Steps = ListSteps
+requested (command.Scramble state stream turns count) = DrawScrambles state stream turns count
+
+-- what it asks for by what it does
+abbrev pub request_for : Task → Request
+request_for (task.Lines command words) = OnLines command (map string_bytes words.now)
+request_for task.Steps = ListSteps
+request_for (task.Scrambles state stream turns count) = DrawScrambles state stream turns count
 
 abbrev pub spaced_word : List ℕ → List ℕ
 spaced_word word = space ∷ word
@@ -50,9 +133,18 @@ abbrev pub reads_source : Result Request UsageFault → Bool
 reads_source (Err fault) = false
 reads_source (Ok (OnLines command [])) = true
 reads_source (Ok (OnLines command (word ∷ words))) = false
+reads_source (Ok ListSteps) = false
+reads_source (Ok (DrawScrambles state stream turns count)) = false
 
--- The request asks for memory: for the input, where words of at most the limit give it.
+-- The command searches, and has tables of its step.
+abbrev pub has_step : LineCommand → Bool
+has_step (Rewrite rewriting) = false
+has_step (Search report step n) = true
+
+-- The request asks for memory: for the tables of a step, and for the input, where words of at most the limit give it.
 abbrev pub takes_memory : Result Request UsageFault → Bool
 takes_memory (Err fault) = false
-takes_memory (Ok (OnLines command [])) = false
+takes_memory (Ok (OnLines command [])) = has_step command
 takes_memory (Ok (OnLines command (word ∷ words))) = nat_le (length (joined (word ∷ words))) limit
+takes_memory (Ok ListSteps) = false
+takes_memory (Ok (DrawScrambles state stream turns count)) = false

@@ -1,33 +1,52 @@
-ghost use Rattle.std.specs.Prelude.{◌≡◌, ◌≤◌, length};
+ghost use Rattle.std.specs.Prelude.{◌≡◌, ◌≤◌, ◌∷◌, ◌++◌, [], ℕ, false, length};
+ghost use Rattle.niss_shell.specs.Device.{has_fault};
+ghost use Rattle.niss_shell.specs.Engine.{WritesOrRefuses, answer_state};
+ghost use Rattle.niss_shell.specs.Lines.{line_feed};
 ghost use Rattle.niss_moves.specs.Effects.{effect};
 ghost use Rattle.niss_moves.specs.Letters.{letters};
 ghost use Rattle.niss_shell.specs.Output.{line_text, moves_of};
 
-use crate::command::LineCommand;
+use crate::command::Rewriting;
+use crate::device::{DeviceFault, Target};
+use crate::line_cube::cube_of;
 use crate::text::put_text;
-use niss_cube::Cube;
-use niss_moves::{LineText, Niss, invert, put_niss_clean, put_tokens, to_faces, unniss};
+use crate::writing::write_all;
+use niss_moves::{LineText, Niss, invert, put_niss_clean, put_tokens, unniss};
 
-/// The facelet text of a line: its face turns on the solved cube, which is then turned by the rotation that is left.
+/// The facelet text of a line: its cube, turned as a whole by the rotation that is left.
 fn facelets_of(line: &Niss) -> [u8; 54]
     ensures { result ≡ letters (effect (moves_of line.now)) }
 {
-    let (turns, rotation) = to_faces(unniss(line).as_slice());
-    let mut cube = Cube::solved();
-    cube.apply(turns.as_slice());
+    let (cube, rotation) = cube_of(line);
     cube.facelets(rotation)
 }
 
-/// What a command writes for a line, up to the line feed.
-pub fn put_answer(command: LineCommand, line: &Niss, text: &mut LineText)
+/// Appends what is written for a line without a search, up to the line feed.
+fn put_rewritten(rewriting: Rewriting, line: &Niss, text: &mut LineText)
     requires { length text.old.items ≡ 0 }
-    ensures words { text.new.items ≡ line_text command line.now }
+    ensures words { text.new.items ≡ line_text rewriting line.now }
     ensures room { length text.new.items ≤ 2000 }
 {
-    match command {
-        LineCommand::Invert => put_tokens(invert(line).as_slice(), text),
-        LineCommand::Unniss => put_tokens(unniss(line).as_slice(), text),
-        LineCommand::Cleanup => put_niss_clean(line, text),
-        LineCommand::Print => put_text(&facelets_of(line), text),
+    match rewriting {
+        Rewriting::Invert => put_tokens(invert(line).as_slice(), text),
+        Rewriting::Unniss => put_tokens(unniss(line).as_slice(), text),
+        Rewriting::Cleanup => put_niss_clean(line, text),
+        Rewriting::Print => put_text(&facelets_of(line), text),
     }
+}
+
+/// Writes the answer to the moves of a line without a search.
+pub fn write_rewritten<W: Target>(
+    rewriting: Rewriting,
+    line: &Niss,
+    out: &mut W,
+) -> Result<(), DeviceFault>
+    requires { has_fault (W.state out.old) ≡ false }
+    ensures { (looks : ℕ) → WritesOrRefuses result (line_text rewriting line.now ++ line_feed ∷ []) 0 0
+        (answer_state (W.state out.old) looks) (answer_state (W.state out.new) looks) }
+{
+    let mut text = LineText::new();
+    put_rewritten(rewriting, line, &mut text);
+    text.push(b'\n');
+    write_all(out, text.as_slice())
 }

@@ -1,5 +1,17 @@
-ghost use Rattle.std.specs.Prelude.{◌≡◌, Ok, Err, MatchResult, map, string_bytes};
-ghost use Rattle.niss_shell.specs.Words.{request_of, requested};
+ghost use Rattle.std.specs.Prelude.{◌≡◌, Ok, Err, IfSome, IfOk, MatchOption, MatchResult, map, string_bytes};
+ghost use Rattle.niss_shell.specs.declared.command.LineCommand.TheVariants.{Search};
+ghost use Rattle.niss_shell.specs.declared.command.Report.{Report};
+ghost use Rattle.niss_shell.specs.Words.{OnLines, ListSteps, number_of, most_state, most_turns, most_scrambles, search_words, scramble_with, scramble_words, without_words, request_of, requested, request_for, IsInRange};
+
+use crate::number::{limit_of, number_of};
+use niss_cube::Step;
+use niss_search::Limit;
+
+/// The most turns of a scramble.
+const MOST_TURNS: u64 = 256;
+
+/// The most scrambles.
+const MOST_SCRAMBLES: u64 = 10_000;
 
 /// Why the words are no command.
 #[derive(Clone, Copy, Debug, PartialEq, Eq)]
@@ -8,15 +20,37 @@ pub enum UsageFault {
     NoCommand,
     /// The first word names no command.
     UnknownCommand,
+    /// The command takes another number of words.
+    WrongCount,
+    /// A word that should be a number is none, or is out of its range.
+    BadNumber,
+    /// No step has this name.
+    UnknownStep,
 }
 
-/// A command on each line of the input.
+/// What is written for a line without a search.
 #[derive(Clone, Copy, Debug, PartialEq, Eq)]
-pub enum LineCommand {
+pub enum Rewriting {
     Invert,
     Unniss,
     Cleanup,
     Print,
+}
+
+/// What is told of a search.
+#[derive(Clone, Copy, Debug, PartialEq, Eq)]
+pub enum Report {
+    /// Each solution.
+    Solutions,
+    /// The length of the solutions, how many they are, and how often the search looked at a position.
+    Counts,
+}
+
+/// A command on each line of the input.
+#[derive(Clone, Copy, Debug)]
+pub enum LineCommand {
+    Rewrite(Rewriting),
+    Search(Report, Step, Limit),
 }
 
 /// A command. The words that it lends are the input; where there are none, the input comes from the source.
@@ -30,13 +64,148 @@ pub enum Command<'a> {
     Cleanup(&'a [String]),
     /// The facelet text of each line.
     Print(&'a [String]),
+    /// The shortest solutions of a step for each line, of at most so many turns.
+    Solve(Step, Limit, &'a [String]),
+    /// Their length, how many they are, and how often the search looks at a position, for each line.
+    Count(Step, Limit, &'a [String]),
+    /// The names of the steps.
+    Steps,
+    /// So many scrambles of so many turns, at most 256, by one generator of a state and a stream.
+    Scramble {
+        state: u64,
+        stream: u64,
+        length: usize,
+        count: usize,
+    },
 }
 
-/// The command that the words name, or their first fault.
-pub fn parse_words(words: &[String]) -> Result<Command<'_>, UsageFault>
+/// What a command does.
+#[derive(Clone, Copy)]
+pub(crate) enum Task<'a> {
+    /// It answers each line of these words, or of the source where there are none.
+    Lines(LineCommand, &'a [String]),
+    /// It lists the steps.
+    Steps,
+    /// It draws scrambles.
+    Scrambles {
+        state: u64,
+        stream: u64,
+        turns: usize,
+        count: usize,
+    },
+}
+
+impl<'a> Command<'a> {
+    /// What the command does.
+    pub(crate) fn task(self) -> Task<'a>
+        ensures { requested self.entry ≡ request_for result }
+    {
+        match self {
+            Command::Invert(rest) => Task::Lines(LineCommand::Rewrite(Rewriting::Invert), rest),
+            Command::Unniss(rest) => Task::Lines(LineCommand::Rewrite(Rewriting::Unniss), rest),
+            Command::Cleanup(rest) => Task::Lines(LineCommand::Rewrite(Rewriting::Cleanup), rest),
+            Command::Print(rest) => Task::Lines(LineCommand::Rewrite(Rewriting::Print), rest),
+            Command::Solve(step, limit, rest) => {
+                Task::Lines(LineCommand::Search(Report::Solutions, step, limit), rest)
+            }
+            Command::Count(step, limit, rest) => {
+                Task::Lines(LineCommand::Search(Report::Counts, step, limit), rest)
+            }
+            Command::Steps => Task::Steps,
+            Command::Scramble {
+                state,
+                stream,
+                length,
+                count,
+            } => Task::Scrambles {
+                state,
+                stream,
+                turns: length,
+                count,
+            },
+        }
+    }
+}
+
+/// The step, the limit and the words that are the input, of a command that searches.
+fn parse_search(words: &[String]) -> Result<(Step, Limit, &[String]), UsageFault>
+    ensures { (report : Report) → MatchResult result
+        (λ parts. search_words report (map string_bytes words.now)
+        ≡ Ok (OnLines (Search report parts.0 parts.1) (map string_bytes parts.2.now)))
+        (λ fault. search_words report (map string_bytes words.now) ≡ Err fault) }
+{
+    let [step, most, rest @ ..] = words else {
+        return Err(UsageFault::WrongCount);
+    };
+    let Some(step) = Step::from_name(step.as_bytes()) else {
+        return Err(UsageFault::UnknownStep);
+    };
+    let Some(limit) = limit_of(most.as_str()) else {
+        return Err(UsageFault::BadNumber);
+    };
+    Ok((step, limit, rest))
+}
+
+/// The command `steps`, which takes no words.
+fn parse_steps(words: &[String]) -> Result<Command<'_>, UsageFault>
     ensures { MatchResult result
+        (λ command. without_words ListSteps (map string_bytes words.now) ≡ Ok (requested command))
+        (λ fault. without_words ListSteps (map string_bytes words.now) ≡ Err fault) }
+{
+    match words {
+        [] => Ok(Command::Steps),
+        _ => Err(UsageFault::WrongCount),
+    }
+}
+
+/// The command `scramble` by its four numbers, where each is one.
+fn scramble_of(state: &str, stream: &str, length: &str, count: &str) -> Option<Command<'static>>
+    ensures command { let asked =
+        scramble_with (number_of most_state state.now) (number_of most_state stream.now)
+        (number_of most_turns length.now) (number_of most_scrambles count.now) in
+        MatchOption result (asked ≡ Err UsageFault.BadNumber) (λ command. asked ≡ Ok (requested command)) }
+    ensures in_range { IfSome result (λ command. IsInRange (requested command)) }
+{
+    let state = number_of(state, u64::MAX)?;
+    let stream = number_of(stream, u64::MAX)?;
+    let length = number_of(length, MOST_TURNS)?;
+    let count = number_of(count, MOST_SCRAMBLES)?;
+    Some(Command::Scramble {
+        state,
+        stream,
+        length: length as usize,
+        count: count as usize,
+    })
+}
+
+/// The command `scramble`, which takes four numbers.
+fn parse_scramble(words: &[String]) -> Result<Command<'_>, UsageFault>
+    ensures command { MatchResult result
+        (λ command. scramble_words (map string_bytes words.now) ≡ Ok (requested command))
+        (λ fault. scramble_words (map string_bytes words.now) ≡ Err fault) }
+    ensures in_range { IfOk result (λ command. IsInRange (requested command)) }
+{
+    let [state, stream, length, count] = words else {
+        return Err(UsageFault::WrongCount);
+    };
+    match scramble_of(
+        state.as_str(),
+        stream.as_str(),
+        length.as_str(),
+        count.as_str(),
+    ) {
+        Some(command) => Ok(command),
+        None => Err(UsageFault::BadNumber),
+    }
+}
+
+/// The command that the words name, or their first fault: of the command, then of the count of words, of the step, and of
+/// the numbers from left to right.
+pub fn parse_words(words: &[String]) -> Result<Command<'_>, UsageFault>
+    ensures command { MatchResult result
         (λ command. request_of (map string_bytes words.now) ≡ Ok (requested command))
         (λ fault. request_of (map string_bytes words.now) ≡ Err fault) }
+    ensures in_range { IfOk result (λ command. IsInRange (requested command)) }
 {
     let Some((name, rest)) = words.split_first() else {
         return Err(UsageFault::NoCommand);
@@ -46,6 +215,16 @@ pub fn parse_words(words: &[String]) -> Result<Command<'_>, UsageFault>
         "unniss" => Ok(Command::Unniss(rest)),
         "cleanup" => Ok(Command::Cleanup(rest)),
         "print" => Ok(Command::Print(rest)),
+        "solve" => match parse_search(rest) {
+            Ok((step, limit, rest)) => Ok(Command::Solve(step, limit, rest)),
+            Err(fault) => Err(fault),
+        },
+        "count" => match parse_search(rest) {
+            Ok((step, limit, rest)) => Ok(Command::Count(step, limit, rest)),
+            Err(fault) => Err(fault),
+        },
+        "steps" => parse_steps(rest),
+        "scramble" => parse_scramble(rest),
         _ => Err(UsageFault::UnknownCommand),
     }
 }

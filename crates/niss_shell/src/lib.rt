@@ -13,17 +13,25 @@
 
 mod answer;
 mod command;
+mod count;
 mod device;
 mod laws;
+mod line_cube;
 mod lines;
+mod number;
+mod scrambles;
+mod search_text;
 mod shell;
+mod solve;
 mod stop;
 mod streams;
 mod text;
+mod work;
 mod writing;
 
 pub use command::{Command, UsageFault, parse_words};
 pub use device::{DeviceFault, Source, Target};
 pub use laws::lines_are_cut;
+pub use niss_search::Meter;
 pub use shell::{run, run_in};
 pub use streams::{FromReader, ToWriter};

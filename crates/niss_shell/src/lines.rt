@@ -1,16 +1,17 @@
-ghost use Rattle.std.specs.Prelude.{◌≡◌, ◌+◌, ◌≤◌, false, List, ℕ, [], ◌∷◌, ◌++◌, length, OnOk};
+ghost use Rattle.std.specs.Prelude.{◌≡◌, ◌+◌, ◌^◌, ◌≤◌, false, List, ℕ, [], ◌∷◌, ◌++◌, length, OnOk};
 ghost use Rattle.niss_shell.specs.Device.{has_fault};
 ghost use Rattle.niss_moves.specs.Reader.{IsFed};
 ghost use Rattle.niss_shell.specs.Words.{limit};
-ghost use Rattle.niss_shell.specs.Output.{answer, answer_lines, End};
-ghost use Rattle.niss_shell.specs.Engine.{AnswersLine, AnswersSource, Writes, stop_unless};
+ghost use Rattle.niss_shell.specs.Output.{line_answers, answer_lines, End};
+ghost use Rattle.niss_shell.specs.Work.{command_of};
+ghost use Rattle.niss_shell.specs.Engine.{AnswersBytes, AnswersSource, Answers, HasRoom, answer_state, stop_unless};
 
-use crate::answer::put_answer;
-use crate::command::LineCommand;
 use crate::device::{Source, Target};
-use crate::stop::Stop;
-use crate::writing::write_all;
-use niss_moves::{LineReader, LineText};
+use crate::stop::{LineFault, Stop};
+use crate::work::Work;
+use niss_moves::LineReader;
+use niss_search::Meter;
+use std::alloc::Allocator;
 use std::mem;
 
 /// The most bytes of input.
@@ -27,27 +28,27 @@ pub struct Progress {
 }
 
 /// Writes the answer to a line.
-fn answer_line<W: Target>(
-    command: LineCommand,
+fn answer_line<A: Allocator, W: Target>(
+    work: &Work<A>,
     reader: LineReader,
     line: u32,
     out: &mut W,
+    looks: &mut Meter,
 ) -> Result<(), Stop>
-    requires { has_fault (W.state out.old) ≡ false }
+    requires works { has_fault (W.state out.old) ≡ false }
+    requires meter { looks.old ≤ 2 ^ 127 }
     ensures answers { (bytes : List ℕ) → IsFed reader bytes →
-        AnswersLine (answer command bytes) line result (W.state out.old) (W.state out.new) }
+        AnswersBytes (line_answers (command_of work.now)) bytes line result
+        (answer_state (W.state out.old) looks.old) (answer_state (W.state out.new) looks.new) }
     ensures works { OnOk result (has_fault (W.state out.new) ≡ false) }
+    ensures meter { looks.new ≤ looks.old + 2 ^ 93 }
 {
-    let niss = match reader.finish() {
-        Ok(niss) => niss,
-        Err(fault) => return Err(Stop::Line { line, fault }),
-    };
-    let mut text = LineText::new();
-    put_answer(command, &niss, &mut text);
-    text.push(b'\n');
-    match write_all(out, text.as_slice()) {
-        Ok(()) => Ok(()),
-        Err(_) => Err(Stop::CannotWrite),
+    match reader.finish() {
+        Ok(niss) => work.answer(&niss, line, out, looks),
+        Err(fault) => Err(Stop::Line {
+            line,
+            fault: LineFault::Unread(fault),
+        }),
     }
 }
 
@@ -67,41 +68,52 @@ impl Progress {
     }
 
     /// Writes the answer to the line, and begins the next one.
-    fn end_line<W: Target>(&mut self, command: LineCommand, out: &mut W) -> Result<(), Stop>
+    fn end_line<A: Allocator, W: Target>(
+        &mut self,
+        work: &Work<A>,
+        out: &mut W,
+        looks: &mut Meter,
+    ) -> Result<(), Stop>
         requires works { has_fault (W.state out.old) ≡ false }
         requires lines { self.old.line ≤ limit + 1 }
+        requires meter { HasRoom self.old.line looks.old }
         ensures answers { (bytes : List ℕ) → IsFed self.old.reader bytes →
-            AnswersLine (answer command bytes) self.old.line result (W.state out.old) (W.state out.new) }
+            AnswersBytes (line_answers (command_of work.now)) bytes self.old.line result
+            (answer_state (W.state out.old) looks.old) (answer_state (W.state out.new) looks.new) }
         ensures works { OnOk result (has_fault (W.state out.new) ≡ false) }
         ensures reader { IsFed self.new.reader [] }
         ensures fed { self.new.reader.fed ≡ 0 }
         ensures line { self.new.line ≡ self.old.line + 1 }
+        ensures meter { HasRoom self.new.line looks.new }
     {
         let reader = mem::replace(&mut self.reader, LineReader::new());
-        let answered = answer_line(command, reader, self.line, out);
+        let answered = answer_line(work, reader, self.line, out, looks);
         self.line += 1;
         answered
     }
 
     /// Takes the next byte of the input.
-    fn take_byte<W: Target>(
+    fn take_byte<A: Allocator, W: Target>(
         &mut self,
-        command: LineCommand,
+        work: &Work<A>,
         byte: u8,
         out: &mut W,
+        looks: &mut Meter,
     ) -> Result<(), Stop>
         requires works { has_fault (W.state out.old) ≡ false }
         requires column { self.old.reader.fed + 1 ≤ limit }
         requires lines { self.old.line ≤ limit }
+        requires meter { HasRoom self.old.line looks.old }
         ensures takes { (front : List ℕ) → IsFed self.old.reader front →
-            TakesBytes command front (byte ∷ []) self.old.line self.new result
-            (W.state out.old) (W.state out.new) }
+            TakesBytes (line_answers (command_of work.now)) front (byte ∷ []) self.old.line self.new result
+            (answer_state (W.state out.old) looks.old) (answer_state (W.state out.new) looks.new) }
         ensures works { OnOk result (has_fault (W.state out.new) ≡ false) }
         ensures column { self.new.reader.fed ≤ self.old.reader.fed + 1 }
         ensures lines { self.new.line ≤ self.old.line + 1 }
+        ensures meter { HasRoom self.new.line looks.new }
     {
         if byte == b'\n' {
-            return self.end_line(command, out);
+            return self.end_line(work, out, looks);
         }
         // a line is judged at its end
         let _ = self.reader.feed(byte);
@@ -109,24 +121,27 @@ impl Progress {
     }
 
     /// Takes the next bytes of the input.
-    fn take_bytes<W: Target>(
+    fn take_bytes<A: Allocator, W: Target>(
         &mut self,
-        command: LineCommand,
+        work: &Work<A>,
         bytes: &[u8],
         out: &mut W,
+        looks: &mut Meter,
     ) -> Result<(), Stop>
         requires works { has_fault (W.state out.old) ≡ false }
         requires column { self.old.reader.fed + length bytes.now ≤ limit }
         requires lines { self.old.line + length bytes.now ≤ limit + 1 }
+        requires meter { HasRoom self.old.line looks.old }
         ensures takes { (front : List ℕ) → IsFed self.old.reader front →
-            TakesBytes command front bytes.now self.old.line self.new result
-            (W.state out.old) (W.state out.new) }
+            TakesBytes (line_answers (command_of work.now)) front bytes.now self.old.line self.new result
+            (answer_state (W.state out.old) looks.old) (answer_state (W.state out.new) looks.new) }
         ensures works { OnOk result (has_fault (W.state out.new) ≡ false) }
         ensures column { OnOk result (self.new.reader.fed ≤ self.old.reader.fed + length bytes.now) }
         ensures lines { OnOk result (self.new.line ≤ self.old.line + length bytes.now) }
+        ensures meter { OnOk result (HasRoom self.new.line looks.new) }
     {
         for byte in bytes {
-            if let Err(stop) = self.take_byte(command, *byte, out) {
+            if let Err(stop) = self.take_byte(work, *byte, out, looks) {
                 return Err(stop);
             }
         }
@@ -134,30 +149,39 @@ impl Progress {
     }
 
     /// Takes the end of the input. A last line counts where it has a byte.
-    fn take_end<W: Target>(&mut self, command: LineCommand, out: &mut W) -> Result<(), Stop>
+    fn take_end<A: Allocator, W: Target>(
+        &mut self,
+        work: &Work<A>,
+        out: &mut W,
+        looks: &mut Meter,
+    ) -> Result<(), Stop>
         requires works { has_fault (W.state out.old) ≡ false }
         requires lines { self.old.line ≤ limit + 1 }
+        requires meter { HasRoom self.old.line looks.old }
         ensures { (front : List ℕ) → IsFed self.old.reader front →
-            TakesEnd command front self.old.line result (W.state out.old) (W.state out.new) }
+            TakesEnd (line_answers (command_of work.now)) front self.old.line result
+            (answer_state (W.state out.old) looks.old) (answer_state (W.state out.new) looks.new) }
     {
         if self.reader.fed() == 0 {
             return Ok(());
         }
-        self.end_line(command, out)
+        self.end_line(work, out, looks)
     }
 }
 
 /// Reads the source, and writes the answer to each line.
-pub fn answer_source<S: Source, W: Target>(
-    command: LineCommand,
+pub fn answer_source<A: Allocator, S: Source, W: Target>(
+    work: &Work<A>,
     source: &mut S,
     out: &mut W,
+    looks: &mut Meter,
 ) -> Stop
     requires reads { (S.state source.old).has_failed ≡ false }
     requires goes_on { (S.state source.old).has_ended ≡ false }
     requires works { has_fault (W.state out.old) ≡ false }
-    ensures { AnswersSource command result
-        (S.state source.old) (S.state source.new) (W.state out.old) (W.state out.new) }
+    requires meter { looks.old ≤ 2 ^ 64 }
+    ensures { AnswersSource (line_answers (command_of work.now)) result (S.state source.old) (S.state source.new)
+        (answer_state (W.state out.old) looks.old) (answer_state (W.state out.new) looks.new) }
 {
     let mut block = [0u8; BLOCK];
     let mut progress = Progress::new();
@@ -168,16 +192,16 @@ pub fn answer_source<S: Source, W: Target>(
             Err(_) => return Stop::CannotRead,
         };
         if given == 0 {
-            return stop_after(progress.take_end(command, out), Stop::Done);
+            return stop_after(progress.take_end(work, out, looks), Stop::Done);
         }
         let room = LIMIT - count;
         if given > room {
             return stop_after(
-                progress.take_bytes(command, &block[..room], out),
+                progress.take_bytes(work, &block[..room], out, looks),
                 Stop::InputTooLong,
             );
         }
-        if let Err(stop) = progress.take_bytes(command, &block[..given], out) {
+        if let Err(stop) = progress.take_bytes(work, &block[..given], out, looks) {
             return stop;
         }
         count += given;
@@ -185,16 +209,23 @@ pub fn answer_source<S: Source, W: Target>(
 }
 
 /// Writes the answer to each line of a text.
-pub fn answer_text<W: Target>(command: LineCommand, text: &[u8], out: &mut W) -> Stop
+pub fn answer_text<A: Allocator, W: Target>(
+    work: &Work<A>,
+    text: &[u8],
+    out: &mut W,
+    looks: &mut Meter,
+) -> Stop
     requires fits { length text.now ≤ limit }
     requires works { has_fault (W.state out.old) ≡ false }
-    ensures { Writes (answer_lines (answer command) text.now End) result (W.state out.old) (W.state out.new) }
+    requires meter { looks.old ≤ 2 ^ 64 }
+    ensures { Answers (answer_lines (line_answers (command_of work.now)) text.now End) result
+        (answer_state (W.state out.old) looks.old) (answer_state (W.state out.new) looks.new) }
 {
     let mut progress = Progress::new();
-    if let Err(stop) = progress.take_bytes(command, text, out) {
+    if let Err(stop) = progress.take_bytes(work, text, out, looks) {
         return stop;
     }
-    stop_after(progress.take_end(command, out), Stop::Done)
+    stop_after(progress.take_end(work, out, looks), Stop::Done)
 }
 
 fn stop_after(taken: Result<(), Stop>, otherwise: Stop) -> Stop

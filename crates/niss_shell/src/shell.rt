@@ -1,15 +1,24 @@
-ghost use Rattle.std.specs.Prelude.{◌≡◌, ◌<◌, ◌≤◌, not, false, true, Ok, ◌++◌, [], map, flat_map, string_bytes, length, OnOk, IfOk, MatchOption};
+ghost use Rattle.std.specs.Prelude.{◌≡◌, ◌<◌, ◌≤◌, ◌^◌, not, false, true, Ok, ◌++◌, ℕ, [], map, flat_map, string_bytes, length, OnOk, IfOk, MatchOption};
 ghost use Rattle.niss_shell.specs.Device.{has_fault};
 ghost use Rattle.niss_shell.specs.Words.{limit, joined, spaced_word, request_of, reads_source, OnLines};
-ghost use Rattle.niss_shell.specs.Output.{error_text};
-ghost use Rattle.niss_shell.specs.Engine.{RunsUnflushed, FlushesLast};
+ghost use Rattle.niss_shell.specs.Output.{error_text, step_line, unsearched};
+ghost use Rattle.niss_cube.specs.Steps.{steps};
+ghost use Rattle.niss_shell.specs.declared.stop.Stop.TheVariants.{Done};
+ghost use Rattle.niss_shell.specs.Engine.{Answers, RunsUnflushed, FlushesLast, answer_state};
 ghost use Rattle.niss_shell.specs.Run.{Runs, TellsError, devices};
 
-use crate::command::{Command, LineCommand, parse_words};
+use crate::command::{LineCommand, Task, parse_words};
 use crate::device::{Source, Target};
 use crate::lines::{LIMIT, answer_source, answer_text};
+use crate::scrambles::write_scrambles;
 use crate::stop::Stop;
+use crate::text::put_text;
+use crate::work::Work;
 use crate::writing::write_all;
+use niss_cube::Step;
+use niss_moves::LineText;
+use niss_search::Meter;
+use rand_pcg::Lcg64Xsh32;
 use std::alloc::{AllocError, Allocator, Global};
 
 /// How many bytes the words give, where these aren't too many.
@@ -57,54 +66,90 @@ fn joined_words<A: Allocator>(
     Ok(text)
 }
 
-/// Answers the lines of the words, or of the source where there are none.
-fn answer_words<A: Allocator, R: Source, W: Target>(
+/// Answers the lines of the words, or of the source where there are none. All memory is taken before the first byte is
+/// read.
+fn answer_words<A: Allocator + Copy, R: Source, W: Target>(
     alloc: A,
     command: LineCommand,
     words: &[String],
     source: &mut R,
     out: &mut W,
+    looks: &mut Meter,
 ) -> Stop
     requires reads { (R.state source.old).has_failed ≡ false }
     requires goes_on { (R.state source.old).has_ended ≡ false }
     requires works { has_fault (W.state out.old) ≡ false }
+    requires meter { looks.old ≤ 2 ^ 64 }
     ensures runs { RunsUnflushed (Ok (OnLines command (map string_bytes words.now))) result
-        (R.state source.old) (R.state source.new) (W.state out.old) (W.state out.new) }
+        (R.state source.old) (R.state source.new)
+        (answer_state (W.state out.old) looks.old) (answer_state (W.state out.new) looks.new) }
     ensures unread { reads_source (Ok (OnLines command (map string_bytes words.now))) ≡ false →
         R.state source.new ≡ R.state source.old }
 {
     if words.is_empty() {
-        return answer_source(command, source, out);
+        let Ok(work) = Work::new(alloc, command) else {
+            return Stop::OutOfMemory;
+        };
+        return answer_source(&work, source, out, looks);
     }
     let Some(length) = joined_length(words) else {
         return Stop::InputTooLong;
     };
-    match joined_words(alloc, words, length) {
-        Ok(text) => answer_text(command, text.as_slice(), out),
-        Err(_) => Stop::OutOfMemory,
+    let Ok(text) = joined_words(alloc, words, length) else {
+        return Stop::OutOfMemory;
+    };
+    let Ok(work) = Work::new(alloc, command) else {
+        return Stop::OutOfMemory;
+    };
+    answer_text(&work, text.as_slice(), out, looks)
+}
+
+/// Writes the names of the steps, each on a line. It takes neither input nor memory.
+fn write_steps<W: Target>(out: &mut W) -> Stop
+    requires { has_fault (W.state out.old) ≡ false }
+    ensures { (looks : ℕ) → Answers (unsearched (flat_map step_line steps) Done) result
+        (answer_state (W.state out.old) looks) (answer_state (W.state out.new) looks) }
+{
+    let mut text = LineText::new();
+    for step in Step::all() {
+        put_text(step.name().as_bytes(), &mut text);
+        text.push(b'\n');
+    }
+    match write_all(out, text.as_slice()) {
+        Ok(()) => Stop::Done,
+        Err(_) => Stop::CannotWrite,
     }
 }
 
-fn answer_command<A: Allocator, R: Source, W: Target>(
+fn answer_command<A: Allocator + Copy, R: Source, W: Target>(
     alloc: A,
     words: &[String],
     source: &mut R,
     out: &mut W,
+    looks: &mut Meter,
 ) -> Stop
     requires reads { (R.state source.old).has_failed ≡ false }
     requires goes_on { (R.state source.old).has_ended ≡ false }
     requires works { has_fault (W.state out.old) ≡ false }
+    requires meter { looks.old ≤ 2 ^ 64 }
     ensures runs { RunsUnflushed (request_of (map string_bytes words.now)) result
-        (R.state source.old) (R.state source.new) (W.state out.old) (W.state out.new) }
+        (R.state source.old) (R.state source.new)
+        (answer_state (W.state out.old) looks.old) (answer_state (W.state out.new) looks.new) }
     ensures unread { reads_source (request_of (map string_bytes words.now)) ≡ false →
         R.state source.new ≡ R.state source.old }
 {
-    match parse_words(words) {
-        Ok(Command::Invert(rest)) => answer_words(alloc, LineCommand::Invert, rest, source, out),
-        Ok(Command::Unniss(rest)) => answer_words(alloc, LineCommand::Unniss, rest, source, out),
-        Ok(Command::Cleanup(rest)) => answer_words(alloc, LineCommand::Cleanup, rest, source, out),
-        Ok(Command::Print(rest)) => answer_words(alloc, LineCommand::Print, rest, source, out),
-        Err(_) => Stop::Usage,
+    let Ok(command) = parse_words(words) else {
+        return Stop::Usage;
+    };
+    match command.task() {
+        Task::Lines(command, rest) => answer_words(alloc, command, rest, source, out, looks),
+        Task::Steps => write_steps(out),
+        Task::Scrambles {
+            state,
+            stream,
+            turns,
+            count,
+        } => write_scrambles(Lcg64Xsh32::new(state, stream), turns, count, out),
     }
 }
 
@@ -126,19 +171,21 @@ fn tell<E: Target>(stop: Stop, err: &mut E)
 }
 
 /// `run` over any allocator, for a caller that has a heap of its own, or that refuses growths.
-pub fn run_in<A: Allocator, R: Source, W: Target, E: Target>(
+pub fn run_in<A: Allocator + Copy, R: Source, W: Target, E: Target>(
     alloc: A,
     words: &[String],
     input: &mut R,
     out: &mut W,
     err: &mut E,
+    looks: &mut Meter,
 ) -> u8
     requires reads { (R.state input.old).has_failed ≡ false }
     requires goes_on { (R.state input.old).has_ended ≡ false }
     requires works { has_fault (W.state out.old) ≡ false }
+    requires meter { looks.old ≤ 2 ^ 64 }
     ensures runs { Runs (map string_bytes words.now)
         (devices (R.state input.old) (W.state out.old) (E.state err.old))
-        (devices (R.state input.new) (W.state out.new) (E.state err.new)) result }
+        (devices (R.state input.new) (W.state out.new) (E.state err.new)) looks.old looks.new result }
     // Nothing is read but by a command that takes its input from the source.
     ensures unread { reads_source (request_of (map string_bytes words.now)) ≡ false →
         R.state input.new ≡ R.state input.old }
@@ -148,7 +195,7 @@ pub fn run_in<A: Allocator, R: Source, W: Target, E: Target>(
     // one not.
     ensures one_flush { (W.state out.new).flush_failed ≡ not (W.state out.new).is_flushed }
 {
-    let stop = flush_last(answer_command(alloc, words, input, out), out);
+    let stop = flush_last(answer_command(alloc, words, input, out, looks), out);
     tell(stop, err);
     stop.status()
 }
@@ -156,21 +203,24 @@ pub fn run_in<A: Allocator, R: Source, W: Target, E: Target>(
 /// Runs a command, and answers its exit status.
 ///
 /// The words are those behind the program's name. The input, where no words give it, comes from `input`. The answers go
-/// to `out` and what went wrong to `err`. Memory is taken only to join words that give the input, and before anything
-/// is written; `nissy: out of memory` is told only where that growth was refused.
+/// to `out` and what went wrong to `err`. `looks` counts the looks at positions of the searches for the lines; it stands
+/// at 2^64 or below. Memory is taken only to join words that give the input, and for the tables of a step, and before
+/// anything is read or written; `nissy: out of memory` is told only where such a growth was refused.
 pub fn run<R: Source, W: Target, E: Target>(
     alloc: Global,
     words: &[String],
     input: &mut R,
     out: &mut W,
     err: &mut E,
+    looks: &mut Meter,
 ) -> u8
     requires reads { (R.state input.old).has_failed ≡ false }
     requires goes_on { (R.state input.old).has_ended ≡ false }
     requires works { has_fault (W.state out.old) ≡ false }
+    requires meter { looks.old ≤ 2 ^ 64 }
     ensures runs { Runs (map string_bytes words.now)
         (devices (R.state input.old) (W.state out.old) (E.state err.old))
-        (devices (R.state input.new) (W.state out.new) (E.state err.new)) result }
+        (devices (R.state input.new) (W.state out.new) (E.state err.new)) looks.old looks.new result }
     // Nothing is read but by a command that takes its input from the source.
     ensures unread { reads_source (request_of (map string_bytes words.now)) ≡ false →
         R.state input.new ≡ R.state input.old }
@@ -180,5 +230,5 @@ pub fn run<R: Source, W: Target, E: Target>(
     // one not.
     ensures one_flush { (W.state out.new).flush_failed ≡ not (W.state out.new).is_flushed }
 {
-    run_in(alloc, words, input, out, err)
+    run_in(alloc, words, input, out, err, looks)
 }

@@ -1,14 +1,25 @@
-ghost use Rattle.std.specs.Prelude.{◌≡◌, decimal, ◌+◌, ◌++◌, ◌≤◌, length};
-ghost use Rattle.niss_shell.specs.Output.{error_text, status_of, fault_column, fault_text, line_fault_text};
+ghost use Rattle.std.specs.Prelude.{◌≡◌, decimal, codes, ◌+◌, ◌∷◌, [], ◌++◌, ◌≤◌, length};
+ghost use Rattle.niss_shell.specs.Output.{error_text, status_of, fault_column, fault_text, start_text, line_fault_text};
+ghost use Rattle.niss_shell.specs.Lines.{line_feed};
 
 use crate::text::{put_number, put_text};
+use niss_cube::Step;
 use niss_moves::{LineText, ReadFault};
+
+/// What is wrong with a line.
+#[derive(Clone, Copy, Debug, PartialEq, Eq)]
+pub enum LineFault {
+    /// It spells no moves.
+    Unread(ReadFault),
+    /// The step may not start on its cube.
+    NoStart(Step),
+}
 
 /// How a run ends.
 #[derive(Clone, Copy, Debug, PartialEq, Eq)]
 pub enum Stop {
     Done,
-    Line { line: u32, fault: ReadFault },
+    Line { line: u32, fault: LineFault },
     Usage,
     InputTooLong,
     CannotRead,
@@ -41,17 +52,39 @@ fn text_of(fault: ReadFault) -> &'static [u8]
     }
 }
 
-fn put_line_fault(line: u32, fault: ReadFault, text: &mut LineText)
+fn put_read_fault(fault: ReadFault, text: &mut LineText)
+    requires { length text.old.items ≤ 100 }
+    ensures { text.new.items ≡ text.old.items ++ codes ", column " ++ decimal (fault_column fault) ++ codes ": "
+        ++ fault_text fault ++ line_feed ∷ [] }
+{
+    put_text(b", column ", text);
+    put_number(column_of(fault) as u128, text);
+    put_text(b": ", text);
+    put_text(text_of(fault), text);
+    text.push(b'\n');
+}
+
+fn put_start_fault(step: Step, text: &mut LineText)
+    requires { length text.old.items ≤ 100 }
+    ensures { text.new.items ≡ text.old.items ++ codes ": " ++ start_text step ++ codes " does not hold" ++ line_feed ∷ [] }
+{
+    put_text(b": ", text);
+    if let Some(name) = step.start_name() {
+        put_text(name.as_bytes(), text);
+    }
+    put_text(b" does not hold\n", text);
+}
+
+fn put_line_fault(line: u32, fault: LineFault, text: &mut LineText)
     requires { length text.old.items ≡ 0 }
     ensures { text.new.items ≡ line_fault_text line fault }
 {
     put_text(b"nissy: line ", text);
-    put_number(line, text);
-    put_text(b", column ", text);
-    put_number(column_of(fault), text);
-    put_text(b": ", text);
-    put_text(text_of(fault), text);
-    text.push(b'\n');
+    put_number(line as u128, text);
+    match fault {
+        LineFault::Unread(fault) => put_read_fault(fault, text),
+        LineFault::NoStart(step) => put_start_fault(step, text),
+    }
 }
 
 impl Stop {

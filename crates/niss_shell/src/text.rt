@@ -2,9 +2,9 @@ ghost use Rattle.std.specs.Prelude.{◌≡◌, ◌+◌, ◌≤◌, ◌++◌, dec
 
 use niss_moves::LineText;
 
-/// Appends the number in decimal digits.
+/// Appends the number in decimal digits, from the first.
 #[tactic(auto, using(crate::proofs::DigitLemmas::digit_laws))]
-pub fn put_digits(number: u128, text: &mut LineText)
+fn put_digits(number: u128, text: &mut LineText)
     requires { length text.old.items + length (decimal number) ≤ 2048 }
     ensures words { text.new.items ≡ text.old.items ++ decimal number }
     ensures room { length text.new.items ≡ length text.old.items + length (decimal number) }
@@ -17,14 +17,14 @@ pub fn put_digits(number: u128, text: &mut LineText)
     text.push(b'0' + (number % 10) as u8);
 }
 
-/// Appends the number in decimal digits, of which there are at most 10.
+/// Appends the number in decimal digits, of which there are at most 39.
 #[tactic(auto, using(crate::proofs::DigitLemmas::decimal_short))]
-pub fn put_number(number: u32, text: &mut LineText)
+pub fn put_number(number: u128, text: &mut LineText)
     requires { length text.old.items ≤ 2000 }
     ensures words { text.new.items ≡ text.old.items ++ decimal number }
     ensures room { length text.new.items ≤ length text.old.items + 40 }
 {
-    put_digits(number as u128, text);
+    put_digits(number, text);
 }
 
 /// Appends bytes.
@@ -33,7 +33,5 @@ pub fn put_text(part: &[u8], text: &mut LineText)
     ensures words { text.new.items ≡ text.old.items ++ part.now }
     ensures room { length text.new.items ≡ length text.old.items + length part.now }
 {
-    for byte in part {
-        text.push(*byte);
-    }
+    text.try_extend_from_slice(part).unwrap();
 }

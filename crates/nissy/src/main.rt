@@ -1,7 +1,7 @@
 //! `nissy`: notation of the 3x3x3 cube on the command line. All is done by `niss_shell::run`.
 #![tactic(auto)]
 
-use niss_shell::{FromReader, ToWriter, run};
+use niss_shell::{FromReader, Meter, ToWriter, run};
 use std::io::{ErrorKind, Write};
 use std::process::ExitCode;
 use std::{env, io};
@@ -36,6 +36,7 @@ fn run_words(rt: &HostRuntime, words: &[String]) -> ExitCode {
         &mut FromReader::new(rt.stdin()),
         &mut ToWriter::new(rt.stdout()),
         &mut ToWriter::new(rt.stderr()),
+        &mut Meter::new(),
     );
     ExitCode::from(status)
 }

@@ -1,0 +1,120 @@
+-- The turns of the steps: parts of the turn order, which hold their inverses and keep the start.
+use Rattle.std.proofs.Common.{◌≡◌, ℕ, zero, suc, ◌<◌, refl, sym, ◌∙◌, ap, Bool, true, false, not, ◌&&◌, ◌||◌, List, [], ◌∷◌, length, Option, None, Some, arith}
+use Rattle.std.specs.Prelude.{Contains, flat_map, map, filter, slice_index_or}
+use Rattle.std.specs.List.{list_all, list_any}
+use Rattle.std.proofs.lemmas.Map.Views.{Contains-from_any}
+use Rattle.niss_moves.specs.Places.{is_place}
+use Rattle.niss_moves.specs.Facelets.{places}
+use Rattle.niss_moves.specs.Effects.{turned}
+use Rattle.niss_moves.specs.Turn.{same_face, inverse_turn}
+use Rattle.niss_moves.specs.Canonical.{face_order, turn_order}
+use Rattle.niss_moves.specs.declared.axis.Axis.{Axis}
+use Rattle.niss_moves.specs.declared.axis.Axis.TheVariants.{Ud, Rl, Fb}
+use Rattle.niss_moves.specs.declared.turn.Face.{Face}
+use Rattle.niss_moves.specs.declared.turn.Face.TheVariants.{U, D, R, L, F, B}
+use Rattle.niss_moves.specs.declared.turn.Power.{Power}
+use Rattle.niss_moves.specs.declared.turn.Power.TheVariants.{Quarter, Half, Counter}
+use Rattle.niss_moves.specs.declared.turn.Turn.{Turn}
+use Rattle.niss_cube.specs.Sets.{Kept, flip_set}
+use Rattle.niss_cube.specs.Steps.{start_of, turns_of, powers_from, is_face_of}
+use Rattle.niss_cube.specs.StepLaws.{InversesOfSteps, StepTurnsInOrder}
+use Rattle.niss_cube.specs.declared.step.Step.{Step}
+use Rattle.niss_cube.proofs.Each.{at_place, and_left, and_right}
+use Rattle.niss_cube.proofs.KeptTests.{implied}
+
+-- the turns of a step from its start
+abbrev pub turns_from : Option Axis → List Turn
+turns_from start = flat_map (λ f. map (λ p. record { face = f; power = p }) (powers_from start f)) face_order
+
+pub from_start : (s : Step) → turns_of s ≡ turns_from (start_of s)
+unfolding turns_of
+from_start s = refl
+
+at_index : (test : Turn → Bool) (ts : List Turn) → list_all test ts ≡ true → (k : ℕ) (t : Turn) → k < length ts → test (slice_index_or ts k t) ≡ true
+at_index test [] h k t l = absurd (omega arith)
+at_index test (x ∷ ts) h zero t l = and_left _ (list_all test ts) h
+at_index test (x ∷ ts) h (suc k) t l = at_index test ts (and_right (test x) _ h) k t (omega arith)
+
+at_member : (test : Turn → Bool) (ts : List Turn) (t : Turn) → list_all test ts ≡ true → Contains ts t → test t ≡ true
+at_member test ts t h m = ap test (sym m.2) ∙ at_index test ts h m.0 t m.1
+
+-- each turn from oriented edges keeps them so
+
+abbrev keeps : Axis → Turn → Bool
+keeps a t = list_all (λ q. not (flip_set a q) || flip_set a (turned t q)) places
+
+all_keep : (a : Axis) → list_all (keeps a) (turns_from (Some a)) ≡ true
+all_keep Ud = refl
+all_keep Rl = refl
+all_keep Fb = refl
+
+pub turn_keeps : (a : Axis) (t : Turn) → Contains (turns_from (Some a)) t → Kept (flip_set a) (turned t)
+turn_keeps a t m q h =
+    implied (flip_set a q) (flip_set a (turned t q))
+    (at_place (λ q. not (flip_set a q) || flip_set a (turned t q)) (at_member (keeps a) (turns_from (Some a)) t (all_keep a) m) q (and_left (is_place q) _ (and_left _ _ h))) h
+
+-- the inverse of each turn is among them
+
+abbrev same_power : Power → Power → Bool
+same_power Quarter Quarter = true
+same_power Half Half = true
+same_power Counter Counter = true
+same_power _ _ = false
+
+abbrev same_turn : Turn → Turn → Bool
+same_turn t u = same_face t.face u.face && same_power t.power u.power
+
+same_face-is : (f g : Face) → same_face f g ≡ true → f ≡ g
+same_face-is U U h = refl
+same_face-is D D h = refl
+same_face-is R R h = refl
+same_face-is L L h = refl
+same_face-is F F h = refl
+same_face-is B B h = refl
+same_face-is _ _ h = absurd (cc)
+
+same_power-is : (p q : Power) → same_power p q ≡ true → p ≡ q
+same_power-is Quarter Quarter h = refl
+same_power-is Half Half h = refl
+same_power-is Counter Counter h = refl
+same_power-is _ _ h = absurd (cc)
+
+same_turn-is : (t u : Turn) → same_turn t u ≡ true → t ≡ u
+same_turn-is t u h =
+    let f : t.face ≡ u.face = same_face-is t.face u.face (and_left _ _ h) in
+    let p : t.power ≡ u.power = same_power-is t.power u.power (and_right (same_face t.face u.face) _ h) in
+    λ i. record { face = f i; power = p i }
+
+abbrev has_inverse : List Turn → Turn → Bool
+has_inverse ts t = list_any (same_turn (inverse_turn t)) ts
+
+all_have_inverses : (start : Option Axis) → list_all (has_inverse (turns_from start)) (turns_from start) ≡ true
+all_have_inverses None = refl
+all_have_inverses (Some Ud) = refl
+all_have_inverses (Some Rl) = refl
+all_have_inverses (Some Fb) = refl
+
+inverse_from : (start : Option Axis) (t : Turn) → Contains (turns_from start) t → Contains (turns_from start) (inverse_turn t)
+inverse_from start t m =
+    Contains-from_any same_turn-is (inverse_turn t) (turns_from start) (at_member (has_inverse (turns_from start)) (turns_from start) t (all_have_inverses start) m)
+
+pub inverses_of_steps : InversesOfSteps
+unfolding turns_of
+inverses_of_steps s t m = inverse_from (start_of s) t m
+
+-- they are some of the 18
+
+part : Option Axis → Turn → Bool
+part None t = true
+part (Some a) t = not (is_face_of a t.face) || same_power t.power Half
+
+in_order : (start : Option Axis) → turns_from start ≡ filter (part start) turn_order
+unfolding part
+in_order None = refl
+in_order (Some Ud) = refl
+in_order (Some Rl) = refl
+in_order (Some Fb) = refl
+
+pub step_turns_in_order : StepTurnsInOrder
+unfolding turns_of
+step_turns_in_order s = (part (start_of s), in_order (start_of s))

@@ -1,0 +1,29 @@
+-- What follows from the definitions of the steps alone.
+use Rattle.std.specs.Prelude.{◌≡◌, Bool, filter, Contains, IsTrue}
+use Rattle.niss_moves.specs.Places.{Place, SameMap}
+use Rattle.niss_moves.specs.Effects.{turned}
+use Rattle.niss_moves.specs.Turn.{inverse_turn}
+use Rattle.niss_moves.specs.Canonical.{turn_order}
+use Rattle.niss_moves.specs.declared.turn.Turn.{Turn}
+use Rattle.niss_cube.specs.Steps.{turns_of, may_start, reached}
+use Rattle.niss_cube.specs.declared.step.Step.{Step}
+
+-- A step that may start may start after each of its turns too.
+abbrev pub StartIsKept : Type 0
+StartIsKept = (s : Step) (e : Place → Place) (t : Turn) → Contains (turns_of s) t → IsTrue (may_start s e) → IsTrue (may_start s (λ q. turned t (e q)))
+
+-- Maps that are the same on the 54 places have the same start and the same goal.
+pub record SameSteps (d e : Place → Place) : Type 0 where
+  pub start : (s : Step) → may_start s d ≡ may_start s e
+  pub goal : (s : Step) → reached s d ≡ reached s e
+
+abbrev pub StepsSeePlaces : Type 0
+StepsSeePlaces = (d e : Place → Place) → SameMap d e → SameSteps d e
+
+-- The turns of a step hold their inverses.
+abbrev pub InversesOfSteps : Type 0
+InversesOfSteps = (s : Step) (t : Turn) → Contains (turns_of s) t → Contains (turns_of s) (inverse_turn t)
+
+-- The turns of a step are some of the 18, in turn order.
+abbrev pub StepTurnsInOrder : Type 0
+StepTurnsInOrder = (s : Step) → (part : Turn → Bool) × (turns_of s ≡ filter part turn_order)

@@ -1,0 +1,111 @@
+-- The looks are within the bound, and the bound is small.
+use Rattle.std.proofs.Common.{◌≡◌, ℕ, zero, suc, ◌+◌, ◌-◌, ◌*◌, ◌^◌, ◌≤◌, ◌<◌, Bool, true, false, cond, List, [], ◌∷◌, ◌++◌, length, map, filter, sum_by, count_by, refl, ap, arith, lit≤, find, unwrap_or, Some}
+use Rattle.std.specs.List.{range_with_len, list_any}
+use Rattle.std.proofs.lemmas.List.Sums.{sum_by-cons, sum_by-le-sum_by, count_by-le-length}
+use Rattle.std.proofs.lemmas.List.Concat.{length-flat_map}
+use Rattle.std.proofs.Math.Nat.{pow-suc}
+use Rattle.niss_moves.specs.declared.turn.Turn.{Turn}
+use Rattle.niss_moves.specs.Canonical.{may_follow, last_turn, all_canonical, canonical_extensions}
+use Rattle.niss_search.specs.Solutions.{look_bound, least_length, up_to, count_of_length}
+use Rattle.niss_search.specs.Looks.{is_looked_at, looks, all_looks}
+use Rattle.niss_cube.specs.declared.step.Step.{Step}
+use Rattle.niss_cube.specs.declared.step.Step.TheVariants.{Eofb, Eorl, Eoud, DrudEofb, DrrlEofb, DrudEorl, DrfbEorl, DrrlEoud, DrfbEoud}
+use Rattle.niss_cube.specs.Steps.{turns_of}
+use Rattle.niss_search.specs.Laws.{BoundIsSmall}
+
+-- the looks of a deepening are at most the canonical sequences of its lengths
+pub looks-le : (turns : List Turn) (far : List Turn → ℕ) (d : ℕ) → looks turns far d ≤ sum_by (count_of_length turns) (up_to d)
+unfolding looks
+looks-le turns far d =
+    sum_by-le-sum_by (λ k. count_by (is_looked_at far d) (all_canonical turns k)) (count_of_length turns) (up_to d) (λ k. count_by-le-length (is_looked_at far d) (all_canonical turns k))
+
+range-le : (f : ℕ → ℕ) (m a n : ℕ) → ((j : ℕ) → j < a + n → f j ≤ m) → sum_by f (range_with_len a n) ≤ n * m
+range-le f m a zero h = omega arith
+range-le f m a (suc n) h =
+    omega (arith, sum_by-cons f a (range_with_len (a + 1) n), h a (omega arith), range-le f m (a + 1) n (λ j l. h j (omega arith)))
+
+length-filter-le : {X : Type 0} (m : X → Bool) (xs : List X) → length (filter m xs) ≤ length xs
+length-filter-le m [] = omega arith
+length-filter-le m (x ∷ xs) = by_test (m x) (length-filter-le m xs) where
+  by_test : (b : Bool) → length (filter m xs) ≤ length xs → length (cond b (x ∷ filter m xs) (filter m xs)) ≤ length (x ∷ xs)
+  by_test true h = omega arith
+  by_test false h = omega arith
+
+length-map : {X Y : Type 0} (f : X → Y) (xs : List X) → length (map f xs) ≡ length xs
+length-map f [] = refl
+length-map f (x ∷ xs) = ap suc (length-map f xs)
+
+sum-le : {X : Type 0} (f : X → ℕ) (m : ℕ) (xs : List X) → ((x : X) → f x ≤ m) → sum_by f xs ≤ length xs * m
+sum-le f m [] h = omega arith
+sum-le f m (x ∷ xs) h = omega (arith, sum_by-cons f x xs, h x, sum-le f m xs h)
+
+length-extensions : (turns s : List Turn) → length turns ≤ 18 → length (canonical_extensions turns s) ≤ 18
+length-extensions turns s h =
+    omega (arith, length-map (λ t. s ++ t ∷ []) (filter (may_follow (last_turn s)) turns), length-filter-le (may_follow (last_turn s)) turns)
+
+count-le : (turns : List Turn) (k : ℕ) → length turns ≤ 18 → count_of_length turns k ≤ 18 ^ k
+unfolding all_canonical
+count-le turns zero h = omega arith
+count-le turns (suc k) h =
+    let one = λ (s : List Turn). length-extensions turns s h in
+    omega (arith, length-flat_map (canonical_extensions turns) (all_canonical turns k), sum-le (λ s. length (canonical_extensions turns s)) 18 (all_canonical turns k) one, count-le turns k h, pow-suc 18 k)
+
+pow-le : (k m : ℕ) → 18 ^ k ≤ 18 ^ (m + k)
+pow-le k zero =
+    let e : 0 + k ≡ k = omega arith in
+    omega (arith, ap (λ n. 18 ^ n) e)
+pow-le k (suc m) =
+    let e : suc m + k ≡ suc (m + k) = omega arith in
+    omega (arith, pow-le k m, pow-suc 18 (m + k), ap (λ n. 18 ^ n) e)
+
+-- a bound on the counts of every length up to 20
+pub count-small : (turns : List Turn) (k : ℕ) → length turns ≤ 18 → k ≤ 20 → count_of_length turns k ≤ 18 ^ 20
+count-small turns k h l =
+    let e : 20 - k + k ≡ 20 = omega arith in
+    omega (arith, count-le turns k h, pow-le k (20 - k), ap (λ n. 18 ^ n) e)
+
+pub looks-small : (turns : List Turn) (far : List Turn → ℕ) (d : ℕ) → length turns ≤ 18 → d ≤ 20 → looks turns far d ≤ 21 * 18 ^ 20
+looks-small turns far d h l =
+    omega (arith, looks-le turns far d, range-le (count_of_length turns) (18 ^ 20) 0 (d + 1) (λ j m. count-small turns j h (omega arith)))
+
+pub looks-sum-small : (turns : List Turn) (far : List Turn → ℕ) (d : ℕ) → length turns ≤ 18 → d ≤ 21 → sum_by (looks turns far) (range_with_len 0 d) ≤ 21 * (21 * 18 ^ 20)
+looks-sum-small turns far d h l =
+    omega (arith, range-le (looks turns far) (21 * 18 ^ 20) 0 d (λ j m. looks-small turns far j h (omega arith)))
+
+pub turns_of-length : (step : Step) → length (turns_of step) ≤ 18
+unfolding turns_of
+turns_of-length Eofb = lit≤ tt
+turns_of-length Eorl = lit≤ tt
+turns_of-length Eoud = lit≤ tt
+turns_of-length DrudEofb = lit≤ tt
+turns_of-length DrrlEofb = lit≤ tt
+turns_of-length DrudEorl = lit≤ tt
+turns_of-length DrfbEorl = lit≤ tt
+turns_of-length DrrlEoud = lit≤ tt
+turns_of-length DrfbEoud = lit≤ tt
+
+pub least-le : (p : ℕ → Bool) (a n d b : ℕ) → a + n ≤ b + 1 → d ≤ b → unwrap_or (find p (range_with_len a n)) d ≤ b
+least-le p a zero d b h l = l
+least-le p a (suc n) d b h l = by_test (p a) (omega arith) (least-le p (a + 1) n d b (omega arith) l) where
+  by_test : (t : Bool) → a ≤ b → unwrap_or (find p (range_with_len (a + 1) n)) d ≤ b → unwrap_or (cond t (Some a) (find p (range_with_len (a + 1) n))) d ≤ b
+  by_test true k r = k
+  by_test false k r = r
+
+pub prefix-le : (f g : ℕ → ℕ) (a m n : ℕ) → ((j : ℕ) → f j ≤ g j) → m ≤ n → sum_by f (range_with_len a m) ≤ sum_by g (range_with_len a n)
+prefix-le f g a zero n h l = omega arith
+prefix-le f g a (suc m) zero h l = absurd (omega arith)
+prefix-le f g a (suc m) (suc n) h l =
+    omega (arith, sum_by-cons f a (range_with_len (a + 1) m), sum_by-cons g a (range_with_len (a + 1) n), h a, prefix-le f g (a + 1) m n h (omega arith))
+
+-- the looks of every deepening are within the bound
+pub all_looks-bound : (turns : List Turn) (reaches : List Turn → Bool) (far : List Turn → ℕ) (n : ℕ) → all_looks turns reaches far n ≤ look_bound turns n
+unfolding all_looks look_bound least_length
+all_looks-bound turns reaches far n =
+    let within = least-le (λ k. list_any reaches (all_canonical turns k)) 0 (n + 1) n n (omega arith) (omega arith) in
+    prefix-le (looks turns far) (λ d. sum_by (count_of_length turns) (up_to d)) 0 (unwrap_or (least_length turns reaches n) n + 1) (n + 1) (looks-le turns far) (omega (arith, within))
+
+-- the bound of a step is small
+pub bound-small : BoundIsSmall
+unfolding look_bound
+bound-small s n h =
+    omega (arith, range-le (λ d. sum_by (count_of_length (turns_of s)) (up_to d)) (21 * 18 ^ 20) 0 (n + 1) (λ d l. omega (arith, range-le (count_of_length (turns_of s)) (18 ^ 20) 0 (d + 1) (λ j m. count-small (turns_of s) j (turns_of-length s) (omega arith)))))

@@ -1,0 +1,108 @@
+-- The distance: 0 exactly where the empty sequence reaches, and at most one more than after a turn.
+use Rattle.std.proofs.Common.{◌≡◌, ℕ, zero, suc, ◌+◌, ◌≤◌, ◌<◌, leb, Bool, true, false, ◌||◌, cond, List, [], ◌∷◌, map, find, unwrap_or, Some, Contains, refl, ap, ◌∙◌, arith, inl, inr, ◌⊎◌}
+use Rattle.std.specs.Prelude.{flat_map}
+use Rattle.std.specs.List.{range_with_len, list_any}
+use Rattle.std.proofs.lemmas.Bool.{le-leb, lt-leb}
+use Rattle.std.proofs.lemmas.List.Folds.{list_any-append, list_any_at}
+use Rattle.std.proofs.lemmas.Bool.Decides.{leb_tells}
+use Rattle.niss_moves.specs.declared.turn.Turn.{Turn}
+use Rattle.niss_search.specs.Distance.{all_sequences, distance}
+
+list_any-map : {X Y : Type 0} (p : Y → Bool) (f : X → Y) (xs : List X) → list_any p (map f xs) ≡ list_any (λ x. p (f x)) xs
+list_any-map p f [] = refl
+list_any-map p f (x ∷ xs) = ap (λ b. p (f x) || b) (list_any-map p f xs)
+
+list_any-flat_map : {X Y : Type 0} (p : Y → Bool) (f : X → List Y) (xs : List X) → list_any p (flat_map f xs) ≡ list_any (λ x. list_any p (f x)) xs
+list_any-flat_map p f [] = refl
+list_any-flat_map p f (x ∷ xs) =
+    list_any-append p (f x) (flat_map f xs) ∙ ap (λ b. list_any p (f x) || b) (list_any-flat_map p f xs)
+
+list_any-at : {X : Type 0} (p : X → Bool) (xs : List X) (x : X) → Contains xs x → p x ≡ true → list_any p xs ≡ true
+list_any-at p xs x m e = list_any_at p xs m.0 x m.1 (ap p m.2 ∙ e)
+
+-- whether some sequence of length k reaches
+abbrev pub reached_in : List Turn → (List Turn → Bool) → ℕ → Bool
+reached_in turns reaches k = list_any reaches (all_sequences turns k)
+
+-- by its first turn
+pub reached_in-suc : (turns : List Turn) (reaches : List Turn → Bool) (k : ℕ) → reached_in turns reaches (suc k) ≡ list_any (λ t. reached_in turns (λ s. reaches (t ∷ s)) k) turns
+unfolding all_sequences
+reached_in-suc turns reaches k =
+    list_any-flat_map reaches (λ t. map (λ s. t ∷ s) (all_sequences turns k)) turns
+    ∙ list_any-same' turns where
+      list_any-same' : (ts : List Turn) → list_any (λ t. list_any reaches (map (λ s. t ∷ s) (all_sequences turns k))) ts ≡ list_any (λ t. list_any (λ s. reaches (t ∷ s)) (all_sequences turns k)) ts
+      list_any-same' [] = refl
+      list_any-same' (t ∷ ts) = rw (list_any-map reaches (λ s. t ∷ s) (all_sequences turns k), list_any-same' ts)
+
+-- the first number from a on, of n, that passes, or else d
+abbrev first_or : (ℕ → Bool) → ℕ → ℕ → ℕ → ℕ
+first_or p a n d = unwrap_or (find p (range_with_len a n)) d
+
+first_or-from : (p : ℕ → Bool) (a n d : ℕ) → a + n ≤ d → a ≤ first_or p a n d
+first_or-from p a zero d h = omega arith
+first_or-from p a (suc n) d h = by_test (p a) (first_or-from p (a + 1) n d (omega arith)) where
+  by_test : (b : Bool) → a + 1 ≤ first_or p (a + 1) n d → a ≤ unwrap_or (cond b (Some a) (find p (range_with_len (a + 1) n))) d
+  by_test true h = omega arith
+  by_test false h = omega arith
+
+first_or-le : (p : ℕ → Bool) (a n d k : ℕ) → a ≤ k → k < a + n → p k ≡ true → first_or p a n d ≤ k
+first_or-le p a zero d k low high e = absurd (omega arith)
+first_or-le p a (suc n) d k low high e = by_test (p a) refl (first_or-le p (a + 1) n d k) where
+  by_test : (b : Bool) → p a ≡ b → (a + 1 ≤ k → k < a + 1 + n → p k ≡ true → first_or p (a + 1) n d ≤ k) → unwrap_or (cond b (Some a) (find p (range_with_len (a + 1) n))) d ≤ k
+  by_test true f rest = low
+  by_test false f rest =
+      let other : (a ≡ k → ⊥) = λ q. absurd (cc (f, e, ap p q)) in
+      rest (omega arith) (omega arith) e
+
+first_or-passes : (p : ℕ → Bool) (a n d : ℕ) → (p (first_or p a n d) ≡ true) ⊎ (first_or p a n d ≡ d)
+first_or-passes p a zero d = inr refl
+first_or-passes p a (suc n) d = by_test (p a) refl (first_or-passes p (a + 1) n d) where
+  by_test : (b : Bool) → p a ≡ b → (p (first_or p (a + 1) n d) ≡ true) ⊎ (first_or p (a + 1) n d ≡ d) → (p (unwrap_or (cond b (Some a) (find p (range_with_len (a + 1) n))) d) ≡ true) ⊎ (unwrap_or (cond b (Some a) (find p (range_with_len (a + 1) n))) d ≡ d)
+  by_test true f rest = inl f
+  by_test false f rest = rest
+
+first_or-most : (p : ℕ → Bool) (a n d : ℕ) → a + n ≤ d → first_or p a n d ≤ d
+first_or-most p a zero d h = omega arith
+first_or-most p a (suc n) d h = by_test (p a) (omega arith) (first_or-most p (a + 1) n d (omega arith)) where
+  by_test : (b : Bool) → a ≤ d → first_or p (a + 1) n d ≤ d → unwrap_or (cond b (Some a) (find p (range_with_len (a + 1) n))) d ≤ d
+  by_test true l h = l
+  by_test false l h = h
+
+first_or-after : (p : ℕ → Bool) (a n d : ℕ) → a + n ≤ d → a < d → p a ≡ false → a < first_or p a n d
+first_or-after p a zero d h l e = l
+first_or-after p a (suc n) d h l e =
+    let later : a + 1 ≤ first_or p (a + 1) n d = first_or-from p (a + 1) n d (omega arith) in
+    rw e (omega arith)
+
+module _ (turns : List Turn) (reaches : List Turn → Bool) where
+  pub distance-le : (k : ℕ) → k ≤ 20 → reached_in turns reaches k ≡ true → distance turns reaches ≤ k
+  unfolding distance
+  distance-le k h e = first_or-le (reached_in turns reaches) 0 21 21 k (omega arith) (omega arith) e
+
+  pub distance-most : distance turns reaches ≤ 21
+  unfolding distance
+  distance-most = first_or-most (reached_in turns reaches) 0 21 21 (omega arith)
+
+  pub distance-reached : (reached_in turns reaches (distance turns reaches) ≡ true) ⊎ (distance turns reaches ≡ 21)
+  unfolding distance
+  distance-reached = first_or-passes (reached_in turns reaches) 0 21 21
+
+  pub distance-zero : leb (distance turns reaches) 0 ≡ reaches []
+  unfolding distance all_sequences
+  distance-zero = by_test (reaches []) refl where
+    by_test : (b : Bool) → reaches [] ≡ b → leb (first_or (reached_in turns reaches) 0 21 21) 0 ≡ b
+    by_test true e = le-leb _ 0 (first_or-le (reached_in turns reaches) 0 21 21 0 (omega arith) (omega arith) (rw e))
+    by_test false e = lt-leb _ 0 (first_or-after (reached_in turns reaches) 0 21 21 (omega arith) (omega arith) (rw e))
+
+pub distance-turn : (turns : List Turn) (reaches : List Turn → Bool) (t : Turn) → Contains turns t → distance turns reaches ≤ 1 + distance turns (λ s. reaches (t ∷ s))
+distance-turn turns reaches t m =
+    let rest : List Turn → Bool = λ s. reaches (t ∷ s) in
+    elim (distance-reached turns rest) [
+      | inl e ↦
+          let further = reached_in-suc turns reaches (distance turns rest) ∙ list_any-at (λ u. reached_in turns (λ s. reaches (u ∷ s)) (distance turns rest)) turns t m e in
+          elim (leb_tells (distance turns rest) 19) [
+            | inl few ↦ omega (arith, distance-le turns reaches (suc (distance turns rest)) (omega arith) further)
+            | inr many ↦ omega (arith, distance-most turns reaches)
+          ]
+      | inr e ↦ omega (arith, distance-most turns reaches)
+    ]

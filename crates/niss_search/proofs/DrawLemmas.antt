@@ -1,0 +1,93 @@
+-- Drawing turn by turn.
+use Rattle.std.proofs.Common.{◌≡◌, ℕ, zero, suc, ◌-◌, ◌*◌, ◌/◌, ◌^◌, ◌≤◌, ◌<◌, Bool, true, false, ◌&&◌, cond, List, [], ◌∷◌, ◌++◌, length, get_or, filter, Option, Some, None, refl, ap, ◌∙◌, arith, lit<}
+use Rattle.std.specs.List.{last_or, slice_get}
+use Rattle.std.proofs.Math.Nat.{mul-le-mul_right}
+use Rattle.niss_moves.specs.Canonical.{may_follow, face_may_follow, turn_order, last_turn, is_canonical_after}
+use Rattle.niss_moves.specs.declared.turn.Face.{Face}
+use Rattle.niss_moves.specs.declared.turn.Face.TheVariants.{U, D, R, L, F, B}
+use Rattle.niss_moves.specs.declared.turn.Power.TheVariants.{Quarter}
+use Rattle.niss_moves.specs.declared.turn.Turn.{Turn}
+use Rattle.rand_pcg.specs.Lcg.{Lcg, state_after}
+use Rattle.rand_pcg.specs.Pcg.{pcg32}
+use Rattle.niss_search.specs.Draw.{choices, choice, next_words, after_words, draw}
+
+some-after : (f : Face) → 0 < length (filter (λ t. face_may_follow f t.face) turn_order)
+some-after U = lit< tt
+some-after D = lit< tt
+some-after R = lit< tt
+some-after L = lit< tt
+some-after F = lit< tt
+some-after B = lit< tt
+
+-- some turn may always follow
+pub choices-some : (last : Option Turn) → 0 < length (choices last)
+choices-some None = lit< tt
+choices-some (Some t) = some-after t.face
+
+-- a word's index is that of a choice
+pub choice-index : (last : Option Turn) (w : ℕ) → w < 2 ^ 32 → w * length (choices last) / 2 ^ 32 < length (choices last)
+choice-index last w h =
+    let k = length (choices last) in
+    let top : w * k ≤ (2 ^ 32 - 1) * k = mul-le-mul_right k (omega arith) in
+    let some = choices-some last in
+    omega arith
+
+filter-passes : {X : Type 0} (p : X → Bool) (xs : List X) (i : ℕ) (d : X) → i < length (filter p xs) → p (get_or (filter p xs) i d) ≡ true
+filter-passes p [] i d h = absurd (omega arith)
+filter-passes p (x ∷ xs) i d h = by_test (p x) refl (filter-passes p xs) i h where
+  by_test : (b : Bool) → p x ≡ b → ((i : ℕ) (d' : _) → i < length (filter p xs) → p (get_or (filter p xs) i d') ≡ true) → (i : ℕ) → i < length (cond b (x ∷ filter p xs) (filter p xs)) → p (get_or (cond b (x ∷ filter p xs) (filter p xs)) i d) ≡ true
+  by_test true e rest zero l = e
+  by_test true e rest (suc j) l = rest j d (omega arith)
+  by_test false e rest j l = rest j d l
+
+-- the turn that a word picks may follow
+pub choice-follows : (last : Option Turn) (w : ℕ) → w < 2 ^ 32 → may_follow last (choice last w) ≡ true
+choice-follows last w h =
+    filter-passes (may_follow last) turn_order (w * length (choices last) / 2 ^ 32) record { face = U; power = Quarter } (choice-index last w h)
+
+-- one word more
+pub draw-more : (n m : ℕ) (last : Option Turn) (g : Lcg) → n ≡ suc m → draw last (next_words n g) ≡ choice last (pcg32 g).0 ∷ draw (Some (choice last (pcg32 g).0)) (next_words m (pcg32 g).1)
+unfolding next_words draw
+draw-more n m last g e = ap (λ k. draw last (next_words k g)) e
+
+pub after_words-more : (n m : ℕ) (g : Lcg) → n ≡ suc m → after_words n g ≡ after_words m (pcg32 g).1
+unfolding state_after
+after_words-more n m g e = ap (λ k. after_words k g) e
+
+-- no word more
+pub draw-none : (n : ℕ) (last : Option Turn) (g : Lcg) → n ≡ 0 → draw last (next_words n g) ≡ []
+unfolding next_words draw
+draw-none n last g e = ap (λ k. draw last (next_words k g)) e
+
+pub after_words-none : (n : ℕ) (g : Lcg) → n ≡ 0 → after_words n g ≡ g
+unfolding state_after
+after_words-none n g e = ap (λ k. after_words k g) e
+
+-- the turn before the next one
+at_end : (x : Turn) (s : List Turn) → slice_get (x ∷ s) (length s) ≡ last_or (Some x) s
+at_end x [] = refl
+at_end x (y ∷ s) = at_end y s
+
+pub last_turn-is : (s : List Turn) → last_turn s ≡ last_or None s
+last_turn-is [] = refl
+last_turn-is (x ∷ s) =
+    let e : length (x ∷ s) - 1 ≡ length s = omega arith in
+    ap (slice_get (x ∷ s)) e ∙ at_end x s
+
+last_or-push : (o : Option Turn) (s : List Turn) (t : Turn) → last_or o (s ++ t ∷ []) ≡ Some t
+last_or-push o [] t = refl
+last_or-push o (x ∷ s) t = last_or-push (Some x) s t
+
+pub last_turn-push : (s : List Turn) (t : Turn) → last_turn (s ++ t ∷ []) ≡ Some t
+last_turn-push s t = last_turn-is (s ++ t ∷ []) ∙ last_or-push None s t
+
+canonical-after : (o : Option Turn) (s : List Turn) (t : Turn) → is_canonical_after o s ≡ true → may_follow (last_or o s) t ≡ true → is_canonical_after o (s ++ t ∷ []) ≡ true
+canonical-after o [] t h k = rw k
+canonical-after o (x ∷ s) t h k = both (may_follow o x) h (canonical-after (Some x) s t) where
+  both : (b : Bool) → (b && is_canonical_after (Some x) s) ≡ true → (is_canonical_after (Some x) s ≡ true → may_follow (last_or (Some x) s) t ≡ true → is_canonical_after (Some x) (s ++ t ∷ []) ≡ true) → (b && is_canonical_after (Some x) (s ++ t ∷ [])) ≡ true
+  both true e rest = rest e k
+  both false e rest = absurd cc
+
+-- a turn that may follow the last one
+pub canonical-push : (s : List Turn) (t : Turn) → is_canonical_after None s ≡ true → may_follow (last_turn s) t ≡ true → is_canonical_after None (s ++ t ∷ []) ≡ true
+canonical-push s t h k = canonical-after None s t h (rw (← last_turn-is s) k)

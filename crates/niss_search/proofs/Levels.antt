@@ -1,0 +1,88 @@
+-- The search by levels: what the least level with a solution says of the whole.
+use Rattle.std.proofs.Common.{◌≡◌, ℕ, zero, suc, ◌+◌, ◌≤◌, ◌<◌, Bool, true, false, cond, List, [], length, find, sum_by, Some, None, refl, arith, add-one, leb, inl, inr, ◌⊎◌, below_more}
+use Rattle.std.specs.List.{range_with_len, list_any}
+use Rattle.std.proofs.lemmas.List.Sums.{sum_by_push}
+use Rattle.std.proofs.lemmas.Bool.Decides.{leb_tells}
+use Rattle.niss_moves.specs.declared.turn.Turn.{Turn}
+use Rattle.niss_cube.specs.declared.step.Step.{Step}
+use Rattle.niss_cube.specs.Steps.{turns_of}
+use Rattle.niss_moves.specs.Canonical.{all_canonical}
+use Rattle.niss_search.specs.Solutions.{least_length, solutions, reaching}
+use Rattle.niss_search.specs.Looks.{looks, all_looks}
+use Rattle.niss_search.specs.Descent.{found_below, looks_below}
+use Rattle.niss_search.specs.declared.tables.position.Coordinates.{Coordinates}
+use Rattle.niss_search.specs.Positions.{position_after, is_reached_at, look_at}
+use Rattle.niss_search.proofs.ListLemmas.{filter-none, filter-some, range_with_len-more}
+use Rattle.niss_search.proofs.DepthFirst.{reach, far, found_all, visits_all}
+use Rattle.niss_search.proofs.LookLemmas.{look_at-goal, look_at-turn}
+
+-- by the position alone
+abbrev pub reaches_at : Step → List Coordinates → List Turn → Bool
+reaches_at step x s = reach (turns_of step) position_after look_at is_reached_at x s
+
+abbrev pub far_at : Step → List Coordinates → List Turn → ℕ
+far_at step x s = far (turns_of step) position_after look_at is_reached_at x s
+
+pub found_below-level : (step : Step) (x : List Coordinates) (d : ℕ) → found_below step x [] d ≡ reaching (turns_of step) (reaches_at step x) d
+unfolding found_below
+found_below-level step x d = found_all (turns_of step) position_after look_at is_reached_at x look_at-goal (look_at-turn (turns_of step)) d
+
+pub looks_below-level : (step : Step) (x : List Coordinates) (d : ℕ) → looks_below step x [] d ≡ looks (turns_of step) (far_at step x) d
+unfolding looks_below
+looks_below-level step x d = visits_all (turns_of step) position_after look_at is_reached_at x look_at-goal (look_at-turn (turns_of step)) d
+
+find-first : (p : ℕ → Bool) (a n d : ℕ) → a ≤ d → d < a + n → ((k : ℕ) → k < d → p k ≡ false) → p d ≡ true → find p (range_with_len a n) ≡ Some d
+find-first p a zero d low high none e = absurd (omega arith)
+find-first p a (suc n) d low high none e = by_order (leb_tells d a) (find-first p (a + 1) n d) where
+  by_order : ((leb d a ≡ true) × (d ≤ a)) ⊎ ((leb d a ≡ false) × (a < d)) → (a + 1 ≤ d → d < a + 1 + n → ((k : ℕ) → k < d → p k ≡ false) → p d ≡ true → find p (range_with_len (a + 1) n) ≡ Some d) → cond (p a) (Some a) (find p (range_with_len (a + 1) n)) ≡ Some d
+  by_order (inl h) rest =
+      let q : a ≡ d = omega arith in
+      rw (q, e)
+  by_order (inr h) rest = rw (none a h.1) (rest (omega arith) (omega arith) none e)
+
+find-none : (p : ℕ → Bool) (a n : ℕ) → ((k : ℕ) → k < a + n → p k ≡ false) → find p (range_with_len a n) ≡ None
+find-none p a zero none = refl
+find-none p a (suc n) none =
+    rw (none a (omega arith)) (find-none p (a + 1) n (λ k h. none k (omega arith)))
+
+module _ (turns : List Turn) (reaches : List Turn → Bool) where
+  -- no canonical sequence of fewer than d turns reaches
+  abbrev pub NoneBelow : ℕ → Type 0
+  NoneBelow d = (k : ℕ) → k < d → list_any reaches (all_canonical turns k) ≡ false
+
+  pub NoneBelow-more : (d : ℕ) → NoneBelow d → length (reaching turns reaches d) ≡ 0 → NoneBelow (d + 1)
+  NoneBelow-more d h e =
+      below_more (λ k. list_any reaches (all_canonical turns k) ≡ false) d h (filter-none reaches (all_canonical turns d) e)
+
+  module _ (d n : ℕ) (none : NoneBelow d) (some : 0 < length (reaching turns reaches d)) (within : d ≤ n) where
+    pub least_length-at : least_length turns reaches n ≡ Some d
+    unfolding least_length
+    least_length-at =
+        find-first (λ k. list_any reaches (all_canonical turns k)) 0 (n + 1) d (omega arith) (omega arith) none (filter-some reaches (all_canonical turns d) some)
+
+    pub solutions-at : solutions turns reaches n ≡ reaching turns reaches d
+    unfolding solutions
+    solutions-at = rw least_length-at
+
+    pub all_looks-at : (far : List Turn → ℕ) → all_looks turns reaches far n ≡ sum_by (looks turns far) (range_with_len 0 (d + 1))
+    unfolding all_looks
+    all_looks-at far = rw least_length-at
+
+  module _ (n : ℕ) (none : NoneBelow (n + 1)) where
+    pub least_length-none : least_length turns reaches n ≡ None
+    unfolding least_length
+    least_length-none = find-none (λ k. list_any reaches (all_canonical turns k)) 0 (n + 1) (λ k h. none k (omega arith))
+
+    pub solutions-none : solutions turns reaches n ≡ []
+    unfolding solutions
+    solutions-none = rw least_length-none
+
+    pub all_looks-none : (far : List Turn → ℕ) → all_looks turns reaches far n ≡ sum_by (looks turns far) (range_with_len 0 (n + 1))
+    unfolding all_looks
+    all_looks-none far = rw least_length-none
+
+-- a level more in a sum over levels
+pub levels-more : (f : ℕ → ℕ) (d : ℕ) → sum_by f (range_with_len 0 (d + 1)) ≡ sum_by f (range_with_len 0 d) + f d
+levels-more f d =
+    let e : 0 + d ≡ d = omega arith in
+    rw (add-one d, range_with_len-more 0 d, e) (sum_by_push f (range_with_len 0 d) d)

@@ -1,0 +1,177 @@
+-- What holds of a position holds of every cube that has it.
+use Rattle.std.proofs.Common.{◌≡◌, ℕ, zero, suc, ◌-◌, nat_le, Bool, true, false, cond, List, [], ◌∷◌, ◌++◌, length, take, map, filter, fold, sum_by, count_by, unwrap_or, Option, Some, None, Contains, refl, ap, arith, ◌∙◌, IsTrue, ◌≤◌, leb, sym}
+use Rattle.std.specs.Prelude.{flat_map, ◌↔◌}
+use Rattle.std.proofs.lemmas.Bool.{leb-false}
+use Rattle.std.specs.List.{list_any}
+use Rattle.std.specs.Option.{option_map_or}
+use Rattle.std.proofs.lemmas.List.Sums.{sum_by-cons}
+use Rattle.niss_moves.specs.Places.{Place}
+use Rattle.niss_moves.specs.Effects.{turned, effect_of_turns}
+use Rattle.niss_moves.specs.Canonical.{may_follow, last_turn, all_canonical, canonical_extensions}
+use Rattle.niss_moves.specs.declared.turn.Turn.{Turn}
+use Rattle.niss_cube.specs.Steps.{turns_of, reached}
+use Rattle.niss_cube.specs.declared.step.Step.{Step}
+use Rattle.niss_search.specs.Solutions.{least_length, solutions, reaching, up_to}
+use Rattle.niss_search.specs.Distance.{all_sequences, distance}
+use Rattle.niss_search.specs.Looks.{is_looked_at, looks, all_looks}
+use Rattle.niss_search.specs.declared.tables.position.Coordinates.{Coordinates}
+use Rattle.niss_search.specs.Positions.{position_after, is_reached_at, look_at}
+use Rattle.niss_search.specs.Cubes.{HasPosition, distance_of, reaches, least_length_of, solutions_of, look_answer, all_looks_of}
+use Rattle.niss_search.specs.Laws.{PositionsTell}
+use Rattle.niss_search.proofs.ListLemmas.{Contains-first, Contains-later, find-same}
+use Rattle.niss_search.proofs.DepthFirst.{reach, far}
+use Rattle.niss_search.proofs.DistanceLemmas.{reached_in, distance-zero}
+
+-- P of each element
+abbrev pub Each : {X : Type 0} → (X → Type 0) → List X → Type 0
+Each P [] = Unit {0}
+Each P (x ∷ xs) = P x × Each P xs
+
+module _ {X : Type 0} where
+  Each-all : (P : X → Type 0) (xs : List X) → ((x : X) → Contains xs x → P x) → Each P xs
+  Each-all P [] h = tt
+  Each-all P (x ∷ xs) h = (h x (Contains-first x xs), Each-all P xs (λ y m. h y (Contains-later x xs y m)))
+
+  Each-append : (P : X → Type 0) (xs ys : List X) → Each P xs → Each P ys → Each P (xs ++ ys)
+  Each-append P [] ys h k = k
+  Each-append P (x ∷ xs) ys h k = (h.0, Each-append P xs ys h.1 k)
+
+  Each-filter : (P : X → Type 0) (m : X → Bool) (xs : List X) → Each P xs → Each P (filter m xs)
+  Each-filter P m [] h = tt
+  Each-filter P m (x ∷ xs) h = by_test (m x) h.0 (Each-filter P m xs h.1) where
+    by_test : (b : Bool) → P x → Each P (filter m xs) → Each P (cond b (x ∷ filter m xs) (filter m xs))
+    by_test true p q = (p, q)
+    by_test false p q = q
+
+  Each-map : {Y : Type 0} (P : X → Type 0) (Q : Y → Type 0) (f : X → Y) (xs : List X) → ((x : X) → P x → Q (f x)) → Each P xs → Each Q (map f xs)
+  Each-map P Q f [] g h = tt
+  Each-map P Q f (x ∷ xs) g h = (g x h.0, Each-map P Q f xs g h.1)
+
+  filter-each : (P : X → Type 0) (p q : X → Bool) (xs : List X) → ((x : X) → P x → p x ≡ q x) → Each P xs → filter p xs ≡ filter q xs
+  filter-each P p q [] g h = refl
+  filter-each P p q (x ∷ xs) g h = rw (g x h.0, filter-each P p q xs g h.1)
+
+  list_any-each : (P : X → Type 0) (p q : X → Bool) (xs : List X) → ((x : X) → P x → p x ≡ q x) → Each P xs → list_any p xs ≡ list_any q xs
+  list_any-each P p q [] g h = refl
+  list_any-each P p q (x ∷ xs) g h = rw (g x h.0, list_any-each P p q xs g h.1)
+
+  sum_by-each : (P : X → Type 0) (p q : X → ℕ) (xs : List X) → ((x : X) → P x → p x ≡ q x) → Each P xs → sum_by p xs ≡ sum_by q xs
+  sum_by-each P p q [] g h = refl
+  sum_by-each P p q (x ∷ xs) g h = omega (arith, sum_by-cons p x xs, sum_by-cons q x xs, g x h.0, sum_by-each P p q xs g h.1)
+
+Each-flat_map : {X Y : Type 0} (P : X → Type 0) (Q : Y → Type 0) (f : X → List Y) (xs : List X) → ((x : X) → P x → Each Q (f x)) → Each P xs → Each Q (flat_map f xs)
+Each-flat_map P Q f [] g h = tt
+Each-flat_map P Q f (x ∷ xs) g h = Each-append Q (f x) (flat_map f xs) (g x h.0) (Each-flat_map P Q f xs g h.1)
+
+-- a sequence over the turns
+abbrev pub IsOver : List Turn → List Turn → Type 0
+IsOver turns s = Each (Contains turns) s
+
+module _ (turns : List Turn) where
+  canonical-over : (k : ℕ) → Each (IsOver turns) (all_canonical turns k)
+  unfolding all_canonical
+  canonical-over zero = (tt, tt)
+  canonical-over (suc k) =
+      Each-flat_map (IsOver turns) (IsOver turns) (canonical_extensions turns) (all_canonical turns k) (λ s over.
+      Each-map (Contains turns) (IsOver turns) (λ t. s ++ t ∷ []) (filter (may_follow (last_turn s)) turns) (λ t m. Each-append (Contains turns) s (t ∷ []) over (m, tt))
+      (Each-filter (Contains turns) (may_follow (last_turn s)) turns (Each-all (Contains turns) turns (λ t m. m))))
+      (canonical-over k)
+
+  all-over : (k : ℕ) → Each (IsOver turns) (all_sequences turns k)
+  unfolding all_sequences
+  all-over zero = (tt, tt)
+  all-over (suc k) =
+      Each-flat_map (Contains turns) (IsOver turns) (λ t. map (λ s. t ∷ s) (all_sequences turns k)) turns (λ t m.
+      Each-map (IsOver turns) (IsOver turns) (λ s. t ∷ s) (all_sequences turns k) (λ s over. (m, over)) (all-over k))
+      (Each-all (Contains turns) turns (λ t m. m))
+
+  take-over : (n : ℕ) (s : List Turn) → IsOver turns s → IsOver turns (take n s)
+  take-over zero s h = tt
+  take-over (suc n) [] h = tt
+  take-over (suc n) (t ∷ s) h = (h.0, take-over n s h.1)
+
+  module _ (p q : List Turn → Bool) (same : (s : List Turn) → IsOver turns s → p s ≡ q s) where
+    level-same : (k : ℕ) → list_any p (all_canonical turns k) ≡ list_any q (all_canonical turns k)
+    level-same k = list_any-each (IsOver turns) p q (all_canonical turns k) same (canonical-over k)
+
+    reaching-same : (k : ℕ) → reaching turns p k ≡ reaching turns q k
+    reaching-same k = filter-each (IsOver turns) p q (all_canonical turns k) same (canonical-over k)
+
+    pub least_length-same : (n : ℕ) → least_length turns p n ≡ least_length turns q n
+    unfolding least_length
+    least_length-same n = find-same _ _ (up_to n) level-same
+
+    pub solutions-same : (n : ℕ) → solutions turns p n ≡ solutions turns q n
+    unfolding solutions
+    solutions-same n =
+        rw (least_length-same n) (by_length (least_length turns q n)) where
+          by_length : (o : Option ℕ) → option_map_or (reaching turns p) o [] ≡ option_map_or (reaching turns q) o []
+          by_length None = refl
+          by_length (Some k) = reaching-same k
+
+    pub distance-same : distance turns p ≡ distance turns q
+    unfolding distance
+    distance-same =
+        ap (λ o. unwrap_or o 21) (find-same (reached_in turns p) (reached_in turns q) (up_to 20) (λ k. list_any-each (IsOver turns) p q (all_sequences turns k) same (all-over k)))
+
+  module _ (f g : List Turn → ℕ) (same : (s : List Turn) → IsOver turns s → f s ≡ g s) where
+    is_looked_at-same : (d : ℕ) (s : List Turn) → IsOver turns s → is_looked_at f d s ≡ is_looked_at g d s
+    is_looked_at-same d [] h = refl
+    is_looked_at-same d (t ∷ ts) h =
+        ap (λ n. nat_le n (d - length (take (length ts) (t ∷ ts)))) (same (take (length ts) (t ∷ ts)) (take-over (length ts) (t ∷ ts) h))
+
+    pub looks-same : (d : ℕ) → looks turns f d ≡ looks turns g d
+    unfolding looks
+    looks-same d = sums (up_to d) where
+      sums : (ks : List ℕ) → sum_by (λ k. count_by (is_looked_at f d) (all_canonical turns k)) ks ≡ sum_by (λ k. count_by (is_looked_at g d) (all_canonical turns k)) ks
+      sums ks = sum_by-each (λ k. Unit {0}) (λ k. count_by (is_looked_at f d) (all_canonical turns k)) (λ k. count_by (is_looked_at g d) (all_canonical turns k)) ks (λ k u.
+          sum_by-each (IsOver turns) (λ s. cond (is_looked_at f d s) 1 0) (λ s. cond (is_looked_at g d s) 1 0) (all_canonical turns k) (λ s over. ap (λ b. cond b 1 0) (is_looked_at-same d s over)) (canonical-over k))
+          (Each-all (λ k. Unit {0}) ks (λ k m. tt))
+
+-- a cube and its position
+module _ (tell : PositionsTell) (step : Step) where
+  has_position-all : (s : List Turn) (e : Place → Place) (x : List Coordinates) → HasPosition step e x → IsOver (turns_of step) s → HasPosition step (λ q. effect_of_turns s (e q)) (fold position_after x s)
+  has_position-all [] e x h over = h
+  has_position-all (t ∷ s) e x h over =
+      has_position-all s (λ q. turned t (e q)) (position_after x t) (tell.after_turn step e x t over.0 h) over.1
+
+  reach-same : (s : List Turn) (e : Place → Place) (x : List Coordinates) → HasPosition step e x → IsOver (turns_of step) s → reaches step e s ≡ reach (turns_of step) position_after look_at is_reached_at x s
+  reach-same s e x h over =
+      tell.goal step (λ q. effect_of_turns s (e q)) (fold position_after x s) (has_position-all s e x h over)
+
+  -- what a look at a position answers, it answers of every cube that has it
+  pub look-cube : (e : Place → Place) (x : List Coordinates) → HasPosition step e x → look_answer step e ≡ look_at x
+  unfolding look_at
+  look-cube e x h = ap (λ b. cond {A = ℕ} b 0 1) (tell.goal step e x h)
+
+  module _ (e : Place → Place) (x : List Coordinates) (h : HasPosition step e x) where
+    pub least_length-cube : (n : ℕ) → least_length_of step e n ≡ least_length (turns_of step) (reach (turns_of step) position_after look_at is_reached_at x) n
+    least_length-cube n = least_length-same (turns_of step) (reaches step e) _ (λ s over. reach-same s e x h over) n
+
+    pub solutions-cube : (n : ℕ) → solutions_of step e n ≡ solutions (turns_of step) (reach (turns_of step) position_after look_at is_reached_at x) n
+    solutions-cube n = solutions-same (turns_of step) (reaches step e) _ (λ s over. reach-same s e x h over) n
+
+    pub all_looks-cube : (n : ℕ) → all_looks_of step e n ≡ all_looks (turns_of step) (reach (turns_of step) position_after look_at is_reached_at x) (far (turns_of step) position_after look_at is_reached_at x) n
+    unfolding all_looks
+    all_looks-cube n =
+        rw (least_length-cube n)
+        (sum_by-each (λ d. Unit {0}) _ _ (up_to (unwrap_or (least_length (turns_of step) (reach (turns_of step) position_after look_at is_reached_at x) n) n)) (λ d u.
+        looks-same (turns_of step) _ _ (λ s over. look-cube (λ q. effect_of_turns s (e q)) _ (has_position-all s e x h over)) d)
+        (Each-all (λ d. Unit {0}) _ (λ d m. tt)))
+
+  module _ (e : Place → Place) (x : List Coordinates) (h : HasPosition step e x) where
+    -- the look is 0 exactly where the step is reached
+    pub look-zero : (look_at x ≡ 0) ↔ IsTrue (reached step e)
+    unfolding look_at
+    look-zero = by_test (is_reached_at x) (reached step e) (tell.goal step e x h) where
+      by_test : (b r : Bool) → r ≡ b → (cond {A = ℕ} b 0 1 ≡ 0) ↔ IsTrue r
+      by_test true r q = (λ z. q, λ k. refl)
+      by_test false r q = (λ z. absurd (omega (arith, z)), λ k. absurd (cc (k, q)))
+
+    -- and never above the distance
+    pub look-below : look_at x ≤ distance_of step e
+    unfolding look_at
+    look-below = by_test (is_reached_at x) (sym (distance-zero (turns_of step) (reaches step e) ∙ tell.goal step e x h)) where
+      by_test : (b : Bool) → b ≡ leb (distance_of step e) 0 → cond {A = ℕ} b 0 1 ≤ distance_of step e
+      by_test true q = omega arith
+      by_test false q = omega (arith, leb-false (distance_of step e) 0 (sym q))

@@ -1,0 +1,18 @@
+use Rattle.niss_search.proofs.CountLaws.{count-recurrence, part-has-no-more, step-bound}
+use Rattle.niss_search.proofs.Bounds.{all_looks-bound, bound-small}
+use Rattle.niss_search.proofs.laws.counts_and_bounds.Goals as goal
+
+pub returns-clause-recurrence : goal.returns-clause-recurrence
+returns-clause-recurrence c = count-recurrence
+
+pub returns-clause-part : goal.returns-clause-part
+returns-clause-part c = part-has-no-more
+
+pub returns-clause-within : goal.returns-clause-within
+returns-clause-within c = all_looks-bound
+
+pub returns-clause-step : goal.returns-clause-step
+returns-clause-step c = step-bound c.step_turns_in_order.ensures
+
+pub returns-clause-small : goal.returns-clause-small
+returns-clause-small c = bound-small

@@ -1,0 +1,6 @@
+use Rattle.niss_search.proofs.PositionLemmas.{positions_tell}
+use Rattle.niss_search.proofs.laws.positions_tell.Goals as goal
+
+pub returns : goal.returns
+returns c =
+    positions_tell c.flips_are_coordinates.ensures c.twists_are_coordinates.ensures c.slices_are_coordinates.ensures c.turned_is_cube.ensures c.kept_is_tested.ensures c.sets_are_places.ensures c.start_is_kept.ensures c.steps_see_places.ensures

@@ -1,0 +1,12 @@
+use Rattle.std.proofs.Common.{◌≡◌, ◌-◌, ◌++◌, length, None, true}
+use Rattle.niss_moves.specs.Canonical.{last_turn, is_canonical_after}
+use Rattle.niss_search.specs.Draw.{next_words, after_words, draw}
+use Rattle.niss_search.proofs.scramble.random_turns.Given as goal
+
+abbrev pub invariant-drawing : goal.invariant-drawing
+invariant-drawing l = record {
+  drawn : draw None (next_words l.count l.fn.rng) ≡ l.turns.items ++ draw (last_turn l.turns.items) (next_words (l.count - l.counter) l.rng);
+  words : after_words l.count l.fn.rng ≡ after_words (l.count - l.counter) l.rng;
+  size : length l.turns.items ≡ l.counter;
+  canonical : is_canonical_after None l.turns.items ≡ true;
+}

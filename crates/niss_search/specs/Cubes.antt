@@ -1,0 +1,48 @@
+-- Solutions, distances and looks of a step from a cube, named by where it has each sticker.
+use Rattle.std.specs.Prelude.{◌≡◌, ℕ, Bool, if◌then◌else◌, List, Option, IsTrue}
+use Rattle.niss_moves.specs.Places.{Place}
+use Rattle.niss_moves.specs.Effects.{effect_of_turns}
+use Rattle.niss_moves.specs.declared.turn.Turn.{Turn}
+use Rattle.niss_cube.specs.AfterTurn.{IsCube}
+use Rattle.niss_cube.specs.Steps.{turns_of, may_start, reached}
+use Rattle.niss_cube.specs.declared.step.Step.{Step}
+use Rattle.niss_search.specs.Solutions.{least_length, solutions}
+use Rattle.niss_search.specs.Distance.{distance}
+use Rattle.niss_search.specs.Looks.{all_looks}
+use Rattle.niss_search.specs.declared.tables.position.Coordinates.{Coordinates}
+use Rattle.niss_search.specs.Positions.{position_of}
+
+-- Does the sequence s, made on the cube e, reach the step?
+abbrev pub reaches : Step → (Place → Place) → List Turn → Bool
+reaches step e s = reached step (λ q. effect_of_turns s (e q))
+
+-- the least length of a solution, of at most n turns
+abbrev pub least_length_of : Step → (Place → Place) → ℕ → Option ℕ
+least_length_of step e n = least_length (turns_of step) (reaches step e) n
+
+-- the solutions of that length, in turn order
+abbrev pub solutions_of : Step → (Place → Place) → ℕ → List (List Turn)
+solutions_of step e n = solutions (turns_of step) (reaches step e) n
+
+-- how far the step is: 0 to 20 turns, or 21 for more or never
+abbrev pub distance_of : Step → (Place → Place) → ℕ
+distance_of step e = distance (turns_of step) (reaches step e)
+
+-- what a look answers: 0 where the step is reached, and 1 elsewhere
+abbrev pub look_answer : Step → (Place → Place) → ℕ
+look_answer step e = if reached step e then 0 else 1
+
+-- the looks of a search for solutions of at most n turns
+abbrev pub all_looks_of : Step → (Place → Place) → ℕ → ℕ
+all_looks_of step e n =
+    all_looks (turns_of step) (reaches step e) (λ s. look_answer step (λ q. effect_of_turns s (e q))) n
+
+-- A cube on which the step may start has the position.
+pub record HasPosition (step : Step) (e : Place → Place) (x : List Coordinates) : Type 0 where
+  pub cube : IsCube e
+  pub starts : IsTrue (may_start step e)
+  pub here : position_of step e ≡ x
+
+-- Some cube has it.
+abbrev pub IsPosition : Step → List Coordinates → Type 0
+IsPosition step x = (e : Place → Place) × HasPosition step e x

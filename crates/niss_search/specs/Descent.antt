@@ -1,0 +1,44 @@
+-- One deepening of the search, below a path: what it finds and how often it looks. (For the search's own functions.)
+use Rattle.std.specs.Prelude.{ℕ, zero, suc, ◌+◌, ◌-◌, nat_le, List, [], ◌∷◌, ◌++◌, flat_map, sum_by, if◌then◌else◌}
+use Rattle.niss_moves.specs.declared.turn.Turn.{Turn}
+use Rattle.niss_moves.specs.Canonical.{may_follow, last_turn}
+use Rattle.niss_cube.specs.declared.step.Step.{Step}
+use Rattle.niss_cube.specs.Steps.{turns_of}
+use Rattle.niss_search.specs.declared.tables.position.Coordinates.{Coordinates}
+use Rattle.niss_search.specs.Positions.{position_after, look_at}
+
+module _ {P : Type 0} (turns : List Turn) (after : P → Turn → P) (look : P → ℕ) where
+  -- the paths handed out below the path p at the position x, with `left` turns left
+  unfoldable pub found : P → List Turn → ℕ → List (List Turn)
+  found x p zero = if nat_le (look x) 0 then p ∷ [] else []
+  found x p (suc left) =
+      if nat_le (look x) (suc left)
+      then flat_map (λ t. if may_follow (last_turn p) t then found (after x t) (p ++ t ∷ []) left else []) turns
+      else []
+
+  -- the looks made there
+  unfoldable pub visits : P → List Turn → ℕ → ℕ
+  visits x p zero = 1
+  visits x p (suc left) =
+      1 + (if nat_le (look x) (suc left)
+      then sum_by (λ t. if may_follow (last_turn p) t then visits (after x t) (p ++ t ∷ []) left else 0) turns
+      else 0)
+
+unfoldable pub found_below : Step → List Coordinates → List Turn → ℕ → List (List Turn)
+found_below step x p left = found (turns_of step) position_after look_at x p left
+
+unfoldable pub looks_below : Step → List Coordinates → List Turn → ℕ → ℕ
+looks_below step x p left = visits (turns_of step) position_after look_at x p left
+
+-- those but for the one at x itself
+unfoldable pub looks_beyond : Step → List Coordinates → List Turn → ℕ → ℕ
+looks_beyond step x p left = looks_below step x p left - 1
+
+-- what is found, and the looks, below the path and one turn more, where the turn may follow
+unfoldable pub found_after : Step → List Coordinates → List Turn → ℕ → Turn → List (List Turn)
+found_after step x p left t =
+    if may_follow (last_turn p) t then found_below step (position_after x t) (p ++ t ∷ []) left else []
+
+unfoldable pub looks_after : Step → List Coordinates → List Turn → ℕ → Turn → ℕ
+looks_after step x p left t =
+    if may_follow (last_turn p) t then looks_below step (position_after x t) (p ++ t ∷ []) left else 0

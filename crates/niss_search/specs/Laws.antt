@@ -1,0 +1,43 @@
+-- Laws over counts and looks, and over positions.
+use Rattle.std.specs.Prelude.{◌≡◌, ℕ, ◌+◌, ◌*◌, ◌^◌, ◌≤◌, ◌<◌, Bool, List, filter, Contains, IsTrue}
+use Rattle.niss_moves.specs.Places.{Place, SameMap}
+use Rattle.niss_moves.specs.Effects.{turned}
+use Rattle.niss_moves.specs.Canonical.{turn_order}
+use Rattle.niss_moves.specs.declared.turn.Turn.{Turn}
+use Rattle.niss_cube.specs.AfterTurn.{IsCube}
+use Rattle.niss_cube.specs.Steps.{turns_of, may_start, reached}
+use Rattle.niss_cube.specs.declared.step.Step.{Step}
+use Rattle.niss_search.specs.Solutions.{count_of_length, look_bound}
+use Rattle.niss_search.specs.Looks.{all_looks}
+use Rattle.niss_search.specs.declared.tables.position.Coordinates.{Coordinates}
+use Rattle.niss_search.specs.Positions.{position_of, position_after, is_reached_at}
+use Rattle.niss_search.specs.Cubes.{HasPosition}
+
+-- Over the 18 turns, c(k + 2) = 12 c(k + 1) + 18 c(k) for k of at least 1.
+abbrev pub CountRecurrence : Type 0
+CountRecurrence =
+    (k : ℕ) → 1 ≤ k → count_of_length turn_order (k + 2) ≡ 12 * count_of_length turn_order (k + 1) + 18 * count_of_length turn_order k
+
+-- A part of the turns has no larger counts.
+abbrev pub PartHasNoMore : Type 0
+PartHasNoMore =
+    (part : Turn → Bool) (turns : List Turn) (k : ℕ) → count_of_length (filter part turns) k ≤ count_of_length turns k
+
+-- No search looks more often than the bound says.
+abbrev pub LooksWithinBound : Type 0
+LooksWithinBound =
+    (turns : List Turn) (reaches : List Turn → Bool) (far : List Turn → ℕ) (n : ℕ) → all_looks turns reaches far n ≤ look_bound turns n
+
+-- The bound of a step is at most that over the 18 turns.
+abbrev pub StepBoundIsLess : Type 0
+StepBoundIsLess = (s : Step) (n : ℕ) → look_bound (turns_of s) n ≤ look_bound turn_order n
+
+-- The bound of a step is small.
+abbrev pub BoundIsSmall : Type 0
+BoundIsSmall = (s : Step) (n : ℕ) → n ≤ 20 → look_bound (turns_of s) n < 2 ^ 93
+
+-- What a position tells of each cube that has it.
+pub record PositionsTell : Type 0 where
+  pub alike : (s : Step) (d e : Place → Place) → IsCube d → SameMap d e → IsTrue (may_start s d) → HasPosition s e (position_of s d)
+  pub goal : (s : Step) (e : Place → Place) (x : List Coordinates) → HasPosition s e x → reached s e ≡ is_reached_at x
+  pub after_turn : (s : Step) (e : Place → Place) (x : List Coordinates) (t : Turn) → Contains (turns_of s) t → HasPosition s e x → HasPosition s (λ q. turned t (e q)) (position_after x t)

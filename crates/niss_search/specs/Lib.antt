@@ -1,0 +1,11 @@
+pub mod Path
+pub mod Solutions
+pub mod Distance
+pub mod Looks
+pub mod Positions
+pub mod Cubes
+pub mod Delivery
+pub mod Laws
+pub mod Descent
+pub mod Followers
+pub mod Draw

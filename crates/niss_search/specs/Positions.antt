@@ -1,0 +1,52 @@
+-- What a step looks at in a cube, and how that follows the turns.
+use Rattle.std.specs.Prelude.{ℕ, Bool, ◌<◌, ◌==◌, ◌&&◌, if◌then◌else◌, List, map}
+use Rattle.std.specs.List.{list_any}
+use Rattle.niss_moves.specs.Places.{Place}
+use Rattle.niss_moves.specs.declared.turn.Turn.{Turn}
+use Rattle.niss_cube.specs.Coordinates.{flip_of, twist_of, slice_of}
+use Rattle.niss_cube.specs.FlipAfter.{flip_after}
+use Rattle.niss_cube.specs.TwistAfter.{twist_after}
+use Rattle.niss_cube.specs.SliceAfter.{slice_after}
+use Rattle.niss_cube.specs.Steps.{goals_of}
+use Rattle.niss_cube.specs.declared.step.Goal.{Goal}
+use Rattle.niss_cube.specs.declared.step.Goal.TheVariants.{Edges, Domino}
+use Rattle.niss_cube.specs.declared.step.Step.{Step}
+use Rattle.niss_search.specs.declared.tables.position.Coordinates.{Coordinates}
+use Rattle.niss_search.specs.declared.tables.position.Coordinates.TheVariants.{Flip, TwistAndSlice}
+
+-- the coordinates of a map of the places that tell whether a goal holds, where the step may start
+abbrev pub coordinates_of : Goal → (Place → Place) → Coordinates
+coordinates_of (Edges axis) e = Flip axis (flip_of axis e)
+coordinates_of (Domino edges axis) e = TwistAndSlice axis (twist_of axis e) (slice_of axis e)
+
+-- those after a turn
+abbrev pub coordinates_after : Coordinates → Turn → Coordinates
+coordinates_after (Flip axis flip) t = Flip axis (flip_after axis flip t)
+coordinates_after (TwistAndSlice axis twist slice) t =
+    TwistAndSlice axis (twist_after axis twist t) (slice_after axis slice t)
+
+-- Are they those of the goal?
+abbrev pub are_zero : Coordinates → Bool
+are_zero (Flip axis flip) = flip == 0
+are_zero (TwistAndSlice axis twist slice) = twist == 0 && slice == 0
+
+-- Each is below the number of its values.
+abbrev pub AreInRange : Coordinates → Type 0
+AreInRange (Flip axis flip) = flip < 2048
+AreInRange (TwistAndSlice axis twist slice) = (twist < 2187) × (slice < 495)
+
+-- the position of a map of the places: the coordinates of each goal of the step
+unfoldable pub position_of : Step → (Place → Place) → List Coordinates
+position_of step e = map (λ goal. coordinates_of goal e) (goals_of step)
+
+-- the position after a turn
+unfoldable pub position_after : List Coordinates → Turn → List Coordinates
+position_after x t = map (λ c. coordinates_after c t) x
+
+-- Does some goal hold there?
+unfoldable pub is_reached_at : List Coordinates → Bool
+is_reached_at x = list_any are_zero x
+
+-- what a look at a position answers
+unfoldable pub look_at : List Coordinates → ℕ
+look_at x = if is_reached_at x then 0 else 1

@@ -1,0 +1,30 @@
+-- Solutions and counts, by the turns of a step and by which sequences reach it.
+use Rattle.std.specs.Prelude.{ℕ, ◌+◌, Bool, List, [], length, Option, filter, find, sum_by}
+use Rattle.std.specs.List.{list_any, range_with_len}
+use Rattle.std.specs.Option.{option_map_or}
+use Rattle.niss_moves.specs.declared.turn.Turn.{Turn}
+use Rattle.niss_moves.specs.Canonical.{all_canonical}
+
+-- the numbers from 0 to n
+abbrev pub up_to : ℕ → List ℕ
+up_to n = range_with_len 0 (n + 1)
+
+-- how many canonical sequences of length k there are
+abbrev pub count_of_length : List Turn → ℕ → ℕ
+count_of_length turns k = length (all_canonical turns k)
+
+-- how many there are of length at most d, summed for d from 0 to n
+unfoldable pub look_bound : List Turn → ℕ → ℕ
+look_bound turns n = sum_by (λ d. sum_by (count_of_length turns) (up_to d)) (up_to n)
+
+-- the canonical sequences of length k that reach, in turn order
+abbrev pub reaching : List Turn → (List Turn → Bool) → ℕ → List (List Turn)
+reaching turns reaches k = filter reaches (all_canonical turns k)
+
+-- the least length, at most n, at which some canonical sequence reaches
+unfoldable pub least_length : List Turn → (List Turn → Bool) → ℕ → Option ℕ
+least_length turns reaches n = find (λ k. list_any reaches (all_canonical turns k)) (up_to n)
+
+-- the canonical sequences of that length that reach, in turn order
+unfoldable pub solutions : List Turn → (List Turn → Bool) → ℕ → List (List Turn)
+solutions turns reaches n = option_map_or (reaching turns reaches) (least_length turns reaches n) []

@@ -1,0 +1,88 @@
+-- Numbers and names among words.
+use Rattle.std.proofs.Common.{◌≡◌, ◌≢◌, ℕ, ◌^◌, ◌<◌, ◌≤◌, Bool, true, false, ◌&&◌, if◌then◌else◌, Some, None, Result, Ok, Err, List, [], ◌∷◌, length, map, drop, get_or, refl, sym, ap, ◌∙◌, subst, rules, arith}
+use Rattle.std.specs.Prelude.{nat_lt, nat_le, find, bytes_eq}
+use Rattle.std.specs.Char.{is_ascii_digit}
+use Rattle.std.specs.List.{list_all}
+use Rattle.std.specs.Str.Parse.{digits_value, ParsesUnsigned}
+use Rattle.std.proofs.lemmas.Grind.{common_steps}
+use Rattle.std.proofs.lemmas.Slice.Eq.{bytes_eq-Decides}
+use Rattle.std.proofs.lemmas.Str.Parse.{IsDigitsTest, IsNumeralModel, numerals_by_value, parse_digits}
+use Rattle.niss_cube.specs.Steps.{name_of, steps}
+use Rattle.niss_cube.specs.declared.step.Step.{Step}
+use Rattle.niss_shell.specs.Words.{number_of, step_named, search_for, search_words}
+use Rattle.niss_shell.specs.declared.command.Report.{Report}
+
+-- numbers
+
+digits_test : IsDigitsTest (λ ds. list_all is_ascii_digit ds ≡ true)
+digits_test = search rules
+
+digits_model : IsNumeralModel (λ ds. list_all is_ascii_digit ds ≡ true) (digits_value 10)
+digits_model = numerals_by_value (λ ds. list_all is_ascii_digit ds ≡ true) digits_test
+
+number_by : (most n v : ℕ) (word : List ℕ) (a b c : Bool) → n ≡ v → a ≡ true → b ≡ true → c ≡ true → Some n ≡ (if a && b && c then Some v else None)
+number_by most n v word true true true e f g h = ap Some e
+number_by most n v word false b c e f g h = absurd (cc f)
+number_by most n v word true false c e f g h = absurd (cc g)
+number_by most n v word true true false e f g h = absurd (cc h)
+
+below_test : (n m : ℕ) → n < m → nat_lt n m ≡ true
+below_test n m h = grind (arith, common_steps)
+
+most_test : (n m : ℕ) → n ≤ m → nat_le n m ≡ true
+most_test n m h = grind (arith, common_steps)
+
+pub number_parsed : (E : Type 0) (most n : ℕ) (word : List ℕ) → list_all is_ascii_digit word ≡ true → ParsesUnsigned {E = E} 64 10 word (Ok n) → n ≤ most
+    → Some n ≡ number_of most word
+number_parsed E most n word digits parsed fits =
+    let p = parse_digits digits_model {E = E} 64 word (Ok n) parsed digits in
+    number_by most n (digits_value 10 word) word (list_all is_ascii_digit word) (nat_lt 0 (length word)) (nat_le (digits_value 10 word) most)
+    p.1 digits (below_test 0 (length word) p.0.0) (most_test (digits_value 10 word) most (subst (λ v. v ≤ most) p.1 fits))
+
+no_number_by : {X : Type 0} (v : X) (a b c : Bool) → (b ≡ true → c ≡ true → ⊥) → None ≡ (if a && b && c then Some v else None)
+no_number_by v false b c h = refl
+no_number_by v true false c h = refl
+no_number_by v true true false h = refl
+no_number_by v true true true h = absurd (h refl refl)
+
+below_tested : (n m : ℕ) → nat_lt n m ≡ true → n < m
+below_tested n m h = grind (arith, common_steps)
+
+most_tested : (n m : ℕ) → nat_le n m ≡ true → n ≤ m
+most_tested n m h = grind (arith, common_steps)
+
+-- a number above the greatest, or one that doesn't fit 64 bits
+pub number_too_large : (E : Type 0) (most : ℕ) (word : List ℕ) (r : Result ℕ E) → list_all is_ascii_digit word ≡ true → most < 2 ^ 64
+    → ParsesUnsigned 64 10 word r → ((n : ℕ) → r ≡ Ok n → most < n) → None ≡ number_of most word
+number_too_large E most word (Ok n) digits small parsed large =
+    let p = parse_digits digits_model {E = E} 64 word (Ok n) parsed digits in
+    no_number_by (digits_value 10 word) (list_all is_ascii_digit word) (nat_lt 0 (length word)) (nat_le (digits_value 10 word) most)
+    (λ some fits. omega (arith, large n refl, most_tested (digits_value 10 word) most fits, p.1))
+number_too_large E most word (Err e) digits small parsed large =
+    let p = parse_digits digits_model {E = E} 64 word (Err e) parsed digits in
+    no_number_by (digits_value 10 word) (list_all is_ascii_digit word) (nat_lt 0 (length word)) (nat_le (digits_value 10 word) most)
+    (λ some fits. p (below_tested 0 (length word) some, omega (arith, small, most_tested (digits_value 10 word) most fits)))
+
+-- steps
+
+-- a command that searches, by its words
+pub searched : {S : Type 0} (bytes : S → List ℕ) (report : Report) (words : List S) (step most : S) → 2 ≤ length words
+    → step ≡ get_or words 0 step → most ≡ get_or words 1 most
+    → search_words report (map bytes words) ≡ search_for report (step_named (bytes step)) (number_of 20 (bytes most)) (map bytes (drop 2 words))
+searched bytes report [] step most h e f = absurd (omega arith)
+searched bytes report (a ∷ []) step most h e f = absurd (omega arith)
+searched bytes report (a ∷ b ∷ rest) step most h e f =
+    ap (λ v. search_for report (step_named (bytes v)) (number_of 20 (bytes b)) (map bytes rest)) (sym e)
+    ∙ ap (λ v. search_for report (step_named (bytes step)) (number_of 20 (bytes v)) (map bytes rest)) (sym f)
+
+find_none : (name : List ℕ) (candidates : List Step) → ((step : Step) → name_of step ≢ name) → find (λ step. bytes_eq name (name_of step)) candidates ≡ None
+find_none name [] other = refl
+find_none name (step ∷ candidates) other = not_found (bytes_eq name (name_of step)) step candidates (search (rules, bytes_eq-Decides)) (find_none name candidates other)
+  where
+    not_found : (b : Bool) (step : Step) (candidates : List Step) → b ≡ false → find (λ s. bytes_eq name (name_of s)) candidates ≡ None
+        → (if b then Some step else find (λ s. bytes_eq name (name_of s)) candidates) ≡ None
+    not_found true step candidates e rest = absurd (cc e)
+    not_found false step candidates e rest = rest
+
+pub step_unknown : (name : List ℕ) → ((step : Step) → name_of step ≢ name) → step_named name ≡ None
+step_unknown name other = find_none name steps other

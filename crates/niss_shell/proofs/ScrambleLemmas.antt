@@ -1,0 +1,82 @@
+-- Scrambles that are written one after another.
+use Rattle.std.proofs.Common.{◌≡◌, ℕ, zero, suc, ◌+◌, ◌*◌, ◌≤◌, ◌<◌, false, None, List, [], ◌∷◌, ◌++◌, take, drop, refl, sym, ap, ◌∙◌, subst, append-nil, arith}
+use Rattle.std.specs.Prelude.{flat_map}
+use Rattle.std.proofs.lemmas.Grind.{flat_map-append}
+use Rattle.std.proofs.lemmas.List.{take-append-drop}
+use Rattle.std.proofs.lemmas.List.FromFn.{map-range_with_len_more, take-map-range_with_len}
+use Rattle.niss_search.specs.Draw.{next_words, after_words, draw}
+use Rattle.rand_pcg.specs.Lcg.{Lcg, state_after}
+use Rattle.rand_pcg.specs.Pcg.{multiplier_64}
+use Rattle.niss_shell.specs.Device.{TargetState, has_fault, Appended, WriteRefused}
+use Rattle.niss_shell.specs.Output.{unsearched}
+use Rattle.niss_shell.specs.Scrambles.{scramble, scrambles, turns_line, scramble_text}
+use Rattle.niss_shell.specs.Engine.{Answers, answer_state}
+use Rattle.niss_shell.specs.declared.stop.Stop.TheVariants.{Done, CannotWrite}
+use Rattle.niss_shell.proofs.DeviceLemmas.{appended_more}
+use Rattle.niss_shell.proofs.StateLemmas.{refused_more, refused_front}
+
+-- steps and more steps of a generator
+state_after-add : (w k p m n s : ℕ) → state_after w k p n (state_after w k p m s) ≡ state_after w k p (m + n) s
+unfolding state_after
+state_after-add w k p zero n s = let e : n ≡ 0 + n = omega arith in ap (λ j. state_after w k p j s) e
+state_after-add w k p (suc m) n s =
+    let e : suc (m + n) ≡ suc m + n = omega arith in
+    state_after-add w k p m n _ ∙ ap (λ j. state_after w k p j s) e
+
+-- the generator behind one scramble more
+pub after_scramble : (turns i : ℕ) (g : Lcg) → after_words turns (after_words (turns * i) g) ≡ after_words (turns * (i + 1)) g
+after_scramble turns i g =
+    let e : turns * i + turns ≡ turns * (i + 1) = omega arith in
+    ap (λ s. record g { state = s }) (state_after-add 64 multiplier_64 g.increment (turns * i) turns g.state) ∙ ap (λ n. after_words n g) e
+
+-- the line of the next scramble
+pub line_of_next : (turns i : ℕ) (g rng : Lcg) → rng ≡ after_words (turns * i) g → turns_line (draw None (next_words turns rng)) ≡ turns_line (scramble turns g i)
+line_of_next turns i g rng e = ap (λ x. turns_line (draw None (next_words turns x))) e
+
+pub no_scramble : (turns : ℕ) (g : Lcg) → g ≡ after_words (turns * 0) g
+unfolding state_after
+no_scramble turns g = let e : 0 ≡ turns * 0 = omega arith in ap (λ n. after_words n g) e
+
+-- the text with one scramble more
+text_more : (turns i : ℕ) (g : Lcg) → scramble_text turns (i + 1) g ≡ scramble_text turns i g ++ turns_line (scramble turns g i)
+text_more turns i g =
+    ap (flat_map turns_line) (map-range_with_len_more (scramble turns g) 0 i i (omega arith))
+    ∙ flat_map-append turns_line (scrambles turns i g) (scramble turns g i ∷ [])
+    ∙ ap (λ t. scramble_text turns i g ++ t) (append-nil (turns_line (scramble turns g i)))
+
+-- the text begins with that of the first scrambles
+text_front : (turns i count : ℕ) (g : Lcg) → i ≤ count
+    → scramble_text turns i g ++ flat_map turns_line (drop i (scrambles turns count g)) ≡ scramble_text turns count g
+text_front turns i count g h =
+    let front = take-map-range_with_len (scramble turns g) 0 count i h in
+    ap (λ xs. flat_map turns_line xs ++ flat_map turns_line (drop i (scrambles turns count g))) (sym front)
+    ∙ sym (flat_map-append turns_line (take i (scrambles turns count g)) (drop i (scrambles turns count g)))
+    ∙ ap (flat_map turns_line) (take-append-drop i (scrambles turns count g))
+
+pub written_more : (turns i : ℕ) (g : Lcg) (line : List ℕ) (a b c : TargetState)
+    → line ≡ turns_line (scramble turns g i) → has_fault b ≡ false
+    → Appended a b (scramble_text turns i g) → Appended b c line → Appended a c (scramble_text turns (i + 1) g)
+written_more turns i g line a b c e works p q =
+    subst (λ t. Appended a c t) (ap (λ l. scramble_text turns i g ++ l) e ∙ sym (text_more turns i g))
+    (appended_more a b c (scramble_text turns i g) line works p q)
+
+pub refused_line : (turns i count : ℕ) (g : Lcg) (line : List ℕ) (a b c : TargetState)
+    → i < count → line ≡ turns_line (scramble turns g i) → has_fault b ≡ false
+    → Appended a b (scramble_text turns i g) → WriteRefused line b c → WriteRefused (scramble_text turns count g) a c
+refused_line turns i count g line a b c h e works p q =
+    let rest = flat_map turns_line (drop (i + 1) (scrambles turns count g)) in
+    subst (λ t. WriteRefused t a c)
+    (ap (λ l. (scramble_text turns i g ++ l) ++ rest) e ∙ ap (λ t. t ++ rest) (sym (text_more turns i g)) ∙ text_front turns (i + 1) count g (omega arith))
+    (refused_front (scramble_text turns i g ++ line) rest a c (refused_more (scramble_text turns i g) line a b c works p q))
+
+-- as answers, whatever the meter shows
+
+pub answers_written : (text : List ℕ) (a b : TargetState) → has_fault b ≡ false → Appended a b text
+    → (looks : ℕ) → Answers (unsearched text Done) Done (answer_state a looks) (answer_state b looks)
+answers_written text a b works written looks =
+    (refl, record { works = works; written = written; looked = omega arith; bounded = omega arith })
+
+pub answers_refused : (text : List ℕ) (a b : TargetState) → WriteRefused text a b
+    → (looks : ℕ) → Answers (unsearched text Done) CannotWrite (answer_state a looks) (answer_state b looks)
+answers_refused text a b refused looks =
+    record { refused = refused; rises = omega arith; looked = omega arith; bounded = omega arith }

@@ -1,0 +1,35 @@
+//! Numbers among the words of a command line.
+ghost use Rattle.std.specs.Prelude.{◌≡◌, ◌≤◌};
+ghost use Rattle.std.specs.Char.{is_ascii_digit};
+ghost use Rattle.std.specs.List.{list_all};
+ghost use Rattle.niss_shell.specs.Words.{number_of};
+
+use niss_search::Limit;
+
+fn has_digits_alone(word: &str) -> bool
+    ensures { result ≡ list_all is_ascii_digit word.now }
+{
+    word.as_bytes().iter().all(|byte| byte.is_ascii_digit())
+}
+
+/// The number that the word spells in decimal digits, where it is at most `most`. Zeros may lead it.
+pub fn number_of(word: &str, most: u64) -> Option<u64>
+    ensures { result ≡ number_of most word.now }
+{
+    // `parse` would take a sign too
+    if !has_digits_alone(word) {
+        return None;
+    }
+    match word.parse::<u64>() {
+        Ok(number) if number <= most => Some(number),
+        _ => None,
+    }
+}
+
+/// The limit that the word spells.
+pub fn limit_of(word: &str) -> Option<Limit>
+    ensures { result ≡ number_of 20 word.now }
+{
+    let turns = number_of(word, 20)?;
+    Limit::new(turns as u8)
+}

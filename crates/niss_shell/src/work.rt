@@ -1,0 +1,112 @@
+//! What is done with each line of a run.
+ghost use Rattle.std.specs.Prelude.{◌≡◌, ◌+◌, ◌≤◌, ◌^◌, true, false, IfOk, OnOk, OnErr};
+ghost use Rattle.niss_shell.specs.Device.{has_fault};
+ghost use Rattle.niss_shell.specs.Engine.{AnswersLine, answer_state, stop_if_refused};
+ghost use Rattle.niss_shell.specs.Output.{answer_to_moves, looks_at_moves, most_line_looks};
+ghost use Rattle.niss_shell.specs.Words.{has_step};
+ghost use Rattle.niss_shell.specs.Work.{command_of};
+ghost use Rattle.niss_shell.specs.declared.command.LineCommand.TheVariants.{Search};
+
+use crate::answer::write_rewritten;
+use crate::command::{LineCommand, Report, Rewriting};
+use crate::count::write_count;
+use crate::device::{DeviceFault, Target};
+use crate::line_cube::start_position;
+use crate::solve::write_solutions;
+use crate::stop::{LineFault, Stop};
+use niss_cube::OutOfMemory;
+use niss_moves::Niss;
+use niss_search::laws::counts_and_bounds;
+use niss_search::{Limit, Meter, Tables};
+use std::alloc::Allocator;
+
+/// A command on lines, with the tables of its step where it has one.
+#[derive(Drop)]
+pub enum Work<A: Allocator> {
+    Rewrite(Rewriting),
+    Search(Report, Tables<A>, Limit),
+}
+
+impl<A: Allocator> Work<A> {
+    /// The work of a command. Memory is taken for the tables of a step alone.
+    pub fn new(alloc: A, command: LineCommand) -> Result<Work<A>, OutOfMemory>
+    where
+        A: Copy,
+        ensures work { IfOk result (λ work. command_of work ≡ command) }
+        ensures asks { OnErr result (has_step command ≡ true) }
+    {
+        // what fills the tables is no look at a line
+        let mut fill = Meter::new();
+        match command {
+            LineCommand::Rewrite(rewriting) => Ok(Work::Rewrite(rewriting)),
+            LineCommand::Search(report, step, limit) => {
+                let tables = Tables::build_in(alloc, step, &mut fill)?;
+                Ok(Work::Search(report, tables, limit))
+            }
+        }
+    }
+
+    /// Writes the answer to the moves of a line.
+    pub fn answer<W: Target>(
+        &self,
+        niss: &Niss,
+        line: u32,
+        out: &mut W,
+        looks: &mut Meter,
+    ) -> Result<(), Stop>
+        requires works { has_fault (W.state out.old) ≡ false }
+        requires meter { looks.old ≤ 2 ^ 127 }
+        ensures answers { AnswersLine (answer_to_moves (command_of self.now) niss.now)
+            (looks_at_moves (command_of self.now) niss.now) (most_line_looks (command_of self.now)) line result
+            (answer_state (W.state out.old) looks.old) (answer_state (W.state out.new) looks.new) }
+        ensures works { OnOk result (has_fault (W.state out.new) ≡ false) }
+        ensures meter { looks.new ≤ looks.old + 2 ^ 93 }
+    {
+        match self {
+            Work::Rewrite(rewriting) => or_cannot_write(write_rewritten(*rewriting, niss, out)),
+            Work::Search(report, tables, limit) => {
+                answer_search(*report, tables, *limit, niss, line, out, looks)
+            }
+        }
+    }
+}
+
+fn or_cannot_write(written: Result<(), DeviceFault>) -> Result<(), Stop>
+    ensures { result ≡ stop_if_refused written }
+{
+    match written {
+        Ok(()) => Ok(()),
+        Err(_) => Err(Stop::CannotWrite),
+    }
+}
+
+/// Writes what is told of the search from the line's cube, where the step may start there.
+fn answer_search<A: Allocator, W: Target>(
+    report: Report,
+    tables: &Tables<A>,
+    limit: Limit,
+    niss: &Niss,
+    line: u32,
+    out: &mut W,
+    looks: &mut Meter,
+) -> Result<(), Stop>
+    requires works { has_fault (W.state out.old) ≡ false }
+    requires meter { looks.old ≤ 2 ^ 127 }
+    ensures answers { AnswersLine (answer_to_moves (Search report tables.now limit) niss.now)
+        (looks_at_moves (Search report tables.now limit) niss.now)
+        (most_line_looks (Search report tables.now limit)) line result
+        (answer_state (W.state out.old) looks.old) (answer_state (W.state out.new) looks.new) }
+    ensures works { OnOk result (has_fault (W.state out.new) ≡ false) }
+    ensures meter { looks.new ≤ looks.old + 2 ^ 93 }
+{
+    counts_and_bounds();
+    let _at_most_20 = limit.get();
+    let Some(position) = start_position(tables, niss) else {
+        let fault = LineFault::NoStart(tables.step());
+        return Err(Stop::Line { line, fault });
+    };
+    or_cannot_write(match report {
+        Report::Solutions => write_solutions(tables, &position, limit, out, looks),
+        Report::Counts => write_count(tables, &position, limit, out, looks),
+    })
+}
