@@ -215,7 +215,15 @@ fn no_bytes_taken(rt: HostRuntime) -> Result<(), Fail> {
 #[test]
 fn last_flush_fails(rt: HostRuntime) -> Result<(), Fail> {
     let input = b"R U\n".as_slice();
-    check_writer(&rt, rt.alloc(), &["invert"], input, UnflushedWriter, 3, CANNOT_WRITE)?;
+    check_writer(
+        &rt,
+        rt.alloc(),
+        &["invert"],
+        input,
+        UnflushedWriter,
+        3,
+        CANNOT_WRITE,
+    )?;
     Ok(())
 }
 
@@ -234,7 +242,15 @@ fn one_flush(rt: HostRuntime) -> Result<(), Fail> {
             flushes: 0,
             bytes_before_flush: 0,
         };
-        check_writer(&rt, rt.alloc(), &[command], input, &mut writer, status, error)?;
+        check_writer(
+            &rt,
+            rt.alloc(),
+            &[command],
+            input,
+            &mut writer,
+            status,
+            error,
+        )?;
         assert_eq!(rt; writer.bytes, bytes);
         assert_eq!(rt; writer.flushes, 1);
         assert_eq!(rt; writer.bytes_before_flush, bytes);
