@@ -5,7 +5,7 @@ use crate::runs::{OUT_OF_MEMORY, Outcome, STEPS, words_of};
 use linked_list_allocator::LocalHeap;
 use niss_cube::{Cube, OutOfMemory, Step};
 use niss_search::{Meter, Tables};
-use niss_shell::{run, run_in};
+use niss_shell::run_in;
 use std::alloc::{AllocError, Global};
 use std::process::Abort;
 use std::test::Fail;
@@ -23,29 +23,12 @@ const FOR_EDGES: u16 = 2_000;
 /// The same for a domino reduction: each of its tables has 17,820 bytes or more.
 const FOR_DOMINOES: u16 = 16_000;
 
-/// What the source gives to a run that reads it.
+/// What the source gives, where it is read.
 const INPUT: &[u8] = b"F";
 
 /// What leaves room for this many bytes.
 fn filler(heap: &LocalHeap, room: usize) -> Result<Vec<u8, &LocalHeap>, AllocError> {
     Vec::with_capacity(heap, AMPLE.saturating_sub(room))
-}
-
-/// What a run of the words writes with ample memory.
-fn output_of(rt: &impl Abort, alloc: Global, words: &[String]) -> Vec<u8> {
-    let mut input = Bytes::new(INPUT, 1);
-    let mut out = Held::new(alloc, 1000);
-    let mut err = Held::new(alloc, 1000);
-    let status = run(
-        alloc,
-        words,
-        &mut input,
-        &mut out,
-        &mut err,
-        &mut Meter::new(),
-    );
-    assert_eq!(rt; status, 0);
-    out.bytes
 }
 
 /// Runs the words where a heap has this room, and answers whether that was enough. Where it wasn't, nothing is read, written
@@ -55,7 +38,7 @@ fn runs_in_room(
     alloc: Global,
     heap: &LocalHeap,
     words: &[String],
-    output: &[u8],
+    output: &str,
     room: usize,
 ) -> Result<bool, AllocError> {
     let filled = filler(heap, room)?;
@@ -66,7 +49,7 @@ fn runs_in_room(
     let mut looks = Meter::new();
     let status = run_in(heap, words, &mut input, &mut out, &mut err, &mut looks);
     let outcome = match status {
-        0 => Outcome::good(output),
+        0 => Outcome::good(output.as_bytes()),
         _ => Outcome::failure(b"", OUT_OF_MEMORY),
     };
     outcome.compare(rt, status, &out, &err);
@@ -77,14 +60,19 @@ fn runs_in_room(
     Ok(status == 0)
 }
 
-/// Runs the words in rooms that grow by `more` bytes. A good run writes what it writes with ample memory.
-fn check_run(rt: &impl Abort, alloc: Global, words: &[&str], more: u16) -> Result<(), AllocError> {
+/// Runs the words in rooms that grow by `more` bytes.
+fn check_run(
+    rt: &impl Abort,
+    alloc: Global,
+    words: &[&str],
+    output: &str,
+    more: u16,
+) -> Result<(), AllocError> {
     let words = words_of(alloc, words)?;
-    let ample = output_of(rt, alloc, &words);
     let heap = LocalHeap::new(alloc, AMPLE)?;
     for refused in 0..1000usize {
         let room = refused * more as usize;
-        if runs_in_room(rt, alloc, &heap, &words, ample.as_slice(), room)? {
+        if runs_in_room(rt, alloc, &heap, &words, output, room)? {
             assert!(rt; refused > 0);
             return Ok(());
         }
@@ -95,14 +83,20 @@ fn check_run(rt: &impl Abort, alloc: Global, words: &[&str], more: u16) -> Resul
 
 #[test]
 fn each_growth_of_a_run(rt: HostRuntime) -> Result<(), Fail> {
-    let runs: [(&[&str], u16); 4] = [
-        (&["invert", "R U' F2"], FOR_WORDS),
-        (&["solve", "eofb", "7", "F"], FOR_EDGES),
-        (&["solve", "eofb", "7"], FOR_EDGES),
-        (&["count", "drud-eofb", "5", "R", "U"], FOR_DOMINOES),
+    let solved = "F (1)\nF' (1)\n\n";
+    let counted = "length 2 solutions 2 nodes 28\n";
+    let runs: [(&[&str], &str, u16); 4] = [
+        (&["invert", "R U' F2"], "F2 U R'\n", FOR_WORDS),
+        (&["solve", "eofb", "7", "F"], solved, FOR_EDGES),
+        (&["solve", "eofb", "7"], solved, FOR_EDGES),
+        (
+            &["count", "drud-eofb", "5", "R", "U"],
+            counted,
+            FOR_DOMINOES,
+        ),
     ];
-    for (words, more) in runs {
-        check_run(&rt, rt.alloc(), words, more)?;
+    for (words, output, more) in runs {
+        check_run(&rt, rt.alloc(), words, output, more)?;
     }
     Ok(())
 }

@@ -284,6 +284,7 @@ fn looks_until_refused(rt: &impl Abort, tables: &Tables, room: usize) -> u128 {
 fn each_path_is_refused(rt: HostRuntime) {
     let tables = Tables::build(rt.alloc(), Step::Eofb, &mut Meter::new()).expect(&rt, "tables");
     let mut looks = looks_until_refused(&rt, &tables, 4);
+    assert_eq!(rt; looks, 75u128);
     for room in [3, 2, 1, 0] {
         let fewer = looks_until_refused(&rt, &tables, room);
         assert!(rt; fewer < looks, "{room} paths");
