@@ -63,6 +63,7 @@ high a b h = omega arith
 low : (a b : ℕ) → b < 495 → (a * 495 + b) % 495 ≡ b
 low a b h = omega arith
 
+-- the entry number is one to one: the coordinates of a goal are found back from it
 pub numbered-back : (g : Goal) (e : Place → Place) → AreInRange (coordinates_of g e) → (entry_number (coordinates_of g e) < count_for g) × (numbered g (entry_number (coordinates_of g e)) ≡ coordinates_of g e)
 unfolding count_for
 numbered-back (Edges a) e h = (h, refl)
