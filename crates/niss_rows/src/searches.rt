@@ -1,12 +1,10 @@
 //! Searches: what is handed out, how often positions are looked at, and what a refusal leaves.
 use crate::steps::cube_after;
-use linked_list_allocator::LocalHeap;
-use niss_cube::{OutOfMemory, Step};
+use niss_cube::Step;
 use niss_moves::{LineText, put_faces};
 use niss_search::{Limit, Meter, Outcome, Sink, Tables, TurnPath, next_at, search};
 use std::alloc::Global;
 use std::process::Abort;
-use std::test::Fail;
 
 /// Its path was one too many.
 #[derive(Clone, Copy, Debug, PartialEq, Eq)]
@@ -185,29 +183,6 @@ fn a_fill_counts_each_turn_it_tries(rt: HostRuntime) {
 }
 
 #[test]
-fn tables_refused(rt: HostRuntime) -> Result<(), Fail> {
-    // three growths for the turn tables, of 170,288 bytes in all, and one for a byte an entry: each takes a multiple of 16
-    for (step, size) in [(Step::Eofb, 172_336usize), (Step::DrudEofb, 1_252_864)] {
-        for refused in [73_712usize, 152_448, 170_272, 170_288, size - 16] {
-            let heap = LocalHeap::new(rt.alloc(), refused)?;
-            let mut meter = Meter::new();
-            let answer = Tables::build_in(&heap, step, &mut meter).err();
-            assert_eq!(rt; answer, Some(OutOfMemory), "a heap of {refused}");
-            assert_eq!(rt; meter.count(), 0u128, "a heap of {refused}");
-            assert_eq!(rt; heap.used(), 0, "a heap of {refused}");
-        }
-        let heap = LocalHeap::new(rt.alloc(), size)?;
-        let mut meter = Meter::new();
-        assert!(rt;
-            Tables::build_in(&heap, step, &mut meter).is_ok(),
-            "a heap of {size}"
-        );
-        assert_eq!(rt; heap.used(), 0, "a heap of {size}");
-    }
-    Ok(())
-}
-
-#[test]
 fn levels_are_found_in_blocks_and_behind_them(rt: HostRuntime) {
     let mut table = [21u8; 70];
     for index in [0usize, 31, 32, 69] {
@@ -224,29 +199,6 @@ fn levels_are_found_in_blocks_and_behind_them(rt: HostRuntime) {
     }
     assert_eq!(rt; next_at(&table, 0, 4), None);
     assert_eq!(rt; next_at(&[], 0, 3), None);
-}
-
-#[test]
-fn a_refusal_ends_the_search(rt: HostRuntime) {
-    let tables = Tables::build(rt.alloc(), Step::Eofb, &mut Meter::new()).expect(&rt, "tables");
-    let cube = cube_after(&rt, "F B");
-    assert!(rt; tables.step().may_start(&cube));
-    let mut path = TurnPath::new(Limit::new(5).expect(&rt, "a limit"));
-    let mut meter = Meter::new();
-    let mut sink = Comparison {
-        wanted: &["F B"],
-        room: 1,
-        taken: 0,
-        is_same: true,
-    };
-    let position = tables.position(&cube);
-    let answer = search(&tables, &position, &mut path, &mut meter, &mut sink);
-    assert!(rt; answer == Err(Refused));
-    assert!(rt; sink.is_same);
-    assert_eq!(rt; sink.taken, 1);
-    assert!(rt; path.turns().is_empty());
-    assert_eq!(rt; path.limit().get(), 5);
-    assert!(rt; meter.count() <= 75);
 }
 
 #[test]
@@ -272,7 +224,8 @@ fn looks_until_refused(rt: &impl Abort, tables: &Tables, room: usize) -> u128 {
     };
     let position = tables.position(&cube);
     let answer = search(tables, &position, &mut path, &mut meter, &mut sink);
-    assert!(rt; answer.is_err() == (room < 4), "{room} paths");
+    let fault = if room < 4 { Some(Refused) } else { None };
+    assert_eq!(rt; answer.err(), fault, "{room} paths");
     assert!(rt; sink.is_same, "{room} paths");
     assert_eq!(rt; sink.taken, room, "{room} paths");
     assert!(rt; path.turns().is_empty(), "{room} paths");
