@@ -75,16 +75,6 @@ module _ (tell : EntriesTurn) (step : Step) (level : ℕ) (small : level < 20) w
     by_side (inl e) = omega (arith, f.near i l e.1)
     by_side (inr e) = by_far (f.far i l e.1)
 
-  pub filling-byte : (xs : List ℕ) → IsFilling step level xs → (i : ℕ) → i < entry_count step → slice_index xs i < 256
-  filling-byte xs f i l = by_side (leb_tells (entry_distance step i) level) where
-    by_far : (slice_index xs i ≡ 21) ⊎ ((slice_index xs i ≡ level + 1) × (entry_distance step i ≡ level + 1)) → slice_index xs i < 256
-    by_far (inl a) = omega arith
-    by_far (inr b) = omega arith
-
-    by_side : ((leb (entry_distance step i) level ≡ true) × (entry_distance step i ≤ level)) ⊎ ((leb (entry_distance step i) level ≡ false) × (level < entry_distance step i)) → slice_index xs i < 256
-    by_side (inl e) = omega (arith, f.near i l e.1)
-    by_side (inr e) = by_far (f.far i l e.1)
-
   met-small : (xs : List ℕ) → IsFilling step level xs → (i : ℕ) → i < entry_count step → slice_index xs i < 21 → slice_index xs i ≤ level + 1
   met-small xs f i l n = by_side (leb_tells (entry_distance step i) level) where
     by_far : (slice_index xs i ≡ 21) ⊎ ((slice_index xs i ≡ level + 1) × (entry_distance step i ≡ level + 1)) → slice_index xs i ≤ level + 1

@@ -1,6 +1,7 @@
 //! What a search knows of its step: where a turn leads, and what a look at a position answers.
 mod fill;
 mod followers;
+mod level;
 mod meter;
 mod position;
 mod step_turns;

@@ -8,7 +8,7 @@ use Rattle.niss_cube.specs.Steps.{turns_of}
 use Rattle.niss_cube.specs.declared.step.Step.{Step}
 use Rattle.niss_search.specs.Filling.{goal_of, table_turn, entry_after}
 use Rattle.niss_search.proofs.EntryLemmas.{table-next}
-use Rattle.niss_search.proofs.FillLemmas.{filling-byte, least-filling, least-met, least-kept}
+use Rattle.niss_search.proofs.FillLemmas.{least-filling, least-met, least-kept}
 use Rattle.niss_search.proofs.tables.fill.extend_entry.Goals as goal
 
 -- the turn of this iteration is one of the step's
@@ -45,14 +45,13 @@ loop-turn-preserved g c =
     let law = c.entries_turn.ensures in
     let small = c.requires.level in
     let j : c.after-next.result ≡ entry_after step c.args.entry t = c.after-next.ensures ∙ next in
-    let byte = filling-byte law step c.args.level small xs inv.filling (entry_after step c.args.entry t) (law.below step c.args.entry t c.requires.in_range) in
-    let written : slice_index c.args.lesser.now (slice_index xs (entry_after step c.args.entry t)) ≡ min (slice_index xs (entry_after step c.args.entry t)) (c.args.level + 1) =
-    c.requires.lesser (slice_index xs (entry_after step c.args.entry t)) byte in
-    let kept = least-kept law step c.args.level small xs inv.filling c.args.entry t c.requires.at_level c.requires.in_range m in
+    let written : c.meet.result ≡ min (slice_index xs (entry_after step c.args.entry t)) (c.args.level.now + 1) =
+    c.meet.ensures.value ∙ ap (λ i. min (slice_index xs i) (c.args.level.now + 1)) j in
+    let kept = least-kept law step c.args.level.now small xs inv.filling c.args.entry t c.requires.at_level c.requires.in_range m in
     record {
       items = inv.items;
-      filling = rw (j, written) (least-filling law step c.args.level small xs inv.filling c.args.entry t c.requires.at_level c.requires.in_range m);
-      extended = rw (j, written) (below_more _ _ (λ k l. kept _ (inv.extended k l)) (least-met law step c.args.level small xs inv.filling c.args.entry t c.requires.at_level c.requires.in_range m));
+      filling = rw (j, written) (least-filling law step c.args.level.now small xs inv.filling c.args.entry t c.requires.at_level c.requires.in_range m);
+      extended = rw (j, written) (below_more _ _ (λ k l. kept _ (inv.extended k l)) (least-met law step c.args.level.now small xs inv.filling c.args.entry t c.requires.at_level c.requires.in_range m));
       kept = rw (j, written) (λ i h. kept i (inv.kept i h));
       ticks = omega arith;
     }

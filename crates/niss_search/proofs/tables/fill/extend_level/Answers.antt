@@ -48,7 +48,7 @@ loop-entry-preserved g c =
     omega (arith, count-more p entry, one, skipped step level xs inv.filling c.loop-entry.from entry (omega arith) (omega arith) least) in
     let product = ap (λ n. turns * n) count ∙ mul-add turns (count_by p (range_with_len 0 c.loop-entry.from)) 1 in
     record {
-      filling = c.extend_entry.ensures.filling;
+      filling = rw c.new-extended.ensures at c.extend_entry.ensures.filling;
       within = omega (arith, c.extend_entry.ensures.filling.size);
       extended = λ j l e t m. by_place step level c.loop-entry.from entry xs c.extend_entry.new.distances j l e inv.filling in_range least (λ b. λ t m. c.extend_entry.ensures.kept _ (inv.extended j b e t m)) c.extend_entry.ensures.extended (leb_tells c.loop-entry.from j) (leb_tells entry j) t m;
       ticks = omega (arith, product, inv.ticks, c.extend_entry.ensures.ticks);

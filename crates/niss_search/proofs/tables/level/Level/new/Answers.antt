@@ -1,5 +1,5 @@
 use Rattle.std.proofs.Common.{arith, ◌∙◌, below_more, length-set, get_or-set_other, get_or-set_same}
-use Rattle.niss_search.proofs.tables.fill.lesser_bytes.Goals as goal
+use Rattle.niss_search.proofs.tables.level.Level.new.Goals as goal
 
 pub loop-byte-preserved : goal.loop-byte-preserved
 loop-byte-preserved c = record {
