@@ -1,3 +1,4 @@
+//! Runs whose reads, writes or flushes fail, each in turn.
 use crate::devices::{Bytes, Held};
 use crate::runs::{CANNOT_READ, CANNOT_WRITE, Outcome, STEPS, words_of};
 use std::test::Fail;

@@ -1,3 +1,4 @@
+//! Inputs at the limit of input and above it.
 use crate::devices::{Bytes, Endless};
 use crate::runs::{Outcome, TOO_LONG, words_of};
 use std::test::Fail;

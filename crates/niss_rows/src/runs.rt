@@ -1,3 +1,4 @@
+//! What a run has to write and to answer, and the check of it.
 ghost use Rattle.std.specs.Prelude.{◌≡◌, Bool, true, false};
 
 use crate::devices::{Bytes, Held};

@@ -15,7 +15,11 @@ use crate::turn_path::TurnPath;
 use std::alloc::Allocator;
 
 /// Hands each solution of least length within the path's limit to the sink, in turn order, until the sink refuses one.
-/// The path is empty again at the end. What is said here holds of every cube that has the position.
+/// Each is handed out as a path of that limit. What is said here holds of every cube that has the position.
+///
+/// The position is one of the tables' step, the path is empty, and the meter is at most at 2^127. The path is empty again at
+/// the end, of the same limit. The meter rises by one for each look: by those of the whole search where the sink took
+/// every path, and by at most these where it refused one.
 pub fn search<K: Sink, A: Allocator>(
     tables: &Tables<A>,
     position: &Position,
