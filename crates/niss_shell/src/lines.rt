@@ -18,7 +18,7 @@ use std::mem;
 pub const LIMIT: usize = 16_777_216;
 
 /// How many bytes a read asks for.
-const BLOCK: usize = 1;
+const BLOCK: usize = 4096;
 
 /// The line that is being read, and its number.
 #[derive(Drop)]
