@@ -1,6 +1,6 @@
 //! Input that is read in blocks: the same answers wherever a block ends.
-use crate::devices::Bytes;
-use crate::runs::{Outcome, words_of};
+use crate::devices::{Bytes, Held};
+use crate::runs::{CANNOT_WRITE, Outcome, words_of};
 use std::alloc::{AllocError, Global};
 use std::test::Fail;
 
@@ -69,6 +69,37 @@ fn cut_by_the_end_of_a_block(rt: HostRuntime) -> Result<(), Fail> {
         let mut source = Bytes::new(input.as_slice(), BLOCK);
         let outcome = Outcome::good(output);
         outcome.check_input(&rt, rt.alloc(), rt.alloc(), &words, &mut source);
+    }
+    Ok(())
+}
+
+#[test]
+fn answers_go_out_before_the_next_read(rt: HostRuntime) -> Result<(), Fail> {
+    let words = words_of(rt.alloc(), &["invert"])?;
+    let outcome = Outcome::good(b"R'\nU'\nF'\n");
+    // how many bytes a read gives, and in how many writes the answers go out
+    for (most, writes) in [(1usize, 3usize), (2, 3), (4, 2), (BLOCK, 1)] {
+        let mut input = Bytes::new(b"R\nU\nF\n", most);
+        let mut out = Held::new(rt.alloc(), 1000);
+        let mut err = Held::new(rt.alloc(), 1000);
+        outcome.check(&rt, rt.alloc(), &words, &mut input, &mut out, &mut err);
+        assert_eq!(rt; out.writes, writes, "at most {most} bytes a read");
+    }
+    Ok(())
+}
+
+#[test]
+fn each_write_of_waiting_answers_fails(rt: HostRuntime) -> Result<(), Fail> {
+    let words = words_of(rt.alloc(), &["invert"])?;
+    // the fault comes behind the answers that wait, and a refused write before it
+    let output = b"R'\nU'\n";
+    for before in 0..output.len() {
+        let mut input = Bytes::new(b"R\nU\nq\n", BLOCK);
+        let mut out = Held::failing_at(rt.alloc(), 1, before + 1);
+        let mut err = Held::new(rt.alloc(), 1000);
+        let outcome = Outcome::failure(&output[..before], CANNOT_WRITE);
+        outcome.check(&rt, rt.alloc(), &words, &mut input, &mut out, &mut err);
+        assert_eq!(rt; out.writes, before + 1, "after {before} writes");
     }
     Ok(())
 }
