@@ -51,8 +51,8 @@ impl<A: Allocator> Work<A> {
         }
     }
 
-    /// Writes the answer to the moves of a line, behind the answers that wait, or has it wait too. A search finds none
-    /// that waits: each solution is written as it is found.
+    /// Takes the answer to the moves of a line behind the answers that wait. Without a search it waits too. With one
+    /// these are written first, and then each solution as it is found.
     pub fn answer<W: Target>(
         &self,
         niss: &Niss,
@@ -73,7 +73,15 @@ impl<A: Allocator> Work<A> {
         match self {
             Work::Rewrite(rewriting) => or_cannot_write(put_answer(*rewriting, niss, pending, out)),
             Work::Search(report, tables, limit) => {
-                answer_search(*report, tables, *limit, niss, line, pending, out, looks)
+                counts_and_bounds();
+                let _at_most_20 = limit.get();
+                let Some(position) = start_position(tables, niss) else {
+                    let fault = LineFault::NoStart(tables.step());
+                    return Err(Stop::Line { line, fault });
+                };
+                or_cannot_write(write_search(
+                    *report, tables, &position, *limit, pending, out, looks,
+                ))
             }
         }
     }
@@ -113,34 +121,4 @@ fn write_search<A: Allocator, W: Target>(
         Report::Solutions => write_solutions(tables, position, limit, out, looks),
         Report::Counts => write_count(tables, position, limit, out, looks),
     }
-}
-
-/// Writes what is told of the search from the line's cube, where the step may start there, behind the answers that wait.
-fn answer_search<A: Allocator, W: Target>(
-    report: Report,
-    tables: &Tables<A>,
-    limit: Limit,
-    niss: &Niss,
-    line: u32,
-    pending: &mut LineText,
-    out: &mut W,
-    looks: &mut Meter,
-) -> Result<(), Stop>
-    requires works { has_fault (W.state out.old) ≡ false }
-    requires meter { looks.old ≤ 2 ^ 127 }
-    ensures answers { AnswersLine (answer_to_moves (Search report tables.now limit) niss.now)
-        (looks_at_moves (Search report tables.now limit) niss.now)
-        (most_line_looks (Search report tables.now limit)) line result
-        (pending_state (W.state out.old) pending.old.items looks.old)
-        (pending_state (W.state out.new) pending.new.items looks.new) }
-    ensures works { OnOk result (has_fault (W.state out.new) ≡ false) }
-    ensures meter { looks.new ≤ looks.old + 2 ^ 93 }
-{
-    counts_and_bounds();
-    let _at_most_20 = limit.get();
-    let Some(position) = start_position(tables, niss) else {
-        let fault = LineFault::NoStart(tables.step());
-        return Err(Stop::Line { line, fault });
-    };
-    or_cannot_write(write_search(report, tables, &position, limit, pending, out, looks))
 }
