@@ -5,6 +5,8 @@
 #[cfg(test)]
 mod answers;
 #[cfg(test)]
+mod blocks;
+#[cfg(test)]
 mod coordinates;
 #[cfg(test)]
 mod cubes;

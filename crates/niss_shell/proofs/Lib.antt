@@ -4,6 +4,7 @@ pub mod DigitLemmas
 pub mod LinesLemmas
 pub mod FaceletLemmas
 pub mod StateLemmas
+pub mod PendingLemmas
 pub mod EngineLemmas
 pub mod ScrambleLemmas
 pub mod AnswerLemmas
