@@ -1,3 +1,4 @@
+//! Commands that answer each line: what a run writes, tells and answers.
 use crate::runs::{Run, USAGE};
 use std::alloc::{AllocError, Global};
 use std::test::Fail;

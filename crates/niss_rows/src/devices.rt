@@ -1,3 +1,4 @@
+//! Devices in memory, which fail where a test says, and a source that never ends.
 ghost use Rattle.std.specs.Prelude.{◌≡◌, Bool, true, false, Option, Some, None, ◌||◌};
 ghost use Rattle.niss_shell.specs.Device.{SourceState, TargetState, has_fault};
 

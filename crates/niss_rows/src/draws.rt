@@ -1,3 +1,4 @@
+//! The generator's words, and the sequences that they draw.
 ghost use Rattle.std.specs.Prelude.{◌≤◌};
 
 use niss_moves::{LineText, allowed, put_faces};

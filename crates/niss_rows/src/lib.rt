@@ -5,6 +5,8 @@
 #[cfg(test)]
 mod answers;
 #[cfg(test)]
+mod blocks;
+#[cfg(test)]
 mod coordinates;
 #[cfg(test)]
 mod cubes;
@@ -20,6 +22,8 @@ mod limits;
 mod memory;
 #[cfg(test)]
 mod reading;
+#[cfg(test)]
+mod refused_growths;
 #[cfg(test)]
 mod rewriting;
 #[cfg(test)]

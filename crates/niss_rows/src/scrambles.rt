@@ -1,3 +1,4 @@
+//! Rows of the command that writes scrambles.
 use crate::devices::{Bytes, Held};
 use crate::runs::{CANNOT_WRITE, Outcome, Run, USAGE, words_of};
 use linked_list_allocator::LocalHeap;

@@ -1,3 +1,4 @@
+//! Steps: their names and turns, and on which cubes they may start and are reached.
 use niss_cube::{Cube, Step};
 use niss_moves::{LineText, put_faces, read, to_faces};
 use std::process::Abort;

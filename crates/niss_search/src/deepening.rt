@@ -4,7 +4,7 @@ ghost use Rattle.niss_moves.specs.Places.{Place};
 ghost use Rattle.niss_cube.specs.Steps.{turns_of};
 ghost use Rattle.niss_search.specs.Cubes.{IsPosition, HasPosition, least_length_of, solutions_of, all_looks_of};
 ghost use Rattle.niss_search.specs.Solutions.{look_bound};
-ghost use Rattle.niss_search.specs.Delivery.{WentThrough, StoppedIn};
+ghost use Rattle.niss_search.specs.Delivery.{WentThrough, StoppedIn, at_limit};
 
 use crate::descent::visit;
 use crate::laws::positions_tell;
@@ -15,7 +15,11 @@ use crate::turn_path::TurnPath;
 use std::alloc::Allocator;
 
 /// Hands each solution of least length within the path's limit to the sink, in turn order, until the sink refuses one.
-/// The path is empty again at the end. What is said here holds of every cube that has the position.
+/// Each is handed out as a path of that limit. What is said here holds of every cube that has the position.
+///
+/// The position is one of the tables' step, the path is empty, and the meter is at most at 2^127. The path is empty again at
+/// the end, of the same limit. The meter rises by one for each look: by those of the whole search where the sink took
+/// every path, and by at most these where it refused one.
 pub fn search<K: Sink, A: Allocator>(
     tables: &Tables<A>,
     position: &Position,
@@ -32,9 +36,9 @@ pub fn search<K: Sink, A: Allocator>(
         → IfOk result (λ o. o.solutions ≡ length (solutions_of tables.now e path.old.limit)) }
     ensures path { path.new ≡ path.old }
     ensures ok { (e : Place → Place) → HasPosition tables.now e position.now
-        → OnOk result (WentThrough K.took sink.old (solutions_of tables.now e path.old.limit) sink.new) }
+        → OnOk result (WentThrough (at_limit K.took path.old.limit) sink.old (solutions_of tables.now e path.old.limit) sink.new) }
     ensures err { (e : Place → Place) → HasPosition tables.now e position.now
-        → OnErr result (StoppedIn K.took K.refused sink.old (solutions_of tables.now e path.old.limit) sink.new) }
+        → OnErr result (StoppedIn (at_limit K.took path.old.limit) (at_limit K.refused path.old.limit) sink.old (solutions_of tables.now e path.old.limit) sink.new) }
     ensures looks { (e : Place → Place) → HasPosition tables.now e position.now
         → OnOk result (meter.new ≡ meter.old + all_looks_of tables.now e path.old.limit) }
     ensures looks_at_most { (e : Place → Place) → HasPosition tables.now e position.now

@@ -4,13 +4,19 @@
 //! let mut meter = Meter::new();
 //! let tables = Tables::build(alloc, Step::Eofb, &mut meter)?;
 //! let mut path = TurnPath::new(limit);                     // at most 20 turns
-//! let position = tables.position(&cube);                   // the step may start on the cube
+//! let position = tables.position(&cube);                   // the step may start on the cube: on the solved one after F, say
 //! let outcome = search(&tables, &position, &mut path, &mut meter, &mut sink)?;
+//! // the sink was handed F and then F': the outcome is two solutions of length 1
+//!
+//! let mut rng = Lcg64Xsh32::new(42, 54);
+//! let scramble = random_turns(&mut rng, 6);                // L' D' F' R2 F' L'
 //! ```
 //!
 //! The sink is handed every canonical sequence of least length that reaches the step, in turn order, and nothing else. The meter
-//! counts how often a position was looked at. A look is the only way to judge a position, and only a look makes the meter rise:
-//! both stand in `tables`, and the search sees neither the coordinates of a position nor the tick of a meter.
+//! counts the turns that a fill of the tables tries and the looks of searches. A look at a position answers its distance, by the
+//! pruning table. It is the only way to judge a position: the search sees neither its coordinates nor the tick of a meter.
+//!
+//! `random_turns` draws a canonical sequence: each word of the generator picks among the turns that may follow the last one.
 //!
 //! Contracts name a cube by its map of the 54 sticker places, and what is said of a position is said of every cube that has it
 //! (`specs/Cubes`). The functions of `laws` state what follows from the definitions alone.
@@ -21,6 +27,7 @@ mod descent;
 pub mod laws;
 mod limit;
 mod outcome;
+mod scan;
 mod scramble;
 mod sink;
 mod tables;
@@ -29,6 +36,7 @@ mod turn_path;
 pub use deepening::search;
 pub use limit::Limit;
 pub use outcome::Outcome;
+pub use scan::next_at;
 pub use scramble::random_turns;
 pub use sink::Sink;
 pub use tables::{Meter, Position, Tables};

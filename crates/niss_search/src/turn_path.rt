@@ -43,6 +43,7 @@ impl TurnPath {
         ensures in_range { result ≤ 20 }
     {
         let limit = self.limit;
+        // that a limit is at most 20 is known to a proof by this call alone
         let _in_range = limit.get();
         limit
     }
@@ -61,7 +62,7 @@ impl TurnPath {
         self.turns().last().copied()
     }
 
-    /// Adds a last turn.
+    /// Adds a last turn to a path that has fewer turns than its limit.
     pub fn push(&mut self, turn: Turn)
         requires { length self.old.turns < self.old.limit }
         ensures { self.new ≡ record self.old { turns = self.old.turns ++ turn ∷ [] } }

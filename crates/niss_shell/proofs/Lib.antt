@@ -4,10 +4,12 @@ pub mod DigitLemmas
 pub mod LinesLemmas
 pub mod FaceletLemmas
 pub mod StateLemmas
+pub mod PendingLemmas
 pub mod EngineLemmas
 pub mod ScrambleLemmas
 pub mod AnswerLemmas
 pub mod SearchLemmas
+pub mod SolveLemmas
 pub mod RunLemmas
 pub mod NumberLemmas
 pub mod WordsLemmas

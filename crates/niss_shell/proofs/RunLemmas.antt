@@ -1,5 +1,5 @@
 -- From what was read and written to what a run says of it.
-use Rattle.std.proofs.Common.{◌≡◌, ◌≢◌, ℕ, ◌+◌, ◌≤◌, ◌<◌, Bool, true, false, ◌||◌, not, if◌then◌else◌, Option, Some, None, Result, Ok, Err, List, [], ◌∷◌, length, refl, sym, ap, ◌∙◌, subst, append-nil, add-zero, arith}
+use Rattle.std.proofs.Common.{◌≡◌, ◌≢◌, ℕ, ◌+◌, ◌≤◌, ◌<◌, Bool, true, false, ◌||◌, not, if◌then◌else◌, Option, Some, None, Result, Ok, Err, List, [], ◌∷◌, ◌++◌, length, refl, sym, ap, ◌∙◌, subst, append-nil, add-zero, arith}
 use Rattle.std.specs.Prelude.{OnOk, OnErr, nat_lt, nat_le, flat_map}
 use Rattle.std.proofs.lemmas.Grind.{common_steps}
 use Rattle.rand_pcg.specs.Lcg.{Lcg}
@@ -17,7 +17,7 @@ use Rattle.niss_shell.specs.declared.stop.LineFault.{LineFault}
 use Rattle.niss_shell.specs.declared.stop.Stop.{Stop}
 use Rattle.niss_shell.specs.declared.stop.Stop.TheVariants.{Done, Line, Usage, InputTooLong, CannotRead, CannotWrite, OutOfMemory}
 use Rattle.niss_shell.proofs.DeviceLemmas.{appended_then, appended_after_failure, gave_nothing, fault_of_write, no_write_fault, no_flush_fault}
-use Rattle.niss_shell.proofs.StateLemmas.{writes_nothing}
+use Rattle.niss_shell.proofs.StateLemmas.{writes_nothing, all_sent}
 use Rattle.niss_shell.proofs.AnswerLemmas.{short_test, long_test, choose_false, choose_true}
 
 -- the error writer
@@ -197,68 +197,69 @@ flushes_as stop stop_now old new flush = record {
 }
 
 ends_done : (a : Answer) (asked : Result Request UsageFault) (d e : Devices) (h i : AnswerState) (f : Bool)
-    → h.target ≡ d.output → Answers a Done h i → (reads_source asked ≡ true → e.source.has_ended ≡ true)
+    → h.target ≡ d.output → h.pending ≡ [] → i.pending ≡ [] → Answers a Done h i → (reads_source asked ≡ true → e.source.has_ended ≡ true)
     → FlushesAs i.target e.output f
     → Ends (flushed_stop Done f) a asked d e
-ends_done a asked d e h i true at w whole flush = record {
+ends_done a asked d e h i true at none none_now w whole flush = record {
   refused = fault_after i.target e.output true w.1.works flush.write_failed flush.flush_failed;
   text = a.output;
   rest = [];
   beginning = append-nil a.output;
-  written = appended_then d.output i.target e.output a.output w.1.works (subst (λ t. Appended t i.target a.output) at w.1.written) flush.bytes;
+  written = appended_then d.output i.target e.output a.output w.1.works (subst (λ t. Appended t i.target a.output) at (all_sent a.output h i none none_now w.1.written)) flush.bytes;
   cut = λ bad. absurd (cc (bad, flush.write_failed ∙ no_write_fault i.target w.1.works));
   whole = λ good. refl;
   last = λ good. record { good = sym w.0; read_whole = whole };
   last_flush = λ good. flush.flushed;
 }
-ends_done a asked d e h i false at w whole flush = record {
+ends_done a asked d e h i false at none none_now w whole flush = record {
   ends = record { good = sym w.0; read_whole = whole };
   works = fault_after i.target e.output false w.1.works flush.write_failed flush.flush_failed;
-  written = appended_then d.output i.target e.output a.output w.1.works (subst (λ t. Appended t i.target a.output) at w.1.written) flush.bytes;
+  written = appended_then d.output i.target e.output a.output w.1.works (subst (λ t. Appended t i.target a.output) at (all_sent a.output h i none none_now w.1.written)) flush.bytes;
   flushed = flush.flushed;
 }
 
 ends_by_fault : (a : Answer) (d e : Devices) (h i : AnswerState) (stop : Stop) (f : Bool)
-    → h.target ≡ d.output → (stop ≡ a.stop) × Writes a.output a.looks a.most_looks h i → FlushesAs i.target e.output f
+    → h.target ≡ d.output → h.pending ≡ [] → i.pending ≡ [] → (stop ≡ a.stop) × Writes a.output a.looks a.most_looks h i → FlushesAs i.target e.output f
     → EndsByFault stop a d e
-ends_by_fault a d e h i stop f at w flush = record {
+ends_by_fault a d e h i stop f at none none_now w flush = record {
   fault = sym w.0;
-  written = appended_then d.output i.target e.output a.output w.1.works (subst (λ t. Appended t i.target a.output) at w.1.written) flush.bytes;
+  written = appended_then d.output i.target e.output a.output w.1.works (subst (λ t. Appended t i.target a.output) at (all_sent a.output h i none none_now w.1.written)) flush.bytes;
   unrefused = flush.write_failed ∙ no_write_fault i.target w.1.works;
 }
 
 ends_refused : (a : Answer) (asked : Result Request UsageFault) (d e : Devices) (h i : AnswerState) (f : Bool)
-    → h.target ≡ d.output → Refuses a.output a.looks a.most_looks h i → FlushesAs i.target e.output f
+    → h.target ≡ d.output → h.pending ≡ [] → Refuses a.output a.looks a.most_looks h i → FlushesAs i.target e.output f
     → OutputRefused a asked d e
-ends_refused a asked d e h i f at w flush =
-    let bad : e.output.write_failed ≡ true = flush.write_failed ∙ w.refused.refused in
+ends_refused a asked d e h i f at none w flush =
+    let r : WriteRefused a.output h.target i.target = subst (λ p. WriteRefused (p ++ a.output) h.target i.target) none w.refused in
+    let bad : e.output.write_failed ≡ true = flush.write_failed ∙ r.refused in
     record {
       refused = fault_of_write e.output bad;
-      text = w.refused.part;
-      rest = w.refused.cut.0;
-      beginning = w.refused.cut.1;
-      written = appended_after_failure d.output i.target e.output w.refused.part (fault_of_write e.output bad) flush.silent
-          (subst (λ t. Appended t i.target w.refused.part) at w.refused.appended) flush.bytes;
-      cut = λ b. w.refused.cut.2;
+      text = r.part;
+      rest = r.cut.0;
+      beginning = r.cut.1;
+      written = appended_after_failure d.output i.target e.output r.part (fault_of_write e.output bad) flush.silent
+          (subst (λ t. Appended t i.target r.part) at r.appended) flush.bytes;
+      cut = λ b. r.cut.2;
       whole = λ good. absurd (cc (good, bad));
       last = λ good. absurd (cc (good, bad));
       last_flush = λ good. absurd (cc (good, bad));
     }
 
 ends_flushed : (a : Answer) (asked : Result Request UsageFault) (stop : Stop) (d e : Devices) (h i : AnswerState) (f : Bool)
-    → h.target ≡ d.output → EndsUnflushed stop a asked d.source e.source h i → (stop ≡ Done → reads_source asked ≡ true → e.source.has_ended ≡ true)
+    → h.target ≡ d.output → h.pending ≡ [] → i.pending ≡ [] → EndsUnflushed stop a asked d.source e.source h i → (stop ≡ Done → reads_source asked ≡ true → e.source.has_ended ≡ true)
     → FlushesAs i.target e.output f
     → Ends (flushed_stop stop f) a asked d e
-ends_flushed a asked Done d e h i f at w whole flush = ends_done a asked d e h i f at w (whole refl) flush
-ends_flushed a asked (Line n fault) d e h i f at w whole flush = ends_by_fault a d e h i (Line n fault) f at w flush
-ends_flushed a asked Usage d e h i f at w whole flush = ends_by_fault a d e h i Usage f at w flush
-ends_flushed a asked InputTooLong d e h i f at w whole flush = ends_by_fault a d e h i InputTooLong f at w flush
-ends_flushed a asked CannotRead d e h i f at w whole flush = ends_by_fault a d e h i CannotRead f at w flush
-ends_flushed a asked CannotWrite d e h i f at w whole flush = ends_refused a asked d e h i f at w flush
-ends_flushed a asked OutOfMemory d e h i f at w whole flush = record {
+ends_flushed a asked Done d e h i f at none none_now w whole flush = ends_done a asked d e h i f at none none_now w (whole refl) flush
+ends_flushed a asked (Line n fault) d e h i f at none none_now w whole flush = ends_by_fault a d e h i (Line n fault) f at none none_now w flush
+ends_flushed a asked Usage d e h i f at none none_now w whole flush = ends_by_fault a d e h i Usage f at none none_now w flush
+ends_flushed a asked InputTooLong d e h i f at none none_now w whole flush = ends_by_fault a d e h i InputTooLong f at none none_now w flush
+ends_flushed a asked CannotRead d e h i f at none none_now w whole flush = ends_by_fault a d e h i CannotRead f at none none_now w flush
+ends_flushed a asked CannotWrite d e h i f at none none_now w whole flush = ends_refused a asked d e h i f at none w flush
+ends_flushed a asked OutOfMemory d e h i f at none none_now w whole flush = record {
   asks = w.0;
   unread = w.1;
-  nothing = appended_then d.output i.target e.output [] w.2.works (subst (λ t. Appended t i.target []) at w.2.written) flush.bytes;
+  nothing = appended_then d.output i.target e.output [] w.2.works (subst (λ t. Appended t i.target []) at (all_sent [] h i none none_now w.2.written)) flush.bytes;
   unrefused = flush.write_failed ∙ no_write_fault i.target w.2.works;
 }
 
@@ -342,7 +343,7 @@ runs_flushed words status stop stop_now a b h i j k l looks looks_now x flush te
       stop = stop_now;
       ends = subst (λ v. Ends v (out_of words x.input b) (request_of words) (devices a h k) (devices b j l)) (sym flush.stop_is)
           (ends_flushed (out_of words x.input b) (request_of words) stop (devices a h k) (devices b j l) (answer_state h looks) (answer_state i looks_now) flush.refused
-          refl x.ends x.read_whole how);
+          refl refl refl x.ends x.read_whole how);
       looked = subst (λ v. Looked v j.write_failed (out_of words x.input b).looks looks looks_now) (sym flush.stop_is)
           (looked_flushed (out_of words x.input b) (request_of words) stop a b (answer_state h looks) (answer_state i looks_now) j flush.refused x.ends how);
       within_bound = bounded_looks (out_of words x.input b) (request_of words) stop a b (answer_state h looks) (answer_state i looks_now) x.ends;

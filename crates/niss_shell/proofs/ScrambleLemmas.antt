@@ -13,7 +13,7 @@ use Rattle.niss_shell.specs.Scrambles.{scramble, scrambles, turns_line, scramble
 use Rattle.niss_shell.specs.Engine.{Answers, answer_state}
 use Rattle.niss_shell.specs.declared.stop.Stop.TheVariants.{Done, CannotWrite}
 use Rattle.niss_shell.proofs.DeviceLemmas.{appended_more}
-use Rattle.niss_shell.proofs.StateLemmas.{refused_more, refused_front}
+use Rattle.niss_shell.proofs.StateLemmas.{sent_whole, refused_more, refused_front}
 
 -- steps and more steps of a generator
 state_after-add : (w k p m n s : ℕ) → state_after w k p n (state_after w k p m s) ≡ state_after w k p (m + n) s
@@ -74,7 +74,7 @@ refused_line turns i count g line a b c h e works p q =
 pub answers_written : (text : List ℕ) (a b : TargetState) → has_fault b ≡ false → Appended a b text
     → (looks : ℕ) → Answers (unsearched text Done) Done (answer_state a looks) (answer_state b looks)
 answers_written text a b works written looks =
-    (refl, record { works = works; written = written; looked = omega arith; bounded = omega arith })
+    (refl, record { works = works; written = sent_whole text a b looks looks written; looked = omega arith; bounded = omega arith })
 
 pub answers_refused : (text : List ℕ) (a b : TargetState) → WriteRefused text a b
     → (looks : ℕ) → Answers (unsearched text Done) CannotWrite (answer_state a looks) (answer_state b looks)

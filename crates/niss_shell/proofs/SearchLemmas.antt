@@ -9,7 +9,7 @@ use Rattle.niss_shell.specs.Output.{none_line, solution_line, solve_text}
 use Rattle.niss_shell.specs.Engine.{AnswerState, answer_state, Writes, WritesOrRefuses, stop_if_refused, AnswersLine}
 use Rattle.niss_shell.specs.declared.device.DeviceFault.{DeviceFault}
 use Rattle.niss_shell.proofs.DeviceLemmas.{appended_nothing, appended_more}
-use Rattle.niss_shell.proofs.StateLemmas.{writes_more, writes_as, refused_more, refused_front, refuses_more, refuses_as}
+use Rattle.niss_shell.proofs.StateLemmas.{sent_whole, writes_more, writes_as, refused_more, refused_front, refuses_more, refuses_as}
 
 -- What every path keeps, a walk through a list of paths keeps.
 
@@ -63,7 +63,7 @@ module _ {K : Type 0} (target : K → TargetState) (line : List Turn → List �
       → WritesOrRefuses r (flat_map line ps) looks most_looks (answer_state (target a) before) (answer_state (target b) after)
   search_writes ps a b (Ok x) looks most_looks before after works h k exact rises most bound =
       let all = walk_writes ps a b works h in
-      record { works = all.0; written = all.1; looked = exact; bounded = bound }
+      record { works = all.0; written = sent_whole (flat_map line ps) (target a) (target b) before after all.1; looked = exact; bounded = bound }
   search_writes ps a b (Err x) looks most_looks before after works h k exact rises most bound =
       record { refused = stop_writes ps a b works k; rises = rises; looked = most; bounded = bound }
 
@@ -73,7 +73,7 @@ pub piece_writes : (r : Result (Unit {0}) DeviceFault) (piece text : List ℕ) (
     → WritesOrRefuses r text 0 0 (answer_state a looks) (answer_state b looks)
 piece_writes (Ok u) piece text looks a b e works whole same refused = record {
   works = same ∙ works;
-  written = subst (λ t. Appended a b t) e whole;
+  written = sent_whole text a b looks looks (subst (λ t. Appended a b t) e whole);
   looked = omega arith;
   bounded = omega arith;
 }

@@ -1,11 +1,11 @@
 -- How what is written and looked at adds up.
-use Rattle.std.proofs.Common.{◌≡◌, ℕ, ◌+◌, ◌*◌, ◌≤◌, false, None, Some, List, [], ◌++◌, length, sym, ap, ◌∙◌, subst, append_assoc, length-append, mul-add, arith}
+use Rattle.std.proofs.Common.{◌≡◌, ℕ, ◌+◌, ◌*◌, ◌≤◌, false, None, Some, List, [], ◌++◌, length, sym, ap, ◌∙◌, subst, append_assoc, append-nil, length-append, mul-add, arith}
 use Rattle.std.specs.Prelude.{sum_by}
 use Rattle.std.proofs.lemmas.List.Sums.{sum_by-append}
 use Rattle.niss_shell.specs.Device.{TargetState, has_fault, Appended, IsCut, WriteRefused}
 use Rattle.niss_shell.specs.Lines.{answered_lines, first_fault}
 use Rattle.niss_shell.specs.Output.{LineAnswers, looks_for, most_looks_for}
-use Rattle.niss_shell.specs.Engine.{AnswerState, Writes, Refuses}
+use Rattle.niss_shell.specs.Engine.{AnswerState, answer_state, TakesIn, Writes, Refuses}
 use Rattle.niss_shell.specs.declared.stop.LineFault.{LineFault}
 use Rattle.niss_shell.proofs.DeviceLemmas.{appended_nothing, appended_more, no_flush_fault}
 use Rattle.niss_shell.proofs.LinesLemmas.{answered_lines-append, answered_lines-stays, answered_lines-front}
@@ -13,15 +13,37 @@ use Rattle.niss_shell.proofs.LinesLemmas.{answered_lines-append, answered_lines-
 pub writes_nothing : (a : AnswerState) → has_fault a.target ≡ false → Writes [] 0 0 a a
 writes_nothing a works = record {
   works = works;
-  written = appended_nothing a.target;
+  written = record { sent = []; whole = sym (append-nil a.pending); appended = appended_nothing a.target };
   looked = omega arith;
   bounded = omega arith;
 }
 
+-- what was sent, and what was sent behind it
+sent_more : (s t p q r x y : List ℕ) → s ++ q ≡ p ++ x → t ++ r ≡ q ++ y → (s ++ t) ++ r ≡ p ++ (x ++ y)
+sent_more s t p q r x y e f =
+    append_assoc s t r ∙ ap (λ v. s ++ v) f ∙ sym (append_assoc s q y) ∙ ap (λ v. v ++ y) e ∙ append_assoc p x y
+
+taken_more : (x y : List ℕ) (a b c : AnswerState) → has_fault b.target ≡ false → TakesIn x a b → TakesIn y b c → TakesIn (x ++ y) a c
+taken_more x y a b c works p q = record {
+  sent = p.sent ++ q.sent;
+  whole = sent_more p.sent q.sent a.pending b.pending c.pending x y p.whole q.whole;
+  appended = appended_more a.target b.target c.target p.sent q.sent works p.appended q.appended;
+}
+
+-- where nothing waits, a text that was taken was sent
+
+pub sent_whole : (text : List ℕ) (a b : TargetState) (x y : ℕ) → Appended a b text → TakesIn text (answer_state a x) (answer_state b y)
+sent_whole text a b x y p = record { sent = text; whole = append-nil text; appended = p }
+
+pub all_sent : (text : List ℕ) (a b : AnswerState) → a.pending ≡ [] → b.pending ≡ [] → TakesIn text a b → Appended a.target b.target text
+all_sent text a b e f p =
+    subst (λ t. Appended a.target b.target t)
+    (sym (append-nil p.sent) ∙ ap (λ v. p.sent ++ v) (sym f) ∙ p.whole ∙ ap (λ v. v ++ text) e) p.appended
+
 pub writes_more : (x y : List ℕ) (l m : ℕ) (k n : ℕ) (a b c : AnswerState) → Writes x l m a b → Writes y k n b c → Writes (x ++ y) (l + k) (m + n) a c
 writes_more x y l m k n a b c p q = record {
   works = q.works;
-  written = appended_more a.target b.target c.target x y p.works p.written q.written;
+  written = taken_more x y a b c p.works p.written q.written;
   looked = omega (arith, p.looked, q.looked);
   bounded = omega (arith, p.bounded, q.bounded);
 }
@@ -53,7 +75,9 @@ refused_front xs ys a c q = record {
 
 pub refuses_more : (x y : List ℕ) (l m : ℕ) (k n : ℕ) (a b c : AnswerState) → Writes x l m a b → Refuses y k n b c → Refuses (x ++ y) (l + k) (m + n) a c
 refuses_more x y l m k n a b c p q = record {
-  refused = refused_more x y a.target b.target c.target p.works p.written q.refused;
+  refused = subst (λ t. WriteRefused t a.target c.target)
+      (sym (append_assoc p.written.sent b.pending y) ∙ ap (λ v. v ++ y) p.written.whole ∙ append_assoc a.pending x y)
+      (refused_more p.written.sent (b.pending ++ y) a.target b.target c.target p.works p.written.appended q.refused);
   rises = omega (arith, p.looked, q.rises);
   looked = omega (arith, p.looked, q.looked);
   bounded = omega (arith, p.bounded, q.bounded);
@@ -61,7 +85,7 @@ refuses_more x y l m k n a b c p q = record {
 
 pub refuses_front : (x y : List ℕ) (l m : ℕ) (k n : ℕ) (a c : AnswerState) → l ≤ k → m ≤ n → Refuses x l m a c → Refuses (x ++ y) k n a c
 refuses_front x y l m k n a c p q r = record {
-  refused = refused_front x y a.target c.target r.refused;
+  refused = subst (λ t. WriteRefused t a.target c.target) (append_assoc a.pending x y) (refused_front (a.pending ++ x) y a.target c.target r.refused);
   rises = r.rises;
   looked = omega (arith, r.looked, p);
   bounded = omega (arith, r.bounded, q);
@@ -72,14 +96,14 @@ refuses_front x y l m k n a c p q r = record {
 pub writes_as : (x y : List ℕ) (l m k n : ℕ) (a b : AnswerState) → x ≡ y → l ≡ k → m ≡ n → Writes x l m a b → Writes y k n a b
 writes_as x y l m k n a b e f g p = record {
   works = p.works;
-  written = subst (λ t. Appended a.target b.target t) e p.written;
+  written = subst (λ t. TakesIn t a b) e p.written;
   looked = p.looked ∙ ap (λ v. a.looks + v) f;
   bounded = omega (arith, p.bounded, g);
 }
 
 pub refuses_as : (x y : List ℕ) (l m k n : ℕ) (a b : AnswerState) → x ≡ y → l ≡ k → m ≡ n → Refuses x l m a b → Refuses y k n a b
 refuses_as x y l m k n a b e f g p = record {
-  refused = subst (λ t. WriteRefused t a.target b.target) e p.refused;
+  refused = subst (λ t. WriteRefused (a.pending ++ t) a.target b.target) e p.refused;
   rises = p.rises;
   looked = omega (arith, p.looked, f);
   bounded = omega (arith, p.bounded, g);

@@ -1,5 +1,5 @@
 -- What the engine's steps do. `front` are the bytes of the line that is being read.
-use Rattle.std.specs.Prelude.{◌≡◌, ℕ, ◌+◌, ◌*◌, ◌^◌, ◌≤◌, ◌||◌, not, Bool, true, false, Some, None, Result, Ok, Err, List, [], length}
+use Rattle.std.specs.Prelude.{◌≡◌, ◌⊎◌, ℕ, ◌+◌, ◌*◌, ◌^◌, ◌≤◌, ◌||◌, not, Bool, true, false, Some, None, Result, Ok, Err, List, [], ◌++◌, length}
 use Rattle.niss_shell.specs.Device.{SourceState, TargetState, has_fault, Gave, Appended, StaysSilent, WriteRefused}
 use Rattle.niss_shell.specs.Lines.{ended_lines, last_part, written_text, first_fault}
 use Rattle.niss_moves.specs.Reader.{IsFed}
@@ -12,24 +12,36 @@ use Rattle.niss_shell.specs.declared.stop.Stop.{Stop}
 use Rattle.niss_shell.specs.declared.stop.Stop.TheVariants.{Done, Line, Usage, InputTooLong, CannotRead, CannotWrite, OutOfMemory}
 use Rattle.niss_shell.specs.declared.lines.Progress.{Progress}
 
--- What answers to lines change: the target that they are written to, and the count of the looks.
+-- What answers to lines change: the target that they are written to, the answers that wait to be written to it, and the
+-- count of the looks.
 pub record AnswerState : Type 0 where
   pub target : TargetState
+  pub pending : List ℕ
   pub looks : ℕ
 
-abbrev pub answer_state : TargetState → ℕ → AnswerState
-answer_state target looks = record { target = target; looks = looks }
+abbrev pub pending_state : TargetState → List ℕ → ℕ → AnswerState
+pending_state target pending looks = record { target = target; pending = pending; looks = looks }
 
--- A text was written, with so many looks, of which there may be so many at most.
+-- no answer waits
+abbrev pub answer_state : TargetState → ℕ → AnswerState
+answer_state target looks = pending_state target [] looks
+
+-- A text was taken behind what waited: some of these bytes went out, and the others wait now.
+pub record TakesIn (text : List ℕ) (old new : AnswerState) : Type 0 where
+  pub sent : List ℕ
+  pub whole : sent ++ new.pending ≡ old.pending ++ text
+  pub appended : Appended old.target new.target sent
+
+-- A text was written or waits, with so many looks, of which there may be so many at most.
 pub record Writes (text : List ℕ) (looks most_looks : ℕ) (old new : AnswerState) : Type 0 where
   pub works : has_fault new.target ≡ false
-  pub written : Appended old.target new.target text
+  pub written : TakesIn text old new
   pub looked : new.looks ≡ old.looks + looks
   pub bounded : new.looks ≤ old.looks + most_looks
 
 -- A write was refused before all of the text was written, with no more looks than the text takes.
 pub record Refuses (text : List ℕ) (looks most_looks : ℕ) (old new : AnswerState) : Type 0 where
-  pub refused : WriteRefused text old.target new.target
+  pub refused : WriteRefused (old.pending ++ text) old.target new.target
   pub rises : old.looks ≤ new.looks
   pub looked : new.looks ≤ old.looks + looks
   pub bounded : new.looks ≤ old.looks + most_looks
@@ -71,6 +83,18 @@ StopsWithin f n lines Usage old new = ⊥
 StopsWithin f n lines InputTooLong old new = ⊥
 StopsWithin f n lines CannotRead old new = ⊥
 StopsWithin f n lines OutOfMemory old new = ⊥
+
+-- What waited was written, and the lines stand as they were taken; or a write of it was refused.
+abbrev pub WritesPending : Result (Unit {0}) Stop → Result (Unit {0}) Stop → List ℕ → TargetState → TargetState → Type 0
+WritesPending taken result pending old new =
+    ((result ≡ taken) × (has_fault new ≡ has_fault old) × Appended old new pending)
+    ⊎ ((result ≡ Err CannotWrite) × WriteRefused pending old new)
+
+-- What waited was written behind lines that were taken so, or a write of it was refused.
+pub record WritesBehind (taken result : Result (Unit {0}) Stop) (pending : List ℕ) (old new : TargetState) : Type 0 where
+  -- after a refused write nothing more is written
+  pub stays : taken ≡ Err CannotWrite → (result ≡ taken) × (new ≡ old)
+  pub written : (taken ≡ Err CannotWrite → ⊥) → WritesPending taken result pending old new
 
 -- The line behind these bytes is being read, and has its number.
 pub record Advanced (front bytes : List ℕ) (n : ℕ) (progress : Progress) : Type 0 where

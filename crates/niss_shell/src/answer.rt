@@ -1,6 +1,6 @@
 ghost use Rattle.std.specs.Prelude.{◌≡◌, ◌≤◌, ◌∷◌, ◌++◌, [], ℕ, false, length};
 ghost use Rattle.niss_shell.specs.Device.{has_fault};
-ghost use Rattle.niss_shell.specs.Engine.{WritesOrRefuses, answer_state};
+ghost use Rattle.niss_shell.specs.Engine.{WritesOrRefuses, pending_state};
 ghost use Rattle.niss_shell.specs.Lines.{line_feed};
 ghost use Rattle.niss_moves.specs.Effects.{effect};
 ghost use Rattle.niss_moves.specs.Letters.{letters};
@@ -10,7 +10,7 @@ use crate::command::Rewriting;
 use crate::device::{DeviceFault, Target};
 use crate::line_cube::cube_of;
 use crate::text::put_text;
-use crate::writing::write_all;
+use crate::writing::write_out;
 use niss_moves::{LineText, Niss, invert, put_niss_clean, put_tokens, unniss};
 
 /// The facelet text of a line: its cube, turned as a whole by the rotation that is left.
@@ -35,18 +35,25 @@ fn put_rewritten(rewriting: Rewriting, line: &Niss, text: &mut LineText)
     }
 }
 
-/// Writes the answer to the moves of a line without a search.
-pub fn write_rewritten<W: Target>(
+/// Appends the answer to the moves of a line without a search to the answers that wait. Where there is no room for it,
+/// these are written first.
+pub fn put_answer<W: Target>(
     rewriting: Rewriting,
     line: &Niss,
+    pending: &mut LineText,
     out: &mut W,
 ) -> Result<(), DeviceFault>
     requires { has_fault (W.state out.old) ≡ false }
     ensures { (looks : ℕ) → WritesOrRefuses result (line_text rewriting line.now ++ line_feed ∷ []) 0 0
-        (answer_state (W.state out.old) looks) (answer_state (W.state out.new) looks) }
+        (pending_state (W.state out.old) pending.old.items looks)
+        (pending_state (W.state out.new) pending.new.items looks) }
 {
     let mut text = LineText::new();
     put_rewritten(rewriting, line, &mut text);
     text.push(b'\n');
-    write_all(out, text.as_slice())
+    if text.len() > pending.remaining_capacity() {
+        write_out(pending, out)?;
+    }
+    put_text(text.as_slice(), pending);
+    Ok(())
 }

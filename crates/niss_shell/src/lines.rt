@@ -4,12 +4,13 @@ ghost use Rattle.niss_moves.specs.Reader.{IsFed};
 ghost use Rattle.niss_shell.specs.Words.{limit};
 ghost use Rattle.niss_shell.specs.Output.{line_answers, answer_lines, End};
 ghost use Rattle.niss_shell.specs.Work.{command_of};
-ghost use Rattle.niss_shell.specs.Engine.{AnswersBytes, AnswersSource, Answers, HasRoom, answer_state, stop_unless};
+ghost use Rattle.niss_shell.specs.Engine.{AnswersBytes, AnswersSource, Answers, HasRoom, WritesBehind, answer_state, pending_state, stop_unless};
 
 use crate::device::{Source, Target};
 use crate::stop::{LineFault, Stop};
 use crate::work::Work;
-use niss_moves::LineReader;
+use crate::writing::write_out;
+use niss_moves::{LineReader, LineText};
 use niss_search::Meter;
 use std::alloc::Allocator;
 use std::mem;
@@ -18,7 +19,7 @@ use std::mem;
 pub const LIMIT: usize = 16_777_216;
 
 /// How many bytes a read asks for.
-const BLOCK: usize = 1;
+const BLOCK: usize = 4096;
 
 /// The line that is being read, and its number.
 #[derive(Drop)]
@@ -27,11 +28,12 @@ pub struct Progress {
     line: u32,
 }
 
-/// Writes the answer to a line.
+/// Takes the answer to a line behind those that wait.
 fn answer_line<A: Allocator, W: Target>(
     work: &Work<A>,
     reader: LineReader,
     line: u32,
+    pending: &mut LineText,
     out: &mut W,
     looks: &mut Meter,
 ) -> Result<(), Stop>
@@ -39,12 +41,13 @@ fn answer_line<A: Allocator, W: Target>(
     requires meter { looks.old ≤ 2 ^ 127 }
     ensures answers { (bytes : List ℕ) → IsFed reader bytes →
         AnswersBytes (line_answers (command_of work.now)) bytes line result
-        (answer_state (W.state out.old) looks.old) (answer_state (W.state out.new) looks.new) }
+        (pending_state (W.state out.old) pending.old.items looks.old)
+        (pending_state (W.state out.new) pending.new.items looks.new) }
     ensures works { OnOk result (has_fault (W.state out.new) ≡ false) }
     ensures meter { looks.new ≤ looks.old + 2 ^ 93 }
 {
     match reader.finish() {
-        Ok(niss) => work.answer(&niss, line, out, looks),
+        Ok(niss) => work.answer(&niss, line, pending, out, looks),
         Err(fault) => Err(Stop::Line {
             line,
             fault: LineFault::Unread(fault),
@@ -67,10 +70,11 @@ impl Progress {
         }
     }
 
-    /// Writes the answer to the line, and begins the next one.
+    /// Takes the answer to the line behind those that wait, and begins the next one.
     fn end_line<A: Allocator, W: Target>(
         &mut self,
         work: &Work<A>,
+        pending: &mut LineText,
         out: &mut W,
         looks: &mut Meter,
     ) -> Result<(), Stop>
@@ -79,7 +83,8 @@ impl Progress {
         requires meter { HasRoom self.old.line looks.old }
         ensures answers { (bytes : List ℕ) → IsFed self.old.reader bytes →
             AnswersBytes (line_answers (command_of work.now)) bytes self.old.line result
-            (answer_state (W.state out.old) looks.old) (answer_state (W.state out.new) looks.new) }
+            (pending_state (W.state out.old) pending.old.items looks.old)
+            (pending_state (W.state out.new) pending.new.items looks.new) }
         ensures works { OnOk result (has_fault (W.state out.new) ≡ false) }
         ensures reader { IsFed self.new.reader [] }
         ensures fed { self.new.reader.fed ≡ 0 }
@@ -87,7 +92,7 @@ impl Progress {
         ensures meter { HasRoom self.new.line looks.new }
     {
         let reader = mem::replace(&mut self.reader, LineReader::new());
-        let answered = answer_line(work, reader, self.line, out, looks);
+        let answered = answer_line(work, reader, self.line, pending, out, looks);
         self.line += 1;
         answered
     }
@@ -97,6 +102,7 @@ impl Progress {
         &mut self,
         work: &Work<A>,
         byte: u8,
+        pending: &mut LineText,
         out: &mut W,
         looks: &mut Meter,
     ) -> Result<(), Stop>
@@ -106,21 +112,52 @@ impl Progress {
         requires meter { HasRoom self.old.line looks.old }
         ensures takes { (front : List ℕ) → IsFed self.old.reader front →
             TakesBytes (line_answers (command_of work.now)) front (byte ∷ []) self.old.line self.new result
-            (answer_state (W.state out.old) looks.old) (answer_state (W.state out.new) looks.new) }
+            (pending_state (W.state out.old) pending.old.items looks.old)
+            (pending_state (W.state out.new) pending.new.items looks.new) }
         ensures works { OnOk result (has_fault (W.state out.new) ≡ false) }
         ensures column { self.new.reader.fed ≤ self.old.reader.fed + 1 }
         ensures lines { self.new.line ≤ self.old.line + 1 }
         ensures meter { HasRoom self.new.line looks.new }
     {
         if byte == b'\n' {
-            return self.end_line(work, out, looks);
+            return self.end_line(work, pending, out, looks);
         }
         // a line is judged at its end
         let _ = self.reader.feed(byte);
         Ok(())
     }
 
-    /// Takes the next bytes of the input.
+    /// Takes the next bytes of the input, and lets answers wait.
+    fn gather_bytes<A: Allocator, W: Target>(
+        &mut self,
+        work: &Work<A>,
+        bytes: &[u8],
+        pending: &mut LineText,
+        out: &mut W,
+        looks: &mut Meter,
+    ) -> Result<(), Stop>
+        requires works { has_fault (W.state out.old) ≡ false }
+        requires column { self.old.reader.fed + length bytes.now ≤ limit }
+        requires lines { self.old.line + length bytes.now ≤ limit + 1 }
+        requires meter { HasRoom self.old.line looks.old }
+        ensures takes { (front : List ℕ) → IsFed self.old.reader front →
+            TakesBytes (line_answers (command_of work.now)) front bytes.now self.old.line self.new result
+            (pending_state (W.state out.old) pending.old.items looks.old)
+            (pending_state (W.state out.new) pending.new.items looks.new) }
+        ensures works { OnOk result (has_fault (W.state out.new) ≡ false) }
+        ensures column { OnOk result (self.new.reader.fed ≤ self.old.reader.fed + length bytes.now) }
+        ensures lines { OnOk result (self.new.line ≤ self.old.line + length bytes.now) }
+        ensures meter { OnOk result (HasRoom self.new.line looks.new) }
+    {
+        for byte in bytes {
+            if let Err(stop) = self.take_byte(work, *byte, pending, out, looks) {
+                return Err(stop);
+            }
+        }
+        Ok(())
+    }
+
+    /// Takes the next bytes of the input, and writes the answers to the lines that they end.
     fn take_bytes<A: Allocator, W: Target>(
         &mut self,
         work: &Work<A>,
@@ -140,12 +177,9 @@ impl Progress {
         ensures lines { OnOk result (self.new.line ≤ self.old.line + length bytes.now) }
         ensures meter { OnOk result (HasRoom self.new.line looks.new) }
     {
-        for byte in bytes {
-            if let Err(stop) = self.take_byte(work, *byte, out, looks) {
-                return Err(stop);
-            }
-        }
-        Ok(())
+        let mut pending = LineText::new();
+        let taken = self.gather_bytes(work, bytes, &mut pending, out, looks);
+        write_behind(taken, &mut pending, out)
     }
 
     /// Takes the end of the input. A last line counts where it has a byte.
@@ -165,7 +199,26 @@ impl Progress {
         if self.reader.fed() == 0 {
             return Ok(());
         }
-        self.end_line(work, out, looks)
+        let mut pending = LineText::new();
+        let taken = self.end_line(work, &mut pending, out, looks);
+        write_behind(taken, &mut pending, out)
+    }
+}
+
+/// Writes the answers that wait, unless a write was refused, and answers how the run goes on.
+fn write_behind<W: Target>(
+    taken: Result<(), Stop>,
+    pending: &mut LineText,
+    out: &mut W,
+) -> Result<(), Stop>
+    ensures { WritesBehind taken result pending.old.items (W.state out.old) (W.state out.new) }
+{
+    if let Err(Stop::CannotWrite) = taken {
+        return taken;
+    }
+    match write_out(pending, out) {
+        Ok(()) => taken,
+        Err(_) => Err(Stop::CannotWrite),
     }
 }
 
