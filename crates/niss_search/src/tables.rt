@@ -112,7 +112,7 @@ impl<A: Allocator> Tables<A> {
         Position::of(goal_of(self.step()), cube)
     }
 
-    /// The position, which is one of this step, after a turn, which is one of the step's turns.
+    /// The position after a turn. The position is one of this step, and the turn is one of the step's.
     pub fn after(&self, position: &Position, turn: Turn) -> Position
         requires position { IsPosition self.now position.now }
         requires of_step { Contains (turns_of self.now) turn }
