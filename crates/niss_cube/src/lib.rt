@@ -33,4 +33,4 @@ mod turn_tables;
 pub use cube::Cube;
 pub use niss_moves::{Axis, Face, Power, Rotation, Turn};
 pub use step::{Goal, Step};
-pub use turn_tables::{OutOfMemory, TurnTables};
+pub use turn_tables::{OutOfMemory, TurnTables, turn_for_flip, turn_for_twist};

@@ -1,11 +1,11 @@
 //! Tables of the coordinates after a turn.
-ghost use Rattle.std.specs.Prelude.{◌≡◌, ◌<◌, length, get_or, slice_index, []};
+ghost use Rattle.std.specs.Prelude.{◌≡◌, ℕ, ◌<◌, length, get_or, slice_index, []};
 ghost use Rattle.niss_moves.specs.Effects.{turned};
 ghost use Rattle.niss_moves.specs.declared.turn.Turn.{Turn};
 ghost use Rattle.niss_moves.specs.declared.turn.Power.{Power};
 ghost use Rattle.niss_moves.specs.declared.axis.Axis.TheVariants.{Ud, Fb};
 ghost use Rattle.niss_cube.specs.Map.{map_of};
-ghost use Rattle.niss_cube.specs.RenamedTurns.{face_for_flip, face_for_twist};
+ghost use Rattle.niss_cube.specs.RenamedTurns.{face_for_flip, face_for_twist, turn_for_flip, turn_for_twist};
 ghost use Rattle.niss_cube.specs.FlipAfter.{flip_after};
 ghost use Rattle.niss_cube.specs.TwistAfter.{twist_after};
 ghost use Rattle.niss_cube.specs.SliceAfter.{slice_after};
@@ -164,6 +164,29 @@ fn renamed_face_for_twist(axis: Axis, face: Face) -> Face
         },
     };
     rotation.face_before(face)
+}
+
+/// The turn that does to the flip on the axis Fb what `turn` does to the flip on `axis`.
+pub fn turn_for_flip(axis: Axis, turn: Turn) -> Turn
+    ensures value { result ≡ turn_for_flip axis turn }
+    ensures same_flip { (flip : ℕ) → flip_after Fb flip result ≡ flip_after axis flip turn }
+{
+    Turn {
+        face: renamed_face_for_flip(axis, turn.face),
+        power: turn.power,
+    }
+}
+
+/// The turn that does to the twist and the slice on the axis Ud what `turn` does to those on `axis`.
+pub fn turn_for_twist(axis: Axis, turn: Turn) -> Turn
+    ensures value { result ≡ turn_for_twist axis turn }
+    ensures same_twist { (twist : ℕ) → twist_after Ud twist result ≡ twist_after axis twist turn }
+    ensures same_slice { (slice : ℕ) → slice_after Ud slice result ≡ slice_after axis slice turn }
+{
+    Turn {
+        face: renamed_face_for_twist(axis, turn.face),
+        power: turn.power,
+    }
 }
 
 /// The entry of a number at a turn.

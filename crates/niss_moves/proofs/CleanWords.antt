@@ -1,7 +1,7 @@
 -- A cleaned line written out.
 use Rattle.std.proofs.Common.{◌≡◌, ℕ, refl, ap, sym, ◌∙◌, subst, true, false, List, [], ◌∷◌, ◌++◌, length, ◌==◌}
 use Rattle.niss_moves.specs.Text.{gap, with_word, with_words}
-use Rattle.niss_moves.specs.CleanText.{turn_words, rotation_words, cleaned_words, with_bracket, IsCleaned, PutsClean}
+use Rattle.niss_moves.specs.CleanText.{turn_words, rotation_words, cleaned_words, with_bracket}
 use Rattle.niss_moves.specs.Helpers.{is_empty}
 use Rattle.niss_moves.specs.Line.{Moves}
 use Rattle.niss_moves.specs.Rotations.{IsRotationOf}
@@ -36,6 +36,23 @@ pub record IsAnswer (moves tokens : List Token) (turns : List Turn) (rotation : 
   pub moves_are : tokens ≡ moves
   pub cleans : Cleans (faces tokens) turns
   pub rotation_is : IsRotationOf tokens rotation
+
+-- These are the cleaned face turns of a sequence, and the rotation that is left at its end.
+pub record IsCleaned (tokens : List Token) (turns : List Turn) (rotation : Rotation) : Type 0 where
+  pub turns_are : Cleans (faces tokens) turns
+  pub rotation_is : IsRotationOf tokens rotation
+
+-- The new text is the old one with the cleaned line: the cleaned normal moves, and then the cleaned bracketed ones in a
+-- bracket, where any word of these is left. (There is one clean list, and one rotation.)
+pub record PutsClean (line : Moves) (old new : List ℕ) : Type 0 where
+  pub normal : List Turn
+  pub after_normal : Rotation
+  pub bracketed : List Turn
+  pub after_bracketed : Rotation
+  pub normal_cleaned : IsCleaned line.normal normal after_normal
+  pub bracketed_cleaned : IsCleaned line.bracketed bracketed after_bracketed
+  pub text :
+      new ≡ with_bracket (with_words old (cleaned_words normal after_normal)) (cleaned_words bracketed after_bracketed)
 
 cleaned : (moves tokens : List Token) (turns : List Turn) (r : Rotation) → IsAnswer moves tokens turns r → IsCleaned moves turns r
 cleaned moves tokens turns r a =

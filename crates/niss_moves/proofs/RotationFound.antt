@@ -10,7 +10,8 @@ use Rattle.niss_moves.specs.Faces.{faces}
 use Rattle.niss_moves.specs.Canonical.{face_order}
 use Rattle.niss_moves.specs.Line.{Moves}
 use Rattle.niss_moves.specs.Text.{with_words}
-use Rattle.niss_moves.specs.CleanText.{cleaned_words, with_bracket, PutsClean}
+use Rattle.niss_moves.specs.CleanText.{cleaned_words, with_bracket}
+use Rattle.niss_moves.proofs.CleanWords.{PutsClean}
 use Rattle.niss_moves.specs.CleanedLine.{clean_turns, rotations, moves_centres_as, rotation_left, with_clean_line, RotationIsLeft}
 use Rattle.niss_moves.specs.declared.turn.Face.{Face}
 use Rattle.niss_moves.specs.declared.turn.Face.TheVariants.{U, D, R, L, F, B}

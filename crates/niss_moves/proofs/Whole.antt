@@ -7,12 +7,9 @@ use Rattle.niss_moves.specs.Line.{Gap, Spelled, piece_bytes, Piece, item_bytes, 
 use Rattle.niss_moves.specs.Faults.{has_no_bracket, Cut, Whole, LacksOne, LacksTwo, cut_ending, cut_length, bracket_ending, Continues, CanContinue, StopsAt, EndsEarly, OpensAt, Stops, Lacks}
 use Rattle.niss_moves.specs.Machine.{State, start, settled, step, and_then, run}
 use Rattle.niss_moves.specs.Notation.{base_bytes, Plain, Typographic, Suffix, Nothing, Two, Prime, TwoPrime, suffix_bytes, Space, Tab, Return}
-use Rattle.niss_moves.specs.declared.turn.Face.TheVariants.{U, D, R, L, F, B}
-use Rattle.niss_moves.specs.declared.token.Slice.TheVariants.{M, E, S}
-use Rattle.niss_moves.specs.declared.axis.Axis.TheVariants.{Ud, Rl, Fb}
 use Rattle.niss_moves.specs.declared.base.Base.{Base}
 use Rattle.niss_moves.specs.declared.base.Base.TheVariants as base
-use Rattle.niss_moves.proofs.Finite.{both, both_left, both_right}
+use Rattle.niss_moves.proofs.Finite.{both, both_left, both_right, every_face, at_face, every_slice, at_slice, every_axis, at_axis}
 use Rattle.niss_moves.specs.declared.token.Token.{Token}
 use Rattle.niss_moves.specs.declared.partial_line.LastMove.{LastMove}
 use Rattle.niss_moves.specs.declared.partial_line.LastMove.TheVariants as last
@@ -183,30 +180,12 @@ ends_early bytes s e n =
 
 -- no bracket stands in a move
 no_bracket_base : (b : Base) → has_no_bracket (base_bytes b) ≡ true
-no_bracket_base (base.Face U) = refl
-no_bracket_base (base.Face D) = refl
-no_bracket_base (base.Face R) = refl
-no_bracket_base (base.Face L) = refl
-no_bracket_base (base.Face F) = refl
-no_bracket_base (base.Face B) = refl
-no_bracket_base (base.Wide U) = refl
-no_bracket_base (base.Wide D) = refl
-no_bracket_base (base.Wide R) = refl
-no_bracket_base (base.Wide L) = refl
-no_bracket_base (base.Wide F) = refl
-no_bracket_base (base.Wide B) = refl
-no_bracket_base (base.LowerCase U) = refl
-no_bracket_base (base.LowerCase D) = refl
-no_bracket_base (base.LowerCase R) = refl
-no_bracket_base (base.LowerCase L) = refl
-no_bracket_base (base.LowerCase F) = refl
-no_bracket_base (base.LowerCase B) = refl
-no_bracket_base (base.Slice M) = refl
-no_bracket_base (base.Slice E) = refl
-no_bracket_base (base.Slice S) = refl
-no_bracket_base (base.Rotation Rl) = refl
-no_bracket_base (base.Rotation Ud) = refl
-no_bracket_base (base.Rotation Fb) = refl
+unfolding every_face every_slice every_axis
+no_bracket_base (base.Face f) = at_face (λ f. has_no_bracket (base_bytes (base.Face f))) refl f
+no_bracket_base (base.Wide f) = at_face (λ f. has_no_bracket (base_bytes (base.Wide f))) refl f
+no_bracket_base (base.LowerCase f) = at_face (λ f. has_no_bracket (base_bytes (base.LowerCase f))) refl f
+no_bracket_base (base.Slice l) = at_slice (λ l. has_no_bracket (base_bytes (base.Slice l))) refl l
+no_bracket_base (base.Rotation a) = at_axis (λ a. has_no_bracket (base_bytes (base.Rotation a))) refl a
 
 no_bracket_suffix : (s : Suffix) → has_no_bracket (suffix_bytes s) ≡ true
 no_bracket_suffix Nothing = refl

@@ -1,7 +1,8 @@
 -- The steps by which a line is read, byte by byte. What a line is and which fault it has is said by Line and Faults, and
 -- a caller needs no more: these steps stand behind `read_line` and, as what a reader holds, behind `IsFed`.
-use Rattle.std.specs.Prelude.{ℕ, ◌+◌, ◌-◌, ◌≤◌, Bool, true, false, if◌then◌else◌, ◌==◌, nat_lt, List, [], ◌∷◌, ◌++◌, length, Option, None, Some, Result, Ok, Err, MatchResult, ◌≡◌}
-use Rattle.niss_moves.specs.Notation.{token_of}
+use Rattle.std.specs.Prelude.{ℕ, ◌+◌, ◌-◌, ◌≤◌, Bool, true, false, if◌then◌else◌, ◌==◌, nat_lt, List, [], ◌∷◌, ◌++◌, length, map, Option, None, Some, Result, Ok, Err, MatchResult, ◌≡◌}
+use Rattle.niss_moves.specs.Letters.{face_letter}
+use Rattle.niss_moves.specs.Notation.{token_of, lower_letter, slice_letter, rotation_letter, blank_byte, Space, Tab, Return}
 use Rattle.niss_moves.specs.Line.{Moves}
 use Rattle.niss_moves.specs.declared.turn.Face.TheVariants.{U, D, R, L, F, B}
 use Rattle.niss_moves.specs.declared.turn.Power.{Power}
@@ -26,17 +27,20 @@ pub record Entry : Type 0 where
 abbrev pub entry : ℕ → Symbol → Entry
 entry b s = record { byte = b; symbol = s }
 
+-- the entry of a letter that is a base
+abbrev pub base_entry : ℕ → Base → Entry
+base_entry letter b = entry letter (symbol.Base b)
+
 -- each byte that may stand in a line, but for the second and third of U+2019
 abbrev pub bytes_of_a_line : List Entry
 bytes_of_a_line =
-    entry 32 symbol.Blank ∷ entry 9 symbol.Blank ∷ entry 13 symbol.Blank ∷ entry 40 symbol.Open ∷ entry 41 symbol.Close
-    ∷ entry 85 (symbol.Base (base.Face U)) ∷ entry 68 (symbol.Base (base.Face D)) ∷ entry 82 (symbol.Base (base.Face R))
-    ∷ entry 76 (symbol.Base (base.Face L)) ∷ entry 70 (symbol.Base (base.Face F)) ∷ entry 66 (symbol.Base (base.Face B))
-    ∷ entry 117 (symbol.Base (base.LowerCase U)) ∷ entry 100 (symbol.Base (base.LowerCase D)) ∷ entry 114 (symbol.Base (base.LowerCase R))
-    ∷ entry 108 (symbol.Base (base.LowerCase L)) ∷ entry 102 (symbol.Base (base.LowerCase F)) ∷ entry 98 (symbol.Base (base.LowerCase B))
-    ∷ entry 77 (symbol.Base (base.Slice M)) ∷ entry 69 (symbol.Base (base.Slice E)) ∷ entry 83 (symbol.Base (base.Slice S))
-    ∷ entry 120 (symbol.Base (base.Rotation Rl)) ∷ entry 121 (symbol.Base (base.Rotation Ud)) ∷ entry 122 (symbol.Base (base.Rotation Fb))
-    ∷ entry 119 symbol.Wide ∷ entry 50 symbol.Two ∷ entry 39 symbol.Apostrophe ∷ entry 0xE2 symbol.Cut ∷ []
+    map (λ b. entry (blank_byte b) symbol.Blank) (Space ∷ Tab ∷ Return ∷ [])
+    ++ map (λ f. base_entry (face_letter f) (base.Face f)) (U ∷ D ∷ R ∷ L ∷ F ∷ B ∷ [])
+    ++ map (λ f. base_entry (lower_letter f) (base.LowerCase f)) (U ∷ D ∷ R ∷ L ∷ F ∷ B ∷ [])
+    ++ map (λ l. base_entry (slice_letter l) (base.Slice l)) (M ∷ E ∷ S ∷ [])
+    ++ map (λ a. base_entry (rotation_letter a) (base.Rotation a)) (Rl ∷ Ud ∷ Fb ∷ [])
+    ++ entry 40 symbol.Open ∷ entry 41 symbol.Close ∷ entry 119 symbol.Wide ∷ entry 50 symbol.Two
+    ∷ entry 39 symbol.Apostrophe ∷ entry 0xE2 symbol.Cut ∷ []
 
 abbrev pub look_up : List Entry → ℕ → Symbol
 look_up [] b = symbol.Other

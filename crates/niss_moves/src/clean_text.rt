@@ -2,7 +2,7 @@
 ghost use Rattle.std.specs.Prelude.{◌≡◌, ◌+◌, ◌*◌, ◌≤◌, length};
 ghost use Rattle.arrayvec.specs.ArrayVec.{array_vec_len};
 ghost use Rattle.niss_moves.specs.Text.{with_words};
-ghost use Rattle.niss_moves.specs.CleanText.{turn_words, rotation_words, cleaned_words, PutsClean};
+ghost use Rattle.niss_moves.specs.CleanText.{turn_words, rotation_words, cleaned_words};
 ghost use Rattle.niss_moves.specs.Helpers.{is_empty};
 ghost use Rattle.niss_moves.specs.CleanedLine.{with_clean_line};
 
@@ -56,7 +56,6 @@ fn have_no_word(turns: &[Turn], rotation: Rotation) -> bool
 /// three bytes for each of 512 face turns, six for each rotation and three for the bracket.
 pub fn put_niss_clean(niss: &Niss, text: &mut LineText)
     requires { array_vec_len text.old + 1600 ≤ 2048 }
-    ensures text { PutsClean niss.now text.old.items text.new.items }
     ensures items { text.new.items ≡ with_clean_line text.old.items niss.now }
     ensures len { array_vec_len text.new ≤ array_vec_len text.old + 1600 }
 {

@@ -23,6 +23,8 @@ mod memory;
 #[cfg(test)]
 mod reading;
 #[cfg(test)]
+mod refused_growths;
+#[cfg(test)]
 mod rewriting;
 #[cfg(test)]
 mod rotations;

@@ -1,7 +1,7 @@
-//! Heaps that refuse memory.
+//! Heaps of the size that some growths ask for, or a little less.
 use crate::coordinates::check_tables;
 use crate::devices::Bytes;
-use crate::runs::{OUT_OF_MEMORY, Outcome, STEPS, TOO_LONG, words_of};
+use crate::runs::{OUT_OF_MEMORY, Outcome, TOO_LONG, words_of};
 use linked_list_allocator::LocalHeap;
 use niss_cube::{OutOfMemory, TurnTables};
 use std::alloc::{AllocError, Global};
@@ -48,40 +48,6 @@ fn words_at_the_limit(rt: HostRuntime) -> Result<(), Fail> {
     let mut input = Bytes::new(b"", 1);
     let outcome = Outcome::good(b"\n");
     outcome.check_input(&rt, rt.alloc(), rt.alloc(), &words, &mut input);
-    Ok(())
-}
-
-#[test]
-fn no_growth_where_the_source_is_read(rt: HostRuntime) -> Result<(), Fail> {
-    let heap = LocalHeap::new(rt.alloc(), 16)?;
-    let words = words_of(rt.alloc(), &["invert"])?;
-    let mut input = Bytes::new(b"R\nU", 1);
-    let outcome = Outcome::good(b"R'\nU'\n");
-    outcome.check_input(&rt, rt.alloc(), &heap, &words, &mut input);
-
-    let words = words_of(rt.alloc(), &["steps"])?;
-    let mut input = Bytes::new(b"", 1);
-    Outcome::good(STEPS.as_bytes()).check_input(&rt, rt.alloc(), &heap, &words, &mut input);
-    assert_eq!(rt; input.reads, 0);
-    Ok(())
-}
-
-#[test]
-fn growth_refused_before_the_source_is_read(rt: HostRuntime) -> Result<(), Fail> {
-    let words = words_of(rt.alloc(), &["solve", "eofb", "7"])?;
-    let solved = Outcome::good(b"F (1)\nF' (1)\n\n");
-    for (size, outcome, reads) in [
-        (73_712usize, Outcome::failure(b"", OUT_OF_MEMORY), 0usize),
-        (152_448, Outcome::failure(b"", OUT_OF_MEMORY), 0),
-        (170_272, Outcome::failure(b"", OUT_OF_MEMORY), 0),
-        (170_288, solved, 2),
-    ] {
-        let heap = LocalHeap::new(rt.alloc(), size)?;
-        let mut input = Bytes::new(b"F", 1);
-        outcome.check_input(&rt, rt.alloc(), &heap, &words, &mut input);
-        assert_eq!(rt; input.reads, reads, "a heap of {size}");
-        assert_eq!(rt; heap.used(), 0, "a heap of {size}");
-    }
     Ok(())
 }
 

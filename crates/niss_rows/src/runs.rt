@@ -59,7 +59,7 @@ impl<'a> Outcome<'a> {
     }
 
     /// Compares it with what a run answered and what its targets hold.
-    fn compare(self, rt: &impl Abort, status: u8, out: &Held, err: &Held) {
+    pub fn compare(self, rt: &impl Abort, status: u8, out: &Held, err: &Held) {
         assert_eq!(rt; out.bytes.as_slice(), self.output);
         assert_eq!(rt; err.bytes.as_slice(), self.error);
         assert_eq!(rt; status, self.status);
@@ -139,6 +139,7 @@ impl<'a> Run<'a> {
     /// at positions.
     pub fn check(self, rt: &impl Abort, alloc: Global) -> Result<u128, AllocError> {
         let words = words_of(alloc, self.words)?;
+        // a read asks for more: so lines and moves are cut at every third byte
         let mut input = Bytes::new(self.input, 3);
         let mut out = Held::new(alloc, 5);
         let mut err = Held::new(alloc, 1);

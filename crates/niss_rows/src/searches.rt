@@ -1,10 +1,12 @@
 //! Searches: what is handed out, how often positions are looked at, and what a refusal leaves.
 use crate::steps::cube_after;
-use niss_cube::Step;
+use linked_list_allocator::LocalHeap;
+use niss_cube::{OutOfMemory, Step};
 use niss_moves::{LineText, put_faces};
-use niss_search::{Limit, Meter, Outcome, Sink, Tables, TurnPath, search};
+use niss_search::{Limit, Meter, Outcome, Sink, Tables, TurnPath, next_at, search};
 use std::alloc::Global;
 use std::process::Abort;
+use std::test::Fail;
 
 /// Its path was one too many.
 #[derive(Clone, Copy, Debug, PartialEq, Eq)]
@@ -105,7 +107,7 @@ const fn found(
     }
 }
 
-/// A search that finds nothing: it looks at each canonical sequence of each length up to the limit, once in each deepening.
+/// A search that finds nothing.
 const fn nothing(moves: &'static str, limit: u8, looks: u128) -> Row {
     Row {
         moves,
@@ -124,13 +126,13 @@ fn edge_orientation(rt: HostRuntime) {
         Step::Eofb,
         &[
             found("F", 7, &["F", "F'"], 1, 20),
-            found("F B", 5, &["F B", "F B'", "F' B", "F' B'"], 2, 282),
+            found("F B", 5, &["F B", "F B'", "F' B", "F' B'"], 2, 75),
             found("", 20, &[""], 0, 1),
-            nothing("F B", 1, 20),
+            nothing("F B", 1, 2),
             nothing("F", 0, 1),
-            // four turns are needed
-            nothing("F R U B", 2, 282),
-            nothing("F R U B", 3, 3784),
+            // four turns are needed: one look in each deepening
+            nothing("F R U B", 2, 3),
+            nothing("F R U B", 3, 4),
         ],
     );
 }
@@ -142,10 +144,10 @@ fn domino_reduction(rt: HostRuntime) {
         rt.alloc(),
         Step::DrudEofb,
         &[
-            found("R U", 5, &["U' R", "U' R'"], 2, 170),
+            found("R U", 5, &["U' R", "U' R'"], 2, 28),
             found("R", 5, &["R", "R'"], 1, 16),
-            // four turns are needed
-            nothing("R U L D", 3, 1692),
+            // four turns are needed: one look in each deepening
+            nothing("R U L D", 3, 4),
         ],
     );
     check_rows(
@@ -154,6 +156,74 @@ fn domino_reduction(rt: HostRuntime) {
         Step::DrrlEofb,
         &[found("R", 5, &[""], 0, 1)],
     );
+}
+
+#[test]
+fn looks_tell_distances(rt: HostRuntime) {
+    let tables = Tables::build(rt.alloc(), Step::DrudEofb, &mut Meter::new()).expect(&rt, "tables");
+    let mut meter = Meter::new();
+    for (moves, distance) in [("", 0u8), ("R", 1), ("R U", 2)] {
+        let cube = cube_after(&rt, moves);
+        assert!(rt; tables.step().may_start(&cube), "{moves}");
+        let position = tables.position(&cube);
+        assert!(rt; meter.count() < 3);
+        assert_eq!(rt; tables.look(&position, &mut meter), distance, "{moves}");
+    }
+    assert_eq!(rt; meter.count(), 3u128);
+}
+
+#[test]
+fn a_fill_counts_each_turn_it_tries(rt: HostRuntime) {
+    for step in [Step::Eofb, Step::Eorl, Step::Eoud] {
+        let mut meter = Meter::new();
+        assert!(rt; Tables::build(rt.alloc(), step, &mut meter).is_ok());
+        assert_eq!(rt; meter.count(), 36_864u128);
+    }
+    let mut meter = Meter::new();
+    assert!(rt; Tables::build(rt.alloc(), Step::DrudEofb, &mut meter).is_ok());
+    assert_eq!(rt; meter.count(), 15_155_910u128);
+}
+
+#[test]
+fn tables_refused(rt: HostRuntime) -> Result<(), Fail> {
+    // three growths for the turn tables, of 170,288 bytes in all, and one for a byte an entry: each takes a multiple of 16
+    for (step, size) in [(Step::Eofb, 172_336usize), (Step::DrudEofb, 1_252_864)] {
+        for refused in [73_712usize, 152_448, 170_272, 170_288, size - 16] {
+            let heap = LocalHeap::new(rt.alloc(), refused)?;
+            let mut meter = Meter::new();
+            let answer = Tables::build_in(&heap, step, &mut meter).err();
+            assert_eq!(rt; answer, Some(OutOfMemory), "a heap of {refused}");
+            assert_eq!(rt; meter.count(), 0u128, "a heap of {refused}");
+            assert_eq!(rt; heap.used(), 0, "a heap of {refused}");
+        }
+        let heap = LocalHeap::new(rt.alloc(), size)?;
+        let mut meter = Meter::new();
+        assert!(rt;
+            Tables::build_in(&heap, step, &mut meter).is_ok(),
+            "a heap of {size}"
+        );
+        assert_eq!(rt; heap.used(), 0, "a heap of {size}");
+    }
+    Ok(())
+}
+
+#[test]
+fn levels_are_found_in_blocks_and_behind_them(rt: HostRuntime) {
+    let mut table = [21u8; 70];
+    for index in [0usize, 31, 32, 69] {
+        table[index] = 3;
+    }
+    for (from, found) in [
+        (0usize, Some(0usize)),
+        (1, Some(31)),
+        (32, Some(32)),
+        (33, Some(69)),
+        (70, None),
+    ] {
+        assert_eq!(rt; next_at(&table, from, 3), found, "from {from}");
+    }
+    assert_eq!(rt; next_at(&table, 0, 4), None);
+    assert_eq!(rt; next_at(&[], 0, 3), None);
 }
 
 #[test]
@@ -176,7 +246,7 @@ fn a_refusal_ends_the_search(rt: HostRuntime) {
     assert_eq!(rt; sink.taken, 1);
     assert!(rt; path.turns().is_empty());
     assert_eq!(rt; path.limit().get(), 5);
-    assert!(rt; meter.count() <= 282);
+    assert!(rt; meter.count() <= 75);
 }
 
 #[test]
@@ -186,4 +256,37 @@ fn limits_reach_20(rt: HostRuntime) {
     }
     assert!(rt; Limit::new(21).is_none());
     assert!(rt; Limit::new(255).is_none());
+}
+
+/// The looks of a search whose sink refuses all paths behind the first `room`, at the cube that both F and B disorient.
+fn looks_until_refused(rt: &impl Abort, tables: &Tables, room: usize) -> u128 {
+    let cube = cube_after(rt, "F B");
+    assert!(rt; tables.step().may_start(&cube));
+    let mut path = TurnPath::new(Limit::new(5).expect(rt, "a limit"));
+    let mut meter = Meter::new();
+    let mut sink = Comparison {
+        wanted: &["F B", "F B'", "F' B", "F' B'"],
+        room,
+        taken: 0,
+        is_same: true,
+    };
+    let position = tables.position(&cube);
+    let answer = search(tables, &position, &mut path, &mut meter, &mut sink);
+    assert!(rt; answer.is_err() == (room < 4), "{room} paths");
+    assert!(rt; sink.is_same, "{room} paths");
+    assert_eq!(rt; sink.taken, room, "{room} paths");
+    assert!(rt; path.turns().is_empty(), "{room} paths");
+    assert_eq!(rt; path.limit().get(), 5, "{room} paths");
+    meter.count()
+}
+
+#[test]
+fn each_path_is_refused(rt: HostRuntime) {
+    let tables = Tables::build(rt.alloc(), Step::Eofb, &mut Meter::new()).expect(&rt, "tables");
+    let mut looks = looks_until_refused(&rt, &tables, 4);
+    for room in [3, 2, 1, 0] {
+        let fewer = looks_until_refused(&rt, &tables, room);
+        assert!(rt; fewer < looks, "{room} paths");
+        looks = fewer;
+    }
 }

@@ -99,12 +99,12 @@ fn count(rt: HostRuntime) -> Result<(), Fail> {
         Run::good(
             &["count", "eofb", "5", "F B"],
             b"",
-            "length 2 solutions 4 nodes 282\n",
+            "length 2 solutions 4 nodes 75\n",
         ),
         Run::good(
             &["count", "eofb", "1", "F B"],
             b"",
-            "length none solutions 0 nodes 20\n",
+            "length none solutions 0 nodes 2\n",
         ),
         Run::good(
             &["count", "eofb", "20", ""],
@@ -129,7 +129,7 @@ fn count(rt: HostRuntime) -> Result<(), Fail> {
         Run::good(
             &["count", "drud-eofb", "5", "R U"],
             b"",
-            "length 2 solutions 2 nodes 170\n",
+            "length 2 solutions 2 nodes 28\n",
         ),
         Run::good(
             &["count", "drrl-eofb", "5", "R"],
@@ -150,13 +150,13 @@ fn looks(rt: HostRuntime) -> Result<(), Fail> {
         b"",
         "F B (2)\nF B' (2)\nF' B (2)\nF' B' (2)\n\n",
     );
-    assert_eq!(rt; solve.check(&rt, rt.alloc())?, 282);
+    assert_eq!(rt; solve.check(&rt, rt.alloc())?, 75);
     let count = Run::good(
         &["count", "eofb", "5", "F B"],
         b"",
-        "length 2 solutions 4 nodes 282\n",
+        "length 2 solutions 4 nodes 75\n",
     );
-    assert_eq!(rt; count.check(&rt, rt.alloc())?, 282);
+    assert_eq!(rt; count.check(&rt, rt.alloc())?, 75);
     let two_lines = Run::good(
         &["count", "eofb", "7"],
         b"F\nR",

@@ -1,9 +1,11 @@
 //! Runs over readers and writers of `std::io`.
 use crate::devices::Held;
-use crate::runs::{CANNOT_READ, CANNOT_WRITE, Outcome, words_of};
+use crate::runs::{CANNOT_READ, CANNOT_WRITE, Outcome, USAGE, words_of};
 use niss_shell::{FromReader, Meter, ToWriter, run};
+use std::alloc::{AllocError, Global};
 use std::io;
 use std::io::{Cursor, Read};
+use std::process::Abort;
 use std::test::Fail;
 
 /// A reader of a byte a call, whose call number `fails_at`, from 1, fails with `kind`. It gives the rest to later calls.
@@ -163,23 +165,38 @@ fn each_read_fails_once(rt: HostRuntime) -> Result<(), Fail> {
     Ok(())
 }
 
+/// Runs the words over this input and this writer, and compares its status and what is told with these.
+fn check_writer<W: io::Write + Drop>(
+    rt: &impl Abort,
+    alloc: Global,
+    words: &[&str],
+    input: &[u8],
+    writer: W,
+    status: u8,
+    error: &[u8],
+) -> Result<(), AllocError> {
+    let words = words_of(alloc, words)?;
+    let mut err = Held::new(alloc, 1000);
+    let answered = run(
+        alloc,
+        words.as_slice(),
+        &mut FromReader::new(Cursor::new(input)),
+        &mut ToWriter::new(writer),
+        &mut err,
+        &mut Meter::new(),
+    );
+    assert_eq!(rt; err.bytes.as_slice(), error);
+    assert_eq!(rt; answered, status);
+    Ok(())
+}
+
 #[test]
 fn each_write_fails_once(rt: HostRuntime) -> Result<(), Fail> {
-    let words = words_of(rt.alloc(), &["invert", "R U' F2"])?;
+    let words = ["invert", "R U' F2"];
     for kind in [io::ErrorKind::Interrupted, io::ErrorKind::BrokenPipe] {
         for before in 0..8usize {
             let mut writer = FailingWriter::new(before + 1, kind);
-            let mut err = Held::new(rt.alloc(), 1000);
-            let status = run(
-                rt.alloc(),
-                words.as_slice(),
-                &mut FromReader::new(Cursor::new(b"".as_slice())),
-                &mut ToWriter::new(&mut writer),
-                &mut err,
-                &mut Meter::new(),
-            );
-            assert_eq!(rt; err.bytes.as_slice(), CANNOT_WRITE);
-            assert_eq!(rt; status, 3);
+            check_writer(&rt, rt.alloc(), &words, b"", &mut writer, 3, CANNOT_WRITE)?;
             assert_eq!(rt; writer.calls, before + 1, "after {before} writes");
         }
     }
@@ -188,65 +205,36 @@ fn each_write_fails_once(rt: HostRuntime) -> Result<(), Fail> {
 
 #[test]
 fn no_bytes_taken(rt: HostRuntime) -> Result<(), Fail> {
-    let words = words_of(rt.alloc(), &["invert", "R U' F2"])?;
+    let words = ["invert", "R U' F2"];
     let mut writer = FullWriter { calls: 0 };
-    let mut err = Held::new(rt.alloc(), 1000);
-    let status = run(
-        rt.alloc(),
-        words.as_slice(),
-        &mut FromReader::new(Cursor::new(b"".as_slice())),
-        &mut ToWriter::new(&mut writer),
-        &mut err,
-        &mut Meter::new(),
-    );
-    assert_eq!(rt; err.bytes.as_slice(), CANNOT_WRITE);
-    assert_eq!(rt; status, 3);
+    check_writer(&rt, rt.alloc(), &words, b"", &mut writer, 3, CANNOT_WRITE)?;
     assert_eq!(rt; writer.calls, 1);
     Ok(())
 }
 
 #[test]
 fn last_flush_fails(rt: HostRuntime) -> Result<(), Fail> {
-    let words = words_of(rt.alloc(), &["invert"])?;
-    let mut err = Held::new(rt.alloc(), 1000);
-    let status = run(
-        rt.alloc(),
-        words.as_slice(),
-        &mut FromReader::new(Cursor::new(b"R U\n".as_slice())),
-        &mut ToWriter::new(UnflushedWriter),
-        &mut err,
-        &mut Meter::new(),
-    );
-    assert_eq!(rt; status, 3);
-    assert_eq!(rt; err.bytes.as_slice(), CANNOT_WRITE);
+    let input = b"R U\n".as_slice();
+    check_writer(&rt, rt.alloc(), &["invert"], input, UnflushedWriter, 3, CANNOT_WRITE)?;
     Ok(())
 }
 
 /// One flush, behind the last byte: of a good run, of one that a line's fault ends, and of one that writes nothing.
 #[test]
 fn one_flush(rt: HostRuntime) -> Result<(), Fail> {
-    let runs: [(&str, &[u8], usize, u8); 3] = [
-        ("invert", b"R\nU\nF2\n", 9, 0),
-        ("invert", b"R\nU\nR '\n", 6, 1),
-        ("", b"", 0, 2),
+    let fault = b"nissy: line 3, column 3: not a move\n".as_slice();
+    let runs: [(&str, &[u8], usize, u8, &[u8]); 3] = [
+        ("invert", b"R\nU\nF2\n", 9, 0, b""),
+        ("invert", b"R\nU\nR '\n", 6, 1, fault),
+        ("", b"", 0, 2, USAGE.as_bytes()),
     ];
-    for (command, input, bytes, status) in runs {
-        let words = words_of(rt.alloc(), &[command])?;
+    for (command, input, bytes, status, error) in runs {
         let mut writer = CountingWriter {
             bytes: 0,
             flushes: 0,
             bytes_before_flush: 0,
         };
-        let mut err = Held::new(rt.alloc(), 1000);
-        let answered = run(
-            rt.alloc(),
-            words.as_slice(),
-            &mut FromReader::new(Cursor::new(input)),
-            &mut ToWriter::new(&mut writer),
-            &mut err,
-            &mut Meter::new(),
-        );
-        assert_eq!(rt; answered, status);
+        check_writer(&rt, rt.alloc(), &[command], input, &mut writer, status, error)?;
         assert_eq!(rt; writer.bytes, bytes);
         assert_eq!(rt; writer.flushes, 1);
         assert_eq!(rt; writer.bytes_before_flush, bytes);

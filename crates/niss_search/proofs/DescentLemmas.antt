@@ -12,25 +12,25 @@ use Rattle.niss_moves.specs.Canonical.{may_follow, last_turn}
 use Rattle.niss_cube.specs.declared.step.Step.{Step}
 use Rattle.niss_cube.specs.Steps.{turns_of}
 use Rattle.niss_search.specs.declared.tables.position.Coordinates.{Coordinates}
-use Rattle.niss_search.specs.Positions.{position_after, look_at}
+use Rattle.niss_search.specs.Positions.{position_after, distance_at}
 use Rattle.niss_search.specs.Delivery.{WentThrough, StoppedIn}
 use Rattle.niss_search.proofs.ListLemmas.{flat_map-filter, sum_by-filter}
 use Rattle.niss_search.specs.Descent.{found, visits, found_below, looks_below, looks_beyond, found_after, looks_after}
 
 module _ (step : Step) (x : List Coordinates) (p : List Turn) where
-  pub found_below-far : (left : ℕ) → left < look_at x → found_below step x p left ≡ []
+  pub found_below-far : (left : ℕ) → left < distance_at step x → found_below step x p left ≡ []
   unfolding found found_below
-  found_below-far zero h = rw (lt-leb (look_at x) 0 h)
-  found_below-far (suc k) h = rw (lt-leb (look_at x) (suc k) h)
+  found_below-far zero h = rw (lt-leb (distance_at step x) 0 h)
+  found_below-far (suc k) h = rw (lt-leb (distance_at step x) (suc k) h)
 
-  pub looks_below-far : (left : ℕ) → left < look_at x → looks_below step x p left ≡ 1
+  pub looks_below-far : (left : ℕ) → left < distance_at step x → looks_below step x p left ≡ 1
   unfolding visits looks_below
   looks_below-far zero h = refl
-  looks_below-far (suc k) h = rw (lt-leb (look_at x) (suc k) h)
+  looks_below-far (suc k) h = rw (lt-leb (distance_at step x) (suc k) h)
 
-  pub found_below-end : (left : ℕ) → left ≡ 0 → look_at x ≤ left → found_below step x p left ≡ p ∷ []
+  pub found_below-end : (left : ℕ) → left ≡ 0 → distance_at step x ≤ left → found_below step x p left ≡ p ∷ []
   unfolding found found_below
-  found_below-end zero e h = rw (le-leb (look_at x) 0 h)
+  found_below-end zero e h = rw (le-leb (distance_at step x) 0 h)
   found_below-end (suc k) e h = absurd (omega arith)
 
   pub looks_below-end : (left : ℕ) → left ≡ 0 → looks_below step x p left ≡ 1
@@ -38,20 +38,20 @@ module _ (step : Step) (x : List Coordinates) (p : List Turn) where
   looks_below-end zero e = refl
   looks_below-end (suc k) e = absurd (omega arith)
 
-  found_below-suc : (k : ℕ) → look_at x ≤ suc k → found_below step x p (suc k) ≡ flat_map (found_after step x p k) (turns_of step)
+  found_below-suc : (k : ℕ) → distance_at step x ≤ suc k → found_below step x p (suc k) ≡ flat_map (found_after step x p k) (turns_of step)
   unfolding found found_below found_after
-  found_below-suc k h = rw (le-leb (look_at x) (suc k) h)
+  found_below-suc k h = rw (le-leb (distance_at step x) (suc k) h)
 
-  looks_below-suc : (k : ℕ) → look_at x ≤ suc k → looks_below step x p (suc k) ≡ 1 + sum_by (looks_after step x p k) (turns_of step)
+  looks_below-suc : (k : ℕ) → distance_at step x ≤ suc k → looks_below step x p (suc k) ≡ 1 + sum_by (looks_after step x p k) (turns_of step)
   unfolding visits looks_below looks_after
-  looks_below-suc k h = rw (le-leb (look_at x) (suc k) h)
+  looks_below-suc k h = rw (le-leb (distance_at step x) (suc k) h)
 
-  pub found_below-each : (left : ℕ) → 0 < left → look_at x ≤ left → found_below step x p left ≡ flat_map (found_after step x p (left - 1)) (turns_of step)
+  pub found_below-each : (left : ℕ) → 0 < left → distance_at step x ≤ left → found_below step x p left ≡ flat_map (found_after step x p (left - 1)) (turns_of step)
   found_below-each left e h =
       let q : left ≡ suc (left - 1) = omega arith in
       ap (found_below step x p) q ∙ found_below-suc (left - 1) (omega arith)
 
-  pub looks_below-each : (left : ℕ) → 0 < left → look_at x ≤ left → looks_below step x p left ≡ 1 + sum_by (looks_after step x p (left - 1)) (turns_of step)
+  pub looks_below-each : (left : ℕ) → 0 < left → distance_at step x ≤ left → looks_below step x p left ≡ 1 + sum_by (looks_after step x p (left - 1)) (turns_of step)
   looks_below-each left e h =
       let q : left ≡ suc (left - 1) = omega arith in
       ap (looks_below step x p) q ∙ looks_below-suc (left - 1) (omega arith)
@@ -107,7 +107,7 @@ length-found {P} turns after look (suc k) x p =
 
 pub length-found_below : (step : Step) (x : List Coordinates) (p : List Turn) (left : ℕ) → length (found_below step x p left) ≤ looks_below step x p left
 unfolding found_below looks_below
-length-found_below step x p left = length-found (turns_of step) position_after look_at left x p
+length-found_below step x p left = length-found (turns_of step) position_after (distance_at step) left x p
 
 pub length-found_after : (step : Step) (x : List Coordinates) (p : List Turn) (left : ℕ) (t : Turn) → length (found_after step x p left t) ≤ looks_after step x p left t
 unfolding found_after looks_after
@@ -158,7 +158,7 @@ module _ {K : Type 0} (took refused : K → List Turn → K → Type 0) where
         sym (ap (flat_map f) (take-append-drop i ts)) ∙ flat_map-append f (take i ts) (drop i ts) ∙ ap (λ (us : List Turn). flat_map f (take i ts) ++ flat_map f us) (drop-cons ts i d here) in
         rw parts (StoppedIn-after a b c (flat_map f (take i ts)) _ h (StoppedIn-before b c (f (get_or ts i d)) _ k))
 
-module _ (step : Step) (x : List Coordinates) (p : List Turn) (left : ℕ) (some : 0 < left) (near : look_at x ≤ left) (ts : List Turn) (all : ts ≡ filter (may_follow (last_turn p)) (turns_of step)) where
+module _ (step : Step) (x : List Coordinates) (p : List Turn) (left : ℕ) (some : 0 < left) (near : distance_at step x ≤ left) (ts : List Turn) (all : ts ≡ filter (may_follow (last_turn p)) (turns_of step)) where
   -- by the turns that may follow alone
   pub found_below-listed : found_below step x p left ≡ flat_map (found_after step x p (left - 1)) ts
   found_below-listed =

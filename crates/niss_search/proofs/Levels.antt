@@ -11,25 +11,25 @@ use Rattle.niss_search.specs.Solutions.{least_length, solutions, reaching}
 use Rattle.niss_search.specs.Looks.{looks, all_looks}
 use Rattle.niss_search.specs.Descent.{found_below, looks_below}
 use Rattle.niss_search.specs.declared.tables.position.Coordinates.{Coordinates}
-use Rattle.niss_search.specs.Positions.{position_after, is_reached_at, look_at}
+use Rattle.niss_search.specs.Positions.{position_after, is_reached_at, distance_at}
 use Rattle.niss_search.proofs.ListLemmas.{filter-none, filter-some, range_with_len-more}
 use Rattle.niss_search.proofs.DepthFirst.{reach, far, found_all, visits_all}
-use Rattle.niss_search.proofs.LookLemmas.{look_at-goal, look_at-turn}
+use Rattle.niss_search.proofs.LookLemmas.{distance_at-goal, distance_at-turn}
 
 -- by the position alone
 abbrev pub reaches_at : Step → List Coordinates → List Turn → Bool
-reaches_at step x s = reach (turns_of step) position_after look_at is_reached_at x s
+reaches_at step x s = reach (turns_of step) position_after (distance_at step) is_reached_at x s
 
 abbrev pub far_at : Step → List Coordinates → List Turn → ℕ
-far_at step x s = far (turns_of step) position_after look_at is_reached_at x s
+far_at step x s = far (turns_of step) position_after (distance_at step) is_reached_at x s
 
 pub found_below-level : (step : Step) (x : List Coordinates) (d : ℕ) → found_below step x [] d ≡ reaching (turns_of step) (reaches_at step x) d
 unfolding found_below
-found_below-level step x d = found_all (turns_of step) position_after look_at is_reached_at x look_at-goal (look_at-turn (turns_of step)) d
+found_below-level step x d = found_all (turns_of step) position_after (distance_at step) is_reached_at x (distance_at-goal step) (distance_at-turn step) d
 
 pub looks_below-level : (step : Step) (x : List Coordinates) (d : ℕ) → looks_below step x [] d ≡ looks (turns_of step) (far_at step x) d
 unfolding looks_below
-looks_below-level step x d = visits_all (turns_of step) position_after look_at is_reached_at x look_at-goal (look_at-turn (turns_of step)) d
+looks_below-level step x d = visits_all (turns_of step) position_after (distance_at step) is_reached_at x (distance_at-goal step) (distance_at-turn step) d
 
 find-first : (p : ℕ → Bool) (a n d : ℕ) → a ≤ d → d < a + n → ((k : ℕ) → k < d → p k ≡ false) → p d ≡ true → find p (range_with_len a n) ≡ Some d
 find-first p a zero d low high none e = absurd (omega arith)

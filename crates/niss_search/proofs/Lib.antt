@@ -9,3 +9,7 @@ pub mod CountLaws
 pub mod PositionLemmas
 pub mod Transfer
 pub mod DrawLemmas
+pub mod EntryLemmas
+pub mod FillLemmas
+pub mod TickLemmas
+pub mod ScanLemmas

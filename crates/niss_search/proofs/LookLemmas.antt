@@ -1,22 +1,47 @@
--- The look: 0 exactly at the goal, and never more than one beyond that after a turn.
-use Rattle.std.proofs.Common.{◌≡◌, ℕ, ◌+◌, ◌≤◌, leb, Bool, true, false, cond, List, Contains, refl, arith}
+-- The distance of a position: 0 exactly at the goal, never more than one beyond that after a turn, and nearer after some.
+use Rattle.std.proofs.Common.{◌≡◌, ℕ, suc, ◌+◌, ◌≤◌, ◌<◌, leb, Bool, true, false, ◌||◌, List, [], ◌∷◌, fold, Contains, refl, sym, ap, ◌∙◌, arith, inl, inr, ◌⊎◌}
+use Rattle.std.specs.List.{list_any}
 use Rattle.niss_moves.specs.declared.turn.Turn.{Turn}
+use Rattle.niss_cube.specs.declared.step.Step.{Step}
+use Rattle.niss_cube.specs.Steps.{turns_of}
+use Rattle.niss_search.specs.Distance.{distance}
 use Rattle.niss_search.specs.declared.tables.position.Coordinates.{Coordinates}
-use Rattle.niss_search.specs.Positions.{position_after, is_reached_at, look_at}
+use Rattle.niss_search.specs.Positions.{position_after, is_reached_at, distance_at}
+use Rattle.niss_search.proofs.ListLemmas.{Contains-first, Contains-later}
+use Rattle.niss_search.proofs.DistanceLemmas.{reached_in, reached_in-suc, distance-le, distance-most, distance-reached, distance-zero, distance-turn}
 
-pub look_at-goal : (x : List Coordinates) → leb (look_at x) 0 ≡ is_reached_at x
-unfolding look_at
-look_at-goal x = by_test (is_reached_at x) where
-  by_test : (b : Bool) → leb (cond b 0 1) 0 ≡ b
-  by_test true = refl
-  by_test false = refl
+pub distance_at-goal : (step : Step) (x : List Coordinates) → leb (distance_at step x) 0 ≡ is_reached_at x
+unfolding distance_at
+distance_at-goal step x = distance-zero (turns_of step) (λ s. is_reached_at (fold position_after x s))
 
-pub look_at-most : (x : List Coordinates) → look_at x ≤ 1
-unfolding look_at
-look_at-most x = by_test (is_reached_at x) where
-  by_test : (b : Bool) → cond {A = ℕ} b 0 1 ≤ 1
-  by_test true = omega arith
-  by_test false = omega arith
+pub distance_at-turn : (step : Step) (x : List Coordinates) (t : Turn) → Contains (turns_of step) t → distance_at step x ≤ 1 + distance_at step (position_after x t)
+unfolding distance_at
+distance_at-turn step x t m = distance-turn (turns_of step) (λ s. is_reached_at (fold position_after x s)) t m
 
-pub look_at-turn : (turns : List Turn) (x : List Coordinates) (t : Turn) → Contains turns t → look_at x ≤ 1 + look_at (position_after x t)
-look_at-turn turns x t m = omega (arith, look_at-most x)
+pub distance_at-most : (step : Step) (x : List Coordinates) → distance_at step x ≤ 21
+unfolding distance_at
+distance_at-most step x = distance-most (turns_of step) (λ s. is_reached_at (fold position_after x s))
+
+list_any-found : {X : Type 0} (p : X → Bool) (xs : List X) → list_any p xs ≡ true → (x : X) × (Contains xs x × (p x ≡ true))
+list_any-found {X = X} p [] e = absurd (cc)
+list_any-found {X = X} p (x ∷ xs) e = by_test (p x) refl (list_any-found p xs) e where
+  by_test : (b : Bool) → p x ≡ b → (list_any p xs ≡ true → (y : X) × (Contains xs y × (p y ≡ true))) → (b || list_any p xs) ≡ true → (y : X) × (Contains (x ∷ xs) y × (p y ≡ true))
+  by_test true f rest h = (x, (Contains-first x xs, f))
+  by_test false f rest h = let r = rest h in (r.0, (Contains-later x xs r.0 r.1.0, r.1.1))
+
+-- from a position that isn't at the goal some turn leads nearer
+pub distance_at-nearer : (step : Step) (x : List Coordinates) (k : ℕ) → distance_at step x ≡ suc k → k < 20 → (t : Turn) × (Contains (turns_of step) t × (distance_at step (position_after x t) ≤ k))
+unfolding distance_at
+distance_at-nearer step x k e l = by_reached (distance-reached turns reaches) where
+  turns : List Turn
+  turns = turns_of step
+
+  reaches : List Turn → Bool
+  reaches s = is_reached_at (fold position_after x s)
+
+  by_reached : (reached_in turns reaches (distance turns reaches) ≡ true) ⊎ (distance turns reaches ≡ 21) → (t : Turn) × (Contains turns t × (distance turns (λ s. is_reached_at (fold position_after (position_after x t) s)) ≤ k))
+  by_reached (inl r) =
+      let here : reached_in turns reaches (suc k) ≡ true = ap (reached_in turns reaches) (sym e) ∙ r in
+      let found = list_any-found (λ t. reached_in turns (λ s. reaches (t ∷ s)) k) turns (sym (reached_in-suc turns reaches k) ∙ here) in
+      (found.0, (found.1.0, distance-le turns (λ s. reaches (found.0 ∷ s)) k (omega arith) found.1.1))
+  by_reached (inr r) = absurd (omega arith)

@@ -1,7 +1,7 @@
 -- What holds of a position holds of every cube that has it.
-use Rattle.std.proofs.Common.{◌≡◌, ℕ, zero, suc, ◌-◌, nat_le, Bool, true, false, cond, List, [], ◌∷◌, ◌++◌, length, take, map, filter, fold, sum_by, count_by, unwrap_or, Option, Some, None, Contains, refl, ap, arith, ◌∙◌, IsTrue, ◌≤◌, leb, sym}
+use Rattle.std.proofs.Common.{◌≡◌, ℕ, zero, suc, ◌-◌, nat_le, Bool, true, false, cond, List, [], ◌∷◌, ◌++◌, length, take, map, filter, fold, sum_by, count_by, unwrap_or, Option, Some, None, Contains, refl, ap, arith, ◌∙◌, IsTrue, leb, sym}
 use Rattle.std.specs.Prelude.{flat_map, ◌↔◌}
-use Rattle.std.proofs.lemmas.Bool.{leb-false}
+use Rattle.std.proofs.lemmas.Bool.{lt-leb}
 use Rattle.std.specs.List.{list_any}
 use Rattle.std.specs.Option.{option_map_or}
 use Rattle.std.proofs.lemmas.List.Sums.{sum_by-cons}
@@ -15,12 +15,13 @@ use Rattle.niss_search.specs.Solutions.{least_length, solutions, reaching, up_to
 use Rattle.niss_search.specs.Distance.{all_sequences, distance}
 use Rattle.niss_search.specs.Looks.{is_looked_at, looks, all_looks}
 use Rattle.niss_search.specs.declared.tables.position.Coordinates.{Coordinates}
-use Rattle.niss_search.specs.Positions.{position_after, is_reached_at, look_at}
-use Rattle.niss_search.specs.Cubes.{HasPosition, distance_of, reaches, least_length_of, solutions_of, look_answer, all_looks_of}
+use Rattle.niss_search.specs.Positions.{position_after, is_reached_at, distance_at}
+use Rattle.niss_search.specs.Cubes.{HasPosition, distance_of, reaches, least_length_of, solutions_of, all_looks_of}
 use Rattle.niss_search.specs.Laws.{PositionsTell}
 use Rattle.niss_search.proofs.ListLemmas.{Contains-first, Contains-later, find-same}
 use Rattle.niss_search.proofs.DepthFirst.{reach, far}
-use Rattle.niss_search.proofs.DistanceLemmas.{reached_in, distance-zero}
+use Rattle.niss_search.proofs.DistanceLemmas.{reached_in}
+use Rattle.niss_search.proofs.LookLemmas.{distance_at-goal}
 
 -- P of each element
 abbrev pub Each : {X : Type 0} → (X → Type 0) → List X → Type 0
@@ -135,43 +136,35 @@ module _ (tell : PositionsTell) (step : Step) where
   has_position-all (t ∷ s) e x h over =
       has_position-all s (λ q. turned t (e q)) (position_after x t) (tell.after_turn step e x t over.0 h) over.1
 
-  reach-same : (s : List Turn) (e : Place → Place) (x : List Coordinates) → HasPosition step e x → IsOver (turns_of step) s → reaches step e s ≡ reach (turns_of step) position_after look_at is_reached_at x s
+  reach-same : (s : List Turn) (e : Place → Place) (x : List Coordinates) → HasPosition step e x → IsOver (turns_of step) s → reaches step e s ≡ reach (turns_of step) position_after (distance_at step) is_reached_at x s
   reach-same s e x h over =
       tell.goal step (λ q. effect_of_turns s (e q)) (fold position_after x s) (has_position-all s e x h over)
 
-  -- what a look at a position answers, it answers of every cube that has it
-  pub look-cube : (e : Place → Place) (x : List Coordinates) → HasPosition step e x → look_answer step e ≡ look_at x
-  unfolding look_at
-  look-cube e x h = ap (λ b. cond {A = ℕ} b 0 1) (tell.goal step e x h)
+  -- the distance of a position is that of every cube that has it
+  pub distance-cube : (e : Place → Place) (x : List Coordinates) → HasPosition step e x → distance_of step e ≡ distance_at step x
+  unfolding distance_at
+  distance-cube e x h = distance-same (turns_of step) (reaches step e) _ (λ s over. reach-same s e x h over)
 
   module _ (e : Place → Place) (x : List Coordinates) (h : HasPosition step e x) where
-    pub least_length-cube : (n : ℕ) → least_length_of step e n ≡ least_length (turns_of step) (reach (turns_of step) position_after look_at is_reached_at x) n
+    pub least_length-cube : (n : ℕ) → least_length_of step e n ≡ least_length (turns_of step) (reach (turns_of step) position_after (distance_at step) is_reached_at x) n
     least_length-cube n = least_length-same (turns_of step) (reaches step e) _ (λ s over. reach-same s e x h over) n
 
-    pub solutions-cube : (n : ℕ) → solutions_of step e n ≡ solutions (turns_of step) (reach (turns_of step) position_after look_at is_reached_at x) n
+    pub solutions-cube : (n : ℕ) → solutions_of step e n ≡ solutions (turns_of step) (reach (turns_of step) position_after (distance_at step) is_reached_at x) n
     solutions-cube n = solutions-same (turns_of step) (reaches step e) _ (λ s over. reach-same s e x h over) n
 
-    pub all_looks-cube : (n : ℕ) → all_looks_of step e n ≡ all_looks (turns_of step) (reach (turns_of step) position_after look_at is_reached_at x) (far (turns_of step) position_after look_at is_reached_at x) n
+    pub all_looks-cube : (n : ℕ) → all_looks_of step e n ≡ all_looks (turns_of step) (reach (turns_of step) position_after (distance_at step) is_reached_at x) (far (turns_of step) position_after (distance_at step) is_reached_at x) n
     unfolding all_looks
     all_looks-cube n =
         rw (least_length-cube n)
-        (sum_by-each (λ d. Unit {0}) _ _ (up_to (unwrap_or (least_length (turns_of step) (reach (turns_of step) position_after look_at is_reached_at x) n) n)) (λ d u.
-        looks-same (turns_of step) _ _ (λ s over. look-cube (λ q. effect_of_turns s (e q)) _ (has_position-all s e x h over)) d)
+        (sum_by-each (λ d. Unit {0}) _ _ (up_to (unwrap_or (least_length (turns_of step) (reach (turns_of step) position_after (distance_at step) is_reached_at x) n) n)) (λ d u.
+        looks-same (turns_of step) _ _ (λ s over. distance-cube (λ q. effect_of_turns s (e q)) _ (has_position-all s e x h over)) d)
         (Each-all (λ d. Unit {0}) _ (λ d m. tt)))
 
   module _ (e : Place → Place) (x : List Coordinates) (h : HasPosition step e x) where
-    -- the look is 0 exactly where the step is reached
-    pub look-zero : (look_at x ≡ 0) ↔ IsTrue (reached step e)
-    unfolding look_at
-    look-zero = by_test (is_reached_at x) (reached step e) (tell.goal step e x h) where
-      by_test : (b r : Bool) → r ≡ b → (cond {A = ℕ} b 0 1 ≡ 0) ↔ IsTrue r
-      by_test true r q = (λ z. q, λ k. refl)
-      by_test false r q = (λ z. absurd (omega (arith, z)), λ k. absurd (cc (k, q)))
-
-    -- and never above the distance
-    pub look-below : look_at x ≤ distance_of step e
-    unfolding look_at
-    look-below = by_test (is_reached_at x) (sym (distance-zero (turns_of step) (reaches step e) ∙ tell.goal step e x h)) where
-      by_test : (b : Bool) → b ≡ leb (distance_of step e) 0 → cond {A = ℕ} b 0 1 ≤ distance_of step e
-      by_test true q = omega arith
-      by_test false q = omega (arith, leb-false (distance_of step e) 0 (sym q))
+    -- the distance is 0 exactly where the step is reached
+    pub distance-reached-cube : (distance_at step x ≡ 0) ↔ IsTrue (reached step e)
+    distance-reached-cube =
+        by_test (distance_at step x) (reached step e) (distance_at-goal step x ∙ sym (tell.goal step e x h)) where
+          by_test : (n : ℕ) (r : Bool) → leb n 0 ≡ r → (n ≡ 0) ↔ IsTrue r
+          by_test zero r q = (λ z. sym q, λ k. refl)
+          by_test (suc n) r q = (λ z. absurd (omega (arith, z)), λ k. absurd (cc (k, q, lt-leb (suc n) 0 (omega arith))))

@@ -1,5 +1,5 @@
 -- Solutions, distances and looks of a step from a cube, named by where it has each sticker.
-use Rattle.std.specs.Prelude.{◌≡◌, ℕ, Bool, if◌then◌else◌, List, Option, IsTrue}
+use Rattle.std.specs.Prelude.{◌≡◌, ℕ, Bool, List, Option, IsTrue}
 use Rattle.niss_moves.specs.Places.{Place}
 use Rattle.niss_moves.specs.Effects.{effect_of_turns}
 use Rattle.niss_moves.specs.declared.turn.Turn.{Turn}
@@ -28,14 +28,10 @@ solutions_of step e n = solutions (turns_of step) (reaches step e) n
 abbrev pub distance_of : Step → (Place → Place) → ℕ
 distance_of step e = distance (turns_of step) (reaches step e)
 
--- what a look answers: 0 where the step is reached, and 1 elsewhere
-abbrev pub look_answer : Step → (Place → Place) → ℕ
-look_answer step e = if reached step e then 0 else 1
-
 -- the looks of a search for solutions of at most n turns
 abbrev pub all_looks_of : Step → (Place → Place) → ℕ → ℕ
 all_looks_of step e n =
-    all_looks (turns_of step) (reaches step e) (λ s. look_answer step (λ q. effect_of_turns s (e q))) n
+    all_looks (turns_of step) (reaches step e) (λ s. distance_of step (λ q. effect_of_turns s (e q))) n
 
 -- A cube on which the step may start has the position.
 pub record HasPosition (step : Step) (e : Place → Place) (x : List Coordinates) : Type 0 where

@@ -1,8 +1,13 @@
 -- How a sink goes through a list of paths.
-use Rattle.std.specs.Prelude.{◌≡◌, ◌⊎◌, List, [], ◌∷◌}
+use Rattle.std.specs.Prelude.{◌≡◌, ◌⊎◌, ℕ, List, [], ◌∷◌}
 use Rattle.niss_moves.specs.declared.turn.Turn.{Turn}
+use Rattle.niss_search.specs.Path.{Path}
 
 module _ {K : Type 0} where
+  -- What a path with the limit and the turns does to the sink, by what a path does.
+  abbrev pub at_limit : (K → Path → K → Type 0) → ℕ → K → List Turn → K → Type 0
+  at_limit does limit old turns new = does old (record { limit = limit; turns = turns }) new
+
   -- It took the paths one after another: there is none, and it is as it was; or it took the first, and then the rest.
   abbrev pub WentThrough : (K → List Turn → K → Type 0) → K → List (List Turn) → K → Type 0
   WentThrough took old [] new = old ≡ new

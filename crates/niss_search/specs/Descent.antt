@@ -5,7 +5,7 @@ use Rattle.niss_moves.specs.Canonical.{may_follow, last_turn}
 use Rattle.niss_cube.specs.declared.step.Step.{Step}
 use Rattle.niss_cube.specs.Steps.{turns_of}
 use Rattle.niss_search.specs.declared.tables.position.Coordinates.{Coordinates}
-use Rattle.niss_search.specs.Positions.{position_after, look_at}
+use Rattle.niss_search.specs.Positions.{position_after, distance_at}
 
 module _ {P : Type 0} (turns : List Turn) (after : P → Turn → P) (look : P → ℕ) where
   -- the paths handed out below the path p at the position x, with `left` turns left
@@ -25,10 +25,10 @@ module _ {P : Type 0} (turns : List Turn) (after : P → Turn → P) (look : P �
       else 0)
 
 unfoldable pub found_below : Step → List Coordinates → List Turn → ℕ → List (List Turn)
-found_below step x p left = found (turns_of step) position_after look_at x p left
+found_below step x p left = found (turns_of step) position_after (distance_at step) x p left
 
 unfoldable pub looks_below : Step → List Coordinates → List Turn → ℕ → ℕ
-looks_below step x p left = visits (turns_of step) position_after look_at x p left
+looks_below step x p left = visits (turns_of step) position_after (distance_at step) x p left
 
 -- those but for the one at x itself
 unfoldable pub looks_beyond : Step → List Coordinates → List Turn → ℕ → ℕ

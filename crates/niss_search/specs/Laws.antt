@@ -1,14 +1,15 @@
 -- Laws over counts and looks, and over positions.
-use Rattle.std.specs.Prelude.{◌≡◌, ℕ, ◌+◌, ◌*◌, ◌^◌, ◌≤◌, ◌<◌, Bool, List, filter, Contains, IsTrue}
+use Rattle.std.specs.Prelude.{◌≡◌, ℕ, ◌+◌, ◌*◌, ◌^◌, ◌≤◌, ◌<◌, Bool, List, filter, Contains, IsTrue, None}
 use Rattle.niss_moves.specs.Places.{Place, SameMap}
 use Rattle.niss_moves.specs.Effects.{turned}
 use Rattle.niss_moves.specs.Canonical.{turn_order}
 use Rattle.niss_moves.specs.declared.turn.Turn.{Turn}
 use Rattle.niss_cube.specs.AfterTurn.{IsCube}
-use Rattle.niss_cube.specs.Steps.{turns_of, may_start, reached}
+use Rattle.niss_cube.specs.Steps.{start_of, turns_of, may_start, reached}
 use Rattle.niss_cube.specs.declared.step.Step.{Step}
 use Rattle.niss_search.specs.Solutions.{count_of_length, look_bound}
 use Rattle.niss_search.specs.Looks.{all_looks}
+use Rattle.niss_search.specs.Entries.{fill_ticks}
 use Rattle.niss_search.specs.declared.tables.position.Coordinates.{Coordinates}
 use Rattle.niss_search.specs.Positions.{position_of, position_after, is_reached_at}
 use Rattle.niss_search.specs.Cubes.{HasPosition}
@@ -35,6 +36,14 @@ StepBoundIsLess = (s : Step) (n : ℕ) → look_bound (turns_of s) n ≤ look_bo
 -- The bound of a step is small.
 abbrev pub BoundIsSmall : Type 0
 BoundIsSmall = (s : Step) (n : ℕ) → n ≤ 20 → look_bound (turns_of s) n < 2 ^ 93
+
+-- The fill of an edge orientation's table tries at most 18 turns from each of 2,048 entries.
+abbrev pub EdgeFillIsSmall : Type 0
+EdgeFillIsSmall = (s : Step) → start_of s ≡ None → fill_ticks s ≤ 36864
+
+-- No fill tries more than 14 turns from each of 1,082,565 entries.
+abbrev pub FillIsSmall : Type 0
+FillIsSmall = (s : Step) → fill_ticks s ≤ 15155910
 
 -- What a position tells of each cube that has it.
 pub record PositionsTell : Type 0 where

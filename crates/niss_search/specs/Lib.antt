@@ -5,7 +5,9 @@ pub mod Looks
 pub mod Positions
 pub mod Cubes
 pub mod Delivery
+pub mod Entries
 pub mod Laws
 pub mod Descent
 pub mod Followers
 pub mod Draw
+pub mod Filling

@@ -1,5 +1,5 @@
 -- What a step looks at in a cube, and how that follows the turns.
-use Rattle.std.specs.Prelude.{ℕ, Bool, ◌<◌, ◌==◌, ◌&&◌, if◌then◌else◌, List, map}
+use Rattle.std.specs.Prelude.{ℕ, Bool, ◌<◌, ◌==◌, ◌&&◌, List, map, fold}
 use Rattle.std.specs.List.{list_any}
 use Rattle.niss_moves.specs.Places.{Place}
 use Rattle.niss_moves.specs.declared.turn.Turn.{Turn}
@@ -7,10 +7,11 @@ use Rattle.niss_cube.specs.Coordinates.{flip_of, twist_of, slice_of}
 use Rattle.niss_cube.specs.FlipAfter.{flip_after}
 use Rattle.niss_cube.specs.TwistAfter.{twist_after}
 use Rattle.niss_cube.specs.SliceAfter.{slice_after}
-use Rattle.niss_cube.specs.Steps.{goals_of}
+use Rattle.niss_cube.specs.Steps.{goals_of, turns_of}
 use Rattle.niss_cube.specs.declared.step.Goal.{Goal}
 use Rattle.niss_cube.specs.declared.step.Goal.TheVariants.{Edges, Domino}
 use Rattle.niss_cube.specs.declared.step.Step.{Step}
+use Rattle.niss_search.specs.Distance.{distance}
 use Rattle.niss_search.specs.declared.tables.position.Coordinates.{Coordinates}
 use Rattle.niss_search.specs.declared.tables.position.Coordinates.TheVariants.{Flip, TwistAndSlice}
 
@@ -47,6 +48,7 @@ position_after x t = map (λ c. coordinates_after c t) x
 unfoldable pub is_reached_at : List Coordinates → Bool
 is_reached_at x = list_any are_zero x
 
--- what a look at a position answers
-unfoldable pub look_at : List Coordinates → ℕ
-look_at x = if is_reached_at x then 0 else 1
+-- how far the step is from a position: the least length, at most 20, of any sequence of its turns after which some goal
+-- holds; else 21
+unfoldable pub distance_at : Step → List Coordinates → ℕ
+distance_at step x = distance (turns_of step) (λ s. is_reached_at (fold position_after x s))

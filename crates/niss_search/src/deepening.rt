@@ -4,7 +4,7 @@ ghost use Rattle.niss_moves.specs.Places.{Place};
 ghost use Rattle.niss_cube.specs.Steps.{turns_of};
 ghost use Rattle.niss_search.specs.Cubes.{IsPosition, HasPosition, least_length_of, solutions_of, all_looks_of};
 ghost use Rattle.niss_search.specs.Solutions.{look_bound};
-ghost use Rattle.niss_search.specs.Delivery.{WentThrough, StoppedIn};
+ghost use Rattle.niss_search.specs.Delivery.{WentThrough, StoppedIn, at_limit};
 
 use crate::descent::visit;
 use crate::laws::positions_tell;
@@ -32,9 +32,9 @@ pub fn search<K: Sink, A: Allocator>(
         → IfOk result (λ o. o.solutions ≡ length (solutions_of tables.now e path.old.limit)) }
     ensures path { path.new ≡ path.old }
     ensures ok { (e : Place → Place) → HasPosition tables.now e position.now
-        → OnOk result (WentThrough K.took sink.old (solutions_of tables.now e path.old.limit) sink.new) }
+        → OnOk result (WentThrough (at_limit K.took path.old.limit) sink.old (solutions_of tables.now e path.old.limit) sink.new) }
     ensures err { (e : Place → Place) → HasPosition tables.now e position.now
-        → OnErr result (StoppedIn K.took K.refused sink.old (solutions_of tables.now e path.old.limit) sink.new) }
+        → OnErr result (StoppedIn (at_limit K.took path.old.limit) (at_limit K.refused path.old.limit) sink.old (solutions_of tables.now e path.old.limit) sink.new) }
     ensures looks { (e : Place → Place) → HasPosition tables.now e position.now
         → OnOk result (meter.new ≡ meter.old + all_looks_of tables.now e path.old.limit) }
     ensures looks_at_most { (e : Place → Place) → HasPosition tables.now e position.now

@@ -3,8 +3,8 @@ ghost use Rattle.std.specs.Prelude.{◌≡◌, ◌+◌, ◌<◌, ◌≤◌, ◌^
 ghost use Rattle.niss_moves.specs.Canonical.{may_follow, last_turn};
 ghost use Rattle.niss_cube.specs.Steps.{turns_of};
 ghost use Rattle.niss_search.specs.Cubes.{IsPosition};
-ghost use Rattle.niss_search.specs.Positions.{look_at};
-ghost use Rattle.niss_search.specs.Delivery.{WentThrough, StoppedIn};
+ghost use Rattle.niss_search.specs.Positions.{distance_at};
+ghost use Rattle.niss_search.specs.Delivery.{WentThrough, StoppedIn, at_limit};
 ghost use Rattle.niss_search.specs.Descent.{found_below, looks_below, looks_beyond, found_after, looks_after};
 
 use crate::sink::Sink;
@@ -28,8 +28,8 @@ pub(crate) fn visit<K: Sink, A: Allocator>(
     requires meter { meter.old + looks_below tables.now position.now path.old.turns left < 2 ^ 128 }
     ensures count { IfOk result (λ n. n ≡ length (found_below tables.now position.now path.old.turns left)) }
     ensures path { path.new ≡ path.old }
-    ensures ok { OnOk result (WentThrough K.took sink.old (found_below tables.now position.now path.old.turns left) sink.new) }
-    ensures err { OnErr result (StoppedIn K.took K.refused sink.old (found_below tables.now position.now path.old.turns left) sink.new) }
+    ensures ok { OnOk result (WentThrough (at_limit K.took path.old.limit) sink.old (found_below tables.now position.now path.old.turns left) sink.new) }
+    ensures err { OnErr result (StoppedIn (at_limit K.took path.old.limit) (at_limit K.refused path.old.limit) sink.old (found_below tables.now position.now path.old.turns left) sink.new) }
     ensures looks { OnOk result (meter.new ≡ meter.old + looks_below tables.now position.now path.old.turns left) }
     ensures looks_at_most { meter.new ≤ meter.old + looks_below tables.now position.now path.old.turns left }
     ensures rises { meter.old ≤ meter.new }
@@ -52,13 +52,13 @@ fn extend<K: Sink, A: Allocator>(
     sink: &mut K,
 ) -> Result<u128, K::Fault>
     requires position { IsPosition tables.now position.now }
-    requires near { look_at position.now ≤ left }
+    requires near { distance_at tables.now position.now ≤ left }
     requires room { length path.old.turns + left ≤ path.old.limit }
     requires meter { meter.old + looks_beyond tables.now position.now path.old.turns left < 2 ^ 128 }
     ensures count { IfOk result (λ n. n ≡ length (found_below tables.now position.now path.old.turns left)) }
     ensures path { path.new ≡ path.old }
-    ensures ok { OnOk result (WentThrough K.took sink.old (found_below tables.now position.now path.old.turns left) sink.new) }
-    ensures err { OnErr result (StoppedIn K.took K.refused sink.old (found_below tables.now position.now path.old.turns left) sink.new) }
+    ensures ok { OnOk result (WentThrough (at_limit K.took path.old.limit) sink.old (found_below tables.now position.now path.old.turns left) sink.new) }
+    ensures err { OnErr result (StoppedIn (at_limit K.took path.old.limit) (at_limit K.refused path.old.limit) sink.old (found_below tables.now position.now path.old.turns left) sink.new) }
     ensures looks { OnOk result (meter.new ≡ meter.old + looks_beyond tables.now position.now path.old.turns left) }
     ensures looks_at_most { meter.new ≤ meter.old + looks_beyond tables.now position.now path.old.turns left }
     ensures rises { meter.old ≤ meter.new }
@@ -92,8 +92,8 @@ fn extend_by<K: Sink, A: Allocator>(
     requires meter { meter.old + looks_after tables.now position.now path.old.turns left turn < 2 ^ 128 }
     ensures count { IfOk result (λ n. n ≡ length (found_after tables.now position.now path.old.turns left turn)) }
     ensures path { path.new ≡ path.old }
-    ensures ok { OnOk result (WentThrough K.took sink.old (found_after tables.now position.now path.old.turns left turn) sink.new) }
-    ensures err { OnErr result (StoppedIn K.took K.refused sink.old (found_after tables.now position.now path.old.turns left turn) sink.new) }
+    ensures ok { OnOk result (WentThrough (at_limit K.took path.old.limit) sink.old (found_after tables.now position.now path.old.turns left turn) sink.new) }
+    ensures err { OnErr result (StoppedIn (at_limit K.took path.old.limit) (at_limit K.refused path.old.limit) sink.old (found_after tables.now position.now path.old.turns left turn) sink.new) }
     ensures looks { OnOk result (meter.new ≡ meter.old + looks_after tables.now position.now path.old.turns left turn) }
     ensures looks_at_most { meter.new ≤ meter.old + looks_after tables.now position.now path.old.turns left turn }
     ensures rises { meter.old ≤ meter.new }

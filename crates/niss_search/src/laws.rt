@@ -1,18 +1,22 @@
 //! Laws over the definitions, each as a contract.
-ghost use Rattle.niss_search.specs.Laws.{CountRecurrence, PartHasNoMore, LooksWithinBound, StepBoundIsLess, BoundIsSmall, PositionsTell};
+ghost use Rattle.niss_search.specs.Laws.{CountRecurrence, PartHasNoMore, LooksWithinBound, StepBoundIsLess, BoundIsSmall, EdgeFillIsSmall, FillIsSmall, PositionsTell};
+ghost use Rattle.niss_search.specs.Filling.{EntriesTurn};
 
 use niss_cube::laws::{
-    flips_are_coordinates, kept_is_tested, sets_are_places, slices_are_coordinates, start_is_kept,
-    step_turns_in_order, steps_see_places, turned_is_cube, twists_are_coordinates,
+    flips_are_coordinates, inverses_of_steps, kept_is_tested, sets_are_places,
+    slices_are_coordinates, start_is_kept, step_turns_in_order, steps_see_places, turned_is_cube,
+    twists_are_coordinates,
 };
 
-/// How many canonical sequences there are, and how often a search looks.
+/// How many canonical sequences there are, how often a search looks, and how many turns a fill tries.
 pub fn counts_and_bounds()
     ensures recurrence { CountRecurrence }
     ensures part { PartHasNoMore }
     ensures within { LooksWithinBound }
     ensures step { StepBoundIsLess }
     ensures small { BoundIsSmall }
+    ensures edge_fill { EdgeFillIsSmall }
+    ensures fill { FillIsSmall }
 {
     step_turns_in_order();
 }
@@ -29,4 +33,14 @@ pub fn positions_tell()
     sets_are_places();
     start_is_kept();
     steps_see_places();
+}
+
+/// How the turns of a step lead between the entries of its pruning table.
+pub(crate) fn entries_turn()
+    ensures { EntriesTurn }
+{
+    flips_are_coordinates();
+    twists_are_coordinates();
+    slices_are_coordinates();
+    inverses_of_steps();
 }

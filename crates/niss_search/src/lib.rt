@@ -9,8 +9,8 @@
 //! ```
 //!
 //! The sink is handed every canonical sequence of least length that reaches the step, in turn order, and nothing else. The meter
-//! counts how often a position was looked at. A look is the only way to judge a position, and only a look makes the meter rise:
-//! both stand in `tables`, and the search sees neither the coordinates of a position nor the tick of a meter.
+//! counts the turns that a fill of the tables tries and the looks of searches. A look at a position answers its distance, by the
+//! pruning table. It is the only way to judge a position: the search sees neither its coordinates nor the tick of a meter.
 //!
 //! Contracts name a cube by its map of the 54 sticker places, and what is said of a position is said of every cube that has it
 //! (`specs/Cubes`). The functions of `laws` state what follows from the definitions alone.
@@ -21,6 +21,7 @@ mod descent;
 pub mod laws;
 mod limit;
 mod outcome;
+mod scan;
 mod scramble;
 mod sink;
 mod tables;
@@ -29,6 +30,7 @@ mod turn_path;
 pub use deepening::search;
 pub use limit::Limit;
 pub use outcome::Outcome;
+pub use scan::next_at;
 pub use scramble::random_turns;
 pub use sink::Sink;
 pub use tables::{Meter, Position, Tables};

@@ -9,6 +9,7 @@ pub mod EngineLemmas
 pub mod ScrambleLemmas
 pub mod AnswerLemmas
 pub mod SearchLemmas
+pub mod SolveLemmas
 pub mod RunLemmas
 pub mod NumberLemmas
 pub mod WordsLemmas

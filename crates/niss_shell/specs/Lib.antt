@@ -7,3 +7,4 @@ pub mod Output
 pub mod Work
 pub mod Engine
 pub mod Run
+pub mod SolveLaw

@@ -23,9 +23,9 @@ struct Uncollected;
 impl Sink for Uncollected {
     type Fault = Infallible;
 
-    ghost took = { λ old turns new. Unit {0} };
+    ghost took = { λ old path new. Unit {0} };
 
-    ghost refused = { λ old turns new. ⊥ };
+    ghost refused = { λ old path new. ⊥ };
 
     fn take(&mut self, _path: &TurnPath) -> Result<(), Infallible> {
         Ok(())

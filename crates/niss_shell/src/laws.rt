@@ -1,8 +1,19 @@
-//! What holds of all texts. Each law is the contract of a function that does nothing.
+//! What holds of all texts and of all lines. Each law is the contract of a function that does nothing.
 ghost use Rattle.niss_shell.specs.LinesLaws.{TextIsCut, OneCut};
+ghost use Rattle.niss_shell.specs.SolveLaw.{AcceptedLinesAreSolved};
+
+use niss_search::laws::counts_and_bounds;
 
 /// The lines of a text are what its line feeds cut it into, and nothing else is.
 pub fn lines_are_cut()
     ensures cut { TextIsCut }
     ensures only { OneCut }
 {}
+
+/// For a line that is read as moves, and a step that may start on its cube, `solve` answers all solutions of least length
+/// within the limit, in turn order, or that there are none, with no more looks than the bound.
+pub fn accepted_lines_are_solved()
+    ensures { AcceptedLinesAreSolved }
+{
+    counts_and_bounds();
+}

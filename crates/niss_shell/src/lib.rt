@@ -31,7 +31,7 @@ mod writing;
 
 pub use command::{Command, UsageFault, parse_words};
 pub use device::{DeviceFault, Source, Target};
-pub use laws::lines_are_cut;
+pub use laws::{accepted_lines_are_solved, lines_are_cut};
 pub use niss_search::Meter;
 pub use shell::{run, run_in};
 pub use streams::{FromReader, ToWriter};

@@ -24,12 +24,12 @@ struct SolutionLines<'a, W> {
 impl<'a, W: Target> Sink for SolutionLines<'a, W> {
     type Fault = DeviceFault;
 
-    ghost took = { λ old turns new. (new.out.ghost_name ≡ old.out.ghost_name)
+    ghost took = { λ old path new. (new.out.ghost_name ≡ old.out.ghost_name)
         × (has_fault (W.state new.out.now) ≡ has_fault (W.state old.out.now))
-        × Appended (W.state old.out.now) (W.state new.out.now) (solution_line turns) };
+        × Appended (W.state old.out.now) (W.state new.out.now) (solution_line path.turns) };
 
-    ghost refused = { λ old turns new. (new.out.ghost_name ≡ old.out.ghost_name)
-        × WriteRefused (solution_line turns) (W.state old.out.now) (W.state new.out.now) };
+    ghost refused = { λ old path new. (new.out.ghost_name ≡ old.out.ghost_name)
+        × WriteRefused (solution_line path.turns) (W.state old.out.now) (W.state new.out.now) };
 
     fn take(&mut self, path: &TurnPath) -> Result<(), DeviceFault> {
         let _at_most_20 = path.limit();

@@ -1,7 +1,8 @@
 //! What a step looks at in a cube.
 ghost use Rattle.std.specs.Prelude.{◌≡◌};
 ghost use Rattle.niss_cube.specs.Map.{map_of};
-ghost use Rattle.niss_search.specs.Positions.{coordinates_of, coordinates_after, are_zero, AreInRange};
+ghost use Rattle.niss_search.specs.Positions.{coordinates_of, coordinates_after, AreInRange};
+ghost use Rattle.niss_search.specs.Filling.{entry_number};
 
 use niss_cube::{Axis, Cube, Goal, Turn, TurnTables};
 use std::alloc::Allocator;
@@ -54,13 +55,16 @@ impl Coordinates {
         }
     }
 
-    /// Whether they are those of the goal.
-    fn are_zero(self) -> bool
-        ensures { result ≡ are_zero self }
+    /// The number of their entry in a pruning table: the flip, or the twist times 495 and the slice.
+    pub(super) fn entry_number(self) -> usize
+        requires { AreInRange self }
+        ensures { result ≡ entry_number self }
     {
         match self {
-            Coordinates::Flip { flip, .. } => flip == 0,
-            Coordinates::TwistAndSlice { twist, slice, .. } => twist == 0 && slice == 0,
+            Coordinates::Flip { flip, .. } => flip as usize,
+            Coordinates::TwistAndSlice { twist, slice, .. } => {
+                twist as usize * 495 + slice as usize
+            }
         }
     }
 }
@@ -85,7 +89,7 @@ impl Model for Position {
 
 impl Position {
     ghost use Rattle.std.specs.Prelude.{◌∷◌, []};
-    ghost use Rattle.niss_search.specs.Positions.{position_after, look_at};
+    ghost use Rattle.niss_search.specs.Positions.{position_after};
 
     /// The position of a cube, by the goal of the step.
     pub(super) fn of(goal: Goal, cube: &Cube) -> Position
@@ -106,11 +110,11 @@ impl Position {
         }
     }
 
-    /// A bound from below on the turns to the goal: 0 at the goal and 1 elsewhere.
-    #[tactic(auto, unfolding(crate::specs::Positions::look_at, crate::specs::Positions::is_reached_at))]
-    pub(super) fn look(&self) -> u8
-        ensures { result ≡ look_at self.now }
+    /// The coordinates.
+    pub(super) fn coordinates(&self) -> Coordinates
+        ensures value { self.now ≡ result ∷ [] }
+        ensures in_range { AreInRange result }
     {
-        if self.coordinates.are_zero() { 0 } else { 1 }
+        self.coordinates
     }
 }

@@ -3,6 +3,7 @@ use Rattle.std.proofs.lemmas.Result.{err_from_is_err_and}
 use Rattle.niss_moves.specs.declared.turn.Turn.{Turn}
 use Rattle.niss_cube.specs.Steps.{turns_of}
 use Rattle.niss_search.specs.Path.{Path}
+use Rattle.niss_search.specs.Delivery.{at_limit}
 use Rattle.niss_search.specs.Descent.{looks_below}
 use Rattle.niss_search.specs.Looks.{looks}
 use Rattle.niss_search.specs.Solutions.{reaching}
@@ -32,7 +33,7 @@ returns-in_err-solutions-clause-err g c = λ e h.
     let d = c.loop-length.length in
     let n = c.args.path.now.limit in
     let refused = rw (inv.path, c.requires.empty, found_below-level step x d, inv.sink) at c.in_err-solutions.ensures.err in
-    let some = StoppedIn-some g.K.Sink.took g.K.Sink.refused _ _ _ refused in
+    let some = StoppedIn-some (at_limit g.K.Sink.took c.args.path.now.limit) (at_limit g.K.Sink.refused c.args.path.now.limit) _ _ _ refused in
     let p = err_from_is_err_and c.from_residual.result c.from_residual.ensures.1 in
     rw (p.1, solutions-cube c.positions_tell.ensures step e x h n ∙ solutions-at (turns_of step) (reaches_at step x) d n inv.none some (omega arith)) refused
 
@@ -44,7 +45,7 @@ returns-in_err-solutions-clause-looks_at_most g c = λ e h.
     let d = c.loop-length.length in
     let n = c.args.path.now.limit in
     let refused = rw (inv.path, c.requires.empty, found_below-level step x d, inv.sink) at c.in_err-solutions.ensures.err in
-    let some = StoppedIn-some g.K.Sink.took g.K.Sink.refused _ _ _ refused in
+    let some = StoppedIn-some (at_limit g.K.Sink.took c.args.path.now.limit) (at_limit g.K.Sink.refused c.args.path.now.limit) _ _ _ refused in
     let looked = rw (inv.path, c.requires.empty, looks_below-level step x d) at c.visit.ensures.looks_at_most in
     let all = all_looks-cube c.positions_tell.ensures step e x h n ∙ all_looks-at (turns_of step) (reaches_at step x) d n inv.none some (omega arith) (far_at step x) in
     omega (arith, all, looked, levels-more (looks (turns_of step) (far_at step x)) d)
@@ -57,7 +58,7 @@ returns-in_err-solutions-clause-bound g c =
     let d = c.loop-length.length in
     let n = c.args.path.now.limit in
     let refused = rw (inv.path, c.requires.empty, found_below-level step x d, inv.sink) at c.in_err-solutions.ensures.err in
-    let some = StoppedIn-some g.K.Sink.took g.K.Sink.refused _ _ _ refused in
+    let some = StoppedIn-some (at_limit g.K.Sink.took c.args.path.now.limit) (at_limit g.K.Sink.refused c.args.path.now.limit) _ _ _ refused in
     let looked = rw (inv.path, c.requires.empty, looks_below-level step x d) at c.visit.ensures.looks_at_most in
     let all = all_looks-at (turns_of step) (reaches_at step x) d n inv.none some (omega arith) (far_at step x) in
     omega (arith, all, looked, levels-more (looks (turns_of step) (far_at step x)) d, all_looks-bound (turns_of step) (reaches_at step x) (far_at step x) n)
@@ -143,7 +144,7 @@ loop-length-preserved g c =
     let none : length (reaching (turns_of step) (reaches_at step x) d) ≡ 0 = omega arith in
     record {
       path = c.visit.ensures.path ∙ inv.path;
-      sink = sym (WentThrough-none g.K.Sink.took g.K.Sink.refused _ _ _ none took);
+      sink = sym (WentThrough-none (at_limit g.K.Sink.took c.args.path.now.limit) (at_limit g.K.Sink.refused c.args.path.now.limit) _ _ _ none took);
       end = inv.end;
       small = inv.small;
       none = NoneBelow-more (turns_of step) (reaches_at step x) d inv.none none;

@@ -5,11 +5,12 @@ use Rattle.std.proofs.lemmas.Result.{err_from_is_err_and}
 use Rattle.niss_moves.specs.Canonical.{may_follow, last_turn}
 use Rattle.niss_moves.specs.declared.turn.Turn.{Turn}
 use Rattle.niss_search.specs.Descent.{found_after, looks_after, looks_below, looks_beyond}
-use Rattle.niss_search.specs.Positions.{look_at, position_after}
+use Rattle.niss_search.specs.Positions.{distance_at, position_after}
 use Rattle.niss_search.proofs.DescentLemmas.{found_below-far, looks_below-far, found_below-end, looks_below-end, looks_below-far, found_below-far, looks_below-one, looks_below-some, found_below-listed, found_after-may, looks_after-may, looks_below-some, length-found_after, WentThrough-one, StoppedIn-one, looks_below-more, looks_below-all, found_below-all, found-so-far, WentThrough-each, StoppedIn-each, length-flat_map-each}
 use Rattle.niss_cube.specs.Steps.{turns_of}
 use Rattle.niss_search.proofs.ListLemmas.{Contains-filter, passes-filter}
 use Rattle.niss_search.specs.Path.{Path}
+use Rattle.niss_search.specs.Delivery.{at_limit}
 use Rattle.niss_moves.specs.declared.turn.Face.TheVariants.{U}
 use Rattle.niss_moves.specs.declared.turn.Power.TheVariants.{Quarter}
 use Rattle.niss_search.proofs.descent.+descent.Goals as goal
@@ -17,20 +18,20 @@ use Rattle.niss_search.proofs.descent.+descent.Goals as goal
 pub extend-returns-in_err-take-clause-err : goal.extend-returns-in_err-take-clause-err
 extend-returns-in_err-take-clause-err g t c =
     let p = err_from_is_err_and c.from_residual.result c.from_residual.ensures.1 in
-    let near : look_at c.args.position.now ≤ c.args.left = omega arith in
+    let near : distance_at c.args.tables.now c.args.position.now ≤ c.args.left = omega arith in
     rw (p.1, found_below-end _ _ _ _ c.if-left-eq0.true near)
-    (StoppedIn-one g.K.Sink.took g.K.Sink.refused _ _ _ c.in_err-take.ensures.err)
+    (StoppedIn-one (at_limit g.K.Sink.took c.args.path.now.limit) (at_limit g.K.Sink.refused c.args.path.now.limit) _ _ _ c.in_err-take.ensures.err)
 
 pub extend-returns-then-left-eq0-clause-count : goal.extend-returns-then-left-eq0-clause-count
 extend-returns-then-left-eq0-clause-count g t c =
-    let near : look_at c.args.position.now ≤ c.args.left = omega arith in
+    let near : distance_at c.args.tables.now c.args.position.now ≤ c.args.left = omega arith in
     rw (found_below-end _ _ _ _ c.if-left-eq0.true near)
 
 pub extend-returns-then-left-eq0-clause-ok : goal.extend-returns-then-left-eq0-clause-ok
 extend-returns-then-left-eq0-clause-ok g t c =
-    let near : look_at c.args.position.now ≤ c.args.left = omega arith in
+    let near : distance_at c.args.tables.now c.args.position.now ≤ c.args.left = omega arith in
     rw (found_below-end _ _ _ _ c.if-left-eq0.true near)
-    (WentThrough-one g.K.Sink.took g.K.Sink.refused _ _ _ c.in_ok-take.ensures.ok)
+    (WentThrough-one (at_limit g.K.Sink.took c.args.path.now.limit) (at_limit g.K.Sink.refused c.args.path.now.limit) _ _ _ c.in_ok-take.ensures.ok)
 
 pub extend-returns-then-left-eq0-clause-looks : goal.extend-returns-then-left-eq0-clause-looks
 extend-returns-then-left-eq0-clause-looks g t c =
@@ -63,7 +64,7 @@ extend-returns-in_err-count-clause-err g t c =
     let step = c.args.tables.now in
     let stopped = rw inv.path at c.in_err-count.ensures.err in
     rw (p.1, found_below-listed step c.args.position.now c.args.path.now.turns c.args.left inv.some_left inv.near items inv.items)
-    (StoppedIn-each g.K.Sink.took g.K.Sink.refused (found_after step c.args.position.now c.args.path.now.turns (c.args.left - 1)) items c.loop-turn.turn-index record { face = U; power = Quarter } c.loop-turn-test.true _ _ _ inv.took stopped)
+    (StoppedIn-each (at_limit g.K.Sink.took c.args.path.now.limit) (at_limit g.K.Sink.refused c.args.path.now.limit) (found_after step c.args.position.now c.args.path.now.turns (c.args.left - 1)) items c.loop-turn.turn-index record { face = U; power = Quarter } c.loop-turn-test.true _ _ _ inv.took stopped)
 
 pub extend-returns-in_err-count-clause-looks_at_most : goal.extend-returns-in_err-count-clause-looks_at_most
 extend-returns-in_err-count-clause-looks_at_most g t c =
@@ -103,7 +104,7 @@ extend-loop-turn-preserved g t c =
       path = c.extend_by.ensures.path ∙ inv.path;
       some_left = inv.some_left;
       near = inv.near;
-      took = WentThrough-each g.K.Sink.took g.K.Sink.refused f items i d c.loop-turn-test.true _ _ _ inv.took took_here;
+      took = WentThrough-each (at_limit g.K.Sink.took c.args.path.now.limit) (at_limit g.K.Sink.refused c.args.path.now.limit) f items i d c.loop-turn-test.true _ _ _ inv.took took_here;
       counted = length-flat_map-each f items i d c.loop-turn-test.true _ _ inv.counted counted_here;
       looked = omega (arith, sum_by_more (looks_after step c.args.position.now c.args.path.now.turns (c.args.left - 1)) items i d c.loop-turn-test.true);
     }
@@ -148,28 +149,28 @@ pub extend_by-returns-then-look-left-clause-count : goal.extend_by-returns-then-
 extend_by-returns-then-look-left-clause-count g t c =
     let may = c.requires.follows in
     let all = found_after-may c.args.tables.now c.args.position.now c.args.path.now.turns c.args.left c.args.turn may in
-    let far : c.args.left < look_at c.after-next.result = omega arith in
+    let far : c.args.left < distance_at c.args.tables.now c.after-next.result = omega arith in
     rw (all, ← c.after-next.ensures.value, found_below-far c.args.tables.now c.after-next.result (c.args.path.now.turns ++ c.args.turn ∷ []) c.args.left far)
 
 pub extend_by-returns-then-look-left-clause-ok : goal.extend_by-returns-then-look-left-clause-ok
 extend_by-returns-then-look-left-clause-ok g t c =
     let may = c.requires.follows in
     let all = found_after-may c.args.tables.now c.args.position.now c.args.path.now.turns c.args.left c.args.turn may in
-    let far : c.args.left < look_at c.after-next.result = omega arith in
+    let far : c.args.left < distance_at c.args.tables.now c.after-next.result = omega arith in
     rw (all, ← c.after-next.ensures.value, found_below-far c.args.tables.now c.after-next.result (c.args.path.now.turns ++ c.args.turn ∷ []) c.args.left far) refl
 
 pub extend_by-returns-then-look-left-clause-looks : goal.extend_by-returns-then-look-left-clause-looks
 extend_by-returns-then-look-left-clause-looks g t c =
     let may = c.requires.follows in
     let all = looks_after-may c.args.tables.now c.args.position.now c.args.path.now.turns c.args.left c.args.turn may in
-    let far : c.args.left < look_at c.after-next.result = omega arith in
+    let far : c.args.left < distance_at c.args.tables.now c.after-next.result = omega arith in
     rw (all, ← c.after-next.ensures.value) (omega (arith, looks_below-far c.args.tables.now c.after-next.result (c.args.path.now.turns ++ c.args.turn ∷ []) c.args.left far))
 
 pub extend_by-returns-then-look-left-clause-looks_at_most : goal.extend_by-returns-then-look-left-clause-looks_at_most
 extend_by-returns-then-look-left-clause-looks_at_most g t c =
     let may = c.requires.follows in
     let all = looks_after-may c.args.tables.now c.args.position.now c.args.path.now.turns c.args.left c.args.turn may in
-    let far : c.args.left < look_at c.after-next.result = omega arith in
+    let far : c.args.left < distance_at c.args.tables.now c.after-next.result = omega arith in
     rw (all, ← c.after-next.ensures.value) (omega (arith, looks_below-far c.args.tables.now c.after-next.result (c.args.path.now.turns ++ c.args.turn ∷ []) c.args.left far))
 
 pub extend_by-extend-below-requires : goal.extend_by-extend-below-requires

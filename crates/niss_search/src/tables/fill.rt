@@ -1,0 +1,104 @@
+//! The pruning table of a step, filled breadth first.
+ghost use Rattle.std.specs.Prelude.{◌≡◌, ◌+◌, ◌*◌, ◌<◌, ◌≤◌, ◌^◌, ◌==◌, length, count_by, map};
+ghost use Rattle.std.specs.List.{range_with_len};
+ghost use Rattle.niss_moves.specs.declared.turn.Turn.{Turn};
+ghost use Rattle.niss_cube.specs.Steps.{turns_of};
+ghost use Rattle.niss_search.specs.Entries.{entry_count, fill_ticks};
+ghost use Rattle.niss_search.specs.Filling.{entry_distance, IsFilled, IsFilling, IsExtended, KeepsMet, AreLesser};
+
+use super::meter::Meter;
+use super::step_turns::StepTurns;
+use crate::laws::entries_turn;
+use crate::scan::next_at;
+use niss_cube::{Step, TurnTables};
+use std::alloc::Allocator;
+use std::mem;
+
+/// What each byte becomes where it is met from a level: the lesser of it and the next level. Compared anew at each turn it
+/// would cost a branch that is often guessed wrong, and the fill almost twice its time.
+fn lesser_bytes(level: u8) -> [u8; 256]
+    requires { level < 20 }
+    ensures { AreLesser level result }
+{
+    let mut lesser = [0; 256];
+    for byte in 0..256usize {
+        lesser[byte] = (byte as u8).min(level + 1);
+    }
+    lesser
+}
+
+/// Tries each turn from an entry of the level, and gives the next level to each entry that wasn't met before.
+fn extend_entry<A: Allocator>(
+    turn_tables: &TurnTables<A>,
+    turns: &StepTurns,
+    distances: &mut [u8],
+    entry: usize,
+    level: u8,
+    lesser: &[u8; 256],
+    meter: &mut Meter,
+)
+    requires filling { IsFilling turns.now level distances.old }
+    requires in_range { entry < entry_count turns.now }
+    requires at_level { entry_distance turns.now entry ≡ level }
+    requires level { level < 20 }
+    requires lesser { AreLesser level lesser.now }
+    requires meter { meter.old + length (turns_of turns.now) < 2 ^ 128 }
+    ensures filling { IsFilling turns.now level distances.new }
+    ensures extended { IsExtended turns.now distances.new entry }
+    ensures kept { KeepsMet distances.old distances.new }
+    ensures ticks { meter.new ≡ meter.old + length (turns_of turns.now) }
+{
+    entries_turn();
+    for turn in turns.spelled() {
+        meter.tick();
+        let next = turns.after(turn_tables, entry, *turn);
+        distances[next] = lesser[distances[next] as usize];
+    }
+}
+
+/// Tries each turn from each entry of the level.
+fn extend_level<A: Allocator>(
+    turn_tables: &TurnTables<A>,
+    turns: &StepTurns,
+    distances: &mut [u8],
+    level: u8,
+    meter: &mut Meter,
+)
+    requires filled { IsFilled turns.now level distances.old }
+    requires level { level < 20 }
+    requires meter { meter.old + 18 * entry_count turns.now < 2 ^ 128 }
+    ensures filled { IsFilled turns.now (level + 1) distances.new }
+    ensures ticks { meter.new
+        ≡ meter.old
+        + length (turns_of turns.now)
+        * count_by (λ i. entry_distance turns.now i == level) (range_with_len 0 (entry_count turns.now)) }
+{
+    entries_turn();
+    let lesser = lesser_bytes(level);
+    let mut from = 0;
+    while let Some(entry) = next_at(distances, from, level) {
+        extend_entry(turn_tables, turns, distances, entry, level, &lesser, meter);
+        from = entry + 1;
+    }
+}
+
+/// Fills a table that is 21 but at the goal, where it is 0, with the distances.
+pub(super) fn fill_table<A: Allocator>(
+    turn_tables: &TurnTables<A>,
+    step: Step,
+    distances: &mut [u8],
+    meter: &mut Meter,
+)
+    requires filled { IsFilled step 0 distances.old }
+    requires meter { meter.old ≤ 2 ^ 127 }
+    ensures filled { IsFilled step 20 distances.new }
+    ensures ticks { meter.new ≡ meter.old + fill_ticks step }
+{
+    let turns = StepTurns::of(step);
+    // the meter is held by value meanwhile: behind the borrow each tick would be written to memory
+    let mut held = mem::replace(meter, Meter::new());
+    for level in 0..20 {
+        extend_level(turn_tables, &turns, distances, level, &mut held);
+    }
+    *meter = held;
+}
