@@ -137,6 +137,7 @@ fn answer_search<A: Allocator, W: Target>(
     ensures meter { looks.new ≤ looks.old + 2 ^ 93 }
 {
     counts_and_bounds();
+    // the call tells the proof that the limit is at most 20, which bounds the looks
     let _at_most_20 = limit.get();
     let Some(position) = start_position(tables, niss) else {
         let fault = LineFault::NoStart(tables.step());
