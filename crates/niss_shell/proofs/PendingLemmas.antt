@@ -1,10 +1,10 @@
 -- Answers that wait, and what is written behind them.
-use Rattle.std.proofs.Common.{◌≡◌, ℕ, ◌+◌, ◌≤◌, false, Result, Ok, Err, List, [], ◌++◌, inl, inr, refl, sym, ap, ◌∙◌, subst, append-nil, arith}
-use Rattle.std.specs.Prelude.{◌⊎◌, IsErrAnd}
+use Rattle.std.proofs.Common.{◌≡◌, ℕ, ◌+◌, false, Result, Ok, Err, List, [], ◌++◌, inl, inr, refl, sym, ◌∙◌, subst, append-nil, arith}
+use Rattle.std.specs.Prelude.{IsErrAnd}
 use Rattle.niss_shell.specs.Device.{TargetState, has_fault, Appended, WriteRefused}
 use Rattle.niss_shell.specs.Lines.{ended_lines, written_text}
 use Rattle.niss_shell.specs.Output.{LineAnswers, looks_for, most_looks_for, line_with_bytes}
-use Rattle.niss_shell.specs.Engine.{AnswerState, answer_state, pending_state, Writes, Refuses, WritesOrRefuses, AllAnswered, FaultCame, StopsWithin, TakesBytes, TakesEnd, WritesPending, WritesBehind}
+use Rattle.niss_shell.specs.Engine.{AnswerState, answer_state, pending_state, Writes, Refuses, WritesOrRefuses, AllAnswered, StopsWithin, TakesBytes, TakesEnd, WritesPending, WritesBehind}
 use Rattle.niss_shell.specs.declared.device.DeviceFault.{DeviceFault}
 use Rattle.niss_shell.specs.declared.stop.Stop.{Stop}
 use Rattle.niss_shell.specs.declared.stop.Stop.TheVariants.{Done, Line, Usage, InputTooLong, CannotRead, CannotWrite, OutOfMemory}

@@ -1,4 +1,3 @@
-use Rattle.std.proofs.Common.{◌∙◌}
 use Rattle.niss_cube.specs.Steps.{turns_of}
 use Rattle.niss_search.specs.Cubes.{all_looks_of}
 use Rattle.niss_search.specs.Solutions.{look_bound}
