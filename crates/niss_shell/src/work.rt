@@ -74,6 +74,7 @@ impl<A: Allocator> Work<A> {
             Work::Rewrite(rewriting) => or_cannot_write(put_answer(*rewriting, niss, pending, out)),
             Work::Search(report, tables, limit) => {
                 counts_and_bounds();
+                // the call tells the proof that the limit is at most 20, which bounds the looks
                 let _at_most_20 = limit.get();
                 let Some(position) = start_position(tables, niss) else {
                     let fault = LineFault::NoStart(tables.step());
