@@ -9,7 +9,6 @@ ghost use Rattle.niss_shell.specs.Engine.{AnswersLine, WritesOrRefuses, pending_
 ghost use Rattle.niss_shell.specs.Output.{answer_to_moves, looks_at_moves, most_line_looks, search_text};
 ghost use Rattle.niss_shell.specs.Words.{has_step};
 ghost use Rattle.niss_shell.specs.Work.{command_of};
-ghost use Rattle.niss_shell.specs.declared.command.LineCommand.TheVariants.{Search};
 
 use crate::answer::put_answer;
 use crate::command::{LineCommand, Report, Rewriting};
