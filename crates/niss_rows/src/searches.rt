@@ -133,6 +133,13 @@ fn edge_orientation(rt: HostRuntime) {
             nothing("F R U B", 3, 4),
         ],
     );
+    // tables on another axis than their own
+    check_rows(
+        &rt,
+        rt.alloc(),
+        Step::Eorl,
+        &[found("R", 7, &["R", "R'"], 1, 20)],
+    );
 }
 
 #[test]
@@ -153,6 +160,13 @@ fn domino_reduction(rt: HostRuntime) {
         rt.alloc(),
         Step::DrrlEofb,
         &[found("R", 5, &[""], 0, 1)],
+    );
+    // tables on another axis than their own
+    check_rows(
+        &rt,
+        rt.alloc(),
+        Step::DrfbEorl,
+        &[found("U", 3, &["U", "U'"], 1, 16)],
     );
 }
 

@@ -18,7 +18,8 @@ fn first_in_block(block: &[u8; 32], level: u8) -> usize
     }
 }
 
-/// The least index, from `from` on, at which the table has the level, if there is one.
+/// The least index, from `from` on, at which the table has the level, if there is one. `from` is at most the table's
+/// length.
 pub fn next_at(table: &[u8], from: usize, level: u8) -> Option<usize>
     requires { from ≤ length table.now }
     ensures found { IfSome result (λ i. (from ≤ i) × (i < length table.now) × (slice_index table.now i ≡ level)) }

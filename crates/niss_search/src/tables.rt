@@ -42,7 +42,8 @@ impl Tables {
 
     /// Builds the tables of a step. It takes all memory, 170,280 bytes and one for each entry (2,048 for an edge
     /// orientation, 1,082,565 for a domino reduction), before the meter rises: by one for each turn that is tried from
-    /// an entry. Where the allocator refuses memory, nothing is kept and the meter stands where it stood.
+    /// an entry. Where the allocator refuses memory, nothing is kept and the meter stands where it stood. The meter is at
+    /// most at 2^127 before.
     pub fn build(alloc: Global, step: Step, meter: &mut Meter) -> Result<Tables, OutOfMemory>
         requires { meter.old ≤ 2 ^ 127 }
         ensures step { IfOk result (λ tables. tables ≡ step) }
@@ -112,7 +113,7 @@ impl<A: Allocator> Tables<A> {
         Position::of(goal_of(self.step()), cube)
     }
 
-    /// The position, which is one of this step, after a turn, which is one of the step's turns.
+    /// The position after a turn. The position is one of this step, and the turn is one of the step's.
     pub fn after(&self, position: &Position, turn: Turn) -> Position
         requires position { IsPosition self.now position.now }
         requires of_step { Contains (turns_of self.now) turn }
@@ -125,12 +126,13 @@ impl<A: Allocator> Tables<A> {
         position.after(turn, &self.turn_tables)
     }
 
-    /// The distance to the step: the least number of its turns that reach it, 0 to 20, or 21 for more or never. The meter
-    /// rises by one.
+    /// The distance to the step: the least number of its turns that reach it, 0 to 20, or 21 for more or never. The
+    /// position is one of this step. The meter, which is below its greatest number, rises by one.
     pub fn look(&self, position: &Position, meter: &mut Meter) -> u8
         requires position { IsPosition self.now position.now }
         requires meter { meter.old + 1 < 2 ^ 128 }
         ensures tick { meter.new ≡ meter.old + 1 }
+        ensures in_range { result ≤ 21 }
         ensures of_position { result ≡ distance_at self.now position.now }
         ensures value { (e : Place → Place) → HasPosition self.now e position.now → result ≡ distance_of self.now e }
         ensures zero { (e : Place → Place) → HasPosition self.now e position.now

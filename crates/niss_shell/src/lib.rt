@@ -5,7 +5,7 @@
 //! the words and of the bytes read, whatever the devices do:
 //!
 //! ```text
-//! run(alloc, &["invert", "R U' F2"], source, output, error)   writes `F2 U R'` and a line feed, and answers 0
+//! run(alloc, &["invert", "R U' F2"], source, output, error, looks)   writes `F2 U R'` and a line feed, and answers 0
 //! ```
 //!
 //! `FromReader` and `ToWriter` make devices of the readers and writers of `std::io`.
@@ -32,6 +32,7 @@ mod writing;
 pub use command::{Command, UsageFault, parse_words};
 pub use device::{DeviceFault, Source, Target};
 pub use laws::{accepted_lines_are_solved, lines_are_cut};
-pub use niss_search::Meter;
+pub use niss_cube::Step;
+pub use niss_search::{Limit, Meter};
 pub use shell::{run, run_in};
 pub use streams::{FromReader, ToWriter};

@@ -205,7 +205,7 @@ pub fn run_in<A: Allocator + Copy, R: Source, W: Target, E: Target>(
 /// The words are those behind the program's name. The input, where no words give it, comes from `input`. The answers go
 /// to `out` and what went wrong to `err`. `looks` counts the looks at positions of the searches for the lines; it stands
 /// at 2^64 or below. Memory is taken only to join words that give the input, and for the tables of a step, and before
-/// anything is read or written; `nissy: out of memory` is told only where such a growth was refused.
+/// anything is read or written; `nissy: out of memory` is told only where the command takes memory.
 pub fn run<R: Source, W: Target, E: Target>(
     alloc: Global,
     words: &[String],

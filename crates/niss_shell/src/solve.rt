@@ -32,6 +32,7 @@ impl<'a, W: Target> Sink for SolutionLines<'a, W> {
         × WriteRefused (solution_line path.turns) (W.state old.out.now) (W.state new.out.now) };
 
     fn take(&mut self, path: &TurnPath) -> Result<(), DeviceFault> {
+        // the call tells the proof that the path has at most 20 turns, as `put_solution` asks
         let _at_most_20 = path.limit();
         let mut text = LineText::new();
         put_solution(path.turns(), &mut text);

@@ -9,7 +9,6 @@ ghost use Rattle.niss_shell.specs.Engine.{AnswersLine, WritesOrRefuses, pending_
 ghost use Rattle.niss_shell.specs.Output.{answer_to_moves, looks_at_moves, most_line_looks, search_text};
 ghost use Rattle.niss_shell.specs.Words.{has_step};
 ghost use Rattle.niss_shell.specs.Work.{command_of};
-ghost use Rattle.niss_shell.specs.declared.command.LineCommand.TheVariants.{Search};
 
 use crate::answer::put_answer;
 use crate::command::{LineCommand, Report, Rewriting};
@@ -74,6 +73,7 @@ impl<A: Allocator> Work<A> {
             Work::Rewrite(rewriting) => or_cannot_write(put_answer(*rewriting, niss, pending, out)),
             Work::Search(report, tables, limit) => {
                 counts_and_bounds();
+                // the call tells the proof that the limit is at most 20, which bounds the looks
                 let _at_most_20 = limit.get();
                 let Some(position) = start_position(tables, niss) else {
                     let fault = LineFault::NoStart(tables.step());

@@ -3,6 +3,7 @@ use Rattle.std.proofs.lemmas.List.{get_or_read}
 use Rattle.niss_search.specs.Entries.{entry_count}
 use Rattle.niss_search.specs.Cubes.{HasPosition}
 use Rattle.niss_search.proofs.EntryLemmas.{position-entry, table-answer}
+use Rattle.niss_search.proofs.LookLemmas.{distance_at-most}
 use Rattle.niss_search.proofs.Transfer.{distance-cube, distance-reached-cube}
 use Rattle.niss_search.proofs.tables.Tables.look.Goals as goal
 
@@ -25,6 +26,10 @@ returns-clause-of_position g c =
     get_or_read xs _ _ in_table c.index.ensures 0
     ∙ ap (slice_index xs) c.entry_number.ensures
     ∙ table-answer s xs table x.0 c.args.position.now c.coordinates.result c.coordinates.ensures.value x.1 c.coordinates.ensures.in_range
+
+pub returns-clause-in_range : goal.returns-clause-in_range
+returns-clause-in_range g c =
+    omega (arith, returns-clause-of_position g c, distance_at-most c.args.self.now c.args.position.now)
 
 pub returns-clause-value : goal.returns-clause-value
 returns-clause-value g c = λ e h.
