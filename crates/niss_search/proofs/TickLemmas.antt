@@ -4,6 +4,7 @@ use Rattle.std.specs.Prelude.{flat_map, nat_le}
 use Rattle.std.specs.List.{range_with_len}
 use Rattle.std.proofs.lemmas.Nat.{div-mul-add, mod-mul-add}
 use Rattle.std.proofs.lemmas.List.{append-nil, map-append}
+use Rattle.std.proofs.lemmas.List.FromFn.{length-map-range_with_len}
 use Rattle.std.proofs.lemmas.List.Sums.{sum_by-cons}
 use Rattle.std.proofs.lemmas.Grind.{flat_map-append}
 use Rattle.std.proofs.Math.Nat.{mul-le-mul, mul_comm}
@@ -13,7 +14,7 @@ use Rattle.niss_cube.specs.declared.step.Goal.{Goal}
 use Rattle.niss_cube.specs.declared.step.Goal.TheVariants.{Edges, Domino}
 use Rattle.niss_cube.specs.declared.step.Step.{Step}
 use Rattle.niss_cube.specs.declared.step.Step.TheVariants.{Eofb, Eorl, Eoud, DrudEofb, DrrlEofb, DrudEorl, DrfbEorl, DrrlEoud, DrfbEoud}
-use Rattle.niss_search.specs.Laws.{EdgeFillIsSmall, FillIsSmall}
+use Rattle.niss_search.specs.Laws.{EntriesAreCounted, EdgeFillIsSmall, FillIsSmall}
 use Rattle.niss_search.specs.declared.tables.position.Coordinates.{Coordinates}
 use Rattle.niss_search.specs.declared.tables.position.Coordinates.TheVariants.{Flip, TwistAndSlice}
 use Rattle.niss_search.specs.Positions.{distance_at}
@@ -81,6 +82,11 @@ entries-numbered s =
     ap (flat_map values_for) (goals-alone s)
     ∙ append-nil (values_for (goal_of s))
     ∙ values-numbered (goal_of s) (entry_count s) (entry_count-goal s)
+
+-- the list has as many entries as their number tells
+pub entries-counted : EntriesAreCounted
+entries-counted s =
+    ap length (entries-numbered s) ∙ length-map-range_with_len (entry_at s) 0 (entry_count s)
 
 count-map : {X : Type 0} (p : X → Bool) (f : ℕ → X) (xs : List ℕ) → count_by p (map f xs) ≡ count_by (λ i. p (f i)) xs
 count-map p f [] = refl

@@ -1,5 +1,5 @@
 -- Laws over counts and looks, and over positions.
-use Rattle.std.specs.Prelude.{◌≡◌, ℕ, ◌+◌, ◌*◌, ◌^◌, ◌≤◌, ◌<◌, Bool, List, filter, Contains, IsTrue, None}
+use Rattle.std.specs.Prelude.{◌≡◌, ℕ, ◌+◌, ◌*◌, ◌^◌, ◌≤◌, ◌<◌, Bool, List, filter, length, Contains, IsTrue, None}
 use Rattle.niss_moves.specs.Places.{Place, SameMap}
 use Rattle.niss_moves.specs.Effects.{turned}
 use Rattle.niss_moves.specs.Canonical.{turn_order}
@@ -9,7 +9,7 @@ use Rattle.niss_cube.specs.Steps.{start_of, turns_of, may_start, reached}
 use Rattle.niss_cube.specs.declared.step.Step.{Step}
 use Rattle.niss_search.specs.Solutions.{count_of_length, look_bound}
 use Rattle.niss_search.specs.Looks.{all_looks}
-use Rattle.niss_search.specs.Entries.{fill_ticks}
+use Rattle.niss_search.specs.Entries.{entries_of, entry_count, fill_ticks}
 use Rattle.niss_search.specs.declared.tables.position.Coordinates.{Coordinates}
 use Rattle.niss_search.specs.Positions.{position_of, position_after, is_reached_at}
 use Rattle.niss_search.specs.Cubes.{HasPosition}
@@ -36,6 +36,10 @@ StepBoundIsLess = (s : Step) (n : ℕ) → look_bound (turns_of s) n ≤ look_bo
 -- The bound of a step is small.
 abbrev pub BoundIsSmall : Type 0
 BoundIsSmall = (s : Step) (n : ℕ) → n ≤ 20 → look_bound (turns_of s) n < 2 ^ 93
+
+-- The list of a step's entries has as many as their number tells.
+abbrev pub EntriesAreCounted : Type 0
+EntriesAreCounted = (s : Step) → length (entries_of s) ≡ entry_count s
 
 -- The fill of an edge orientation's table tries at most 18 turns from each of 2,048 entries.
 abbrev pub EdgeFillIsSmall : Type 0

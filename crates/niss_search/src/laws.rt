@@ -1,5 +1,5 @@
 //! Laws over the definitions, each as a contract.
-ghost use Rattle.niss_search.specs.Laws.{CountRecurrence, PartHasNoMore, LooksWithinBound, StepBoundIsLess, BoundIsSmall, EdgeFillIsSmall, FillIsSmall, PositionsTell};
+ghost use Rattle.niss_search.specs.Laws.{CountRecurrence, PartHasNoMore, LooksWithinBound, StepBoundIsLess, BoundIsSmall, EntriesAreCounted, EdgeFillIsSmall, FillIsSmall, PositionsTell};
 ghost use Rattle.niss_search.specs.Filling.{EntriesTurn};
 
 use niss_cube::laws::{
@@ -8,13 +8,15 @@ use niss_cube::laws::{
     twists_are_coordinates,
 };
 
-/// How many canonical sequences there are, how often a search looks, and how many turns a fill tries.
+/// How many canonical sequences there are, how often a search looks, how many entries a pruning table has, and how many
+/// turns its fill tries.
 pub fn counts_and_bounds()
     ensures recurrence { CountRecurrence }
     ensures part { PartHasNoMore }
     ensures within { LooksWithinBound }
     ensures step { StepBoundIsLess }
     ensures small { BoundIsSmall }
+    ensures entries { EntriesAreCounted }
     ensures edge_fill { EdgeFillIsSmall }
     ensures fill { FillIsSmall }
 {

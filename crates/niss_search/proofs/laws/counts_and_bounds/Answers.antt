@@ -1,6 +1,6 @@
 use Rattle.niss_search.proofs.CountLaws.{count-recurrence, part-has-no-more, step-bound}
 use Rattle.niss_search.proofs.Bounds.{all_looks-bound, bound-small}
-use Rattle.niss_search.proofs.TickLemmas.{edge-fill-small, fill-small}
+use Rattle.niss_search.proofs.TickLemmas.{entries-counted, edge-fill-small, fill-small}
 use Rattle.niss_search.proofs.laws.counts_and_bounds.Goals as goal
 
 pub returns-clause-recurrence : goal.returns-clause-recurrence
@@ -17,6 +17,9 @@ returns-clause-step c = step-bound c.step_turns_in_order.ensures
 
 pub returns-clause-small : goal.returns-clause-small
 returns-clause-small c = bound-small
+
+pub returns-clause-entries : goal.returns-clause-entries
+returns-clause-entries c = entries-counted
 
 pub returns-clause-edge_fill : goal.returns-clause-edge_fill
 returns-clause-edge_fill c = edge-fill-small
