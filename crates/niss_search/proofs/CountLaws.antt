@@ -1,5 +1,5 @@
 -- The laws over the counts.
-use Rattle.std.proofs.Common.{◌≡◌, ℕ, zero, suc, ◌+◌, ◌-◌, ◌*◌, ◌≤◌, Bool, true, false, cond, List, [], ◌∷◌, ◌++◌, length, length-append, filter, sum_by, Some, slice_get, refl, sym, ap, ◌∙◌, arith, subst}
+use Rattle.std.proofs.Common.{◌≡◌, ℕ, zero, suc, ◌+◌, ◌*◌, ◌≤◌, Bool, true, false, cond, List, [], ◌∷◌, ◌++◌, length, filter, sum_by, refl, sym, ap, ◌∙◌, arith, subst}
 use Rattle.std.proofs.lemmas.List.Sums.{sum_by-cons, sum_by-le-sum_by}
 use Rattle.std.proofs.lemmas.List.Concat.{length-flat_map}
 use Rattle.niss_moves.specs.declared.turn.Turn.{Turn}
@@ -12,6 +12,7 @@ use Rattle.niss_cube.specs.StepLaws.{StepTurnsInOrder}
 use Rattle.niss_search.specs.Laws.{CountRecurrence, PartHasNoMore, StepBoundIsLess}
 use Rattle.niss_search.proofs.ListLemmas.{sum_by-kept, sum_by-same}
 use Rattle.niss_search.proofs.DepthFirst.{below, below-all}
+use Rattle.niss_search.proofs.DrawLemmas.{last_turn-push}
 
 length-below : (turns : List Turn) (k : ℕ) (p : List Turn) → length (below turns p (suc k)) ≡ sum_by (λ t. cond (may_follow (last_turn p) t) (length (below turns (p ++ t ∷ []) k)) 0) turns
 length-below turns k p =
@@ -48,14 +49,6 @@ afters (suc k) = let n = afters k in (6 * n.0 + 9 * n.1, 6 * n.0 + 6 * n.1)
 
 abbrev after_face : Face → ℕ → ℕ
 after_face f k = cond (goes_first f) (afters k).0 (afters k).1
-
-last_turn-push : (p : List Turn) (t : Turn) → last_turn (p ++ t ∷ []) ≡ Some t
-last_turn-push p t =
-    let e : length (p ++ t ∷ []) - 1 ≡ length p = omega (arith, length-append p (t ∷ [])) in
-    ap (slice_get (p ++ t ∷ [])) e ∙ at_end p where
-      at_end : (q : List Turn) → slice_get (q ++ t ∷ []) (length q) ≡ Some t
-      at_end [] = refl
-      at_end (u ∷ us) = at_end us
 
 -- the sum over the 18 turns after a turn of a face, where each turn counts by its face
 sum-after : (f : Face) (k : ℕ) → sum_by (λ t. cond (face_may_follow f t.face) (after_face t.face k) 0) turn_order ≡ after_face f (suc k)
