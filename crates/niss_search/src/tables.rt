@@ -1,4 +1,5 @@
 //! What a search knows of its step: where a turn leads, and what a look at a position answers.
+mod entries;
 mod fill;
 mod followers;
 mod level;
@@ -7,6 +8,7 @@ mod position;
 mod step_turns;
 
 use crate::laws::positions_tell;
+use entries::{FAR, GOAL_ENTRY, count_for, goal_of};
 use fill::fill_table;
 use followers::Followers;
 pub use meter::Meter;
@@ -14,7 +16,6 @@ use niss_cube::{Cube, OutOfMemory, Step, Turn, TurnTables};
 pub use position::Position;
 use std::alloc::{Allocator, Global};
 use std::marker::Model;
-use step_turns::{count_for, goal_of};
 
 /// What a search needs of a step: where its turns lead, and its pruning table, a byte for each entry.
 #[derive(Drop)]
@@ -77,10 +78,10 @@ impl<A: Allocator> Tables<A> {
         ensures refused { OnErr result (meter.new ≡ meter.old) }
     {
         let turn_tables = TurnTables::build_in(alloc)?;
-        let Ok(mut distances) = Vec::from_elem(alloc, 21, count_for(goal_of(step))) else {
+        let Ok(mut distances) = Vec::from_elem(alloc, FAR, count_for(goal_of(step))) else {
             return Err(OutOfMemory);
         };
-        distances[0] = 0;
+        distances[GOAL_ENTRY] = 0;
         fill_table(&turn_tables, step, &mut distances, meter);
         Ok(Tables {
             followers: Followers::of(step),

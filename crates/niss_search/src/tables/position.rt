@@ -4,6 +4,7 @@ ghost use Rattle.niss_cube.specs.Map.{map_of};
 ghost use Rattle.niss_search.specs.Positions.{coordinates_of, coordinates_after, AreInRange};
 ghost use Rattle.niss_search.specs.Filling.{entry_number};
 
+use super::entries::pair_number;
 use niss_cube::{Axis, Cube, Goal, Turn, TurnTables};
 use std::alloc::Allocator;
 use std::marker::Model;
@@ -62,9 +63,7 @@ impl Coordinates {
     {
         match self {
             Coordinates::Flip { flip, .. } => flip as usize,
-            Coordinates::TwistAndSlice { twist, slice, .. } => {
-                twist as usize * 495 + slice as usize
-            }
+            Coordinates::TwistAndSlice { twist, slice, .. } => pair_number(twist, slice),
         }
     }
 }

@@ -4,29 +4,11 @@ ghost use Rattle.niss_cube.specs.Steps.{turns_of};
 ghost use Rattle.niss_search.specs.Entries.{count_for, entry_count};
 ghost use Rattle.niss_search.specs.Filling.{goal_of, table_turn, table_after};
 
+use super::entries::{SLICES, goal_of, pair_number};
 use arrayvec::ArrayVec;
 use niss_cube::{Axis, Goal, Step, Turn, TurnTables, turn_for_flip, turn_for_twist};
 use std::alloc::Allocator;
 use std::marker::Model;
-
-/// How many entries the pruning table of a goal has: one for each flip, or for each pair of a twist and a slice.
-#[tactic(auto, unfolding(crate::specs::Entries::count_for))]
-pub(super) fn count_for(goal: Goal) -> usize
-    ensures { result ≡ count_for goal }
-{
-    match goal {
-        Goal::Edges(_) => 2048,
-        Goal::Domino { .. } => 2187 * 495,
-    }
-}
-
-/// The goal of a step: each has one.
-#[tactic(auto, unfolding(crate::specs::Filling::goal_of))]
-pub(super) fn goal_of(step: Step) -> Goal
-    ensures { result ≡ goal_of step }
-{
-    step.goals()[0]
-}
 
 /// A turn of a step with this goal, as the turn tables spell it: for flips on the axis Fb, for twists and slices on Ud.
 fn table_turn(goal: Goal, turn: Turn) -> Turn
@@ -52,9 +34,9 @@ fn table_after<A: Allocator>(
     match goal {
         Goal::Edges(_) => turn_tables.next_flip(Axis::Fb, entry as u16, turn) as usize,
         Goal::Domino { .. } => {
-            let twist = turn_tables.next_twist(Axis::Ud, (entry / 495) as u16, turn);
-            let slice = turn_tables.next_slice(Axis::Ud, (entry % 495) as u16, turn);
-            twist as usize * 495 + slice as usize
+            let twist = turn_tables.next_twist(Axis::Ud, (entry / SLICES) as u16, turn);
+            let slice = turn_tables.next_slice(Axis::Ud, (entry % SLICES) as u16, turn);
+            pair_number(twist, slice)
         }
     }
 }
