@@ -1,6 +1,9 @@
 //! The greatest length of a sequence.
 use std::marker::Model;
 
+/// The most turns that a limit allows, and the furthest distance that a table tells.
+pub(crate) const MOST_TURNS: u8 = 20;
+
 /// A greatest number of turns, from 0 to 20.
 #[derive(Clone, Copy, Debug, PartialEq, Eq)]
 pub struct Limit {
@@ -27,7 +30,7 @@ impl Limit {
         ensures variant { IsSome result ↔ (turns ≤ 20) }
         ensures value { IfSome result (λ l. l ≡ turns) }
     {
-        if turns <= 20 {
+        if turns <= MOST_TURNS {
             Some(Limit { turns })
         } else {
             None

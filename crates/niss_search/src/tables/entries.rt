@@ -3,6 +3,7 @@ ghost use Rattle.std.specs.Prelude.{◌≡◌, ◌+◌, ◌*◌};
 ghost use Rattle.niss_search.specs.Entries.{count_for};
 ghost use Rattle.niss_search.specs.Filling.{goal_of};
 
+use crate::limit::MOST_TURNS;
 use niss_cube::{Goal, Step};
 
 /// How many flips there are on an axis.
@@ -18,7 +19,7 @@ pub(super) const SLICES: usize = 495;
 pub(super) const GOAL_ENTRY: usize = 0;
 
 /// The byte of an entry that is further than any search goes, or that the fill hasn't met yet.
-pub(super) const FAR: u8 = 21;
+pub(super) const FAR: u8 = MOST_TURNS + 1;
 
 /// How many entries the pruning table of a goal has: one for each flip, or for each pair of a twist and a slice.
 #[tactic(auto, unfolding(crate::specs::Entries::count_for))]

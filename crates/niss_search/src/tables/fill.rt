@@ -9,6 +9,7 @@ use super::level::Level;
 use super::meter::Meter;
 use super::step_turns::StepTurns;
 use crate::laws::entries_turn;
+use crate::limit::MOST_TURNS;
 use crate::scan::next_at;
 use niss_cube::{Step, TurnTables};
 use std::alloc::Allocator;
@@ -26,7 +27,6 @@ fn extend_entry<A: Allocator>(
     requires filling { IsFilling turns.now level.now distances.old }
     requires in_range { entry < entry_count turns.now }
     requires at_level { entry_distance turns.now entry ≡ level.now }
-    requires level { level.now < 20 }
     requires meter { meter.old + length (turns_of turns.now) < 2 ^ 128 }
     ensures filling { IsFilling turns.now level.now distances.new }
     ensures extended { IsExtended turns.now distances.new entry }
@@ -82,7 +82,7 @@ pub(super) fn fill_table<A: Allocator>(
     let turns = StepTurns::of(step);
     // the meter is held by value meanwhile: behind the borrow each tick would be written to memory
     let mut held = mem::replace(meter, Meter::new());
-    for level in 0..20 {
+    for level in 0..MOST_TURNS {
         extend_level(turn_tables, &turns, distances, level, &mut held);
     }
     *meter = held;

@@ -37,7 +37,7 @@ impl Level {
         Level { number, lesser }
     }
 
-    /// What a byte becomes where it is met.
+    /// What a byte becomes where it is met. (That a level is below 20 is known to a proof by this call.)
     pub(super) fn meet(&self, byte: u8) -> u8
         ensures value { result ≡ min byte (self.now + 1) }
         ensures in_range { self.now < 20 }

@@ -43,7 +43,7 @@ loop-turn-preserved g c =
     let m = among step items c.loop-turn.turn-index d inv.items c.loop-turn-test.true in
     let next = table-next step c.args.entry items inv.items c.loop-turn.turn-index d c.loop-turn-test.true in
     let law = c.entries_turn.ensures in
-    let small = c.requires.level in
+    let small = c.meet.ensures.in_range in
     let j : c.after-next.result ≡ entry_after step c.args.entry t = c.after-next.ensures ∙ next in
     let written : c.meet.result ≡ min (slice_index xs (entry_after step c.args.entry t)) (c.args.level.now + 1) =
     c.meet.ensures.value ∙ ap (λ i. min (slice_index xs i) (c.args.level.now + 1)) j in
