@@ -46,23 +46,22 @@ fn extend_level<A: Allocator>(
     turn_tables: &TurnTables<A>,
     turns: &StepTurns,
     distances: &mut [u8],
-    level: u8,
+    level: &Level,
     meter: &mut Meter,
 )
-    requires filled { IsFilled turns.now level distances.old }
-    requires level { level < 20 }
+    requires filled { IsFilled turns.now level.now distances.old }
     requires meter { meter.old + 18 * entry_count turns.now < 2 ^ 128 }
-    ensures filled { IsFilled turns.now (level + 1) distances.new }
+    ensures filled { IsFilled turns.now (level.now + 1) distances.new }
     ensures ticks { meter.new
         ≡ meter.old
         + length (turns_of turns.now)
-        * count_by (λ i. entry_distance turns.now i == level) (range_with_len 0 (entry_count turns.now)) }
+        * count_by (λ i. entry_distance turns.now i == level.now) (range_with_len 0 (entry_count turns.now)) }
 {
     entries_turn();
-    let extended = Level::new(level);
+    let number = level.number();
     let mut from = 0;
-    while let Some(entry) = next_at(distances, from, level) {
-        extend_entry(turn_tables, turns, distances, entry, &extended, meter);
+    while let Some(entry) = next_at(distances, from, number) {
+        extend_entry(turn_tables, turns, distances, entry, level, meter);
         from = entry + 1;
     }
 }
@@ -83,7 +82,13 @@ pub(super) fn fill_table<A: Allocator>(
     // the meter is held by value meanwhile: behind the borrow each tick would be written to memory
     let mut held = mem::replace(meter, Meter::new());
     for level in 0..MOST_TURNS {
-        extend_level(turn_tables, &turns, distances, level, &mut held);
+        extend_level(
+            turn_tables,
+            &turns,
+            distances,
+            &Level::new(level),
+            &mut held,
+        );
     }
     *meter = held;
 }

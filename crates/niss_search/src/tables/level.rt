@@ -37,6 +37,14 @@ impl Level {
         Level { number, lesser }
     }
 
+    /// Its number, 0 to 19.
+    pub(super) fn number(&self) -> u8
+        ensures value { result ≡ self.now }
+        ensures in_range { result < 20 }
+    {
+        self.number
+    }
+
     /// What a byte becomes where it is met. (That a level is below 20 is known to a proof by this call.)
     pub(super) fn meet(&self, byte: u8) -> u8
         ensures value { result ≡ min byte (self.now + 1) }

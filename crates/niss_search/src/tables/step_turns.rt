@@ -41,7 +41,8 @@ fn table_after<A: Allocator>(
     }
 }
 
-/// The turns of a step, each spelled once and for all as the turn tables have it.
+/// The turns of a step, each spelled once and for all as the turn tables have it. The code needs the goal alone: the step is
+/// what contracts name them by.
 #[derive(Drop)]
 pub(super) struct StepTurns {
     step: Step,

@@ -24,7 +24,7 @@ pub extend_entry-requires-clause-meter : goal.extend_entry-requires-clause-meter
 extend_entry-requires-clause-meter g c =
     let inv = c.loop-entry.invariant in
     let found = c.in-Some.ensures.found in
-    let p = λ (x : ℕ). entry_distance c.args.turns.now x == c.args.level in
+    let p = λ (x : ℕ). entry_distance c.args.turns.now x == c.args.level.now in
     let turns = length (turns_of c.args.turns.now) in
     let count = count_by p (range_with_len 0 c.loop-entry.from) in
     let few : count + 1 ≤ entry_count c.args.turns.now = omega (arith, count-range-le p c.loop-entry.from, inv.filling.size, found) in
@@ -34,13 +34,14 @@ pub loop-entry-preserved : goal.loop-entry-preserved
 loop-entry-preserved g c =
     let inv = c.loop-entry.invariant in
     let step = c.args.turns.now in
-    let level = c.args.level in
+    let level = c.args.level.now in
     let xs = c.loop-entry.distances in
     let entry = c.in-Some.entry in
     let found = c.in-Some.ensures.found in
-    let least = c.in-Some.ensures.least in
+    let least = rw c.number-number.ensures.value at c.in-Some.ensures.least in
+    let small : level < 20 = omega (arith, c.number-number.ensures) in
     let in_range : entry < entry_count step = omega (arith, inv.filling.size, found) in
-    let at = filling-at c.entries_turn.ensures step level c.requires.level xs inv.filling entry in_range found.2 in
+    let at = filling-at c.entries_turn.ensures step level small xs inv.filling entry in_range (found.2 ∙ c.number-number.ensures.value) in
     let turns = length (turns_of step) in
     let p = λ (x : ℕ). entry_distance step x == level in
     let one : cond {A = ℕ} (p entry) 1 0 ≡ 1 = ap (λ b. cond {A = ℕ} b 1 0) (eq-eqb _ _ at) in
@@ -48,7 +49,7 @@ loop-entry-preserved g c =
     omega (arith, count-more p entry, one, skipped step level xs inv.filling c.loop-entry.from entry (omega arith) (omega arith) least) in
     let product = ap (λ n. turns * n) count ∙ mul-add turns (count_by p (range_with_len 0 c.loop-entry.from)) 1 in
     record {
-      filling = rw c.new-extended.ensures at c.extend_entry.ensures.filling;
+      filling = c.extend_entry.ensures.filling;
       within = omega (arith, c.extend_entry.ensures.filling.size);
       extended = λ j l e t m. by_place step level c.loop-entry.from entry xs c.extend_entry.new.distances j l e inv.filling in_range least (λ b. λ t m. c.extend_entry.ensures.kept _ (inv.extended j b e t m)) c.extend_entry.ensures.extended (leb_tells c.loop-entry.from j) (leb_tells entry j) t m;
       ticks = omega (arith, product, inv.ticks, c.extend_entry.ensures.ticks);
@@ -63,7 +64,9 @@ loop-entry-preserved g c =
 pub returns-clause-filled : goal.returns-clause-filled
 returns-clause-filled g c =
     let inv = c.loop-entry.invariant in
-    filled-next c.entries_turn.ensures c.args.turns.now c.args.level c.requires.level c.loop-entry.distances inv.filling (λ j l e. by_place c.args.turns.now c.args.level c.loop-entry.from c.loop-entry.distances inv.filling j l e (omega (arith, inv.filling.size)) (λ b. inv.extended j b e) c.in_default.ensures.none (leb_tells c.loop-entry.from j)) where
+    let small : c.args.level.now < 20 = omega (arith, c.number-number.ensures) in
+    let none = rw c.number-number.ensures.value at c.in_default.ensures.none in
+    filled-next c.entries_turn.ensures c.args.turns.now c.args.level.now small c.loop-entry.distances inv.filling (λ j l e. by_place c.args.turns.now c.args.level.now c.loop-entry.from c.loop-entry.distances inv.filling j l e (omega (arith, inv.filling.size)) (λ b. inv.extended j b e) none (leb_tells c.loop-entry.from j)) where
       by_place : (step : Step) (level from : ℕ) (xs : List ℕ) → IsFilling step level xs → (j : ℕ) → j < entry_count step → entry_distance step j ≡ level → j < length xs → (j < from → IsExtended step xs j) → ((k : ℕ) → from ≤ k → k < length xs → slice_index xs k ≢ level) → ((leb from j ≡ true) × (from ≤ j)) ⊎ ((leb from j ≡ false) × (j < from)) → IsExtended step xs j
       by_place step level from xs f j l e r before none (inr a) = before a.1
       by_place step level from xs f j l e r before none (inl a) = absurd (away step level xs f j l (none j a.1 r) e)
@@ -73,6 +76,6 @@ returns-clause-ticks g c =
     let inv = c.loop-entry.invariant in
     let step = c.args.turns.now in
     let size = inv.filling.size in
-    let none = c.in_default.ensures.none in
-    let same = skipped step c.args.level c.loop-entry.distances inv.filling c.loop-entry.from (entry_count step) (omega arith) (omega arith) (λ k low high. none k low (omega arith)) in
+    let none = rw c.number-number.ensures.value at c.in_default.ensures.none in
+    let same = skipped step c.args.level.now c.loop-entry.distances inv.filling c.loop-entry.from (entry_count step) (omega arith) (omega arith) (λ k low high. none k low (omega arith)) in
     inv.ticks ∙ ap (λ n. c.args.meter.now + length (turns_of step) * n) (sym same)

@@ -26,7 +26,10 @@ pub loop-level-preserved : goal.loop-level-preserved
 loop-level-preserved g c =
     let turns = length (turns_of c.of-turns.result) in
     let more = ap (λ n. turns * n) (count-level (entry_distance c.of-turns.result) c.loop-level.level (range_with_len 0 (entry_count c.of-turns.result))) in
-    record { filled = c.extend_level.ensures.filled; ticks = omega (arith, more) }
+    record {
+      filled = rw c.new-in-loop-level.ensures at c.extend_level.ensures.filled;
+      ticks = omega (arith, more, rw c.new-in-loop-level.ensures at c.extend_level.ensures.ticks);
+    }
 
 pub returns-clause-filled : goal.returns-clause-filled
 returns-clause-filled g c =
