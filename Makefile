@@ -1,10 +1,21 @@
-# `make` proves the crates below the program and builds it, `make test` is the gate.
+# `make` proves the crates below the program and builds it, `make test` runs the gate and the built program.
 PREFIX ?= /usr/local
 DESTDIR ?=
 
 SOURCES := HANDLES crates.txt $(shell find crates \( -name out -o -name must-fail \) -prune -o -type f \( -name '*.rt' -o -name '*.antt' \) -print)
 
-.PHONY: all test install clean bench
+# Where a distribution looks for each file. A package is built with `make install DESTDIR=FOLDER PREFIX=/usr`: the files go below
+# FOLDER, and PREFIX says where they will stand. `make uninstall` takes the same two.
+INSTALLED := \
+	build/nissy:bin/nissy \
+	docs/nissy.1:share/man/man1/nissy.1 \
+	docs/MANUAL.md:share/doc/nissy/MANUAL.md \
+	docs/COOKBOOK.md:share/doc/nissy/COOKBOOK.md \
+	completions/nissy.bash:share/bash-completion/completions/nissy \
+	completions/_nissy:share/zsh/site-functions/_nissy \
+	completions/nissy.fish:share/fish/vendor_completions.d/nissy.fish
+
+.PHONY: all test install uninstall clean bench
 
 all: build/nissy
 
@@ -15,11 +26,18 @@ build/nissy: $(SOURCES)
 	cp crates/nissy/out/nissy build/nissy
 
 test:
-	rt ci
+	tests/run
 
 install: build/nissy
-	install -D -m 755 build/nissy "$(DESTDIR)$(PREFIX)/bin/nissy"
-	install -D -m 644 docs/nissy.1 "$(DESTDIR)$(PREFIX)/share/man/man1/nissy.1"
+	@set -e; for pair in $(INSTALLED); do \
+		mode=644; case $$pair in build/*) mode=755 ;; esac; \
+		install -D -m $$mode "$${pair%%:*}" "$(DESTDIR)$(PREFIX)/$${pair#*:}"; \
+		echo "$(DESTDIR)$(PREFIX)/$${pair#*:}"; \
+	done
+
+uninstall:
+	@set -e; for pair in $(INSTALLED); do rm -f "$(DESTDIR)$(PREFIX)/$${pair#*:}"; done
+	-@rmdir "$(DESTDIR)$(PREFIX)/share/doc/nissy" 2> /dev/null || true
 
 bench: build/nissy
 	bench/run

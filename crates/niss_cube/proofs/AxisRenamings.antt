@@ -15,10 +15,12 @@ use Rattle.niss_moves.specs.Effects.{turned}
 use Rattle.niss_cube.proofs.CubieLists.{CubieLists}
 use Rattle.niss_moves.specs.Turn.{inverse_turn}
 use Rattle.niss_cube.specs.RenamedTurns.{turn_for_flip, turn_for_twist}
-use Rattle.niss_cube.proofs.Each.{and_left, and_right, same_place-is, at_place}
+use Rattle.niss_cube.proofs.Each.{at_place}
 use Rattle.niss_cube.proofs.PlaceTables.{all_faces, at_face}
 use Rattle.niss_cube.proofs.RenamingTables.{keeps_kinds}
 use Rattle.niss_cube.proofs.ListTurns.{Valid, map_lists, renamed_cubies, renamed_cubies-valid, renamed_lists-map}
+use Rattle.niss_cube.proofs.Logic.{and_left, and_right}
+use Rattle.niss_moves.proofs.CallerLemmas.{same_place_is}
 
 abbrev pub all_powers : (Power → Bool) → Bool
 all_powers t = t Quarter && (t Half && t Counter)
@@ -55,7 +57,7 @@ renamed_turn_test renamed rotated = all_turns (λ t. list_all (λ q. same_place 
 
 renamed-turn : (renamed : Turn → Turn) (rotated : Place → Place) → renamed_turn_test renamed rotated ≡ true → (t : Turn) (q : Place) → is_place q ≡ true → rotated (turned t q) ≡ turned (renamed t) (rotated q)
 renamed-turn renamed rotated h t q p =
-    same_place-is _ _
+    same_place_is _ _
     (at_place (λ q. same_place (rotated (turned t q)) (turned (renamed t) (rotated q)))
     (at_turn (λ t. list_all (λ q. same_place (rotated (turned t q)) (turned (renamed t) (rotated q))) places) h t) q p)
 

@@ -1,4 +1,4 @@
--- A coordinate that is a code of the cubies, as they are renamed_by from an axis, follows each turn.
+-- A coordinate that is a code of the cubies, as they are renamed from an axis, follows each turn.
 use Rattle.std.proofs.Common.{◌≡◌, ℕ, ◌<◌, refl, sym, ◌∙◌, ap, subst, Bool, true}
 use Rattle.std.specs.Prelude.{◌↔◌}
 use Rattle.std.specs.List.{list_all}
@@ -13,11 +13,12 @@ use Rattle.niss_moves.specs.Effects.{turned}
 use Rattle.niss_cube.proofs.CubieLists.{CubieLists}
 use Rattle.niss_moves.specs.Turn.{inverse_turn}
 use Rattle.niss_cube.specs.AfterTurn.{TurnedIsCube, IsCoordinate}
-use Rattle.niss_cube.proofs.Each.{same_place-is, at_place}
+use Rattle.niss_cube.proofs.Each.{at_place}
 use Rattle.niss_cube.proofs.AxisRenamings.{all_turns, at_turn, KeepsPlaces, IsRenaming}
 use Rattle.niss_cube.proofs.MapPlaces.{sticker_map-place}
 use Rattle.niss_cube.proofs.SetPlaces.{kept_same}
 use Rattle.niss_cube.proofs.ListTurns.{Valid, map_lists, turned_lists, turned-valid, turned-map}
+use Rattle.niss_moves.proofs.CallerLemmas.{same_place_is}
 
 -- The number of a renamed cube is a code of its cubies, below the count; each number has cubies of its own,
 -- and the code after a turn depends on the code alone.
@@ -34,7 +35,7 @@ back_test = refl
 
 turned-inverse_turn : (t : Turn) (q : Place) → is_place q ≡ true → turned (inverse_turn t) (turned t q) ≡ q
 turned-inverse_turn t q h =
-    same_place-is _ _ (at_place (λ q. same_place (turned (inverse_turn t) (turned t q)) q)
+    same_place_is _ _ (at_place (λ q. same_place (turned (inverse_turn t) (turned t q)) q)
     (at_turn (λ t. list_all (λ q. same_place (turned (inverse_turn t) (turned t q)) q) places) back_test t) q h)
 
 pub lists_keep_places : (c : CubieLists) → Valid c → KeepsPlaces (map_lists c)

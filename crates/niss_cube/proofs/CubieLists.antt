@@ -2,7 +2,7 @@
 use Rattle.std.specs.Prelude.{ℕ, zero, suc, ◌+◌, ◌%◌, List, map, slice_index}
 use Rattle.std.specs.List.{range_with_len}
 use Rattle.niss_moves.specs.declared.turn.Face.{Face}
-use Rattle.niss_cube.specs.Quarters.{quarter_table}
+use Rattle.niss_cube.specs.CubieTurns.{quarter_table}
 
 pub record CubieLists : Type 0 where
   pub corners : List ℕ

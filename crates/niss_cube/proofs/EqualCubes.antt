@@ -1,12 +1,11 @@
--- A cube is same_cubie by its map.
+-- A cube is determined by its map: cubes of one map are equal.
 use Rattle.std.proofs.Common.{◌≡◌, ℕ, ◌+◌, ◌%◌, ◌<◌, refl, sym, ◌∙◌, ap, List, length, get_or, Bool, true, ◌&&◌, not, arith}
 use Rattle.std.proofs.lemmas.List.{ext_get_or}
 use Rattle.std.specs.Prelude.{nat_eq, ◌↔◌}
 use lib.Pointwise.{pointwise}
 use Rattle.std.specs.Cmp.Lexicographic.{same_text, other_text}
 use Rattle.std.proofs.lemmas.Bool.{true_from_ne_false}
-use Rattle.niss_cube.proofs.Each.{and_left, and_right}
-use Rattle.niss_cube.proofs.ShownCubies.{and_both, corner_is, edge_is}
+use Rattle.niss_cube.proofs.ShownCubies.{corner_is, edge_is}
 use Rattle.niss_moves.specs.Places.{Place, is_place, is_corner, is_edge, SameMap}
 use Rattle.niss_cube.specs.CubieFacelets.{facelet_at, corner_facelets, edge_facelets}
 use Rattle.niss_cube.specs.Map.{sticker_place, sticker_map}
@@ -15,6 +14,7 @@ use Rattle.niss_cube.proofs.Once.{times_in, place_in, place_in-found, place_in-i
 use Rattle.niss_cube.proofs.PlaceTables.{row_of, index_of, found_test, corners_found, edges_found}
 use Rattle.niss_cube.proofs.StickerPlaces.{sticker_place-at, found}
 use Rattle.niss_cube.proofs.ListTurns.{Valid, map_lists}
+use Rattle.niss_cube.proofs.Logic.{and_left, and_right, and_both}
 
 -- where two kinds of cubies carry the first facelets alike, each place has the same cubie, turned alike
 same_cubie : (n m : ℕ) (rows : List (List Place)) (member : Place → Bool) → found_test n m rows member ≡ true → 0 < m → ((a : ℕ) → a < m → (0 + a) % m ≡ a) →

@@ -15,7 +15,7 @@ use Rattle.niss_cube.specs.Coordinates.{number, for_flip, flip_of}
 use Rattle.niss_cube.specs.Map.{sticker_place}
 use Rattle.niss_cube.proofs.CubieLists.{CubieLists}
 use Rattle.niss_cube.specs.Cubies.{flips_home}
-use Rattle.niss_cube.proofs.Each.{and_left, at_place}
+use Rattle.niss_cube.proofs.Each.{at_place}
 use Rattle.niss_cube.proofs.Sums.{eqb-itself}
 use Rattle.niss_cube.proofs.Once.{times_in, place_in, place_in-found, place_in-is, count_by-times}
 use Rattle.niss_cube.proofs.PlaceTables.{all_below, at_below, row_of, index_of, located_test, found_test, edges_located, edges_found}
@@ -27,6 +27,8 @@ use Rattle.niss_cube.proofs.CoordinateValues.{same_map-sym, flip_of-cubies}
 use Rattle.niss_cube.proofs.ListTurns.{Valid, map_lists}
 use Rattle.niss_cube.proofs.Orientations.{AreOriented, base_2, oriented_zero}
 use Rattle.niss_cube.proofs.AxisRenamings.{cubies_for_flip, cubies_for_flip-valid, cubies_for_flip-map}
+use Rattle.niss_cube.proofs.Logic.{and_left}
+use Rattle.niss_cube.proofs.SetPlaces.{edge_place}
 
 -- in each row one facelet, the s-th, belongs to the set
 abbrev pub row_test : ℕ → ℕ → List (List Place) → (Place → Bool) → ℕ → Bool
@@ -112,9 +114,6 @@ flip_rows : (a : Axis) → row_test 12 2 edge_facelets (renamed_flip_set a) (ren
 flip_rows Ud = refl
 flip_rows Rl = refl
 flip_rows Fb = refl
-
-edge_place : (q : Place) → is_edge q ≡ true → is_place q ≡ true
-edge_place q h = and_left _ _ h
 
 renamed_flip_inside : (a : Axis) (q : Place) → renamed_flip_set a q ≡ true → (is_place q ≡ true) × (is_edge q ≡ true)
 renamed_flip_inside Ud q h = let e : is_edge q ≡ true = and_left _ _ h in (edge_place q e, e)

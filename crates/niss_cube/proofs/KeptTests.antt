@@ -7,11 +7,7 @@ use Rattle.niss_moves.specs.Facelets.{places}
 use Rattle.niss_cube.specs.Sets.{Kept}
 use Rattle.niss_cube.specs.Sets.{is_kept, KeptIsTested}
 use Rattle.niss_cube.proofs.Each.{at_place}
-
-pub implied : (a b : Bool) → (not a || b) ≡ true → a ≡ true → b ≡ true
-implied true b h e = h
-implied false true h e = refl
-implied false false h e = e
+pub use Rattle.niss_cube.proofs.Logic.{or_then, or_then as implied}
 
 implies : (a b : Bool) → (a ≡ true → b ≡ true) → (not a || b) ≡ true
 implies true b h = h refl
@@ -24,7 +20,7 @@ all_of t (x ∷ xs) h = rw (h x) (all_of t xs h)
 pub kept-tested : (set : Place → Bool) (e : Place → Place) → ((q : Place) → set q ≡ true → is_place q ≡ true) → IsTrue (is_kept set e) ↔ Kept set e
 unfolding is_kept
 kept-tested set e inside = (
-  (λ h q m. implied (set q) (set (e q)) (at_place (λ q. not (set q) || set (e q)) h q (inside q m)) m),
+  (λ h q m. or_then (set q) (set (e q)) (at_place (λ q. not (set q) || set (e q)) h q (inside q m)) m),
   (λ k. all_of (λ q. not (set q) || set (e q)) places (λ q. implies (set q) (set (e q)) (k q))),
 )
 

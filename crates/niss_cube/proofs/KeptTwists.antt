@@ -16,8 +16,7 @@ use Rattle.niss_cube.specs.Coordinates.{number, rank, for_twist, twist_of, slice
 use Rattle.niss_cube.specs.Map.{sticker_place}
 use Rattle.niss_cube.proofs.CubieLists.{CubieLists}
 use Rattle.niss_cube.specs.Cubies.{twists_home}
-use Rattle.niss_cube.proofs.Each.{and_left}
-use Rattle.niss_cube.proofs.Sums.{below, one_if, below_permuted}
+use Rattle.niss_cube.proofs.Sums.{below, one_if, below_permuted, below_all_same, one_if-at_most}
 use Rattle.niss_cube.proofs.Once.{times_in, place_in, place_in-found, place_in-is, count_by-times}
 use Rattle.niss_cube.proofs.PlaceTables.{all_below, at_below, row_of, index_of, edges_located, edges_found, corners_located, corners_found}
 use Rattle.niss_cube.proofs.StickerPlaces.{sticker_place-at, located, below-3, below-2}
@@ -30,6 +29,8 @@ use Rattle.niss_cube.proofs.Orientations.{AreOriented, base_3, oriented_zero}
 use Rattle.niss_cube.proofs.AxisRenamings.{cubies_for_twist, cubies_for_twist-valid, cubies_for_twist-map}
 use Rattle.niss_cube.proofs.Numbers.{rank-same}
 use Rattle.niss_cube.proofs.KeptFlips.{row_test, kept-unturned, unturned-kept, renaming_kept}
+use Rattle.niss_cube.proofs.Logic.{and_left}
+use Rattle.niss_cube.proofs.SetPlaces.{edge_place, corner_place}
 
 twist_number : (a : Axis) (c : CubieLists) → Valid c → twist_of a (map_lists c) ≡ number 3 (take 7 (cubies_for_twist a c).twists)
 twist_number a c v = let w = cubies_for_twist a c in twist_of-cubies a (map_lists c) w.corners w.twists w.edges w.flips (cubies_for_twist-valid a c v) (cubies_for_twist-map a c v)
@@ -67,12 +68,6 @@ twist_rows = refl
 corner_in : (a : Axis) (q : Place) → twist_set a q ≡ true → is_corner q ≡ true
 corner_in a q h = and_left _ _ h
 
-corner_place : (q : Place) → is_corner q ≡ true → is_place q ≡ true
-corner_place q h = and_left _ _ (and_left _ _ (and_left _ _ h))
-
-edge_place : (q : Place) → is_edge q ≡ true → is_place q ≡ true
-edge_place q h = and_left _ _ h
-
 twist_renaming_kept : (a : Axis) (e : Place → Place) → ((q : Place) → is_place q ≡ true → is_place (e q) ≡ true) → Kept (twist_set a) e ↔ Kept (twist_set Ud) (for_twist a e)
 twist_renaming_kept Ud e keep = ((λ k. k), (λ k. k))
 twist_renaming_kept Rl e keep = renaming_kept ZCounter (twist_set Rl) (twist_set Ud) twist_rl_test (λ q h. corner_place q (corner_in Rl q h)) (λ q h. corner_place q (corner_in Ud q h)) e keep
@@ -100,35 +95,13 @@ twist_zero-kept a c v =
           (λ t l h. omega arith) (k.0 h))),
     )
 
--- sums that are equal, with each term at most its fellow, have equal terms
-below_le : (n : ℕ) (f g : ℕ → ℕ) → ((k : ℕ) → k < n → f k ≤ g k) → below n f ≤ below n g
-below_le zero f g h = omega arith
-below_le (suc n) f g h =
-    let a : below n f ≤ below n g = below_le n f g (λ k l. h k (omega arith)) in
-    let b : f n ≤ g n = h n (omega arith) in
-    omega arith
-
-below_equal : (n : ℕ) (f g : ℕ → ℕ) → ((k : ℕ) → k < n → f k ≤ g k) → below n f ≡ below n g → (k : ℕ) → k < n → f k ≡ g k
-below_equal zero f g h e k l = absurd (omega arith)
-below_equal (suc n) f g h e k l =
-    let a : below n f ≤ below n g = below_le n f g (λ k l. h k (omega arith)) in
-    let b : f n ≤ g n = h n (omega arith) in
-    elim (eqb_tells k n) [
-      | inl w ↦ ap f w.1 ∙ (let c : f n ≡ g n = omega arith in c) ∙ ap g (sym w.1)
-      | inr w ↦ below_equal n f g (λ k l. h k (omega arith)) (omega arith) k (grind (arith, w.1))
-    ]
-
-one_if-le : (a b : Bool) → (a ≡ true → b ≡ true) → one_if a ≤ one_if b
-one_if-le true b h = rw (h refl) (omega arith)
-one_if-le false b h = omega arith
-
 one_if-same : (a b : Bool) → one_if a ≡ one_if b → a ≡ b
 one_if-same true true h = refl
 one_if-same true false h = absurd (omega arith)
 one_if-same false true h = absurd (omega arith)
 one_if-same false false h = refl
 
--- the places of the slice's edges at rotated_back, from the last down
+-- the places of the slice's edges at home, from the last place down
 abbrev home_occupied : List Bool
 home_occupied = true ∷ true ∷ true ∷ true ∷ false ∷ false ∷ false ∷ false ∷ false ∷ false ∷ false ∷ false ∷ []
 
@@ -193,8 +166,8 @@ module _ (w : CubieLists) (v : Valid w) (e : Place → Place) (is : (h k : ℕ) 
 
   pub kept-slice_home : Kept (slice_set Ud) e → AtHome w.edges
   kept-slice_home kept i l =
-      one_if-same _ _ (below_equal 12 (λ i. one_if (nat_le 8 (get_or w.edges i 0))) (λ i. one_if (nat_le 8 i))
-      (λ i li. one_if-le _ _ (λ h.
+      one_if-same _ _ (below_all_same 12 (λ i. one_if (nat_le 8 (get_or w.edges i 0))) (λ i. one_if (nat_le 8 i))
+      (λ i li. one_if-at_most _ _ (λ h.
       let rotated_back : ℕ = get_or w.edges i 0 in
       let lh : rotated_back < 12 = v.edge_range i li in
       let p : place_in w.edges rotated_back ≡ i = place_in-is w.edges rotated_back i (edge_once rotated_back lh) (omega (arith, li, v.edge_places)) refl in

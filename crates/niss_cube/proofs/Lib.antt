@@ -3,6 +3,7 @@ pub mod CodedLaws
 pub mod CoordinateLaws
 pub mod CoordinateValues
 pub mod CubieLists
+pub mod CubieTurnTables
 pub mod Each
 pub mod EqualCubes
 pub mod FaceletLetters
@@ -10,6 +11,7 @@ pub mod KeptFlips
 pub mod KeptTests
 pub mod KeptTwists
 pub mod ListTurns
+pub mod Logic
 pub mod MapPlaces
 pub mod Numbers
 pub mod OccupiedNumbers
@@ -24,16 +26,18 @@ pub mod QuarterTurned
 pub mod RenamedCubies
 pub mod RenamingTables
 pub mod RotatedPlaces
-pub mod SameLetters
 pub mod SetPlaces
 pub mod ShownCubies
 pub mod SliceCodes
 pub mod SliceSteps
+pub mod StepGoals
 pub mod StepMaps
 pub mod StepTurns
 pub mod StickerPlaces
 pub mod Sums
 pub mod TableSteps
+pub mod TableTurns
+pub mod TurnedNumbers
 pub mod WorkedTurns
 pub mod WorkedValues
 pub mod WrittenOrientations

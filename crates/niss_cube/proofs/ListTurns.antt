@@ -11,7 +11,7 @@ use Rattle.niss_moves.specs.declared.turn.Power.{Power}
 use Rattle.niss_moves.specs.declared.turn.Power.TheVariants.{Quarter, Half, Counter}
 use Rattle.niss_cube.specs.Cubies.{AreCubies}
 use Rattle.niss_cube.specs.Map.{sticker_map}
-use Rattle.niss_cube.specs.Quarters.{quarter_table}
+use Rattle.niss_cube.specs.CubieTurns.{quarter_table}
 use Rattle.niss_cube.proofs.CubieLists.{CubieLists, flips_quarter, twists_quarter, edges_quarter, corners_quarter, repeated}
 use Rattle.niss_cube.specs.Renamings.{renaming_table, renamed_by}
 use Rattle.niss_cube.specs.declared.renaming.Renaming.{Renaming}

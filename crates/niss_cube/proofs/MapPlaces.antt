@@ -11,14 +11,12 @@ use Rattle.niss_moves.specs.Facelets.{places}
 use Rattle.niss_cube.specs.CubieFacelets.{facelet_at, corner_facelets, edge_facelets}
 use Rattle.niss_cube.specs.Cubies.{AreCubies}
 use Rattle.niss_cube.specs.Map.{sticker_place, sticker_map}
-use Rattle.niss_cube.proofs.Each.{and_right, same_place-is, at_place}
+use Rattle.niss_cube.proofs.Each.{at_place}
 use Rattle.niss_cube.proofs.Once.{times_in, place_in, place_in-found, count_by-times}
 use Rattle.niss_cube.proofs.PlaceTables.{row_of, index_of, found_test, at_face, all_faces, corners_located, edges_located, corners_found, edges_found}
 use Rattle.niss_cube.proofs.StickerPlaces.{sticker_place-at, found, located, below-3, below-2}
-
-is_true : (b : Bool) → (b ≡ true) ⊎ (b ≡ false)
-is_true true = inl refl
-is_true false = inr refl
+use Rattle.niss_cube.proofs.Logic.{and_right, is_true}
+use Rattle.niss_moves.proofs.CallerLemmas.{same_place_is}
 
 pub sticker_place-set : (n m : ℕ) (rows : List (List Place)) (set : Place → Bool) → found_test n m rows set ≡ true → ((a : ℕ) → a % m < m) → (homes turns : List ℕ) (h k : ℕ) → length homes ≡ n → times_in homes h ≡ 1 → h < n → k < m → set (sticker_place m rows homes turns (facelet_at rows h k)) ≡ true
 sticker_place-set n m rows set test small homes turns h k l one lh lk =
@@ -62,10 +60,10 @@ counter_test : all_faces (λ f. list_all (λ q. same_place (moved (face_move f 3
 counter_test = refl
 
 pub half_is : (f : Face) (q : Place) → is_place q ≡ true → moved (face_move f 2) q ≡ moved (face_move f 1) (moved (face_move f 1) q)
-half_is f q p = same_place-is _ _ (at_place (λ q. same_place (moved (face_move f 2) q) (moved (face_move f 1) (moved (face_move f 1) q))) (at_face (λ f. list_all (λ q. same_place (moved (face_move f 2) q) (moved (face_move f 1) (moved (face_move f 1) q))) places) half_test f) q p)
+half_is f q p = same_place_is _ _ (at_place (λ q. same_place (moved (face_move f 2) q) (moved (face_move f 1) (moved (face_move f 1) q))) (at_face (λ f. list_all (λ q. same_place (moved (face_move f 2) q) (moved (face_move f 1) (moved (face_move f 1) q))) places) half_test f) q p)
 
 pub counter_is : (f : Face) (q : Place) → is_place q ≡ true → moved (face_move f 3) q ≡ moved (face_move f 1) (moved (face_move f 1) (moved (face_move f 1) q))
-counter_is f q p = same_place-is _ _ (at_place (λ q. same_place (moved (face_move f 3) q) (moved (face_move f 1) (moved (face_move f 1) (moved (face_move f 1) q)))) (at_face (λ f. list_all (λ q. same_place (moved (face_move f 3) q) (moved (face_move f 1) (moved (face_move f 1) (moved (face_move f 1) q)))) places) counter_test f) q p)
+counter_is f q p = same_place_is _ _ (at_place (λ q. same_place (moved (face_move f 3) q) (moved (face_move f 1) (moved (face_move f 1) (moved (face_move f 1) q)))) (at_face (λ f. list_all (λ q. same_place (moved (face_move f 3) q) (moved (face_move f 1) (moved (face_move f 1) (moved (face_move f 1) q)))) places) counter_test f) q p)
 
 pub half_map : (t : Turn) (d e₁ e₂ : Place → Place) → t.power ≡ Half → SameMap e₁ (λ q. moved (face_move t.face 1) (d q)) → SameMap e₂ (λ q. moved (face_move t.face 1) (e₁ q)) → ((q : Place) → is_place q ≡ true → is_place (d q) ≡ true) → SameMap e₂ (λ q. turned t (d q))
 half_map t d e₁ e₂ w a b keep q p =

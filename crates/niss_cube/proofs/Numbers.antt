@@ -20,7 +20,7 @@ abbrev pub Digits : ℕ → List ℕ → Type 0
 Digits b [] = Unit {0}
 Digits b (d ∷ ds) = (d < b) × Digits b ds
 
--- digits of one length are same_cubie by their number
+-- digits of one length are determined by their number
 pub number_from-same : (b : ℕ) → Splits b → (xs ys : List ℕ) (a c : ℕ) → length xs ≡ length ys → Digits b xs → Digits b ys → number_from b a xs ≡ number_from b c ys → (a ≡ c) × (xs ≡ ys)
 number_from-same b s [] [] a c l p q e = (e, refl)
 number_from-same b s [] (y ∷ ys) a c l p q e = absurd (omega arith)
@@ -79,7 +79,7 @@ rank-below (o ∷ os) zero p = omega arith
 rank-below (true ∷ os) (suc k) p = let r : rank os k < choose (length os) k = rank-below os k (omega arith) in omega arith
 rank-below (false ∷ os) (suc k) p = let r : rank os (suc k) < choose (length os) (suc k) = rank-below os (suc k) p in omega arith
 
--- occupied places are same_cubie by their number
+-- occupied places are determined by their number
 pub rank-same : (os rs : List Bool) (k : ℕ) → length os ≡ length rs → filled os ≡ k → filled rs ≡ k → rank os k ≡ rank rs k → os ≡ rs
 rank-same os rs zero l p q e = none_filled os p rs q l
 rank-same [] [] (suc k) l p q e = refl

@@ -112,7 +112,7 @@ orientations_of_number-number b base n i h =
     let ds : List ℕ = digits_of_number b n i in
     ap (number b) (take-more ds ((b - sum ds % b) % b) n (digits_of_number-length b n i)) ∙ digits_of_number-number b base n i h
 
--- orientations are same_cubie by their number
+-- orientations are determined by their number
 pub oriented-same : (b : ℕ) → Base b → (n : ℕ) (xs ys : List ℕ) → AreOriented b n xs → AreOriented b n ys → number b (take n xs) ≡ number b (take n ys) → xs ≡ ys
 oriented-same b base n xs ys p q e =
     ext_get_or 0 xs ys (p.places ∙ sym q.places) (λ i li. go i (omega (arith, li, p.places)))

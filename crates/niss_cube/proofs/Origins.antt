@@ -9,13 +9,15 @@ use Rattle.niss_cube.specs.CubieFacelets.{facelet_at, corner_facelets, edge_face
 use Rattle.niss_cube.specs.Map.{sticker_place}
 use Rattle.niss_moves.specs.Letters.{letter_of, letter_at}
 use Rattle.niss_cube.proofs.CubieLists.{CubieLists}
-use Rattle.niss_cube.proofs.Each.{and_left, and_right, same_place-is, same_place-refl, listed}
+use Rattle.niss_cube.proofs.Each.{listed}
 use Rattle.niss_cube.proofs.Once.{times_in, place_in, place_in-found, place_in-is, count_by-times}
 use Rattle.niss_cube.proofs.PlaceTables.{row_of, index_of, found_test, corners_located, edges_located, corners_found, edges_found}
 use Rattle.niss_cube.proofs.StickerPlaces.{sticker_place-at, found, located, below-3, below-2}
 use Rattle.niss_cube.proofs.MapPlaces.{sticker_map-corner, sticker_map-edge}
 use Rattle.niss_cube.proofs.ShownCubies.{corner_is, edge_is}
 use Rattle.niss_cube.proofs.ListTurns.{Valid, map_lists}
+use Rattle.niss_cube.proofs.Logic.{and_left, and_right, not_true, is_true}
+use Rattle.niss_moves.proofs.CallerLemmas.{same_place_is, same_place_self, all_places}
 
 -- the only place from which e brings a sticker to q has this letter, and there is one
 letter_of-only : (e : Place → Place) (q : Place) (letter : ℕ) (ps : List Place) → list_all is_place ps ≡ true → ((p : Place) → is_place p ≡ true → e p ≡ q → letter_at p ≡ letter) → list_any (λ p. same_place (e p) q) ps ≡ true → letter_of e ps q ≡ letter
@@ -24,7 +26,7 @@ letter_of-only e q letter [] all only some = absurd (cc)
 letter_of-only e q letter (p ∷ ps) all only some = go (same_place (e p) q) refl some (letter_of-only e q letter ps (and_right (is_place p) _ all) only)
   where
     go : (b : Bool) → same_place (e p) q ≡ b → (b || list_any (λ p. same_place (e p) q) ps) ≡ true → (list_any (λ p. same_place (e p) q) ps ≡ true → letter_of e ps q ≡ letter) → (if b then letter_at p else letter_of e ps q) ≡ letter
-    go true h s rest = only p (and_left _ _ all) (same_place-is (e p) q h)
+    go true h s rest = only p (and_left _ _ all) (same_place_is (e p) q h)
     go false h s rest = rest s
 
 any_brought : (e : Place → Place) (q p : Place) (ps : List Place) → e p ≡ q → list_any (same_place p) ps ≡ true → list_any (λ p. same_place (e p) q) ps ≡ true
@@ -33,7 +35,7 @@ any_brought e q p (r ∷ rs) h some = go (same_place p r) refl some (any_brought
   where
     go : (b : Bool) → same_place p r ≡ b → (b || list_any (same_place p) rs) ≡ true → (list_any (same_place p) rs ≡ true → list_any (λ p. same_place (e p) q) rs ≡ true) → (same_place (e r) q || list_any (λ p. same_place (e p) q) rs) ≡ true
     go true w s rest =
-        let at : same_place (e r) q ≡ true = ap (λ z. same_place (e z) q) (sym (same_place-is p r w)) ∙ ap (λ z. same_place z q) h ∙ same_place-refl q in
+        let at : same_place (e r) q ≡ true = ap (λ z. same_place (e z) q) (sym (same_place_is p r w)) ∙ ap (λ z. same_place z q) h ∙ same_place_self q in
         rw at refl
     go false w s rest = or_second (same_place (e r) q) _ (rest s)
       where
@@ -41,23 +43,12 @@ any_brought e q p (r ∷ rs) h some = go (same_place p r) refl some (any_brought
         or_second true b h = refl
         or_second false b h = h
 
-pub all_places : list_all is_place places ≡ true
-all_places = refl
-
 pub letter_of-is : (e : Place → Place) (q p : Place) → is_place p ≡ true → e p ≡ q → ((p' : Place) → is_place p' ≡ true → e p' ≡ q → p' ≡ p) → letter_of e places q ≡ letter_at p
 letter_of-is e q p l h only =
     letter_of-only e q (letter_at p) places all_places (λ p' l' h'. ap letter_at (only p' l' h')) (any_brought e q p places h (listed p l))
 
-pub is_true : (b : Bool) → (b ≡ true) ⊎ (b ≡ false)
-is_true true = inl refl
-is_true false = inr refl
-
 pub clash : (b : Bool) → b ≡ true → b ≡ false → ⊥
 clash b p q = cc
-
-pub not_is : (b : Bool) → not b ≡ true → b ≡ false
-not_is true h = sym h
-not_is false h = refl
 
 -- among the facelets of one kind, the one whose sticker stands at facelet k of place i
 pub origin : (n m : ℕ) (rows : List (List Place)) (member : Place → Bool) → found_test n m rows member ≡ true → ((a : ℕ) → a % m < m) → (homes turns : List ℕ) → length homes ≡ n → ((h : ℕ) → h < n → times_in homes h ≡ 1) → ((i : ℕ) → i < n → get_or homes i 0 < n) →
@@ -97,7 +88,7 @@ module _ (c : CubieLists) (v : Valid c) where
 
   -- an edge's sticker is brought to no corner's place, a corner's to no edge's
   pub edge_not_corner : (p : Place) → is_place p ≡ true → is_corner p ≡ false → is_edge p ≡ true → is_corner (map_lists c p) ≡ false
-  edge_not_corner p l w u = not_is _ (and_left _ _ (and_right (is_edge (map_lists c p)) _ (sticker_map-edge c.corners c.twists c.edges c.flips v p l w u)))
+  edge_not_corner p l w u = not_true _ (and_left _ _ (and_right (is_edge (map_lists c p)) _ (sticker_map-edge c.corners c.twists c.edges c.flips v p l w u)))
 
   pub corner_stays : (p : Place) → is_place p ≡ true → is_corner p ≡ true → is_corner (map_lists c p) ≡ true
   corner_stays p l w = and_left _ _ (sticker_map-corner c.corners c.twists c.edges c.flips v p l w)
@@ -137,7 +128,7 @@ module _ (c : CubieLists) (v : Valid c) where
       let p_in = (found 12 2 edge_facelets (λ q. is_edge q && (not (is_corner q) && is_place q)) edges_found (get_or c.edges i 0) j lh lj).2 in
       let q_in = (found 12 2 edge_facelets (λ q. is_edge q && (not (is_corner q) && is_place q)) edges_found i k li lk).2 in
       let q_edge : is_edge (facelet_at edge_facelets i k) ≡ true = and_left _ _ q_in in
-      let q_no_corner : is_corner (facelet_at edge_facelets i k) ≡ false = not_is _ (and_left _ _ (and_right (is_edge (facelet_at edge_facelets i k)) _ q_in)) in
+      let q_no_corner : is_corner (facelet_at edge_facelets i k) ≡ false = not_true _ (and_left _ _ (and_right (is_edge (facelet_at edge_facelets i k)) _ q_in)) in
       letter_of-is (map_lists c) (facelet_at edge_facelets i k) (facelet_at edge_facelets (get_or c.edges i 0) j)
       (and_right (not (is_corner (facelet_at edge_facelets (get_or c.edges i 0) j))) _ (and_right (is_edge (facelet_at edge_facelets (get_or c.edges i 0) j)) _ p_in))
       (edge_from (get_or c.edges i 0) j lh lj ∙ origin 12 2 edge_facelets (λ q. is_edge q && (not (is_corner q) && is_place q)) edges_found below-2 c.edges c.flips v.edge_places edge_once v.edge_range i k j li lk lj m)

@@ -13,14 +13,16 @@ use Rattle.niss_cube.specs.Sets.{Kept}
 use Rattle.niss_cube.specs.Permutations.{PermutesPlaces, CubesPermutePlaces, KeptIsEqual}
 use Rattle.niss_cube.proofs.CodedLaws.{lists_of}
 use Rattle.niss_cube.proofs.CubieLists.{CubieLists}
-use Rattle.niss_cube.proofs.Each.{and_left, and_right, same_place-is, at_place}
+use Rattle.niss_cube.proofs.Each.{at_place}
 use Rattle.niss_cube.proofs.ListTurns.{Valid, map_lists}
 use Rattle.niss_cube.proofs.MapPlaces.{sticker_map-place}
 use Rattle.niss_cube.proofs.Once.{times_in, place_in, place_in-found}
-use Rattle.niss_cube.proofs.Origins.{is_true, origin, only_origin, corner_once, edge_once, corner_from, edge_from, edge_not_corner, corner_stays, edge_stays, centre_stays}
+use Rattle.niss_cube.proofs.Origins.{origin, only_origin, corner_once, edge_once, corner_from, edge_from, edge_not_corner, corner_stays, edge_stays, centre_stays}
 use Rattle.niss_cube.proofs.PlaceTables.{all_below, at_below, row_of, index_of, found_test, corners_located, edges_located, corners_found, edges_found}
 use Rattle.niss_cube.proofs.StickerPlaces.{sticker_place-at, found, located, below-3, below-2}
-use Rattle.niss_cube.proofs.Sums.{below, below_same, below_permuted, eqb-other, one_if, one_of}
+use Rattle.niss_cube.proofs.Sums.{below, below_same, below_permuted, eqb-other, one_if, one_of, below_all_same, one_if-at_most}
+use Rattle.niss_cube.proofs.Logic.{and_left, and_right, is_true}
+use Rattle.niss_moves.proofs.CallerLemmas.{same_place_is}
 
 -- two facelets of cubies of one kind that are brought to the same place are of the same cubie
 same_origin : (n m : ℕ) (rows : List (List Place)) (member : Place → Bool) → found_test n m rows member ≡ true → ((a : ℕ) → a % m < m) → (homes turns : List ℕ) → length homes ≡ n → ((h : ℕ) → h < n → times_in homes h ≡ 1) →
@@ -175,7 +177,7 @@ numbered_test = refl
 at_number : (q : Place) → is_place q ≡ true → (number_at q < 54) × (place_at (number_at q) ≡ q)
 at_number q l =
     let t = at_place (λ q. nat_lt (number_at q) 54 && same_place (place_at (number_at q)) q) numbered_test q l in
-    (ltb-true _ _ (and_left _ _ t), same_place-is _ _ (and_right (nat_lt (number_at q) 54) _ t))
+    (ltb-true _ _ (and_left _ _ t), same_place_is _ _ (and_right (nat_lt (number_at q) 54) _ t))
 
 places_test : all_below 54 (λ k. (number_at (place_at k) == k) && is_place (place_at k)) ≡ true
 places_test = refl
@@ -184,27 +186,6 @@ of_number : (k : ℕ) → k < 54 → (number_at (place_at k) ≡ k) × (is_place
 of_number k l =
     let t = at_below 54 (λ k. (number_at (place_at k) == k) && is_place (place_at k)) places_test k l in
     (eqb-true _ _ (and_left _ _ t), and_right (number_at (place_at k) == k) _ t)
-
-below_at_most : (n : ℕ) (f g : ℕ → ℕ) → ((k : ℕ) → k < n → f k ≤ g k) → below n f ≤ below n g
-below_at_most zero f g h = omega arith
-below_at_most (suc n) f g h =
-    let r : below n f ≤ below n g = below_at_most n f g (λ k l. h k (omega arith)) in
-    omega (arith, h n (omega arith))
-
--- terms that are at most others, and sum as these do, are these
-below_all_same : (n : ℕ) (f g : ℕ → ℕ) → ((k : ℕ) → k < n → f k ≤ g k) → below n f ≡ below n g → (k : ℕ) → k < n → f k ≡ g k
-below_all_same zero f g h e k l = absurd (omega arith)
-below_all_same (suc n) f g h e k l =
-    let r : below n f ≤ below n g = below_at_most n f g (λ k l. h k (omega arith)) in
-    let last : f n ≤ g n = h n (omega arith) in
-    elim (eqb_tells k n) [
-      | inl w ↦ let same : f n ≡ g n = omega arith in ap f w.1 ∙ same ∙ sym (ap g w.1)
-      | inr w ↦ below_all_same n f g (λ k l. h k (omega arith)) (omega arith) k (grind (arith, w.1))
-    ]
-
-one_if-at_most : (a b : Bool) → (a ≡ true → b ≡ true) → one_if a ≤ one_if b
-one_if-at_most true b h = rw (h refl) (omega arith)
-one_if-at_most false b h = omega arith
 
 one_if-true : (b : Bool) → one_if b ≡ 1 → b ≡ true
 one_if-true true h = refl

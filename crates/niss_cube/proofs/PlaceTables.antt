@@ -9,8 +9,9 @@ use Rattle.niss_moves.specs.declared.turn.Face.{Face}
 use Rattle.niss_moves.specs.declared.turn.Face.TheVariants.{U, D, R, L, F, B}
 use Rattle.niss_moves.specs.Facelets.{places}
 use Rattle.niss_cube.specs.CubieFacelets.{index_in, row_at, facelet_at, corner_facelets, edge_facelets}
-use Rattle.niss_cube.specs.Quarters.{quarter_table}
-use Rattle.niss_cube.proofs.Each.{and_left, and_right, same_place-is}
+use Rattle.niss_cube.specs.CubieTurns.{quarter_table}
+use Rattle.niss_cube.proofs.Logic.{and_left, and_right}
+use Rattle.niss_moves.proofs.CallerLemmas.{same_place_is}
 
 abbrev pub all_below : ℕ → (ℕ → Bool) → Bool
 all_below zero t = true
@@ -48,7 +49,7 @@ edge_tables = refl
 
 at_table : (n m : ℕ) (rows : List (List Place)) (from added : List ℕ) (e : Place → Place) → table_test n m rows from added e ≡ true → (i k : ℕ) → i < n → k < m → e (facelet_at rows (get_or from i 0) k) ≡ facelet_at rows i ((k + get_or added i 0) % m)
 at_table n m rows from added e h i k li lk =
-    same_place-is _ _
+    same_place_is _ _
     (at_below m (λ k. same_place (e (facelet_at rows (get_or from i 0) k)) (facelet_at rows i ((k + get_or added i 0) % m)))
     (at_below n (λ i. all_below m λ k. same_place (e (facelet_at rows (get_or from i 0) k)) (facelet_at rows i ((k + get_or added i 0) % m))) h i li) k lk)
 

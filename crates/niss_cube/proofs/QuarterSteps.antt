@@ -6,17 +6,19 @@ use Rattle.std.proofs.lemmas.Bool.{ltb-true}
 use Rattle.niss_moves.specs.Places.{Place, same_place, is_place, is_corner, is_edge, SameMap}
 use Rattle.niss_moves.specs.Effects.{moved, face_move}
 use Rattle.niss_moves.specs.declared.turn.Face.{Face}
-use Rattle.niss_cube.specs.declared.quarter.QuarterTurn.{QuarterTurn}
+use Rattle.niss_cube.specs.declared.cubie_turns.CubieTurn.{CubieTurn}
 use Rattle.niss_moves.specs.Facelets.{places}
 use Rattle.niss_cube.specs.CubieFacelets.{facelet_at, corner_facelets, edge_facelets}
 use Rattle.niss_cube.specs.Cubies.{AreCubies}
 use Rattle.niss_cube.specs.Map.{sticker_place, sticker_map}
-use Rattle.niss_cube.specs.Quarters.{quarter_table}
-use Rattle.niss_cube.proofs.Each.{same_place-is, at_place}
+use Rattle.niss_cube.specs.CubieTurns.{quarter_table}
+use Rattle.niss_cube.proofs.Each.{at_place}
 use Rattle.niss_cube.proofs.Once.{count_by-times}
 use Rattle.niss_cube.proofs.PlaceTables.{row_of, index_of, at_face, corner_table, edge_table, corners_located, edges_located, corners_found, edges_found, centres_stay}
 use Rattle.niss_cube.proofs.StickerPlaces.{Brought, sticker_place-brought, located, add-mod-3, add-mod-2, below-3, below-2}
 use Rattle.niss_cube.proofs.QuarterTurned.{Permutes, corners_permute, edges_permute, cubies-brought}
+use Rattle.niss_cube.proofs.Logic.{is_true}
+use Rattle.niss_moves.proofs.CallerLemmas.{same_place_is}
 
 brought-from : (n m : ℕ) (from added homes turns homes' turns' : List ℕ) → Permutes n m from added → length homes ≡ n → length homes' ≡ n → length turns' ≡ n →
     EachIndex homes' (λ k. slice_index homes' k ≡ slice_index homes (slice_index from k)) →
@@ -31,10 +33,6 @@ brought-from n m from added homes turns homes' turns' p l l' t' a b =
       turns_are = λ i li. b i (omega (arith, t', li));
     }
 
-is_true : (b : Bool) → (b ≡ true) ⊎ (b ≡ false)
-is_true true = inl refl
-is_true false = inr refl
-
 or_last : (a b c : Bool) → (a || b || c) ≡ true → a ≡ false → b ≡ false → c ≡ true
 or_last a b c h p q = rw (p, q) at h
 
@@ -48,7 +46,7 @@ map-brought f corners twists edges flips corners' twists' edges' flips' a a' c e
       | inl w ↦ rw w (corner w)
       | inr w ↦ rw w (elim (is_true (is_edge q)) [
         | inl v ↦ rw v (edge v)
-        | inr v ↦ rw v (sym (same_place-is (moved (face_move f 1) q) q (stays w v)))
+        | inr v ↦ rw v (sym (same_place_is (moved (face_move f 1) q) q (stays w v)))
       ])
     ]
   where
@@ -77,7 +75,7 @@ map-brought f corners twists edges flips corners' twists' edges' flips' a a' c e
         subst P (sym at.2) r
 
 -- what a quarter turn needs of the lists that were written by a table
-pub record Written (t : QuarterTurn) (corners twists edges flips corners' twists' edges' flips' : List ℕ) : Type 0 where
+pub record Written (t : CubieTurn) (corners twists edges flips corners' twists' edges' flips' : List ℕ) : Type 0 where
   pub corners_len : length corners' ≡ 8
   pub twists_len : length twists' ≡ 8
   pub edges_len : length edges' ≡ 12
@@ -87,17 +85,17 @@ pub record Written (t : QuarterTurn) (corners twists edges flips corners' twists
   pub edges_are : EachIndex edges' (λ k. slice_index edges' k ≡ slice_index edges (slice_index t.edges k))
   pub flips_are : EachIndex flips' (λ k. slice_index flips' k ≡ (slice_index flips (slice_index t.edges k) + slice_index t.flips k) % 2)
 
-pub written-cubies : (f : Face) (corners twists edges flips corners' twists' edges' flips' : List ℕ) (t : QuarterTurn) → t ≡ quarter_table f → AreCubies corners twists edges flips → Written t corners twists edges flips corners' twists' edges' flips' → AreCubies corners' twists' edges' flips'
+pub written-cubies : (f : Face) (corners twists edges flips corners' twists' edges' flips' : List ℕ) (t : CubieTurn) → t ≡ quarter_table f → AreCubies corners twists edges flips → Written t corners twists edges flips corners' twists' edges' flips' → AreCubies corners' twists' edges' flips'
 written-cubies f corners twists edges flips corners' twists' edges' flips' t e a w =
-    let P : QuarterTurn → Type 0 = λ t. Written t corners twists edges flips corners' twists' edges' flips' in
+    let P : CubieTurn → Type 0 = λ t. Written t corners twists edges flips corners' twists' edges' flips' in
     let w' : Written (quarter_table f) corners twists edges flips corners' twists' edges' flips' = subst P e w in
     cubies-brought f corners twists edges flips corners' twists' edges' flips' a w'.twists_len w'.flips_len
     (brought-from 8 3 _ _ corners twists corners' twists' (corners_permute f) a.corner_places w'.corners_len w'.twists_len w'.corners_are w'.twists_are)
     (brought-from 12 2 _ _ edges flips edges' flips' (edges_permute f) a.edge_places w'.edges_len w'.flips_len w'.edges_are w'.flips_are)
 
-pub written-map : (f : Face) (corners twists edges flips corners' twists' edges' flips' : List ℕ) (t : QuarterTurn) → t ≡ quarter_table f → AreCubies corners twists edges flips → Written t corners twists edges flips corners' twists' edges' flips' → SameMap (sticker_map corners' twists' edges' flips') (λ q. moved (face_move f 1) (sticker_map corners twists edges flips q))
+pub written-map : (f : Face) (corners twists edges flips corners' twists' edges' flips' : List ℕ) (t : CubieTurn) → t ≡ quarter_table f → AreCubies corners twists edges flips → Written t corners twists edges flips corners' twists' edges' flips' → SameMap (sticker_map corners' twists' edges' flips') (λ q. moved (face_move f 1) (sticker_map corners twists edges flips q))
 written-map f corners twists edges flips corners' twists' edges' flips' t e a w =
-    let P : QuarterTurn → Type 0 = λ t. Written t corners twists edges flips corners' twists' edges' flips' in
+    let P : CubieTurn → Type 0 = λ t. Written t corners twists edges flips corners' twists' edges' flips' in
     let w' : Written (quarter_table f) corners twists edges flips corners' twists' edges' flips' = subst P e w in
     map-brought f corners twists edges flips corners' twists' edges' flips' a (written-cubies f corners twists edges flips corners' twists' edges' flips' t e a w)
     (brought-from 8 3 _ _ corners twists corners' twists' (corners_permute f) a.corner_places w'.corners_len w'.twists_len w'.corners_are w'.twists_are)

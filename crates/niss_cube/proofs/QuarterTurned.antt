@@ -4,12 +4,12 @@ use Rattle.std.specs.Prelude.{◌==◌, nat_lt, sum}
 use Rattle.std.proofs.lemmas.Bool.{eqb-true, ltb-true}
 use Rattle.niss_moves.specs.declared.turn.Face.{Face}
 use Rattle.niss_cube.specs.Cubies.{AreCubies}
-use Rattle.niss_cube.specs.Quarters.{quarter_table}
-use Rattle.niss_cube.proofs.Each.{and_left, and_right}
+use Rattle.niss_cube.specs.CubieTurns.{quarter_table}
 use Rattle.niss_cube.proofs.Sums.{below, one_if, below_same, below_add, below_permuted, sum_by-below}
 use Rattle.niss_cube.proofs.Once.{times_in, count_by-times}
 use Rattle.niss_cube.proofs.PlaceTables.{all_below, at_below, all_faces, at_face}
 use Rattle.niss_cube.proofs.StickerPlaces.{Brought}
+use Rattle.niss_cube.proofs.Logic.{and_left, and_right}
 
 -- the list has each number below n once, and the amounts that are added are whole rounds
 abbrev pub permutes : ℕ → ℕ → (from added : List ℕ) → Bool

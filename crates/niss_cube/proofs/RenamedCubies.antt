@@ -5,13 +5,13 @@ use Rattle.std.proofs.lemmas.Bool.{eqb-true, ltb-true, eq-eqb}
 use Rattle.niss_moves.specs.Places.{Place, same_place}
 use Rattle.niss_cube.specs.CubieFacelets.{facelet_at}
 use Rattle.niss_cube.specs.Map.{sticker_place}
-use Rattle.niss_cube.proofs.Each.{and_left, and_right, same_place-is}
 use Rattle.niss_cube.proofs.Sums.{below, one_if, below_same, below_add, below_permuted, sum_by-below}
 use Rattle.niss_cube.proofs.Once.{times_in, place_in, place_in-found, place_in-is}
 use Rattle.niss_cube.proofs.PlaceTables.{all_below, at_below, found_test}
 use Rattle.niss_cube.proofs.StickerPlaces.{sticker_place-at}
 use Rattle.niss_cube.proofs.QuarterTurned.{Mod, below_mod}
-use Rattle.niss_cube.proofs.ShownCubies.{same_test}
+use Rattle.niss_cube.proofs.Logic.{and_left, and_right, same_truth}
+use Rattle.niss_moves.proofs.CallerLemmas.{same_place_is}
 
 -- what computation shows of the tables of a renaming, where g renames a place and back takes it back
 abbrev pub renames : ℕ → ℕ → List (List Place) → (from to inward : List ℕ) → (g back : Place → Place) → Bool
@@ -40,8 +40,8 @@ renames-is n m rows from to inward g back h =
       to_from = λ i l. eqb-true _ _ (and_left _ _ (and_right (nat_lt (get_or to i 0) n) _ (and_right (nat_lt (get_or from i 0) n) _ (one i l))));
       from_to = λ i l. eqb-true _ _ (and_left _ _ (last_two i l));
       once = λ i l. eqb-true _ _ (and_right (get_or from (get_or to i 0) 0 == i) _ (last_two i l));
-      back_is = λ i k li lk. same_place-is _ _ (and_left _ _ (two i k li lk));
-      g_is = λ i k li lk. same_place-is _ _ (and_right (same_place (back (facelet_at rows i k)) (facelet_at rows (get_or from i 0) ((k + get_or inward (get_or from i 0) 0) % m))) _ (two i k li lk));
+      back_is = λ i k li lk. same_place_is _ _ (and_left _ _ (two i k li lk));
+      g_is = λ i k li lk. same_place_is _ _ (and_right (same_place (back (facelet_at rows i k)) (facelet_at rows (get_or from i 0) ((k + get_or inward (get_or from i 0) 0) % m))) _ (two i k li lk));
       whole = eqb-true _ _ (and_right places_test _ rest);
     }
   where
@@ -93,7 +93,7 @@ module _ (n m : ℕ) (rows : List (List Place)) (from to inward : List ℕ) (g b
   renamed-once h l =
       ap (λ k. below k (λ i. one_if (get_or homes' i 0 == h))) b.new_len
       ∙ below_same n (λ i. one_if (get_or homes' i 0 == h)) (λ i. one_if (get_or homes (get_or from i 0) 0 == get_or from h 0)) (λ i li.
-      ap one_if (same_test _ _
+      ap one_if (same_truth _ _
       (λ p. eq-eqb _ _ (sym (r.from_to _ (small _ (r.from_small i li))) ∙ ap (λ x. get_or from x 0) (sym (b.homes_are i li) ∙ eqb-true _ _ p)))
       (λ p. eq-eqb _ _ (b.homes_are i li ∙ ap (λ x. get_or to x 0) (eqb-true _ _ p) ∙ r.to_from h l))))
       ∙ below_permuted n (λ i. get_or from i 0) (λ i. one_if (get_or homes i 0 == get_or from h 0)) r.from_small r.once

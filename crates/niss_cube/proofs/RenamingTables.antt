@@ -14,12 +14,14 @@ use Rattle.niss_cube.specs.Cubies.{AreCubies}
 use Rattle.niss_cube.specs.Coordinates.{spun}
 use Rattle.niss_cube.specs.Map.{sticker_place, sticker_map}
 use Rattle.niss_cube.specs.Renamings.{renaming_table, renamed_by}
-use Rattle.niss_cube.proofs.Each.{and_left, and_right, same_place-is, at_place}
+use Rattle.niss_cube.proofs.Each.{at_place}
 use Rattle.niss_cube.proofs.Once.{times_in, count_by-times}
 use Rattle.niss_cube.proofs.PlaceTables.{row_of, index_of, corners_located, edges_located, corners_found, edges_found}
 use Rattle.niss_cube.proofs.StickerPlaces.{located, below-3, below-2}
 use Rattle.niss_cube.proofs.QuarterTurned.{mod_3, mod_2}
 use Rattle.niss_cube.proofs.RenamedCubies.{renames, Renames, renames-is, IsRenamed, regroups_3, regroups_2, renamed-once, renamed-small, renamed-sum, renamed-sticker_place}
+use Rattle.niss_cube.proofs.Logic.{and_left, and_right}
+use Rattle.niss_moves.proofs.CallerLemmas.{same_place_is}
 
 abbrev pub rotated : Renaming → Place → Place
 rotated XCounter = spun Rl 3
@@ -98,8 +100,8 @@ keeps_kinds v q p =
       out_place = and_left _ _ t1;
       corner = same_bool-is _ _ (and_left _ _ t2);
       edge = same_bool-is _ _ (and_left _ _ t3);
-      out_home = same_place-is _ _ (and_left _ _ t4);
-      home_out = same_place-is _ _ (and_right (same_place (rotated v (rotated_back v q)) q) _ t4);
+      out_home = same_place_is _ _ (and_left _ _ t4);
+      home_out = same_place_is _ _ (and_right (same_place (rotated v (rotated_back v q)) q) _ t4);
     }
 
 pub corners_renamed : (v : Renaming) → Renames 8 3 corner_facelets (renaming_table v).corners_from (renaming_table v).corners_to (renaming_table v).twists_in (rotated v) (rotated_back v)

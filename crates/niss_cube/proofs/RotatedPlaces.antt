@@ -15,10 +15,11 @@ use Rattle.niss_moves.specs.declared.axis.Axis.TheVariants.{Ud, Rl, Fb}
 use Rattle.niss_moves.specs.declared.turn.Face.TheVariants.{U}
 use Rattle.niss_cube.specs.Coordinates.{spun}
 use Rattle.niss_cube.specs.RotatedText.{sources_of}
-use Rattle.niss_cube.proofs.Each.{and_left, and_right, each_record, at_record, same_place-is, same_place-refl}
+use Rattle.niss_cube.proofs.Each.{each_record, at_record}
 use Rattle.niss_cube.proofs.PlaceTables.{all_below, at_below}
-use Rattle.niss_cube.proofs.ShownCubies.{same_test}
 use Rattle.niss_cube.proofs.FaceletLetters.{letters-is}
+use Rattle.niss_cube.proofs.Logic.{and_left, and_right, same_truth}
+use Rattle.niss_moves.proofs.CallerLemmas.{same_place_is, same_place_of, effect-append}
 
 abbrev all_axes : (Axis → Bool) → Bool
 all_axes t = t Ud && (t Rl && t Fb)
@@ -36,19 +37,16 @@ back_tests : all_axes back_test ≡ true
 back_tests = refl
 
 spun-back : (a : Axis) (q : Place) → spun a 3 (spun a 1 q) ≡ q
-spun-back a q = same_place-is _ _ (and_left _ _ (at_record (λ q. same_place (spun a 3 (spun a 1 q)) q && same_place (spun a 1 (spun a 3 q)) q) (at_axis back_test back_tests a) q))
+spun-back a q = same_place_is _ _ (and_left _ _ (at_record (λ q. same_place (spun a 3 (spun a 1 q)) q && same_place (spun a 1 (spun a 3 q)) q) (at_axis back_test back_tests a) q))
 
 spun-forth : (a : Axis) (q : Place) → spun a 1 (spun a 3 q) ≡ q
-spun-forth a q = same_place-is _ _ (and_right (same_place (spun a 3 (spun a 1 q)) q) _ (at_record (λ q. same_place (spun a 3 (spun a 1 q)) q && same_place (spun a 1 (spun a 3 q)) q) (at_axis back_test back_tests a) q))
-
-same_place-of : (p q : Place) → p ≡ q → same_place p q ≡ true
-same_place-of p q e = ap (λ z. same_place z q) e ∙ same_place-refl q
+spun-forth a q = same_place_is _ _ (and_right (same_place (spun a 3 (spun a 1 q)) q) _ (at_record (λ q. same_place (spun a 3 (spun a 1 q)) q && same_place (spun a 1 (spun a 3 q)) q) (at_axis back_test back_tests a) q))
 
 same_place-spun : (a : Axis) (p q : Place) → same_place (spun a 1 p) q ≡ same_place p (spun a 3 q)
 same_place-spun a p q =
-    same_test _ _
-    (λ h. same_place-of _ _ (sym (spun-back a p) ∙ ap (spun a 3) (same_place-is _ _ h)))
-    (λ h. same_place-of _ _ (ap (spun a 1) (same_place-is _ _ h) ∙ spun-forth a q))
+    same_truth _ _
+    (λ h. same_place_of _ _ (sym (spun-back a p) ∙ ap (spun a 3) (same_place_is _ _ h)))
+    (λ h. same_place_of _ _ (ap (spun a 1) (same_place_is _ _ h) ∙ spun-forth a q))
 
 letter_of-spun : (a : Axis) (e : Place → Place) (ps : List Place) (q : Place) → letter_of (λ p. spun a 1 (e p)) ps q ≡ letter_of e ps (spun a 3 q)
 unfolding letter_of
@@ -73,7 +71,7 @@ pub sources-below : (a : Axis) (i : ℕ) → i < 54 → get_or (sources_of a) i 
 sources-below a i l = ltb-true _ _ (and_left _ _ (source_tested a i l))
 
 sources-is : (a : Axis) (i : ℕ) → i < 54 → get_or places (get_or (sources_of a) i 0) (facelet U 5) ≡ spun a 3 (get_or places i (facelet U 5))
-sources-is a i l = same_place-is _ _ (and_right (nat_lt (get_or (sources_of a) i 0) 54) _ (source_tested a i l))
+sources-is a i l = same_place_is _ _ (and_right (nat_lt (get_or (sources_of a) i 0) 54) _ (source_tested a i l))
 
 letters-at : (e : Place → Place) (i : ℕ) → i < 54 → get_or (letters e) i 0 ≡ letter_of e places (get_or places i (facelet U 5))
 unfolding letters
@@ -88,10 +86,6 @@ rotated_text a e text rotated h l each =
     ∙ letters-at e (get_or (sources_of a) i 0) (sources-below a i li)
     ∙ ap (letter_of e places) (sources-is a i li)
     ∙ sym (letter_of-spun a e places (get_or places i (facelet U 5))))
-
-effect-append : (s t : List Token) (q : Place) → effect (s ++ t) q ≡ effect t (effect s q)
-effect-append [] t q = refl
-effect-append (token ∷ s) t q = effect-append s t (moved_by token q)
 
 -- the text of a rotation is that of its two parts
 pub letters-spelling : (r : Rotation) (e : Place → Place) → letters (λ q. effect (about_vertical r.vertical) (effect (to_top r.top) (e q))) ≡ letters (λ q. effect (spelling r) (e q))

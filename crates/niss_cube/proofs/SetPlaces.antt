@@ -4,8 +4,9 @@ use Rattle.std.specs.Prelude.{◌↔◌}
 use Rattle.std.proofs.lemmas.Bool.Decides.{eqb_tells}
 use Rattle.niss_moves.specs.Places.{Place, is_place, is_corner, is_edge, SameMap}
 use Rattle.niss_cube.specs.Sets.{Kept, ArePlaces, SetsArePlaces, is_kept}
-use Rattle.niss_cube.proofs.Each.{and_left, each_record, at_record, or_then}
+use Rattle.niss_cube.proofs.Each.{each_record, at_record}
 use Rattle.niss_cube.proofs.KeptTests.{kept-tested}
+use Rattle.niss_cube.proofs.Logic.{and_left, or_then}
 
 corners_test : each_record (λ q. not (is_corner q) || is_place q) ≡ true
 corners_test = refl
@@ -13,17 +14,17 @@ corners_test = refl
 edges_test : each_record (λ q. not (is_edge q) || is_place q) ≡ true
 edges_test = refl
 
-corner-place : (q : Place) → is_corner q ≡ true → is_place q ≡ true
-corner-place q h = or_then (is_corner q) (is_place q) (at_record (λ q. not (is_corner q) || is_place q) corners_test q) h
+pub corner_place : (q : Place) → is_corner q ≡ true → is_place q ≡ true
+corner_place q h = or_then (is_corner q) (is_place q) (at_record (λ q. not (is_corner q) || is_place q) corners_test q) h
 
-edge-place : (q : Place) → is_edge q ≡ true → is_place q ≡ true
-edge-place q h = or_then (is_edge q) (is_place q) (at_record (λ q. not (is_edge q) || is_place q) edges_test q) h
+pub edge_place : (q : Place) → is_edge q ≡ true → is_place q ≡ true
+edge_place q h = or_then (is_edge q) (is_place q) (at_record (λ q. not (is_edge q) || is_place q) edges_test q) h
 
 pub sets_are_places : SetsArePlaces
 sets_are_places = record {
-  flips = λ a q h. edge-place q (and_left (is_edge q) _ h);
-  twists = λ a q h. corner-place q (and_left (is_corner q) _ h);
-  slices = λ a q h. edge-place q (and_left (is_edge q) _ h);
+  flips = λ a q h. edge_place q (and_left (is_edge q) _ h);
+  twists = λ a q h. corner_place q (and_left (is_corner q) _ h);
+  slices = λ a q h. edge_place q (and_left (is_edge q) _ h);
 }
 
 pub kept_same : (set : Place → Bool) (d e : Place → Place) → ArePlaces set → SameMap d e → Kept set d → Kept set e

@@ -12,11 +12,12 @@ use Rattle.niss_cube.specs.CubieFacelets.{index_in, row_at, facelet_at, corner_f
 use Rattle.niss_cube.specs.Cubies.{AreCubies}
 use Rattle.niss_cube.specs.Map.{sticker_place, sticker_map}
 use Rattle.niss_cube.specs.Coordinates.{firsts, brings, orientations, occupied}
-use Rattle.niss_cube.proofs.Each.{and_left, and_right, same_place-is, same_place-refl}
 use Rattle.niss_cube.proofs.Sums.{eqb-itself, eqb-other}
 use Rattle.niss_cube.proofs.Once.{times_in, place_in, place_in-found, place_in-is, count_by-times}
 use Rattle.niss_cube.proofs.PlaceTables.{all_below, at_below, row_of, index_of, found_test, corners_found, edges_found}
 use Rattle.niss_cube.proofs.StickerPlaces.{sticker_place-at, found}
+use Rattle.niss_cube.proofs.Logic.{and_left, and_right, and_both, same_truth, not_true}
+use Rattle.niss_moves.proofs.CallerLemmas.{same_place_is, same_place_self}
 
 abbrev pub any_up : ℕ → (ℕ → Bool) → Bool
 any_up zero t = false
@@ -44,25 +45,11 @@ any_up-found (suc n) t h = elim (or_cases (t 0) _ h) [
       (suc r.0, omega arith, r.2)
 ]
 
-pub and_both : (a b : Bool) → a ≡ true → b ≡ true → (a && b) ≡ true
-and_both a b p q = rw (p, q) refl
-
--- two tests that hold at the same time are the same
-pub same_test : (a b : Bool) → (a ≡ true → b ≡ true) → (b ≡ true → a ≡ true) → a ≡ b
-same_test true true f g = refl
-same_test true false f g = sym (f refl)
-same_test false true f g = g refl
-same_test false false f g = refl
-
 eqb-next : (a b : ℕ) → (suc a == suc b) ≡ (a == b)
 eqb-next a b = elim (eqb_tells a b) [
   | inl w ↦ eq-eqb (suc a) (suc b) (ap suc w.1) ∙ sym w.0
   | inr w ↦ eqb-other (suc a) (suc b) (λ e. w.1 (omega arith)) ∙ sym w.0
 ]
-
-not_true : (b : Bool) → not b ≡ true → b ≡ false
-not_true true h = sym h
-not_true false h = refl
 
 pub list_any-up : {A : Type 0} (test : A → Bool) (xs : List A) (d : A) → list_any test xs ≡ any_up (length xs) (λ k. test (get_or xs k d))
 list_any-up test [] d = refl
@@ -72,7 +59,7 @@ list_any-up test (x ∷ xs) d = ap (λ b. test x || b) (list_any-up test xs d)
 pub list_any-is : {A : Type 0} (test : A → Bool) (xs : List A) (d : A) (s : Bool) (t : ℕ) → t < length xs → ((k : ℕ) → k < length xs → test (get_or xs k d) ≡ (s && (t == k))) → list_any test xs ≡ s
 list_any-is test xs d s t l h =
     list_any-up test xs d
-    ∙ same_test _ _
+    ∙ same_truth _ _
     (λ a.
     let r : (k : ℕ) × (k < length xs) × (test (get_or xs k d) ≡ true) = any_up-found (length xs) (λ k. test (get_or xs k d)) a in
     and_left _ _ (sym (h r.0 r.1) ∙ r.2))
@@ -95,11 +82,11 @@ pub brings_test : (sel : ℕ → Bool) (n m : ℕ) (rows : List (List Place)) (s
     (e : Place → Place) → ((h k : ℕ) → h < n → k < m → e (facelet_at rows h k) ≡ sticker_place m rows homes turns (facelet_at rows h k)) →
     (i k : ℕ) → i < n → k < m → any_up n (λ h. sel h && same_place (e (facelet_at rows h 0)) (facelet_at rows i k)) ≡ (sel (get_or homes i 0) && (get_or turns i 0 == k))
 brings_test sel n m rows set test pm homes turns l once small small_turns whole e is i k li lk =
-    same_test _ _
+    same_truth _ _
     (λ a.
     let r : (h : ℕ) × (h < n) × ((sel h && same_place (e (facelet_at rows h 0)) (facelet_at rows i k)) ≡ true) = any_up-found n (λ h. sel h && same_place (e (facelet_at rows h 0)) (facelet_at rows i k)) a in
     let s : facelet_at rows (place_in homes r.0) (get_or turns (place_in homes r.0) 0) ≡ facelet_at rows i k =
-    sym (at r.0 r.1) ∙ same_place-is _ _ (and_right (sel r.0) _ r.2) in
+    sym (at r.0 r.1) ∙ same_place_is _ _ (and_right (sel r.0) _ r.2) in
     let w : place_in homes r.0 < n = within r.0 r.1 in
     let f : (row_of rows (facelet_at rows (place_in homes r.0) (get_or turns (place_in homes r.0) 0)) ≡ place_in homes r.0) × (index_of rows (facelet_at rows (place_in homes r.0) (get_or turns (place_in homes r.0) 0)) ≡ get_or turns (place_in homes r.0) 0) × (set (facelet_at rows (place_in homes r.0) (get_or turns (place_in homes r.0) 0)) ≡ true) =
     found n m rows set test (place_in homes r.0) (get_or turns (place_in homes r.0) 0) w (small_turns _ w) in
@@ -117,7 +104,7 @@ brings_test sel n m rows set test pm homes turns l once small small_turns whole 
     any_up-some n (λ h. sel h && same_place (e (facelet_at rows h 0)) (facelet_at rows i k)) h lh
     (and_both _ _ (and_left (sel h) _ b)
     (ap (λ q. same_place q (facelet_at rows i k)) (at h lh ∙ ap (λ j. facelet_at rows j (get_or turns j 0)) p ∙ ap (facelet_at rows i) (eqb-true (get_or turns i 0) k (and_right (sel h) _ b)))
-    ∙ same_place-refl (facelet_at rows i k))))
+    ∙ same_place_self (facelet_at rows i k))))
   where
     within : (h : ℕ) → h < n → place_in homes h < n
     within h lh = let r : (place_in homes h < length homes) × (get_or homes (place_in homes h) 0 ≡ h) = place_in-found homes h (omega (arith, once h lh)) in omega (arith, r.0, l)

@@ -6,7 +6,7 @@ use Rattle.std.proofs.lemmas.Bool.{eqb-true, le-leb, leb-true, false_from_ne_tru
 use Rattle.std.proofs.lemmas.List.{ext_get_or, get_or-map, length-map, length-reverse, reverse-reverse}
 use Rattle.std.proofs.lemmas.List.Sums.{sum_by-cons}
 use Rattle.niss_moves.specs.declared.turn.Face.{Face}
-use Rattle.niss_cube.specs.Quarters.{quarter_table}
+use Rattle.niss_cube.specs.CubieTurns.{quarter_table}
 use Rattle.niss_cube.specs.Coordinates.{rank}
 use Rattle.niss_cube.specs.OccupiedPlaces.{occupied_of_number}
 use Rattle.niss_cube.proofs.CubieLists.{brought, edges_quarter, repeated}
@@ -152,7 +152,7 @@ repeated-occupied zero f xs ys lx ly e = e
 repeated-occupied (suc n) f xs ys lx ly e =
     quarter-occupied f (repeated n (edges_quarter f) xs) (repeated n (edges_quarter f) ys) (repeated-length n f xs lx) (repeated-length n f ys ly) (repeated-occupied n f xs ys lx ly e)
 
--- where the edges of a slice stand is same_cubie by their number
+-- where the edges of a slice stand is determined by their number
 pub occupied-same : (xs ys : List ℕ) → length xs ≡ 12 → length ys ≡ 12 → filled (slice_occupied xs) ≡ 4 → filled (slice_occupied ys) ≡ 4 → rank (slice_occupied xs) 4 ≡ rank (slice_occupied ys) 4 → map (nat_le 8) xs ≡ map (nat_le 8) ys
 occupied-same xs ys lx ly fx fy e =
     let same : slice_occupied xs ≡ slice_occupied ys = rank-same (slice_occupied xs) (slice_occupied ys) 4 (len xs lx ∙ sym (len ys ly)) fx fy e in

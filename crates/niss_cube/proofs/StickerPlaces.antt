@@ -7,9 +7,11 @@ use Rattle.niss_moves.specs.Places.{Place, same_place, is_place}
 use Rattle.niss_moves.specs.Facelets.{places}
 use Rattle.niss_cube.specs.CubieFacelets.{facelet_at}
 use Rattle.niss_cube.specs.Map.{sticker_place}
-use Rattle.niss_cube.proofs.Each.{and_left, and_right, same_place-is, at_place, or_then}
+use Rattle.niss_cube.proofs.Each.{at_place}
 use Rattle.niss_cube.proofs.Once.{times_in, place_in, place_in-found, place_in-is}
 use Rattle.niss_cube.proofs.PlaceTables.{all_below, at_below, row_of, index_of, located_test, found_test}
+use Rattle.niss_cube.proofs.Logic.{and_left, and_right, or_then}
+use Rattle.niss_moves.proofs.CallerLemmas.{same_place_is}
 
 -- facelet k of row h is found as such
 pub found : (n m : ℕ) (rows : List (List Place)) (set : Place → Bool) → found_test n m rows set ≡ true → (h k : ℕ) → h < n → k < m → (row_of rows (facelet_at rows h k) ≡ h) × (index_of rows (facelet_at rows h k) ≡ k) × (set (facelet_at rows h k) ≡ true)
@@ -79,5 +81,5 @@ located n m rows set test q p s =
     or_then (set q) _ (at_place (located_test n m rows set) test q p) s in (
       and_left _ _ t,
       and_left _ _ (and_right (nat_lt (row_of rows q) n) _ t),
-      same_place-is _ _ (and_right (nat_lt (index_of rows q) m) _ (and_right (nat_lt (row_of rows q) n) _ t)),
+      same_place_is _ _ (and_right (nat_lt (index_of rows q) m) _ (and_right (nat_lt (row_of rows q) n) _ t)),
     )

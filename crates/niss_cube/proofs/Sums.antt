@@ -88,3 +88,24 @@ pub sum_by-below : (f : ℕ → ℕ) (xs : List ℕ) → sum_by f xs ≡ below (
 sum_by-below f [] = refl
 sum_by-below f (x ∷ xs) =
     sum_by-cons f x xs ∙ ap (λ n. f x + n) (sum_by-below f xs) ∙ sym (below_front (length xs) (λ k. f (get_or (x ∷ xs) k 0)))
+
+pub below_at_most : (n : ℕ) (f g : ℕ → ℕ) → ((k : ℕ) → k < n → f k ≤ g k) → below n f ≤ below n g
+below_at_most zero f g h = omega arith
+below_at_most (suc n) f g h =
+    let r : below n f ≤ below n g = below_at_most n f g (λ k l. h k (omega arith)) in
+    omega (arith, h n (omega arith))
+
+-- terms that are at most others, and sum as these do, are these
+pub below_all_same : (n : ℕ) (f g : ℕ → ℕ) → ((k : ℕ) → k < n → f k ≤ g k) → below n f ≡ below n g → (k : ℕ) → k < n → f k ≡ g k
+below_all_same zero f g h e k l = absurd (omega arith)
+below_all_same (suc n) f g h e k l =
+    let r : below n f ≤ below n g = below_at_most n f g (λ k l. h k (omega arith)) in
+    let last : f n ≤ g n = h n (omega arith) in
+    elim (eqb_tells k n) [
+      | inl w ↦ let same : f n ≡ g n = omega arith in ap f w.1 ∙ same ∙ sym (ap g w.1)
+      | inr w ↦ below_all_same n f g (λ k l. h k (omega arith)) (omega arith) k (grind (arith, w.1))
+    ]
+
+pub one_if-at_most : (a b : Bool) → (a ≡ true → b ≡ true) → one_if a ≤ one_if b
+one_if-at_most true b h = rw (h refl) (omega arith)
+one_if-at_most false b h = omega arith

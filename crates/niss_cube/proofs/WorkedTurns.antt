@@ -27,7 +27,7 @@ on_other_axes : (slice_after Rl 0 (turn F) == 33) && (twist_after Fb 0 (turn R) 
 unfolding flip_after twist_after slice_after flips_of_number twists_of_number edges_of_number flip_of twist_of slice_of occupied_of_number
 on_other_axes = refl
 
--- all axes and turns, after R F2 U': the number follows
+-- all axes and turns, after R F U': the number follows
 abbrev pub mixed : Place → Place
 mixed q = turned (record { face = U; power = Counter }) (turned (record { face = F; power = Quarter }) (turned (turn R) q))
 

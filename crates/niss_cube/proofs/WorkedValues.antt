@@ -12,9 +12,6 @@ use Rattle.niss_moves.specs.declared.axis.Axis.TheVariants.{Ud, Rl, Fb}
 abbrev after : Face → Place → Place
 after f = moved (face_move f 1)
 
-places_are : list_all is_place places ≡ true
-places_are = refl
-
 solved_flip_Fb : flip_of Fb (λ q. q) ≡ 0
 unfolding flip_of
 solved_flip_Fb = refl

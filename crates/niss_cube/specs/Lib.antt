@@ -3,13 +3,11 @@ pub mod Cubies
 pub mod Map
 pub mod Sets
 pub mod Permutations
-pub mod SameLetters
 pub mod Coordinates
 pub mod SameCubies
-pub mod Quarters
+pub mod CubieTurns
 pub mod Renamings
 pub mod RenamedTurns
-pub mod FaceletPositions
 pub mod OccupiedPlaces
 pub mod NumberedOrientations
 pub mod FlipAfter

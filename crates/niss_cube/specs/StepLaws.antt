@@ -1,11 +1,13 @@
 -- What follows from the definitions of the steps alone.
-use Rattle.std.specs.Prelude.{◌≡◌, Bool, filter, Contains, IsTrue}
+use Rattle.std.specs.Prelude.{◌≡◌, Bool, Some, filter, Contains, IsTrue}
 use Rattle.niss_moves.specs.Places.{Place, SameMap}
 use Rattle.niss_moves.specs.Effects.{turned}
 use Rattle.niss_moves.specs.Turn.{inverse_turn}
 use Rattle.niss_moves.specs.Canonical.{turn_order}
 use Rattle.niss_moves.specs.declared.turn.Turn.{Turn}
-use Rattle.niss_cube.specs.Steps.{turns_of, may_start, reached}
+use Rattle.niss_moves.specs.declared.axis.Axis.{Axis}
+use Rattle.niss_cube.specs.Steps.{start_of, goals_of, turns_of, may_start, reached}
+use Rattle.niss_cube.specs.declared.step.Goal.TheVariants.{Domino}
 use Rattle.niss_cube.specs.declared.step.Step.{Step}
 
 -- A step that may start may start after each of its turns too.
@@ -27,3 +29,7 @@ InversesOfSteps = (s : Step) (t : Turn) → Contains (turns_of s) t → Contains
 -- The turns of a step are some of the 18, in turn order.
 abbrev pub StepTurnsInOrder : Type 0
 StepTurnsInOrder = (s : Step) → (part : Turn → Bool) × (turns_of s ≡ filter part turn_order)
+
+-- A step that can reach a domino reduction starts at the oriented edges that this keeps.
+abbrev pub DominoKeepsStart : Type 0
+DominoKeepsStart = (s : Step) (edges axis : Axis) → Contains (goals_of s) (Domino edges axis) → start_of s ≡ Some edges

@@ -12,15 +12,15 @@ use Rattle.niss_moves.specs.declared.turn.Face.TheVariants.{U, D, R, L, F, B}
 use Rattle.niss_moves.specs.declared.turn.Power.{Power}
 use Rattle.niss_moves.specs.declared.turn.Power.TheVariants.{Half}
 use Rattle.niss_moves.specs.declared.turn.Turn.{Turn}
-use Rattle.niss_cube.specs.Sets.{flip_set, twist_set, slice_set, is_kept}
+use Rattle.niss_cube.specs.Sets.{flip_set, twist_set, slice_set, is_kept, Kept}
 use Rattle.niss_cube.specs.declared.step.Goal.{Goal}
 use Rattle.niss_cube.specs.declared.step.Goal.TheVariants.{Edges, Domino}
 use Rattle.niss_cube.specs.declared.step.Step.{Step}
-use Rattle.niss_cube.specs.declared.step.Step.TheVariants.{Eofb, Eorl, Eoud, DrudEofb, DrrlEofb, DrudEorl, DrfbEorl, DrrlEoud, DrfbEoud}
+use Rattle.niss_cube.specs.declared.step.Step.TheVariants.{Eofb, Eorl, Eoud, DrudEofb, DrrlEofb, DrudEorl, DrfbEorl, DrrlEoud, DrfbEoud, Eo, DrEofb, DrEorl, DrEoud}
 
 -- all steps, in the order in which they are listed
 abbrev pub steps : List Step
-steps = Eofb ∷ Eorl ∷ Eoud ∷ DrudEofb ∷ DrrlEofb ∷ DrudEorl ∷ DrfbEorl ∷ DrrlEoud ∷ DrfbEoud ∷ []
+steps = Eofb ∷ Eorl ∷ Eoud ∷ DrudEofb ∷ DrrlEofb ∷ DrudEorl ∷ DrfbEorl ∷ DrrlEoud ∷ DrfbEoud ∷ Eo ∷ DrEofb ∷ DrEorl ∷ DrEoud ∷ []
 
 abbrev pub name_of : Step → List ℕ
 name_of Eofb = codes "eofb"
@@ -32,6 +32,10 @@ name_of DrudEorl = codes "drud-eorl"
 name_of DrfbEorl = codes "drfb-eorl"
 name_of DrrlEoud = codes "drrl-eoud"
 name_of DrfbEoud = codes "drfb-eoud"
+name_of Eo = codes "eo"
+name_of DrEofb = codes "dr-eofb"
+name_of DrEorl = codes "dr-eorl"
+name_of DrEoud = codes "dr-eoud"
 
 -- the axis on which the edges must be oriented before the step, if it needs that
 abbrev pub start_of : Step → Option Axis
@@ -44,6 +48,10 @@ start_of DrudEorl = Some Rl
 start_of DrfbEorl = Some Rl
 start_of DrrlEoud = Some Ud
 start_of DrfbEoud = Some Ud
+start_of Eo = None
+start_of DrEofb = Some Fb
+start_of DrEorl = Some Rl
+start_of DrEoud = Some Ud
 
 -- the step that orients the edges on an axis
 abbrev pub edge_step_on : Axis → Step
@@ -66,6 +74,10 @@ goals_of DrudEorl = Domino Rl Ud ∷ []
 goals_of DrfbEorl = Domino Rl Fb ∷ []
 goals_of DrrlEoud = Domino Ud Rl ∷ []
 goals_of DrfbEoud = Domino Ud Fb ∷ []
+goals_of Eo = Edges Fb ∷ Edges Rl ∷ Edges Ud ∷ []
+goals_of DrEofb = Domino Fb Ud ∷ Domino Fb Rl ∷ []
+goals_of DrEorl = Domino Rl Ud ∷ Domino Rl Fb ∷ []
+goals_of DrEoud = Domino Ud Rl ∷ Domino Ud Fb ∷ []
 
 -- the two faces of an axis
 abbrev pub is_face_of : Axis → Face → Bool
@@ -87,6 +99,16 @@ turns_of step = flat_map (λ f. map (λ p. record { face = f; power = p }) (powe
 abbrev pub holds : Goal → (Place → Place) → Bool
 holds (Edges axis) e = is_kept (flip_set axis) e
 holds (Domino edges axis) e = is_kept (flip_set edges) e && is_kept (twist_set axis) e && is_kept (slice_set axis) e
+
+-- The same by the sets themselves: which of them a map keeps where a goal holds,
+abbrev pub KeepsGoal : Goal → (Place → Place) → Type 0
+KeepsGoal (Edges axis) e = Kept (flip_set axis) e
+KeepsGoal (Domino edges axis) e = Kept (flip_set edges) e × Kept (twist_set axis) e × Kept (slice_set axis) e
+
+-- and which where the edges are oriented on the axis of a start, if there is one.
+abbrev pub KeepsStart : Option Axis → (Place → Place) → Type 0
+KeepsStart None e = Unit {0}
+KeepsStart (Some axis) e = Kept (flip_set axis) e
 
 -- The step may start on a cube with this map: the edges are oriented on the axis of its start, if it has one.
 unfoldable pub may_start : Step → (Place → Place) → Bool

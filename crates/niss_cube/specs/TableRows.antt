@@ -27,3 +27,8 @@ entry_at row t = slice_index (get_or row (face_index t.face) []) (power_index t.
 pub record AreRows (after : ℕ → Turn → ℕ) (count : ℕ) (rows : List (List (List ℕ))) : Type 0 where
   pub rows_count : length rows ≡ count
   pub entries : (i : ℕ) (t : Turn) → i < count → entry_at (get_or rows i []) t ≡ after i t
+
+-- There is a row for each number below the count, and its entry at a quarter turn is the number after that turn.
+pub record AreQuarters (after : ℕ → Turn → ℕ) (count : ℕ) (rows : List (List (List ℕ))) : Type 0 where
+  pub rows_count : length rows ≡ count
+  pub entries : (i : ℕ) (f : Face) → i < count → entry_at (get_or rows i []) (record { face = f; power = Quarter }) ≡ after i (record { face = f; power = Quarter })

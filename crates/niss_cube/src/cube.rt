@@ -1,13 +1,15 @@
+//! Cubes by their cubies.
 ghost use Rattle.std.specs.Prelude.{◌≡◌, ◌<◌};
 ghost use Rattle.niss_cube.specs.Cubies.{AreCubies};
 
+use crate::cubie_turns::{turn_corners, turn_edges, turn_flips, turn_twists};
 use crate::digits::number_of;
-use crate::letters::{CORNER_LETTERS, EDGE_LETTERS, FACELET_POSITIONS, FaceletPosition};
-use crate::quarter::{turn_corners, turn_edges, turn_flips, turn_twists};
+use crate::letters::{CORNER_LETTERS, EDGE_LETTERS};
 use crate::renaming::{Renaming, rename_corners, rename_edges};
 use crate::rotated_text::{bring_to_top, turn_about_vertical};
 use crate::slice_places::slice_number;
-use niss_moves::{Axis, Face, Power, Rotation, Turn};
+use niss_moves::{Axis, Rotation, Turn};
+use std::alloc::AllocError;
 
 pub(crate) mod numbered;
 
@@ -21,7 +23,7 @@ const EDGES_HOME: [u8; 12] = [0, 1, 2, 3, 4, 5, 6, 7, 8, 9, 10, 11];
 ///
 /// Its contracts name it by `map_of`: where the sticker that began at each of the 54 places stands. The places, the cubies
 /// at home and the orientations are those of Kociemba's cubie level.
-#[derive(Clone, Copy, Debug)]
+#[derive(Copy, Debug)]
 pub struct Cube {
     // which corner stands at each corner place, and its twist there
     corners: [u8; 8],
@@ -34,16 +36,15 @@ pub struct Cube {
 
 impl Cube {
     ghost use Rattle.std.specs.Prelude.{◌≡◌, IsTrue};
-    ghost use Rattle.niss_moves.specs.Effects.{moved, face_move, times, turned, effect_of_turns};
+    ghost use Rattle.niss_moves.specs.Effects.{turned, effect_of_turns};
     ghost use Rattle.niss_moves.specs.Places.{SameMap};
     ghost use Rattle.niss_cube.specs.Map.{map_of};
     ghost use Rattle.niss_cube.specs.SameCubies.{same_cubies};
     ghost use Rattle.std.specs.Prelude.{◌↔◌};
     ghost use Rattle.niss_cube.specs.Sets.{Kept, flip_set, twist_set, slice_set};
     ghost use Rattle.niss_cube.specs.Renamings.{renamed_by};
-    ghost use Rattle.std.specs.Prelude.{get_or};
-    ghost use Rattle.niss_moves.specs.declared.turn.Face.TheVariants.{U};
-    ghost use Rattle.niss_moves.specs.Facelets.{places, facelet};
+    ghost use Rattle.std.specs.Prelude.{ℕ, slice_index};
+    ghost use Rattle.niss_moves.specs.Facelets.{places};
     ghost use Rattle.niss_moves.specs.Letters.{letter_of, letters};
     ghost use Rattle.niss_moves.specs.Effects.{effect};
     ghost use Rattle.niss_moves.specs.Rotations.{spelling};
@@ -62,31 +63,16 @@ impl Cube {
         }
     }
 
-    /// A clockwise quarter turn of the face.
-    fn quarter(&mut self, face: Face)
-        ensures { SameMap (map_of self.new) (λ q. moved (face_move face 1) (map_of self.old q)) }
-    {
-        *self = Cube {
-            corners: turn_corners(&self.corners, face),
-            twists: turn_twists(&self.twists, face),
-            edges: turn_edges(&self.edges, face),
-            flips: turn_flips(&self.flips, face),
-        };
-    }
-
     /// Turns a face, as WCA Regulations 12a say.
     pub fn turn(&mut self, turn: Turn)
         ensures { SameMap (map_of self.new) (λ q. turned turn (map_of self.old q)) }
     {
-        self.quarter(turn.face);
-        match turn.power {
-            Power::Quarter => {}
-            Power::Half => self.quarter(turn.face),
-            Power::Counter => {
-                self.quarter(turn.face);
-                self.quarter(turn.face);
-            }
-        }
+        *self = Cube {
+            corners: turn_corners(&self.corners, turn),
+            twists: turn_twists(&self.twists, turn),
+            edges: turn_edges(&self.edges, turn),
+            flips: turn_flips(&self.flips, turn),
+        };
     }
 
     /// Turns faces, from the first to the last.
@@ -179,51 +165,66 @@ impl Cube {
                 && (self.edges == other.edges && self.flips == other.flips))
     }
 
-    /// The letter at a facelet of a corner place.
-    fn corner_letter(&self, place: u8, facelet: u8) -> u8
-        requires place { place < 8 }
-        requires facelet { facelet < 3 }
-        ensures { result
-            ≡ letter_of (map_of self.now) places (facelet_at corner_facelets place facelet) }
+    /// The letters at a corner place, in the order of its facelets.
+    fn corner_letters(&self, place: usize) -> [u8; 3]
+        requires { place < 8 }
+        ensures { (k : ℕ) → k < 3 → slice_index result k
+            ≡ letter_of (map_of self.now) places (facelet_at corner_facelets place k) }
     {
-        let n = place as usize;
-        let from = (facelet + 3 - self.twists[n]) % 3;
-        CORNER_LETTERS[self.corners[n] as usize][from as usize]
+        let letters = &CORNER_LETTERS[self.corners[place] as usize];
+        let first = 3 - self.twists[place] as usize;
+        [letters[first], letters[first + 1], letters[first + 2]]
     }
 
-    /// The letter at a facelet of an edge place.
-    fn edge_letter(&self, place: u8, facelet: u8) -> u8
-        requires place { place < 12 }
-        requires facelet { facelet < 2 }
-        ensures { result
-            ≡ letter_of (map_of self.now) places (facelet_at edge_facelets place facelet) }
+    /// The letters at an edge place, in the order of its facelets.
+    fn edge_letters(&self, place: usize) -> [u8; 2]
+        requires { place < 12 }
+        ensures { (k : ℕ) → k < 2 → slice_index result k
+            ≡ letter_of (map_of self.now) places (facelet_at edge_facelets place k) }
     {
-        let n = place as usize;
-        let from = (facelet + 2 - self.flips[n]) % 2;
-        EDGE_LETTERS[self.edges[n] as usize][from as usize]
-    }
-
-    /// The letter at a place, by its index in the text.
-    fn facelet_letter(&self, index: usize) -> u8
-        requires { index < 54 }
-        ensures { result ≡ letter_of (map_of self.now) places (get_or places index (facelet U 5)) }
-    {
-        match FACELET_POSITIONS[index] {
-            FaceletPosition::Corner(place, facelet) => self.corner_letter(place, facelet),
-            FaceletPosition::Edge(place, facelet) => self.edge_letter(place, facelet),
-            FaceletPosition::Centre(letter) => letter,
-        }
+        let letters = &EDGE_LETTERS[self.edges[place] as usize];
+        let first = 2 - self.flips[place] as usize;
+        [letters[first], letters[first + 1]]
     }
 
     /// The facelet text of the cube as it stands.
     fn letters(&self) -> [u8; 54]
         ensures { result ≡ letters (map_of self.now) }
     {
-        let mut text = [0; 54];
-        for (index, letter) in text.iter_mut().enumerate() {
-            *letter = self.facelet_letter(index);
-        }
-        text
+        let urf = self.corner_letters(0);
+        let ufl = self.corner_letters(1);
+        let ulb = self.corner_letters(2);
+        let ubr = self.corner_letters(3);
+        let dfr = self.corner_letters(4);
+        let dlf = self.corner_letters(5);
+        let dbl = self.corner_letters(6);
+        let drb = self.corner_letters(7);
+        let ur = self.edge_letters(0);
+        let uf = self.edge_letters(1);
+        let ul = self.edge_letters(2);
+        let ub = self.edge_letters(3);
+        let dr = self.edge_letters(4);
+        let df = self.edge_letters(5);
+        let dl = self.edge_letters(6);
+        let db = self.edge_letters(7);
+        let fr = self.edge_letters(8);
+        let fl = self.edge_letters(9);
+        let bl = self.edge_letters(10);
+        let br = self.edge_letters(11);
+        [
+            // U
+            ulb[0], ub[0], ubr[0], ul[0], b'U', ur[0], ufl[0], uf[0], urf[0],
+            // R
+            urf[1], ur[1], ubr[2], fr[1], b'R', br[1], dfr[2], dr[1], drb[1],
+            // F
+            ufl[1], uf[1], urf[2], fl[0], b'F', fr[0], dlf[2], df[1], dfr[1],
+            // D
+            dlf[0], df[0], dfr[0], dl[0], b'D', dr[0], dbl[0], db[0], drb[0],
+            // L
+            ulb[1], ul[1], ufl[2], bl[1], b'L', fl[1], dbl[2], dl[1], dlf[1],
+            // B
+            ubr[1], ub[1], ulb[2], br[0], b'B', bl[0], drb[2], db[1], dbl[1],
+        ]
     }
 
     /// The facelet text of the cube, then rotated as a whole: the faces in the order U, R, F, D, L, B with nine letters
@@ -233,6 +234,16 @@ impl Cube {
     {
         let upright = bring_to_top(&self.letters(), rotation.top);
         turn_about_vertical(&upright, rotation.vertical)
+    }
+}
+
+impl Clone for Cube {
+    ghost use Rattle.std.specs.Prelude.{◌≡◌, Ok};
+
+    fn clone(&self) -> Result<Cube, AllocError>
+        ensures { result ≡ Ok self.now }
+    {
+        Ok(*self)
     }
 }
 

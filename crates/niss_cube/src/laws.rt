@@ -2,8 +2,7 @@
 ghost use Rattle.niss_cube.specs.AfterTurn.{TurnedIsCube, FlipsAreCoordinates, TwistsAreCoordinates, SlicesAreCoordinates};
 ghost use Rattle.niss_cube.specs.Sets.{KeptIsTested, SetsArePlaces};
 ghost use Rattle.niss_cube.specs.Permutations.{CubesPermutePlaces, KeptIsEqual};
-ghost use Rattle.niss_cube.specs.SameLetters.{SameLetters};
-ghost use Rattle.niss_cube.specs.StepLaws.{StartIsKept, StepsSeePlaces, InversesOfSteps, StepTurnsInOrder};
+ghost use Rattle.niss_cube.specs.StepLaws.{StartIsKept, StepsSeePlaces, InversesOfSteps, StepTurnsInOrder, DominoKeepsStart};
 
 /// A turned cube is a cube.
 pub fn turned_is_cube()
@@ -18,11 +17,6 @@ pub fn cubes_permute_places()
 /// A set of places that a cube's map keeps is brought to itself: no other place comes into it.
 pub fn kept_is_equal()
     ensures { KeptIsEqual }
-{}
-
-/// Maps that are the same on the 54 places have the same facelet text.
-pub fn same_letters()
-    ensures { SameLetters }
 {}
 
 /// The flips on an axis are a coordinate.
@@ -68,4 +62,9 @@ pub fn inverses_of_steps()
 /// The turns of a step are some of the 18, in turn order.
 pub fn step_turns_in_order()
     ensures { StepTurnsInOrder }
+{}
+
+/// A step that can reach a domino reduction starts at the oriented edges that this keeps.
+pub fn domino_keeps_start()
+    ensures { DominoKeepsStart }
 {}

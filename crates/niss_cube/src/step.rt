@@ -1,16 +1,17 @@
 //! The steps of solving: edge orientation, and the domino reduction that follows it.
-ghost use Rattle.std.specs.Prelude.{◌≡◌, ◌≢◌, IfSome, IfNone};
+ghost use Rattle.std.specs.Prelude.{◌≡◌, ◌↔◌, IsTrue, ◌≢◌, IfSome, IfNone};
+ghost use Rattle.std.specs.List.{Any};
 ghost use Rattle.std.specs.Option.{option_copied};
 ghost use Rattle.niss_cube.specs.Map.{map_of};
-ghost use Rattle.niss_cube.specs.Sets.{flip_set, twist_set, slice_set, is_kept};
-ghost use Rattle.niss_cube.specs.Steps.{steps, name_of, start_of, start_name_of, goals_of, turns_of, holds, may_start, reached};
+ghost use Rattle.niss_cube.specs.Sets.{flip_set, twist_set, slice_set, is_kept, Kept};
+ghost use Rattle.niss_cube.specs.Steps.{steps, name_of, start_of, start_name_of, goals_of, turns_of, holds, may_start, reached, KeepsGoal, KeepsStart};
 ghost use Rattle.niss_cube.specs.declared.step.Step.{Step};
 
 use crate::cube::Cube;
 use niss_moves::{Axis, Face, Power, Turn, turn_order};
 
 /// A step of solving, named as solvers do: an edge orientation (`eo`) on an axis, or a domino reduction (`dr`) on an axis
-/// of a cube whose edges are oriented on another axis.
+/// of a cube whose edges are oriented on another axis. Where the name has no axis for it, any one will do.
 #[derive(Clone, Copy, Debug, PartialEq, Eq)]
 pub enum Step {
     Eofb,
@@ -22,6 +23,10 @@ pub enum Step {
     DrfbEorl,
     DrrlEoud,
     DrfbEoud,
+    Eo,
+    DrEofb,
+    DrEorl,
+    DrEoud,
 }
 
 /// What a step can reach.
@@ -33,7 +38,7 @@ pub enum Goal {
     Domino { edges: Axis, axis: Axis },
 }
 
-const STEPS: [Step; 9] = [
+const STEPS: [Step; 13] = [
     Step::Eofb,
     Step::Eorl,
     Step::Eoud,
@@ -43,9 +48,49 @@ const STEPS: [Step; 9] = [
     Step::DrfbEorl,
     Step::DrrlEoud,
     Step::DrfbEoud,
+    Step::Eo,
+    Step::DrEofb,
+    Step::DrEorl,
+    Step::DrEoud,
 ];
 
-// The turns of the faces by the powers behind each.
+const EDGES_ON_UD: Goal = Goal::Edges(Axis::Ud);
+
+const EDGES_ON_RL: Goal = Goal::Edges(Axis::Rl);
+
+const EDGES_ON_FB: Goal = Goal::Edges(Axis::Fb);
+
+const UD_FROM_FB: Goal = Goal::Domino {
+    edges: Axis::Fb,
+    axis: Axis::Ud,
+};
+
+const RL_FROM_FB: Goal = Goal::Domino {
+    edges: Axis::Fb,
+    axis: Axis::Rl,
+};
+
+const UD_FROM_RL: Goal = Goal::Domino {
+    edges: Axis::Rl,
+    axis: Axis::Ud,
+};
+
+const FB_FROM_RL: Goal = Goal::Domino {
+    edges: Axis::Rl,
+    axis: Axis::Fb,
+};
+
+const RL_FROM_UD: Goal = Goal::Domino {
+    edges: Axis::Ud,
+    axis: Axis::Rl,
+};
+
+const FB_FROM_UD: Goal = Goal::Domino {
+    edges: Axis::Ud,
+    axis: Axis::Fb,
+};
+
+// The turns of the faces by the powers after each.
 macro_rules! turns {
     ($($face:ident: $($power:ident)*;)*) => {
         [$($(Turn { face: Face::$face, power: Power::$power },)*)*]
@@ -71,8 +116,8 @@ const TURNS_FROM_FB: [Turn; 14] = turns! {
 };
 
 impl Step {
-    /// The nine steps, in the order of the command `steps`.
-    pub fn all() -> &'static [Step; 9]
+    /// All steps, in the order of the command `steps`.
+    pub fn all() -> &'static [Step]
         ensures { result.now ≡ steps }
     {
         &STEPS
@@ -92,6 +137,10 @@ impl Step {
             Step::DrfbEorl => "drfb-eorl",
             Step::DrrlEoud => "drrl-eoud",
             Step::DrfbEoud => "drfb-eoud",
+            Step::Eo => "eo",
+            Step::DrEofb => "dr-eofb",
+            Step::DrEorl => "dr-eorl",
+            Step::DrEoud => "dr-eoud",
         }
     }
 
@@ -111,10 +160,10 @@ impl Step {
         ensures { result ≡ start_of self }
     {
         match self {
-            Step::Eofb | Step::Eorl | Step::Eoud => None,
-            Step::DrudEofb | Step::DrrlEofb => Some(Axis::Fb),
-            Step::DrudEorl | Step::DrfbEorl => Some(Axis::Rl),
-            Step::DrrlEoud | Step::DrfbEoud => Some(Axis::Ud),
+            Step::Eofb | Step::Eorl | Step::Eoud | Step::Eo => None,
+            Step::DrudEofb | Step::DrrlEofb | Step::DrEofb => Some(Axis::Fb),
+            Step::DrudEorl | Step::DrfbEorl | Step::DrEorl => Some(Axis::Rl),
+            Step::DrrlEoud | Step::DrfbEoud | Step::DrEoud => Some(Axis::Ud),
         }
     }
 
@@ -130,7 +179,7 @@ impl Step {
         Some(edge_step.name())
     }
 
-    /// The step's turns, in turn order: all 18, or behind oriented edges the 14 that keep them so.
+    /// The step's turns, in turn order: all 18, or after oriented edges the 14 that keep them so.
     #[tactic(auto, unfolding(crate::specs::Steps::turns_of))]
     pub fn turns(self) -> &'static [Turn]
         ensures { result.now ≡ turns_of self }
@@ -148,40 +197,27 @@ impl Step {
         ensures { result.now ≡ goals_of self }
     {
         match self {
-            Step::Eofb => &[Goal::Edges(Axis::Fb)],
-            Step::Eorl => &[Goal::Edges(Axis::Rl)],
-            Step::Eoud => &[Goal::Edges(Axis::Ud)],
-            Step::DrudEofb => &[Goal::Domino {
-                edges: Axis::Fb,
-                axis: Axis::Ud,
-            }],
-            Step::DrrlEofb => &[Goal::Domino {
-                edges: Axis::Fb,
-                axis: Axis::Rl,
-            }],
-            Step::DrudEorl => &[Goal::Domino {
-                edges: Axis::Rl,
-                axis: Axis::Ud,
-            }],
-            Step::DrfbEorl => &[Goal::Domino {
-                edges: Axis::Rl,
-                axis: Axis::Fb,
-            }],
-            Step::DrrlEoud => &[Goal::Domino {
-                edges: Axis::Ud,
-                axis: Axis::Rl,
-            }],
-            Step::DrfbEoud => &[Goal::Domino {
-                edges: Axis::Ud,
-                axis: Axis::Fb,
-            }],
+            Step::Eofb => &[EDGES_ON_FB],
+            Step::Eorl => &[EDGES_ON_RL],
+            Step::Eoud => &[EDGES_ON_UD],
+            Step::DrudEofb => &[UD_FROM_FB],
+            Step::DrrlEofb => &[RL_FROM_FB],
+            Step::DrudEorl => &[UD_FROM_RL],
+            Step::DrfbEorl => &[FB_FROM_RL],
+            Step::DrrlEoud => &[RL_FROM_UD],
+            Step::DrfbEoud => &[FB_FROM_UD],
+            Step::Eo => &[EDGES_ON_FB, EDGES_ON_RL, EDGES_ON_UD],
+            Step::DrEofb => &[UD_FROM_FB, RL_FROM_FB],
+            Step::DrEorl => &[UD_FROM_RL, FB_FROM_RL],
+            Step::DrEoud => &[RL_FROM_UD, FB_FROM_UD],
         }
     }
 
     /// Whether the step may start on the cube.
     #[tactic(auto, unfolding(crate::specs::Steps::may_start))]
     pub fn may_start(self, cube: &Cube) -> bool
-        ensures { result ≡ may_start self (map_of cube.now) }
+        ensures value { result ≡ may_start self (map_of cube.now) }
+        ensures kept { IsTrue result ↔ KeepsStart (start_of self) (map_of cube.now) }
     {
         match self.start() {
             None => true,
@@ -192,7 +228,8 @@ impl Step {
     /// Whether the cube has reached the step.
     #[tactic(auto, unfolding(crate::specs::Steps::reached))]
     pub fn reached(self, cube: &Cube) -> bool
-        ensures { result ≡ reached self (map_of cube.now) }
+        ensures value { result ≡ reached self (map_of cube.now) }
+        ensures kept { IsTrue result ↔ Any (λ goal. KeepsGoal goal (map_of cube.now)) (goals_of self) }
     {
         self.goals().iter().any(|goal| goal.holds(cube))
     }
@@ -201,7 +238,8 @@ impl Step {
 impl Goal {
     /// Whether the goal holds of the cube.
     pub fn holds(self, cube: &Cube) -> bool
-        ensures { result ≡ holds self (map_of cube.now) }
+        ensures value { result ≡ holds self (map_of cube.now) }
+        ensures kept { IsTrue result ↔ KeepsGoal self (map_of cube.now) }
     {
         match self {
             Goal::Edges(axis) => has_oriented_edges(cube, axis),
@@ -215,19 +253,22 @@ impl Goal {
 }
 
 fn has_oriented_edges(cube: &Cube, axis: Axis) -> bool
-    ensures { result ≡ is_kept (flip_set axis) (map_of cube.now) }
+    ensures value { result ≡ is_kept (flip_set axis) (map_of cube.now) }
+    ensures kept { IsTrue result ↔ Kept (flip_set axis) (map_of cube.now) }
 {
     cube.flip(axis) == 0
 }
 
 fn has_untwisted_corners(cube: &Cube, axis: Axis) -> bool
-    ensures { result ≡ is_kept (twist_set axis) (map_of cube.now) }
+    ensures value { result ≡ is_kept (twist_set axis) (map_of cube.now) }
+    ensures kept { IsTrue result ↔ Kept (twist_set axis) (map_of cube.now) }
 {
     cube.twist(axis) == 0
 }
 
 fn has_full_slice(cube: &Cube, axis: Axis) -> bool
-    ensures { result ≡ is_kept (slice_set axis) (map_of cube.now) }
+    ensures value { result ≡ is_kept (slice_set axis) (map_of cube.now) }
+    ensures kept { IsTrue result ↔ Kept (slice_set axis) (map_of cube.now) }
 {
     cube.slice(axis) == 0
 }

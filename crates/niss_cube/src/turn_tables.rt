@@ -2,18 +2,23 @@
 ghost use Rattle.std.specs.Prelude.{◌≡◌, ℕ, ◌<◌, length, get_or, slice_index, []};
 ghost use Rattle.niss_moves.specs.Effects.{turned};
 ghost use Rattle.niss_moves.specs.declared.turn.Turn.{Turn};
+ghost use Rattle.niss_moves.specs.declared.turn.Face.{Face};
 ghost use Rattle.niss_moves.specs.declared.turn.Power.{Power};
+ghost use Rattle.niss_moves.specs.declared.turn.Power.TheVariants.{Quarter};
 ghost use Rattle.niss_moves.specs.declared.axis.Axis.TheVariants.{Ud, Fb};
 ghost use Rattle.niss_cube.specs.Map.{map_of};
 ghost use Rattle.niss_cube.specs.RenamedTurns.{face_for_flip, face_for_twist, turn_for_flip, turn_for_twist};
 ghost use Rattle.niss_cube.specs.FlipAfter.{flip_after};
 ghost use Rattle.niss_cube.specs.TwistAfter.{twist_after};
 ghost use Rattle.niss_cube.specs.SliceAfter.{slice_after};
-ghost use Rattle.niss_cube.specs.TableRows.{AreRows, entry_at, face_index, power_index};
+ghost use Rattle.niss_cube.specs.TableRows.{AreRows, AreQuarters, entry_at, power_index};
 ghost use Rattle.niss_cube.specs.StandardCoordinates.{coordinate_of, count_of, after_of};
 
 use crate::cube::Cube;
-use crate::cube::numbered::{cube_with_flip, cube_with_slice, cube_with_twist};
+use crate::cube::numbered::{
+    cube_with_flip, cube_with_slice, cube_with_twist, turned_flip, turned_slice, turned_twist,
+};
+use crate::cubie_turns::{face_number, power_number};
 use niss_moves::{Axis, Face, Power, Rotation, Turn};
 use std::alloc::{Allocator, Global};
 
@@ -32,17 +37,6 @@ enum Coordinate {
 }
 
 impl Coordinate {
-    /// The number of a cube.
-    fn number(self, cube: &Cube) -> u16
-        ensures { result ≡ coordinate_of self (map_of cube.now) }
-    {
-        match self {
-            Coordinate::Flip => cube.flip(Axis::Fb),
-            Coordinate::Twist => cube.twist(Axis::Ud),
-            Coordinate::Slice => cube.slice(Axis::Ud),
-        }
-    }
-
     /// A cube with a number.
     fn cube_with(self, number: u16) -> Cube
         requires { number < count_of self }
@@ -55,40 +49,72 @@ impl Coordinate {
         }
     }
 
-    /// The numbers after a quarter, a half and a counter turn of a face.
-    fn numbers_after(self, cube: &Cube, face: Face) -> [u16; 3]
-        ensures { (p : Power) → slice_index result (power_index p)
-            ≡ coordinate_of self (λ q. turned (record { face = face; power = p }) (map_of cube.now q)) }
+    /// The number of a cube after a quarter turn of a face.
+    fn number_after(self, cube: &Cube, face: Face) -> u16
+        ensures { result
+            ≡ coordinate_of self (λ q. turned (record { face = face; power = Quarter }) (map_of cube.now q)) }
     {
-        let quarter = Turn {
+        let turn = Turn {
             face,
             power: Power::Quarter,
         };
-        let mut once = *cube;
-        once.turn(quarter);
-        let mut twice = once;
-        twice.turn(quarter);
-        let mut thrice = twice;
-        thrice.turn(quarter);
+        match self {
+            Coordinate::Flip => turned_flip(cube, turn),
+            Coordinate::Twist => turned_twist(cube, turn),
+            Coordinate::Slice => turned_slice(cube, turn),
+        }
+    }
+
+    /// A row with the numbers after the quarter turns, the others still to be written.
+    fn quarters(self, cube: &Cube) -> Row
+        ensures { (f : Face) → entry_at result (record { face = f; power = Quarter })
+            ≡ coordinate_of self (λ q. turned (record { face = f; power = Quarter }) (map_of cube.now q)) }
+    {
         [
-            self.number(&once),
-            self.number(&twice),
-            self.number(&thrice),
+            [self.number_after(cube, Face::U), 0, 0],
+            [self.number_after(cube, Face::D), 0, 0],
+            [self.number_after(cube, Face::R), 0, 0],
+            [self.number_after(cube, Face::L), 0, 0],
+            [self.number_after(cube, Face::F), 0, 0],
+            [self.number_after(cube, Face::B), 0, 0],
         ]
     }
 
-    /// The numbers after each turn.
-    fn row(self, cube: &Cube) -> Row
-        ensures { (t : Turn) →
-            entry_at result t ≡ coordinate_of self (λ q. turned t (map_of cube.now q)) }
+    /// Writes the numbers after the quarter turns.
+    fn fill_quarters(self, rows: &mut [Row])
+        requires { length rows.old ≡ count_of self }
+        ensures { AreQuarters (after_of self) (count_of self) rows.new }
+    {
+        for (number, row) in rows.iter_mut().enumerate() {
+            *row = self.quarters(&self.cube_with(number as u16));
+        }
+    }
+
+    /// The numbers after a quarter, a half and a counter turn of a face, by the quarters of the rows.
+    fn numbers_after(self, rows: &[Row], number: u16, face: Face) -> [u16; 3]
+        requires rows { AreQuarters (after_of self) (count_of self) rows.now }
+        requires number { number < count_of self }
+        ensures { (p : Power) → slice_index result (power_index p)
+            ≡ after_of self number (record { face = face; power = p }) }
+    {
+        let once = entry(rows, number, face, Power::Quarter);
+        let twice = entry(rows, once, face, Power::Quarter);
+        [once, twice, entry(rows, twice, face, Power::Quarter)]
+    }
+
+    /// The row of a number, by the quarters of the rows.
+    fn row(self, rows: &[Row], number: u16) -> Row
+        requires rows { AreQuarters (after_of self) (count_of self) rows.now }
+        requires number { number < count_of self }
+        ensures { (t : Turn) → entry_at result t ≡ after_of self number t }
     {
         [
-            self.numbers_after(cube, Face::U),
-            self.numbers_after(cube, Face::D),
-            self.numbers_after(cube, Face::R),
-            self.numbers_after(cube, Face::L),
-            self.numbers_after(cube, Face::F),
-            self.numbers_after(cube, Face::B),
+            self.numbers_after(rows, number, Face::U),
+            self.numbers_after(rows, number, Face::D),
+            self.numbers_after(rows, number, Face::R),
+            self.numbers_after(rows, number, Face::L),
+            self.numbers_after(rows, number, Face::F),
+            self.numbers_after(rows, number, Face::B),
         ]
     }
 
@@ -97,73 +123,61 @@ impl Coordinate {
         requires { length rows.old ≡ count_of self }
         ensures { AreRows (after_of self) (count_of self) rows.new }
     {
-        for (number, row) in rows.iter_mut().enumerate() {
-            *row = self.row(&self.cube_with(number as u16));
+        self.fill_quarters(rows);
+        for number in 0..rows.len() {
+            rows[number] = self.row(rows, number as u16);
         }
-    }
-}
-
-/// The index of a face in a row.
-fn face_number(face: Face) -> usize
-    ensures { result ≡ face_index face }
-{
-    match face {
-        Face::U => 0,
-        Face::D => 1,
-        Face::R => 2,
-        Face::L => 3,
-        Face::F => 4,
-        Face::B => 5,
-    }
-}
-
-/// The index of a power in the entries of a face.
-fn power_number(power: Power) -> usize
-    ensures { result ≡ power_index power }
-{
-    match power {
-        Power::Quarter => 0,
-        Power::Half => 1,
-        Power::Counter => 2,
     }
 }
 
 /// The face of the renamed cube from which the flip on an axis is read:
 /// that before `x` (Ud), that before `y'` (Rl), itself (Fb).
+#[inline(always)]
 fn renamed_face_for_flip(axis: Axis, face: Face) -> Face
     ensures { result ≡ face_for_flip axis face }
 {
-    let rotation = match axis {
-        Axis::Ud => Rotation {
-            top: Face::F,
-            vertical: None,
+    match axis {
+        Axis::Ud => match face {
+            Face::U => Face::F,
+            Face::D => Face::B,
+            Face::F => Face::D,
+            Face::B => Face::U,
+            Face::R | Face::L => face,
         },
-        Axis::Rl => Rotation {
-            top: Face::U,
-            vertical: Some(Power::Counter),
+        Axis::Rl => match face {
+            Face::R => Face::F,
+            Face::L => Face::B,
+            Face::F => Face::L,
+            Face::B => Face::R,
+            Face::U | Face::D => face,
         },
-        Axis::Fb => Rotation::IDENTITY,
-    };
-    rotation.face_before(face)
+        Axis::Fb => face,
+    }
 }
 
 /// The face of the renamed cube from which the twist and the slice on an axis are read:
 /// itself (Ud), that before `z` (Rl), that before `x'` (Fb).
+#[inline(always)]
 fn renamed_face_for_twist(axis: Axis, face: Face) -> Face
     ensures { result ≡ face_for_twist axis face }
 {
-    let rotation = match axis {
-        Axis::Ud => Rotation::IDENTITY,
-        Axis::Rl => Rotation {
-            top: Face::L,
-            vertical: None,
+    match axis {
+        Axis::Ud => face,
+        Axis::Rl => match face {
+            Face::U => Face::L,
+            Face::D => Face::R,
+            Face::R => Face::U,
+            Face::L => Face::D,
+            Face::F | Face::B => face,
         },
-        Axis::Fb => Rotation {
-            top: Face::B,
-            vertical: None,
+        Axis::Fb => match face {
+            Face::U => Face::B,
+            Face::D => Face::F,
+            Face::F => Face::U,
+            Face::B => Face::D,
+            Face::R | Face::L => face,
         },
-    };
-    rotation.face_before(face)
+    }
 }
 
 /// The turn that does to the flip on the axis Fb what `turn` does to the flip on `axis`.
@@ -190,6 +204,7 @@ pub fn turn_for_twist(axis: Axis, turn: Turn) -> Turn
 }
 
 /// The entry of a number at a turn.
+#[inline(always)]
 fn entry(rows: &[Row], number: u16, face: Face, power: Power) -> u16
     requires { number < length rows.now }
     ensures { result
@@ -251,6 +266,7 @@ impl<A: Allocator> TurnTables<A> {
     }
 
     /// The flip number on an axis, below 2048, after a turn of any cube that has this flip number before it.
+    #[inline(always)]
     pub fn next_flip(&self, axis: Axis, coordinate: u16, turn: Turn) -> u16
         requires { coordinate < 2048 }
         ensures value { result ≡ flip_after axis coordinate turn }
@@ -263,6 +279,7 @@ impl<A: Allocator> TurnTables<A> {
     }
 
     /// The twist number on an axis, below 2187, after a turn of any cube that has this twist number before it.
+    #[inline(always)]
     pub fn next_twist(&self, axis: Axis, coordinate: u16, turn: Turn) -> u16
         requires { coordinate < 2187 }
         ensures value { result ≡ twist_after axis coordinate turn }
@@ -275,6 +292,7 @@ impl<A: Allocator> TurnTables<A> {
     }
 
     /// The slice number on an axis, below 495, after a turn of any cube that has this slice number before it.
+    #[inline(always)]
     pub fn next_slice(&self, axis: Axis, coordinate: u16, turn: Turn) -> u16
         requires { coordinate < 495 }
         ensures value { result ≡ slice_after axis coordinate turn }

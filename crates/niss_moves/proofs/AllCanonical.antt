@@ -4,7 +4,7 @@ use Rattle.std.specs.List.{All, Contains, filter, slice_get}
 use Rattle.std.proofs.lemmas.List.Elements.{Contains-push, All-push, All-contains}
 use Rattle.std.proofs.lemmas.List.{get_or_append_left}
 use Rattle.niss_moves.specs.Canonical.{may_follow, IsCanonical, last_turn, canonical_extensions, all_canonical}
-use Rattle.niss_moves.specs.RewritingLaws.{CanonicalMembers}
+use Rattle.niss_moves.specs.RewritingLaws.{CanonicalMembers, CanonicalGrows}
 use Rattle.niss_moves.specs.declared.turn.Turn.{Turn}
 use Rattle.niss_moves.proofs.MadeLists.{none, here, first_or_later, in_map, from_map, in_filter, from_filter, in_flat_map, from_flat_map}
 use Rattle.niss_moves.proofs.CanonicalLists.{canonical_front, canonical_pair, canonical_push, last_of, snoc_assoc}
@@ -14,7 +14,7 @@ get_last : (s : List Turn) (t : Turn) → slice_get (s ++ t ∷ []) (length s) �
 get_last [] t = refl
 get_last (x ∷ s) t = get_last s t
 
-last_turn-push : (s : List Turn) (t : Turn) → last_turn (s ++ t ∷ []) ≡ Some t
+pub last_turn-push : (s : List Turn) (t : Turn) → last_turn (s ++ t ∷ []) ≡ Some t
 last_turn-push s t =
     let e : length (s ++ t ∷ []) - 1 ≡ length s = omega (arith, length-append s (t ∷ [])) in
     ap (slice_get (s ++ t ∷ [])) e ∙ get_last s t
@@ -33,6 +33,9 @@ may_follow-last s t h =
       | inl n ↦ subst (λ (s : List Turn). may_follow (last_turn s) t ≡ true) (sym n) refl
       | inr w ↦ ap (λ l. may_follow l t) (ap last_turn w.2 ∙ last_turn-push w.0 w.1) ∙ canonical_pair w.0 w.1 t [] (rw snoc_assoc at (subst (λ (s : List Turn). IsCanonical (s ++ t ∷ [])) w.2 h))
     ]
+
+pub canonical_grows : CanonicalGrows
+canonical_grows s t = ((λ h. (canonical_front s (t ∷ []) h, may_follow-last s t h)), (λ p. canonical_more s t p.0 p.1))
 
 record IsMember (turns : List Turn) (k : ℕ) (s : List Turn) : Type 0 where
   long : length s ≡ k

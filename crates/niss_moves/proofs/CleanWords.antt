@@ -1,6 +1,8 @@
 -- A cleaned line written out.
-use Rattle.std.proofs.Common.{◌≡◌, ℕ, refl, ap, sym, ◌∙◌, subst, true, false, List, [], ◌∷◌, ◌++◌, length, ◌==◌}
-use Rattle.niss_moves.specs.Text.{gap, with_word, with_words}
+use Rattle.std.proofs.Common.{◌≡◌, ℕ, refl, ap, sym, ◌∙◌, subst, true, false, List, [], ◌∷◌, ◌++◌, length, map, ap₂, ◌==◌}
+use Rattle.std.proofs.lemmas.List.{map-append}
+use Rattle.niss_moves.specs.Effects.{inverse}
+use Rattle.niss_moves.specs.Text.{gap, word, with_word, with_words}
 use Rattle.niss_moves.specs.CleanText.{turn_words, rotation_words, cleaned_words, with_bracket}
 use Rattle.niss_moves.specs.Helpers.{is_empty}
 use Rattle.niss_moves.specs.Line.{Moves}
@@ -11,12 +13,16 @@ use Rattle.niss_moves.specs.declared.turn.Turn.{Turn}
 use Rattle.niss_moves.specs.declared.rotation.Rotation.{Rotation}
 use Rattle.niss_moves.specs.declared.token.Token.{Token}
 
-pub letter_of : (a b : ℕ) (p old new : List ℕ) → a ≡ b → new ≡ with_word old (a ∷ p) → new ≡ with_word old (b ∷ p)
-letter_of a b p old new e h = h ∙ ap (λ x. with_word old (x ∷ p)) e
-
 with_words-append : (t : List ℕ) (a b : List (List ℕ)) → with_words t (a ++ b) ≡ with_words (with_words t a) b
 with_words-append t [] b = refl
 with_words-append t (w ∷ a) b = with_words-append (with_word t w) a b
+
+-- the words of moves and then of the inverse of others
+pub words_joined : (old mid new : List ℕ) (a x y b : List Token) → mid ≡ with_words old (map word x) → new ≡ with_words mid (map word (inverse y)) → x ≡ a → y ≡ b
+    → new ≡ with_words old (map word (a ++ inverse b))
+words_joined old mid new a x y b p q e f =
+    q ∙ ap₂ (λ (t : List ℕ) (s : List Token). with_words t (map word (inverse s))) (p ∙ ap (λ s. with_words old (map word s)) e) f
+    ∙ sym (with_words-append old (map word a) (map word (inverse b))) ∙ ap (with_words old) (sym (map-append word a (inverse b)))
 
 -- turns and a rotation written one after the other
 text_part : (old mid new : List ℕ) (d ts : List Turn) (r : Rotation) → d ≡ ts → mid ≡ with_words old (turn_words d) → new ≡ with_words mid (rotation_words r) → new ≡ with_words old (cleaned_words ts r)

@@ -1,7 +1,9 @@
 -- Cleaning in one pass.
 use Rattle.std.proofs.Common.{◌≡◌, Bool, true, false, ◌||◌, refl, ap, sym, ◌∙◌, subst, subst₂, List, [], ◌∷◌, ◌++◌, append_assoc, append-nil, inl, inr, Option, None, Some}
+use Rattle.std.specs.Prelude.{IfSome}
 use Rattle.niss_moves.specs.Turn.{same_face}
-use Rattle.niss_moves.specs.Canonical.{face_may_follow, IsCanonical}
+use Rattle.niss_moves.specs.Canonical.{face_may_follow, last_turn, IsCanonical}
+use Rattle.niss_moves.proofs.AllCanonical.{last_turn-push}
 use Rattle.niss_moves.specs.Cleaning.{turn_by, sum_of_powers, sum_of_turns, rewritten_pair, Cleans, Clean, Rewrite}
 use Rattle.niss_moves.specs.Helpers.{pair_of_turns, list_with_turn}
 use Rattle.niss_moves.specs.declared.turn.Face.{Face}
@@ -115,19 +117,30 @@ same_faces F F = refl
 same_faces B B = refl
 same_faces _ _ = refl
 
-pub summed_same : (a old new : List Turn) (x t : Turn) (o : Option Power) → old ≡ a ++ x ∷ [] → same_face x.face t.face ≡ true → o ≡ sum_of_powers x.power t.power → new ≡ a ++ turn_by x.face o → new ≡ list_with_turn old t
-summed_same a old new x t o is e m n =
-    n ∙ ap (λ o. a ++ turn_by x.face o) m ∙ ap (λ s. a ++ s) (sym (same_pair x t e)) ∙ sym (list_with_turn-last a x t) ∙ ap (λ s. list_with_turn s t) (sym is)
+pub summed_same : (a old new : List Turn) (x t : Turn) → old ≡ a ++ x ∷ [] → same_face x.face t.face ≡ true → new ≡ a ++ sum_of_turns x t → new ≡ list_with_turn old t
+summed_same a old new x t is e n =
+    n ∙ ap (λ s. a ++ s) (sym (same_pair x t e)) ∙ sym (list_with_turn-last a x t) ∙ ap (λ s. list_with_turn s t) (sym is)
 
 pub summed_other : (a old mid new : List Turn) (x t : Turn) → old ≡ a ++ x ∷ [] → same_face x.face t.face ≡ false → mid ≡ a ++ x ∷ [] → new ≡ mid ++ t ∷ [] → new ≡ list_with_turn old t
 summed_other a old mid new x t o e m n =
     n ∙ ap (λ s. s ++ t ∷ []) m ∙ snoc_assoc a x (t ∷ []) ∙ ap (λ s. a ++ s) (sym (other_pair x t e)) ∙ sym (list_with_turn-last a x t) ∙ ap (λ s. list_with_turn s t) (sym o)
 
+pub cleaned_sum : (a old new : List Turn) (x t : Turn) → IsCanonical old → old ≡ a ++ x ∷ [] → same_face x.face t.face ≡ true → new ≡ a ++ sum_of_turns x t → Cleaned old t new
+cleaned_sum a old new x t h o e n =
+    subst₂ (λ (o n : List Turn). Cleaned o t n) (sym o) (sym n) (cleaned_same a x t (subst (λ (s : List Turn). IsCanonical s) o h) e)
+
+pub cleaned_passed : (a old mid new : List Turn) (x t : Turn) → IsCanonical old → old ≡ a ++ x ∷ [] → same_face x.face t.face ≡ false
+    → IfSome (last_turn old) (λ u. face_may_follow u.face t.face ≡ false) → mid ≡ list_with_turn a t → new ≡ mid ++ x ∷ [] → Cleaned old t new
+cleaned_passed a old mid new x t h o e b m n =
+    let breaks : IfSome (Some x) (λ u. face_may_follow u.face t.face ≡ false) =
+    subst (λ (l : Option Turn). IfSome l (λ u. face_may_follow u.face t.face ≡ false)) (ap last_turn o ∙ last_turn-push a x) b in
+    subst₂ (λ (o n : List Turn). Cleaned o t n) (sym o) (sym (n ∙ ap (λ s. s ++ x ∷ []) m)) (cleaned_swap a x t (subst (λ (s : List Turn). IsCanonical s) o h) e breaks)
+
 cleaned_in_order : (a : List Turn) (x t : Turn) → IsCanonical (a ++ x ∷ []) → (s : Bool) → same_face x.face t.face ≡ s → (s || face_may_follow x.face t.face) ≡ true → Cleaned (a ++ x ∷ []) t (a ++ pair_of_turns x t)
 cleaned_in_order a x t h true e k = rw (same_pair x t e) (cleaned_same a x t h e)
 cleaned_in_order a x t h false e k = rw (other_pair x t e) (cleaned_follow a x t h k)
 
-pub cleaned_stays : (a old mid new : List Turn) (x t : Turn) → IsCanonical old → old ≡ a ++ x ∷ [] → (same_face x.face t.face || face_may_follow x.face t.face) ≡ true → mid ≡ a ++ x ∷ [] → new ≡ list_with_turn mid t → Cleaned old t new
+cleaned_stays : (a old mid new : List Turn) (x t : Turn) → IsCanonical old → old ≡ a ++ x ∷ [] → (same_face x.face t.face || face_may_follow x.face t.face) ≡ true → mid ≡ a ++ x ∷ [] → new ≡ list_with_turn mid t → Cleaned old t new
 cleaned_stays a old mid new x t h o k m n =
     subst₂ (λ (o n : List Turn). Cleaned o t n) (sym o) (sym (n ∙ ap (λ s. list_with_turn s t) m ∙ list_with_turn-last a x t)) (cleaned_in_order a x t (subst (λ (s : List Turn). IsCanonical s) o h) (same_face x.face t.face) refl k)
 
@@ -139,7 +152,7 @@ or_false_right : (a b : Bool) → (a || b) ≡ false → b ≡ false
 or_false_right true b e = cc
 or_false_right false b e = e
 
-pub cleaned_passes : (a old mid new : List Turn) (x t : Turn) → IsCanonical old → old ≡ a ++ x ∷ [] → (same_face x.face t.face || face_may_follow x.face t.face) ≡ false → mid ≡ list_with_turn a t → new ≡ mid ++ x ∷ [] → Cleaned old t new
+cleaned_passes : (a old mid new : List Turn) (x t : Turn) → IsCanonical old → old ≡ a ++ x ∷ [] → (same_face x.face t.face || face_may_follow x.face t.face) ≡ false → mid ≡ list_with_turn a t → new ≡ mid ++ x ∷ [] → Cleaned old t new
 cleaned_passes a old mid new x t h o k m n =
     subst₂ (λ (o n : List Turn). Cleaned o t n) (sym o) (sym (n ∙ ap (λ s. s ++ x ∷ []) m)) (cleaned_swap a x t (subst (λ (s : List Turn). IsCanonical s) o h) (or_false_left _ _ k) (or_false_right (same_face x.face t.face) _ k))
 

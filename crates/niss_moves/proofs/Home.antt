@@ -1,10 +1,11 @@
 -- Rotations one after the other, and sequences whose centres are brought home.
-use Rattle.std.proofs.Common.{◌≡◌, Bool, true, refl, ap, sym, ◌∙◌, List, [], ◌∷◌, map, if◌then◌else◌, Option, None, Some}
+use Rattle.std.proofs.Common.{◌≡◌, Bool, true, refl, ap, sym, ◌∙◌, List, [], ◌∷◌, map, Option, None, Some}
 use Rattle.niss_moves.specs.Places.{Place}
 use Rattle.niss_moves.specs.Facelets.{centre}
 use Rattle.niss_moves.specs.Effects.{effect, effect_of_turns, moved_by, turned, inverse}
 use Rattle.niss_moves.specs.Turn.{same_face}
-use Rattle.niss_moves.specs.Rotations.{face_before, face_before_power, face_before_top, renamed_turn, to_top, about_vertical, spelling, IsRotationOf}
+use Rattle.niss_moves.specs.Rotations.{face_before, face_before_power, renamed_turn, to_top, about_vertical, spelling, IsRotationOf}
+use Rattle.niss_moves.specs.Helpers.{vertical_of, rotation_by}
 use Rattle.niss_moves.specs.Faces.{BasicMove, FaceTurn, WholeRotation, token_of_basic, expanded, faces_with, faces}
 use Rattle.niss_moves.specs.RewritingLaws.{CentresComeHome, FacesAreHome}
 use Rattle.niss_moves.specs.declared.axis.Axis.{Axis}
@@ -25,24 +26,18 @@ use Rattle.niss_moves.proofs.Pushed.{keep_centre}
 use Rattle.niss_moves.proofs.OneSpelling.{one_spelling}
 
 -- a rotation and one more about an axis
-vertical_of : Face → Face → Option Power
-vertical_of top front =
-    if same_face front (face_before_top top F) then None
-    else (if same_face front (face_before_top top R) then Some Quarter
-    else (if same_face front (face_before_top top B) then Some Half else Some Counter))
-
-next_rotation : Rotation → Axis → Power → Rotation
-next_rotation r a p = rotation (next_top r a p) (vertical_of (next_top r a p) (next_front r a p))
+unfoldable pub next_rotation : Rotation → Axis → Power → Rotation
+next_rotation r a p = rotation_by (next_top r a p) (next_front r a p)
 
 abbrev Fits : Rotation → Axis → Power → Bool
 Fits r a p =
     same_face (face_before (rotation (next_top r a p) (vertical_of (next_top r a p) (next_front r a p))) F) (next_front r a p)
 
 fits_test : every_rotation (λ r. every_axis (λ a. every_power (λ p. Fits r a p))) ≡ true
-unfolding every_rotation every_optional_power every_axis every_power every_face vertical_of
+unfolding every_rotation every_optional_power every_axis every_power every_face
 fits_test = refl
 
-is_next : (r : Rotation) (a : Axis) (p : Power) → IsNext r a p (next_rotation r a p)
+pub is_next : (r : Rotation) (a : Axis) (p : Power) → IsNext r a p (next_rotation r a p)
 unfolding next_rotation
 is_next r a p =
     next r a p (vertical_of (next_top r a p) (next_front r a p)) (same_face_is _ _ (at_power (λ p. Fits r a p) (at_axis (λ a. every_power (λ p. Fits r a p)) (at_rotation (λ r. every_axis (λ a. every_power (λ p. Fits r a p))) fits_test r) a) p))

@@ -1,5 +1,5 @@
 -- A sequence and its inverse.
-use Rattle.std.proofs.Common.{◌≡◌, Bool, true, refl, ap, sym, ◌∙◌, List, [], ◌∷◌, ◌++◌, map, reverse}
+use Rattle.std.proofs.Common.{◌≡◌, Bool, true, refl, ap, sym, ◌∙◌, List, [], ◌∷◌, ◌++◌, length, map, reverse}
 use Rattle.std.proofs.lemmas.List.{reverse-append, map-append, reverse-reverse}
 use Rattle.niss_moves.specs.Places.{Place, same_place}
 use Rattle.niss_moves.specs.Effects.{effect, moved_by, inverse, inverse_token, inverse_power, HasMeaning}
@@ -78,3 +78,12 @@ inverse_of m n b e = e ∙ inverse_whole n b
 
 pub undone_by : (m s : List Token) (q : Place) → m ≡ inverse s → effect m (effect s q) ≡ q
 undone_by m s q e = ap (λ x. effect x (effect s q)) e ∙ inverse_after s q
+
+-- the inverse of no moves, and of moves with a last one
+pub inverse_none : (s : List Token) → length s ≡ 0 → inverse s ≡ []
+inverse_none [] e = refl
+inverse_none (t ∷ s) e = cc
+
+pub inverse_last : (s front : List Token) (t u : Token) → s ≡ front ++ t ∷ [] → u ≡ inverse_token t → inverse s ≡ u ∷ inverse front
+inverse_last s front t u e i =
+    ap inverse e ∙ inverse-append front (t ∷ []) ∙ ap (λ x. x ∷ inverse front) (sym i)

@@ -9,8 +9,10 @@ pub mod OneSpelling
 pub mod OneCleanList
 pub mod Disorder
 pub mod AllCanonical
+pub mod CallerLemmas
 pub mod SymbolTable
 pub mod Completes
+pub mod SameLetters
 pub mod Sound
 pub mod Whole
 pub mod Room
@@ -18,10 +20,10 @@ pub mod OneFault
 pub mod ReaderSteps
 pub mod ReaderAnswers
 pub mod ReadBack
-pub mod Words
 pub mod Inverses
 pub mod Stays
 pub mod CleanWords
+pub mod HeldRotations
 pub mod Home
 pub mod WholeEffect
 pub mod ListedPlaces
@@ -30,3 +32,5 @@ pub mod MadeLists
 pub mod CanonicalOrder
 pub mod CleanFunction
 pub mod RotationFound
+pub mod Gathered
+pub mod WholeMoves

@@ -36,7 +36,7 @@ at_list p (x ∷ xs) q e h =
       | inr r ↦ at_list p xs q (both_right (p x) _ e) r
     ]
 
-all_places : list_all is_place places ≡ true
+pub all_places : list_all is_place places ≡ true
 all_places = refl
 
 pub places_are_listed : PlacesAreListed

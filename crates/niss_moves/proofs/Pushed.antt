@@ -6,6 +6,7 @@ use Rattle.niss_moves.specs.Facelets.{centre}
 use Rattle.niss_moves.specs.Effects.{effect, effect_of_turns, moved_by, turned, inverse_power}
 use Rattle.niss_moves.specs.Rotations.{face_before, face_before_power, renamed_turn, spelling}
 use Rattle.niss_moves.specs.Faces.{BasicMove, FaceTurn, WholeRotation, faces, expanded, token_of_basic, faces_with}
+use Rattle.niss_moves.specs.Cleaning.{Cleans}
 use Rattle.niss_moves.specs.Turn.{opposite}
 use Rattle.niss_moves.specs.declared.turn.Face.{Face}
 use Rattle.niss_moves.specs.declared.turn.Face.TheVariants.{U}
@@ -79,6 +80,15 @@ pub pushed_rotation : (r : Rotation) (k : Token) (a : Axis) (p : Power) (old : L
 pushed_rotation r k a p old n is next =
     pushed r k old old n _ (ap expanded is) (pushes_rotation r a p n [] old old n next (pushes_none n old))
 
+-- the same behind other turns
+pub pushed_more : (r : Rotation) (k : Token) (old turns new : List Turn) (n : Rotation) → new ≡ old ++ turns → Pushed r k [] turns n → Pushed r k old new n
+pushed_more r k old turns new n e h =
+    record {
+      faces = λ rest. ap (λ s. s ++ map (before n) rest) e ∙ append_assoc old turns (map (before n) rest) ∙ ap (λ s. old ++ s) (h.faces rest);
+      effect = λ q.
+          ap (λ s. effect (spelling n) (effect_of_turns s q)) e ∙ ap (effect (spelling n)) (effect_of_turns-append old turns q) ∙ h.effect (effect_of_turns old q);
+    }
+
 -- a loop over the moves
 pub faces_more : (ts : List Token) (i : ℕ) (d : Token) (r n : Rotation) (old new : List Turn) → i < length ts → Pushed r (get_or ts i d) old new n → old ++ map (before r) (faces (drop i ts)) ≡ faces ts → new ++ map (before n) (faces (drop (i + 1) ts)) ≡ faces ts
 faces_more ts i d r n old new lt h e =
@@ -106,3 +116,19 @@ keeps_centre t g = same_place_is _ _ (at_face (λ g. Keeps t g) (at_turn (λ t. 
 pub keep_centre : (s : List Turn) (g : Face) → effect_of_turns s (centre g) ≡ centre g
 keep_centre [] g = refl
 keep_centre (t ∷ s) g = ap (effect_of_turns s) (keeps_centre t g) ∙ keep_centre s g
+
+-- the centres in a loop over the moves
+pub centres_more : (ts : List Token) (i : ℕ) (d : Token) (r n : Rotation) (turns : List Turn) → i < length ts → Pushed r (get_or ts i d) [] turns n
+    → ((f : Face) → effect (spelling r) (centre f) ≡ effect (take i ts) (centre f)) → (f : Face) → effect (spelling n) (centre f) ≡ effect (take (i + 1) ts) (centre f)
+centres_more ts i d r n turns lt h e f =
+    ap (effect (spelling n)) (sym (keep_centre turns f)) ∙ h.effect (centre f) ∙ ap (moved_by (get_or ts i d)) (e f)
+    ∙ sym (effect-append (take i ts) (get_or ts i d ∷ []) (centre f)) ∙ ap (λ s. effect s (centre f)) (sym (take_more ts i d lt))
+
+-- cleaning in a loop over the moves
+pub cleans_more : (ts : List Token) (i : ℕ) (d : Token) (r n : Rotation) (turns old new all : List Turn) → i < length ts → Pushed r (get_or ts i d) [] turns n
+    → ((rest c : List Turn) → Cleans (new ++ rest) c → Cleans (old ++ (turns ++ rest)) c)
+    → ((c : List Turn) → Cleans (old ++ map (before r) (faces (drop i ts))) c → Cleans all c)
+    → (c : List Turn) → Cleans (new ++ map (before n) (faces (drop (i + 1) ts))) c → Cleans all c
+cleans_more ts i d r n turns old new all lt h pushed front c w =
+    front c (subst (λ (s : List Turn). Cleans (old ++ s) c) (h.faces (faces (drop (i + 1) ts)) ∙ sym (at_drop_more (λ s. map (before r) (faces s)) ts i d lt))
+    (pushed (map (before n) (faces (drop (i + 1) ts))) c w))

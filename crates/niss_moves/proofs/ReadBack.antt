@@ -89,7 +89,7 @@ letter_gap L = refl
 letter_gap F = refl
 letter_gap B = refl
 
-gap_word : (a : List ℕ) (t : Token) → gap (a ++ word t) ≡ 32 ∷ []
+pub gap_word : (a : List ℕ) (t : Token) → gap (a ++ word t) ≡ 32 ∷ []
 gap_word a (token.Face t) = gap_two a (face_letter t.face) t.power (letter_gap t.face)
 gap_word a (token.Wide f p) =
     ap gap (sym (append_assoc a (face_letter f ∷ []) (119 ∷ power_bytes p))) ∙ gap_two (a ++ face_letter f ∷ []) 119 p refl

@@ -9,7 +9,7 @@ use Rattle.niss_moves.specs.Faces.{faces}
 use Rattle.niss_moves.specs.RewritingLaws.{LineIsHome, FacesAndRotation, CleanedEffect}
 use Rattle.niss_moves.specs.declared.token.Token.{Token}
 use Rattle.niss_moves.specs.declared.turn.Face.{Face}
-use Rattle.niss_moves.proofs.Inverses.{inverse_after, meaning}
+use Rattle.niss_moves.proofs.Inverses.{inverse_after, meaning, undone_by}
 use Rattle.niss_moves.proofs.CleanEffect.{cleans_effect}
 use Rattle.niss_moves.proofs.OneSpelling.{one_spelling}
 use Rattle.niss_moves.proofs.Pushed.{keep_centre}
@@ -25,6 +25,11 @@ meaning_undone s n b h q = sym (inverse_after b (effect s q)) ∙ ap (effect (in
 
 pub one_meaning : OneMeaning
 one_meaning s t n b h k q = meaning_undone s n b h q ∙ sym (meaning_undone t n b k q)
+
+-- the inverse of a line, after any sequence of its meaning
+pub inverse_undoes_line : (m n b s : List Token) (q : Place) → HasMeaning s n b → m ≡ inverse (n ++ inverse b) → effect m (effect s q) ≡ q
+inverse_undoes_line m n b s q h e =
+    ap (effect m) (one_meaning s (n ++ inverse b) n b h (meaning n b) q) ∙ undone_by m (n ++ inverse b) q e
 
 pub line_is_home : LineIsHome
 line_is_home n b s home h centres q =

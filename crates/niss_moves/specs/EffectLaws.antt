@@ -1,7 +1,8 @@
 -- What holds of all moves and sequences, each proved as the contract of a function.
 use Rattle.std.specs.Prelude.{◌≡◌, ◌≢◌, ◌↔◌, List, ◌++◌, map, length, Contains, AllPairs}
-use Rattle.niss_moves.specs.Places.{Place, IsPlace}
+use Rattle.niss_moves.specs.Places.{Place, IsPlace, SameMap}
 use Rattle.niss_moves.specs.Facelets.{places}
+use Rattle.niss_moves.specs.Letters.{letters}
 use Rattle.niss_moves.specs.Effects.{effect, effect_of_turns, moved_by, inverse, HasMeaning}
 use Rattle.niss_moves.specs.declared.turn.Turn.{Turn}
 use Rattle.niss_moves.specs.declared.token.Token.{Token}
@@ -44,3 +45,7 @@ abbrev pub OneMeaning : Type 0
 OneMeaning =
     (s t normal bracketed : List Token) → HasMeaning s normal bracketed → HasMeaning t normal bracketed →
     (q : Place) → effect s q ≡ effect t q
+
+-- The facelet text speaks of the 54 sticker places alone.
+abbrev pub SameLetters : Type 0
+SameLetters = (d e : Place → Place) → SameMap d e → letters d ≡ letters e

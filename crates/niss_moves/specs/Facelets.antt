@@ -1,4 +1,4 @@
--- The facelets of the six faces, and the 54 places in the order of the facelet text (as Kociemba's cubie level has it).
+-- The facelets of the six faces, and the 54 places in the order of the facelet text (as Kociemba's facelet level has it).
 use Rattle.std.specs.Prelude.{ℕ, zero, suc, ◌-◌, ◌/◌, ◌%◌, List, [], ◌∷◌, ◌++◌, map}
 use Rattle.niss_moves.specs.Places.{Coord, Neg, Zero, Pos, negated, Vector, Place}
 use Rattle.niss_moves.specs.declared.turn.Face.{Face}

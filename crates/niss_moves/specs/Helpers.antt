@@ -1,9 +1,16 @@
 -- What private functions of the code work out. No public contract names these.
-use Rattle.std.specs.Prelude.{ℕ, Bool, true, false, not, ◌&&◌, List, [], ◌∷◌, if◌then◌else◌}
+use Rattle.std.specs.Prelude.{ℕ, Bool, true, false, not, ◌&&◌, List, [], ◌∷◌, slice_index_or, if◌then◌else◌, Option, None, Some}
 use Rattle.niss_moves.specs.Turn.{opposite, same_face}
 use Rattle.niss_moves.specs.Cleaning.{sum_of_turns}
 use Rattle.niss_moves.specs.declared.turn.Face.{Face}
+use Rattle.niss_moves.specs.Rotations.{face_before_top}
+use Rattle.niss_moves.specs.declared.turn.Face.TheVariants.{U, R, F, B}
+use Rattle.niss_moves.specs.declared.turn.Power.{Power}
+use Rattle.niss_moves.specs.declared.turn.Power.TheVariants.{Quarter, Half, Counter}
 use Rattle.niss_moves.specs.declared.turn.Turn.{Turn}
+use Rattle.niss_moves.specs.declared.rotation.Rotation.{Rotation}
+use Rattle.niss_moves.specs.declared.faces.MoveTurns.{MoveTurns}
+use Rattle.niss_moves.specs.declared.faces.MoveTurns.TheVariants.{NoTurn, One, Two}
 
 -- two faces with an edge in common
 abbrev pub is_beside : Face → Face → Bool
@@ -23,3 +30,24 @@ list_with_turn (x ∷ y ∷ s) t = x ∷ list_with_turn (y ∷ s) t
 abbrev pub is_empty : List (List ℕ) → Bool
 is_empty [] = true
 is_empty (w ∷ ws) = false
+
+-- the rotation about the vertical axis that brings a face to the front, once another one is at the top
+abbrev pub vertical_of : Face → Face → Option Power
+vertical_of top front =
+    if same_face front (face_before_top top F) then None
+    else (if same_face front (face_before_top top R) then Some Quarter
+    else (if same_face front (face_before_top top B) then Some Half else Some Counter))
+
+-- the rotation that brings these two faces to the top and to the front
+abbrev pub rotation_by : Face → Face → Rotation
+rotation_by top front = record { top = top; vertical = vertical_of top front }
+
+-- the rotation that brings these six faces to the places of U, D, R, L, F and B
+abbrev pub rotation_of_faces : List Face → Rotation
+rotation_of_faces fs = rotation_by (slice_index_or fs 0 U) (slice_index_or fs 4 U)
+
+-- the face turns of one move
+abbrev pub turns_in : MoveTurns → List Turn
+turns_in NoTurn = []
+turns_in (One t) = t ∷ []
+turns_in (Two t u) = t ∷ u ∷ []

@@ -19,3 +19,4 @@ pub mod EffectLaws
 pub mod CleanText
 pub mod CleanedLine
 pub mod Helpers
+pub mod WholeMoves

@@ -77,7 +77,7 @@ abbrev pub apostrophe_power : Bool → Power
 apostrophe_power true = Half
 apostrophe_power false = Counter
 
--- the state with its last move made whole
+-- the state with its last move made whole; no line comes here with the first byte of U+2019 alone
 abbrev pub settled_by : LastMove → State → State
 settled_by last.Finished s = s
 settled_by (last.Bare b) s = added s (token_of b Quarter)
@@ -175,7 +175,7 @@ run s bytes = run_within 256 s bytes
 -- what is read so far, behind so many bytes
 abbrev pub state_of : PartialLine → ℕ → State
 state_of p n =
-    record { normal = p.normal.items; bracketed = p.bracketed.items; bracket = p.bracket; last = p.last; fed = n }
+    record { normal = p.niss.normal; bracketed = p.niss.bracketed; bracket = p.bracket; last = p.last; fed = n }
 
 -- A step behind so many bytes answers a fault, or leaves the next state.
 abbrev pub IsStep : (State → Result State ReadFault) → PartialLine → ℕ → Result (Unit {0}) ReadFault → PartialLine → Type 0
@@ -215,6 +215,11 @@ ended_at _ s = ended_in s.bracket s
 abbrev pub ended : Result State ReadFault → Result Moves ReadFault
 ended (Ok s) = ended_at s.last s
 ended (Err f) = Err f
+
+-- these moves, unless there is a fault
+abbrev pub moves_if : Result (Unit {0}) ReadFault → Moves → Result Moves ReadFault
+moves_if (Ok u) m = Ok m
+moves_if (Err f) m = Err f
 
 -- what the line is, with these bytes behind those that were fed
 abbrev pub answer_after : Result State ReadFault → List ℕ → Result Moves ReadFault

@@ -15,6 +15,10 @@ pub record Reader : Type 0 where
   pub fault : Option ReadFault
   pub so_far : State
 
+-- the moves of what is read so far, without the last one where it isn't whole
+abbrev pub moves_of : Reader → Moves
+moves_of reader = record { normal = reader.so_far.normal; bracketed = reader.so_far.bracketed }
+
 -- the line of what a reader was fed and of these bytes behind it
 unfoldable pub line_with : Reader → List ℕ → Result Moves ReadFault
 line_with reader more = answer_after (state_or reader.fault reader.so_far) more

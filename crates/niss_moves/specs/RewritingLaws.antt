@@ -6,7 +6,7 @@ use Rattle.niss_moves.specs.Effects.{effect, effect_of_turns, moved_by, turned, 
 use Rattle.niss_moves.specs.Turn.{opposite, same_face, goes_first}
 use Rattle.niss_moves.specs.Rotations.{spelling, face_before, face_before_power, renamed_turn, IsRotationOf}
 use Rattle.niss_moves.specs.Faces.{expanded, token_of_basic, faces}
-use Rattle.niss_moves.specs.Canonical.{IsCanonical, all_canonical}
+use Rattle.niss_moves.specs.Canonical.{may_follow, last_turn, IsCanonical, all_canonical}
 use Rattle.niss_moves.specs.Cleaning.{IsRewriting, Cleans}
 use Rattle.niss_moves.specs.declared.axis.Axis.{Axis}
 use Rattle.niss_moves.specs.declared.turn.Face.{Face}
@@ -87,6 +87,11 @@ abbrev pub CanonicalInOrder : Type 0
 CanonicalInOrder =
     (comes_before : Turn → Turn → Bool) (turns : List Turn) (k : ℕ) →
     AllPairs (λ t u. IsTrue (comes_before t u)) turns → AllPairs (DiffersFirst comes_before) (all_canonical turns k)
+
+-- A sequence with one turn more is canonical exactly where the sequence is, and the turn may follow its last one.
+abbrev pub CanonicalGrows : Type 0
+CanonicalGrows =
+    (s : List Turn) (t : Turn) → IsCanonical (s ++ t ∷ []) ↔ (IsCanonical s × IsTrue (may_follow (last_turn s) t))
 
 -- Leftmost rewriting ends, for each list.
 abbrev pub CleaningEnds : Type 0

@@ -1,3 +1,4 @@
+//! Moves without their suffix.
 ghost use Rattle.std.specs.Prelude.{◌≡◌};
 ghost use Rattle.niss_moves.specs.Notation.{token_of};
 

@@ -6,10 +6,13 @@ ghost use Rattle.niss_moves.specs.CleanText.{turn_words, rotation_words, cleaned
 ghost use Rattle.niss_moves.specs.Helpers.{is_empty};
 ghost use Rattle.niss_moves.specs.CleanedLine.{with_clean_line};
 
-use crate::cleaning::cleanup;
+use crate::axis::Axis;
+use crate::cleaning::clean_into;
+use crate::faces::Faces;
+use crate::gathering::{Word, Words};
 use crate::niss::Niss;
 use crate::rotation::Rotation;
-use crate::text::{LineText, face_letter, put_gap, put_word};
+use crate::text::{LineText, put_gap, put_word};
 use crate::turn::{Face, Power, Turn};
 
 /// Appends the words of the face turns, with one space before each word, but not at the beginning of the text or after
@@ -19,9 +22,15 @@ pub fn put_faces(turns: &[Turn], text: &mut LineText)
     ensures items { text.new.items ≡ with_words text.old.items (turn_words turns.now) }
     ensures len { array_vec_len text.new ≤ array_vec_len text.old + 3 * length turns.now }
 {
-    for turn in turns {
-        put_word(face_letter(turn.face), turn.power, text);
+    let Some((first, rest)) = turns.split_first() else {
+        return;
+    };
+    put_word(Word::of_turn(*first), text);
+    let mut words = Words::new();
+    for turn in rest {
+        words.push(Word::of_turn(*turn), text);
     }
+    words.write(text);
 }
 
 /// Appends the one spelling of the rotation, as `x2 y2`, with one space before each word, but not at the beginning of the
@@ -33,14 +42,14 @@ pub fn put_rotation(rotation: Rotation, text: &mut LineText)
 {
     match rotation.top {
         Face::U => {}
-        Face::F => put_word(b'x', Power::Quarter, text),
-        Face::D => put_word(b'x', Power::Half, text),
-        Face::B => put_word(b'x', Power::Counter, text),
-        Face::L => put_word(b'z', Power::Quarter, text),
-        Face::R => put_word(b'z', Power::Counter, text),
+        Face::F => put_word(Word::of_rotation(Axis::Rl, Power::Quarter), text),
+        Face::D => put_word(Word::of_rotation(Axis::Rl, Power::Half), text),
+        Face::B => put_word(Word::of_rotation(Axis::Rl, Power::Counter), text),
+        Face::L => put_word(Word::of_rotation(Axis::Fb, Power::Quarter), text),
+        Face::R => put_word(Word::of_rotation(Axis::Fb, Power::Counter), text),
     }
     if let Some(power) = rotation.vertical {
-        put_word(b'y', power, text);
+        put_word(Word::of_rotation(Axis::Ud, power), text);
     }
 }
 
@@ -59,10 +68,12 @@ pub fn put_niss_clean(niss: &Niss, text: &mut LineText)
     ensures items { text.new.items ≡ with_clean_line text.old.items niss.now }
     ensures len { array_vec_len text.new ≤ array_vec_len text.old + 1600 }
 {
-    let (turns, rotation) = cleanup(niss.normal());
+    let mut turns = Faces::new();
+    let rotation = clean_into(niss.normal(), &mut turns);
     put_faces(&turns, text);
     put_rotation(rotation, text);
-    let (turns, rotation) = cleanup(niss.inverse());
+    turns.clear();
+    let rotation = clean_into(niss.inverse(), &mut turns);
     if have_no_word(&turns, rotation) {
         return;
     }

@@ -1,28 +1,20 @@
 //! Face turns made canonical.
-ghost use Rattle.std.specs.Prelude.{◌≡◌, ◌+◌, ◌*◌, ◌<◌, ◌≤◌, List, [], ◌∷◌, ◌++◌, ◌||◌, length, IsTrue};
+ghost use Rattle.std.specs.Prelude.{◌≡◌, ◌+◌, ◌*◌, ◌<◌, ◌≤◌, List, [], ◌∷◌, ◌++◌, length, false, IfSome};
 ghost use Rattle.arrayvec.specs.ArrayVec.{array_vec_len};
 ghost use Rattle.niss_moves.specs.Places.{Place};
 ghost use Rattle.niss_moves.specs.Effects.{effect, effect_of_turns};
 ghost use Rattle.niss_moves.specs.Rotations.{spelling, IsRotationOf};
 ghost use Rattle.niss_moves.specs.Faces.{faces};
-ghost use Rattle.niss_moves.specs.Turn.{same_face};
-ghost use Rattle.niss_moves.specs.Canonical.{face_may_follow, IsCanonical};
-ghost use Rattle.niss_moves.specs.Cleaning.{sum_of_powers, Cleans};
-ghost use Rattle.niss_moves.specs.Helpers.{list_with_turn};
+ghost use Rattle.niss_moves.specs.Canonical.{face_may_follow, last_turn, IsCanonical};
+ghost use Rattle.niss_moves.specs.Cleaning.{sum_of_powers, sum_of_turns, Cleans};
+ghost use Rattle.niss_moves.specs.Helpers.{list_with_turn, turns_in};
 
-use crate::faces::{Faces, to_faces};
+use crate::canonical::allowed;
+use crate::faces::{Faces, MoveTurns};
+use crate::held_rotation::HeldRotation;
 use crate::rotation::Rotation;
 use crate::token::Token;
-use crate::turn::{Face, Power, Turn};
-
-impl Face {
-    /// Whether a turn of `next` behind one of this face needs no exchange of the two.
-    fn is_in_order(self, next: Face) -> bool
-        ensures { result ≡ (same_face self next || face_may_follow self next) }
-    {
-        self == next || self.may_precede(next)
-    }
-}
+use crate::turn::{Power, Turn};
 
 impl Power {
     /// The power of two turns of one face together, or `None` where they make a whole round.
@@ -40,6 +32,20 @@ impl Power {
     }
 }
 
+/// Appends the sum of two turns of one face.
+fn push_sum(turns: &mut Faces, first: Turn, second: Turn)
+    requires { array_vec_len turns.old < 512 }
+    ensures len { array_vec_len turns.new ≤ array_vec_len turns.old + 1 }
+    ensures items { turns.new.items ≡ turns.old.items ++ sum_of_turns first second }
+{
+    if let Some(power) = first.power.plus(second.power) {
+        turns.push(Turn {
+            face: first.face,
+            power,
+        });
+    }
+}
+
 /// Appends a turn, or sums it with the last one where that is of its face.
 fn push_summed(turns: &mut Faces, turn: Turn)
     requires { array_vec_len turns.old < 512 }
@@ -51,15 +57,32 @@ fn push_summed(turns: &mut Faces, turn: Turn)
         return;
     };
     if last.face == turn.face {
-        if let Some(power) = last.power.plus(turn.power) {
-            turns.push(Turn {
-                face: last.face,
-                power,
-            });
-        }
+        push_sum(turns, last, turn);
     } else {
         turns.push(last);
         turns.push(turn);
+    }
+}
+
+/// Sums a turn that may not follow the last one with it, or lets it pass.
+fn push_before(turns: &mut Faces, turn: Turn)
+    requires breaks { IfSome (last_turn turns.old.items) (λ t. face_may_follow t.face turn.face ≡ false) }
+    requires canonical { IsCanonical turns.old.items }
+    requires room { array_vec_len turns.old < 512 }
+    ensures len { array_vec_len turns.new ≤ array_vec_len turns.old + 1 }
+    ensures canonical { IsCanonical turns.new.items }
+    ensures cleans { (rest c : List Turn) →
+        Cleans (turns.new.items ++ rest) c → Cleans (turns.old.items ++ turn ∷ rest) c }
+{
+    let Some(last) = turns.pop() else {
+        turns.push(turn);
+        return;
+    };
+    if last.face == turn.face {
+        push_sum(turns, last, turn);
+    } else {
+        push_summed(turns, turn);
+        turns.push(last);
     }
 }
 
@@ -72,17 +95,46 @@ fn push_clean(turns: &mut Faces, turn: Turn)
     ensures cleans { (rest c : List Turn) →
         Cleans (turns.new.items ++ rest) c → Cleans (turns.old.items ++ turn ∷ rest) c }
 {
-    let Some(last) = turns.pop() else {
+    if allowed(turns.as_slice().last().copied(), turn) {
         turns.push(turn);
-        return;
-    };
-    if last.face.is_in_order(turn.face) {
-        turns.push(last);
-        push_summed(turns, turn);
     } else {
-        push_summed(turns, turn);
-        turns.push(last);
+        push_before(turns, turn);
     }
+}
+
+/// Appends the face turns of one move to a clean list and cleans it again.
+fn push_clean_turns(turns: &mut Faces, more: MoveTurns)
+    requires canonical { IsCanonical turns.old.items }
+    requires room { array_vec_len turns.old ≤ 510 }
+    ensures len { array_vec_len turns.new ≤ array_vec_len turns.old + 2 }
+    ensures canonical { IsCanonical turns.new.items }
+    ensures cleans { (rest c : List Turn) →
+        Cleans (turns.new.items ++ rest) c → Cleans (turns.old.items ++ (turns_in more ++ rest)) c }
+{
+    match more {
+        MoveTurns::NoTurn => {}
+        MoveTurns::One(turn) => push_clean(turns, turn),
+        MoveTurns::Two(first, second) => {
+            push_clean(turns, first);
+            push_clean(turns, second);
+        }
+    }
+}
+
+/// Writes the cleaned face turns of a sequence into an empty list, and answers the rotation that is left at its end.
+pub(crate) fn clean_into(tokens: &[Token], turns: &mut Faces) -> Rotation
+    requires moves { length tokens.now ≤ 256 }
+    requires empty { turns.old.items ≡ [] }
+    ensures len { array_vec_len turns.new ≤ 2 * length tokens.now }
+    ensures clean { Cleans (faces tokens.now) turns.new.items }
+    ensures canonical { IsCanonical turns.new.items }
+    ensures rotation { IsRotationOf tokens.now result }
+{
+    let mut rotation = HeldRotation::new();
+    for token in tokens {
+        push_clean_turns(turns, rotation.take_move(*token));
+    }
+    rotation.rotation()
 }
 
 /// The face turns of a sequence made canonical, and the rotation that is left at its end. As long as two neighbours break
@@ -100,10 +152,7 @@ pub fn cleanup(tokens: &[Token]) -> (Faces, Rotation)
     ensures whole_effect { (q : Place) →
         effect tokens.now q ≡ effect (spelling result.1) (effect_of_turns result.0.items q) }
 {
-    let (turns, rotation) = to_faces(tokens);
-    let mut clean = Faces::new();
-    for turn in turns.iter() {
-        push_clean(&mut clean, *turn);
-    }
-    (clean, rotation)
+    let mut turns = Faces::new();
+    let rotation = clean_into(tokens, &mut turns);
+    (turns, rotation)
 }

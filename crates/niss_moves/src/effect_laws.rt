@@ -1,5 +1,5 @@
 //! What holds of all moves and sequences. Each law is the contract of a function that does nothing.
-ghost use Rattle.niss_moves.specs.EffectLaws.{PlacesStay, PlacesAreListed, PlacesDiffer, PlacesAre54, InverseUndoes, InverseIsUndone, EffectsCompose, TurnsAreMoves, OneMeaning};
+ghost use Rattle.niss_moves.specs.EffectLaws.{PlacesStay, PlacesAreListed, PlacesDiffer, PlacesAre54, InverseUndoes, InverseIsUndone, EffectsCompose, TurnsAreMoves, OneMeaning, SameLetters};
 
 /// A move brings places to places.
 pub fn places_stay()
@@ -13,17 +13,17 @@ pub fn places_are_listed()
     ensures number { PlacesAre54 }
 {}
 
-/// The inverse of a sequence, made behind it, brings each place back.
+/// The inverse of a sequence, made after it, brings each place back.
 pub fn inverse_undoes()
     ensures { InverseUndoes }
 {}
 
-/// A sequence, made behind its inverse, brings each place back.
+/// A sequence, made after its inverse, brings each place back.
 pub fn inverse_is_undone()
     ensures { InverseIsUndone }
 {}
 
-/// The effect of a sequence behind another is made of theirs, one after the other.
+/// The effect of a sequence after another is made of theirs, one after the other.
 pub fn effects_compose()
     ensures { EffectsCompose }
 {}
@@ -36,4 +36,9 @@ pub fn turns_are_moves()
 /// A line has one meaning.
 pub fn one_meaning()
     ensures { OneMeaning }
+{}
+
+/// Maps that are the same on the 54 places have the same facelet text.
+pub fn same_letters()
+    ensures { SameLetters }
 {}

@@ -1,14 +1,16 @@
 //! Sequences as face turns.
-ghost use Rattle.std.specs.Prelude.{◌≡◌, ◌+◌, ◌*◌, ◌≤◌, List, [], ◌∷◌, ◌++◌, map, length};
+ghost use Rattle.std.specs.Prelude.{◌≡◌, ◌+◌, ◌*◌, ◌≤◌, [], ◌∷◌, ◌++◌, length};
 ghost use Rattle.arrayvec.specs.ArrayVec.{array_vec_len};
 ghost use Rattle.niss_moves.specs.Places.{Place};
-ghost use Rattle.niss_moves.specs.Effects.{effect, effect_of_turns, moved_by, inverse_power};
-ghost use Rattle.niss_moves.specs.Rotations.{spelling, face_before, renamed_turn, IsRotationOf};
-ghost use Rattle.niss_moves.specs.Faces.{faces, faces_with, expanded, FaceTurn, WholeRotation};
+ghost use Rattle.niss_moves.specs.Effects.{effect, effect_of_turns, inverse_power};
+ghost use Rattle.niss_moves.specs.Rotations.{spelling, IsRotationOf};
+ghost use Rattle.niss_moves.specs.Faces.{faces, expanded, FaceTurn, WholeRotation};
 ghost use Rattle.niss_moves.specs.Turn.{opposite};
+ghost use Rattle.niss_moves.specs.Helpers.{turns_in};
 ghost use Rattle.niss_moves.specs.declared.token.Token.TheVariants as token;
 
 use crate::axis::Axis;
+use crate::held_rotation::HeldRotation;
 use crate::rotation::Rotation;
 use crate::token::{Slice, Token};
 use crate::turn::{Face, Power, Turn};
@@ -47,42 +49,74 @@ fn face_turn_of_slice(slice: Slice, power: Power) -> (Turn, Axis)
     (Turn { face, power }, axis)
 }
 
-/// Appends the face turns of one more move, after `rotation`, and answers the rotation after it.
-fn push_move(turns: &mut Faces, rotation: Rotation, token: Token) -> Rotation
+/// The face turns of one move.
+#[derive(Clone, Copy)]
+pub enum MoveTurns {
+    NoTurn,
+    One(Turn),
+    Two(Turn, Turn),
+}
+
+impl HeldRotation {
+    ghost use Rattle.std.specs.Prelude.{◌≡◌, List, ◌++◌, map};
+    ghost use Rattle.niss_moves.specs.Places.{Place};
+    ghost use Rattle.niss_moves.specs.Effects.{effect, effect_of_turns, moved_by};
+    ghost use Rattle.niss_moves.specs.Rotations.{spelling, face_before, renamed_turn};
+    ghost use Rattle.niss_moves.specs.Faces.{faces_with, expanded};
+    ghost use Rattle.niss_moves.specs.Helpers.{turns_in};
+
+    /// The face turns of a move after this rotation, and the rotation after both.
+    pub(crate) fn take_move(&mut self, token: Token) -> MoveTurns
+        ensures faces { (rest : List Turn) →
+            turns_in result ++ map (renamed_turn (face_before self.new)) rest
+            ≡ map (renamed_turn (face_before self.old)) (faces_with (expanded token) rest) }
+        ensures effect { (q : Place) →
+            effect (spelling self.new) (effect_of_turns (turns_in result) q)
+            ≡ moved_by token (effect (spelling self.old) q) }
+    {
+        match token {
+            Token::Face(turn) => MoveTurns::One(self.turn_before(turn)),
+            Token::Wide(face, power) => {
+                let other = face.opposite();
+                let turn = self.turn_before(Turn { face: other, power });
+                let (axis, power) = rotation_with_face(face, power);
+                self.rotate(axis, power);
+                MoveTurns::One(turn)
+            }
+            Token::Slice(slice, power) => {
+                let (turn, axis) = face_turn_of_slice(slice, power);
+                let (face, power) = (turn.face.opposite(), turn.power.inverse());
+                let first = self.turn_before(turn);
+                let second = self.turn_before(Turn { face, power });
+                self.rotate(axis, power);
+                MoveTurns::Two(first, second)
+            }
+            Token::Rotation(axis, power) => {
+                self.rotate(axis, power);
+                MoveTurns::NoTurn
+            }
+        }
+    }
+}
+
+/// Appends the face turns of one move.
+fn push_turns(turns: &mut Faces, more: MoveTurns)
     requires { array_vec_len turns.old ≤ 510 }
     ensures len { array_vec_len turns.new ≤ array_vec_len turns.old + 2 }
-    ensures faces { (rest : List Turn) →
-        turns.new.items ++ map (renamed_turn (face_before result)) rest
-        ≡ turns.old.items
-        ++ map (renamed_turn (face_before rotation)) (faces_with (expanded token) rest) }
-    ensures effect { (q : Place) →
-        effect (spelling result) (effect_of_turns turns.new.items q)
-        ≡ moved_by token (effect (spelling rotation) (effect_of_turns turns.old.items q)) }
+    ensures items { turns.new.items ≡ turns.old.items ++ turns_in more }
 {
-    match token {
-        Token::Face(turn) => {
-            turns.push(rotation.turn_before(turn));
-            rotation
+    match more {
+        MoveTurns::NoTurn => {}
+        MoveTurns::One(turn) => turns.push(turn),
+        MoveTurns::Two(first, second) => {
+            turns.push(first);
+            turns.push(second);
         }
-        Token::Wide(face, power) => {
-            let other = face.opposite();
-            turns.push(rotation.turn_before(Turn { face: other, power }));
-            let (axis, power) = rotation_with_face(face, power);
-            rotation.then(axis, power)
-        }
-        Token::Slice(slice, power) => {
-            let (turn, axis) = face_turn_of_slice(slice, power);
-            let (face, power) = (turn.face.opposite(), turn.power.inverse());
-            turns.push(rotation.turn_before(turn));
-            turns.push(rotation.turn_before(Turn { face, power }));
-            rotation.then(axis, power)
-        }
-        Token::Rotation(axis, power) => rotation.then(axis, power),
     }
 }
 
 /// The face turns of a sequence, and the rotation that is left at its end: `Rw U` is `L F` and then `x`. Wide turns and
-/// slices are written as face turns and rotations, and a rotation renames the face turns behind it. The sequence has the
+/// slices are written as face turns and rotations, and a rotation renames the face turns after it. The sequence has the
 /// effect of the face turns and then the rotation. It has at most 256 moves.
 pub fn to_faces(tokens: &[Token]) -> (Faces, Rotation)
     requires { length tokens.now ≤ 256 }
@@ -93,9 +127,9 @@ pub fn to_faces(tokens: &[Token]) -> (Faces, Rotation)
         effect tokens.now q ≡ effect (spelling result.1) (effect_of_turns result.0.items q) }
 {
     let mut turns = Faces::new();
-    let mut rotation = Rotation::IDENTITY;
+    let mut rotation = HeldRotation::new();
     for token in tokens {
-        rotation = push_move(&mut turns, rotation, *token);
+        push_turns(&mut turns, rotation.take_move(*token));
     }
-    (turns, rotation)
+    (turns, rotation.rotation())
 }

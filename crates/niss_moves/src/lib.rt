@@ -1,19 +1,28 @@
-//! Turns, notation and move sequences of the 3x3x3 cube.
+//! Turns, notation and move sequences of the 3x3x3 cube. In crates.txt: `app: niss_moves`.
 //!
 //! A line of moves is read as solvers write it: face turns, wide turns, slice turns and rotations by article 12 of the WCA
 //! Regulations (slices by common usage), with or without blanks between them. Moves in brackets are made on the inverse
-//! scramble. Bytes that are no line have one fault, told with its column.
+//! scramble. Bytes that are no line have one fault, with its column.
 //!
-//!     let line = read(b"R (U F') D")?;
-//!     let mut text = LineText::new();
-//!     put_tokens(&unniss(&line), &mut text);      // R D F U'
+//! ```
+//! use niss_moves::{LineText, put_tokens, read, unniss};
+//!
+//! let line = read(bytes)?;                   // of b"R (U F') D"
+//! let mut text = LineText::new();
+//! put_tokens(&unniss(&line), &mut text);     // R D F U'
+//! ```
 //!
 //! A line that comes in pieces goes into a `LineReader`, byte by byte. No call takes memory.
 //!
-//! Any sequence is face turns and one rotation behind them (`to_faces`), and the face turns are made canonical (`cleanup`):
+//! Any sequence is face turns and one rotation after them (`to_faces`), and the face turns are made canonical (`cleanup`):
 //!
-//!     let mut text = LineText::new();
-//!     put_niss_clean(&read(b"Rw U")?, &mut text); // L F x
+//! ```
+//! use niss_moves::{LineText, put_niss_clean, read};
+//!
+//! let line = read(bytes)?;                   // of b"Rw U"
+//! let mut text = LineText::new();
+//! put_niss_clean(&line, &mut text);          // L F x
+//! ```
 //!
 //! Contracts speak of moves by what they do to the 54 sticker places (`specs/Places`, `specs/Effects`), and of lines by
 //! their grammar and their faults (`specs/Notation`, `specs/Line`, `specs/Faults`); of face turns by `specs/Rotations`,
@@ -29,6 +38,8 @@ mod cleaning;
 pub mod effect_laws;
 mod faces;
 mod fault;
+mod gathering;
+mod held_rotation;
 mod niss;
 mod partial_line;
 mod reader;
@@ -40,6 +51,7 @@ mod symbol;
 mod text;
 mod token;
 mod turn;
+mod whole_move;
 
 pub use axis::Axis;
 pub use canonical::{allowed, turn_order};
@@ -51,6 +63,6 @@ pub use niss::Niss;
 pub use reader::{LineReader, read};
 pub use rotation::Rotation;
 pub use sequence::{invert, unniss};
-pub use text::{LineText, put_tokens};
+pub use text::{LineText, put_inverted, put_tokens, put_unniss};
 pub use token::{Slice, Token};
 pub use turn::{Face, Power, Turn};

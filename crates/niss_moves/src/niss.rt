@@ -1,3 +1,4 @@
+//! The moves of a line.
 use crate::token::Token;
 use arrayvec::ArrayVec;
 use std::marker::Model;
@@ -22,8 +23,7 @@ impl Model for Niss {
 }
 
 impl Niss {
-    ghost use Rattle.std.specs.Prelude.{◌≡◌, ◌+◌, ◌≤◌, length};
-    ghost use Rattle.arrayvec.specs.ArrayVec.{array_vec_len};
+    ghost use Rattle.std.specs.Prelude.{◌≡◌, ◌+◌, ◌<◌, ◌≤◌, [], ◌∷◌, ◌++◌, length};
 
     /// The moves outside brackets.
     pub fn normal(&self) -> &[Token]
@@ -41,11 +41,46 @@ impl Niss {
         &self.bracketed
     }
 
-    /// The line of these moves.
-    pub(crate) fn of(normal: ArrayVec<Token, 256>, bracketed: ArrayVec<Token, 256>) -> Niss
-        requires { array_vec_len normal + array_vec_len bracketed ≤ 256 }
-        ensures { result ≡ record { normal = normal.items; bracketed = bracketed.items } }
+    /// The line with no moves.
+    pub(crate) fn new() -> Niss
+        ensures { result ≡ record { normal = []; bracketed = [] } }
     {
-        Niss { normal, bracketed }
+        Niss {
+            normal: ArrayVec::new(),
+            bracketed: ArrayVec::new(),
+        }
+    }
+
+    /// How many moves it has.
+    pub(crate) fn len(&self) -> usize
+        ensures { result ≡ length self.now.normal + length self.now.bracketed }
+    {
+        self.normal.len() + self.bracketed.len()
+    }
+
+    /// Appends a move outside brackets.
+    pub(crate) fn push_normal(&mut self, token: Token)
+        requires { length self.old.normal + length self.old.bracketed < 256 }
+        ensures { self.new
+            ≡ record { normal = self.old.normal ++ token ∷ []; bracketed = self.old.bracketed } }
+    {
+        self.normal.push(token);
+    }
+
+    /// Appends a move inside brackets.
+    pub(crate) fn push_bracketed(&mut self, token: Token)
+        requires { length self.old.normal + length self.old.bracketed < 256 }
+        ensures { self.new
+            ≡ record { normal = self.old.normal; bracketed = self.old.bracketed ++ token ∷ [] } }
+    {
+        self.bracketed.push(token);
+    }
+
+    /// Takes the moves away.
+    pub(crate) fn clear(&mut self)
+        ensures { self.new ≡ record { normal = []; bracketed = [] } }
+    {
+        self.normal.clear();
+        self.bracketed.clear();
     }
 }

@@ -8,7 +8,7 @@ use crate::niss::Niss;
 use crate::symbol::{Symbol, symbol_of};
 use crate::token::Token;
 use crate::turn::Power;
-use arrayvec::ArrayVec;
+use crate::whole_move::whole_move;
 
 /// The last move of what is read, as far as it goes.
 #[derive(Clone, Copy, Debug, PartialEq, Eq)]
@@ -19,13 +19,13 @@ pub enum LastMove {
     Bare(Base),
     /// A base and `2`, which may get an apostrophe.
     Doubled(Base),
-    /// The first byte of U+2019 behind a base, and behind a `2` or not.
+    /// The first byte of U+2019 after a base, and after a `2` or not.
     FirstByte(Base, bool),
     /// Its first two bytes.
     SecondByte(Base, bool),
 }
 
-/// The power of a move that ends in an apostrophe, behind a `2` or not.
+/// The power of a move that ends in an apostrophe, after a `2` or not.
 fn apostrophe_power(two: bool) -> Power
     ensures { result ≡ apostrophe_power two }
 {
@@ -35,30 +35,28 @@ fn apostrophe_power(two: bool) -> Power
 /// What is read so far: the whole moves, the column of the open bracket, and the last move as far as it goes.
 #[derive(Drop)]
 pub struct PartialLine {
-    normal: ArrayVec<Token, 256>,
-    bracketed: ArrayVec<Token, 256>,
+    niss: Niss,
     bracket: Option<u32>,
     last: LastMove,
 }
 
 impl PartialLine {
-    ghost use Rattle.std.specs.Prelude.{◌≡◌, ℕ, ◌+◌, ◌<◌, ◌≤◌, Ok};
-    ghost use Rattle.arrayvec.specs.ArrayVec.{array_vec_len};
-    ghost use Rattle.niss_moves.specs.Machine.{start, added, settled, opened, closed, begun, widened, doubled, primed, cut, step_by, step, ended, state_of, IsStep, HasRoom};
+    ghost use Rattle.std.specs.Prelude.{◌≡◌, ℕ, ◌+◌, ◌<◌, ◌≤◌, Ok, length, take};
+    ghost use Rattle.niss_moves.specs.WholeMoves.{HasNoLineFeed};
+    ghost use Rattle.niss_moves.specs.Machine.{start, added, settled, opened, closed, begun, widened, doubled, primed, cut, step_by, step, run, ended, moves_if, state_of, IsStep, HasRoom};
 
     /// The line before its first byte.
     pub fn new() -> PartialLine
         ensures { state_of result 0 ≡ start }
     {
         PartialLine {
-            normal: ArrayVec::new(),
-            bracketed: ArrayVec::new(),
+            niss: Niss::new(),
             bracket: None,
             last: LastMove::Finished,
         }
     }
 
-    /// Takes one more byte, behind `fed` bytes.
+    /// Takes one more byte, after `fed` bytes.
     #[tactic(auto, unfolding(crate::specs::Machine::step_within))]
     pub fn step(&mut self, byte: u8, fed: u32) -> Result<(), ReadFault>
         requires room { HasRoom (state_of self.old 0) }
@@ -87,13 +85,35 @@ impl PartialLine {
         }
     }
 
-    /// The line that ends behind `fed` bytes.
-    pub fn end(self, fed: u32) -> Result<Niss, ReadFault>
-        requires { HasRoom (state_of self 0) }
-        ensures { result ≡ ended (Ok (state_of self fed)) }
+    /// Takes the moves in front of the bytes that can be read at once, and answers how many bytes they have.
+    pub fn take_moves(&mut self, bytes: &[u8]) -> usize
+        requires { HasRoom (state_of self.old 0) }
+        ensures taken { result ≤ length bytes.now }
+        ensures runs { (fed : ℕ) → run (state_of self.old fed) (take result bytes.now) ≡ Ok (state_of self.new (fed + result)) }
+        ensures room { HasRoom (state_of self.new 0) }
+        ensures inside { HasNoLineFeed (take result bytes.now) }
     {
-        let mut line = self;
-        match line.last {
+        let LastMove::Finished = self.last else {
+            return 0;
+        };
+        let mut taken = 0;
+        while self.niss.len() < 256 {
+            let Some((token, length)) = whole_move(&bytes[taken..]) else {
+                break;
+            };
+            self.push(token);
+            taken += length;
+        }
+        taken
+    }
+
+    /// Ends the line after `fed` bytes: it is whole then, or has a fault.
+    pub fn close(&mut self, fed: u32) -> Result<(), ReadFault>
+        requires { HasRoom (state_of self.old 0) }
+        ensures value { moves_if result self.new.niss ≡ ended (Ok (state_of self.old fed)) }
+        ensures room { HasRoom (state_of self.new 0) }
+    {
+        match self.last {
             LastMove::FirstByte(_, _) => return Err(ReadFault::NotAMove { column: fed }),
             LastMove::SecondByte(_, _) => {
                 // Here too.
@@ -103,11 +123,39 @@ impl PartialLine {
             }
             _ => {}
         }
-        if let Some(column) = line.bracket {
+        if let Some(column) = self.bracket {
             return Err(ReadFault::Unclosed { column });
         }
-        line.settle();
-        Ok(Niss::of(line.normal, line.bracketed))
+        self.settle();
+        Ok(())
+    }
+
+    /// The line that ends after `fed` bytes.
+    pub fn end(self, fed: u32) -> Result<Niss, ReadFault>
+        requires { HasRoom (state_of self 0) }
+        ensures { result ≡ ended (Ok (state_of self fed)) }
+    {
+        let mut line = self;
+        match line.close(fed) {
+            Ok(()) => Ok(line.niss),
+            Err(fault) => Err(fault),
+        }
+    }
+
+    /// The moves of the line, once it is closed.
+    pub fn moves(&self) -> &Niss
+        ensures { result.now ≡ self.now.niss }
+    {
+        &self.niss
+    }
+
+    /// Goes back before the first byte.
+    pub fn clear(&mut self)
+        ensures { state_of self.new 0 ≡ start }
+    {
+        self.niss.clear();
+        self.bracket = None;
+        self.last = LastMove::Finished;
     }
 
     /// Takes the byte at this column where no U+2019 is cut.
@@ -164,7 +212,7 @@ impl PartialLine {
             IsStep (begun 256 base) self.old fed result self.new }
     {
         self.settle();
-        if self.normal.len() + self.bracketed.len() >= 256 {
+        if self.niss.len() >= 256 {
             return Err(ReadFault::TooLong { column });
         }
         self.last = LastMove::Bare(base);
@@ -221,6 +269,7 @@ impl PartialLine {
     }
 
     /// Makes the last move whole.
+    #[inline(always)]
     fn settle(&mut self)
         requires { HasRoom (state_of self.old 0) }
         ensures { (fed : ℕ) → state_of self.new fed ≡ settled (state_of self.old fed) }
@@ -229,20 +278,22 @@ impl PartialLine {
             LastMove::Finished => {}
             LastMove::Bare(base) => self.push(base.token(Power::Quarter)),
             LastMove::Doubled(base) => self.push(base.token(Power::Half)),
+            // not reached: whatever follows but the second byte is a fault
             LastMove::FirstByte(base, two) => self.push(base.token(apostrophe_power(two))),
+            // reached by the third byte alone
             LastMove::SecondByte(base, two) => self.push(base.token(apostrophe_power(two))),
         }
     }
 
     /// Appends a whole move.
     fn push(&mut self, token: Token)
-        requires { array_vec_len self.old.normal + array_vec_len self.old.bracketed < 256 }
+        requires { length self.old.niss.normal + length self.old.niss.bracketed < 256 }
         ensures { (fed : ℕ) → state_of self.new fed ≡ added (state_of self.old fed) token }
     {
         if self.bracket.is_some() {
-            self.bracketed.push(token);
+            self.niss.push_bracketed(token);
         } else {
-            self.normal.push(token);
+            self.niss.push_normal(token);
         }
         self.last = LastMove::Finished;
     }

@@ -1,3 +1,4 @@
+//! Lines read byte by byte.
 ghost use Rattle.std.specs.Prelude.{◌≡◌, ◌+◌, ◌≤◌, List, length, IfOk, IfErr, Ok};
 ghost use Rattle.niss_moves.specs.Line.{Spells};
 ghost use Rattle.niss_moves.specs.Faults.{Faults};
@@ -29,10 +30,12 @@ impl Model for LineReader {
 }
 
 impl LineReader {
-    ghost use Rattle.std.specs.Prelude.{◌≡◌, ℕ, ◌+◌, ◌<◌, ◌≤◌, ◌↔◌, List, [], ◌∷◌, ◌++◌, length, IsOk, IfOk, IfErr, MatchResult, Ok, Err, None, Some};
+    ghost use Rattle.std.specs.Prelude.{◌≡◌, ℕ, ◌+◌, ◌<◌, ◌≤◌, ◌↔◌, List, [], ◌∷◌, ◌++◌, length, take, IsOk, IfOk, IfErr, MatchResult, Ok, Err, None, Some};
     ghost use Rattle.niss_moves.specs.Line.{Spells};
     ghost use Rattle.niss_moves.specs.Faults.{CanContinue, Stops, Faults};
-    ghost use Rattle.niss_moves.specs.Reader.{IsFed, read_line};
+    ghost use Rattle.niss_moves.specs.WholeMoves.{HasNoLineFeed};
+    ghost use Rattle.niss_moves.specs.Machine.{moves_if};
+    ghost use Rattle.niss_moves.specs.Reader.{IsFed, read_line, moves_of};
     ghost use Rattle.niss_moves.specs.declared.token.Token.{Token};
     ghost use Rattle.niss_moves.specs.declared.fault.ReadFault.{ReadFault};
 
@@ -83,6 +86,55 @@ impl LineReader {
         };
         self.fault = taken.err();
         taken
+    }
+
+    /// Takes the moves in front of the bytes that can be read at once, each with the blank after it, and answers how many
+    /// bytes these are.
+    pub fn feed_move(&mut self, bytes: &[u8]) -> usize
+        requires { self.old.fed + length bytes.now ≤ 16777216 }
+        ensures taken { result ≤ length bytes.now }
+        ensures fed { self.new.fed ≡ self.old.fed + result }
+        ensures bytes { (front : List ℕ) → IsFed self.old front →
+            IsFed self.new (front ++ take result bytes.now) }
+        ensures inside { HasNoLineFeed (take result bytes.now) }
+    {
+        match self.fault {
+            Some(_) => 0,
+            None => {
+                let taken = self.line.take_moves(bytes);
+                self.fed += taken as u32;
+                taken
+            }
+        }
+    }
+
+    /// Ends the line: the bytes spell `moves`, or have a fault.
+    pub fn end(&mut self) -> Result<(), ReadFault>
+        ensures { (bytes : List ℕ) → IsFed self.old bytes →
+            moves_if result (moves_of self.new) ≡ read_line bytes }
+    {
+        match self.fault {
+            Some(fault) => Err(fault),
+            None => self.line.close(self.fed),
+        }
+    }
+
+    /// The moves that were read, all of them once the line was ended.
+    pub fn moves(&self) -> &Niss
+        ensures { result.now ≡ moves_of self.now }
+    {
+        self.line.moves()
+    }
+
+    /// Goes back before the first byte of a line.
+    pub fn clear(&mut self)
+        ensures fed { self.new.fed ≡ 0 }
+        ensures bytes { IsFed self.new [] }
+        ensures no_fault { self.new.fault ≡ None }
+    {
+        self.line.clear();
+        self.fed = 0;
+        self.fault = None;
     }
 
     /// The line that the bytes spell, or its fault.

@@ -1,5 +1,5 @@
 //! Laws of rotations, canonical sequences and cleaning: each is the contract of a function that does nothing.
-ghost use Rattle.niss_moves.specs.RewritingLaws.{OneSpelling, ExpandsAlike, RenamesAboutAxis, RenamesByRotation, CentresComeHome, FacesAreHome, LineIsHome, FacesAndRotation, CleanedEffect, CanonicalMembers, CanonicalInOrder, CleaningEnds, OneCleanList, CanonicalStays, RewritingLowers};
+ghost use Rattle.niss_moves.specs.RewritingLaws.{OneSpelling, ExpandsAlike, RenamesAboutAxis, RenamesByRotation, CentresComeHome, FacesAreHome, LineIsHome, FacesAndRotation, CleanedEffect, CanonicalMembers, CanonicalInOrder, CanonicalGrows, CleaningEnds, OneCleanList, CanonicalStays, RewritingLowers};
 ghost use Rattle.niss_moves.specs.CleanedLine.{CleanTurnsAreClean, RotationIsLeft};
 
 /// Two rotations that move the six centres alike are one. So each of the 24 has one spelling.
@@ -12,7 +12,7 @@ pub fn expands_alike()
     ensures { ExpandsAlike }
 {}
 
-/// A rotation renames the face turns behind it.
+/// A rotation renames the face turns after it.
 pub fn rotations_rename()
     ensures about_axis { RenamesAboutAxis }
     ensures by_rotation { RenamesByRotation }
@@ -36,6 +36,11 @@ pub fn whole_effect()
 pub fn canonical_members()
     ensures members { CanonicalMembers }
     ensures order { CanonicalInOrder }
+{}
+
+/// A canonical sequence goes on canonically by the turns that `allowed` lets stand after its last one.
+pub fn canonical_grows()
+    ensures { CanonicalGrows }
 {}
 
 /// Leftmost rewriting ends for each list, since each rewriting shortens it or leaves fewer pairs in the wrong order.

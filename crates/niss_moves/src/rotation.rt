@@ -1,10 +1,10 @@
+//! The 24 rotations of the whole cube.
 ghost use Rattle.std.specs.Prelude.{◌≡◌, IsTrue};
-ghost use Rattle.niss_moves.specs.Rotations.{face_before, face_before_quarter, face_before_power, face_before_top};
-ghost use Rattle.niss_moves.specs.Helpers.{is_beside};
-ghost use Rattle.niss_moves.specs.declared.turn.Face.TheVariants.{F};
+ghost use Rattle.niss_moves.specs.Rotations.{face_before_power};
+ghost use Rattle.niss_moves.specs.Helpers.{is_beside, rotation_by};
 
 use crate::axis::Axis;
-use crate::turn::{Face, Power, Turn};
+use crate::turn::{Face, Power};
 
 /// One of the 24 rotations of the whole cube (WCA Regulations, article 12). Each value is another rotation. It is spelled
 /// by the rotation that brings `top` to the top (none for U, `x` for F, `x2` for D, `x'` for B, `z` for L, `z'` for R)
@@ -17,68 +17,99 @@ pub struct Rotation {
     pub vertical: Option<Power>,
 }
 
-impl Axis {
-    /// The face that a quarter rotation about this axis brings to the place of `face`.
-    fn face_before_quarter(self, face: Face) -> Face
-        ensures { result ≡ face_before_quarter self face }
-    {
-        match (self, face) {
-            (Axis::Rl, Face::U) => Face::F,
-            (Axis::Rl, Face::F) => Face::D,
-            (Axis::Rl, Face::D) => Face::B,
-            (Axis::Rl, Face::B) => Face::U,
-            (Axis::Ud, Face::F) => Face::R,
-            (Axis::Ud, Face::R) => Face::B,
-            (Axis::Ud, Face::B) => Face::L,
-            (Axis::Ud, Face::L) => Face::F,
-            (Axis::Fb, Face::U) => Face::L,
-            (Axis::Fb, Face::L) => Face::D,
-            (Axis::Fb, Face::D) => Face::R,
-            (Axis::Fb, Face::R) => Face::U,
-            _ => face,
-        }
-    }
+macro_rules! faces {
+    ($($face:ident)*) => { [$(Face::$face),*] };
+}
 
+/// The faces that a rotation about an axis brings to the places of U, D, R, L, F and B, by the axis and the power.
+static BEFORE: [[[Face; 6]; 3]; 3] = [
+    [
+        faces!(U D B F R L),
+        faces!(U D L R B F),
+        faces!(U D F B L R),
+    ],
+    [
+        faces!(F B R L D U),
+        faces!(D U R L B F),
+        faces!(B F R L U D),
+    ],
+    [
+        faces!(L R U D F B),
+        faces!(D U L R F B),
+        faces!(R L D U F B),
+    ],
+];
+
+/// By the faces that come to the top and to the front: the turn about the vertical axis. A face that comes to the top, and
+/// its opposite, can't come to the front.
+static VERTICAL: [[Option<Power>; 6]; 6] = [
+    [
+        None,
+        None,
+        Some(Power::Quarter),
+        Some(Power::Counter),
+        None,
+        Some(Power::Half),
+    ],
+    [
+        None,
+        None,
+        Some(Power::Quarter),
+        Some(Power::Counter),
+        Some(Power::Half),
+        None,
+    ],
+    [
+        Some(Power::Counter),
+        Some(Power::Quarter),
+        None,
+        None,
+        None,
+        Some(Power::Half),
+    ],
+    [
+        Some(Power::Quarter),
+        Some(Power::Counter),
+        None,
+        None,
+        None,
+        Some(Power::Half),
+    ],
+    [
+        Some(Power::Half),
+        None,
+        Some(Power::Quarter),
+        Some(Power::Counter),
+        None,
+        None,
+    ],
+    [
+        None,
+        Some(Power::Half),
+        Some(Power::Quarter),
+        Some(Power::Counter),
+        None,
+        None,
+    ],
+];
+
+impl Axis {
     /// The face that a rotation about this axis brings to the place of `face`.
-    fn face_before(self, power: Power, face: Face) -> Face
+    pub(crate) fn face_before(self, power: Power, face: Face) -> Face
         ensures { result ≡ face_before_power self power face }
     {
-        let once = self.face_before_quarter(face);
-        match power {
-            Power::Quarter => once,
-            Power::Half => self.face_before_quarter(once),
-            Power::Counter => self.face_before_quarter(self.face_before_quarter(once)),
-        }
+        BEFORE[self as usize][power as usize][face as usize]
     }
 }
 
-/// The face that comes to the place of `face` where `top` is brought to the top.
-fn face_before_top(top: Face, face: Face) -> Face
-    ensures { result ≡ face_before_top top face }
-{
-    match top {
-        Face::U => face,
-        Face::F => Axis::Rl.face_before(Power::Quarter, face),
-        Face::D => Axis::Rl.face_before(Power::Half, face),
-        Face::B => Axis::Rl.face_before(Power::Counter, face),
-        Face::L => Axis::Fb.face_before(Power::Quarter, face),
-        Face::R => Axis::Fb.face_before(Power::Counter, face),
-    }
-}
-
-/// The rotation about the vertical axis that brings `front` to the front, once `top` is at the top.
-fn vertical_turn(top: Face, front: Face) -> Option<Power>
+/// The rotation that brings these faces to the top and to the front.
+pub(crate) fn rotation_by(top: Face, front: Face) -> Rotation
     requires { IsTrue (is_beside top front) }
-    ensures { face_before (record { top = top; vertical = result }) F ≡ front }
+    ensures { result ≡ rotation_by top front }
 {
-    if front == face_before_top(top, Face::F) {
-        None
-    } else if front == face_before_top(top, Face::R) {
-        Some(Power::Quarter)
-    } else if front == face_before_top(top, Face::B) {
-        Some(Power::Half)
-    } else {
-        Some(Power::Counter)
+    Rotation {
+        top,
+        vertical: VERTICAL[top as usize][front as usize],
     }
 }
 
@@ -86,7 +117,7 @@ impl Rotation {
     ghost use Rattle.std.specs.Prelude.{◌≡◌, []};
     ghost use Rattle.niss_moves.specs.Facelets.{centre};
     ghost use Rattle.niss_moves.specs.Effects.{effect, moved_by};
-    ghost use Rattle.niss_moves.specs.Rotations.{face_before, face_before_power, renamed_turn, spelling};
+    ghost use Rattle.niss_moves.specs.Rotations.{face_before, face_before_power, spelling};
     ghost use Rattle.niss_moves.specs.Places.{Place};
     ghost use Rattle.niss_moves.specs.declared.token.Token.TheVariants as token;
 
@@ -101,20 +132,17 @@ impl Rotation {
         ensures renames { result ≡ face_before self face }
         ensures brings { effect (spelling self) (centre result) ≡ centre face }
     {
-        let face = match self.vertical {
+        let beside = match self.vertical {
             None => face,
             Some(power) => Axis::Ud.face_before(power, face),
         };
-        face_before_top(self.top, face)
-    }
-
-    /// This rotation and then `turn` is the answer and then this rotation: `x U` is `F x`.
-    pub(crate) fn turn_before(self, turn: Turn) -> Turn
-        ensures { result ≡ renamed_turn (face_before self) turn }
-    {
-        Turn {
-            face: self.face_before(turn.face),
-            power: turn.power,
+        match self.top {
+            Face::U => beside,
+            Face::F => Axis::Rl.face_before(Power::Quarter, beside),
+            Face::D => Axis::Rl.face_before(Power::Half, beside),
+            Face::B => Axis::Rl.face_before(Power::Counter, beside),
+            Face::L => Axis::Fb.face_before(Power::Quarter, beside),
+            Face::R => Axis::Fb.face_before(Power::Counter, beside),
         }
     }
 
@@ -135,9 +163,6 @@ impl Rotation {
     {
         let top = self.face_before_both(axis, power, Face::U);
         let front = self.face_before_both(axis, power, Face::F);
-        Rotation {
-            top,
-            vertical: vertical_turn(top, front),
-        }
+        rotation_by(top, front)
     }
 }

@@ -1,7 +1,9 @@
+//! The one sequence of a line.
 ghost use Rattle.std.specs.Prelude.{◌≡◌, ◌+◌, ◌≤◌, List, ◌++◌, length};
 ghost use Rattle.arrayvec.specs.ArrayVec.{array_vec_len};
 ghost use Rattle.niss_moves.specs.Places.{Place};
 ghost use Rattle.niss_moves.specs.Effects.{effect, inverse, HasMeaning};
+ghost use Rattle.niss_moves.specs.declared.token.Token.{Token};
 
 use crate::niss::Niss;
 use crate::token::Token;
@@ -21,8 +23,8 @@ pub fn unniss(niss: &Niss) -> ArrayVec<Token, 256>
 /// The inverse of the list that `unniss` gives.
 pub fn invert(niss: &Niss) -> ArrayVec<Token, 256>
     ensures moves { result.items ≡ inverse (niss.now.normal ++ inverse niss.now.bracketed) }
-    ensures effect { (q : Place) →
-        effect result.items (effect (niss.now.normal ++ inverse niss.now.bracketed) q) ≡ q }
+    ensures effect { (s : List Token) (q : Place) →
+        HasMeaning s niss.now.normal niss.now.bracketed → effect result.items (effect s q) ≡ q }
 {
     let mut moves = ArrayVec::new();
     push_all(&mut moves, niss.inverse());

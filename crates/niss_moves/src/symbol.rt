@@ -1,3 +1,4 @@
+//! What each byte may be in a line.
 ghost use Rattle.std.specs.Prelude.{◌≡◌};
 ghost use Rattle.niss_moves.specs.Machine.{symbol_of};
 

@@ -1,12 +1,12 @@
-ghost use Rattle.std.specs.Prelude.{◌≡◌, ◌+◌, ◌*◌, ◌≤◌, ◌<◌, ◌∷◌, ◌++◌, length, map};
+//! Moves written out.
+ghost use Rattle.std.specs.Prelude.{◌≡◌, ◌+◌, ◌*◌, ◌≤◌, ◌<◌, [], ◌∷◌, ◌++◌, ℕ, List, length, map, take, if◌then◌else◌};
 ghost use Rattle.arrayvec.specs.ArrayVec.{array_vec_len};
-ghost use Rattle.niss_moves.specs.Letters.{face_letter};
-ghost use Rattle.niss_moves.specs.Notation.{slice_letter, rotation_letter};
-ghost use Rattle.niss_moves.specs.Text.{word, power_bytes, with_word, with_words, gap};
+ghost use Rattle.niss_moves.specs.Effects.{inverse};
+ghost use Rattle.niss_moves.specs.Text.{word, with_word, with_words, gap};
 
-use crate::axis::Axis;
-use crate::token::{Slice, Token};
-use crate::turn::{Face, Power};
+use crate::gathering::{Word, Words};
+use crate::niss::Niss;
+use crate::token::Token;
 use arrayvec::ArrayVec;
 
 /// A line of output.
@@ -20,39 +20,80 @@ pub fn put_tokens(tokens: &[Token], text: &mut LineText)
     ensures items { text.new.items ≡ with_words text.old.items (map word tokens.now) }
     ensures len { array_vec_len text.new ≤ array_vec_len text.old + 4 * length tokens.now }
 {
-    for token in tokens {
-        put_token(*token, text);
+    let Some((first, rest)) = tokens.split_first() else {
+        return;
+    };
+    put_word(Word::of_token(*first), text);
+    let mut words = Words::new();
+    for token in rest {
+        words.push(Word::of_token(*token), text);
     }
+    words.write(text);
 }
 
-/// Appends the word of a move.
-pub(crate) fn put_token(token: Token, text: &mut LineText)
-    requires { array_vec_len text.old + 4 ≤ 2048 }
-    ensures items { text.new.items ≡ with_word text.old.items (word token) }
-    ensures len { array_vec_len text.new ≤ array_vec_len text.old + 4 }
+/// Appends the words of the inverse of the moves, in the same way.
+fn put_inverse(tokens: &[Token], text: &mut LineText)
+    requires { array_vec_len text.old + 4 * length tokens.now ≤ 2048 }
+    ensures items { text.new.items ≡ with_words text.old.items (map word (inverse tokens.now)) }
+    ensures len { array_vec_len text.new ≤ array_vec_len text.old + 4 * length tokens.now }
 {
-    match token {
-        Token::Face(turn) => put_word(face_letter(turn.face), turn.power, text),
-        Token::Wide(face, power) => {
-            put_gap(text);
-            text.push(face_letter(face));
-            text.push(b'w');
-            put_power(power, text);
-        }
-        Token::Slice(slice, power) => put_word(slice_letter(slice), power, text),
-        Token::Rotation(axis, power) => put_word(rotation_letter(axis), power, text),
+    let Some((last, front)) = tokens.split_last() else {
+        return;
+    };
+    put_word(Word::of_token(last.inverse()), text);
+    let mut words = Words::new();
+    let mut rest = front;
+    while let Some((last, front)) = rest.split_last() {
+        words.push(Word::of_token(last.inverse()), text);
+        rest = front;
     }
+    words.write(text);
 }
 
-/// Appends a word of one letter and a power.
-pub(crate) fn put_word(letter: u8, power: Power, text: &mut LineText)
-    requires { array_vec_len text.old + 3 ≤ 2048 }
-    ensures items { text.new.items ≡ with_word text.old.items (letter ∷ power_bytes power) }
-    ensures len { array_vec_len text.new ≤ array_vec_len text.old + 3 }
+/// Appends the words of the moves that `unniss` gives, in the same way, and makes no list of them.
+pub fn put_unniss(niss: &Niss, text: &mut LineText)
+    requires { array_vec_len text.old + 1024 ≤ 2048 }
+    ensures items { text.new.items
+        ≡ with_words text.old.items (map word (niss.now.normal ++ inverse niss.now.bracketed)) }
+    ensures len { array_vec_len text.new ≤ array_vec_len text.old + 1024 }
 {
-    put_gap(text);
-    text.push(letter);
-    put_power(power, text);
+    put_tokens(niss.normal(), text);
+    put_inverse(niss.inverse(), text);
+}
+
+/// Appends the words of the moves that `invert` gives, in the same way, and makes no list of them.
+pub fn put_inverted(niss: &Niss, text: &mut LineText)
+    requires { array_vec_len text.old + 1024 ≤ 2048 }
+    ensures items { text.new.items
+        ≡ with_words text.old.items (map word (inverse (niss.now.normal ++ inverse niss.now.bracketed))) }
+    ensures len { array_vec_len text.new ≤ array_vec_len text.old + 1024 }
+{
+    put_tokens(niss.inverse(), text);
+    put_inverse(niss.normal(), text);
+}
+
+/// Appends a word, with its space where one stands before it.
+pub(crate) fn put_word(word: Word, text: &mut LineText)
+    requires some { 0 < word.len }
+    requires short { word.len ≤ 4 }
+    requires room { array_vec_len text.old + word.len ≤ 2048 }
+    ensures items { (w : List ℕ) → take word.len word.bytes ≡ 32 ∷ w →
+        text.new.items ≡ with_word text.old.items w }
+    ensures len { array_vec_len text.new ≤ array_vec_len text.old + word.len }
+{
+    let start = has_no_gap(text) as usize;
+    text.try_extend_from_slice(&word.bytes[start..word.len])
+        .unwrap();
+}
+
+/// Whether no space stands before a word that comes next.
+fn has_no_gap(text: &LineText) -> bool
+    ensures { gap text.now.items ≡ (if result then [] else 32 ∷ []) }
+{
+    match text.last() {
+        Some(last) => *last == b'(',
+        None => true,
+    }
 }
 
 /// Appends the space that stands before a word, if one does.
@@ -61,54 +102,7 @@ pub(crate) fn put_gap(text: &mut LineText)
     ensures items { text.new.items ≡ text.old.items ++ gap text.old.items }
     ensures len { array_vec_len text.new ≤ array_vec_len text.old + 1 }
 {
-    if let Some(last) = text.last() {
-        if *last != b'(' {
-            text.push(b' ');
-        }
-    }
-}
-
-fn put_power(power: Power, text: &mut LineText)
-    requires { array_vec_len text.old < 2048 }
-    ensures items { text.new.items ≡ text.old.items ++ power_bytes power }
-    ensures len { array_vec_len text.new ≤ array_vec_len text.old + 1 }
-{
-    match power {
-        Power::Quarter => {}
-        Power::Half => text.push(b'2'),
-        Power::Counter => text.push(b'\''),
-    }
-}
-
-pub(crate) fn face_letter(face: Face) -> u8
-    ensures { result ≡ face_letter face }
-{
-    match face {
-        Face::U => b'U',
-        Face::D => b'D',
-        Face::R => b'R',
-        Face::L => b'L',
-        Face::F => b'F',
-        Face::B => b'B',
-    }
-}
-
-fn slice_letter(slice: Slice) -> u8
-    ensures { result ≡ slice_letter slice }
-{
-    match slice {
-        Slice::M => b'M',
-        Slice::E => b'E',
-        Slice::S => b'S',
-    }
-}
-
-fn rotation_letter(axis: Axis) -> u8
-    ensures { result ≡ rotation_letter axis }
-{
-    match axis {
-        Axis::Rl => b'x',
-        Axis::Ud => b'y',
-        Axis::Fb => b'z',
+    if !has_no_gap(text) {
+        text.push(b' ');
     }
 }

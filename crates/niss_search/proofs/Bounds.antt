@@ -1,16 +1,18 @@
 -- The looks are within the bound, and the bound is small.
-use Rattle.std.proofs.Common.{◌≡◌, ℕ, zero, suc, ◌+◌, ◌-◌, ◌*◌, ◌^◌, ◌≤◌, ◌<◌, Bool, true, false, cond, List, [], ◌∷◌, ◌++◌, length, map, filter, sum_by, count_by, refl, ap, arith, lit≤, find, unwrap_or, Some}
+use Rattle.std.proofs.Common.{◌≡◌, ℕ, zero, suc, ◌+◌, ◌-◌, ◌*◌, ◌^◌, ◌≤◌, ◌<◌, Bool, true, false, cond, List, [], ◌∷◌, ◌++◌, length, map, filter, sum_by, count_by, refl, sym, ap, subst, arith, lit≤, find, unwrap_or, Option, None, Some}
+use Rattle.std.specs.Prelude.{flat_map}
 use Rattle.std.specs.List.{range_with_len, list_any}
 use Rattle.std.proofs.lemmas.List.Sums.{sum_by-cons, sum_by-le-sum_by, count_by-le-length}
 use Rattle.std.proofs.lemmas.List.Concat.{length-flat_map}
 use Rattle.std.proofs.Math.Nat.{pow-suc}
+use Rattle.niss_moves.specs.declared.axis.Axis.{Axis}
+use Rattle.niss_moves.specs.declared.axis.Axis.TheVariants.{Ud, Rl, Fb}
 use Rattle.niss_moves.specs.declared.turn.Turn.{Turn}
-use Rattle.niss_moves.specs.Canonical.{may_follow, last_turn, all_canonical, canonical_extensions}
-use Rattle.niss_search.specs.Solutions.{look_bound, least_length, up_to, count_of_length}
+use Rattle.niss_moves.specs.Canonical.{face_order, may_follow, last_turn, all_canonical, canonical_extensions}
+use Rattle.niss_search.specs.Solutions.{look_bound, least_length, last_length, solution_lengths, solutions, reaching, up_to, count_of_length}
 use Rattle.niss_search.specs.Looks.{is_looked_at, looks, all_looks}
 use Rattle.niss_cube.specs.declared.step.Step.{Step}
-use Rattle.niss_cube.specs.declared.step.Step.TheVariants.{Eofb, Eorl, Eoud, DrudEofb, DrrlEofb, DrudEorl, DrfbEorl, DrrlEoud, DrfbEoud}
-use Rattle.niss_cube.specs.Steps.{turns_of}
+use Rattle.niss_cube.specs.Steps.{start_of, turns_of, powers_from}
 use Rattle.niss_search.specs.Laws.{BoundIsSmall}
 
 -- the looks of a deepening are at most the canonical sequences of its lengths
@@ -72,17 +74,30 @@ pub looks-sum-small : (turns : List Turn) (far : List Turn → ℕ) (d : ℕ) �
 looks-sum-small turns far d h l =
     omega (arith, range-le (looks turns far) (21 * 18 ^ 20) 0 d (λ j m. looks-small turns far j h (omega arith)))
 
+-- the turns of a step from its start
+abbrev turns_from : Option Axis → List Turn
+turns_from start = flat_map (λ f. map (λ p. record { face = f; power = p }) (powers_from start f)) face_order
+
+turns_from-length : (start : Option Axis) → length (turns_from start) ≤ 18
+turns_from-length None = lit≤ tt
+turns_from-length (Some Ud) = lit≤ tt
+turns_from-length (Some Rl) = lit≤ tt
+turns_from-length (Some Fb) = lit≤ tt
+
+turns_from-oriented : (a : Axis) → length (turns_from (Some a)) ≤ 14
+turns_from-oriented Ud = lit≤ tt
+turns_from-oriented Rl = lit≤ tt
+turns_from-oriented Fb = lit≤ tt
+
 pub turns_of-length : (step : Step) → length (turns_of step) ≤ 18
 unfolding turns_of
-turns_of-length Eofb = lit≤ tt
-turns_of-length Eorl = lit≤ tt
-turns_of-length Eoud = lit≤ tt
-turns_of-length DrudEofb = lit≤ tt
-turns_of-length DrrlEofb = lit≤ tt
-turns_of-length DrudEorl = lit≤ tt
-turns_of-length DrfbEorl = lit≤ tt
-turns_of-length DrrlEoud = lit≤ tt
-turns_of-length DrfbEoud = lit≤ tt
+turns_of-length step = turns_from-length (start_of step)
+
+-- behind oriented edges
+pub turns_of-oriented : (step : Step) (a : Axis) → start_of step ≡ Some a → length (turns_of step) ≤ 14
+unfolding turns_of
+turns_of-oriented step a e =
+    subst (λ (start : Option Axis). length (turns_from start) ≤ 14) (sym e) (turns_from-oriented a)
 
 pub least-le : (p : ℕ → Bool) (a n d b : ℕ) → a + n ≤ b + 1 → d ≤ b → unwrap_or (find p (range_with_len a n)) d ≤ b
 least-le p a zero d b h l = l
@@ -97,12 +112,33 @@ prefix-le f g a (suc m) zero h l = absurd (omega arith)
 prefix-le f g a (suc m) (suc n) h l =
     omega (arith, sum_by-cons f a (range_with_len (a + 1) m), sum_by-cons g a (range_with_len (a + 1) n), h a, prefix-le f g (a + 1) m n h (omega arith))
 
+pub last-within : (o : Option ℕ) (n slack : ℕ) → last_length o n slack ≤ n
+last-within None n slack = omega arith
+last-within (Some least) n slack = omega arith
+
 -- the looks of every deepening are within the bound
-pub all_looks-bound : (turns : List Turn) (reaches : List Turn → Bool) (far : List Turn → ℕ) (n : ℕ) → all_looks turns reaches far n ≤ look_bound turns n
-unfolding all_looks look_bound least_length
-all_looks-bound turns reaches far n =
-    let within = least-le (λ k. list_any reaches (all_canonical turns k)) 0 (n + 1) n n (omega arith) (omega arith) in
-    prefix-le (looks turns far) (λ d. sum_by (count_of_length turns) (up_to d)) 0 (unwrap_or (least_length turns reaches n) n + 1) (n + 1) (looks-le turns far) (omega (arith, within))
+pub all_looks-bound : (turns : List Turn) (reaches : List Turn → Bool) (far : List Turn → ℕ) (n slack : ℕ) → all_looks turns reaches far n slack ≤ look_bound turns n
+unfolding all_looks look_bound
+all_looks-bound turns reaches far n slack =
+    prefix-le (looks turns far) (λ d. sum_by (count_of_length turns) (up_to d)) 0 (last_length (least_length turns reaches n) n slack + 1) (n + 1) (looks-le turns far) (omega (arith, last-within (least_length turns reaches n) n slack))
+
+-- no more is found than there are sequences
+pub reaching-small : (turns : List Turn) (reaches : List Turn → Bool) (a m : ℕ) → length turns ≤ 18 → a + m ≤ 21 → length (flat_map (reaching turns reaches) (range_with_len a m)) ≤ 21 * 18 ^ 20
+reaching-small turns reaches a m h l =
+    omega (arith, length-flat_map (reaching turns reaches) (range_with_len a m), range-le (λ k. length (reaching turns reaches k)) (18 ^ 20) a m (λ j k. omega (arith, length-filter-le reaches (all_canonical turns j), count-small turns j h (omega arith))))
+
+pub least-within : (turns : List Turn) (reaches : List Turn → Bool) (n d : ℕ) → least_length turns reaches n ≡ Some d → d ≤ n
+unfolding least_length
+least-within turns reaches n d e =
+    let P : Option ℕ → Type 0 = λ o. unwrap_or o n ≤ n in
+    subst P e (least-le (λ k. list_any reaches (all_canonical turns k)) 0 (n + 1) n n (omega arith) (omega arith))
+
+pub solutions-small : (turns : List Turn) (reaches : List Turn → Bool) (n slack : ℕ) → length turns ≤ 18 → n ≤ 20 → length (solutions turns reaches n slack) ≤ 21 * 18 ^ 20
+unfolding solutions
+solutions-small turns reaches n slack h l = by_length (least_length turns reaches n) (least-within turns reaches n) where
+  by_length : (o : Option ℕ) → ((d : ℕ) → o ≡ Some d → d ≤ n) → length (flat_map (reaching turns reaches) (solution_lengths o n slack)) ≤ 21 * 18 ^ 20
+  by_length None within = omega arith
+  by_length (Some d) within = reaching-small turns reaches d _ h (omega (arith, within d refl))
 
 -- the bound of a step is small
 pub bound-small : BoundIsSmall

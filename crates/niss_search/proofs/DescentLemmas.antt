@@ -1,8 +1,8 @@
 -- What one deepening finds and looks at, case by case, and how a sink goes through joined lists.
 use Rattle.std.proofs.Common.{◌≡◌, ℕ, zero, suc, ◌+◌, ◌-◌, ◌<◌, ◌≤◌, Bool, true, false, cond, leb, List, [], ◌∷◌, ◌++◌, length, take, drop, get_or, sum_by, filter, refl, sym, ap, ◌∙◌, subst, arith, inl, inr, length-append}
-use Rattle.std.specs.Prelude.{flat_map}
+use Rattle.std.specs.Prelude.{flat_map, Result, Ok, Err, OnOk, OnErr}
 use Rattle.std.proofs.lemmas.Bool.{le-leb, lt-leb}
-use Rattle.std.proofs.lemmas.List.Sums.{sum_by_more_le, sum_by-le-sum_by}
+use Rattle.std.proofs.lemmas.List.Sums.{sum_by_more, sum_by_more_le, sum_by-le-sum_by}
 use Rattle.std.proofs.lemmas.List.Concat.{length-flat_map}
 use Rattle.std.proofs.lemmas.List.{take_more, take_all, take-append-drop, append-nil}
 use Rattle.std.proofs.lemmas.Grind.{flat_map-append}
@@ -15,7 +15,7 @@ use Rattle.niss_search.specs.declared.tables.position.Coordinates.{Coordinates}
 use Rattle.niss_search.specs.Positions.{position_after, distance_at}
 use Rattle.niss_search.specs.Delivery.{WentThrough, StoppedIn}
 use Rattle.niss_search.proofs.ListLemmas.{flat_map-filter, sum_by-filter}
-use Rattle.niss_search.specs.Descent.{found, visits, found_below, looks_below, looks_beyond, found_after, looks_after}
+use Rattle.niss_search.specs.Descent.{found, visits, found_below, looks_below, looks_beyond, found_after, looks_after, DescentState, descent_state, GoesThrough, StopsIn, Descends}
 
 module _ (step : Step) (x : List Coordinates) (p : List Turn) where
   pub found_below-far : (left : ℕ) → left < distance_at step x → found_below step x p left ≡ []
@@ -185,3 +185,51 @@ module _ (step : Step) (x : List Coordinates) (p : List Turn) (left : ℕ) (some
   -- no more is found so far than was looked at
   pub found-so-far : (i : ℕ) → length (flat_map (found_after step x p (left - 1)) (take i ts)) ≤ sum_by (looks_after step x p (left - 1)) (take i ts)
   found-so-far i = length-flat_map-le (found_after step x p (left - 1)) (looks_after step x p (left - 1)) (take i ts) (length-found_after step x p (left - 1))
+
+  pub looks_beyond-listed : looks_beyond step x p left ≡ sum_by (looks_after step x p (left - 1)) ts
+  looks_beyond-listed = omega (arith, looks_below-listed, looks_below-one step x p left)
+
+  pub looks_beyond-all : (i : ℕ) → length ts ≤ i → looks_beyond step x p left ≡ sum_by (looks_after step x p (left - 1)) (take i ts)
+  looks_beyond-all i past = omega (arith, looks_below-all i past, looks_below-one step x p left)
+
+  -- what is found so far and by one turn more is within what is found
+  pub found_below-more : (i : ℕ) (d : Turn) → i < length ts → length (flat_map (found_after step x p (left - 1)) (take i ts)) + length (found_after step x p (left - 1) (get_or ts i d)) ≤ length (found_below step x p left)
+  found_below-more i d here =
+      let f = found_after step x p (left - 1) in
+      omega (arith, ap length found_below-listed, length-flat_map f ts, length-flat_map f (take i ts), sum_by_more_le (λ t. length (f t)) ts i d here)
+
+module _ {K : Type 0} (took refused : K → List Turn → K → Type 0) where
+  -- a look that finds nothing
+  pub GoesThrough-look : (m n c : ℕ) (s : K) → n ≡ m + 1 → GoesThrough took refused [] 1 (descent_state m c s) (descent_state n c s)
+  GoesThrough-look m n c s e = record { delivered = refl; counted = omega arith; looked = e }
+
+  -- a path that is handed out
+  pub Descends-take : {F : Type 0} (r : Result (Unit {0}) F) (m c : ℕ) (s t : K) (p : List Turn) → OnOk r (took s p t) → OnErr r (refused s p t) → Descends took refused (p ∷ []) 0 (descent_state m c s) (descent_state m (c + 1) t) r
+  Descends-take (Ok u) m c s t p ok err =
+      record { delivered = WentThrough-one took refused s t p ok; counted = omega arith; looked = omega arith }
+  Descends-take (Err e) m c s t p ok err =
+      record { stopped = StoppedIn-one took refused s t p err; rises = omega arith; looked = omega arith }
+
+  -- a look, and then what goes on
+  pub Descends-look : {F : Type 0} (r : Result (Unit {0}) F) (ps : List (List Turn)) (l m n c : ℕ) (s : K) (new : DescentState K) → n ≡ m + 1 → Descends took refused ps l (descent_state n c s) new r → Descends took refused ps (1 + l) (descent_state m c s) new r
+  Descends-look (Ok u) ps l m n c s new e h =
+      record { delivered = h.delivered; counted = h.counted; looked = omega (arith, h.looked) }
+  Descends-look (Err f) ps l m n c s new e h =
+      record { stopped = h.stopped; rises = omega (arith, h.rises); looked = omega (arith, h.looked) }
+
+  module _ (f : Turn → List (List Turn)) (g : Turn → ℕ) (ts : List Turn) (i : ℕ) (d : Turn) (here : i < length ts) where
+    -- what one turn more finds
+    pub GoesThrough-each : (a b c : DescentState K) → GoesThrough took refused (flat_map f (take i ts)) (sum_by g (take i ts)) a b → GoesThrough took refused (f (get_or ts i d)) (g (get_or ts i d)) b c → GoesThrough took refused (flat_map f (take (i + 1) ts)) (sum_by g (take (i + 1) ts)) a c
+    GoesThrough-each a b c h k = record {
+      delivered = WentThrough-each took refused f ts i d here a.sink b.sink c.sink h.delivered k.delivered;
+      counted = omega (arith, h.counted, k.counted, length-flat_map-each f ts i d here _ _ refl refl);
+      looked = omega (arith, h.looked, k.looked, sum_by_more g ts i d here);
+    }
+
+    -- a refusal among what one turn more finds
+    pub StopsIn-each : (a b c : DescentState K) → GoesThrough took refused (flat_map f (take i ts)) (sum_by g (take i ts)) a b → StopsIn took refused (f (get_or ts i d)) (g (get_or ts i d)) b c → StopsIn took refused (flat_map f ts) (sum_by g ts) a c
+    StopsIn-each a b c h k = record {
+      stopped = StoppedIn-each took refused f ts i d here a.sink b.sink c.sink h.delivered k.stopped;
+      rises = omega (arith, h.looked, k.rises);
+      looked = omega (arith, h.looked, k.looked, sum_by_more_le g ts i d here);
+    }

@@ -1,5 +1,5 @@
 -- The distance: 0 exactly where the empty sequence reaches, and at most one more than after a turn.
-use Rattle.std.proofs.Common.{◌≡◌, ℕ, zero, suc, ◌+◌, ◌≤◌, ◌<◌, leb, Bool, true, false, ◌||◌, cond, List, [], ◌∷◌, map, find, unwrap_or, Some, Contains, refl, ap, ◌∙◌, arith, inl, inr, ◌⊎◌}
+use Rattle.std.proofs.Common.{◌≡◌, ℕ, zero, suc, ◌+◌, ◌≤◌, ◌<◌, leb, Bool, true, false, ◌||◌, cond, List, [], ◌∷◌, map, find, unwrap_or, Some, Contains, refl, ap, ◌∙◌, arith, inl, inr, ◌⊎◌, min}
 use Rattle.std.specs.Prelude.{flat_map}
 use Rattle.std.specs.List.{range_with_len, list_any}
 use Rattle.std.proofs.lemmas.Bool.{le-leb, lt-leb}
@@ -73,6 +73,33 @@ first_or-after p a zero d h l e = l
 first_or-after p a (suc n) d h l e =
     let later : a + 1 ≤ first_or p (a + 1) n d = first_or-from p (a + 1) n d (omega arith) in
     rw e (omega arith)
+
+-- two tests by one
+list_any-either : {X : Type 0} (p q : X → Bool) (xs : List X) → list_any (λ x. p x || q x) xs ≡ (list_any p xs || list_any q xs)
+list_any-either p q [] = refl
+list_any-either p q (x ∷ xs) = by_tests (p x) (q x) (list_any p xs) (list_any q xs) (list_any-either p q xs) where
+  by_tests : (a b c d : Bool) → list_any (λ y. p y || q y) xs ≡ (c || d) → ((a || b) || list_any (λ y. p y || q y) xs) ≡ ((a || c) || (b || d))
+  by_tests true b c d e = refl
+  by_tests false true true d e = refl
+  by_tests false true false d e = refl
+  by_tests false false c d e = e
+
+first_or-either : (f g : ℕ → Bool) (a n d : ℕ) → a + n ≤ d → first_or (λ k. f k || g k) a n d ≡ min (first_or f a n d) (first_or g a n d)
+first_or-either f g a zero d h = omega arith
+first_or-either f g a (suc n) d h =
+    by_tests (f a) (g a) (first_or-from f (a + 1) n d (omega arith)) (first_or-from g (a + 1) n d (omega arith)) (first_or-either f g (a + 1) n d (omega arith)) where
+      by_tests : (b c : Bool) → a + 1 ≤ first_or f (a + 1) n d → a + 1 ≤ first_or g (a + 1) n d → first_or (λ k. f k || g k) (a + 1) n d ≡ min (first_or f (a + 1) n d) (first_or g (a + 1) n d) → unwrap_or (cond (b || c) (Some a) (find (λ k. f k || g k) (range_with_len (a + 1) n))) d ≡ min (unwrap_or (cond b (Some a) (find f (range_with_len (a + 1) n))) d) (unwrap_or (cond c (Some a) (find g (range_with_len (a + 1) n))) d)
+      by_tests true true l m e = omega arith
+      by_tests true false l m e = omega arith
+      by_tests false true l m e = omega arith
+      by_tests false false l m e = e
+
+-- where either of two tests is to be reached, the nearer one tells the distance
+pub distance-either : (turns : List Turn) (p q : List Turn → Bool) → distance turns (λ s. p s || q s) ≡ min (distance turns p) (distance turns q)
+unfolding distance
+distance-either turns p q =
+    ap (λ (f : ℕ → Bool). first_or f 0 21 21) (λ i k. list_any-either p q (all_sequences turns k) i)
+    ∙ first_or-either (reached_in turns p) (reached_in turns q) 0 21 21 (omega arith)
 
 module _ (turns : List Turn) (reaches : List Turn → Bool) where
   pub distance-le : (k : ℕ) → k ≤ 20 → reached_in turns reaches k ≡ true → distance turns reaches ≤ k

@@ -9,51 +9,56 @@ use Rattle.std.proofs.lemmas.List.{get_or_past, length-replicate, get_or-replica
 use Rattle.std.proofs.Math.Nat.{mul-le-mul}
 use Rattle.niss_moves.specs.Turn.{inverse_turn}
 use Rattle.niss_moves.specs.declared.turn.Turn.{Turn}
-use Rattle.niss_cube.specs.declared.step.Step.{Step}
 use Rattle.niss_cube.specs.Steps.{turns_of}
-use Rattle.niss_search.specs.Entries.{entry_count}
-use Rattle.niss_search.specs.Filling.{entry_after, entry_distance, EntriesTurn, IsFilled, IsFilling, IsExtended, IsTable}
+use Rattle.niss_search.specs.Entries.{count_for}
+use Rattle.niss_search.specs.Filling.{entry_after, entry_distance, byte_at, Alternative, EntriesTurn, IsFilled, IsFilling, IsExtended}
 use Rattle.niss_search.proofs.ListLemmas.{sum_by-same, sum_by-none, range_with_len-more}
-use Rattle.niss_search.proofs.EntryLemmas.{entry_count-some, entry_distance-zero, entry_distance-most, entry_distance-turn, entry_distance-back, entry_distance-nearer}
+use Rattle.niss_search.proofs.EntryLemmas.{count_for-some, entry_distance-zero, entry_distance-turn, entry_distance-back, entry_distance-nearer}
 
-module _ (tell : EntriesTurn) (step : Step) (level : ℕ) (small : level < 20) where
+byte_at-near : (level d : ℕ) → d ≤ level → byte_at level d ≡ d
+byte_at-near level d h = rw (le-leb d level h) refl
+
+byte_at-far : (level d : ℕ) → level < d → byte_at level d ≡ 21
+byte_at-far level d h = rw (lt-leb d level h) refl
+
+module _ (tell : EntriesTurn) (alt : Alternative) (level : ℕ) (small : level < 20) where
   -- an entry that was not met gets the next level
-  module _ (xs : List ℕ) (f : IsFilling step level xs) (x : ℕ) (t : Turn) (here : entry_distance step x ≡ level) (in_range : x < entry_count step) (m : Contains (turns_of step) t) where
-    met-le : entry_distance step (entry_after step x t) ≤ level + 1
-    met-le = omega (arith, entry_distance-back tell step x t in_range m)
+  module _ (xs : List ℕ) (f : IsFilling alt level xs) (x : ℕ) (t : Turn) (here : entry_distance alt x ≡ level) (in_range : x < count_for alt.goal) (m : Contains (turns_of alt.step) t) where
+    met-le : entry_distance alt (entry_after alt.goal x t) ≤ level + 1
+    met-le = omega (arith, entry_distance-back tell alt x t in_range m)
 
-    pub set-filling : slice_index xs (entry_after step x t) ≡ 21 → IsFilling step level (set xs (entry_after step x t) (level + 1))
+    pub set-filling : slice_index xs (entry_after alt.goal x t) ≡ 21 → IsFilling alt level (set xs (entry_after alt.goal x t) (level + 1))
     set-filling unmet = record {
-      size = length-set xs (entry_after step x t) (level + 1) ∙ f.size;
-      near = λ i l n. near-at i l n (eqb_tells i (entry_after step x t));
-      far = λ i l n. far-at i l n (eqb_tells i (entry_after step x t));
+      size = length-set xs (entry_after alt.goal x t) (level + 1) ∙ f.size;
+      near = λ i l n. near-at i l n (eqb_tells i (entry_after alt.goal x t));
+      far = λ i l n. far-at i l n (eqb_tells i (entry_after alt.goal x t));
     } where
-      next-range : entry_after step x t < length xs
-      next-range = omega (arith, f.size, tell.below step x t in_range)
+      next-range : entry_after alt.goal x t < length xs
+      next-range = omega (arith, f.size, tell.below alt.goal x t in_range)
 
-      near-at : (i : ℕ) → i < entry_count step → entry_distance step i ≤ level → ((eqb i (entry_after step x t) ≡ true) × (i ≡ entry_after step x t)) ⊎ ((eqb i (entry_after step x t) ≡ false) × (i ≢ entry_after step x t)) → slice_index (set xs (entry_after step x t) (level + 1)) i ≡ entry_distance step i
+      near-at : (i : ℕ) → i < count_for alt.goal → entry_distance alt i ≤ level → ((eqb i (entry_after alt.goal x t) ≡ true) × (i ≡ entry_after alt.goal x t)) ⊎ ((eqb i (entry_after alt.goal x t) ≡ false) × (i ≢ entry_after alt.goal x t)) → slice_index (set xs (entry_after alt.goal x t) (level + 1)) i ≡ entry_distance alt i
       near-at i l n (inl e) =
           let was = f.near i l n in
           let same = ap (slice_index xs) e.1 in
           absurd (omega arith)
-      near-at i l n (inr e) = get_or-set_other xs (entry_after step x t) i (level + 1) 0 e.1 ∙ f.near i l n
+      near-at i l n (inr e) = get_or-set_other xs (entry_after alt.goal x t) i (level + 1) 0 e.1 ∙ f.near i l n
 
-      far-at : (i : ℕ) → i < entry_count step → level < entry_distance step i → ((eqb i (entry_after step x t) ≡ true) × (i ≡ entry_after step x t)) ⊎ ((eqb i (entry_after step x t) ≡ false) × (i ≢ entry_after step x t)) → (slice_index (set xs (entry_after step x t) (level + 1)) i ≡ 21) ⊎ ((slice_index (set xs (entry_after step x t) (level + 1)) i ≡ level + 1) × (entry_distance step i ≡ level + 1))
+      far-at : (i : ℕ) → i < count_for alt.goal → level < entry_distance alt i → ((eqb i (entry_after alt.goal x t) ≡ true) × (i ≡ entry_after alt.goal x t)) ⊎ ((eqb i (entry_after alt.goal x t) ≡ false) × (i ≢ entry_after alt.goal x t)) → (slice_index (set xs (entry_after alt.goal x t) (level + 1)) i ≡ 21) ⊎ ((slice_index (set xs (entry_after alt.goal x t) (level + 1)) i ≡ level + 1) × (entry_distance alt i ≡ level + 1))
       far-at i l n (inl e) =
-          let same = ap (entry_distance step) e.1 in
-          let q : entry_distance step i ≡ level + 1 = omega (arith, met-le) in
-          inr (ap (slice_index (set xs (entry_after step x t) (level + 1))) e.1 ∙ get_or-set_same xs (entry_after step x t) (level + 1) 0 next-range, q)
+          let same = ap (entry_distance alt) e.1 in
+          let q : entry_distance alt i ≡ level + 1 = omega (arith, met-le) in
+          inr (ap (slice_index (set xs (entry_after alt.goal x t) (level + 1))) e.1 ∙ get_or-set_same xs (entry_after alt.goal x t) (level + 1) 0 next-range, q)
       far-at i l n (inr e) =
-          let other = get_or-set_other xs (entry_after step x t) i (level + 1) 0 e.1 in
+          let other = get_or-set_other xs (entry_after alt.goal x t) i (level + 1) 0 e.1 in
           elim (f.far i l n) [
             | inl a ↦ inl (other ∙ a)
             | inr b ↦ inr (other ∙ b.0, b.1)
           ]
 
-    pub set-met : slice_index (set xs (entry_after step x t) (level + 1)) (entry_after step x t) < 21
+    pub set-met : slice_index (set xs (entry_after alt.goal x t) (level + 1)) (entry_after alt.goal x t) < 21
     set-met =
-        let next-range : entry_after step x t < length xs = omega (arith, f.size, tell.below step x t in_range) in
-        omega (arith, get_or-set_same xs (entry_after step x t) (level + 1) 0 next-range)
+        let next-range : entry_after alt.goal x t < length xs = omega (arith, f.size, tell.below alt.goal x t in_range) in
+        omega (arith, get_or-set_same xs (entry_after alt.goal x t) (level + 1) 0 next-range)
 
   pub set-kept : (xs : List ℕ) (j i : ℕ) → slice_index xs i < 21 → slice_index (set xs j (level + 1)) i < 21
   set-kept xs j i h = by_place (eqb_tells i j) (leb_tells (length xs) j) where
@@ -65,103 +70,104 @@ module _ (tell : EntriesTurn) (step : Step) (level : ℕ) (small : level < 20) w
     by_place (inl e) (inl w) =
         omega (arith, get_or_past (set xs j (level + 1)) i 0 (omega (arith, length-set xs j (level + 1))))
 
-  pub filling-met : (xs : List ℕ) → IsFilling step level xs → (i : ℕ) → i < entry_count step → slice_index xs i ≢ 21 → slice_index xs i < 21
-  filling-met xs f i l n = by_side (leb_tells (entry_distance step i) level) where
-    by_far : (slice_index xs i ≡ 21) ⊎ ((slice_index xs i ≡ level + 1) × (entry_distance step i ≡ level + 1)) → slice_index xs i < 21
+  pub filling-met : (xs : List ℕ) → IsFilling alt level xs → (i : ℕ) → i < count_for alt.goal → slice_index xs i ≢ 21 → slice_index xs i < 21
+  filling-met xs f i l n = by_side (leb_tells (entry_distance alt i) level) where
+    by_far : (slice_index xs i ≡ 21) ⊎ ((slice_index xs i ≡ level + 1) × (entry_distance alt i ≡ level + 1)) → slice_index xs i < 21
     by_far (inl a) = absurd (n a)
     by_far (inr b) = omega arith
 
-    by_side : ((leb (entry_distance step i) level ≡ true) × (entry_distance step i ≤ level)) ⊎ ((leb (entry_distance step i) level ≡ false) × (level < entry_distance step i)) → slice_index xs i < 21
+    by_side : ((leb (entry_distance alt i) level ≡ true) × (entry_distance alt i ≤ level)) ⊎ ((leb (entry_distance alt i) level ≡ false) × (level < entry_distance alt i)) → slice_index xs i < 21
     by_side (inl e) = omega (arith, f.near i l e.1)
     by_side (inr e) = by_far (f.far i l e.1)
 
-  met-small : (xs : List ℕ) → IsFilling step level xs → (i : ℕ) → i < entry_count step → slice_index xs i < 21 → slice_index xs i ≤ level + 1
-  met-small xs f i l n = by_side (leb_tells (entry_distance step i) level) where
-    by_far : (slice_index xs i ≡ 21) ⊎ ((slice_index xs i ≡ level + 1) × (entry_distance step i ≡ level + 1)) → slice_index xs i ≤ level + 1
+  met-small : (xs : List ℕ) → IsFilling alt level xs → (i : ℕ) → i < count_for alt.goal → slice_index xs i < 21 → slice_index xs i ≤ level + 1
+  met-small xs f i l n = by_side (leb_tells (entry_distance alt i) level) where
+    by_far : (slice_index xs i ≡ 21) ⊎ ((slice_index xs i ≡ level + 1) × (entry_distance alt i ≡ level + 1)) → slice_index xs i ≤ level + 1
     by_far (inl a) = absurd (omega arith)
     by_far (inr b) = omega arith
 
-    by_side : ((leb (entry_distance step i) level ≡ true) × (entry_distance step i ≤ level)) ⊎ ((leb (entry_distance step i) level ≡ false) × (level < entry_distance step i)) → slice_index xs i ≤ level + 1
+    by_side : ((leb (entry_distance alt i) level ≡ true) × (entry_distance alt i ≤ level)) ⊎ ((leb (entry_distance alt i) level ≡ false) × (level < entry_distance alt i)) → slice_index xs i ≤ level + 1
     by_side (inl e) = omega (arith, f.near i l e.1)
     by_side (inr e) = by_far (f.far i l e.1)
 
   -- what the lesser of an entry's byte and the next level does to the table
-  module _ (xs : List ℕ) (f : IsFilling step level xs) (i : ℕ) (t : Turn) (here : entry_distance step i ≡ level) (in_range : i < entry_count step) (m : Contains (turns_of step) t) where
+  module _ (xs : List ℕ) (f : IsFilling alt level xs) (i : ℕ) (t : Turn) (here : entry_distance alt i ≡ level) (in_range : i < count_for alt.goal) (m : Contains (turns_of alt.step) t) where
     -- the table after it
     abbrev after : List ℕ
-    after = set xs (entry_after step i t) (min (slice_index xs (entry_after step i t)) (level + 1))
+    after = set xs (entry_after alt.goal i t) (min (slice_index xs (entry_after alt.goal i t)) (level + 1))
 
-    unmet-or-kept : ((slice_index xs (entry_after step i t) ≡ 21) × (after ≡ set xs (entry_after step i t) (level + 1))) ⊎ ((slice_index xs (entry_after step i t) < 21) × (after ≡ xs))
-    unmet-or-kept = by_byte (eqb_tells (slice_index xs (entry_after step i t)) 21) where
-      by_byte : ((eqb (slice_index xs (entry_after step i t)) 21 ≡ true) × (slice_index xs (entry_after step i t) ≡ 21)) ⊎ ((eqb (slice_index xs (entry_after step i t)) 21 ≡ false) × (slice_index xs (entry_after step i t) ≢ 21)) → ((slice_index xs (entry_after step i t) ≡ 21) × (after ≡ set xs (entry_after step i t) (level + 1))) ⊎ ((slice_index xs (entry_after step i t) < 21) × (after ≡ xs))
+    unmet-or-kept : ((slice_index xs (entry_after alt.goal i t) ≡ 21) × (after ≡ set xs (entry_after alt.goal i t) (level + 1))) ⊎ ((slice_index xs (entry_after alt.goal i t) < 21) × (after ≡ xs))
+    unmet-or-kept = by_byte (eqb_tells (slice_index xs (entry_after alt.goal i t)) 21) where
+      by_byte : ((eqb (slice_index xs (entry_after alt.goal i t)) 21 ≡ true) × (slice_index xs (entry_after alt.goal i t) ≡ 21)) ⊎ ((eqb (slice_index xs (entry_after alt.goal i t)) 21 ≡ false) × (slice_index xs (entry_after alt.goal i t) ≢ 21)) → ((slice_index xs (entry_after alt.goal i t) ≡ 21) × (after ≡ set xs (entry_after alt.goal i t) (level + 1))) ⊎ ((slice_index xs (entry_after alt.goal i t) < 21) × (after ≡ xs))
       by_byte (inl e) =
-          let least : min (slice_index xs (entry_after step i t)) (level + 1) ≡ level + 1 = omega (arith, e.1) in
-          inl (e.1, ap (set xs (entry_after step i t)) least)
+          let least : min (slice_index xs (entry_after alt.goal i t)) (level + 1) ≡ level + 1 = omega (arith, e.1) in
+          inl (e.1, ap (set xs (entry_after alt.goal i t)) least)
       by_byte (inr e) =
-          let met = filling-met xs f (entry_after step i t) (tell.below step i t in_range) e.1 in
-          let small = met-small xs f (entry_after step i t) (tell.below step i t in_range) met in
-          let least : min (slice_index xs (entry_after step i t)) (level + 1) ≡ slice_index xs (entry_after step i t) = omega (arith, small) in
-          inr (met, ap (set xs (entry_after step i t)) least ∙ set-get_or xs (entry_after step i t) 0)
+          let met = filling-met xs f (entry_after alt.goal i t) (tell.below alt.goal i t in_range) e.1 in
+          let small = met-small xs f (entry_after alt.goal i t) (tell.below alt.goal i t in_range) met in
+          let least : min (slice_index xs (entry_after alt.goal i t)) (level + 1) ≡ slice_index xs (entry_after alt.goal i t) = omega (arith, small) in
+          inr (met, ap (set xs (entry_after alt.goal i t)) least ∙ set-get_or xs (entry_after alt.goal i t) 0)
 
-    pub least-filling : IsFilling step level after
+    pub least-filling : IsFilling alt level after
     least-filling = by_case unmet-or-kept where
-      by_case : ((slice_index xs (entry_after step i t) ≡ 21) × (after ≡ set xs (entry_after step i t) (level + 1))) ⊎ ((slice_index xs (entry_after step i t) < 21) × (after ≡ xs)) → IsFilling step level after
-      by_case (inl e) = subst (IsFilling step level) (sym e.1) (set-filling xs f i t here in_range m e.0)
-      by_case (inr e) = subst (IsFilling step level) (sym e.1) f
+      by_case : ((slice_index xs (entry_after alt.goal i t) ≡ 21) × (after ≡ set xs (entry_after alt.goal i t) (level + 1))) ⊎ ((slice_index xs (entry_after alt.goal i t) < 21) × (after ≡ xs)) → IsFilling alt level after
+      by_case (inl e) = subst (IsFilling alt level) (sym e.1) (set-filling xs f i t here in_range m e.0)
+      by_case (inr e) = subst (IsFilling alt level) (sym e.1) f
 
-    pub least-met : slice_index after (entry_after step i t) < 21
+    pub least-met : slice_index after (entry_after alt.goal i t) < 21
     least-met = by_case unmet-or-kept where
-      by_case : ((slice_index xs (entry_after step i t) ≡ 21) × (after ≡ set xs (entry_after step i t) (level + 1))) ⊎ ((slice_index xs (entry_after step i t) < 21) × (after ≡ xs)) → slice_index after (entry_after step i t) < 21
-      by_case (inl e) = subst (λ (ys : List ℕ). slice_index ys (entry_after step i t) < 21) (sym e.1) (set-met xs f i t here in_range m)
-      by_case (inr e) = subst (λ (ys : List ℕ). slice_index ys (entry_after step i t) < 21) (sym e.1) e.0
+      by_case : ((slice_index xs (entry_after alt.goal i t) ≡ 21) × (after ≡ set xs (entry_after alt.goal i t) (level + 1))) ⊎ ((slice_index xs (entry_after alt.goal i t) < 21) × (after ≡ xs)) → slice_index after (entry_after alt.goal i t) < 21
+      by_case (inl e) = subst (λ (ys : List ℕ). slice_index ys (entry_after alt.goal i t) < 21) (sym e.1) (set-met xs f i t here in_range m)
+      by_case (inr e) = subst (λ (ys : List ℕ). slice_index ys (entry_after alt.goal i t) < 21) (sym e.1) e.0
 
     pub least-kept : (j : ℕ) → slice_index xs j < 21 → slice_index after j < 21
     least-kept j h = by_case unmet-or-kept where
-      by_case : ((slice_index xs (entry_after step i t) ≡ 21) × (after ≡ set xs (entry_after step i t) (level + 1))) ⊎ ((slice_index xs (entry_after step i t) < 21) × (after ≡ xs)) → slice_index after j < 21
-      by_case (inl e) = subst (λ (ys : List ℕ). slice_index ys j < 21) (sym e.1) (set-kept xs (entry_after step i t) j h)
+      by_case : ((slice_index xs (entry_after alt.goal i t) ≡ 21) × (after ≡ set xs (entry_after alt.goal i t) (level + 1))) ⊎ ((slice_index xs (entry_after alt.goal i t) < 21) × (after ≡ xs)) → slice_index after j < 21
+      by_case (inl e) = subst (λ (ys : List ℕ). slice_index ys j < 21) (sym e.1) (set-kept xs (entry_after alt.goal i t) j h)
       by_case (inr e) = subst (λ (ys : List ℕ). slice_index ys j < 21) (sym e.1) h
 
   -- after each entry of the level was extended, the next level is whole
-  pub filled-next : (xs : List ℕ) → IsFilling step level xs → ((j : ℕ) → j < entry_count step → entry_distance step j ≡ level → IsExtended step xs j) → IsFilled step (level + 1) xs
+  pub filled-next : (xs : List ℕ) → IsFilling alt level xs → ((j : ℕ) → j < count_for alt.goal → entry_distance alt j ≡ level → IsExtended alt xs j) → IsFilled alt (level + 1) xs
   filled-next xs f extended = record {
     size = f.size;
-    near = λ i l n. near-at i l n (leb_tells (entry_distance step i) level);
-    far = λ i l n. far-at i n (f.far i l (omega arith));
+    bytes = λ i l. by_side i l (leb_tells (entry_distance alt i) (level + 1)) (leb_tells (entry_distance alt i) level);
   } where
-    far-at : (i : ℕ) → level + 1 < entry_distance step i → (slice_index xs i ≡ 21) ⊎ ((slice_index xs i ≡ level + 1) × (entry_distance step i ≡ level + 1)) → slice_index xs i ≡ 21
+    far-at : (i : ℕ) → level + 1 < entry_distance alt i → (slice_index xs i ≡ 21) ⊎ ((slice_index xs i ≡ level + 1) × (entry_distance alt i ≡ level + 1)) → slice_index xs i ≡ 21
     far-at i n (inl a) = a
     far-at i n (inr b) = absurd (omega arith)
 
-    met-near : (i : ℕ) → slice_index xs i < 21 → entry_distance step i ≤ level + 1 → level < entry_distance step i → (slice_index xs i ≡ 21) ⊎ ((slice_index xs i ≡ level + 1) × (entry_distance step i ≡ level + 1)) → slice_index xs i ≡ entry_distance step i
-    met-near i h n o (inl a) = absurd (omega arith)
-    met-near i h n o (inr b) = omega arith
+    met-near : (i : ℕ) → slice_index xs i < 21 → (slice_index xs i ≡ 21) ⊎ ((slice_index xs i ≡ level + 1) × (entry_distance alt i ≡ level + 1)) → slice_index xs i ≡ entry_distance alt i
+    met-near i h (inl a) = absurd (omega arith)
+    met-near i h (inr b) = omega arith
 
-    near-at : (i : ℕ) → i < entry_count step → entry_distance step i ≤ level + 1 → ((leb (entry_distance step i) level ≡ true) × (entry_distance step i ≤ level)) ⊎ ((leb (entry_distance step i) level ≡ false) × (level < entry_distance step i)) → slice_index xs i ≡ entry_distance step i
-    near-at i l n (inl e) = f.near i l e.1
-    near-at i l n (inr e) =
-        let nearer = entry_distance-nearer tell step i level l (omega arith) small in
+    next-at : (i : ℕ) → i < count_for alt.goal → entry_distance alt i ≡ level + 1 → slice_index xs i ≡ entry_distance alt i
+    next-at i l n =
+        let nearer = entry_distance-nearer tell alt i level l (omega arith) small in
         let t = nearer.0 in
         let m = nearer.1.0 in
-        let j = entry_after step i t in
-        let at : entry_distance step j ≡ level = omega (arith, nearer.1.1, entry_distance-turn tell step i t l m) in
-        let met = extended j (tell.below step i t l) at (inverse_turn t) (tell.inverses step t m) in
-        let met_here : slice_index xs i < 21 = subst (λ (y : ℕ). slice_index xs y < 21) (tell.back step i t l) met in
-        met-near i met_here n e.1 (f.far i l e.1)
+        let j = entry_after alt.goal i t in
+        let at : entry_distance alt j ≡ level = omega (arith, nearer.1.1, entry_distance-turn tell alt i t l m) in
+        let met = extended j (tell.below alt.goal i t l) at (inverse_turn t) (tell.inverses alt.step t m) in
+        let met_here : slice_index xs i < 21 = subst (λ (y : ℕ). slice_index xs y < 21) (tell.back alt.goal i t l) met in
+        met-near i met_here (f.far i l (omega arith))
+
+    by_side : (i : ℕ) → i < count_for alt.goal → ((leb (entry_distance alt i) (level + 1) ≡ true) × (entry_distance alt i ≤ level + 1)) ⊎ ((leb (entry_distance alt i) (level + 1) ≡ false) × (level + 1 < entry_distance alt i)) → ((leb (entry_distance alt i) level ≡ true) × (entry_distance alt i ≤ level)) ⊎ ((leb (entry_distance alt i) level ≡ false) × (level < entry_distance alt i)) → slice_index xs i ≡ byte_at (level + 1) (entry_distance alt i)
+    by_side i l (inl a) (inl b) = f.near i l b.1 ∙ sym (byte_at-near (level + 1) (entry_distance alt i) a.1)
+    by_side i l (inl a) (inr b) =
+        next-at i l (omega arith) ∙ sym (byte_at-near (level + 1) (entry_distance alt i) a.1)
+    by_side i l (inr a) b =
+        far-at i a.1 (f.far i l (omega arith)) ∙ sym (byte_at-far (level + 1) (entry_distance alt i) a.1)
 
   -- an entry whose byte is the level is at it, and no other is
-  pub filling-at : (xs : List ℕ) → IsFilling step level xs → (i : ℕ) → i < entry_count step → slice_index xs i ≡ level → entry_distance step i ≡ level
-  filling-at xs f i l e = by_side (leb_tells (entry_distance step i) level) where
-    by_far : level < entry_distance step i → (slice_index xs i ≡ 21) ⊎ ((slice_index xs i ≡ level + 1) × (entry_distance step i ≡ level + 1)) → entry_distance step i ≡ level
+  pub filling-at : (xs : List ℕ) → IsFilling alt level xs → (i : ℕ) → i < count_for alt.goal → slice_index xs i ≡ level → entry_distance alt i ≡ level
+  filling-at xs f i l e = by_side (leb_tells (entry_distance alt i) level) where
+    by_far : level < entry_distance alt i → (slice_index xs i ≡ 21) ⊎ ((slice_index xs i ≡ level + 1) × (entry_distance alt i ≡ level + 1)) → entry_distance alt i ≡ level
     by_far n (inl a) = absurd (omega arith)
     by_far n (inr b) = absurd (omega arith)
 
-    by_side : ((leb (entry_distance step i) level ≡ true) × (entry_distance step i ≤ level)) ⊎ ((leb (entry_distance step i) level ≡ false) × (level < entry_distance step i)) → entry_distance step i ≡ level
+    by_side : ((leb (entry_distance alt i) level ≡ true) × (entry_distance alt i ≤ level)) ⊎ ((leb (entry_distance alt i) level ≡ false) × (level < entry_distance alt i)) → entry_distance alt i ≡ level
     by_side (inl n) = omega (arith, f.near i l n.1)
     by_side (inr n) = by_far n.1 (f.far i l n.1)
-
-pub filled-filling : (step : Step) (level : ℕ) (xs : List ℕ) → IsFilled step level xs → IsFilling step level xs
-filled-filling step level xs f =
-    record { size = f.size; near = f.near; far = λ i l n. inl (f.far i l n) }
 
 -- counts by level
 pub count-more : (p : ℕ → Bool) (n : ℕ) → count_by p (range_with_len 0 (n + 1)) ≡ count_by p (range_with_len 0 n) + cond (p n) 1 0
@@ -213,31 +219,24 @@ count-twenty f xs =
 pub ticks-le : (turns count bound : ℕ) → turns ≤ 18 → count ≤ bound → turns * count ≤ 18 * bound
 ticks-le turns count bound h k = mul-le-mul h k
 
-true≢false : true ≡ false → ⊥
-true≢false e = cc
-
 -- the table at the beginning: 21, but 0 at the goal
-pub filled-start : (step : Step) (n : ℕ) → n ≡ entry_count step → IsFilled step 0 (set (replicate n 21) 0 0)
-filled-start step n e = record {
+pub filled-start : (alt : Alternative) (n : ℕ) → n ≡ count_for alt.goal → IsFilled alt 0 (set (replicate n 21) 0 0)
+filled-start alt n e = record {
   size = length-set (replicate n 21) 0 0 ∙ length-replicate n 21 ∙ e;
-  near = λ i l h. near-at i h (eqb_tells i 0);
-  far = λ i l h. far-at i l h (eqb_tells i 0);
+  bytes = λ i l. byte i l (eqb_tells i 0);
 } where
   some : 0 < length {A = ℕ} (replicate n 21)
-  some = omega (arith, length-replicate {A = ℕ} n 21, entry_count-some step)
+  some = omega (arith, length-replicate {A = ℕ} n 21, count_for-some alt.goal)
 
-  near-at : (i : ℕ) → entry_distance step i ≤ 0 → ((eqb i 0 ≡ true) × (i ≡ 0)) ⊎ ((eqb i 0 ≡ false) × (i ≢ 0)) → slice_index (set (replicate n 21) 0 0) i ≡ entry_distance step i
-  near-at i h (inl q) =
-      ap (slice_index (set (replicate n 21) 0 0)) q.1 ∙ get_or-set_same (replicate n 21) 0 0 0 some ∙ omega arith
-  near-at i h (inr q) = absurd (true≢false (sym (le-leb (entry_distance step i) 0 h) ∙ entry_distance-zero step i ∙ q.0))
+  at-zero : (d : ℕ) → leb d 0 ≡ true → byte_at 0 d ≡ 0
+  at-zero zero h = refl
+  at-zero (suc d) h = absurd (cc (h, lt-leb (suc d) 0 (omega arith)))
 
-  far-at : (i : ℕ) → i < entry_count step → 0 < entry_distance step i → ((eqb i 0 ≡ true) × (i ≡ 0)) ⊎ ((eqb i 0 ≡ false) × (i ≢ 0)) → slice_index (set (replicate n 21) 0 0) i ≡ 21
-  far-at i l h (inl q) = absurd (true≢false (sym q.0 ∙ sym (entry_distance-zero step i) ∙ lt-leb (entry_distance step i) 0 h))
-  far-at i l h (inr q) = get_or-set_other (replicate n 21) 0 i 0 0 q.1 ∙ get_or-replicate n i 21 0 (omega arith)
-
--- the table at the end
-pub filled-all : (step : Step) (xs : List ℕ) → IsFilled step 20 xs → IsTable step xs
-filled-all step xs f = record { size = f.size; distances = λ x l. by_side x l (leb_tells (entry_distance step x) 20) } where
-  by_side : (x : ℕ) → x < entry_count step → ((leb (entry_distance step x) 20 ≡ true) × (entry_distance step x ≤ 20)) ⊎ ((leb (entry_distance step x) 20 ≡ false) × (20 < entry_distance step x)) → slice_index xs x ≡ entry_distance step x
-  by_side x l (inl e) = f.near x l e.1
-  by_side x l (inr e) = omega (arith, f.far x l e.1, entry_distance-most step x)
+  byte : (i : ℕ) → i < count_for alt.goal → ((eqb i 0 ≡ true) × (i ≡ 0)) ⊎ ((eqb i 0 ≡ false) × (i ≢ 0)) → slice_index (set (replicate n 21) 0 0) i ≡ byte_at 0 (entry_distance alt i)
+  byte i l (inl q) =
+      ap (slice_index (set (replicate n 21) 0 0)) q.1
+      ∙ get_or-set_same (replicate n 21) 0 0 0 some
+      ∙ sym (at-zero (entry_distance alt i) (entry_distance-zero alt i ∙ q.0))
+  byte i l (inr q) =
+      let away : leb (entry_distance alt i) 0 ≡ false = entry_distance-zero alt i ∙ q.0 in
+      get_or-set_other (replicate n 21) 0 i 0 0 q.1 ∙ get_or-replicate n i 21 0 (omega arith) ∙ rw away refl

@@ -7,21 +7,15 @@ use Rattle.niss_moves.specs.declared.turn.Turn.{Turn}
 use Rattle.niss_cube.specs.declared.step.Step.{Step}
 use Rattle.niss_cube.specs.Steps.{turns_of}
 use Rattle.niss_moves.specs.Canonical.{all_canonical}
-use Rattle.niss_search.specs.Solutions.{least_length, solutions, reaching}
+use Rattle.niss_search.specs.Solutions.{up_to, least_length, solutions, reaching}
 use Rattle.niss_search.specs.Looks.{looks, all_looks}
 use Rattle.niss_search.specs.Descent.{found_below, looks_below}
+use Rattle.niss_search.specs.Deepening.{reaches_at, far_at}
 use Rattle.niss_search.specs.declared.tables.position.Coordinates.{Coordinates}
 use Rattle.niss_search.specs.Positions.{position_after, is_reached_at, distance_at}
 use Rattle.niss_search.proofs.ListLemmas.{filter-none, filter-some, range_with_len-more}
-use Rattle.niss_search.proofs.DepthFirst.{reach, far, found_all, visits_all}
+use Rattle.niss_search.proofs.DepthFirst.{found_all, visits_all}
 use Rattle.niss_search.proofs.LookLemmas.{distance_at-goal, distance_at-turn}
-
--- by the position alone
-abbrev pub reaches_at : Step → List Coordinates → List Turn → Bool
-reaches_at step x s = reach (turns_of step) position_after (distance_at step) is_reached_at x s
-
-abbrev pub far_at : Step → List Coordinates → List Turn → ℕ
-far_at step x s = far (turns_of step) position_after (distance_at step) is_reached_at x s
 
 pub found_below-level : (step : Step) (x : List Coordinates) (d : ℕ) → found_below step x [] d ≡ reaching (turns_of step) (reaches_at step x) d
 unfolding found_below
@@ -60,26 +54,18 @@ module _ (turns : List Turn) (reaches : List Turn → Bool) where
     least_length-at =
         find-first (λ k. list_any reaches (all_canonical turns k)) 0 (n + 1) d (omega arith) (omega arith) none (filter-some reaches (all_canonical turns d) some)
 
-    pub solutions-at : solutions turns reaches n ≡ reaching turns reaches d
-    unfolding solutions
-    solutions-at = rw least_length-at
-
-    pub all_looks-at : (far : List Turn → ℕ) → all_looks turns reaches far n ≡ sum_by (looks turns far) (range_with_len 0 (d + 1))
-    unfolding all_looks
-    all_looks-at far = rw least_length-at
-
   module _ (n : ℕ) (none : NoneBelow (n + 1)) where
     pub least_length-none : least_length turns reaches n ≡ None
     unfolding least_length
     least_length-none = find-none (λ k. list_any reaches (all_canonical turns k)) 0 (n + 1) (λ k h. none k (omega arith))
 
-    pub solutions-none : solutions turns reaches n ≡ []
+    pub solutions-none : (slack : ℕ) → solutions turns reaches n slack ≡ []
     unfolding solutions
-    solutions-none = rw least_length-none
+    solutions-none slack = rw least_length-none
 
-    pub all_looks-none : (far : List Turn → ℕ) → all_looks turns reaches far n ≡ sum_by (looks turns far) (range_with_len 0 (n + 1))
+    pub all_looks-none : (far : List Turn → ℕ) (slack : ℕ) → all_looks turns reaches far n slack ≡ sum_by (looks turns far) (up_to n)
     unfolding all_looks
-    all_looks-none far = rw least_length-none
+    all_looks-none far slack = rw least_length-none
 
 -- a level more in a sum over levels
 pub levels-more : (f : ℕ → ℕ) (d : ℕ) → sum_by f (range_with_len 0 (d + 1)) ≡ sum_by f (range_with_len 0 d) + f d

@@ -5,6 +5,7 @@ pub mod LookLemmas
 pub mod DistanceLemmas
 pub mod Levels
 pub mod Bounds
+pub mod DeepeningLemmas
 pub mod CountLaws
 pub mod PositionLemmas
 pub mod Transfer

@@ -1,9 +1,10 @@
 -- Lists joined, filtered and summed.
-use Rattle.std.proofs.Common.{◌≡◌, ℕ, zero, suc, ◌+◌, ◌<◌, Bool, true, false, ◌||◌, cond, List, [], ◌∷◌, ◌++◌, length, map, filter, sum_by, Contains, refl, sym, ap, ◌∙◌, arith, add-one, add-zero, find}
+use Rattle.std.proofs.Common.{◌≡◌, ℕ, zero, suc, ◌+◌, ◌<◌, Bool, true, false, ◌||◌, cond, List, [], ◌∷◌, ◌++◌, length, map, filter, sum_by, Contains, All, get_or, take, refl, sym, ap, ◌∙◌, arith, add-one, add-zero, find}
 use Rattle.std.specs.Prelude.{flat_map}
 use Rattle.std.specs.List.{range_with_len, list_any}
 use Rattle.std.proofs.lemmas.List.Sums.{sum_by-cons, sum_by-append}
 use Rattle.std.proofs.lemmas.List.Elements.{filter-append, Contains-append_right, Contains-get_or}
+use Rattle.std.proofs.lemmas.List.{take_more}
 use Rattle.std.proofs.lemmas.Grind.{flat_map-append}
 
 module _ {X : Type 0} where
@@ -124,6 +125,16 @@ range_with_len-more a (suc n) =
     let next : a + 1 + n ≡ a + suc n = omega arith in
     ap (λ (l : List ℕ). a ∷ l) (range_with_len-more (a + 1) n ∙ ap (λ k. range_with_len (a + 1) n ++ k ∷ []) next)
 
+pub range_with_len-append : (a m n : ℕ) → range_with_len a (m + n) ≡ range_with_len a m ++ range_with_len (a + m) n
+range_with_len-append a zero n =
+    let e : zero + n ≡ n = omega arith in
+    rw (e, add-zero a) refl
+range_with_len-append a (suc m) n =
+    let e : suc m + n ≡ suc (m + n) = omega arith in
+    let next : a + 1 + m ≡ a + suc m = omega arith in
+    ap (range_with_len a) e
+    ∙ ap (λ (l : List ℕ). a ∷ l) (range_with_len-append (a + 1) m n ∙ ap (λ k. range_with_len (a + 1) m ++ range_with_len k n) next)
+
 module _ {X : Type 0} where
   -- what has nothing where a test fails may leave those out
   pub flat_map-filter : {A : Type 0} (f : X → List A) (m : X → Bool) (xs : List X) → ((x : X) → m x ≡ false → f x ≡ []) → flat_map f (filter m xs) ≡ flat_map f xs
@@ -156,3 +167,33 @@ module _ {X : Type 0} where
     by_test true e rest (zero, l, q) = ap m (sym q) ∙ e
     by_test true e rest (suc k, l, q) = rest (k, omega arith, q)
     by_test false e rest k = rest k
+
+-- what holds of all holds of the first and of the others
+pub All-first : {X : Type 0} (P : X → Type 0) (x : X) (xs : List X) → All P (x ∷ xs) → P x
+All-first P x xs h = h 0 x (omega arith)
+
+pub All-later : {X : Type 0} (P : X → Type 0) (x : X) (xs : List X) → All P (x ∷ xs) → All P xs
+All-later P x xs h = λ k d l. h (suc k) d (omega arith)
+
+-- an item that is there is read whatever the default
+pub get_or-same : {X : Type 0} (xs : List X) (i : ℕ) (d e : X) → i < length xs → get_or xs i d ≡ get_or xs i e
+get_or-same [] i d e l = absurd (omega arith)
+get_or-same (x ∷ xs) zero d e l = refl
+get_or-same (x ∷ xs) (suc i) d e l = get_or-same xs i d e (omega arith)
+
+pub list_any-append : {X : Type 0} (p : X → Bool) (xs ys : List X) → list_any p (xs ++ ys) ≡ (list_any p xs || list_any p ys)
+list_any-append p [] ys = refl
+list_any-append p (x ∷ xs) ys = by_test (p x) (list_any p xs) (list_any p ys) (list_any-append p xs ys) where
+  by_test : (a b c : Bool) → list_any p (xs ++ ys) ≡ (b || c) → (a || list_any p (xs ++ ys)) ≡ ((a || b) || c)
+  by_test true b c e = refl
+  by_test false b c e = e
+
+-- one more item taken and filtered
+pub filter-more : {X : Type 0} (p : X → Bool) (xs : List X) (i : ℕ) (d : X) → i < length xs → filter p (take (i + 1) xs) ≡ filter p (take i xs) ++ filter p (get_or xs i d ∷ [])
+filter-more p xs i d l = ap (filter p) (take_more xs i d l) ∙ filter-append p (take i xs) (get_or xs i d ∷ [])
+
+pub All-one : {X : Type 0} (P : X → Type 0) (x : X) → P x → All P (x ∷ [])
+All-one {X = X} P x h = λ k d l. one k d l where
+  one : (k : ℕ) (d : X) → k < 1 → P (get_or (x ∷ []) k d)
+  one zero d l = h
+  one (suc k) d l = absurd (omega arith)

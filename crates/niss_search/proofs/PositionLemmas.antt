@@ -1,11 +1,12 @@
 -- What a position tells of each cube that has it, by the laws of the coordinates and of the steps.
-use Rattle.std.proofs.Common.{◌≡◌, ℕ, Bool, true, false, ◌==◌, ◌||◌, List, [], ◌∷◌, map, IsTrue, refl, sym, ap, ◌∙◌, subst, inl, inr, ◌⊎◌, ◌≢◌}
+use Rattle.std.proofs.Common.{◌≡◌, ℕ, Bool, true, false, ◌==◌, List, [], ◌∷◌, map, Option, Contains, IsTrue, refl, sym, ap, ◌∙◌, subst, inl, inr, ◌⊎◌, ◌≢◌}
 use Rattle.std.specs.Prelude.{◌↔◌}
+use Rattle.std.specs.List.{list_any}
+use Rattle.std.specs.Option.{option_map_or}
 use Rattle.std.proofs.lemmas.Bool.Decides.{eqb_tells}
 use Rattle.niss_moves.specs.Places.{Place, SameMap}
 use Rattle.niss_moves.specs.Effects.{turned}
 use Rattle.niss_moves.specs.declared.axis.Axis.{Axis}
-use Rattle.niss_moves.specs.declared.axis.Axis.TheVariants.{Ud, Rl, Fb}
 use Rattle.niss_moves.specs.declared.turn.Turn.{Turn}
 use Rattle.niss_cube.specs.AfterTurn.{IsCube, IsCoordinate, TurnedIsCube, FlipsAreCoordinates, TwistsAreCoordinates, SlicesAreCoordinates}
 use Rattle.niss_cube.specs.Map.{map_of}
@@ -15,15 +16,15 @@ use Rattle.niss_cube.specs.FlipAfter.{flip_after}
 use Rattle.niss_cube.specs.TwistAfter.{twist_after}
 use Rattle.niss_cube.specs.SliceAfter.{slice_after}
 use Rattle.niss_cube.specs.Steps.{goals_of, may_start, reached, holds}
-use Rattle.niss_cube.specs.StepLaws.{StartIsKept, StepsSeePlaces}
+use Rattle.niss_cube.specs.StepLaws.{StartIsKept, StepsSeePlaces, DominoKeepsStart}
 use Rattle.niss_cube.specs.declared.cube.Cube.{Cube}
 use Rattle.niss_cube.specs.declared.step.Goal.{Goal}
 use Rattle.niss_cube.specs.declared.step.Goal.TheVariants.{Edges, Domino}
 use Rattle.niss_cube.specs.declared.step.Step.{Step}
-use Rattle.niss_cube.specs.declared.step.Step.TheVariants.{Eofb, Eorl, Eoud, DrudEofb, DrrlEofb, DrudEorl, DrfbEorl, DrrlEoud, DrfbEoud}
 use Rattle.niss_search.specs.declared.tables.position.Coordinates.TheVariants.{Flip}
 use Rattle.niss_search.specs.Positions.{coordinates_of, coordinates_after, are_zero, position_of, position_after, is_reached_at}
 use Rattle.niss_search.specs.Laws.{PositionsTell}
+use Rattle.niss_search.proofs.ListLemmas.{Contains-first, Contains-later}
 
 same_bool : (a b : Bool) → (IsTrue a → IsTrue b) → (IsTrue b → IsTrue a) → a ≡ b
 same_bool true b f g = sym (f refl)
@@ -48,10 +49,9 @@ alike_is_cube d e h same = (h.0, same_in_turn (map_of h.0) d e h.1 same)
 pub cube-itself : (c : Cube) → IsCube (map_of c)
 cube-itself c = (c, λ q p. refl)
 
--- the position of a step with one goal
-pub position-alone : (s : Step) (g : Goal) (e : Place → Place) → goals_of s ≡ g ∷ [] → position_of s e ≡ coordinates_of g e ∷ []
+pub position_of-is : (s : Step) (e : Place → Place) → position_of s e ≡ map (λ goal. coordinates_of goal e) (goals_of s)
 unfolding position_of
-position-alone s g e q = ap (map (λ goal. coordinates_of goal e)) q
+position_of-is s e = refl
 
 module _ (of : (Place → Place) → ℕ) (after : ℕ → Turn → ℕ) (count : ℕ) (set : Place → Bool) (law : IsCoordinate of after count set) where
   alike : (d e : Place → Place) → IsCube d → SameMap d e → of d ≡ of e
@@ -105,27 +105,30 @@ module _ (flips : FlipsAreCoordinates) (twists : TwistsAreCoordinates) (slices :
     domino_zero o a k =
         rw (k, kept_is_zero (twist_of a) (twist_after a) 2187 (twist_set a) (twists a) tested (sets.twists a) e h, kept_is_zero (slice_of a) (slice_after a) 495 (slice_set a) (slices a) tested (sets.slices a) e h)
 
-    -- the step is reached where the coordinates of its goal are 0
-    reached_zero : (s : Step) → IsTrue (may_start s e) → reached s e ≡ is_reached_at (position_of s e)
-    unfolding may_start reached position_of is_reached_at
-    reached_zero Eofb k = ap (λ b. b || false) (edges_zero Fb)
-    reached_zero Eorl k = ap (λ b. b || false) (edges_zero Rl)
-    reached_zero Eoud k = ap (λ b. b || false) (edges_zero Ud)
-    reached_zero DrudEofb k = ap (λ b. b || false) (domino_zero Fb Ud k)
-    reached_zero DrrlEofb k = ap (λ b. b || false) (domino_zero Fb Rl k)
-    reached_zero DrudEorl k = ap (λ b. b || false) (domino_zero Rl Ud k)
-    reached_zero DrfbEorl k = ap (λ b. b || false) (domino_zero Rl Fb k)
-    reached_zero DrrlEoud k = ap (λ b. b || false) (domino_zero Ud Rl k)
-    reached_zero DrfbEoud k = ap (λ b. b || false) (domino_zero Ud Fb k)
+    -- a goal holds where its coordinates are 0, if the step may start
+    goal_zero : DominoKeepsStart → (s : Step) → IsTrue (may_start s e) → (g : Goal) → Contains (goals_of s) g → holds g e ≡ are_zero (coordinates_of g e)
+    unfolding may_start
+    goal_zero begins s k (Edges a) m = edges_zero a
+    goal_zero begins s k (Domino o a) m =
+        domino_zero o a (subst (λ (start : Option Axis). IsTrue (option_map_or (λ axis. holds (Edges axis) e) start true)) (begins s o a m) k)
 
-pub positions_tell : FlipsAreCoordinates → TwistsAreCoordinates → SlicesAreCoordinates → TurnedIsCube → KeptIsTested → SetsArePlaces → StartIsKept → StepsSeePlaces → PositionsTell
-positions_tell flips twists slices is_cube tested sets kept see = record {
+    -- the step is reached where the coordinates of some goal are 0
+    reached_zero : DominoKeepsStart → (s : Step) → IsTrue (may_start s e) → reached s e ≡ is_reached_at (position_of s e)
+    unfolding reached position_of is_reached_at
+    reached_zero begins s k = by_goals (goals_of s) (goal_zero begins s k) where
+      by_goals : (gs : List Goal) → ((g : Goal) → Contains gs g → holds g e ≡ are_zero (coordinates_of g e)) → list_any (λ g. holds g e) gs ≡ list_any are_zero (map (λ g. coordinates_of g e) gs)
+      by_goals [] each = refl
+      by_goals (g ∷ gs) each =
+          rw (each g (Contains-first g gs), by_goals gs (λ h m. each h (Contains-later g gs h m)))
+
+pub positions_tell : FlipsAreCoordinates → TwistsAreCoordinates → SlicesAreCoordinates → TurnedIsCube → KeptIsTested → SetsArePlaces → StartIsKept → StepsSeePlaces → DominoKeepsStart → PositionsTell
+positions_tell flips twists slices is_cube tested sets kept see begins = record {
   alike = λ s d e h same starts. record {
     cube = alike_is_cube d e h same;
     starts = subst IsTrue ((see d e same).start s) starts;
     here = sym (position_alike flips twists slices s d e h same);
   };
-  goal = λ s e x h. reached_zero flips twists slices tested sets e h.cube s h.starts ∙ ap is_reached_at h.here;
+  goal = λ s e x h. reached_zero flips twists slices tested sets e h.cube begins s h.starts ∙ ap is_reached_at h.here;
   after_turn = λ s e x t m h. record {
     cube = alike_is_cube (λ q. turned t (map_of h.cube.0 q)) (λ q. turned t (e q)) (is_cube h.cube.0 t) (λ q p. ap (turned t) (h.cube.1 q p));
     starts = kept s e t m h.starts;

@@ -1,28 +1,31 @@
 -- How many turns the fill tries: those of the entries at a distance of at most 19, counted by their numbers.
-use Rattle.std.proofs.Common.{◌≡◌, ℕ, zero, suc, ◌+◌, ◌*◌, ◌/◌, ◌%◌, ◌≤◌, ◌<◌, Bool, cond, List, [], ◌∷◌, ◌++◌, length, map, count_by, refl, sym, ap, ◌∙◌, arith, add-zero, lit≤, None}
+use Rattle.std.proofs.Common.{◌≡◌, ℕ, zero, suc, ◌+◌, ◌*◌, ◌/◌, ◌%◌, ◌^◌, ◌≤◌, ◌<◌, Bool, cond, List, [], ◌∷◌, ◌++◌, length, map, count_by, sum_by, refl, sym, ap, ◌∙◌, arith, add-zero, lit≤, None, Contains, All}
 use Rattle.std.specs.Prelude.{flat_map, nat_le}
 use Rattle.std.specs.List.{range_with_len}
 use Rattle.std.proofs.lemmas.Nat.{div-mul-add, mod-mul-add}
 use Rattle.std.proofs.lemmas.List.{append-nil, map-append}
 use Rattle.std.proofs.lemmas.List.FromFn.{length-map-range_with_len}
-use Rattle.std.proofs.lemmas.List.Sums.{sum_by-cons}
+use Rattle.std.proofs.lemmas.List.Sums.{sum_by-cons, sum_by-append, sum_by-le}
+use Rattle.std.proofs.lemmas.List.Elements.{All-contains_itself}
+use Rattle.std.proofs.lemmas.List.Concat.{length-flat_map}
 use Rattle.std.proofs.lemmas.Grind.{flat_map-append}
-use Rattle.std.proofs.Math.Nat.{mul-le-mul, mul_comm}
+use Rattle.std.proofs.Math.Nat.{mul-le-mul, mul_comm, mul-add}
 use Rattle.niss_moves.specs.declared.axis.Axis.{Axis}
-use Rattle.niss_cube.specs.Steps.{start_of, turns_of}
+use Rattle.niss_cube.specs.Steps.{start_of, goals_of, turns_of}
+use Rattle.niss_cube.specs.StepLaws.{DominoKeepsStart}
 use Rattle.niss_cube.specs.declared.step.Goal.{Goal}
 use Rattle.niss_cube.specs.declared.step.Goal.TheVariants.{Edges, Domino}
 use Rattle.niss_cube.specs.declared.step.Step.{Step}
-use Rattle.niss_cube.specs.declared.step.Step.TheVariants.{Eofb, Eorl, Eoud, DrudEofb, DrrlEofb, DrudEorl, DrfbEorl, DrrlEoud, DrfbEoud}
 use Rattle.niss_search.specs.Laws.{EntriesAreCounted, EdgeFillIsSmall, FillIsSmall}
 use Rattle.niss_search.specs.declared.tables.position.Coordinates.{Coordinates}
 use Rattle.niss_search.specs.declared.tables.position.Coordinates.TheVariants.{Flip, TwistAndSlice}
 use Rattle.niss_search.specs.Positions.{distance_at}
 use Rattle.niss_search.specs.Entries.{flips_below, pairs_below, values_for, count_for, entries_of, entry_count, fill_ticks}
-use Rattle.niss_search.specs.Filling.{numbered, goal_of, entry_at, entry_distance}
-use Rattle.niss_search.proofs.ListLemmas.{range_with_len-more}
-use Rattle.niss_search.proofs.EntryLemmas.{goals-alone, entry_count-goal}
+use Rattle.niss_search.specs.Filling.{entry_at, entry_distance, Alternative, goal_ticks, ticks_of_goals}
+use Rattle.niss_search.proofs.ListLemmas.{range_with_len-more, sum_by-same}
+use Rattle.niss_search.proofs.EntryLemmas.{count_for-bound}
 use Rattle.niss_search.proofs.FillLemmas.{count-range-le}
+use Rattle.niss_search.proofs.Bounds.{turns_of-length, turns_of-oriented}
 
 range-split : (s a b : ℕ) → range_with_len s (a + b) ≡ range_with_len s a ++ range_with_len (s + a) b
 range-split s zero b =
@@ -71,22 +74,17 @@ flips-numbered : (axis : Axis) (n k : ℕ) → k ≡ n → flips_below axis n �
 unfolding flips_below
 flips-numbered axis n k e = ap (λ i. map (Flip axis) (range_with_len 0 i)) (sym e)
 
-values-numbered : (g : Goal) (k : ℕ) → k ≡ count_for g → values_for g ≡ map (numbered g) (range_with_len 0 k)
+values-numbered : (g : Goal) (k : ℕ) → k ≡ count_for g → values_for g ≡ map (entry_at g) (range_with_len 0 k)
 unfolding count_for
 values-numbered (Edges a) k e = flips-numbered a 2048 k e
 values-numbered (Domino o a) k e = pairs-numbered a 495 2187 k e
 
-entries-numbered : (s : Step) → entries_of s ≡ map (entry_at s) (range_with_len 0 (entry_count s))
-unfolding entries_of entry_at
-entries-numbered s =
-    ap (flat_map values_for) (goals-alone s)
-    ∙ append-nil (values_for (goal_of s))
-    ∙ values-numbered (goal_of s) (entry_count s) (entry_count-goal s)
-
 -- the list has as many entries as their number tells
 pub entries-counted : EntriesAreCounted
-entries-counted s =
-    ap length (entries-numbered s) ∙ length-map-range_with_len (entry_at s) 0 (entry_count s)
+unfolding entries_of entry_count
+entries-counted s = length-flat_map values_for (goals_of s) ∙ sum_by-same (λ g. length (values_for g)) count_for (goals_of s) (λ g m. values-counted g) where
+  values-counted : (g : Goal) → length (values_for g) ≡ count_for g
+  values-counted g = ap length (values-numbered g (count_for g) refl) ∙ length-map-range_with_len (entry_at g) 0 (count_for g)
 
 count-map : {X : Type 0} (p : X → Bool) (f : ℕ → X) (xs : List ℕ) → count_by p (map f xs) ≡ count_by (λ i. p (f i)) xs
 count-map p f [] = refl
@@ -94,48 +92,102 @@ count-map p f (x ∷ xs) =
     omega (arith, sum_by-cons (λ y. cond (p y) 1 0) (f x) (map f xs), sum_by-cons (λ i. cond (p (f i)) 1 0) x xs, count-map p f xs)
 
 -- counted by the numbers of the entries
-pub ticks-numbered : (s : Step) → fill_ticks s ≡ length (turns_of s) * count_by (λ i. nat_le (entry_distance s i) 19) (range_with_len 0 (entry_count s))
-unfolding fill_ticks entry_distance
-ticks-numbered s =
-    let near : Coordinates → Bool = λ c. nat_le (distance_at s (c ∷ [])) 19 in
-    ap (λ n. length (turns_of s) * n) (ap (count_by near) (entries-numbered s) ∙ count-map near (entry_at s) (range_with_len 0 (entry_count s)))
+pub ticks-numbered : (alt : Alternative) → goal_ticks alt ≡ length (turns_of alt.step) * count_by (λ i. nat_le (entry_distance alt i) 19) (range_with_len 0 (count_for alt.goal))
+unfolding goal_ticks entry_distance
+ticks-numbered alt =
+    let near : Coordinates → Bool = λ c. nat_le (distance_at alt.step (c ∷ [])) 19 in
+    ap (λ n. length (turns_of alt.step) * n) (ap (count_by near) (values-numbered alt.goal (count_for alt.goal) refl) ∙ count-map near (entry_at alt.goal) (range_with_len 0 (count_for alt.goal)))
 
 -- never more than entries times turns
-pub ticks-at-most : (s : Step) → fill_ticks s ≤ entry_count s * length (turns_of s)
-ticks-at-most s =
-    let near : ℕ → Bool = λ i. nat_le (entry_distance s i) 19 in
-    let count = count_by near (range_with_len 0 (entry_count s)) in
-    let within = mul-le-mul (count-range-le near (entry_count s)) (turns-le (length (turns_of s))) in
-    omega (arith, ticks-numbered s, within, mul_comm (length (turns_of s)) count) where
+pub goal_ticks-at-most : (alt : Alternative) → goal_ticks alt ≤ count_for alt.goal * length (turns_of alt.step)
+goal_ticks-at-most alt =
+    let near : ℕ → Bool = λ i. nat_le (entry_distance alt i) 19 in
+    let count = count_by near (range_with_len 0 (count_for alt.goal)) in
+    let within = mul-le-mul (count-range-le near (count_for alt.goal)) (turns-le (length (turns_of alt.step))) in
+    omega (arith, ticks-numbered alt, within, mul_comm (length (turns_of alt.step)) count) where
       turns-le : (n : ℕ) → n ≤ n
       turns-le n = omega arith
 
-most-ticks : (s : Step) → entry_count s * length (turns_of s) ≤ 15155910
-unfolding entry_count count_for turns_of
-most-ticks Eofb = lit≤ tt
-most-ticks Eorl = lit≤ tt
-most-ticks Eoud = lit≤ tt
-most-ticks DrudEofb = lit≤ tt
-most-ticks DrrlEofb = lit≤ tt
-most-ticks DrudEorl = lit≤ tt
-most-ticks DrfbEorl = lit≤ tt
-most-ticks DrrlEoud = lit≤ tt
-most-ticks DrfbEoud = lit≤ tt
+-- the turns that the fill of a step's tables tries are those of its goals
+pub ticks-of-goals : (s : Step) → fill_ticks s ≡ ticks_of_goals s (goals_of s)
+unfolding fill_ticks goal_ticks entries_of ticks_of_goals
+ticks-of-goals s = by_goals (goals_of s) where
+  turns : ℕ
+  turns = length (turns_of s)
 
-most-edge-ticks : (s : Step) → start_of s ≡ None → entry_count s * length (turns_of s) ≤ 36864
-unfolding entry_count count_for turns_of
-most-edge-ticks Eofb e = lit≤ tt
-most-edge-ticks Eorl e = lit≤ tt
-most-edge-ticks Eoud e = lit≤ tt
-most-edge-ticks DrudEofb e = absurd (cc)
-most-edge-ticks DrrlEofb e = absurd (cc)
-most-edge-ticks DrudEorl e = absurd (cc)
-most-edge-ticks DrfbEorl e = absurd (cc)
-most-edge-ticks DrrlEoud e = absurd (cc)
-most-edge-ticks DrfbEoud e = absurd (cc)
+  near : Coordinates → Bool
+  near c = nat_le (distance_at s (c ∷ [])) 19
 
-pub fill-small : FillIsSmall
-fill-small s = omega (arith, ticks-at-most s, most-ticks s)
+  by_goals : (gs : List Goal) → turns * count_by near (flat_map values_for gs) ≡ sum_by (λ g. turns * count_by near (values_for g)) gs
+  by_goals [] = omega arith
+  by_goals (g ∷ gs) =
+      ap (λ n. turns * n) (sum_by-append (λ c. cond (near c) 1 0) (values_for g) (flat_map values_for gs))
+      ∙ mul-add turns (count_by near (values_for g)) (count_by near (flat_map values_for gs))
+      ∙ ap (λ n. turns * count_by near (values_for g) + n) (by_goals gs)
+      ∙ sym (sum_by-cons (λ g. turns * count_by near (values_for g)) g gs)
 
-pub edge-fill-small : EdgeFillIsSmall
-edge-fill-small s e = omega (arith, ticks-at-most s, most-edge-ticks s e)
+-- those of one goal, and of the goals of two lists
+pub ticks-of-one : (alt : Alternative) → ticks_of_goals alt.step (alt.goal ∷ []) ≡ goal_ticks alt
+unfolding ticks_of_goals
+ticks-of-one alt = omega (arith, sum_by-cons (λ g. goal_ticks record { step = alt.step; goal = g }) alt.goal [])
+
+pub ticks-of-both : (s : Step) (gs hs : List Goal) → ticks_of_goals s (gs ++ hs) ≡ ticks_of_goals s gs + ticks_of_goals s hs
+unfolding ticks_of_goals
+ticks-of-both s gs hs = sum_by-append (λ g. goal_ticks record { step = s; goal = g }) gs hs
+
+-- and a bound for each goal
+goal_ticks-bound : (alt : Alternative) → goal_ticks alt ≤ 2 ^ 32
+goal_ticks-bound alt =
+    omega (arith, goal_ticks-at-most alt, mul-le-mul (below (count_for alt.goal) (count_for-bound alt.goal)) (turns_of-length alt.step)) where
+      below : (n : ℕ) → n < 1082566 → n ≤ 1082566
+      below n h = omega arith
+
+pub ticks-bound : (s : Step) (gs : List Goal) → ticks_of_goals s gs ≤ length gs * 2 ^ 32
+unfolding ticks_of_goals
+ticks-bound s [] = omega arith
+ticks-bound s (g ∷ gs) =
+    omega (arith, sum_by-cons (λ g. goal_ticks record { step = s; goal = g }) g gs, goal_ticks-bound record { step = s; goal = g }, ticks-bound s gs)
+
+pub ticks-at-most : (s : Step) → fill_ticks s ≤ entry_count s * length (turns_of s)
+unfolding entry_count ticks_of_goals
+ticks-at-most s = omega (arith, ticks-of-goals s, by_goals (goals_of s), mul_comm (length (turns_of s)) (sum_by count_for (goals_of s))) where
+  by_goals : (gs : List Goal) → sum_by (λ g. goal_ticks record { step = s; goal = g }) gs ≤ length (turns_of s) * sum_by count_for gs
+  by_goals [] = omega arith
+  by_goals (g ∷ gs) =
+      let one : Alternative = record { step = s; goal = g } in
+      omega (arith, sum_by-cons (λ g. goal_ticks record { step = s; goal = g }) g gs, ap (λ n. length (turns_of s) * n) (sum_by-cons count_for g gs), mul-add (length (turns_of s)) (count_for g) (sum_by count_for gs), goal_ticks-at-most one, mul_comm (count_for g) (length (turns_of s)), by_goals gs)
+
+-- the bounds of one goal: 18 turns from each flip, or 14 from each pair of a twist and a slice
+edge-goal : (s : Step) (a : Axis) → goal_ticks record { step = s; goal = Edges a } ≤ 36864
+unfolding count_for
+edge-goal s a =
+    let flips : count_for (Edges a) ≤ 2048 = lit≤ tt in
+    omega (arith, goal_ticks-at-most record { step = s; goal = Edges a }, mul-le-mul flips (turns_of-length s))
+
+module _ (begins : DominoKeepsStart) (s : Step) where
+  domino-goal : (o a : Axis) → Contains (goals_of s) (Domino o a) → goal_ticks record { step = s; goal = Domino o a } ≤ 15155910
+  unfolding count_for
+  domino-goal o a m =
+      let pairs : count_for (Domino o a) ≤ 1082565 = lit≤ tt in
+      omega (arith, goal_ticks-at-most record { step = s; goal = Domino o a }, mul-le-mul pairs (turns_of-oriented s o (begins s o a m)))
+
+  each-goal : (g : Goal) → Contains (goals_of s) g → goal_ticks record { step = s; goal = g } ≤ 15155910
+  each-goal (Edges a) m = omega (arith, edge-goal s a)
+  each-goal (Domino o a) m = domino-goal o a m
+
+  each-edge-goal : start_of s ≡ None → (g : Goal) → Contains (goals_of s) g → goal_ticks record { step = s; goal = g } ≤ 36864
+  each-edge-goal e (Edges a) m = edge-goal s a
+  each-edge-goal e (Domino o a) m = absurd (cc (e, begins s o a m))
+
+  by-goals : (most : ℕ) → ((g : Goal) → Contains (goals_of s) g → goal_ticks record { step = s; goal = g } ≤ most) → fill_ticks s ≤ length (goals_of s) * most
+  unfolding ticks_of_goals
+  by-goals most each =
+      let ticks : Goal → ℕ = λ g. goal_ticks record { step = s; goal = g } in
+      let all : All (λ g. ticks g ≤ most) (goals_of s) = λ k d l. each _ (All-contains_itself (goals_of s) k d l) in
+      omega (arith, ticks-of-goals s, sum_by-le ticks most (goals_of s) all)
+
+pub fill-small : DominoKeepsStart → FillIsSmall
+fill-small begins s = by-goals begins s 15155910 (each-goal begins s)
+
+pub edge-fill-small : DominoKeepsStart → EdgeFillIsSmall
+edge-fill-small begins s e = by-goals begins s 36864 (each-edge-goal begins s e)

@@ -1,9 +1,8 @@
 -- What holds of a position holds of every cube that has it.
-use Rattle.std.proofs.Common.{◌≡◌, ℕ, zero, suc, ◌-◌, nat_le, Bool, true, false, cond, List, [], ◌∷◌, ◌++◌, length, take, map, filter, fold, sum_by, count_by, unwrap_or, Option, Some, None, Contains, refl, ap, arith, ◌∙◌, IsTrue, leb, sym}
+use Rattle.std.proofs.Common.{◌≡◌, ℕ, zero, suc, ◌-◌, nat_le, Bool, true, false, cond, List, [], ◌∷◌, ◌++◌, length, take, map, filter, fold, sum_by, count_by, unwrap_or, Contains, refl, ap, arith, ◌∙◌, IsTrue, leb, sym}
 use Rattle.std.specs.Prelude.{flat_map, ◌↔◌}
 use Rattle.std.proofs.lemmas.Bool.{lt-leb}
 use Rattle.std.specs.List.{list_any}
-use Rattle.std.specs.Option.{option_map_or}
 use Rattle.std.proofs.lemmas.List.Sums.{sum_by-cons}
 use Rattle.niss_moves.specs.Places.{Place}
 use Rattle.niss_moves.specs.Effects.{turned, effect_of_turns}
@@ -11,15 +10,15 @@ use Rattle.niss_moves.specs.Canonical.{may_follow, last_turn, all_canonical, can
 use Rattle.niss_moves.specs.declared.turn.Turn.{Turn}
 use Rattle.niss_cube.specs.Steps.{turns_of, reached}
 use Rattle.niss_cube.specs.declared.step.Step.{Step}
-use Rattle.niss_search.specs.Solutions.{least_length, solutions, reaching, up_to}
+use Rattle.niss_search.specs.Solutions.{least_length, last_length, solution_lengths, solutions, reaching, up_to}
 use Rattle.niss_search.specs.Distance.{all_sequences, distance}
 use Rattle.niss_search.specs.Looks.{is_looked_at, looks, all_looks}
 use Rattle.niss_search.specs.declared.tables.position.Coordinates.{Coordinates}
-use Rattle.niss_search.specs.Positions.{position_after, is_reached_at, distance_at}
-use Rattle.niss_search.specs.Cubes.{HasPosition, distance_of, reaches, least_length_of, solutions_of, all_looks_of}
+use Rattle.niss_search.specs.Positions.{position_after, distance_at}
+use Rattle.niss_search.specs.Cubes.{HasPosition, distance_of, reaches, least_length_of, near_solutions_of, near_looks_of}
+use Rattle.niss_search.specs.Deepening.{reaches_at, least_length_at, solutions_at, all_looks_at}
 use Rattle.niss_search.specs.Laws.{PositionsTell}
-use Rattle.niss_search.proofs.ListLemmas.{Contains-first, Contains-later, find-same}
-use Rattle.niss_search.proofs.DepthFirst.{reach, far}
+use Rattle.niss_search.proofs.ListLemmas.{Contains-first, Contains-later, find-same, flat_map-same}
 use Rattle.niss_search.proofs.DistanceLemmas.{reached_in}
 use Rattle.niss_search.proofs.LookLemmas.{distance_at-goal}
 
@@ -102,13 +101,12 @@ module _ (turns : List Turn) where
     unfolding least_length
     least_length-same n = find-same _ _ (up_to n) level-same
 
-    pub solutions-same : (n : ℕ) → solutions turns p n ≡ solutions turns q n
+    pub solutions-same : (n slack : ℕ) → solutions turns p n slack ≡ solutions turns q n slack
     unfolding solutions
-    solutions-same n =
-        rw (least_length-same n) (by_length (least_length turns q n)) where
-          by_length : (o : Option ℕ) → option_map_or (reaching turns p) o [] ≡ option_map_or (reaching turns q) o []
-          by_length None = refl
-          by_length (Some k) = reaching-same k
+    solutions-same n slack =
+        rw (least_length-same n) (by_lengths (solution_lengths (least_length turns q n) n slack)) where
+          by_lengths : (ks : List ℕ) → flat_map (reaching turns p) ks ≡ flat_map (reaching turns q) ks
+          by_lengths ks = flat_map-same (reaching turns p) (reaching turns q) ks (λ k m. reaching-same k)
 
     pub distance-same : distance turns p ≡ distance turns q
     unfolding distance
@@ -136,7 +134,7 @@ module _ (tell : PositionsTell) (step : Step) where
   has_position-all (t ∷ s) e x h over =
       has_position-all s (λ q. turned t (e q)) (position_after x t) (tell.after_turn step e x t over.0 h) over.1
 
-  reach-same : (s : List Turn) (e : Place → Place) (x : List Coordinates) → HasPosition step e x → IsOver (turns_of step) s → reaches step e s ≡ reach (turns_of step) position_after (distance_at step) is_reached_at x s
+  reach-same : (s : List Turn) (e : Place → Place) (x : List Coordinates) → HasPosition step e x → IsOver (turns_of step) s → reaches step e s ≡ reaches_at step x s
   reach-same s e x h over =
       tell.goal step (λ q. effect_of_turns s (e q)) (fold position_after x s) (has_position-all s e x h over)
 
@@ -146,17 +144,18 @@ module _ (tell : PositionsTell) (step : Step) where
   distance-cube e x h = distance-same (turns_of step) (reaches step e) _ (λ s over. reach-same s e x h over)
 
   module _ (e : Place → Place) (x : List Coordinates) (h : HasPosition step e x) where
-    pub least_length-cube : (n : ℕ) → least_length_of step e n ≡ least_length (turns_of step) (reach (turns_of step) position_after (distance_at step) is_reached_at x) n
+    pub least_length-cube : (n : ℕ) → least_length_of step e n ≡ least_length_at step x n
     least_length-cube n = least_length-same (turns_of step) (reaches step e) _ (λ s over. reach-same s e x h over) n
 
-    pub solutions-cube : (n : ℕ) → solutions_of step e n ≡ solutions (turns_of step) (reach (turns_of step) position_after (distance_at step) is_reached_at x) n
-    solutions-cube n = solutions-same (turns_of step) (reaches step e) _ (λ s over. reach-same s e x h over) n
+    pub solutions-cube : (n slack : ℕ) → near_solutions_of step e n slack ≡ solutions_at step x n slack
+    solutions-cube n slack =
+        solutions-same (turns_of step) (reaches step e) _ (λ s over. reach-same s e x h over) n slack
 
-    pub all_looks-cube : (n : ℕ) → all_looks_of step e n ≡ all_looks (turns_of step) (reach (turns_of step) position_after (distance_at step) is_reached_at x) (far (turns_of step) position_after (distance_at step) is_reached_at x) n
+    pub all_looks-cube : (n slack : ℕ) → near_looks_of step e n slack ≡ all_looks_at step x n slack
     unfolding all_looks
-    all_looks-cube n =
+    all_looks-cube n slack =
         rw (least_length-cube n)
-        (sum_by-each (λ d. Unit {0}) _ _ (up_to (unwrap_or (least_length (turns_of step) (reach (turns_of step) position_after (distance_at step) is_reached_at x) n) n)) (λ d u.
+        (sum_by-each (λ d. Unit {0}) _ _ (up_to (last_length (least_length_at step x n) n slack)) (λ d u.
         looks-same (turns_of step) _ _ (λ s over. distance-cube (λ q. effect_of_turns s (e q)) _ (has_position-all s e x h over)) d)
         (Each-all (λ d. Unit {0}) _ (λ d m. tt)))
 

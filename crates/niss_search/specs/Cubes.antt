@@ -20,18 +20,27 @@ reaches step e s = reached step (λ q. effect_of_turns s (e q))
 abbrev pub least_length_of : Step → (Place → Place) → ℕ → Option ℕ
 least_length_of step e n = least_length (turns_of step) (reaches step e) n
 
--- the solutions of that length, in turn order
+-- the solutions of at most n turns that are at most `slack` turns longer than that: the shorter ones first, those of one
+-- length in turn order
+abbrev pub near_solutions_of : Step → (Place → Place) → (n slack : ℕ) → List (List Turn)
+near_solutions_of step e n slack = solutions (turns_of step) (reaches step e) n slack
+
+-- the solutions of least length, in turn order
 abbrev pub solutions_of : Step → (Place → Place) → ℕ → List (List Turn)
-solutions_of step e n = solutions (turns_of step) (reaches step e) n
+solutions_of step e n = near_solutions_of step e n 0
 
 -- how far the step is: 0 to 20 turns, or 21 for more or never
 abbrev pub distance_of : Step → (Place → Place) → ℕ
 distance_of step e = distance (turns_of step) (reaches step e)
 
--- the looks of a search for solutions of at most n turns
+-- the looks of a search for solutions of at most n turns that are at most `slack` turns longer than the least
+abbrev pub near_looks_of : Step → (Place → Place) → (n slack : ℕ) → ℕ
+near_looks_of step e n slack =
+    all_looks (turns_of step) (reaches step e) (λ s. distance_of step (λ q. effect_of_turns s (e q))) n slack
+
+-- those of a search for solutions of least length
 abbrev pub all_looks_of : Step → (Place → Place) → ℕ → ℕ
-all_looks_of step e n =
-    all_looks (turns_of step) (reaches step e) (λ s. distance_of step (λ q. effect_of_turns s (e q))) n
+all_looks_of step e n = near_looks_of step e n 0
 
 -- A cube on which the step may start has the position.
 pub record HasPosition (step : Step) (e : Place → Place) (x : List Coordinates) : Type 0 where

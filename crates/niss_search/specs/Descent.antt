@@ -1,10 +1,11 @@
 -- One deepening of the search, below a path: what it finds and how often it looks. (For the search's own functions.)
-use Rattle.std.specs.Prelude.{ℕ, zero, suc, ◌+◌, ◌-◌, nat_le, List, [], ◌∷◌, ◌++◌, flat_map, sum_by, if◌then◌else◌}
+use Rattle.std.specs.Prelude.{◌≡◌, ℕ, zero, suc, ◌+◌, ◌-◌, ◌≤◌, nat_le, Result, Ok, Err, List, [], ◌∷◌, ◌++◌, length, flat_map, sum_by, if◌then◌else◌}
 use Rattle.niss_moves.specs.declared.turn.Turn.{Turn}
 use Rattle.niss_moves.specs.Canonical.{may_follow, last_turn}
 use Rattle.niss_cube.specs.declared.step.Step.{Step}
 use Rattle.niss_cube.specs.Steps.{turns_of}
 use Rattle.niss_search.specs.declared.tables.position.Coordinates.{Coordinates}
+use Rattle.niss_search.specs.Delivery.{WentThrough, StoppedIn}
 use Rattle.niss_search.specs.Positions.{position_after, distance_at}
 
 module _ {P : Type 0} (turns : List Turn) (after : P → Turn → P) (look : P → ℕ) where
@@ -42,3 +43,30 @@ found_after step x p left t =
 unfoldable pub looks_after : Step → List Coordinates → List Turn → ℕ → Turn → ℕ
 looks_after step x p left t =
     if may_follow (last_turn p) t then looks_below step (position_after x t) (p ++ t ∷ []) left else 0
+
+-- What a descent changes beside its path: the meter, the count of what was found, and the sink.
+pub record DescentState (K : Type 0) : Type 0 where
+  pub meter : ℕ
+  pub count : ℕ
+  pub sink : K
+
+abbrev pub descent_state : {K : Type 0} → ℕ → ℕ → K → DescentState K
+descent_state meter count sink = record { meter = meter; count = count; sink = sink }
+
+module _ {K : Type 0} (took refused : K → List Turn → K → Type 0) (paths : List (List Turn)) (looks : ℕ) (old new : DescentState K) where
+  -- The sink took each of the paths, they were counted, and there were so many looks.
+  pub record GoesThrough : Type 0 where
+    pub delivered : WentThrough took old.sink paths new.sink
+    pub counted : new.count ≡ old.count + length paths
+    pub looked : new.meter ≡ old.meter + looks
+
+  -- The sink refused one of the paths, after so many looks at most. Of the count nothing is said.
+  pub record StopsIn : Type 0 where
+    pub stopped : StoppedIn took refused old.sink paths new.sink
+    pub rises : old.meter ≤ new.meter
+    pub looked : new.meter ≤ old.meter + looks
+
+  -- What a part of a descent does that finds these paths with so many looks, by what it says.
+  abbrev pub Descends : {F : Type 0} → Result (Unit {0}) F → Type 0
+  Descends (Ok u) = GoesThrough
+  Descends (Err e) = StopsIn

@@ -1,17 +1,18 @@
 -- Laws over counts and looks, and over positions.
-use Rattle.std.specs.Prelude.{◌≡◌, ℕ, ◌+◌, ◌*◌, ◌^◌, ◌≤◌, ◌<◌, Bool, List, filter, length, Contains, IsTrue, None}
+use Rattle.std.specs.Prelude.{◌≡◌, ℕ, ◌+◌, ◌*◌, ◌^◌, ◌≤◌, ◌<◌, Bool, List, [], ◌∷◌, filter, length, min, sum_by, unwrap_or, Contains, IsTrue, None}
+use Rattle.std.specs.Option.{option_map_or}
 use Rattle.niss_moves.specs.Places.{Place, SameMap}
 use Rattle.niss_moves.specs.Effects.{turned}
 use Rattle.niss_moves.specs.Canonical.{turn_order}
 use Rattle.niss_moves.specs.declared.turn.Turn.{Turn}
 use Rattle.niss_cube.specs.AfterTurn.{IsCube}
-use Rattle.niss_cube.specs.Steps.{start_of, turns_of, may_start, reached}
+use Rattle.niss_cube.specs.Steps.{start_of, goals_of, turns_of, may_start, reached}
 use Rattle.niss_cube.specs.declared.step.Step.{Step}
-use Rattle.niss_search.specs.Solutions.{count_of_length, look_bound}
-use Rattle.niss_search.specs.Looks.{all_looks}
+use Rattle.niss_search.specs.Solutions.{up_to, count_of_length, look_bound, reaching, least_length, solutions}
+use Rattle.niss_search.specs.Looks.{looks, all_looks}
 use Rattle.niss_search.specs.Entries.{entries_of, entry_count, fill_ticks}
 use Rattle.niss_search.specs.declared.tables.position.Coordinates.{Coordinates}
-use Rattle.niss_search.specs.Positions.{position_of, position_after, is_reached_at}
+use Rattle.niss_search.specs.Positions.{position_of, position_after, is_reached_at, distance_at}
 use Rattle.niss_search.specs.Cubes.{HasPosition}
 
 -- Over the 18 turns, c(k + 2) = 12 c(k + 1) + 18 c(k) for k of at least 1.
@@ -27,7 +28,12 @@ PartHasNoMore =
 -- No search looks more often than the bound says.
 abbrev pub LooksWithinBound : Type 0
 LooksWithinBound =
-    (turns : List Turn) (reaches : List Turn → Bool) (far : List Turn → ℕ) (n : ℕ) → all_looks turns reaches far n ≤ look_bound turns n
+    (turns : List Turn) (reaches : List Turn → Bool) (far : List Turn → ℕ) (n slack : ℕ) → all_looks turns reaches far n slack ≤ look_bound turns n
+
+-- Without slack a search is for the solutions of least length alone, and deepens to that length.
+pub record NoSlackIsLeast : Type 0 where
+  pub listed : (turns : List Turn) (reaches : List Turn → Bool) (n : ℕ) → solutions turns reaches n 0 ≡ option_map_or (reaching turns reaches) (least_length turns reaches n) []
+  pub looked : (turns : List Turn) (reaches : List Turn → Bool) (far : List Turn → ℕ) (n : ℕ) → all_looks turns reaches far n 0 ≡ sum_by (looks turns far) (up_to (unwrap_or (least_length turns reaches n) n))
 
 -- The bound of a step is at most that over the 18 turns.
 abbrev pub StepBoundIsLess : Type 0
@@ -41,13 +47,18 @@ BoundIsSmall = (s : Step) (n : ℕ) → n ≤ 20 → look_bound (turns_of s) n <
 abbrev pub EntriesAreCounted : Type 0
 EntriesAreCounted = (s : Step) → length (entries_of s) ≡ entry_count s
 
--- The fill of an edge orientation's table tries at most 18 turns from each of 2,048 entries.
+-- The fill of an edge orientation's tables tries at most 18 turns from each of 2,048 entries, for each goal.
 abbrev pub EdgeFillIsSmall : Type 0
-EdgeFillIsSmall = (s : Step) → start_of s ≡ None → fill_ticks s ≤ 36864
+EdgeFillIsSmall = (s : Step) → start_of s ≡ None → fill_ticks s ≤ length (goals_of s) * 36864
 
--- No fill tries more than 14 turns from each of 1,082,565 entries.
+-- No fill tries more than 14 turns from each of 1,082,565 entries, for each goal.
 abbrev pub FillIsSmall : Type 0
-FillIsSmall = (s : Step) → fill_ticks s ≤ 15155910
+FillIsSmall = (s : Step) → fill_ticks s ≤ length (goals_of s) * 15155910
+
+-- The distance of a position is the least of those of its coordinates: a step is as near as the nearest of its goals.
+abbrev pub DistanceIsLeast : Type 0
+DistanceIsLeast =
+    (s : Step) (c : Coordinates) (x : List Coordinates) → distance_at s (c ∷ x) ≡ min (distance_at s (c ∷ [])) (distance_at s x)
 
 -- What a position tells of each cube that has it.
 pub record PositionsTell : Type 0 where

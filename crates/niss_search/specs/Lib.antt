@@ -8,6 +8,10 @@ pub mod Delivery
 pub mod Entries
 pub mod Laws
 pub mod Descent
+pub mod Deepening
 pub mod Followers
 pub mod Draw
 pub mod Filling
+pub mod Moves
+pub mod Kinds
+pub mod KindOfStep

@@ -1,9 +1,12 @@
 -- Solutions and counts, by the turns of a step and by which sequences reach it.
-use Rattle.std.specs.Prelude.{ℕ, ◌+◌, Bool, List, [], length, Option, filter, find, sum_by}
+use Rattle.std.specs.Prelude.{ℕ, ◌+◌, ◌-◌, min, Bool, List, [], length, Option, None, Some, filter, find, flat_map, sum_by}
 use Rattle.std.specs.List.{list_any, range_with_len}
-use Rattle.std.specs.Option.{option_map_or}
 use Rattle.niss_moves.specs.declared.turn.Turn.{Turn}
 use Rattle.niss_moves.specs.Canonical.{all_canonical}
+
+-- the numbers from m to n
+abbrev pub from_to : (m n : ℕ) → List ℕ
+from_to m n = range_with_len m (n + 1 - m)
 
 -- the numbers from 0 to n
 abbrev pub up_to : ℕ → List ℕ
@@ -25,6 +28,17 @@ reaching turns reaches k = filter reaches (all_canonical turns k)
 unfoldable pub least_length : List Turn → (List Turn → Bool) → ℕ → Option ℕ
 least_length turns reaches n = find (λ k. list_any reaches (all_canonical turns k)) (up_to n)
 
--- the canonical sequences of that length that reach, in turn order
-unfoldable pub solutions : List Turn → (List Turn → Bool) → ℕ → List (List Turn)
-solutions turns reaches n = option_map_or (reaching turns reaches) (least_length turns reaches n) []
+-- the greatest length of a deepening: `slack` turns more than the least, but at most n; or n where none reaches
+abbrev pub last_length : Option ℕ → (n slack : ℕ) → ℕ
+last_length None n slack = n
+last_length (Some least) n slack = min n (least + slack)
+
+-- the lengths of the solutions, from the least on
+abbrev pub solution_lengths : Option ℕ → (n slack : ℕ) → List ℕ
+solution_lengths None n slack = []
+solution_lengths (Some least) n slack = from_to least (last_length (Some least) n slack)
+
+-- the canonical sequences of these lengths that reach: those of one length after those of another, each in turn order
+unfoldable pub solutions : List Turn → (List Turn → Bool) → (n slack : ℕ) → List (List Turn)
+solutions turns reaches n slack =
+    flat_map (reaching turns reaches) (solution_lengths (least_length turns reaches n) n slack)

@@ -1,15 +1,15 @@
 //! Laws over the definitions, each as a contract.
-ghost use Rattle.niss_search.specs.Laws.{CountRecurrence, PartHasNoMore, LooksWithinBound, StepBoundIsLess, BoundIsSmall, EntriesAreCounted, EdgeFillIsSmall, FillIsSmall, PositionsTell};
+ghost use Rattle.niss_search.specs.Laws.{CountRecurrence, PartHasNoMore, LooksWithinBound, NoSlackIsLeast, StepBoundIsLess, BoundIsSmall, EntriesAreCounted, EdgeFillIsSmall, FillIsSmall, DistanceIsLeast, PositionsTell};
 ghost use Rattle.niss_search.specs.Filling.{EntriesTurn};
 
 use niss_cube::laws::{
-    flips_are_coordinates, inverses_of_steps, kept_is_tested, sets_are_places,
+    domino_keeps_start, flips_are_coordinates, inverses_of_steps, kept_is_tested, sets_are_places,
     slices_are_coordinates, start_is_kept, step_turns_in_order, steps_see_places, turned_is_cube,
     twists_are_coordinates,
 };
 
 /// How many canonical sequences there are, how often a search looks, how many entries a pruning table has, and how many
-/// turns its fill tries.
+/// turns its fill tries; and that the distance of a position is the least over its goals.
 pub fn counts_and_bounds()
     ensures recurrence { CountRecurrence }
     ensures part { PartHasNoMore }
@@ -19,9 +19,16 @@ pub fn counts_and_bounds()
     ensures entries { EntriesAreCounted }
     ensures edge_fill { EdgeFillIsSmall }
     ensures fill { FillIsSmall }
+    ensures least { DistanceIsLeast }
 {
     step_turns_in_order();
+    domino_keeps_start();
 }
+
+/// A search without slack is for the solutions of least length alone.
+pub fn no_slack_is_least()
+    ensures { NoSlackIsLeast }
+{}
 
 /// What a position tells of each cube that has it.
 pub fn positions_tell()
@@ -35,6 +42,7 @@ pub fn positions_tell()
     sets_are_places();
     start_is_kept();
     steps_see_places();
+    domino_keeps_start();
 }
 
 /// How the turns of a step lead between the entries of its pruning table.

@@ -25,6 +25,9 @@ impl Model for Limit {
 impl Limit {
     ghost use Rattle.std.specs.Prelude.{◌≡◌, ◌≤◌, ◌↔◌, IsSome, IfSome};
 
+    /// The limit of no turn.
+    pub const ZERO: Limit = Limit { turns: 0 };
+
     /// The limit of so many turns, or `None` where they are more than 20.
     pub fn new(turns: u8) -> Option<Limit>
         ensures variant { IsSome result ↔ (turns ≤ 20) }

@@ -1,7 +1,7 @@
 //! What a search answers.
 
-/// What a search handed to its sink: the length of the solutions in turns, `None` where there are none within the limit,
-/// and how many they are.
+/// What a search handed to its sink: the least length of a solution in turns, `None` where there is none within the limit,
+/// and how many solutions it handed out, of all lengths.
 #[derive(Clone, Copy, Debug, PartialEq, Eq)]
 pub struct Outcome {
     pub length: Option<u8>,

@@ -2,38 +2,44 @@
 mod entries;
 mod fill;
 mod followers;
+mod goal_moves;
+mod kind;
 mod level;
 mod meter;
+mod move_table;
 mod position;
-mod step_turns;
+mod pruning_table;
+mod search_tables;
+mod state_space;
 
 use crate::laws::positions_tell;
-use entries::{FAR, GOAL_ENTRY, count_for, goal_of};
-use fill::fill_table;
-use followers::Followers;
+pub(crate) use followers::Follower;
+pub(crate) use kind::Kind;
 pub use meter::Meter;
 use niss_cube::{Cube, OutOfMemory, Step, Turn, TurnTables};
 pub use position::Position;
+pub(crate) use search_tables::SearchTables;
+pub(crate) use state_space::StateSpace;
 use std::alloc::{Allocator, Global};
 use std::marker::Model;
 
-/// What a search needs of a step: where its turns lead, and its pruning table, a byte for each entry.
+/// What a search needs of a step: where its turns lead, and for each of its goals a pruning table, a byte for each entry.
 #[derive(Drop)]
 pub struct Tables<A: Allocator = Global> {
-    followers: Followers,
+    step: Step,
     turn_tables: TurnTables<A>,
-    distances: Vec<u8, A>,
+    kind: Kind<A>,
 }
 
 impl<A: Allocator> Model for Tables<A> {
     ghost use Rattle.niss_cube.specs.declared.step.Step as steps;
-    ghost use Rattle.niss_search.specs.Filling.{IsTable};
+    ghost use Rattle.niss_search.specs.KindOfStep.{IsOfStep};
 
     ghost Value = { steps.Step };
 
-    ghost view = { λ t. t.followers };
+    ghost view = { λ t. t.step };
 
-    ghost invariant = { λ t. IsTable t.followers t.distances.items };
+    ghost invariant = { λ t. IsOfStep t.kind t.step };
 }
 
 impl Tables {
@@ -41,10 +47,10 @@ impl Tables {
     ghost use Rattle.niss_cube.specs.Steps.{turns_of};
     ghost use Rattle.niss_search.specs.Entries.{entry_count, fill_ticks};
 
-    /// Builds the tables of a step. It takes all memory, 170,280 bytes and one for each entry (2,048 for an edge
-    /// orientation, 1,082,565 for a domino reduction), before the meter rises: by one for each turn that is tried from
-    /// an entry. Where the allocator refuses memory, nothing is kept and the meter stands where it stood. The meter is at
-    /// most at 2^127 before.
+    /// Builds the tables of a step. It takes all memory before the meter rises: 170,280 bytes for the turn tables, and for
+    /// each goal 36 bytes a number of its coordinates and one for each entry (2,048 for an edge orientation, 1,082,565 for
+    /// a domino reduction). The meter rises by one for each turn that is tried from an entry. Where the allocator refuses
+    /// memory, nothing is kept and the meter stands where it stood. The meter is at most at 2^127 before.
     pub fn build(alloc: Global, step: Step, meter: &mut Meter) -> Result<Tables, OutOfMemory>
         requires { meter.old ≤ 2 ^ 127 }
         ensures step { IfOk result (λ tables. tables ≡ step) }
@@ -57,8 +63,7 @@ impl Tables {
 }
 
 impl<A: Allocator> Tables<A> {
-    ghost use Rattle.std.specs.Prelude.{◌≡◌, ◌+◌, ◌*◌, ◌<◌, ◌≤◌, ◌^◌, ◌↔◌, length, IsTrue, Contains, IfOk, OnOk, OnErr, filter};
-    ghost use Rattle.niss_moves.specs.Canonical.{may_follow};
+    ghost use Rattle.std.specs.Prelude.{◌≡◌, ◌+◌, ◌*◌, ◌<◌, ◌≤◌, ◌^◌, ◌↔◌, length, IsTrue, Contains, IfOk, OnOk, OnErr};
     ghost use Rattle.niss_moves.specs.Places.{Place, SameMap};
     ghost use Rattle.niss_moves.specs.Effects.{turned};
     ghost use Rattle.niss_cube.specs.Map.{map_of};
@@ -66,6 +71,7 @@ impl<A: Allocator> Tables<A> {
     ghost use Rattle.niss_search.specs.Positions.{position_after, distance_at};
     ghost use Rattle.niss_search.specs.Entries.{entry_count, fill_ticks};
     ghost use Rattle.niss_search.specs.Cubes.{HasPosition, IsPosition, distance_of};
+    ghost use Rattle.niss_search.specs.KindOfStep.{IsOfStep};
 
     /// `build` over any allocator, for a caller that has a heap of its own, or that refuses growths.
     pub fn build_in(alloc: A, step: Step, meter: &mut Meter) -> Result<Tables<A>, OutOfMemory>
@@ -78,15 +84,11 @@ impl<A: Allocator> Tables<A> {
         ensures refused { OnErr result (meter.new ≡ meter.old) }
     {
         let turn_tables = TurnTables::build_in(alloc)?;
-        let Ok(mut distances) = Vec::from_elem(alloc, FAR, count_for(goal_of(step))) else {
-            return Err(OutOfMemory);
-        };
-        distances[GOAL_ENTRY] = 0;
-        fill_table(&turn_tables, step, &mut distances, meter);
+        let kind = Kind::build_in(alloc, step, &turn_tables, meter)?;
         Ok(Tables {
-            followers: Followers::of(step),
+            step,
             turn_tables,
-            distances,
+            kind,
         })
     }
 
@@ -94,14 +96,14 @@ impl<A: Allocator> Tables<A> {
     pub fn step(&self) -> Step
         ensures { result ≡ self.now }
     {
-        self.followers.step()
+        self.step
     }
 
-    /// The step's turns that may stand directly after the last one, in turn order.
-    pub(crate) fn turns_after(&self, last: Option<Turn>) -> &[Turn]
-        ensures { result.now ≡ filter (may_follow last) (turns_of self.now) }
+    /// The tables by their kind.
+    pub(crate) fn kind(&self) -> &Kind<A>
+        ensures { IsOfStep result.now self.now }
     {
-        self.followers.after(last)
+        &self.kind
     }
 
     /// The position of a cube on which the step may start.
@@ -111,10 +113,11 @@ impl<A: Allocator> Tables<A> {
         ensures position { IsPosition self.now result }
     {
         positions_tell();
-        Position::of(goal_of(self.step()), cube)
+        Position::of(self.step.goals(), cube)
     }
 
     /// The position after a turn. The position is one of this step, and the turn is one of the step's.
+    #[inline(always)]
     pub fn after(&self, position: &Position, turn: Turn) -> Position
         requires position { IsPosition self.now position.now }
         requires of_step { Contains (turns_of self.now) turn }
@@ -129,6 +132,7 @@ impl<A: Allocator> Tables<A> {
 
     /// The distance to the step: the least number of its turns that reach it, 0 to 20, or 21 for more or never. The
     /// position is one of this step. The meter, which is below its greatest number, rises by one.
+    #[inline(always)]
     pub fn look(&self, position: &Position, meter: &mut Meter) -> u8
         requires position { IsPosition self.now position.now }
         requires meter { meter.old + 1 < 2 ^ 128 }
@@ -141,7 +145,21 @@ impl<A: Allocator> Tables<A> {
         ensures never_above { (e : Place → Place) → HasPosition self.now e position.now → result ≤ distance_of self.now e }
     {
         positions_tell();
-        meter.tick();
-        self.distances[position.coordinates().entry_number()]
+        self.distance(position, meter)
+    }
+
+    /// What a look answers, by the kind of the tables.
+    fn distance(&self, position: &Position, meter: &mut Meter) -> u8
+        requires position { IsPosition self.now position.now }
+        requires meter { meter.old + 1 < 2 ^ 128 }
+        ensures tick { meter.new ≡ meter.old + 1 }
+        ensures value { result ≡ distance_at self.now position.now }
+    {
+        match &self.kind {
+            Kind::Edges(tables) => tables.look(tables.state(position), meter),
+            Kind::AnyEdges(tables) => tables.look(tables.state(position), meter),
+            Kind::Domino(tables) => tables.look(tables.state(position), meter),
+            Kind::EitherDomino(tables) => tables.look(tables.state(position), meter),
+        }
     }
 }

@@ -1,8 +1,11 @@
 -- How the bytes that several calls move join.
-use Rattle.std.proofs.Common.{◌≡◌, ℕ, zero, suc, ◌≢◌, ◌<◌, ◌||◌, Bool, true, false, Option, Some, None, List, [], ◌∷◌, ◌++◌, length, refl, sym, ap, ◌∙◌, subst, append_assoc, append-nil, arith}
+use Rattle.std.proofs.Common.{◌≡◌, ℕ, zero, suc, ◌≢◌, ◌<◌, ◌||◌, Bool, true, false, Option, Some, None, Result, Ok, Err, if◌then◌else◌, List, [], ◌∷◌, ◌++◌, take, length, refl, sym, ap, ◌∙◌, subst, append_assoc, append-nil, arith}
+use Rattle.std.specs.Prelude.{is_err, IsErr, MatchResult}
+use Rattle.std.specs.Io.KnownBytes.{ReadConsumes}
 use Rattle.std.proofs.Math.Bool.{or-false}
 use Rattle.std.proofs.lemmas.Bool.{or_parts}
-use Rattle.niss_shell.specs.Device.{SourceState, TargetState, has_fault, GaveOf, Gave, AppendedOf, Appended, StaysSilentOf, StaysSilent, is_empty_answer}
+use Rattle.niss_shell.specs.Device.{SourceState, TargetState, has_fault, GaveOf, Gave, AppendedOf, Appended, StaysSilentOf, StaysSilent, is_empty_answer, moved_bytes}
+use Rattle.niss_shell.specs.declared.device.DeviceFault.{DeviceFault}
 
 nothing_appended : (held : Option (List ℕ)) (failed : Bool) → AppendedOf held held failed []
 nothing_appended None failed = tt
@@ -77,3 +80,19 @@ pub is_empty_answer-none : (n : ℕ) (bytes : List ℕ) → n ≡ 0 → 0 < leng
 is_empty_answer-none zero [] e h = absurd (omega (arith, h))
 is_empty_answer-none zero (b ∷ bytes) e h = refl
 is_empty_answer-none (suc n) bytes e h = absurd (omega (arith, e))
+
+-- what a judged read of a reader gave
+pub gave_answer : {E : Type 0} (answer : Result ℕ E) (result : Result ℕ DeviceFault) (failed failed_now : Bool) (old new : Option (List ℕ)) (buf : List ℕ)
+    → failed ≡ false → failed_now ≡ is_err answer → MatchResult result (λ n. answer ≡ Ok n) (λ _. IsErr answer) → ReadConsumes old new answer buf
+    → GaveOf (if failed then None else old) (if failed_now then None else new) failed_now (moved_bytes result buf)
+gave_answer answer result true failed_now old new buf works fails same reads = absurd (cc works)
+gave_answer (Ok n) (Ok m) false true old new buf works fails same reads = absurd (cc fails)
+gave_answer (Ok n) (Ok m) false false None new buf works fails same reads = tt
+gave_answer (Ok n) (Ok m) false false (Some all) None buf works fails same reads = absurd reads.0
+gave_answer (Ok n) (Ok m) false false (Some all) (Some rest) buf works fails same reads =
+    let e : n ≡ m = cc same in subst (λ k. all ≡ take k buf ++ rest) e reads.0
+gave_answer (Ok n) (Err x) false failed_now old new buf works fails same reads = absurd (cc same)
+gave_answer (Err e) (Ok m) false failed_now old new buf works fails same reads = absurd (cc same)
+gave_answer (Err e) (Err x) false false old new buf works fails same reads = absurd (cc fails)
+gave_answer (Err e) (Err x) false true None new buf works fails same reads = tt
+gave_answer (Err e) (Err x) false true (Some all) new buf works fails same reads = (refl, (all, refl))

@@ -1,16 +1,19 @@
 -- How the engine's steps join.
-use Rattle.std.proofs.Common.{◌≡◌, ℕ, ◌+◌, ◌*◌, ◌<◌, ◌==◌, take, drop, get_or, Bool, true, false, if◌then◌else◌, Some, None, Result, Ok, Err, List, [], ◌∷◌, ◌++◌, length, refl, sym, ap, ◌∙◌, subst, append-nil, length-append, arith}
-use Rattle.std.specs.Prelude.{sum_by}
-use Rattle.std.proofs.lemmas.List.{take_more, take-append-drop}
+use Rattle.std.proofs.Common.{◌≡◌, ℕ, ◌+◌, ◌*◌, ◌<◌, ◌≤◌, ◌==◌, take, drop, get_or, Bool, true, false, if◌then◌else◌, Some, None, Result, Ok, Err, List, [], ◌∷◌, ◌++◌, length, inl, inr, refl, sym, ap, ◌∙◌, subst, append-nil, append_assoc, length-append, arith}
+use Rattle.std.specs.Prelude.{sum_by, OnOk}
+use Rattle.std.specs.List.{between}
+use Rattle.std.proofs.lemmas.Slice.{between_to_end}
+use Rattle.std.proofs.lemmas.List.{take_more, take-append-drop, length-drop}
 use Rattle.niss_shell.specs.Device.{has_fault}
 use Rattle.niss_shell.specs.Lines.{ended_lines, last_part, written_text, text_before, answered_lines, lines_before, first_fault, fault_before}
-use Rattle.niss_moves.specs.Reader.{IsFed}
+use Rattle.std.proofs.Math.Seq.{take-add}
+use Rattle.niss_moves.specs.WholeMoves.{HasNoLineFeed}
+use Rattle.niss_moves.specs.Reader.{Reader, IsFed}
 use Rattle.niss_shell.specs.Output.{LineAnswers, looks_for, most_looks_for}
-use Rattle.niss_shell.specs.Engine.{AnswerState, WritesAnswers, Refuses, AllAnswered, StopsWithin, TakesBytes, AnswersLine, AnswersBytes}
+use Rattle.niss_shell.specs.Engine.{AnswerState, Progress, WritesAnswers, Refuses, AllAnswered, StopsWithin, TakesBytes, AnswersLine, AnswersBytes}
 use Rattle.niss_shell.specs.declared.stop.LineFault.{LineFault}
 use Rattle.niss_shell.specs.declared.stop.Stop.{Stop}
 use Rattle.niss_shell.specs.declared.stop.Stop.TheVariants.{Done, Line, Usage, InputTooLong, CannotRead, CannotWrite, OutOfMemory}
-use Rattle.niss_shell.specs.declared.lines.Progress.{Progress}
 use Rattle.niss_shell.proofs.StateLemmas.{writes_nothing, writes_more, writes_as, refuses_more, refuses_front, refuses_as, looks_for-append, most_looks_for-append, looks_for-stays, most_looks_for-stays, looks_for-front, most_looks_for-front}
 use Rattle.niss_shell.proofs.LinesLemmas.{ended_lines-append, last_part-append, first_fault-append, first_fault-stays, written_text-append, written_text-stays, written_text-front}
 
@@ -58,17 +61,20 @@ unfolding first_fault
 stopped_line f n front (Ok text) stop old new e p =
     subst (λ s. StopsWithin f n (front ∷ []) s old new) (sym p.0)
     (refuses_as text _ (f.looks_of front) f.most_looks _ _ old new (one_text f front text e) (one_look f front text e) (one_most f front text e) p.1)
-stopped_line f n front (Err fault) stop old new e p =
+stopped_line f n front (Err fault) stop old new e (inl p) =
     subst (λ s. StopsWithin f n (front ∷ []) s old new) (sym p.0)
     (record {
       first = ap (λ r. fault_before r n None) e;
       writes = writes_as [] _ 0 0 _ _ old new (no_text f front fault e) (no_look f front fault e) (no_most f front fault e) p.1;
     })
+stopped_line f n front (Err fault) stop old new e (inr p) =
+    subst (λ s. StopsWithin f n (front ∷ []) s old new) (sym p.0)
+    (refuses_as [] _ 0 0 _ _ old new (no_text f front fault e) (no_look f front fault e) (no_most f front fault e) p.1)
 
 -- a line feed
 takes_line_feed : (f : LineAnswers) (front : List ℕ) (n : ℕ) (q : Progress) (result : Result (Unit {0}) Stop) (old new : AnswerState)
     → AnswersBytes f front n result old new
-    → IsFed q.reader [] → q.line ≡ n + 1
+    → OnOk result (IsFed q.reader []) → OnOk result (q.line ≡ n + 1)
     → TakesBytes f front (10 ∷ []) n q result old new
 unfolding ended_lines last_part
 takes_line_feed f front n q (Ok u) old new answers reader line = (
@@ -81,7 +87,7 @@ takes_line_feed f front n q (Err stop) old new answers reader line =
 pub takes_end_of_line : (f : LineAnswers) (front : List ℕ) (byte n : ℕ) (q : Progress) (result : Result (Unit {0}) Stop) (old new : AnswerState)
     → byte ≡ 10
     → AnswersBytes f front n result old new
-    → IsFed q.reader [] → q.line ≡ n + 1
+    → OnOk result (IsFed q.reader []) → OnOk result (q.line ≡ n + 1)
     → TakesBytes f front (byte ∷ []) n q result old new
 takes_end_of_line f front byte n q result old new e answers reader line =
     subst (λ b. TakesBytes f front (b ∷ []) n q result old new) (sym e)
@@ -243,19 +249,60 @@ takes_front f front xs ys n q stop a c x =
     subst (λ ls. StopsWithin f n ls stop a c) (sym (ended_lines-append front xs ys))
     (stopped_front f n (ended_lines front xs) (ended_lines (last_part front xs) ys) stop a c x)
 
--- one byte of a block more
-pub takes_push : (f : LineAnswers) (front bytes : List ℕ) (i n : ℕ) (q r : Progress) (u : Unit {0}) (result : Result (Unit {0}) Stop) (a b c : AnswerState)
-    → i < length bytes
-    → TakesBytes f front (take i bytes) n q (Ok u) a b
-    → ((open_line : List ℕ) → IsFed q.reader open_line → TakesBytes f open_line (get_or bytes i 0 ∷ []) q.line r result b c)
-    → TakesBytes f front (take (i + 1) bytes) n r result a c
-takes_push f front bytes i n q r u result a b c h x y =
-    subst (λ xs. TakesBytes f front xs n r result a c) (sym (take_more bytes i 0 h))
-    (takes_more f front (take i bytes) (get_or bytes i 0 ∷ []) n q r u result a b c x (y (last_part front (take i bytes)) x.1.reader))
-
 -- a block in which the run was stopped
 pub takes_stopped : (f : LineAnswers) (front bytes : List ℕ) (i n : ℕ) (q : Progress) (stop : Stop) (a c : AnswerState)
     → TakesBytes f front (take i bytes) n q (Err stop) a c → TakesBytes f front bytes n q (Err stop) a c
 takes_stopped f front bytes i n q stop a c x =
     subst (λ xs. TakesBytes f front xs n q (Err stop) a c) (take-append-drop i bytes)
     (takes_front f front (take i bytes) (drop i bytes) n q stop a c x)
+
+-- bytes inside a line
+inside_ended : (front xs : List ℕ) → HasNoLineFeed xs → ended_lines front xs ≡ []
+unfolding ended_lines
+inside_ended front [] h = refl
+inside_ended front (b ∷ xs) h = ap (λ c. if c then front ∷ ended_lines [] xs else ended_lines (front ++ b ∷ []) xs) h.0 ∙ inside_ended (front ++ b ∷ []) xs h.1
+
+inside_last : (front xs : List ℕ) → HasNoLineFeed xs → last_part front xs ≡ front ++ xs
+unfolding last_part
+inside_last front [] h = sym (append-nil front)
+inside_last front (b ∷ xs) h = ap (λ c. if c then last_part [] xs else last_part (front ++ b ∷ []) xs) h.0 ∙ inside_last (front ++ b ∷ []) xs h.1 ∙ append_assoc front (b ∷ []) xs
+
+pub takes_inside : (f : LineAnswers) (front xs : List ℕ) (n : ℕ) (q : Progress) (out : AnswerState) (u : Unit {0})
+    → HasNoLineFeed xs → IsFed q.reader (front ++ xs) → q.line ≡ n → has_fault out.target ≡ false
+    → TakesBytes f front xs n q (Ok u) out out
+takes_inside f front xs n q out u h reader line works = (
+  subst (λ ls. AllAnswered f n ls out out) (sym (inside_ended front xs h)) (answered_none f n out works),
+  record {
+    reader = subst (λ v. IsFed q.reader v) (sym (inside_last front xs h)) reader;
+    line = let none : length (ended_lines front xs) ≡ 0 = ap length (inside_ended front xs h) in omega (arith, line, none);
+  },
+)
+
+-- the first byte of a block
+
+pub nothing_fed : (r : Reader) (front bytes : List ℕ) (k : ℕ) → k ≤ 0 → IsFed r (front ++ take k bytes) → IsFed r front
+nothing_fed r front bytes k none at =
+    let zero : k ≡ 0 = omega (arith, none) in
+    subst (λ (xs : List ℕ). IsFed r xs) (ap (λ (i : ℕ). front ++ take i bytes) zero ∙ append-nil front) at
+
+pub first_piece : (f : LineAnswers) (front bytes : List ℕ) (n : ℕ) (q : Progress) (r : Result (Unit {0}) Stop) (a b : AnswerState)
+    → 0 < length bytes → TakesBytes f front (get_or bytes 0 0 ∷ []) n q r a b → TakesBytes f front (take 1 bytes) n q r a b
+first_piece f front bytes n q r a b h x = subst (λ (xs : List ℕ). TakesBytes f front xs n q r a b) (sym (take_more bytes 0 0 h)) x
+
+-- one piece of a block more
+pub takes_piece : (f : LineAnswers) (front bytes rest : List ℕ) (i k n : ℕ) (q r : Progress) (u : Unit {0}) (result : Result (Unit {0}) Stop) (a b c : AnswerState)
+    → rest ≡ drop i bytes
+    → TakesBytes f front (take i bytes) n q (Ok u) a b
+    → ((open_line : List ℕ) → IsFed q.reader open_line → TakesBytes f open_line (take k rest) q.line r result b c)
+    → TakesBytes f front (take (i + k) bytes) n r result a c
+takes_piece f front bytes rest i k n q r u result a b c e x y =
+    subst (λ xs. TakesBytes f front xs n r result a c) (ap (λ t. take i bytes ++ take k t) e ∙ sym (take-add i k bytes))
+    (takes_more f front (take i bytes) (take k rest) n q r u result a b c x (y (last_part front (take i bytes)) x.1.reader))
+
+pub rest_is : (bytes : List ℕ) (i : ℕ) → between i (length bytes) bytes ≡ drop i bytes
+rest_is bytes i = between_to_end bytes i (length bytes) (omega arith)
+
+pub piece_within : (bytes : List ℕ) (i k : ℕ) → i < length bytes → k ≤ length (between i (length bytes) bytes) → i + k ≤ length bytes
+piece_within bytes i k h l =
+    let e : length (between i (length bytes) bytes) ≡ length (drop i bytes) = ap length (rest_is bytes i) in
+    omega (arith, e, length-drop i bytes)

@@ -6,9 +6,11 @@ pub mod FaceletLemmas
 pub mod StateLemmas
 pub mod PendingLemmas
 pub mod EngineLemmas
+pub mod TakingLemmas
 pub mod ScrambleLemmas
 pub mod AnswerLemmas
 pub mod SearchLemmas
+pub mod OutputLemmas
 pub mod SolveLemmas
 pub mod RunLemmas
 pub mod NumberLemmas

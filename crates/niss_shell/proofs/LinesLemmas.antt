@@ -90,7 +90,7 @@ written_text-stays f n (l ∷ xs) ys e some =
     written_some_step (f l) n (first_fault f (n + 1) xs) e (written_text f (xs ++ ys)) (written_text f xs)
     (written_text-stays f (n + 1) xs ys e) some
 
--- what is written_text for some lines is a beginning of what is written_text for these and more
+-- what is written for some lines is a beginning of what is written for these and more
 written_front_step : {E : Type 0} (r : Result (List ℕ) E) (x y : List ℕ)
     → ((rest : List ℕ) × (y ++ rest ≡ x)) → (rest : List ℕ) × (text_before r y ++ rest ≡ text_before r x)
 written_front_step (Ok text) x y p = (p.0, append_assoc text y p.0 ∙ ap (λ v. text ++ v) p.1)

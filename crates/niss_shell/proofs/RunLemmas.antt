@@ -1,6 +1,6 @@
 -- From what was read and written to what a run says of it.
 use Rattle.std.proofs.Common.{◌≡◌, ◌≢◌, ℕ, ◌+◌, ◌≤◌, ◌<◌, Bool, true, false, ◌||◌, not, if◌then◌else◌, Option, Some, None, Result, Ok, Err, List, [], ◌∷◌, ◌++◌, length, refl, sym, ap, ◌∙◌, subst, append-nil, add-zero, arith}
-use Rattle.std.specs.Prelude.{OnOk, OnErr, nat_lt, nat_le, flat_map}
+use Rattle.std.specs.Prelude.{OnOk, OnErr, IfSome, nat_lt, nat_le, flat_map}
 use Rattle.std.proofs.lemmas.Grind.{common_steps}
 use Rattle.rand_pcg.specs.Lcg.{Lcg}
 use Rattle.niss_shell.specs.Device.{SourceState, TargetState, has_fault, Appended, StaysSilent, WriteRefused}
@@ -8,7 +8,8 @@ use Rattle.niss_shell.specs.Scrambles.{generator_of, scramble_text}
 use Rattle.niss_shell.specs.Words.{limit, Request, OnLines, ListSteps, DrawScrambles, request_of, reads_source, has_step, joined}
 use Rattle.niss_shell.specs.Output.{Answer, Ending, More, End, Fail, ending, stop_at_end, line_answers, answer_lines, unsearched, step_line, stop_of, out_of, error_text, status_of}
 use Rattle.niss_cube.specs.Steps.{steps}
-use Rattle.niss_shell.specs.Engine.{AnswerState, answer_state, AnswersSource, Answers, Writes, Refuses, EndsUnflushed, RunsUnflushed, flushed_stop, FlushesLast}
+use Rattle.niss_shell.specs.Engine.{AnswerState, pending_state, AnswersSource, Answers, Writes, Refuses, EndsUnflushed, RunsUnflushed, flushed_stop, FlushesLast}
+use Rattle.niss_shell.specs.Job.{IsInput}
 use Rattle.niss_shell.specs.Run.{Devices, devices, OutputRefused, EndsByFault, Ends, TellsError, Looked, Runs}
 use Rattle.niss_shell.specs.declared.device.DeviceFault.{DeviceFault}
 use Rattle.niss_shell.specs.declared.command.UsageFault.{UsageFault}
@@ -19,6 +20,13 @@ use Rattle.niss_shell.specs.declared.stop.Stop.TheVariants.{Done, Line, Usage, I
 use Rattle.niss_shell.proofs.DeviceLemmas.{appended_then, appended_after_failure, gave_nothing, fault_of_write, no_write_fault, no_flush_fault}
 use Rattle.niss_shell.proofs.StateLemmas.{writes_nothing, all_sent}
 use Rattle.niss_shell.proofs.AnswerLemmas.{short_test, long_test, choose_false, choose_true}
+
+-- where words give the input, what holds without a read holds
+pub by_words : {T : Type 0} (bytes : T → List ℕ) (text : Option T) (command : LineCommand) (words : List (List ℕ)) (P : Type 0)
+    → IsInput bytes text words → reads_source (Ok (OnLines command words)) ≡ false → IfSome text (λ t. P) → P
+by_words bytes (Some text) command words P is h p = p
+by_words bytes None command [] P is h p = absurd (cc)
+by_words bytes None command (w ∷ ws) P is h p = absurd (omega arith)
 
 -- the error writer
 
@@ -142,6 +150,28 @@ runs_usage asked fault a h e works = subst (λ x. RunsUnflushed x Usage a a h h)
   ends = (refl, writes_nothing h works);
   read_whole = λ d r. absurd (cc r);
 })
+
+-- the same of a job, whose work has the command, and whose states are known by equations
+
+pub from_source : (command told : LineCommand) (ws : List (List ℕ)) (stop : Stop) (a b : SourceState) (h k i j : AnswerState)
+    → told ≡ command → k ≡ h → j ≡ i → length ws ≡ 0 → AnswersSource (line_answers told) stop a b k j
+    → RunsUnflushed (Ok (OnLines command ws)) stop a b h i
+from_source command told ws stop a b h k i j e f g none x =
+    runs_source command ws stop a b h i none
+    (subst (λ v. AnswersSource (line_answers v) stop a b h i) e
+    (subst (λ s. AnswersSource (line_answers told) stop a b s i) f
+    (subst (λ s. AnswersSource (line_answers told) stop a b k s) g x)))
+
+pub from_text : (command told : LineCommand) (ws : List (List ℕ)) (text piece : List ℕ) (stop : Stop) (a : SourceState) (h k i j : AnswerState)
+    → told ≡ command → k ≡ h → j ≡ i → piece ≡ text → 0 < length ws → text ≡ joined ws → length (joined ws) ≤ limit
+    → Answers (answer_lines (line_answers told) piece End) stop k j
+    → RunsUnflushed (Ok (OnLines command ws)) stop a a h i
+from_text command told ws text piece stop a h k i j e f g same some whole fits x =
+    runs_text command ws text stop a h i some whole fits
+    (subst (λ v. Answers (answer_lines (line_answers v) text End) stop h i) e
+    (subst (λ t. Answers (answer_lines (line_answers told) t End) stop h i) same
+    (subst (λ s. Answers (answer_lines (line_answers told) piece End) stop s i) f
+    (subst (λ s. Answers (answer_lines (line_answers told) piece End) stop k s) g x))))
 
 -- the names of the steps
 
@@ -331,22 +361,27 @@ pub one_flush : (asked : Result Request UsageFault) (stop stop_now : Stop) (a b 
 one_flush asked stop stop_now a b h i j works x flush = not_flushed j.is_flushed j.flush_failed flush.refused flush.flushed
     (flush.flush_failed ∙ ap (λ v. v || flush.refused) (flushes_worked _ asked stop a b h i works x.ends))
 
-pub runs_flushed : (words : List (List ℕ)) (status : ℕ) (stop stop_now : Stop) (a b : SourceState) (h i j : TargetState) (k l : TargetState) (looks looks_now : ℕ)
-    → RunsUnflushed (request_of words) stop a b (answer_state h looks) (answer_state i looks_now) → FlushesLast stop stop_now i j
+pub runs_flushed : (words : List (List ℕ)) (status : ℕ) (stop stop_now : Stop) (a b : SourceState) (h i j : TargetState) (p q : List ℕ) (k l : TargetState) (looks looks_now : ℕ)
+    → p ≡ [] → q ≡ [] → RunsUnflushed (request_of words) stop a b (pending_state h p looks) (pending_state i q looks_now) → FlushesLast stop stop_now i j
     → TellsError (error_text stop_now) k l → status ≡ status_of stop_now
     → Runs words (devices a h k) (devices b j l) looks looks_now status
-runs_flushed words status stop stop_now a b h i j k l looks looks_now x flush tells answers =
+runs_flushed words status stop stop_now a b h i j p q k l looks looks_now none none_now x flush tells answers =
     let how = flushes_as stop stop_now i j flush in
     record {
       input = x.input;
       gave = x.gave;
       stop = stop_now;
       ends = subst (λ v. Ends v (out_of words x.input b) (request_of words) (devices a h k) (devices b j l)) (sym flush.stop_is)
-          (ends_flushed (out_of words x.input b) (request_of words) stop (devices a h k) (devices b j l) (answer_state h looks) (answer_state i looks_now) flush.refused
-          refl refl refl x.ends x.read_whole how);
+          (ends_flushed (out_of words x.input b) (request_of words) stop (devices a h k) (devices b j l) (pending_state h p looks) (pending_state i q looks_now) flush.refused
+          refl none none_now x.ends x.read_whole how);
       looked = subst (λ v. Looked v j.write_failed (out_of words x.input b).looks looks looks_now) (sym flush.stop_is)
-          (looked_flushed (out_of words x.input b) (request_of words) stop a b (answer_state h looks) (answer_state i looks_now) j flush.refused x.ends how);
-      within_bound = bounded_looks (out_of words x.input b) (request_of words) stop a b (answer_state h looks) (answer_state i looks_now) x.ends;
+          (looked_flushed (out_of words x.input b) (request_of words) stop a b (pending_state h p looks) (pending_state i q looks_now) j flush.refused x.ends how);
+      within_bound = bounded_looks (out_of words x.input b) (request_of words) stop a b (pending_state h p looks) (pending_state i q looks_now) x.ends;
       tells = tells;
       answers = answers;
     }
+
+-- the target that the output lent
+pub lent_back : (words : List (List ℕ)) (status : ℕ) (a b : SourceState) (h i j k l : TargetState) (looks looks_now : ℕ)
+    → i ≡ j → Runs words (devices a h k) (devices b i l) looks looks_now status → Runs words (devices a h k) (devices b j l) looks looks_now status
+lent_back words status a b h i j k l looks looks_now e x = subst (λ t. Runs words (devices a h k) (devices b t l) looks looks_now status) e x

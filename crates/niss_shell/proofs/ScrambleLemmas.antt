@@ -7,13 +7,10 @@ use Rattle.std.proofs.lemmas.List.FromFn.{map-range_with_len_more, take-map-rang
 use Rattle.niss_search.specs.Draw.{next_words, after_words, draw}
 use Rattle.rand_pcg.specs.Lcg.{Lcg, state_after}
 use Rattle.rand_pcg.specs.Pcg.{multiplier_64}
-use Rattle.niss_shell.specs.Device.{TargetState, has_fault, Appended, WriteRefused}
-use Rattle.niss_shell.specs.Output.{unsearched}
+use Rattle.niss_shell.specs.Device.{has_fault}
 use Rattle.niss_shell.specs.Scrambles.{scramble, scrambles, turns_line, scramble_text}
-use Rattle.niss_shell.specs.Engine.{Answers, answer_state}
-use Rattle.niss_shell.specs.declared.stop.Stop.TheVariants.{Done, CannotWrite}
-use Rattle.niss_shell.proofs.DeviceLemmas.{appended_more}
-use Rattle.niss_shell.proofs.StateLemmas.{sent_whole, refused_more, refused_front}
+use Rattle.niss_shell.specs.Engine.{AnswerState, Writes, Refuses}
+use Rattle.niss_shell.proofs.StateLemmas.{writes_nothing, writes_more, writes_as, refuses_more, refuses_front, refuses_as}
 
 -- steps and more steps of a generator
 state_after-add : (w k p m n s : ℕ) → state_after w k p n (state_after w k p m s) ≡ state_after w k p (m + n) s
@@ -53,30 +50,29 @@ text_front turns i count g h =
     ∙ sym (flat_map-append turns_line (take i (scrambles turns count g)) (drop i (scrambles turns count g)))
     ∙ ap (flat_map turns_line) (take-append-drop i (scrambles turns count g))
 
-pub written_more : (turns i : ℕ) (g : Lcg) (line : List ℕ) (a b c : TargetState)
-    → line ≡ turns_line (scramble turns g i) → has_fault b ≡ false
-    → Appended a b (scramble_text turns i g) → Appended b c line → Appended a c (scramble_text turns (i + 1) g)
-written_more turns i g line a b c e works p q =
-    subst (λ t. Appended a c t) (ap (λ l. scramble_text turns i g ++ l) e ∙ sym (text_more turns i g))
-    (appended_more a b c (scramble_text turns i g) line works p q)
+-- what an output takes of it
 
-pub refused_line : (turns i count : ℕ) (g : Lcg) (line : List ℕ) (a b c : TargetState)
-    → i < count → line ≡ turns_line (scramble turns g i) → has_fault b ≡ false
-    → Appended a b (scramble_text turns i g) → WriteRefused line b c → WriteRefused (scramble_text turns count g) a c
-refused_line turns i count g line a b c h e works p q =
+pub none_written : (turns : ℕ) (g : Lcg) (a : AnswerState) → has_fault a.target ≡ false → Writes (scramble_text turns 0 g) 0 0 a a
+none_written turns g a works = writes_nothing a works
+
+pub written_more : (turns i : ℕ) (g : Lcg) (line : List ℕ) (a b c : AnswerState)
+    → line ≡ turns_line (scramble turns g i) → Writes (scramble_text turns i g) 0 0 a b → Writes line 0 0 b c
+    → Writes (scramble_text turns (i + 1) g) 0 0 a c
+written_more turns i g line a b c e p q =
+    writes_as (scramble_text turns i g ++ line) (scramble_text turns (i + 1) g) 0 0 0 0 a c
+    (ap (λ l. scramble_text turns i g ++ l) e ∙ sym (text_more turns i g)) refl refl
+    (writes_more (scramble_text turns i g) line 0 0 0 0 a b c p q)
+
+pub all_written : (turns i count : ℕ) (g : Lcg) (a b : AnswerState) → i ≡ count
+    → Writes (scramble_text turns i g) 0 0 a b → Writes (scramble_text turns count g) 0 0 a b
+all_written turns i count g a b e w = subst (λ n. Writes (scramble_text turns n g) 0 0 a b) e w
+
+pub refused_line : (turns i count : ℕ) (g : Lcg) (line : List ℕ) (a b c : AnswerState)
+    → i < count → line ≡ turns_line (scramble turns g i) → Writes (scramble_text turns i g) 0 0 a b → Refuses line 0 0 b c
+    → Refuses (scramble_text turns count g) 0 0 a c
+refused_line turns i count g line a b c h e p q =
     let rest = flat_map turns_line (drop (i + 1) (scrambles turns count g)) in
-    subst (λ t. WriteRefused t a c)
-    (ap (λ l. (scramble_text turns i g ++ l) ++ rest) e ∙ ap (λ t. t ++ rest) (sym (text_more turns i g)) ∙ text_front turns (i + 1) count g (omega arith))
-    (refused_front (scramble_text turns i g ++ line) rest a c (refused_more (scramble_text turns i g) line a b c works p q))
-
--- as answers, whatever the meter shows
-
-pub answers_written : (text : List ℕ) (a b : TargetState) → has_fault b ≡ false → Appended a b text
-    → (looks : ℕ) → Answers (unsearched text Done) Done (answer_state a looks) (answer_state b looks)
-answers_written text a b works written looks =
-    (refl, record { works = works; written = sent_whole text a b looks looks written; looked = omega arith; bounded = omega arith })
-
-pub answers_refused : (text : List ℕ) (a b : TargetState) → WriteRefused text a b
-    → (looks : ℕ) → Answers (unsearched text Done) CannotWrite (answer_state a looks) (answer_state b looks)
-answers_refused text a b refused looks =
-    record { refused = refused; rises = omega arith; looked = omega arith; bounded = omega arith }
+    refuses_as ((scramble_text turns i g ++ line) ++ rest) (scramble_text turns count g) 0 0 0 0 a c
+    (ap (λ l. (scramble_text turns i g ++ l) ++ rest) e ∙ ap (λ t. t ++ rest) (sym (text_more turns i g)) ∙ text_front turns (i + 1) count g (omega arith)) refl refl
+    (refuses_front (scramble_text turns i g ++ line) rest 0 0 0 0 a c (omega arith) (omega arith)
+    (refuses_more (scramble_text turns i g) line 0 0 0 0 a b c p q))

@@ -5,7 +5,7 @@ use Rattle.std.proofs.lemmas.List.Sums.{sum_by-append}
 use Rattle.niss_shell.specs.Device.{TargetState, has_fault, Appended, IsCut, WriteRefused}
 use Rattle.niss_shell.specs.Lines.{answered_lines, first_fault}
 use Rattle.niss_shell.specs.Output.{LineAnswers, looks_for, most_looks_for}
-use Rattle.niss_shell.specs.Engine.{AnswerState, answer_state, TakesIn, Writes, Refuses}
+use Rattle.niss_shell.specs.Engine.{AnswerState, TakesIn, Writes, Refuses}
 use Rattle.niss_shell.specs.declared.stop.LineFault.{LineFault}
 use Rattle.niss_shell.proofs.DeviceLemmas.{appended_nothing, appended_more, no_flush_fault}
 use Rattle.niss_shell.proofs.LinesLemmas.{answered_lines-append, answered_lines-stays, answered_lines-front}
@@ -31,9 +31,6 @@ taken_more x y a b c works p q = record {
 }
 
 -- where nothing waits, a text that was taken was sent
-
-pub sent_whole : (text : List ℕ) (a b : TargetState) (x y : ℕ) → Appended a b text → TakesIn text (answer_state a x) (answer_state b y)
-sent_whole text a b x y p = record { sent = text; whole = append-nil text; appended = p }
 
 pub all_sent : (text : List ℕ) (a b : AnswerState) → a.pending ≡ [] → b.pending ≡ [] → TakesIn text a b → Appended a.target b.target text
 all_sent text a b e f p =

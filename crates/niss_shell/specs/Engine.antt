@@ -2,15 +2,17 @@
 use Rattle.std.specs.Prelude.{◌≡◌, ◌⊎◌, ℕ, ◌+◌, ◌*◌, ◌^◌, ◌≤◌, ◌||◌, not, Bool, true, false, Some, None, Result, Ok, Err, List, [], ◌++◌, length}
 use Rattle.niss_shell.specs.Device.{SourceState, TargetState, has_fault, Gave, Appended, StaysSilent, WriteRefused}
 use Rattle.niss_shell.specs.Lines.{ended_lines, last_part, written_text, first_fault}
-use Rattle.niss_moves.specs.Reader.{IsFed}
+use Rattle.niss_moves.specs.Line.{Moves}
+use Rattle.niss_moves.specs.Reader.{Reader, IsFed}
 use Rattle.niss_shell.specs.Words.{Request, reads_source, takes_memory}
-use Rattle.niss_shell.specs.Output.{Answer, LineAnswers, looks_for, most_looks_for, answer_lines, answer_request, line_with_bytes, ending}
+use Rattle.niss_shell.specs.Output.{Answer, LineAnswers, answer_to_moves, looks_at_moves, most_line_looks, looks_for, most_looks_for, answer_lines, answer_request, line_with_bytes, ending}
+use Rattle.niss_shell.specs.declared.command.LineCommand.{LineCommand}
 use Rattle.niss_shell.specs.declared.command.UsageFault.{UsageFault}
 use Rattle.niss_shell.specs.declared.device.DeviceFault.{DeviceFault}
 use Rattle.niss_shell.specs.declared.stop.LineFault.{LineFault}
 use Rattle.niss_shell.specs.declared.stop.Stop.{Stop}
 use Rattle.niss_shell.specs.declared.stop.Stop.TheVariants.{Done, Line, Usage, InputTooLong, CannotRead, CannotWrite, OutOfMemory}
-use Rattle.niss_shell.specs.declared.lines.Progress.{Progress}
+use Rattle.niss_shell.specs.declared.output.Output.{Output}
 
 -- What answers to lines change: the target that they are written to, the answers that wait to be written to it, and the
 -- count of the looks.
@@ -22,9 +24,9 @@ pub record AnswerState : Type 0 where
 abbrev pub pending_state : TargetState → List ℕ → ℕ → AnswerState
 pending_state target pending looks = record { target = target; pending = pending; looks = looks }
 
--- no answer waits
-abbrev pub answer_state : TargetState → ℕ → AnswerState
-answer_state target looks = pending_state target [] looks
+-- an output, by what a contract sees of its target
+abbrev pub output_state : {W : Type 0} → (W → TargetState) → Output W → ℕ → AnswerState
+output_state state output looks = pending_state (state output.target.now) output.pending.items looks
 
 -- A text was taken behind what waited: some of these bytes went out, and the others wait now.
 pub record TakesIn (text : List ℕ) (old new : AnswerState) : Type 0 where
@@ -52,10 +54,23 @@ abbrev pub WritesOrRefuses :
 WritesOrRefuses (Ok x) text looks most_looks old new = Writes text looks most_looks old new
 WritesOrRefuses (Err e) text looks most_looks old new = Refuses text looks most_looks old new
 
--- a refused write ends a run
-abbrev pub stop_if_refused : Result (Unit {0}) DeviceFault → Result (Unit {0}) Stop
-stop_if_refused (Ok u) = Ok u
-stop_if_refused (Err e) = Err CannotWrite
+-- An output that worked took a text: it was written or waits, or a write of what waited and of it was refused.
+abbrev pub Delivers :
+    {W T : Type 0} → (W → TargetState) → Result T DeviceFault → List ℕ → Output W → Output W → Type 0
+Delivers state result text old new =
+    has_fault (state old.target.now) ≡ false → (looks : ℕ) →
+    WritesOrRefuses result text 0 0 (output_state state old looks) (output_state state new looks)
+
+-- An output that worked took a text whole; or it refused a write of what waited and of the text, and nothing waits.
+abbrev pub TakesLine : {W : Type 0} → (W → TargetState) → List ℕ → Output W → Output W → Type 0
+TakesLine state text old new =
+    has_fault (state old.target.now) ≡ false → (looks : ℕ) →
+    Writes text 0 0 (output_state state old looks) (output_state state new looks)
+
+abbrev pub RefusesLine : {W : Type 0} → (W → TargetState) → List ℕ → Output W → Output W → Type 0
+RefusesLine state text old new =
+    (new.pending.items ≡ []) × (has_fault (state old.target.now) ≡ false → (looks : ℕ) →
+    Refuses text 0 0 (output_state state old looks) (output_state state new looks))
 
 -- the answers to these lines, up to the first fault, were written
 abbrev pub WritesAnswers : LineAnswers → List (List ℕ) → AnswerState → AnswerState → Type 0
@@ -84,17 +99,10 @@ StopsWithin f n lines InputTooLong old new = ⊥
 StopsWithin f n lines CannotRead old new = ⊥
 StopsWithin f n lines OutOfMemory old new = ⊥
 
--- What waited was written, and the lines stand as they were taken; or a write of it was refused.
-abbrev pub WritesPending : Result (Unit {0}) Stop → Result (Unit {0}) Stop → List ℕ → TargetState → TargetState → Type 0
-WritesPending taken result pending old new =
-    ((result ≡ taken) × (has_fault new ≡ has_fault old) × Appended old new pending)
-    ⊎ ((result ≡ Err CannotWrite) × WriteRefused pending old new)
-
--- What waited was written behind lines that were taken so, or a write of it was refused.
-pub record WritesBehind (taken result : Result (Unit {0}) Stop) (pending : List ℕ) (old new : TargetState) : Type 0 where
-  -- after a refused write nothing more is written
-  pub stays : taken ≡ Err CannotWrite → (result ≡ taken) × (new ≡ old)
-  pub written : (taken ≡ Err CannotWrite → ⊥) → WritesPending taken result pending old new
+-- The line that is being read, and its number.
+pub record Progress : Type 0 where
+  pub reader : Reader
+  pub line : ℕ
 
 -- The line behind these bytes is being read, and has its number.
 pub record Advanced (front bytes : List ℕ) (n : ℕ) (progress : Progress) : Type 0 where
@@ -109,6 +117,15 @@ TakesBytes f front bytes n progress (Ok u) old new =
 TakesBytes f front bytes n progress (Err stop) old new =
     StopsWithin f n (ended_lines front bytes) stop old new
 
+-- how many bytes were taken: one where the run stops
+abbrev pub piece_of : Result ℕ Stop → ℕ
+piece_of (Ok n) = n
+piece_of (Err stop) = 1
+
+abbrev pub only_stop : Result ℕ Stop → Result (Unit {0}) Stop
+only_stop (Ok n) = Ok tt
+only_stop (Err stop) = Err stop
+
 -- The end of the input behind `front`, in line n, was taken.
 abbrev pub TakesEnd : LineAnswers → List ℕ → ℕ → Result (Unit {0}) Stop → AnswerState → AnswerState → Type 0
 TakesEnd f front n (Ok u) old new = AllAnswered f n (line_with_bytes front) old new
@@ -120,7 +137,13 @@ abbrev pub AnswersLine :
 AnswersLine (Ok text) looks most_looks n (Ok u) old new = Writes text looks most_looks old new
 AnswersLine (Ok text) looks most_looks n (Err stop) old new = (stop ≡ CannotWrite) × Refuses text looks most_looks old new
 AnswersLine (Err fault) looks most_looks n (Ok u) old new = ⊥
-AnswersLine (Err fault) looks most_looks n (Err stop) old new = (stop ≡ Line n fault) × Writes [] 0 0 old new
+AnswersLine (Err fault) looks most_looks n (Err stop) old new =
+    ((stop ≡ Line n fault) × Writes [] 0 0 old new) ⊎ ((stop ≡ CannotWrite) × Refuses [] 0 0 old new)
+
+-- the same of the moves of a line, by a command
+abbrev pub AnswersMoves : LineCommand → Moves → ℕ → Result (Unit {0}) Stop → AnswerState → AnswerState → Type 0
+AnswersMoves command line n result old new =
+    AnswersLine (answer_to_moves command line) (looks_at_moves command line) (most_line_looks command) n result old new
 
 -- the same of a line by its bytes
 abbrev pub AnswersBytes :
@@ -167,6 +190,11 @@ pub record RunsUnflushed (asked : Result Request UsageFault) (stop : Stop)
   pub gave : Gave source source_now input
   pub ends : EndsUnflushed stop (answer_request asked input (ending source_now)) asked source source_now old new
   pub read_whole : stop ≡ Done → reads_source asked ≡ true → source_now.has_ended ≡ true
+
+-- A run may stop so before anything was read or written.
+abbrev pub EndsAtOnce : Result Request UsageFault → Stop → Type 0
+EndsAtOnce asked stop =
+    (source : SourceState) (old : AnswerState) → has_fault old.target ≡ false → RunsUnflushed asked stop source source old old
 
 abbrev pub stop_unless : Result (Unit {0}) Stop → Stop → Stop
 stop_unless (Ok u) otherwise = otherwise

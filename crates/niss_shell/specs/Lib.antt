@@ -4,7 +4,9 @@ pub mod LinesLaws
 pub mod Words
 pub mod Scrambles
 pub mod Output
-pub mod Work
+pub mod Job
 pub mod Engine
+pub mod Search
+pub mod Taking
 pub mod Run
 pub mod SolveLaw

@@ -12,7 +12,7 @@ use Rattle.niss_moves.specs.Line.{Moves}
 use Rattle.niss_moves.specs.Places.{Place}
 use Rattle.niss_moves.specs.Reader.{read_line}
 use Rattle.niss_moves.specs.Text.{word, with_words}
-use Rattle.niss_search.specs.Cubes.{least_length_of, solutions_of, all_looks_of}
+use Rattle.niss_search.specs.Cubes.{least_length_of, near_solutions_of, near_looks_of}
 use Rattle.niss_search.specs.Solutions.{look_bound}
 use Rattle.niss_shell.specs.Scrambles.{generator_of, scramble_text}
 use Rattle.niss_shell.specs.Words.{limit, Request, OnLines, ListSteps, DrawScrambles, request_of, joined}
@@ -123,10 +123,11 @@ count_text least solutions looks =
     codes "length " ++ length_text least ++ codes " solutions " ++ decimal solutions ++ codes " nodes " ++ decimal looks
     ++ line_feed ∷ []
 
--- what is told of the search for a step, of at most n turns, from a cube
-abbrev pub search_text : Report → Step → ℕ → (Place → Place) → List ℕ
-search_text Solutions step n e = solve_text n (solutions_of step e n)
-search_text Counts step n e = count_text (least_length_of step e n) (length (solutions_of step e n)) (all_looks_of step e n)
+-- what is told of the search for a step, of at most n turns, and of at most `slack` more than the least, from a cube
+abbrev pub search_text : Report → Step → (n slack : ℕ) → (Place → Place) → List ℕ
+search_text Solutions step n slack e = solve_text n (near_solutions_of step e n slack)
+search_text Counts step n slack e =
+    count_text (least_length_of step e n) (length (near_solutions_of step e n slack)) (near_looks_of step e n slack)
 
 -- what a search writes where the step may start on the cube, and else the fault
 abbrev pub where_it_starts : Step → Bool → List ℕ → Result (List ℕ) LineFault
@@ -136,8 +137,8 @@ where_it_starts step false text = Err (NoStart step)
 -- what a command writes for the moves of a line, or why it can't
 abbrev pub answer_to_moves : LineCommand → Moves → Result (List ℕ) LineFault
 answer_to_moves (Rewrite rewriting) line = Ok (line_text rewriting line ++ line_feed ∷ [])
-answer_to_moves (Search report step n) line =
-    where_it_starts step (may_start step (home line)) (search_text report step n (home line))
+answer_to_moves (Search query) line =
+    where_it_starts query.step (may_start query.step (home line)) (search_text query.report query.step query.limit query.slack (home line))
 
 -- what a command answers to a line that was read so
 abbrev pub answer_to : LineCommand → Result Moves ReadFault → Result (List ℕ) LineFault
@@ -151,7 +152,7 @@ answer command line = answer_to command (read_line line)
 -- the looks of a command at the moves of a line
 abbrev pub looks_at_moves : LineCommand → Moves → ℕ
 looks_at_moves (Rewrite rewriting) line = 0
-looks_at_moves (Search report step n) line = all_looks_of step (home line) n
+looks_at_moves (Search query) line = near_looks_of query.step (home line) query.limit query.slack
 
 abbrev pub looks_at : LineCommand → Result Moves ReadFault → ℕ
 looks_at command (Ok line) = looks_at_moves command line
@@ -164,7 +165,7 @@ line_looks command line = looks_at command (read_line line)
 -- the most looks of a command at one line
 abbrev pub most_line_looks : LineCommand → ℕ
 most_line_looks (Rewrite rewriting) = 0
-most_line_looks (Search report step n) = look_bound (turns_of step) n
+most_line_looks (Search query) = look_bound (turns_of query.step) query.limit
 
 -- what is answered to each line, the looks that it takes, and the most that any line may take
 pub record LineAnswers : Type 0 where

@@ -15,8 +15,6 @@ use Rattle.niss_shell.specs.declared.command.Report.TheVariants.{Solutions, Coun
 use Rattle.niss_shell.specs.declared.command.Rewriting.TheVariants.{Invert, Unniss, Cleanup, Print}
 use Rattle.niss_shell.specs.declared.command.Command.{Command}
 use Rattle.niss_shell.specs.declared.command.Command.TheVariants as command
-use Rattle.niss_shell.specs.declared.command.Task.{Task}
-use Rattle.niss_shell.specs.declared.command.Task.TheVariants as task
 
 -- the most bytes of input
 abbrev pub limit : ℕ
@@ -47,17 +45,40 @@ abbrev pub without_words : Request → List (List ℕ) → Result Request UsageF
 without_words request [] = Ok request
 without_words request (word ∷ words) = Err WrongCount
 
--- a search for a step, with the greatest number of turns
+-- the most turns of a solution that may be asked for
+abbrev pub most_limit : ℕ
+most_limit = 20
+
+-- a search for a step, with the greatest number of turns, and how many turns more than the least a solution may have
+abbrev pub search_command : Report → Step → (n slack : ℕ) → LineCommand
+search_command report step n slack = Search (record { report = report; step = step; limit = n; slack = slack })
+
+-- the same where the step and the number are known
 abbrev pub search_for : Report → Option Step → Option ℕ → List (List ℕ) → Result Request UsageFault
 search_for report None most rest = Err UnknownStep
 search_for report (Some step) None rest = Err BadNumber
-search_for report (Some step) (Some n) rest = Ok (OnLines (Search report step n) rest)
+search_for report (Some step) (Some n) rest = Ok (OnLines (search_command report step n 0) rest)
 
 -- the same from its words: the step, the number, and the words that are the input
 abbrev pub search_words : Report → List (List ℕ) → Result Request UsageFault
 search_words report [] = Err WrongCount
 search_words report (step ∷ []) = Err WrongCount
-search_words report (step ∷ most ∷ rest) = search_for report (step_named step) (number_of 20 most) rest
+search_words report (step ∷ most ∷ rest) = search_for report (step_named step) (number_of most_limit most) rest
+
+-- a search with a slack, where the step and the numbers are known
+abbrev pub near_for : Option Step → Option ℕ → Option ℕ → List (List ℕ) → Result Request UsageFault
+near_for None most slack rest = Err UnknownStep
+near_for (Some step) None slack rest = Err BadNumber
+near_for (Some step) (Some n) None rest = Err BadNumber
+near_for (Some step) (Some n) (Some w) rest = Ok (OnLines (search_command Solutions step n w) rest)
+
+-- the same from its words: the step, the greatest number, the slack, and the words that are the input
+abbrev pub near_words : List (List ℕ) → Result Request UsageFault
+near_words [] = Err WrongCount
+near_words (step ∷ []) = Err WrongCount
+near_words (step ∷ most ∷ []) = Err WrongCount
+near_words (step ∷ most ∷ slack ∷ rest) =
+    near_for (step_named step) (number_of most_limit most) (number_of most_limit slack) rest
 
 -- the most turns of a scramble, the most scrambles, and the greatest state and stream of a generator
 abbrev pub most_turns : ℕ
@@ -94,6 +115,7 @@ request_named name rest =
     else if bytes_eq name (codes "print") then Ok (OnLines (Rewrite Print) rest)
     else if bytes_eq name (codes "solve") then search_words Solutions rest
     else if bytes_eq name (codes "count") then search_words Counts rest
+    else if bytes_eq name (codes "near") then near_words rest
     else if bytes_eq name (codes "steps") then without_words ListSteps rest
     else if bytes_eq name (codes "scramble") then scramble_words rest
     else Err UnknownCommand
@@ -109,16 +131,11 @@ requested (command.Invert rest) = OnLines (Rewrite Invert) (map string_bytes res
 requested (command.Unniss rest) = OnLines (Rewrite Unniss) (map string_bytes rest.now)
 requested (command.Cleanup rest) = OnLines (Rewrite Cleanup) (map string_bytes rest.now)
 requested (command.Print rest) = OnLines (Rewrite Print) (map string_bytes rest.now)
-requested (command.Solve step n rest) = OnLines (Search Solutions step n) (map string_bytes rest.now)
-requested (command.Count step n rest) = OnLines (Search Counts step n) (map string_bytes rest.now)
+requested (command.Solve step n rest) = OnLines (search_command Solutions step n 0) (map string_bytes rest.now)
+requested (command.Count step n rest) = OnLines (search_command Counts step n 0) (map string_bytes rest.now)
+requested (command.Near step n slack rest) = OnLines (search_command Solutions step n slack) (map string_bytes rest.now)
 requested command.Steps = ListSteps
 requested (command.Scramble state stream turns count) = DrawScrambles state stream turns count
-
--- what it asks for by what it does
-abbrev pub request_for : Task → Request
-request_for (task.Lines command words) = OnLines command (map string_bytes words.now)
-request_for task.Steps = ListSteps
-request_for (task.Scrambles state stream turns count) = DrawScrambles state stream turns count
 
 abbrev pub spaced_word : List ℕ → List ℕ
 spaced_word word = space ∷ word
@@ -139,7 +156,7 @@ reads_source (Ok (DrawScrambles state stream turns count)) = false
 -- The command searches, and has tables of its step.
 abbrev pub has_step : LineCommand → Bool
 has_step (Rewrite rewriting) = false
-has_step (Search report step n) = true
+has_step (Search query) = true
 
 -- The request asks for memory: for the tables of a step, and for the input, where words of at most the limit give it.
 abbrev pub takes_memory : Result Request UsageFault → Bool

@@ -1,7 +1,7 @@
 ghost use Rattle.std.specs.Prelude.{◌≡◌, Ok, Err, IfSome, IfOk, MatchOption, MatchResult, map, string_bytes};
-ghost use Rattle.niss_shell.specs.declared.command.LineCommand.TheVariants.{Search};
 ghost use Rattle.niss_shell.specs.declared.command.Report.{Report};
-ghost use Rattle.niss_shell.specs.Words.{OnLines, ListSteps, number_of, most_state, most_turns, most_scrambles, search_words, scramble_with, scramble_words, without_words, request_of, requested, request_for, IsInRange};
+ghost use Rattle.niss_shell.specs.declared.command.Report.TheVariants.{Solutions};
+ghost use Rattle.niss_shell.specs.Words.{OnLines, ListSteps, search_command, number_of, most_state, most_turns, most_scrambles, search_words, near_words, scramble_with, scramble_words, without_words, request_of, requested, IsInRange};
 
 use crate::number::{limit_of, number_of};
 use niss_cube::Step;
@@ -46,11 +46,21 @@ pub enum Report {
     Counts,
 }
 
+/// A search for each line: what is told of it, for which step, the most turns of a solution, and how many turns a solution
+/// may have more than the shortest.
+#[derive(Clone, Copy, Debug)]
+pub struct Query {
+    pub report: Report,
+    pub step: Step,
+    pub limit: Limit,
+    pub slack: Limit,
+}
+
 /// A command on each line of the input.
 #[derive(Clone, Copy, Debug)]
 pub enum LineCommand {
     Rewrite(Rewriting),
-    Search(Report, Step, Limit),
+    Search(Query),
 }
 
 /// A command. The words that it lends are the input; where there are none, the input comes from the source.
@@ -68,6 +78,8 @@ pub enum Command<'a> {
     Solve(Step, Limit, &'a [String]),
     /// Their length, how many they are, and how often the search looks at a position, for each line.
     Count(Step, Limit, &'a [String]),
+    /// The solutions of a step for each line, of at most so many turns, and of at most so many more than the shortest.
+    Near(Step, Limit, Limit, &'a [String]),
     /// The names of the steps.
     Steps,
     /// So many scrambles of so many turns, at most 256, by one generator of a state and a stream.
@@ -79,59 +91,11 @@ pub enum Command<'a> {
     },
 }
 
-/// What a command does.
-#[derive(Clone, Copy)]
-pub(crate) enum Task<'a> {
-    /// It answers each line of these words, or of the source where there are none.
-    Lines(LineCommand, &'a [String]),
-    /// It lists the steps.
-    Steps,
-    /// It draws scrambles.
-    Scrambles {
-        state: u64,
-        stream: u64,
-        turns: usize,
-        count: usize,
-    },
-}
-
-impl<'a> Command<'a> {
-    /// What the command does.
-    pub(crate) fn task(self) -> Task<'a>
-        ensures { requested self.entry ≡ request_for result }
-    {
-        match self {
-            Command::Invert(rest) => Task::Lines(LineCommand::Rewrite(Rewriting::Invert), rest),
-            Command::Unniss(rest) => Task::Lines(LineCommand::Rewrite(Rewriting::Unniss), rest),
-            Command::Cleanup(rest) => Task::Lines(LineCommand::Rewrite(Rewriting::Cleanup), rest),
-            Command::Print(rest) => Task::Lines(LineCommand::Rewrite(Rewriting::Print), rest),
-            Command::Solve(step, limit, rest) => {
-                Task::Lines(LineCommand::Search(Report::Solutions, step, limit), rest)
-            }
-            Command::Count(step, limit, rest) => {
-                Task::Lines(LineCommand::Search(Report::Counts, step, limit), rest)
-            }
-            Command::Steps => Task::Steps,
-            Command::Scramble {
-                state,
-                stream,
-                length,
-                count,
-            } => Task::Scrambles {
-                state,
-                stream,
-                turns: length,
-                count,
-            },
-        }
-    }
-}
-
 /// The step, the limit and the words that are the input, of a command that searches.
 fn parse_search(words: &[String]) -> Result<(Step, Limit, &[String]), UsageFault>
     ensures { (report : Report) → MatchResult result
         (λ parts. search_words report (map string_bytes words.now)
-        ≡ Ok (OnLines (Search report parts.0 parts.1) (map string_bytes parts.2.now)))
+        ≡ Ok (OnLines (search_command report parts.0 parts.1 0) (map string_bytes parts.2.now)))
         (λ fault. search_words report (map string_bytes words.now) ≡ Err fault) }
 {
     let [step, most, rest @ ..] = words else {
@@ -144,6 +108,28 @@ fn parse_search(words: &[String]) -> Result<(Step, Limit, &[String]), UsageFault
         return Err(UsageFault::BadNumber);
     };
     Ok((step, limit, rest))
+}
+
+/// The step, the limit, the slack and the words that are the input, of the command `near`.
+fn parse_near(words: &[String]) -> Result<(Step, Limit, Limit, &[String]), UsageFault>
+    ensures { MatchResult result
+        (λ parts. near_words (map string_bytes words.now)
+        ≡ Ok (OnLines (search_command Solutions parts.0 parts.1 parts.2) (map string_bytes parts.3.now)))
+        (λ fault. near_words (map string_bytes words.now) ≡ Err fault) }
+{
+    let [name, most, slack, rest @ ..] = words else {
+        return Err(UsageFault::WrongCount);
+    };
+    let Some(step) = Step::from_name(name.as_bytes()) else {
+        return Err(UsageFault::UnknownStep);
+    };
+    let Some(limit) = limit_of(most.as_str()) else {
+        return Err(UsageFault::BadNumber);
+    };
+    let Some(slack) = limit_of(slack.as_str()) else {
+        return Err(UsageFault::BadNumber);
+    };
+    Ok((step, limit, slack, rest))
 }
 
 /// The command `steps`, which takes no words.
@@ -221,6 +207,10 @@ pub fn parse_words(words: &[String]) -> Result<Command<'_>, UsageFault>
         },
         "count" => match parse_search(rest) {
             Ok((step, limit, rest)) => Ok(Command::Count(step, limit, rest)),
+            Err(fault) => Err(fault),
+        },
+        "near" => match parse_near(rest) {
+            Ok((step, limit, slack, rest)) => Ok(Command::Near(step, limit, slack, rest)),
             Err(fault) => Err(fault),
         },
         "steps" => parse_steps(rest),

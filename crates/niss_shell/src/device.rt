@@ -31,7 +31,7 @@ pub trait Source {
 
 /// Something that bytes are written to.
 pub trait Target {
-    // the bytes held, where the target tells them, its flags, and which flush came behind the last byte
+    // the bytes held, where the target tells them, its flags, and which flush came after the last byte
     ghost state: { Self → TargetState };
 
     /// Takes some first bytes of the piece, and answers how many. To take none of a piece that isn't empty is a failure,

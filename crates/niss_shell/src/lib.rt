@@ -1,32 +1,40 @@
-//! The engine of `nissy`, a tool for move sequences of the 3x3x3 cube.
+//! The engine of `nissy`, a tool for move sequences of the 3x3x3 cube. In crates.txt: `app: niss_shell`.
 //!
 //! `run` takes the words of a command line, reads lines of moves from a `Source`, writes the answers to one `Target`
 //! and what went wrong to another, and answers the exit status. Its contract says every byte of both as a function of
-//! the words and of the bytes read, whatever the devices do:
+//! the words and of the bytes read, whatever the devices do. `FromReader` and `ToWriter` make devices of the readers and
+//! writers of `std::io`:
 //!
-//! ```text
-//! run(alloc, &["invert", "R U' F2"], source, output, error, looks)   writes `F2 U R'` and a line feed, and answers 0
 //! ```
+//! use niss_shell::{FromReader, Meter, ToWriter, run};
 //!
-//! `FromReader` and `ToWriter` make devices of the readers and writers of `std::io`.
+//! let status = run(
+//!     rt.alloc(),
+//!     words,                                 // "invert" and "R U' F2": `F2 U R'` and a line feed, and the status 0
+//!     &mut FromReader::new(rt.stdin()),
+//!     &mut ToWriter::new(rt.stdout()),
+//!     &mut ToWriter::new(rt.stderr()),
+//!     &mut Meter::new(),                     // counts the positions that searches look at
+//! );
+//! ```
 #![tactic(auto)]
 
 mod answer;
 mod command;
-mod count;
 mod device;
+mod job;
 mod laws;
 mod line_cube;
 mod lines;
 mod number;
+mod output;
 mod scrambles;
+mod search;
 mod search_text;
 mod shell;
-mod solve;
 mod stop;
 mod streams;
 mod text;
-mod work;
 mod writing;
 
 pub use command::{Command, UsageFault, parse_words};

@@ -1,19 +1,20 @@
-ghost use Rattle.std.specs.Prelude.{◌≡◌, ◌+◌, ◌^◌, ◌≤◌, false, List, ℕ, [], ◌∷◌, ◌++◌, length, OnOk};
+//! The lines of a run, and how each is answered.
+ghost use Rattle.std.specs.Prelude.{◌≡◌, ◌+◌, ◌^◌, ◌<◌, ◌≤◌, false, Err, ℕ, [], length, take, OnOk, OnErr, IfOk};
 ghost use Rattle.niss_shell.specs.Device.{has_fault};
 ghost use Rattle.niss_moves.specs.Reader.{IsFed};
 ghost use Rattle.niss_shell.specs.Words.{limit};
-ghost use Rattle.niss_shell.specs.Output.{line_answers, answer_lines, End};
-ghost use Rattle.niss_shell.specs.Work.{command_of};
-ghost use Rattle.niss_shell.specs.Engine.{AnswersBytes, AnswersSource, Answers, HasRoom, WritesBehind, answer_state, pending_state, stop_unless};
 
+use crate::answer::rewritten;
+use crate::command::Report;
 use crate::device::{Source, Target};
+use crate::job::Work;
+use crate::line_cube::start_position;
+use crate::output::Output;
 use crate::stop::{LineFault, Stop};
-use crate::work::Work;
-use crate::writing::write_out;
-use niss_moves::{LineReader, LineText};
+use niss_moves::LineReader;
 use niss_search::Meter;
+use niss_search::laws::counts_and_bounds;
 use std::alloc::Allocator;
-use std::mem;
 
 /// The most bytes of input.
 pub const LIMIT: usize = 16_777_216;
@@ -21,271 +22,247 @@ pub const LIMIT: usize = 16_777_216;
 /// How many bytes a read asks for.
 const BLOCK: usize = 4096;
 
-/// The line that is being read, and its number.
+/// The lines of a run: what is done with each, the looks, and the line that is being read, with its number.
 #[derive(Drop)]
-pub struct Progress {
+pub struct Lines<'a, A: Allocator> {
+    work: &'a Work<A>,
+    looks: &'a mut Meter,
     reader: LineReader,
     line: u32,
 }
 
-/// Takes the answer to a line behind those that wait.
-fn answer_line<A: Allocator, W: Target>(
-    work: &Work<A>,
-    reader: LineReader,
-    line: u32,
-    pending: &mut LineText,
-    out: &mut W,
-    looks: &mut Meter,
-) -> Result<(), Stop>
-    requires works { has_fault (W.state out.old) ≡ false }
-    requires meter { looks.old ≤ 2 ^ 127 }
-    ensures answers { (bytes : List ℕ) → IsFed reader bytes →
-        AnswersBytes (line_answers (command_of work.now)) bytes line result
-        (pending_state (W.state out.old) pending.old.items looks.old)
-        (pending_state (W.state out.new) pending.new.items looks.new) }
-    ensures works { OnOk result (has_fault (W.state out.new) ≡ false) }
-    ensures meter { looks.new ≤ looks.old + 2 ^ 93 }
-{
-    match reader.finish() {
-        Ok(niss) => work.answer(&niss, line, pending, out, looks),
-        Err(fault) => Err(Stop::Line {
-            line,
-            fault: LineFault::Unread(fault),
-        }),
-    }
-}
-
-impl Progress {
-    ghost use Rattle.niss_shell.specs.Engine.{TakesBytes, TakesEnd};
+impl<'a, A: Allocator> Lines<'a, A> {
+    ghost use Rattle.niss_shell.specs.declared.stop.Stop.TheVariants.{Done};
+    ghost use Rattle.niss_moves.specs.Reader.{moves_of};
+    ghost use Rattle.niss_shell.specs.Engine.{AnswersLine, AnswersMoves, AnswersSource, Answers, HasRoom, piece_of, only_stop, stop_unless};
+    ghost use Rattle.niss_shell.specs.Output.{answer_lines, End};
+    ghost use Rattle.niss_shell.specs.Job.{command_of};
+    ghost use Rattle.niss_shell.specs.Taking.{Keeps, AnswersOpenLine, Takes, Ends, answers_of, lines_state};
 
     /// The first line, of which nothing was read.
-    pub fn new() -> Progress
+    pub fn new(work: &'a Work<A>, looks: &'a mut Meter) -> Lines<'a, A>
+        ensures work { result.work.now ≡ work.now }
+        ensures same_meter { result.looks.ghost_name ≡ looks.entry.ghost_name }
+        ensures looks { result.looks.now ≡ looks.old }
         ensures reader { IsFed result.reader [] }
         ensures fed { result.reader.fed ≡ 0 }
         ensures line { result.line ≡ 1 }
     {
-        Progress {
+        Lines {
+            work,
+            looks,
             reader: LineReader::new(),
             line: 1,
         }
     }
 
-    /// Takes the answer to the line behind those that wait, and begins the next one.
-    fn end_line<A: Allocator, W: Target>(
-        &mut self,
-        work: &Work<A>,
-        pending: &mut LineText,
-        out: &mut W,
-        looks: &mut Meter,
-    ) -> Result<(), Stop>
-        requires works { has_fault (W.state out.old) ≡ false }
-        requires lines { self.old.line ≤ limit + 1 }
-        requires meter { HasRoom self.old.line looks.old }
-        ensures answers { (bytes : List ℕ) → IsFed self.old.reader bytes →
-            AnswersBytes (line_answers (command_of work.now)) bytes self.old.line result
-            (pending_state (W.state out.old) pending.old.items looks.old)
-            (pending_state (W.state out.new) pending.new.items looks.new) }
-        ensures works { OnOk result (has_fault (W.state out.new) ≡ false) }
-        ensures reader { IsFed self.new.reader [] }
-        ensures fed { self.new.reader.fed ≡ 0 }
-        ensures line { self.new.line ≡ self.old.line + 1 }
-        ensures meter { HasRoom self.new.line looks.new }
+    /// Writes what waits, and stops the run by a fault of the line.
+    fn refuse<W: Target>(&mut self, fault: LineFault, output: &mut Output<W>) -> Result<(), Stop>
+        requires works { has_fault (W.state output.old.target.now) ≡ false }
+        ensures keeps { Keeps self.old self.new }
+        ensures same_target { output.new.target.ghost_name ≡ output.old.target.ghost_name }
+        ensures refused { (looks most_looks : ℕ) → AnswersLine (Err fault) looks most_looks self.old.line result
+            (lines_state W.state output.old self.old) (lines_state W.state output.new self.new) }
+        ensures stops { OnOk result ⊥ }
+        ensures empty { OnErr result (output.new.pending.items ≡ []) }
+        ensures meter { self.new.looks.now ≡ self.old.looks.now }
+        ensures reader { self.new.reader ≡ self.old.reader }
+        ensures line { self.new.line ≡ self.old.line }
     {
-        let reader = mem::replace(&mut self.reader, LineReader::new());
-        let answered = answer_line(work, reader, self.line, pending, out, looks);
-        self.line += 1;
-        answered
+        output.send()?;
+        Err(Stop::Line {
+            line: self.line,
+            fault,
+        })
     }
 
-    /// Takes the next byte of the input.
-    fn take_byte<A: Allocator, W: Target>(
-        &mut self,
-        work: &Work<A>,
-        byte: u8,
-        pending: &mut LineText,
-        out: &mut W,
-        looks: &mut Meter,
-    ) -> Result<(), Stop>
-        requires works { has_fault (W.state out.old) ≡ false }
-        requires column { self.old.reader.fed + 1 ≤ limit }
-        requires lines { self.old.line ≤ limit }
-        requires meter { HasRoom self.old.line looks.old }
-        ensures takes { (front : List ℕ) → IsFed self.old.reader front →
-            TakesBytes (line_answers (command_of work.now)) front (byte ∷ []) self.old.line self.new result
-            (pending_state (W.state out.old) pending.old.items looks.old)
-            (pending_state (W.state out.new) pending.new.items looks.new) }
-        ensures works { OnOk result (has_fault (W.state out.new) ≡ false) }
-        ensures column { self.new.reader.fed ≤ self.old.reader.fed + 1 }
-        ensures lines { self.new.line ≤ self.old.line + 1 }
-        ensures meter { HasRoom self.new.line looks.new }
+    /// Takes the answer to the moves that were read after what waits. Without a search, and for its counts, it waits too;
+    /// each solution is written as it is found.
+    fn answer<W: Target>(&mut self, output: &mut Output<W>) -> Result<(), Stop>
+        requires works { has_fault (W.state output.old.target.now) ≡ false }
+        requires meter { self.old.looks.now ≤ 2 ^ 127 }
+        ensures keeps { Keeps self.old self.new }
+        ensures same_target { output.new.target.ghost_name ≡ output.old.target.ghost_name }
+        ensures answers { AnswersMoves (command_of self.old.work.now) (moves_of self.old.reader) self.old.line result
+            (lines_state W.state output.old self.old) (lines_state W.state output.new self.new) }
+        ensures works { OnOk result (has_fault (W.state output.new.target.now) ≡ false) }
+        ensures empty { OnErr result (output.new.pending.items ≡ []) }
+        ensures meter { self.new.looks.now ≤ self.old.looks.now + 2 ^ 93 }
+        ensures reader { self.new.reader ≡ self.old.reader }
+        ensures line { self.new.line ≡ self.old.line }
     {
-        if byte == b'\n' {
-            return self.end_line(work, pending, out, looks);
-        }
-        // a line is judged at its end
-        let _ = self.reader.feed(byte);
-        Ok(())
-    }
-
-    /// Takes the next bytes of the input, and lets answers wait.
-    fn gather_bytes<A: Allocator, W: Target>(
-        &mut self,
-        work: &Work<A>,
-        bytes: &[u8],
-        pending: &mut LineText,
-        out: &mut W,
-        looks: &mut Meter,
-    ) -> Result<(), Stop>
-        requires works { has_fault (W.state out.old) ≡ false }
-        requires column { self.old.reader.fed + length bytes.now ≤ limit }
-        requires lines { self.old.line + length bytes.now ≤ limit + 1 }
-        requires meter { HasRoom self.old.line looks.old }
-        ensures takes { (front : List ℕ) → IsFed self.old.reader front →
-            TakesBytes (line_answers (command_of work.now)) front bytes.now self.old.line self.new result
-            (pending_state (W.state out.old) pending.old.items looks.old)
-            (pending_state (W.state out.new) pending.new.items looks.new) }
-        ensures works { OnOk result (has_fault (W.state out.new) ≡ false) }
-        ensures column { OnOk result (self.new.reader.fed ≤ self.old.reader.fed + length bytes.now) }
-        ensures lines { OnOk result (self.new.line ≤ self.old.line + length bytes.now) }
-        ensures meter { OnOk result (HasRoom self.new.line looks.new) }
-    {
-        for byte in bytes {
-            if let Err(stop) = self.take_byte(work, *byte, pending, out, looks) {
-                return Err(stop);
+        match self.work {
+            Work::Rewrite(rewriting) => {
+                Ok(output.put(&rewritten(*rewriting, self.reader.moves()))?)
+            }
+            Work::Search(search) => {
+                counts_and_bounds();
+                // the call tells the proof that the limit is at most 20, which bounds the looks
+                let _at_most_20 = search.limit.get();
+                let Some(position) = start_position(&search.tables, self.reader.moves()) else {
+                    return self.refuse(LineFault::NoStart(search.tables.step()), output);
+                };
+                match search.report {
+                    Report::Solutions => Ok(search.solve(&position, output, self.looks)?),
+                    Report::Counts => Ok(search.count(&position, output, self.looks)?),
+                }
             }
         }
+    }
+
+    /// Takes the answer to the line after what waits, and begins the next one.
+    fn end_line<W: Target>(&mut self, output: &mut Output<W>) -> Result<(), Stop>
+        requires works { has_fault (W.state output.old.target.now) ≡ false }
+        requires lines { self.old.line ≤ limit + 1 }
+        requires meter { HasRoom self.old.line self.old.looks.now }
+        ensures keeps { Keeps self.old self.new }
+        ensures same_target { output.new.target.ghost_name ≡ output.old.target.ghost_name }
+        ensures answers { AnswersOpenLine result self.old
+            (lines_state W.state output.old self.old) (lines_state W.state output.new self.new) }
+        ensures works { OnOk result (has_fault (W.state output.new.target.now) ≡ false) }
+        ensures empty { OnErr result (output.new.pending.items ≡ []) }
+        ensures reader { OnOk result (IsFed self.new.reader []) }
+        ensures fed { OnOk result (self.new.reader.fed ≡ 0) }
+        ensures line { OnOk result (self.new.line ≡ self.old.line + 1) }
+        ensures meter { OnOk result (HasRoom self.new.line self.new.looks.now) }
+    {
+        if let Err(fault) = self.reader.end() {
+            return self.refuse(LineFault::Unread(fault), output);
+        }
+        self.answer(output)?;
+        self.reader.clear();
+        self.line += 1;
         Ok(())
+    }
+
+    /// Takes a move or a byte in front of the next bytes of the input, and answers how many bytes these are.
+    fn take_piece<W: Target>(&mut self, bytes: &[u8], output: &mut Output<W>) -> Result<usize, Stop>
+        requires some { 0 < length bytes.now }
+        requires works { has_fault (W.state output.old.target.now) ≡ false }
+        requires column { self.old.reader.fed + length bytes.now ≤ limit }
+        requires lines { self.old.line ≤ limit }
+        requires meter { HasRoom self.old.line self.old.looks.now }
+        ensures keeps { Keeps self.old self.new }
+        ensures same_target { output.new.target.ghost_name ≡ output.old.target.ghost_name }
+        ensures count { IfOk result (λ n. (0 < n) × (n ≤ length bytes.now)) }
+        ensures takes { Takes (take (piece_of result) bytes.now) (only_stop result) self.old self.new
+            (lines_state W.state output.old self.old) (lines_state W.state output.new self.new) }
+        ensures works { OnOk result (has_fault (W.state output.new.target.now) ≡ false) }
+        ensures empty { OnErr result (output.new.pending.items ≡ []) }
+        ensures column { IfOk result (λ n. self.new.reader.fed ≤ self.old.reader.fed + n) }
+        ensures lines { IfOk result (λ n. self.new.line ≤ self.old.line + n) }
+        ensures meter { OnOk result (HasRoom self.new.line self.new.looks.now) }
+    {
+        let count = self.reader.feed_move(bytes);
+        if count > 0 {
+            return Ok(count);
+        }
+        if bytes[0] == b'\n' {
+            self.end_line(output)?;
+            return Ok(1);
+        }
+        // a line is judged at its end
+        let _ = self.reader.feed(bytes[0]);
+        Ok(1)
     }
 
     /// Takes the next bytes of the input, and writes the answers to the lines that they end.
-    fn take_bytes<A: Allocator, W: Target>(
-        &mut self,
-        work: &Work<A>,
-        bytes: &[u8],
-        out: &mut W,
-        looks: &mut Meter,
-    ) -> Result<(), Stop>
-        requires works { has_fault (W.state out.old) ≡ false }
+    fn take_block<W: Target>(&mut self, bytes: &[u8], output: &mut Output<W>) -> Result<(), Stop>
+        requires works { has_fault (W.state output.old.target.now) ≡ false }
         requires column { self.old.reader.fed + length bytes.now ≤ limit }
         requires lines { self.old.line + length bytes.now ≤ limit + 1 }
-        requires meter { HasRoom self.old.line looks.old }
-        ensures takes { (front : List ℕ) → IsFed self.old.reader front →
-            TakesBytes (line_answers (command_of work.now)) front bytes.now self.old.line self.new result
-            (answer_state (W.state out.old) looks.old) (answer_state (W.state out.new) looks.new) }
-        ensures works { OnOk result (has_fault (W.state out.new) ≡ false) }
+        requires meter { HasRoom self.old.line self.old.looks.now }
+        ensures keeps { Keeps self.old self.new }
+        ensures same_target { output.new.target.ghost_name ≡ output.old.target.ghost_name }
+        ensures takes { Takes bytes.now result self.old self.new
+            (lines_state W.state output.old self.old) (lines_state W.state output.new self.new) }
+        ensures works { OnOk result (has_fault (W.state output.new.target.now) ≡ false) }
+        ensures empty { output.new.pending.items ≡ [] }
         ensures column { OnOk result (self.new.reader.fed ≤ self.old.reader.fed + length bytes.now) }
         ensures lines { OnOk result (self.new.line ≤ self.old.line + length bytes.now) }
-        ensures meter { OnOk result (HasRoom self.new.line looks.new) }
+        ensures meter { OnOk result (HasRoom self.new.line self.new.looks.now) }
     {
-        let mut pending = LineText::new();
-        let taken = self.gather_bytes(work, bytes, &mut pending, out, looks);
-        write_behind(taken, &mut pending, out)
+        let mut index = 0;
+        while index < bytes.len() {
+            index += self.take_piece(&bytes[index..], output)?;
+        }
+        Ok(output.send()?)
     }
 
     /// Takes the end of the input. A last line counts where it has a byte.
-    fn take_end<A: Allocator, W: Target>(
-        &mut self,
-        work: &Work<A>,
-        out: &mut W,
-        looks: &mut Meter,
-    ) -> Result<(), Stop>
-        requires works { has_fault (W.state out.old) ≡ false }
+    fn take_end<W: Target>(&mut self, output: &mut Output<W>) -> Result<(), Stop>
+        requires works { has_fault (W.state output.old.target.now) ≡ false }
+        requires empty { output.old.pending.items ≡ [] }
         requires lines { self.old.line ≤ limit + 1 }
-        requires meter { HasRoom self.old.line looks.old }
-        ensures { (front : List ℕ) → IsFed self.old.reader front →
-            TakesEnd (line_answers (command_of work.now)) front self.old.line result
-            (answer_state (W.state out.old) looks.old) (answer_state (W.state out.new) looks.new) }
+        requires meter { HasRoom self.old.line self.old.looks.now }
+        ensures keeps { Keeps self.old self.new }
+        ensures same_target { output.new.target.ghost_name ≡ output.old.target.ghost_name }
+        ensures ends { Ends result self.old
+            (lines_state W.state output.old self.old) (lines_state W.state output.new self.new) }
+        ensures empty { output.new.pending.items ≡ [] }
     {
         if self.reader.fed() == 0 {
             return Ok(());
         }
-        let mut pending = LineText::new();
-        let taken = self.end_line(work, &mut pending, out, looks);
-        write_behind(taken, &mut pending, out)
+        self.end_line(output)?;
+        Ok(output.send()?)
     }
-}
 
-/// Writes the answers that wait, unless a write was refused, and answers how the run goes on.
-fn write_behind<W: Target>(
-    taken: Result<(), Stop>,
-    pending: &mut LineText,
-    out: &mut W,
-) -> Result<(), Stop>
-    ensures { WritesBehind taken result pending.old.items (W.state out.old) (W.state out.new) }
-{
-    if let Err(Stop::CannotWrite) = taken {
-        return taken;
-    }
-    match write_out(pending, out) {
-        Ok(()) => taken,
-        Err(_) => Err(Stop::CannotWrite),
-    }
-}
-
-/// Reads the source, and writes the answer to each line.
-pub fn answer_source<A: Allocator, S: Source, W: Target>(
-    work: &Work<A>,
-    source: &mut S,
-    out: &mut W,
-    looks: &mut Meter,
-) -> Stop
-    requires reads { (S.state source.old).has_failed ≡ false }
-    requires goes_on { (S.state source.old).has_ended ≡ false }
-    requires works { has_fault (W.state out.old) ≡ false }
-    requires meter { looks.old ≤ 2 ^ 64 }
-    ensures { AnswersSource (line_answers (command_of work.now)) result (S.state source.old) (S.state source.new)
-        (answer_state (W.state out.old) looks.old) (answer_state (W.state out.new) looks.new) }
-{
-    let mut block = [0u8; BLOCK];
-    let mut progress = Progress::new();
-    let mut count = 0usize;
-    loop {
-        let given = match source.read(&mut block) {
-            Ok(given) => given,
-            Err(_) => return Stop::CannotRead,
-        };
-        if given == 0 {
-            return stop_after(progress.take_end(work, out, looks), Stop::Done);
+    /// Reads the source from the first line on, and writes the answer to each line.
+    pub fn read<S: Source, W: Target>(
+        &mut self,
+        source: &mut S,
+        output: &mut Output<W>,
+    ) -> Result<(), Stop>
+        requires reads { (S.state source.old).has_failed ≡ false }
+        requires goes_on { (S.state source.old).has_ended ≡ false }
+        requires works { has_fault (W.state output.old.target.now) ≡ false }
+        requires empty { output.old.pending.items ≡ [] }
+        requires reader { IsFed self.old.reader [] }
+        requires fed { self.old.reader.fed ≡ 0 }
+        requires line { self.old.line ≡ 1 }
+        requires meter { self.old.looks.now ≤ 2 ^ 64 }
+        ensures keeps { Keeps self.old self.new }
+        ensures same_target { output.new.target.ghost_name ≡ output.old.target.ghost_name }
+        ensures answers { AnswersSource (answers_of self.old) (stop_unless result Done) (S.state source.old) (S.state source.new)
+            (lines_state W.state output.old self.old) (lines_state W.state output.new self.new) }
+        ensures empty { output.new.pending.items ≡ [] }
+    {
+        let mut block = [0u8; BLOCK];
+        let mut count = 0usize;
+        loop {
+            let given = match source.read(&mut block) {
+                Ok(given) => given,
+                Err(_) => return Err(Stop::CannotRead),
+            };
+            if given == 0 {
+                return self.take_end(output);
+            }
+            let room = LIMIT - count;
+            if given > room {
+                self.take_block(&block[..room], output)?;
+                return Err(Stop::InputTooLong);
+            }
+            self.take_block(&block[..given], output)?;
+            count += given;
         }
-        let room = LIMIT - count;
-        if given > room {
-            return stop_after(
-                progress.take_bytes(work, &block[..room], out, looks),
-                Stop::InputTooLong,
-            );
-        }
-        if let Err(stop) = progress.take_bytes(work, &block[..given], out, looks) {
-            return stop;
-        }
-        count += given;
     }
-}
 
-/// Writes the answer to each line of a text.
-pub fn answer_text<A: Allocator, W: Target>(
-    work: &Work<A>,
-    text: &[u8],
-    out: &mut W,
-    looks: &mut Meter,
-) -> Stop
-    requires fits { length text.now ≤ limit }
-    requires works { has_fault (W.state out.old) ≡ false }
-    requires meter { looks.old ≤ 2 ^ 64 }
-    ensures { Answers (answer_lines (line_answers (command_of work.now)) text.now End) result
-        (answer_state (W.state out.old) looks.old) (answer_state (W.state out.new) looks.new) }
-{
-    let mut progress = Progress::new();
-    if let Err(stop) = progress.take_bytes(work, text, out, looks) {
-        return stop;
-    }
-    stop_after(progress.take_end(work, out, looks), Stop::Done)
-}
-
-fn stop_after(taken: Result<(), Stop>, otherwise: Stop) -> Stop
-    ensures { result ≡ stop_unless taken otherwise }
-{
-    match taken {
-        Ok(()) => otherwise,
-        Err(stop) => stop,
+    /// Writes the answer to each line of a text, from the first line on.
+    pub fn take_text<W: Target>(&mut self, text: &[u8], output: &mut Output<W>) -> Result<(), Stop>
+        requires fits { length text.now ≤ limit }
+        requires works { has_fault (W.state output.old.target.now) ≡ false }
+        requires reader { IsFed self.old.reader [] }
+        requires fed { self.old.reader.fed ≡ 0 }
+        requires line { self.old.line ≡ 1 }
+        requires meter { self.old.looks.now ≤ 2 ^ 64 }
+        ensures keeps { Keeps self.old self.new }
+        ensures same_target { output.new.target.ghost_name ≡ output.old.target.ghost_name }
+        ensures answers { Answers (answer_lines (answers_of self.old) text.now End) (stop_unless result Done)
+            (lines_state W.state output.old self.old) (lines_state W.state output.new self.new) }
+        ensures empty { output.new.pending.items ≡ [] }
+    {
+        self.take_block(text, output)?;
+        self.take_end(output)
     }
 }

@@ -2,7 +2,7 @@
 ghost use Rattle.std.specs.Prelude.{◌≡◌, ◌≤◌};
 ghost use Rattle.std.specs.Char.{is_ascii_digit};
 ghost use Rattle.std.specs.List.{list_all};
-ghost use Rattle.niss_shell.specs.Words.{number_of};
+ghost use Rattle.niss_shell.specs.Words.{number_of, most_limit};
 
 use niss_search::Limit;
 
@@ -26,10 +26,13 @@ pub fn number_of(word: &str, most: u64) -> Option<u64>
     }
 }
 
+/// The most turns of a solution that may be asked for.
+const MOST_LIMIT: u64 = 20;
+
 /// The limit that the word spells.
 pub fn limit_of(word: &str) -> Option<Limit>
-    ensures { result ≡ number_of 20 word.now }
+    ensures { result ≡ number_of most_limit word.now }
 {
-    let turns = number_of(word, 20)?;
+    let turns = number_of(word, MOST_LIMIT)?;
     Limit::new(turns as u8)
 }

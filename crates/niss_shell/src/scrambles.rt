@@ -1,14 +1,14 @@
-ghost use Rattle.std.specs.Prelude.{◌≡◌, ◌≤◌, ℕ, false, None};
+ghost use Rattle.std.specs.Prelude.{◌≡◌, ◌≤◌, ℕ, [], false, None};
 ghost use Rattle.niss_search.specs.Draw.{next_words, after_words, draw};
 ghost use Rattle.niss_shell.specs.Device.{has_fault};
-ghost use Rattle.niss_shell.specs.Engine.{Answers, answer_state};
+ghost use Rattle.niss_shell.specs.Engine.{Answers, output_state, stop_unless};
 ghost use Rattle.niss_shell.specs.Output.{unsearched};
 ghost use Rattle.niss_shell.specs.Scrambles.{turns_line, scramble_text};
 ghost use Rattle.niss_shell.specs.declared.stop.Stop.TheVariants.{Done};
 
 use crate::device::Target;
+use crate::output::Output;
 use crate::stop::Stop;
-use crate::writing::write_all;
 use niss_moves::{LineText, put_faces};
 use niss_search::random_turns;
 use rand_pcg::Lcg64Xsh32;
@@ -25,23 +25,22 @@ fn next_line(rng: &mut Lcg64Xsh32, turns: usize) -> LineText
     line
 }
 
-/// Writes `count` scrambles of `turns` turns, each on a line, all by one generator. It takes neither input nor memory.
+/// Writes `count` scrambles of `turns` turns, each on a line, all by one generator.
 pub fn write_scrambles<W: Target>(
     mut rng: Lcg64Xsh32,
     turns: usize,
     count: usize,
-    out: &mut W,
-) -> Stop
-    requires works { has_fault (W.state out.old) ≡ false }
+    output: &mut Output<W>,
+) -> Result<(), Stop>
+    requires works { has_fault (W.state output.old.target.now) ≡ false }
     requires turns { turns ≤ 256 }
-    ensures { (looks : ℕ) → Answers (unsearched (scramble_text turns count rng) Done) result
-        (answer_state (W.state out.old) looks) (answer_state (W.state out.new) looks) }
+    ensures same_target { output.new.target.ghost_name ≡ output.old.target.ghost_name }
+    ensures answers { (looks : ℕ) → Answers (unsearched (scramble_text turns count rng) Done) (stop_unless result Done)
+        (output_state W.state output.old looks) (output_state W.state output.new looks) }
+    ensures empty { output.new.pending.items ≡ [] }
 {
-    'scrambles: for _ in 0..count {
-        let line = next_line(&mut rng, turns);
-        if let Err(_) = write_all(out, line.as_slice()) {
-            return Stop::CannotWrite;
-        }
+    for _ in 0..count {
+        output.put(&next_line(&mut rng, turns))?;
     }
-    Stop::Done
+    Ok(output.send()?)
 }

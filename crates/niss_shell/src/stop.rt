@@ -1,10 +1,14 @@
 ghost use Rattle.std.specs.Prelude.{◌≡◌, decimal, codes, ◌+◌, ◌∷◌, [], ◌++◌, ◌≤◌, length};
 ghost use Rattle.niss_shell.specs.Output.{error_text, status_of, fault_column, fault_text, start_text, line_fault_text};
 ghost use Rattle.niss_shell.specs.Lines.{line_feed};
+ghost use Rattle.niss_shell.specs.declared.stop.Stop.TheVariants.{Usage, CannotWrite, OutOfMemory};
 
+use crate::command::UsageFault;
+use crate::device::DeviceFault;
 use crate::text::{put_number, put_text};
-use niss_cube::Step;
+use niss_cube::{OutOfMemory, Step};
 use niss_moves::{LineText, ReadFault};
+use std::alloc::AllocError;
 
 /// What is wrong with a line.
 #[derive(Clone, Copy, Debug, PartialEq, Eq)]
@@ -84,6 +88,39 @@ fn put_line_fault(line: u32, fault: LineFault, text: &mut LineText)
     match fault {
         LineFault::Unread(fault) => put_read_fault(fault, text),
         LineFault::NoStart(step) => put_start_fault(step, text),
+    }
+}
+
+impl From<DeviceFault> for Stop {
+    ghost from_gives = { λ _ stop. stop ≡ CannotWrite };
+
+    /// What a refused write or flush of the output ends a run with.
+    fn from(_: DeviceFault) -> Stop {
+        Stop::CannotWrite
+    }
+}
+
+impl From<UsageFault> for Stop {
+    ghost from_gives = { λ _ stop. stop ≡ Usage };
+
+    fn from(_: UsageFault) -> Stop {
+        Stop::Usage
+    }
+}
+
+impl From<OutOfMemory> for Stop {
+    ghost from_gives = { λ _ stop. stop ≡ OutOfMemory };
+
+    fn from(_: OutOfMemory) -> Stop {
+        Stop::OutOfMemory
+    }
+}
+
+impl From<AllocError> for Stop {
+    ghost from_gives = { λ _ stop. stop ≡ OutOfMemory };
+
+    fn from(_: AllocError) -> Stop {
+        Stop::OutOfMemory
     }
 }
 

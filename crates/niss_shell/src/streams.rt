@@ -1,6 +1,6 @@
-ghost use Rattle.std.specs.Prelude.{◌≡◌, ◌≤◌, Bool, true, false, ◌||◌, Option, List, ℕ, length, is_err, if◌then◌else◌, IfOk};
+ghost use Rattle.std.specs.Prelude.{◌≡◌, ◌≤◌, Bool, true, false, ◌||◌, Option, Ok, List, ℕ, length, is_ok, is_err, if◌then◌else◌, IfOk, IsErr, MatchResult};
 ghost use Rattle.std.specs.Io.KnownBytes.{IsAtEnd};
-ghost use Rattle.niss_shell.specs.Device.{SourceState, TargetState, Gave, has_fault, moved_bytes, found_end};
+ghost use Rattle.niss_shell.specs.Device.{SourceState, TargetState, Gave, has_fault, moved_bytes, found_end, is_refused};
 
 use crate::device::{DeviceFault, Source, Target};
 use std::io;
@@ -26,6 +26,28 @@ impl<R: io::Read> FromReader<R> {
             ended: false,
         }
     }
+
+    /// Sets the flags by what the reader answered to a request for the bytes of `buf`: every error is a failure, and none
+    /// of some bytes the end.
+    fn judge(&mut self, answer: io::Result<usize>, buf: &[u8]) -> Result<usize, DeviceFault>
+        requires works { self.old.failed ≡ false }
+        requires goes_on { self.old.ended ≡ false }
+        ensures answer { MatchResult result (λ count. answer ≡ Ok count) (λ _. IsErr answer) }
+        ensures failed { self.new.failed ≡ is_err answer }
+        ensures ended { self.new.ended ≡ found_end answer buf.now }
+        ensures reader { self.new.reader ≡ self.old.reader }
+    {
+        match answer {
+            Ok(count) => {
+                self.ended = count == 0 && !buf.is_empty();
+                Ok(count)
+            }
+            Err(_) => {
+                self.failed = true;
+                Err(DeviceFault)
+            }
+        }
+    }
 }
 
 impl<R: io::Read> Source for FromReader<R> {
@@ -48,18 +70,8 @@ impl<R: io::Read> Source for FromReader<R> {
         ensures whole { found_end result buf.new ≡ true →
             IsAtEnd (⟦<FromReader<R> as Source>⟧.state self.new).left }
     {
-        match self.reader.read(buf) {
-            Ok(count) => {
-                if count == 0 && !buf.is_empty() {
-                    self.ended = true;
-                }
-                Ok(count)
-            }
-            Err(_) => {
-                self.failed = true;
-                Err(DeviceFault)
-            }
-        }
+        let answer = self.reader.read(buf);
+        self.judge(answer, buf)
     }
 
     fn failed(&self) -> bool {
@@ -95,21 +107,20 @@ impl<W: io::Write> ToWriter<W> {
             flushed: false,
         }
     }
-}
 
-impl<W: io::Write> Target for ToWriter<W> {
-    ghost state = { λ t. record {
-      held = if t.write_failed || t.flush_failed then Option.None else W.contents t.writer;
-      write_failed = t.write_failed;
-      flush_failed = t.flush_failed;
-      flush_tried = t.flush_tried;
-      is_flushed = t.flushed;
-    } };
-
-    fn write(&mut self, piece: &[u8]) -> Result<usize, DeviceFault> {
+    /// Sets the flags by what the writer answered to the piece: every error is a failure, and so is to take none of some
+    /// bytes.
+    fn judge_write(&mut self, answer: io::Result<usize>, piece: &[u8]) -> Result<usize, DeviceFault>
+        ensures answer { MatchResult result (λ count. answer ≡ Ok count) (λ _. IsErr answer) }
+        ensures write_failed { self.new.write_failed ≡ (self.old.write_failed || is_refused answer piece.now) }
+        ensures flush_failed { self.new.flush_failed ≡ self.old.flush_failed }
+        ensures untried { self.new.flush_tried ≡ false }
+        ensures unflushed { self.new.flushed ≡ false }
+        ensures writer { self.new.writer ≡ self.old.writer }
+    {
         self.flush_tried = false;
         self.flushed = false;
-        match self.writer.write(piece) {
+        match answer {
             Ok(count) => {
                 if count == 0 && !piece.is_empty() {
                     self.write_failed = true;
@@ -123,8 +134,15 @@ impl<W: io::Write> Target for ToWriter<W> {
         }
     }
 
-    fn flush(&mut self) -> Result<(), DeviceFault> {
-        let answer = self.writer.flush();
+    /// Sets the flags by what the writer answered to a flush: every error is a failure.
+    fn judge_flush(&mut self, answer: io::Result<()>) -> Result<(), DeviceFault>
+        ensures answer { is_ok result ≡ is_ok answer }
+        ensures write_failed { self.new.write_failed ≡ self.old.write_failed }
+        ensures flush_failed { self.new.flush_failed ≡ (self.old.flush_failed || is_err answer) }
+        ensures tried { self.new.flush_tried ≡ true }
+        ensures flushed { self.new.flushed ≡ is_ok answer }
+        ensures writer { self.new.writer ≡ self.old.writer }
+    {
         self.flush_tried = true;
         self.flushed = answer.is_ok();
         match answer {
@@ -134,6 +152,26 @@ impl<W: io::Write> Target for ToWriter<W> {
                 Err(DeviceFault)
             }
         }
+    }
+}
+
+impl<W: io::Write> Target for ToWriter<W> {
+    ghost state = { λ t. record {
+      held = if t.write_failed || t.flush_failed then Option.None else W.contents t.writer;
+      write_failed = t.write_failed;
+      flush_failed = t.flush_failed;
+      flush_tried = t.flush_tried;
+      is_flushed = t.flushed;
+    } };
+
+    fn write(&mut self, piece: &[u8]) -> Result<usize, DeviceFault> {
+        let answer = self.writer.write(piece);
+        self.judge_write(answer, piece)
+    }
+
+    fn flush(&mut self) -> Result<(), DeviceFault> {
+        let answer = self.writer.flush();
+        self.judge_flush(answer)
     }
 
     fn failed(&self) -> bool {

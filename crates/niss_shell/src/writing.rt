@@ -1,8 +1,7 @@
-ghost use Rattle.std.specs.Prelude.{◌≡◌, [], OnOk, OnErr};
+ghost use Rattle.std.specs.Prelude.{◌≡◌, OnOk, OnErr};
 ghost use Rattle.niss_shell.specs.Device.{Appended, WriteRefused, has_fault};
 
 use crate::device::{DeviceFault, Target};
-use niss_moves::LineText;
 
 /// Writes the whole piece, or as much of it as the target takes before a write fails.
 pub fn write_all<W: Target>(out: &mut W, piece: &[u8]) -> Result<(), DeviceFault>
@@ -19,16 +18,4 @@ pub fn write_all<W: Target>(out: &mut W, piece: &[u8]) -> Result<(), DeviceFault
         }
     }
     Ok(())
-}
-
-/// Writes the text, and empties it.
-pub fn write_out<W: Target>(text: &mut LineText, out: &mut W) -> Result<(), DeviceFault>
-    ensures whole { OnOk result (Appended (W.state out.old) (W.state out.new) text.old.items) }
-    ensures works { OnOk result (has_fault (W.state out.new) ≡ has_fault (W.state out.old)) }
-    ensures refused { OnErr result (WriteRefused text.old.items (W.state out.old) (W.state out.new)) }
-    ensures empty { text.new.items ≡ [] }
-{
-    let written = write_all(out, text.as_slice());
-    text.clear();
-    written
 }

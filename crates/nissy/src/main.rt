@@ -1,4 +1,4 @@
-//! `nissy`: notation of the 3x3x3 cube on the command line. All is done by `niss_shell::run`.
+//! `nissy`: notation, steps of solving and scrambles of the 3x3x3 cube on the command line. All is done by `niss_shell::run`.
 #![tactic(auto)]
 
 use niss_shell::{FromReader, Meter, ToWriter, run};
@@ -18,7 +18,7 @@ fn main(rt: HostRuntime) -> ExitCode {
     }
 }
 
-// The words behind the program's own name.
+// The words after the program's own name.
 fn arguments(rt: &HostRuntime) -> io::Result<Vec<String>> {
     let mut args = env::args(rt)?;
     let _ = args.next();

@@ -1,34 +1,45 @@
 //! The turns of a step that may follow a turn.
-ghost use Rattle.std.specs.Prelude.{◌≡◌, None, filter};
-ghost use Rattle.niss_moves.specs.Canonical.{may_follow};
+ghost use Rattle.std.specs.Prelude.{◌≡◌, None};
+ghost use Rattle.niss_moves.specs.Canonical.{may_follow, face_may_follow};
 ghost use Rattle.niss_moves.specs.declared.turn.Face.TheVariants.{U, D, R, L, F, B};
-ghost use Rattle.niss_cube.specs.Steps.{turns_of};
-ghost use Rattle.niss_search.specs.Followers.{followers};
+ghost use Rattle.niss_search.specs.Followers.{AreFollowers};
 
 use arrayvec::ArrayVec;
 use niss_cube::{Face, Step, Turn};
 use niss_moves::{Power, allowed};
 use std::marker::Model;
 
+/// A turn of a step that may follow, with its column in the step's move tables.
+#[derive(Clone, Copy, Default)]
+pub struct Follower {
+    pub turn: Turn,
+    pub column: u8,
+}
+
 /// Some of the 18 turns.
-type TurnList = ArrayVec<Turn, 18>;
+type FollowerList = ArrayVec<Follower, 18>;
 
 /// The turns of a step that may stand directly after the last one, in turn order.
-fn turns_after(step: Step, last: Option<Turn>) -> TurnList
-    ensures { result.items ≡ filter (may_follow last) (turns_of step) }
+fn turns_after(step: Step, last: Option<Turn>) -> FollowerList
+    ensures { AreFollowers step (may_follow last) result.items }
 {
-    let mut list = TurnList::new();
-    for turn in step.turns() {
-        if allowed(last, *turn) {
-            list.push(*turn);
+    let turns = step.turns();
+    let mut list = FollowerList::new();
+    for column in 0..turns.len() {
+        let turn = turns[column];
+        if allowed(last, turn) {
+            list.push(Follower {
+                turn,
+                column: column as u8,
+            });
         }
     }
     list
 }
 
 /// The turns of a step that may stand directly after a turn of the face.
-fn turns_after_face(step: Step, face: Face) -> TurnList
-    ensures { result.items ≡ followers step face }
+fn turns_after_face(step: Step, face: Face) -> FollowerList
+    ensures { AreFollowers step (λ t. face_may_follow face t.face) result.items }
 {
     let last = Turn {
         face,
@@ -41,20 +52,20 @@ fn turns_after_face(step: Step, face: Face) -> TurnList
 #[derive(Drop)]
 pub struct Followers {
     step: Step,
-    first: TurnList,
-    after_up: TurnList,
-    after_down: TurnList,
-    after_right: TurnList,
-    after_left: TurnList,
-    after_front: TurnList,
-    after_back: TurnList,
-    ghost first_are: { first.items ≡ filter (may_follow None) (turns_of step) },
-    ghost up_are: { after_up.items ≡ followers step U },
-    ghost down_are: { after_down.items ≡ followers step D },
-    ghost right_are: { after_right.items ≡ followers step R },
-    ghost left_are: { after_left.items ≡ followers step L },
-    ghost front_are: { after_front.items ≡ followers step F },
-    ghost back_are: { after_back.items ≡ followers step B },
+    first: FollowerList,
+    after_up: FollowerList,
+    after_down: FollowerList,
+    after_right: FollowerList,
+    after_left: FollowerList,
+    after_front: FollowerList,
+    after_back: FollowerList,
+    ghost first_are: { AreFollowers step (may_follow None) first.items },
+    ghost up_are: { AreFollowers step (λ t. face_may_follow U t.face) after_up.items },
+    ghost down_are: { AreFollowers step (λ t. face_may_follow D t.face) after_down.items },
+    ghost right_are: { AreFollowers step (λ t. face_may_follow R t.face) after_right.items },
+    ghost left_are: { AreFollowers step (λ t. face_may_follow L t.face) after_left.items },
+    ghost front_are: { AreFollowers step (λ t. face_may_follow F t.face) after_front.items },
+    ghost back_are: { AreFollowers step (λ t. face_may_follow B t.face) after_back.items },
 }
 
 impl Model for Followers {
@@ -82,16 +93,9 @@ impl Followers {
         }
     }
 
-    /// The step.
-    pub(super) fn step(&self) -> Step
-        ensures { result ≡ self.now }
-    {
-        self.step
-    }
-
     /// The step's turns that may stand directly after the last one, in turn order.
-    pub(super) fn after(&self, last: Option<Turn>) -> &[Turn]
-        ensures { result.now ≡ filter (may_follow last) (turns_of self.now) }
+    pub(super) fn after(&self, last: Option<Turn>) -> &[Follower]
+        ensures { AreFollowers self.now (may_follow last) result.now }
     {
         let Some(last) = last else {
             return self.first.as_slice();

@@ -1,10 +1,11 @@
 //! What a step looks at in a cube.
-ghost use Rattle.std.specs.Prelude.{◌≡◌};
+ghost use Rattle.std.specs.Prelude.{◌≡◌, ◌≤◌};
 ghost use Rattle.niss_cube.specs.Map.{map_of};
 ghost use Rattle.niss_search.specs.Positions.{coordinates_of, coordinates_after, AreInRange};
 ghost use Rattle.niss_search.specs.Filling.{entry_number};
 
 use super::entries::pair_number;
+use arrayvec::ArrayVec;
 use niss_cube::{Axis, Cube, Goal, Turn, TurnTables};
 use std::alloc::Allocator;
 use std::marker::Model;
@@ -38,6 +39,7 @@ impl Coordinates {
     }
 
     /// Those after a turn.
+    #[inline(always)]
     fn after<A: Allocator>(self, turn: Turn, turn_tables: &TurnTables<A>) -> Coordinates
         requires { AreInRange self }
         ensures value { result ≡ coordinates_after self turn }
@@ -57,8 +59,8 @@ impl Coordinates {
     }
 
     /// The number of their entry in a pruning table: the flip, or the twist times 495 and the slice.
+    #[inline(always)]
     pub(super) fn entry_number(self) -> usize
-        requires { AreInRange self }
         ensures { result ≡ entry_number self }
     {
         match self {
@@ -68,35 +70,49 @@ impl Coordinates {
     }
 }
 
-/// What a step looks at in a cube: the flip on an axis for an edge orientation, twist and slice for a domino reduction.
+impl Default for Coordinates {
+    /// A flip of 0: what a list of coordinates holds where it has none.
+    fn default() -> Coordinates {
+        Coordinates::Flip {
+            axis: Axis::Fb,
+            flip: 0,
+        }
+    }
+}
+
+/// What a step looks at in a cube, for each of its goals: the flip on an axis for an edge orientation, twist and slice for a
+/// domino reduction.
 #[derive(Drop)]
 pub struct Position {
-    coordinates: Coordinates,
+    coordinates: ArrayVec<Coordinates, 3>,
 }
 
 impl Model for Position {
-    ghost use Rattle.std.specs.Prelude.{List, [], ◌∷◌};
+    ghost use Rattle.std.specs.Prelude.{List, All};
     ghost use Rattle.niss_search.specs.declared.tables.position.Coordinates.{Coordinates};
     ghost use Rattle.niss_search.specs.Positions.{AreInRange};
 
     ghost Value = { List Coordinates };
 
-    ghost view = { λ p. p.coordinates ∷ [] };
+    ghost view = { λ p. p.coordinates.items };
 
-    ghost invariant = { λ p. AreInRange p.coordinates };
+    ghost invariant = { λ p. All AreInRange p.coordinates.items };
 }
 
 impl Position {
-    ghost use Rattle.std.specs.Prelude.{◌∷◌, []};
+    ghost use Rattle.std.specs.Prelude.{All, map, length};
     ghost use Rattle.niss_search.specs.Positions.{position_after};
 
-    /// The position of a cube, by the goal of the step.
-    pub(super) fn of(goal: Goal, cube: &Cube) -> Position
-        ensures { result ≡ coordinates_of goal (map_of cube.now) ∷ [] }
+    /// The position of a cube, by the goals of the step.
+    pub(super) fn of(goals: &[Goal], cube: &Cube) -> Position
+        requires { length goals.now ≤ 3 }
+        ensures { result ≡ map (λ goal. coordinates_of goal (map_of cube.now)) goals.now }
     {
-        Position {
-            coordinates: Coordinates::of(goal, cube),
+        let mut coordinates = ArrayVec::new();
+        for goal in goals {
+            coordinates.push(Coordinates::of(*goal, cube));
         }
+        Position { coordinates }
     }
 
     /// The position after a turn.
@@ -104,16 +120,19 @@ impl Position {
     pub(super) fn after<A: Allocator>(&self, turn: Turn, turn_tables: &TurnTables<A>) -> Position
         ensures { result ≡ position_after self.now turn }
     {
-        Position {
-            coordinates: self.coordinates.after(turn, turn_tables),
+        let mut after = ArrayVec::new();
+        for coordinates in self.coordinates.as_slice() {
+            after.push(coordinates.after(turn, turn_tables));
         }
+        Position { coordinates: after }
     }
 
-    /// The coordinates.
-    pub(super) fn coordinates(&self) -> Coordinates
-        ensures value { self.now ≡ result ∷ [] }
-        ensures in_range { AreInRange result }
+    /// The coordinates, a goal after the other.
+    pub(super) fn coordinates(&self) -> &[Coordinates]
+        ensures value { result.now ≡ self.now }
+        ensures few { length result.now ≤ 3 }
+        ensures in_range { All AreInRange result.now }
     {
-        self.coordinates
+        self.coordinates.as_slice()
     }
 }

@@ -1,6 +1,5 @@
-use Rattle.std.proofs.Common.{◌++◌}
-use Rattle.niss_moves.specs.Effects.{inverse}
-use Rattle.niss_moves.proofs.Inverses.{joined, inverse_of, undone_by}
+use Rattle.niss_moves.proofs.Inverses.{joined, inverse_of}
+use Rattle.niss_moves.proofs.WholeEffect.{inverse_undoes_line}
 use Rattle.niss_moves.proofs.sequence.invert.Goals as goal
 
 pub returns-clause-moves : goal.returns-clause-moves
@@ -9,6 +8,6 @@ returns-clause-moves c =
     inverse_of _ n.normal n.bracketed (joined _ _ _ _ _ n.bracketed n.normal c.new-moves.ensures c.inverse.ensures.moves c.normal.ensures.moves c.push_all.ensures c.push_inverse.ensures)
 
 pub returns-clause-effect : goal.returns-clause-effect
-returns-clause-effect c q =
+returns-clause-effect c s q h =
     let n = c.args.niss.now in
-    undone_by _ (n.normal ++ inverse n.bracketed) q (inverse_of _ n.normal n.bracketed (joined _ _ _ _ _ n.bracketed n.normal c.new-moves.ensures c.inverse.ensures.moves c.normal.ensures.moves c.push_all.ensures c.push_inverse.ensures))
+    inverse_undoes_line _ n.normal n.bracketed s q h (inverse_of _ n.normal n.bracketed (joined _ _ _ _ _ n.bracketed n.normal c.new-moves.ensures c.inverse.ensures.moves c.normal.ensures.moves c.push_all.ensures c.push_inverse.ensures))

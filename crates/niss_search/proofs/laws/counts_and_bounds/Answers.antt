@@ -1,5 +1,6 @@
 use Rattle.niss_search.proofs.CountLaws.{count-recurrence, part-has-no-more, step-bound}
 use Rattle.niss_search.proofs.Bounds.{all_looks-bound, bound-small}
+use Rattle.niss_search.proofs.LookLemmas.{distance_at-least}
 use Rattle.niss_search.proofs.TickLemmas.{entries-counted, edge-fill-small, fill-small}
 use Rattle.niss_search.proofs.laws.counts_and_bounds.Goals as goal
 
@@ -22,7 +23,10 @@ pub returns-clause-entries : goal.returns-clause-entries
 returns-clause-entries c = entries-counted
 
 pub returns-clause-edge_fill : goal.returns-clause-edge_fill
-returns-clause-edge_fill c = edge-fill-small
+returns-clause-edge_fill c = edge-fill-small c.domino_keeps_start.ensures
 
 pub returns-clause-fill : goal.returns-clause-fill
-returns-clause-fill c = fill-small
+returns-clause-fill c = fill-small c.domino_keeps_start.ensures
+
+pub returns-clause-least : goal.returns-clause-least
+returns-clause-least c = distance_at-least

@@ -1,31 +1,53 @@
-use Rattle.std.proofs.Common.{ap, ◌∙◌}
+use Rattle.std.proofs.Common.{◌≡◌, Ok, Err, refl, ap, ◌∙◌, arith}
+use Rattle.std.proofs.lemmas.Result.{err_from_is_err_and}
 use Rattle.niss_search.specs.Draw.{after_words}
+use Rattle.niss_shell.specs.Engine.{output_state}
 use Rattle.niss_shell.specs.Scrambles.{scramble_text}
-use Rattle.niss_shell.proofs.DeviceLemmas.{appended_nothing}
-use Rattle.niss_shell.proofs.ScrambleLemmas.{no_scramble, after_scramble, line_of_next, written_more, refused_line, answers_refused}
+use Rattle.niss_shell.proofs.PendingLemmas.{then_sent}
+use Rattle.niss_shell.proofs.ScrambleLemmas.{no_scramble, after_scramble, line_of_next, none_written, written_more, all_written, refused_line}
 use Rattle.niss_shell.proofs.scrambles.write_scrambles.Goals as goal
 
-pub scrambles-init : goal.scrambles-init
-scrambles-init g c = record {
+pub loop-init : goal.loop-init
+loop-init g c = record {
   generator = no_scramble c.args.turns c.args.rng;
-  works = c.requires.works;
-  written = appended_nothing (g.W.Target.state c.args.out.now);
+  same_target = refl;
+  written = λ looks. none_written c.args.turns c.args.rng (output_state g.W.Target.state c.args.output.now looks) c.requires.works;
 }
 
-pub scrambles-preserved : goal.scrambles-preserved
-scrambles-preserved g c = record {
-  generator = c.next_line-line.ensures.words ∙ ap (after_words c.args.turns) c.scrambles.invariant.generator ∙ after_scramble c.args.turns c.scrambles.counter c.args.rng;
-  works = c.in_default.ensures.works ∙ c.scrambles.invariant.works;
-  written = written_more c.args.turns c.scrambles.counter c.args.rng c.as_slice.result.now
-      (g.W.Target.state c.args.out.now) (g.W.Target.state c.scrambles.out) (g.W.Target.state c.write_all.new.out)
-      (c.as_slice.ensures.value ∙ c.next_line-line.ensures.line ∙ line_of_next c.args.turns c.scrambles.counter c.args.rng c.scrambles.rng c.scrambles.invariant.generator)
-      c.scrambles.invariant.works c.scrambles.invariant.written c.in_default.ensures.whole;
+pub loop-preserved : goal.loop-preserved
+loop-preserved g c = record {
+  generator = c.next_line.ensures.words ∙ ap (after_words c.args.turns) c.loop.invariant.generator ∙ after_scramble c.args.turns c.loop.counter c.args.rng;
+  same_target = c.in_ok-put.ensures.same_target ∙ c.loop.invariant.same_target;
+  written = λ looks. written_more c.args.turns c.loop.counter c.args.rng c.next_line.result.items
+      (output_state g.W.Target.state c.args.output.now looks) (output_state g.W.Target.state c.loop.output looks) (output_state g.W.Target.state c.put.new.self looks)
+      (c.next_line.ensures.line ∙ line_of_next c.args.turns c.loop.counter c.args.rng c.loop.rng c.loop.invariant.generator)
+      (c.loop.invariant.written looks) (c.in_ok-put.ensures.taken (c.loop.invariant.written looks).works looks);
 }
 
-pub returns-in-Err : goal.returns-in-Err
-returns-in-Err g c =
-    answers_refused (scramble_text c.args.turns c.args.count c.args.rng) (g.W.Target.state c.args.out.now) (g.W.Target.state c.write_all.new.out)
-    (refused_line c.args.turns c.scrambles.counter c.args.count c.args.rng c.as_slice.result.now
-    (g.W.Target.state c.args.out.now) (g.W.Target.state c.scrambles.out) (g.W.Target.state c.write_all.new.out) c.scrambles-test.true
-    (c.as_slice.ensures.value ∙ c.next_line-line.ensures.line ∙ line_of_next c.args.turns c.scrambles.counter c.args.rng c.scrambles.rng c.scrambles.invariant.generator)
-    c.scrambles.invariant.works c.scrambles.invariant.written c.in-Err.ensures.refused)
+pub returns-in_err-put-clause-answers : goal.returns-in_err-put-clause-answers
+returns-in_err-put-clause-answers g c =
+    let p = err_from_is_err_and c.from_residual.result c.from_residual.ensures.1 in
+    rw (p.1, p.2) (λ looks. refused_line c.args.turns c.loop.counter c.args.count c.args.rng c.next_line.result.items
+    (output_state g.W.Target.state c.args.output.now looks) (output_state g.W.Target.state c.loop.output looks) (output_state g.W.Target.state c.put.new.self looks)
+    c.loop-test.true
+    (c.next_line.ensures.line ∙ line_of_next c.args.turns c.loop.counter c.args.rng c.loop.rng c.loop.invariant.generator)
+    (c.loop.invariant.written looks) (c.in_err-put.ensures.taken (c.loop.invariant.written looks).works looks))
+
+pub returns-in_err-send-clause-answers : goal.returns-in_err-send-clause-answers
+returns-in_err-send-clause-answers g c =
+    let p = err_from_is_err_and c.from_residual-in_err-send.result c.from_residual-in_err-send.ensures.1 in
+    let all : c.loop.counter ≡ c.args.count = omega (arith, c.loop-test.false, c.loop.auto.counter-end) in
+    rw (p.1, p.2) (λ looks. then_sent {T = Unit {0}} (Err (record {})) (scramble_text c.args.turns c.args.count c.args.rng) 0 0
+    (output_state g.W.Target.state c.args.output.now looks) (output_state g.W.Target.state c.loop.output looks) (output_state g.W.Target.state c.send.new.self looks)
+    (all_written c.args.turns c.loop.counter c.args.count c.args.rng _ _ all (c.loop.invariant.written looks))
+    (c.in_err-send.ensures.sent (c.loop.invariant.written looks).works looks))
+
+pub returns-clause-answers : goal.returns-clause-answers
+returns-clause-answers g c = λ looks.
+    let all : c.loop.counter ≡ c.args.count = omega (arith, c.loop-test.false, c.loop.auto.counter-end) in (
+      refl,
+      then_sent {T = Unit {0}} (Ok tt) (scramble_text c.args.turns c.args.count c.args.rng) 0 0
+          (output_state g.W.Target.state c.args.output.now looks) (output_state g.W.Target.state c.loop.output looks) (output_state g.W.Target.state c.send.new.self looks)
+          (all_written c.args.turns c.loop.counter c.args.count c.args.rng _ _ all (c.loop.invariant.written looks))
+          (c.in_ok-send.ensures.sent (c.loop.invariant.written looks).works looks),
+    )

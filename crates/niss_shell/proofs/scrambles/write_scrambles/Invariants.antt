@@ -1,12 +1,13 @@
-use Rattle.std.proofs.Common.{◌≡◌, ◌*◌, false}
+use Rattle.std.proofs.Common.{◌≡◌, ◌*◌, ℕ}
 use Rattle.niss_search.specs.Draw.{after_words}
-use Rattle.niss_shell.specs.Device.{has_fault, Appended}
+use Rattle.niss_shell.specs.Engine.{Writes, output_state}
 use Rattle.niss_shell.specs.Scrambles.{scramble_text}
 use Rattle.niss_shell.proofs.scrambles.write_scrambles.Given as goal
 
-abbrev pub invariant-scrambles : goal.invariant-scrambles
-invariant-scrambles g l = record {
+abbrev pub invariant-loop : goal.invariant-loop
+invariant-loop g l = record {
   generator : l.rng ≡ after_words (l.turns * l.counter) l.fn.rng;
-  works : has_fault (g.W.Target.state l.out) ≡ false;
-  written : Appended (g.W.Target.state l.initial.out) (g.W.Target.state l.out) (scramble_text l.turns l.counter l.fn.rng);
+  same_target : l.output.target.ghost_name ≡ l.initial.output.target.ghost_name;
+  written : (looks : ℕ) → Writes (scramble_text l.turns l.counter l.fn.rng) 0 0
+      (output_state g.W.Target.state l.initial.output looks) (output_state g.W.Target.state l.output looks);
 }

@@ -3,7 +3,8 @@ use Rattle.std.specs.List.{list_all}
 use Rattle.niss_moves.specs.Places.{Place, same_place}
 use Rattle.niss_cube.specs.Map.{sticker_map}
 use Rattle.niss_moves.specs.Facelets.{places}
-use Rattle.niss_cube.proofs.Each.{at_place, same_place-is}
+use Rattle.niss_cube.proofs.Each.{at_place}
+use Rattle.niss_moves.proofs.CallerLemmas.{same_place_is}
 use Rattle.niss_cube.proofs.cube.Cube.solved.Goals as goal
 
 abbrev solved_map : Place → Place
@@ -13,4 +14,4 @@ solved_test : list_all (λ q. same_place (solved_map q) q) places ≡ true
 solved_test = refl
 
 pub returns : goal.returns
-returns c = λ q p. same_place-is (solved_map q) q (at_place (λ q. same_place (solved_map q) q) solved_test q p)
+returns c = λ q p. same_place_is (solved_map q) q (at_place (λ q. same_place (solved_map q) q) solved_test q p)

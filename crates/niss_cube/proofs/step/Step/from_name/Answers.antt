@@ -2,11 +2,11 @@ use Rattle.std.proofs.Common.{◌≡◌, ◌≢◌, ℕ, ◌<◌, Option, Some, 
 use Rattle.std.specs.Prelude.{IfNone, IfSome, MatchOption, slice_index_or}
 use Rattle.niss_cube.specs.Steps.{steps, name_of}
 use Rattle.niss_cube.specs.declared.step.Step.{Step}
-use Rattle.niss_cube.specs.declared.step.Step.TheVariants.{Eofb, Eorl, Eoud, DrudEofb, DrrlEofb, DrudEorl, DrfbEorl, DrrlEoud, DrfbEoud}
+use Rattle.niss_cube.specs.declared.step.Step.TheVariants.{Eofb, Eorl, Eoud, DrudEofb, DrrlEofb, DrudEorl, DrfbEorl, DrrlEoud, DrfbEoud, Eo, DrEofb, DrEorl, DrEoud}
 use Rattle.niss_cube.proofs.step.Step.from_name.Goals as goal
 
 -- what holds of each item, where the items are the steps, holds of each step
-of_each : (P : Step → Type 0) (at : ℕ → Option Step) → ((k : ℕ) → k < 9 → at k ≡ Some (slice_index_or steps k Eofb)) → ((k : ℕ) → IfSome (at k) P) → (s : Step) → P s
+of_each : (P : Step → Type 0) (at : ℕ → Option Step) → ((k : ℕ) → k < 13 → at k ≡ Some (slice_index_or steps k Eofb)) → ((k : ℕ) → IfSome (at k) P) → (s : Step) → P s
 of_each P at is all s = elim s as P [
   | Eofb ↦ of 0 (omega arith)
   | Eorl ↦ of 1 (omega arith)
@@ -17,9 +17,13 @@ of_each P at is all s = elim s as P [
   | DrfbEorl ↦ of 6 (omega arith)
   | DrrlEoud ↦ of 7 (omega arith)
   | DrfbEoud ↦ of 8 (omega arith)
+  | Eo ↦ of 9 (omega arith)
+  | DrEofb ↦ of 10 (omega arith)
+  | DrEorl ↦ of 11 (omega arith)
+  | DrEoud ↦ of 12 (omega arith)
 ]
   where
-    of : (k : ℕ) → k < 9 → P (slice_index_or steps k Eofb)
+    of : (k : ℕ) → k < 13 → P (slice_index_or steps k Eofb)
     of k l = subst (λ o. IfSome o P) (is k l) (all k)
 
 where_none : {X W Q : Type 0} (E : X → Type 0) (r : Option X) → MatchOption r W E → (W → Q) → IfNone r Q

@@ -1,7 +1,12 @@
-use Rattle.niss_cube.proofs.TableSteps.{numbers_after-are}
+use Rattle.std.proofs.Common.{arith}
+use Rattle.niss_cube.proofs.TableSteps.{once-below, twice-below, numbers_after-are}
 use Rattle.niss_cube.proofs.turn_tables.Coordinate.numbers_after.Goals as goal
 
+pub entry-twice-requires : goal.entry-twice-requires
+entry-twice-requires c = omega (arith, c.requires.rows.rows_count, once-below c.args.self c.args.rows.now c.requires.rows c.args.number c.args.face c.requires.number c.entry-once.result c.entry-once.ensures)
+
+pub entry-requires : goal.entry-requires
+entry-requires c = omega (arith, c.requires.rows.rows_count, twice-below c.args.self c.args.rows.now c.requires.rows c.args.number c.args.face c.requires.number c.entry-once.result c.entry-once.ensures c.entry-twice.result c.entry-twice.ensures)
+
 pub returns : goal.returns
-returns c =
-    numbers_after-are c.args.self c.args.face c.args.cube.now c.turn.new.self c.turn-2.new.self c.turn-3.new.self c.turn.ensures c.turn-2.ensures c.turn-3.ensures
-    c.number.result c.number-2.result c.number-3.result c.number.ensures c.number-2.ensures c.number-3.ensures
+returns c = numbers_after-are c.args.self c.args.rows.now c.requires.rows c.args.number c.args.face c.requires.number c.entry-once.result c.entry-once.ensures c.entry-twice.result c.entry-twice.ensures c.entry.result c.entry.ensures

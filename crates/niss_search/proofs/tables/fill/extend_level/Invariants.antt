@@ -9,8 +9,8 @@ decreases-loop-entry g l = length l.distances - l.from
 
 abbrev pub invariant-loop-entry : goal.invariant-loop-entry
 invariant-loop-entry g l = record {
-  filling : IsFilling l.turns l.level l.distances;
+  filling : IsFilling (g.M.GoalMoves.alternative l.moves) l.level l.distances;
   within : l.from ≤ length l.distances;
-  extended : (j : ℕ) → j < l.from → entry_distance l.turns j ≡ l.level → IsExtended l.turns l.distances j;
-  ticks : l.meter ≡ l.fn.meter + length (turns_of l.turns) * count_by (λ x. entry_distance l.turns x == l.level) (range_with_len 0 l.from);
+  extended : (j : ℕ) → j < l.from → entry_distance (g.M.GoalMoves.alternative l.moves) j ≡ l.level → IsExtended (g.M.GoalMoves.alternative l.moves) l.distances j;
+  ticks : l.meter ≡ l.fn.meter + length (turns_of (g.M.GoalMoves.alternative l.moves).step) * count_by (λ x. entry_distance (g.M.GoalMoves.alternative l.moves) x == l.level) (range_with_len 0 l.from);
 }

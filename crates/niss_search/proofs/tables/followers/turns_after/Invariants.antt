@@ -1,12 +1,15 @@
-use Rattle.std.proofs.Common.{◌≡◌, ◌≤◌, length, take, filter}
+use Rattle.std.proofs.Common.{◌≡◌, ◌≤◌, length, take, filter, map, All}
 use Rattle.niss_moves.specs.Canonical.{may_follow}
 use Rattle.niss_cube.specs.Steps.{turns_of}
+use Rattle.niss_search.specs.Followers.{IsFollower}
 use Rattle.niss_search.proofs.tables.followers.turns_after.Given as goal
 
-abbrev pub invariant-loop-turn : goal.invariant-loop-turn
-invariant-loop-turn l = record {
-  items : l.turn-items ≡ turns_of l.fn.step;
-  few : length l.turn-items ≤ 18;
-  kept : l.list.items ≡ filter (may_follow l.last) (take l.turn-index l.turn-items);
-  long : length l.list.items ≤ l.turn-index;
+abbrev pub invariant-loop-column : goal.invariant-loop-column
+invariant-loop-column l = record {
+  items : l.turns ≡ turns_of l.fn.step;
+  few : length l.turns ≤ 18;
+  end : l.column-end ≡ length l.turns;
+  kept : map (λ f. f.turn) l.list.items ≡ filter (may_follow l.last) (take l.column l.turns);
+  columns : All (IsFollower l.fn.step) l.list.items;
+  long : length l.list.items ≤ l.column;
 }

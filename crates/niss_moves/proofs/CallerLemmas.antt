@@ -1,0 +1,11 @@
+-- Facts on the public definitions that the crates above cite. Of this crate's proofs they name this file alone.
+
+-- places and faces by their tests
+pub use Rattle.niss_moves.proofs.Finite.{same_place_is, same_place_of, same_place_self}
+pub use Rattle.niss_moves.proofs.Rotations.{same_face_is}
+pub use Rattle.niss_moves.proofs.ListedPlaces.{all_places}
+-- sequences one after the other
+pub use Rattle.niss_moves.proofs.Inverses.{effect-append}
+pub use Rattle.niss_moves.proofs.AllCanonical.{last_turn-push}
+-- facelet texts of maps
+pub use Rattle.niss_moves.proofs.SameLetters.{same_letters}

@@ -1,0 +1,39 @@
+use Rattle.std.proofs.Common.{◌∙◌, ap, subst, refl, arith, List, [], map}
+use Rattle.std.proofs.lemmas.List.{take_all, drop_all}
+use Rattle.niss_moves.specs.Cleaning.{Cleans}
+use Rattle.niss_moves.specs.Effects.{effect}
+use Rattle.niss_moves.specs.Facelets.{centre}
+use Rattle.niss_moves.specs.Faces.{faces}
+use Rattle.niss_moves.specs.Helpers.{turns_in}
+use Rattle.niss_moves.specs.Rotations.{face_before, renamed_turn, spelling}
+use Rattle.niss_moves.specs.declared.turn.Turn.{Turn}
+use Rattle.niss_moves.proofs.Cleaned.{cleans_all}
+use Rattle.niss_moves.proofs.Pushed.{Pushed, cleans_more, centres_more, map_none}
+use Rattle.niss_moves.proofs.cleaning.clean_into.Goals as goal
+
+pub loop-token-init : goal.loop-token-init
+loop-token-init c =
+    rw (c.new-rotation.ensures, c.requires.empty) (record { room = omega arith; canonical = refl; cleans = λ s d. subst (λ (x : List Turn). Cleans x s) (map_none _) d; centres = λ f. refl })
+
+pub loop-token-preserved : goal.loop-token-preserved
+loop-token-preserved c =
+    let m = c.take_move in
+    let ts = c.args.tokens.now in
+    let l = c.loop-token in
+    let pushed : Pushed l.rotation _ [] (turns_in m.result) m.new.self = record { faces = m.ensures.faces; effect = m.ensures.effect } in
+    record {
+      room = omega (arith, c.push_clean_turns.ensures.len, l.invariant.room);
+      canonical = c.push_clean_turns.ensures.canonical;
+      cleans = cleans_more ts l.token-index _ l.rotation m.new.self (turns_in m.result) l.turns.items c.push_clean_turns.new.turns.items (faces ts) c.loop-token-test.true pushed c.push_clean_turns.ensures.cleans l.invariant.cleans;
+      centres = centres_more ts l.token-index _ l.rotation m.new.self (turns_in m.result) c.loop-token-test.true pushed l.invariant.centres;
+    }
+
+pub returns-clause-clean : goal.returns-clause-clean
+returns-clause-clean c =
+    let l = c.loop-token in
+    l.invariant.cleans l.turns.items (cleans_all l.turns.items _ l.invariant.canonical (ap (λ ts. map (renamed_turn (face_before l.rotation)) (faces ts)) (drop_all l.token-index c.args.tokens.now c.loop-token-test.false)))
+
+pub returns-clause-rotation : goal.returns-clause-rotation
+returns-clause-rotation c f =
+    let l = c.loop-token in
+    ap (λ r. effect (spelling r) (centre f)) c.rotation.ensures ∙ l.invariant.centres f ∙ ap (λ s. effect s (centre f)) (take_all _ _ c.loop-token-test.false)

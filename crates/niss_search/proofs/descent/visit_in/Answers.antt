@@ -1,0 +1,32 @@
+use Rattle.std.proofs.Common.{arith, ◌<◌}
+use Rattle.niss_search.specs.Delivery.{at_limit}
+use Rattle.niss_search.specs.Descent.{found_below, looks_beyond, descent_state}
+use Rattle.niss_search.specs.Positions.{distance_at}
+use Rattle.niss_search.proofs.DescentLemmas.{found_below-far, looks_below-far, looks_below-one, looks_below-some, GoesThrough-look, Descends-look}
+use Rattle.niss_search.proofs.descent.visit_in.Goals as goal
+
+pub look-requires-clause-meter : goal.look-requires-clause-meter
+look-requires-clause-meter g c =
+    omega (arith, looks_below-some c.args.tables.now.followers c.args.position.now c.args.path.now.turns c.args.left)
+
+pub returns-then-look-left-clause-descends : goal.returns-then-look-left-clause-descends
+returns-then-look-left-clause-descends g c =
+    let step = c.args.tables.now.followers in
+    let p = c.args.path.now.turns in
+    let seen = rw c.state-state.ensures at c.look.ensures.value in
+    let far : c.args.left < distance_at step c.args.position.now = omega arith in
+    rw (found_below-far step c.args.position.now p c.args.left far, looks_below-far step c.args.position.now p c.args.left far)
+    (GoesThrough-look (at_limit g.K.Sink.took c.args.path.now.limit) (at_limit g.K.Sink.refused c.args.path.now.limit) c.args.meter c.look.new.meter c.args.count.now c.args.sink.now c.look.ensures.tick)
+
+pub extend-requires-clause-meter : goal.extend-requires-clause-meter
+extend-requires-clause-meter g c =
+    rw c.state-state.ensures (omega (arith, looks_below-one c.args.tables.now.followers c.args.position.now c.args.path.now.turns c.args.left))
+
+pub returns-clause-descends : goal.returns-clause-descends
+returns-clause-descends g c =
+    let step = c.args.tables.now.followers in
+    let p = c.args.path.now.turns in
+    let took = at_limit g.K.Sink.took c.args.path.now.limit in
+    let refused = at_limit g.K.Sink.refused c.args.path.now.limit in
+    rw (looks_below-one step c.args.position.now p c.args.left)
+    (Descends-look took refused c.extend.result.1 (found_below step c.args.position.now p c.args.left) (looks_beyond step c.args.position.now p c.args.left) c.args.meter c.look.new.meter c.args.count.now c.args.sink.now (descent_state c.extend.result.0 c.extend.new.count c.extend.new.sink) c.look.ensures.tick (rw c.state-state.ensures at c.extend.ensures.descends))

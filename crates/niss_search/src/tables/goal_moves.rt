@@ -1,0 +1,199 @@
+//! How the turns of a step move the coordinates of one of its goals.
+ghost use Rattle.std.specs.Prelude.{◌≡◌, ◌<◌, length, IfOk};
+ghost use Rattle.niss_cube.specs.Steps.{turns_of};
+ghost use Rattle.niss_cube.specs.declared.step.Goal.TheVariants.{Edges, Domino};
+ghost use Rattle.niss_search.specs.Entries.{count_for};
+ghost use Rattle.niss_search.specs.Filling.{Alternative, IsEntry, entry_number, entry_at};
+ghost use Rattle.niss_search.specs.Moves.{turn_at};
+ghost use Rattle.niss_search.specs.Positions.{coordinates_after};
+ghost use Rattle.niss_search.specs.declared.tables.position.Coordinates.{Coordinates};
+ghost use Rattle.niss_search.specs.declared.tables.position.Coordinates.TheVariants.{Flip, TwistAndSlice};
+ghost use Rattle.niss_search.specs.declared.tables.move_table.Coordinate.TheVariants as coordinate;
+
+use super::entries::{FLIPS, SLICES, TWISTS, pair_number};
+use super::move_table::{Coordinate, MoveTable};
+use niss_cube::{Axis, OutOfMemory, Step, TurnTables};
+use std::alloc::Allocator;
+
+/// The coordinates of a goal of a step, as numbers without their axis, and where the step's turns lead them.
+pub trait GoalMoves {
+    /// The numbers.
+    type State: Copy;
+
+    /// The step and the goal.
+    ghost alternative: { Self → Alternative };
+
+    /// The coordinates of a state.
+    ghost coordinates: { Self → Self.State → Coordinates };
+
+    /// How many turns the step has.
+    fn turns(&self) -> usize
+        ensures { result ≡ length (turns_of (alternative self.now).step) };
+
+    /// How many entries the pruning table has.
+    fn entries(&self) -> usize
+        ensures { result ≡ count_for (alternative self.now).goal };
+
+    /// The state of an entry.
+    fn state_at(&self, entry: usize) -> Self::State
+        requires { entry < count_for (alternative self.now).goal }
+        ensures { coordinates self.now result ≡ entry_at (alternative self.now).goal entry };
+
+    /// The number of its entry in the pruning table.
+    fn entry(&self, state: Self::State) -> usize
+        ensures number { result ≡ entry_number (coordinates self.now state) }
+        ensures entry { IsEntry (alternative self.now).goal (coordinates self.now state) };
+
+    /// The state after the turn of a column.
+    fn after(&self, state: Self::State, column: usize) -> Self::State
+        requires { column < length (turns_of (alternative self.now).step) }
+        ensures { coordinates self.now result
+            ≡ coordinates_after (coordinates self.now state) (turn_at (alternative self.now).step column) };
+}
+
+/// A flip, on an axis that is known.
+#[derive(Clone, Copy)]
+pub struct FlipState {
+    flip: u16,
+    ghost in_range: { flip < 2048 },
+}
+
+/// The flips of an edge orientation.
+#[derive(Drop)]
+pub struct EdgeMoves<A: Allocator> {
+    flips: MoveTable<A>,
+    ghost are_flips: { flips.coordinate ≡ coordinate.Flip },
+}
+
+impl<A: Allocator> EdgeMoves<A> {
+    /// Those of a step, on an axis.
+    pub fn build_in<B: Allocator>(
+        alloc: A,
+        step: Step,
+        axis: Axis,
+        turn_tables: &TurnTables<B>,
+    ) -> Result<EdgeMoves<A>, OutOfMemory>
+        ensures { IfOk result (λ m. (m.flips.step ≡ step) × (m.flips.axis ≡ axis)) }
+    {
+        let flips = MoveTable::build_in(alloc, Coordinate::Flip, axis, step, turn_tables)?;
+        Ok(EdgeMoves { flips })
+    }
+}
+
+impl<A: Allocator> GoalMoves for EdgeMoves<A> {
+    type State = FlipState;
+
+    ghost alternative = { λ m. record { step = m.flips.step; goal = Edges m.flips.axis } };
+
+    ghost coordinates = { λ m s. Flip m.flips.axis s.flip };
+
+    fn turns(&self) -> usize {
+        self.flips.turns()
+    }
+
+    #[tactic(auto, unfolding(crate::specs::Entries::count_for))]
+    fn entries(&self) -> usize {
+        FLIPS
+    }
+
+    #[tactic(auto, unfolding(crate::specs::Entries::count_for))]
+    fn state_at(&self, entry: usize) -> FlipState {
+        FlipState { flip: entry as u16 }
+    }
+
+    #[tactic(auto, unfolding(crate::specs::Entries::count_for))]
+    #[inline(always)]
+    fn entry(&self, state: FlipState) -> usize {
+        state.flip as usize
+    }
+
+    #[inline(always)]
+    fn after(&self, state: FlipState, column: usize) -> FlipState {
+        FlipState {
+            flip: self.flips.after(state.flip, column),
+        }
+    }
+}
+
+/// A twist and a slice, on an axis that is known.
+#[derive(Clone, Copy)]
+pub struct PairState {
+    twist: u16,
+    slice: u16,
+    ghost twist_in_range: { twist < 2187 },
+    ghost slice_in_range: { slice < 495 },
+}
+
+/// The twists and slices of a domino reduction.
+#[derive(Drop)]
+pub struct DominoMoves<A: Allocator> {
+    edges: Axis,
+    twists: MoveTable<A>,
+    slices: MoveTable<A>,
+    ghost are_twists: { twists.coordinate ≡ coordinate.Twist },
+    ghost are_slices: { slices.coordinate ≡ coordinate.Slice },
+    ghost one_axis: { slices.axis ≡ twists.axis },
+    ghost one_step: { slices.step ≡ twists.step },
+}
+
+impl<A: Allocator> DominoMoves<A> {
+    /// Those of a step, on an axis, from edges that are oriented on another.
+    pub fn build_in<B: Allocator>(
+        alloc: A,
+        step: Step,
+        edges: Axis,
+        axis: Axis,
+        turn_tables: &TurnTables<B>,
+    ) -> Result<DominoMoves<A>, OutOfMemory>
+    where
+        A: Copy,
+        ensures { IfOk result (λ m. (m.twists.step ≡ step) × (m.twists.axis ≡ axis) × (m.edges ≡ edges)) }
+    {
+        let twists = MoveTable::build_in(alloc, Coordinate::Twist, axis, step, turn_tables)?;
+        let slices = MoveTable::build_in(alloc, Coordinate::Slice, axis, step, turn_tables)?;
+        Ok(DominoMoves {
+            edges,
+            twists,
+            slices,
+        })
+    }
+}
+
+impl<A: Allocator> GoalMoves for DominoMoves<A> {
+    type State = PairState;
+
+    ghost alternative = { λ m. record { step = m.twists.step; goal = Domino m.edges m.twists.axis } };
+
+    ghost coordinates = { λ m s. TwistAndSlice m.twists.axis s.twist s.slice };
+
+    fn turns(&self) -> usize {
+        self.twists.turns()
+    }
+
+    #[tactic(auto, unfolding(crate::specs::Entries::count_for))]
+    fn entries(&self) -> usize {
+        TWISTS * SLICES
+    }
+
+    #[tactic(auto, unfolding(crate::specs::Entries::count_for))]
+    fn state_at(&self, entry: usize) -> PairState {
+        PairState {
+            twist: (entry / SLICES) as u16,
+            slice: (entry % SLICES) as u16,
+        }
+    }
+
+    #[tactic(auto, unfolding(crate::specs::Entries::count_for))]
+    #[inline(always)]
+    fn entry(&self, state: PairState) -> usize {
+        pair_number(state.twist, state.slice)
+    }
+
+    #[inline(always)]
+    fn after(&self, state: PairState, column: usize) -> PairState {
+        PairState {
+            twist: self.twists.after(state.twist, column),
+            slice: self.slices.after(state.slice, column),
+        }
+    }
+}

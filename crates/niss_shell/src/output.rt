@@ -1,0 +1,110 @@
+//! Where the answers of a run go.
+ghost use Rattle.std.specs.Prelude.{◌≡◌, [], OnOk, OnErr};
+ghost use Rattle.niss_shell.specs.Device.{Appended, WriteRefused, has_fault};
+ghost use Rattle.niss_shell.specs.Engine.{Delivers, TakesLine, RefusesLine, FlushesLast, stop_unless};
+ghost use Rattle.niss_shell.specs.Output.{solution_line};
+ghost use Rattle.niss_shell.specs.declared.stop.Stop.TheVariants.{Done};
+
+use crate::device::{DeviceFault, Target};
+use crate::search_text::put_solution;
+use crate::stop::Stop;
+use crate::text::put_text;
+use crate::writing::write_all;
+use niss_moves::LineText;
+use niss_search::{Sink, TurnPath};
+
+/// A target, and the answers that wait to be written to it.
+#[derive(Drop)]
+pub struct Output<'a, W> {
+    target: &'a mut W,
+    pending: LineText,
+}
+
+impl<'a, W: Target> Output<'a, W> {
+    pub fn new(target: &'a mut W) -> Output<'a, W>
+        ensures same_target { result.target.ghost_name ≡ target.entry.ghost_name }
+        ensures unchanged { result.target.now ≡ target.old }
+        ensures empty { result.pending.items ≡ [] }
+    {
+        Output {
+            target,
+            pending: LineText::new(),
+        }
+    }
+
+    /// Writes what waits.
+    pub fn send(&mut self) -> Result<(), DeviceFault>
+        ensures same_target { self.new.target.ghost_name ≡ self.old.target.ghost_name }
+        ensures sent { Delivers W.state result [] self.old self.new }
+        ensures whole { OnOk result (Appended (W.state self.old.target.now) (W.state self.new.target.now) self.old.pending.items) }
+        ensures works { OnOk result (has_fault (W.state self.new.target.now) ≡ has_fault (W.state self.old.target.now)) }
+        ensures refused { OnErr result
+            (WriteRefused self.old.pending.items (W.state self.old.target.now) (W.state self.new.target.now)) }
+        ensures empty { self.new.pending.items ≡ [] }
+    {
+        let sent = write_all(self.target, self.pending.as_slice());
+        self.pending.clear();
+        sent
+    }
+
+    /// Takes a text after what waits. Where there is no room for it, what waits is written first.
+    pub fn put(&mut self, text: &LineText) -> Result<(), DeviceFault>
+        ensures same_target { self.new.target.ghost_name ≡ self.old.target.ghost_name }
+        ensures taken { Delivers W.state result text.now.items self.old self.new }
+        ensures empty { OnErr result (self.new.pending.items ≡ []) }
+    {
+        if text.len() > self.pending.remaining_capacity() {
+            self.send()?;
+        }
+        put_text(text.as_slice(), &mut self.pending);
+        Ok(())
+    }
+
+    /// Writes what waits, and the text after it.
+    pub fn write(&mut self, text: &LineText) -> Result<(), DeviceFault>
+        ensures same_target { self.new.target.ghost_name ≡ self.old.target.ghost_name }
+        ensures written { Delivers W.state result text.now.items self.old self.new }
+        ensures empty { self.new.pending.items ≡ [] }
+    {
+        self.put(text)?;
+        self.send()
+    }
+
+    /// Ends a run by its last flush. Where that is refused, a good run ends with a fault.
+    pub fn finish(&mut self, answered: Result<(), Stop>) -> Stop
+        ensures same_target { self.new.target.ghost_name ≡ self.old.target.ghost_name }
+        ensures flushes { FlushesLast (stop_unless answered Done) result
+            (W.state self.old.target.now) (W.state self.new.target.now) }
+    {
+        let stop = answered.err().unwrap_or(Stop::Done);
+        match (stop, self.target.flush()) {
+            (Stop::Done, Err(fault)) => Stop::from(fault),
+            (stop, _) => stop,
+        }
+    }
+}
+
+/// A solution on a line.
+fn solution_text(path: &TurnPath) -> LineText
+    ensures { result.items ≡ solution_line path.now.turns }
+{
+    // the call tells the proof that the path has at most 20 turns, as `put_solution` asks
+    let _at_most_20 = path.limit();
+    let mut text = LineText::new();
+    put_solution(path.turns(), &mut text);
+    text
+}
+
+impl<'a, W: Target> Sink for Output<'a, W> {
+    type Fault = DeviceFault;
+
+    ghost took = { λ old path new. (new.target.ghost_name ≡ old.target.ghost_name)
+        × TakesLine W.state (solution_line path.turns) old new };
+
+    ghost refused = { λ old path new. (new.target.ghost_name ≡ old.target.ghost_name)
+        × RefusesLine W.state (solution_line path.turns) old new };
+
+    fn take(&mut self, path: &TurnPath) -> Result<(), DeviceFault> {
+        self.write(&solution_text(path))
+    }
+}

@@ -1,0 +1,135 @@
+//! Steps with alternatives: an edge orientation on any axis, and a domino reduction on either of two.
+use crate::runs::Run;
+use niss_cube::Step;
+use niss_search::{Meter, Tables};
+use std::test::Fail;
+
+#[test]
+fn edges_on_any_axis(rt: HostRuntime) -> Result<(), Fail> {
+    let runs = [
+        // two alternatives hold, and the empty sequence is one solution
+        Run::good(
+            &["count", "eo", "3", "F"],
+            b"",
+            "length 0 solutions 1 nodes 1\n",
+        ),
+        Run::good(
+            &["solve", "eo", "3", "F", "R", "U"],
+            b"",
+            "U (1)\nU' (1)\n\n",
+        ),
+        Run::good(
+            &["count", "eo", "3", "F", "R", "U"],
+            b"",
+            "length 1 solutions 2 nodes 20\n",
+        ),
+        Run::good(
+            &["solve", "eo", "0", "F R U"],
+            b"",
+            "no solution within 0 moves\n\n",
+        ),
+        // four turns on the axis of U and D, five on each of the others
+        Run::good(
+            &["count", "eo", "20", "F R U B L D F"],
+            b"",
+            "length 4 solutions 8 nodes 176\n",
+        ),
+        Run::good(
+            &["count", "eorl", "20", "F R U B L D F"],
+            b"",
+            "length 5 solutions 32 nodes 627\n",
+        ),
+        Run::good(
+            &["count", "eofb", "20", "F R U B L D F"],
+            b"",
+            "length 5 solutions 28 nodes 582\n",
+        ),
+    ];
+    for case in runs {
+        case.check(&rt, rt.alloc())?;
+    }
+    Ok(())
+}
+
+#[test]
+fn dominoes_on_either_axis(rt: HostRuntime) -> Result<(), Fail> {
+    let runs = [
+        Run::good(&["solve", "dr-eofb", "5", "R"], b"", "(0)\n\n"),
+        // one turn for the second axis, where the first needs two
+        Run::good(
+            &["solve", "dr-eofb", "5", "R", "U"],
+            b"",
+            "U (1)\nU' (1)\n\n",
+        ),
+        Run::good(
+            &["count", "dr-eofb", "3", ""],
+            b"",
+            "length 0 solutions 1 nodes 1\n",
+        ),
+        Run::good(
+            &["count", "dr-eofb", "0", "R U"],
+            b"",
+            "length none solutions 0 nodes 1\n",
+        ),
+        Run::good(
+            &["solve", "dr-eofb", "7", "R U F2 L D R"],
+            b"",
+            "R' D' L' F2 U (5)\nR' D' L' F2 U' (5)\n\n",
+        ),
+        Run::good(
+            &["count", "dr-eofb", "20", "R U F2 L D R"],
+            b"",
+            "length 5 solutions 2 nodes 60\n",
+        ),
+        Run::good(
+            &["solve", "dr-eorl", "7", "U F R2"],
+            b"",
+            "R2 F (2)\nR2 F' (2)\n\n",
+        ),
+        Run::good(&["solve", "dr-eoud", "7", "F R"], b"", "R (1)\nR' (1)\n\n"),
+    ];
+    for case in runs {
+        case.check(&rt, rt.alloc())?;
+    }
+    Ok(())
+}
+
+#[test]
+fn edges_must_be_oriented_for_a_domino(rt: HostRuntime) -> Result<(), Fail> {
+    let runs = [
+        Run::fault(
+            &["solve", "dr-eoud", "3", "U"],
+            "nissy: line 1: eoud does not hold\n",
+            1,
+        ),
+        Run::fault(
+            &["solve", "dr-eofb", "3", "F"],
+            "nissy: line 1: eofb does not hold\n",
+            1,
+        ),
+        Run::fault(
+            &["count", "dr-eorl", "3", "R"],
+            "nissy: line 1: eorl does not hold\n",
+            1,
+        ),
+    ];
+    for case in runs {
+        case.check(&rt, rt.alloc())?;
+    }
+    Ok(())
+}
+
+/// A table for each alternative is filled, each with 18 turns from each of 2,048 entries, or 14 from each of 1,082,565.
+#[test]
+fn each_alternative_has_its_table(rt: HostRuntime) {
+    for (step, ticks) in [
+        (Step::Eo, 110_592u128),
+        (Step::DrEofb, 30_311_820),
+        (Step::DrEorl, 30_311_820),
+        (Step::DrEoud, 30_311_820),
+    ] {
+        let mut meter = Meter::new();
+        assert!(rt; Tables::build(rt.alloc(), step, &mut meter).is_ok());
+        assert_eq!(rt; meter.count(), ticks, "{}", step.name());
+    }
+}

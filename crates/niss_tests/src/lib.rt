@@ -1,0 +1,58 @@
+//! Tests of all crates below the program: of calls of the notation and of the cube, and of the commands, from words and
+//! bytes to bytes, over devices in memory that may fail.
+#![tactic(auto)]
+
+#[cfg(test)]
+mod alternatives;
+#[cfg(test)]
+mod answers;
+#[cfg(test)]
+mod blocks;
+#[cfg(test)]
+mod coordinates;
+#[cfg(test)]
+mod cubes;
+#[cfg(test)]
+mod device_faults;
+#[cfg(test)]
+mod devices;
+#[cfg(test)]
+mod draws;
+#[cfg(test)]
+mod examples;
+#[cfg(test)]
+mod limits;
+#[cfg(test)]
+mod memory;
+#[cfg(test)]
+mod near;
+#[cfg(test)]
+mod near_searches;
+#[cfg(test)]
+mod path_sinks;
+#[cfg(test)]
+mod reading;
+#[cfg(test)]
+mod refused_growths;
+#[cfg(test)]
+mod rewriting;
+#[cfg(test)]
+mod rotations;
+#[cfg(test)]
+mod runs;
+#[cfg(test)]
+mod scrambles;
+#[cfg(test)]
+mod searches;
+#[cfg(test)]
+mod solving;
+#[cfg(test)]
+mod std_blocks;
+#[cfg(test)]
+mod std_streams;
+#[cfg(test)]
+mod steps;
+#[cfg(test)]
+mod usage;
+#[cfg(test)]
+mod word_lengths;

@@ -1,0 +1,54 @@
+//! A sink that compares what it is handed.
+use niss_moves::{LineText, put_faces};
+use niss_search::{Sink, TurnPath};
+
+/// Its path was one too many.
+#[derive(Clone, Copy, Debug, PartialEq, Eq)]
+pub struct Refused;
+
+/// Compares what it takes with the paths that are wanted, and refuses all paths after the first `room`.
+#[derive(Drop)]
+pub struct Comparison<'a> {
+    wanted: &'a [&'a str],
+    room: usize,
+    pub taken: usize,
+    pub is_same: bool,
+}
+
+impl<'a> Comparison<'a> {
+    /// Nothing was taken yet.
+    pub fn new(wanted: &'a [&'a str], room: usize) -> Comparison<'a> {
+        Comparison {
+            wanted,
+            room,
+            taken: 0,
+            is_same: true,
+        }
+    }
+}
+
+impl Sink for Comparison<'_> {
+    ghost use Rattle.std.specs.Prelude.{◌≡◌, ◌+◌};
+
+    type Fault = Refused;
+
+    ghost took = { λ old path new. new.taken ≡ old.taken + 1 };
+
+    ghost refused = { λ old path new. new ≡ old };
+
+    fn take(&mut self, path: &TurnPath) -> Result<(), Refused> {
+        if self.taken >= self.room {
+            return Err(Refused);
+        }
+        let _limit = path.limit();
+        let mut text = LineText::new();
+        put_faces(path.turns(), &mut text);
+        let is_wanted = match self.wanted.get(self.taken) {
+            Some(wanted) => wanted.as_bytes() == text.as_slice(),
+            None => false,
+        };
+        self.is_same = self.is_same && is_wanted;
+        self.taken += 1;
+        Ok(())
+    }
+}

@@ -1,0 +1,160 @@
+//! What a run has to write and to answer, and the check of it.
+ghost use Rattle.std.specs.Prelude.{◌≡◌, Bool, true, false};
+
+use crate::devices::{Bytes, Held};
+use niss_shell::{Meter, Source, run, run_in};
+use std::alloc::{AllocError, Allocator, Global};
+use std::process::Abort;
+
+/// What is told of wrong words.
+pub const USAGE: &str = "usage: nissy COMMAND [ARGUMENTS]\n";
+
+/// What `steps` writes.
+pub const STEPS: &str =
+    "eofb\neorl\neoud\ndrud-eofb\ndrrl-eofb\ndrud-eorl\ndrfb-eorl\ndrrl-eoud\ndrfb-eoud\neo\ndr-eofb\ndr-eorl\ndr-eoud\n";
+
+/// What is told of an input above the limit.
+pub const TOO_LONG: &[u8] = b"nissy: input longer than 16777216 bytes\n";
+
+pub const CANNOT_READ: &[u8] = b"nissy: cannot read\n";
+
+pub const CANNOT_WRITE: &[u8] = b"nissy: cannot write\n";
+
+pub const OUT_OF_MEMORY: &[u8] = b"nissy: out of memory\n";
+
+pub fn words_of(alloc: Global, texts: &[&str]) -> Result<Vec<String>, AllocError> {
+    let mut words = Vec::new(alloc);
+    for text in texts {
+        words.push(String::from_str(alloc, text)?)?;
+    }
+    Ok(words)
+}
+
+/// What a run has to write and to answer.
+#[derive(Clone, Copy)]
+pub struct Outcome<'a> {
+    pub output: &'a [u8],
+    pub error: &'a [u8],
+    pub status: u8,
+}
+
+impl<'a> Outcome<'a> {
+    ghost use Rattle.std.specs.Prelude.{◌≡◌, Bool, true, false};
+
+    /// Of a good run.
+    pub fn good(output: &'a [u8]) -> Outcome<'a> {
+        Outcome {
+            output,
+            error: b"",
+            status: 0,
+        }
+    }
+
+    /// Of a run that ends with status 3, after this output.
+    pub fn failure(output: &'a [u8], error: &'a [u8]) -> Outcome<'a> {
+        Outcome {
+            output,
+            error,
+            status: 3,
+        }
+    }
+
+    /// Compares it with what a run answered and what its targets hold.
+    pub fn compare(self, rt: &impl Abort, status: u8, out: &Held, err: &Held) {
+        assert_eq!(rt; out.bytes.as_slice(), self.output);
+        assert_eq!(rt; err.bytes.as_slice(), self.error);
+        assert_eq!(rt; status, self.status);
+    }
+
+    /// Runs the words over these devices, with memory of `heap`.
+    pub fn check<A: Allocator + Copy, R: Source>(
+        self,
+        rt: &impl Abort,
+        heap: A,
+        words: &[String],
+        input: &mut R,
+        out: &mut Held,
+        err: &mut Held,
+    )
+        requires reads { (R.state input.old).has_failed ≡ false }
+        requires goes_on { (R.state input.old).has_ended ≡ false }
+        requires write_works { out.old.write_failed ≡ false }
+        requires flush_works { out.old.flush_failed ≡ false }
+    {
+        let flushes = out.flushes;
+        let status = run_in(heap, words, input, out, err, &mut Meter::new());
+        self.compare(rt, status, out, err);
+        assert_eq!(rt; out.flushes, flushes.saturating_add(1));
+    }
+
+    /// Runs the words over this source and over targets that take all.
+    pub fn check_input<A: Allocator + Copy, R: Source>(
+        self,
+        rt: &impl Abort,
+        alloc: Global,
+        heap: A,
+        words: &[String],
+        input: &mut R,
+    )
+        requires reads { (R.state input.old).has_failed ≡ false }
+        requires goes_on { (R.state input.old).has_ended ≡ false }
+    {
+        let mut out = Held::new(alloc, 1000);
+        let mut err = Held::new(alloc, 1000);
+        self.check(rt, heap, words, input, &mut out, &mut err);
+    }
+}
+
+/// A run, and what it has to write and to answer.
+#[derive(Clone, Copy)]
+pub struct Run<'a> {
+    pub words: &'a [&'a str],
+    pub input: &'a [u8],
+    pub output: &'a str,
+    pub error: &'a str,
+    pub status: u8,
+}
+
+impl<'a> Run<'a> {
+    /// A good run.
+    pub fn good(words: &'a [&'a str], input: &'a [u8], output: &'a str) -> Run<'a> {
+        Run {
+            words,
+            input,
+            output,
+            error: "",
+            status: 0,
+        }
+    }
+
+    /// A run that writes nothing.
+    pub fn fault(words: &'a [&'a str], error: &'a str, status: u8) -> Run<'a> {
+        Run {
+            words,
+            input: b"",
+            output: "",
+            error,
+            status,
+        }
+    }
+
+    /// Runs it over a source that gives few bytes in a read, and targets that take few in a write, and answers the looks
+    /// at positions.
+    pub fn check(self, rt: &impl Abort, alloc: Global) -> Result<u128, AllocError> {
+        let words = words_of(alloc, self.words)?;
+        // a read asks for more: so lines and moves are cut at every third byte
+        let mut input = Bytes::new(self.input, 3);
+        let mut out = Held::new(alloc, 5);
+        let mut err = Held::new(alloc, 1);
+        let mut looks = Meter::new();
+        let status = run(alloc, &words, &mut input, &mut out, &mut err, &mut looks);
+        let outcome = Outcome {
+            output: self.output.as_bytes(),
+            error: self.error.as_bytes(),
+            status: self.status,
+        };
+        outcome.compare(rt, status, &out, &err);
+        assert_eq!(rt; out.flushes, 1);
+        Ok(looks.count())
+    }
+}

@@ -1,0 +1,187 @@
+//! Runs over readers and writers of `std::io` that move blocks, and that fail with each kind of error.
+use crate::devices::{Bytes, Held};
+use crate::runs::{CANNOT_READ, CANNOT_WRITE, Outcome, words_of};
+use niss_shell::{FromReader, Meter, ToWriter, run};
+use std::alloc::{AllocError, Global};
+use std::io;
+use std::process::Abort;
+use std::test::Fail;
+
+/// Kinds of error that a stream may answer with: none of them is tried again.
+const KINDS: [io::ErrorKind; 5] = [
+    io::ErrorKind::Interrupted,
+    io::ErrorKind::WouldBlock,
+    io::ErrorKind::BrokenPipe,
+    io::ErrorKind::PermissionDenied,
+    io::ErrorKind::Other,
+];
+
+/// How many bytes a run asks a reader for.
+const BLOCK: usize = 4096;
+
+/// A reader of spaces that fills what it is asked for, and fails with `kind` at call number `fails_at`, from 1. It notes the
+/// least and the most that a call asked for.
+#[derive(Drop)]
+struct Spaces {
+    left: usize,
+    calls: usize,
+    fails_at: usize,
+    kind: io::ErrorKind,
+    least: usize,
+    most: usize,
+}
+
+impl Spaces {
+    fn new(left: usize, fails_at: usize, kind: io::ErrorKind) -> Spaces {
+        Spaces {
+            left,
+            calls: 0,
+            fails_at,
+            kind,
+            least: usize::MAX,
+            most: 0,
+        }
+    }
+}
+
+impl io::Read for Spaces {
+    fn read(&mut self, buf: &mut [u8]) -> io::Result<usize> {
+        self.calls = self.calls.saturating_add(1);
+        self.least = self.least.min(buf.len());
+        self.most = self.most.max(buf.len());
+        if self.calls == self.fails_at {
+            return Err(io::Error::from(self.kind));
+        }
+        let count = buf.len().min(self.left);
+        buf[..count].fill(b' ');
+        self.left -= count;
+        Ok(count)
+    }
+}
+
+/// A writer that takes all of a piece, notes the longest, and fails with `kind` at each flush, where it has one.
+#[derive(Drop)]
+struct Flushed {
+    bytes: usize,
+    longest: usize,
+    flushes: usize,
+    kind: Option<io::ErrorKind>,
+}
+
+impl Flushed {
+    fn new(kind: Option<io::ErrorKind>) -> Flushed {
+        Flushed {
+            bytes: 0,
+            longest: 0,
+            flushes: 0,
+            kind,
+        }
+    }
+}
+
+impl io::Write for Flushed {
+    fn write(&mut self, buf: &[u8]) -> io::Result<usize> {
+        self.bytes = self.bytes.saturating_add(buf.len());
+        self.longest = self.longest.max(buf.len());
+        Ok(buf.len())
+    }
+
+    fn flush(&mut self) -> io::Result<()> {
+        self.flushes = self.flushes.saturating_add(1);
+        match self.kind {
+            Some(kind) => Err(io::Error::from(kind)),
+            None => Ok(()),
+        }
+    }
+}
+
+/// A reader that fills each block is read to its end, by reads that each ask for a whole block.
+#[test]
+fn reads_whole_blocks(rt: HostRuntime) -> Result<(), Fail> {
+    let words = words_of(rt.alloc(), &["invert"])?;
+    for blocks in 0..4usize {
+        let mut reader = Spaces::new(blocks * BLOCK, 0, io::ErrorKind::Other);
+        let output = if blocks == 0 { "" } else { "\n" };
+        Outcome::good(output.as_bytes()).check_input(
+            &rt,
+            rt.alloc(),
+            rt.alloc(),
+            &words,
+            &mut FromReader::new(&mut reader),
+        );
+        assert_eq!(rt; reader.calls, blocks + 1);
+        assert_eq!(rt; reader.least, BLOCK);
+        assert_eq!(rt; reader.most, BLOCK);
+    }
+    Ok(())
+}
+
+/// A read that fails with any kind of error is not tried again, also after whole blocks.
+#[test]
+fn each_kind_of_failed_read(rt: HostRuntime) -> Result<(), Fail> {
+    let words = words_of(rt.alloc(), &["invert"])?;
+    for kind in KINDS {
+        for fails_at in 1..4usize {
+            let mut reader = Spaces::new(4 * BLOCK, fails_at, kind);
+            Outcome::failure(b"", CANNOT_READ).check_input(
+                &rt,
+                rt.alloc(),
+                rt.alloc(),
+                &words,
+                &mut FromReader::new(&mut reader),
+            );
+            assert_eq!(rt; reader.calls, fails_at);
+        }
+    }
+    Ok(())
+}
+
+/// Runs 700 empty lines and a long one over this writer, which are to have this status and this error text.
+fn check_flushed(
+    rt: &impl Abort,
+    alloc: Global,
+    writer: &mut Flushed,
+    status: u8,
+    error: &[u8],
+) -> Result<(), AllocError> {
+    let mut line = Vec::new(alloc);
+    for _ in 0..700 {
+        line.push(b'\n')?;
+    }
+    for _ in 0..256 {
+        line.extend_from_slice(b"Rw'")?;
+    }
+    let words = words_of(alloc, &["unniss"])?;
+    let mut input = Bytes::new(line.as_slice(), 4096);
+    let mut err = Held::new(alloc, 1000);
+    let answered = run(
+        alloc,
+        words.as_slice(),
+        &mut input,
+        &mut ToWriter::new(writer),
+        &mut err,
+        &mut Meter::new(),
+    );
+    assert_eq!(rt; err.bytes.as_slice(), error);
+    assert_eq!(rt; answered, status);
+    Ok(())
+}
+
+/// Long pieces are taken whole, and a flush that fails with any kind of error is told and not tried again.
+#[test]
+fn each_kind_of_failed_flush(rt: HostRuntime) -> Result<(), Fail> {
+    // 256 words of 3 letters with single spaces, and a line feed for each line
+    let bytes = 700 + 256 * 4;
+    let mut writer = Flushed::new(None);
+    check_flushed(&rt, rt.alloc(), &mut writer, 0, b"")?;
+    assert_eq!(rt; writer.bytes, bytes);
+    assert_eq!(rt; writer.longest, bytes);
+    assert_eq!(rt; writer.flushes, 1);
+    for kind in KINDS {
+        let mut writer = Flushed::new(Some(kind));
+        check_flushed(&rt, rt.alloc(), &mut writer, 3, CANNOT_WRITE)?;
+        assert_eq!(rt; writer.bytes, bytes);
+        assert_eq!(rt; writer.flushes, 1);
+    }
+    Ok(())
+}

@@ -1,0 +1,35 @@
+//! Each fault of wrong words, in the order in which they are looked for.
+use crate::runs::words_of;
+use niss_shell::{UsageFault, parse_words};
+use std::test::Fail;
+
+#[test]
+fn each_fault_of_words(rt: HostRuntime) -> Result<(), Fail> {
+    let faults: [(&[&str], UsageFault); 14] = [
+        (&[], UsageFault::NoCommand),
+        (&[""], UsageFault::UnknownCommand),
+        (&["Invert", "R"], UsageFault::UnknownCommand),
+        (&["solve"], UsageFault::WrongCount),
+        (&["solve", "htr"], UsageFault::WrongCount),
+        (&["count", "eofb"], UsageFault::WrongCount),
+        (&["steps", ""], UsageFault::WrongCount),
+        (&["scramble", "1", "2", "3"], UsageFault::WrongCount),
+        (
+            &["scramble", "1", "2", "3", "x", "5"],
+            UsageFault::WrongCount,
+        ),
+        (&["solve", "htr", "x"], UsageFault::UnknownStep),
+        (&["count", "Eofb", "21"], UsageFault::UnknownStep),
+        (&["solve", "eofb", "21", "F"], UsageFault::BadNumber),
+        (&["count", "eofb", "+3", "F"], UsageFault::BadNumber),
+        (&["scramble", "1", "2", "257", "1"], UsageFault::BadNumber),
+    ];
+    for (texts, fault) in faults {
+        let words = words_of(rt.alloc(), texts)?;
+        match parse_words(words.as_slice()) {
+            Ok(_) => assert!(rt; false, "no fault"),
+            Err(found) => assert_eq!(rt; found, fault),
+        }
+    }
+    Ok(())
+}

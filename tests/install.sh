@@ -1,0 +1,99 @@
+#!/usr/bin/env bash
+# Installs into a folder of its own and takes everything away again; compares the names that completions and manuals give with
+# those of PROGRAM:
+#
+#     tests/install.sh [PROGRAM]
+#
+# The program is build/nissy where none is named. The last line is `N passed, M failed`, and the status is 1 where M isn't 0.
+set -u
+cd "$(dirname "$0")/.." || exit 2
+program=${1:-$PWD/build/nissy}
+case $program in
+    /*) ;;
+    *) program=$OLDPWD/$program ;;
+esac
+room=$(mktemp -d)
+trap 'rm -rf "$room"' EXIT
+passed=0 failed=0
+
+# expect WHAT COMMAND..: the command succeeds
+expect() {
+    local what=$1
+    shift
+    if "$@" > "$room/said" 2>&1; then
+        passed=$((passed + 1))
+    else
+        failed=$((failed + 1))
+        echo "not so: $what"
+        cat "$room/said"
+    fi
+}
+
+# The Makefile's program is the one that was handed over, so that nothing is built.
+install_at() { make -o build/nissy "$1" DESTDIR="$room/packed" PREFIX=/usr; }
+with_program() {
+    mkdir -p "$room/source/build" && cp -R Makefile docs completions "$room/source" && cp "$program" "$room/source/build/nissy"
+}
+expect "the files are there" with_program
+cd "$room/source" || exit 2
+expect "make install succeeds" install_at install
+
+expected="bin/nissy
+share/bash-completion/completions/nissy
+share/doc/nissy/COOKBOOK.md
+share/doc/nissy/MANUAL.md
+share/fish/vendor_completions.d/nissy.fish
+share/man/man1/nissy.1
+share/zsh/site-functions/_nissy"
+stands() { (cd "$room/packed/usr" && find . -type f | sed 's|^\./||' | LC_ALL=C sort); }
+expect "each file stands in its place, and no other" test "$(stands)" = "$expected"
+expect "the installed program runs" test "$("$room/packed/usr/bin/nissy" invert "R U' F2")" = "F2 U R'"
+
+usr=$room/packed/usr/share
+steps=$("$program" steps)
+commands="invert unniss cleanup print solve count near scramble steps"
+completed() { # the words that bash offers after these
+    bash -c '. "$0"; COMP_WORDS=("$@" ""); COMP_CWORD=$#; _nissy; printf "%s\n" "${COMPREPLY[@]}"' \
+        "$usr/bash-completion/completions/nissy" "$@"
+}
+expect "bash completes the commands" test "$(completed nissy | xargs)" = "$commands"
+for command in solve count near; do
+    expect "bash completes the steps of $command" test "$(completed nissy "$command")" = "$steps"
+done
+expect "bash offers nothing where moves stand" test -z "$(completed nissy invert)$(completed nissy solve eofb 20)"
+named_in() { tr -cs 'a-z-' '\n' < "$1" | grep -Fx -e "$2" > /dev/null; }
+all_named() { # each step and command is named in the file
+    local name
+    for name in $steps $commands; do
+        named_in "$1" "$name" || { echo "$name isn't named"; return 1; }
+    done
+}
+for page in zsh/site-functions/_nissy fish/vendor_completions.d/nissy.fish doc/nissy/MANUAL.md; do
+    expect "$page names each step and command" all_named "$usr/$page"
+done
+sed 's/\\-/-/g' "$usr/man/man1/nissy.1" > "$room/page"
+expect "the manual page names each step and command" all_named "$room/page"
+
+if command -v zsh > /dev/null; then
+    expect "zsh reads its completion" zsh -n "$usr/zsh/site-functions/_nissy"
+else
+    echo "skipped: zsh isn't installed"
+fi
+if command -v fish > /dev/null; then
+    # shellcheck disable=SC2016 # fish itself is to read $argv
+    expect "fish completes the steps" test "$(HOME=$room fish --no-config -c 'source $argv[1]; complete -C "nissy count "' \
+        "$usr/fish/vendor_completions.d/nissy.fish" | LC_ALL=C sort)" = "$(echo "$steps" | LC_ALL=C sort)"
+else
+    echo "skipped: fish isn't installed"
+fi
+if command -v mandoc > /dev/null; then
+    expect "the manual page is clean" test -z "$(mandoc -T lint -W style "$usr/man/man1/nissy.1")"
+else
+    echo "skipped: mandoc isn't installed"
+fi
+
+expect "make uninstall succeeds" install_at uninstall
+expect "nothing is left" test -z "$(find "$room/packed" -type f)"
+expect "no folder of its own is left" test ! -e "$usr/doc/nissy"
+echo "$passed passed, $failed failed"
+[ "$failed" -eq 0 ]
