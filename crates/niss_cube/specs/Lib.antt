@@ -8,14 +8,10 @@ pub mod SameCubies
 pub mod CubieTurns
 pub mod Renamings
 pub mod RenamedTurns
-pub mod OccupiedPlaces
-pub mod NumberedOrientations
-pub mod FlipAfter
-pub mod TwistAfter
-pub mod SliceAfter
+pub mod NumberedCubies
+pub mod NumberAfter
 pub mod AfterTurn
 pub mod TableRows
-pub mod StandardCoordinates
 pub mod RotatedText
 pub mod Steps
 pub mod StepLaws

@@ -5,6 +5,8 @@ use Rattle.niss_moves.specs.declared.axis.Axis.TheVariants.{Ud, Rl, Fb}
 use Rattle.niss_moves.specs.declared.turn.Face.{Face}
 use Rattle.niss_moves.specs.declared.turn.Power.TheVariants.{Quarter, Counter}
 use Rattle.niss_moves.specs.declared.turn.Turn.{Turn}
+use Rattle.niss_cube.specs.declared.cube.coordinate.Coordinate.{Coordinate}
+use Rattle.niss_cube.specs.declared.cube.coordinate.Coordinate.TheVariants.{Flip, Twist, Slice}
 
 -- the face to which a face is brought by x' (Ud), by y (Rl), by nothing (Fb): the one that the inverse brings to its place
 abbrev pub face_for_flip : Axis → Face → Face
@@ -18,10 +20,12 @@ face_for_twist Ud f = f
 face_for_twist Rl f = face_before_power Fb Quarter f
 face_for_twist Fb f = face_before_power Rl Counter f
 
--- a turn of the renamed cube from which the flip on an axis is read
-abbrev pub turn_for_flip : Axis → Turn → Turn
-turn_for_flip a t = renamed_turn (face_for_flip a) t
+-- the face of the renamed cube that a face is
+abbrev pub face_for : Coordinate → Axis → Face → Face
+face_for Flip = face_for_flip
+face_for Twist = face_for_twist
+face_for Slice = face_for_twist
 
--- a turn of the renamed cube from which the twist and the slice on an axis are read
-abbrev pub turn_for_twist : Axis → Turn → Turn
-turn_for_twist a t = renamed_turn (face_for_twist a) t
+-- a turn of the renamed cube from which the coordinate on an axis is read
+abbrev pub turn_for : Coordinate → Axis → Turn → Turn
+turn_for k a t = renamed_turn (face_for k a) t

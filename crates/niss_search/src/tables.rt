@@ -84,7 +84,7 @@ impl<A: Allocator> Tables<A> {
         ensures refused { OnErr result (meter.new ≡ meter.old) }
     {
         let turn_tables = TurnTables::build_in(alloc)?;
-        let kind = Kind::build_in(alloc, step, &turn_tables, meter)?;
+        let kind = Kind::build_in(alloc, step, meter)?;
         Ok(Tables {
             step,
             turn_tables,
