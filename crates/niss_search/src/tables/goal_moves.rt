@@ -5,13 +5,14 @@ ghost use Rattle.niss_cube.specs.declared.step.Goal.TheVariants.{Edges, Domino};
 ghost use Rattle.niss_search.specs.Entries.{count_for};
 ghost use Rattle.niss_search.specs.Filling.{Alternative, IsEntry, entry_number, entry_at};
 ghost use Rattle.niss_search.specs.Moves.{turn_at};
-ghost use Rattle.niss_search.specs.Positions.{coordinates_after};
+ghost use Rattle.niss_search.specs.Positions.{coordinates_after, AreInRange};
 ghost use Rattle.niss_search.specs.declared.tables.position.Coordinates.{Coordinates};
 ghost use Rattle.niss_search.specs.declared.tables.position.Coordinates.TheVariants.{Flip, TwistAndSlice};
 ghost use Rattle.niss_cube.specs.declared.cube.coordinate.Coordinate.TheVariants as coordinate;
 
 use super::entries::{FLIPS, SLICES, TWISTS, pair_number};
 use super::move_table::MoveTable;
+use super::position::Coordinates;
 use niss_cube::{Axis, Coordinate, OutOfMemory, Step, TurnTable};
 use std::alloc::Allocator;
 
@@ -38,6 +39,11 @@ pub trait GoalMoves {
     fn state_at(&self, entry: usize) -> Self::State
         requires { entry < count_for (alternative self.now).goal }
         ensures { coordinates self.now result ≡ entry_at (alternative self.now).goal entry };
+
+    /// The coordinates of a state.
+    fn coordinates_of(&self, state: Self::State) -> Coordinates
+        ensures value { result ≡ coordinates self.now state }
+        ensures in_range { AreInRange result };
 
     /// The number of its entry in the pruning table.
     fn entry(&self, state: Self::State) -> usize
@@ -100,6 +106,13 @@ impl<A: Allocator> GoalMoves for EdgeMoves<A> {
     #[tactic(auto, unfolding(crate::specs::Entries::count_for))]
     fn state_at(&self, entry: usize) -> FlipState {
         FlipState { flip: entry as u16 }
+    }
+
+    fn coordinates_of(&self, state: FlipState) -> Coordinates {
+        Coordinates::Flip {
+            axis: self.flips.axis(),
+            flip: state.flip,
+        }
     }
 
     #[tactic(auto, unfolding(crate::specs::Entries::count_for))]
@@ -200,6 +213,14 @@ impl<A: Allocator> GoalMoves for DominoMoves<A> {
         PairState {
             twist: (entry / SLICES) as u16,
             slice: (entry % SLICES) as u16,
+        }
+    }
+
+    fn coordinates_of(&self, state: PairState) -> Coordinates {
+        Coordinates::TwistAndSlice {
+            axis: self.twists.axis(),
+            twist: state.twist,
+            slice: state.slice,
         }
     }
 

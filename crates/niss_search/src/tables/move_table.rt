@@ -70,6 +70,13 @@ impl<A: Allocator> MoveTable<A> {
         })
     }
 
+    /// The axis.
+    pub fn axis(&self) -> Axis
+        ensures { result ≡ self.now.axis }
+    {
+        self.axis
+    }
+
     /// How many turns the step has.
     pub fn turns(&self) -> usize
         ensures { result ≡ length (turns_of self.now.step) }
