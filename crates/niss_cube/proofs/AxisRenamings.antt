@@ -10,11 +10,10 @@ use Rattle.niss_moves.specs.declared.turn.Power.TheVariants.{Quarter, Half, Coun
 use Rattle.niss_moves.specs.declared.axis.Axis.{Axis}
 use Rattle.niss_cube.specs.declared.renaming.Renaming.TheVariants.{XCounter, XQuarter, YQuarter, ZCounter}
 use Rattle.niss_moves.specs.Facelets.{places}
-use Rattle.niss_cube.specs.Coordinates.{for_flip, for_twist, spun}
+use Rattle.niss_cube.specs.Coordinates.{for_flip, for_twist, spun, turn_for}
 use Rattle.niss_moves.specs.Effects.{turned}
 use Rattle.niss_cube.proofs.CubieLists.{CubieLists}
 use Rattle.niss_moves.specs.Turn.{inverse_turn}
-use Rattle.niss_cube.specs.RenamedTurns.{turn_for}
 use Rattle.niss_cube.specs.declared.cube.coordinate.Coordinate.TheVariants.{Flip, Twist}
 use Rattle.niss_cube.proofs.Each.{at_place}
 use Rattle.niss_cube.proofs.PlaceTables.{all_faces, at_face}

@@ -9,15 +9,13 @@ use Rattle.niss_moves.specs.declared.turn.Turn.{Turn}
 use Rattle.niss_moves.specs.declared.axis.Axis.{Axis}
 use Rattle.niss_cube.specs.declared.cube.coordinate.Coordinate.{Coordinate}
 use Rattle.niss_cube.specs.declared.cube.coordinate.Coordinate.TheVariants.{Flip, Twist, Slice}
-use Rattle.niss_cube.specs.Sets.{Kept, ArePlaces}
-use Rattle.niss_cube.specs.Coordinates.{number, rank, number_of, count_of, set_of, renamed_for, standard_axis}
+use Rattle.niss_cube.specs.Sets.{Kept, set_of}
+use Rattle.niss_cube.specs.Coordinates.{number, rank, number_of, count_of, renamed_for, standard_axis, turn_for}
 use Rattle.niss_cube.specs.Cubies.{corners_home, edges_home, twists_home, flips_home}
 use Rattle.niss_cube.specs.NumberedCubies.{flips_of_number, twists_of_number, edges_of_number}
-use Rattle.niss_cube.specs.RenamedTurns.{turn_for}
 use Rattle.niss_cube.specs.NumberAfter.{number_after}
 use Rattle.niss_cube.proofs.CubieLists.{CubieLists, flips_quarter, twists_quarter, edges_quarter, repeated}
 use Rattle.niss_cube.proofs.PlaceTables.{at_below}
-use Rattle.niss_cube.proofs.SetPlaces.{sets_are_places}
 use Rattle.niss_cube.proofs.CoordinateValues.{flip_of-cubies, twist_of-cubies, slice_of-cubies, flips-below, twists-below, slice-below, slice_occupied, slice_occupied-filled}
 use Rattle.niss_cube.proofs.ListTurns.{Valid, map_lists, turned_lists, turned-part}
 use Rattle.niss_cube.proofs.Orientations.{AreOriented, base_2, base_3, orientations_of_number-are, orientations_of_number-number, oriented-same}
@@ -141,12 +139,7 @@ standard_turn-is Flip t = refl
 standard_turn-is Twist t = refl
 standard_turn-is Slice t = refl
 
--- the set that is kept where the number is 0
-pub set_of-places : (k : Coordinate) (a : Axis) → ArePlaces (set_of k a)
-set_of-places Flip = sets_are_places.flips
-set_of-places Twist = sets_are_places.twists
-set_of-places Slice = sets_are_places.slices
-
+-- the set of the coordinate is kept where the number is 0
 pub zero-kept : (k : Coordinate) (a : Axis) (c : CubieLists) → Valid c → (number_of k a (map_lists c) ≡ 0) ↔ Kept (set_of k a) (map_lists c)
 zero-kept Flip = flip_zero-kept
 zero-kept Twist = twist_zero-kept

@@ -11,18 +11,17 @@ use Rattle.niss_moves.specs.declared.axis.Axis.{Axis}
 use Rattle.niss_cube.specs.declared.cube.Cube.{Cube}
 use Rattle.niss_cube.specs.declared.cube.coordinate.Coordinate.{Coordinate}
 use Rattle.niss_cube.specs.Map.{map_of}
-use Rattle.niss_cube.specs.Sets.{Kept}
-use Rattle.niss_cube.specs.Coordinates.{number_of, count_of, set_of, renamed_for, standard_axis}
-use Rattle.niss_cube.specs.RenamedTurns.{turn_for}
+use Rattle.niss_cube.specs.Sets.{Kept, set_of}
+use Rattle.niss_cube.specs.Coordinates.{number_of, count_of, renamed_for, standard_axis, turn_for}
 use Rattle.niss_cube.specs.NumberAfter.{number_after}
 use Rattle.niss_cube.specs.AfterTurn.{IsCube, TurnedIsCube, AreCoordinates}
 use Rattle.niss_cube.proofs.CubieLists.{CubieLists}
 use Rattle.niss_cube.proofs.Each.{at_place}
 use Rattle.niss_cube.proofs.AxisRenamings.{all_turns, at_turn, KeepsPlaces}
 use Rattle.niss_cube.proofs.MapPlaces.{sticker_map-place}
-use Rattle.niss_cube.proofs.SetPlaces.{kept_same}
+use Rattle.niss_cube.proofs.SetPlaces.{sets_are_places, kept_same}
 use Rattle.niss_cube.proofs.ListTurns.{Valid, map_lists, turned_lists, turned-valid, turned-map}
-use Rattle.niss_cube.proofs.Codes.{code, number_of-code, code-below, cubies_with, cubies_with-valid, cubies_with-code, number_after-is, code-turned, cubies_for, renaming, unrenamed, standard_turn-is, set_of-places, zero-kept}
+use Rattle.niss_cube.proofs.Codes.{code, number_of-code, code-below, cubies_with, cubies_with-valid, cubies_with-code, number_after-is, code-turned, cubies_for, renaming, unrenamed, standard_turn-is, zero-kept}
 use Rattle.niss_moves.proofs.CallerLemmas.{same_place_is}
 
 back_test : all_turns (λ t. list_all (λ q. same_place (turned (inverse_turn t) (turned t q)) q) places) ≡ true
@@ -145,7 +144,7 @@ module _ (k : Coordinate) (a : Axis) where
       let d : Place → Place = map_of h.0 in
       let same : number_of k a d ≡ number_of k a e = alike d e (h.0, λ q p. refl) h.1 in
       let z = zero-kept k a (lists_of h.0) h.0.are_cubies in
-      ((λ n. kept_same (set_of k a) d e (set_of-places k a) h.1 (z.0 (same ∙ n))), (λ m. sym same ∙ z.1 (kept_same (set_of k a) e d (set_of-places k a) (λ q p. sym (h.1 q p)) m)))
+      ((λ n. kept_same (set_of k a) d e (sets_are_places k a) h.1 (z.0 (same ∙ n))), (λ m. sym same ∙ z.1 (kept_same (set_of k a) e d (sets_are_places k a) (λ q p. sym (h.1 q p)) m)))
 
   -- cubies that have a number once they are renamed
   some : (i : ℕ) → i < count_of k → (c : Cube) × (number_of k a (map_of c) ≡ i)

@@ -20,6 +20,7 @@ use Rattle.niss_cube.specs.Sets.{Kept, flip_set}
 use Rattle.niss_cube.specs.Steps.{start_of, turns_of, powers_from, is_face_of}
 use Rattle.niss_cube.specs.StepLaws.{InversesOfSteps, StepTurnsInOrder, StepTurnsAreCounted}
 use Rattle.niss_cube.specs.declared.step.Step.{Step}
+use Rattle.niss_moves.proofs.CallerLemmas.{same_face_is}
 use Rattle.niss_cube.proofs.Each.{at_place, and_left, and_right}
 use Rattle.niss_cube.proofs.KeptTests.{implied}
 
@@ -87,15 +88,6 @@ same_power _ _ = false
 abbrev same_turn : Turn → Turn → Bool
 same_turn t u = same_face t.face u.face && same_power t.power u.power
 
-same_face-is : (f g : Face) → same_face f g ≡ true → f ≡ g
-same_face-is U U h = refl
-same_face-is D D h = refl
-same_face-is R R h = refl
-same_face-is L L h = refl
-same_face-is F F h = refl
-same_face-is B B h = refl
-same_face-is _ _ h = absurd (cc)
-
 same_power-is : (p q : Power) → same_power p q ≡ true → p ≡ q
 same_power-is Quarter Quarter h = refl
 same_power-is Half Half h = refl
@@ -104,7 +96,7 @@ same_power-is _ _ h = absurd (cc)
 
 same_turn-is : (t u : Turn) → same_turn t u ≡ true → t ≡ u
 same_turn-is t u h =
-    let f : t.face ≡ u.face = same_face-is t.face u.face (and_left _ _ h) in
+    let f : t.face ≡ u.face = same_face_is t.face u.face (and_left _ _ h) in
     let p : t.power ≡ u.power = same_power-is t.power u.power (and_right (same_face t.face u.face) _ h) in
     λ i. record { face = f i; power = p i }
 

@@ -13,11 +13,10 @@ use Rattle.niss_moves.specs.declared.turn.Turn.{Turn}
 use Rattle.niss_cube.specs.declared.cube.Cube.{Cube}
 use Rattle.niss_cube.specs.declared.cube.coordinate.Coordinate.{Coordinate}
 use Rattle.niss_cube.specs.Map.{map_of}
-use Rattle.niss_cube.specs.Coordinates.{count_of, number_of, standard_axis}
+use Rattle.niss_cube.specs.Coordinates.{count_of, face_for, number_of, standard_axis, turn_for}
 use Rattle.niss_cube.specs.NumberAfter.{number_after}
 use Rattle.niss_cube.specs.AfterTurn.{IsCoordinate}
 use Rattle.niss_cube.specs.TableRows.{AreRows, AreQuarters, entry_at, face_index, power_index}
-use Rattle.niss_cube.specs.RenamedTurns.{face_for, turn_for}
 use Rattle.niss_moves.specs.declared.axis.Axis.{Axis}
 use Rattle.niss_cube.proofs.Codes.{number_after-standard}
 use Rattle.niss_cube.proofs.CoordinateLaws.{are_coordinates, standard-after, standard-after-two}

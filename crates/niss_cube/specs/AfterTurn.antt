@@ -8,8 +8,8 @@ use Rattle.niss_moves.specs.declared.turn.Turn.{Turn}
 use Rattle.niss_cube.specs.declared.cube.Cube.{Cube}
 use Rattle.niss_cube.specs.declared.cube.coordinate.Coordinate.{Coordinate}
 use Rattle.niss_cube.specs.Map.{map_of}
-use Rattle.niss_cube.specs.Sets.{Kept}
-use Rattle.niss_cube.specs.Coordinates.{count_of, number_of, set_of}
+use Rattle.niss_cube.specs.Sets.{Kept, set_of}
+use Rattle.niss_cube.specs.Coordinates.{count_of, number_of}
 use Rattle.niss_cube.specs.NumberAfter.{number_after}
 
 -- the map of some cube

@@ -3,10 +3,13 @@ use Rattle.std.specs.Prelude.{ℕ, zero, suc, ◌+◌, ◌*◌, ◌-◌, Bool, t
 use Rattle.std.specs.List.{list_any}
 use Rattle.niss_moves.specs.Places.{Place, same_place}
 use Rattle.niss_moves.specs.Effects.{quarters}
+use Rattle.niss_moves.specs.Rotations.{renamed_turn}
 use Rattle.niss_moves.specs.declared.axis.Axis.{Axis}
 use Rattle.niss_moves.specs.declared.axis.Axis.TheVariants.{Ud, Rl, Fb}
+use Rattle.niss_moves.specs.declared.turn.Face.{Face}
+use Rattle.niss_moves.specs.declared.turn.Turn.{Turn}
 use Rattle.niss_cube.specs.CubieFacelets.{index_in, corner_facelets, edge_facelets}
-use Rattle.niss_cube.specs.Sets.{flip_set, twist_set, slice_set}
+use Rattle.niss_cube.specs.RenamedFaces.{face_for_flip, face_for_twist}
 use Rattle.niss_cube.specs.declared.cube.coordinate.Coordinate.{Coordinate}
 use Rattle.niss_cube.specs.declared.cube.coordinate.Coordinate.TheVariants.{Flip, Twist, Slice}
 
@@ -86,17 +89,20 @@ count_of Flip = 2048
 count_of Twist = 2187
 count_of Slice = 495
 
--- the places that are kept where it is 0,
-abbrev pub set_of : Coordinate → Axis → Place → Bool
-set_of Flip = flip_set
-set_of Twist = twist_set
-set_of Slice = slice_set
-
--- the map of the cube from which it is read,
+-- the map of the cube from which it is read, and which face of that cube a face is,
 abbrev pub renamed_for : Coordinate → Axis → (Place → Place) → Place → Place
 renamed_for Flip = for_flip
 renamed_for Twist = for_twist
 renamed_for Slice = for_twist
+
+abbrev pub face_for : Coordinate → Axis → Face → Face
+face_for Flip = face_for_flip
+face_for Twist = face_for_twist
+face_for Slice = face_for_twist
+
+-- a turn of the cube as one of that cube,
+abbrev pub turn_for : Coordinate → Axis → Turn → Turn
+turn_for k a t = renamed_turn (face_for k a) t
 
 -- and the axis for which the cube isn't renamed
 abbrev pub standard_axis : Coordinate → Axis

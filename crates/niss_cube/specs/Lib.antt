@@ -7,7 +7,7 @@ pub mod Coordinates
 pub mod SameCubies
 pub mod CubieTurns
 pub mod Renamings
-pub mod RenamedTurns
+pub mod RenamedFaces
 pub mod NumberedCubies
 pub mod NumberAfter
 pub mod AfterTurn

@@ -1,6 +1,11 @@
 -- The cubies that have a number on the standard axis of a coordinate.
 use Rattle.std.specs.Prelude.{ℕ, zero, suc, ◌-◌, ◌/◌, ◌%◌, Bool, true, false, List, [], ◌∷◌, ◌++◌, sum, reverse, nat_lt, if◌then◌else◌}
+use Rattle.niss_moves.specs.Places.{Place}
 use Rattle.niss_cube.specs.Coordinates.{choose}
+use Rattle.niss_cube.specs.Cubies.{corners_home, twists_home, edges_home, flips_home}
+use Rattle.niss_cube.specs.Map.{sticker_map}
+use Rattle.niss_cube.specs.declared.cube.coordinate.Coordinate.{Coordinate}
+use Rattle.niss_cube.specs.declared.cube.coordinate.Coordinate.TheVariants.{Flip, Twist, Slice}
 
 -- the number i as n digits in base b, the highest first
 abbrev pub digits_of_number : (b n i : ℕ) → List ℕ
@@ -35,3 +40,9 @@ edges_at (false ∷ os) free of_slice = free ∷ edges_at os (suc free) of_slice
 -- edges whose places have the number i
 unfoldable pub edges_of_number : ℕ → List ℕ
 edges_of_number i = edges_at (reverse (occupied_of_number 12 4 i)) 0 8
+
+-- the map of a cube that has the number i on the standard axis, its other cubies at home
+abbrev pub numbered : Coordinate → ℕ → Place → Place
+numbered Flip i = sticker_map corners_home twists_home edges_home (flips_of_number i)
+numbered Twist i = sticker_map corners_home (twists_of_number i) edges_home flips_home
+numbered Slice i = sticker_map corners_home twists_home (edges_of_number i) flips_home

@@ -37,7 +37,7 @@ mod cubie_turns;
 mod digits;
 pub mod laws;
 mod letters;
-mod renamed_turns;
+mod renamed_faces;
 mod renaming;
 mod rotated_text;
 mod slice_places;

@@ -56,13 +56,13 @@ module _ (coordinates : AreCoordinates) where
   position_follows s e t h =
       map_twice (λ c. coordinates_after c t) (λ g. coordinates_of g e) (λ g. coordinates_of g (λ q. turned t (e q))) (goals_of s) (λ g. goal_follows g e t h)
 
-  module _ (sets : SetsArePlaces) (e : Place → Place) (h : IsCube e) where
+  module _ (e : Place → Place) (h : IsCube e) where
     edges_zero : (a : Axis) → holds (Edges a) e ≡ are_zero (coordinates_of (Edges a) e)
-    edges_zero a = sym (zero_tells (flip_set a) e (flip_of a e) (sets.flips a) ((coordinates coordinate.Flip a).zero_where_kept e h))
+    edges_zero a = sym (zero_tells coordinate.Flip a e (flip_of a e) ((coordinates coordinate.Flip a).zero_where_kept e h))
 
     domino_zero : (o a : Axis) → IsTrue (holds (Edges o) e) → holds (Domino o a) e ≡ are_zero (coordinates_of (Domino o a) e)
     domino_zero o a k =
-        rw (k, zero_tells (twist_set a) e (twist_of a e) (sets.twists a) ((coordinates coordinate.Twist a).zero_where_kept e h), zero_tells (slice_set a) e (slice_of a e) (sets.slices a) ((coordinates coordinate.Slice a).zero_where_kept e h))
+        rw (k, zero_tells coordinate.Twist a e (twist_of a e) ((coordinates coordinate.Twist a).zero_where_kept e h), zero_tells coordinate.Slice a e (slice_of a e) ((coordinates coordinate.Slice a).zero_where_kept e h))
 
     -- a goal holds where its coordinates are 0, if the step may start
     goal_zero : DominoKeepsStart → (s : Step) → IsTrue (may_start s e) → (g : Goal) → Contains (goals_of s) g → holds g e ≡ are_zero (coordinates_of g e)
@@ -80,14 +80,14 @@ module _ (coordinates : AreCoordinates) where
       by_goals (g ∷ gs) each =
           rw (each g (Contains-first g gs), by_goals gs (λ h m. each h (Contains-later g gs h m)))
 
-pub positions_tell : AreCoordinates → TurnedIsCube → SetsArePlaces → StartIsKept → StepsSeePlaces → DominoKeepsStart → PositionsTell
-positions_tell coordinates is_cube sets kept see begins = record {
+pub positions_tell : AreCoordinates → TurnedIsCube → StartIsKept → StepsSeePlaces → DominoKeepsStart → PositionsTell
+positions_tell coordinates is_cube kept see begins = record {
   alike = λ s d e h same starts. record {
     cube = alike_is_cube d e h same;
     starts = subst IsTrue ((see d e same).start s) starts;
     here = sym (position_alike coordinates s d e h same);
   };
-  goal = λ s e x h. reached_zero coordinates sets e h.cube begins s h.starts ∙ ap is_reached_at h.here;
+  goal = λ s e x h. reached_zero coordinates e h.cube begins s h.starts ∙ ap is_reached_at h.here;
   after_turn = λ s e x t m h. record {
     cube = is_cube e t h.cube;
     starts = kept s e t m h.starts;

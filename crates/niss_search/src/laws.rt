@@ -3,8 +3,8 @@ ghost use Rattle.niss_search.specs.Laws.{CountRecurrence, PartHasNoMore, LooksWi
 ghost use Rattle.niss_search.specs.Filling.{EntriesTurn};
 
 use niss_cube::laws::{
-    are_coordinates, domino_keeps_start, inverses_of_steps, sets_are_places, start_is_kept,
-    step_turns_in_order, steps_see_places, turned_is_cube,
+    are_coordinates, domino_keeps_start, inverses_of_steps, start_is_kept, step_turns_in_order,
+    steps_see_places, turned_is_cube,
 };
 
 /// How many canonical sequences there are, how often a search looks, how many entries a pruning table has, and how many
@@ -35,7 +35,6 @@ pub fn positions_tell()
 {
     are_coordinates();
     turned_is_cube();
-    sets_are_places();
     start_is_kept();
     steps_see_places();
     domino_keeps_start();

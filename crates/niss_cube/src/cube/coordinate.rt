@@ -1,16 +1,18 @@
 //! The coordinates of a cube, each as one value.
-ghost use Rattle.std.specs.Prelude.{◌≡◌, ◌<◌, ◌↔◌};
+ghost use Rattle.std.specs.Prelude.{◌≡◌, ◌<◌, ◌↔◌, ℕ};
 ghost use Rattle.niss_moves.specs.Effects.{turned};
 ghost use Rattle.niss_moves.specs.Places.{SameMap};
 ghost use Rattle.niss_cube.specs.Map.{map_of};
-ghost use Rattle.niss_cube.specs.Sets.{Kept};
-ghost use Rattle.niss_cube.specs.Coordinates.{count_of, number_of, set_of, renamed_for, standard_axis};
+ghost use Rattle.niss_cube.specs.Sets.{Kept, set_of};
+ghost use Rattle.niss_cube.specs.Coordinates.{count_of, face_for, number_of, renamed_for, standard_axis, turn_for};
+ghost use Rattle.niss_cube.specs.NumberAfter.{number_after};
 
 use super::{CORNERS_HOME, Cube, EDGES_HOME};
 use crate::cubie_turns::{turn_edges, turn_flips, turn_twists};
 use crate::digits::{number_of, write_orientations};
+use crate::renamed_faces::{renamed_face_for_flip, renamed_face_for_twist};
 use crate::slice_places::{edges_with_slice, slice_number};
-use niss_moves::{Axis, Turn};
+use niss_moves::{Axis, Face, Turn};
 
 /// A coordinate of a cube, which has a number on each axis.
 #[derive(Clone, Copy)]
@@ -92,6 +94,30 @@ impl Coordinate {
             Coordinate::Flip => number_of(2, &turn_flips(&cube.flips, turn)[..11]),
             Coordinate::Twist => number_of(3, &turn_twists(&cube.twists, turn)[..7]),
             Coordinate::Slice => slice_number(&turn_edges(&cube.edges, turn)),
+        }
+    }
+
+    /// The face that the renamed cube has where the cube has `face`.
+    #[inline(always)]
+    pub(crate) fn renamed_face(self, axis: Axis, face: Face) -> Face
+        ensures { result ≡ face_for self axis face }
+    {
+        match self {
+            Coordinate::Flip => renamed_face_for_flip(axis, face),
+            Coordinate::Twist | Coordinate::Slice => renamed_face_for_twist(axis, face),
+        }
+    }
+
+    /// The turn that does to the number on the standard axis, Fb for flips and Ud for twists and slices, what `turn` does to
+    /// that on `axis`.
+    pub fn standard_turn(self, axis: Axis, turn: Turn) -> Turn
+        ensures value { result ≡ turn_for self axis turn }
+        ensures same_number { (number : ℕ)
+            → number_after self (standard_axis self) number result ≡ number_after self axis number turn }
+    {
+        Turn {
+            face: self.renamed_face(axis, turn.face),
+            power: turn.power,
         }
     }
 }
