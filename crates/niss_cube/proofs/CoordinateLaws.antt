@@ -1,180 +1,175 @@
--- The flips, the twists and the slices on an axis are coordinates.
-use Rattle.std.proofs.Common.{◌≡◌, ℕ, ◌<◌, refl, sym, ◌∙◌, ap, subst, List, get_or, map, take, reverse}
-use Rattle.std.specs.Prelude.{count_by, nat_lt, nat_le, ◌==◌}
-use Rattle.std.proofs.lemmas.Bool.{eqb-true, ltb-true}
-use Rattle.niss_moves.specs.Effects.{times}
+-- Flips, twists and slices are coordinates, by their codes.
+use Rattle.std.proofs.Common.{◌≡◌, ℕ, ◌<◌, refl, sym, ◌∙◌, ap, subst, true}
+use Rattle.std.specs.Prelude.{◌↔◌}
+use Rattle.std.specs.List.{list_all}
+use Rattle.niss_moves.specs.Places.{Place, same_place, is_place, SameMap}
+use Rattle.niss_moves.specs.Facelets.{places}
+use Rattle.niss_moves.specs.Effects.{turned}
+use Rattle.niss_moves.specs.Turn.{inverse_turn}
 use Rattle.niss_moves.specs.declared.turn.Turn.{Turn}
-use Rattle.niss_moves.specs.declared.axis.Axis.TheVariants.{Ud, Fb}
-use Rattle.niss_cube.specs.Sets.{flip_set, twist_set, slice_set}
-use Rattle.niss_cube.specs.Coordinates.{number, rank, for_flip, for_twist, flip_of, twist_of, slice_of}
-use Rattle.niss_cube.proofs.CubieLists.{CubieLists, flips_quarter, twists_quarter, edges_quarter, repeated}
-use Rattle.niss_cube.specs.Cubies.{corners_home, edges_home, twists_home, flips_home}
-use Rattle.niss_cube.specs.FlipAfter.{flips_of_number, flip_after}
-use Rattle.niss_cube.specs.TwistAfter.{twists_of_number, twist_after}
-use Rattle.niss_cube.specs.RenamedTurns.{turn_for_flip, turn_for_twist}
-use Rattle.niss_cube.specs.SliceAfter.{edges_of_number, slice_after}
-use Rattle.niss_cube.specs.AfterTurn.{FlipsAreCoordinates, TwistsAreCoordinates, SlicesAreCoordinates}
-use Rattle.niss_cube.proofs.PlaceTables.{at_below}
-use Rattle.niss_cube.proofs.SetPlaces.{sets_are_places}
-use Rattle.niss_cube.proofs.CoordinateValues.{flip_of-cubies, twist_of-cubies, slice_of-cubies, flips-below, twists-below, slice-below, slice_occupied, slice_occupied-filled}
-use Rattle.niss_cube.proofs.ListTurns.{Valid, map_lists, turned_lists, turned-part}
-use Rattle.niss_cube.proofs.Orientations.{AreOriented, base_2, base_3, orientations_of_number-are, orientations_of_number-number, oriented-same}
-use Rattle.niss_cube.proofs.KeptFlips.{flips_home-are, are_flips, flip_zero-kept}
-use Rattle.niss_cube.proofs.KeptTwists.{twists_home-are, are_twists, twist_zero-kept, slice_zero-kept}
-use Rattle.niss_cube.proofs.SliceCodes.{ArePlaced, of_number-placed, of_number-rank, repeated-occupied, occupied-same}
-use Rattle.niss_cube.proofs.AxisRenamings.{cubies_for_flip, flip_renaming, cubies_for_twist, twist_renaming}
-use Rattle.niss_cube.proofs.CodedLaws.{IsCode, coordinate}
+use Rattle.niss_moves.specs.declared.axis.Axis.{Axis}
+use Rattle.niss_cube.specs.declared.cube.Cube.{Cube}
+use Rattle.niss_cube.specs.declared.cube.coordinate.Coordinate.{Coordinate}
+use Rattle.niss_cube.specs.Map.{map_of}
+use Rattle.niss_cube.specs.Sets.{Kept, set_of}
+use Rattle.niss_cube.specs.Coordinates.{number_of, count_of, renamed_for, standard_axis, turn_for}
+use Rattle.niss_cube.specs.NumberAfter.{number_after}
+use Rattle.niss_cube.specs.AfterTurn.{IsCube, TurnedIsCube, AreCoordinates}
+use Rattle.niss_cube.proofs.CubieLists.{CubieLists}
+use Rattle.niss_cube.proofs.Each.{at_place}
+use Rattle.niss_cube.proofs.AxisRenamings.{all_turns, at_turn, KeepsPlaces}
+use Rattle.niss_cube.proofs.MapPlaces.{sticker_map-place}
+use Rattle.niss_cube.proofs.SetPlaces.{sets_are_places, kept_same}
+use Rattle.niss_cube.proofs.ListTurns.{Valid, map_lists, turned_lists, turned-valid, turned-map}
+use Rattle.niss_cube.proofs.Codes.{code, number_of-code, code-below, cubies_with, cubies_with-valid, cubies_with-code, number_after-is, code-turned, cubies_for, renaming, unrenamed, standard_turn-is, zero-kept}
+use Rattle.niss_moves.proofs.CallerLemmas.{same_place_is}
 
-edges_home-are : ArePlaced edges_home
-edges_home-are = record {
-  places = refl;
-  each = λ h l. eqb-true _ _ (at_below 12 (λ h. count_by (λ x. x == h) edges_home == 1) refl h l);
-  range = λ n l. ltb-true _ _ (at_below 12 (λ n. nat_lt (get_or edges_home n 0) 12) refl n l);
+back_test : all_turns (λ t. list_all (λ q. same_place (turned (inverse_turn t) (turned t q)) q) places) ≡ true
+back_test = refl
+
+turned-inverse_turn : (t : Turn) (q : Place) → is_place q ≡ true → turned (inverse_turn t) (turned t q) ≡ q
+turned-inverse_turn t q h =
+    same_place_is _ _ (at_place (λ q. same_place (turned (inverse_turn t) (turned t q)) q)
+    (at_turn (λ t. list_all (λ q. same_place (turned (inverse_turn t) (turned t q)) q) places) back_test t) q h)
+
+pub lists_keep_places : (c : CubieLists) → Valid c → KeepsPlaces (map_lists c)
+lists_keep_places c v = sticker_map-place c.corners c.twists c.edges c.flips v
+
+-- cubies turned and turned back have the map that they had
+turned_back-map : (t : Turn) (c : CubieLists) → Valid c → SameMap (map_lists (turned_lists (inverse_turn t) (turned_lists t c))) (map_lists c)
+turned_back-map t c v = λ q p.
+    turned-map (inverse_turn t) (turned_lists t c) (turned-valid t c v) q p
+    ∙ ap (turned (inverse_turn t)) (turned-map t c v q p)
+    ∙ turned-inverse_turn t (map_lists c q) (lists_keep_places c v q p)
+
+abbrev pub lists_of : Cube → CubieLists
+lists_of c = record { corners = c.corners; twists = c.twists; edges = c.edges; flips = c.flips }
+
+abbrev pub cube_of : (c : CubieLists) → Valid c → Cube
+cube_of c v = record { corners = c.corners; twists = c.twists; edges = c.edges; flips = c.flips; are_cubies = v }
+
+pub cube-itself : (c : Cube) → IsCube (map_of c)
+cube-itself c = (c, λ q p. refl)
+
+-- a map that is the same on the places as a cube's is a cube's
+pub alike_is_cube : (d e : Place → Place) → IsCube d → SameMap d e → IsCube e
+alike_is_cube d e h same = (h.0, λ q p. h.1 q p ∙ same q p)
+
+pub turned_is_cube : TurnedIsCube
+turned_is_cube e t h =
+    let c : CubieLists = lists_of h.0 in
+    let v : Valid c = h.0.are_cubies in
+    (cube_of (turned_lists t c) (turned-valid t c v), λ q p. turned-map t c v q p ∙ ap (turned t) (h.1 q p))
+
+-- what a number is on the standard axis
+pub standard-code : (k : Coordinate) (c : CubieLists) → Valid c → number_of k (standard_axis k) (map_lists c) ≡ code k c
+standard-code k c v = number_of-code k (standard_axis k) (map_lists c) c v (λ q p. sym (unrenamed k (map_lists c) q))
+
+-- the number on the standard axis of the cube that is renamed for an axis
+pub renamed-number : (k : Coordinate) (a : Axis) (c : Cube) (e : Place → Place) → SameMap (map_of c) (renamed_for k a e) → number_of k (standard_axis k) (map_of c) ≡ number_of k a e
+renamed-number k a c e s = standard-code k (lists_of c) c.are_cubies ∙ sym (number_of-code k a e (lists_of c) c.are_cubies s)
+
+pub standard-turned : (k : Coordinate) (t : Turn) (c : CubieLists) → Valid c → number_of k (standard_axis k) (λ q. turned t (map_lists c q)) ≡ code k (turned_lists t c)
+standard-turned k t c v =
+    number_of-code k (standard_axis k) (λ q. turned t (map_lists c q)) (turned_lists t c) (turned-valid t c v)
+    (λ q p. turned-map t c v q p ∙ sym (unrenamed k (λ q. turned t (map_lists c q)) q))
+
+module _ (k : Coordinate) (a : Axis) where
+  after_code : (i : ℕ) (t : Turn) → i < count_of k → number_after k a i t ≡ code k (turned_lists (turn_for k a t) (cubies_with k i))
+  after_code i t l = number_after-is k a i t ∙ standard-turned k (turn_for k a t) (cubies_with k i) (cubies_with-valid k i l)
+
+  stays_below : (i : ℕ) (t : Turn) → i < count_of k → number_after k a i t < count_of k
+  stays_below i t l =
+      let P : ℕ → Type 0 = λ n. n < count_of k in
+      let s : Turn = turn_for k a t in
+      subst P (sym (after_code i t l)) (code-below k (turned_lists s (cubies_with k i)) (turned-valid s (cubies_with k i) (cubies_with-valid k i l)))
+
+  goes_back : (i : ℕ) (t : Turn) → i < count_of k → number_after k a (number_after k a i t) (inverse_turn t) ≡ i
+  goes_back i t l =
+      let s : Turn = turn_for k a t in
+      let c : CubieLists = cubies_with k i in
+      let cv : Valid c = cubies_with-valid k i l in
+      let w : CubieLists = turned_lists s c in
+      let wv : Valid w = turned-valid s c cv in
+      let u : CubieLists = turned_lists (inverse_turn s) w in
+      let j : ℕ = number_after k a i t in
+      let lj : j < count_of k = stays_below i t l in
+      after_code j (inverse_turn t) lj
+      ∙ ap (λ s. code k (turned_lists s (cubies_with k j))) ((renaming k).back_is a t)
+      ∙ code-turned k (inverse_turn s) (cubies_with k j) w (cubies_with-valid k j lj) wv (cubies_with-code k j lj ∙ after_code i t l)
+      ∙ sym (standard-code k u (turned-valid (inverse_turn s) w wv))
+      ∙ number_of-code k (standard_axis k) (map_lists u) c cv (λ q p. sym (turned_back-map s c cv q p) ∙ sym (unrenamed k (map_lists u) q))
+      ∙ cubies_with-code k i l
+
+  -- the cubies of a map, renamed for the axis
+  module _ (c : CubieLists) (v : Valid c) (e : Place → Place) (same : SameMap (map_lists c) e) where
+    abbrev here : CubieLists
+    here = cubies_for k a c
+
+    here-valid : Valid here
+    here-valid = (renaming k).valid a c v
+
+    number-here : number_of k a e ≡ code k here
+    number-here =
+        number_of-code k a e here here-valid (λ q p. (renaming k).map_is a c v q p ∙ (renaming k).same a (map_lists c) e same q p)
+
+    turned-here : (t : Turn) → number_of k a (λ q. turned t (e q)) ≡ code k (turned_lists (turn_for k a t) here)
+    turned-here t =
+        let s : Turn = turn_for k a t in
+        number_of-code k a (λ q. turned t (e q)) (turned_lists s here) (turned-valid s here here-valid)
+        (λ q p. turned-map s here here-valid q p
+        ∙ ap (turned s) ((renaming k).map_is a c v q p)
+        ∙ sym ((renaming k).turned_is a t (map_lists c) (lists_keep_places c v) q p)
+        ∙ (renaming k).same a (λ q. turned t (map_lists c q)) (λ q. turned t (e q)) (λ q p. ap (turned t) (same q p)) q p)
+
+    number-below : number_of k a e < count_of k
+    number-below = let P : ℕ → Type 0 = λ n. n < count_of k in subst P (sym number-here) (code-below k here here-valid)
+
+    follow : (t : Turn) → number_of k a (λ q. turned t (e q)) ≡ number_after k a (number_of k a e) t
+    follow t =
+        let i : ℕ = code k here in
+        let l : i < count_of k = code-below k here here-valid in
+        turned-here t
+        ∙ code-turned k (turn_for k a t) here (cubies_with k i) here-valid (cubies_with-valid k i l) (sym (cubies_with-code k i l))
+        ∙ sym (after_code i t l)
+        ∙ ap (λ i. number_after k a i t) (sym number-here)
+
+  alike : (d e : Place → Place) → IsCube d → SameMap d e → number_of k a d ≡ number_of k a e
+  alike d e h s =
+      number-here (lists_of h.0) h.0.are_cubies d h.1
+      ∙ sym (number-here (lists_of h.0) h.0.are_cubies e (λ q p. h.1 q p ∙ s q p))
+
+  zero : (e : Place → Place) → IsCube e → (number_of k a e ≡ 0) ↔ Kept (set_of k a) e
+  zero e h =
+      let d : Place → Place = map_of h.0 in
+      let same : number_of k a d ≡ number_of k a e = alike d e (h.0, λ q p. refl) h.1 in
+      let z = zero-kept k a (lists_of h.0) h.0.are_cubies in
+      ((λ n. kept_same (set_of k a) d e (sets_are_places k a) h.1 (z.0 (same ∙ n))), (λ m. sym same ∙ z.1 (kept_same (set_of k a) e d (sets_are_places k a) (λ q p. sym (h.1 q p)) m)))
+
+  -- cubies that have a number once they are renamed
+  some : (i : ℕ) → i < count_of k → (c : Cube) × (number_of k a (map_of c) ≡ i)
+  some i l =
+      let w = (renaming k).onto a (cubies_with k i) (cubies_with-valid k i l) in
+      (cube_of w.0 w.1, number_of-code k a (map_lists w.0) (cubies_with k i) (cubies_with-valid k i l) w.2 ∙ cubies_with-code k i l)
+
+-- the number after one turn, and after one more, on the standard axis
+pub standard-after : (k : Coordinate) (i : ℕ) (t : Turn) → i < count_of k → number_after k (standard_axis k) i t ≡ code k (turned_lists t (cubies_with k i))
+standard-after k i t l = after_code k (standard_axis k) i t l ∙ ap (λ s. code k (turned_lists s (cubies_with k i))) (standard_turn-is k t)
+
+pub standard-after-two : (k : Coordinate) (i : ℕ) (s t : Turn) → i < count_of k → number_after k (standard_axis k) (number_after k (standard_axis k) i s) t ≡ code k (turned_lists t (turned_lists s (cubies_with k i)))
+standard-after-two k i s t l =
+    let j : ℕ = number_after k (standard_axis k) i s in
+    let lj : j < count_of k = stays_below k (standard_axis k) i s l in
+    standard-after k j t lj
+    ∙ code-turned k t (cubies_with k j) (turned_lists s (cubies_with k i)) (cubies_with-valid k j lj) (turned-valid s (cubies_with k i) (cubies_with-valid k i l)) (cubies_with-code k j lj ∙ standard-after k i s l)
+
+pub are_coordinates : AreCoordinates
+are_coordinates k a = record {
+  below = λ e h. number-below k a (lists_of h.0) h.0.are_cubies e h.1;
+  some_cube = some k a;
+  zero_where_kept = zero k a;
+  of_places = alike k a;
+  follows = λ e t h. follow k a (lists_of h.0) h.0.are_cubies e h.1 t;
+  after_below = stays_below k a;
+  back_again = goes_back k a;
 }
-
--- cubies with corners at home
-abbrev cubies_of : (twists edges flips : List ℕ) → CubieLists
-cubies_of twists edges flips = record { corners = corners_home; twists = twists; edges = edges; flips = flips }
-
-pub cubies_of-valid : (twists edges flips : List ℕ) → AreOriented 3 7 twists → ArePlaced edges → AreOriented 2 11 flips → Valid (cubies_of twists edges flips)
-cubies_of-valid twists edges flips t e f =
-    record {
-      corner_places = refl;
-      twist_places = t.places;
-      edge_places = e.places;
-      flip_places = f.places;
-      each_corner = λ h l. eqb-true _ _ (at_below 8 (λ h. count_by (λ x. x == h) corners_home == 1) refl h l);
-      each_edge = e.each;
-      corner_range = λ n l. ltb-true _ _ (at_below 8 (λ n. nat_lt (get_or corners_home n 0) 8) refl n l);
-      edge_range = e.range;
-      twist_range = t.range;
-      flip_range = f.range;
-      twist_sum = t.whole;
-      flip_sum = f.whole;
-    }
-
-of_number-flips : (i : ℕ) → AreOriented 2 11 (flips_of_number i)
-unfolding flips_of_number
-of_number-flips i = orientations_of_number-are 2 base_2 11 i
-
-of_number-flip : (i : ℕ) → i < 2048 → number 2 (take 11 (flips_of_number i)) ≡ i
-unfolding flips_of_number
-of_number-flip i l = orientations_of_number-number 2 base_2 11 i l
-
-of_number-twists : (i : ℕ) → AreOriented 3 7 (twists_of_number i)
-unfolding twists_of_number
-of_number-twists i = orientations_of_number-are 3 base_3 7 i
-
-of_number-twist : (i : ℕ) → i < 2187 → number 3 (take 7 (twists_of_number i)) ≡ i
-unfolding twists_of_number
-of_number-twist i l = orientations_of_number-number 3 base_3 7 i l
-
-abbrev flip_code : CubieLists → ℕ
-flip_code c = number 2 (take 11 c.flips)
-
-abbrev twist_code : CubieLists → ℕ
-twist_code c = number 3 (take 7 c.twists)
-
-abbrev slice_code : CubieLists → ℕ
-slice_code c = rank (slice_occupied c.edges) 4
-
-flip_code-turned : (t : Turn) (c d : CubieLists) → Valid c → Valid d → flip_code c ≡ flip_code d → flip_code (turned_lists t c) ≡ flip_code (turned_lists t d)
-flip_code-turned t c d v w e =
-    ap (λ xs. number 2 (take 11 xs))
-    (turned-part (λ c. c.flips) flips_quarter (λ f c. refl) t c
-    ∙ ap (repeated (times t.power) (flips_quarter t.face)) (oriented-same 2 base_2 11 c.flips d.flips (are_flips c v) (are_flips d w) e)
-    ∙ sym (turned-part (λ c. c.flips) flips_quarter (λ f c. refl) t d))
-
-twist_code-turned : (t : Turn) (c d : CubieLists) → Valid c → Valid d → twist_code c ≡ twist_code d → twist_code (turned_lists t c) ≡ twist_code (turned_lists t d)
-twist_code-turned t c d v w e =
-    ap (λ xs. number 3 (take 7 xs))
-    (turned-part (λ c. c.twists) twists_quarter (λ f c. refl) t c
-    ∙ ap (repeated (times t.power) (twists_quarter t.face)) (oriented-same 3 base_3 7 c.twists d.twists (are_twists c v) (are_twists d w) e)
-    ∙ sym (turned-part (λ c. c.twists) twists_quarter (λ f c. refl) t d))
-
-slice_code-turned : (t : Turn) (c d : CubieLists) → Valid c → Valid d → slice_code c ≡ slice_code d → slice_code (turned_lists t c) ≡ slice_code (turned_lists t d)
-slice_code-turned t c d v w e =
-    let same : map (nat_le 8) c.edges ≡ map (nat_le 8) d.edges =
-    occupied-same c.edges d.edges v.edge_places w.edge_places (slice_occupied-filled c.corners c.twists c.edges c.flips v) (slice_occupied-filled d.corners d.twists d.edges d.flips w) e in
-    ap (λ xs. rank (slice_occupied xs) 4) (turned-part (λ c. c.edges) edges_quarter (λ f c. refl) t c)
-    ∙ ap (λ os. rank (reverse os) 4) (repeated-occupied (times t.power) t.face c.edges d.edges v.edge_places w.edge_places same)
-    ∙ ap (λ xs. rank (slice_occupied xs) 4) (sym (turned-part (λ c. c.edges) edges_quarter (λ f c. refl) t d))
-
-flips_code : IsCode for_flip Fb flip_of flip_code (λ i. cubies_of twists_home edges_home (flips_of_number i)) 2048
-flips_code = record {
-  code_is = λ a e c v s. flip_of-cubies a e c.corners c.twists c.edges c.flips v s;
-  unrenamed = λ e q. refl;
-  below = λ c v. flips-below c.corners c.twists c.edges c.flips v;
-  valid = λ i l. cubies_of-valid twists_home edges_home (flips_of_number i) twists_home-are edges_home-are (of_number-flips i);
-  of_number_code = of_number-flip;
-  code_turned = flip_code-turned;
-}
-
-twists_code : IsCode for_twist Ud twist_of twist_code (λ i. cubies_of (twists_of_number i) edges_home flips_home) 2187
-twists_code = record {
-  code_is = λ a e c v s. twist_of-cubies a e c.corners c.twists c.edges c.flips v s;
-  unrenamed = λ e q. refl;
-  below = λ c v. twists-below c.corners c.twists c.edges c.flips v;
-  valid = λ i l. cubies_of-valid (twists_of_number i) edges_home flips_home (of_number-twists i) edges_home-are flips_home-are;
-  of_number_code = of_number-twist;
-  code_turned = twist_code-turned;
-}
-
-slices_code : IsCode for_twist Ud slice_of slice_code (λ i. cubies_of twists_home (edges_of_number i) flips_home) 495
-slices_code = record {
-  code_is = λ a e c v s. slice_of-cubies a e c.corners c.twists c.edges c.flips v s;
-  unrenamed = λ e q. refl;
-  below = λ c v. slice-below c.corners c.twists c.edges c.flips v;
-  valid = λ i l. cubies_of-valid twists_home (edges_of_number i) flips_home twists_home-are (of_number-placed i l) flips_home-are;
-  of_number_code = of_number-rank;
-  code_turned = slice_code-turned;
-}
-
--- cubies with flips, twists or edges of a number
-pub with_flips-valid : (i : ℕ) (flips : List ℕ) → flips ≡ flips_of_number i → Valid (cubies_of twists_home edges_home flips)
-with_flips-valid i flips e =
-    let P : List ℕ → Type 0 = λ xs. Valid (cubies_of twists_home edges_home xs) in
-    subst P (sym e) (cubies_of-valid twists_home edges_home (flips_of_number i) twists_home-are edges_home-are (of_number-flips i))
-
-pub with_flips-number : (i : ℕ) (flips : List ℕ) → i < 2048 → flips ≡ flips_of_number i → flip_of Fb (map_lists (cubies_of twists_home edges_home flips)) ≡ i
-with_flips-number i flips l e =
-    flips_code.code_is Fb (map_lists (cubies_of twists_home edges_home flips)) (cubies_of twists_home edges_home flips) (with_flips-valid i flips e) (λ q p. refl)
-    ∙ ap (λ xs. number 2 (take 11 xs)) e ∙ of_number-flip i l
-
-pub with_twists-valid : (i : ℕ) (twists : List ℕ) → twists ≡ twists_of_number i → Valid (cubies_of twists edges_home flips_home)
-with_twists-valid i twists e =
-    let P : List ℕ → Type 0 = λ xs. Valid (cubies_of xs edges_home flips_home) in
-    subst P (sym e) (cubies_of-valid (twists_of_number i) edges_home flips_home (of_number-twists i) edges_home-are flips_home-are)
-
-pub with_twists-number : (i : ℕ) (twists : List ℕ) → i < 2187 → twists ≡ twists_of_number i → twist_of Ud (map_lists (cubies_of twists edges_home flips_home)) ≡ i
-with_twists-number i twists l e =
-    twists_code.code_is Ud (map_lists (cubies_of twists edges_home flips_home)) (cubies_of twists edges_home flips_home) (with_twists-valid i twists e) (λ q p. refl)
-    ∙ ap (λ xs. number 3 (take 7 xs)) e ∙ of_number-twist i l
-
-pub with_edges-valid : (i : ℕ) (edges : List ℕ) → i < 495 → edges ≡ edges_of_number i → Valid (cubies_of twists_home edges flips_home)
-with_edges-valid i edges l e =
-    let P : List ℕ → Type 0 = λ xs. Valid (cubies_of twists_home xs flips_home) in
-    subst P (sym e) (cubies_of-valid twists_home (edges_of_number i) flips_home twists_home-are (of_number-placed i l) flips_home-are)
-
-pub with_edges-number : (i : ℕ) (edges : List ℕ) → i < 495 → edges ≡ edges_of_number i → slice_of Ud (map_lists (cubies_of twists_home edges flips_home)) ≡ i
-with_edges-number i edges l e =
-    slices_code.code_is Ud (map_lists (cubies_of twists_home edges flips_home)) (cubies_of twists_home edges flips_home) (with_edges-valid i edges l e) (λ q p. refl)
-    ∙ ap (λ xs. rank (slice_occupied xs) 4) e ∙ of_number-rank i l
-
-pub flips_are_coordinates : FlipsAreCoordinates
-unfolding flip_after
-flips_are_coordinates =
-    coordinate for_flip turn_for_flip cubies_for_flip flip_renaming Fb flip_of flip_code (λ i. cubies_of twists_home edges_home (flips_of_number i)) 2048 flips_code
-    flip_after (λ a i t. refl) flip_set sets_are_places.flips flip_zero-kept
-
-pub twists_are_coordinates : TwistsAreCoordinates
-unfolding twist_after
-twists_are_coordinates =
-    coordinate for_twist turn_for_twist cubies_for_twist twist_renaming Ud twist_of twist_code (λ i. cubies_of (twists_of_number i) edges_home flips_home) 2187 twists_code
-    twist_after (λ a i t. refl) twist_set sets_are_places.twists twist_zero-kept
-
-pub slices_are_coordinates : SlicesAreCoordinates
-unfolding slice_after
-slices_are_coordinates =
-    coordinate for_twist turn_for_twist cubies_for_twist twist_renaming Ud slice_of slice_code (λ i. cubies_of twists_home (edges_of_number i) flips_home) 495 slices_code
-    slice_after (λ a i t. refl) slice_set sets_are_places.slices slice_zero-kept

@@ -1,5 +1,6 @@
 pub mod AxisRenamings
-pub mod CodedLaws
+pub mod CallerLemmas
+pub mod Codes
 pub mod CoordinateLaws
 pub mod CoordinateValues
 pub mod CubieLists
@@ -37,7 +38,6 @@ pub mod StickerPlaces
 pub mod Sums
 pub mod TableSteps
 pub mod TableTurns
-pub mod TurnedNumbers
 pub mod WorkedTurns
 pub mod WorkedValues
 pub mod WrittenOrientations

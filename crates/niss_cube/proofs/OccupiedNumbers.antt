@@ -6,7 +6,7 @@ use Rattle.std.proofs.lemmas.Bool.Decides.{leb_tells}
 use Rattle.std.proofs.lemmas.List.{take_more_set, length-set, append-nil}
 use Rattle.std.proofs.Math.Seq.{take-length}
 use Rattle.niss_cube.specs.Coordinates.{choose, rank}
-use Rattle.niss_cube.specs.OccupiedPlaces.{occupied_of_number}
+use Rattle.niss_cube.specs.NumberedCubies.{occupied_of_number}
 use Rattle.niss_cube.specs.declared.slice_places.TheConstants.{CHOICES}
 use Rattle.niss_cube.proofs.Numbers.{filled}
 use Rattle.niss_cube.proofs.SliceSteps.{choices-are}

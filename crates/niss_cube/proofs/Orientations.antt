@@ -5,7 +5,7 @@ use Rattle.std.proofs.lemmas.List.{ext_get_or, get_or-take, length-take}
 use Rattle.std.proofs.lemmas.List.Sums.{sum_by-cons}
 use Rattle.std.proofs.lemmas.Bool.Decides.{eqb_tells}
 use Rattle.niss_cube.specs.Coordinates.{number}
-use Rattle.niss_cube.specs.NumberedOrientations.{digits_of_number, orientations_of_number}
+use Rattle.niss_cube.specs.NumberedCubies.{digits_of_number, orientations_of_number}
 use Rattle.niss_cube.proofs.Sums.{below, sum_by-below}
 use Rattle.niss_cube.proofs.Numbers.{number_from, Digits, Splits, splits-2, splits-3, number-same, span}
 use Rattle.niss_cube.proofs.CoordinateValues.{digits_taken}

@@ -11,7 +11,7 @@ use Rattle.niss_cube.specs.CubieFacelets.{index_in, facelet_at, corner_facelets,
 use Rattle.niss_cube.specs.Map.{sticker_place}
 use Rattle.niss_cube.specs.Sets.{Kept}
 use Rattle.niss_cube.specs.Permutations.{PermutesPlaces, CubesPermutePlaces, KeptIsEqual}
-use Rattle.niss_cube.proofs.CodedLaws.{lists_of}
+use Rattle.niss_cube.proofs.CoordinateLaws.{lists_of}
 use Rattle.niss_cube.proofs.CubieLists.{CubieLists}
 use Rattle.niss_cube.proofs.Each.{at_place}
 use Rattle.niss_cube.proofs.ListTurns.{Valid, map_lists}

@@ -2,7 +2,7 @@
 use Rattle.std.proofs.Common.{◌≡◌, ℕ, suc, ◌+◌, ◌-◌, ◌<◌, refl, sym, ◌∙◌, ap, subst, List, [], ◌∷◌, ◌++◌, length, get_or, set, take, drop, reverse, Bool, true, false, arith, append_assoc}
 use Rattle.std.proofs.lemmas.List.{take_more_set, length-set, get_or-reverse, append-nil}
 use Rattle.std.proofs.Math.Seq.{drop-cons, drop-length, take-length}
-use Rattle.niss_cube.specs.SliceAfter.{edges_at}
+use Rattle.niss_cube.specs.NumberedCubies.{edges_at}
 
 -- what the loop keeps: the edges placed and those still to come are those of the occupied places
 pub record Placed (os : List Bool) (place free of_slice : ℕ) (xs : List ℕ) : Type 0 where

@@ -8,9 +8,8 @@ use Rattle.std.proofs.lemmas.List.Sums.{sum_by-cons}
 use Rattle.niss_moves.specs.declared.turn.Face.{Face}
 use Rattle.niss_cube.specs.CubieTurns.{quarter_table}
 use Rattle.niss_cube.specs.Coordinates.{rank}
-use Rattle.niss_cube.specs.OccupiedPlaces.{occupied_of_number}
 use Rattle.niss_cube.proofs.CubieLists.{brought, edges_quarter, repeated}
-use Rattle.niss_cube.specs.SliceAfter.{edges_at, edges_of_number}
+use Rattle.niss_cube.specs.NumberedCubies.{edges_at, edges_of_number, occupied_of_number}
 use Rattle.niss_cube.proofs.Sums.{one_if}
 use Rattle.niss_cube.proofs.PlaceTables.{all_below, at_below}
 use Rattle.niss_cube.proofs.Numbers.{filled, rank-same}

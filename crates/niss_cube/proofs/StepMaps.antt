@@ -12,6 +12,8 @@ use Rattle.niss_cube.specs.Steps.{start_of, goals_of, turns_of, holds, may_start
 use Rattle.niss_cube.specs.StepLaws.{StartIsKept, StepsSeePlaces}
 use Rattle.niss_cube.specs.declared.step.Goal.{Goal}
 use Rattle.niss_cube.specs.declared.step.Goal.TheVariants.{Edges, Domino}
+use Rattle.niss_cube.specs.declared.cube.coordinate.Coordinate.TheVariants.{Flip, Twist, Slice}
+use Rattle.niss_cube.proofs.Logic.{same_truth}
 use Rattle.niss_cube.proofs.KeptTests.{kept-tested}
 use Rattle.niss_cube.proofs.SetPlaces.{sets_are_places, kept_same}
 use Rattle.niss_cube.proofs.StepTurns.{turns_from, turn_keeps}
@@ -24,19 +26,14 @@ starts start e = option_map_or (λ a. holds (Edges a) e) start true
 start_kept : (start : Option Axis) (e : Place → Place) (t : Turn) → Contains (turns_from start) t → IsTrue (starts start e) → IsTrue (starts start (λ q. turned t (e q)))
 start_kept None e t m h = refl
 start_kept (Some a) e t m h =
-    (kept-tested (flip_set a) (λ q. turned t (e q)) (sets_are_places.flips a)).1
-    (λ q s. turn_keeps a t m (e q) ((kept-tested (flip_set a) e (sets_are_places.flips a)).0 h q s))
+    (kept-tested (flip_set a) (λ q. turned t (e q)) (sets_are_places Flip a)).1
+    (λ q s. turn_keeps a t m (e q) ((kept-tested (flip_set a) e (sets_are_places Flip a)).0 h q s))
 
 pub start_is_kept : StartIsKept
 unfolding may_start turns_of
 start_is_kept s e t m h = start_kept (start_of s) e t m h
 
 -- the places alone are seen
-
-same_truth : (a b : Bool) → (a ≡ true → b ≡ true) → (b ≡ true → a ≡ true) → a ≡ b
-same_truth true b f g = sym (f refl)
-same_truth false true f g = g refl
-same_truth false false f g = refl
 
 is_kept_same : (set : Place → Bool) (d e : Place → Place) → ArePlaces set → SameMap d e → is_kept set d ≡ is_kept set e
 is_kept_same set d e inside same =
@@ -45,11 +42,11 @@ is_kept_same set d e inside same =
     (λ h. (kept-tested set d inside).1 (kept_same set e d inside (λ q p. sym (same q p)) ((kept-tested set e inside).0 h)))
 
 holds_same : (g : Goal) (d e : Place → Place) → SameMap d e → holds g d ≡ holds g e
-holds_same (Edges a) d e same = is_kept_same (flip_set a) d e (sets_are_places.flips a) same
+holds_same (Edges a) d e same = is_kept_same (flip_set a) d e (sets_are_places Flip a) same
 holds_same (Domino b a) d e same =
-    let flips : is_kept (flip_set b) d ≡ is_kept (flip_set b) e = is_kept_same (flip_set b) d e (sets_are_places.flips b) same in
-    let twists : is_kept (twist_set a) d ≡ is_kept (twist_set a) e = is_kept_same (twist_set a) d e (sets_are_places.twists a) same in
-    let slices : is_kept (slice_set a) d ≡ is_kept (slice_set a) e = is_kept_same (slice_set a) d e (sets_are_places.slices a) same in
+    let flips : is_kept (flip_set b) d ≡ is_kept (flip_set b) e = is_kept_same (flip_set b) d e (sets_are_places Flip b) same in
+    let twists : is_kept (twist_set a) d ≡ is_kept (twist_set a) e = is_kept_same (twist_set a) d e (sets_are_places Twist a) same in
+    let slices : is_kept (slice_set a) d ≡ is_kept (slice_set a) e = is_kept_same (slice_set a) d e (sets_are_places Slice a) same in
     λ i. flips i && twists i && slices i
 
 starts_same : (start : Option Axis) (d e : Place → Place) → SameMap d e → starts start d ≡ starts start e

@@ -1,7 +1,8 @@
 -- The turns of the steps: parts of the turn order, which hold their inverses and keep the start.
-use Rattle.std.proofs.Common.{◌≡◌, ℕ, zero, suc, ◌<◌, refl, sym, ◌∙◌, ap, Bool, true, false, not, ◌&&◌, ◌||◌, List, [], ◌∷◌, length, Option, None, Some, arith}
+use Rattle.std.proofs.Common.{◌≡◌, ℕ, zero, suc, ◌<◌, ◌≤◌, refl, sym, ◌∙◌, ap, Bool, true, false, not, ◌&&◌, ◌||◌, List, [], ◌∷◌, length, Option, None, Some, arith}
 use Rattle.std.specs.Prelude.{Contains, flat_map, map, filter, slice_index_or}
 use Rattle.std.specs.List.{list_all, list_any}
+use Rattle.std.specs.Option.{option_map_or}
 use Rattle.std.proofs.lemmas.Map.Views.{Contains-from_any}
 use Rattle.niss_moves.specs.Places.{is_place}
 use Rattle.niss_moves.specs.Facelets.{places}
@@ -17,8 +18,9 @@ use Rattle.niss_moves.specs.declared.turn.Power.TheVariants.{Quarter, Half, Coun
 use Rattle.niss_moves.specs.declared.turn.Turn.{Turn}
 use Rattle.niss_cube.specs.Sets.{Kept, flip_set}
 use Rattle.niss_cube.specs.Steps.{start_of, turns_of, powers_from, is_face_of}
-use Rattle.niss_cube.specs.StepLaws.{InversesOfSteps, StepTurnsInOrder}
+use Rattle.niss_cube.specs.StepLaws.{InversesOfSteps, StepTurnsInOrder, StepTurnsAreCounted}
 use Rattle.niss_cube.specs.declared.step.Step.{Step}
+use Rattle.niss_moves.proofs.CallerLemmas.{same_face_is}
 use Rattle.niss_cube.proofs.Each.{at_place, and_left, and_right}
 use Rattle.niss_cube.proofs.KeptTests.{implied}
 
@@ -29,6 +31,28 @@ turns_from start = flat_map (λ f. map (λ p. record { face = f; power = p }) (p
 pub from_start : (s : Step) → turns_of s ≡ turns_from (start_of s)
 unfolding turns_of
 from_start s = refl
+
+turns_from-counted : (start : Option Axis) → length (turns_from start) ≡ option_map_or (λ axis. 14) start 18
+turns_from-counted None = refl
+turns_from-counted (Some Ud) = refl
+turns_from-counted (Some Rl) = refl
+turns_from-counted (Some Fb) = refl
+
+pub step_turns_are_counted : StepTurnsAreCounted
+unfolding turns_of
+step_turns_are_counted s = turns_from-counted (start_of s)
+
+-- a step has at most 18 turns
+pub turns_of-length : (s : Step) → length (turns_of s) ≤ 18
+turns_of-length s = by_start (start_of s) (step_turns_are_counted s)
+  where
+    by_start : (start : Option Axis) → length (turns_of s) ≡ option_map_or (λ axis. 14) start 18 → length (turns_of s) ≤ 18
+    by_start None e = omega arith
+    by_start (Some a) e = omega arith
+
+-- and at most 14 from oriented edges
+pub turns_of-oriented : (s : Step) (a : Axis) → start_of s ≡ Some a → length (turns_of s) ≤ 14
+turns_of-oriented s a e = omega (arith, step_turns_are_counted s ∙ ap (λ start. option_map_or (λ axis. 14) start 18) e)
 
 at_index : (test : Turn → Bool) (ts : List Turn) → list_all test ts ≡ true → (k : ℕ) (t : Turn) → k < length ts → test (slice_index_or ts k t) ≡ true
 at_index test [] h k t l = absurd (omega arith)
@@ -64,15 +88,6 @@ same_power _ _ = false
 abbrev same_turn : Turn → Turn → Bool
 same_turn t u = same_face t.face u.face && same_power t.power u.power
 
-same_face-is : (f g : Face) → same_face f g ≡ true → f ≡ g
-same_face-is U U h = refl
-same_face-is D D h = refl
-same_face-is R R h = refl
-same_face-is L L h = refl
-same_face-is F F h = refl
-same_face-is B B h = refl
-same_face-is _ _ h = absurd (cc)
-
 same_power-is : (p q : Power) → same_power p q ≡ true → p ≡ q
 same_power-is Quarter Quarter h = refl
 same_power-is Half Half h = refl
@@ -81,7 +96,7 @@ same_power-is _ _ h = absurd (cc)
 
 same_turn-is : (t u : Turn) → same_turn t u ≡ true → t ≡ u
 same_turn-is t u h =
-    let f : t.face ≡ u.face = same_face-is t.face u.face (and_left _ _ h) in
+    let f : t.face ≡ u.face = same_face_is t.face u.face (and_left _ _ h) in
     let p : t.power ≡ u.power = same_power-is t.power u.power (and_right (same_face t.face u.face) _ h) in
     λ i. record { face = f i; power = p i }
 

@@ -5,7 +5,7 @@ use Rattle.std.proofs.lemmas.List.{length-set, append-nil}
 use Rattle.std.proofs.lemmas.List.Sums.{sum_by-cons}
 use Rattle.std.proofs.lemmas.Grind.{drop-set_at}
 use Rattle.std.proofs.Math.Seq.{take-suc-set, take-length}
-use Rattle.niss_cube.specs.NumberedOrientations.{digits_of_number, orientations_of_number}
+use Rattle.niss_cube.specs.NumberedCubies.{digits_of_number, orientations_of_number}
 use Rattle.niss_cube.proofs.Orientations.{Base}
 
 -- the last digits of n

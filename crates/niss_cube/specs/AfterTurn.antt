@@ -1,17 +1,16 @@
 -- A coordinate, and how its number follows the turns.
-use Rattle.std.specs.Prelude.{◌≡◌, ℕ, ◌<◌, Bool, ◌↔◌}
+use Rattle.std.specs.Prelude.{◌≡◌, ℕ, ◌<◌, ◌↔◌}
 use Rattle.niss_moves.specs.Places.{Place, SameMap}
 use Rattle.niss_moves.specs.Effects.{turned}
 use Rattle.niss_moves.specs.Turn.{inverse_turn}
 use Rattle.niss_moves.specs.declared.axis.Axis.{Axis}
 use Rattle.niss_moves.specs.declared.turn.Turn.{Turn}
 use Rattle.niss_cube.specs.declared.cube.Cube.{Cube}
+use Rattle.niss_cube.specs.declared.cube.coordinate.Coordinate.{Coordinate}
 use Rattle.niss_cube.specs.Map.{map_of}
-use Rattle.niss_cube.specs.Sets.{Kept, flip_set, twist_set, slice_set}
-use Rattle.niss_cube.specs.Coordinates.{flip_of, twist_of, slice_of}
-use Rattle.niss_cube.specs.FlipAfter.{flip_after}
-use Rattle.niss_cube.specs.TwistAfter.{twist_after}
-use Rattle.niss_cube.specs.SliceAfter.{slice_after}
+use Rattle.niss_cube.specs.Sets.{Kept, set_of}
+use Rattle.niss_cube.specs.Coordinates.{count_of, number_of}
+use Rattle.niss_cube.specs.NumberAfter.{number_after}
 
 -- the map of some cube
 abbrev pub IsCube : (Place → Place) → Type 0
@@ -19,23 +18,19 @@ IsCube e = (c : Cube) × SameMap (map_of c) e
 
 -- A turned cube is a cube.
 abbrev pub TurnedIsCube : Type 0
-TurnedIsCube = (c : Cube) (t : Turn) → IsCube (λ q. turned t (map_of c q))
+TurnedIsCube = (e : Place → Place) (t : Turn) → IsCube e → IsCube (λ q. turned t (e q))
 
--- A coordinate: the number `of` the map of a cube, one of `count`. It is 0 where the set is kept, and the number after
--- a turn follows from the number alone.
-pub record IsCoordinate (of : (Place → Place) → ℕ) (after : ℕ → Turn → ℕ) (count : ℕ) (set : Place → Bool) : Type 0 where
-  pub below : (c : Cube) → of (map_of c) < count
-  pub zero_where_kept : (c : Cube) (e : Place → Place) → SameMap (map_of c) e → (of e ≡ 0) ↔ Kept set e
-  pub of_places : (c : Cube) (e : Place → Place) → SameMap (map_of c) e → of e ≡ of (map_of c)
-  pub follows : (c : Cube) (t : Turn) → of (λ q. turned t (map_of c q)) ≡ after (of (map_of c)) t
-  pub after_below : (i : ℕ) (t : Turn) → i < count → after i t < count
-  pub back_again : (i : ℕ) (t : Turn) → i < count → after (after i t) (inverse_turn t) ≡ i
+-- On an axis each number below the count is some cube's, and each cube's is one of them. It is 0 where the set is kept,
+-- and the number after a turn follows from the number alone.
+pub record IsCoordinate (k : Coordinate) (a : Axis) : Type 0 where
+  pub below : (e : Place → Place) → IsCube e → number_of k a e < count_of k
+  pub some_cube : (i : ℕ) → i < count_of k → (c : Cube) × (number_of k a (map_of c) ≡ i)
+  pub zero_where_kept : (e : Place → Place) → IsCube e → (number_of k a e ≡ 0) ↔ Kept (set_of k a) e
+  pub of_places : (d e : Place → Place) → IsCube d → SameMap d e → number_of k a d ≡ number_of k a e
+  pub follows : (e : Place → Place) (t : Turn) → IsCube e → number_of k a (λ q. turned t (e q)) ≡ number_after k a (number_of k a e) t
+  pub after_below : (i : ℕ) (t : Turn) → i < count_of k → number_after k a i t < count_of k
+  pub back_again : (i : ℕ) (t : Turn) → i < count_of k → number_after k a (number_after k a i t) (inverse_turn t) ≡ i
 
-abbrev pub FlipsAreCoordinates : Type 0
-FlipsAreCoordinates = (a : Axis) → IsCoordinate (flip_of a) (flip_after a) 2048 (flip_set a)
-
-abbrev pub TwistsAreCoordinates : Type 0
-TwistsAreCoordinates = (a : Axis) → IsCoordinate (twist_of a) (twist_after a) 2187 (twist_set a)
-
-abbrev pub SlicesAreCoordinates : Type 0
-SlicesAreCoordinates = (a : Axis) → IsCoordinate (slice_of a) (slice_after a) 495 (slice_set a)
+-- Flips, twists and slices are coordinates, each on each axis.
+abbrev pub AreCoordinates : Type 0
+AreCoordinates = (k : Coordinate) (a : Axis) → IsCoordinate k a

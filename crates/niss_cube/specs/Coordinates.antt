@@ -3,9 +3,15 @@ use Rattle.std.specs.Prelude.{ℕ, zero, suc, ◌+◌, ◌*◌, ◌-◌, Bool, t
 use Rattle.std.specs.List.{list_any}
 use Rattle.niss_moves.specs.Places.{Place, same_place}
 use Rattle.niss_moves.specs.Effects.{quarters}
+use Rattle.niss_moves.specs.Rotations.{renamed_turn}
 use Rattle.niss_moves.specs.declared.axis.Axis.{Axis}
 use Rattle.niss_moves.specs.declared.axis.Axis.TheVariants.{Ud, Rl, Fb}
+use Rattle.niss_moves.specs.declared.turn.Face.{Face}
+use Rattle.niss_moves.specs.declared.turn.Turn.{Turn}
 use Rattle.niss_cube.specs.CubieFacelets.{index_in, corner_facelets, edge_facelets}
+use Rattle.niss_cube.specs.RenamedFaces.{face_for_flip, face_for_twist}
+use Rattle.niss_cube.specs.declared.cube.coordinate.Coordinate.{Coordinate}
+use Rattle.niss_cube.specs.declared.cube.coordinate.Coordinate.TheVariants.{Flip, Twist, Slice}
 
 -- a place after quarters of the whole cube about an axis
 abbrev pub spun : Axis → ℕ → Place → Place
@@ -70,3 +76,36 @@ rank (false ∷ os) (suc k) = choose (length os) k + rank os (suc k)
 
 unfoldable pub slice_of : Axis → (Place → Place) → ℕ
 slice_of a e = rank (reverse (occupied (for_twist a e))) 4
+
+-- The same, each coordinate as one value: its number on an axis,
+abbrev pub number_of : Coordinate → Axis → (Place → Place) → ℕ
+number_of Flip = flip_of
+number_of Twist = twist_of
+number_of Slice = slice_of
+
+-- how many numbers it has,
+abbrev pub count_of : Coordinate → ℕ
+count_of Flip = 2048
+count_of Twist = 2187
+count_of Slice = 495
+
+-- the map of the cube from which it is read, and which face of that cube a face is,
+abbrev pub renamed_for : Coordinate → Axis → (Place → Place) → Place → Place
+renamed_for Flip = for_flip
+renamed_for Twist = for_twist
+renamed_for Slice = for_twist
+
+abbrev pub face_for : Coordinate → Axis → Face → Face
+face_for Flip = face_for_flip
+face_for Twist = face_for_twist
+face_for Slice = face_for_twist
+
+-- a turn of the cube as one of that cube,
+abbrev pub turn_for : Coordinate → Axis → Turn → Turn
+turn_for k a t = renamed_turn (face_for k a) t
+
+-- and the axis for which the cube isn't renamed
+abbrev pub standard_axis : Coordinate → Axis
+standard_axis Flip = Fb
+standard_axis Twist = Ud
+standard_axis Slice = Ud

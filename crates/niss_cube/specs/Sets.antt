@@ -5,6 +5,8 @@ use Rattle.niss_moves.specs.Places.{Place, along, looks_along, is_zero, is_corne
 use Rattle.niss_moves.specs.Facelets.{places}
 use Rattle.niss_moves.specs.declared.axis.Axis.{Axis}
 use Rattle.niss_moves.specs.declared.axis.Axis.TheVariants.{Ud, Rl, Fb}
+use Rattle.niss_cube.specs.declared.cube.coordinate.Coordinate.{Coordinate}
+use Rattle.niss_cube.specs.declared.cube.coordinate.Coordinate.TheVariants.{Flip, Twist, Slice}
 
 -- the helper axis of the flips on an axis
 abbrev pub helper_of : Axis → Axis
@@ -45,8 +47,12 @@ KeptIsTested = (set : Place → Bool) (e : Place → Place) → ((q : Place) →
 abbrev pub ArePlaces : (Place → Bool) → Type 0
 ArePlaces set = (q : Place) → IsTrue (set q) → IsPlace q
 
+-- the set of a coordinate: the places that are kept where it is 0
+abbrev pub set_of : Coordinate → Axis → Place → Bool
+set_of Flip = flip_set
+set_of Twist = twist_set
+set_of Slice = slice_set
+
 -- The sets of the coordinates have sticker places only, so that the test tells of them.
-pub record SetsArePlaces : Type 0 where
-  pub flips : (a : Axis) → ArePlaces (flip_set a)
-  pub twists : (a : Axis) → ArePlaces (twist_set a)
-  pub slices : (a : Axis) → ArePlaces (slice_set a)
+abbrev pub SetsArePlaces : Type 0
+SetsArePlaces = (k : Coordinate) (a : Axis) → ArePlaces (set_of k a)

@@ -1,5 +1,6 @@
 -- What follows from the definitions of the steps alone.
-use Rattle.std.specs.Prelude.{◌≡◌, Bool, Some, filter, Contains, IsTrue}
+use Rattle.std.specs.Prelude.{◌≡◌, Bool, Some, filter, length, Contains, IsTrue}
+use Rattle.std.specs.Option.{option_map_or}
 use Rattle.niss_moves.specs.Places.{Place, SameMap}
 use Rattle.niss_moves.specs.Effects.{turned}
 use Rattle.niss_moves.specs.Turn.{inverse_turn}
@@ -29,6 +30,10 @@ InversesOfSteps = (s : Step) (t : Turn) → Contains (turns_of s) t → Contains
 -- The turns of a step are some of the 18, in turn order.
 abbrev pub StepTurnsInOrder : Type 0
 StepTurnsInOrder = (s : Step) → (part : Turn → Bool) × (turns_of s ≡ filter part turn_order)
+
+-- They are all 18, or the 14 that keep edges oriented, where these must be oriented before the step.
+abbrev pub StepTurnsAreCounted : Type 0
+StepTurnsAreCounted = (s : Step) → length (turns_of s) ≡ option_map_or (λ axis. 14) (start_of s) 18
 
 -- A step that can reach a domino reduction starts at the oriented edges that this keeps.
 abbrev pub DominoKeepsStart : Type 0

@@ -5,6 +5,9 @@ use Rattle.niss_moves.specs.declared.turn.Face.TheVariants.{U, D, R, L, F, B}
 use Rattle.niss_moves.specs.declared.turn.Power.{Power}
 use Rattle.niss_moves.specs.declared.turn.Power.TheVariants.{Quarter, Half, Counter}
 use Rattle.niss_moves.specs.declared.turn.Turn.{Turn}
+use Rattle.niss_cube.specs.Coordinates.{count_of, standard_axis}
+use Rattle.niss_cube.specs.NumberAfter.{number_after}
+use Rattle.niss_cube.specs.declared.cube.coordinate.Coordinate.{Coordinate}
 
 abbrev pub face_index : Face → ℕ
 face_index U = 0
@@ -23,12 +26,12 @@ power_index Counter = 2
 abbrev pub entry_at : List (List ℕ) → Turn → ℕ
 entry_at row t = slice_index (get_or row (face_index t.face) []) (power_index t.power)
 
--- There is a row for each number below the count, and its entry at a turn is the number after that turn.
-pub record AreRows (after : ℕ → Turn → ℕ) (count : ℕ) (rows : List (List (List ℕ))) : Type 0 where
-  pub rows_count : length rows ≡ count
-  pub entries : (i : ℕ) (t : Turn) → i < count → entry_at (get_or rows i []) t ≡ after i t
+-- There is a row for each number, and its entry at a turn is the number after that turn, on the standard axis.
+pub record AreRows (k : Coordinate) (rows : List (List (List ℕ))) : Type 0 where
+  pub rows_count : length rows ≡ count_of k
+  pub entries : (i : ℕ) (t : Turn) → i < count_of k → entry_at (get_or rows i []) t ≡ number_after k (standard_axis k) i t
 
--- There is a row for each number below the count, and its entry at a quarter turn is the number after that turn.
-pub record AreQuarters (after : ℕ → Turn → ℕ) (count : ℕ) (rows : List (List (List ℕ))) : Type 0 where
-  pub rows_count : length rows ≡ count
-  pub entries : (i : ℕ) (f : Face) → i < count → entry_at (get_or rows i []) (record { face = f; power = Quarter }) ≡ after i (record { face = f; power = Quarter })
+-- The same, of the entries at quarter turns alone.
+pub record AreQuarters (k : Coordinate) (rows : List (List (List ℕ))) : Type 0 where
+  pub rows_count : length rows ≡ count_of k
+  pub entries : (i : ℕ) (f : Face) → i < count_of k → entry_at (get_or rows i []) (record { face = f; power = Quarter }) ≡ number_after k (standard_axis k) i (record { face = f; power = Quarter })

@@ -3,15 +3,14 @@ ghost use Rattle.std.specs.Prelude.{◌≡◌, ◌<◌};
 ghost use Rattle.niss_cube.specs.Cubies.{AreCubies};
 
 use crate::cubie_turns::{turn_corners, turn_edges, turn_flips, turn_twists};
-use crate::digits::number_of;
 use crate::letters::{CORNER_LETTERS, EDGE_LETTERS};
 use crate::renaming::{Renaming, rename_corners, rename_edges};
 use crate::rotated_text::{bring_to_top, turn_about_vertical};
-use crate::slice_places::slice_number;
+use coordinate::Coordinate;
 use niss_moves::{Axis, Rotation, Turn};
 use std::alloc::AllocError;
 
-pub(crate) mod numbered;
+pub(crate) mod coordinate;
 
 /// The corners by place, each at home.
 const CORNERS_HOME: [u8; 8] = [0, 1, 2, 3, 4, 5, 6, 7];
@@ -128,8 +127,7 @@ impl Cube {
         ensures in_range { result < 2048 }
         ensures kept { (result ≡ 0) ↔ Kept (flip_set axis) (map_of self.now) }
     {
-        let renamed = self.renamed_for_flip(axis);
-        number_of(2, &renamed.flips[..11])
+        Coordinate::Flip.number(axis, self)
     }
 
     /// The corner orientation with respect to an axis, from 0 to 2,186: the twists at the first seven corner places of the
@@ -140,8 +138,7 @@ impl Cube {
         ensures in_range { result < 2187 }
         ensures kept { (result ≡ 0) ↔ Kept (twist_set axis) (map_of self.now) }
     {
-        let renamed = self.renamed_for_twist(axis);
-        number_of(3, &renamed.twists[..7])
+        Coordinate::Twist.number(axis, self)
     }
 
     /// The slice coordinate of an axis, from 0 to 494: the number of the places at which the four edges between the axis's
@@ -152,8 +149,7 @@ impl Cube {
         ensures in_range { result < 495 }
         ensures kept { (result ≡ 0) ↔ Kept (slice_set axis) (map_of self.now) }
     {
-        let renamed = self.renamed_for_twist(axis);
-        slice_number(&renamed.edges)
+        Coordinate::Slice.number(axis, self)
     }
 
     /// Whether the same cubies stand at the same places, turned alike.

@@ -1,7 +1,7 @@
 //! Twists and flips as digits of a number.
 ghost use Rattle.std.specs.Prelude.{◌≡◌, ◌<◌, ◌^◌, ◌-◌, ◌⊎◌, length};
 ghost use Rattle.niss_cube.specs.Coordinates.{number};
-ghost use Rattle.niss_cube.specs.NumberedOrientations.{orientations_of_number};
+ghost use Rattle.niss_cube.specs.NumberedCubies.{orientations_of_number};
 
 /// The digits as a number, the first digit the highest.
 pub fn number_of(base: u16, digits: &[u8]) -> u16

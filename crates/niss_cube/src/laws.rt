@@ -1,8 +1,8 @@
 //! Laws over the definitions, each as a contract.
-ghost use Rattle.niss_cube.specs.AfterTurn.{TurnedIsCube, FlipsAreCoordinates, TwistsAreCoordinates, SlicesAreCoordinates};
+ghost use Rattle.niss_cube.specs.AfterTurn.{TurnedIsCube, AreCoordinates};
 ghost use Rattle.niss_cube.specs.Sets.{KeptIsTested, SetsArePlaces};
 ghost use Rattle.niss_cube.specs.Permutations.{CubesPermutePlaces, KeptIsEqual};
-ghost use Rattle.niss_cube.specs.StepLaws.{StartIsKept, StepsSeePlaces, InversesOfSteps, StepTurnsInOrder, DominoKeepsStart};
+ghost use Rattle.niss_cube.specs.StepLaws.{StartIsKept, StepsSeePlaces, InversesOfSteps, StepTurnsInOrder, StepTurnsAreCounted, DominoKeepsStart};
 
 /// A turned cube is a cube.
 pub fn turned_is_cube()
@@ -19,19 +19,10 @@ pub fn kept_is_equal()
     ensures { KeptIsEqual }
 {}
 
-/// The flips on an axis are a coordinate.
-pub fn flips_are_coordinates()
-    ensures { FlipsAreCoordinates }
-{}
-
-/// The twists on an axis are a coordinate.
-pub fn twists_are_coordinates()
-    ensures { TwistsAreCoordinates }
-{}
-
-/// The slices on an axis are a coordinate.
-pub fn slices_are_coordinates()
-    ensures { SlicesAreCoordinates }
+/// Flips, twists and slices are coordinates on each axis: each number is some cube's, 0 is where a set of places is kept,
+/// and the number after a turn follows from the number alone.
+pub fn are_coordinates()
+    ensures { AreCoordinates }
 {}
 
 /// The test of a set is true exactly where the set is kept.
@@ -62,6 +53,11 @@ pub fn inverses_of_steps()
 /// The turns of a step are some of the 18, in turn order.
 pub fn step_turns_in_order()
     ensures { StepTurnsInOrder }
+{}
+
+/// A step has 18 turns, or 14 where it starts at oriented edges.
+pub fn step_turns_are_counted()
+    ensures { StepTurnsAreCounted }
 {}
 
 /// A step that can reach a domino reduction starts at the oriented edges that this keeps.

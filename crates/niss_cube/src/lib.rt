@@ -37,6 +37,7 @@ mod cubie_turns;
 mod digits;
 pub mod laws;
 mod letters;
+mod renamed_faces;
 mod renaming;
 mod rotated_text;
 mod slice_places;
@@ -44,6 +45,7 @@ mod step;
 mod turn_tables;
 
 pub use cube::Cube;
+pub use cube::coordinate::Coordinate;
 pub use niss_moves::{Axis, Face, Power, Rotation, Turn};
 pub use step::{Goal, Step};
-pub use turn_tables::{OutOfMemory, TurnTables, turn_for_flip, turn_for_twist};
+pub use turn_tables::{OutOfMemory, TurnTable, TurnTables};

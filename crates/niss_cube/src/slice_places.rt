@@ -1,8 +1,7 @@
 //! The number of the places at which the four edges of a slice stand.
 ghost use Rattle.std.specs.Prelude.{◌≡◌, ◌<◌, map, reverse, nat_le};
 ghost use Rattle.niss_cube.specs.Coordinates.{rank};
-ghost use Rattle.niss_cube.specs.OccupiedPlaces.{occupied_of_number};
-ghost use Rattle.niss_cube.specs.SliceAfter.{edges_of_number};
+ghost use Rattle.niss_cube.specs.NumberedCubies.{edges_of_number, occupied_of_number};
 
 /// At a number of places below, the choices of 0 to 3 of them.
 const CHOICES: [[u16; 4]; 12] = [

@@ -14,6 +14,7 @@ use Rattle.niss_search.specs.Looks.{is_looked_at, looks, all_looks}
 use Rattle.niss_cube.specs.declared.step.Step.{Step}
 use Rattle.niss_cube.specs.Steps.{start_of, turns_of, powers_from}
 use Rattle.niss_search.specs.Laws.{BoundIsSmall}
+pub use Rattle.niss_cube.proofs.CallerLemmas.{turns_of-length, turns_of-oriented}
 
 -- the looks of a deepening are at most the canonical sequences of its lengths
 pub looks-le : (turns : List Turn) (far : List Turn → ℕ) (d : ℕ) → looks turns far d ≤ sum_by (count_of_length turns) (up_to d)
@@ -73,31 +74,6 @@ looks-small turns far d h l =
 pub looks-sum-small : (turns : List Turn) (far : List Turn → ℕ) (d : ℕ) → length turns ≤ 18 → d ≤ 21 → sum_by (looks turns far) (range_with_len 0 d) ≤ 21 * (21 * 18 ^ 20)
 looks-sum-small turns far d h l =
     omega (arith, range-le (looks turns far) (21 * 18 ^ 20) 0 d (λ j m. looks-small turns far j h (omega arith)))
-
--- the turns of a step from its start
-abbrev turns_from : Option Axis → List Turn
-turns_from start = flat_map (λ f. map (λ p. record { face = f; power = p }) (powers_from start f)) face_order
-
-turns_from-length : (start : Option Axis) → length (turns_from start) ≤ 18
-turns_from-length None = lit≤ tt
-turns_from-length (Some Ud) = lit≤ tt
-turns_from-length (Some Rl) = lit≤ tt
-turns_from-length (Some Fb) = lit≤ tt
-
-turns_from-oriented : (a : Axis) → length (turns_from (Some a)) ≤ 14
-turns_from-oriented Ud = lit≤ tt
-turns_from-oriented Rl = lit≤ tt
-turns_from-oriented Fb = lit≤ tt
-
-pub turns_of-length : (step : Step) → length (turns_of step) ≤ 18
-unfolding turns_of
-turns_of-length step = turns_from-length (start_of step)
-
--- behind oriented edges
-pub turns_of-oriented : (step : Step) (a : Axis) → start_of step ≡ Some a → length (turns_of step) ≤ 14
-unfolding turns_of
-turns_of-oriented step a e =
-    subst (λ (start : Option Axis). length (turns_from start) ≤ 14) (sym e) (turns_from-oriented a)
 
 pub least-le : (p : ℕ → Bool) (a n d b : ℕ) → a + n ≤ b + 1 → d ≤ b → unwrap_or (find p (range_with_len a n)) d ≤ b
 least-le p a zero d b h l = l

@@ -4,7 +4,8 @@ use Rattle.std.proofs.lemmas.Bool.Decides.{eqb_tells, leb_tells}
 use Rattle.niss_moves.specs.Places.{Place}
 use Rattle.niss_moves.specs.Turn.{inverse_turn}
 use Rattle.niss_moves.specs.declared.turn.Turn.{Turn}
-use Rattle.niss_cube.specs.AfterTurn.{FlipsAreCoordinates, TwistsAreCoordinates, SlicesAreCoordinates}
+use Rattle.niss_cube.specs.AfterTurn.{AreCoordinates}
+use Rattle.niss_cube.specs.declared.cube.coordinate.Coordinate.TheVariants.{Flip, Twist, Slice}
 use Rattle.niss_cube.specs.Steps.{goals_of, turns_of}
 use Rattle.niss_cube.specs.StepLaws.{InversesOfSteps}
 use Rattle.niss_cube.specs.declared.step.Goal.{Goal}
@@ -42,25 +43,25 @@ unfolding count_for
 entry_at-back (Edges a) e h = (h, refl)
 entry_at-back (Domino o a) e h = (omega arith, rw (high _ _ h.1, low _ _ h.1) refl)
 
-module _ (flips : FlipsAreCoordinates) (twists : TwistsAreCoordinates) (slices : SlicesAreCoordinates) where
+module _ (coordinates : AreCoordinates) where
   after-below : (g : Goal) (i : ℕ) (t : Turn) → i < count_for g → entry_number (coordinates_after (entry_at g i) t) < count_for g
   unfolding count_for
-  after-below (Edges a) i t h = (flips a).after_below i t h
+  after-below (Edges a) i t h = (coordinates Flip a).after_below i t h
   after-below (Domino o a) i t h =
-      omega (arith, (twists a).after_below (i / 495) t (omega arith), (slices a).after_below (i % 495) t (omega arith))
+      omega (arith, (coordinates Twist a).after_below (i / 495) t (omega arith), (coordinates Slice a).after_below (i % 495) t (omega arith))
 
   after-leads : (g : Goal) (i : ℕ) (t : Turn) → i < count_for g → entry_at g (entry_number (coordinates_after (entry_at g i) t)) ≡ coordinates_after (entry_at g i) t
   unfolding count_for
   after-leads (Edges a) i t h = refl
   after-leads (Domino o a) i t h =
-      let b = (slices a).after_below (i % 495) t (omega arith) in
+      let b = (coordinates Slice a).after_below (i % 495) t (omega arith) in
       rw (high _ _ b, low _ _ b) refl
 
   after-back : (g : Goal) (i : ℕ) (t : Turn) → i < count_for g → entry_number (coordinates_after (coordinates_after (entry_at g i) t) (inverse_turn t)) ≡ i
   unfolding count_for
-  after-back (Edges a) i t h = (flips a).back_again i t h
+  after-back (Edges a) i t h = (coordinates Flip a).back_again i t h
   after-back (Domino o a) i t h =
-      rw ((twists a).back_again (i / 495) t (omega arith), (slices a).back_again (i % 495) t (omega arith)) (omega arith)
+      rw ((coordinates Twist a).back_again (i / 495) t (omega arith), (coordinates Slice a).back_again (i % 495) t (omega arith)) (omega arith)
 
   pub entries_turn : InversesOfSteps → EntriesTurn
   unfolding entry_after

@@ -4,29 +4,15 @@ use Rattle.niss_moves.specs.declared.axis.Axis.{Axis}
 use Rattle.niss_moves.specs.declared.turn.Face.TheVariants.{U}
 use Rattle.niss_moves.specs.declared.turn.Power.TheVariants.{Quarter}
 use Rattle.niss_moves.specs.declared.turn.Turn.{Turn}
-use Rattle.niss_cube.specs.FlipAfter.{flip_after}
-use Rattle.niss_cube.specs.TwistAfter.{twist_after}
-use Rattle.niss_cube.specs.SliceAfter.{slice_after}
+use Rattle.niss_cube.specs.Coordinates.{count_of}
+use Rattle.niss_cube.specs.NumberAfter.{number_after}
 use Rattle.niss_cube.specs.Steps.{turns_of}
 use Rattle.niss_cube.specs.declared.step.Step.{Step}
-use Rattle.niss_search.specs.declared.tables.move_table.Coordinate.{Coordinate}
-use Rattle.niss_search.specs.declared.tables.move_table.Coordinate.TheVariants.{Flip, Twist, Slice}
+use Rattle.niss_cube.specs.declared.cube.coordinate.Coordinate.{Coordinate}
 
 -- the turn of a column
 abbrev pub turn_at : Step → ℕ → Turn
 turn_at step column = get_or (turns_of step) column (record { face = U; power = Quarter })
-
--- how many numbers a coordinate has
-abbrev pub number_count : Coordinate → ℕ
-number_count Flip = 2048
-number_count Twist = 2187
-number_count Slice = 495
-
--- the number after a turn
-abbrev pub number_after : Coordinate → Axis → ℕ → Turn → ℕ
-number_after Flip axis = flip_after axis
-number_after Twist axis = twist_after axis
-number_after Slice axis = slice_after axis
 
 -- What a contract sees of a move table.
 pub record Moves : Type 0 where
@@ -37,8 +23,8 @@ pub record Moves : Type 0 where
 -- The row of a number: the numbers after the turns of the step.
 pub record IsMoveRow (moves : Moves) (number : ℕ) (row : List ℕ) : Type 0 where
   pub after : (k : ℕ) → k < length (turns_of moves.step) → slice_index row k ≡ number_after moves.coordinate moves.axis number (turn_at moves.step k)
-  pub below : (k : ℕ) → k < length (turns_of moves.step) → slice_index row k < number_count moves.coordinate
+  pub below : (k : ℕ) → k < length (turns_of moves.step) → slice_index row k < count_of moves.coordinate
 
 pub record AreMoveRows (moves : Moves) (rows : List (List ℕ)) : Type 0 where
-  pub size : length rows ≡ number_count moves.coordinate
-  pub each : (i : ℕ) → i < number_count moves.coordinate → IsMoveRow moves i (get_or rows i [])
+  pub size : length rows ≡ count_of moves.coordinate
+  pub each : (i : ℕ) → i < count_of moves.coordinate → IsMoveRow moves i (get_or rows i [])

@@ -4,10 +4,9 @@ use Rattle.std.specs.List.{list_any}
 use Rattle.niss_moves.specs.Places.{Place}
 use Rattle.niss_moves.specs.declared.turn.Turn.{Turn}
 use Rattle.niss_cube.specs.Coordinates.{flip_of, twist_of, slice_of}
-use Rattle.niss_cube.specs.FlipAfter.{flip_after}
-use Rattle.niss_cube.specs.TwistAfter.{twist_after}
-use Rattle.niss_cube.specs.SliceAfter.{slice_after}
+use Rattle.niss_cube.specs.NumberAfter.{number_after}
 use Rattle.niss_cube.specs.Steps.{goals_of, turns_of}
+use Rattle.niss_cube.specs.declared.cube.coordinate.Coordinate.TheVariants as coordinate
 use Rattle.niss_cube.specs.declared.step.Goal.{Goal}
 use Rattle.niss_cube.specs.declared.step.Goal.TheVariants.{Edges, Domino}
 use Rattle.niss_cube.specs.declared.step.Step.{Step}
@@ -22,9 +21,9 @@ coordinates_of (Domino edges axis) e = TwistAndSlice axis (twist_of axis e) (sli
 
 -- those after a turn
 abbrev pub coordinates_after : Coordinates → Turn → Coordinates
-coordinates_after (Flip axis flip) t = Flip axis (flip_after axis flip t)
+coordinates_after (Flip axis flip) t = Flip axis (number_after coordinate.Flip axis flip t)
 coordinates_after (TwistAndSlice axis twist slice) t =
-    TwistAndSlice axis (twist_after axis twist t) (slice_after axis slice t)
+    TwistAndSlice axis (number_after coordinate.Twist axis twist t) (number_after coordinate.Slice axis slice t)
 
 -- Are they those of the goal?
 abbrev pub are_zero : Coordinates → Bool

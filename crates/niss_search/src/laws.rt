@@ -3,9 +3,8 @@ ghost use Rattle.niss_search.specs.Laws.{CountRecurrence, PartHasNoMore, LooksWi
 ghost use Rattle.niss_search.specs.Filling.{EntriesTurn};
 
 use niss_cube::laws::{
-    domino_keeps_start, flips_are_coordinates, inverses_of_steps, kept_is_tested, sets_are_places,
-    slices_are_coordinates, start_is_kept, step_turns_in_order, steps_see_places, turned_is_cube,
-    twists_are_coordinates,
+    are_coordinates, domino_keeps_start, inverses_of_steps, start_is_kept, step_turns_in_order,
+    steps_see_places, turned_is_cube,
 };
 
 /// How many canonical sequences there are, how often a search looks, how many entries a pruning table has, and how many
@@ -34,12 +33,8 @@ pub fn no_slack_is_least()
 pub fn positions_tell()
     ensures { PositionsTell }
 {
-    flips_are_coordinates();
-    twists_are_coordinates();
-    slices_are_coordinates();
+    are_coordinates();
     turned_is_cube();
-    kept_is_tested();
-    sets_are_places();
     start_is_kept();
     steps_see_places();
     domino_keeps_start();
@@ -49,8 +44,6 @@ pub fn positions_tell()
 pub(crate) fn entries_turn()
     ensures { EntriesTurn }
 {
-    flips_are_coordinates();
-    twists_are_coordinates();
-    slices_are_coordinates();
+    are_coordinates();
     inverses_of_steps();
 }

@@ -16,7 +16,7 @@ use crate::laws::positions_tell;
 pub(crate) use followers::Follower;
 pub(crate) use kind::Kind;
 pub use meter::Meter;
-use niss_cube::{Cube, OutOfMemory, Step, Turn, TurnTables};
+use niss_cube::{Cube, OutOfMemory, Step, Turn};
 pub use position::Position;
 pub(crate) use search_tables::SearchTables;
 pub(crate) use state_space::StateSpace;
@@ -27,7 +27,6 @@ use std::marker::Model;
 #[derive(Drop)]
 pub struct Tables<A: Allocator = Global> {
     step: Step,
-    turn_tables: TurnTables<A>,
     kind: Kind<A>,
 }
 
@@ -83,13 +82,8 @@ impl<A: Allocator> Tables<A> {
         ensures at_most { meter.new ≤ meter.old + entry_count step * length (turns_of step) }
         ensures refused { OnErr result (meter.new ≡ meter.old) }
     {
-        let turn_tables = TurnTables::build_in(alloc)?;
-        let kind = Kind::build_in(alloc, step, &turn_tables, meter)?;
-        Ok(Tables {
-            step,
-            turn_tables,
-            kind,
-        })
+        let kind = Kind::build_in(alloc, step, meter)?;
+        Ok(Tables { step, kind })
     }
 
     /// The step.
@@ -127,7 +121,22 @@ impl<A: Allocator> Tables<A> {
         ensures position { IsPosition self.now result }
     {
         positions_tell();
-        position.after(turn, &self.turn_tables)
+        self.position_after(position, turn)
+    }
+
+    /// The position after a turn, by the kind of the tables.
+    #[inline(always)]
+    fn position_after(&self, position: &Position, turn: Turn) -> Position
+        requires position { IsPosition self.now position.now }
+        requires of_step { Contains (turns_of self.now) turn }
+        ensures { result ≡ position_after position.now turn }
+    {
+        match &self.kind {
+            Kind::Edges(tables) => tables.position_after(position, turn),
+            Kind::AnyEdges(tables) => tables.position_after(position, turn),
+            Kind::Domino(tables) => tables.position_after(position, turn),
+            Kind::EitherDomino(tables) => tables.position_after(position, turn),
+        }
     }
 
     /// The distance to the step: the least number of its turns that reach it, 0 to 20, or 21 for more or never. The

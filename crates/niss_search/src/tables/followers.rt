@@ -1,8 +1,10 @@
 //! The turns of a step that may follow a turn.
-ghost use Rattle.std.specs.Prelude.{◌≡◌, None};
+ghost use Rattle.std.specs.Prelude.{◌≡◌, ◌<◌, length, Contains, None};
 ghost use Rattle.niss_moves.specs.Canonical.{may_follow, face_may_follow};
 ghost use Rattle.niss_moves.specs.declared.turn.Face.TheVariants.{U, D, R, L, F, B};
+ghost use Rattle.niss_cube.specs.Steps.{turns_of};
 ghost use Rattle.niss_search.specs.Followers.{AreFollowers};
+ghost use Rattle.niss_search.specs.Moves.{turn_at};
 
 use arrayvec::ArrayVec;
 use niss_cube::{Face, Step, Turn};
@@ -35,6 +37,21 @@ fn turns_after(step: Step, last: Option<Turn>) -> FollowerList
         }
     }
     list
+}
+
+/// The column of a turn of a step.
+fn column_of(step: Step, turn: Turn) -> usize
+    requires { Contains (turns_of step) turn }
+    ensures in_range { result < length (turns_of step) }
+    ensures value { turn_at step result ≡ turn }
+{
+    let turns = step.turns();
+    for column in 0..turns.len() {
+        if turns[column] == turn {
+            return column;
+        }
+    }
+    unreachable!()
 }
 
 /// The turns of a step that may stand directly after a turn of the face.
@@ -91,6 +108,15 @@ impl Followers {
             after_front: turns_after_face(step, Face::F),
             after_back: turns_after_face(step, Face::B),
         }
+    }
+
+    /// The column of one of the step's turns.
+    pub(super) fn column(&self, turn: Turn) -> usize
+        requires { Contains (turns_of self.now) turn }
+        ensures in_range { result < length (turns_of self.now) }
+        ensures value { turn_at self.now result ≡ turn }
+    {
+        column_of(self.step, turn)
     }
 
     /// The step's turns that may stand directly after the last one, in turn order.

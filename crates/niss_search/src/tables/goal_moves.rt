@@ -5,14 +5,15 @@ ghost use Rattle.niss_cube.specs.declared.step.Goal.TheVariants.{Edges, Domino};
 ghost use Rattle.niss_search.specs.Entries.{count_for};
 ghost use Rattle.niss_search.specs.Filling.{Alternative, IsEntry, entry_number, entry_at};
 ghost use Rattle.niss_search.specs.Moves.{turn_at};
-ghost use Rattle.niss_search.specs.Positions.{coordinates_after};
+ghost use Rattle.niss_search.specs.Positions.{coordinates_after, AreInRange};
 ghost use Rattle.niss_search.specs.declared.tables.position.Coordinates.{Coordinates};
 ghost use Rattle.niss_search.specs.declared.tables.position.Coordinates.TheVariants.{Flip, TwistAndSlice};
-ghost use Rattle.niss_search.specs.declared.tables.move_table.Coordinate.TheVariants as coordinate;
+ghost use Rattle.niss_cube.specs.declared.cube.coordinate.Coordinate.TheVariants as coordinate;
 
 use super::entries::{FLIPS, SLICES, TWISTS, pair_number};
-use super::move_table::{Coordinate, MoveTable};
-use niss_cube::{Axis, OutOfMemory, Step, TurnTables};
+use super::move_table::MoveTable;
+use super::position::Coordinates;
+use niss_cube::{Axis, Coordinate, OutOfMemory, Step, TurnTable};
 use std::alloc::Allocator;
 
 /// The coordinates of a goal of a step, as numbers without their axis, and where the step's turns lead them.
@@ -38,6 +39,11 @@ pub trait GoalMoves {
     fn state_at(&self, entry: usize) -> Self::State
         requires { entry < count_for (alternative self.now).goal }
         ensures { coordinates self.now result ≡ entry_at (alternative self.now).goal entry };
+
+    /// The coordinates of a state.
+    fn coordinates_of(&self, state: Self::State) -> Coordinates
+        ensures value { result ≡ coordinates self.now state }
+        ensures in_range { AreInRange result };
 
     /// The number of its entry in the pruning table.
     fn entry(&self, state: Self::State) -> usize
@@ -66,16 +72,17 @@ pub struct EdgeMoves<A: Allocator> {
 }
 
 impl<A: Allocator> EdgeMoves<A> {
-    /// Those of a step, on an axis.
+    /// Those of a step, on an axis, by the turn table of the flips.
     pub fn build_in<B: Allocator>(
         alloc: A,
         step: Step,
         axis: Axis,
-        turn_tables: &TurnTables<B>,
+        flips: &TurnTable<B>,
     ) -> Result<EdgeMoves<A>, OutOfMemory>
+        requires { flips.now ≡ coordinate.Flip }
         ensures { IfOk result (λ m. (m.flips.step ≡ step) × (m.flips.axis ≡ axis)) }
     {
-        let flips = MoveTable::build_in(alloc, Coordinate::Flip, axis, step, turn_tables)?;
+        let flips = MoveTable::build_in(alloc, flips, axis, step)?;
         Ok(EdgeMoves { flips })
     }
 }
@@ -101,6 +108,13 @@ impl<A: Allocator> GoalMoves for EdgeMoves<A> {
         FlipState { flip: entry as u16 }
     }
 
+    fn coordinates_of(&self, state: FlipState) -> Coordinates {
+        Coordinates::Flip {
+            axis: self.flips.axis(),
+            flip: state.flip,
+        }
+    }
+
     #[tactic(auto, unfolding(crate::specs::Entries::count_for))]
     #[inline(always)]
     fn entry(&self, state: FlipState) -> usize {
@@ -124,6 +138,25 @@ pub struct PairState {
     ghost slice_in_range: { slice < 495 },
 }
 
+/// The turn tables of the twists and the slices.
+#[derive(Drop)]
+pub struct DominoTurns<A: Allocator> {
+    twists: TurnTable<A>,
+    slices: TurnTable<A>,
+    ghost are_twists: { twists ≡ coordinate.Twist },
+    ghost are_slices: { slices ≡ coordinate.Slice },
+}
+
+impl<A: Allocator + Copy> DominoTurns<A> {
+    /// Builds them.
+    pub fn build_in(alloc: A) -> Result<DominoTurns<A>, OutOfMemory> {
+        Ok(DominoTurns {
+            twists: TurnTable::build_in(alloc, Coordinate::Twist)?,
+            slices: TurnTable::build_in(alloc, Coordinate::Slice)?,
+        })
+    }
+}
+
 /// The twists and slices of a domino reduction.
 #[derive(Drop)]
 pub struct DominoMoves<A: Allocator> {
@@ -143,14 +176,14 @@ impl<A: Allocator> DominoMoves<A> {
         step: Step,
         edges: Axis,
         axis: Axis,
-        turn_tables: &TurnTables<B>,
+        turns: &DominoTurns<B>,
     ) -> Result<DominoMoves<A>, OutOfMemory>
     where
         A: Copy,
         ensures { IfOk result (λ m. (m.twists.step ≡ step) × (m.twists.axis ≡ axis) × (m.edges ≡ edges)) }
     {
-        let twists = MoveTable::build_in(alloc, Coordinate::Twist, axis, step, turn_tables)?;
-        let slices = MoveTable::build_in(alloc, Coordinate::Slice, axis, step, turn_tables)?;
+        let twists = MoveTable::build_in(alloc, &turns.twists, axis, step)?;
+        let slices = MoveTable::build_in(alloc, &turns.slices, axis, step)?;
         Ok(DominoMoves {
             edges,
             twists,
@@ -180,6 +213,14 @@ impl<A: Allocator> GoalMoves for DominoMoves<A> {
         PairState {
             twist: (entry / SLICES) as u16,
             slice: (entry % SLICES) as u16,
+        }
+    }
+
+    fn coordinates_of(&self, state: PairState) -> Coordinates {
+        Coordinates::TwistAndSlice {
+            axis: self.twists.axis(),
+            twist: state.twist,
+            slice: state.slice,
         }
     }
 

@@ -1,16 +1,17 @@
 //! The tables of a step, by what it looks at.
 ghost use Rattle.std.specs.Prelude.{◌≡◌, ◌+◌, ◌≤◌, ◌^◌, IfOk, OnOk, OnErr};
+ghost use Rattle.niss_cube.specs.declared.cube.coordinate.Coordinate.TheVariants as coordinate;
 ghost use Rattle.niss_cube.specs.declared.step.Goal.TheVariants as goals;
 ghost use Rattle.niss_search.specs.Entries.{fill_ticks};
 ghost use Rattle.niss_search.specs.Filling.{IsFilled};
 ghost use Rattle.niss_search.specs.KindOfStep.{IsOfStep, edge_alternative, domino_alternative};
 
-use super::goal_moves::{DominoMoves, EdgeMoves};
+use super::goal_moves::{DominoMoves, DominoTurns, EdgeMoves};
 use super::meter::Meter;
 use super::pruning_table::PruningTable;
 use super::search_tables::SearchTables;
 use super::state_space::Either;
-use niss_cube::{Axis, Goal, OutOfMemory, Step, TurnTables};
+use niss_cube::{Axis, Coordinate, Goal, OutOfMemory, Step, TurnTable};
 use std::alloc::Allocator;
 
 /// The pruning table of an edge orientation.
@@ -34,7 +35,6 @@ impl<A: Allocator + Copy> Kind<A> {
     pub(super) fn build_in(
         alloc: A,
         step: Step,
-        turn_tables: &TurnTables<A>,
         meter: &mut Meter,
     ) -> Result<Kind<A>, OutOfMemory>
         requires { meter.old ≤ 2 ^ 127 }
@@ -44,18 +44,24 @@ impl<A: Allocator + Copy> Kind<A> {
     {
         match step.goals() {
             [Goal::Edges(axis)] => {
-                let table = edge_table(alloc, step, *axis, turn_tables)?;
+                let flips = TurnTable::build_in(alloc, Coordinate::Flip)?;
+                let table = edge_table(alloc, step, *axis, &flips)?;
+                drop(flips);
                 Ok(Kind::Edges(SearchTables::fill(step, table, meter)))
             }
             [Goal::Edges(first), Goal::Edges(second), Goal::Edges(third)] => {
-                let first = edge_table(alloc, step, *first, turn_tables)?;
-                let second = edge_table(alloc, step, *second, turn_tables)?;
-                let third = edge_table(alloc, step, *third, turn_tables)?;
+                let flips = TurnTable::build_in(alloc, Coordinate::Flip)?;
+                let first = edge_table(alloc, step, *first, &flips)?;
+                let second = edge_table(alloc, step, *second, &flips)?;
+                let third = edge_table(alloc, step, *third, &flips)?;
+                drop(flips);
                 let space = Either::of(first, Either::of(second, third));
                 Ok(Kind::AnyEdges(SearchTables::fill(step, space, meter)))
             }
             [Goal::Domino { edges, axis }] => {
-                let table = domino_table(alloc, step, *edges, *axis, turn_tables)?;
+                let turns = DominoTurns::build_in(alloc)?;
+                let table = domino_table(alloc, step, *edges, *axis, &turns)?;
+                drop(turns);
                 Ok(Kind::Domino(SearchTables::fill(step, table, meter)))
             }
             [
@@ -65,8 +71,10 @@ impl<A: Allocator + Copy> Kind<A> {
                     axis: other,
                 },
             ] => {
-                let first = domino_table(alloc, step, *edges, *axis, turn_tables)?;
-                let second = domino_table(alloc, step, *same_edges, *other, turn_tables)?;
+                let turns = DominoTurns::build_in(alloc)?;
+                let first = domino_table(alloc, step, *edges, *axis, &turns)?;
+                let second = domino_table(alloc, step, *same_edges, *other, &turns)?;
+                drop(turns);
                 let space = Either::of(first, second);
                 Ok(Kind::EitherDomino(SearchTables::fill(step, space, meter)))
             }
@@ -80,12 +88,13 @@ fn edge_table<A: Allocator + Copy>(
     alloc: A,
     step: Step,
     axis: Axis,
-    turn_tables: &TurnTables<A>,
+    flips: &TurnTable<A>,
 ) -> Result<EdgeTable<A>, OutOfMemory>
+    requires { flips.now ≡ coordinate.Flip }
     ensures { IfOk result (λ t. (edge_alternative t ≡ record { step = step; goal = goals.Edges axis })
         × IsFilled record { step = step; goal = goals.Edges axis } 0 t.distances.items) }
 {
-    let moves = EdgeMoves::build_in(alloc, step, axis, turn_tables)?;
+    let moves = EdgeMoves::build_in(alloc, step, axis, flips)?;
     PruningTable::new_in(alloc, moves)
 }
 
@@ -95,11 +104,11 @@ fn domino_table<A: Allocator + Copy>(
     step: Step,
     edges: Axis,
     axis: Axis,
-    turn_tables: &TurnTables<A>,
+    turns: &DominoTurns<A>,
 ) -> Result<DominoTable<A>, OutOfMemory>
     ensures { IfOk result (λ t. (domino_alternative t ≡ record { step = step; goal = goals.Domino edges axis })
         × IsFilled record { step = step; goal = goals.Domino edges axis } 0 t.distances.items) }
 {
-    let moves = DominoMoves::build_in(alloc, step, edges, axis, turn_tables)?;
+    let moves = DominoMoves::build_in(alloc, step, edges, axis, turns)?;
     PruningTable::new_in(alloc, moves)
 }

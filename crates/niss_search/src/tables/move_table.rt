@@ -1,70 +1,26 @@
 //! The numbers of a coordinate after the turns of a step.
 ghost use Rattle.std.specs.Prelude.{◌≡◌, ◌<◌, length, IfOk};
+ghost use Rattle.niss_cube.specs.Coordinates.{count_of};
+ghost use Rattle.niss_cube.specs.NumberAfter.{number_after};
 ghost use Rattle.niss_cube.specs.Steps.{turns_of};
-ghost use Rattle.niss_search.specs.Moves.{number_count, number_after, turn_at, IsMoveRow};
+ghost use Rattle.niss_search.specs.Moves.{turn_at, IsMoveRow};
 
-use niss_cube::{Axis, OutOfMemory, Step, Turn, TurnTables};
+use niss_cube::{Axis, Coordinate, OutOfMemory, Step, TurnTable};
 use std::alloc::Allocator;
 use std::marker::Model;
-
-/// A coordinate of a cube.
-#[derive(Clone, Copy)]
-pub enum Coordinate {
-    Flip,
-    Twist,
-    Slice,
-}
-
-impl Coordinate {
-    /// How many numbers it has.
-    fn count(self) -> usize
-        ensures { result ≡ number_count self }
-    {
-        match self {
-            Coordinate::Flip => 2048,
-            Coordinate::Twist => 2187,
-            Coordinate::Slice => 495,
-        }
-    }
-
-    /// The number on an axis after a turn.
-    fn after<A: Allocator>(
-        self,
-        axis: Axis,
-        number: u16,
-        turn: Turn,
-        turn_tables: &TurnTables<A>,
-    ) -> u16
-        requires { number < number_count self }
-        ensures value { result ≡ number_after self axis number turn }
-        ensures in_range { result < number_count self }
-    {
-        match self {
-            Coordinate::Flip => turn_tables.next_flip(axis, number, turn),
-            Coordinate::Twist => turn_tables.next_twist(axis, number, turn),
-            Coordinate::Slice => turn_tables.next_slice(axis, number, turn),
-        }
-    }
-}
 
 /// The numbers after the turns of a step, in turn order; a step has at most 18.
 type Row = [u16; 18];
 
 /// The row of a number.
-fn row_of<A: Allocator>(
-    coordinate: Coordinate,
-    axis: Axis,
-    step: Step,
-    number: u16,
-    turn_tables: &TurnTables<A>,
-) -> Row
-    requires { number < number_count coordinate }
-    ensures { IsMoveRow record { coordinate = coordinate; axis = axis; step = step } number result }
+fn row_of<A: Allocator>(turn_table: &TurnTable<A>, axis: Axis, step: Step, number: u16) -> Row
+    requires { number < count_of turn_table.now }
+    ensures { IsMoveRow record { coordinate = turn_table.now; axis = axis; step = step } number result }
 {
     let turns = step.turns();
     let mut row = [0; 18];
     for column in 0..turns.len() {
-        row[column] = coordinate.after(axis, number, turns[column], turn_tables);
+        row[column] = turn_table.next(axis, number, turns[column]);
     }
     row
 }
@@ -90,21 +46,21 @@ impl<A: Allocator> Model for MoveTable<A> {
 }
 
 impl<A: Allocator> MoveTable<A> {
-    /// The table of a coordinate on an axis.
+    /// The table of the coordinate of a turn table, on an axis.
     pub fn build_in<B: Allocator>(
         alloc: A,
-        coordinate: Coordinate,
+        turn_table: &TurnTable<B>,
         axis: Axis,
         step: Step,
-        turn_tables: &TurnTables<B>,
     ) -> Result<MoveTable<A>, OutOfMemory>
-        ensures { IfOk result (λ t. t ≡ record { coordinate = coordinate; axis = axis; step = step }) }
+        ensures { IfOk result (λ t. t ≡ record { coordinate = turn_table.now; axis = axis; step = step }) }
     {
+        let coordinate = turn_table.coordinate();
         let Ok(mut rows) = Vec::from_elem(alloc, [0; 18], coordinate.count()) else {
             return Err(OutOfMemory);
         };
         for number in 0..rows.len() {
-            rows[number] = row_of(coordinate, axis, step, number as u16, turn_tables);
+            rows[number] = row_of(turn_table, axis, step, number as u16);
         }
         Ok(MoveTable {
             coordinate,
@@ -112,6 +68,13 @@ impl<A: Allocator> MoveTable<A> {
             step,
             rows,
         })
+    }
+
+    /// The axis.
+    pub fn axis(&self) -> Axis
+        ensures { result ≡ self.now.axis }
+    {
+        self.axis
     }
 
     /// How many turns the step has.
@@ -124,10 +87,10 @@ impl<A: Allocator> MoveTable<A> {
     /// The number after the turn of a column.
     #[inline(always)]
     pub fn after(&self, number: u16, column: usize) -> u16
-        requires in_range { number < number_count self.now.coordinate }
+        requires in_range { number < count_of self.now.coordinate }
         requires of_step { column < length (turns_of self.now.step) }
         ensures value { result ≡ number_after self.now.coordinate self.now.axis number (turn_at self.now.step column) }
-        ensures below { result < number_count self.now.coordinate }
+        ensures below { result < count_of self.now.coordinate }
     {
         self.rows[number as usize][column]
     }

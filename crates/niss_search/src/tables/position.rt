@@ -1,13 +1,12 @@
 //! What a step looks at in a cube.
 ghost use Rattle.std.specs.Prelude.{◌≡◌, ◌≤◌};
 ghost use Rattle.niss_cube.specs.Map.{map_of};
-ghost use Rattle.niss_search.specs.Positions.{coordinates_of, coordinates_after, AreInRange};
+ghost use Rattle.niss_search.specs.Positions.{coordinates_of, AreInRange};
 ghost use Rattle.niss_search.specs.Filling.{entry_number};
 
 use super::entries::pair_number;
 use arrayvec::ArrayVec;
-use niss_cube::{Axis, Cube, Goal, Turn, TurnTables};
-use std::alloc::Allocator;
+use niss_cube::{Axis, Cube, Goal};
 use std::marker::Model;
 
 /// The coordinates that tell whether a goal holds on a cube on which the step may start.
@@ -34,26 +33,6 @@ impl Coordinates {
                 axis,
                 twist: cube.twist(axis),
                 slice: cube.slice(axis),
-            },
-        }
-    }
-
-    /// Those after a turn.
-    #[inline(always)]
-    fn after<A: Allocator>(self, turn: Turn, turn_tables: &TurnTables<A>) -> Coordinates
-        requires { AreInRange self }
-        ensures value { result ≡ coordinates_after self turn }
-        ensures in_range { AreInRange result }
-    {
-        match self {
-            Coordinates::Flip { axis, flip } => Coordinates::Flip {
-                axis,
-                flip: turn_tables.next_flip(axis, flip, turn),
-            },
-            Coordinates::TwistAndSlice { axis, twist, slice } => Coordinates::TwistAndSlice {
-                axis,
-                twist: turn_tables.next_twist(axis, twist, turn),
-                slice: turn_tables.next_slice(axis, slice, turn),
             },
         }
     }
@@ -101,7 +80,6 @@ impl Model for Position {
 
 impl Position {
     ghost use Rattle.std.specs.Prelude.{All, map, length};
-    ghost use Rattle.niss_search.specs.Positions.{position_after};
 
     /// The position of a cube, by the goals of the step.
     pub(super) fn of(goals: &[Goal], cube: &Cube) -> Position
@@ -115,16 +93,12 @@ impl Position {
         Position { coordinates }
     }
 
-    /// The position after a turn.
-    #[tactic(auto, unfolding(crate::specs::Positions::position_after))]
-    pub(super) fn after<A: Allocator>(&self, turn: Turn, turn_tables: &TurnTables<A>) -> Position
-        ensures { result ≡ position_after self.now turn }
+    /// The position that has the coordinates, a goal after the other.
+    pub(super) fn from_coordinates(coordinates: ArrayVec<Coordinates, 3>) -> Position
+        requires { All AreInRange coordinates.items }
+        ensures { result ≡ coordinates.items }
     {
-        let mut after = ArrayVec::new();
-        for coordinates in self.coordinates.as_slice() {
-            after.push(coordinates.after(turn, turn_tables));
-        }
-        Position { coordinates: after }
+        Position { coordinates }
     }
 
     /// The coordinates, a goal after the other.

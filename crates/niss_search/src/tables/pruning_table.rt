@@ -11,6 +11,7 @@ use super::goal_moves::GoalMoves;
 use super::meter::Meter;
 use super::position::Coordinates;
 use super::state_space::StateSpace;
+use arrayvec::ArrayVec;
 use niss_cube::OutOfMemory;
 use std::alloc::Allocator;
 
@@ -52,6 +53,10 @@ impl<M: GoalMoves, A: Allocator> StateSpace for PruningTable<M, A> {
 
     fn state(&self, position: &[Coordinates]) -> M::State {
         self.moves.state_at(position[0].entry_number())
+    }
+
+    fn put_coordinates(&self, state: M::State, list: &mut ArrayVec<Coordinates, 3>) {
+        list.push(self.moves.coordinates_of(state));
     }
 
     #[tactic(auto, unfolding(crate::specs::Positions::position_after))]

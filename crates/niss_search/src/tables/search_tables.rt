@@ -1,7 +1,7 @@
 //! The tables of a search, by the kind of its states.
-ghost use Rattle.std.specs.Prelude.{◌≡◌, ◌+◌, ◌*◌, ◌<◌, ◌^◌, length};
+ghost use Rattle.std.specs.Prelude.{◌≡◌, ◌+◌, ◌*◌, ◌<◌, ◌^◌, length, Contains};
 ghost use Rattle.niss_moves.specs.Canonical.{may_follow};
-ghost use Rattle.niss_cube.specs.Steps.{goals_of};
+ghost use Rattle.niss_cube.specs.Steps.{goals_of, turns_of};
 ghost use Rattle.niss_search.specs.Cubes.{IsPosition};
 ghost use Rattle.niss_search.specs.Entries.{fill_ticks};
 ghost use Rattle.niss_search.specs.Followers.{IsFollower, AreFollowers};
@@ -12,6 +12,7 @@ use super::followers::{Follower, Followers};
 use super::meter::Meter;
 use super::position::Position;
 use super::state_space::StateSpace;
+use arrayvec::ArrayVec;
 use niss_cube::{Step, Turn};
 
 /// The turns of a step that may follow each other, and the space of its states with its pruning tables filled.
@@ -54,6 +55,20 @@ impl<S: StateSpace> SearchTables<S> {
         ensures { S.seen self.now.space result ≡ position.now }
     {
         self.space.state(position.coordinates())
+    }
+
+    /// The position after a turn of the step.
+    pub fn position_after(&self, position: &Position, turn: Turn) -> Position
+        requires ready { AreReady self.now.followers (S.step self.now.space) (S.goals self.now.space) (S.is_filled self.now.space 20) }
+        requires position { IsPosition self.now.followers position.now }
+        requires of_step { Contains (turns_of self.now.followers) turn }
+        ensures { result ≡ position_after position.now turn }
+    {
+        let column = self.followers.column(turn);
+        let state = self.space.after(self.state(position), column);
+        let mut coordinates = ArrayVec::new();
+        self.space.put_coordinates(state, &mut coordinates);
+        Position::from_coordinates(coordinates)
     }
 
     /// The state after a turn of the step.

@@ -1,15 +1,16 @@
 //! What a search goes through: the states of a step, and how far each is from it.
-ghost use Rattle.std.specs.Prelude.{◌≡◌, ℕ, List, ◌+◌, ◌*◌, ◌<◌, ◌≤◌, ◌^◌, ◌++◌, length};
+ghost use Rattle.std.specs.Prelude.{◌≡◌, ℕ, List, ◌+◌, ◌*◌, ◌<◌, ◌≤◌, ◌^◌, ◌++◌, length, All};
 ghost use Rattle.niss_cube.specs.Steps.{turns_of};
 ghost use Rattle.niss_cube.specs.declared.step.Goal.{Goal};
 ghost use Rattle.niss_cube.specs.declared.step.Step.{Step as TheStep};
 ghost use Rattle.niss_search.specs.Filling.{AreEntries, ticks_of_goals};
 ghost use Rattle.niss_search.specs.Moves.{turn_at};
-ghost use Rattle.niss_search.specs.Positions.{position_after, distance_at};
+ghost use Rattle.niss_search.specs.Positions.{position_after, distance_at, AreInRange};
 ghost use Rattle.niss_search.specs.declared.tables.position.Coordinates.{Coordinates};
 
 use super::meter::Meter;
 use super::position::Coordinates;
+use arrayvec::ArrayVec;
 
 /// The states of a step by some of its goals, each with its own numbers, where the step's turns lead them, and how far they
 /// are from the step. One goal costs a look no more than its own table.
@@ -39,6 +40,14 @@ pub trait StateSpace {
         requires entries { AreEntries (goals self.now) position.now }
         requires few { length position.now ≤ 3 }
         ensures { seen self.now result ≡ position.now };
+
+    /// Appends the coordinates of a state, those of a goal after the other.
+    fn put_coordinates(&self, state: Self::State, list: &mut ArrayVec<Coordinates, 3>)
+        requires room { length list.old.items + length (goals self.now) ≤ 3 }
+        requires in_range { All AreInRange list.old.items }
+        ensures value { list.new.items ≡ list.old.items ++ seen self.now state }
+        ensures one_for_each { length list.new.items ≡ length list.old.items + length (goals self.now) }
+        ensures in_range { All AreInRange list.new.items };
 
     /// The state after the turn of a column.
     fn after(&self, state: Self::State, column: usize) -> Self::State
@@ -96,6 +105,11 @@ impl<S: StateSpace, T: StateSpace> StateSpace for Either<S, T> {
     fn state(&self, position: &[Coordinates]) -> (S::State, T::State) {
         let (first, second) = position.split_at(self.first.goal_count());
         (self.first.state(first), self.second.state(second))
+    }
+
+    fn put_coordinates(&self, state: (S::State, T::State), list: &mut ArrayVec<Coordinates, 3>) {
+        self.first.put_coordinates(state.0, list);
+        self.second.put_coordinates(state.1, list);
     }
 
     #[inline(always)]

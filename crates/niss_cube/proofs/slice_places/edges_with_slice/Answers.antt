@@ -1,6 +1,6 @@
 use Rattle.std.proofs.Common.{arith, refl, set, List, Bool, true, false, ◌+◌, ◌≡◌, ◌∙◌, ap, length, reverse}
 use Rattle.std.proofs.lemmas.List.{length-reverse}
-use Rattle.niss_cube.specs.SliceAfter.{edges_at, edges_of_number}
+use Rattle.niss_cube.specs.NumberedCubies.{edges_at, edges_of_number}
 use Rattle.niss_cube.proofs.PlacedEdges.{placed-at, placed-start, placed-slice, placed-free, placed-end, reversed-at}
 use Rattle.niss_cube.proofs.slice_places.edges_with_slice.Goals as goal
 use Rattle.niss_cube.proofs.slice_places.edges_with_slice.Goals.{then-occupied-place, else-occupied-place}

@@ -3,4 +3,4 @@ use Rattle.niss_search.proofs.laws.entries_turn.Goals as goal
 
 pub returns : goal.returns
 returns c =
-    lemmas.entries_turn c.flips_are_coordinates.ensures c.twists_are_coordinates.ensures c.slices_are_coordinates.ensures c.inverses_of_steps.ensures
+    lemmas.entries_turn c.are_coordinates.ensures c.inverses_of_steps.ensures

@@ -3,4 +3,4 @@ use Rattle.niss_search.proofs.laws.positions_tell.Goals as goal
 
 pub returns : goal.returns
 returns c =
-    positions_tell c.flips_are_coordinates.ensures c.twists_are_coordinates.ensures c.slices_are_coordinates.ensures c.turned_is_cube.ensures c.kept_is_tested.ensures c.sets_are_places.ensures c.start_is_kept.ensures c.steps_see_places.ensures c.domino_keeps_start.ensures
+    positions_tell c.are_coordinates.ensures c.turned_is_cube.ensures c.start_is_kept.ensures c.steps_see_places.ensures c.domino_keeps_start.ensures

@@ -1,6 +1,6 @@
 use Rattle.std.proofs.Common.{ℕ, List, [], ◌∷◌, get_or}
 use Rattle.niss_cube.specs.Map.{map_of}
-use Rattle.niss_cube.proofs.CodedLaws.{lists_of}
+use Rattle.niss_cube.proofs.CoordinateLaws.{lists_of}
 use Rattle.niss_cube.proofs.FaceletLetters.{ShowsCorner, ShowsEdge, each_of_eight, each_of_twelve, letters-shown}
 use Rattle.niss_cube.proofs.cube.Cube.letters.Goals as goal
 

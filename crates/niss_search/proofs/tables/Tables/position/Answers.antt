@@ -1,6 +1,7 @@
 use Rattle.std.proofs.Common.{refl}
 use Rattle.niss_cube.specs.Map.{map_of}
-use Rattle.niss_search.proofs.PositionLemmas.{cube-itself, position_of-is}
+use Rattle.niss_cube.proofs.CallerLemmas.{cube-itself}
+use Rattle.niss_search.proofs.PositionLemmas.{position_of-is}
 use Rattle.niss_search.proofs.tables.Tables.position.Goals as goal
 
 pub returns-clause-of_cube : goal.returns-clause-of_cube

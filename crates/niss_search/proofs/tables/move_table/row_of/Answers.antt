@@ -2,7 +2,8 @@ use Rattle.std.proofs.Common.{arith, ◌≡◌, ◌<◌, ◌∙◌, ap, get_or, 
 use Rattle.niss_moves.specs.declared.turn.Turn.{Turn}
 use Rattle.niss_moves.specs.declared.turn.Face.TheVariants.{U}
 use Rattle.niss_moves.specs.declared.turn.Power.TheVariants.{Quarter}
-use Rattle.niss_search.specs.Moves.{number_after, turn_at}
+use Rattle.niss_cube.specs.NumberAfter.{number_after}
+use Rattle.niss_search.specs.Moves.{turn_at}
 use Rattle.niss_search.proofs.Bounds.{turns_of-length}
 use Rattle.niss_search.proofs.ListLemmas.{get_or-same}
 use Rattle.niss_search.proofs.tables.move_table.row_of.Goals as goal
@@ -24,17 +25,17 @@ loop-column-preserved g c =
     let column = c.loop-column.column in
     let d : Turn = record { face = U; power = Quarter } in
     let within : column < length row = omega (arith, c.loop-column-test.true, inv.few, inv.size) in
-    let read : c.after.result ≡ number_after c.args.coordinate c.args.axis c.args.number (turn_at c.args.step column) =
-    c.after.ensures.value ∙ ap (number_after c.args.coordinate c.args.axis c.args.number) (get_or-same c.turns-turns.result.now column _ d c.loop-column-test.true ∙ ap (λ (ts : List Turn). get_or ts column d) inv.items) in
+    let read : c.next.result ≡ number_after c.args.turn_table.now c.args.axis c.args.number (turn_at c.args.step column) =
+    c.next.ensures.value ∙ ap (number_after c.args.turn_table.now c.args.axis c.args.number) (get_or-same c.turns-turns.result.now column _ d c.loop-column-test.true ∙ ap (λ (ts : List Turn). get_or ts column d) inv.items) in
     record {
       items = inv.items;
       few = inv.few;
       end = refl;
-      size = length-set row column c.after.result ∙ inv.size;
+      size = length-set row column c.next.result ∙ inv.size;
       after = below_more _ _
-          (λ k l. get_or-set_other row column k c.after.result 0 (omega arith) ∙ inv.after k l)
-          (get_or-set_same row column c.after.result 0 within ∙ read);
+          (λ k l. get_or-set_other row column k c.next.result 0 (omega arith) ∙ inv.after k l)
+          (get_or-set_same row column c.next.result 0 within ∙ read);
       below = below_more _ _
-          (λ k l. rw (get_or-set_other row column k c.after.result 0 (omega arith)) (inv.below k l))
-          (rw (get_or-set_same row column c.after.result 0 within) c.after.ensures.in_range);
+          (λ k l. rw (get_or-set_other row column k c.next.result 0 (omega arith)) (inv.below k l))
+          (rw (get_or-set_same row column c.next.result 0 within) c.next.ensures.in_range);
     }

@@ -1,6 +1,8 @@
 use Rattle.std.proofs.Common.{◌≡◌, ℕ, ◌≤◌, ◌<◌, length, slice_index}
 use Rattle.niss_cube.specs.Steps.{turns_of}
-use Rattle.niss_search.specs.Moves.{number_after, number_count, turn_at}
+use Rattle.niss_cube.specs.Coordinates.{count_of}
+use Rattle.niss_cube.specs.NumberAfter.{number_after}
+use Rattle.niss_search.specs.Moves.{turn_at}
 use Rattle.niss_search.proofs.tables.move_table.row_of.Given as goal
 
 abbrev pub invariant-loop-column : goal.invariant-loop-column
@@ -9,6 +11,6 @@ invariant-loop-column g l = record {
   few : length l.turns ≤ 18;
   end : l.column-end ≡ length l.turns;
   size : length l.row ≡ 18;
-  after : (k : ℕ) → k < l.column → slice_index l.row k ≡ number_after l.coordinate l.axis l.number (turn_at l.fn.step k);
-  below : (k : ℕ) → k < l.column → slice_index l.row k < number_count l.coordinate;
+  after : (k : ℕ) → k < l.column → slice_index l.row k ≡ number_after l.fn.turn_table l.axis l.number (turn_at l.fn.step k);
+  below : (k : ℕ) → k < l.column → slice_index l.row k < count_of l.fn.turn_table;
 }

@@ -1,0 +1,11 @@
+use Rattle.std.proofs.Common.{◌∙◌, ap}
+use Rattle.niss_moves.specs.declared.turn.Face.{Face}
+use Rattle.niss_cube.specs.Coordinates.{standard_axis}
+use Rattle.niss_cube.specs.NumberAfter.{number_after}
+use Rattle.niss_cube.proofs.Codes.{number_after-standard}
+use Rattle.niss_cube.proofs.cube.coordinate.Coordinate.standard_turn.Goals as goal
+
+pub returns-clause-same_number : goal.returns-clause-same_number
+returns-clause-same_number c = λ number.
+    ap (λ (f : Face). number_after c.args.self (standard_axis c.args.self) number record { face = f; power = c.args.turn.power }) c.renamed_face.ensures
+    ∙ number_after-standard c.args.self c.args.axis number c.args.turn

@@ -1,0 +1,123 @@
+//! The coordinates of a cube, each as one value.
+ghost use Rattle.std.specs.Prelude.{◌≡◌, ◌<◌, ◌↔◌, ℕ};
+ghost use Rattle.niss_moves.specs.Effects.{turned};
+ghost use Rattle.niss_moves.specs.Places.{SameMap};
+ghost use Rattle.niss_cube.specs.Map.{map_of};
+ghost use Rattle.niss_cube.specs.Sets.{Kept, set_of};
+ghost use Rattle.niss_cube.specs.Coordinates.{count_of, face_for, number_of, renamed_for, standard_axis, turn_for};
+ghost use Rattle.niss_cube.specs.NumberAfter.{number_after};
+
+use super::{CORNERS_HOME, Cube, EDGES_HOME};
+use crate::cubie_turns::{turn_edges, turn_flips, turn_twists};
+use crate::digits::{number_of, write_orientations};
+use crate::renamed_faces::{renamed_face_for_flip, renamed_face_for_twist};
+use crate::slice_places::{edges_with_slice, slice_number};
+use niss_moves::{Axis, Face, Turn};
+
+/// A coordinate of a cube, which has a number on each axis.
+#[derive(Clone, Copy)]
+pub enum Coordinate {
+    /// How the edges are flipped.
+    Flip,
+    /// How the corners are twisted.
+    Twist,
+    /// Where the four edges of a slice stand.
+    Slice,
+}
+
+impl Coordinate {
+    /// How many numbers it has.
+    pub fn count(self) -> usize
+        ensures { result ≡ count_of self }
+    {
+        match self {
+            Coordinate::Flip => 2048,
+            Coordinate::Twist => 2187,
+            Coordinate::Slice => 495,
+        }
+    }
+
+    /// The number of a cube on an axis. It is 0 exactly where the cube keeps the coordinate's set of places.
+    pub fn number(self, axis: Axis, cube: &Cube) -> u16
+        ensures value { result ≡ number_of self axis (map_of cube.now) }
+        ensures in_range { result < count_of self }
+        ensures kept { (result ≡ 0) ↔ Kept (set_of self axis) (map_of cube.now) }
+    {
+        self.standard_number(&self.renamed(axis, cube))
+    }
+
+    /// A cube as the coordinate on an axis is read from it.
+    fn renamed(self, axis: Axis, cube: &Cube) -> Cube
+        ensures { SameMap (map_of result) (renamed_for self axis (map_of cube.now)) }
+    {
+        match self {
+            Coordinate::Flip => cube.renamed_for_flip(axis),
+            Coordinate::Twist | Coordinate::Slice => cube.renamed_for_twist(axis),
+        }
+    }
+
+    /// The number of a cube on the standard axis, for which it isn't renamed.
+    fn standard_number(self, cube: &Cube) -> u16
+        ensures { result ≡ number_of self (standard_axis self) (map_of cube.now) }
+    {
+        match self {
+            Coordinate::Flip => number_of(2, &cube.flips[..11]),
+            Coordinate::Twist => number_of(3, &cube.twists[..7]),
+            Coordinate::Slice => slice_number(&cube.edges),
+        }
+    }
+
+    /// A cube with a number on the standard axis, its other cubies at home.
+    pub(crate) fn cube_with(self, number: u16) -> Cube
+        requires { number < count_of self }
+        ensures { number_of self (standard_axis self) (map_of result) ≡ number }
+    {
+        let (mut twists, mut edges, mut flips) = ([0; 8], EDGES_HOME, [0; 12]);
+        match self {
+            Coordinate::Flip => write_orientations(2, number, &mut flips),
+            Coordinate::Twist => write_orientations(3, number, &mut twists),
+            Coordinate::Slice => edges = edges_with_slice(number),
+        }
+        Cube {
+            corners: CORNERS_HOME,
+            twists,
+            edges,
+            flips,
+        }
+    }
+
+    /// The number on the standard axis after a turn, for which the cubies that it tells of are turned alone.
+    pub(crate) fn number_after(self, cube: &Cube, turn: Turn) -> u16
+        ensures { result ≡ number_of self (standard_axis self) (λ q. turned turn (map_of cube.now q)) }
+    {
+        match self {
+            Coordinate::Flip => number_of(2, &turn_flips(&cube.flips, turn)[..11]),
+            Coordinate::Twist => number_of(3, &turn_twists(&cube.twists, turn)[..7]),
+            Coordinate::Slice => slice_number(&turn_edges(&cube.edges, turn)),
+        }
+    }
+
+    /// The face that the renamed cube has where the cube has `face`.
+    #[inline(always)]
+    pub(crate) fn renamed_face(self, axis: Axis, face: Face) -> Face
+        ensures { result ≡ face_for self axis face }
+    {
+        match self {
+            Coordinate::Flip => renamed_face_for_flip(axis, face),
+            Coordinate::Twist | Coordinate::Slice => renamed_face_for_twist(axis, face),
+        }
+    }
+
+    /// The turn that does to the number on the standard axis, Fb for flips and Ud for twists and slices, what `turn` does to
+    /// that on `axis`.
+    pub fn standard_turn(self, axis: Axis, turn: Turn) -> Turn
+        ensures value { result ≡ turn_for self axis turn }
+        ensures same_number { (number : ℕ)
+            → number_after self (standard_axis self) number result ≡ number_after self axis number turn }
+    {
+        Turn {
+            face: self.renamed_face(axis, turn.face),
+            power: turn.power,
+        }
+    }
+}
