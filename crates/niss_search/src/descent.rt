@@ -53,16 +53,14 @@ fn visit_in<K: Sink, S: StateSpace>(
     count: &mut u128,
     sink: &mut K,
 ) -> (Meter, Result<(), K::Fault>)
-    requires ready { AreReady tables.now.followers (S.step tables.now.space) (S.goals tables.now.space)
-        (S.is_filled tables.now.space 20) }
-    requires position { IsPosition tables.now.followers position.now }
+    requires position { IsPosition tables.now.step position.now }
     requires room { length path.old.turns + left ≤ path.old.limit }
-    requires meter { meter + looks_below tables.now.followers position.now path.old.turns left < 2 ^ 128 }
-    requires count { count.old + length (found_below tables.now.followers position.now path.old.turns left) < 2 ^ 128 }
+    requires meter { meter + looks_below tables.now.step position.now path.old.turns left < 2 ^ 128 }
+    requires count { count.old + length (found_below tables.now.step position.now path.old.turns left) < 2 ^ 128 }
     ensures path { path.new ≡ path.old }
     ensures descends { Descends (at_limit K.took path.old.limit) (at_limit K.refused path.old.limit)
-        (found_below tables.now.followers position.now path.old.turns left)
-        (looks_below tables.now.followers position.now path.old.turns left)
+        (found_below tables.now.step position.now path.old.turns left)
+        (looks_below tables.now.step position.now path.old.turns left)
         (descent_state meter count.old sink.old) (descent_state result.0 count.new sink.new) result.1 }
 {
     let mut meter = meter;
@@ -85,20 +83,18 @@ fn extend<K: Sink, S: StateSpace>(
     count: &mut u128,
     sink: &mut K,
 ) -> (Meter, Result<(), K::Fault>)
-    requires ready { AreReady tables.now.followers (S.step tables.now.space) (S.goals tables.now.space)
-        (S.is_filled tables.now.space 20) }
-    requires near { distance_at tables.now.followers (S.seen tables.now.space state) ≤ left }
+    requires near { distance_at tables.now.step (S.seen tables.now.space state) ≤ left }
     requires room { length path.old.turns + left ≤ path.old.limit }
     requires meter { meter
-        + looks_beyond tables.now.followers (S.seen tables.now.space state) path.old.turns left
+        + looks_beyond tables.now.step (S.seen tables.now.space state) path.old.turns left
         < 2 ^ 128 }
     requires count { count.old
-        + length (found_below tables.now.followers (S.seen tables.now.space state) path.old.turns left)
+        + length (found_below tables.now.step (S.seen tables.now.space state) path.old.turns left)
         < 2 ^ 128 }
     ensures path { path.new ≡ path.old }
     ensures descends { Descends (at_limit K.took path.old.limit) (at_limit K.refused path.old.limit)
-        (found_below tables.now.followers (S.seen tables.now.space state) path.old.turns left)
-        (looks_beyond tables.now.followers (S.seen tables.now.space state) path.old.turns left)
+        (found_below tables.now.step (S.seen tables.now.space state) path.old.turns left)
+        (looks_beyond tables.now.step (S.seen tables.now.space state) path.old.turns left)
         (descent_state meter count.old sink.old) (descent_state result.0 count.new sink.new) result.1 }
 {
     if left == 0 {
@@ -139,21 +135,19 @@ fn extend_by<K: Sink, S: StateSpace>(
     count: &mut u128,
     sink: &mut K,
 ) -> (Meter, Result<(), K::Fault>)
-    requires ready { AreReady tables.now.followers (S.step tables.now.space) (S.goals tables.now.space)
-        (S.is_filled tables.now.space 20) }
-    requires of_step { IsFollower tables.now.followers follower }
+    requires of_step { IsFollower tables.now.step follower }
     requires follows { IsTrue (may_follow (last_turn path.old.turns) follower.turn) }
     requires room { length path.old.turns + 1 + left ≤ path.old.limit }
     requires meter { meter
-        + looks_after tables.now.followers (S.seen tables.now.space state) path.old.turns left follower.turn
+        + looks_after tables.now.step (S.seen tables.now.space state) path.old.turns left follower.turn
         < 2 ^ 128 }
     requires count { count.old
-        + length (found_after tables.now.followers (S.seen tables.now.space state) path.old.turns left follower.turn)
+        + length (found_after tables.now.step (S.seen tables.now.space state) path.old.turns left follower.turn)
         < 2 ^ 128 }
     ensures path { path.new ≡ path.old }
     ensures descends { Descends (at_limit K.took path.old.limit) (at_limit K.refused path.old.limit)
-        (found_after tables.now.followers (S.seen tables.now.space state) path.old.turns left follower.turn)
-        (looks_after tables.now.followers (S.seen tables.now.space state) path.old.turns left follower.turn)
+        (found_after tables.now.step (S.seen tables.now.space state) path.old.turns left follower.turn)
+        (looks_after tables.now.step (S.seen tables.now.space state) path.old.turns left follower.turn)
         (descent_state meter count.old sink.old) (descent_state result.0 count.new sink.new) result.1 }
 {
     let mut meter = meter;

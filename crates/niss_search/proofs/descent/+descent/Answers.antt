@@ -22,20 +22,20 @@ first = record { turn = record { face = U; power = Quarter }; column = 0 }
 
 pub extend-overflow_add-count : goal.extend-overflow_add-count
 extend-overflow_add-count g t c =
-    let near : distance_at c.args.tables.now.followers (g.S.StateSpace.seen c.args.tables.now.space c.args.state) ≤ c.args.left = omega arith in
-    let one = rw (found_below-end c.args.tables.now.followers (g.S.StateSpace.seen c.args.tables.now.space c.args.state) c.args.path.now.turns c.args.left c.if-left-eq0.true near) at c.requires.count in
+    let near : distance_at c.args.tables.now.step (g.S.StateSpace.seen c.args.tables.now.space c.args.state) ≤ c.args.left = omega arith in
+    let one = rw (found_below-end c.args.tables.now.step (g.S.StateSpace.seen c.args.tables.now.space c.args.state) c.args.path.now.turns c.args.left c.if-left-eq0.true near) at c.requires.count in
     omega (arith, one)
 
 pub extend-returns-then-left-eq0-clause-descends : goal.extend-returns-then-left-eq0-clause-descends
 extend-returns-then-left-eq0-clause-descends g t c =
-    let near : distance_at c.args.tables.now.followers (g.S.StateSpace.seen c.args.tables.now.space c.args.state) ≤ c.args.left = omega arith in
-    let none : looks_beyond c.args.tables.now.followers (g.S.StateSpace.seen c.args.tables.now.space c.args.state) c.args.path.now.turns c.args.left ≡ 0 = omega (arith, looks_below-one c.args.tables.now.followers (g.S.StateSpace.seen c.args.tables.now.space c.args.state) c.args.path.now.turns c.args.left, looks_below-end c.args.tables.now.followers (g.S.StateSpace.seen c.args.tables.now.space c.args.state) c.args.path.now.turns _ c.if-left-eq0.true) in
-    rw (found_below-end c.args.tables.now.followers (g.S.StateSpace.seen c.args.tables.now.space c.args.state) c.args.path.now.turns c.args.left c.if-left-eq0.true near, none)
+    let near : distance_at c.args.tables.now.step (g.S.StateSpace.seen c.args.tables.now.space c.args.state) ≤ c.args.left = omega arith in
+    let none : looks_beyond c.args.tables.now.step (g.S.StateSpace.seen c.args.tables.now.space c.args.state) c.args.path.now.turns c.args.left ≡ 0 = omega (arith, looks_below-one c.args.tables.now.step (g.S.StateSpace.seen c.args.tables.now.space c.args.state) c.args.path.now.turns c.args.left, looks_below-end c.args.tables.now.step (g.S.StateSpace.seen c.args.tables.now.space c.args.state) c.args.path.now.turns _ c.if-left-eq0.true) in
+    rw (found_below-end c.args.tables.now.step (g.S.StateSpace.seen c.args.tables.now.space c.args.state) c.args.path.now.turns c.args.left c.if-left-eq0.true near, none)
     (Descends-take (at_limit g.K.Sink.took c.args.path.now.limit) (at_limit g.K.Sink.refused c.args.path.now.limit) c.take.result c.args.meter c.args.count.now c.args.sink.now c.take.new.self c.args.path.now.turns c.take.ensures.ok c.take.ensures.err)
 
 pub extend-extend_by-after-requires : goal.extend-extend_by-after-requires
 extend-extend_by-after-requires g t c κs within =
-    let step = c.args.tables.now.followers in
+    let step = c.args.tables.now.step in
     let x = g.S.StateSpace.seen c.args.tables.now.space c.args.state in
     let one = looks_below-one step x c.args.path.now.turns c.args.left in
     let inv = c.loop-follower.invariant in
@@ -59,12 +59,12 @@ extend-extend_by-after-requires g t c κs within =
     let found = ap (λ u. length (found_after step x c.args.path.now.turns (c.args.left - 1) u)) turn in
     let looks = looks_below-more step x c.args.path.now.turns c.args.left inv.some_left inv.near items inv.listed.turns i first.turn inside in
     let paths = found_below-more step x c.args.path.now.turns c.args.left inv.some_left inv.near items inv.listed.turns i first.turn inside in
-    (omega arith, (within.0, (within.1.0, (within.1.1.0, (within.1.1.1, (c.requires.ready, (inv.listed.columns i first c.loop-follower-test.true, (subst Follows same (passes-filter may (turns_of step) f.turn listed), (subst Room same (omega arith), (subst Metered same (omega (arith, looks, looked, went.looked)), subst Counted same (omega (arith, paths, found, went.counted))))))))))))
+    (omega arith, (within.0, (within.1.0, (within.1.1.0, (within.1.1.1, (inv.listed.columns i first c.loop-follower-test.true, (subst Follows same (passes-filter may (turns_of step) f.turn listed), (subst Room same (omega arith), (subst Metered same (omega (arith, looks, looked, went.looked)), subst Counted same (omega (arith, paths, found, went.counted)))))))))))
 
 pub extend-returns-in-Err-clause-descends : goal.extend-returns-in-Err-clause-descends
 extend-returns-in-Err-clause-descends g t c =
     let inv = c.loop-follower.invariant in
-    let step = c.args.tables.now.followers in
+    let step = c.args.tables.now.step in
     let x = g.S.StateSpace.seen c.args.tables.now.space c.args.state in
     let p = c.args.path.now.turns in
     let fs = c.turns_after-follower-items.result.now in
@@ -79,7 +79,7 @@ extend-returns-in-Err-clause-descends g t c =
 pub extend-loop-follower-preserved : goal.extend-loop-follower-preserved
 extend-loop-follower-preserved g t c =
     let inv = c.loop-follower.invariant in
-    let step = c.args.tables.now.followers in
+    let step = c.args.tables.now.step in
     let x = g.S.StateSpace.seen c.args.tables.now.space c.args.state in
     let p = c.args.path.now.turns in
     let fs = c.turns_after-follower-items.result.now in
@@ -99,7 +99,7 @@ extend-loop-follower-preserved g t c =
 pub extend-returns-clause-descends : goal.extend-returns-clause-descends
 extend-returns-clause-descends g t c =
     let inv = c.loop-follower.invariant in
-    let step = c.args.tables.now.followers in
+    let step = c.args.tables.now.step in
     let x = g.S.StateSpace.seen c.args.tables.now.space c.args.state in
     let p = c.args.path.now.turns in
     let fs = c.turns_after-follower-items.result.now in
@@ -108,14 +108,14 @@ extend-returns-clause-descends g t c =
     let past : length items ≤ i = omega (arith, length-map fs (λ (f : Follower). f.turn), c.loop-follower-test.false) in
     rw (found_below-all step x p c.args.left inv.some_left inv.near items inv.listed.turns i past, looks_beyond-all step x p c.args.left inv.some_left inv.near items inv.listed.turns i past) inv.went
 
-pub extend_by-look-requires-clause-meter : goal.extend_by-look-requires-clause-meter
-extend_by-look-requires-clause-meter g t c =
-    let all = looks_after-may c.args.tables.now.followers (g.S.StateSpace.seen c.args.tables.now.space c.args.state) c.args.path.now.turns c.args.left c.args.follower.turn c.requires.follows in
-    omega (arith, looks_below-some c.args.tables.now.followers (position_after (g.S.StateSpace.seen c.args.tables.now.space c.args.state) c.args.follower.turn) (c.args.path.now.turns ++ c.args.follower.turn ∷ []) c.args.left)
+pub extend_by-look-requires : goal.extend_by-look-requires
+extend_by-look-requires g t c =
+    let all = looks_after-may c.args.tables.now.step (g.S.StateSpace.seen c.args.tables.now.space c.args.state) c.args.path.now.turns c.args.left c.args.follower.turn c.requires.follows in
+    omega (arith, looks_below-some c.args.tables.now.step (position_after (g.S.StateSpace.seen c.args.tables.now.space c.args.state) c.args.follower.turn) (c.args.path.now.turns ++ c.args.follower.turn ∷ []) c.args.left)
 
 pub extend_by-returns-then-look-left-clause-descends : goal.extend_by-returns-then-look-left-clause-descends
 extend_by-returns-then-look-left-clause-descends g t c =
-    let step = c.args.tables.now.followers in
+    let step = c.args.tables.now.step in
     let p = c.args.path.now.turns ++ c.args.follower.turn ∷ [] in
     let far : c.args.left < distance_at step (g.S.StateSpace.seen c.args.tables.now.space c.after-next.result) = omega arith in
     rw (found_after-may step (g.S.StateSpace.seen c.args.tables.now.space c.args.state) c.args.path.now.turns c.args.left c.args.follower.turn c.requires.follows, looks_after-may step (g.S.StateSpace.seen c.args.tables.now.space c.args.state) c.args.path.now.turns c.args.left c.args.follower.turn c.requires.follows, ← c.after-next.ensures, found_below-far step (g.S.StateSpace.seen c.args.tables.now.space c.after-next.result) p c.args.left far, looks_below-far step (g.S.StateSpace.seen c.args.tables.now.space c.after-next.result) p c.args.left far)
@@ -123,18 +123,18 @@ extend_by-returns-then-look-left-clause-descends g t c =
 
 pub extend_by-extend-below-requires : goal.extend_by-extend-below-requires
 extend_by-extend-below-requires g t c κs within =
-    let step = c.args.tables.now.followers in
+    let step = c.args.tables.now.step in
     let p = c.args.path.now.turns ++ c.args.follower.turn ∷ [] in
     let next = position_after (g.S.StateSpace.seen c.args.tables.now.space c.args.state) c.args.follower.turn in
     let looks = looks_after-may step (g.S.StateSpace.seen c.args.tables.now.space c.args.state) c.args.path.now.turns c.args.left c.args.follower.turn c.requires.follows in
     let paths = found_after-may step (g.S.StateSpace.seen c.args.tables.now.space c.args.state) c.args.path.now.turns c.args.left c.args.follower.turn c.requires.follows in
     let one = looks_below-one step next p c.args.left in
     let room : length p + c.args.left ≤ c.args.path.now.limit = omega (arith, length-append {A = Turn}) in
-    (omega arith, (within.0, (within.1.0, (within.1.1.0, (within.1.1.1, (c.requires.ready, (omega arith, (rw c.push.ensures room, (rw (c.push.ensures, c.after-next.ensures) (omega arith), rw (c.push.ensures, c.after-next.ensures, ← paths) c.requires.count)))))))))
+    (omega arith, (within.0, (within.1.0, (within.1.1.0, (within.1.1.1, (omega arith, (rw c.push.ensures room, (rw (c.push.ensures, c.after-next.ensures) (omega arith), rw (c.push.ensures, c.after-next.ensures, ← paths) c.requires.count))))))))
 
 pub extend_by-returns-clause-descends : goal.extend_by-returns-clause-descends
 extend_by-returns-clause-descends g t c =
-    let step = c.args.tables.now.followers in
+    let step = c.args.tables.now.step in
     let p = c.args.path.now.turns ++ c.args.follower.turn ∷ [] in
     let took = at_limit g.K.Sink.took c.args.path.now.limit in
     let refused = at_limit g.K.Sink.refused c.args.path.now.limit in

@@ -5,13 +5,13 @@ use Rattle.niss_search.specs.Positions.{distance_at}
 use Rattle.niss_search.proofs.DescentLemmas.{found_below-far, looks_below-far, looks_below-one, looks_below-some, GoesThrough-look, Descends-look}
 use Rattle.niss_search.proofs.descent.visit_in.Goals as goal
 
-pub look-requires-clause-meter : goal.look-requires-clause-meter
-look-requires-clause-meter g c =
-    omega (arith, looks_below-some c.args.tables.now.followers c.args.position.now c.args.path.now.turns c.args.left)
+pub look-requires : goal.look-requires
+look-requires g c =
+    omega (arith, looks_below-some c.args.tables.now.step c.args.position.now c.args.path.now.turns c.args.left)
 
 pub returns-then-look-left-clause-descends : goal.returns-then-look-left-clause-descends
 returns-then-look-left-clause-descends g c =
-    let step = c.args.tables.now.followers in
+    let step = c.args.tables.now.step in
     let p = c.args.path.now.turns in
     let seen = rw c.state-state.ensures at c.look.ensures.value in
     let far : c.args.left < distance_at step c.args.position.now = omega arith in
@@ -20,11 +20,11 @@ returns-then-look-left-clause-descends g c =
 
 pub extend-requires-clause-meter : goal.extend-requires-clause-meter
 extend-requires-clause-meter g c =
-    rw c.state-state.ensures (omega (arith, looks_below-one c.args.tables.now.followers c.args.position.now c.args.path.now.turns c.args.left))
+    rw c.state-state.ensures (omega (arith, looks_below-one c.args.tables.now.step c.args.position.now c.args.path.now.turns c.args.left))
 
 pub returns-clause-descends : goal.returns-clause-descends
 returns-clause-descends g c =
-    let step = c.args.tables.now.followers in
+    let step = c.args.tables.now.step in
     let p = c.args.path.now.turns in
     let took = at_limit g.K.Sink.took c.args.path.now.limit in
     let refused = at_limit g.K.Sink.refused c.args.path.now.limit in
