@@ -1,10 +1,15 @@
--- The tables of a step, by their kind. (For the functions of the tables.)
+-- What a contract sees of the tables of a search. (For the functions of the tables.)
 use Rattle.std.specs.Prelude.{◌≡◌, List}
 use Rattle.niss_cube.specs.Steps.{goals_of}
 use Rattle.niss_cube.specs.declared.step.Goal.{Goal}
 use Rattle.niss_cube.specs.declared.step.Step.{Step}
 
--- The space of a step's tables is of the step, by its goals, and its pruning tables are filled.
+-- A step, and the space of its states.
+pub record StepSpace (S : Type 0) : Type 0 where
+  pub step : Step
+  pub space : S
+
+-- The space is of the step, by its goals, and its pruning tables are filled.
 pub record AreReady (step of_step : Step) (goals : List Goal) (filled : Type 0) : Type 0 where
   pub same_step : of_step ≡ step
   pub same_goals : goals ≡ goals_of step

@@ -8,7 +8,7 @@ ghost use Rattle.niss_search.specs.Solutions.{look_bound, from_to};
 ghost use Rattle.niss_search.specs.Delivery.{WentThrough, StoppedIn, at_limit};
 ghost use Rattle.niss_search.specs.Deepening.{least_length_at, solutions_at, all_looks_at, reaching_at, looks_at, Delivers};
 
-use crate::descent::visit;
+use crate::descent::Descent;
 use crate::laws::positions_tell;
 use crate::limit::Limit;
 use crate::outcome::Outcome;
@@ -180,18 +180,11 @@ impl<A: Allocator> Root<'_, A> {
             (looks_at self.now.tables.now self.now.position.now (length ∷ []))
             meter.old meter.new sink.old sink.new (λ count. count) result }
     {
-        let mut solutions = 0;
         // by value, as the descent takes it: what stands in its place meanwhile never ticks
         let held = mem::replace(meter, Meter::new());
-        let (after, visited) = visit(
-            self.tables,
-            self.position,
-            length,
-            path,
-            held,
-            &mut solutions,
-            sink,
-        );
+        let mut descent = Descent::new(path, sink);
+        let (after, visited) = descent.visit(self.tables, self.position, length, held);
+        let solutions = descent.count();
         *meter = after;
         visited?;
         Ok(solutions)

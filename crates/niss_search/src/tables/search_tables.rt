@@ -5,7 +5,6 @@ ghost use Rattle.niss_cube.specs.Steps.{goals_of, turns_of};
 ghost use Rattle.niss_search.specs.Cubes.{IsPosition};
 ghost use Rattle.niss_search.specs.Entries.{fill_ticks};
 ghost use Rattle.niss_search.specs.Followers.{IsFollower, AreFollowers};
-ghost use Rattle.niss_search.specs.Kinds.{AreReady};
 ghost use Rattle.niss_search.specs.Positions.{position_after, distance_at};
 
 use super::followers::{Follower, Followers};
@@ -14,12 +13,23 @@ use super::position::Position;
 use super::state_space::StateSpace;
 use arrayvec::ArrayVec;
 use niss_cube::{Step, Turn};
+use std::marker::Model;
 
 /// The turns of a step that may follow each other, and the space of its states with its pruning tables filled.
 #[derive(Drop)]
-pub struct SearchTables<S> {
+pub struct SearchTables<S: StateSpace> {
     followers: Followers,
     space: S,
+}
+
+impl<S: StateSpace> Model for SearchTables<S> {
+    ghost use Rattle.niss_search.specs.Kinds.{StepSpace, AreReady};
+
+    ghost Value = { StepSpace S };
+
+    ghost view = { λ t. record { step = t.followers; space = t.space } };
+
+    ghost invariant = { λ t. AreReady t.followers (S.step t.space) (S.goals t.space) (S.is_filled t.space 20) };
 }
 
 impl<S: StateSpace> SearchTables<S> {
@@ -29,8 +39,7 @@ impl<S: StateSpace> SearchTables<S> {
         requires of_goals { S.goals space ≡ goals_of step }
         requires filled { S.is_filled space 0 }
         requires meter { meter.old + length (goals_of step) * 2 ^ 32 < 2 ^ 128 }
-        ensures step { result.followers ≡ step }
-        ensures ready { AreReady step (S.step result.space) (S.goals result.space) (S.is_filled result.space 20) }
+        ensures step { result.step ≡ step }
         ensures ticks { meter.new ≡ meter.old + fill_ticks step }
     {
         let mut space = space;
@@ -43,15 +52,14 @@ impl<S: StateSpace> SearchTables<S> {
 
     /// The step's turns that may stand directly after the last one, in turn order.
     pub fn turns_after(&self, last: Option<Turn>) -> &[Follower]
-        ensures { AreFollowers self.now.followers (may_follow last) result.now }
+        ensures { AreFollowers self.now.step (may_follow last) result.now }
     {
         self.followers.after(last)
     }
 
     /// The state of a position of the step.
     pub fn state(&self, position: &Position) -> S::State
-        requires ready { AreReady self.now.followers (S.step self.now.space) (S.goals self.now.space) (S.is_filled self.now.space 20) }
-        requires position { IsPosition self.now.followers position.now }
+        requires position { IsPosition self.now.step position.now }
         ensures { S.seen self.now.space result ≡ position.now }
     {
         self.space.state(position.coordinates())
@@ -74,8 +82,7 @@ impl<S: StateSpace> SearchTables<S> {
     /// The state after a turn of the step.
     #[inline(always)]
     pub fn after(&self, state: S::State, follower: Follower) -> S::State
-        requires ready { AreReady self.now.followers (S.step self.now.space) (S.goals self.now.space) (S.is_filled self.now.space 20) }
-        requires of_step { IsFollower self.now.followers follower }
+        requires of_step { IsFollower self.now.step follower }
         ensures { S.seen self.now.space result ≡ position_after (S.seen self.now.space state) follower.turn }
     {
         self.space.after(state, follower.column as usize)
@@ -84,10 +91,9 @@ impl<S: StateSpace> SearchTables<S> {
     /// The distance of a state: the only way to judge it, at the price of a tick.
     #[inline(always)]
     pub fn look(&self, state: S::State, meter: &mut Meter) -> u8
-        requires ready { AreReady self.now.followers (S.step self.now.space) (S.goals self.now.space) (S.is_filled self.now.space 20) }
         requires meter { meter.old + 1 < 2 ^ 128 }
         ensures tick { meter.new ≡ meter.old + 1 }
-        ensures value { result ≡ distance_at self.now.followers (S.seen self.now.space state) }
+        ensures value { result ≡ distance_at self.now.step (S.seen self.now.space state) }
     {
         meter.tick();
         self.space.distance(state)
