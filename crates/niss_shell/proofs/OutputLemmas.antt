@@ -14,10 +14,10 @@ use Rattle.niss_shell.proofs.StateLemmas.{writes_nothing, writes_more, writes_as
 -- what a text does to an output, as a sink says it
 
 pub line_taken : {W : Type 0} (state : W → TargetState) (r : Result (Unit {0}) DeviceFault) (text line : List ℕ) (old new : Output W) (N : Type 0)
-    → text ≡ line → N → Delivers state r text old new → OnOk r (N × TakesLine state line old new)
-line_taken state (Ok u) text line old new N e n d =
-    (n, λ works looks. subst (λ t. Writes t 0 0 (output_state state old looks) (output_state state new looks)) e (d works looks))
-line_taken state (Err x) text line old new N e n d = tt
+    → text ≡ line → N → new.pending.items ≡ [] → Delivers state r text old new → OnOk r (N × TakesLine state line old new)
+line_taken state (Ok u) text line old new N e n none d =
+    (n, (none, λ works looks. subst (λ t. Writes t 0 0 (output_state state old looks) (output_state state new looks)) e (d works looks)))
+line_taken state (Err x) text line old new N e n none d = tt
 
 pub line_refused : {W : Type 0} (state : W → TargetState) (r : Result (Unit {0}) DeviceFault) (text line : List ℕ) (old new : Output W) (N : Type 0)
     → text ≡ line → N → new.pending.items ≡ [] → Delivers state r text old new → OnErr r (N × RefusesLine state line old new)
@@ -72,7 +72,7 @@ module _ {W : Type 0} (state : W → TargetState) where
     walk_writes [] a b looks works h =
         subst (λ k. Writes [] 0 0 (output_state state a looks) (output_state state k looks)) h (writes_nothing (output_state state a looks) works)
     walk_writes (p ∷ ps) a b looks works h =
-        let one = wrote a p h.0 h.1.0 works looks in
+        let one = (wrote a p h.0 h.1.0).1 works looks in
         writes_more (line p) (flat_map line ps) 0 0 0 0 (output_state state a looks) (output_state state h.0 looks) (output_state state b looks)
         one (walk_writes ps h.0 b looks one.works h.1.1)
 
@@ -83,7 +83,7 @@ module _ {W : Type 0} (state : W → TargetState) where
         refuses_front (line p) (flat_map line ps) 0 0 0 0 (output_state state a looks) (output_state state b looks) (omega arith) (omega arith)
         ((cut a p b h).1 works looks)
     stop_writes (p ∷ ps) a b looks works (inr h) =
-        let one = wrote a p h.0 h.1.0 works looks in
+        let one = (wrote a p h.0 h.1.0).1 works looks in
         refuses_more (line p) (flat_map line ps) 0 0 0 0 (output_state state a looks) (output_state state h.0 looks) (output_state state b looks)
         one (stop_writes ps h.0 b looks one.works h.1.1)
 

@@ -61,11 +61,12 @@ Delivers state result text old new =
     has_fault (state old.target.now) ≡ false → (looks : ℕ) →
     WritesOrRefuses result text 0 0 (output_state state old looks) (output_state state new looks)
 
--- An output that worked took a text whole; or it refused a write of what waited and of the text, and nothing waits.
+-- An output took a text, and nothing waits. One that worked took it whole, or refused a write of what waited and of the
+-- text.
 abbrev pub TakesLine : {W : Type 0} → (W → TargetState) → List ℕ → Output W → Output W → Type 0
 TakesLine state text old new =
-    has_fault (state old.target.now) ≡ false → (looks : ℕ) →
-    Writes text 0 0 (output_state state old looks) (output_state state new looks)
+    (new.pending.items ≡ []) × (has_fault (state old.target.now) ≡ false → (looks : ℕ) →
+    Writes text 0 0 (output_state state old looks) (output_state state new looks))
 
 abbrev pub RefusesLine : {W : Type 0} → (W → TargetState) → List ℕ → Output W → Output W → Type 0
 RefusesLine state text old new =
