@@ -4,14 +4,14 @@ ghost use Rattle.niss_shell.specs.Device.{has_fault};
 ghost use Rattle.niss_moves.specs.Reader.{IsFed};
 ghost use Rattle.niss_shell.specs.Words.{limit};
 
-use crate::answer::rewritten;
+use crate::answer::rewrite;
 use crate::command::Report;
 use crate::device::{Source, Target};
 use crate::job::Work;
 use crate::line_cube::start_position;
 use crate::output::Output;
 use crate::stop::{LineFault, Stop};
-use niss_moves::LineReader;
+use niss_moves::{LineReader, LineText};
 use niss_search::Meter;
 use niss_search::laws::counts_and_bounds;
 use std::alloc::Allocator;
@@ -29,6 +29,8 @@ pub struct Lines<'a, A: Allocator> {
     looks: &'a mut Meter,
     reader: LineReader,
     line: u32,
+    // the last answer: one text serves all lines, since a new one would be zeroed for each
+    text: LineText,
 }
 
 impl<'a, A: Allocator> Lines<'a, A> {
@@ -53,6 +55,7 @@ impl<'a, A: Allocator> Lines<'a, A> {
             looks,
             reader: LineReader::new(),
             line: 1,
+            text: LineText::new(),
         }
     }
 
@@ -93,7 +96,8 @@ impl<'a, A: Allocator> Lines<'a, A> {
     {
         match self.work {
             Work::Rewrite(rewriting) => {
-                Ok(output.put(&rewritten(*rewriting, self.reader.moves()))?)
+                rewrite(*rewriting, self.reader.moves(), &mut self.text);
+                Ok(output.put(&self.text)?)
             }
             Work::Search(search) => {
                 counts_and_bounds();
