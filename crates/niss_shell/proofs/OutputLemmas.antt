@@ -1,4 +1,4 @@
--- What an output takes: a text, the lines of a search, and what stands behind them.
+-- What an output takes: a text, the lines of a search, and what stands after them.
 use Rattle.std.proofs.Common.{◌≡◌, ℕ, ◌+◌, ◌≤◌, false, Option, Result, Ok, Err, List, [], ◌∷◌, ◌++◌, inl, inr, length, sym, ap, ◌∙◌, subst, append_assoc, arith}
 use Rattle.std.specs.Prelude.{OnOk, OnErr, flat_map}
 use Rattle.niss_moves.specs.declared.turn.Turn.{Turn}
@@ -25,7 +25,7 @@ line_refused state (Ok u) text line old new N e n none d = tt
 line_refused state (Err x) text line old new N e n none d =
     (n, (none, λ works looks. subst (λ t. Refuses t 0 0 (output_state state old looks) (output_state state new looks)) e (d works looks)))
 
--- what is told of a search, by what it found
+-- what is written of a search, by what it found
 pub same_count : (least found : Option ℕ) (count solutions nodes looks : ℕ) → least ≡ found → count ≡ solutions → nodes ≡ looks
     → count_text least count nodes ≡ count_text found solutions looks
 same_count least found count solutions nodes looks e f h =
@@ -63,7 +63,7 @@ module _ {W : Type 0} (state : W → TargetState) where
       subst (λ t. Refuses t looks most_looks (output_state state old before) (output_state state new after)) e
       (looked_refuses piece looks most_looks before after after old new (omega (arith, exact)) (omega (arith, exact)) bound (d works after))
 
-  -- the lines of the paths are taken one behind the other
+  -- the lines of the paths are taken one after the other
   module _ (line : List Turn → List ℕ) (took refused : Output W → List Turn → Output W → Type 0)
       (wrote : (a : Output W) (p : List Turn) (b : Output W) → took a p b → TakesLine state (line p) a b)
       (cut : (a : Output W) (p : List Turn) (b : Output W) → refused a p b → RefusesLine state (line p) a b) where
@@ -113,7 +113,7 @@ module _ {W : Type 0} (state : W → TargetState) where
     nothing_waits (p ∷ ps) a b (inl h) = (cut a p b h).0
     nothing_waits (p ∷ ps) a b (inr h) = nothing_waits ps h.0 b h.1.1
 
-  -- the solutions, and what stands behind them
+  -- the solutions, and what stands after them
   pub solved : (r : Result (Unit {0}) DeviceFault) (n count : ℕ) (solutions : List (List Turn)) (piece : List ℕ) (looks most_looks before after : ℕ) (a b c : Output W)
       → count ≡ length solutions → piece ≡ none_line n count ++ line_feed ∷ []
       → Writes (flat_map solution_line solutions) looks most_looks (output_state state a before) (output_state state b after)

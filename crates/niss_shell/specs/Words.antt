@@ -158,7 +158,7 @@ takes_lines (DrawScrambles state stream turns count) = false
 abbrev pub spaced_word : List ℕ → List ℕ
 spaced_word word = space ∷ word
 
--- the words with single spaces, and a line feed behind them
+-- the words with single spaces, and a line feed after them
 abbrev pub joined : List (List ℕ) → List ℕ
 joined [] = line_feed ∷ []
 joined (word ∷ words) = word ++ flat_map spaced_word words ++ line_feed ∷ []

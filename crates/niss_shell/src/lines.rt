@@ -36,7 +36,8 @@ pub struct Lines<'a, A: Allocator> {
 impl<'a, A: Allocator> Lines<'a, A> {
     ghost use Rattle.niss_shell.specs.declared.stop.Stop.TheVariants.{Done};
     ghost use Rattle.niss_moves.specs.Reader.{moves_of};
-    ghost use Rattle.niss_shell.specs.Engine.{AnswersLine, AnswersMoves, AnswersSource, Answers, HasRoom, piece_of, only_stop, stop_unless};
+    ghost use Rattle.niss_shell.specs.Engine.{AnswersLine, AnswersMoves, AnswersSource, Answers, HasRoom};
+    ghost use Rattle.niss_shell.specs.Engine.{piece_of, only_stop, stop_unless};
     ghost use Rattle.niss_shell.specs.Output.{answer_lines, End};
     ghost use Rattle.niss_shell.specs.Job.{command_of};
     ghost use Rattle.niss_shell.specs.Taking.{Keeps, AnswersOpenLine, Takes, Ends, answers_of, lines_state};
@@ -64,7 +65,8 @@ impl<'a, A: Allocator> Lines<'a, A> {
         requires works { has_fault (W.state output.old.target.now) ≡ false }
         ensures keeps { Keeps self.old self.new }
         ensures same_target { output.new.target.ghost_name ≡ output.old.target.ghost_name }
-        ensures refused { (looks most_looks : ℕ) → AnswersLine (Err fault) looks most_looks self.old.line result
+        ensures refused { (looks most_looks : ℕ) →
+            AnswersLine (Err fault) looks most_looks self.old.line result
             (lines_state W.state output.old self.old) (lines_state W.state output.new self.new) }
         ensures stops { OnOk result ⊥ }
         ensures empty { OnErr result (output.new.pending.items ≡ []) }
@@ -86,7 +88,8 @@ impl<'a, A: Allocator> Lines<'a, A> {
         requires meter { self.old.looks.now ≤ 2 ^ 127 }
         ensures keeps { Keeps self.old self.new }
         ensures same_target { output.new.target.ghost_name ≡ output.old.target.ghost_name }
-        ensures answers { AnswersMoves (command_of self.old.work.now) (moves_of self.old.reader) self.old.line result
+        ensures answers { AnswersMoves (command_of self.old.work.now) (moves_of self.old.reader)
+            self.old.line result
             (lines_state W.state output.old self.old) (lines_state W.state output.new self.new) }
         ensures works { OnOk result (has_fault (W.state output.new.target.now) ≡ false) }
         ensures empty { OnErr result (output.new.pending.items ≡ []) }
@@ -101,7 +104,7 @@ impl<'a, A: Allocator> Lines<'a, A> {
             }
             Work::Search(search) => {
                 counts_and_bounds();
-                // the call tells the proof that the limit is at most 20, which bounds the looks
+                // this call shows that the limit is at most 20, which bounds the looks
                 let _at_most_20 = search.limit.get();
                 let Some(position) = start_position(&search.tables, self.reader.moves()) else {
                     return self.refuse(LineFault::NoStart(search.tables.step()), output);
@@ -228,7 +231,8 @@ impl<'a, A: Allocator> Lines<'a, A> {
         requires meter { self.old.looks.now ≤ 2 ^ 64 }
         ensures keeps { Keeps self.old self.new }
         ensures same_target { output.new.target.ghost_name ≡ output.old.target.ghost_name }
-        ensures answers { AnswersSource (answers_of self.old) (stop_unless result Done) (S.state source.old) (S.state source.new)
+        ensures answers { AnswersSource (answers_of self.old) (stop_unless result Done)
+            (S.state source.old) (S.state source.new)
             (lines_state W.state output.old self.old) (lines_state W.state output.new self.new) }
         ensures empty { output.new.pending.items ≡ [] }
     {

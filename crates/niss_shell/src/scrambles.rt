@@ -34,7 +34,8 @@ pub fn write_scrambles<W: Target>(
     requires works { has_fault (W.state output.old.target.now) ≡ false }
     requires turns { turns ≤ 256 }
     ensures same_target { output.new.target.ghost_name ≡ output.old.target.ghost_name }
-    ensures answers { (looks : ℕ) → Answers (unsearched (scramble_text turns count rng) Done) (stop_unless result Done)
+    ensures answers { (looks : ℕ) →
+        Answers (unsearched (scramble_text turns count rng) Done) (stop_unless result Done)
         (output_state W.state output.old looks) (output_state W.state output.new looks) }
     ensures empty { output.new.pending.items ≡ [] }
 {

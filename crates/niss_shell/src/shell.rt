@@ -25,7 +25,8 @@ use std::alloc::{Allocator, Global};
 fn write_steps<W: Target>(output: &mut Output<W>) -> Result<(), Stop>
     requires works { has_fault (W.state output.old.target.now) ≡ false }
     ensures same_target { output.new.target.ghost_name ≡ output.old.target.ghost_name }
-    ensures answers { (looks : ℕ) → Answers (unsearched (flat_map step_line steps) Done) (stop_unless result Done)
+    ensures answers { (looks : ℕ) →
+        Answers (unsearched (flat_map step_line steps) Done) (stop_unless result Done)
         (output_state W.state output.old looks) (output_state W.state output.new looks) }
     ensures empty { output.new.pending.items ≡ [] }
 {
@@ -120,7 +121,7 @@ pub fn run_in<A: Allocator + Copy, R: Source, W: Target, E: Target>(
 /// The words are those after the program's name. The input, where no words give it, comes from `input`. The answers go
 /// to `out` and what went wrong to `err`. `looks` counts the looks at positions of the searches for the lines; it stands
 /// at 2^64 or below. Memory is taken only to join words that give the input, and for the tables of a step, and before
-/// anything is read or written; `nissy: out of memory` is told only where the command takes memory.
+/// anything is read or written; `nissy: out of memory` comes only where the command takes memory.
 pub fn run<R: Source, W: Target, E: Target>(
     alloc: Global,
     words: &[String],

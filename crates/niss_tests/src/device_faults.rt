@@ -71,7 +71,7 @@ fn each_write_fails(rt: HostRuntime) -> Result<(), Fail> {
     Ok(())
 }
 
-/// Each solution goes out by itself as it is found, and what stands after the last one, where the device takes all.
+/// Each solution goes out by itself as it is found, and so does what stands after the last one.
 #[test]
 fn each_solution_is_a_write(rt: HostRuntime) -> Result<(), Fail> {
     for (words, output) in RUNS {

@@ -151,6 +151,7 @@ fn check_flushed(
     for _ in 0..256 {
         line.extend_from_slice(b"Rw'")?;
     }
+    line.push(b'\n')?;
     let words = words_of(alloc, &["unniss"])?;
     let mut input = Bytes::new(line.as_slice(), 4096);
     let mut err = Held::new(alloc, 1000);
