@@ -1,9 +1,6 @@
 //! The greatest length of a sequence.
 use std::marker::Model;
 
-/// The most turns that a limit allows, and the furthest distance that a table tells.
-pub(crate) const MOST_TURNS: u8 = 20;
-
 /// A greatest number of turns, from 0 to 20.
 #[derive(Clone, Copy, Debug, PartialEq, Eq)]
 pub struct Limit {
@@ -25,6 +22,9 @@ impl Model for Limit {
 impl Limit {
     ghost use Rattle.std.specs.Prelude.{◌≡◌, ◌≤◌, ◌↔◌, IsSome, IfSome};
 
+    /// The most turns that a limit allows. A pruning table tells a distance of at most so many.
+    pub const MOST: u8 = 20;
+
     /// The limit of no turn.
     pub const ZERO: Limit = Limit { turns: 0 };
 
@@ -33,7 +33,7 @@ impl Limit {
         ensures variant { IsSome result ↔ (turns ≤ 20) }
         ensures value { IfSome result (λ l. l ≡ turns) }
     {
-        if turns <= MOST_TURNS {
+        if turns <= Limit::MOST {
             Some(Limit { turns })
         } else {
             None

@@ -4,11 +4,14 @@ use arrayvec::ArrayVec;
 use niss_moves::Turn;
 use std::marker::Model;
 
+/// The most turns of a path.
+const CAPACITY: usize = Limit::MOST as usize;
+
 /// A list of turns that is never longer than its limit.
 #[derive(Drop)]
 pub struct TurnPath {
     limit: Limit,
-    turns: ArrayVec<Turn, 20>,
+    turns: ArrayVec<Turn, CAPACITY>,
 }
 
 impl Model for TurnPath {

@@ -149,7 +149,7 @@ refused_behind f n xs ys a b c p q =
     (sym (written_text-append f.answer_of n xs ys p.faultless)) (sym (looks_for-append f n xs ys p.faultless)) (sym (most_looks_for-append f n xs ys p.faultless))
     (refuses_more (written_text f.answer_of xs) (written_text f.answer_of ys) (looks_for f xs) (most_looks_for f xs) (looks_for f ys) (most_looks_for f ys) a b c p.writes q)
 
--- the first fault of the lines behind is the first of all
+-- the first fault of the lines after it is the first of all
 later_fault : (f : LineAnswers) (n m : ℕ) (xs ys : List (List ℕ)) → m ≡ n + length xs → first_fault f.answer_of n xs ≡ None
     → first_fault f.answer_of n (xs ++ ys) ≡ first_fault f.answer_of m ys
 later_fault f n m xs ys e none = first_fault-append f.answer_of n xs ys none ∙ ap (λ k. first_fault f.answer_of k ys) (sym e)
@@ -174,14 +174,14 @@ stopped_more f n m xs ys InputTooLong a b c e p q = absurd q
 stopped_more f n m xs ys CannotRead a b c e p q = absurd q
 stopped_more f n m xs ys OutOfMemory a b c e p q = absurd q
 
--- lines behind a fault change nothing
+-- lines after a fault change nothing
 pub writes_stays : (f : LineAnswers) (n : ℕ) (xs ys : List (List ℕ)) (e : ℕ × LineFault) (a c : AnswerState)
     → first_fault f.answer_of n xs ≡ Some e → WritesAnswers f xs a c → WritesAnswers f (xs ++ ys) a c
 writes_stays f n xs ys e a c some p =
     writes_as (written_text f.answer_of xs) (written_text f.answer_of (xs ++ ys)) (looks_for f xs) (most_looks_for f xs) (looks_for f (xs ++ ys)) (most_looks_for f (xs ++ ys)) a c
     (sym (written_text-stays f.answer_of n xs ys e some)) (sym (looks_for-stays f n xs ys e some)) (sym (most_looks_for-stays f n xs ys e some)) p
 
--- nor do they behind a refused write
+-- nor do they after a refused write
 pub refuses_stays : (f : LineAnswers) (xs ys : List (List ℕ)) (a c : AnswerState)
     → Refuses (written_text f.answer_of xs) (looks_for f xs) (most_looks_for f xs) a c
     → Refuses (written_text f.answer_of (xs ++ ys)) (looks_for f (xs ++ ys)) (most_looks_for f (xs ++ ys)) a c
@@ -191,7 +191,7 @@ refuses_stays f xs ys a c q =
     (refuses_front (written_text f.answer_of xs) p.0 (looks_for f xs) (most_looks_for f xs) (looks_for f (xs ++ ys)) (most_looks_for f (xs ++ ys)) a c
     (looks_for-front f xs ys) (most_looks_for-front f xs ys) q)
 
--- lines behind the one that stopped the run change nothing
+-- lines after the one that stopped the run change nothing
 pub stopped_front : (f : LineAnswers) (n : ℕ) (xs ys : List (List ℕ)) (stop : Stop) (a c : AnswerState)
     → StopsWithin f n xs stop a c → StopsWithin f n (xs ++ ys) stop a c
 stopped_front f n xs ys CannotWrite a c q = refuses_stays f xs ys a c q
@@ -242,7 +242,7 @@ takes_more f front xs ys n q r u (Err stop) a b c x y =
     subst (λ ls. StopsWithin f n ls stop a c) (sym (ended_lines-append front xs ys))
     (stopped_more f n q.line (ended_lines front xs) (ended_lines (last_part front xs) ys) stop a b c x.1.line x.0 y)
 
--- a run that was stopped within these bytes stays so, whatever comes behind them
+-- a run that was stopped within these bytes stays so, whatever comes after them
 pub takes_front : (f : LineAnswers) (front xs ys : List ℕ) (n : ℕ) (q : Progress) (stop : Stop) (a c : AnswerState)
     → TakesBytes f front xs n q (Err stop) a c → TakesBytes f front (xs ++ ys) n q (Err stop) a c
 takes_front f front xs ys n q stop a c x =

@@ -1,4 +1,4 @@
--- What an output takes: a text, the lines of a search, and what stands behind them.
+-- What an output takes: a text, the lines of a search, and what stands after them.
 use Rattle.std.proofs.Common.{◌≡◌, ℕ, ◌+◌, ◌≤◌, false, Option, Result, Ok, Err, List, [], ◌∷◌, ◌++◌, inl, inr, length, sym, ap, ◌∙◌, subst, append_assoc, arith}
 use Rattle.std.specs.Prelude.{OnOk, OnErr, flat_map}
 use Rattle.niss_moves.specs.declared.turn.Turn.{Turn}
@@ -14,10 +14,10 @@ use Rattle.niss_shell.proofs.StateLemmas.{writes_nothing, writes_more, writes_as
 -- what a text does to an output, as a sink says it
 
 pub line_taken : {W : Type 0} (state : W → TargetState) (r : Result (Unit {0}) DeviceFault) (text line : List ℕ) (old new : Output W) (N : Type 0)
-    → text ≡ line → N → Delivers state r text old new → OnOk r (N × TakesLine state line old new)
-line_taken state (Ok u) text line old new N e n d =
-    (n, λ works looks. subst (λ t. Writes t 0 0 (output_state state old looks) (output_state state new looks)) e (d works looks))
-line_taken state (Err x) text line old new N e n d = tt
+    → text ≡ line → N → new.pending.items ≡ [] → Delivers state r text old new → OnOk r (N × TakesLine state line old new)
+line_taken state (Ok u) text line old new N e n none d =
+    (n, (none, λ works looks. subst (λ t. Writes t 0 0 (output_state state old looks) (output_state state new looks)) e (d works looks)))
+line_taken state (Err x) text line old new N e n none d = tt
 
 pub line_refused : {W : Type 0} (state : W → TargetState) (r : Result (Unit {0}) DeviceFault) (text line : List ℕ) (old new : Output W) (N : Type 0)
     → text ≡ line → N → new.pending.items ≡ [] → Delivers state r text old new → OnErr r (N × RefusesLine state line old new)
@@ -25,7 +25,7 @@ line_refused state (Ok u) text line old new N e n none d = tt
 line_refused state (Err x) text line old new N e n none d =
     (n, (none, λ works looks. subst (λ t. Refuses t 0 0 (output_state state old looks) (output_state state new looks)) e (d works looks)))
 
--- what is told of a search, by what it found
+-- what is written of a search, by what it found
 pub same_count : (least found : Option ℕ) (count solutions nodes looks : ℕ) → least ≡ found → count ≡ solutions → nodes ≡ looks
     → count_text least count nodes ≡ count_text found solutions looks
 same_count least found count solutions nodes looks e f h =
@@ -63,7 +63,7 @@ module _ {W : Type 0} (state : W → TargetState) where
       subst (λ t. Refuses t looks most_looks (output_state state old before) (output_state state new after)) e
       (looked_refuses piece looks most_looks before after after old new (omega (arith, exact)) (omega (arith, exact)) bound (d works after))
 
-  -- the lines of the paths are taken one behind the other
+  -- the lines of the paths are taken one after the other
   module _ (line : List Turn → List ℕ) (took refused : Output W → List Turn → Output W → Type 0)
       (wrote : (a : Output W) (p : List Turn) (b : Output W) → took a p b → TakesLine state (line p) a b)
       (cut : (a : Output W) (p : List Turn) (b : Output W) → refused a p b → RefusesLine state (line p) a b) where
@@ -72,7 +72,7 @@ module _ {W : Type 0} (state : W → TargetState) where
     walk_writes [] a b looks works h =
         subst (λ k. Writes [] 0 0 (output_state state a looks) (output_state state k looks)) h (writes_nothing (output_state state a looks) works)
     walk_writes (p ∷ ps) a b looks works h =
-        let one = wrote a p h.0 h.1.0 works looks in
+        let one = (wrote a p h.0 h.1.0).1 works looks in
         writes_more (line p) (flat_map line ps) 0 0 0 0 (output_state state a looks) (output_state state h.0 looks) (output_state state b looks)
         one (walk_writes ps h.0 b looks one.works h.1.1)
 
@@ -83,7 +83,7 @@ module _ {W : Type 0} (state : W → TargetState) where
         refuses_front (line p) (flat_map line ps) 0 0 0 0 (output_state state a looks) (output_state state b looks) (omega arith) (omega arith)
         ((cut a p b h).1 works looks)
     stop_writes (p ∷ ps) a b looks works (inr h) =
-        let one = wrote a p h.0 h.1.0 works looks in
+        let one = (wrote a p h.0 h.1.0).1 works looks in
         refuses_more (line p) (flat_map line ps) 0 0 0 0 (output_state state a looks) (output_state state h.0 looks) (output_state state b looks)
         one (stop_writes ps h.0 b looks one.works h.1.1)
 
@@ -113,7 +113,7 @@ module _ {W : Type 0} (state : W → TargetState) where
     nothing_waits (p ∷ ps) a b (inl h) = (cut a p b h).0
     nothing_waits (p ∷ ps) a b (inr h) = nothing_waits ps h.0 b h.1.1
 
-  -- the solutions, and what stands behind them
+  -- the solutions, and what stands after them
   pub solved : (r : Result (Unit {0}) DeviceFault) (n count : ℕ) (solutions : List (List Turn)) (piece : List ℕ) (looks most_looks before after : ℕ) (a b c : Output W)
       → count ≡ length solutions → piece ≡ none_line n count ++ line_feed ∷ []
       → Writes (flat_map solution_line solutions) looks most_looks (output_state state a before) (output_state state b after)

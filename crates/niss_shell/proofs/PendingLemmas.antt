@@ -1,4 +1,4 @@
--- Answers that wait, and what is written behind them.
+-- Answers that wait, and what is written after them.
 use Rattle.std.proofs.Common.{◌≡◌, ℕ, ◌+◌, false, Result, Ok, Err, List, [], ◌++◌, refl, sym, ap, ◌∙◌, subst, append-nil, arith}
 use Rattle.std.specs.Prelude.{OnOk, OnErr}
 use Rattle.niss_shell.specs.Device.{TargetState, has_fault, Appended, WriteRefused}
@@ -27,7 +27,7 @@ all_sent (Err x) pending piece rest a b looks e f whole same refused works = rec
   bounded = omega arith;
 }
 
--- a text waits behind what waited
+-- a text waits after what waited
 pub waits : (text pending rest : List ℕ) (a : TargetState) (looks : ℕ) → rest ≡ pending ++ text → has_fault a ≡ false
     → Writes text 0 0 (pending_state a pending looks) (pending_state a rest looks)
 waits text pending rest a looks e works = record {
@@ -46,7 +46,7 @@ behind (Ok u) text looks most_looks a b c p q =
 behind (Err x) text looks most_looks a b c p q =
     refuses_as text text (0 + looks) (0 + most_looks) looks most_looks a c refl (omega arith) (omega arith) (refuses_more [] text 0 0 looks most_looks a b c p q)
 
--- what waits is written behind a text
+-- what waits is written after a text
 
 pub then_sent : {T : Type 0} (r : Result T DeviceFault) (text : List ℕ) (looks most_looks : ℕ) (a b c : AnswerState)
     → Writes text looks most_looks a b → WritesOrRefuses r [] 0 0 b c → WritesOrRefuses r text looks most_looks a c
@@ -57,7 +57,7 @@ then_sent (Err x) text looks most_looks a b c p q =
     refuses_as (text ++ []) text (looks + 0) (most_looks + 0) looks most_looks a c (append-nil text) (omega arith) (omega arith)
     (refuses_more text [] looks most_looks 0 0 a b c p q)
 
--- what waits is written behind lines that were taken
+-- what waits is written after lines that were taken
 
 lines_sent : (f : LineAnswers) (n : ℕ) (lines : List (List ℕ)) (u : Unit {0}) (a b c : AnswerState)
     → AllAnswered f n lines a b → WritesOrRefuses {T = Unit {0}} (Ok u) [] 0 0 b c → AllAnswered f n lines a c

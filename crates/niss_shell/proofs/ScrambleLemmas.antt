@@ -20,7 +20,7 @@ state_after-add w k p (suc m) n s =
     let e : suc (m + n) ≡ suc m + n = omega arith in
     state_after-add w k p m n _ ∙ ap (λ j. state_after w k p j s) e
 
--- the generator behind one scramble more
+-- the generator after one scramble more
 pub after_scramble : (turns i : ℕ) (g : Lcg) → after_words turns (after_words (turns * i) g) ≡ after_words (turns * (i + 1)) g
 after_scramble turns i g =
     let e : turns * i + turns ≡ turns * (i + 1) = omega arith in

@@ -18,7 +18,7 @@ writes_nothing a works = record {
   bounded = omega arith;
 }
 
--- what was sent, and what was sent behind it
+-- what was sent, and what was sent after it
 sent_more : (s t p q r x y : List ℕ) → s ++ q ≡ p ++ x → t ++ r ≡ q ++ y → (s ++ t) ++ r ≡ p ++ (x ++ y)
 sent_more s t p q r x y e f =
     append_assoc s t r ∙ ap (λ v. s ++ v) f ∙ sym (append_assoc s q y) ∙ ap (λ v. v ++ y) e ∙ append_assoc p x y

@@ -1,14 +1,14 @@
 -- What a contract sees of a source and of a target of bytes, and what calls do to them.
 use Rattle.std.specs.Prelude.{◌≡◌, ℕ, zero, suc, ◌<◌, ◌||◌, Bool, true, false, Option, Some, None, Result, Ok, Err, List, [], ◌∷◌, ◌++◌, take, length}
 
--- A source tells the bytes that it will give, or doesn't; whether a read failed; whether a read found the end.
+-- The bytes that a source will give, where they are known; whether a read failed; whether a read found the end.
 pub record SourceState : Type 0 where
   pub left : Option (List ℕ)
   pub has_failed : Bool
   pub has_ended : Bool
 
--- A target tells the bytes that it holds, or doesn't; whether a write failed; whether a flush failed; whether a flush
--- came behind the last byte, good or refused; whether the last one that came so was good.
+-- The bytes that a target holds, where they are known; whether a write failed; whether a flush failed; whether a flush
+-- came after the last byte, good or refused; whether the last one that came so was good.
 pub record TargetState : Type 0 where
   pub held : Option (List ℕ)
   pub write_failed : Bool
@@ -20,23 +20,23 @@ pub record TargetState : Type 0 where
 abbrev pub has_fault : TargetState → Bool
 has_fault target = target.write_failed || target.flush_failed
 
--- what `Gave` says of the bytes left before and after; nothing of a source that doesn't tell them
+-- what `Gave` says of the bytes left before and after; nothing where they aren't known
 abbrev pub GaveOf : Option (List ℕ) → Option (List ℕ) → Bool → List ℕ → Type 0
 GaveOf None left_now failed bytes = Unit {0}
 GaveOf (Some all) None failed bytes = (failed ≡ true) × ((rest : List ℕ) × (all ≡ bytes ++ rest))
 GaveOf (Some all) (Some rest) failed bytes = all ≡ bytes ++ rest
 
--- A source gave these bytes, the next ones that it had. One that failed may no longer tell what is left.
+-- A source gave these bytes, the next ones that it had. Of one that failed it may no longer be known what is left.
 abbrev pub Gave : SourceState → SourceState → List ℕ → Type 0
 Gave old new bytes = GaveOf old.left new.left new.has_failed bytes
 
--- what `Appended` says of the bytes held before and after; nothing of a target that doesn't tell them
+-- what `Appended` says of the bytes held before and after; nothing where they aren't known
 abbrev pub AppendedOf : Option (List ℕ) → Option (List ℕ) → Bool → List ℕ → Type 0
 AppendedOf None held_now failed bytes = Unit {0}
 AppendedOf (Some all) None failed bytes = failed ≡ true
 AppendedOf (Some all) (Some all_now) failed bytes = all_now ≡ all ++ bytes
 
--- A target took these bytes behind what it held. One that failed may no longer tell what it holds.
+-- A target took these bytes after what it held. What one that failed holds may no longer be known.
 abbrev pub Appended : TargetState → TargetState → List ℕ → Type 0
 Appended old new bytes = AppendedOf old.held new.held (has_fault new) bytes
 
@@ -47,7 +47,7 @@ StaysSilentOf true (Some all) held_now = Unit {0}
 StaysSilentOf true None None = Unit {0}
 StaysSilentOf true None (Some all) = ⊥
 
--- A target that failed and doesn't tell what it holds won't tell it later.
+-- Where it isn't known what a target that failed holds, it won't be later.
 abbrev pub StaysSilent : TargetState → TargetState → Type 0
 StaysSilent old new = StaysSilentOf (has_fault old) old.held new.held
 

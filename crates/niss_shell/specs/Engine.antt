@@ -28,7 +28,7 @@ pending_state target pending looks = record { target = target; pending = pending
 abbrev pub output_state : {W : Type 0} → (W → TargetState) → Output W → ℕ → AnswerState
 output_state state output looks = pending_state (state output.target.now) output.pending.items looks
 
--- A text was taken behind what waited: some of these bytes went out, and the others wait now.
+-- A text was taken after what waited: some of these bytes went out, and the others wait now.
 pub record TakesIn (text : List ℕ) (old new : AnswerState) : Type 0 where
   pub sent : List ℕ
   pub whole : sent ++ new.pending ≡ old.pending ++ text
@@ -61,11 +61,12 @@ Delivers state result text old new =
     has_fault (state old.target.now) ≡ false → (looks : ℕ) →
     WritesOrRefuses result text 0 0 (output_state state old looks) (output_state state new looks)
 
--- An output that worked took a text whole; or it refused a write of what waited and of the text, and nothing waits.
+-- An output took a text, and nothing waits. One that worked took it whole, or refused a write of what waited and of the
+-- text.
 abbrev pub TakesLine : {W : Type 0} → (W → TargetState) → List ℕ → Output W → Output W → Type 0
 TakesLine state text old new =
-    has_fault (state old.target.now) ≡ false → (looks : ℕ) →
-    Writes text 0 0 (output_state state old looks) (output_state state new looks)
+    (new.pending.items ≡ []) × (has_fault (state old.target.now) ≡ false → (looks : ℕ) →
+    Writes text 0 0 (output_state state old looks) (output_state state new looks))
 
 abbrev pub RefusesLine : {W : Type 0} → (W → TargetState) → List ℕ → Output W → Output W → Type 0
 RefusesLine state text old new =
@@ -82,7 +83,7 @@ pub record AllAnswered (f : LineAnswers) (n : ℕ) (lines : List (List ℕ)) (ol
   pub faultless : first_fault f.answer_of n lines ≡ None
   pub writes : WritesAnswers f lines old new
 
--- The first fault of the lines came, behind the answers before it.
+-- The first fault of the lines came, after the answers before it.
 pub record FaultCame (f : LineAnswers) (n : ℕ) (lines : List (List ℕ))
     (at : ℕ) (fault : LineFault) (old new : AnswerState) : Type 0 where
   pub first : first_fault f.answer_of n lines ≡ Some (at, fault)
@@ -104,12 +105,12 @@ pub record Progress : Type 0 where
   pub reader : Reader
   pub line : ℕ
 
--- The line behind these bytes is being read, and has its number.
+-- The line after these bytes is being read, and has its number.
 pub record Advanced (front bytes : List ℕ) (n : ℕ) (progress : Progress) : Type 0 where
   pub reader : IsFed progress.reader (last_part front bytes)
   pub line : progress.line ≡ n + length (ended_lines front bytes)
 
--- The bytes behind `front`, in line n, were taken.
+-- The bytes after `front`, in line n, were taken.
 abbrev pub TakesBytes :
     LineAnswers → List ℕ → List ℕ → ℕ → Progress → Result (Unit {0}) Stop → AnswerState → AnswerState → Type 0
 TakesBytes f front bytes n progress (Ok u) old new =
@@ -126,7 +127,7 @@ abbrev pub only_stop : Result ℕ Stop → Result (Unit {0}) Stop
 only_stop (Ok n) = Ok tt
 only_stop (Err stop) = Err stop
 
--- The end of the input behind `front`, in line n, was taken.
+-- The end of the input after `front`, in line n, was taken.
 abbrev pub TakesEnd : LineAnswers → List ℕ → ℕ → Result (Unit {0}) Stop → AnswerState → AnswerState → Type 0
 TakesEnd f front n (Ok u) old new = AllAnswered f n (line_with_bytes front) old new
 TakesEnd f front n (Err stop) old new = StopsWithin f n (line_with_bytes front) stop old new

@@ -13,13 +13,13 @@ ended_lines front [] = []
 ended_lines front (b ∷ bs) =
     if b == line_feed then front ∷ ended_lines [] bs else ended_lines (front ++ b ∷ []) bs
 
--- what stands behind the last line feed
+-- what stands after the last line feed
 unfoldable pub last_part : List ℕ → List ℕ → List ℕ
 last_part front [] = front
 last_part front (b ∷ bs) =
     if b == line_feed then last_part [] bs else last_part (front ++ b ∷ []) bs
 
--- what is written for a line and behind it: the line's answer and the rest, or nothing from a fault on
+-- what is written for a line and after it: the line's answer and the rest, or nothing from a fault on
 abbrev pub text_before : {E : Type 0} → Result (List ℕ) E → List ℕ → List ℕ
 text_before (Ok text) rest = text ++ rest
 text_before (Err e) rest = []
@@ -29,7 +29,7 @@ unfoldable pub written_text : {E : Type 0} → (List ℕ → Result (List ℕ) E
 written_text answer_of [] = []
 written_text answer_of (line ∷ lines) = text_before (answer_of line) (written_text answer_of lines)
 
--- what is answered of a line and the lines behind it: the line and those, or none from a fault on
+-- what is answered of a line and the lines after it: the line and those, or none from a fault on
 abbrev pub lines_before : {E : Type 0} → Result (List ℕ) E → List ℕ → List (List ℕ) → List (List ℕ)
 lines_before (Ok text) line rest = line ∷ rest
 lines_before (Err e) line rest = []

@@ -10,13 +10,13 @@ HasNoLineFeed bytes = All (λ b. b ≢ line_feed) bytes
 abbrev pub line_to_feed : List ℕ → List ℕ
 line_to_feed line = line ++ line_feed ∷ []
 
--- The text is these lines, each with the line feed that ends it, and the last part behind them.
+-- The text is these lines, each with the line feed that ends it, and the last part after them.
 pub record IsCutInto (text : List ℕ) (lines : List (List ℕ)) (last : List ℕ) : Type 0 where
   pub unbroken_lines : All HasNoLineFeed lines
   pub unbroken_last : HasNoLineFeed last
   pub whole : flat_map line_to_feed lines ++ last ≡ text
 
--- A text is cut into the lines that a line feed ends, and what stands behind the last one.
+-- A text is cut into the lines that a line feed ends, and what stands after the last one.
 abbrev pub TextIsCut : Type 0
 TextIsCut = (text : List ℕ) → IsCutInto text (ended_lines [] text) (last_part [] text)
 

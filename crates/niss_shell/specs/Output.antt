@@ -96,7 +96,7 @@ line_text Print line = letters (effect (moves_of line))
 abbrev pub home : Moves → Place → Place
 home line q = effect_of_turns (faces (moves_of line)) q
 
--- the turns with single spaces, and a space behind them where there are any
+-- the turns with single spaces, and a space after them where there are any
 abbrev pub turns_text : List Turn → List ℕ
 turns_text [] = []
 turns_text (turn ∷ turns) = with_words [] (turn_words (turn ∷ turns)) ++ space ∷ []
@@ -105,7 +105,7 @@ turns_text (turn ∷ turns) = with_words [] (turn_words (turn ∷ turns)) ++ spa
 abbrev pub solution_line : List Turn → List ℕ
 solution_line turns = turns_text turns ++ codes "(" ++ decimal (length turns) ++ codes ")" ++ line_feed ∷ []
 
--- the line that tells that there are no solutions, where they are 0
+-- the line that says that there are no solutions, where they are 0
 abbrev pub none_line : ℕ → ℕ → List ℕ
 none_line n zero = codes "no solution within " ++ decimal n ++ codes " moves" ++ line_feed ∷ []
 none_line n (suc count) = []
@@ -123,7 +123,7 @@ count_text least solutions looks =
     codes "length " ++ length_text least ++ codes " solutions " ++ decimal solutions ++ codes " nodes " ++ decimal looks
     ++ line_feed ∷ []
 
--- what is told of the search for a step, of at most n turns, and of at most `slack` more than the least, from a cube
+-- what is written of the search for a step, of at most n turns, and of at most `slack` more than the least, from a cube
 abbrev pub search_text : Report → Step → (n slack : ℕ) → (Place → Place) → List ℕ
 search_text Solutions step n slack e = solve_text n (near_solutions_of step e n slack)
 search_text Counts step n slack e =

@@ -49,7 +49,7 @@ pub record MemoryRefused (asked : Result Request UsageFault) (old new : Devices)
   pub nothing : Appended old.output new.output []
   pub unrefused : new.output.write_failed ≡ false
 
--- A fault of the words, of a line or of the input, which comes behind the answers before it. No write was refused.
+-- A fault of the words, of a line or of the input, which comes after the answers before it. No write was refused.
 pub record EndsByFault (stop : Stop) (due : Answer) (old new : Devices) : Type 0 where
   pub fault : due.stop ≡ stop
   pub written : Appended old.output new.output due.output
@@ -88,6 +88,6 @@ pub record Runs (words : List (List ℕ)) (old new : Devices) (looks looks_now :
   -- the looks at positions
   pub looked : Looked stop new.output.write_failed (out_of words input new.source).looks looks looks_now
   pub within_bound : looks_now ≤ looks + (out_of words input new.source).most_looks
-  -- what was told on the error writer
+  -- what was written on the error writer
   pub tells : TellsError (error_text stop) old.error new.error
   pub answers : status ≡ status_of stop

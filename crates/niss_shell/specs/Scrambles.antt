@@ -13,7 +13,7 @@ use Rattle.niss_shell.specs.Lines.{line_feed}
 abbrev pub generator_of : ℕ → ℕ → Lcg
 generator_of state stream = started 64 multiplier_64 state (increment_of 64 stream)
 
--- Scramble number i, from 0, of so many turns. It takes its words behind those of the scrambles before it, and begins with
+-- Scramble number i, from 0, of so many turns. It takes its words after those of the scrambles before it, and begins with
 -- no turn before it.
 abbrev pub scramble : ℕ → Lcg → ℕ → List Turn
 scramble turns g i = draw None (next_words turns (after_words (turns * i) g))

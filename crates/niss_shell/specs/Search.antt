@@ -1,4 +1,4 @@
--- What is told of the search from a cube.
+-- What is written of the search from a cube.
 use Rattle.std.specs.Prelude.{◌≡◌, ℕ, false, Result, List}
 use Rattle.niss_moves.specs.Places.{Place}
 use Rattle.niss_cube.specs.Steps.{turns_of}
@@ -10,10 +10,11 @@ use Rattle.niss_shell.specs.declared.device.DeviceFault.{DeviceFault}
 use Rattle.niss_shell.specs.declared.output.Output.{Output}
 use Rattle.niss_shell.specs.declared.search.Search.{Search}
 
--- An output that worked took the text, behind what waited, with the looks of this search from a cube.
+-- An output that worked took the text, after what waited, with the looks of this search from a cube.
 abbrev pub Told : {W T A : Type 0} → (W → TargetState) → Result T DeviceFault → List ℕ → Search A → (Place → Place)
     → Output W → Output W → ℕ → ℕ → Type 0
 Told state result text search e old new looks looks_now =
     has_fault (state old.target.now) ≡ false →
-    WritesOrRefuses result text (near_looks_of search.tables e search.limit search.slack) (look_bound (turns_of search.tables) search.limit)
+    WritesOrRefuses result text
+    (near_looks_of search.tables e search.limit search.slack) (look_bound (turns_of search.tables) search.limit)
     (output_state state old looks) (output_state state new looks_now)

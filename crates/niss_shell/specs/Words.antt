@@ -137,10 +137,28 @@ requested (command.Near step n slack rest) = OnLines (search_command Solutions s
 requested command.Steps = ListSteps
 requested (command.Scramble state stream turns count) = DrawScrambles state stream turns count
 
+-- the first word of a command
+abbrev pub name_of_command : Command → List ℕ
+name_of_command (command.Invert rest) = codes "invert"
+name_of_command (command.Unniss rest) = codes "unniss"
+name_of_command (command.Cleanup rest) = codes "cleanup"
+name_of_command (command.Print rest) = codes "print"
+name_of_command (command.Solve step n rest) = codes "solve"
+name_of_command (command.Count step n rest) = codes "count"
+name_of_command (command.Near step n slack rest) = codes "near"
+name_of_command command.Steps = codes "steps"
+name_of_command (command.Scramble state stream turns count) = codes "scramble"
+
+-- A command on lines is asked for.
+abbrev pub takes_lines : Request → Bool
+takes_lines (OnLines command words) = true
+takes_lines ListSteps = false
+takes_lines (DrawScrambles state stream turns count) = false
+
 abbrev pub spaced_word : List ℕ → List ℕ
 spaced_word word = space ∷ word
 
--- the words with single spaces, and a line feed behind them
+-- the words with single spaces, and a line feed after them
 abbrev pub joined : List (List ℕ) → List ℕ
 joined [] = line_feed ∷ []
 joined (word ∷ words) = word ++ flat_map spaced_word words ++ line_feed ∷ []

@@ -18,17 +18,16 @@ fn facelets_of(line: &Niss) -> [u8; 54]
     cube.facelets(rotation)
 }
 
-/// What is written for a line without a search.
-pub fn rewritten(rewriting: Rewriting, line: &Niss) -> LineText
-    ensures { result.items ≡ line_text rewriting line.now ++ line_feed ∷ [] }
+/// Sets the text to what is written for a line without a search.
+pub fn rewrite(rewriting: Rewriting, line: &Niss, text: &mut LineText)
+    ensures { text.new.items ≡ line_text rewriting line.now ++ line_feed ∷ [] }
 {
-    let mut text = LineText::new();
+    text.clear();
     match rewriting {
-        Rewriting::Invert => put_inverted(line, &mut text),
-        Rewriting::Unniss => put_unniss(line, &mut text),
-        Rewriting::Cleanup => put_niss_clean(line, &mut text),
-        Rewriting::Print => put_text(&facelets_of(line), &mut text),
+        Rewriting::Invert => put_inverted(line, text),
+        Rewriting::Unniss => put_unniss(line, text),
+        Rewriting::Cleanup => put_niss_clean(line, text),
+        Rewriting::Print => put_text(&facelets_of(line), text),
     }
     text.push(b'\n');
-    text
 }

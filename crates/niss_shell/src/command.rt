@@ -1,7 +1,11 @@
-ghost use Rattle.std.specs.Prelude.{◌≡◌, Ok, Err, IfSome, IfOk, MatchOption, MatchResult, map, string_bytes};
+ghost use Rattle.std.specs.Prelude.{◌≡◌, Ok, Err, Some, false, IfSome, IfOk, MatchOption, MatchResult};
+ghost use Rattle.std.specs.Prelude.{map, codes, slice_get, string_bytes};
+ghost use Rattle.niss_shell.specs.declared.command.LineCommand.TheVariants.{Search};
 ghost use Rattle.niss_shell.specs.declared.command.Report.{Report};
 ghost use Rattle.niss_shell.specs.declared.command.Report.TheVariants.{Solutions};
-ghost use Rattle.niss_shell.specs.Words.{OnLines, ListSteps, search_command, number_of, most_state, most_turns, most_scrambles, search_words, near_words, scramble_with, scramble_words, without_words, request_of, requested, IsInRange};
+ghost use Rattle.niss_shell.specs.Words.{OnLines, ListSteps, search_command, number_of, most_state, most_turns};
+ghost use Rattle.niss_shell.specs.Words.{most_scrambles, search_words, near_words, scramble_with, scramble_words};
+ghost use Rattle.niss_shell.specs.Words.{without_words, request_of, requested, name_of_command, takes_lines, IsInRange};
 
 use crate::number::{limit_of, number_of};
 use niss_cube::Step;
@@ -37,7 +41,7 @@ pub enum Rewriting {
     Print,
 }
 
-/// What is told of a search.
+/// What is written of a search.
 #[derive(Clone, Copy, Debug, PartialEq, Eq)]
 pub enum Report {
     /// Each solution.
@@ -46,7 +50,7 @@ pub enum Report {
     Counts,
 }
 
-/// A search for each line: what is told of it, for which step, the most turns of a solution, and how many turns a solution
+/// A search for each line: what is written of it, for which step, the most turns of a solution, and how many turns a solution
 /// may have more than the shortest.
 #[derive(Clone, Copy, Debug)]
 pub struct Query {
@@ -54,6 +58,19 @@ pub struct Query {
     pub step: Step,
     pub limit: Limit,
     pub slack: Limit,
+}
+
+impl Query {
+    fn new(report: Report, step: Step, limit: Limit, slack: Limit) -> Query
+        ensures { Search result ≡ search_command report step limit slack }
+    {
+        Query {
+            report,
+            step,
+            limit,
+            slack,
+        }
+    }
 }
 
 /// A command on each line of the input.
@@ -89,6 +106,34 @@ pub enum Command<'a> {
         length: usize,
         count: usize,
     },
+}
+
+impl<'a> Command<'a> {
+    /// What is done with each line, and the words that are the input, of a command on lines.
+    pub fn on_lines(&self) -> Option<(LineCommand, &'a [String])>
+        ensures { MatchOption result (takes_lines (requested self.now) ≡ false)
+            (λ parts. requested self.now ≡ OnLines parts.0 (map string_bytes parts.1.now)) }
+    {
+        match *self {
+            Command::Invert(rest) => Some((LineCommand::Rewrite(Rewriting::Invert), rest)),
+            Command::Unniss(rest) => Some((LineCommand::Rewrite(Rewriting::Unniss), rest)),
+            Command::Cleanup(rest) => Some((LineCommand::Rewrite(Rewriting::Cleanup), rest)),
+            Command::Print(rest) => Some((LineCommand::Rewrite(Rewriting::Print), rest)),
+            Command::Solve(step, limit, rest) => {
+                let query = Query::new(Report::Solutions, step, limit, Limit::ZERO);
+                Some((LineCommand::Search(query), rest))
+            }
+            Command::Count(step, limit, rest) => {
+                let query = Query::new(Report::Counts, step, limit, Limit::ZERO);
+                Some((LineCommand::Search(query), rest))
+            }
+            Command::Near(step, limit, slack, rest) => {
+                let query = Query::new(Report::Solutions, step, limit, slack);
+                Some((LineCommand::Search(query), rest))
+            }
+            Command::Steps | Command::Scramble { .. } => None,
+        }
+    }
 }
 
 /// The step, the limit and the words that are the input, of a command that searches.
@@ -134,9 +179,10 @@ fn parse_near(words: &[String]) -> Result<(Step, Limit, Limit, &[String]), Usage
 
 /// The command `steps`, which takes no words.
 fn parse_steps(words: &[String]) -> Result<Command<'_>, UsageFault>
-    ensures { MatchResult result
+    ensures command { MatchResult result
         (λ command. without_words ListSteps (map string_bytes words.now) ≡ Ok (requested command))
         (λ fault. without_words ListSteps (map string_bytes words.now) ≡ Err fault) }
+    ensures named { IfOk result (λ command. name_of_command command ≡ codes "steps") }
 {
     match words {
         [] => Ok(Command::Steps),
@@ -151,6 +197,7 @@ fn scramble_of(state: &str, stream: &str, length: &str, count: &str) -> Option<C
         (number_of most_turns length.now) (number_of most_scrambles count.now) in
         MatchOption result (asked ≡ Err UsageFault.BadNumber) (λ command. asked ≡ Ok (requested command)) }
     ensures in_range { IfSome result (λ command. IsInRange (requested command)) }
+    ensures named { IfSome result (λ command. name_of_command command ≡ codes "scramble") }
 {
     let state = number_of(state, u64::MAX)?;
     let stream = number_of(stream, u64::MAX)?;
@@ -170,6 +217,7 @@ fn parse_scramble(words: &[String]) -> Result<Command<'_>, UsageFault>
         (λ command. scramble_words (map string_bytes words.now) ≡ Ok (requested command))
         (λ fault. scramble_words (map string_bytes words.now) ≡ Err fault) }
     ensures in_range { IfOk result (λ command. IsInRange (requested command)) }
+    ensures named { IfOk result (λ command. name_of_command command ≡ codes "scramble") }
 {
     let [state, stream, length, count] = words else {
         return Err(UsageFault::WrongCount);
@@ -192,6 +240,9 @@ pub fn parse_words(words: &[String]) -> Result<Command<'_>, UsageFault>
         (λ command. request_of (map string_bytes words.now) ≡ Ok (requested command))
         (λ fault. request_of (map string_bytes words.now) ≡ Err fault) }
     ensures in_range { IfOk result (λ command. IsInRange (requested command)) }
+    // The request doesn't tell `solve` from `near` with a slack of 0.
+    ensures named { IfOk result (λ command.
+        slice_get (map string_bytes words.now) 0 ≡ Some (name_of_command command)) }
 {
     let Some((name, rest)) = words.split_first() else {
         return Err(UsageFault::NoCommand);

@@ -7,7 +7,7 @@ pub struct DeviceFault;
 
 /// Something that bytes are read from.
 pub trait Source {
-    // the bytes left, where the source tells them, and its two flags
+    // the bytes left, where they are known, and its two flags
     ghost state: { Self → SourceState };
 
     /// Reads the next bytes into the beginning of `buf`, and answers how many. `Ok(0)` for a buffer that isn't empty is
@@ -31,7 +31,7 @@ pub trait Source {
 
 /// Something that bytes are written to.
 pub trait Target {
-    // the bytes held, where the target tells them, its flags, and which flush came after the last byte
+    // the bytes held, where they are known, its flags, and which flush came after the last byte
     ghost state: { Self → TargetState };
 
     /// Takes some first bytes of the piece, and answers how many. To take none of a piece that isn't empty is a failure,

@@ -49,7 +49,8 @@ fn joined_length(words: &[String]) -> Option<usize>
 }
 
 fn push_more_words<A: Allocator>(words: &[String], text: &mut Vec<u8, A>) -> Result<(), AllocError>
-    ensures { OnOk result (text.new.items ≡ text.old.items ++ flat_map spaced_word (map string_bytes words.now)) }
+    ensures { OnOk result
+        (text.new.items ≡ text.old.items ++ flat_map spaced_word (map string_bytes words.now)) }
 {
     for word in words {
         text.push(b' ')?;
@@ -113,8 +114,10 @@ impl<A: Allocator> Job<A> {
     where
         A: Copy,
         ensures work { IfOk result (λ job. command_of job.work ≡ command) }
-        ensures input { IfOk result (λ job. IsInput (λ text. text.items) job.text (map string_bytes words.now)) }
-        ensures refused { IfErr result (λ stop. EndsAtOnce (Ok (OnLines command (map string_bytes words.now))) stop) }
+        ensures input { IfOk result
+            (λ job. IsInput (λ text. text.items) job.text (map string_bytes words.now)) }
+        ensures refused { IfErr result
+            (λ stop. EndsAtOnce (Ok (OnLines command (map string_bytes words.now))) stop) }
     {
         if words.is_empty() {
             let work = Work::new(alloc, command)?;

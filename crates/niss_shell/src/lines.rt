@@ -4,14 +4,14 @@ ghost use Rattle.niss_shell.specs.Device.{has_fault};
 ghost use Rattle.niss_moves.specs.Reader.{IsFed};
 ghost use Rattle.niss_shell.specs.Words.{limit};
 
-use crate::answer::rewritten;
+use crate::answer::rewrite;
 use crate::command::Report;
 use crate::device::{Source, Target};
 use crate::job::Work;
 use crate::line_cube::start_position;
 use crate::output::Output;
 use crate::stop::{LineFault, Stop};
-use niss_moves::LineReader;
+use niss_moves::{LineReader, LineText};
 use niss_search::Meter;
 use niss_search::laws::counts_and_bounds;
 use std::alloc::Allocator;
@@ -29,12 +29,15 @@ pub struct Lines<'a, A: Allocator> {
     looks: &'a mut Meter,
     reader: LineReader,
     line: u32,
+    // the last answer: one text serves all lines, since a new one would be zeroed for each
+    text: LineText,
 }
 
 impl<'a, A: Allocator> Lines<'a, A> {
     ghost use Rattle.niss_shell.specs.declared.stop.Stop.TheVariants.{Done};
     ghost use Rattle.niss_moves.specs.Reader.{moves_of};
-    ghost use Rattle.niss_shell.specs.Engine.{AnswersLine, AnswersMoves, AnswersSource, Answers, HasRoom, piece_of, only_stop, stop_unless};
+    ghost use Rattle.niss_shell.specs.Engine.{AnswersLine, AnswersMoves, AnswersSource, Answers, HasRoom};
+    ghost use Rattle.niss_shell.specs.Engine.{piece_of, only_stop, stop_unless};
     ghost use Rattle.niss_shell.specs.Output.{answer_lines, End};
     ghost use Rattle.niss_shell.specs.Job.{command_of};
     ghost use Rattle.niss_shell.specs.Taking.{Keeps, AnswersOpenLine, Takes, Ends, answers_of, lines_state};
@@ -53,6 +56,7 @@ impl<'a, A: Allocator> Lines<'a, A> {
             looks,
             reader: LineReader::new(),
             line: 1,
+            text: LineText::new(),
         }
     }
 
@@ -61,7 +65,8 @@ impl<'a, A: Allocator> Lines<'a, A> {
         requires works { has_fault (W.state output.old.target.now) ≡ false }
         ensures keeps { Keeps self.old self.new }
         ensures same_target { output.new.target.ghost_name ≡ output.old.target.ghost_name }
-        ensures refused { (looks most_looks : ℕ) → AnswersLine (Err fault) looks most_looks self.old.line result
+        ensures refused { (looks most_looks : ℕ) →
+            AnswersLine (Err fault) looks most_looks self.old.line result
             (lines_state W.state output.old self.old) (lines_state W.state output.new self.new) }
         ensures stops { OnOk result ⊥ }
         ensures empty { OnErr result (output.new.pending.items ≡ []) }
@@ -83,7 +88,8 @@ impl<'a, A: Allocator> Lines<'a, A> {
         requires meter { self.old.looks.now ≤ 2 ^ 127 }
         ensures keeps { Keeps self.old self.new }
         ensures same_target { output.new.target.ghost_name ≡ output.old.target.ghost_name }
-        ensures answers { AnswersMoves (command_of self.old.work.now) (moves_of self.old.reader) self.old.line result
+        ensures answers { AnswersMoves (command_of self.old.work.now) (moves_of self.old.reader)
+            self.old.line result
             (lines_state W.state output.old self.old) (lines_state W.state output.new self.new) }
         ensures works { OnOk result (has_fault (W.state output.new.target.now) ≡ false) }
         ensures empty { OnErr result (output.new.pending.items ≡ []) }
@@ -93,11 +99,12 @@ impl<'a, A: Allocator> Lines<'a, A> {
     {
         match self.work {
             Work::Rewrite(rewriting) => {
-                Ok(output.put(&rewritten(*rewriting, self.reader.moves()))?)
+                rewrite(*rewriting, self.reader.moves(), &mut self.text);
+                Ok(output.put(&self.text)?)
             }
             Work::Search(search) => {
                 counts_and_bounds();
-                // the call tells the proof that the limit is at most 20, which bounds the looks
+                // this call shows that the limit is at most 20, which bounds the looks
                 let _at_most_20 = search.limit.get();
                 let Some(position) = start_position(&search.tables, self.reader.moves()) else {
                     return self.refuse(LineFault::NoStart(search.tables.step()), output);
@@ -224,7 +231,8 @@ impl<'a, A: Allocator> Lines<'a, A> {
         requires meter { self.old.looks.now ≤ 2 ^ 64 }
         ensures keeps { Keeps self.old self.new }
         ensures same_target { output.new.target.ghost_name ≡ output.old.target.ghost_name }
-        ensures answers { AnswersSource (answers_of self.old) (stop_unless result Done) (S.state source.old) (S.state source.new)
+        ensures answers { AnswersSource (answers_of self.old) (stop_unless result Done)
+            (S.state source.old) (S.state source.new)
             (lines_state W.state output.old self.old) (lines_state W.state output.new self.new) }
         ensures empty { output.new.pending.items ≡ [] }
     {

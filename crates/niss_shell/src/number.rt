@@ -26,13 +26,10 @@ pub fn number_of(word: &str, most: u64) -> Option<u64>
     }
 }
 
-/// The most turns of a solution that may be asked for.
-const MOST_LIMIT: u64 = 20;
-
 /// The limit that the word spells.
 pub fn limit_of(word: &str) -> Option<Limit>
     ensures { result ≡ number_of most_limit word.now }
 {
-    let turns = number_of(word, MOST_LIMIT)?;
+    let turns = number_of(word, Limit::MOST as u64)?;
     Limit::new(turns as u8)
 }

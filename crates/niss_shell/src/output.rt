@@ -36,10 +36,12 @@ impl<'a, W: Target> Output<'a, W> {
     pub fn send(&mut self) -> Result<(), DeviceFault>
         ensures same_target { self.new.target.ghost_name ≡ self.old.target.ghost_name }
         ensures sent { Delivers W.state result [] self.old self.new }
-        ensures whole { OnOk result (Appended (W.state self.old.target.now) (W.state self.new.target.now) self.old.pending.items) }
-        ensures works { OnOk result (has_fault (W.state self.new.target.now) ≡ has_fault (W.state self.old.target.now)) }
-        ensures refused { OnErr result
-            (WriteRefused self.old.pending.items (W.state self.old.target.now) (W.state self.new.target.now)) }
+        ensures whole { OnOk result (Appended
+            (W.state self.old.target.now) (W.state self.new.target.now) self.old.pending.items) }
+        ensures works { OnOk result
+            (has_fault (W.state self.new.target.now) ≡ has_fault (W.state self.old.target.now)) }
+        ensures refused { OnErr result (WriteRefused self.old.pending.items
+            (W.state self.old.target.now) (W.state self.new.target.now)) }
         ensures empty { self.new.pending.items ≡ [] }
     {
         let sent = write_all(self.target, self.pending.as_slice());
@@ -88,7 +90,7 @@ impl<'a, W: Target> Output<'a, W> {
 fn solution_text(path: &TurnPath) -> LineText
     ensures { result.items ≡ solution_line path.now.turns }
 {
-    // the call tells the proof that the path has at most 20 turns, as `put_solution` asks
+    // this call shows that the path has at most 20 turns, as `put_solution` asks
     let _at_most_20 = path.limit();
     let mut text = LineText::new();
     put_solution(path.turns(), &mut text);

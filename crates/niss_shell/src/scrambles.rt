@@ -13,16 +13,15 @@ use niss_moves::{LineText, put_faces};
 use niss_search::random_turns;
 use rand_pcg::Lcg64Xsh32;
 
-/// The next scramble of `turns` turns, on a line.
-fn next_line(rng: &mut Lcg64Xsh32, turns: usize) -> LineText
+/// Sets the text to the next scramble of `turns` turns, on a line.
+fn draw_line(rng: &mut Lcg64Xsh32, turns: usize, line: &mut LineText)
     requires { turns ≤ 256 }
-    ensures line { result.items ≡ turns_line (draw None (next_words turns rng.old)) }
+    ensures line { line.new.items ≡ turns_line (draw None (next_words turns rng.old)) }
     ensures words { rng.new ≡ after_words turns rng.old }
 {
-    let mut line = LineText::new();
-    put_faces(random_turns(rng, turns).as_slice(), &mut line);
+    line.clear();
+    put_faces(random_turns(rng, turns).as_slice(), line);
     line.push(b'\n');
-    line
 }
 
 /// Writes `count` scrambles of `turns` turns, each on a line, all by one generator.
@@ -35,12 +34,15 @@ pub fn write_scrambles<W: Target>(
     requires works { has_fault (W.state output.old.target.now) ≡ false }
     requires turns { turns ≤ 256 }
     ensures same_target { output.new.target.ghost_name ≡ output.old.target.ghost_name }
-    ensures answers { (looks : ℕ) → Answers (unsearched (scramble_text turns count rng) Done) (stop_unless result Done)
+    ensures answers { (looks : ℕ) →
+        Answers (unsearched (scramble_text turns count rng) Done) (stop_unless result Done)
         (output_state W.state output.old looks) (output_state W.state output.new looks) }
     ensures empty { output.new.pending.items ≡ [] }
 {
+    let mut line = LineText::new();
     for _ in 0..count {
-        output.put(&next_line(&mut rng, turns))?;
+        draw_line(&mut rng, turns, &mut line);
+        output.put(&line)?;
     }
     Ok(output.send()?)
 }

@@ -55,7 +55,8 @@ impl<A: Allocator> Search<A> {
         ensures same_target { output.new.target.ghost_name ≡ output.old.target.ghost_name }
         ensures empty { OnErr result (output.new.pending.items ≡ []) }
         ensures told { (e : Place → Place) → HasPosition self.now.tables e position.now →
-            Told W.state result (solve_text self.now.limit (near_solutions_of self.now.tables e self.now.limit self.now.slack))
+            Told W.state result
+            (solve_text self.now.limit (near_solutions_of self.now.tables e self.now.limit self.now.slack))
             self.now e output.old output.new looks.old looks.new }
         ensures bound { looks.new ≤ looks.old + look_bound (turns_of self.now.tables) self.now.limit }
     {
@@ -79,7 +80,8 @@ impl<A: Allocator> Search<A> {
         ensures empty { OnErr result (output.new.pending.items ≡ []) }
         ensures told { (e : Place → Place) → HasPosition self.now.tables e position.now →
             Told W.state result (count_text (least_length_of self.now.tables e self.now.limit)
-            (length (near_solutions_of self.now.tables e self.now.limit self.now.slack)) (near_looks_of self.now.tables e self.now.limit self.now.slack))
+            (length (near_solutions_of self.now.tables e self.now.limit self.now.slack))
+            (near_looks_of self.now.tables e self.now.limit self.now.slack))
             self.now e output.old output.new looks.old looks.new }
         ensures bound { looks.new ≤ looks.old + look_bound (turns_of self.now.tables) self.now.limit }
     {

@@ -22,7 +22,7 @@ pub fn put_solution(turns: &[Turn], text: &mut LineText)
     put_text(b")\n", text);
 }
 
-/// Appends what stands after so many solutions: where they are none, the line that tells this; and an empty line.
+/// Appends what stands after so many solutions: where they are none, a line that says so; and an empty line.
 pub fn put_end(solutions: u128, limit: Limit, text: &mut LineText)
     requires { length text.old.items ≡ 0 }
     ensures { text.new.items ≡ none_line limit solutions ++ line_feed ∷ [] }

@@ -7,7 +7,7 @@ ghost use Rattle.niss_shell.specs.declared.stop.Stop.TheVariants.{Done};
 ghost use Rattle.niss_shell.specs.Engine.{Answers, RunsUnflushed, output_state, stop_unless};
 ghost use Rattle.niss_shell.specs.Run.{Runs, TellsError, devices};
 
-use crate::command::{Command, LineCommand, Query, Report, Rewriting, parse_words};
+use crate::command::{Command, parse_words};
 use crate::device::{Source, Target};
 use crate::job::Job;
 use crate::output::Output;
@@ -17,7 +17,7 @@ use crate::text::put_text;
 use crate::writing::write_all;
 use niss_cube::Step;
 use niss_moves::LineText;
-use niss_search::{Limit, Meter};
+use niss_search::Meter;
 use rand_pcg::Lcg64Xsh32;
 use std::alloc::{Allocator, Global};
 
@@ -25,7 +25,8 @@ use std::alloc::{Allocator, Global};
 fn write_steps<W: Target>(output: &mut Output<W>) -> Result<(), Stop>
     requires works { has_fault (W.state output.old.target.now) ≡ false }
     ensures same_target { output.new.target.ghost_name ≡ output.old.target.ghost_name }
-    ensures answers { (looks : ℕ) → Answers (unsearched (flat_map step_line steps) Done) (stop_unless result Done)
+    ensures answers { (looks : ℕ) →
+        Answers (unsearched (flat_map step_line steps) Done) (stop_unless result Done)
         (output_state W.state output.old looks) (output_state W.state output.new looks) }
     ensures empty { output.new.pending.items ≡ [] }
 {
@@ -61,50 +62,19 @@ fn answer_command<A: Allocator + Copy, R: Source, W: Target>(
     let Ok(command) = parse_words(words) else {
         return Err(Stop::Usage);
     };
-    let (command, rest) = match command {
-        Command::Invert(rest) => (LineCommand::Rewrite(Rewriting::Invert), rest),
-        Command::Unniss(rest) => (LineCommand::Rewrite(Rewriting::Unniss), rest),
-        Command::Cleanup(rest) => (LineCommand::Rewrite(Rewriting::Cleanup), rest),
-        Command::Print(rest) => (LineCommand::Rewrite(Rewriting::Print), rest),
-        Command::Solve(step, limit, rest) => {
-            let (report, slack) = (Report::Solutions, Limit::ZERO);
-            let query = Query {
-                report,
-                step,
-                limit,
-                slack,
-            };
-            (LineCommand::Search(query), rest)
-        }
-        Command::Count(step, limit, rest) => {
-            let (report, slack) = (Report::Counts, Limit::ZERO);
-            let query = Query {
-                report,
-                step,
-                limit,
-                slack,
-            };
-            (LineCommand::Search(query), rest)
-        }
-        Command::Near(step, limit, slack, rest) => {
-            let report = Report::Solutions;
-            let query = Query {
-                report,
-                step,
-                limit,
-                slack,
-            };
-            (LineCommand::Search(query), rest)
-        }
-        Command::Steps => return write_steps(output),
+    if let Some((command, rest)) = command.on_lines() {
+        return Job::new(alloc, command, rest)?.answer(source, output, looks);
+    }
+    match command {
         Command::Scramble {
             state,
             stream,
             length,
             count,
-        } => return write_scrambles(Lcg64Xsh32::new(state, stream), length, count, output),
-    };
-    Job::new(alloc, command, rest)?.answer(source, output, looks)
+        } => write_scrambles(Lcg64Xsh32::new(state, stream), length, count, output),
+        // no other command is without lines
+        _ => write_steps(output),
+    }
 }
 
 fn tell<E: Target>(stop: Stop, err: &mut E)
@@ -151,7 +121,7 @@ pub fn run_in<A: Allocator + Copy, R: Source, W: Target, E: Target>(
 /// The words are those after the program's name. The input, where no words give it, comes from `input`. The answers go
 /// to `out` and what went wrong to `err`. `looks` counts the looks at positions of the searches for the lines; it stands
 /// at 2^64 or below. Memory is taken only to join words that give the input, and for the tables of a step, and before
-/// anything is read or written; `nissy: out of memory` is told only where the command takes memory.
+/// anything is read or written; `nissy: out of memory` comes only where the command takes memory.
 pub fn run<R: Source, W: Target, E: Target>(
     alloc: Global,
     words: &[String],

@@ -58,7 +58,8 @@ fn text_of(fault: ReadFault) -> &'static [u8]
 
 fn put_read_fault(fault: ReadFault, text: &mut LineText)
     requires { length text.old.items ≤ 100 }
-    ensures { text.new.items ≡ text.old.items ++ codes ", column " ++ decimal (fault_column fault) ++ codes ": "
+    ensures { text.new.items
+        ≡ text.old.items ++ codes ", column " ++ decimal (fault_column fault) ++ codes ": "
         ++ fault_text fault ++ line_feed ∷ [] }
 {
     put_text(b", column ", text);
@@ -70,7 +71,8 @@ fn put_read_fault(fault: ReadFault, text: &mut LineText)
 
 fn put_start_fault(step: Step, text: &mut LineText)
     requires { length text.old.items ≤ 100 }
-    ensures { text.new.items ≡ text.old.items ++ codes ": " ++ start_text step ++ codes " does not hold" ++ line_feed ∷ [] }
+    ensures { text.new.items
+        ≡ text.old.items ++ codes ": " ++ start_text step ++ codes " does not hold" ++ line_feed ∷ [] }
 {
     put_text(b": ", text);
     if let Some(name) = step.start_name() {

@@ -5,7 +5,7 @@ ghost use Rattle.niss_shell.specs.Device.{SourceState, TargetState, Gave, has_fa
 use crate::device::{DeviceFault, Source, Target};
 use std::io;
 
-/// A source over a reader. Once a read failed it no longer tells its bytes.
+/// A source over a reader. Once a read failed its bytes are no longer known.
 #[derive(Drop)]
 pub struct FromReader<R> {
     reader: R,
@@ -83,7 +83,7 @@ impl<R: io::Read> Source for FromReader<R> {
     }
 }
 
-/// A target over a writer. Once a write or a flush failed it no longer tells its bytes.
+/// A target over a writer. Once a write or a flush failed its bytes are no longer known.
 #[derive(Drop)]
 pub struct ToWriter<W> {
     writer: W,
@@ -112,7 +112,8 @@ impl<W: io::Write> ToWriter<W> {
     /// bytes.
     fn judge_write(&mut self, answer: io::Result<usize>, piece: &[u8]) -> Result<usize, DeviceFault>
         ensures answer { MatchResult result (λ count. answer ≡ Ok count) (λ _. IsErr answer) }
-        ensures write_failed { self.new.write_failed ≡ (self.old.write_failed || is_refused answer piece.now) }
+        ensures write_failed { self.new.write_failed
+            ≡ (self.old.write_failed || is_refused answer piece.now) }
         ensures flush_failed { self.new.flush_failed ≡ self.old.flush_failed }
         ensures untried { self.new.flush_tried ≡ false }
         ensures unflushed { self.new.flushed ≡ false }

@@ -71,6 +71,22 @@ fn each_write_fails(rt: HostRuntime) -> Result<(), Fail> {
     Ok(())
 }
 
+/// Each solution goes out by itself as it is found, and so does what stands after the last one.
+#[test]
+fn each_solution_is_a_write(rt: HostRuntime) -> Result<(), Fail> {
+    for (words, output) in RUNS {
+        let solutions = output.lines().filter(|line| line.ends_with(")")).count();
+        let words = words_of(rt.alloc(), words)?;
+        let mut input = Bytes::new(b"", 1);
+        let mut out = Held::new(rt.alloc(), usize::MAX);
+        let mut err = Held::new(rt.alloc(), 1000);
+        let outcome = Outcome::good(output.as_bytes());
+        outcome.check(&rt, rt.alloc(), &words, &mut input, &mut out, &mut err);
+        assert_eq!(rt; out.writes, solutions + 1, "{solutions} solutions");
+    }
+    Ok(())
+}
+
 #[test]
 fn no_bytes_taken(rt: HostRuntime) -> Result<(), Fail> {
     for (words, _) in RUNS {

@@ -55,6 +55,7 @@ fn runs_in_room(
     outcome.compare(rt, status, &out, &err);
     let is_untouched = input.reads == 0 && out.writes == 0 && looks.count() == 0;
     assert!(rt; status == 0 || is_untouched, "in {room} bytes");
+    assert_eq!(rt; out.flushes, 1, "in {room} bytes");
     assert_eq!(rt; heap.used(), used, "in {room} bytes");
     drop(filled);
     Ok(status == 0)

@@ -8,7 +8,7 @@ use std::process::Abort;
 use std::test::Fail;
 
 /// Kinds of error that a stream may answer with: none of them is tried again.
-const KINDS: [io::ErrorKind; 5] = [
+pub const KINDS: [io::ErrorKind; 5] = [
     io::ErrorKind::Interrupted,
     io::ErrorKind::WouldBlock,
     io::ErrorKind::BrokenPipe,

@@ -1,6 +1,7 @@
 //! Runs over readers and writers of `std::io`.
 use crate::devices::Held;
 use crate::runs::{CANNOT_READ, CANNOT_WRITE, Outcome, USAGE, words_of};
+use crate::std_blocks::KINDS;
 use niss_shell::{FromReader, Meter, ToWriter, run};
 use std::alloc::{AllocError, Global};
 use std::io;
@@ -193,7 +194,7 @@ fn check_writer<W: io::Write + Drop>(
 #[test]
 fn each_write_fails_once(rt: HostRuntime) -> Result<(), Fail> {
     let words = ["invert", "R U' F2"];
-    for kind in [io::ErrorKind::Interrupted, io::ErrorKind::BrokenPipe] {
+    for kind in KINDS {
         for before in 0..8usize {
             let mut writer = FailingWriter::new(before + 1, kind);
             check_writer(&rt, rt.alloc(), &words, b"", &mut writer, 3, CANNOT_WRITE)?;

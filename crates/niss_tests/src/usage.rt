@@ -5,7 +5,7 @@ use std::test::Fail;
 
 #[test]
 fn each_fault_of_words(rt: HostRuntime) -> Result<(), Fail> {
-    let faults: [(&[&str], UsageFault); 14] = [
+    let faults: [(&[&str], UsageFault); 26] = [
         (&[], UsageFault::NoCommand),
         (&[""], UsageFault::UnknownCommand),
         (&["Invert", "R"], UsageFault::UnknownCommand),
@@ -23,6 +23,20 @@ fn each_fault_of_words(rt: HostRuntime) -> Result<(), Fail> {
         (&["solve", "eofb", "21", "F"], UsageFault::BadNumber),
         (&["count", "eofb", "+3", "F"], UsageFault::BadNumber),
         (&["scramble", "1", "2", "257", "1"], UsageFault::BadNumber),
+        (&["near"], UsageFault::WrongCount),
+        (&["near", "htr", "x"], UsageFault::WrongCount),
+        (&["near", "eofb", "5"], UsageFault::WrongCount),
+        // the step is judged before the numbers
+        (&["near", "nostep", "x", "y"], UsageFault::UnknownStep),
+        (&["near", "5", "5", "eofb", "F"], UsageFault::UnknownStep),
+        (&["near", "htr", "21", "5", "F"], UsageFault::UnknownStep),
+        // a move in the place of the slack
+        (&["near", "eofb", "5", "F"], UsageFault::BadNumber),
+        (&["near", "eofb", "5", "21", "F"], UsageFault::BadNumber),
+        (&["near", "eofb", "21", "5", "F"], UsageFault::BadNumber),
+        (&["near", "eofb", "", "5", "F"], UsageFault::BadNumber),
+        (&["near", "eofb", "5", "", "F"], UsageFault::BadNumber),
+        (&["near", "eofb", "x", "y"], UsageFault::BadNumber),
     ];
     for (texts, fault) in faults {
         let words = words_of(rt.alloc(), texts)?;

@@ -1,23 +1,12 @@
 //! Runs whose memory is ample: each step has its tables, and words of each length are joined.
 use crate::devices::Bytes;
-use crate::runs::{Outcome, words_of};
+use crate::runs::{Outcome, STEPS, words_of};
 use std::test::Fail;
 
 /// The solved cube has reached each step, which needs its tables to say so.
 #[test]
 fn each_step_has_its_tables(rt: HostRuntime) -> Result<(), Fail> {
-    let steps = [
-        "eofb",
-        "eorl",
-        "eoud",
-        "drud-eofb",
-        "drrl-eofb",
-        "drud-eorl",
-        "drfb-eorl",
-        "drrl-eoud",
-        "drfb-eoud",
-    ];
-    for step in steps {
+    for step in STEPS.lines() {
         let words = words_of(rt.alloc(), &["solve", step, "0", ""])?;
         let mut input = Bytes::new(b"", 1);
         Outcome::good(b"(0)\n\n").check_input(&rt, rt.alloc(), rt.alloc(), &words, &mut input);

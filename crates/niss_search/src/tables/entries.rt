@@ -1,7 +1,7 @@
 //! The entries of a pruning table and their numbers.
 ghost use Rattle.std.specs.Prelude.{◌≡◌, ◌+◌, ◌*◌};
 
-use crate::limit::MOST_TURNS;
+use crate::limit::Limit;
 
 /// How many flips there are on an axis.
 pub(super) const FLIPS: usize = 2048;
@@ -16,7 +16,7 @@ pub(super) const SLICES: usize = 495;
 pub(super) const GOAL_ENTRY: usize = 0;
 
 /// The byte of an entry that is further than any search goes, or that the fill hasn't met yet.
-pub(super) const FAR: u8 = MOST_TURNS + 1;
+pub(super) const FAR: u8 = Limit::MOST + 1;
 
 /// The number of the entry of a twist and a slice.
 pub(super) fn pair_number(twist: u16, slice: u16) -> usize

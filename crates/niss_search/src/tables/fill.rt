@@ -9,7 +9,7 @@ use super::goal_moves::GoalMoves;
 use super::level::Level;
 use super::meter::Meter;
 use crate::laws::entries_turn;
-use crate::limit::MOST_TURNS;
+use crate::limit::Limit;
 use crate::scan::next_at;
 use std::mem;
 
@@ -67,7 +67,7 @@ pub(super) fn fill_table<M: GoalMoves>(moves: &M, distances: &mut [u8], meter: &
 {
     // the meter is held by value meanwhile: behind the borrow each tick would be written to memory
     let mut held = mem::replace(meter, Meter::new());
-    for level in 0..MOST_TURNS {
+    for level in 0..Limit::MOST {
         extend_level(moves, distances, &Level::new(level), &mut held);
     }
     *meter = held;

@@ -16,21 +16,21 @@ loop-init g c = record {
 
 pub loop-preserved : goal.loop-preserved
 loop-preserved g c = record {
-  generator = c.next_line.ensures.words ∙ ap (after_words c.args.turns) c.loop.invariant.generator ∙ after_scramble c.args.turns c.loop.counter c.args.rng;
+  generator = c.draw_line.ensures.words ∙ ap (after_words c.args.turns) c.loop.invariant.generator ∙ after_scramble c.args.turns c.loop.counter c.args.rng;
   same_target = c.in_ok-put.ensures.same_target ∙ c.loop.invariant.same_target;
-  written = λ looks. written_more c.args.turns c.loop.counter c.args.rng c.next_line.result.items
+  written = λ looks. written_more c.args.turns c.loop.counter c.args.rng c.draw_line.new.line.items
       (output_state g.W.Target.state c.args.output.now looks) (output_state g.W.Target.state c.loop.output looks) (output_state g.W.Target.state c.put.new.self looks)
-      (c.next_line.ensures.line ∙ line_of_next c.args.turns c.loop.counter c.args.rng c.loop.rng c.loop.invariant.generator)
+      (c.draw_line.ensures.line ∙ line_of_next c.args.turns c.loop.counter c.args.rng c.loop.rng c.loop.invariant.generator)
       (c.loop.invariant.written looks) (c.in_ok-put.ensures.taken (c.loop.invariant.written looks).works looks);
 }
 
 pub returns-in_err-put-clause-answers : goal.returns-in_err-put-clause-answers
 returns-in_err-put-clause-answers g c =
     let p = err_from_is_err_and c.from_residual.result c.from_residual.ensures.1 in
-    rw (p.1, p.2) (λ looks. refused_line c.args.turns c.loop.counter c.args.count c.args.rng c.next_line.result.items
+    rw (p.1, p.2) (λ looks. refused_line c.args.turns c.loop.counter c.args.count c.args.rng c.draw_line.new.line.items
     (output_state g.W.Target.state c.args.output.now looks) (output_state g.W.Target.state c.loop.output looks) (output_state g.W.Target.state c.put.new.self looks)
     c.loop-test.true
-    (c.next_line.ensures.line ∙ line_of_next c.args.turns c.loop.counter c.args.rng c.loop.rng c.loop.invariant.generator)
+    (c.draw_line.ensures.line ∙ line_of_next c.args.turns c.loop.counter c.args.rng c.loop.rng c.loop.invariant.generator)
     (c.loop.invariant.written looks) (c.in_err-put.ensures.taken (c.loop.invariant.written looks).works looks))
 
 pub returns-in_err-send-clause-answers : goal.returns-in_err-send-clause-answers
