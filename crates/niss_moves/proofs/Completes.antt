@@ -102,18 +102,65 @@ step_wide : (limit : ℕ) → (s : State) (f : Face) (n : ℕ) → step_within l
 unfolding step_within symbol_of based
 step_wide limit s f n = refl
 
-run_base : (limit : ℕ) → (s : State) (b : Base) → IsReady s.last → count (settled s) < limit → (n : ℕ) × (run_within limit s (base_bytes b) ≡ Ok (based s b n))
+run_base : (limit : ℕ) → (s : State) (b : Base) → IsReady s.last → count (settled s) < limit → run_within limit s (base_bytes b) ≡ Ok (based s b (s.fed + length (base_bytes b)))
 unfolding based
 run_base limit s (base.Face f) h room =
-    (s.fed + 1, run_one limit s _ (face_letter f) (begun_ready limit s _ (base.Face f) h room (symbol_of_face f)))
+    run_one limit s _ (face_letter f) (begun_ready limit s _ (base.Face f) h room (symbol_of_face f))
 run_base limit s (base.Wide f) h room =
-    (s.fed + 1 + 1, run_on limit s _ (face_letter f) (119 ∷ []) (begun_ready limit s _ (base.Face f) h room (symbol_of_face f)) ∙ run_one limit _ _ 119 (step_wide limit s f (s.fed + 1)))
+    run_on limit s _ (face_letter f) (119 ∷ []) (begun_ready limit s _ (base.Face f) h room (symbol_of_face f)) ∙ run_one limit _ _ 119 (step_wide limit s f (s.fed + 1)) ∙ ap (λ n. Ok (based s (base.Wide f) n)) (omega arith)
 run_base limit s (base.LowerCase f) h room =
-    (s.fed + 1, run_one limit s _ (lower_letter f) (begun_ready limit s _ (base.LowerCase f) h room (symbol_of_lower f)))
+    run_one limit s _ (lower_letter f) (begun_ready limit s _ (base.LowerCase f) h room (symbol_of_lower f))
 run_base limit s (base.Slice l) h room =
-    (s.fed + 1, run_one limit s _ (slice_letter l) (begun_ready limit s _ (base.Slice l) h room (symbol_of_slice l)))
+    run_one limit s _ (slice_letter l) (begun_ready limit s _ (base.Slice l) h room (symbol_of_slice l))
 run_base limit s (base.Rotation a) h room =
-    (s.fed + 1, run_one limit s _ (rotation_letter a) (begun_ready limit s _ (base.Rotation a) h room (symbol_of_rotation a)))
+    run_one limit s _ (rotation_letter a) (begun_ready limit s _ (base.Rotation a) h room (symbol_of_rotation a))
+
+-- the state after a move, with so many bytes fed
+abbrev pub at_fed : State → Token → ℕ → State
+at_fed s t n = record (added s t) { fed = n }
+
+-- what was read from a state on: a move as it is spelled
+pub record RanMove (limit : ℕ) (s : State) (bytes : List ℕ) (t : Token) : Type 0 where
+  pub end : State
+  pub ran : run_within limit s bytes ≡ Ok end
+  pub ready : IsReady end.last
+  pub fed : end.fed ≡ s.fed + length bytes
+  pub settles : settled end ≡ at_fed (settled s) t end.fed
+
+run_suffix : (limit : ℕ) → (s : State) (b : Base) (n : ℕ) (x : Suffix) → (end : State) × (run_within limit (based s b n) (suffix_bytes x) ≡ Ok end) × IsReady end.last × (end.fed ≡ n + length (suffix_bytes x)) × (settled end ≡ at_fed (settled s) (token_of b (suffix_power x)) end.fed)
+unfolding step_within symbol_of based
+run_suffix limit s b n Nothing = (based s b n, refl, tt, omega arith, refl)
+run_suffix limit s b n Two = (counted (with_last (last.Doubled b) (based s b n)), refl, tt, refl, refl)
+run_suffix limit s b n (Prime Plain) = (counted (added (based s b n) (token_of b Counter)), refl, tt, refl, refl)
+run_suffix limit s b n (Prime Typographic) =
+    (counted (counted (counted (added (based s b n) (token_of b Counter)))), refl, tt, omega arith, refl)
+run_suffix limit s b n (TwoPrime Plain) = (counted (counted (added (based s b n) (token_of b Half))), refl, tt, omega arith, refl)
+run_suffix limit s b n (TwoPrime Typographic) =
+    (counted (counted (counted (counted (added (based s b n) (token_of b Half))))), refl, tt, omega arith, refl)
+
+ran_move : (limit : ℕ) → (s : State) (b : Base) (x : Suffix) → IsReady s.last → count (settled s) < limit → RanMove limit s (base_bytes b ++ suffix_bytes x) (token_of b (suffix_power x))
+ran_move limit s b x h room =
+    let rest = run_suffix limit s b (s.fed + length (base_bytes b)) x in
+    record {
+      end = rest.0;
+      ran = run-append limit s (base_bytes b) (suffix_bytes x) ∙ ap (λ r. and_then r (λ t. run_within limit t (suffix_bytes x))) (run_base limit s b h room) ∙ rest.1;
+      ready = rest.2;
+      fed = let e = rest.3 in omega (arith, e, length-append (base_bytes b) (suffix_bytes x));
+      settles = rest.4;
+    }
+
+step_blank : (limit : ℕ) → (s : State) (b : Blank) → IsReady s.last → step_within limit s (blank_byte b) ≡ Ok (counted (settled s))
+step_blank limit s b h = step_ready limit s (blank_byte b) h ∙ ap (λ k. step_by limit k s) (symbol_of_blank b)
+
+-- a move and a blank
+pub run_move : (limit : ℕ) → (s : State) (b : Base) (x : Suffix) (k : Blank) → IsReady s.last → count (settled s) < limit
+    → run_within limit s (base_bytes b ++ suffix_bytes x ++ blank_byte k ∷ []) ≡ Ok (at_fed (settled s) (token_of b (suffix_power x)) (s.fed + length (base_bytes b ++ suffix_bytes x ++ blank_byte k ∷ [])))
+run_move limit s b x k h room =
+    let one = ran_move limit s b x h room in
+    let front = base_bytes b ++ suffix_bytes x in
+    let sum : one.end.fed + 1 ≡ s.fed + length (front ++ blank_byte k ∷ []) = omega (arith, one.fed, length-append front (blank_byte k ∷ [])) in
+    run-append limit s front (blank_byte k ∷ []) ∙ ap (λ r. and_then r (λ t. run_within limit t (blank_byte k ∷ []))) one.ran
+    ∙ run_one limit one.end _ (blank_byte k) (step_blank limit one.end k one.ready) ∙ ap (λ t. Ok (counted t)) one.settles ∙ ap (λ n. Ok (at_fed (settled s) (token_of b (suffix_power x)) n)) sum
 
 -- what was read from a state on: these moves, where the bracket is as it was
 pub record Ran (limit : ℕ) (s : State) (bytes : List ℕ) (moves : List Token) : Type 0 where
@@ -123,17 +170,6 @@ pub record Ran (limit : ℕ) (s : State) (bytes : List ℕ) (moves : List Token)
   pub normal : (settled end).normal ≡ outside s.bracket (settled s).normal moves
   pub bracketed : (settled end).bracketed ≡ inside s.bracket (settled s).bracketed moves
   pub bracket : end.bracket ≡ s.bracket
-
-run_suffix : (limit : ℕ) → (s : State) (b : Base) (n : ℕ) (x : Suffix) → (end : State) × (run_within limit (based s b n) (suffix_bytes x) ≡ Ok end) × IsReady end.last × ((settled end).normal ≡ outside s.bracket (settled s).normal (token_of b (suffix_power x) ∷ [])) × ((settled end).bracketed ≡ inside s.bracket (settled s).bracketed (token_of b (suffix_power x) ∷ [])) × (end.bracket ≡ s.bracket)
-unfolding step_within symbol_of based
-run_suffix limit s b n Nothing = (based s b n, refl, tt, refl, refl, refl)
-run_suffix limit s b n Two = (counted (with_last (last.Doubled b) (based s b n)), refl, tt, refl, refl, refl)
-run_suffix limit s b n (Prime Plain) = (counted (added (based s b n) (token_of b Counter)), refl, tt, refl, refl, refl)
-run_suffix limit s b n (Prime Typographic) =
-    (counted (counted (counted (added (based s b n) (token_of b Counter)))), refl, tt, refl, refl, refl)
-run_suffix limit s b n (TwoPrime Plain) = (counted (counted (added (based s b n) (token_of b Half))), refl, tt, refl, refl, refl)
-run_suffix limit s b n (TwoPrime Typographic) =
-    (counted (counted (counted (counted (added (based s b n) (token_of b Half))))), refl, tt, refl, refl, refl)
 
 pub outside_none : (o : Option ℕ) (n : List Token) → n ≡ outside o n []
 outside_none None n = sym (append-nil n)
@@ -178,22 +214,21 @@ ran_piece : (limit : ℕ) → (s : State) (p : Piece) → IsReady s.last → cou
 ran_piece limit s (Gap b) h room =
     record {
       end = counted (settled s);
-      ran = run_one limit s _ (blank_byte b) (step_ready limit s _ h ∙ ap (λ k. step_by limit k s) (symbol_of_blank b));
+      ran = run_one limit s _ (blank_byte b) (step_blank limit s b h);
       ready = tt;
       normal = outside_none _ _;
       bracketed = inside_none _ _;
       bracket = refl;
     }
 ran_piece limit s (Spelled b x) h room =
-    let base = run_base limit s b h (omega arith) in
-    let rest = run_suffix limit s b base.0 x in
+    let one = ran_move limit s b x h (omega arith) in
     record {
-      end = rest.0;
-      ran = run-append limit s (base_bytes b) (suffix_bytes x) ∙ ap (λ r. and_then r (λ t. run_within limit t (suffix_bytes x))) base.1 ∙ rest.1;
-      ready = rest.2;
-      normal = rest.3;
-      bracketed = rest.4;
-      bracket = rest.5;
+      end = one.end;
+      ran = one.ran;
+      ready = one.ready;
+      normal = ap (λ (t : State). t.normal) one.settles;
+      bracketed = ap (λ (t : State). t.bracketed) one.settles;
+      bracket = ap (λ (t : State). t.bracket) one.settles;
     }
 
 ran_pieces : (limit : ℕ) → (s : State) (ps : List Piece) → IsReady s.last → count (settled s) + length (flat_map piece_moves ps) ≤ limit → Ran limit s (flat_map piece_bytes ps) (flat_map piece_moves ps)

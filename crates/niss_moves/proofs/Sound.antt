@@ -50,6 +50,12 @@ pub symbol_is : (b : ℕ) → IsSymbol (symbol_of b) b
 unfolding symbol_of
 symbol_is b = look_up_is bytes_of_a_line table b
 
+pub base_is : (byte : ℕ) (b : Base) → symbol_of byte ≡ symbol.Base b → base_bytes b ≡ byte ∷ []
+base_is byte b e = subst (λ (x : Symbol). IsSymbol x byte) e (symbol_is byte)
+
+pub blank_is : (byte : ℕ) → symbol_of byte ≡ symbol.Blank → (x : Blank) × (byte ≡ blank_byte x)
+blank_is byte e = subst (λ (x : Symbol). IsSymbol x byte) e (symbol_is byte)
+
 -- the bytes so far as whole items, and an open bracket with its pieces if there is one
 abbrev pub front_bytes : List Item → Option (List Piece) → List ℕ
 front_bytes items None = flat_map item_bytes items
