@@ -21,10 +21,12 @@ fn base_of(letter: Base, bytes: &[u8]) -> (Base, usize)
     ensures base { take result.1 bytes.now ≡ base_bytes result.0 }
     ensures short { result.1 ≤ 2 }
 {
-    match letter {
-        Base::Face(face) if bytes[1] == b'w' => (Base::Wide(face), 2),
-        _ => (letter, 1),
+    if bytes[1] == b'w' {
+        if let Base::Face(face) = letter {
+            return (Base::Wide(face), 2);
+        }
     }
+    (letter, 1)
 }
 
 /// How many bytes the apostrophe in front of the bytes has, if there is one.
