@@ -4,7 +4,7 @@ use Rattle.std.proofs.lemmas.Bool.{lt-ltb}
 use Rattle.niss_moves.specs.Letters.{face_letter}
 use Rattle.niss_moves.specs.Notation.{lower_letter, slice_letter, rotation_letter, base_bytes, token_of, Plain, Typographic, Suffix, Nothing, Two, Prime, TwoPrime, suffix_bytes, suffix_power, Blank, Space, Tab, Return, blank_byte}
 use Rattle.niss_moves.specs.Line.{Piece, Gap, Spelled, piece_bytes, piece_moves, Item, Outside, Bracket, item_bytes, item_normal, item_bracketed, Spells}
-use Rattle.niss_moves.specs.Machine.{symbol_of, State, start, outside, inside, added, settled, opened, closed, count, counted, with_last, step_by, step_at, step_within, and_then, run_within}
+use Rattle.niss_moves.specs.Machine.{symbol_of, State, start, outside, inside, added, settled, opened, closed, count, with_last, fed_to, step_by, step_at, step_within, and_then, run_within}
 use Rattle.niss_moves.specs.declared.turn.Face.{Face}
 use Rattle.niss_moves.specs.declared.turn.Face.TheVariants.{U, D, R, L, F, B}
 use Rattle.niss_moves.specs.declared.turn.Power.TheVariants.{Half, Counter}
@@ -36,9 +36,13 @@ IsReady (last.FirstByte b two) = ⊥
 IsReady (last.SecondByte b two) = ⊥
 IsReady _ = Unit {0}
 
-pub step_ready : (limit : ℕ) → (s : State) (byte : ℕ) → IsReady s.last → step_within limit s byte ≡ step_by limit (symbol_of byte) s
+-- one more byte was fed
+abbrev pub counted : State → State
+counted s = record s { fed = s.fed + 1 }
+
+pub step_ready : (limit : ℕ) → (s : State) (byte : ℕ) → IsReady s.last → step_within limit s byte ≡ fed_to (s.fed + 1) (step_by limit (symbol_of byte) s)
 unfolding step_within
-step_ready limit s byte h = at s.last h
+step_ready limit s byte h = ap (fed_to (s.fed + 1)) (at s.last h)
   where
     at : (t : LastMove) → IsReady t → step_at limit t s byte ≡ step_by limit (symbol_of byte) s
     at last.Finished h = refl
@@ -87,7 +91,7 @@ symbol_of_blank Return = refl
 -- a base is read
 begun_ready : (limit : ℕ) → (s : State) (byte : ℕ) (b : Base) → IsReady s.last → count (settled s) < limit → symbol_of byte ≡ symbol.Base b → step_within limit s byte ≡ Ok (counted (with_last (last.Bare b) (settled s)))
 begun_ready limit s byte b h room e =
-    step_ready limit s byte h ∙ ap (λ k. step_by limit k s) e ∙ ap (λ c. cond c (Ok (counted (with_last (last.Bare b) (settled s)))) (Err (TooLong (s.fed + 1)))) (lt-ltb _ _ room)
+    step_ready limit s byte h ∙ ap (λ k. fed_to (s.fed + 1) (step_by limit k s)) e ∙ ap (λ c. fed_to (s.fed + 1) (cond c (Ok (with_last (last.Bare b) (settled s))) (Err (TooLong (s.fed + 1))))) (lt-ltb _ _ room)
 
 run_one : (limit : ℕ) → (s t : State) (x : ℕ) → step_within limit s x ≡ Ok t → run_within limit s (x ∷ []) ≡ Ok t
 run_one limit s t x e = ap (λ r. and_then r (λ s. run_within limit s [])) e
@@ -150,7 +154,7 @@ ran_move limit s b x h room =
     }
 
 step_blank : (limit : ℕ) → (s : State) (b : Blank) → IsReady s.last → step_within limit s (blank_byte b) ≡ Ok (counted (settled s))
-step_blank limit s b h = step_ready limit s (blank_byte b) h ∙ ap (λ k. step_by limit k s) (symbol_of_blank b)
+step_blank limit s b h = step_ready limit s (blank_byte b) h ∙ ap (λ k. fed_to (s.fed + 1) (step_by limit k s)) (symbol_of_blank b)
 
 -- a move and a blank
 pub run_move : (limit : ℕ) → (s : State) (b : Base) (x : Suffix) (k : Blank) → IsReady s.last → count (settled s) < limit
@@ -273,11 +277,11 @@ entered s = counted (record (settled s) { bracket = Some (s.fed + 1) })
 
 step_open : (limit : ℕ) → (s : State) → IsReady s.last → s.bracket ≡ None → step_within limit s 40 ≡ Ok (entered s)
 unfolding symbol_of entered
-step_open limit s h o = step_ready limit s 40 h ∙ ap (λ b. opened b s) o
+step_open limit s h o = step_ready limit s 40 h ∙ ap (λ b. fed_to (s.fed + 1) (opened b s)) o
 
 step_close : (limit : ℕ) → (s : State) (c : ℕ) → IsReady s.last → s.bracket ≡ Some c → step_within limit s 41 ≡ Ok (counted (record (settled s) { bracket = None }))
 unfolding symbol_of
-step_close limit s c h o = step_ready limit s 41 h ∙ ap (λ b. closed b s) o
+step_close limit s c h o = step_ready limit s 41 h ∙ ap (λ b. fed_to (s.fed + 1) (closed b s)) o
 
 read_item : (limit : ℕ) → (s : State) (x : Item) → IsReady s.last → s.bracket ≡ None → count (settled s) + length (item_normal x) + length (item_bracketed x) ≤ limit → Read limit s (item_bytes x) (item_normal x) (item_bracketed x)
 unfolding entered

@@ -63,12 +63,12 @@ pub outcome_of_run : (r next : Result State ReadFault) (bytes xs : List ℕ) →
 outcome_of_run r next bytes xs e h more =
     ap (λ r. answer_after r more) e ∙ ap ended (sym (and_then-assoc r (λ s. run s xs) (λ s. run s more) (λ s. run s (xs ++ more)) (λ t. run-append 256 t xs more))) ∙ h (xs ++ more) ∙ ap read_line (sym (append_assoc bytes xs more))
 
-pub fed_move : (fault : Option ReadFault) (p q : PartialLine) (n k : ℕ) (front xs : List ℕ) → fault ≡ None → length xs ≡ k → run (state_of p n) xs ≡ Ok (state_of q (n + k)) → IsFed (record { fed = n; fault = fault; so_far = state_of p n }) front → IsFed (record { fed = n + k; fault = fault; so_far = state_of q (n + k) }) (front ++ xs)
+pub fed_moves : (fault : Option ReadFault) (p q : PartialLine) (front xs : List ℕ) → fault ≡ None → q.fed ≡ p.fed + length xs → run (state_of p) xs ≡ Ok (state_of q) → IsFed (record { fed = p.fed; fault = fault; so_far = state_of p }) front → IsFed (record { fed = q.fed; fault = fault; so_far = state_of q }) (front ++ xs)
 unfolding line_with
-fed_move fault p q n k front xs none l r h =
+fed_moves fault p q front xs none k r h =
     record {
-      fed = let e = h.fed in omega (arith, e, l, length-append front xs);
-      line = outcome_of_run (outcome_of fault p n) (outcome_of fault q (n + k)) front xs (subst (λ (o : Option ReadFault). outcome_of o q (n + k) ≡ and_then (outcome_of o p n) (λ s. run s xs)) (sym none) (sym r)) h.line;
+      fed = let e = h.fed in omega (arith, e, k, length-append front xs);
+      line = outcome_of_run (outcome_of fault p) (outcome_of fault q) front xs (subst (λ (o : Option ReadFault). outcome_of o q ≡ and_then (outcome_of o p) (λ s. run s xs)) (sym none) (sym r)) h.line;
     }
 
 settled_finished : (s : State) → s.last ≡ last.Finished → settled s ≡ s
@@ -111,41 +111,44 @@ no_line_feed : (bytes : List ℕ) (t : Token) → IsMove bytes t → HasNoLineFe
 no_line_feed bytes t h =
     subst HasNoLineFeed (sym h.bytes_are) (no_feed_more (base_bytes h.base ++ suffix_bytes h.suffix) _ (no_feed_more (base_bytes h.base) _ (no_feed_base h.base) (no_feed_suffix h.suffix)) (no_feed_blank h.blank))
 
--- A line took these bytes as whole moves.
+-- A line took these bytes as whole moves, and counts them later.
 pub record HasTaken (old new : PartialLine) (bytes : List ℕ) : Type 0 where
-  pub runs : (fed : ℕ) → run (state_of old fed) bytes ≡ Ok (state_of new (fed + length bytes))
+  pub runs : run (state_of old) bytes ≡ Ok (record (state_of new) { fed = old.fed + length bytes })
+  pub uncounted : new.fed ≡ old.fed
   pub finished : new.last ≡ last.Finished
-  pub room : HasRoom (state_of new 0)
+  pub room : HasRoom (state_of new)
   pub inside : HasNoLineFeed bytes
 
-pub taken_none : (p : PartialLine) → p.last ≡ last.Finished → HasRoom (state_of p 0) → HasTaken p p []
+pub taken_none : (p : PartialLine) → p.last ≡ last.Finished → HasRoom (state_of p) → HasTaken p p []
 taken_none p e room =
-    record { runs = λ fed. ap (λ n. Ok (state_of p n)) (let sum : fed ≡ fed + 0 = omega arith in sum); finished = e; room = room; inside = tt }
+    let sum : p.fed ≡ p.fed + 0 = omega arith in
+    record { runs = ap (λ n. Ok (record (state_of p) { fed = n })) sum; uncounted = refl; finished = e; room = room; inside = tt }
 
-pub taken_more : (old mid new : PartialLine) (a b : List ℕ) (t : Token) → HasTaken old mid a → length mid.niss.normal + length mid.niss.bracketed < 256
-    → IsMove b t → ((fed : ℕ) → state_of new fed ≡ added (state_of mid fed) t) → HasTaken old new (a ++ b)
+taken_more : (old mid new : PartialLine) (a b : List ℕ) (t : Token) → HasTaken old mid a → length mid.niss.normal + length mid.niss.bracketed < 256
+    → IsMove b t → state_of new ≡ added (state_of mid) t → HasTaken old new (a ++ b)
 taken_more old mid new a b t h few is pushed =
     record {
-      runs = λ fed.
-          let here = state_of mid (fed + length a) in
-          let sum : fed + length a + length b ≡ fed + length (a ++ b) = omega (arith, length-append a b) in
-          run-append 256 (state_of old fed) a b ∙ ap (λ r. and_then r (λ s. run s b)) (h.runs fed) ∙ move_run here b t h.finished few is
-          ∙ ap (λ n. Ok (at_fed here t n)) sum ∙ ap Ok (sym (pushed (fed + length (a ++ b))));
-      finished = ap (λ (s : State). s.last) (pushed 0);
+      runs =
+          let here = record (state_of mid) { fed = old.fed + length a } in
+          let sum : old.fed + length a + length b ≡ old.fed + length (a ++ b) = omega (arith, length-append a b) in
+          run-append 256 (state_of old) a b ∙ ap (λ r. and_then r (λ s. run s b)) h.runs ∙ move_run here b t h.finished few is
+          ∙ (λ i. Ok (record (sym pushed i) { fed = sum i }));
+      uncounted = ap (λ (s : State). s.fed) pushed ∙ h.uncounted;
+      finished = ap (λ (s : State). s.last) pushed;
       room =
           let more = count_more mid.bracket mid.niss.normal mid.niss.bracketed (t ∷ []) in
-          subst (λ (s : State). HasRoom s) (sym (pushed 0)) (omega (arith, more, few));
+          subst (λ (s : State). HasRoom s) (sym pushed) (omega (arith, more, few));
       inside = no_feed_more a b h.inside (no_line_feed b t is);
     }
 
 -- a move of a piece of the bytes
 pub taken_next : (old mid new : PartialLine) (bytes rest : List ℕ) (i k : ℕ) (t : Token) → rest ≡ drop i bytes → HasTaken old mid (take i bytes)
-    → length mid.niss.normal + length mid.niss.bracketed < 256 → IsMove (take k rest) t → ((fed : ℕ) → state_of new fed ≡ added (state_of mid fed) t)
+    → length mid.niss.normal + length mid.niss.bracketed < 256 → IsMove (take k rest) t → state_of new ≡ added (state_of mid) t
     → HasTaken old new (take (i + k) bytes)
 taken_next old mid new bytes rest i k t e h few is pushed =
     subst (λ (xs : List ℕ). HasTaken old new xs) (ap (λ (xs : List ℕ). take i bytes ++ take k xs) e ∙ sym (take-add i k bytes)) (taken_more old mid new (take i bytes) (take k rest) t h few is pushed)
 
-pub one_more : (mid new : PartialLine) (t : Token) → state_of new 0 ≡ added (state_of mid 0) t
+pub one_more : (mid new : PartialLine) (t : Token) → state_of new ≡ added (state_of mid) t
     → length new.niss.normal + length new.niss.bracketed ≡ length mid.niss.normal + length mid.niss.bracketed + 1
 one_more mid new t e =
     ap (λ (s : State). length s.normal + length s.bracketed) e ∙ count_more mid.bracket mid.niss.normal mid.niss.bracketed (t ∷ [])
