@@ -4,7 +4,8 @@ use Rattle.niss_moves.specs.Turn.{opposite, same_face}
 use Rattle.niss_moves.specs.Canonical.{face_may_follow, IsCanonical}
 use Rattle.niss_moves.specs.declared.turn.Face.{Face}
 use Rattle.niss_moves.specs.declared.turn.Turn.{Turn}
-use Rattle.niss_moves.proofs.Finite.{both, both_left, both_right, every_face, at_face, implies, by_implies}
+use Rattle.niss_moves.proofs.Finite.{every_face, at_face, implies, by_implies}
+use Rattle.niss_moves.proofs.Logic.{both, both_left, both_right}
 use Rattle.niss_moves.proofs.Rotations.{same_face_is}
 
 pub canonical_tail : (x : Turn) (s : List Turn) → IsCanonical (x ∷ s) → IsCanonical s

@@ -9,7 +9,7 @@ use Rattle.niss_moves.specs.Cleaning.{rewritten_pair, IsRewriting, Cleans, Clean
 use Rattle.niss_moves.specs.RewritingLaws.{are_disordered, disorder}
 use Rattle.niss_moves.specs.CleanedLine.{behind_first, rewritten_once, rewritten_within, most_rewritings, clean_turns, CleanTurnsAreClean}
 use Rattle.niss_moves.specs.declared.turn.Turn.{Turn}
-use Rattle.niss_moves.proofs.Finite.{both}
+use Rattle.niss_moves.proofs.Logic.{both}
 use Rattle.niss_moves.proofs.Disorder.{rewriting_lowers}
 
 -- where nothing is rewritten, nothing breaks the order

@@ -12,7 +12,7 @@ use Rattle.niss_moves.specs.declared.turn.Power.{Power}
 use Rattle.niss_moves.specs.declared.turn.Turn.{Turn}
 use denote.Enum.Bare.{sameb}
 use Rattle.niss_moves.specs.contracts.turn.Face.{the_type}
-use Rattle.niss_moves.proofs.Finite.{both}
+use Rattle.niss_moves.proofs.Logic.{both}
 use Rattle.niss_moves.proofs.Rotations.{same_face_is}
 use Rattle.niss_moves.proofs.CanonicalLists.{canonical_pair, canonical_front, canonical_join, canonical_push, canonical_same, snoc_assoc, last_of, same_may_not_follow, are_exchanged, exchanged, swap_follows, pass_follows, skip_middle}
 

@@ -4,7 +4,7 @@ use Rattle.std.proofs.lemmas.Bool.{lt-ltb}
 use Rattle.niss_moves.specs.Letters.{face_letter}
 use Rattle.niss_moves.specs.Notation.{lower_letter, slice_letter, rotation_letter, base_bytes, token_of, Plain, Typographic, Suffix, Nothing, Two, Prime, TwoPrime, suffix_bytes, suffix_power, Blank, Space, Tab, Return, blank_byte}
 use Rattle.niss_moves.specs.Line.{Piece, Gap, Spelled, piece_bytes, piece_moves, Item, Outside, Bracket, item_bytes, item_normal, item_bracketed, Spells}
-use Rattle.niss_moves.specs.Machine.{symbol_of, State, start, outside, inside, added, settled, opened, closed, count, counted, with_last, step_by, step_at, step_within, and_then, run_within}
+use Rattle.niss_moves.specs.Machine.{symbol_of, State, start, outside, inside, added, settled, opened, closed, count, with_last, fed_to, step_by, step_at, step_within, and_then, run_within}
 use Rattle.niss_moves.specs.declared.turn.Face.{Face}
 use Rattle.niss_moves.specs.declared.turn.Face.TheVariants.{U, D, R, L, F, B}
 use Rattle.niss_moves.specs.declared.turn.Power.TheVariants.{Half, Counter}
@@ -36,9 +36,13 @@ IsReady (last.FirstByte b two) = ⊥
 IsReady (last.SecondByte b two) = ⊥
 IsReady _ = Unit {0}
 
-pub step_ready : (limit : ℕ) → (s : State) (byte : ℕ) → IsReady s.last → step_within limit s byte ≡ step_by limit (symbol_of byte) s
+-- one more byte was fed
+abbrev pub counted : State → State
+counted s = record s { fed = s.fed + 1 }
+
+pub step_ready : (limit : ℕ) → (s : State) (byte : ℕ) → IsReady s.last → step_within limit s byte ≡ fed_to (s.fed + 1) (step_by limit (symbol_of byte) s)
 unfolding step_within
-step_ready limit s byte h = at s.last h
+step_ready limit s byte h = ap (fed_to (s.fed + 1)) (at s.last h)
   where
     at : (t : LastMove) → IsReady t → step_at limit t s byte ≡ step_by limit (symbol_of byte) s
     at last.Finished h = refl
@@ -87,7 +91,7 @@ symbol_of_blank Return = refl
 -- a base is read
 begun_ready : (limit : ℕ) → (s : State) (byte : ℕ) (b : Base) → IsReady s.last → count (settled s) < limit → symbol_of byte ≡ symbol.Base b → step_within limit s byte ≡ Ok (counted (with_last (last.Bare b) (settled s)))
 begun_ready limit s byte b h room e =
-    step_ready limit s byte h ∙ ap (λ k. step_by limit k s) e ∙ ap (λ c. cond c (Ok (counted (with_last (last.Bare b) (settled s)))) (Err (TooLong (s.fed + 1)))) (lt-ltb _ _ room)
+    step_ready limit s byte h ∙ ap (λ k. fed_to (s.fed + 1) (step_by limit k s)) e ∙ ap (λ c. fed_to (s.fed + 1) (cond c (Ok (with_last (last.Bare b) (settled s))) (Err (TooLong (s.fed + 1))))) (lt-ltb _ _ room)
 
 run_one : (limit : ℕ) → (s t : State) (x : ℕ) → step_within limit s x ≡ Ok t → run_within limit s (x ∷ []) ≡ Ok t
 run_one limit s t x e = ap (λ r. and_then r (λ s. run_within limit s [])) e
@@ -102,18 +106,65 @@ step_wide : (limit : ℕ) → (s : State) (f : Face) (n : ℕ) → step_within l
 unfolding step_within symbol_of based
 step_wide limit s f n = refl
 
-run_base : (limit : ℕ) → (s : State) (b : Base) → IsReady s.last → count (settled s) < limit → (n : ℕ) × (run_within limit s (base_bytes b) ≡ Ok (based s b n))
+run_base : (limit : ℕ) → (s : State) (b : Base) → IsReady s.last → count (settled s) < limit → run_within limit s (base_bytes b) ≡ Ok (based s b (s.fed + length (base_bytes b)))
 unfolding based
 run_base limit s (base.Face f) h room =
-    (s.fed + 1, run_one limit s _ (face_letter f) (begun_ready limit s _ (base.Face f) h room (symbol_of_face f)))
+    run_one limit s _ (face_letter f) (begun_ready limit s _ (base.Face f) h room (symbol_of_face f))
 run_base limit s (base.Wide f) h room =
-    (s.fed + 1 + 1, run_on limit s _ (face_letter f) (119 ∷ []) (begun_ready limit s _ (base.Face f) h room (symbol_of_face f)) ∙ run_one limit _ _ 119 (step_wide limit s f (s.fed + 1)))
+    run_on limit s _ (face_letter f) (119 ∷ []) (begun_ready limit s _ (base.Face f) h room (symbol_of_face f)) ∙ run_one limit _ _ 119 (step_wide limit s f (s.fed + 1)) ∙ ap (λ n. Ok (based s (base.Wide f) n)) (omega arith)
 run_base limit s (base.LowerCase f) h room =
-    (s.fed + 1, run_one limit s _ (lower_letter f) (begun_ready limit s _ (base.LowerCase f) h room (symbol_of_lower f)))
+    run_one limit s _ (lower_letter f) (begun_ready limit s _ (base.LowerCase f) h room (symbol_of_lower f))
 run_base limit s (base.Slice l) h room =
-    (s.fed + 1, run_one limit s _ (slice_letter l) (begun_ready limit s _ (base.Slice l) h room (symbol_of_slice l)))
+    run_one limit s _ (slice_letter l) (begun_ready limit s _ (base.Slice l) h room (symbol_of_slice l))
 run_base limit s (base.Rotation a) h room =
-    (s.fed + 1, run_one limit s _ (rotation_letter a) (begun_ready limit s _ (base.Rotation a) h room (symbol_of_rotation a)))
+    run_one limit s _ (rotation_letter a) (begun_ready limit s _ (base.Rotation a) h room (symbol_of_rotation a))
+
+-- the state after a move, with so many bytes fed
+abbrev pub at_fed : State → Token → ℕ → State
+at_fed s t n = record (added s t) { fed = n }
+
+-- what was read from a state on: a move as it is spelled
+pub record RanMove (limit : ℕ) (s : State) (bytes : List ℕ) (t : Token) : Type 0 where
+  pub end : State
+  pub ran : run_within limit s bytes ≡ Ok end
+  pub ready : IsReady end.last
+  pub fed : end.fed ≡ s.fed + length bytes
+  pub settles : settled end ≡ at_fed (settled s) t end.fed
+
+run_suffix : (limit : ℕ) → (s : State) (b : Base) (n : ℕ) (x : Suffix) → (end : State) × (run_within limit (based s b n) (suffix_bytes x) ≡ Ok end) × IsReady end.last × (end.fed ≡ n + length (suffix_bytes x)) × (settled end ≡ at_fed (settled s) (token_of b (suffix_power x)) end.fed)
+unfolding step_within symbol_of based
+run_suffix limit s b n Nothing = (based s b n, refl, tt, omega arith, refl)
+run_suffix limit s b n Two = (counted (with_last (last.Doubled b) (based s b n)), refl, tt, refl, refl)
+run_suffix limit s b n (Prime Plain) = (counted (added (based s b n) (token_of b Counter)), refl, tt, refl, refl)
+run_suffix limit s b n (Prime Typographic) =
+    (counted (counted (counted (added (based s b n) (token_of b Counter)))), refl, tt, omega arith, refl)
+run_suffix limit s b n (TwoPrime Plain) = (counted (counted (added (based s b n) (token_of b Half))), refl, tt, omega arith, refl)
+run_suffix limit s b n (TwoPrime Typographic) =
+    (counted (counted (counted (counted (added (based s b n) (token_of b Half))))), refl, tt, omega arith, refl)
+
+ran_move : (limit : ℕ) → (s : State) (b : Base) (x : Suffix) → IsReady s.last → count (settled s) < limit → RanMove limit s (base_bytes b ++ suffix_bytes x) (token_of b (suffix_power x))
+ran_move limit s b x h room =
+    let rest = run_suffix limit s b (s.fed + length (base_bytes b)) x in
+    record {
+      end = rest.0;
+      ran = run-append limit s (base_bytes b) (suffix_bytes x) ∙ ap (λ r. and_then r (λ t. run_within limit t (suffix_bytes x))) (run_base limit s b h room) ∙ rest.1;
+      ready = rest.2;
+      fed = let e = rest.3 in omega (arith, e, length-append (base_bytes b) (suffix_bytes x));
+      settles = rest.4;
+    }
+
+step_blank : (limit : ℕ) → (s : State) (b : Blank) → IsReady s.last → step_within limit s (blank_byte b) ≡ Ok (counted (settled s))
+step_blank limit s b h = step_ready limit s (blank_byte b) h ∙ ap (λ k. fed_to (s.fed + 1) (step_by limit k s)) (symbol_of_blank b)
+
+-- a move and a blank
+pub run_move : (limit : ℕ) → (s : State) (b : Base) (x : Suffix) (k : Blank) → IsReady s.last → count (settled s) < limit
+    → run_within limit s (base_bytes b ++ suffix_bytes x ++ blank_byte k ∷ []) ≡ Ok (at_fed (settled s) (token_of b (suffix_power x)) (s.fed + length (base_bytes b ++ suffix_bytes x ++ blank_byte k ∷ [])))
+run_move limit s b x k h room =
+    let one = ran_move limit s b x h room in
+    let front = base_bytes b ++ suffix_bytes x in
+    let sum : one.end.fed + 1 ≡ s.fed + length (front ++ blank_byte k ∷ []) = omega (arith, one.fed, length-append front (blank_byte k ∷ [])) in
+    run-append limit s front (blank_byte k ∷ []) ∙ ap (λ r. and_then r (λ t. run_within limit t (blank_byte k ∷ []))) one.ran
+    ∙ run_one limit one.end _ (blank_byte k) (step_blank limit one.end k one.ready) ∙ ap (λ t. Ok (counted t)) one.settles ∙ ap (λ n. Ok (at_fed (settled s) (token_of b (suffix_power x)) n)) sum
 
 -- what was read from a state on: these moves, where the bracket is as it was
 pub record Ran (limit : ℕ) (s : State) (bytes : List ℕ) (moves : List Token) : Type 0 where
@@ -123,17 +174,6 @@ pub record Ran (limit : ℕ) (s : State) (bytes : List ℕ) (moves : List Token)
   pub normal : (settled end).normal ≡ outside s.bracket (settled s).normal moves
   pub bracketed : (settled end).bracketed ≡ inside s.bracket (settled s).bracketed moves
   pub bracket : end.bracket ≡ s.bracket
-
-run_suffix : (limit : ℕ) → (s : State) (b : Base) (n : ℕ) (x : Suffix) → (end : State) × (run_within limit (based s b n) (suffix_bytes x) ≡ Ok end) × IsReady end.last × ((settled end).normal ≡ outside s.bracket (settled s).normal (token_of b (suffix_power x) ∷ [])) × ((settled end).bracketed ≡ inside s.bracket (settled s).bracketed (token_of b (suffix_power x) ∷ [])) × (end.bracket ≡ s.bracket)
-unfolding step_within symbol_of based
-run_suffix limit s b n Nothing = (based s b n, refl, tt, refl, refl, refl)
-run_suffix limit s b n Two = (counted (with_last (last.Doubled b) (based s b n)), refl, tt, refl, refl, refl)
-run_suffix limit s b n (Prime Plain) = (counted (added (based s b n) (token_of b Counter)), refl, tt, refl, refl, refl)
-run_suffix limit s b n (Prime Typographic) =
-    (counted (counted (counted (added (based s b n) (token_of b Counter)))), refl, tt, refl, refl, refl)
-run_suffix limit s b n (TwoPrime Plain) = (counted (counted (added (based s b n) (token_of b Half))), refl, tt, refl, refl, refl)
-run_suffix limit s b n (TwoPrime Typographic) =
-    (counted (counted (counted (counted (added (based s b n) (token_of b Half))))), refl, tt, refl, refl, refl)
 
 pub outside_none : (o : Option ℕ) (n : List Token) → n ≡ outside o n []
 outside_none None n = sym (append-nil n)
@@ -178,22 +218,21 @@ ran_piece : (limit : ℕ) → (s : State) (p : Piece) → IsReady s.last → cou
 ran_piece limit s (Gap b) h room =
     record {
       end = counted (settled s);
-      ran = run_one limit s _ (blank_byte b) (step_ready limit s _ h ∙ ap (λ k. step_by limit k s) (symbol_of_blank b));
+      ran = run_one limit s _ (blank_byte b) (step_blank limit s b h);
       ready = tt;
       normal = outside_none _ _;
       bracketed = inside_none _ _;
       bracket = refl;
     }
 ran_piece limit s (Spelled b x) h room =
-    let base = run_base limit s b h (omega arith) in
-    let rest = run_suffix limit s b base.0 x in
+    let one = ran_move limit s b x h (omega arith) in
     record {
-      end = rest.0;
-      ran = run-append limit s (base_bytes b) (suffix_bytes x) ∙ ap (λ r. and_then r (λ t. run_within limit t (suffix_bytes x))) base.1 ∙ rest.1;
-      ready = rest.2;
-      normal = rest.3;
-      bracketed = rest.4;
-      bracket = rest.5;
+      end = one.end;
+      ran = one.ran;
+      ready = one.ready;
+      normal = ap (λ (t : State). t.normal) one.settles;
+      bracketed = ap (λ (t : State). t.bracketed) one.settles;
+      bracket = ap (λ (t : State). t.bracket) one.settles;
     }
 
 ran_pieces : (limit : ℕ) → (s : State) (ps : List Piece) → IsReady s.last → count (settled s) + length (flat_map piece_moves ps) ≤ limit → Ran limit s (flat_map piece_bytes ps) (flat_map piece_moves ps)
@@ -238,11 +277,11 @@ entered s = counted (record (settled s) { bracket = Some (s.fed + 1) })
 
 step_open : (limit : ℕ) → (s : State) → IsReady s.last → s.bracket ≡ None → step_within limit s 40 ≡ Ok (entered s)
 unfolding symbol_of entered
-step_open limit s h o = step_ready limit s 40 h ∙ ap (λ b. opened b s) o
+step_open limit s h o = step_ready limit s 40 h ∙ ap (λ b. fed_to (s.fed + 1) (opened b s)) o
 
 step_close : (limit : ℕ) → (s : State) (c : ℕ) → IsReady s.last → s.bracket ≡ Some c → step_within limit s 41 ≡ Ok (counted (record (settled s) { bracket = None }))
 unfolding symbol_of
-step_close limit s c h o = step_ready limit s 41 h ∙ ap (λ b. closed b s) o
+step_close limit s c h o = step_ready limit s 41 h ∙ ap (λ b. fed_to (s.fed + 1) (closed b s)) o
 
 read_item : (limit : ℕ) → (s : State) (x : Item) → IsReady s.last → s.bracket ≡ None → count (settled s) + length (item_normal x) + length (item_bracketed x) ≤ limit → Read limit s (item_bytes x) (item_normal x) (item_bracketed x)
 unfolding entered

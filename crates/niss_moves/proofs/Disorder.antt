@@ -9,7 +9,8 @@ use Rattle.niss_moves.specs.RewritingLaws.{are_disordered, disorder, RewritingLo
 use Rattle.niss_moves.specs.declared.turn.Face.{Face}
 use Rattle.niss_moves.specs.declared.turn.Power.{Power}
 use Rattle.niss_moves.specs.declared.turn.Turn.{Turn}
-use Rattle.niss_moves.proofs.Finite.{both_left, both_right, every_face, at_face, implies, by_implies}
+use Rattle.niss_moves.proofs.Finite.{every_face, at_face, implies, by_implies}
+use Rattle.niss_moves.proofs.Logic.{both_left, both_right, not_true}
 use Rattle.niss_moves.proofs.CanonicalLists.{are_exchanged, exchanged}
 use Rattle.niss_moves.proofs.Cleaned.{same_rewritten, other_rewritten}
 
@@ -24,10 +25,6 @@ disorders_test = refl
 disorders : (f g : Face) → are_exchanged f g ≡ true → ((same_face (opposite f) g && goes_first g) && not (same_face (opposite g) f && goes_first f)) ≡ true
 disorders f g h =
     by_implies _ _ (at_face (λ g. Disorders f g) (at_face (λ f. every_face (λ g. Disorders f g)) disorders_test f) g) h
-
-not_true : (b : Bool) → not b ≡ true → b ≡ false
-not_true true e = cc
-not_true false e = refl
 
 count_by-cons : (p : Turn → Bool) (t : Turn) (ts : List Turn) → count_by p (t ∷ ts) ≡ cond (p t) 1 0 + count_by p ts
 count_by-cons p t ts = sum_by-cons (λ x. cond (p x) 1 0) t ts

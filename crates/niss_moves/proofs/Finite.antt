@@ -1,5 +1,6 @@
 -- Facts over the finite types of the crate, by a test that is computed over all values.
 use Rattle.std.proofs.Common.{◌≡◌, Bool, true, false, ◌&&◌, refl, subst, Option, None, Some}
+use Rattle.niss_moves.proofs.Logic.{both_left, both_right, both}
 use Rattle.niss_moves.specs.Places.{Coord, Neg, Zero, Pos, Vector, vector, Place, same_coord, same_vector, same_place}
 use Rattle.niss_moves.specs.declared.turn.Face.{Face}
 use Rattle.niss_moves.specs.declared.turn.Face.TheVariants.{U, D, R, L, F, B}
@@ -11,18 +12,6 @@ use Rattle.niss_moves.specs.declared.axis.Axis.{Axis}
 use Rattle.niss_moves.specs.declared.axis.Axis.TheVariants.{Ud, Rl, Fb}
 use Rattle.niss_moves.specs.declared.token.Token.{Token}
 use Rattle.niss_moves.specs.declared.token.Token.TheVariants as token
-
-pub both_left : (a b : Bool) → (a && b) ≡ true → a ≡ true
-both_left true b e = refl
-both_left false b e = e
-
-pub both : (a b : Bool) → a ≡ true → b ≡ true → (a && b) ≡ true
-both true b h e = e
-both false b h e = h
-
-pub both_right : (a b : Bool) → (a && b) ≡ true → b ≡ true
-both_right true b e = e
-both_right false b e = cc
 
 unfoldable pub every_coord : (Coord → Bool) → Bool
 every_coord p = p Neg && (p Zero && p Pos)

@@ -1,3 +1,4 @@
+pub mod Logic
 pub mod Finite
 pub mod Rotations
 pub mod Expansions

@@ -6,7 +6,8 @@ use Rattle.std.proofs.lemmas.List.Kept.{AllPairs-cons}
 use Rattle.niss_moves.specs.Places.{Place, is_place, same_place}
 use Rattle.niss_moves.specs.Facelets.{places}
 use Rattle.niss_moves.specs.EffectLaws.{PlacesAreListed, PlacesDiffer}
-use Rattle.niss_moves.proofs.Finite.{both_left, both_right, every_coord, every_vector, every_place, at_place, same_place_is, same_place_of, implies, by_implies}
+use Rattle.niss_moves.proofs.Finite.{every_coord, every_vector, every_place, at_place, same_place_is, same_place_of, implies, by_implies}
+use Rattle.niss_moves.proofs.Logic.{both_left, both_right}
 use Rattle.niss_moves.proofs.MadeLists.{none, here, later, first_or_later}
 
 -- each place is in the list

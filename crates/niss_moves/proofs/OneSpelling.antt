@@ -10,7 +10,8 @@ use Rattle.niss_moves.specs.declared.turn.Face.{Face}
 use Rattle.niss_moves.specs.declared.turn.Power.{Power}
 use Rattle.niss_moves.specs.declared.turn.Power.TheVariants.{Quarter, Half, Counter}
 use Rattle.niss_moves.specs.declared.rotation.Rotation.{Rotation}
-use Rattle.niss_moves.proofs.Finite.{both_left, both_right, every_face, every_power, every_optional_power, all_faces, same_place_of, implies, by_implies}
+use Rattle.niss_moves.proofs.Finite.{every_face, every_power, every_optional_power, all_faces, same_place_of, implies, by_implies}
+use Rattle.niss_moves.proofs.Logic.{both_left, both_right}
 use Rattle.niss_moves.proofs.Rotations.{every_rotation, at_rotation, same_face_is}
 
 same_power : Power → Power → Bool

@@ -189,11 +189,11 @@ line_end r bytes h =
     same (Ok s) = refl
     same (Err f) = refl
 
-pub told_line : (fault : Option ReadFault) (p : PartialLine) (n : ℕ) (bytes : List ℕ) (f : ReadFault) → fault ≡ Some f → IsFed (record { fed = n; fault = fault; so_far = state_of p n }) bytes → Err f ≡ read_line bytes
-told_line fault p n bytes f e h = sym (line_end _ bytes h ∙ ap (λ o. ended (state_or o (state_of p n))) e)
+pub told_line : (fault : Option ReadFault) (p : PartialLine) (bytes : List ℕ) (f : ReadFault) → fault ≡ Some f → IsFed (record { fed = p.fed; fault = fault; so_far = state_of p }) bytes → Err f ≡ read_line bytes
+told_line fault p bytes f e h = sym (line_end _ bytes h ∙ ap (λ o. ended (state_or o (state_of p))) e)
 
-pub ended_line : (fault : Option ReadFault) (p : PartialLine) (n : ℕ) (bytes : List ℕ) → fault ≡ None → IsFed (record { fed = n; fault = fault; so_far = state_of p n }) bytes → ended_at p.last (state_of p n) ≡ read_line bytes
-ended_line fault p n bytes e h = sym (line_end _ bytes h ∙ ap (λ o. ended (state_or o (state_of p n))) e)
+pub ended_line : (fault : Option ReadFault) (p : PartialLine) (bytes : List ℕ) → fault ≡ None → IsFed (record { fed = p.fed; fault = fault; so_far = state_of p }) bytes → ended_at p.last (state_of p) ≡ read_line bytes
+ended_line fault p bytes e h = sym (line_end _ bytes h ∙ ap (λ o. ended (state_or o (state_of p))) e)
 
 pub found_if : (bytes : List ℕ) (r : Result Moves ReadFault) → r ≡ read_line bytes → IfOk r (λ m. Spells bytes m.normal m.bracketed)
 found_if bytes (Ok m) e = line_spells bytes m (sym e)
@@ -204,44 +204,44 @@ fault_if bytes (Ok m) e = tt
 fault_if bytes (Err f) e = line_faults bytes f (sym e)
 
 -- a byte fed to a reader
-pub record IsFedOn (fault : Option ReadFault) (p : PartialLine) (n byte : ℕ) (next : Option ReadFault) (q : PartialLine) (m : ℕ) (result : Result (Unit {0}) ReadFault) : Type 0 where
-  pub fed : m ≡ n + 1
-  pub outcome : outcome_of next q m ≡ and_then (outcome_of fault p n) (λ s. step s byte)
-  pub answered : result ≡ answer (outcome_of next q m)
-  pub room : HasRoomUnless next (state_of q 0)
+pub record IsFedOn (fault : Option ReadFault) (p : PartialLine) (byte : ℕ) (next : Option ReadFault) (q : PartialLine) (result : Result (Unit {0}) ReadFault) : Type 0 where
+  pub fed : q.fed ≡ p.fed + 1
+  pub outcome : outcome_of next q ≡ and_then (outcome_of fault p) (λ s. step s byte)
+  pub answered : result ≡ answer (outcome_of next q)
+  pub room : HasRoomUnless next (state_of q)
 
-at_ok : (p q : PartialLine) (n byte : ℕ) (r : Result (Unit {0}) ReadFault) → HasRoom (state_of p 0) → IsStep (λ s. step s byte) p n r q → IsFedOn None p n byte (result_err r) q (n + 1) r
-at_ok p q n byte (Ok u) h e = record { fed = refl; outcome = sym e; answered = refl; room = room_kept p q n byte h e }
-at_ok p q n byte (Err f) h e = record { fed = refl; outcome = sym e; answered = refl; room = tt }
+at_ok : (p q : PartialLine) (byte : ℕ) (r : Result (Unit {0}) ReadFault) → HasRoom (state_of p) → IsStep (λ s. step s byte) p r q → q.fed ≡ p.fed + 1 → IsFedOn None p byte (result_err r) q r
+at_ok p q byte (Ok u) h e k = record { fed = k; outcome = sym e; answered = refl; room = room_kept p q byte h e }
+at_ok p q byte (Err f) h e k = record { fed = k; outcome = sym e; answered = refl; room = tt }
 
-pub fed_on : (fault next : Option ReadFault) (p q t : PartialLine) (n m byte : ℕ) (result r : Result (Unit {0}) ReadFault) → fault ≡ None → HasRoomUnless fault (state_of p 0) → IsStep (λ s. step s byte) p n r t → result ≡ r → next ≡ result_err result → q ≡ t → m ≡ n + 1 → IsFedOn fault p n byte next q m result
-fed_on fault next p q t n m byte result r none room h er en eq em =
-    let one = at_ok p t n byte r (subst (λ (o : Option ReadFault). HasRoomUnless o (state_of p 0)) none room) h in
-    subst₂ (λ (o : Option ReadFault) (x : Result (Unit {0}) ReadFault). IsFedOn o p n byte next q m x) (sym none) (sym er) (subst₃ (λ (o : Option ReadFault) (x : PartialLine) (k : ℕ). IsFedOn None p n byte o x k r) (sym (en ∙ ap result_err er)) (sym eq) (sym em) one)
+pub fed_on : (fault next : Option ReadFault) (p q t : PartialLine) (byte : ℕ) (result r : Result (Unit {0}) ReadFault) → fault ≡ None → HasRoomUnless fault (state_of p) → IsStep (λ s. step s byte) p r t → t.fed ≡ p.fed + 1 → result ≡ r → next ≡ result_err result → q ≡ t → IsFedOn fault p byte next q result
+fed_on fault next p q t byte result r none room h counts er en eq =
+    let one = at_ok p t byte r (subst (λ (o : Option ReadFault). HasRoomUnless o (state_of p)) none room) h counts in
+    subst₂ (λ (o : Option ReadFault) (x : Result (Unit {0}) ReadFault). IsFedOn o p byte next q x) (sym none) (sym er) (subst₂ (λ (o : Option ReadFault) (x : PartialLine). IsFedOn None p byte o x r) (sym (en ∙ ap result_err er)) (sym eq) one)
 
-pub fed_again : (fault next : Option ReadFault) (p q : PartialLine) (n m byte : ℕ) (result : Result (Unit {0}) ReadFault) (f : ReadFault) → fault ≡ Some f → result ≡ Err f → next ≡ result_err result → m ≡ n + 1 → IsFedOn fault p n byte next q m result
-fed_again fault next p q n m byte result f some er en em =
-    let one : IsFedOn (Some f) p n byte (Some f) q (n + 1) (Err f) = record { fed = refl; outcome = refl; answered = refl; room = tt } in
-    subst₂ (λ (o : Option ReadFault) (x : Result (Unit {0}) ReadFault). IsFedOn o p n byte next q m x) (sym some) (sym er) (subst₂ (λ (o : Option ReadFault) (k : ℕ). IsFedOn (Some f) p n byte o q k (Err f)) (sym (en ∙ ap result_err er)) (sym em) one)
+pub fed_again : (fault next : Option ReadFault) (p q t : PartialLine) (byte : ℕ) (result : Result (Unit {0}) ReadFault) (f : ReadFault) → fault ≡ Some f → t.fed ≡ p.fed + 1 → result ≡ Err f → next ≡ result_err result → q ≡ t → IsFedOn fault p byte next q result
+fed_again fault next p q t byte result f some counts er en eq =
+    let one : IsFedOn (Some f) p byte (Some f) q (Err f) = record { fed = ap (λ (x : PartialLine). x.fed) eq ∙ counts; outcome = refl; answered = refl; room = tt } in
+    subst₂ (λ (o : Option ReadFault) (x : Result (Unit {0}) ReadFault). IsFedOn o p byte next q x) (sym some) (sym er) (subst (λ (o : Option ReadFault). IsFedOn (Some f) p byte o q (Err f)) (sym (en ∙ ap result_err er)) one)
 
-pub is_fed_on : (fault next : Option ReadFault) (p q : PartialLine) (n m byte : ℕ) (result : Result (Unit {0}) ReadFault) (bytes : List ℕ) → IsFedOn fault p n byte next q m result → IsFed (record { fed = n; fault = fault; so_far = state_of p n }) bytes → IsFed (record { fed = m; fault = next; so_far = state_of q m }) (bytes ++ byte ∷ [])
+pub is_fed_on : (fault next : Option ReadFault) (p q : PartialLine) (byte : ℕ) (result : Result (Unit {0}) ReadFault) (bytes : List ℕ) → IsFedOn fault p byte next q result → IsFed (record { fed = p.fed; fault = fault; so_far = state_of p }) bytes → IsFed (record { fed = q.fed; fault = next; so_far = state_of q }) (bytes ++ byte ∷ [])
 unfolding line_with
-is_fed_on fault next p q n m byte result bytes h k =
+is_fed_on fault next p q byte result bytes h k =
     record {
       fed = let e = k.fed in omega (arith, h.fed, length-append bytes (byte ∷ []));
-      line = outcome_of_more (outcome_of fault p n) (outcome_of next q m) bytes byte h.outcome k.line;
+      line = outcome_of_more (outcome_of fault p) (outcome_of next q) bytes byte h.outcome k.line;
     }
 
-pub fed_taken : (fault next : Option ReadFault) (p q : PartialLine) (n m byte : ℕ) (result : Result (Unit {0}) ReadFault) (bytes : List ℕ) → IsFedOn fault p n byte next q m result → IsFed (record { fed = n; fault = fault; so_far = state_of p n }) bytes → IsOk result ↔ CanContinue (bytes ++ byte ∷ [])
+pub fed_taken : (fault next : Option ReadFault) (p q : PartialLine) (byte : ℕ) (result : Result (Unit {0}) ReadFault) (bytes : List ℕ) → IsFedOn fault p byte next q result → IsFed (record { fed = p.fed; fault = fault; so_far = state_of p }) bytes → IsOk result ↔ CanContinue (bytes ++ byte ∷ [])
 unfolding line_with
-fed_taken fault next p q n m byte result bytes h k =
-    subst (λ (x : Result (Unit {0}) ReadFault). IsOk x ↔ CanContinue (bytes ++ byte ∷ [])) (sym h.answered) (taken_iff (outcome_of next q m) (bytes ++ byte ∷ []) (outcome_of_more (outcome_of fault p n) (outcome_of next q m) bytes byte h.outcome k.line))
+fed_taken fault next p q byte result bytes h k =
+    subst (λ (x : Result (Unit {0}) ReadFault). IsOk x ↔ CanContinue (bytes ++ byte ∷ [])) (sym h.answered) (taken_iff (outcome_of next q) (bytes ++ byte ∷ []) (outcome_of_more (outcome_of fault p) (outcome_of next q) bytes byte h.outcome k.line))
 
-pub fed_stops : (fault next : Option ReadFault) (p q : PartialLine) (n m byte : ℕ) (result : Result (Unit {0}) ReadFault) (bytes : List ℕ) → IsFedOn fault p n byte next q m result → IsFed (record { fed = n; fault = fault; so_far = state_of p n }) bytes → IfErr result (λ f. Stops (bytes ++ byte ∷ []) f)
+pub fed_stops : (fault next : Option ReadFault) (p q : PartialLine) (byte : ℕ) (result : Result (Unit {0}) ReadFault) (bytes : List ℕ) → IsFedOn fault p byte next q result → IsFed (record { fed = p.fed; fault = fault; so_far = state_of p }) bytes → IfErr result (λ f. Stops (bytes ++ byte ∷ []) f)
 unfolding line_with
-fed_stops fault next p q n m byte result bytes h k =
-    subst (λ (x : Result (Unit {0}) ReadFault). IfErr x (λ f. Stops (bytes ++ byte ∷ []) f)) (sym h.answered) (refused_stops (outcome_of next q m) (bytes ++ byte ∷ []) (outcome_of_more (outcome_of fault p n) (outcome_of next q m) bytes byte h.outcome k.line))
+fed_stops fault next p q byte result bytes h k =
+    subst (λ (x : Result (Unit {0}) ReadFault). IfErr x (λ f. Stops (bytes ++ byte ∷ []) f)) (sym h.answered) (refused_stops (outcome_of next q) (bytes ++ byte ∷ []) (outcome_of_more (outcome_of fault p) (outcome_of next q) bytes byte h.outcome k.line))
 
-pub new_fed : (p : PartialLine) → state_of p 0 ≡ start → IsFed (record { fed = 0; fault = None; so_far = state_of p 0 }) []
+pub new_fed : (p : PartialLine) → state_of p ≡ start → IsFed (record { fed = p.fed; fault = None; so_far = state_of p }) []
 unfolding line_with read_line
-new_fed p e = record { fed = refl; line = λ more. ap (λ s. answer_after (Ok s) more) e }
+new_fed p e = record { fed = ap (λ (s : State). s.fed) e; line = λ more. ap (λ s. answer_after (Ok s) more) e }

@@ -2,7 +2,7 @@
 use Rattle.std.proofs.Common.{◌≡◌, ℕ, ◌+◌, ◌-◌, ◌<◌, ◌≤◌, Bool, true, false, cond, nat_lt, eqb, refl, subst, List, [], ◌∷◌, length, Option, None, Some, Result, Ok, Err, arith}
 use Rattle.std.proofs.lemmas.Bool.{ltb-true}
 use Rattle.niss_moves.specs.Notation.{token_of}
-use Rattle.niss_moves.specs.Machine.{symbol_of, State, outside, inside, settled, settled_by, opened, closed, begun, count, counted, with_last, step_by, step_at, step, step_within, HasRoom, HasRoomUnless, state_of}
+use Rattle.niss_moves.specs.Machine.{symbol_of, State, outside, inside, settled, settled_by, opened, closed, begun, count, with_last, fed_to, step_by, step_at, step, step_within, HasRoom, HasRoomUnless, state_of}
 use Rattle.niss_moves.specs.declared.turn.Power.TheVariants.{Quarter, Half, Counter}
 use Rattle.niss_moves.specs.declared.token.Token.{Token}
 use Rattle.niss_moves.specs.declared.base.Base.{Base}
@@ -29,7 +29,7 @@ room_one n b o x y h = omega (arith, count_more o n b (x ∷ []), count_more o n
 room_begun : (s : State) (b : Base) → HasRoom s → Roomy (begun 256 b s)
 room_begun s b h = chosen (nat_lt (count (settled s)) 256) refl
   where
-    chosen : (c : Bool) → nat_lt (count (settled s)) 256 ≡ c → Roomy (cond c (Ok (counted (with_last (last.Bare b) (settled s)))) (Err (TooLong (s.fed + 1))))
+    chosen : (c : Bool) → nat_lt (count (settled s)) 256 ≡ c → Roomy (cond c (Ok (with_last (last.Bare b) (settled s))) (Err (TooLong (s.fed + 1))))
     chosen true e =
         let room : count (settled s) < 256 = ltb-true _ _ e in
         omega (arith, count_more s.bracket (settled s).normal (settled s).bracketed (token_of b Quarter ∷ []))
@@ -76,9 +76,21 @@ room_symbol symbol.Cut n b o (last.FirstByte f two) k h = tt
 room_symbol symbol.Cut n b o (last.SecondByte f two) k h = tt
 room_symbol symbol.Other n b o t k h = tt
 
+-- how many bytes were fed is nothing to it
+room_fed : (n : ℕ) (r : Result State ReadFault) → Roomy r → Roomy (fed_to n r)
+room_fed n (Err f) h = tt
+room_fed n (Ok s) h = by_last s.last h
+  where
+    by_last : (t : LastMove) → length (settled_by t s).normal + length (settled_by t s).bracketed ≤ 256 → length (settled_by t (record s { fed = n })).normal + length (settled_by t (record s { fed = n })).bracketed ≤ 256
+    by_last last.Finished h = h
+    by_last (last.Bare b) h = h
+    by_last (last.Doubled b) h = h
+    by_last (last.FirstByte b two) h = h
+    by_last (last.SecondByte b two) h = h
+
 room_step : (s : State) (byte : ℕ) → HasRoom s → Roomy (step s byte)
 unfolding step_within state
-room_step s byte h = by_last s.normal s.bracketed s.bracket s.last s.fed h
+room_step s byte h = room_fed (s.fed + 1) _ (by_last s.normal s.bracketed s.bracket s.last s.fed h)
   where
     chosen : (c : Bool) (t : State) (f : ReadFault) → HasRoom t → Roomy (cond c (Ok t) (Err f))
     chosen true t f h = h
@@ -88,24 +100,8 @@ room_step s byte h = by_last s.normal s.bracketed s.bracket s.last s.fed h
     by_last n b o last.Finished k h = room_symbol (symbol_of byte) n b o last.Finished k h
     by_last n b o (last.Bare f) k h = room_symbol (symbol_of byte) n b o (last.Bare f) k h
     by_last n b o (last.Doubled f) k h = room_symbol (symbol_of byte) n b o (last.Doubled f) k h
-    by_last n b o (last.FirstByte f two) k h = chosen (eqb byte 0x80) (counted (with_last (last.SecondByte f two) (state n b o (last.FirstByte f two) k))) (NotAMove k) h
-    by_last n b o (last.SecondByte f two) k h = chosen (eqb byte 0x99) (counted (settled (state n b o (last.SecondByte f two) k))) (NotAMove (k - 1)) h
+    by_last n b o (last.FirstByte f two) k h = chosen (eqb byte 0x80) (with_last (last.SecondByte f two) (state n b o (last.FirstByte f two) k)) (NotAMove k) h
+    by_last n b o (last.SecondByte f two) k h = chosen (eqb byte 0x99) (settled (state n b o (last.SecondByte f two) k)) (NotAMove (k - 1)) h
 
--- how many bytes were fed is nothing to it
-room_fed : (p : PartialLine) (m n : ℕ) → HasRoom (state_of p m) → HasRoom (state_of p n)
-room_fed p m n h = by_last p.last h
-  where
-    by_last : (t : LastMove) → length (settled_by t (state_of p m)).normal + length (settled_by t (state_of p m)).bracketed ≤ 256 → length (settled_by t (state_of p n)).normal + length (settled_by t (state_of p n)).bracketed ≤ 256
-    by_last last.Finished h = h
-    by_last (last.Bare b) h = h
-    by_last (last.Doubled b) h = h
-    by_last (last.FirstByte b two) h = h
-    by_last (last.SecondByte b two) h = h
-
-pub room_kept : (p q : PartialLine) (n : ℕ) (byte : ℕ) → HasRoom (state_of p 0) → step (state_of p n) byte ≡ Ok (state_of q (n + 1)) → HasRoom (state_of q 0)
-room_kept p q n byte h e =
-    room_fed q (n + 1) 0 (subst (λ (r : Result State ReadFault). Roomy r) e (room_step (state_of p n) byte (room_fed p 0 n h)))
-
-pub room_unless : (f : Option ReadFault) (p q : PartialLine) (n : ℕ) (byte : ℕ) → f ≡ None → HasRoomUnless f (state_of p 0) → step (state_of p n) byte ≡ Ok (state_of q (n + 1)) → HasRoomUnless f (state_of q 0)
-room_unless None p q n byte e h k = room_kept p q n byte h k
-room_unless (Some f) p q n byte e h k = tt
+pub room_kept : (p q : PartialLine) (byte : ℕ) → HasRoom (state_of p) → step (state_of p) byte ≡ Ok (state_of q) → HasRoom (state_of q)
+room_kept p q byte h e = subst Roomy e (room_step (state_of p) byte h)

@@ -20,7 +20,8 @@ use Rattle.niss_moves.specs.declared.turn.Power.TheVariants.{Quarter, Half, Coun
 use Rattle.niss_moves.specs.declared.turn.Turn.{Turn}
 use Rattle.niss_moves.specs.declared.token.Token.{Token}
 use Rattle.niss_moves.specs.declared.rotation.Rotation.{Rotation}
-use Rattle.niss_moves.proofs.Finite.{both, both_left, both_right, same_place_is, same_place_of}
+use Rattle.niss_moves.proofs.Finite.{same_place_is, same_place_of}
+use Rattle.niss_moves.proofs.Logic.{both, both_left, both_right}
 use Rattle.niss_moves.proofs.MadeLists.{none, first_or_later, in_map, in_flat_map}
 use Rattle.niss_moves.proofs.OneSpelling.{one_spelling}
 use Rattle.niss_moves.proofs.OneCleanList.{one_clean_list}

@@ -6,7 +6,8 @@ use Rattle.niss_moves.specs.Effects.{effect, effect_of_turns, moved_by, turned, 
 use Rattle.niss_moves.specs.Rotations.{face_before, face_before_power, face_before_top, face_before_vertical, renamed_turn, to_top, about_vertical, spelling}
 use Rattle.niss_moves.specs.Turn.{same_face}
 use Rattle.niss_moves.specs.Helpers.{is_beside}
-use Rattle.niss_moves.proofs.Finite.{both_left, both_right, every_coord, every_vector, at_vector, same_vector_is, every_place, at_place, same_place_is, every_face, at_face, every_power, at_power, every_axis, at_axis, every_optional_power, at_optional_power, implies, by_implies}
+use Rattle.niss_moves.proofs.Finite.{every_coord, every_vector, at_vector, same_vector_is, every_place, at_place, same_place_is, every_face, at_face, every_power, at_power, every_axis, at_axis, every_optional_power, at_optional_power, implies, by_implies}
+use Rattle.niss_moves.proofs.Logic.{both_left, both_right}
 use Rattle.niss_moves.proofs.Inverses.{effect-append}
 use Rattle.niss_moves.specs.declared.turn.Face.{Face}
 use Rattle.niss_moves.specs.declared.turn.Face.TheVariants.{U, D, R, L, F, B}

@@ -6,7 +6,7 @@ use Rattle.niss_moves.specs.Places.{Place, same_place, is_place, SameMap}
 use Rattle.niss_moves.specs.Facelets.{places}
 use Rattle.niss_moves.specs.Letters.{letter_at, letter_of, letters}
 use Rattle.niss_moves.specs.EffectLaws.{SameLetters}
-use Rattle.niss_moves.proofs.Finite.{both_left, both_right}
+use Rattle.niss_moves.proofs.Logic.{both_left, both_right}
 use Rattle.niss_moves.proofs.ListedPlaces.{all_places}
 
 letter_of-same : (d e : Place → Place) → SameMap d e → (q : Place) (ps : List Place) → list_all is_place ps ≡ true → letter_of d ps q ≡ letter_of e ps q

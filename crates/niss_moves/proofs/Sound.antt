@@ -6,7 +6,7 @@ use Rattle.niss_moves.specs.Letters.{face_letter}
 use Rattle.niss_moves.specs.Notation.{lower_letter, slice_letter, rotation_letter, token_of, base_bytes, Typographic, Plain, Suffix, Nothing, Two, Prime, TwoPrime, Blank, Space, Tab, Return, blank_byte}
 use Rattle.niss_moves.specs.Line.{Piece, Gap, Spelled, piece_bytes, piece_moves, Item, Outside, Bracket, item_bytes, item_normal, item_bracketed}
 use Rattle.niss_moves.specs.Faults.{Cut, Whole, LacksOne, LacksTwo, cut_ending, BeginsBase}
-use Rattle.niss_moves.specs.Machine.{Entry, bytes_of_a_line, look_up, symbol_of, State, start, outside, inside, added, settled, settled_by, opened, closed, widened, doubled, primed, cut, begun, count, counted, with_last, step_by, step_at, step, step_within}
+use Rattle.niss_moves.specs.Machine.{Entry, bytes_of_a_line, look_up, symbol_of, State, start, outside, inside, added, settled, settled_by, opened, closed, widened, doubled, primed, cut, begun, count, with_last, fed_to, step_by, step_at, step, step_within}
 use Rattle.niss_moves.specs.declared.turn.Power.TheVariants.{Quarter, Half, Counter}
 use Rattle.niss_moves.specs.declared.token.Token.{Token}
 use Rattle.niss_moves.specs.declared.base.Base.{Base}
@@ -17,7 +17,7 @@ use Rattle.niss_moves.specs.declared.symbol.Symbol.{Symbol}
 use Rattle.niss_moves.specs.declared.symbol.Symbol.TheVariants as symbol
 use Rattle.niss_moves.specs.declared.fault.ReadFault.{ReadFault}
 use Rattle.niss_moves.specs.declared.fault.ReadFault.TheVariants.{NotAMove, Nested, Unopened, Unclosed, TooLong}
-use Rattle.niss_moves.proofs.Completes.{IsReady, count_more, outside_none, inside_none, symbol_of_face, symbol_of_lower, symbol_of_slice, symbol_of_rotation}
+use Rattle.niss_moves.proofs.Completes.{IsReady, counted, count_more, outside_none, inside_none, symbol_of_face, symbol_of_lower, symbol_of_slice, symbol_of_rotation}
 
 -- what a kind says of its byte
 abbrev pub IsSymbol : Symbol → ℕ → Type 0
@@ -49,6 +49,12 @@ table = ((Space, refl), ((Tab, refl), ((Return, refl), (refl, (refl, (refl, (ref
 pub symbol_is : (b : ℕ) → IsSymbol (symbol_of b) b
 unfolding symbol_of
 symbol_is b = look_up_is bytes_of_a_line table b
+
+pub base_is : (byte : ℕ) (b : Base) → symbol_of byte ≡ symbol.Base b → base_bytes b ≡ byte ∷ []
+base_is byte b e = subst (λ (x : Symbol). IsSymbol x byte) e (symbol_is byte)
+
+pub blank_is : (byte : ℕ) → symbol_of byte ≡ symbol.Blank → (x : Blank) × (byte ≡ blank_byte x)
+blank_is byte e = subst (λ (x : Symbol). IsSymbol x byte) e (symbol_is byte)
 
 -- the bytes so far as whole items, and an open bracket with its pieces if there is one
 abbrev pub front_bytes : List Item → Option (List Piece) → List ℕ
@@ -268,20 +274,20 @@ blank_means : (s : State) (bytes : List ℕ) (byte : ℕ) → IsReady s.last →
 blank_means s bytes byte r h k =
     front_reads (counted (settled s)) _ (subst (λ (x : ℕ). WholeItems s.bracket (bytes ++ x ∷ []) (settled s).normal (settled s).bracketed) (sym k.1) (subst₂ (λ (n b : List Token). WholeItems s.bracket (bytes ++ blank_byte k.0 ∷ []) n b) (sym (outside_none s.bracket _)) (sym (inside_none s.bracket _)) (front_piece _ _ _ _ (Gap k.0) (ready_front s bytes r h)))) refl (fed_more _ _ _ h.fed) h.room
 
-open_means : (o : Option ℕ) (s : State) (bytes : List ℕ) (byte : ℕ) → s.bracket ≡ o → IsReady s.last → Reads s bytes → byte ≡ 40 → Outcome Whole (is_open o) bytes byte (opened o s)
+open_means : (o : Option ℕ) (s : State) (bytes : List ℕ) (byte : ℕ) → s.bracket ≡ o → IsReady s.last → Reads s bytes → byte ≡ 40 → Outcome Whole (is_open o) bytes byte (fed_to (s.fed + 1) (opened o s))
 open_means None s bytes byte e r h k =
     front_reads _ _ (subst (λ (x : ℕ). WholeItems (Some (s.fed + 1)) (bytes ++ x ∷ []) (settled s).normal (settled s).bracketed) (sym k) (front_open _ (s.fed + 1) _ _ _ e (ap (λ n. n + 1) h.fed) (ready_front s bytes r h))) refl (fed_more _ _ _ h.fed) h.room
 open_means (Some c) s bytes byte e r h k = (ap (λ n. n + 1) h.fed, k, refl)
 
-close_means : (o : Option ℕ) (s : State) (bytes : List ℕ) (byte : ℕ) → s.bracket ≡ o → IsReady s.last → Reads s bytes → byte ≡ 41 → Outcome Whole (is_open o) bytes byte (closed o s)
+close_means : (o : Option ℕ) (s : State) (bytes : List ℕ) (byte : ℕ) → s.bracket ≡ o → IsReady s.last → Reads s bytes → byte ≡ 41 → Outcome Whole (is_open o) bytes byte (fed_to (s.fed + 1) (closed o s))
 close_means None s bytes byte e r h k = (ap (λ n. n + 1) h.fed, k, refl)
 close_means (Some c) s bytes byte e r h k =
     front_reads _ _ (subst (λ (x : ℕ). WholeItems None (bytes ++ x ∷ []) (settled s).normal (settled s).bracketed) (sym k) (front_close _ c _ _ _ e (ready_front s bytes r h))) refl (fed_more _ _ _ h.fed) h.room
 
-base_means : (o : Bool) (s : State) (bytes : List ℕ) (byte : ℕ) (b : Base) → IsReady s.last → Reads s bytes → base_bytes b ≡ byte ∷ [] → Outcome Whole o bytes byte (begun 256 b s)
+base_means : (o : Bool) (s : State) (bytes : List ℕ) (byte : ℕ) (b : Base) → IsReady s.last → Reads s bytes → base_bytes b ≡ byte ∷ [] → Outcome Whole o bytes byte (fed_to (s.fed + 1) (begun 256 b s))
 base_means o s bytes byte b r h k = chosen (nat_lt (count (settled s)) 256) refl
   where
-    chosen : (c : Bool) → nat_lt (count (settled s)) 256 ≡ c → Outcome Whole o bytes byte (cond c (Ok (counted (with_last (last.Bare b) (settled s)))) (Err (TooLong (s.fed + 1))))
+    chosen : (c : Bool) → nat_lt (count (settled s)) 256 ≡ c → Outcome Whole o bytes byte (fed_to (s.fed + 1) (cond c (Ok (with_last (last.Bare b) (settled s))) (Err (TooLong (s.fed + 1)))))
     chosen true e =
         let room : count (settled s) < 256 = ltb-true _ _ e in
         record {
@@ -294,7 +300,7 @@ base_means o s bytes byte b r h k = chosen (nat_lt (count (settled s)) 256) refl
     chosen false e = (ap (λ n. n + 1) h.fed, (b, [], k))
 
 -- the last move goes on
-wide_means : (q : Bool) (n b : List Token) (o : Option ℕ) (t : LastMove) (k : ℕ) (bytes : List ℕ) (byte : ℕ) → symbol_of byte ≡ symbol.Wide → byte ≡ 119 → Reads (state n b o t k) bytes → Outcome Whole q bytes byte (widened t (state n b o t k))
+wide_means : (q : Bool) (n b : List Token) (o : Option ℕ) (t : LastMove) (k : ℕ) (bytes : List ℕ) (byte : ℕ) → symbol_of byte ≡ symbol.Wide → byte ≡ 119 → Reads (state n b o t k) bytes → Outcome Whole q bytes byte (fed_to (k + 1) (widened t (state n b o t k)))
 unfolding state
 wide_means q n b o (last.Bare (base.Face f)) k bytes byte e x h =
     record {
@@ -313,7 +319,7 @@ wide_means q n b o (last.Doubled f) k bytes byte e x h = told_other q byte (leng
 wide_means q n b o (last.FirstByte f two) k bytes byte e x h = told_other q byte (length bytes) k symbol.Wide e tt h.fed
 wide_means q n b o (last.SecondByte f two) k bytes byte e x h = told_other q byte (length bytes) k symbol.Wide e tt h.fed
 
-two_means : (q : Bool) (n b : List Token) (o : Option ℕ) (t : LastMove) (k : ℕ) (bytes : List ℕ) (byte : ℕ) → symbol_of byte ≡ symbol.Two → byte ≡ 50 → Reads (state n b o t k) bytes → Outcome Whole q bytes byte (doubled t (state n b o t k))
+two_means : (q : Bool) (n b : List Token) (o : Option ℕ) (t : LastMove) (k : ℕ) (bytes : List ℕ) (byte : ℕ) → symbol_of byte ≡ symbol.Two → byte ≡ 50 → Reads (state n b o t k) bytes → Outcome Whole q bytes byte (fed_to (k + 1) (doubled t (state n b o t k)))
 unfolding state
 two_means q n b o (last.Bare f) k bytes byte e x h =
     record {
@@ -328,7 +334,7 @@ two_means q n b o (last.Doubled f) k bytes byte e x h = told_other q byte (lengt
 two_means q n b o (last.FirstByte f two) k bytes byte e x h = told_other q byte (length bytes) k symbol.Two e tt h.fed
 two_means q n b o (last.SecondByte f two) k bytes byte e x h = told_other q byte (length bytes) k symbol.Two e tt h.fed
 
-prime_means : (q : Bool) (n b : List Token) (o : Option ℕ) (t : LastMove) (k : ℕ) (bytes : List ℕ) (byte : ℕ) → symbol_of byte ≡ symbol.Apostrophe → byte ≡ 39 → Reads (state n b o t k) bytes → Outcome Whole q bytes byte (primed t (state n b o t k))
+prime_means : (q : Bool) (n b : List Token) (o : Option ℕ) (t : LastMove) (k : ℕ) (bytes : List ℕ) (byte : ℕ) → symbol_of byte ≡ symbol.Apostrophe → byte ≡ 39 → Reads (state n b o t k) bytes → Outcome Whole q bytes byte (fed_to (k + 1) (primed t (state n b o t k)))
 unfolding state
 prime_means q n b o (last.Bare f) k bytes byte e x h =
     front_reads _ _ (subst (λ (z : List ℕ). WholeItems o z (outside o n (token_of f Counter ∷ [])) (inside o b (token_of f Counter ∷ []))) (sym (ap₂ (λ (y : List ℕ) (z : ℕ). y ++ z ∷ []) h.bytes_are x ∙ append_assoc h.front (base_bytes f) (39 ∷ []))) (front_piece _ _ _ _ (Spelled f (Prime Plain)) h.is_front)) refl (fed_more _ _ _ h.fed) (omega (arith, h.room, count_more o n b (token_of f Quarter ∷ []), count_more o n b (token_of f Counter ∷ [])))
@@ -338,7 +344,7 @@ prime_means q n b o last.Finished k bytes byte e x h = told_other q byte (length
 prime_means q n b o (last.FirstByte f two) k bytes byte e x h = told_other q byte (length bytes) k symbol.Apostrophe e tt h.fed
 prime_means q n b o (last.SecondByte f two) k bytes byte e x h = told_other q byte (length bytes) k symbol.Apostrophe e tt h.fed
 
-cut_means : (q : Bool) (n b : List Token) (o : Option ℕ) (t : LastMove) (k : ℕ) (bytes : List ℕ) (byte : ℕ) → symbol_of byte ≡ symbol.Cut → byte ≡ 0xE2 → Reads (state n b o t k) bytes → Outcome Whole q bytes byte (cut t (state n b o t k))
+cut_means : (q : Bool) (n b : List Token) (o : Option ℕ) (t : LastMove) (k : ℕ) (bytes : List ℕ) (byte : ℕ) → symbol_of byte ≡ symbol.Cut → byte ≡ 0xE2 → Reads (state n b o t k) bytes → Outcome Whole q bytes byte (fed_to (k + 1) (cut t (state n b o t k)))
 unfolding state
 cut_means q n b o (last.Bare f) k bytes byte e x h =
     record {
@@ -360,7 +366,7 @@ cut_means q n b o last.Finished k bytes byte e x h = told_other q byte (length b
 cut_means q n b o (last.FirstByte f two) k bytes byte e x h = told_other q byte (length bytes) k symbol.Cut e tt h.fed
 cut_means q n b o (last.SecondByte f two) k bytes byte e x h = told_other q byte (length bytes) k symbol.Cut e tt h.fed
 
-symbol_means : (x : Symbol) (n b : List Token) (o : Option ℕ) (t : LastMove) (k : ℕ) (bytes : List ℕ) (byte : ℕ) → symbol_of byte ≡ x → IsSymbol x byte → IsReady t → Reads (state n b o t k) bytes → Outcome Whole (is_open o) bytes byte (step_by 256 x (state n b o t k))
+symbol_means : (x : Symbol) (n b : List Token) (o : Option ℕ) (t : LastMove) (k : ℕ) (bytes : List ℕ) (byte : ℕ) → symbol_of byte ≡ x → IsSymbol x byte → IsReady t → Reads (state n b o t k) bytes → Outcome Whole (is_open o) bytes byte (fed_to (k + 1) (step_by 256 x (state n b o t k)))
 unfolding state
 symbol_means symbol.Blank n b o t k bytes byte e i r h = blank_means _ bytes byte r h i
 symbol_means symbol.Open n b o t k bytes byte e i r h = open_means o _ bytes byte refl r h i
@@ -372,11 +378,11 @@ symbol_means symbol.Apostrophe n b o t k bytes byte e i r h = prime_means _ n b 
 symbol_means symbol.Cut n b o t k bytes byte e i r h = cut_means _ n b o t k bytes byte e i h
 symbol_means symbol.Other n b o t k bytes byte e i r h = told_other _ byte (length bytes) k symbol.Other e tt h.fed
 
-first_means : (n b : List Token) (o : Option ℕ) (f : Base) (two : Bool) (k : ℕ) (bytes : List ℕ) (byte : ℕ) → Reads (state n b o (last.FirstByte f two) k) bytes → Outcome LacksTwo (is_open o) bytes byte (step_at 256 (last.FirstByte f two) (state n b o (last.FirstByte f two) k) byte)
+first_means : (n b : List Token) (o : Option ℕ) (f : Base) (two : Bool) (k : ℕ) (bytes : List ℕ) (byte : ℕ) → Reads (state n b o (last.FirstByte f two) k) bytes → Outcome LacksTwo (is_open o) bytes byte (fed_to (k + 1) (step_at 256 (last.FirstByte f two) (state n b o (last.FirstByte f two) k) byte))
 unfolding state
 first_means n b o f two k bytes byte h = chosen (eqb byte 0x80) refl
   where
-    chosen : (c : Bool) → eqb byte 0x80 ≡ c → Outcome LacksTwo (is_open o) bytes byte (cond c (Ok (counted (with_last (last.SecondByte f two) (state n b o (last.FirstByte f two) k)))) (Err (NotAMove k)))
+    chosen : (c : Bool) → eqb byte 0x80 ≡ c → Outcome LacksTwo (is_open o) bytes byte (fed_to (k + 1) (cond c (Ok (with_last (last.SecondByte f two) (state n b o (last.FirstByte f two) k))) (Err (NotAMove k))))
     chosen true e =
         record {
           front = h.front;
@@ -395,11 +401,11 @@ long_enough front more false b bytes e =
     let q = ap length e in
     omega (arith, length-append front (last_bytes (last.SecondByte b false)), length-append (base_bytes b ++ []) (0xE2 ∷ 0x80 ∷ []))
 
-second_means : (n b : List Token) (o : Option ℕ) (f : Base) (two : Bool) (k : ℕ) (bytes : List ℕ) (byte : ℕ) → Reads (state n b o (last.SecondByte f two) k) bytes → Outcome LacksOne (is_open o) bytes byte (step_at 256 (last.SecondByte f two) (state n b o (last.SecondByte f two) k) byte)
+second_means : (n b : List Token) (o : Option ℕ) (f : Base) (two : Bool) (k : ℕ) (bytes : List ℕ) (byte : ℕ) → Reads (state n b o (last.SecondByte f two) k) bytes → Outcome LacksOne (is_open o) bytes byte (fed_to (k + 1) (step_at 256 (last.SecondByte f two) (state n b o (last.SecondByte f two) k) byte))
 unfolding state
 second_means n b o f two k bytes byte h = chosen (eqb byte 0x99) refl
   where
-    chosen : (c : Bool) → eqb byte 0x99 ≡ c → Outcome LacksOne (is_open o) bytes byte (cond c (Ok (counted (settled (state n b o (last.SecondByte f two) k)))) (Err (NotAMove (k - 1))))
+    chosen : (c : Bool) → eqb byte 0x99 ≡ c → Outcome LacksOne (is_open o) bytes byte (fed_to (k + 1) (cond c (Ok (settled (state n b o (last.SecondByte f two) k))) (Err (NotAMove (k - 1)))))
     chosen true e =
         front_reads _ _ (subst (λ (z : ℕ). WholeItems o (bytes ++ z ∷ []) (settled (state n b o (last.SecondByte f two) k)).normal (settled (state n b o (last.SecondByte f two) k)).bracketed) (sym (eqb-true _ _ e)) (settled_front _ bytes h)) refl (fed_more _ _ _ h.fed) h.room
     chosen false e = let long = long_enough h.front [] two f bytes h.bytes_are in omega (arith, h.fed)
@@ -409,7 +415,7 @@ pub step_means : (s : State) (bytes : List ℕ) (byte : ℕ) → Reads s bytes �
 unfolding step_within state
 step_means s bytes byte h = by_last s.normal s.bracketed s.bracket s.last s.fed h
   where
-    by_last : (n b : List Token) (o : Option ℕ) (t : LastMove) (k : ℕ) → Reads (state n b o t k) bytes → Outcome (cut_of t) (is_open o) bytes byte (step_at 256 t (state n b o t k) byte)
+    by_last : (n b : List Token) (o : Option ℕ) (t : LastMove) (k : ℕ) → Reads (state n b o t k) bytes → Outcome (cut_of t) (is_open o) bytes byte (fed_to (k + 1) (step_at 256 t (state n b o t k) byte))
     by_last n b o last.Finished k h = symbol_means (symbol_of byte) n b o last.Finished k bytes byte refl (symbol_is byte) tt h
     by_last n b o (last.Bare f) k h = symbol_means (symbol_of byte) n b o (last.Bare f) k bytes byte refl (symbol_is byte) tt h
     by_last n b o (last.Doubled f) k h = symbol_means (symbol_of byte) n b o (last.Doubled f) k bytes byte refl (symbol_is byte) tt h

@@ -9,7 +9,8 @@ use Rattle.niss_moves.specs.Machine.{State, start, settled, step, and_then, run}
 use Rattle.niss_moves.specs.Notation.{base_bytes, Plain, Typographic, Suffix, Nothing, Two, Prime, TwoPrime, suffix_bytes, Space, Tab, Return}
 use Rattle.niss_moves.specs.declared.base.Base.{Base}
 use Rattle.niss_moves.specs.declared.base.Base.TheVariants as base
-use Rattle.niss_moves.proofs.Finite.{both, both_left, both_right, every_face, at_face, every_slice, at_slice, every_axis, at_axis}
+use Rattle.niss_moves.proofs.Finite.{every_face, at_face, every_slice, at_slice, every_axis, at_axis}
+use Rattle.niss_moves.proofs.Logic.{both, both_left, both_right}
 use Rattle.niss_moves.specs.declared.token.Token.{Token}
 use Rattle.niss_moves.specs.declared.partial_line.LastMove.{LastMove}
 use Rattle.niss_moves.specs.declared.partial_line.LastMove.TheVariants as last

@@ -92,10 +92,6 @@ settled s =
 abbrev pub count : State → ℕ
 count s = length s.normal + length s.bracketed
 
--- one more byte was fed
-abbrev pub counted : State → State
-counted s = record s { fed = s.fed + 1 }
-
 abbrev pub with_last : LastMove → State → State
 with_last l s = record s { last = l }
 
@@ -103,39 +99,39 @@ abbrev pub refused : State → Result State ReadFault
 refused s = Err (NotAMove (s.fed + 1))
 
 abbrev pub opened : Option ℕ → State → Result State ReadFault
-opened None s = Ok (counted (record (settled s) { bracket = Some (s.fed + 1) }))
+opened None s = Ok (record (settled s) { bracket = Some (s.fed + 1) })
 opened (Some c) s = Err (Nested (s.fed + 1))
 
 abbrev pub closed : Option ℕ → State → Result State ReadFault
 closed None s = Err (Unopened (s.fed + 1))
-closed (Some c) s = Ok (counted (record (settled s) { bracket = None }))
+closed (Some c) s = Ok (record (settled s) { bracket = None })
 
 abbrev pub widened : LastMove → State → Result State ReadFault
-widened (last.Bare (base.Face f)) s = Ok (counted (with_last (last.Bare (base.Wide f)) s))
+widened (last.Bare (base.Face f)) s = Ok (with_last (last.Bare (base.Wide f)) s)
 widened _ s = refused s
 
 abbrev pub doubled : LastMove → State → Result State ReadFault
-doubled (last.Bare b) s = Ok (counted (with_last (last.Doubled b) s))
+doubled (last.Bare b) s = Ok (with_last (last.Doubled b) s)
 doubled _ s = refused s
 
 abbrev pub primed : LastMove → State → Result State ReadFault
-primed (last.Bare b) s = Ok (counted (added s (token_of b Counter)))
-primed (last.Doubled b) s = Ok (counted (added s (token_of b Half)))
+primed (last.Bare b) s = Ok (added s (token_of b Counter))
+primed (last.Doubled b) s = Ok (added s (token_of b Half))
 primed _ s = refused s
 
 abbrev pub cut : LastMove → State → Result State ReadFault
-cut (last.Bare b) s = Ok (counted (with_last (last.FirstByte b false) s))
-cut (last.Doubled b) s = Ok (counted (with_last (last.FirstByte b true) s))
+cut (last.Bare b) s = Ok (with_last (last.FirstByte b false) s)
+cut (last.Doubled b) s = Ok (with_last (last.FirstByte b true) s)
 cut _ s = refused s
 
 -- a move begins, where fewer than so many stand before it
 abbrev pub begun : ℕ → Base → State → Result State ReadFault
 begun limit b s =
-    if nat_lt (count (settled s)) limit then Ok (counted (with_last (last.Bare b) (settled s))) else Err (TooLong (s.fed + 1))
+    if nat_lt (count (settled s)) limit then Ok (with_last (last.Bare b) (settled s)) else Err (TooLong (s.fed + 1))
 
--- one more byte where no U+2019 is cut
+-- the next byte where no U+2019 is cut
 abbrev pub step_by : ℕ → Symbol → State → Result State ReadFault
-step_by limit symbol.Blank s = Ok (counted (settled s))
+step_by limit symbol.Blank s = Ok (settled s)
 step_by limit symbol.Open s = opened s.bracket s
 step_by limit symbol.Close s = closed s.bracket s
 step_by limit (symbol.Base b) s = begun limit b s
@@ -145,17 +141,22 @@ step_by limit symbol.Apostrophe s = primed s.last s
 step_by limit symbol.Cut s = cut s.last s
 step_by limit symbol.Other s = refused s
 
--- one more byte
+-- the next byte
 abbrev pub step_at : ℕ → LastMove → State → ℕ → Result State ReadFault
 step_at limit (last.FirstByte b two) s byte =
-    if byte == 0x80 then Ok (counted (with_last (last.SecondByte b two) s)) else Err (NotAMove s.fed)
+    if byte == 0x80 then Ok (with_last (last.SecondByte b two) s) else Err (NotAMove s.fed)
 step_at limit (last.SecondByte b two) s byte =
-    if byte == 0x99 then Ok (counted (settled s)) else Err (NotAMove (s.fed - 1))
+    if byte == 0x99 then Ok (settled s) else Err (NotAMove (s.fed - 1))
 step_at limit _ s byte = step_by limit (symbol_of byte) s
+
+-- with so many bytes fed
+abbrev pub fed_to : ℕ → Result State ReadFault → Result State ReadFault
+fed_to n (Ok s) = Ok (record s { fed = n })
+fed_to n (Err f) = Err f
 
 -- one more byte of a line of at most so many moves
 unfoldable pub step_within : ℕ → State → ℕ → Result State ReadFault
-step_within limit s byte = step_at limit s.last s byte
+step_within limit s byte = fed_to (s.fed + 1) (step_at limit s.last s byte)
 
 abbrev pub and_then : Result State ReadFault → (State → Result State ReadFault) → Result State ReadFault
 and_then (Ok s) f = f s
@@ -172,15 +173,15 @@ step s byte = step_within 256 s byte
 abbrev pub run : State → List ℕ → Result State ReadFault
 run s bytes = run_within 256 s bytes
 
--- what is read so far, behind so many bytes
-abbrev pub state_of : PartialLine → ℕ → State
-state_of p n =
-    record { normal = p.niss.normal; bracketed = p.niss.bracketed; bracket = p.bracket; last = p.last; fed = n }
+-- what is read so far
+abbrev pub state_of : PartialLine → State
+state_of p =
+    record { normal = p.niss.normal; bracketed = p.niss.bracketed; bracket = p.bracket; last = p.last; fed = p.fed }
 
--- A step behind so many bytes answers a fault, or leaves the next state.
-abbrev pub IsStep : (State → Result State ReadFault) → PartialLine → ℕ → Result (Unit {0}) ReadFault → PartialLine → Type 0
-IsStep next old n result new =
-    MatchResult result (λ _. next (state_of old n) ≡ Ok (state_of new (n + 1))) (λ f. next (state_of old n) ≡ Err f)
+-- A step answers a fault, or leaves the next state.
+abbrev pub IsStep : (State → Result State ReadFault) → PartialLine → Result (Unit {0}) ReadFault → PartialLine → Type 0
+IsStep next old result new =
+    MatchResult result (λ _. next (state_of old) ≡ Ok (state_of new)) (λ f. next (state_of old) ≡ Err f)
 
 abbrev pub HasRoom : State → Type 0
 HasRoom s = count (settled s) ≤ 256
@@ -190,8 +191,8 @@ state_or None s = Ok s
 state_or (Some f) s = Err f
 
 -- the state of a line, or the fault that was told
-abbrev pub outcome_of : Option ReadFault → PartialLine → ℕ → Result State ReadFault
-outcome_of fault p n = state_or fault (state_of p n)
+abbrev pub outcome_of : Option ReadFault → PartialLine → Result State ReadFault
+outcome_of fault p = state_or fault (state_of p)
 
 -- A state has room, unless a fault was told.
 abbrev pub HasRoomUnless : Option ReadFault → State → Type 0

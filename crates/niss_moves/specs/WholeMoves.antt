@@ -1,28 +1,27 @@
 -- Moves that are read at once.
-use Rattle.std.specs.Prelude.{ℕ, ◌≡◌, ◌==◌, ◌⊎◌, false, List, [], ◌∷◌}
-use Rattle.niss_moves.specs.Notation.{token_of}
-use Rattle.niss_moves.specs.Machine.{symbol_of}
+use Rattle.std.specs.Prelude.{ℕ, ◌≡◌, ◌==◌, ◌<◌, ◌⊎◌, false, List, [], ◌∷◌, ◌++◌, take}
+use Rattle.niss_moves.specs.Notation.{token_of, base_bytes, Apostrophe, apostrophe_bytes, Suffix, suffix_bytes, suffix_power, Blank, blank_byte}
 use Rattle.niss_moves.specs.declared.base.Base.{Base}
-use Rattle.niss_moves.specs.declared.symbol.Symbol.TheVariants as symbol
 use Rattle.niss_moves.specs.declared.token.Token.{Token}
 use Rattle.niss_moves.specs.declared.turn.Power.{Power}
-use Rattle.niss_moves.specs.declared.turn.Power.TheVariants.{Quarter, Half, Counter}
 
--- The byte behind a base tells the power, and where the byte behind the move stands.
-abbrev pub IsSuffix : ℕ → Power → ℕ → Type 0
-IsSuffix byte p n = ((byte ≡ 50) × (p ≡ Half) × (n ≡ 2)) ⊎ (((byte ≡ 39) × (p ≡ Counter) × (n ≡ 2)) ⊎ ((p ≡ Quarter) × (n ≡ 1)))
+-- The first n bytes are an apostrophe, or there is none and n is 0.
+abbrev pub BeginsApostrophe : List ℕ → ℕ → Type 0
+BeginsApostrophe bytes n = (n ≡ 0) ⊎ ((a : Apostrophe) × (0 < n) × (take n bytes ≡ apostrophe_bytes a))
 
--- a base, a `2` or an apostrophe or none of them, and a blank
+-- a suffix, and the power that it gives
+pub record IsSuffix (bytes : List ℕ) (power : Power) : Type 0 where
+  pub suffix : Suffix
+  pub bytes_are : bytes ≡ suffix_bytes suffix
+  pub power_is : power ≡ suffix_power suffix
+
+-- a move as it is spelled, and a blank
 pub record IsMove (bytes : List ℕ) (token : Token) : Type 0 where
   pub base : Base
-  pub first : ℕ
-  pub blank : ℕ
-  pub first_is : symbol_of first ≡ symbol.Base base
-  pub blank_is : symbol_of blank ≡ symbol.Blank
-  pub rest :
-      ((bytes ≡ first ∷ 50 ∷ blank ∷ []) × (token ≡ token_of base Half))
-      ⊎ (((bytes ≡ first ∷ 39 ∷ blank ∷ []) × (token ≡ token_of base Counter))
-      ⊎ ((bytes ≡ first ∷ blank ∷ []) × (token ≡ token_of base Quarter)))
+  pub suffix : Suffix
+  pub blank : Blank
+  pub bytes_are : bytes ≡ base_bytes base ++ suffix_bytes suffix ++ blank_byte blank ∷ []
+  pub token_is : token ≡ token_of base (suffix_power suffix)
 
 -- no byte is a line feed
 abbrev pub HasNoLineFeed : List ℕ → Type 0

@@ -41,12 +41,13 @@ impl Word {
         ensures some { 0 < result.len }
         ensures len { result.len ≤ 4 }
     {
-        match token {
-            Token::Face(turn) => WORDS[turn.face as usize][turn.power as usize],
-            Token::Wide(face, power) => WORDS[WIDE_TURNS + face as usize][power as usize],
-            Token::Slice(slice, power) => WORDS[SLICES + slice as usize][power as usize],
-            Token::Rotation(axis, power) => WORDS[ROTATIONS + axis as usize][power as usize],
-        }
+        let (first_row, letter, power) = match token {
+            Token::Face(turn) => (0, turn.face as usize, turn.power),
+            Token::Wide(face, power) => (WIDE_TURNS, face as usize, power),
+            Token::Slice(slice, power) => (SLICES, slice as usize, power),
+            Token::Rotation(axis, power) => (ROTATIONS, axis as usize, power),
+        };
+        WORDS[first_row + letter][power as usize]
     }
 }
 

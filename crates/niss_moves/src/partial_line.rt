@@ -1,6 +1,5 @@
 //! A line as far as it is read. Its steps are those of the module Machine of `specs/`.
-ghost use Rattle.std.specs.Prelude.{◌≡◌};
-ghost use Rattle.niss_moves.specs.Machine.{apostrophe_power};
+ghost use Rattle.std.specs.Prelude.{◌≤◌};
 
 use crate::base::Base;
 use crate::fault::ReadFault;
@@ -25,72 +24,124 @@ pub enum LastMove {
     SecondByte(Base, bool),
 }
 
-/// The power of a move that ends in an apostrophe, after a `2` or not.
-fn apostrophe_power(two: bool) -> Power
-    ensures { result ≡ apostrophe_power two }
-{
-    if two { Power::Half } else { Power::Counter }
+impl LastMove {
+    ghost use Rattle.std.specs.Prelude.{◌≡◌};
+    ghost use Rattle.niss_moves.specs.Machine.{apostrophe_power};
+
+    /// The power of a move that ends in an apostrophe, after a `2` or not.
+    fn apostrophe_power(two: bool) -> Power
+        ensures { result ≡ apostrophe_power two }
+    {
+        if two { Power::Half } else { Power::Counter }
+    }
 }
 
-/// What is read so far: the whole moves, the column of the open bracket, and the last move as far as it goes.
+/// What is read so far: the whole moves, the column of the open bracket, the last move as far as it goes, and how many bytes
+/// were fed.
 #[derive(Drop)]
 pub struct PartialLine {
     niss: Niss,
     bracket: Option<u32>,
     last: LastMove,
+    fed: u32,
+    ghost fits: { fed ≤ 16777216 },
 }
 
 impl PartialLine {
-    ghost use Rattle.std.specs.Prelude.{◌≡◌, ℕ, ◌+◌, ◌<◌, ◌≤◌, Ok, length, take};
+    ghost use Rattle.std.specs.Prelude.{◌≡◌, ◌+◌, ◌-◌, ◌<◌, ◌≤◌, Ok, length, take};
     ghost use Rattle.niss_moves.specs.WholeMoves.{HasNoLineFeed};
-    ghost use Rattle.niss_moves.specs.Machine.{start, added, settled, opened, closed, begun, widened, doubled, primed, cut, step_by, step, run, ended, moves_if, state_of, IsStep, HasRoom};
+    ghost use Rattle.niss_moves.specs.declared.fault.ReadFault.TheVariants.{NotAMove};
+    ghost use Rattle.niss_moves.specs.Machine.{start, added, settled, opened, closed, begun, widened, doubled, primed, cut, step_at, step_by, step, run, ended, moves_if, state_of, IsStep, HasRoom};
 
     /// The line before its first byte.
     pub fn new() -> PartialLine
-        ensures { state_of result 0 ≡ start }
+        ensures { state_of result ≡ start }
     {
         PartialLine {
             niss: Niss::new(),
             bracket: None,
             last: LastMove::Finished,
+            fed: 0,
         }
     }
 
-    /// Takes one more byte, after `fed` bytes.
+    /// How many bytes were fed.
+    pub fn fed(&self) -> u32
+        ensures { result ≡ self.now.fed }
+    {
+        self.fed
+    }
+
+    /// The column of the next byte.
+    fn column(&self) -> u32
+        ensures { result ≡ self.now.fed + 1 }
+    {
+        self.fed + 1
+    }
+
+    /// Takes one more byte.
     #[tactic(auto, unfolding(crate::specs::Machine::step_within))]
-    pub fn step(&mut self, byte: u8, fed: u32) -> Result<(), ReadFault>
-        requires room { HasRoom (state_of self.old 0) }
-        requires fits { fed < 16777216 }
-        ensures { IsStep (λ s. step s byte) self.old fed result self.new }
+    pub fn step(&mut self, byte: u8) -> Result<(), ReadFault>
+        requires room { HasRoom (state_of self.old) }
+        requires fits { self.old.fed < 16777216 }
+        ensures steps { IsStep (λ s. step s byte) self.old result self.new }
+        ensures fed { self.new.fed ≡ self.old.fed + 1 }
+    {
+        let column = self.column();
+        let taken = self.take(byte);
+        self.fed = column;
+        taken
+    }
+
+    /// Counts a byte that follows a fault.
+    pub fn skip(&mut self)
+        requires { self.old.fed < 16777216 }
+        ensures { self.new.fed ≡ self.old.fed + 1 }
+    {
+        self.fed += 1;
+    }
+
+    /// Takes one more byte, and doesn't count it.
+    fn take(&mut self, byte: u8) -> Result<(), ReadFault>
+        requires { HasRoom (state_of self.old) }
+        ensures { IsStep (λ s. step_at 256 s.last s byte) self.old result self.new }
     {
         match self.last {
             LastMove::FirstByte(base, two) => {
                 if byte != 0x80 {
-                    return Err(ReadFault::NotAMove { column: fed });
+                    return Err(ReadFault::NotAMove { column: self.fed });
                 }
                 self.last = LastMove::SecondByte(base, two);
                 Ok(())
             }
             LastMove::SecondByte(_, _) => {
                 if byte != 0x99 {
-                    // Two bytes of U+2019 were fed, and `fed` is at least 2.
-                    return Err(ReadFault::NotAMove {
-                        column: fed.saturating_sub(1),
-                    });
+                    return Err(self.cut_fault());
                 }
                 self.settle();
                 Ok(())
             }
-            _ => self.step_by(symbol_of(byte), fed + 1),
+            _ => self.step_by(symbol_of(byte)),
+        }
+    }
+
+    /// The fault of a U+2019 that is cut after two bytes. So at least two were fed.
+    fn cut_fault(&self) -> ReadFault
+        ensures { result ≡ NotAMove (self.now.fed - 1) }
+    {
+        ReadFault::NotAMove {
+            column: self.fed.saturating_sub(1),
         }
     }
 
     /// Takes the moves in front of the bytes that can be read at once, and answers how many bytes they have.
     pub fn take_moves(&mut self, bytes: &[u8]) -> usize
-        requires { HasRoom (state_of self.old 0) }
+        requires room { HasRoom (state_of self.old) }
+        requires fits { self.old.fed + length bytes.now ≤ 16777216 }
         ensures taken { result ≤ length bytes.now }
-        ensures runs { (fed : ℕ) → run (state_of self.old fed) (take result bytes.now) ≡ Ok (state_of self.new (fed + result)) }
-        ensures room { HasRoom (state_of self.new 0) }
+        ensures runs { run (state_of self.old) (take result bytes.now) ≡ Ok (state_of self.new) }
+        ensures fed { self.new.fed ≡ self.old.fed + result }
+        ensures room { HasRoom (state_of self.new) }
         ensures inside { HasNoLineFeed (take result bytes.now) }
     {
         let LastMove::Finished = self.last else {
@@ -104,23 +155,19 @@ impl PartialLine {
             self.push(token);
             taken += length;
         }
+        self.fed += taken as u32;
         taken
     }
 
-    /// Ends the line after `fed` bytes: it is whole then, or has a fault.
-    pub fn close(&mut self, fed: u32) -> Result<(), ReadFault>
-        requires { HasRoom (state_of self.old 0) }
-        ensures value { moves_if result self.new.niss ≡ ended (Ok (state_of self.old fed)) }
-        ensures room { HasRoom (state_of self.new 0) }
+    /// Ends the line: it is whole then, or has a fault.
+    pub fn close(&mut self) -> Result<(), ReadFault>
+        requires { HasRoom (state_of self.old) }
+        ensures value { moves_if result self.new.niss ≡ ended (Ok (state_of self.old)) }
+        ensures room { HasRoom (state_of self.new) }
     {
         match self.last {
-            LastMove::FirstByte(_, _) => return Err(ReadFault::NotAMove { column: fed }),
-            LastMove::SecondByte(_, _) => {
-                // Here too.
-                return Err(ReadFault::NotAMove {
-                    column: fed.saturating_sub(1),
-                });
-            }
+            LastMove::FirstByte(_, _) => return Err(ReadFault::NotAMove { column: self.fed }),
+            LastMove::SecondByte(_, _) => return Err(self.cut_fault()),
             _ => {}
         }
         if let Some(column) = self.bracket {
@@ -130,13 +177,13 @@ impl PartialLine {
         Ok(())
     }
 
-    /// The line that ends after `fed` bytes.
-    pub fn end(self, fed: u32) -> Result<Niss, ReadFault>
-        requires { HasRoom (state_of self 0) }
-        ensures { result ≡ ended (Ok (state_of self fed)) }
+    /// The line that ends here.
+    pub fn end(self) -> Result<Niss, ReadFault>
+        requires { HasRoom (state_of self) }
+        ensures { result ≡ ended (Ok (state_of self)) }
     {
         let mut line = self;
-        match line.close(fed) {
+        match line.close() {
             Ok(()) => Ok(line.niss),
             Err(fault) => Err(fault),
         }
@@ -151,119 +198,112 @@ impl PartialLine {
 
     /// Goes back before the first byte.
     pub fn clear(&mut self)
-        ensures { state_of self.new 0 ≡ start }
+        ensures { state_of self.new ≡ start }
     {
         self.niss.clear();
         self.bracket = None;
         self.last = LastMove::Finished;
+        self.fed = 0;
     }
 
-    /// Takes the byte at this column where no U+2019 is cut.
-    fn step_by(&mut self, symbol: Symbol, column: u32) -> Result<(), ReadFault>
-        requires { HasRoom (state_of self.old 0) }
-        ensures { (fed : ℕ) → column ≡ fed + 1 →
-            IsStep (step_by 256 symbol) self.old fed result self.new }
+    /// Takes the next byte where no U+2019 is cut.
+    fn step_by(&mut self, symbol: Symbol) -> Result<(), ReadFault>
+        requires { HasRoom (state_of self.old) }
+        ensures { IsStep (step_by 256 symbol) self.old result self.new }
     {
         match symbol {
             Symbol::Blank => {
                 self.settle();
                 Ok(())
             }
-            Symbol::Open => self.open_bracket(column),
-            Symbol::Close => self.close_bracket(column),
-            Symbol::Base(base) => self.begin_move(base, column),
-            Symbol::Wide => self.widen(column),
-            Symbol::Two => self.double(column),
-            Symbol::Apostrophe => self.finish_move(column),
-            Symbol::Cut => self.cut_apostrophe(column),
-            Symbol::Other => Err(ReadFault::NotAMove { column }),
+            Symbol::Open => self.open_bracket(),
+            Symbol::Close => self.close_bracket(),
+            Symbol::Base(base) => self.begin_move(base),
+            Symbol::Wide => self.widen(),
+            Symbol::Two => self.double(),
+            Symbol::Apostrophe => self.finish_move(),
+            Symbol::Cut => self.cut_apostrophe(),
+            Symbol::Other => Err(ReadFault::NotAMove { column: self.column() }),
         }
     }
 
-    fn open_bracket(&mut self, column: u32) -> Result<(), ReadFault>
-        requires { HasRoom (state_of self.old 0) }
-        ensures { (fed : ℕ) → column ≡ fed + 1 →
-            IsStep (λ s. opened s.bracket s) self.old fed result self.new }
+    fn open_bracket(&mut self) -> Result<(), ReadFault>
+        requires { HasRoom (state_of self.old) }
+        ensures { IsStep (λ s. opened s.bracket s) self.old result self.new }
     {
         if self.bracket.is_some() {
-            return Err(ReadFault::Nested { column });
+            return Err(ReadFault::Nested { column: self.column() });
         }
         self.settle();
-        self.bracket = Some(column);
+        self.bracket = Some(self.column());
         Ok(())
     }
 
-    fn close_bracket(&mut self, column: u32) -> Result<(), ReadFault>
-        requires { HasRoom (state_of self.old 0) }
-        ensures { (fed : ℕ) → column ≡ fed + 1 →
-            IsStep (λ s. closed s.bracket s) self.old fed result self.new }
+    fn close_bracket(&mut self) -> Result<(), ReadFault>
+        requires { HasRoom (state_of self.old) }
+        ensures { IsStep (λ s. closed s.bracket s) self.old result self.new }
     {
         if self.bracket.is_none() {
-            return Err(ReadFault::Unopened { column });
+            return Err(ReadFault::Unopened { column: self.column() });
         }
         self.settle();
         self.bracket = None;
         Ok(())
     }
 
-    fn begin_move(&mut self, base: Base, column: u32) -> Result<(), ReadFault>
-        requires { HasRoom (state_of self.old 0) }
-        ensures { (fed : ℕ) → column ≡ fed + 1 →
-            IsStep (begun 256 base) self.old fed result self.new }
+    fn begin_move(&mut self, base: Base) -> Result<(), ReadFault>
+        requires { HasRoom (state_of self.old) }
+        ensures { IsStep (begun 256 base) self.old result self.new }
     {
         self.settle();
         if self.niss.len() >= 256 {
-            return Err(ReadFault::TooLong { column });
+            return Err(ReadFault::TooLong { column: self.column() });
         }
         self.last = LastMove::Bare(base);
         Ok(())
     }
 
-    fn widen(&mut self, column: u32) -> Result<(), ReadFault>
-        ensures { (fed : ℕ) → column ≡ fed + 1 →
-            IsStep (λ s. widened s.last s) self.old fed result self.new }
+    fn widen(&mut self) -> Result<(), ReadFault>
+        ensures { IsStep (λ s. widened s.last s) self.old result self.new }
     {
         let LastMove::Bare(Base::Face(face)) = self.last else {
-            return Err(ReadFault::NotAMove { column });
+            return Err(ReadFault::NotAMove { column: self.column() });
         };
         self.last = LastMove::Bare(Base::Wide(face));
         Ok(())
     }
 
-    fn double(&mut self, column: u32) -> Result<(), ReadFault>
-        ensures { (fed : ℕ) → column ≡ fed + 1 →
-            IsStep (λ s. doubled s.last s) self.old fed result self.new }
+    fn double(&mut self) -> Result<(), ReadFault>
+        ensures { IsStep (λ s. doubled s.last s) self.old result self.new }
     {
         let LastMove::Bare(base) = self.last else {
-            return Err(ReadFault::NotAMove { column });
+            return Err(ReadFault::NotAMove { column: self.column() });
         };
         self.last = LastMove::Doubled(base);
         Ok(())
     }
 
     /// Takes the apostrophe that ends a move.
-    fn finish_move(&mut self, column: u32) -> Result<(), ReadFault>
-        requires { HasRoom (state_of self.old 0) }
-        ensures { (fed : ℕ) → column ≡ fed + 1 →
-            IsStep (λ s. primed s.last s) self.old fed result self.new }
+    fn finish_move(&mut self) -> Result<(), ReadFault>
+        requires { HasRoom (state_of self.old) }
+        ensures { IsStep (λ s. primed s.last s) self.old result self.new }
     {
         match self.last {
             LastMove::Bare(base) => self.push(base.token(Power::Counter)),
             LastMove::Doubled(base) => self.push(base.token(Power::Half)),
-            _ => return Err(ReadFault::NotAMove { column }),
+            _ => return Err(ReadFault::NotAMove { column: self.column() }),
         }
         Ok(())
     }
 
     /// Takes the first byte of U+2019.
-    fn cut_apostrophe(&mut self, column: u32) -> Result<(), ReadFault>
-        ensures { (fed : ℕ) → column ≡ fed + 1 →
-            IsStep (λ s. cut s.last s) self.old fed result self.new }
+    fn cut_apostrophe(&mut self) -> Result<(), ReadFault>
+        ensures { IsStep (λ s. cut s.last s) self.old result self.new }
     {
         self.last = match self.last {
             LastMove::Bare(base) => LastMove::FirstByte(base, false),
             LastMove::Doubled(base) => LastMove::FirstByte(base, true),
-            _ => return Err(ReadFault::NotAMove { column }),
+            _ => return Err(ReadFault::NotAMove { column: self.column() }),
         };
         Ok(())
     }
@@ -271,24 +311,24 @@ impl PartialLine {
     /// Makes the last move whole.
     #[inline(always)]
     fn settle(&mut self)
-        requires { HasRoom (state_of self.old 0) }
-        ensures { (fed : ℕ) → state_of self.new fed ≡ settled (state_of self.old fed) }
+        requires { HasRoom (state_of self.old) }
+        ensures { state_of self.new ≡ settled (state_of self.old) }
     {
         match self.last {
             LastMove::Finished => {}
             LastMove::Bare(base) => self.push(base.token(Power::Quarter)),
             LastMove::Doubled(base) => self.push(base.token(Power::Half)),
             // not reached: whatever follows but the second byte is a fault
-            LastMove::FirstByte(base, two) => self.push(base.token(apostrophe_power(two))),
+            LastMove::FirstByte(base, two) => self.push(base.token(LastMove::apostrophe_power(two))),
             // reached by the third byte alone
-            LastMove::SecondByte(base, two) => self.push(base.token(apostrophe_power(two))),
+            LastMove::SecondByte(base, two) => self.push(base.token(LastMove::apostrophe_power(two))),
         }
     }
 
     /// Appends a whole move.
     fn push(&mut self, token: Token)
         requires { length self.old.niss.normal + length self.old.niss.bracketed < 256 }
-        ensures { (fed : ℕ) → state_of self.new fed ≡ added (state_of self.old fed) token }
+        ensures { state_of self.new ≡ added (state_of self.old) token }
     {
         if self.bracket.is_some() {
             self.niss.push_bracketed(token);

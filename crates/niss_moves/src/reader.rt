@@ -14,7 +14,6 @@ use std::marker::Model;
 #[derive(Drop)]
 pub struct LineReader {
     line: PartialLine,
-    fed: u32,
     fault: Option<ReadFault>,
 }
 
@@ -24,9 +23,9 @@ impl Model for LineReader {
 
     ghost Value = { Reader };
 
-    ghost view = { λ r. record { fed = r.fed; fault = r.fault; so_far = state_of r.line r.fed } };
+    ghost view = { λ r. record { fed = r.line.fed; fault = r.fault; so_far = state_of r.line } };
 
-    ghost invariant = { λ r. HasRoomUnless r.fault (state_of r.line 0) };
+    ghost invariant = { λ r. HasRoomUnless r.fault (state_of r.line) };
 }
 
 impl LineReader {
@@ -47,7 +46,6 @@ impl LineReader {
     {
         LineReader {
             line: PartialLine::new(),
-            fed: 0,
             fault: None,
         }
     }
@@ -56,7 +54,7 @@ impl LineReader {
     pub fn fed(&self) -> u32
         ensures { result ≡ self.now.fed }
     {
-        self.fed
+        self.line.fed()
     }
 
     /// Takes one byte. It answers a fault as soon as the bytes are the beginning of no line, and from then on always
@@ -78,19 +76,20 @@ impl LineReader {
         ensures again { (f : ReadFault) → self.old.fault ≡ Some f →
             (result ≡ Err f) × (self.new.fault ≡ Some f) }
     {
-        let fed = self.fed;
-        self.fed = fed + 1;
         let taken = match self.fault {
-            Some(fault) => Err(fault),
-            None => self.line.step(byte, fed),
+            Some(fault) => {
+                self.line.skip();
+                Err(fault)
+            }
+            None => self.line.step(byte),
         };
         self.fault = taken.err();
         taken
     }
 
-    /// Takes the moves in front of the bytes that can be read at once, each with the blank after it, and answers how many
-    /// bytes these are.
-    pub fn feed_move(&mut self, bytes: &[u8]) -> usize
+    /// Takes as many whole moves as stand in front of the bytes, each with the blank after it, and answers how many bytes
+    /// these are: none where the last move is not finished, or the next one is written in another way.
+    pub fn feed_moves(&mut self, bytes: &[u8]) -> usize
         requires { self.old.fed + length bytes.now ≤ 16777216 }
         ensures taken { result ≤ length bytes.now }
         ensures fed { self.new.fed ≡ self.old.fed + result }
@@ -100,11 +99,7 @@ impl LineReader {
     {
         match self.fault {
             Some(_) => 0,
-            None => {
-                let taken = self.line.take_moves(bytes);
-                self.fed += taken as u32;
-                taken
-            }
+            None => self.line.take_moves(bytes),
         }
     }
 
@@ -115,7 +110,7 @@ impl LineReader {
     {
         match self.fault {
             Some(fault) => Err(fault),
-            None => self.line.close(self.fed),
+            None => self.line.close(),
         }
     }
 
@@ -133,7 +128,6 @@ impl LineReader {
         ensures no_fault { self.new.fault ≡ None }
     {
         self.line.clear();
-        self.fed = 0;
         self.fault = None;
     }
 
@@ -151,7 +145,7 @@ impl LineReader {
     {
         match self.fault {
             Some(fault) => Err(fault),
-            None => self.line.end(self.fed),
+            None => self.line.end(),
         }
     }
 }

@@ -1,39 +1,73 @@
-//! Moves that are read at once, since most are written so: with a blank after them.
-ghost use Rattle.std.specs.Prelude.{◌≡◌, ◌≤◌, IfSome, length, take};
-ghost use Rattle.niss_moves.specs.WholeMoves.{IsSuffix, IsMove};
+//! Moves that are read at once, each with the blank after it, as most are written.
+ghost use Rattle.std.specs.Prelude.{◌≡◌, ◌+◌, ◌≤◌, ◌<◌, IfSome, length, take};
+ghost use Rattle.niss_moves.specs.Notation.{base_bytes};
+ghost use Rattle.niss_moves.specs.WholeMoves.{BeginsApostrophe, IsSuffix, IsMove};
 
+use crate::base::Base;
 use crate::symbol::{Symbol, symbol_of};
 use crate::token::Token;
 use crate::turn::Power;
 
-/// By whether a `2` stands there, and twice whether an apostrophe does.
-static POWERS: [Power; 3] = [Power::Quarter, Power::Half, Power::Counter];
+/// The most bytes of a move and a blank: `Rw2` with U+2019.
+const LONGEST: usize = 7;
 
-/// The power of a move by the byte after its letter, and where the byte after the move stands.
-fn suffix_of(byte: u8) -> (Power, usize)
-    ensures suffix { IsSuffix byte result.0 result.1 }
+/// By whether a `2` stands there, and twice whether an apostrophe does.
+static POWERS: [Power; 4] = [Power::Quarter, Power::Half, Power::Counter, Power::Half];
+
+/// The base in front of the bytes, which begin with this letter, and how many bytes it has.
+fn base_of(letter: Base, bytes: &[u8]) -> (Base, usize)
+    requires letter { take 1 bytes.now ≡ base_bytes letter }
+    requires fits { 1 < length bytes.now }
+    ensures base { take result.1 bytes.now ≡ base_bytes result.0 }
     ensures short { result.1 ≤ 2 }
 {
-    let two = byte == b'2';
-    let apostrophe = byte == b'\'';
-    // by a table, since a branch on what is drawn at random is mispredicted
-    let power = POWERS[two as usize + 2 * apostrophe as usize];
-    (power, 1 + (two || apostrophe) as usize)
+    if bytes[1] == b'w' {
+        if let Base::Face(face) = letter {
+            return (Base::Wide(face), 2);
+        }
+    }
+    (letter, 1)
 }
 
-/// The move in front of the bytes and how many bytes it has with the blank after it, where it is written with one letter,
-/// `2` or `'` or none of them, and a blank.
+/// How many bytes the apostrophe in front of the bytes has, if there is one.
+fn apostrophe_length(bytes: &[u8]) -> usize
+    requires { 2 < length bytes.now }
+    ensures bytes { BeginsApostrophe bytes.now result }
+    ensures short { result ≤ 3 }
+{
+    if bytes[0] == 0xE2 && bytes[1] == 0x80 && bytes[2] == 0x99 {
+        return 3;
+    }
+    if bytes[0] == b'\'' { 1 } else { 0 }
+}
+
+/// The power of the suffix in front of the bytes, and how many bytes it has.
+fn suffix_of(bytes: &[u8]) -> (Power, usize)
+    requires { 3 < length bytes.now }
+    ensures suffix { IsSuffix (take result.1 bytes.now) result.0 }
+    ensures short { result.1 ≤ 4 }
+{
+    let two = bytes[0] == b'2';
+    let apostrophe = apostrophe_length(&bytes[two as usize..]);
+    // by a table, since a branch on what is drawn at random is mispredicted
+    let power = POWERS[two as usize + 2 * (apostrophe > 0) as usize];
+    (power, two as usize + apostrophe)
+}
+
+/// The move in front of the bytes and how many bytes it has with the blank after it.
 pub fn whole_move(bytes: &[u8]) -> Option<(Token, usize)>
     ensures fits { IfSome result (λ m. m.1 ≤ length bytes.now) }
     ensures moves { IfSome result (λ m. IsMove (take m.1 bytes.now) m.0) }
 {
-    if bytes.len() < 3 {
+    if bytes.len() < LONGEST {
         return None;
     }
-    let Symbol::Base(base) = symbol_of(bytes[0]) else {
+    let Symbol::Base(letter) = symbol_of(bytes[0]) else {
         return None;
     };
-    let (power, end) = suffix_of(bytes[1]);
+    let (base, start) = base_of(letter, bytes);
+    let (power, length) = suffix_of(&bytes[start..]);
+    let end = start + length;
     let Symbol::Blank = symbol_of(bytes[end]) else {
         return None;
     };

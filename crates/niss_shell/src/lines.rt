@@ -142,7 +142,7 @@ impl<'a, A: Allocator> Lines<'a, A> {
         Ok(())
     }
 
-    /// Takes a move or a byte in front of the next bytes of the input, and answers how many bytes these are.
+    /// Takes moves or a byte in front of the next bytes of the input, and answers how many bytes these are.
     fn take_piece<W: Target>(&mut self, bytes: &[u8], output: &mut Output<W>) -> Result<usize, Stop>
         requires some { 0 < length bytes.now }
         requires works { has_fault (W.state output.old.target.now) ≡ false }
@@ -160,7 +160,7 @@ impl<'a, A: Allocator> Lines<'a, A> {
         ensures lines { IfOk result (λ n. self.new.line ≤ self.old.line + n) }
         ensures meter { OnOk result (HasRoom self.new.line self.new.looks.now) }
     {
-        let count = self.reader.feed_move(bytes);
+        let count = self.reader.feed_moves(bytes);
         if count > 0 {
             return Ok(count);
         }

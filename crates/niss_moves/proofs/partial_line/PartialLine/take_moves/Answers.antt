@@ -6,14 +6,14 @@ use Rattle.niss_moves.proofs.WholeMoves.{taken_none, taken_next, one_more}
 use Rattle.niss_moves.proofs.partial_line.PartialLine.take_moves.Goals as goal
 
 pub loop-token-init : goal.loop-token-init
-loop-token-init c = record { within = omega arith; taken = taken_none c.args.self.now c.in-Finished.is c.requires }
+loop-token-init c = record { within = omega arith; taken = taken_none c.args.self.now c.in-Finished.is c.requires.room }
 
 pub slice_bounds-whole_move-count : goal.slice_bounds-whole_move-count
 slice_bounds-whole_move-count c = c.loop-token.invariant.within
 
 pub loop-token-smaller : goal.loop-token-smaller
 loop-token-smaller c =
-    let more = one_more c.loop-token.self c.push.new.self c.in-Some.token (c.push.ensures 0) in
+    let more = one_more c.loop-token.self c.push.new.self c.in-Some.token c.push.ensures in
     omega (arith, more, c.len.ensures, c.loop-token-test.true)
 
 pub loop-token-preserved : goal.loop-token-preserved
@@ -25,10 +25,3 @@ loop-token-preserved c =
       taken = taken_next c.args.self.now c.loop-token.self c.push.new.self bytes _ c.loop-token.taken c.in-Some.length c.in-Some.token rest c.loop-token.invariant.taken (omega (arith, c.len.ensures, c.loop-token-test.true)) c.in-Some.ensures.moves c.push.ensures;
     }
 
-pub returns-after-loop-token-clause-runs : goal.returns-after-loop-token-clause-runs
-returns-after-loop-token-clause-runs c fed =
-    c.loop-token.invariant.taken.runs fed ∙ ap (λ (n : ℕ). Ok (state_of c.loop-token.self (fed + n))) (length-take-le c.loop-token.taken c.args.bytes.now c.loop-token.invariant.within)
-
-pub returns-in_default-whole_move-clause-runs : goal.returns-in_default-whole_move-clause-runs
-returns-in_default-whole_move-clause-runs c fed =
-    c.loop-token.invariant.taken.runs fed ∙ ap (λ (n : ℕ). Ok (state_of c.loop-token.self (fed + n))) (length-take-le c.loop-token.taken c.args.bytes.now c.loop-token.invariant.within)

@@ -7,9 +7,9 @@ use Rattle.niss_shell.proofs.lines.Lines.take_piece.Goals as goal
 
 pub returns-then-count-gt0-clause-takes : goal.returns-then-count-gt0-clause-takes
 returns-then-count-gt0-clause-takes g c = λ front at.
-    takes_inside (answers_of c.args.self.now) front (take c.feed_move-count.result c.args.bytes.now) c.args.self.now.line (record { reader = c.feed_move-count.new.self; line = c.args.self.now.line })
+    takes_inside (answers_of c.args.self.now) front (take c.feed_moves-count.result c.args.bytes.now) c.args.self.now.line (record { reader = c.feed_moves-count.new.self; line = c.args.self.now.line })
     (lines_state g.W.Target.state c.args.output.now c.args.self.now) tt
-    c.feed_move-count.ensures.inside (c.feed_move-count.ensures.bytes front at) refl c.requires.works
+    c.feed_moves-count.ensures.inside (c.feed_moves-count.ensures.bytes front at) refl c.requires.works
 
 pub returns-in_err-end_line-clause-takes : goal.returns-in_err-end_line-clause-takes
 returns-in_err-end_line-clause-takes g c =
@@ -18,7 +18,7 @@ returns-in_err-end_line-clause-takes g c =
     (lines_state g.W.Target.state c.args.output.now c.args.self.now) (lines_state g.W.Target.state c.end_line.new.output c.end_line.new.self) c.requires.some
     (takes_end_of_line (answers_of c.args.self.now) front (get_or c.args.bytes.now 0 0) c.args.self.now.line (progress_of c.end_line.new.self) (Err _)
     (lines_state g.W.Target.state c.args.output.now c.args.self.now) (lines_state g.W.Target.state c.end_line.new.output c.end_line.new.self)
-    c.if-bytes-eq10.true (c.in_err-end_line.ensures.answers front (nothing_fed c.feed_move-count.new.self front c.args.bytes.now c.feed_move-count.result c.if-count-gt0.false (c.feed_move-count.ensures.bytes front at)))
+    c.if-bytes-eq10.true (c.in_err-end_line.ensures.answers front (nothing_fed c.feed_moves-count.new.self front c.args.bytes.now c.feed_moves-count.result c.if-count-gt0.false (c.feed_moves-count.ensures.bytes front at)))
     tt tt))
 
 pub returns-then-bytes-eq10-clause-takes : goal.returns-then-bytes-eq10-clause-takes
@@ -27,7 +27,7 @@ returns-then-bytes-eq10-clause-takes g c = λ front at.
     (lines_state g.W.Target.state c.args.output.now c.args.self.now) (lines_state g.W.Target.state c.end_line.new.output c.end_line.new.self) c.requires.some
     (takes_end_of_line (answers_of c.args.self.now) front (get_or c.args.bytes.now 0 0) c.args.self.now.line (progress_of c.end_line.new.self) (Ok tt)
     (lines_state g.W.Target.state c.args.output.now c.args.self.now) (lines_state g.W.Target.state c.end_line.new.output c.end_line.new.self)
-    c.if-bytes-eq10.true (c.in_ok-end_line.ensures.answers front (nothing_fed c.feed_move-count.new.self front c.args.bytes.now c.feed_move-count.result c.if-count-gt0.false (c.feed_move-count.ensures.bytes front at)))
+    c.if-bytes-eq10.true (c.in_ok-end_line.ensures.answers front (nothing_fed c.feed_moves-count.new.self front c.args.bytes.now c.feed_moves-count.result c.if-count-gt0.false (c.feed_moves-count.ensures.bytes front at)))
     c.in_ok-end_line.ensures.reader c.in_ok-end_line.ensures.line)
 
 pub returns-clause-takes : goal.returns-clause-takes
@@ -36,5 +36,5 @@ returns-clause-takes g c = λ front at.
     (lines_state g.W.Target.state c.args.output.now c.args.self.now) (lines_state g.W.Target.state c.args.output.now c.args.self.now) c.requires.some
     (takes_other_byte (answers_of c.args.self.now) front (get_or c.args.bytes.now 0 0) c.args.self.now.line (record { reader = c.feed.new.self; line = c.args.self.now.line })
     (lines_state g.W.Target.state c.args.output.now c.args.self.now) tt (ne_eqb _ _ c.if-bytes-eq10.false)
-    (c.feed.ensures.bytes front (nothing_fed c.feed_move-count.new.self front c.args.bytes.now c.feed_move-count.result c.if-count-gt0.false (c.feed_move-count.ensures.bytes front at)))
+    (c.feed.ensures.bytes front (nothing_fed c.feed_moves-count.new.self front c.args.bytes.now c.feed_moves-count.result c.if-count-gt0.false (c.feed_moves-count.ensures.bytes front at)))
     refl c.requires.works)

@@ -1,0 +1,6 @@
+use Rattle.niss_moves.proofs.ReaderSteps.{step_whole, is_ready}
+use Rattle.niss_moves.proofs.partial_line.PartialLine.take.Goals as goal
+
+pub returns-in_default : goal.returns-in_default
+returns-in_default c =
+    step_whole c.args.byte _ c.args.self.now c.step_by.new.self c.step_by.result c.symbol_of.ensures (is_ready _ c.in_default.not-FirstByte c.in_default.not-SecondByte) c.step_by.ensures
