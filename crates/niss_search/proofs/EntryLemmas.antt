@@ -1,11 +1,13 @@
 -- The entries of a pruning table by number, and how the turns lead from one to another.
-use Rattle.std.proofs.Common.{◌≡◌, ℕ, suc, ◌+◌, ◌*◌, ◌/◌, ◌%◌, ◌≤◌, ◌<◌, leb, ◌==◌, ◌&&◌, Bool, true, false, ◌||◌, List, [], ◌∷◌, map, Contains, refl, sym, ap, ◌∙◌, subst, arith, lit<, inl, inr, ◌⊎◌, length, get_or, slice_index, All, take, drop, ◌++◌}
+use Rattle.std.proofs.Common.{◌≡◌, ℕ, zero, suc, ◌+◌, ◌-◌, ◌*◌, ◌/◌, ◌%◌, ◌≤◌, ◌<◌, leb, ◌==◌, ◌&&◌, Bool, true, false, ◌||◌, List, [], ◌∷◌, map, Contains, refl, sym, ap, ◌∙◌, subst, arith, lit<, inl, inr, ◌⊎◌, length, get_or, slice_index, replicate, All, take, drop, ◌++◌}
 use Rattle.std.proofs.lemmas.Bool.Decides.{eqb_tells, leb_tells}
 use Rattle.niss_moves.specs.Places.{Place}
+use Rattle.niss_moves.specs.declared.axis.Axis.{Axis}
 use Rattle.niss_moves.specs.Turn.{inverse_turn}
 use Rattle.niss_moves.specs.declared.turn.Turn.{Turn}
 use Rattle.niss_cube.specs.AfterTurn.{AreCoordinates}
 use Rattle.niss_cube.specs.declared.cube.coordinate.Coordinate.TheVariants.{Flip, Twist, Slice}
+use Rattle.niss_cube.specs.TwistAfter.{twist_after}
 use Rattle.niss_cube.specs.Steps.{goals_of, turns_of}
 use Rattle.niss_cube.specs.StepLaws.{InversesOfSteps}
 use Rattle.niss_cube.specs.declared.step.Goal.{Goal}
@@ -15,7 +17,8 @@ use Rattle.niss_search.specs.declared.tables.position.Coordinates.{Coordinates}
 use Rattle.niss_search.specs.Positions.{coordinates_of, coordinates_after, are_zero, AreInRange, position_after, is_reached_at, distance_at}
 use Rattle.niss_search.specs.Cubes.{HasPosition}
 use Rattle.niss_search.specs.Entries.{count_for}
-use Rattle.niss_search.specs.Filling.{entry_number, entry_at, entry_after, entry_distance, byte_at, Alternative, EntriesTurn, IsFilled, IsEntry, AreEntries}
+use Rattle.niss_search.specs.Moves.{turn_at}
+use Rattle.niss_search.specs.Filling.{row_length, place_after, AreStarts, ArePlaces, entry_number, entry_at, entry_after, entry_distance, byte_at, Alternative, EntriesTurn, IsFilled, IsEntry, AreEntries}
 use Rattle.niss_search.proofs.ListLemmas.{All-first, All-later}
 use Rattle.niss_search.proofs.PositionLemmas.{position_of-is}
 use Rattle.niss_search.proofs.LookLemmas.{distance_at-goal, distance_at-turn, distance_at-most, distance_at-nearer}
@@ -36,6 +39,22 @@ high a b h = omega arith
 
 low : (a b : ℕ) → b < 495 → (a * 495 + b) % 495 ≡ b
 low a b h = omega arith
+
+-- the row in which an entry stands
+pub row_length-some : (g : Goal) → 0 < row_length g
+unfolding row_length
+row_length-some (Edges a) = lit< tt
+row_length-some (Domino o a) = lit< tt
+
+pub row-from : (g : Goal) (i : ℕ) → i / row_length g * row_length g ≤ i
+unfolding row_length
+row-from (Edges a) i = omega arith
+row-from (Domino o a) i = omega arith
+
+pub row-to : (g : Goal) (i : ℕ) → i < i / row_length g * row_length g + row_length g
+unfolding row_length
+row-to (Edges a) i = omega arith
+row-to (Domino o a) i = omega arith
 
 -- the entry number is one to one: the coordinates of a goal are found back from it
 pub entry_at-back : (g : Goal) (e : Place → Place) → AreInRange (coordinates_of g e) → IsEntry g (coordinates_of g e)
@@ -129,10 +148,30 @@ module _ (tell : EntriesTurn) (alt : Alternative) where
       let r = distance_at-nearer alt.step (entry_at alt.goal i ∷ []) k e l in
       (r.0, (r.1.0, subst (λ x. distance_at alt.step x ≤ k) (after-entry i r.0 h) r.1.1))
 
--- the entry of the coordinates after a turn
-pub entry_after-is : (goal : Goal) (i : ℕ) (t : Turn) (c d : Coordinates) → c ≡ entry_at goal i → d ≡ coordinates_after c t → entry_number d ≡ entry_after goal i t
-unfolding entry_after
-entry_after-is goal i t c d e f = ap entry_number (f ∙ ap (λ b. coordinates_after b t) e)
+-- a turn leads the entries of a row into one row again
+pub row-edges : (step : Step) (axis : Axis) (row : ℕ) → row * row_length (Edges axis) < count_for (Edges axis) → AreStarts record { step = step; goal = Edges axis } (row * row_length (Edges axis)) (replicate 18 0)
+unfolding row_length count_for entry_after
+row-edges step axis row h k place l r =
+    let first : row * 2048 + place ≡ place = omega arith in
+    let none : 0 + place_after (Edges axis) place (turn_at step k) ≡ place_after (Edges axis) place (turn_at step k) = omega arith in
+    rw (zero-at 18 k, first) none where
+      zero-at : (n k : ℕ) → slice_index (replicate n 0) k ≡ 0
+      zero-at zero k = refl
+      zero-at (suc n) zero = refl
+      zero-at (suc n) (suc k) = zero-at n k
+
+pub row-domino : (step : Step) (edges axis : Axis) (row : ℕ) (starts : List ℕ) → ((k : ℕ) → k < length (turns_of step) → slice_index starts k ≡ twist_after axis row (turn_at step k) * 495) → AreStarts record { step = step; goal = Domino edges axis } (row * row_length (Domino edges axis)) starts
+unfolding row_length entry_after
+row-domino step edges axis row starts led k place l r = rw (led k l, high row place r, low row place r) refl
+
+-- the entry after a turn, by its row and its place there
+pub row-entry : (alt : Alternative) (start entry : ℕ) (starts places : List ℕ) → AreStarts alt start starts → ArePlaces alt (entry - start) places → start ≤ entry → entry < start + row_length alt.goal → (k : ℕ) → k < length (turns_of alt.step) → slice_index starts k + slice_index places k ≡ entry_after alt.goal entry (turn_at alt.step k)
+row-entry alt start entry starts places s p from to k l =
+    let inside : entry - start < row_length alt.goal = omega arith in
+    let back : start + (entry - start) ≡ entry = omega arith in
+    ap (λ n. slice_index starts k + n) (p k l)
+    ∙ s k (entry - start) l inside
+    ∙ ap (λ i. entry_after alt.goal i (turn_at alt.step k)) back
 
 -- the position of a cube is one of entries, one for each goal
 pub position-entries : (gs : List Goal) (e : Place → Place) → All AreInRange (map (λ g. coordinates_of g e) gs) → AreEntries gs (map (λ g. coordinates_of g e) gs)

@@ -2,6 +2,8 @@
 use Rattle.std.specs.Prelude.{◌≡◌, ℕ, ◌+◌, ◌*◌, ◌/◌, ◌%◌, ◌<◌, ◌≤◌, ◌⊎◌, List, [], ◌∷◌, length, slice_index, min, Contains, count_by, sum_by, nat_le, ⊤, if◌then◌else◌}
 use Rattle.niss_moves.specs.Turn.{inverse_turn}
 use Rattle.niss_moves.specs.declared.turn.Turn.{Turn}
+use Rattle.niss_cube.specs.FlipAfter.{flip_after}
+use Rattle.niss_cube.specs.SliceAfter.{slice_after}
 use Rattle.niss_cube.specs.Steps.{turns_of}
 use Rattle.niss_cube.specs.StepLaws.{InversesOfSteps}
 use Rattle.niss_cube.specs.declared.step.Goal.{Goal}
@@ -10,6 +12,7 @@ use Rattle.niss_cube.specs.declared.step.Step.{Step}
 use Rattle.niss_search.specs.declared.tables.position.Coordinates.{Coordinates}
 use Rattle.niss_search.specs.declared.tables.position.Coordinates.TheVariants.{Flip, TwistAndSlice}
 use Rattle.niss_search.specs.Positions.{coordinates_after, distance_at}
+use Rattle.niss_search.specs.Moves.{turn_at}
 use Rattle.niss_search.specs.Entries.{values_for, count_for}
 
 -- the entry number of coordinates
@@ -26,10 +29,31 @@ entry_at (Domino edges axis) i = TwistAndSlice axis (i / 495) (i % 495)
 unfoldable pub entry_after : Goal → ℕ → Turn → ℕ
 entry_after goal i t = entry_number (coordinates_after (entry_at goal i) t)
 
+-- how many entries stand in a row of the table: those of one twist, or all
+unfoldable pub row_length : Goal → ℕ
+row_length (Edges axis) = 2048
+row_length (Domino edges axis) = 495
+
+-- the place in its row to which a turn leads a place
+abbrev pub place_after : Goal → ℕ → Turn → ℕ
+place_after (Edges axis) place t = flip_after axis place t
+place_after (Domino edges axis) place t = slice_after axis place t
+
 -- A step and one of its goals: what a pruning table is for.
 pub record Alternative : Type 0 where
   pub step : Step
   pub goal : Goal
+
+-- From the row at `start` the turns lead to the rows at `starts`, in turn order: there an entry stands at its place after
+-- the turn.
+abbrev pub AreStarts : Alternative → (start : ℕ) → (starts : List ℕ) → Type 0
+AreStarts alt start starts =
+    (k place : ℕ) → k < length (turns_of alt.step) → place < row_length alt.goal → slice_index starts k + place_after alt.goal place (turn_at alt.step k) ≡ entry_after alt.goal (start + place) (turn_at alt.step k)
+
+-- the places after the turns, in turn order
+abbrev pub ArePlaces : Alternative → (place : ℕ) → (places : List ℕ) → Type 0
+ArePlaces alt place places =
+    (k : ℕ) → k < length (turns_of alt.step) → slice_index places k ≡ place_after alt.goal place (turn_at alt.step k)
 
 -- the distance of an entry: how far the step is, if this were its one goal
 unfoldable pub entry_distance : Alternative → ℕ → ℕ

@@ -91,9 +91,12 @@ pub fn random_turns(rng: &mut Lcg64Xsh32, count: usize) -> Faces
     ensures words { rng.new ≡ after_words count rng.old }
 {
     let mut turns = Faces::new();
+    // held beside the list: read back from its end, each turn would wait for the one before to be stored
+    let mut last = None;
     'drawing: for _ in 0..count {
-        let last = turns.as_slice().last().copied();
-        turns.push(turn_of_word(last, rng.next_word()));
+        let turn = turn_of_word(last, rng.next_word());
+        turns.push(turn);
+        last = Some(turn);
     }
     turns
 }

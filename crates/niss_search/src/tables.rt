@@ -1,5 +1,6 @@
 //! What a search knows of its step: where a turn leads, and what a look at a position answers.
 mod entries;
+mod entry_row;
 mod fill;
 mod followers;
 mod goal_moves;

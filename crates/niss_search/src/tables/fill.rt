@@ -5,6 +5,8 @@ ghost use Rattle.niss_cube.specs.Steps.{turns_of};
 ghost use Rattle.niss_search.specs.Entries.{count_for};
 ghost use Rattle.niss_search.specs.Filling.{goal_ticks, entry_distance, IsFilled, IsFilling, IsExtended, KeepsMet};
 
+use super::entries::GOAL_ENTRY;
+use super::entry_row::EntryRow;
 use super::goal_moves::GoalMoves;
 use super::level::Level;
 use super::meter::Meter;
@@ -12,32 +14,6 @@ use crate::laws::entries_turn;
 use crate::limit::Limit;
 use crate::scan::next_at;
 use std::mem;
-
-/// Tries each turn from an entry of the level, and gives the next level to each entry that wasn't met before.
-fn extend_entry<M: GoalMoves>(
-    moves: &M,
-    distances: &mut [u8],
-    entry: usize,
-    level: &Level,
-    meter: &mut Meter,
-)
-    requires filling { IsFilling (M.alternative moves.now) level.now distances.old }
-    requires in_range { entry < count_for (M.alternative moves.now).goal }
-    requires at_level { entry_distance (M.alternative moves.now) entry ≡ level.now }
-    requires meter { meter.old + length (turns_of (M.alternative moves.now).step) < 2 ^ 128 }
-    ensures filling { IsFilling (M.alternative moves.now) level.now distances.new }
-    ensures extended { IsExtended (M.alternative moves.now) distances.new entry }
-    ensures kept { KeepsMet distances.old distances.new }
-    ensures ticks { meter.new ≡ meter.old + length (turns_of (M.alternative moves.now).step) }
-{
-    entries_turn();
-    let state = moves.state_at(entry);
-    for column in 0..moves.turns() {
-        meter.tick();
-        let next = moves.entry(moves.after(state, column));
-        distances[next] = level.meet(distances[next]);
-    }
-}
 
 /// Tries each turn from each entry of the level.
 fn extend_level<M: GoalMoves>(moves: &M, distances: &mut [u8], level: &Level, meter: &mut Meter)
@@ -51,9 +27,11 @@ fn extend_level<M: GoalMoves>(moves: &M, distances: &mut [u8], level: &Level, me
 {
     entries_turn();
     let number = level.number();
+    let mut row = EntryRow::of(moves, GOAL_ENTRY);
     let mut from = 0;
     while let Some(entry) = next_at(distances, from, number) {
-        extend_entry(moves, distances, entry, level, meter);
+        row.advance_to(entry);
+        row.extend(entry, distances, level, meter);
         from = entry + 1;
     }
 }

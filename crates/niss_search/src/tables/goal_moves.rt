@@ -1,9 +1,9 @@
 //! How the turns of a step move the coordinates of one of its goals.
-ghost use Rattle.std.specs.Prelude.{◌≡◌, ◌<◌, length, IfOk};
+ghost use Rattle.std.specs.Prelude.{◌≡◌, ◌*◌, ◌<◌, length, IfOk};
 ghost use Rattle.niss_cube.specs.Steps.{turns_of};
 ghost use Rattle.niss_cube.specs.declared.step.Goal.TheVariants.{Edges, Domino};
 ghost use Rattle.niss_search.specs.Entries.{count_for};
-ghost use Rattle.niss_search.specs.Filling.{Alternative, IsEntry, entry_number, entry_at};
+ghost use Rattle.niss_search.specs.Filling.{Alternative, IsEntry, AreStarts, ArePlaces, row_length, entry_number, entry_at};
 ghost use Rattle.niss_search.specs.Moves.{turn_at};
 ghost use Rattle.niss_search.specs.Positions.{coordinates_after, AreInRange};
 ghost use Rattle.niss_search.specs.declared.tables.position.Coordinates.{Coordinates};
@@ -11,12 +11,16 @@ ghost use Rattle.niss_search.specs.declared.tables.position.Coordinates.TheVaria
 ghost use Rattle.niss_cube.specs.declared.cube.coordinate.Coordinate.TheVariants as coordinate;
 
 use super::entries::{FLIPS, SLICES, TWISTS, pair_number};
-use super::move_table::MoveTable;
+use super::move_table::{MoveTable, Row};
 use super::position::Coordinates;
 use niss_cube::{Axis, Coordinate, OutOfMemory, Step, TurnTable};
 use std::alloc::Allocator;
 
-/// The coordinates of a goal of a step, as numbers without their axis, and where the step's turns lead them.
+/// Where the rows of a pruning table begin after the turns of a step, in turn order; a step has at most 18.
+pub type Starts = [usize; 18];
+
+/// The coordinates of a goal of a step, as numbers without their axis, and where the step's turns lead them. The entries of
+/// its pruning table stand in rows, so that after a turn those of one row stand in one row again.
 pub trait GoalMoves {
     /// The numbers.
     type State: Copy;
@@ -34,6 +38,20 @@ pub trait GoalMoves {
     /// How many entries the pruning table has.
     fn entries(&self) -> usize
         ensures { result ≡ count_for (alternative self.now).goal };
+
+    /// How many entries stand in a row of the table.
+    fn row_length(&self) -> usize
+        ensures { result ≡ row_length (alternative self.now).goal };
+
+    /// Where the rows begin to which the turns lead those of a row.
+    fn starts(&self, row: usize) -> Starts
+        requires { row * row_length (alternative self.now).goal < count_for (alternative self.now).goal }
+        ensures { AreStarts (alternative self.now) (row * row_length (alternative self.now).goal) result };
+
+    /// The places in their rows to which the turns lead a place.
+    fn places(&self, place: usize) -> &Row
+        requires { place < row_length (alternative self.now).goal }
+        ensures { ArePlaces (alternative self.now) place result.now };
 
     /// The state of an entry.
     fn state_at(&self, entry: usize) -> Self::State
@@ -101,6 +119,21 @@ impl<A: Allocator> GoalMoves for EdgeMoves<A> {
     #[tactic(auto, unfolding(crate::specs::Entries::count_for))]
     fn entries(&self) -> usize {
         FLIPS
+    }
+
+    #[tactic(auto, unfolding(crate::specs::Filling::row_length))]
+    fn row_length(&self) -> usize {
+        FLIPS
+    }
+
+    fn starts(&self, _row: usize) -> Starts {
+        [0; 18]
+    }
+
+    #[tactic(auto, unfolding(crate::specs::Filling::row_length))]
+    #[inline(always)]
+    fn places(&self, place: usize) -> &Row {
+        self.flips.row(place as u16)
     }
 
     #[tactic(auto, unfolding(crate::specs::Entries::count_for))]
@@ -206,6 +239,27 @@ impl<A: Allocator> GoalMoves for DominoMoves<A> {
     #[tactic(auto, unfolding(crate::specs::Entries::count_for))]
     fn entries(&self) -> usize {
         TWISTS * SLICES
+    }
+
+    #[tactic(auto, unfolding(crate::specs::Filling::row_length))]
+    fn row_length(&self) -> usize {
+        SLICES
+    }
+
+    #[tactic(auto, unfolding(crate::specs::Filling::row_length, crate::specs::Entries::count_for))]
+    fn starts(&self, row: usize) -> Starts {
+        let twists = self.twists.row(row as u16);
+        let mut starts = [0; 18];
+        for column in 0..self.turns() {
+            starts[column] = pair_number(twists[column], 0);
+        }
+        starts
+    }
+
+    #[tactic(auto, unfolding(crate::specs::Filling::row_length))]
+    #[inline(always)]
+    fn places(&self, place: usize) -> &Row {
+        self.slices.row(place as u16)
     }
 
     #[tactic(auto, unfolding(crate::specs::Entries::count_for))]

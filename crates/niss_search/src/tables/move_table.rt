@@ -10,7 +10,7 @@ use std::alloc::Allocator;
 use std::marker::Model;
 
 /// The numbers after the turns of a step, in turn order; a step has at most 18.
-type Row = [u16; 18];
+pub type Row = [u16; 18];
 
 /// The row of a number.
 fn row_of<A: Allocator>(turn_table: &TurnTable<A>, axis: Axis, step: Step, number: u16) -> Row
@@ -82,6 +82,15 @@ impl<A: Allocator> MoveTable<A> {
         ensures { result ≡ length (turns_of self.now.step) }
     {
         self.step.turns().len()
+    }
+
+    /// The numbers after the turns of the step, in turn order.
+    #[inline(always)]
+    pub fn row(&self, number: u16) -> &Row
+        requires { number < number_count self.now.coordinate }
+        ensures { IsMoveRow self.now number result.now }
+    {
+        &self.rows[number as usize]
     }
 
     /// The number after the turn of a column.

@@ -1,4 +1,4 @@
-use Rattle.std.proofs.Common.{rules, arith, ◌≡◌, ◌-◌, ◌+◌, ℕ, suc, sym, ap, ◌∙◌, append_assoc, true}
+use Rattle.std.proofs.Common.{arith, ◌≡◌, ◌-◌, ◌+◌, ℕ, suc, sym, ap, ◌∙◌, append_assoc, true}
 use Rattle.std.proofs.lemmas.List.{append-nil}
 use Rattle.niss_moves.specs.Canonical.{last_turn, may_follow}
 use Rattle.rand_pcg.specs.Lcg.{Lcg}
@@ -15,18 +15,19 @@ drawing-preserved c =
     let n = c.args.count - c.drawing.counter in
     let m = c.args.count - (c.drawing.counter + 1) in
     let fewer : n ≡ suc m = omega arith in
-    let last : c.copied-last.result ≡ last_turn items = search rules in
+    let last = inv.last in
     let word : c.next_word.result ≡ (pcg32 g).0 = ap (λ (q : ℕ × Lcg). q.0) c.next_word.ensures in
     let next : c.next_word.new.self ≡ (pcg32 g).1 = ap (λ (q : ℕ × Lcg). q.1) c.next_word.ensures in
-    let picked : c.turn_of_word.result ≡ choice (last_turn items) (pcg32 g).0 =
-    c.turn_of_word.ensures ∙ ap (λ l. choice l c.next_word.result) last ∙ ap (choice (last_turn items)) word in
-    let follows : may_follow (last_turn items) c.turn_of_word.result ≡ true =
-    rw (c.turn_of_word.ensures, last) (choice-follows (last_turn items) c.next_word.result c.next_word.type_inv) in
+    let picked : c.turn_of_word-turn.result ≡ choice (last_turn items) (pcg32 g).0 =
+    c.turn_of_word-turn.ensures ∙ ap (λ l. choice l c.next_word.result) last ∙ ap (choice (last_turn items)) word in
+    let follows : may_follow (last_turn items) c.turn_of_word-turn.result ≡ true =
+    rw (c.turn_of_word-turn.ensures, last) (choice-follows (last_turn items) c.next_word.result c.next_word.type_inv) in
     record {
-      drawn = inv.drawn ∙ rw (draw-more n m (last_turn items) g fewer, c.push.ensures.items, last_turn-push items c.turn_of_word.result, next, picked, append_assoc);
+      drawn = inv.drawn ∙ rw (draw-more n m (last_turn items) g fewer, c.push.ensures.items, last_turn-push items c.turn_of_word-turn.result, next, picked, append_assoc);
       words = inv.words ∙ after_words-more n m g fewer ∙ ap (after_words m) (sym next);
+      last = rw c.push.ensures.items (sym (last_turn-push items c.turn_of_word-turn.result));
       size = omega (arith, c.push.ensures.len);
-      canonical = rw c.push.ensures.items (canonical-push items c.turn_of_word.result inv.canonical follows);
+      canonical = rw c.push.ensures.items (canonical-push items c.turn_of_word-turn.result inv.canonical follows);
     }
 
 pub returns-clause-drawn : goal.returns-clause-drawn

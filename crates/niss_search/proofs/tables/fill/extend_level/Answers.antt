@@ -1,4 +1,4 @@
-use Rattle.std.proofs.Common.{arith, ◌≡◌, ◌≢◌, ◌+◌, ◌*◌, ◌<◌, ◌≤◌, ◌==◌, length, ℕ, List, count_by, true, false, leb, inl, inr, ◌⊎◌, sym, ap, ◌∙◌, subst, slice_index, cond, eq-eqb}
+use Rattle.std.proofs.Common.{arith, ◌≡◌, ◌≢◌, ◌+◌, ◌*◌, ◌^◌, ◌<◌, ◌≤◌, ◌==◌, length, ℕ, List, count_by, true, false, leb, inl, inr, ◌⊎◌, sym, ap, ◌∙◌, subst, slice_index, cond, eq-eqb}
 use Rattle.std.specs.List.{range_with_len}
 use Rattle.std.proofs.Math.Nat.{mul-add}
 use Rattle.std.proofs.lemmas.Bool.{ne_eqb}
@@ -7,6 +7,7 @@ use Rattle.niss_cube.specs.Steps.{turns_of}
 use Rattle.niss_search.specs.Entries.{count_for}
 use Rattle.niss_search.specs.Filling.{Alternative, entry_distance, IsFilling, IsExtended}
 use Rattle.niss_search.proofs.Bounds.{turns_of-length}
+use Rattle.niss_search.proofs.EntryLemmas.{count_for-some}
 use Rattle.niss_search.proofs.FillLemmas.{filled-next, filling-at, count-more, count-skip, count-range-le, ticks-le}
 use Rattle.niss_search.proofs.tables.fill.extend_level.Goals as goal
 
@@ -19,15 +20,21 @@ skipped : (alt : Alternative) (level : ℕ) (xs : List ℕ) → IsFilling alt le
 skipped alt level xs f a b l r none =
     count-skip (λ x. entry_distance alt x == level) a b l (λ k low high. ne_eqb _ _ (away alt level xs f k (omega arith) (none k low high)))
 
-pub extend_entry-requires-clause-meter : goal.extend_entry-requires-clause-meter
-extend_entry-requires-clause-meter g c =
+pub of-row-requires : goal.of-row-requires
+of-row-requires g c = count_for-some (g.M.GoalMoves.alternative c.args.moves.now).goal
+
+pub extend-requires-clause-meter : goal.extend-requires-clause-meter
+extend-requires-clause-meter g c =
     let inv = c.loop-entry.invariant in
     let found = c.in-Some.ensures.found in
     let p = λ (x : ℕ). entry_distance (g.M.GoalMoves.alternative c.args.moves.now) x == c.args.level.now in
     let turns = length (turns_of (g.M.GoalMoves.alternative c.args.moves.now).step) in
     let count = count_by p (range_with_len 0 c.loop-entry.from) in
     let few : count + 1 ≤ count_for (g.M.GoalMoves.alternative c.args.moves.now).goal = omega (arith, count-range-le p c.loop-entry.from, inv.filling.size, found) in
-    omega (arith, ticks-le turns (count + 1) (count_for (g.M.GoalMoves.alternative c.args.moves.now).goal) (turns_of-length (g.M.GoalMoves.alternative c.args.moves.now).step) few)
+    let same = c.advance_to.ensures.moves ∙ inv.moves in
+    let room : c.loop-entry.meter + turns < 2 ^ 128 =
+    omega (arith, inv.ticks, c.requires.meter, ticks-le turns (count + 1) (count_for (g.M.GoalMoves.alternative c.args.moves.now).goal) (turns_of-length (g.M.GoalMoves.alternative c.args.moves.now).step) few) in
+    rw same room
 
 pub loop-entry-preserved : goal.loop-entry-preserved
 loop-entry-preserved g c =
@@ -46,12 +53,19 @@ loop-entry-preserved g c =
     let one : cond {A = ℕ} (p entry) 1 0 ≡ 1 = ap (λ b. cond {A = ℕ} b 1 0) (eq-eqb _ _ at) in
     let count : count_by p (range_with_len 0 (entry + 1)) ≡ count_by p (range_with_len 0 c.loop-entry.from) + 1 =
     omega (arith, count-more p entry, one, skipped alt level xs inv.filling c.loop-entry.from entry (omega arith) (omega arith) least) in
+    let same = c.advance_to.ensures.moves ∙ inv.moves in
+    let filling = rw same at c.extend.ensures.filling in
+    let extended = rw same at c.extend.ensures.extended in
+    let ticks = rw same at c.extend.ensures.ticks in
     let product = ap (λ n. turns * n) count ∙ mul-add turns (count_by p (range_with_len 0 c.loop-entry.from)) 1 in
     record {
-      filling = c.extend_entry.ensures.filling;
-      within = omega (arith, c.extend_entry.ensures.filling.size);
-      extended = λ j l e t m. by_place alt level c.loop-entry.from entry xs c.extend_entry.new.distances j l e inv.filling in_range least (λ b. λ t m. c.extend_entry.ensures.kept _ (inv.extended j b e t m)) c.extend_entry.ensures.extended (leb_tells c.loop-entry.from j) (leb_tells entry j) t m;
-      ticks = omega (arith, product, inv.ticks, c.extend_entry.ensures.ticks);
+      moves = same;
+      row = omega (arith, c.advance_to.ensures.from);
+      starts = rw inv.moves at c.advance_to.ensures.starts;
+      filling = filling;
+      within = omega (arith, filling.size);
+      extended = λ j l e t m. by_place alt level c.loop-entry.from entry xs c.extend.new.distances j l e inv.filling in_range least (λ b. λ t m. c.extend.ensures.kept _ (inv.extended j b e t m)) extended (leb_tells c.loop-entry.from j) (leb_tells entry j) t m;
+      ticks = omega (arith, product, inv.ticks, ticks);
     } where
       by_place : (alt : Alternative) (level from entry : ℕ) (xs ys : List ℕ) (j : ℕ) → j < entry + 1 → entry_distance alt j ≡ level → IsFilling alt level xs → entry < count_for alt.goal → ((k : ℕ) → from ≤ k → k < entry → slice_index xs k ≢ level) → (j < from → IsExtended alt ys j) → IsExtended alt ys entry → ((leb from j ≡ true) × (from ≤ j)) ⊎ ((leb from j ≡ false) × (j < from)) → ((leb entry j ≡ true) × (entry ≤ j)) ⊎ ((leb entry j ≡ false) × (j < entry)) → IsExtended alt ys j
       by_place alt level from entry xs ys j l e f r least before here (inr a) b = before a.1

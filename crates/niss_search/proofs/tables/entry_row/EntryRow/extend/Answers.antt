@@ -1,4 +1,4 @@
-use Rattle.std.proofs.Common.{arith, ◌≡◌, ◌+◌, ◌<◌, sym, ap, ◌∙◌, subst, below_more, slice_index, min}
+use Rattle.std.proofs.Common.{arith, ◌≡◌, ◌+◌, ◌<◌, sym, ap, ◌∙◌, subst, below_more, slice_index, min, length}
 use Rattle.std.proofs.lemmas.List.Elements.{Contains-get_or}
 use Rattle.std.proofs.lemmas.List.{get_or_read}
 use Rattle.niss_moves.specs.declared.turn.Turn.{Turn}
@@ -7,38 +7,55 @@ use Rattle.niss_moves.specs.declared.turn.Power.TheVariants.{Quarter}
 use Rattle.niss_cube.specs.Steps.{turns_of}
 use Rattle.niss_search.specs.Filling.{entry_after}
 use Rattle.niss_search.specs.Moves.{turn_at}
-use Rattle.niss_search.proofs.EntryLemmas.{entry_after-is}
+use Rattle.niss_search.proofs.Bounds.{turns_of-length}
+use Rattle.niss_search.proofs.EntryLemmas.{row-entry}
 use Rattle.niss_search.proofs.FillLemmas.{least-filling, least-met, least-kept}
-use Rattle.niss_search.proofs.tables.fill.extend_entry.Goals as goal
+use Rattle.niss_search.proofs.tables.entry_row.EntryRow.extend.Goals as goal
+
+pub offset_bounds-self-column : goal.offset_bounds-self-column
+offset_bounds-self-column g c =
+    omega (arith, c.loop-column.invariant.end, c.loop-column-test.true, turns_of-length (g.M.GoalMoves.alternative c.args.self.now.moves.now).step)
+
+pub bounds-self-column : goal.bounds-self-column
+bounds-self-column g c =
+    omega (arith, c.loop-column.invariant.end, c.loop-column-test.true, turns_of-length (g.M.GoalMoves.alternative c.args.self.now.moves.now).step)
+
+pub offset_bounds-places-column : goal.offset_bounds-places-column
+offset_bounds-places-column g c =
+    omega (arith, c.loop-column.invariant.end, c.loop-column-test.true, turns_of-length (g.M.GoalMoves.alternative c.args.self.now.moves.now).step)
+
+pub bounds-places-column : goal.bounds-places-column
+bounds-places-column g c =
+    omega (arith, c.loop-column.invariant.end, c.loop-column-test.true, turns_of-length (g.M.GoalMoves.alternative c.args.self.now.moves.now).step)
 
 pub bounds-distances-next : goal.bounds-distances-next
 bounds-distances-next g c =
     let inv = c.loop-column.invariant in
-    let alt = g.M.GoalMoves.alternative c.args.moves.now in
+    let alt = g.M.GoalMoves.alternative c.args.self.now.moves.now in
     let t = turn_at alt.step c.loop-column.column in
-    let next = c.entry-next.ensures.number ∙ entry_after-is alt.goal c.args.entry t _ _ inv.at c.after.ensures in
+    let column : c.loop-column.column < length (turns_of alt.step) = omega (arith, inv.end, c.loop-column-test.true) in
+    let next = row-entry alt c.args.self.now.start c.args.entry c.args.self.now.starts c.places-places.result.now c.requires.starts c.places-places.ensures c.requires.from c.requires.to c.loop-column.column column in
     omega (arith, c.entries_turn.ensures.below alt.goal c.args.entry t c.requires.in_range, inv.filling.size, next)
 
 pub loop-column-preserved : goal.loop-column-preserved
 loop-column-preserved g c =
     let inv = c.loop-column.invariant in
-    let alt = g.M.GoalMoves.alternative c.args.moves.now in
+    let alt = g.M.GoalMoves.alternative c.args.self.now.moves.now in
     let xs = c.loop-column.distances in
     let entry = c.args.entry in
     let level = c.args.level.now in
     let d : Turn = record { face = U; power = Quarter } in
     let t = turn_at alt.step c.loop-column.column in
-    let m = Contains-get_or (turns_of alt.step) c.loop-column.column d (omega (arith, inv.end, c.loop-column-test.true)) in
+    let column : c.loop-column.column < length (turns_of alt.step) = omega (arith, inv.end, c.loop-column-test.true) in
+    let m = Contains-get_or (turns_of alt.step) c.loop-column.column d column in
     let law = c.entries_turn.ensures in
     let small = c.meet.ensures.in_range in
-    let j : c.entry-next.result ≡ entry_after alt.goal entry t =
-    c.entry-next.ensures.number ∙ entry_after-is alt.goal entry t _ _ inv.at c.after.ensures in
+    let j = row-entry alt c.args.self.now.start entry c.args.self.now.starts c.places-places.result.now c.requires.starts c.places-places.ensures c.requires.from c.requires.to c.loop-column.column column in
     let written : c.meet.result ≡ min (slice_index xs (entry_after alt.goal entry t)) (level + 1) =
     c.meet.ensures.value ∙ ap (λ i. min (slice_index xs i) (level + 1)) j in
     let kept = least-kept law alt level small xs inv.filling entry t c.requires.at_level c.requires.in_range m in
     record {
       end = inv.end;
-      at = inv.at;
       filling = rw (j, written) (least-filling law alt level small xs inv.filling entry t c.requires.at_level c.requires.in_range m);
       extended = rw (j, written) (below_more _ _ (λ k l. kept _ (inv.extended k l)) (least-met law alt level small xs inv.filling entry t c.requires.at_level c.requires.in_range m));
       kept = rw (j, written) (λ i h. kept i (inv.kept i h));
@@ -48,7 +65,7 @@ loop-column-preserved g c =
 pub returns-clause-extended : goal.returns-clause-extended
 returns-clause-extended g c = λ t m.
     let inv = c.loop-column.invariant in
-    let alt = g.M.GoalMoves.alternative c.args.moves.now in
+    let alt = g.M.GoalMoves.alternative c.args.self.now.moves.now in
     let d : Turn = record { face = U; power = Quarter } in
     let same : turn_at alt.step m.0 ≡ t = sym (get_or_read (turns_of alt.step) m.0 t m.1 (sym m.2) d) in
     let inside : m.0 < c.loop-column.column = omega (arith, m.1, inv.end) in
