@@ -7,7 +7,7 @@ use Rattle.niss_moves.specs.Turn.{inverse_turn}
 use Rattle.niss_moves.specs.declared.turn.Turn.{Turn}
 use Rattle.niss_cube.specs.AfterTurn.{AreCoordinates}
 use Rattle.niss_cube.specs.declared.cube.coordinate.Coordinate.TheVariants.{Flip, Twist, Slice}
-use Rattle.niss_cube.specs.TwistAfter.{twist_after}
+use Rattle.niss_cube.specs.NumberAfter.{number_after}
 use Rattle.niss_cube.specs.Steps.{goals_of, turns_of}
 use Rattle.niss_cube.specs.StepLaws.{InversesOfSteps}
 use Rattle.niss_cube.specs.declared.step.Goal.{Goal}
@@ -160,7 +160,7 @@ row-edges step axis row h k place l r =
       zero-at (suc n) zero = refl
       zero-at (suc n) (suc k) = zero-at n k
 
-pub row-domino : (step : Step) (edges axis : Axis) (row : ℕ) (starts : List ℕ) → ((k : ℕ) → k < length (turns_of step) → slice_index starts k ≡ twist_after axis row (turn_at step k) * 495) → AreStarts record { step = step; goal = Domino edges axis } (row * row_length (Domino edges axis)) starts
+pub row-domino : (step : Step) (edges axis : Axis) (row : ℕ) (starts : List ℕ) → ((k : ℕ) → k < length (turns_of step) → slice_index starts k ≡ number_after Twist axis row (turn_at step k) * 495) → AreStarts record { step = step; goal = Domino edges axis } (row * row_length (Domino edges axis)) starts
 unfolding row_length entry_after
 row-domino step edges axis row starts led k place l r = rw (led k l, high row place r, low row place r) refl
 

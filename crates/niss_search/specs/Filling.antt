@@ -2,8 +2,8 @@
 use Rattle.std.specs.Prelude.{◌≡◌, ℕ, ◌+◌, ◌*◌, ◌/◌, ◌%◌, ◌<◌, ◌≤◌, ◌⊎◌, List, [], ◌∷◌, length, slice_index, min, Contains, count_by, sum_by, nat_le, ⊤, if◌then◌else◌}
 use Rattle.niss_moves.specs.Turn.{inverse_turn}
 use Rattle.niss_moves.specs.declared.turn.Turn.{Turn}
-use Rattle.niss_cube.specs.FlipAfter.{flip_after}
-use Rattle.niss_cube.specs.SliceAfter.{slice_after}
+use Rattle.niss_cube.specs.NumberAfter.{number_after}
+use Rattle.niss_cube.specs.declared.cube.coordinate.Coordinate.TheVariants as coordinate
 use Rattle.niss_cube.specs.Steps.{turns_of}
 use Rattle.niss_cube.specs.StepLaws.{InversesOfSteps}
 use Rattle.niss_cube.specs.declared.step.Goal.{Goal}
@@ -36,8 +36,8 @@ row_length (Domino edges axis) = 495
 
 -- the place in its row to which a turn leads a place
 abbrev pub place_after : Goal → ℕ → Turn → ℕ
-place_after (Edges axis) place t = flip_after axis place t
-place_after (Domino edges axis) place t = slice_after axis place t
+place_after (Edges axis) place t = number_after coordinate.Flip axis place t
+place_after (Domino edges axis) place t = number_after coordinate.Slice axis place t
 
 -- A step and one of its goals: what a pruning table is for.
 pub record Alternative : Type 0 where

@@ -87,7 +87,7 @@ impl<A: Allocator> MoveTable<A> {
     /// The numbers after the turns of the step, in turn order.
     #[inline(always)]
     pub fn row(&self, number: u16) -> &Row
-        requires { number < number_count self.now.coordinate }
+        requires { number < count_of self.now.coordinate }
         ensures { IsMoveRow self.now number result.now }
     {
         &self.rows[number as usize]
