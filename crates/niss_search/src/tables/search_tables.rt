@@ -28,7 +28,8 @@ impl<S: StateSpace> Model for SearchTables<S> {
 
     ghost view = { λ t. record { step = t.followers; space = t.space } };
 
-    ghost invariant = { λ t. AreReady t.followers (S.step t.space) (S.goals t.space) (S.is_filled t.space 20) };
+    ghost invariant = { λ t. AreReady t.followers (S.step t.space) (S.goals t.space)
+        (S.is_filled t.space 20) };
 }
 
 impl<S: StateSpace> SearchTables<S> {
