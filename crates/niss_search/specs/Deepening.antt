@@ -36,7 +36,10 @@ module _ (step : Step) (x : List Coordinates) where
   looks_at lengths = sum_by (looks (turns_of step) far_at) lengths
 
 -- What deepenings do that find these paths with so many looks, by what they answer: how many paths, or a fault.
-module _ {K : Type 0} (took refused : K → Path → K → Type 0) (limit : ℕ) (paths : List (List Turn)) (looks : ℕ) (meter meter' : ℕ) (sink sink' : K) where
+module _
+  {K : Type 0} (took refused : K → Path → K → Type 0) (limit : ℕ) (paths : List (List Turn)) (looks : ℕ)
+  (meter meter' : ℕ) (sink sink' : K)
+  where
   abbrev pub Delivers : {T F : Type 0} → (T → ℕ) → Result T F → Type 0
   Delivers count (Ok value) =
       GoesThrough (at_limit took limit) (at_limit refused limit) paths looks

@@ -9,12 +9,12 @@ module _ {K : Type 0} where
   at_limit does limit old turns new = does old (record { limit = limit; turns = turns }) new
 
   -- It took the paths one after another: there is none, and it is as it was; or it took the first, and then the rest.
-  abbrev pub WentThrough : (K → List Turn → K → Type 0) → K → List (List Turn) → K → Type 0
+  abbrev pub WentThrough : (took : K → List Turn → K → Type 0) → K → List (List Turn) → K → Type 0
   WentThrough took old [] new = old ≡ new
   WentThrough took old (p ∷ ps) new = (mid : K) × (took old p mid × WentThrough took mid ps new)
 
   -- It took some of the first paths, not all of them, and refused the next one.
-  abbrev pub StoppedIn : (K → List Turn → K → Type 0) → (K → List Turn → K → Type 0) → K → List (List Turn) → K → Type 0
+  abbrev pub StoppedIn : (took refused : K → List Turn → K → Type 0) → K → List (List Turn) → K → Type 0
   StoppedIn took refused old [] new = ⊥
   StoppedIn took refused old (p ∷ ps) new =
       refused old p new ⊎ ((mid : K) × (took old p mid × StoppedIn took refused mid ps new))

@@ -7,6 +7,9 @@ use Rattle.niss_search.specs.Path.{Path}
 use Rattle.niss_search.specs.declared.descent.Descent.{Descent}
 
 module _ {K : Type 0} where
+  abbrev pub path_of : Descent K → List Turn
+  path_of descent = descent.path.now.turns
+
   -- what a descent changes beside its path
   abbrev pub state_of : ℕ → Descent K → DescentState K
   state_of meter descent = descent_state meter descent.count descent.sink.now
@@ -23,4 +26,5 @@ module _ {K : Type 0} where
       → (old new : Descent K) → Result (Unit {0}) F → Type 0
   Finds took refused paths looks meter meter_now old new =
       let limit = old.path.now.limit in
-      Descends (at_limit took limit) (at_limit refused limit) paths looks (state_of meter old) (state_of meter_now new)
+      Descends (at_limit took limit) (at_limit refused limit) paths looks
+      (state_of meter old) (state_of meter_now new)

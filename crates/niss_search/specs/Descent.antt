@@ -14,7 +14,8 @@ module _ {P : Type 0} (turns : List Turn) (after : P → Turn → P) (look : P �
   found x p zero = if nat_le (look x) 0 then p ∷ [] else []
   found x p (suc left) =
       if nat_le (look x) (suc left)
-      then flat_map (λ t. if may_follow (last_turn p) t then found (after x t) (p ++ t ∷ []) left else []) turns
+      then
+        flat_map (λ t. if may_follow (last_turn p) t then found (after x t) (p ++ t ∷ []) left else []) turns
       else []
 
   -- the looks made there
@@ -53,7 +54,10 @@ pub record DescentState (K : Type 0) : Type 0 where
 abbrev pub descent_state : {K : Type 0} → ℕ → ℕ → K → DescentState K
 descent_state meter count sink = record { meter = meter; count = count; sink = sink }
 
-module _ {K : Type 0} (took refused : K → List Turn → K → Type 0) (paths : List (List Turn)) (looks : ℕ) (old new : DescentState K) where
+module _
+  {K : Type 0} (took refused : K → List Turn → K → Type 0) (paths : List (List Turn)) (looks : ℕ)
+  (old new : DescentState K)
+  where
   -- The sink took each of the paths, they were counted, and there were so many looks.
   pub record GoesThrough : Type 0 where
     pub delivered : WentThrough took old.sink paths new.sink

@@ -18,22 +18,29 @@ use Rattle.niss_search.specs.Cubes.{HasPosition}
 -- Over the 18 turns, c(k + 2) = 12 c(k + 1) + 18 c(k) for k of at least 1.
 abbrev pub CountRecurrence : Type 0
 CountRecurrence =
-    (k : ℕ) → 1 ≤ k → count_of_length turn_order (k + 2) ≡ 12 * count_of_length turn_order (k + 1) + 18 * count_of_length turn_order k
+    (k : ℕ) → 1 ≤ k →
+    count_of_length turn_order (k + 2) ≡ 12 * count_of_length turn_order (k + 1) + 18 * count_of_length turn_order k
 
 -- A part of the turns has no larger counts.
 abbrev pub PartHasNoMore : Type 0
 PartHasNoMore =
-    (part : Turn → Bool) (turns : List Turn) (k : ℕ) → count_of_length (filter part turns) k ≤ count_of_length turns k
+    (part : Turn → Bool) (turns : List Turn) (k : ℕ) →
+    count_of_length (filter part turns) k ≤ count_of_length turns k
 
 -- No search looks more often than the bound says.
 abbrev pub LooksWithinBound : Type 0
 LooksWithinBound =
-    (turns : List Turn) (reaches : List Turn → Bool) (far : List Turn → ℕ) (n slack : ℕ) → all_looks turns reaches far n slack ≤ look_bound turns n
+    (turns : List Turn) (reaches : List Turn → Bool) (far : List Turn → ℕ) (n slack : ℕ) →
+    all_looks turns reaches far n slack ≤ look_bound turns n
 
 -- Without slack a search is for the solutions of least length alone, and deepens to that length.
 pub record NoSlackIsLeast : Type 0 where
-  pub listed : (turns : List Turn) (reaches : List Turn → Bool) (n : ℕ) → solutions turns reaches n 0 ≡ option_map_or (reaching turns reaches) (least_length turns reaches n) []
-  pub looked : (turns : List Turn) (reaches : List Turn → Bool) (far : List Turn → ℕ) (n : ℕ) → all_looks turns reaches far n 0 ≡ sum_by (looks turns far) (up_to (unwrap_or (least_length turns reaches n) n))
+  pub listed :
+      (turns : List Turn) (reaches : List Turn → Bool) (n : ℕ) →
+      solutions turns reaches n 0 ≡ option_map_or (reaching turns reaches) (least_length turns reaches n) []
+  pub looked :
+      (turns : List Turn) (reaches : List Turn → Bool) (far : List Turn → ℕ) (n : ℕ) →
+      all_looks turns reaches far n 0 ≡ sum_by (looks turns far) (up_to (unwrap_or (least_length turns reaches n) n))
 
 -- The bound of a step is at most that over the 18 turns.
 abbrev pub StepBoundIsLess : Type 0
@@ -58,10 +65,17 @@ FillIsSmall = (s : Step) → fill_ticks s ≤ length (goals_of s) * 15155910
 -- The distance of a position is the least of those of its coordinates: a step is as near as the nearest of its goals.
 abbrev pub DistanceIsLeast : Type 0
 DistanceIsLeast =
-    (s : Step) (c : Coordinates) (x : List Coordinates) → distance_at s (c ∷ x) ≡ min (distance_at s (c ∷ [])) (distance_at s x)
+    (s : Step) (c : Coordinates) (x : List Coordinates) →
+    distance_at s (c ∷ x) ≡ min (distance_at s (c ∷ [])) (distance_at s x)
 
 -- What a position tells of each cube that has it.
 pub record PositionsTell : Type 0 where
-  pub alike : (s : Step) (d e : Place → Place) → IsCube d → SameMap d e → IsTrue (may_start s d) → HasPosition s e (position_of s d)
-  pub goal : (s : Step) (e : Place → Place) (x : List Coordinates) → HasPosition s e x → reached s e ≡ is_reached_at x
-  pub after_turn : (s : Step) (e : Place → Place) (x : List Coordinates) (t : Turn) → Contains (turns_of s) t → HasPosition s e x → HasPosition s (λ q. turned t (e q)) (position_after x t)
+  pub alike :
+      (s : Step) (d e : Place → Place) → IsCube d → SameMap d e → IsTrue (may_start s d) →
+      HasPosition s e (position_of s d)
+  pub goal :
+      (s : Step) (e : Place → Place) (x : List Coordinates) → HasPosition s e x →
+      reached s e ≡ is_reached_at x
+  pub after_turn :
+      (s : Step) (e : Place → Place) (x : List Coordinates) (t : Turn) → Contains (turns_of s) t → HasPosition s e x →
+      HasPosition s (λ q. turned t (e q)) (position_after x t)

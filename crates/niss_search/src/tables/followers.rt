@@ -1,8 +1,9 @@
 //! The turns of a step that may follow a turn.
-ghost use Rattle.std.specs.Prelude.{◌≡◌, ◌<◌, length, Contains, None, map};
+ghost use Rattle.std.specs.Prelude.{◌≡◌, ◌<◌, length, Contains, None};
 ghost use Rattle.niss_moves.specs.Canonical.{may_follow, face_may_follow};
+ghost use Rattle.niss_moves.specs.declared.turn.Face.TheVariants.{U, D, R, L, F, B};
 ghost use Rattle.niss_cube.specs.Steps.{turns_of};
-ghost use Rattle.niss_search.specs.Followers.{AreFollowers, AreByFace};
+ghost use Rattle.niss_search.specs.Followers.{AreFollowers};
 ghost use Rattle.niss_search.specs.Moves.{turn_at};
 
 use arrayvec::ArrayVec;
@@ -64,15 +65,24 @@ fn turns_after_face(step: Step, face: Face) -> FollowerList
     turns_after(step, Some(last))
 }
 
-/// A step with its turns, listed once by the face of the turn before them, so that a search need not test each turn. A list
-/// is found by its place and no `match`: a jump by the face is one that a processor seldom foresees.
+/// A step with its turns, listed once by the face of the turn before them, so that a search need not test each turn.
 #[derive(Drop)]
 pub struct Followers {
     step: Step,
     first: FollowerList,
-    by_face: [FollowerList; 6],
+    after_up: FollowerList,
+    after_down: FollowerList,
+    after_right: FollowerList,
+    after_left: FollowerList,
+    after_front: FollowerList,
+    after_back: FollowerList,
     ghost first_are: { AreFollowers step (may_follow None) first.items },
-    ghost others_are: { AreByFace step (map (λ list. list.items) by_face) },
+    ghost up_are: { AreFollowers step (λ t. face_may_follow U t.face) after_up.items },
+    ghost down_are: { AreFollowers step (λ t. face_may_follow D t.face) after_down.items },
+    ghost right_are: { AreFollowers step (λ t. face_may_follow R t.face) after_right.items },
+    ghost left_are: { AreFollowers step (λ t. face_may_follow L t.face) after_left.items },
+    ghost front_are: { AreFollowers step (λ t. face_may_follow F t.face) after_front.items },
+    ghost back_are: { AreFollowers step (λ t. face_may_follow B t.face) after_back.items },
 }
 
 impl Model for Followers {
@@ -91,14 +101,12 @@ impl Followers {
         Followers {
             step,
             first: turns_after(step, None),
-            by_face: [
-                turns_after_face(step, Face::U),
-                turns_after_face(step, Face::D),
-                turns_after_face(step, Face::R),
-                turns_after_face(step, Face::L),
-                turns_after_face(step, Face::F),
-                turns_after_face(step, Face::B),
-            ],
+            after_up: turns_after_face(step, Face::U),
+            after_down: turns_after_face(step, Face::D),
+            after_right: turns_after_face(step, Face::R),
+            after_left: turns_after_face(step, Face::L),
+            after_front: turns_after_face(step, Face::F),
+            after_back: turns_after_face(step, Face::B),
         }
     }
 
@@ -118,6 +126,13 @@ impl Followers {
         let Some(last) = last else {
             return self.first.as_slice();
         };
-        self.by_face[last.face as usize].as_slice()
+        match last.face {
+            Face::U => self.after_up.as_slice(),
+            Face::D => self.after_down.as_slice(),
+            Face::R => self.after_right.as_slice(),
+            Face::L => self.after_left.as_slice(),
+            Face::F => self.after_front.as_slice(),
+            Face::B => self.after_back.as_slice(),
+        }
     }
 }

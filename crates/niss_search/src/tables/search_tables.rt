@@ -29,7 +29,8 @@ impl<S: StateSpace> Model for SearchTables<S> {
 
     ghost view = { λ t. record { step = t.followers; space = t.space } };
 
-    ghost invariant = { λ t. AreReady t.followers (S.step t.space) (S.goals t.space) (S.is_filled t.space 20) };
+    ghost invariant = { λ t. AreReady t.followers (S.step t.space) (S.goals t.space)
+        (S.is_filled t.space 20) };
 }
 
 impl<S: StateSpace> SearchTables<S> {
@@ -67,9 +68,8 @@ impl<S: StateSpace> SearchTables<S> {
 
     /// The position after a turn of the step.
     pub fn position_after(&self, position: &Position, turn: Turn) -> Position
-        requires ready { AreReady self.now.followers (S.step self.now.space) (S.goals self.now.space) (S.is_filled self.now.space 20) }
-        requires position { IsPosition self.now.followers position.now }
-        requires of_step { Contains (turns_of self.now.followers) turn }
+        requires position { IsPosition self.now.step position.now }
+        requires of_step { Contains (turns_of self.now.step) turn }
         ensures { result ≡ position_after position.now turn }
     {
         let column = self.followers.column(turn);

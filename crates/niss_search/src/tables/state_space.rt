@@ -53,7 +53,8 @@ pub trait StateSpace {
     fn after(&self, state: Self::State, column: usize) -> Self::State
         requires filled { is_filled self.now 20 }
         requires of_step { column < length (turns_of (step self.now)) }
-        ensures { seen self.now result ≡ position_after (seen self.now state) (turn_at (step self.now) column) };
+        ensures { seen self.now result
+            ≡ position_after (seen self.now state) (turn_at (step self.now) column) };
 
     /// The distance to the nearest of the goals.
     fn distance(&self, state: Self::State) -> u8
@@ -96,7 +97,8 @@ impl<S: StateSpace, T: StateSpace> StateSpace for Either<S, T> {
 
     ghost seen = { λ s x. S.seen s.first x.0 ++ T.seen s.second x.1 };
 
-    ghost is_filled = { λ s level. (T.step s.second ≡ S.step s.first) × S.is_filled s.first level × T.is_filled s.second level };
+    ghost is_filled = { λ s level. (T.step s.second ≡ S.step s.first)
+        × S.is_filled s.first level × T.is_filled s.second level };
 
     fn goal_count(&self) -> usize {
         self.first.goal_count() + self.second.goal_count()
