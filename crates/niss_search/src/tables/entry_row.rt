@@ -9,12 +9,13 @@ use super::level::Level;
 use super::meter::Meter;
 use crate::laws::entries_turn;
 
-/// A row of a pruning table. Where a turn leads it is looked up once, and so for an entry only its place is left to be.
+/// A row of a pruning table. Where the turns lead it is looked up once, for all its entries.
 #[derive(Drop)]
-pub(super) struct EntryRow<'a, M> {
+pub(super) struct EntryRow<'a, M: GoalMoves> {
     moves: &'a M,
     start: usize,
     starts: Starts,
+    ghost are_starts: { AreStarts (M.alternative moves.now) start starts },
 }
 
 impl<'a, M: GoalMoves> EntryRow<'a, M> {
@@ -24,7 +25,6 @@ impl<'a, M: GoalMoves> EntryRow<'a, M> {
         ensures moves { result.moves.now ≡ moves.now }
         ensures from { result.start ≤ entry }
         ensures to { entry < result.start + row_length (M.alternative moves.now).goal }
-        ensures starts { AreStarts (M.alternative moves.now) result.start result.starts }
     {
         let length = moves.row_length();
         let number = entry / length;
@@ -35,15 +35,13 @@ impl<'a, M: GoalMoves> EntryRow<'a, M> {
         }
     }
 
-    /// Goes on to the row of an entry that isn't before it.
+    /// Goes on to the row of an entry, which isn't before this row.
     pub(super) fn advance_to(&mut self, entry: usize)
-        requires starts { AreStarts (M.alternative self.old.moves.now) self.old.start self.old.starts }
         requires from { self.old.start ≤ entry }
         requires in_range { entry < count_for (M.alternative self.old.moves.now).goal }
         ensures moves { self.new.moves.now ≡ self.old.moves.now }
         ensures from { self.new.start ≤ entry }
         ensures to { entry < self.new.start + row_length (M.alternative self.old.moves.now).goal }
-        ensures starts { AreStarts (M.alternative self.old.moves.now) self.new.start self.new.starts }
     {
         if entry - self.start >= self.moves.row_length() {
             *self = EntryRow::of(self.moves, entry);
@@ -58,7 +56,6 @@ impl<'a, M: GoalMoves> EntryRow<'a, M> {
         level: &Level,
         meter: &mut Meter,
     )
-        requires starts { AreStarts (M.alternative self.now.moves.now) self.now.start self.now.starts }
         requires from { self.now.start ≤ entry }
         requires to { entry < self.now.start + row_length (M.alternative self.now.moves.now).goal }
         requires in_range { entry < count_for (M.alternative self.now.moves.now).goal }

@@ -61,7 +61,6 @@ loop-entry-preserved g c =
     record {
       moves = same;
       row = omega (arith, c.advance_to.ensures.from);
-      starts = rw inv.moves at c.advance_to.ensures.starts;
       filling = filling;
       within = omega (arith, filling.size);
       extended = λ j l e t m. by_place alt level c.loop-entry.from entry xs c.extend.new.distances j l e inv.filling in_range least (λ b. λ t m. c.extend.ensures.kept _ (inv.extended j b e t m)) extended (leb_tells c.loop-entry.from j) (leb_tells entry j) t m;

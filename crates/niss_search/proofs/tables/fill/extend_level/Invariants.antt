@@ -1,7 +1,7 @@
 use Rattle.std.proofs.Common.{◌≡◌, ℕ, ◌+◌, ◌-◌, ◌*◌, ◌<◌, ◌≤◌, ◌==◌, length, count_by}
 use Rattle.std.specs.List.{range_with_len}
 use Rattle.niss_cube.specs.Steps.{turns_of}
-use Rattle.niss_search.specs.Filling.{entry_distance, AreStarts, IsFilling, IsExtended}
+use Rattle.niss_search.specs.Filling.{entry_distance, IsFilling, IsExtended}
 use Rattle.niss_search.proofs.tables.fill.extend_level.Given as goal
 
 abbrev pub decreases-loop-entry : goal.decreases-loop-entry
@@ -11,7 +11,6 @@ abbrev pub invariant-loop-entry : goal.invariant-loop-entry
 invariant-loop-entry g l = record {
   moves : l.row.moves.now ≡ l.moves;
   row : l.row.start ≤ l.from;
-  starts : AreStarts (g.M.GoalMoves.alternative l.moves) l.row.start l.row.starts;
   filling : IsFilling (g.M.GoalMoves.alternative l.moves) l.level l.distances;
   within : l.from ≤ length l.distances;
   extended : (j : ℕ) → j < l.from → entry_distance (g.M.GoalMoves.alternative l.moves) j ≡ l.level → IsExtended (g.M.GoalMoves.alternative l.moves) l.distances j;

@@ -34,7 +34,7 @@ bounds-distances-next g c =
     let alt = g.M.GoalMoves.alternative c.args.self.now.moves.now in
     let t = turn_at alt.step c.loop-column.column in
     let column : c.loop-column.column < length (turns_of alt.step) = omega (arith, inv.end, c.loop-column-test.true) in
-    let next = row-entry alt c.args.self.now.start c.args.entry c.args.self.now.starts c.places-places.result.now c.requires.starts c.places-places.ensures c.requires.from c.requires.to c.loop-column.column column in
+    let next = row-entry alt c.args.self.now.start c.args.entry c.args.self.now.starts c.places-places.result.now c.args.self.now.are_starts c.places-places.ensures c.requires.from c.requires.to c.loop-column.column column in
     omega (arith, c.entries_turn.ensures.below alt.goal c.args.entry t c.requires.in_range, inv.filling.size, next)
 
 pub loop-column-preserved : goal.loop-column-preserved
@@ -50,7 +50,7 @@ loop-column-preserved g c =
     let m = Contains-get_or (turns_of alt.step) c.loop-column.column d column in
     let law = c.entries_turn.ensures in
     let small = c.meet.ensures.in_range in
-    let j = row-entry alt c.args.self.now.start entry c.args.self.now.starts c.places-places.result.now c.requires.starts c.places-places.ensures c.requires.from c.requires.to c.loop-column.column column in
+    let j = row-entry alt c.args.self.now.start entry c.args.self.now.starts c.places-places.result.now c.args.self.now.are_starts c.places-places.ensures c.requires.from c.requires.to c.loop-column.column column in
     let written : c.meet.result ≡ min (slice_index xs (entry_after alt.goal entry t)) (level + 1) =
     c.meet.ensures.value ∙ ap (λ i. min (slice_index xs i) (level + 1)) j in
     let kept = least-kept law alt level small xs inv.filling entry t c.requires.at_level c.requires.in_range m in
