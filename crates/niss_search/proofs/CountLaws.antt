@@ -12,7 +12,7 @@ use Rattle.niss_cube.specs.StepLaws.{StepTurnsInOrder}
 use Rattle.niss_search.specs.Laws.{CountRecurrence, PartHasNoMore, StepBoundIsLess}
 use Rattle.niss_search.proofs.ListLemmas.{sum_by-kept, sum_by-same}
 use Rattle.niss_search.proofs.DepthFirst.{below, below-all}
-use Rattle.niss_search.proofs.DrawLemmas.{last_turn-push}
+use Rattle.niss_moves.proofs.CallerLemmas.{last_turn-push}
 
 length-below : (turns : List Turn) (k : ℕ) (p : List Turn) → length (below turns p (suc k)) ≡ sum_by (λ t. cond (may_follow (last_turn p) t) (length (below turns (p ++ t ∷ []) k)) 0) turns
 length-below turns k p =

@@ -74,13 +74,6 @@ last_turn-is (x ∷ s) =
     let e : length (x ∷ s) - 1 ≡ length s = omega arith in
     ap (slice_get (x ∷ s)) e ∙ at_end x s
 
-last_or-push : (o : Option Turn) (s : List Turn) (t : Turn) → last_or o (s ++ t ∷ []) ≡ Some t
-last_or-push o [] t = refl
-last_or-push o (x ∷ s) t = last_or-push (Some x) s t
-
-pub last_turn-push : (s : List Turn) (t : Turn) → last_turn (s ++ t ∷ []) ≡ Some t
-last_turn-push s t = last_turn-is (s ++ t ∷ []) ∙ last_or-push None s t
-
 canonical-after : (o : Option Turn) (s : List Turn) (t : Turn) → is_canonical_after o s ≡ true → may_follow (last_or o s) t ≡ true → is_canonical_after o (s ++ t ∷ []) ≡ true
 canonical-after o [] t h k = rw k
 canonical-after o (x ∷ s) t h k = both (may_follow o x) h (canonical-after (Some x) s t) where

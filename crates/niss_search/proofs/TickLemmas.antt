@@ -22,20 +22,10 @@ use Rattle.niss_search.specs.declared.tables.position.Coordinates.TheVariants.{F
 use Rattle.niss_search.specs.Positions.{distance_at}
 use Rattle.niss_search.specs.Entries.{flips_below, pairs_below, values_for, count_for, entries_of, entry_count, fill_ticks}
 use Rattle.niss_search.specs.Filling.{entry_at, entry_distance, Alternative, goal_ticks, ticks_of_goals}
-use Rattle.niss_search.proofs.ListLemmas.{range_with_len-more, sum_by-same}
+use Rattle.niss_search.proofs.ListLemmas.{range_with_len-append, range_with_len-more, sum_by-same}
 use Rattle.niss_search.proofs.EntryLemmas.{count_for-bound}
 use Rattle.niss_search.proofs.FillLemmas.{count-range-le}
 use Rattle.niss_search.proofs.Bounds.{turns_of-length, turns_of-oriented}
-
-range-split : (s a b : ℕ) → range_with_len s (a + b) ≡ range_with_len s a ++ range_with_len (s + a) b
-range-split s zero b =
-    let e : zero + b ≡ b = omega arith in
-    rw (e, add-zero s) refl
-range-split s (suc a) b =
-    let e : suc a + b ≡ suc (a + b) = omega arith in
-    let next : s + 1 + a ≡ s + suc a = omega arith in
-    ap (range_with_len s) e
-    ∙ ap (λ (l : List ℕ). s ∷ l) (range-split (s + 1) a b ∙ ap (λ k. range_with_len (s + 1) a ++ range_with_len k b) next)
 
 module _ (axis : Axis) (n : ℕ) where
   -- a pair by its number
@@ -67,7 +57,7 @@ module _ (axis : Axis) (n : ℕ) where
       ∙ ap (λ (l : List Coordinates). map paired (range_with_len 0 (m * n)) ++ l) (row-numbered m 0 n (omega arith))
       ∙ sym (map-append paired (range_with_len 0 (m * n)) (range_with_len (m * n + 0) n))
       ∙ ap (λ i. map paired (range_with_len 0 (m * n) ++ range_with_len i n)) (sym start)
-      ∙ ap (map paired) (sym (range-split 0 (m * n) n))
+      ∙ ap (map paired) (sym (range_with_len-append 0 (m * n) n))
       ∙ ap (λ i. map paired (range_with_len 0 i)) (sym more)
 
 flips-numbered : (axis : Axis) (n k : ℕ) → k ≡ n → flips_below axis n ≡ map (Flip axis) (range_with_len 0 k)

@@ -53,7 +53,8 @@ impl TurnPath {
 
     /// Its turns, from the first.
     pub fn turns(&self) -> &[Turn]
-        ensures { result.now ≡ self.now.turns }
+        ensures value { result.now ≡ self.now.turns }
+        ensures few { length result.now ≤ 20 }
     {
         self.turns.as_slice()
     }

@@ -4,7 +4,8 @@ use Rattle.niss_moves.specs.Canonical.{last_turn, may_follow}
 use Rattle.rand_pcg.specs.Lcg.{Lcg}
 use Rattle.rand_pcg.specs.Pcg.{pcg32}
 use Rattle.niss_search.specs.Draw.{after_words, choice}
-use Rattle.niss_search.proofs.DrawLemmas.{draw-more, after_words-more, draw-none, after_words-none, choice-follows, last_turn-push, canonical-push}
+use Rattle.niss_moves.proofs.CallerLemmas.{last_turn-push}
+use Rattle.niss_search.proofs.DrawLemmas.{draw-more, after_words-more, draw-none, after_words-none, choice-follows, canonical-push}
 use Rattle.niss_search.proofs.scramble.random_turns.Goals as goal
 
 pub drawing-preserved : goal.drawing-preserved
