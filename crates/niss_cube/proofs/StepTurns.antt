@@ -28,10 +28,6 @@ use Rattle.niss_cube.proofs.KeptTests.{implied}
 abbrev pub turns_from : Option Axis → List Turn
 turns_from start = flat_map (λ f. map (λ p. record { face = f; power = p }) (powers_from start f)) face_order
 
-pub from_start : (s : Step) → turns_of s ≡ turns_from (start_of s)
-unfolding turns_of
-from_start s = refl
-
 turns_from-counted : (start : Option Axis) → length (turns_from start) ≡ option_map_or (λ axis. 14) start 18
 turns_from-counted None = refl
 turns_from-counted (Some Ud) = refl
