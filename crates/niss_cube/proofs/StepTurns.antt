@@ -11,8 +11,6 @@ use Rattle.niss_moves.specs.Turn.{same_face, inverse_turn}
 use Rattle.niss_moves.specs.Canonical.{face_order, turn_order}
 use Rattle.niss_moves.specs.declared.axis.Axis.{Axis}
 use Rattle.niss_moves.specs.declared.axis.Axis.TheVariants.{Ud, Rl, Fb}
-use Rattle.niss_moves.specs.declared.turn.Face.{Face}
-use Rattle.niss_moves.specs.declared.turn.Face.TheVariants.{U, D, R, L, F, B}
 use Rattle.niss_moves.specs.declared.turn.Power.{Power}
 use Rattle.niss_moves.specs.declared.turn.Power.TheVariants.{Quarter, Half, Counter}
 use Rattle.niss_moves.specs.declared.turn.Turn.{Turn}

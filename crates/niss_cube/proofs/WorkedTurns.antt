@@ -1,5 +1,5 @@
 -- Worked values of the coordinates after a turn.
-use Rattle.std.proofs.Common.{◌≡◌, refl, true, Bool, ℕ, ◌==◌, ◌&&◌}
+use Rattle.std.proofs.Common.{◌≡◌, refl, true, Bool, ◌==◌, ◌&&◌}
 use Rattle.niss_moves.specs.declared.turn.Face.{Face}
 use Rattle.niss_moves.specs.declared.turn.Turn.{Turn}
 use Rattle.niss_moves.specs.declared.turn.Face.TheVariants.{U, D, R, F}

@@ -1,8 +1,7 @@
 -- Worked values of the coordinates.
-use Rattle.std.proofs.Common.{◌≡◌, ℕ, refl, true, false, Bool, ◌==◌, ◌&&◌, [], ◌∷◌, reverse}
+use Rattle.std.proofs.Common.{◌≡◌, refl, true, false, Bool, ◌==◌, ◌&&◌, [], ◌∷◌, reverse}
 use Rattle.niss_moves.specs.Places.{Place}
 use Rattle.niss_moves.specs.Effects.{moved, face_move}
-use Rattle.niss_moves.specs.declared.axis.Axis.{Axis}
 use Rattle.niss_moves.specs.declared.axis.Axis.TheVariants.{Ud, Rl, Fb}
 use Rattle.niss_moves.specs.declared.turn.Face.{Face}
 use Rattle.niss_moves.specs.declared.turn.Face.TheVariants.{U, D, R, F}
