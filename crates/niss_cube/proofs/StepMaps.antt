@@ -15,7 +15,8 @@ use Rattle.niss_cube.specs.declared.step.Goal.TheVariants.{Edges, Domino}
 use Rattle.niss_cube.specs.declared.cube.coordinate.Coordinate.TheVariants.{Flip, Twist, Slice}
 use Rattle.niss_cube.proofs.Logic.{same_truth}
 use Rattle.niss_cube.proofs.KeptTests.{kept-tested}
-use Rattle.niss_cube.proofs.SetPlaces.{sets_are_places, kept_same}
+use Rattle.niss_cube.proofs.Codes.{sets_are_places}
+use Rattle.niss_cube.proofs.SetPlaces.{kept_same}
 use Rattle.niss_cube.proofs.StepTurns.{turns_from, turn_keeps}
 
 -- the start is kept

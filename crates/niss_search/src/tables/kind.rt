@@ -32,11 +32,7 @@ pub enum Kind<A: Allocator> {
 
 impl<A: Allocator + Copy> Kind<A> {
     /// Builds the tables of a step: it takes all memory, then fills them.
-    pub(super) fn build_in(
-        alloc: A,
-        step: Step,
-        meter: &mut Meter,
-    ) -> Result<Kind<A>, OutOfMemory>
+    pub(super) fn build_in(alloc: A, step: Step, meter: &mut Meter) -> Result<Kind<A>, OutOfMemory>
         requires { meter.old ≤ 2 ^ 127 }
         ensures step { IfOk result (λ kind. IsOfStep kind step) }
         ensures ticks { OnOk result (meter.new ≡ meter.old + fill_ticks step) }
