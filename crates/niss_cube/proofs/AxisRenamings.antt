@@ -81,18 +81,21 @@ renamed_from v c h =
     let dh : Valid d = renamed_cubies-valid v c h in
     let b : CubieLists = renamed_cubies v d in
     let bh : Valid b = renamed_cubies-valid v d dh in
-    let w : CubieLists = renamed_cubies v b in
-    (w, renamed_cubies-valid v b bh, λ q p.
-    let r : Place → Place = rotated_back v in
-    let q₁ = (keeps_kinds v q p).home_place in
-    let q₂ = (keeps_kinds v (r q) q₁).home_place in
-    let q₃ = (keeps_kinds v (r (r q)) q₂).home_place in
-    sym (renamed_by-is v (map_lists w) q
-    ∙ ap (rotated v) (renamed_lists-map v b bh (r q) q₁ ∙ renamed_by-is v (map_lists b) (r q))
-    ∙ ap (λ x. rotated v (rotated v x)) (renamed_lists-map v d dh (r (r q)) q₂ ∙ renamed_by-is v (map_lists d) (r (r q)))
-    ∙ ap (λ x. rotated v (rotated v (rotated v x))) (renamed_lists-map v c h (r (r (r q))) q₃ ∙ renamed_by-is v (map_lists c) (r (r (r q))))
-    ∙ ap (λ x. rotated v (rotated v (rotated v (rotated v (map_lists c x))))) (four-back v q p).1
-    ∙ (four-back v (map_lists c q) (sticker_map-place c.corners c.twists c.edges c.flips h q p)).0))
+    let w : CubieLists = renamed_cubies v b in (
+      w,
+      renamed_cubies-valid v b bh,
+      λ q p.
+          let r : Place → Place = rotated_back v in
+          let q₁ = (keeps_kinds v q p).home_place in
+          let q₂ = (keeps_kinds v (r q) q₁).home_place in
+          let q₃ = (keeps_kinds v (r (r q)) q₂).home_place in
+          sym (renamed_by-is v (map_lists w) q
+          ∙ ap (rotated v) (renamed_lists-map v b bh (r q) q₁ ∙ renamed_by-is v (map_lists b) (r q))
+          ∙ ap (λ x. rotated v (rotated v x)) (renamed_lists-map v d dh (r (r q)) q₂ ∙ renamed_by-is v (map_lists d) (r (r q)))
+          ∙ ap (λ x. rotated v (rotated v (rotated v x))) (renamed_lists-map v c h (r (r (r q))) q₃ ∙ renamed_by-is v (map_lists c) (r (r (r q))))
+          ∙ ap (λ x. rotated v (rotated v (rotated v (rotated v (map_lists c x))))) (four-back v q p).1
+          ∙ (four-back v (map_lists c q) (sticker_map-place c.corners c.twists c.edges c.flips h q p)).0),
+    )
 
 -- the cubies as the flip on an axis is read from them
 abbrev pub cubies_for_flip : Axis → CubieLists → CubieLists

@@ -1,21 +1,25 @@
 -- A coordinate as a code of the cubies that it tells of: each number has cubies of its own, and the code after a turn
 -- depends on the code alone.
-use Rattle.std.proofs.Common.{◌≡◌, ℕ, ◌<◌, refl, sym, ◌∙◌, ap, List, get_or, map, take, reverse}
+use Rattle.std.proofs.Common.{◌≡◌, ℕ, ◌<◌, refl, sym, ◌∙◌, ap, Bool, true, false, List, get_or, map, take, reverse, inl, inr}
 use Rattle.std.specs.Prelude.{count_by, nat_lt, nat_le, ◌==◌, ◌↔◌}
 use Rattle.std.proofs.lemmas.Bool.{eqb-true, ltb-true}
-use Rattle.niss_moves.specs.Places.{Place, SameMap}
+use Rattle.std.proofs.lemmas.Bool.Decides.{eqb_tells}
+use Rattle.niss_moves.specs.Places.{Place, SameMap, is_corner, is_edge}
 use Rattle.niss_moves.specs.Effects.{times, turned}
 use Rattle.niss_moves.specs.declared.turn.Turn.{Turn}
 use Rattle.niss_moves.specs.declared.axis.Axis.{Axis}
 use Rattle.niss_cube.specs.declared.cube.coordinate.Coordinate.{Coordinate}
 use Rattle.niss_cube.specs.declared.cube.coordinate.Coordinate.TheVariants.{Flip, Twist, Slice}
-use Rattle.niss_cube.specs.Sets.{Kept, set_of}
+use Rattle.niss_cube.specs.Sets.{Kept, SetsArePlaces, is_kept, set_of}
 use Rattle.niss_cube.specs.Coordinates.{number, rank, number_of, count_of, renamed_for, standard_axis, turn_for}
 use Rattle.niss_cube.specs.Cubies.{corners_home, edges_home, twists_home, flips_home}
 use Rattle.niss_cube.specs.NumberedCubies.{flips_of_number, twists_of_number, edges_of_number}
 use Rattle.niss_cube.specs.NumberAfter.{number_after}
 use Rattle.niss_cube.proofs.CubieLists.{CubieLists, flips_quarter, twists_quarter, edges_quarter, repeated}
 use Rattle.niss_cube.proofs.PlaceTables.{at_below}
+use Rattle.niss_cube.proofs.Logic.{and_left}
+use Rattle.niss_cube.proofs.SetPlaces.{corner_place, edge_place}
+use Rattle.niss_cube.proofs.KeptTests.{kept-tested}
 use Rattle.niss_cube.proofs.CoordinateValues.{flip_of-cubies, twist_of-cubies, slice_of-cubies, flips-below, twists-below, slice-below, slice_occupied, slice_occupied-filled}
 use Rattle.niss_cube.proofs.ListTurns.{Valid, map_lists, turned_lists, turned-part}
 use Rattle.niss_cube.proofs.Orientations.{AreOriented, base_2, base_3, orientations_of_number-are, orientations_of_number-number, oriented-same}
@@ -139,8 +143,24 @@ standard_turn-is Flip t = refl
 standard_turn-is Twist t = refl
 standard_turn-is Slice t = refl
 
--- the set of the coordinate is kept where the number is 0
+-- the places of its set, which is kept where the number is 0
+pub sets_are_places : SetsArePlaces
+sets_are_places Flip a q h = edge_place q (and_left (is_edge q) _ h)
+sets_are_places Twist a q h = corner_place q (and_left (is_corner q) _ h)
+sets_are_places Slice a q h = edge_place q (and_left (is_edge q) _ h)
+
 pub zero-kept : (k : Coordinate) (a : Axis) (c : CubieLists) → Valid c → (number_of k a (map_lists c) ≡ 0) ↔ Kept (set_of k a) (map_lists c)
 zero-kept Flip = flip_zero-kept
 zero-kept Twist = twist_zero-kept
 zero-kept Slice = slice_zero-kept
+
+is_false : (b : Bool) → (b ≡ true → ⊥) → b ≡ false
+is_false true h = absurd (h refl)
+is_false false h = refl
+
+-- A number that is 0 where the set of a coordinate is kept gives the test of the set.
+pub zero_tells : (k : Coordinate) (a : Axis) (e : Place → Place) (n : ℕ) → (n ≡ 0) ↔ Kept (set_of k a) e → (n == 0) ≡ is_kept (set_of k a) e
+zero_tells k a e n zero = elim (eqb_tells n 0) [
+  | inl w ↦ w.0 ∙ sym ((kept-tested (set_of k a) e (sets_are_places k a)).1 (zero.0 w.1))
+  | inr w ↦ w.0 ∙ sym (is_false (is_kept (set_of k a) e) (λ t. w.1 (zero.1 ((kept-tested (set_of k a) e (sets_are_places k a)).0 t))))
+]

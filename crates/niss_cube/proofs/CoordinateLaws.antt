@@ -19,9 +19,9 @@ use Rattle.niss_cube.proofs.CubieLists.{CubieLists}
 use Rattle.niss_cube.proofs.Each.{at_place}
 use Rattle.niss_cube.proofs.AxisRenamings.{all_turns, at_turn, KeepsPlaces}
 use Rattle.niss_cube.proofs.MapPlaces.{sticker_map-place}
-use Rattle.niss_cube.proofs.SetPlaces.{sets_are_places, kept_same}
+use Rattle.niss_cube.proofs.SetPlaces.{kept_same}
 use Rattle.niss_cube.proofs.ListTurns.{Valid, map_lists, turned_lists, turned-valid, turned-map}
-use Rattle.niss_cube.proofs.Codes.{code, number_of-code, code-below, cubies_with, cubies_with-valid, cubies_with-code, number_after-is, code-turned, cubies_for, renaming, unrenamed, standard_turn-is, zero-kept}
+use Rattle.niss_cube.proofs.Codes.{code, number_of-code, code-below, cubies_with, cubies_with-valid, cubies_with-code, number_after-is, code-turned, cubies_for, renaming, unrenamed, standard_turn-is, sets_are_places, zero-kept}
 use Rattle.niss_moves.proofs.CallerLemmas.{same_place_is}
 
 back_test : all_turns (λ t. list_all (λ q. same_place (turned (inverse_turn t) (turned t q)) q) places) ≡ true

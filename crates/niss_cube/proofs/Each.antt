@@ -1,7 +1,7 @@
 -- A test that holds at each of the 54 places holds at each place.
 use Rattle.std.proofs.Common.{◌≡◌, refl, ◌∙◌, ap, List, [], ◌∷◌, Bool, true, false, ◌&&◌, ◌||◌, not}
 use Rattle.std.specs.List.{list_all, list_any}
-use Rattle.niss_moves.specs.Places.{Coord, Neg, Zero, Pos, Vector, vector, Place, same_place, same_vector, same_coord, is_place}
+use Rattle.niss_moves.specs.Places.{Coord, Neg, Zero, Pos, vector, Place, same_place, is_place}
 use Rattle.niss_moves.specs.Facelets.{places}
 pub use Rattle.niss_cube.proofs.Logic.{and_left, and_right}
 use Rattle.niss_cube.proofs.Logic.{or_then}

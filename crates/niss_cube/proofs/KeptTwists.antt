@@ -1,10 +1,9 @@
 -- The twist and slice numbers are 0 exactly where their sets of places are kept.
-use Rattle.std.proofs.Common.{◌≡◌, ℕ, zero, suc, ◌+◌, ◌-◌, ◌%◌, ◌<◌, ◌≤◌, refl, sym, ◌∙◌, ap, List, [], ◌∷◌, length, get_or, take, Bool, true, false, ◌&&◌, not, arith, inl, inr}
+use Rattle.std.proofs.Common.{◌≡◌, ℕ, ◌+◌, ◌-◌, ◌%◌, ◌<◌, refl, sym, ◌∙◌, ap, List, [], ◌∷◌, length, get_or, take, Bool, true, false, ◌&&◌, not, arith}
 use Rattle.std.specs.Prelude.{◌==◌, ◌↔◌, nat_le}
 use Rattle.std.specs.List.{list_all}
 use Rattle.std.proofs.lemmas.Bool.{eqb-true, ltb-true}
 use Rattle.std.proofs.lemmas.List.{ext_get_or}
-use Rattle.std.proofs.lemmas.Bool.Decides.{eqb_tells}
 use Rattle.niss_moves.specs.Places.{Place, is_place, is_corner, is_edge}
 use Rattle.niss_moves.specs.Facelets.{places}
 use Rattle.niss_cube.specs.CubieFacelets.{facelet_at, edge_facelets, corner_facelets}

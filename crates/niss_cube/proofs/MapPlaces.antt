@@ -1,5 +1,5 @@
 -- The map of a cube brings places to places, and powers of a turn are quarters.
-use Rattle.std.proofs.Common.{◌≡◌, ℕ, ◌+◌, ◌%◌, ◌<◌, refl, sym, ◌∙◌, ap, subst, List, length, get_or, Bool, true, false, ◌&&◌, not, arith, inl, inr, ◌⊎◌}
+use Rattle.std.proofs.Common.{◌≡◌, ℕ, ◌+◌, ◌%◌, ◌<◌, refl, sym, ◌∙◌, ap, subst, List, length, get_or, Bool, true, false, ◌&&◌, not, arith, inl, inr}
 use Rattle.std.specs.List.{list_all}
 use Rattle.std.proofs.lemmas.Bool.{ltb-true}
 use Rattle.niss_moves.specs.Places.{Place, same_place, is_place, is_corner, is_edge, SameMap}

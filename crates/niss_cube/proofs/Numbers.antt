@@ -97,6 +97,3 @@ rank-same (false ∷ os) (true ∷ rs) (suc k) l p q e =
 rank-same (false ∷ os) (false ∷ rs) (suc k) l p q e =
     let b : choose (length os) k ≡ choose (length rs) k = ap (λ n. choose n k) (let h : length os ≡ length rs = omega arith in h) in
     ap (λ xs. false ∷ xs) (rank-same os rs (suc k) (omega arith) p q (omega arith))
-
-choices : choose 12 4 ≡ 495
-choices = refl

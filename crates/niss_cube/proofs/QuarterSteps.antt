@@ -1,5 +1,5 @@
 -- A quarter turn of the cubies is the quarter turn of the places.
-use Rattle.std.proofs.Common.{◌≡◌, ℕ, ◌+◌, ◌%◌, ◌<◌, refl, sym, ◌∙◌, subst, List, length, Bool, true, false, ◌&&◌, ◌||◌, not, arith, inl, inr, ◌⊎◌}
+use Rattle.std.proofs.Common.{◌≡◌, ℕ, ◌+◌, ◌%◌, ◌<◌, sym, ◌∙◌, subst, List, length, Bool, true, false, ◌&&◌, ◌||◌, not, arith, inl, inr}
 use Rattle.std.specs.Prelude.{nat_lt, EachIndex, slice_index}
 use Rattle.std.specs.List.{list_all}
 use Rattle.std.proofs.lemmas.Bool.{ltb-true}

@@ -11,8 +11,6 @@ use Rattle.niss_moves.specs.Turn.{same_face, inverse_turn}
 use Rattle.niss_moves.specs.Canonical.{face_order, turn_order}
 use Rattle.niss_moves.specs.declared.axis.Axis.{Axis}
 use Rattle.niss_moves.specs.declared.axis.Axis.TheVariants.{Ud, Rl, Fb}
-use Rattle.niss_moves.specs.declared.turn.Face.{Face}
-use Rattle.niss_moves.specs.declared.turn.Face.TheVariants.{U, D, R, L, F, B}
 use Rattle.niss_moves.specs.declared.turn.Power.{Power}
 use Rattle.niss_moves.specs.declared.turn.Power.TheVariants.{Quarter, Half, Counter}
 use Rattle.niss_moves.specs.declared.turn.Turn.{Turn}
@@ -27,10 +25,6 @@ use Rattle.niss_cube.proofs.KeptTests.{implied}
 -- the turns of a step from its start
 abbrev pub turns_from : Option Axis → List Turn
 turns_from start = flat_map (λ f. map (λ p. record { face = f; power = p }) (powers_from start f)) face_order
-
-pub from_start : (s : Step) → turns_of s ≡ turns_from (start_of s)
-unfolding turns_of
-from_start s = refl
 
 turns_from-counted : (start : Option Axis) → length (turns_from start) ≡ option_map_or (λ axis. 14) start 18
 turns_from-counted None = refl

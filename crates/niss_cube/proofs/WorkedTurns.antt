@@ -1,5 +1,5 @@
 -- Worked values of the coordinates after a turn.
-use Rattle.std.proofs.Common.{◌≡◌, refl, true, Bool, ℕ, ◌==◌, ◌&&◌}
+use Rattle.std.proofs.Common.{◌≡◌, refl, true, Bool, ◌==◌, ◌&&◌}
 use Rattle.niss_moves.specs.declared.turn.Face.{Face}
 use Rattle.niss_moves.specs.declared.turn.Turn.{Turn}
 use Rattle.niss_moves.specs.declared.turn.Face.TheVariants.{U, D, R, F}
@@ -27,7 +27,7 @@ on_other_axes : (number_after Slice Rl 0 (turn F) == 33) && (number_after Twist 
 unfolding number_after flips_of_number twists_of_number edges_of_number flip_of twist_of slice_of occupied_of_number
 on_other_axes = refl
 
--- all axes and turns, after R F U': the number follows
+-- after R F U' the number follows each turn, on five of the axes
 abbrev pub mixed : Place → Place
 mixed q = turned (record { face = U; power = Counter }) (turned (record { face = F; power = Quarter }) (turned (turn R) q))
 

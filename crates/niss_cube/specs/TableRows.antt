@@ -26,12 +26,22 @@ power_index Counter = 2
 abbrev pub entry_at : List (List ℕ) → Turn → ℕ
 entry_at row t = slice_index (get_or row (face_index t.face) []) (power_index t.power)
 
--- There is a row for each number, and its entry at a turn is the number after that turn, on the standard axis.
-pub record AreRows (k : Coordinate) (rows : List (List (List ℕ))) : Type 0 where
+-- There is a row for each number; in those below n the entry at each of some turns is the number after it, on the
+-- standard axis.
+pub record AreRowsAt (k : Coordinate) (some : Turn → Type 0) (n : ℕ) (rows : List (List (List ℕ))) : Type 0 where
   pub rows_count : length rows ≡ count_of k
-  pub entries : (i : ℕ) (t : Turn) → i < count_of k → entry_at (get_or rows i []) t ≡ number_after k (standard_axis k) i t
+  pub entries : (i : ℕ) (t : Turn) → some t → i < n → entry_at (get_or rows i []) t ≡ number_after k (standard_axis k) i t
 
--- The same, of the entries at quarter turns alone.
-pub record AreQuarters (k : Coordinate) (rows : List (List (List ℕ))) : Type 0 where
-  pub rows_count : length rows ≡ count_of k
-  pub entries : (i : ℕ) (f : Face) → i < count_of k → entry_at (get_or rows i []) (record { face = f; power = Quarter }) ≡ number_after k (standard_axis k) i (record { face = f; power = Quarter })
+abbrev pub IsAnyTurn : Turn → Type 0
+IsAnyTurn t = Unit {0}
+
+abbrev pub IsQuarter : Turn → Type 0
+IsQuarter t = t.power ≡ Quarter
+
+-- each row is right at each turn,
+abbrev pub AreRows : Coordinate → List (List (List ℕ)) → Type 0
+AreRows k rows = AreRowsAt k IsAnyTurn (count_of k) rows
+
+-- and at the quarter turns
+abbrev pub AreQuarters : Coordinate → List (List (List ℕ)) → Type 0
+AreQuarters k rows = AreRowsAt k IsQuarter (count_of k) rows

@@ -1,18 +1,15 @@
 -- The looks are within the bound, and the bound is small.
-use Rattle.std.proofs.Common.{◌≡◌, ℕ, zero, suc, ◌+◌, ◌-◌, ◌*◌, ◌^◌, ◌≤◌, ◌<◌, Bool, true, false, cond, List, [], ◌∷◌, ◌++◌, length, map, filter, sum_by, count_by, refl, sym, ap, subst, arith, lit≤, find, unwrap_or, Option, None, Some}
+use Rattle.std.proofs.Common.{◌≡◌, ℕ, zero, suc, ◌+◌, ◌-◌, ◌*◌, ◌^◌, ◌≤◌, ◌<◌, Bool, true, false, cond, List, [], ◌∷◌, ◌++◌, length, map, filter, sum_by, count_by, refl, ap, subst, arith, find, unwrap_or, Option, None, Some}
 use Rattle.std.specs.Prelude.{flat_map}
 use Rattle.std.specs.List.{range_with_len, list_any}
 use Rattle.std.proofs.lemmas.List.Sums.{sum_by-cons, sum_by-le-sum_by, count_by-le-length}
 use Rattle.std.proofs.lemmas.List.Concat.{length-flat_map}
 use Rattle.std.proofs.Math.Nat.{pow-suc}
-use Rattle.niss_moves.specs.declared.axis.Axis.{Axis}
-use Rattle.niss_moves.specs.declared.axis.Axis.TheVariants.{Ud, Rl, Fb}
 use Rattle.niss_moves.specs.declared.turn.Turn.{Turn}
-use Rattle.niss_moves.specs.Canonical.{face_order, may_follow, last_turn, all_canonical, canonical_extensions}
+use Rattle.niss_moves.specs.Canonical.{may_follow, last_turn, all_canonical, canonical_extensions}
 use Rattle.niss_search.specs.Solutions.{look_bound, least_length, last_length, solution_lengths, solutions, reaching, up_to, count_of_length}
 use Rattle.niss_search.specs.Looks.{is_looked_at, looks, all_looks}
-use Rattle.niss_cube.specs.declared.step.Step.{Step}
-use Rattle.niss_cube.specs.Steps.{start_of, turns_of, powers_from}
+use Rattle.niss_cube.specs.Steps.{turns_of}
 use Rattle.niss_search.specs.Laws.{BoundIsSmall}
 pub use Rattle.niss_cube.proofs.CallerLemmas.{turns_of-length, turns_of-oriented}
 

@@ -1,15 +1,12 @@
 -- What a position tells of each cube that has it, by the laws of the coordinates and of the steps.
-use Rattle.std.proofs.Common.{◌≡◌, ℕ, Bool, true, false, ◌==◌, List, [], ◌∷◌, map, Option, Contains, IsTrue, refl, sym, ap, ◌∙◌, subst, inl, inr, ◌⊎◌, ◌≢◌}
-use Rattle.std.specs.Prelude.{◌↔◌}
+use Rattle.std.proofs.Common.{◌≡◌, true, List, [], ◌∷◌, map, Option, Contains, IsTrue, refl, sym, ap, ◌∙◌, subst}
 use Rattle.std.specs.List.{list_any}
 use Rattle.std.specs.Option.{option_map_or}
-use Rattle.std.proofs.lemmas.Bool.Decides.{eqb_tells}
 use Rattle.niss_moves.specs.Places.{Place, SameMap}
 use Rattle.niss_moves.specs.Effects.{turned}
 use Rattle.niss_moves.specs.declared.axis.Axis.{Axis}
 use Rattle.niss_moves.specs.declared.turn.Turn.{Turn}
 use Rattle.niss_cube.specs.AfterTurn.{IsCube, TurnedIsCube, AreCoordinates}
-use Rattle.niss_cube.specs.Sets.{SetsArePlaces, flip_set, twist_set, slice_set}
 use Rattle.niss_cube.specs.Coordinates.{flip_of, twist_of, slice_of}
 use Rattle.niss_cube.specs.Steps.{goals_of, may_start, reached, holds}
 use Rattle.niss_cube.specs.StepLaws.{StartIsKept, StepsSeePlaces, DominoKeepsStart}

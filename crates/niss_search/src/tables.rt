@@ -47,10 +47,11 @@ impl Tables {
     ghost use Rattle.niss_cube.specs.Steps.{turns_of};
     ghost use Rattle.niss_search.specs.Entries.{entry_count, fill_ticks};
 
-    /// Builds the tables of a step. It takes all memory before the meter rises: 170,280 bytes for the turn tables, and for
-    /// each goal 36 bytes a number of its coordinates and one for each entry (2,048 for an edge orientation, 1,082,565 for
-    /// a domino reduction). The meter rises by one for each turn that is tried from an entry. Where the allocator refuses
-    /// memory, nothing is kept and the meter stands where it stood. The meter is at most at 2^127 before.
+    /// Builds the tables of a step. It takes all memory before the meter rises: for each goal 36 bytes a number of its
+    /// coordinates and one for each entry (2,048 for an edge orientation, 1,082,565 for a domino reduction); and until these
+    /// are taken the turn tables of the coordinates, 73,728 bytes for an edge orientation and 96,552 for a domino reduction.
+    /// The meter rises by one for each turn that is tried from an entry. Where the allocator refuses memory, nothing is kept
+    /// and the meter stands where it stood. The meter is at most at 2^127 before.
     pub fn build(alloc: Global, step: Step, meter: &mut Meter) -> Result<Tables, OutOfMemory>
         requires { meter.old ≤ 2 ^ 127 }
         ensures step { IfOk result (λ tables. tables ≡ step) }

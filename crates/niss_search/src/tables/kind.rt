@@ -32,11 +32,7 @@ pub enum Kind<A: Allocator> {
 
 impl<A: Allocator + Copy> Kind<A> {
     /// Builds the tables of a step: it takes all memory, then fills them.
-    pub(super) fn build_in(
-        alloc: A,
-        step: Step,
-        meter: &mut Meter,
-    ) -> Result<Kind<A>, OutOfMemory>
+    pub(super) fn build_in(alloc: A, step: Step, meter: &mut Meter) -> Result<Kind<A>, OutOfMemory>
         requires { meter.old ≤ 2 ^ 127 }
         ensures step { IfOk result (λ kind. IsOfStep kind step) }
         ensures ticks { OnOk result (meter.new ≡ meter.old + fill_ticks step) }
@@ -44,13 +40,11 @@ impl<A: Allocator + Copy> Kind<A> {
     {
         match step.goals() {
             [Goal::Edges(axis)] => {
-                let flips = TurnTable::build_in(alloc, Coordinate::Flip)?;
-                let table = edge_table(alloc, step, *axis, &flips)?;
-                drop(flips);
+                let table = edge_table(alloc, step, *axis, &flip_turns(alloc)?)?;
                 Ok(Kind::Edges(SearchTables::fill(step, table, meter)))
             }
             [Goal::Edges(first), Goal::Edges(second), Goal::Edges(third)] => {
-                let flips = TurnTable::build_in(alloc, Coordinate::Flip)?;
+                let flips = flip_turns(alloc)?;
                 let first = edge_table(alloc, step, *first, &flips)?;
                 let second = edge_table(alloc, step, *second, &flips)?;
                 let third = edge_table(alloc, step, *third, &flips)?;
@@ -59,9 +53,8 @@ impl<A: Allocator + Copy> Kind<A> {
                 Ok(Kind::AnyEdges(SearchTables::fill(step, space, meter)))
             }
             [Goal::Domino { edges, axis }] => {
-                let turns = DominoTurns::build_in(alloc)?;
-                let table = domino_table(alloc, step, *edges, *axis, &turns)?;
-                drop(turns);
+                let table =
+                    domino_table(alloc, step, *edges, *axis, &DominoTurns::build_in(alloc)?)?;
                 Ok(Kind::Domino(SearchTables::fill(step, table, meter)))
             }
             [
@@ -81,6 +74,13 @@ impl<A: Allocator + Copy> Kind<A> {
             _ => unreachable!(),
         }
     }
+}
+
+/// The turn table of the flips.
+fn flip_turns<A: Allocator>(alloc: A) -> Result<TurnTable<A>, OutOfMemory>
+    ensures { IfOk result (λ table. table ≡ coordinate.Flip) }
+{
+    TurnTable::build_in(alloc, Coordinate::Flip)
 }
 
 /// The pruning table of an edge orientation, still to be filled.

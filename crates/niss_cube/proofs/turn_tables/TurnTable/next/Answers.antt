@@ -1,4 +1,4 @@
-use Rattle.std.proofs.Common.{◌≡◌, ℕ, ◌<◌, sym, ◌∙◌, ap, subst, get_or, []}
+use Rattle.std.proofs.Common.{ℕ, ◌<◌, sym, ◌∙◌, ap, subst}
 use Rattle.niss_cube.specs.Coordinates.{count_of}
 use Rattle.niss_cube.specs.TableRows.{AreRows}
 use Rattle.niss_cube.specs.NumberAfter.{number_after}

@@ -1,4 +1,4 @@
-use Rattle.std.proofs.Common.{◌≡◌, ℕ, ◌∙◌, refl, sym, subst}
+use Rattle.std.proofs.Common.{◌≡◌, ◌∙◌, refl, sym, subst}
 use Rattle.niss_cube.specs.Coordinates.{number_of, standard_axis}
 use Rattle.niss_cube.specs.NumberedCubies.{flips_of_number, twists_of_number}
 use Rattle.niss_cube.proofs.CubieLists.{CubieLists}
