@@ -15,7 +15,7 @@ use std::alloc::Allocator;
 
 /// A descent: the path that it goes along, the sink that it hands what it finds, and how much that is.
 ///
-/// The meter isn't in it, but goes in and comes back by value: behind a borrow each look would write it to memory.
+/// The meter isn't in it, but goes in and comes back by value: through a borrow each look would write it to memory.
 #[derive(Drop)]
 pub(crate) struct Descent<'a, K> {
     path: &'a mut TurnPath,
