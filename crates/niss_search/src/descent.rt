@@ -165,7 +165,13 @@ impl<'a, K: Sink> Descent<'a, K> {
             return (meter, Ok(()));
         }
         // the state once more: kept from the look, it would be written to memory at each look
-        self.follow(tables, tables.after(state, follower), follower.turn, left, meter)
+        self.follow(
+            tables,
+            tables.after(state, follower),
+            follower.turn,
+            left,
+            meter,
+        )
     }
 
     /// Goes on below the path and a turn with `left` turns more, once the state after the turn was looked at.
