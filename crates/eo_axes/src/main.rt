@@ -24,7 +24,6 @@ impl Sink for Printer<'_> {
     ghost refused = { λ old path new. Unit {0} };
 
     fn take(&mut self, path: &TurnPath) -> Result<(), io::Error> {
-        let _at_most_20 = path.limit(); // by this call it is known that the turns have room in the text
         let mut text = LineText::new();
         text.push(b':');
         put_faces(path.turns(), &mut text);

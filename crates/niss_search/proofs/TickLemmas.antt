@@ -1,5 +1,5 @@
 -- How many turns the fill tries: those of the entries at a distance of at most 19, counted by their numbers.
-use Rattle.std.proofs.Common.{◌≡◌, ℕ, zero, suc, ◌+◌, ◌*◌, ◌/◌, ◌%◌, ◌^◌, ◌≤◌, ◌<◌, Bool, cond, List, [], ◌∷◌, ◌++◌, length, map, count_by, sum_by, refl, sym, ap, ◌∙◌, arith, add-zero, lit≤, None, Contains, All}
+use Rattle.std.proofs.Common.{◌≡◌, ℕ, zero, suc, ◌+◌, ◌*◌, ◌/◌, ◌%◌, ◌^◌, ◌≤◌, ◌<◌, Bool, cond, List, [], ◌∷◌, ◌++◌, length, map, count_by, sum_by, refl, sym, ap, ◌∙◌, arith, lit≤, None, Contains, All}
 use Rattle.std.specs.Prelude.{flat_map, nat_le}
 use Rattle.std.specs.List.{range_with_len}
 use Rattle.std.proofs.lemmas.Nat.{div-mul-add, mod-mul-add}

@@ -37,13 +37,13 @@ module _ (step : Step) (x : List Coordinates) where
 
 -- What deepenings do that find these paths with so many looks, by what they answer: how many paths, or a fault.
 module _
-  {K : Type 0} (took refused : K → Path → K → Type 0) (limit : ℕ) (paths : List (List Turn)) (looks : ℕ)
-  (meter meter' : ℕ) (sink sink' : K)
+    {K : Type 0} (took refused : K → Path → K → Type 0) (limit : ℕ) (paths : List (List Turn)) (looks : ℕ)
+    (meter meter' : ℕ) (sink sink' : K)
   where
-  abbrev pub Delivers : {T F : Type 0} → (T → ℕ) → Result T F → Type 0
-  Delivers count (Ok value) =
-      GoesThrough (at_limit took limit) (at_limit refused limit) paths looks
-      (descent_state meter 0 sink) (descent_state meter' (count value) sink')
-  Delivers count (Err fault) =
-      StopsIn (at_limit took limit) (at_limit refused limit) paths looks
-      (descent_state meter 0 sink) (descent_state meter' 0 sink')
+    abbrev pub Delivers : {T F : Type 0} → (T → ℕ) → Result T F → Type 0
+    Delivers count (Ok value) =
+        GoesThrough (at_limit took limit) (at_limit refused limit) paths looks
+        (descent_state meter 0 sink) (descent_state meter' (count value) sink')
+    Delivers count (Err fault) =
+        StopsIn (at_limit took limit) (at_limit refused limit) paths looks
+        (descent_state meter 0 sink) (descent_state meter' 0 sink')

@@ -7,8 +7,9 @@ use Rattle.niss_search.specs.Path.{Path}
 use Rattle.niss_search.specs.declared.descent.Descent.{Descent}
 
 module _ {K : Type 0} where
-  abbrev pub path_of : Descent K → List Turn
-  path_of descent = descent.path.now.turns
+  -- the turns of its path
+  abbrev pub turns : Descent K → List Turn
+  turns descent = descent.path.now.turns
 
   -- what a descent changes beside its path
   abbrev pub state_of : ℕ → Descent K → DescentState K

@@ -15,7 +15,7 @@ module _ {P : Type 0} (turns : List Turn) (after : P → Turn → P) (look : P �
   found x p (suc left) =
       if nat_le (look x) (suc left)
       then
-        flat_map (λ t. if may_follow (last_turn p) t then found (after x t) (p ++ t ∷ []) left else []) turns
+      flat_map (λ t. if may_follow (last_turn p) t then found (after x t) (p ++ t ∷ []) left else []) turns
       else []
 
   -- the looks made there
@@ -55,22 +55,22 @@ abbrev pub descent_state : {K : Type 0} → ℕ → ℕ → K → DescentState K
 descent_state meter count sink = record { meter = meter; count = count; sink = sink }
 
 module _
-  {K : Type 0} (took refused : K → List Turn → K → Type 0) (paths : List (List Turn)) (looks : ℕ)
-  (old new : DescentState K)
+    {K : Type 0} (took refused : K → List Turn → K → Type 0) (paths : List (List Turn)) (looks : ℕ)
+    (old new : DescentState K)
   where
-  -- The sink took each of the paths, they were counted, and there were so many looks.
-  pub record GoesThrough : Type 0 where
-    pub delivered : WentThrough took old.sink paths new.sink
-    pub counted : new.count ≡ old.count + length paths
-    pub looked : new.meter ≡ old.meter + looks
+    -- The sink took each of the paths, they were counted, and there were so many looks.
+    pub record GoesThrough : Type 0 where
+      pub delivered : WentThrough took old.sink paths new.sink
+      pub counted : new.count ≡ old.count + length paths
+      pub looked : new.meter ≡ old.meter + looks
 
-  -- The sink refused one of the paths, after so many looks at most. Of the count nothing is said.
-  pub record StopsIn : Type 0 where
-    pub stopped : StoppedIn took refused old.sink paths new.sink
-    pub rises : old.meter ≤ new.meter
-    pub looked : new.meter ≤ old.meter + looks
+    -- The sink refused one of the paths, after so many looks at most. Of the count nothing is said.
+    pub record StopsIn : Type 0 where
+      pub stopped : StoppedIn took refused old.sink paths new.sink
+      pub rises : old.meter ≤ new.meter
+      pub looked : new.meter ≤ old.meter + looks
 
-  -- What a part of a descent does that finds these paths with so many looks, by what it says.
-  abbrev pub Descends : {F : Type 0} → Result (Unit {0}) F → Type 0
-  Descends (Ok u) = GoesThrough
-  Descends (Err e) = StopsIn
+    -- What a part of a descent does that finds these paths with so many looks, by what it says.
+    abbrev pub Descends : {F : Type 0} → Result (Unit {0}) F → Type 0
+    Descends (Ok u) = GoesThrough
+    Descends (Err e) = StopsIn

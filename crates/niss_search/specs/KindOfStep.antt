@@ -14,7 +14,8 @@ module _ {A : Type 0} where
   edge_alternative t = record { step = t.moves.flips.step; goal = goals.Edges t.moves.flips.axis }
 
   abbrev pub domino_alternative : PruningTable (DominoMoves A) A → Alternative
-  domino_alternative t = record { step = t.moves.twists.step; goal = goals.Domino t.moves.edges t.moves.twists.axis }
+  domino_alternative t =
+      record { step = t.moves.twists.step; goal = goals.Domino t.moves.edges t.moves.twists.axis }
 
   -- The tables are those of the step.
   abbrev pub IsOfStep : Kind A → Step → Type 0

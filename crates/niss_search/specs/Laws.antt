@@ -19,7 +19,8 @@ use Rattle.niss_search.specs.Cubes.{HasPosition}
 abbrev pub CountRecurrence : Type 0
 CountRecurrence =
     (k : ℕ) → 1 ≤ k →
-    count_of_length turn_order (k + 2) ≡ 12 * count_of_length turn_order (k + 1) + 18 * count_of_length turn_order k
+    count_of_length turn_order (k + 2)
+    ≡ 12 * count_of_length turn_order (k + 1) + 18 * count_of_length turn_order k
 
 -- A part of the turns has no larger counts.
 abbrev pub PartHasNoMore : Type 0
@@ -40,7 +41,8 @@ pub record NoSlackIsLeast : Type 0 where
       solutions turns reaches n 0 ≡ option_map_or (reaching turns reaches) (least_length turns reaches n) []
   pub looked :
       (turns : List Turn) (reaches : List Turn → Bool) (far : List Turn → ℕ) (n : ℕ) →
-      all_looks turns reaches far n 0 ≡ sum_by (looks turns far) (up_to (unwrap_or (least_length turns reaches n) n))
+      all_looks turns reaches far n 0
+      ≡ sum_by (looks turns far) (up_to (unwrap_or (least_length turns reaches n) n))
 
 -- The bound of a step is at most that over the 18 turns.
 abbrev pub StepBoundIsLess : Type 0
@@ -77,5 +79,5 @@ pub record PositionsTell : Type 0 where
       (s : Step) (e : Place → Place) (x : List Coordinates) → HasPosition s e x →
       reached s e ≡ is_reached_at x
   pub after_turn :
-      (s : Step) (e : Place → Place) (x : List Coordinates) (t : Turn) → Contains (turns_of s) t → HasPosition s e x →
-      HasPosition s (λ q. turned t (e q)) (position_after x t)
+      (s : Step) (e : Place → Place) (x : List Coordinates) (t : Turn) → Contains (turns_of s) t →
+      HasPosition s e x → HasPosition s (λ q. turned t (e q)) (position_after x t)

@@ -5,7 +5,7 @@ ghost use Rattle.niss_search.specs.Cubes.{IsPosition};
 ghost use Rattle.niss_search.specs.Followers.{IsFollower};
 ghost use Rattle.niss_search.specs.Positions.{distance_at};
 ghost use Rattle.niss_search.specs.Descent.{found_below, looks_below, looks_beyond, found_after, looks_after};
-ghost use Rattle.niss_search.specs.Descending.{Keeps, Finds, path_of};
+ghost use Rattle.niss_search.specs.Descending.{Keeps, Finds, turns};
 
 use crate::sink::Sink;
 use crate::tables::{Follower, Kind, Meter, Position, SearchTables, StateSpace, Tables};
@@ -56,13 +56,13 @@ impl<'a, K: Sink> Descent<'a, K> {
         meter: Meter,
     ) -> (Meter, Result<(), K::Fault>)
         requires position { IsPosition tables.now position.now }
-        requires room { length (path_of self.old) + left ≤ self.old.path.now.limit }
-        requires meter { meter + looks_below tables.now position.now (path_of self.old) left < 2 ^ 128 }
+        requires room { length (turns self.old) + left ≤ self.old.path.now.limit }
+        requires meter { meter + looks_below tables.now position.now (turns self.old) left < 2 ^ 128 }
         requires count { self.old.count ≤ meter }
         ensures keeps { Keeps self.old self.new }
         ensures finds { Finds K.took K.refused
-            (found_below tables.now position.now (path_of self.old) left)
-            (looks_below tables.now position.now (path_of self.old) left)
+            (found_below tables.now position.now (turns self.old) left)
+            (looks_below tables.now position.now (turns self.old) left)
             meter result.0 self.old self.new result.1 }
     {
         match tables.kind() {
@@ -82,13 +82,13 @@ impl<'a, K: Sink> Descent<'a, K> {
         meter: Meter,
     ) -> (Meter, Result<(), K::Fault>)
         requires position { IsPosition tables.now.step position.now }
-        requires room { length (path_of self.old) + left ≤ self.old.path.now.limit }
-        requires meter { meter + looks_below tables.now.step position.now (path_of self.old) left < 2 ^ 128 }
+        requires room { length (turns self.old) + left ≤ self.old.path.now.limit }
+        requires meter { meter + looks_below tables.now.step position.now (turns self.old) left < 2 ^ 128 }
         requires count { self.old.count ≤ meter }
         ensures keeps { Keeps self.old self.new }
         ensures finds { Finds K.took K.refused
-            (found_below tables.now.step position.now (path_of self.old) left)
-            (looks_below tables.now.step position.now (path_of self.old) left)
+            (found_below tables.now.step position.now (turns self.old) left)
+            (looks_below tables.now.step position.now (turns self.old) left)
             meter result.0 self.old self.new result.1 }
     {
         let mut meter = meter;
@@ -110,14 +110,14 @@ impl<'a, K: Sink> Descent<'a, K> {
         meter: Meter,
     ) -> (Meter, Result<(), K::Fault>)
         requires near { distance_at tables.now.step (S.seen tables.now.space state) ≤ left }
-        requires room { length (path_of self.old) + left ≤ self.old.path.now.limit }
+        requires room { length (turns self.old) + left ≤ self.old.path.now.limit }
         requires meter { meter
-            + looks_beyond tables.now.step (S.seen tables.now.space state) (path_of self.old) left < 2 ^ 128 }
+            + looks_beyond tables.now.step (S.seen tables.now.space state) (turns self.old) left < 2 ^ 128 }
         requires count { self.old.count < meter }
         ensures keeps { Keeps self.old self.new }
         ensures finds { Finds K.took K.refused
-            (found_below tables.now.step (S.seen tables.now.space state) (path_of self.old) left)
-            (looks_beyond tables.now.step (S.seen tables.now.space state) (path_of self.old) left)
+            (found_below tables.now.step (S.seen tables.now.space state) (turns self.old) left)
+            (looks_beyond tables.now.step (S.seen tables.now.space state) (turns self.old) left)
             meter result.0 self.old self.new result.1 }
     {
         if left == 0 {
@@ -148,16 +148,16 @@ impl<'a, K: Sink> Descent<'a, K> {
         meter: Meter,
     ) -> (Meter, Result<(), K::Fault>)
         requires of_step { IsFollower tables.now.step follower }
-        requires follows { IsTrue (may_follow (last_turn (path_of self.old)) follower.turn) }
-        requires room { length (path_of self.old) + 1 + left ≤ self.old.path.now.limit }
+        requires follows { IsTrue (may_follow (last_turn (turns self.old)) follower.turn) }
+        requires room { length (turns self.old) + 1 + left ≤ self.old.path.now.limit }
         requires meter { meter
-            + looks_after tables.now.step (S.seen tables.now.space state) (path_of self.old) left follower.turn
+            + looks_after tables.now.step (S.seen tables.now.space state) (turns self.old) left follower.turn
             < 2 ^ 128 }
         requires count { self.old.count ≤ meter }
         ensures keeps { Keeps self.old self.new }
         ensures finds { Finds K.took K.refused
-            (found_after tables.now.step (S.seen tables.now.space state) (path_of self.old) left follower.turn)
-            (looks_after tables.now.step (S.seen tables.now.space state) (path_of self.old) left follower.turn)
+            (found_after tables.now.step (S.seen tables.now.space state) (turns self.old) left follower.turn)
+            (looks_after tables.now.step (S.seen tables.now.space state) (turns self.old) left follower.turn)
             meter result.0 self.old self.new result.1 }
     {
         let mut meter = meter;
@@ -165,7 +165,13 @@ impl<'a, K: Sink> Descent<'a, K> {
             return (meter, Ok(()));
         }
         // the state once more: kept from the look, it would be written to memory at each look
-        self.follow(tables, tables.after(state, follower), follower.turn, left, meter)
+        self.follow(
+            tables,
+            tables.after(state, follower),
+            follower.turn,
+            left,
+            meter,
+        )
     }
 
     /// Goes on below the path and a turn with `left` turns more, once the state after the turn was looked at.
@@ -179,15 +185,15 @@ impl<'a, K: Sink> Descent<'a, K> {
         meter: Meter,
     ) -> (Meter, Result<(), K::Fault>)
         requires near { distance_at tables.now.step (S.seen tables.now.space state) ≤ left }
-        requires room { length (path_of self.old) + 1 + left ≤ self.old.path.now.limit }
+        requires room { length (turns self.old) + 1 + left ≤ self.old.path.now.limit }
         requires meter { meter
-            + looks_beyond tables.now.step (S.seen tables.now.space state) (path_of self.old ++ turn ∷ []) left
+            + looks_beyond tables.now.step (S.seen tables.now.space state) (turns self.old ++ turn ∷ []) left
             < 2 ^ 128 }
         requires count { self.old.count < meter }
         ensures keeps { Keeps self.old self.new }
         ensures finds { Finds K.took K.refused
-            (found_below tables.now.step (S.seen tables.now.space state) (path_of self.old ++ turn ∷ []) left)
-            (looks_beyond tables.now.step (S.seen tables.now.space state) (path_of self.old ++ turn ∷ []) left)
+            (found_below tables.now.step (S.seen tables.now.space state) (turns self.old ++ turn ∷ []) left)
+            (looks_beyond tables.now.step (S.seen tables.now.space state) (turns self.old ++ turn ∷ []) left)
             meter result.0 self.old self.new result.1 }
     {
         self.path.push(turn);

@@ -150,10 +150,12 @@ impl<A: Allocator> Tables<A> {
         ensures tick { meter.new ≡ meter.old + 1 }
         ensures in_range { result ≤ 21 }
         ensures of_position { result ≡ distance_at self.now position.now }
-        ensures value { (e : Place → Place) → HasPosition self.now e position.now → result ≡ distance_of self.now e }
+        ensures value { (e : Place → Place) → HasPosition self.now e position.now
+            → result ≡ distance_of self.now e }
         ensures zero { (e : Place → Place) → HasPosition self.now e position.now
             → (result ≡ 0) ↔ IsTrue (reached self.now e) }
-        ensures never_above { (e : Place → Place) → HasPosition self.now e position.now → result ≤ distance_of self.now e }
+        ensures never_above { (e : Place → Place) → HasPosition self.now e position.now
+            → result ≤ distance_of self.now e }
     {
         positions_tell();
         self.distance(position, meter)

@@ -90,8 +90,6 @@ impl<'a, W: Target> Output<'a, W> {
 fn solution_text(path: &TurnPath) -> LineText
     ensures { result.items ≡ solution_line path.now.turns }
 {
-    // this call shows that the path has at most 20 turns, as `put_solution` asks
-    let _at_most_20 = path.limit();
     let mut text = LineText::new();
     put_solution(path.turns(), &mut text);
     text

@@ -1,4 +1,4 @@
-use Rattle.std.proofs.Common.{filter, map, arith, ◌≡◌, ◌+◌, ◌<◌, ◌≤◌, length, ◌-◌, List, [], ◌∷◌, ◌++◌, Contains, sym, ap, ◌∙◌, get_or, IsTrue, subst, ◌^◌, length-append}
+use Rattle.std.proofs.Common.{filter, map, arith, ◌≡◌, ◌+◌, ◌<◌, ◌≤◌, length, ◌-◌, List, [], ◌∷◌, ◌++◌, Contains, sym, ap, ◌∙◌, get_or, IsTrue, subst, ◌^◌}
 use Rattle.std.proofs.lemmas.List.Elements.{Contains-get_or}
 use Rattle.std.proofs.lemmas.List.{length-map}
 use Rattle.std.proofs.Math.ListN.{get_or-map}

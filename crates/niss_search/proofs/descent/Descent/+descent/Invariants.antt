@@ -1,4 +1,4 @@
-use Rattle.std.proofs.Common.{◌≡◌, ◌+◌, ◌-◌, ◌*◌, ◌<◌, ◌≤◌, take, map, sum_by}
+use Rattle.std.proofs.Common.{◌+◌, ◌-◌, ◌*◌, ◌<◌, ◌≤◌, take, map, sum_by}
 use Rattle.std.specs.Prelude.{flat_map}
 use Rattle.niss_search.specs.Followers.{AreFollowers}
 use Rattle.niss_search.specs.Delivery.{at_limit}
