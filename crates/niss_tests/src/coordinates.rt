@@ -1,6 +1,6 @@
 //! Coordinates of cubes, and the tables that turn them.
 use crate::cubes::{after, quarter, turn};
-use niss_cube::{Axis, Cube, Face, OutOfMemory, Power, TurnTables};
+use niss_cube::{Axis, Coordinate, Cube, Face, OutOfMemory, Power, TurnTable, TurnTables};
 use std::alloc::Allocator;
 use std::process::Abort;
 
@@ -60,4 +60,15 @@ pub fn check_tables<A: Allocator>(rt: &impl Abort, built: &Result<TurnTables<A>,
 #[test]
 fn tables_turn_the_solved_cube(rt: HostRuntime) {
     check_tables(&rt, &TurnTables::build(rt.alloc()));
+}
+
+#[test]
+fn the_table_of_one_coordinate_turns_the_solved_cube(rt: HostRuntime) {
+    match TurnTable::build_in(rt.alloc(), Coordinate::Twist) {
+        Ok(table) => {
+            let right = turn(Face::R, Power::Quarter);
+            assert_eq!(rt; table.next(Axis::Ud, 0, right), 1494);
+        }
+        Err(_) => assert!(rt; false),
+    }
 }
