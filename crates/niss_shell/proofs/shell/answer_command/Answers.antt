@@ -1,9 +1,10 @@
-use Rattle.std.proofs.Common.{map, refl, Ok, ap, ◌∙◌}
+use Rattle.std.proofs.Common.{map, refl, Ok, sym, ap, ◌∙◌, subst}
 use Rattle.std.specs.Prelude.{string_bytes}
-use Rattle.niss_shell.specs.Words.{request_of, requested}
-use Rattle.niss_shell.specs.Engine.{output_state, stop_unless}
+use Rattle.std.proofs.lemmas.Result.{err_from_is_err_and}
+use Rattle.niss_shell.specs.Words.{OnLines, request_of, reads_source, requested}
+use Rattle.niss_shell.specs.Engine.{RunsUnflushed, output_state, stop_unless}
 use Rattle.niss_shell.specs.declared.stop.Stop.TheVariants.{Done}
-use Rattle.niss_shell.proofs.RunLemmas.{runs_usage, runs_steps, runs_scrambles, without_lines}
+use Rattle.niss_shell.proofs.RunLemmas.{by_words, runs_usage, runs_steps, runs_scrambles, without_lines}
 use Rattle.niss_shell.proofs.shell.answer_command.Goals as goal
 
 pub returns-in_default-clause-runs : goal.returns-in_default-clause-runs
@@ -27,3 +28,23 @@ returns-in_default-command g c = record {
   empty = c.write_steps.ensures.empty;
   unread = λ h. refl;
 }
+
+pub returns-in_err-new-clause-runs : goal.returns-in_err-new-clause-runs
+returns-in_err-new-clause-runs g c =
+    let p = err_from_is_err_and c.from_residual.result c.from_residual.ensures.1 in
+    let asked = c.in-Ok.ensures.command ∙ ap (λ k. Ok k) c.in-Some.ensures in
+    rw (p.1, p.2, asked) (c.in_err-new.ensures.refused (g.R.Source.state c.args.source.now) (output_state g.W.Target.state c.args.output.now c.args.looks.now) c.requires.works)
+
+pub returns-in-Some-clause-runs : goal.returns-in-Some-clause-runs
+returns-in-Some-clause-runs g c =
+    let asked = c.in-Ok.ensures.command ∙ ap (λ k. Ok k) c.in-Some.ensures in
+    let same = ap (λ k. Ok (OnLines k (map string_bytes c.in-Some.rest.now))) c.in_ok-new.ensures.work ∙ sym asked in
+    subst (λ r. RunsUnflushed r (stop_unless c.answer.result Done) (g.R.Source.state c.args.source.now) (g.R.Source.state c.answer.new.source)
+    (output_state g.W.Target.state c.args.output.now c.args.looks.now) (output_state g.W.Target.state c.answer.new.output c.answer.new.looks))
+    same (c.answer.ensures.runs (map string_bytes c.in-Some.rest.now) c.in_ok-new.ensures.input)
+
+pub returns-in-Some-clause-unread : goal.returns-in-Some-clause-unread
+returns-in-Some-clause-unread g c = λ h.
+    let asked = c.in-Ok.ensures.command ∙ ap (λ k. Ok k) c.in-Some.ensures in
+    let given = sym (ap reads_source asked) ∙ h in
+    by_words (λ t. t.items) c.in_ok-new.field-0.text c.in-Some.command (map string_bytes c.in-Some.rest.now) _ c.in_ok-new.ensures.input given c.answer.ensures.unread

@@ -1,4 +1,4 @@
-use Rattle.std.proofs.Common.{◌≡◌, take, length, refl, ap, ◌∙◌, subst, arith}
+use Rattle.std.proofs.Common.{rules, ◌≡◌, take, length, refl, ap, ◌∙◌, subst, arith}
 use Rattle.std.specs.Prelude.{flat_map}
 use Rattle.std.proofs.lemmas.List.{take_all}
 use Rattle.std.proofs.lemmas.Result.{err_from_is_err_and}
@@ -7,6 +7,9 @@ use Rattle.niss_cube.specs.declared.step.Step.{Step}
 use Rattle.niss_shell.specs.Output.{step_line}
 use Rattle.niss_shell.specs.Engine.{Writes, Refuses, output_state}
 use Rattle.niss_shell.proofs.shell.write_steps.Goals as goal
+
+pub loop-step-init : goal.loop-step-init
+loop-step-init g c = record { names = search rules; room = search rules; items = c.all-step-items.ensures }
 
 pub returns-in_err-write-clause-answers : goal.returns-in_err-write-clause-answers
 returns-in_err-write-clause-answers g c =
