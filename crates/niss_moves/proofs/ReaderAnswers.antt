@@ -195,14 +195,6 @@ told_line fault p bytes f e h = sym (line_end _ bytes h ∙ ap (λ o. ended (sta
 pub ended_line : (fault : Option ReadFault) (p : PartialLine) (bytes : List ℕ) → fault ≡ None → IsFed (record { fed = p.fed; fault = fault; so_far = state_of p }) bytes → ended_at p.last (state_of p) ≡ read_line bytes
 ended_line fault p bytes e h = sym (line_end _ bytes h ∙ ap (λ o. ended (state_or o (state_of p))) e)
 
-pub found_if : (bytes : List ℕ) (r : Result Moves ReadFault) → r ≡ read_line bytes → IfOk r (λ m. Spells bytes m.normal m.bracketed)
-found_if bytes (Ok m) e = line_spells bytes m (sym e)
-found_if bytes (Err f) e = tt
-
-pub fault_if : (bytes : List ℕ) (r : Result Moves ReadFault) → r ≡ read_line bytes → IfErr r (λ f. Faults bytes f)
-fault_if bytes (Ok m) e = tt
-fault_if bytes (Err f) e = line_faults bytes f (sym e)
-
 -- a byte fed to a reader
 pub record IsFedOn (fault : Option ReadFault) (p : PartialLine) (byte : ℕ) (next : Option ReadFault) (q : PartialLine) (result : Result (Unit {0}) ReadFault) : Type 0 where
   pub fed : q.fed ≡ p.fed + 1
