@@ -4,7 +4,7 @@ use Rattle.std.specs.Result.{result_err}
 use Rattle.std.proofs.Math.Path.{subst₃}
 use Rattle.niss_moves.specs.Line.{Moves, Spells, IsLine}
 use Rattle.niss_moves.specs.Faults.{Whole, cut_length, cut_ending, bracket_ending, CanContinue, Stops, Faults}
-use Rattle.niss_moves.specs.Machine.{State, start, settled, count, step, step_within, symbol_of, and_then, run, ended, ended_at, ended_in, answer, answer_after, state_of, state_or, outcome_of, HasRoom, HasRoomUnless, IsStep}
+use Rattle.niss_moves.specs.Machine.{State, start, settled, count, step, step_within, symbol_of, and_then, run, ended, ended_at, ended_in, answer_after, state_of, state_or, HasRoom, HasRoomUnless, IsStep}
 use Rattle.niss_moves.specs.Reader.{Reader, IsFed, line_with, read_line}
 use Rattle.niss_moves.specs.declared.token.Token.{Token}
 use Rattle.niss_moves.specs.declared.partial_line.PartialLine.{PartialLine}
@@ -16,6 +16,15 @@ use Rattle.niss_moves.proofs.Sound.{last_bytes, cut_of, is_open, long_enough}
 use Rattle.niss_moves.proofs.Whole.{reads_all, run_stops, ends_whole, lacks_bracket, lacks_apostrophe}
 use Rattle.niss_moves.proofs.OneFault.{fault_ended}
 use Rattle.niss_moves.proofs.Room.{room_kept}
+
+-- what a caller gets of an outcome
+abbrev pub answer : Result State ReadFault → Result (Unit {0}) ReadFault
+answer (Ok s) = Ok tt
+answer (Err f) = Err f
+
+-- the state of a line, or its fault
+abbrev pub outcome_of : Option ReadFault → PartialLine → Result State ReadFault
+outcome_of fault p = state_or fault (state_of p)
 
 -- the end of a line
 abbrev Final : List ℕ → Result Moves ReadFault → Type 0

@@ -1,7 +1,7 @@
 use Rattle.std.proofs.Common.{refl, sym, subst, arith, length, ℕ, List, take, ap, ◌∙◌}
 use Rattle.std.proofs.lemmas.Slice.{between_to_end}
 use Rattle.niss_moves.specs.WholeMoves.{IsSuffix}
-use Rattle.niss_moves.proofs.Sound.{base_is, blank_is}
+use Rattle.niss_moves.proofs.Symbols.{base_is, blank_is}
 use Rattle.niss_moves.proofs.WholeMoves.{take_one, move_at}
 use Rattle.niss_moves.proofs.whole_move.whole_move.Goals as goal
 
