@@ -3,16 +3,11 @@ use Rattle.std.proofs.Common.{◌≡◌, ℕ, ◌+◌, ◌<◌, ◌≤◌, refl,
 use Rattle.std.proofs.lemmas.Bool.{lt-ltb}
 use Rattle.niss_moves.specs.Letters.{face_letter}
 use Rattle.niss_moves.proofs.Symbols.{symbol_of_face, symbol_of_lower, symbol_of_slice, symbol_of_rotation, symbol_of_blank}
-use Rattle.niss_moves.specs.Notation.{lower_letter, slice_letter, rotation_letter, base_bytes, token_of, Plain, Typographic, Suffix, Nothing, Two, Prime, TwoPrime, suffix_bytes, suffix_power, Blank, Space, Tab, Return, blank_byte}
+use Rattle.niss_moves.specs.Notation.{lower_letter, slice_letter, rotation_letter, base_bytes, token_of, Plain, Typographic, Suffix, Nothing, Two, Prime, TwoPrime, suffix_bytes, suffix_power, Blank, blank_byte}
 use Rattle.niss_moves.specs.Line.{Piece, Gap, Spelled, piece_bytes, piece_moves, Item, Outside, Bracket, item_bytes, item_normal, item_bracketed, Spells}
 use Rattle.niss_moves.specs.Machine.{symbol_of, State, start, outside, inside, added, settled, opened, closed, count, with_last, fed_to, step_by, step_at, step_within, and_then, run_within}
 use Rattle.niss_moves.specs.declared.turn.Face.{Face}
-use Rattle.niss_moves.specs.declared.turn.Face.TheVariants.{U, D, R, L, F, B}
 use Rattle.niss_moves.specs.declared.turn.Power.TheVariants.{Half, Counter}
-use Rattle.niss_moves.specs.declared.token.Slice.{Slice}
-use Rattle.niss_moves.specs.declared.token.Slice.TheVariants.{M, E, S}
-use Rattle.niss_moves.specs.declared.axis.Axis.{Axis}
-use Rattle.niss_moves.specs.declared.axis.Axis.TheVariants.{Ud, Rl, Fb}
 use Rattle.niss_moves.specs.declared.token.Token.{Token}
 use Rattle.niss_moves.specs.declared.base.Base.{Base}
 use Rattle.niss_moves.specs.declared.base.Base.TheVariants as base

@@ -1,4 +1,4 @@
-use Rattle.std.proofs.Common.{refl, sym, subst, arith, length, ℕ, List, take, ap, ◌∙◌}
+use Rattle.std.proofs.Common.{refl, sym, subst, arith, ℕ, List, take, ◌∙◌}
 use Rattle.std.proofs.lemmas.Slice.{between_to_end}
 use Rattle.niss_moves.specs.WholeMoves.{IsSuffix}
 use Rattle.niss_moves.proofs.Symbols.{base_is, blank_is}
