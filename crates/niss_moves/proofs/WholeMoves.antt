@@ -27,12 +27,6 @@ pub take_one : (bytes : List ℕ) (x : ℕ) → 0 < length bytes → get_or byte
 take_one [] x lt e = absurd (omega arith)
 take_one (a ∷ bytes) x lt e = ap (λ y. y ∷ []) e
 
-pub take_three : (bytes : List ℕ) (x y z : ℕ) → 2 < length bytes → get_or bytes 0 0 ≡ x → get_or bytes 1 0 ≡ y → get_or bytes 2 0 ≡ z → take 3 bytes ≡ x ∷ y ∷ z ∷ []
-take_three [] x y z lt e f g = absurd (omega arith)
-take_three (a ∷ []) x y z lt e f g = absurd (omega arith)
-take_three (a ∷ b ∷ []) x y z lt e f g = absurd (omega arith)
-take_three (a ∷ b ∷ c ∷ bytes) x y z lt e f g = λ i. e i ∷ f i ∷ g i ∷ []
-
 -- a suffix, by whether a `2` stands there and how long the apostrophe after it is
 pub suffix_at : (two : Bool) (bytes : List ℕ) (n : ℕ) → 0 < length bytes → (get_or bytes 0 0 == 50) ≡ two → BeginsApostrophe (drop (bool_byte two) bytes) n
     → IsSuffix (take (bool_byte two + n) bytes) (get_or (Quarter ∷ Half ∷ Counter ∷ Half ∷ []) (bool_byte two + 2 * bool_byte (nat_lt 0 n)) Quarter)
