@@ -1,4 +1,4 @@
-use Rattle.std.proofs.Common.{sym, subst, List, ℕ, ◌∙◌, length, take, arith}
+use Rattle.std.proofs.Common.{sym, subst, List, ℕ, ◌∙◌, take, arith}
 use Rattle.std.proofs.lemmas.Slice.{between_to_end}
 use Rattle.niss_moves.specs.WholeMoves.{IsSuffix}
 use Rattle.niss_moves.proofs.Symbols.{blank_is}
