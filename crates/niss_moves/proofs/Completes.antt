@@ -2,16 +2,12 @@
 use Rattle.std.proofs.Common.{◌≡◌, ℕ, ◌+◌, ◌<◌, ◌≤◌, refl, ap, sym, ◌∙◌, List, [], ◌∷◌, ◌++◌, length, flat_map, append_assoc, append-nil, Option, None, Some, Result, Ok, Err, arith, length-append, cond, ap₂}
 use Rattle.std.proofs.lemmas.Bool.{lt-ltb}
 use Rattle.niss_moves.specs.Letters.{face_letter}
-use Rattle.niss_moves.specs.Notation.{lower_letter, slice_letter, rotation_letter, base_bytes, token_of, Plain, Typographic, Suffix, Nothing, Two, Prime, TwoPrime, suffix_bytes, suffix_power, Blank, Space, Tab, Return, blank_byte}
+use Rattle.niss_moves.proofs.Symbols.{symbol_of_face, symbol_of_lower, symbol_of_slice, symbol_of_rotation, symbol_of_blank}
+use Rattle.niss_moves.specs.Notation.{lower_letter, slice_letter, rotation_letter, base_bytes, token_of, Plain, Typographic, Suffix, Nothing, Two, Prime, TwoPrime, suffix_bytes, suffix_power, Blank, blank_byte}
 use Rattle.niss_moves.specs.Line.{Piece, Gap, Spelled, piece_bytes, piece_moves, Item, Outside, Bracket, item_bytes, item_normal, item_bracketed, Spells}
 use Rattle.niss_moves.specs.Machine.{symbol_of, State, start, outside, inside, added, settled, opened, closed, count, with_last, fed_to, step_by, step_at, step_within, and_then, run_within}
 use Rattle.niss_moves.specs.declared.turn.Face.{Face}
-use Rattle.niss_moves.specs.declared.turn.Face.TheVariants.{U, D, R, L, F, B}
 use Rattle.niss_moves.specs.declared.turn.Power.TheVariants.{Half, Counter}
-use Rattle.niss_moves.specs.declared.token.Slice.{Slice}
-use Rattle.niss_moves.specs.declared.token.Slice.TheVariants.{M, E, S}
-use Rattle.niss_moves.specs.declared.axis.Axis.{Axis}
-use Rattle.niss_moves.specs.declared.axis.Axis.TheVariants.{Ud, Rl, Fb}
 use Rattle.niss_moves.specs.declared.token.Token.{Token}
 use Rattle.niss_moves.specs.declared.base.Base.{Base}
 use Rattle.niss_moves.specs.declared.base.Base.TheVariants as base
@@ -50,43 +46,6 @@ step_ready limit s byte h = ap (fed_to (s.fed + 1)) (at s.last h)
     at (last.Doubled b) h = refl
     at (last.FirstByte b two) h = absurd h
     at (last.SecondByte b two) h = absurd h
-
--- what each byte is
-pub symbol_of_face : (f : Face) → symbol_of (face_letter f) ≡ symbol.Base (base.Face f)
-unfolding symbol_of
-symbol_of_face U = refl
-symbol_of_face D = refl
-symbol_of_face R = refl
-symbol_of_face L = refl
-symbol_of_face F = refl
-symbol_of_face B = refl
-
-pub symbol_of_lower : (f : Face) → symbol_of (lower_letter f) ≡ symbol.Base (base.LowerCase f)
-unfolding symbol_of
-symbol_of_lower U = refl
-symbol_of_lower D = refl
-symbol_of_lower R = refl
-symbol_of_lower L = refl
-symbol_of_lower F = refl
-symbol_of_lower B = refl
-
-pub symbol_of_slice : (l : Slice) → symbol_of (slice_letter l) ≡ symbol.Base (base.Slice l)
-unfolding symbol_of
-symbol_of_slice M = refl
-symbol_of_slice E = refl
-symbol_of_slice S = refl
-
-pub symbol_of_rotation : (a : Axis) → symbol_of (rotation_letter a) ≡ symbol.Base (base.Rotation a)
-unfolding symbol_of
-symbol_of_rotation Rl = refl
-symbol_of_rotation Ud = refl
-symbol_of_rotation Fb = refl
-
-symbol_of_blank : (b : Blank) → symbol_of (blank_byte b) ≡ symbol.Blank
-unfolding symbol_of
-symbol_of_blank Space = refl
-symbol_of_blank Tab = refl
-symbol_of_blank Return = refl
 
 -- a base is read
 begun_ready : (limit : ℕ) → (s : State) (byte : ℕ) (b : Base) → IsReady s.last → count (settled s) < limit → symbol_of byte ≡ symbol.Base b → step_within limit s byte ≡ Ok (counted (with_last (last.Bare b) (settled s)))

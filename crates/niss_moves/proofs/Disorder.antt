@@ -32,7 +32,7 @@ count_by-cons p t ts = sum_by-cons (λ x. cond (p x) 1 0) t ts
 disorder-cons : (t : Turn) (ts : List Turn) → disorder (t ∷ ts) ≡ count_by (are_disordered t) ts + disorder ts
 disorder-cons t ts = refl
 
--- one pair exchanged, behind the same turns
+-- one pair exchanged, after the same turns
 count_exchanged : (p : Turn → Bool) (front : List Turn) (t u : Turn) (rest : List Turn) → count_by p (front ++ u ∷ t ∷ rest) ≡ count_by p (front ++ t ∷ u ∷ rest)
 count_exchanged p [] t u rest =
     omega (arith, count_by-cons p u (t ∷ rest), count_by-cons p t rest, count_by-cons p t (u ∷ rest), count_by-cons p u rest)

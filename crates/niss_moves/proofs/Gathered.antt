@@ -1,4 +1,4 @@
--- Words gathered behind a text.
+-- Words gathered after a text.
 use Rattle.std.proofs.Common.{◌≡◌, ℕ, ◌+◌, ◌≤◌, Bool, true, false, cond, ap, sym, ◌∙◌, List, [], ◌∷◌, ◌++◌, length, take, drop, append_assoc, append-nil}
 use Rattle.std.proofs.Math.Seq.{take-append-add}
 use Rattle.std.proofs.lemmas.List.{take-append-le, length-take-le}
@@ -18,7 +18,7 @@ copied a k n xs ys h l =
 gap_behind : (old new : List ℕ) (t : Token) → new ≡ old ++ (32 ∷ word t) → gap new ≡ 32 ∷ []
 gap_behind old new t e = ap gap (e ∙ sym (append_assoc old (32 ∷ []) (word t))) ∙ gap_word (old ++ 32 ∷ []) t
 
--- A text and what is gathered after it, with these words behind it, is the first text with all of them.
+-- A text and what is gathered after it, with these words after it, is the first text with all of them.
 pub record Gathers (first : List ℕ) (all : List (List ℕ)) (text : List ℕ) (rest : List (List ℕ)) : Type 0 where
   pub gap : gap text ≡ 32 ∷ []
   pub items : with_words text rest ≡ with_words first all

@@ -67,7 +67,7 @@ after_rotation r h =
     let n = after_vertical m.0 h.vertical in
     (n.0, λ q. n.1 q ∙ ap (effect (about_vertical h.vertical)) (m.1 q) ∙ sym (effect-append (to_top h.top) (about_vertical h.vertical) (effect (spelling r) q)))
 
--- face turns behind a rotation
+-- face turns after a rotation
 turns_after : (a : Axis) (p : Power) (s : List Turn) (q : Place) → effect_of_turns s (moved_by (token.Rotation a p) q) ≡ moved_by (token.Rotation a p) (effect_of_turns (map (renamed_turn (face_before_power a p)) s) q)
 turns_after a p [] q = refl
 turns_after a p (t ∷ s) q =

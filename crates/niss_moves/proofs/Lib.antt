@@ -12,6 +12,7 @@ pub mod Disorder
 pub mod AllCanonical
 pub mod CallerLemmas
 pub mod SymbolTable
+pub mod Symbols
 pub mod Completes
 pub mod SameLetters
 pub mod Sound

@@ -80,7 +80,7 @@ pub pushed_rotation : (r : Rotation) (k : Token) (a : Axis) (p : Power) (old : L
 pushed_rotation r k a p old n is next =
     pushed r k old old n _ (ap expanded is) (pushes_rotation r a p n [] old old n next (pushes_none n old))
 
--- the same behind other turns
+-- the same after other turns
 pub pushed_more : (r : Rotation) (k : Token) (old turns new : List Turn) (n : Rotation) → new ≡ old ++ turns → Pushed r k [] turns n → Pushed r k old new n
 pushed_more r k old turns new n e h =
     record {

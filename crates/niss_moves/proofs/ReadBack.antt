@@ -66,7 +66,7 @@ item_inside : (t : Token) → item_bracketed (move_item t) ≡ []
 unfolding move_item
 item_inside t = refl
 
--- behind a word stands a space
+-- after a word stands a space
 gap_snoc : (a : List ℕ) (b : ℕ) → gap (a ++ b ∷ []) ≡ gap_after (Some b)
 gap_snoc a b =
     let n : length (a ++ b ∷ []) - 1 ≡ length a = omega (arith, length-append a (b ∷ [])) in

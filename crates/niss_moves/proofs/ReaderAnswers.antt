@@ -1,10 +1,9 @@
 -- What the reader's answers mean.
-use Rattle.std.proofs.Common.{◌≡◌, ℕ, ◌+◌, ◌-◌, ◌<◌, ◌≤◌, ◌↔◌, refl, ap, sym, ◌∙◌, subst, subst₂, List, [], ◌∷◌, ◌++◌, length, append_assoc, append-nil, Option, None, Some, Result, Ok, Err, IsOk, IfErr, IfOk, arith, inl, inr, length-append}
+use Rattle.std.proofs.Common.{◌≡◌, ℕ, ◌+◌, ◌-◌, ◌<◌, ◌≤◌, ◌↔◌, refl, ap, sym, ◌∙◌, subst, subst₂, List, [], ◌∷◌, ◌++◌, length, append_assoc, append-nil, Option, None, Some, Result, Ok, Err, IsOk, IfErr, arith, inl, inr, length-append}
 use Rattle.std.specs.Result.{result_err}
-use Rattle.std.proofs.Math.Path.{subst₃}
 use Rattle.niss_moves.specs.Line.{Moves, Spells, IsLine}
 use Rattle.niss_moves.specs.Faults.{Whole, cut_length, cut_ending, bracket_ending, CanContinue, Stops, Faults}
-use Rattle.niss_moves.specs.Machine.{State, start, settled, count, step, step_within, symbol_of, and_then, run, ended, ended_at, ended_in, answer, answer_after, state_of, state_or, outcome_of, HasRoom, HasRoomUnless, IsStep}
+use Rattle.niss_moves.specs.Machine.{State, start, settled, count, step, step_within, symbol_of, and_then, run, ended, ended_at, ended_in, answer_after, state_of, state_or, HasRoom, HasRoomUnless, IsStep}
 use Rattle.niss_moves.specs.Reader.{Reader, IsFed, line_with, read_line}
 use Rattle.niss_moves.specs.declared.token.Token.{Token}
 use Rattle.niss_moves.specs.declared.partial_line.PartialLine.{PartialLine}
@@ -16,6 +15,15 @@ use Rattle.niss_moves.proofs.Sound.{last_bytes, cut_of, is_open, long_enough}
 use Rattle.niss_moves.proofs.Whole.{reads_all, run_stops, ends_whole, lacks_bracket, lacks_apostrophe}
 use Rattle.niss_moves.proofs.OneFault.{fault_ended}
 use Rattle.niss_moves.proofs.Room.{room_kept}
+
+-- what a caller gets of an outcome
+abbrev pub answer : Result State ReadFault → Result (Unit {0}) ReadFault
+answer (Ok s) = Ok tt
+answer (Err f) = Err f
+
+-- the state of a line, or its fault
+abbrev pub outcome_of : Option ReadFault → PartialLine → Result State ReadFault
+outcome_of fault p = state_or fault (state_of p)
 
 -- the end of a line
 abbrev Final : List ℕ → Result Moves ReadFault → Type 0
@@ -194,14 +202,6 @@ told_line fault p bytes f e h = sym (line_end _ bytes h ∙ ap (λ o. ended (sta
 
 pub ended_line : (fault : Option ReadFault) (p : PartialLine) (bytes : List ℕ) → fault ≡ None → IsFed (record { fed = p.fed; fault = fault; so_far = state_of p }) bytes → ended_at p.last (state_of p) ≡ read_line bytes
 ended_line fault p bytes e h = sym (line_end _ bytes h ∙ ap (λ o. ended (state_or o (state_of p))) e)
-
-pub found_if : (bytes : List ℕ) (r : Result Moves ReadFault) → r ≡ read_line bytes → IfOk r (λ m. Spells bytes m.normal m.bracketed)
-found_if bytes (Ok m) e = line_spells bytes m (sym e)
-found_if bytes (Err f) e = tt
-
-pub fault_if : (bytes : List ℕ) (r : Result Moves ReadFault) → r ≡ read_line bytes → IfErr r (λ f. Faults bytes f)
-fault_if bytes (Ok m) e = tt
-fault_if bytes (Err f) e = line_faults bytes f (sym e)
 
 -- a byte fed to a reader
 pub record IsFedOn (fault : Option ReadFault) (p : PartialLine) (byte : ℕ) (next : Option ReadFault) (q : PartialLine) (result : Result (Unit {0}) ReadFault) : Type 0 where

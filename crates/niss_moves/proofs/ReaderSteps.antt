@@ -1,5 +1,5 @@
 -- The fields of a line as far as it is read, and its state.
-use Rattle.std.proofs.Common.{◌≡◌, ℕ, ◌+◌, Bool, refl, ap, sym, ◌∙◌, subst, Result, Ok, Err, MatchResult}
+use Rattle.std.proofs.Common.{◌≡◌, ℕ, Bool, refl, ap, sym, ◌∙◌, subst, Result, Ok, Err, MatchResult}
 use Rattle.niss_moves.specs.Notation.{token_of}
 use Rattle.niss_moves.specs.Machine.{State, symbol_of, added, settled, settled_by, apostrophe_power, primed, step_by, step_at, state_of, IsStep}
 use Rattle.niss_moves.specs.declared.turn.Power.TheVariants.{Quarter, Half, Counter}

@@ -2,7 +2,7 @@
 use Rattle.std.proofs.Common.{◌≡◌, ℕ, ◌+◌, ◌-◌, ◌<◌, ◌≤◌, Bool, true, false, cond, nat_lt, eqb, refl, subst, List, [], ◌∷◌, length, Option, None, Some, Result, Ok, Err, arith}
 use Rattle.std.proofs.lemmas.Bool.{ltb-true}
 use Rattle.niss_moves.specs.Notation.{token_of}
-use Rattle.niss_moves.specs.Machine.{symbol_of, State, outside, inside, settled, settled_by, opened, closed, begun, count, with_last, fed_to, step_by, step_at, step, step_within, HasRoom, HasRoomUnless, state_of}
+use Rattle.niss_moves.specs.Machine.{symbol_of, State, outside, inside, settled, settled_by, opened, closed, begun, count, with_last, fed_to, step_by, step_at, step, step_within, HasRoom, state_of}
 use Rattle.niss_moves.specs.declared.turn.Power.TheVariants.{Quarter, Half, Counter}
 use Rattle.niss_moves.specs.declared.token.Token.{Token}
 use Rattle.niss_moves.specs.declared.base.Base.{Base}

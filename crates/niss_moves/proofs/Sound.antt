@@ -3,10 +3,10 @@ use Rattle.std.proofs.Common.{◌≡◌, ℕ, ◌+◌, ◌-◌, ◌<◌, ◌≤�
 use Rattle.std.proofs.lemmas.Bool.{ltb-true, eqb-true}
 use Rattle.std.proofs.lemmas.List.Concat.{flat_map-append}
 use Rattle.niss_moves.specs.Letters.{face_letter}
-use Rattle.niss_moves.specs.Notation.{lower_letter, slice_letter, rotation_letter, token_of, base_bytes, Typographic, Plain, Suffix, Nothing, Two, Prime, TwoPrime, Blank, Space, Tab, Return, blank_byte}
+use Rattle.niss_moves.specs.Notation.{token_of, base_bytes, Typographic, Plain, Suffix, Nothing, Two, Prime, TwoPrime, blank_byte}
 use Rattle.niss_moves.specs.Line.{Piece, Gap, Spelled, piece_bytes, piece_moves, Item, Outside, Bracket, item_bytes, item_normal, item_bracketed}
 use Rattle.niss_moves.specs.Faults.{Cut, Whole, LacksOne, LacksTwo, cut_ending, BeginsBase}
-use Rattle.niss_moves.specs.Machine.{Entry, bytes_of_a_line, look_up, symbol_of, State, start, outside, inside, added, settled, settled_by, opened, closed, widened, doubled, primed, cut, begun, count, with_last, fed_to, step_by, step_at, step, step_within}
+use Rattle.niss_moves.specs.Machine.{symbol_of, State, start, outside, inside, added, settled, settled_by, opened, closed, widened, doubled, primed, cut, begun, count, with_last, fed_to, step_by, step_at, step, step_within}
 use Rattle.niss_moves.specs.declared.turn.Power.TheVariants.{Quarter, Half, Counter}
 use Rattle.niss_moves.specs.declared.token.Token.{Token}
 use Rattle.niss_moves.specs.declared.base.Base.{Base}
@@ -17,44 +17,8 @@ use Rattle.niss_moves.specs.declared.symbol.Symbol.{Symbol}
 use Rattle.niss_moves.specs.declared.symbol.Symbol.TheVariants as symbol
 use Rattle.niss_moves.specs.declared.fault.ReadFault.{ReadFault}
 use Rattle.niss_moves.specs.declared.fault.ReadFault.TheVariants.{NotAMove, Nested, Unopened, Unclosed, TooLong}
-use Rattle.niss_moves.proofs.Completes.{IsReady, counted, count_more, outside_none, inside_none, symbol_of_face, symbol_of_lower, symbol_of_slice, symbol_of_rotation}
-
--- what a kind says of its byte
-abbrev pub IsSymbol : Symbol → ℕ → Type 0
-IsSymbol symbol.Blank b = (x : Blank) × (b ≡ blank_byte x)
-IsSymbol symbol.Open b = b ≡ 40
-IsSymbol symbol.Close b = b ≡ 41
-IsSymbol (symbol.Base x) b = (base_bytes x ≡ b ∷ [])
-IsSymbol symbol.Wide b = b ≡ 119
-IsSymbol symbol.Two b = b ≡ 50
-IsSymbol symbol.Apostrophe b = b ≡ 39
-IsSymbol symbol.Cut b = b ≡ 0xE2
-IsSymbol symbol.Other b = Unit {0}
-
-abbrev IsTable : List Entry → Type 0
-IsTable [] = Unit {0}
-IsTable (e ∷ es) = IsSymbol e.symbol e.byte × IsTable es
-
-look_up_is : (es : List Entry) → IsTable es → (b : ℕ) → IsSymbol (look_up es b) b
-look_up_is [] h b = tt
-look_up_is (e ∷ es) h b = chosen (eqb b e.byte) refl (look_up_is es h.1 b)
-  where
-    chosen : (c : Bool) → eqb b e.byte ≡ c → IsSymbol (look_up es b) b → IsSymbol (cond c e.symbol (look_up es b)) b
-    chosen true q k = subst (λ (x : ℕ). IsSymbol e.symbol x) (sym (eqb-true b e.byte q)) h.0
-    chosen false q k = k
-
-table : IsTable bytes_of_a_line
-table = ((Space, refl), ((Tab, refl), ((Return, refl), (refl, (refl, (refl, (refl, (refl, (refl, (refl, (refl, (refl, (refl, (refl, (refl, (refl, (refl, (refl, (refl, (refl, (refl, (refl, (refl, (refl, (refl, (refl, (refl, tt)))))))))))))))))))))))))))
-
-pub symbol_is : (b : ℕ) → IsSymbol (symbol_of b) b
-unfolding symbol_of
-symbol_is b = look_up_is bytes_of_a_line table b
-
-pub base_is : (byte : ℕ) (b : Base) → symbol_of byte ≡ symbol.Base b → base_bytes b ≡ byte ∷ []
-base_is byte b e = subst (λ (x : Symbol). IsSymbol x byte) e (symbol_is byte)
-
-pub blank_is : (byte : ℕ) → symbol_of byte ≡ symbol.Blank → (x : Blank) × (byte ≡ blank_byte x)
-blank_is byte e = subst (λ (x : Symbol). IsSymbol x byte) e (symbol_is byte)
+use Rattle.niss_moves.proofs.Completes.{IsReady, counted, count_more, outside_none, inside_none}
+use Rattle.niss_moves.proofs.Symbols.{IsSymbol, symbol_is, symbol_of_open, symbol_of_close, first_symbol}
 
 -- the bytes so far as whole items, and an open bracket with its pieces if there is one
 abbrev pub front_bytes : List Item → Option (List Piece) → List ℕ
@@ -216,7 +180,7 @@ abbrev pub is_open : Option ℕ → Bool
 is_open None = false
 is_open (Some c) = true
 
--- what a refused byte means, behind n bytes
+-- what a refused byte means, after n bytes
 abbrev pub Refusal : Cut → Bool → ℕ → ℕ → ReadFault → Type 0
 Refusal Whole o byte n (NotAMove c) =
     (c ≡ n + 1) × ((byte ≡ 40) × (o ≡ true) → ⊥) × ((byte ≡ 41) × (o ≡ false) → ⊥) × (BeginsBase byte → ⊥)
@@ -240,21 +204,6 @@ IsFollower symbol.Apostrophe = Unit {0}
 IsFollower symbol.Cut = Unit {0}
 IsFollower symbol.Other = Unit {0}
 IsFollower _ = ⊥
-
-pub symbol_of_open : symbol_of 40 ≡ symbol.Open
-unfolding symbol_of
-symbol_of_open = refl
-
-pub symbol_of_close : symbol_of 41 ≡ symbol.Close
-unfolding symbol_of
-symbol_of_close = refl
-
-pub first_symbol : (b : Base) (byte : ℕ) (more : List ℕ) → base_bytes b ≡ byte ∷ more → (x : Base) × (symbol_of byte ≡ symbol.Base x)
-first_symbol (base.Face f) byte more e = let q : face_letter f ≡ byte = cc in (base.Face f, ap symbol_of (sym q) ∙ symbol_of_face f)
-first_symbol (base.Wide f) byte more e = let q : face_letter f ≡ byte = cc in (base.Face f, ap symbol_of (sym q) ∙ symbol_of_face f)
-first_symbol (base.LowerCase f) byte more e = let q : lower_letter f ≡ byte = cc in (base.LowerCase f, ap symbol_of (sym q) ∙ symbol_of_lower f)
-first_symbol (base.Slice l) byte more e = let q : slice_letter l ≡ byte = cc in (base.Slice l, ap symbol_of (sym q) ∙ symbol_of_slice l)
-first_symbol (base.Rotation a) byte more e = let q : rotation_letter a ≡ byte = cc in (base.Rotation a, ap symbol_of (sym q) ∙ symbol_of_rotation a)
 
 told_other : (o : Bool) (byte n k : ℕ) (x : Symbol) → symbol_of byte ≡ x → IsFollower x → k ≡ n → Refusal Whole o byte n (NotAMove (k + 1))
 told_other o byte n k x e f q =
@@ -410,7 +359,7 @@ second_means n b o f two k bytes byte h = chosen (eqb byte 0x99) refl
         front_reads _ _ (subst (λ (z : ℕ). WholeItems o (bytes ++ z ∷ []) (settled (state n b o (last.SecondByte f two) k)).normal (settled (state n b o (last.SecondByte f two) k)).bracketed) (sym (eqb-true _ _ e)) (settled_front _ bytes h)) refl (fed_more _ _ _ h.fed) h.room
     chosen false e = let long = long_enough h.front [] two f bytes h.bytes_are in omega (arith, h.fed)
 
--- A step on keeps what the state stands for, or tells what the byte is.
+-- A step keeps what the state stands for, or refuses the byte by what it is.
 pub step_means : (s : State) (bytes : List ℕ) (byte : ℕ) → Reads s bytes → Outcome (cut_of s.last) (is_open s.bracket) bytes byte (step s byte)
 unfolding step_within state
 step_means s bytes byte h = by_last s.normal s.bracketed s.bracket s.last s.fed h

@@ -1,5 +1,5 @@
 -- What a move that is read at once does.
-use Rattle.std.proofs.Common.{◌≡◌, ℕ, ◌+◌, ◌<◌, ◌≤◌, refl, ap, sym, ◌∙◌, subst, List, [], ◌∷◌, ◌++◌, length, take, take-add, drop, get_or, append_assoc, Result, Ok, Err, Option, None, arith, length-append, inl, inr, ap₂}
+use Rattle.std.proofs.Common.{◌≡◌, ℕ, ◌+◌, ◌<◌, refl, ap, sym, ◌∙◌, subst, List, [], ◌∷◌, ◌++◌, length, take, take-add, drop, get_or, append_assoc, Result, Ok, Option, None, arith, length-append, inl, inr, ap₂}
 use mir.Val.{bool_byte}
 use Rattle.std.proofs.lemmas.List.{take_more}
 use Rattle.std.specs.Prelude.{◌==◌, ◌*◌, nat_lt, not, Bool, true, false}
@@ -7,8 +7,8 @@ use Rattle.niss_moves.specs.Letters.{face_letter}
 use Rattle.niss_moves.proofs.Logic.{not_true}
 use Rattle.niss_moves.proofs.Finite.{every_face, at_face, every_slice, at_slice, every_axis, at_axis}
 use Rattle.std.proofs.lemmas.Bool.{lt-ltb, eqb-true}
-use Rattle.niss_moves.specs.Notation.{token_of, lower_letter, slice_letter, rotation_letter, base_bytes, Apostrophe, Plain, Typographic, apostrophe_bytes, Suffix, Nothing, Two, Prime, TwoPrime, suffix_bytes, suffix_power, Blank, Space, Tab, Return, blank_byte}
-use Rattle.niss_moves.specs.Machine.{State, state_of, HasRoom, outcome_of, added, settled, settled_by, count, run, and_then, ended, answer_after}
+use Rattle.niss_moves.specs.Notation.{token_of, lower_letter, slice_letter, rotation_letter, base_bytes, Plain, Typographic, Suffix, Nothing, Two, Prime, TwoPrime, suffix_bytes, Blank, Space, Tab, Return, blank_byte}
+use Rattle.niss_moves.specs.Machine.{State, state_of, HasRoom, added, settled, settled_by, count, run, and_then, ended, answer_after}
 use Rattle.niss_moves.specs.Reader.{IsFed, line_with, read_line}
 use Rattle.niss_moves.specs.WholeMoves.{IsSuffix, IsMove, BeginsApostrophe, HasNoLineFeed}
 use Rattle.niss_moves.specs.declared.base.Base.{Base}
@@ -17,22 +17,15 @@ use Rattle.niss_moves.specs.declared.turn.Power.{Power}
 use Rattle.niss_moves.specs.declared.turn.Power.TheVariants.{Quarter, Half, Counter}
 use Rattle.niss_moves.specs.declared.token.Token.{Token}
 use Rattle.niss_moves.specs.declared.partial_line.PartialLine.{PartialLine}
-use Rattle.niss_moves.specs.declared.partial_line.LastMove.{LastMove}
 use Rattle.niss_moves.specs.declared.partial_line.LastMove.TheVariants as last
 use Rattle.niss_moves.specs.declared.fault.ReadFault.{ReadFault}
 use Rattle.niss_moves.proofs.Completes.{IsReady, count_more, and_then-assoc, run-append, at_fed, run_move}
-use Rattle.niss_moves.proofs.ReaderAnswers.{IsOutcome}
+use Rattle.niss_moves.proofs.ReaderAnswers.{outcome_of, IsOutcome}
 
 -- the first bytes
 pub take_one : (bytes : List ℕ) (x : ℕ) → 0 < length bytes → get_or bytes 0 0 ≡ x → take 1 bytes ≡ x ∷ []
 take_one [] x lt e = absurd (omega arith)
 take_one (a ∷ bytes) x lt e = ap (λ y. y ∷ []) e
-
-pub take_three : (bytes : List ℕ) (x y z : ℕ) → 2 < length bytes → get_or bytes 0 0 ≡ x → get_or bytes 1 0 ≡ y → get_or bytes 2 0 ≡ z → take 3 bytes ≡ x ∷ y ∷ z ∷ []
-take_three [] x y z lt e f g = absurd (omega arith)
-take_three (a ∷ []) x y z lt e f g = absurd (omega arith)
-take_three (a ∷ b ∷ []) x y z lt e f g = absurd (omega arith)
-take_three (a ∷ b ∷ c ∷ bytes) x y z lt e f g = λ i. e i ∷ f i ∷ g i ∷ []
 
 -- a suffix, by whether a `2` stands there and how long the apostrophe after it is
 pub suffix_at : (two : Bool) (bytes : List ℕ) (n : ℕ) → 0 < length bytes → (get_or bytes 0 0 == 50) ≡ two → BeginsApostrophe (drop (bool_byte two) bytes) n
@@ -58,7 +51,7 @@ move_at bytes b power i k blank t base suffix lt is token =
       token_is = token ∙ ap (token_of b) suffix.power_is;
     }
 
--- the outcome behind more bytes
+-- the outcome after more bytes
 pub outcome_of_run : (r next : Result State ReadFault) (bytes xs : List ℕ) → next ≡ and_then r (λ s. run s xs) → IsOutcome r bytes → IsOutcome next (bytes ++ xs)
 outcome_of_run r next bytes xs e h more =
     ap (λ r. answer_after r more) e ∙ ap ended (sym (and_then-assoc r (λ s. run s xs) (λ s. run s more) (λ s. run s (xs ++ more)) (λ t. run-append 256 t xs more))) ∙ h (xs ++ more) ∙ ap read_line (sym (append_assoc bytes xs more))

@@ -13,7 +13,7 @@ turn_words ts = map (λ t. word (token.Face t)) ts
 abbrev pub rotation_words : Rotation → List (List ℕ)
 rotation_words r = map word (spelling r)
 
--- face turns and the rotation behind them
+-- face turns and the rotation after them
 abbrev pub cleaned_words : List Turn → Rotation → List (List ℕ)
 cleaned_words ts r = turn_words ts ++ rotation_words r
 

@@ -24,15 +24,15 @@ PlacesDiffer = AllPairs (λ p q. p ≢ q) places
 abbrev pub PlacesAre54 : Type 0
 PlacesAre54 = length places ≡ 54
 
--- The inverse of a sequence, made behind it, brings each place back.
+-- The inverse of a sequence, made after it, brings each place back.
 abbrev pub InverseUndoes : Type 0
 InverseUndoes = (s : List Token) (q : Place) → effect (inverse s) (effect s q) ≡ q
 
--- So does a sequence behind its inverse.
+-- So does a sequence after its inverse.
 abbrev pub InverseIsUndone : Type 0
 InverseIsUndone = (s : List Token) (q : Place) → effect s (effect (inverse s) q) ≡ q
 
--- The effect of two sequences, one behind the other, is the effect of the first and then that of the second.
+-- The effect of two sequences, one after the other, is the effect of the first and then that of the second.
 abbrev pub EffectsCompose : Type 0
 EffectsCompose = (s t : List Token) (q : Place) → effect (s ++ t) q ≡ effect t (effect s q)
 

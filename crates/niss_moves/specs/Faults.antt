@@ -56,7 +56,7 @@ abbrev pub has_no_bracket : List ℕ → Bool
 has_no_bracket [] = true
 has_no_bracket (b ∷ bs) = not (b == 40 || b == 41) && has_no_bracket bs
 
--- the column of the last opening bracket, with no bracket behind it
+-- the column of the last opening bracket, with no bracket after it
 abbrev pub OpensAt : List ℕ → ℕ → Type 0
 OpensAt bytes column =
     (front : List ℕ) × (rest : List ℕ) × (bytes ≡ front ++ 40 ∷ rest) × IsTrue (has_no_bracket rest) × (column ≡ length front + 1)

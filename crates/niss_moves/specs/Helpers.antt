@@ -16,7 +16,7 @@ use Rattle.niss_moves.specs.declared.faces.MoveTurns.TheVariants.{NoTurn, One, T
 abbrev pub is_beside : Face → Face → Bool
 is_beside f g = not (same_face f g) && not (same_face (opposite f) g)
 
--- one turn behind another: their sum where they are of one face, and else both
+-- one turn after another: their sum where they are of one face, and else both
 abbrev pub pair_of_turns : Turn → Turn → List Turn
 pair_of_turns t u = if same_face t.face u.face then sum_of_turns t u else t ∷ u ∷ []
 

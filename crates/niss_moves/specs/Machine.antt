@@ -1,5 +1,5 @@
 -- The steps by which a line is read, byte by byte. What a line is and which fault it has is said by Line and Faults, and
--- a caller needs no more: these steps stand behind `read_line` and, as what a reader holds, behind `IsFed`.
+-- a caller needs no more: `read_line` is made of these steps, and `IsFed` of what a reader holds.
 use Rattle.std.specs.Prelude.{ℕ, ◌+◌, ◌-◌, ◌≤◌, Bool, true, false, if◌then◌else◌, ◌==◌, nat_lt, List, [], ◌∷◌, ◌++◌, length, map, Option, None, Some, Result, Ok, Err, MatchResult, ◌≡◌}
 use Rattle.niss_moves.specs.Letters.{face_letter}
 use Rattle.niss_moves.specs.Notation.{token_of, lower_letter, slice_letter, rotation_letter, blank_byte, Space, Tab, Return}
@@ -72,7 +72,7 @@ abbrev pub added : State → Token → State
 added s t =
     record s { normal = outside s.bracket s.normal (t ∷ []); bracketed = inside s.bracket s.bracketed (t ∷ []); last = last.Finished }
 
--- the power of a move that ends in an apostrophe, behind a `2` or not
+-- the power of a move that ends in an apostrophe, after a `2` or not
 abbrev pub apostrophe_power : Bool → Power
 apostrophe_power true = Half
 apostrophe_power false = Counter
@@ -190,18 +190,10 @@ abbrev pub state_or : Option ReadFault → State → Result State ReadFault
 state_or None s = Ok s
 state_or (Some f) s = Err f
 
--- the state of a line, or the fault that was told
-abbrev pub outcome_of : Option ReadFault → PartialLine → Result State ReadFault
-outcome_of fault p = state_or fault (state_of p)
-
--- A state has room, unless a fault was told.
+-- A state has room, unless there was a fault.
 abbrev pub HasRoomUnless : Option ReadFault → State → Type 0
 HasRoomUnless None s = HasRoom s
 HasRoomUnless (Some f) s = Unit {0}
-
-abbrev pub answer : Result State ReadFault → Result (Unit {0}) ReadFault
-answer (Ok s) = Ok tt
-answer (Err f) = Err f
 
 abbrev pub ended_in : Option ℕ → State → Result Moves ReadFault
 ended_in None s = Ok (record { normal = (settled s).normal; bracketed = (settled s).bracketed })
@@ -222,6 +214,6 @@ abbrev pub moves_if : Result (Unit {0}) ReadFault → Moves → Result Moves Rea
 moves_if (Ok u) m = Ok m
 moves_if (Err f) m = Err f
 
--- what the line is, with these bytes behind those that were fed
+-- what the line is, with these bytes after those that were fed
 abbrev pub answer_after : Result State ReadFault → List ℕ → Result Moves ReadFault
 answer_after r bytes = ended (and_then r (λ s. run s bytes))

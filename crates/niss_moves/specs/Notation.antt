@@ -60,7 +60,7 @@ abbrev pub apostrophe_bytes : Apostrophe → List ℕ
 apostrophe_bytes Plain = 39 ∷ []
 apostrophe_bytes Typographic = 0xE2 ∷ 0x80 ∷ 0x99 ∷ []
 
--- what may stand behind a base: nothing, `2`, an apostrophe, `2` and an apostrophe
+-- what may stand after a base: nothing, `2`, an apostrophe, `2` and an apostrophe
 pub data Suffix : Type 0 where
   Nothing : Suffix
   Two : Suffix

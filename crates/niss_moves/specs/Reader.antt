@@ -9,7 +9,7 @@ use Rattle.niss_moves.specs.declared.fault.ReadFault.{ReadFault}
 unfoldable pub read_line : List ℕ → Result Moves ReadFault
 read_line bytes = answer_after (Ok start) bytes
 
--- a reader: how many bytes were fed, the fault that was told, and what is read so far
+-- a reader: how many bytes were fed, the fault of these, and what is read so far
 pub record Reader : Type 0 where
   pub fed : ℕ
   pub fault : Option ReadFault
@@ -19,7 +19,7 @@ pub record Reader : Type 0 where
 abbrev pub moves_of : Reader → Moves
 moves_of reader = record { normal = reader.so_far.normal; bracketed = reader.so_far.bracketed }
 
--- the line of what a reader was fed and of these bytes behind it
+-- the line of what a reader was fed and of these bytes after it
 unfoldable pub line_with : Reader → List ℕ → Result Moves ReadFault
 line_with reader more = answer_after (state_or reader.fault reader.so_far) more
 

@@ -1,4 +1,4 @@
--- The 24 rotations of the whole cube: their one spelling, and how they rename the face turns behind them.
+-- The 24 rotations of the whole cube: their one spelling, and how they rename the face turns after them.
 use Rattle.std.specs.Prelude.{◌≡◌, List, [], ◌∷◌, ◌++◌, Option, None, Some}
 use Rattle.niss_moves.specs.Effects.{effect}
 use Rattle.niss_moves.specs.Facelets.{centre}

@@ -2,6 +2,7 @@
 ghost use Rattle.niss_moves.specs.EffectLaws.{PlacesStay, PlacesAreListed, PlacesDiffer, PlacesAre54, InverseUndoes, InverseIsUndone, EffectsCompose, TurnsAreMoves, OneMeaning, SameLetters};
 
 /// A move brings places to places.
+#[tactic(auto, using(crate::proofs::Stays::places_stay))]
 pub fn places_stay()
     ensures { PlacesStay }
 {}
@@ -14,11 +15,13 @@ pub fn places_are_listed()
 {}
 
 /// The inverse of a sequence, made after it, brings each place back.
+#[tactic(auto, using(crate::proofs::Inverses::inverse_after))]
 pub fn inverse_undoes()
     ensures { InverseUndoes }
 {}
 
 /// A sequence, made after its inverse, brings each place back.
+#[tactic(auto, using(crate::proofs::Inverses::inverse_before))]
 pub fn inverse_is_undone()
     ensures { InverseIsUndone }
 {}
@@ -29,6 +32,7 @@ pub fn effects_compose()
 {}
 
 /// Face turns have one effect, by themselves and as moves of a line.
+#[tactic(auto, using(crate::proofs::WholeEffect::turns_are_moves))]
 pub fn turns_are_moves()
     ensures { TurnsAreMoves }
 {}
@@ -39,6 +43,7 @@ pub fn one_meaning()
 {}
 
 /// Maps that are the same on the 54 places have the same facelet text.
+#[tactic(auto, using(crate::proofs::SameLetters::same_letters))]
 pub fn same_letters()
     ensures { SameLetters }
 {}

@@ -24,18 +24,6 @@ pub enum LastMove {
     SecondByte(Base, bool),
 }
 
-impl LastMove {
-    ghost use Rattle.std.specs.Prelude.{◌≡◌};
-    ghost use Rattle.niss_moves.specs.Machine.{apostrophe_power};
-
-    /// The power of a move that ends in an apostrophe, after a `2` or not.
-    fn apostrophe_power(two: bool) -> Power
-        ensures { result ≡ apostrophe_power two }
-    {
-        if two { Power::Half } else { Power::Counter }
-    }
-}
-
 /// What is read so far: the whole moves, the column of the open bracket, the last move as far as it goes, and how many bytes
 /// were fed.
 #[derive(Drop)]
@@ -51,7 +39,7 @@ impl PartialLine {
     ghost use Rattle.std.specs.Prelude.{◌≡◌, ◌+◌, ◌-◌, ◌<◌, ◌≤◌, Ok, length, take};
     ghost use Rattle.niss_moves.specs.WholeMoves.{HasNoLineFeed};
     ghost use Rattle.niss_moves.specs.declared.fault.ReadFault.TheVariants.{NotAMove};
-    ghost use Rattle.niss_moves.specs.Machine.{start, added, settled, opened, closed, begun, widened, doubled, primed, cut, step_at, step_by, step, run, ended, moves_if, state_of, IsStep, HasRoom};
+    ghost use Rattle.niss_moves.specs.Machine.{start, apostrophe_power, added, settled, opened, closed, begun, widened, doubled, primed, cut, step_at, step_by, step, run, ended, moves_if, state_of, IsStep, HasRoom};
 
     /// The line before its first byte.
     pub fn new() -> PartialLine
@@ -123,6 +111,14 @@ impl PartialLine {
             }
             _ => self.step_by(symbol_of(byte)),
         }
+    }
+
+    /// The fault of a byte that can't go on here.
+    fn not_a_move(&self) -> ReadFault
+        ensures { result ≡ NotAMove (self.now.fed + 1) }
+    {
+        let column = self.column();
+        ReadFault::NotAMove { column }
     }
 
     /// The fault of a U+2019 that is cut after two bytes. So at least two were fed.
@@ -223,7 +219,7 @@ impl PartialLine {
             Symbol::Two => self.double(),
             Symbol::Apostrophe => self.finish_move(),
             Symbol::Cut => self.cut_apostrophe(),
-            Symbol::Other => Err(ReadFault::NotAMove { column: self.column() }),
+            Symbol::Other => Err(self.not_a_move()),
         }
     }
 
@@ -231,11 +227,12 @@ impl PartialLine {
         requires { HasRoom (state_of self.old) }
         ensures { IsStep (λ s. opened s.bracket s) self.old result self.new }
     {
+        let column = self.column();
         if self.bracket.is_some() {
-            return Err(ReadFault::Nested { column: self.column() });
+            return Err(ReadFault::Nested { column });
         }
         self.settle();
-        self.bracket = Some(self.column());
+        self.bracket = Some(column);
         Ok(())
     }
 
@@ -244,7 +241,8 @@ impl PartialLine {
         ensures { IsStep (λ s. closed s.bracket s) self.old result self.new }
     {
         if self.bracket.is_none() {
-            return Err(ReadFault::Unopened { column: self.column() });
+            let column = self.column();
+            return Err(ReadFault::Unopened { column });
         }
         self.settle();
         self.bracket = None;
@@ -257,7 +255,8 @@ impl PartialLine {
     {
         self.settle();
         if self.niss.len() >= 256 {
-            return Err(ReadFault::TooLong { column: self.column() });
+            let column = self.column();
+            return Err(ReadFault::TooLong { column });
         }
         self.last = LastMove::Bare(base);
         Ok(())
@@ -267,7 +266,7 @@ impl PartialLine {
         ensures { IsStep (λ s. widened s.last s) self.old result self.new }
     {
         let LastMove::Bare(Base::Face(face)) = self.last else {
-            return Err(ReadFault::NotAMove { column: self.column() });
+            return Err(self.not_a_move());
         };
         self.last = LastMove::Bare(Base::Wide(face));
         Ok(())
@@ -277,7 +276,7 @@ impl PartialLine {
         ensures { IsStep (λ s. doubled s.last s) self.old result self.new }
     {
         let LastMove::Bare(base) = self.last else {
-            return Err(ReadFault::NotAMove { column: self.column() });
+            return Err(self.not_a_move());
         };
         self.last = LastMove::Doubled(base);
         Ok(())
@@ -291,7 +290,7 @@ impl PartialLine {
         match self.last {
             LastMove::Bare(base) => self.push(base.token(Power::Counter)),
             LastMove::Doubled(base) => self.push(base.token(Power::Half)),
-            _ => return Err(ReadFault::NotAMove { column: self.column() }),
+            _ => return Err(self.not_a_move()),
         }
         Ok(())
     }
@@ -303,9 +302,16 @@ impl PartialLine {
         self.last = match self.last {
             LastMove::Bare(base) => LastMove::FirstByte(base, false),
             LastMove::Doubled(base) => LastMove::FirstByte(base, true),
-            _ => return Err(ReadFault::NotAMove { column: self.column() }),
+            _ => return Err(self.not_a_move()),
         };
         Ok(())
+    }
+
+    /// The power of a move that ends in an apostrophe, after a `2` or not.
+    fn apostrophe_power(two: bool) -> Power
+        ensures { result ≡ apostrophe_power two }
+    {
+        if two { Power::Half } else { Power::Counter }
     }
 
     /// Makes the last move whole.
@@ -318,10 +324,10 @@ impl PartialLine {
             LastMove::Finished => {}
             LastMove::Bare(base) => self.push(base.token(Power::Quarter)),
             LastMove::Doubled(base) => self.push(base.token(Power::Half)),
-            // not reached: whatever follows but the second byte is a fault
-            LastMove::FirstByte(base, two) => self.push(base.token(LastMove::apostrophe_power(two))),
+            // never reached: whatever follows the first byte, but for the second, is a fault
+            LastMove::FirstByte(base, two) => self.push(base.token(Self::apostrophe_power(two))),
             // reached by the third byte alone
-            LastMove::SecondByte(base, two) => self.push(base.token(LastMove::apostrophe_power(two))),
+            LastMove::SecondByte(base, two) => self.push(base.token(Self::apostrophe_power(two))),
         }
     }
 
@@ -330,6 +336,7 @@ impl PartialLine {
         requires { length self.old.niss.normal + length self.old.niss.bracketed < 256 }
         ensures { state_of self.new ≡ added (state_of self.old) token }
     {
+        let column = self.column();
         if self.bracket.is_some() {
             self.niss.push_bracketed(token);
         } else {

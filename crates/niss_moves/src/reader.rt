@@ -1,9 +1,6 @@
 //! Lines read byte by byte.
-ghost use Rattle.std.specs.Prelude.{◌≡◌, ◌+◌, ◌≤◌, List, length, IfOk, IfErr, Ok};
-ghost use Rattle.niss_moves.specs.Line.{Spells};
-ghost use Rattle.niss_moves.specs.Faults.{Faults};
+ghost use Rattle.std.specs.Prelude.{◌≡◌, ◌≤◌, length};
 ghost use Rattle.niss_moves.specs.Reader.{read_line};
-ghost use Rattle.niss_moves.specs.declared.token.Token.{Token};
 
 use crate::fault::ReadFault;
 use crate::niss::Niss;
@@ -29,13 +26,11 @@ impl Model for LineReader {
 }
 
 impl LineReader {
-    ghost use Rattle.std.specs.Prelude.{◌≡◌, ℕ, ◌+◌, ◌<◌, ◌≤◌, ◌↔◌, List, [], ◌∷◌, ◌++◌, length, take, IsOk, IfOk, IfErr, MatchResult, Ok, Err, None, Some};
-    ghost use Rattle.niss_moves.specs.Line.{Spells};
-    ghost use Rattle.niss_moves.specs.Faults.{CanContinue, Stops, Faults};
+    ghost use Rattle.std.specs.Prelude.{◌≡◌, ℕ, ◌+◌, ◌<◌, ◌≤◌, ◌↔◌, List, [], ◌∷◌, ◌++◌, length, take, IsOk, IfErr, MatchResult, Err, None, Some};
+    ghost use Rattle.niss_moves.specs.Faults.{CanContinue, Stops};
     ghost use Rattle.niss_moves.specs.WholeMoves.{HasNoLineFeed};
     ghost use Rattle.niss_moves.specs.Machine.{moves_if};
     ghost use Rattle.niss_moves.specs.Reader.{IsFed, read_line, moves_of};
-    ghost use Rattle.niss_moves.specs.declared.token.Token.{Token};
     ghost use Rattle.niss_moves.specs.declared.fault.ReadFault.{ReadFault};
 
     /// A reader before the first byte of a line.
@@ -131,16 +126,9 @@ impl LineReader {
         self.fault = None;
     }
 
-    /// The line that the bytes spell, or its fault.
+    /// The line that the bytes spell, or its fault: `read_line`, of which the law `line_is_read` says which it is.
     pub fn finish(self) -> Result<Niss, ReadFault>
         ensures value { (bytes : List ℕ) → IsFed self bytes → result ≡ read_line bytes }
-        ensures found { (bytes : List ℕ) → IsFed self bytes →
-            IfOk result (λ n. Spells bytes n.normal n.bracketed) }
-        ensures fits { IfOk result (λ n. length n.normal + length n.bracketed ≤ 256) }
-        ensures only { (bytes : List ℕ) (n b : List Token) → IsFed self bytes →
-            Spells bytes n b → length n + length b ≤ 256 →
-            result ≡ Ok (record { normal = n; bracketed = b }) }
-        ensures fault { (bytes : List ℕ) → IsFed self bytes → IfErr result (λ f. Faults bytes f) }
         ensures again { (f : ReadFault) → self.fault ≡ Some f → result ≡ Err f }
     {
         match self.fault {
@@ -150,19 +138,15 @@ impl LineReader {
     }
 }
 
-/// The line that the bytes spell, or its fault. There may be at most 16,777,216 bytes.
+/// The line that the bytes spell, or its fault: `read_line`, of which the law `line_is_read` says which it is. There may be
+/// at most 16,777,216 bytes.
 pub fn read(bytes: &[u8]) -> Result<Niss, ReadFault>
     requires { length bytes.now ≤ 16777216 }
     ensures value { result ≡ read_line bytes.now }
-    ensures found { IfOk result (λ n. Spells bytes.now n.normal n.bracketed) }
-    ensures fits { IfOk result (λ n. length n.normal + length n.bracketed ≤ 256) }
-    ensures only { (n b : List Token) → Spells bytes.now n b → length n + length b ≤ 256 →
-        result ≡ Ok (record { normal = n; bracketed = b }) }
-    ensures fault { IfErr result (λ f. Faults bytes.now f) }
 {
     let mut reader = LineReader::new();
     for byte in bytes {
-        // A fault is told again at the end.
+        // A fault comes again at the end.
         let _ = reader.feed(*byte);
     }
     reader.finish()

@@ -24,11 +24,13 @@ pub fn one_ending()
 {}
 
 /// Moves written with single spaces, as by `put_tokens`, are read as normal moves, and no bracketed ones.
+#[tactic(auto, using(crate::proofs::ReadBack::words_are_read))]
 pub fn words_are_read()
     ensures { WordsAreRead }
 {}
 
 /// Moves are written, as by `put_tokens`, with one space between each two words.
+#[tactic(auto, using(crate::proofs::ReadBack::words_are_joined))]
 pub fn words_are_joined()
     ensures { WordsAreJoined }
 {}

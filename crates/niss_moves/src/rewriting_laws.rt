@@ -3,11 +3,13 @@ ghost use Rattle.niss_moves.specs.RewritingLaws.{OneSpelling, ExpandsAlike, Rena
 ghost use Rattle.niss_moves.specs.CleanedLine.{CleanTurnsAreClean, RotationIsLeft};
 
 /// Two rotations that move the six centres alike are one. So each of the 24 has one spelling.
+#[tactic(auto, using(crate::proofs::OneSpelling::one_spelling))]
 pub fn one_spelling()
     ensures { OneSpelling }
 {}
 
 /// Wide turns and slices have the effect of the face turns and rotations to which they are expanded.
+#[tactic(auto, using(crate::proofs::Expansions::effect_of_expanded))]
 pub fn expands_alike()
     ensures { ExpandsAlike }
 {}
@@ -39,6 +41,7 @@ pub fn canonical_members()
 {}
 
 /// A canonical sequence goes on canonically by the turns that `allowed` lets stand after its last one.
+#[tactic(auto, using(crate::proofs::AllCanonical::canonical_grows))]
 pub fn canonical_grows()
     ensures { CanonicalGrows }
 {}

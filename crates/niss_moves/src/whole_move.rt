@@ -1,5 +1,5 @@
 //! Moves that are read at once, each with the blank after it, as most are written.
-ghost use Rattle.std.specs.Prelude.{◌≡◌, ◌+◌, ◌≤◌, ◌<◌, IfSome, length, take};
+ghost use Rattle.std.specs.Prelude.{◌≡◌, ◌+◌, ◌≤◌, ◌<◌, IfSome, length, take, slice_index, if◌then◌else◌};
 ghost use Rattle.niss_moves.specs.Notation.{base_bytes};
 ghost use Rattle.niss_moves.specs.WholeMoves.{BeginsApostrophe, IsSuffix, IsMove};
 
@@ -14,31 +14,24 @@ const LONGEST: usize = 7;
 /// By whether a `2` stands there, and twice whether an apostrophe does.
 static POWERS: [Power; 4] = [Power::Quarter, Power::Half, Power::Counter, Power::Half];
 
-/// The base in front of the bytes, which begin with this letter, and how many bytes it has.
-fn base_of(letter: Base, bytes: &[u8]) -> (Base, usize)
-    requires letter { take 1 bytes.now ≡ base_bytes letter }
-    requires fits { 1 < length bytes.now }
-    ensures base { take result.1 bytes.now ≡ base_bytes result.0 }
-    ensures short { result.1 ≤ 2 }
-{
-    if bytes[1] == b'w' {
-        if let Base::Face(face) = letter {
-            return (Base::Wide(face), 2);
-        }
-    }
-    (letter, 1)
-}
-
 /// How many bytes the apostrophe in front of the bytes has, if there is one.
-fn apostrophe_length(bytes: &[u8]) -> usize
-    requires { 2 < length bytes.now }
+fn apostrophe_length(first: u8, bytes: &[u8]) -> usize
+    requires first { slice_index bytes.now 0 ≡ first }
+    requires fits { 2 < length bytes.now }
     ensures bytes { BeginsApostrophe bytes.now result }
     ensures short { result ≤ 3 }
 {
-    if bytes[0] == 0xE2 && bytes[1] == 0x80 && bytes[2] == 0x99 {
+    if first == 0xE2 && bytes[1] == 0x80 && bytes[2] == 0x99 {
         return 3;
     }
-    if bytes[0] == b'\'' { 1 } else { 0 }
+    if first == b'\'' { 1 } else { 0 }
+}
+
+/// One byte or the other, without a branch.
+fn chosen(two: bool, second: u8, first: u8) -> u8
+    ensures { result ≡ (if two then second else first) }
+{
+    if two { second } else { first }
 }
 
 /// The power of the suffix in front of the bytes, and how many bytes it has.
@@ -48,10 +41,42 @@ fn suffix_of(bytes: &[u8]) -> (Power, usize)
     ensures short { result.1 ≤ 4 }
 {
     let two = bytes[0] == b'2';
-    let apostrophe = apostrophe_length(&bytes[two as usize..]);
+    let mark = chosen(two, bytes[1], bytes[0]);
+    let apostrophe = apostrophe_length(mark, &bytes[two as usize..]);
     // by a table, since a branch on what is drawn at random is mispredicted
     let power = POWERS[two as usize + 2 * (apostrophe > 0) as usize];
     (power, two as usize + apostrophe)
+}
+
+/// The move of the base in front of the bytes, which has so many bytes, with the blank after it.
+fn move_of(base: Base, start: usize, bytes: &[u8]) -> Option<(Token, usize)>
+    requires base { take start bytes.now ≡ base_bytes base }
+    requires short { start ≤ 2 }
+    requires fits { 7 ≤ length bytes.now }
+    ensures fits { IfSome result (λ m. m.1 ≤ length bytes.now) }
+    ensures moves { IfSome result (λ m. IsMove (take m.1 bytes.now) m.0) }
+{
+    let (power, length) = suffix_of(&bytes[start..]);
+    let end = start + length;
+    let Symbol::Blank = symbol_of(bytes[end]) else {
+        return None;
+    };
+    Some((base.token(power), end + 1))
+}
+
+/// The same for a letter and `w`. It stands by itself, since most moves have no `w`.
+#[inline(never)]
+fn wide_move(letter: Base, bytes: &[u8]) -> Option<(Token, usize)>
+    requires letter { take 1 bytes.now ≡ base_bytes letter }
+    requires wide { slice_index bytes.now 1 ≡ 119 }
+    requires fits { 7 ≤ length bytes.now }
+    ensures fits { IfSome result (λ m. m.1 ≤ length bytes.now) }
+    ensures moves { IfSome result (λ m. IsMove (take m.1 bytes.now) m.0) }
+{
+    match letter {
+        Base::Face(face) => move_of(Base::Wide(face), 2, bytes),
+        _ => None,
+    }
 }
 
 /// The move in front of the bytes and how many bytes it has with the blank after it.
@@ -65,11 +90,8 @@ pub fn whole_move(bytes: &[u8]) -> Option<(Token, usize)>
     let Symbol::Base(letter) = symbol_of(bytes[0]) else {
         return None;
     };
-    let (base, start) = base_of(letter, bytes);
-    let (power, length) = suffix_of(&bytes[start..]);
-    let end = start + length;
-    let Symbol::Blank = symbol_of(bytes[end]) else {
-        return None;
-    };
-    Some((base.token(power), end + 1))
+    if bytes[1] == b'w' {
+        return wide_move(letter, bytes);
+    }
+    move_of(letter, 1, bytes)
 }

@@ -1,4 +1,4 @@
-use Rattle.std.proofs.Common.{refl, subst, arith, ◌==◌, get_or, length, ℕ, List, drop}
+use Rattle.std.proofs.Common.{refl, subst, arith, ◌==◌, get_or, length, ℕ, List}
 use mir.Val.{bool_byte}
 use Rattle.std.proofs.lemmas.Slice.{between_to_end}
 use Rattle.niss_moves.specs.WholeMoves.{BeginsApostrophe}

@@ -6,7 +6,7 @@ use Rattle.niss_moves.proofs.gathering.Word.of_token.Goals.{in-Face, in-Wide, in
 pub returns-clause-bytes : goal.returns-clause-bytes
 returns-clause-bytes c =
     elim c.match-token.branch [
-        in-Face w ↦ rw w.first_row-is (search rules)
+      | in-Face w ↦ rw w.first_row-is (search rules)
       | in-Wide w ↦ rw w.first_row-is (search rules)
       | in-Slice w ↦ rw w.first_row-is (search rules)
       | in-Rotation w ↦ rw w.first_row-is (search rules)
@@ -16,7 +16,7 @@ returns-clause-bytes c =
 pub returns-clause-some : goal.returns-clause-some
 returns-clause-some c =
     elim c.match-token.branch [
-        in-Face w ↦ rw w.first_row-is (search rules)
+      | in-Face w ↦ rw w.first_row-is (search rules)
       | in-Wide w ↦ rw w.first_row-is (search rules)
       | in-Slice w ↦ rw w.first_row-is (search rules)
       | in-Rotation w ↦ rw w.first_row-is (search rules)
@@ -26,7 +26,7 @@ returns-clause-some c =
 pub returns-clause-len : goal.returns-clause-len
 returns-clause-len c =
     elim c.match-token.branch [
-        in-Face w ↦ rw w.first_row-is (search rules)
+      | in-Face w ↦ rw w.first_row-is (search rules)
       | in-Wide w ↦ rw w.first_row-is (search rules)
       | in-Slice w ↦ rw w.first_row-is (search rules)
       | in-Rotation w ↦ rw w.first_row-is (search rules)

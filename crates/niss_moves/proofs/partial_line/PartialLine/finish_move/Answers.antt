@@ -1,4 +1,4 @@
-use Rattle.std.proofs.Common.{◌+◌, sym}
+use Rattle.std.proofs.Common.{sym}
 use Rattle.niss_moves.specs.Machine.{state_of}
 use Rattle.niss_moves.proofs.ReaderSteps.{primed_bare, primed_doubled}
 use Rattle.niss_moves.proofs.partial_line.PartialLine.finish_move.Goals as goal

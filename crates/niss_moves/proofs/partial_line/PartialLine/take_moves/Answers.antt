@@ -1,7 +1,6 @@
-use Rattle.std.proofs.Common.{◌+◌, ◌∙◌, ap, Ok, ℕ, length, arith}
-use Rattle.std.proofs.lemmas.List.{length-take-le, length-drop}
+use Rattle.std.proofs.Common.{ap, length, arith}
+use Rattle.std.proofs.lemmas.List.{length-drop}
 use Rattle.std.proofs.lemmas.Slice.{between_to_end}
-use Rattle.niss_moves.specs.Machine.{state_of}
 use Rattle.niss_moves.proofs.WholeMoves.{taken_none, taken_next, one_more}
 use Rattle.niss_moves.proofs.partial_line.PartialLine.take_moves.Goals as goal
 
@@ -24,4 +23,3 @@ loop-token-preserved c =
       within = omega (arith, c.in-Some.ensures.fits, ap length rest, length-drop c.loop-token.taken bytes, c.loop-token.invariant.within);
       taken = taken_next c.args.self.now c.loop-token.self c.push.new.self bytes _ c.loop-token.taken c.in-Some.length c.in-Some.token rest c.loop-token.invariant.taken (omega (arith, c.len.ensures, c.loop-token-test.true)) c.in-Some.ensures.moves c.push.ensures;
     }
-
