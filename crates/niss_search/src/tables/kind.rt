@@ -53,8 +53,13 @@ impl<A: Allocator + Copy> Kind<A> {
                 Ok(Kind::AnyEdges(SearchTables::fill(step, space, meter)))
             }
             [Goal::Domino { edges, axis }] => {
-                let table =
-                    domino_table(alloc, step, *edges, *axis, &DominoTurns::build_in(alloc)?)?;
+                let table = domino_table(
+                    alloc,
+                    step,
+                    *edges,
+                    *axis,
+                    &DominoTurns::build_in(alloc)?,
+                )?;
                 Ok(Kind::Domino(SearchTables::fill(step, table, meter)))
             }
             [
