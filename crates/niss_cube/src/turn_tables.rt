@@ -43,7 +43,8 @@ impl Coordinate {
     /// A row with the numbers after the quarter turns, the others still to be written.
     fn quarters(self, cube: &Cube) -> Row
         ensures { (f : Face) → entry_at result (record { face = f; power = Quarter })
-            ≡ number_of self (standard_axis self) (λ q. turned (record { face = f; power = Quarter }) (map_of cube.now q)) }
+            ≡ number_of self (standard_axis self)
+            (λ q. turned (record { face = f; power = Quarter }) (map_of cube.now q)) }
     {
         [
             [self.after_quarter(cube, Face::U), 0, 0],

@@ -22,9 +22,11 @@ fn first_in_block(block: &[u8; 32], level: u8) -> usize
 /// length.
 pub fn next_at(table: &[u8], from: usize, level: u8) -> Option<usize>
     requires { from ≤ length table.now }
-    ensures found { IfSome result (λ i. (from ≤ i) × (i < length table.now) × (slice_index table.now i ≡ level)) }
+    ensures found { IfSome result
+        (λ i. (from ≤ i) × (i < length table.now) × (slice_index table.now i ≡ level)) }
     ensures least { IfSome result (λ i. (k : ℕ) → from ≤ k → k < i → slice_index table.now k ≢ level) }
-    ensures none { IfNone result ((k : ℕ) → from ≤ k → k < length table.now → slice_index table.now k ≢ level) }
+    ensures none { IfNone result
+        ((k : ℕ) → from ≤ k → k < length table.now → slice_index table.now k ≢ level) }
 {
     let (blocks, rest) = table[from..].as_chunks::<32>();
     let mut at = from;

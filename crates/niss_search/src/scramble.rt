@@ -67,7 +67,8 @@ fn turns_after(last: Option<Turn>) -> &'static [Turn]
 fn picked(turns: &[Turn], word: u32) -> Turn
     requires some { 0 < length turns.now }
     requires few { length turns.now ≤ 18 }
-    ensures { result ≡ slice_index_or turns.now (word * length turns.now / 2 ^ 32) record { face = U; power = Quarter } }
+    ensures { result
+        ≡ slice_index_or turns.now (word * length turns.now / 2 ^ 32) record { face = U; power = Quarter } }
 {
     let index = u64::from(word) * turns.len() as u64 / (1 << 32);
     turns[index as usize]

@@ -23,7 +23,8 @@ fn extend_level<M: GoalMoves>(moves: &M, distances: &mut [u8], level: &Level, me
     ensures ticks { meter.new
         ≡ meter.old
         + length (turns_of (M.alternative moves.now).step)
-        * count_by (λ i. entry_distance (M.alternative moves.now) i == level.now) (range_with_len 0 (count_for (M.alternative moves.now).goal)) }
+        * count_by (λ i. entry_distance (M.alternative moves.now) i == level.now)
+        (range_with_len 0 (count_for (M.alternative moves.now).goal)) }
 {
     entries_turn();
     let number = level.number();

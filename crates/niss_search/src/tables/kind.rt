@@ -111,7 +111,8 @@ fn domino_table<A: Allocator + Copy>(
     axis: Axis,
     turns: &DominoTurns<A>,
 ) -> Result<DominoTable<A>, OutOfMemory>
-    ensures { IfOk result (λ t. (domino_alternative t ≡ record { step = step; goal = goals.Domino edges axis })
+    ensures { IfOk result (λ t.
+        (domino_alternative t ≡ record { step = step; goal = goals.Domino edges axis })
         × IsFilled record { step = step; goal = goals.Domino edges axis } 0 t.distances.items) }
 {
     let moves = DominoMoves::build_in(alloc, step, edges, axis, turns)?;

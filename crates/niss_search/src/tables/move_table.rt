@@ -42,7 +42,8 @@ impl<A: Allocator> Model for MoveTable<A> {
 
     ghost view = { λ t. record { coordinate = t.coordinate; axis = t.axis; step = t.step } };
 
-    ghost invariant = { λ t. AreMoveRows record { coordinate = t.coordinate; axis = t.axis; step = t.step } t.rows.items };
+    ghost invariant = { λ t. AreMoveRows record { coordinate = t.coordinate; axis = t.axis; step = t.step }
+        t.rows.items };
 }
 
 impl<A: Allocator> MoveTable<A> {
@@ -98,7 +99,8 @@ impl<A: Allocator> MoveTable<A> {
     pub fn after(&self, number: u16, column: usize) -> u16
         requires in_range { number < count_of self.now.coordinate }
         requires of_step { column < length (turns_of self.now.step) }
-        ensures value { result ≡ number_after self.now.coordinate self.now.axis number (turn_at self.now.step column) }
+        ensures value { result
+            ≡ number_after self.now.coordinate self.now.axis number (turn_at self.now.step column) }
         ensures below { result < count_of self.now.coordinate }
     {
         self.rows[number as usize][column]
