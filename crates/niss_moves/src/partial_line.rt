@@ -36,7 +36,7 @@ pub struct PartialLine {
 }
 
 impl PartialLine {
-    ghost use Rattle.std.specs.Prelude.{◌≡◌, ◌+◌, ◌-◌, ◌<◌, ◌≤◌, Ok, length, take};
+    ghost use Rattle.std.specs.Prelude.{◌≡◌, ◌+◌, ◌-◌, ◌<◌, ◌≤◌, Ok, OnErr, length, take};
     ghost use Rattle.niss_moves.specs.WholeMoves.{HasNoLineFeed};
     ghost use Rattle.niss_moves.specs.declared.fault.ReadFault.TheVariants.{NotAMove};
     ghost use Rattle.niss_moves.specs.Machine.{start, apostrophe_power, added, settled, opened, closed, begun, widened, doubled, primed, cut, step_at, step_by, step, run, ended, moves_if, state_of, IsStep, HasRoom};
@@ -160,6 +160,8 @@ impl PartialLine {
         requires { HasRoom (state_of self.old) }
         ensures value { moves_if result self.new.niss ≡ ended (Ok (state_of self.old)) }
         ensures room { HasRoom (state_of self.new) }
+        ensures fed { self.new.fed ≡ self.old.fed }
+        ensures refused { OnErr result (self.new ≡ self.old) }
     {
         match self.last {
             LastMove::FirstByte(_, _) => return Err(ReadFault::NotAMove { column: self.fed }),
@@ -336,7 +338,6 @@ impl PartialLine {
         requires { length self.old.niss.normal + length self.old.niss.bracketed < 256 }
         ensures { state_of self.new ≡ added (state_of self.old) token }
     {
-        let column = self.column();
         if self.bracket.is_some() {
             self.niss.push_bracketed(token);
         } else {

@@ -26,7 +26,7 @@ impl Model for LineReader {
 }
 
 impl LineReader {
-    ghost use Rattle.std.specs.Prelude.{◌≡◌, ℕ, ◌+◌, ◌<◌, ◌≤◌, ◌↔◌, List, [], ◌∷◌, ◌++◌, length, take, IsOk, IfErr, MatchResult, Err, None, Some};
+    ghost use Rattle.std.specs.Prelude.{◌≡◌, ℕ, ◌+◌, ◌<◌, ◌≤◌, ◌↔◌, List, [], ◌∷◌, ◌++◌, length, take, IsOk, IfErr, OnErr, MatchResult, Err, None, Some};
     ghost use Rattle.niss_moves.specs.Faults.{CanContinue, Stops};
     ghost use Rattle.niss_moves.specs.WholeMoves.{HasNoLineFeed};
     ghost use Rattle.niss_moves.specs.Machine.{moves_if};
@@ -82,8 +82,8 @@ impl LineReader {
         taken
     }
 
-    /// Takes as many whole moves as stand in front of the bytes, each with the blank after it, and answers how many bytes
-    /// these are: none where the last move is not finished, or the next one is written in another way.
+    /// Takes whole moves in front of the bytes, each with the blank after it, and answers how many bytes these are. How many
+    /// moves it takes is a matter of speed and may be none: `feed` takes what is left. After a fault it takes none.
     pub fn feed_moves(&mut self, bytes: &[u8]) -> usize
         requires { self.old.fed + length bytes.now ≤ 16777216 }
         ensures taken { result ≤ length bytes.now }
@@ -91,6 +91,7 @@ impl LineReader {
         ensures bytes { (front : List ℕ) → IsFed self.old front →
             IsFed self.new (front ++ take result bytes.now) }
         ensures inside { HasNoLineFeed (take result bytes.now) }
+        ensures fault { self.new.fault ≡ self.old.fault }
     {
         match self.fault {
             Some(_) => 0,
@@ -98,10 +99,14 @@ impl LineReader {
         }
     }
 
-    /// Ends the line: the bytes spell `moves`, or have a fault.
+    /// Ends the line: the bytes spell `moves`, or have a fault, which later calls answer again.
     pub fn end(&mut self) -> Result<(), ReadFault>
-        ensures { (bytes : List ℕ) → IsFed self.old bytes →
+        ensures line { (bytes : List ℕ) → IsFed self.old bytes →
             moves_if result (moves_of self.new) ≡ read_line bytes }
+        ensures fed { self.new.fed ≡ self.old.fed }
+        ensures fault { self.new.fault ≡ self.old.fault }
+        ensures refused { OnErr result (self.new ≡ self.old) }
+        ensures again { (f : ReadFault) → self.old.fault ≡ Some f → result ≡ Err f }
     {
         match self.fault {
             Some(fault) => Err(fault),
