@@ -33,20 +33,22 @@ by_words bytes None command (w ∷ ws) P is h p = absurd (omega arith)
 -- the error writer
 
 pub told : (text piece : List ℕ) (r : Result (Unit {0}) DeviceFault) (a b : TargetState)
-    → piece ≡ text → OnOk r (Appended a b piece) → OnErr r (WriteRefused piece a b) → TellsError text a b
-told text piece (Ok u) a b e whole refused = record {
+    → piece ≡ text → OnOk r (Appended a b piece) → OnErr r (WriteRefused piece a b) → b.flush_failed ≡ a.flush_failed → TellsError text a b
+told text piece (Ok u) a b e whole refused unflushed = record {
   part = text;
   rest = [];
   beginning = append-nil text;
   whole = λ good. refl;
   written = subst (λ t. Appended a b t) e whole;
+  unflushed = unflushed;
 }
-told text piece (Err x) a b e whole refused = record {
+told text piece (Err x) a b e whole refused unflushed = record {
   part = refused.part;
   rest = refused.cut.0;
   beginning = refused.cut.1 ∙ e;
   whole = λ good. absurd (cc (good, refused.refused));
   written = refused.appended;
+  unflushed = unflushed;
 }
 
 -- no answer is that memory was refused

@@ -69,6 +69,8 @@ pub record TellsError (text : List ℕ) (old new : TargetState) : Type 0 where
   pub beginning : part ++ rest ≡ text
   pub whole : new.write_failed ≡ false → rest ≡ []
   pub written : Appended old new part
+  -- it isn't flushed: a flush might have been refused
+  pub unflushed : new.flush_failed ≡ old.flush_failed
 
 -- how far the meter rises, where the run is due to look so often: not at all where memory was refused, and no further
 -- where a write was

@@ -110,7 +110,7 @@ pub enum Command<'a> {
 
 impl<'a> Command<'a> {
     /// What is done with each line, and the words that are the input, of a command on lines.
-    pub fn on_lines(&self) -> Option<(LineCommand, &'a [String])>
+    pub(crate) fn on_lines(&self) -> Option<(LineCommand, &'a [String])>
         ensures { MatchOption result (takes_lines (requested self.now) ≡ false)
             (λ parts. requested self.now ≡ OnLines parts.0 (map string_bytes parts.1.now)) }
     {

@@ -1,6 +1,6 @@
-ghost use Rattle.std.specs.Prelude.{◌≡◌, ◌≤◌, Bool, true, false, ◌||◌, Option, Ok, List, ℕ, length, is_ok, is_err, if◌then◌else◌, IfOk, IsErr, MatchResult};
-ghost use Rattle.std.specs.Io.KnownBytes.{IsAtEnd};
-ghost use Rattle.niss_shell.specs.Device.{SourceState, TargetState, Gave, has_fault, moved_bytes, found_end, is_refused};
+ghost use Rattle.std.specs.Prelude.{◌≡◌, ◌<◌, ◌≤◌, [], Bool, true, false, ◌||◌, Option, Ok, List, ℕ, length, is_ok, is_err, if◌then◌else◌, IfOk, IsErr, MatchResult};
+ghost use Rattle.std.specs.Io.KnownBytes.{IsAtEnd, Keeps, ReadConsumes, WriteAppends};
+ghost use Rattle.niss_shell.specs.Device.{SourceState, TargetState, Gave, Appended, StaysSilent, has_fault, moved_bytes, found_end, is_refused};
 
 use crate::device::{DeviceFault, Source, Target};
 use std::io;
@@ -69,6 +69,8 @@ impl<R: io::Read> Source for FromReader<R> {
         // What it finds as the end is the reader's end, and no failed read.
         ensures whole { found_end result buf.new ≡ true →
             IsAtEnd (⟦<FromReader<R> as Source>⟧.state self.new).left }
+        // The reader gives what is answered, and where it fails nothing.
+        ensures reader { ReadConsumes (R.remaining self.old.reader) (R.remaining self.new.reader) result buf.new }
     {
         let answer = self.reader.read(buf);
         self.judge(answer, buf)
@@ -94,7 +96,7 @@ pub struct ToWriter<W> {
 }
 
 impl<W: io::Write> ToWriter<W> {
-    /// The target that holds what the writer does. No flag is set.
+    /// The target that holds what the writer does, without a fault.
     pub fn new(writer: W) -> ToWriter<W>
         ensures bytes { (⟦<ToWriter<W> as Target>⟧.state result).held ≡ W.contents writer }
         ensures works { has_fault (⟦<ToWriter<W> as Target>⟧.state result) ≡ false }
@@ -165,12 +167,38 @@ impl<W: io::Write> Target for ToWriter<W> {
       is_flushed = t.flushed;
     } };
 
-    fn write(&mut self, piece: &[u8]) -> Result<usize, DeviceFault> {
+    fn write(&mut self, piece: &[u8]) -> Result<usize, DeviceFault>
+        ensures bound { IfOk result (λ count. count ≤ length piece.now) }
+        ensures bytes { Appended (⟦<ToWriter<W> as Target>⟧.state self.old)
+            (⟦<ToWriter<W> as Target>⟧.state self.new) (moved_bytes result piece.now) }
+        ensures silent { StaysSilent (⟦<ToWriter<W> as Target>⟧.state self.old) (⟦<ToWriter<W> as Target>⟧.state self.new) }
+        ensures write_failed { (⟦<ToWriter<W> as Target>⟧.state self.new).write_failed
+            ≡ ((⟦<ToWriter<W> as Target>⟧.state self.old).write_failed || is_refused result piece.now) }
+        ensures flush_failed { (⟦<ToWriter<W> as Target>⟧.state self.new).flush_failed
+            ≡ (⟦<ToWriter<W> as Target>⟧.state self.old).flush_failed }
+        ensures untried { 0 < length (moved_bytes result piece.now) →
+            (⟦<ToWriter<W> as Target>⟧.state self.new).flush_tried ≡ false }
+        ensures unflushed { 0 < length (moved_bytes result piece.now) →
+            (⟦<ToWriter<W> as Target>⟧.state self.new).is_flushed ≡ false }
+        // Whatever failed before, the writer takes what is answered and nothing else.
+        ensures writer { WriteAppends (W.contents self.old.writer) (W.contents self.new.writer) result piece.now }
+    {
         let answer = self.writer.write(piece);
         self.judge_write(answer, piece)
     }
 
-    fn flush(&mut self) -> Result<(), DeviceFault> {
+    fn flush(&mut self) -> Result<(), DeviceFault>
+        ensures bytes { Appended (⟦<ToWriter<W> as Target>⟧.state self.old) (⟦<ToWriter<W> as Target>⟧.state self.new) [] }
+        ensures silent { StaysSilent (⟦<ToWriter<W> as Target>⟧.state self.old) (⟦<ToWriter<W> as Target>⟧.state self.new) }
+        ensures write_failed { (⟦<ToWriter<W> as Target>⟧.state self.new).write_failed
+            ≡ (⟦<ToWriter<W> as Target>⟧.state self.old).write_failed }
+        ensures flush_failed { (⟦<ToWriter<W> as Target>⟧.state self.new).flush_failed
+            ≡ ((⟦<ToWriter<W> as Target>⟧.state self.old).flush_failed || is_err result) }
+        ensures tried { (⟦<ToWriter<W> as Target>⟧.state self.new).flush_tried ≡ true }
+        ensures flushed { (⟦<ToWriter<W> as Target>⟧.state self.new).is_flushed ≡ is_ok result }
+        // Whatever failed before, a flush writes nothing.
+        ensures writer { Keeps (W.contents self.old.writer) (W.contents self.new.writer) }
+    {
         let answer = self.writer.flush();
         self.judge_flush(answer)
     }
