@@ -6,14 +6,14 @@ use niss_shell::{Meter, Source, run, run_in};
 use std::alloc::{AllocError, Allocator, Global};
 use std::process::Abort;
 
-/// What is told of wrong words.
+/// What is written of wrong words.
 pub const USAGE: &str = "usage: nissy COMMAND [ARGUMENTS]\n";
 
 /// What `steps` writes.
 pub const STEPS: &str =
     "eofb\neorl\neoud\ndrud-eofb\ndrrl-eofb\ndrud-eorl\ndrfb-eorl\ndrrl-eoud\ndrfb-eoud\neo\ndr-eofb\ndr-eorl\ndr-eoud\n";
 
-/// What is told of an input above the limit.
+/// What is written of an input above the limit.
 pub const TOO_LONG: &[u8] = b"nissy: input longer than 16777216 bytes\n";
 
 pub const CANNOT_READ: &[u8] = b"nissy: cannot read\n";
@@ -63,6 +63,7 @@ impl<'a> Outcome<'a> {
     pub fn compare(self, rt: &impl Abort, status: u8, out: &Held, err: &Held) {
         assert_eq!(rt; out.bytes.as_slice(), self.output);
         assert_eq!(rt; err.bytes.as_slice(), self.error);
+        assert_eq!(rt; err.flushes, 0);
         assert_eq!(rt; status, self.status);
     }
 

@@ -168,7 +168,7 @@ fn check_flushed(
     Ok(())
 }
 
-/// Long pieces are taken whole, and a flush that fails with any kind of error is told and not tried again.
+/// Long pieces are taken whole, and a flush that fails with any kind of error is reported and not tried again.
 #[test]
 fn each_kind_of_failed_flush(rt: HostRuntime) -> Result<(), Fail> {
     // 256 words of 3 letters with single spaces, and a line feed for each line

@@ -44,6 +44,7 @@ impl io::Read for FailingReader<'_> {
 #[derive(Drop)]
 struct FailingWriter {
     calls: usize,
+    flushes: usize,
     fails_at: usize,
     kind: io::ErrorKind,
 }
@@ -52,6 +53,7 @@ impl FailingWriter {
     fn new(fails_at: usize, kind: io::ErrorKind) -> FailingWriter {
         FailingWriter {
             calls: 0,
+            flushes: 0,
             fails_at,
             kind,
         }
@@ -68,6 +70,7 @@ impl io::Write for FailingWriter {
     }
 
     fn flush(&mut self) -> io::Result<()> {
+        self.flushes = self.flushes.saturating_add(1);
         Ok(())
     }
 }
@@ -199,6 +202,7 @@ fn each_write_fails_once(rt: HostRuntime) -> Result<(), Fail> {
             let mut writer = FailingWriter::new(before + 1, kind);
             check_writer(&rt, rt.alloc(), &words, b"", &mut writer, 3, CANNOT_WRITE)?;
             assert_eq!(rt; writer.calls, before + 1, "after {before} writes");
+            assert_eq!(rt; writer.flushes, 1, "after {before} writes");
         }
     }
     Ok(())
