@@ -48,9 +48,9 @@ cut_page() {
         }
         /^```/ && inside == "" {
             language = substr($1, 4)
-            if (language ~ /^(sh|bash|zsh|fish)$/) { begin(language, $2 == "needs" ? $3 : ""); inside = "command"; told = 0 }
+            if (language ~ /^(sh|bash|zsh|fish)$/) { begin(language, $2 == "needs" ? $3 : ""); inside = "command"; seen = 0 }
             else if (language == "console") inside = "console"
-            else if (language == "text" && place != "" && !told) { inside = "wanted"; told = 1 }
+            else if (language == "text" && place != "" && !seen) { inside = "wanted"; seen = 1 }
             else inside = "other"
             next
         }

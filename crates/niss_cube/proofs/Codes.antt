@@ -1,4 +1,4 @@
--- A coordinate as a code of the cubies that it tells of: each number has cubies of its own, and the code after a turn
+-- A coordinate as a code of the cubies that it depends on: each number has cubies of its own, and the code after a turn
 -- depends on the code alone.
 use Rattle.std.proofs.Common.{◌≡◌, ℕ, ◌<◌, refl, sym, ◌∙◌, ap, Bool, true, false, List, get_or, map, take, reverse, inl, inr}
 use Rattle.std.specs.Prelude.{count_by, nat_lt, nat_le, ◌==◌, ◌↔◌}
@@ -159,8 +159,8 @@ is_false true h = absurd (h refl)
 is_false false h = refl
 
 -- A number that is 0 where the set of a coordinate is kept gives the test of the set.
-pub zero_tells : (k : Coordinate) (a : Axis) (e : Place → Place) (n : ℕ) → (n ≡ 0) ↔ Kept (set_of k a) e → (n == 0) ≡ is_kept (set_of k a) e
-zero_tells k a e n zero = elim (eqb_tells n 0) [
+pub zero_test : (k : Coordinate) (a : Axis) (e : Place → Place) (n : ℕ) → (n ≡ 0) ↔ Kept (set_of k a) e → (n == 0) ≡ is_kept (set_of k a) e
+zero_test k a e n zero = elim (eqb_tells n 0) [
   | inl w ↦ w.0 ∙ sym ((kept-tested (set_of k a) e (sets_are_places k a)).1 (zero.0 w.1))
   | inr w ↦ w.0 ∙ sym (is_false (is_kept (set_of k a) e) (λ t. w.1 (zero.1 ((kept-tested (set_of k a) e (sets_are_places k a)).0 t))))
 ]

@@ -64,7 +64,7 @@ lists-equal c d v w s =
 pub texts_equal : (xs ys : List ℕ) → xs ≡ ys → pointwise nat_eq xs ys ≡ true
 texts_equal xs ys e = true_from_ne_false (pointwise nat_eq xs ys) (λ n. other_text xs ys (sym n) e)
 
--- what a comparison of all four lists tells
+-- what a comparison of all four lists says
 pub same_lists : (c d : CubieLists) → Valid c → Valid d → (b : Bool) → b ≡ (pointwise nat_eq c.corners d.corners && (pointwise nat_eq c.twists d.twists && (pointwise nat_eq c.edges d.edges && pointwise nat_eq c.flips d.flips))) →
     (b ≡ true) ↔ SameMap (map_lists c) (map_lists d)
 same_lists c d v w b e = (

@@ -1,4 +1,4 @@
--- Corner and edge places are sticker places, and whether a set of places is kept tells of the places alone.
+-- Corner and edge places are sticker places, and whether a set of places is kept depends on the places alone.
 use Rattle.std.proofs.Common.{◌≡◌, refl, sym, ◌∙◌, ap, Bool, true, ◌||◌, not}
 use Rattle.niss_moves.specs.Places.{Place, is_place, is_corner, is_edge, SameMap}
 use Rattle.niss_cube.specs.Sets.{Kept, ArePlaces}

@@ -1,4 +1,4 @@
--- The sets of sticker places that the coordinates tell of.
+-- The sets of sticker places that the coordinates depend on.
 use Rattle.std.specs.Prelude.{Bool, ◌&&◌, ◌||◌, not, IsTrue, ◌↔◌}
 use Rattle.std.specs.List.{list_all}
 use Rattle.niss_moves.specs.Places.{Place, along, looks_along, is_zero, is_corner, is_edge, IsPlace}
@@ -39,7 +39,7 @@ Kept set e = (q : Place) → IsTrue (set q) → IsTrue (set (e q))
 unfoldable pub is_kept : (Place → Bool) → (Place → Place) → Bool
 is_kept set e = list_all (λ q. not (set q) || set (e q)) places
 
--- The test tells where a set is kept, for each set of the 54 places.
+-- The test says where a set is kept, for each set of the 54 places.
 abbrev pub KeptIsTested : Type 0
 KeptIsTested = (set : Place → Bool) (e : Place → Place) → ((q : Place) → IsTrue (set q) → IsPlace q) → IsTrue (is_kept set e) ↔ Kept set e
 
@@ -53,6 +53,6 @@ set_of Flip = flip_set
 set_of Twist = twist_set
 set_of Slice = slice_set
 
--- The sets of the coordinates have sticker places only, so that the test tells of them.
+-- The sets of the coordinates have sticker places only, so that the test decides them.
 abbrev pub SetsArePlaces : Type 0
 SetsArePlaces = (k : Coordinate) (a : Axis) → ArePlaces (set_of k a)

@@ -40,7 +40,7 @@ pub fn start_is_kept()
     ensures { StartIsKept }
 {}
 
-/// Whether a step may start and whether it is reached tells of the 54 sticker places alone.
+/// Whether a step may start and whether it is reached depends on the 54 sticker places alone.
 pub fn steps_see_places()
     ensures { StepsSeePlaces }
 {}

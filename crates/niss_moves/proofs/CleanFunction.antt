@@ -7,21 +7,21 @@ use Rattle.std.proofs.lemmas.List.Sums.{count_by-le-length}
 use Rattle.niss_moves.specs.Canonical.{face_may_follow, IsCanonical}
 use Rattle.niss_moves.specs.Cleaning.{rewritten_pair, IsRewriting, Cleans, Clean, Rewrite}
 use Rattle.niss_moves.specs.RewritingLaws.{are_disordered, disorder}
-use Rattle.niss_moves.specs.CleanedLine.{behind_first, rewritten_once, rewritten_within, most_rewritings, clean_turns, CleanTurnsAreClean}
+use Rattle.niss_moves.specs.CleanedLine.{after_first, rewritten_once, rewritten_within, most_rewritings, clean_turns, CleanTurnsAreClean}
 use Rattle.niss_moves.specs.declared.turn.Turn.{Turn}
 use Rattle.niss_moves.proofs.Logic.{both}
 use Rattle.niss_moves.proofs.Disorder.{rewriting_lowers}
 
 -- where nothing is rewritten, nothing breaks the order
 
-behind_none : (t : Turn) (o : Option (List Turn)) → behind_first t o ≡ None → o ≡ None
-behind_none t None e = refl
-behind_none t (Some s) e = cc
+after_first_none : (t : Turn) (o : Option (List Turn)) → after_first t o ≡ None → o ≡ None
+after_first_none t None e = refl
+after_first_none t (Some s) e = cc
 
 none_step : (t u : Turn) (s : List Turn) (b : Bool) → face_may_follow t.face u.face ≡ b
-    → cond b (behind_first t (rewritten_once (u ∷ s))) (Some (rewritten_pair t u ++ s)) ≡ None
+    → cond b (after_first t (rewritten_once (u ∷ s))) (Some (rewritten_pair t u ++ s)) ≡ None
     → (rewritten_once (u ∷ s) ≡ None → IsCanonical (u ∷ s)) → IsCanonical (t ∷ u ∷ s)
-none_step t u s true e h rest = both _ _ e (rest (behind_none t (rewritten_once (u ∷ s)) h))
+none_step t u s true e h rest = both _ _ e (rest (after_first_none t (rewritten_once (u ∷ s)) h))
 none_step t u s false e h rest = cc
 
 none_is_canonical : (s : List Turn) → rewritten_once s ≡ None → IsCanonical s
@@ -32,32 +32,32 @@ none_is_canonical (t ∷ u ∷ s) e = none_step t u s (face_may_follow t.face u.
 
 -- what is rewritten is the leftmost pair that breaks the order
 
-behind_some : (t : Turn) (o : Option (List Turn)) (c : List Turn) → behind_first t o ≡ Some c → (r : List Turn) × (o ≡ Some r) × (c ≡ t ∷ r)
-behind_some t None c e = cc
-behind_some t (Some s) c e = (s, refl, let h : c ≡ t ∷ s = cc in h)
+after_first_some : (t : Turn) (o : Option (List Turn)) (c : List Turn) → after_first t o ≡ Some c → (r : List Turn) × (o ≡ Some r) × (c ≡ t ∷ r)
+after_first_some t None c e = cc
+after_first_some t (Some s) c e = (s, refl, let h : c ≡ t ∷ s = cc in h)
 
-canonical_behind : (t u : Turn) (s front : List Turn) (left : Turn) (rest : List Turn) → u ∷ s ≡ front ++ left ∷ rest
+canonical_after_first : (t u : Turn) (s front : List Turn) (left : Turn) (rest : List Turn) → u ∷ s ≡ front ++ left ∷ rest
     → face_may_follow t.face u.face ≡ true → IsCanonical (front ++ left ∷ []) → IsCanonical (t ∷ front ++ left ∷ [])
-canonical_behind t u s [] left rest e k h = both _ _ (let same : u ≡ left = cc in subst (λ (x : Turn). face_may_follow t.face x.face ≡ true) same k) refl
-canonical_behind t u s (x ∷ front) left rest e k h = both _ _ (let same : u ≡ x = cc in subst (λ (x : Turn). face_may_follow t.face x.face ≡ true) same k) h
+canonical_after_first t u s [] left rest e k h = both _ _ (let same : u ≡ left = cc in subst (λ (x : Turn). face_may_follow t.face x.face ≡ true) same k) refl
+canonical_after_first t u s (x ∷ front) left rest e k h = both _ _ (let same : u ≡ x = cc in subst (λ (x : Turn). face_may_follow t.face x.face ≡ true) same k) h
 
-rewriting_behind : (t u : Turn) (s r c : List Turn) → face_may_follow t.face u.face ≡ true → c ≡ t ∷ r → IsRewriting (u ∷ s) r → IsRewriting (t ∷ u ∷ s) c
-rewriting_behind t u s r c k e w = record {
+rewriting_after_first : (t u : Turn) (s r c : List Turn) → face_may_follow t.face u.face ≡ true → c ≡ t ∷ r → IsRewriting (u ∷ s) r → IsRewriting (t ∷ u ∷ s) c
+rewriting_after_first t u s r c k e w = record {
   front = t ∷ w.front;
   left = w.left;
   right = w.right;
   rest = w.rest;
   at = ap (λ v. t ∷ v) w.at;
-  leftmost = canonical_behind t u s w.front w.left (w.right ∷ w.rest) w.at k w.leftmost;
+  leftmost = canonical_after_first t u s w.front w.left (w.right ∷ w.rest) w.at k w.leftmost;
   breaks = w.breaks;
   result = e ∙ ap (λ v. t ∷ v) w.result;
 }
 
 some_step : (t u : Turn) (s c : List Turn) (b : Bool) → face_may_follow t.face u.face ≡ b
-    → cond b (behind_first t (rewritten_once (u ∷ s))) (Some (rewritten_pair t u ++ s)) ≡ Some c
+    → cond b (after_first t (rewritten_once (u ∷ s))) (Some (rewritten_pair t u ++ s)) ≡ Some c
     → ((r : List Turn) → rewritten_once (u ∷ s) ≡ Some r → IsRewriting (u ∷ s) r) → IsRewriting (t ∷ u ∷ s) c
 some_step t u s c true e h rest =
-    let w = behind_some t (rewritten_once (u ∷ s)) c h in rewriting_behind t u s w.0 c e w.2 (rest w.0 w.1)
+    let w = after_first_some t (rewritten_once (u ∷ s)) c h in rewriting_after_first t u s w.0 c e w.2 (rest w.0 w.1)
 some_step t u s c false e h rest = record {
   front = [];
   left = t;

@@ -41,9 +41,9 @@ count_exchanged p (x ∷ front) t u rest =
 
 fewer : (front : List Turn) (t u : Turn) (rest : List Turn) → are_disordered t u ≡ true → are_disordered u t ≡ false → disorder (front ++ u ∷ t ∷ rest) < disorder (front ++ t ∷ u ∷ rest)
 fewer [] t u rest a b =
-    let behind : count_by (are_disordered t) (u ∷ rest) ≡ 1 + count_by (are_disordered t) rest = count_by-cons (are_disordered t) u rest ∙ ap (λ b. cond {A = ℕ} b 1 0 + count_by (are_disordered t) rest) a in
+    let after : count_by (are_disordered t) (u ∷ rest) ≡ 1 + count_by (are_disordered t) rest = count_by-cons (are_disordered t) u rest ∙ ap (λ b. cond {A = ℕ} b 1 0 + count_by (are_disordered t) rest) a in
     let before : count_by (are_disordered u) (t ∷ rest) ≡ 0 + count_by (are_disordered u) rest = count_by-cons (are_disordered u) t rest ∙ ap (λ b. cond {A = ℕ} b 1 0 + count_by (are_disordered u) rest) b in
-    omega (arith, behind, before, disorder-cons t (u ∷ rest), disorder-cons u rest, disorder-cons u (t ∷ rest), disorder-cons t rest)
+    omega (arith, after, before, disorder-cons t (u ∷ rest), disorder-cons u rest, disorder-cons u (t ∷ rest), disorder-cons t rest)
 fewer (x ∷ front) t u rest a b =
     omega (arith, count_exchanged (are_disordered x) front t u rest, fewer front t u rest a b, disorder-cons x (front ++ u ∷ t ∷ rest), disorder-cons x (front ++ t ∷ u ∷ rest))
 

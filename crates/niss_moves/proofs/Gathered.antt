@@ -15,8 +15,8 @@ copied a k n xs ys h l =
     ap (λ m. take (m + n) (put_mid a k xs ys)) (sym (length-take-le a xs h)) ∙ take-append-add (take a xs) (ys ++ post_of a k xs) n ∙ ap (λ t. take a xs ++ t) (take-append-le n ys (post_of a k xs) l)
 
 -- the gap after a word
-gap_behind : (old new : List ℕ) (t : Token) → new ≡ old ++ (32 ∷ word t) → gap new ≡ 32 ∷ []
-gap_behind old new t e = ap gap (e ∙ sym (append_assoc old (32 ∷ []) (word t))) ∙ gap_word (old ++ 32 ∷ []) t
+gap_after_word : (old new : List ℕ) (t : Token) → new ≡ old ++ (32 ∷ word t) → gap new ≡ 32 ∷ []
+gap_after_word old new t e = ap gap (e ∙ sym (append_assoc old (32 ∷ []) (word t))) ∙ gap_word (old ++ 32 ∷ []) t
 
 -- A text and what is gathered after it, with these words after it, is the first text with all of them.
 pub record Gathers (first : List ℕ) (all : List (List ℕ)) (text : List ℕ) (rest : List (List ℕ)) : Type 0 where
@@ -35,7 +35,7 @@ pub gathers_more : (first old new : List ℕ) (all rest : List (List ℕ)) (t : 
     → Gathers first all old rest → Gathers first all new ws
 gathers_more first old new all rest t ws r e h =
     record {
-      gap = gap_behind old new t e;
+      gap = gap_after_word old new t e;
       items =
           ap (λ x. with_words x ws) (e ∙ sym (append_assoc old (32 ∷ []) (word t)) ∙ ap (λ g. (old ++ g) ++ word t) (sym h.gap))
           ∙ ap (with_words old) (sym r) ∙ h.items;

@@ -79,7 +79,7 @@ one_ending bytes s c q e line =
 pub record Stopped (bytes : List ℕ) (column : ℕ) (c : Cut) (q : Bool) (byte : ℕ) : Type 0 where
   pub fault : ReadFault
   pub ran : run start bytes ≡ Err fault
-  pub told : Refusal c q byte (column - 1) fault
+  pub reported : Refusal c q byte (column - 1) fault
 
 stopped : (bytes : List ℕ) (column : ℕ) (c : Cut) (q : Bool) (byte : ℕ) → StopsAt bytes column c q byte → Stopped bytes column c q byte
 stopped bytes column c q byte h =
@@ -99,7 +99,7 @@ stopped bytes column c q byte h =
         record {
           fault = g;
           ran = ap (run start) (sym (take-append-drop column bytes)) ∙ run-append 256 start (take column bytes) (drop column bytes) ∙ ap (λ r. and_then r (λ t. run t (drop column bytes))) f;
-          told = subst (λ (n : ℕ). Refusal c q byte n g) l (subst₂ (λ (x : Cut) (y : Bool). Refusal x y byte (length (take (column - 1) bytes)) g) ec eq k);
+          reported = subst (λ (n : ℕ). Refusal c q byte n g) l (subst₂ (λ (x : Cut) (y : Bool). Refusal x y byte (length (take (column - 1) bytes)) g) ec eq k);
         }
 
 not_base : (byte : ℕ) (x : Symbol) → symbol_of byte ≡ x → ((b : Base) → x ≡ symbol.Base b → ⊥) → BeginsBase byte → ⊥
@@ -116,72 +116,72 @@ IsOther q byte =
     ((byte ≡ 40) × (q ≡ true) → ⊥) × ((byte ≡ 41) × (q ≡ false) → ⊥) × (BeginsBase byte → ⊥)
 
 -- the fault that a refused byte has
-other_told : (column byte : ℕ) (q : Bool) (g : ReadFault) → 0 < column → IsOther q byte → Refusal Whole q byte (column - 1) g → g ≡ NotAMove column
-other_told column byte q (NotAMove c) p n t = ap NotAMove (let e = t.0 in omega arith)
-other_told column byte q (Nested c) p n t = absurd (n.0 (t.1, t.2))
-other_told column byte q (Unopened c) p n t = absurd (n.1 (t.1, t.2))
-other_told column byte q (TooLong c) p n t = absurd (n.2 t.1)
-other_told column byte q (Unclosed c) p n t = absurd t
+other_reported : (column byte : ℕ) (q : Bool) (g : ReadFault) → 0 < column → IsOther q byte → Refusal Whole q byte (column - 1) g → g ≡ NotAMove column
+other_reported column byte q (NotAMove c) p n t = ap NotAMove (let e = t.0 in omega arith)
+other_reported column byte q (Nested c) p n t = absurd (n.0 (t.1, t.2))
+other_reported column byte q (Unopened c) p n t = absurd (n.1 (t.1, t.2))
+other_reported column byte q (TooLong c) p n t = absurd (n.2 t.1)
+other_reported column byte q (Unclosed c) p n t = absurd t
 
-nested_told : (column : ℕ) (g : ReadFault) → 0 < column → Refusal Whole true 40 (column - 1) g → g ≡ Nested column
-nested_told column (NotAMove c) p t = absurd (t.1 (refl, refl))
-nested_told column (Nested c) p t = ap Nested (let e = t.0 in omega arith)
-nested_told column (Unopened c) p t = absurd (let e : true ≡ false = t.2 in cc)
-nested_told column (TooLong c) p t = absurd (not_base_40 40 refl t.1)
-nested_told column (Unclosed c) p t = absurd t
+nested_reported : (column : ℕ) (g : ReadFault) → 0 < column → Refusal Whole true 40 (column - 1) g → g ≡ Nested column
+nested_reported column (NotAMove c) p t = absurd (t.1 (refl, refl))
+nested_reported column (Nested c) p t = ap Nested (let e = t.0 in omega arith)
+nested_reported column (Unopened c) p t = absurd (let e : true ≡ false = t.2 in cc)
+nested_reported column (TooLong c) p t = absurd (not_base_40 40 refl t.1)
+nested_reported column (Unclosed c) p t = absurd t
 
-unopened_told : (column : ℕ) (g : ReadFault) → 0 < column → Refusal Whole false 41 (column - 1) g → g ≡ Unopened column
-unopened_told column (NotAMove c) p t = absurd (t.2 (refl, refl))
-unopened_told column (Nested c) p t = absurd (let e : false ≡ true = t.2 in cc)
-unopened_told column (Unopened c) p t = ap Unopened (let e = t.0 in omega arith)
-unopened_told column (TooLong c) p t = absurd (not_base_41 41 refl t.1)
-unopened_told column (Unclosed c) p t = absurd t
+unopened_reported : (column : ℕ) (g : ReadFault) → 0 < column → Refusal Whole false 41 (column - 1) g → g ≡ Unopened column
+unopened_reported column (NotAMove c) p t = absurd (t.2 (refl, refl))
+unopened_reported column (Nested c) p t = absurd (let e : false ≡ true = t.2 in cc)
+unopened_reported column (Unopened c) p t = ap Unopened (let e = t.0 in omega arith)
+unopened_reported column (TooLong c) p t = absurd (not_base_41 41 refl t.1)
+unopened_reported column (Unclosed c) p t = absurd t
 
-long_told : (column byte : ℕ) (q : Bool) (g : ReadFault) → 0 < column → BeginsBase byte → Refusal Whole q byte (column - 1) g → g ≡ TooLong column
-long_told column byte q (NotAMove c) p n t = absurd (t.3 n)
-long_told column byte q (Nested c) p n t = absurd (not_base_40 byte t.1 n)
-long_told column byte q (Unopened c) p n t = absurd (not_base_41 byte t.1 n)
-long_told column byte q (TooLong c) p n t = ap TooLong (let e = t.0 in omega arith)
-long_told column byte q (Unclosed c) p n t = absurd t
+long_reported : (column byte : ℕ) (q : Bool) (g : ReadFault) → 0 < column → BeginsBase byte → Refusal Whole q byte (column - 1) g → g ≡ TooLong column
+long_reported column byte q (NotAMove c) p n t = absurd (t.3 n)
+long_reported column byte q (Nested c) p n t = absurd (not_base_40 byte t.1 n)
+long_reported column byte q (Unopened c) p n t = absurd (not_base_41 byte t.1 n)
+long_reported column byte q (TooLong c) p n t = ap TooLong (let e = t.0 in omega arith)
+long_reported column byte q (Unclosed c) p n t = absurd t
 
-cut_told : (column byte : ℕ) (q : Bool) (c : Cut) (g : ReadFault) → 0 < cut_length c → Refusal c q byte (column + cut_length c - 1) g → g ≡ NotAMove column
-cut_told column byte q Whole g p t = absurd (omega arith)
-cut_told column byte q LacksOne (NotAMove c) p t = ap NotAMove (omega (arith, t))
-cut_told column byte q LacksOne (Nested c) p t = absurd t
-cut_told column byte q LacksOne (Unopened c) p t = absurd t
-cut_told column byte q LacksOne (TooLong c) p t = absurd t
-cut_told column byte q LacksOne (Unclosed c) p t = absurd t
-cut_told column byte q LacksTwo (NotAMove c) p t = ap NotAMove (omega (arith, t))
-cut_told column byte q LacksTwo (Nested c) p t = absurd t
-cut_told column byte q LacksTwo (Unopened c) p t = absurd t
-cut_told column byte q LacksTwo (TooLong c) p t = absurd t
-cut_told column byte q LacksTwo (Unclosed c) p t = absurd t
+cut_reported : (column byte : ℕ) (q : Bool) (c : Cut) (g : ReadFault) → 0 < cut_length c → Refusal c q byte (column + cut_length c - 1) g → g ≡ NotAMove column
+cut_reported column byte q Whole g p t = absurd (omega arith)
+cut_reported column byte q LacksOne (NotAMove c) p t = ap NotAMove (omega (arith, t))
+cut_reported column byte q LacksOne (Nested c) p t = absurd t
+cut_reported column byte q LacksOne (Unopened c) p t = absurd t
+cut_reported column byte q LacksOne (TooLong c) p t = absurd t
+cut_reported column byte q LacksOne (Unclosed c) p t = absurd t
+cut_reported column byte q LacksTwo (NotAMove c) p t = ap NotAMove (omega (arith, t))
+cut_reported column byte q LacksTwo (Nested c) p t = absurd t
+cut_reported column byte q LacksTwo (Unopened c) p t = absurd t
+cut_reported column byte q LacksTwo (TooLong c) p t = absurd t
+cut_reported column byte q LacksTwo (Unclosed c) p t = absurd t
 
 stops_run : (bytes : List ℕ) (f : ReadFault) → Stops bytes f → run start bytes ≡ Err f
 stops_run bytes (NotAMove column) h =
     elim h [
-      | inl w ↦ (let s = stopped bytes column Whole w.1 w.0 w.2 in s.ran ∙ ap Err (other_told column w.0 w.1 s.fault w.2.positive (w.3, w.4, w.5) s.told))
-      | inr w ↦ (let s = stopped bytes (column + cut_length w.2) w.2 w.1 w.0 w.4 in s.ran ∙ ap Err (cut_told column w.0 w.1 w.2 s.fault w.3 s.told))
+      | inl w ↦ (let s = stopped bytes column Whole w.1 w.0 w.2 in s.ran ∙ ap Err (other_reported column w.0 w.1 s.fault w.2.positive (w.3, w.4, w.5) s.reported))
+      | inr w ↦ (let s = stopped bytes (column + cut_length w.2) w.2 w.1 w.0 w.4 in s.ran ∙ ap Err (cut_reported column w.0 w.1 w.2 s.fault w.3 s.reported))
     ]
 stops_run bytes (Nested column) h =
-    let s = stopped bytes column Whole true 40 h in s.ran ∙ ap Err (nested_told column s.fault h.positive s.told)
+    let s = stopped bytes column Whole true 40 h in s.ran ∙ ap Err (nested_reported column s.fault h.positive s.reported)
 stops_run bytes (Unopened column) h =
-    let s = stopped bytes column Whole false 41 h in s.ran ∙ ap Err (unopened_told column s.fault h.positive s.told)
+    let s = stopped bytes column Whole false 41 h in s.ran ∙ ap Err (unopened_reported column s.fault h.positive s.reported)
 stops_run bytes (TooLong column) h =
-    let s = stopped bytes column Whole h.1 h.0 h.3 in s.ran ∙ ap Err (long_told column h.0 h.1 s.fault h.3.positive h.2 s.told)
+    let s = stopped bytes column Whole h.1 h.0 h.3 in s.ran ∙ ap Err (long_reported column h.0 h.1 s.fault h.3.positive h.2 s.reported)
 stops_run bytes (Unclosed column) h = absurd h
 
 -- the last opening bracket is one
-behind : (a b : List ℕ) → has_no_bracket (a ++ 40 ∷ b) ≡ true → ⊥
-behind [] b e = cc
-behind (x ∷ a) b e = behind a b (both_right (not (x == 40 || x == 41)) _ e)
+has_opening : (a b : List ℕ) → has_no_bracket (a ++ 40 ∷ b) ≡ true → ⊥
+has_opening [] b e = cc
+has_opening (x ∷ a) b e = has_opening a b (both_right (not (x == 40 || x == 41)) _ e)
 
 one_opening : (a b c d : List ℕ) → a ++ 40 ∷ b ≡ c ++ 40 ∷ d → has_no_bracket b ≡ true → has_no_bracket d ≡ true → length a ≡ length c
 one_opening [] b [] d e p q = refl
 one_opening [] b (y ∷ c) d e p q =
-    let t : b ≡ c ++ 40 ∷ d = cc in absurd (behind c d (ap has_no_bracket (sym t) ∙ p))
+    let t : b ≡ c ++ 40 ∷ d = cc in absurd (has_opening c d (ap has_no_bracket (sym t) ∙ p))
 one_opening (x ∷ a) b [] d e p q =
-    let t : a ++ 40 ∷ b ≡ d = cc in absurd (behind a b (ap has_no_bracket t ∙ q))
+    let t : a ++ 40 ∷ b ≡ d = cc in absurd (has_opening a b (ap has_no_bracket t ∙ q))
 one_opening (x ∷ a) b (y ∷ c) d e p q =
     let t : a ++ 40 ∷ b ≡ c ++ 40 ∷ d = cc in ap suc (one_opening a b c d t p q)
 

@@ -133,12 +133,12 @@ words_are_read (t ∷ ts) =
     }
 
 -- One space stands between each two words.
-joined_behind : (t : Token) (ts : List Token) (text : List ℕ) → with_words (text ++ word t) (map word ts) ≡ text ++ join_with_byte 32 (map word (t ∷ ts))
-joined_behind t [] text = refl
-joined_behind t (u ∷ us) text =
-    joined_behind u us ((text ++ word t) ++ gap (text ++ word t))
+joined_after : (t : Token) (ts : List Token) (text : List ℕ) → with_words (text ++ word t) (map word ts) ≡ text ++ join_with_byte 32 (map word (t ∷ ts))
+joined_after t [] text = refl
+joined_after t (u ∷ us) text =
+    joined_after u us ((text ++ word t) ++ gap (text ++ word t))
     ∙ ap (λ g. ((text ++ word t) ++ g) ++ join_with_byte 32 (map word (u ∷ us))) (gap_word text t) ∙ simp append_assoc
 
 pub words_are_joined : (s : List Token) → with_words [] (map word s) ≡ join_with_byte 32 (map word s)
 words_are_joined [] = refl
-words_are_joined (t ∷ ts) = joined_behind t ts []
+words_are_joined (t ∷ ts) = joined_after t ts []

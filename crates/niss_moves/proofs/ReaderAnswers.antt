@@ -197,8 +197,8 @@ line_end r bytes h =
     same (Ok s) = refl
     same (Err f) = refl
 
-pub told_line : (fault : Option ReadFault) (p : PartialLine) (bytes : List ℕ) (f : ReadFault) → fault ≡ Some f → IsFed (record { fed = p.fed; fault = fault; so_far = state_of p }) bytes → Err f ≡ read_line bytes
-told_line fault p bytes f e h = sym (line_end _ bytes h ∙ ap (λ o. ended (state_or o (state_of p))) e)
+pub reported_line : (fault : Option ReadFault) (p : PartialLine) (bytes : List ℕ) (f : ReadFault) → fault ≡ Some f → IsFed (record { fed = p.fed; fault = fault; so_far = state_of p }) bytes → Err f ≡ read_line bytes
+reported_line fault p bytes f e h = sym (line_end _ bytes h ∙ ap (λ o. ended (state_or o (state_of p))) e)
 
 pub ended_line : (fault : Option ReadFault) (p : PartialLine) (bytes : List ℕ) → fault ≡ None → IsFed (record { fed = p.fed; fault = fault; so_far = state_of p }) bytes → ended_at p.last (state_of p) ≡ read_line bytes
 ended_line fault p bytes e h = sym (line_end _ bytes h ∙ ap (λ o. ended (state_or o (state_of p))) e)

@@ -205,8 +205,8 @@ IsFollower symbol.Cut = Unit {0}
 IsFollower symbol.Other = Unit {0}
 IsFollower _ = ⊥
 
-told_other : (o : Bool) (byte n k : ℕ) (x : Symbol) → symbol_of byte ≡ x → IsFollower x → k ≡ n → Refusal Whole o byte n (NotAMove (k + 1))
-told_other o byte n k x e f q =
+reported_other : (o : Bool) (byte n k : ℕ) (x : Symbol) → symbol_of byte ≡ x → IsFollower x → k ≡ n → Refusal Whole o byte n (NotAMove (k + 1))
+reported_other o byte n k x e f q =
     (ap (λ n. n + 1) q, λ h. subst IsFollower (sym e ∙ ap symbol_of h.0 ∙ symbol_of_open) f, λ h. subst IsFollower (sym e ∙ ap symbol_of h.0 ∙ symbol_of_close) f, λ h. let w = first_symbol h.0 byte h.1 h.2 in subst IsFollower (sym e ∙ w.1) f)
 
 state : List Token → List Token → Option ℕ → LastMove → ℕ → State
@@ -259,14 +259,14 @@ wide_means q n b o (last.Bare (base.Face f)) k bytes byte e x h =
       fed = fed_more _ _ _ h.fed;
       room = omega (arith, h.room, count_more o n b (token_of (base.Face f) Quarter ∷ []), count_more o n b (token_of (base.Wide f) Quarter ∷ []));
     }
-wide_means q n b o (last.Bare (base.Wide f)) k bytes byte e x h = told_other q byte (length bytes) k symbol.Wide e tt h.fed
-wide_means q n b o (last.Bare (base.LowerCase f)) k bytes byte e x h = told_other q byte (length bytes) k symbol.Wide e tt h.fed
-wide_means q n b o (last.Bare (base.Slice f)) k bytes byte e x h = told_other q byte (length bytes) k symbol.Wide e tt h.fed
-wide_means q n b o (last.Bare (base.Rotation f)) k bytes byte e x h = told_other q byte (length bytes) k symbol.Wide e tt h.fed
-wide_means q n b o last.Finished k bytes byte e x h = told_other q byte (length bytes) k symbol.Wide e tt h.fed
-wide_means q n b o (last.Doubled f) k bytes byte e x h = told_other q byte (length bytes) k symbol.Wide e tt h.fed
-wide_means q n b o (last.FirstByte f two) k bytes byte e x h = told_other q byte (length bytes) k symbol.Wide e tt h.fed
-wide_means q n b o (last.SecondByte f two) k bytes byte e x h = told_other q byte (length bytes) k symbol.Wide e tt h.fed
+wide_means q n b o (last.Bare (base.Wide f)) k bytes byte e x h = reported_other q byte (length bytes) k symbol.Wide e tt h.fed
+wide_means q n b o (last.Bare (base.LowerCase f)) k bytes byte e x h = reported_other q byte (length bytes) k symbol.Wide e tt h.fed
+wide_means q n b o (last.Bare (base.Slice f)) k bytes byte e x h = reported_other q byte (length bytes) k symbol.Wide e tt h.fed
+wide_means q n b o (last.Bare (base.Rotation f)) k bytes byte e x h = reported_other q byte (length bytes) k symbol.Wide e tt h.fed
+wide_means q n b o last.Finished k bytes byte e x h = reported_other q byte (length bytes) k symbol.Wide e tt h.fed
+wide_means q n b o (last.Doubled f) k bytes byte e x h = reported_other q byte (length bytes) k symbol.Wide e tt h.fed
+wide_means q n b o (last.FirstByte f two) k bytes byte e x h = reported_other q byte (length bytes) k symbol.Wide e tt h.fed
+wide_means q n b o (last.SecondByte f two) k bytes byte e x h = reported_other q byte (length bytes) k symbol.Wide e tt h.fed
 
 two_means : (q : Bool) (n b : List Token) (o : Option ℕ) (t : LastMove) (k : ℕ) (bytes : List ℕ) (byte : ℕ) → symbol_of byte ≡ symbol.Two → byte ≡ 50 → Reads (state n b o t k) bytes → Outcome Whole q bytes byte (fed_to (k + 1) (doubled t (state n b o t k)))
 unfolding state
@@ -278,10 +278,10 @@ two_means q n b o (last.Bare f) k bytes byte e x h =
       fed = fed_more _ _ _ h.fed;
       room = omega (arith, h.room, count_more o n b (token_of f Quarter ∷ []), count_more o n b (token_of f Half ∷ []));
     }
-two_means q n b o last.Finished k bytes byte e x h = told_other q byte (length bytes) k symbol.Two e tt h.fed
-two_means q n b o (last.Doubled f) k bytes byte e x h = told_other q byte (length bytes) k symbol.Two e tt h.fed
-two_means q n b o (last.FirstByte f two) k bytes byte e x h = told_other q byte (length bytes) k symbol.Two e tt h.fed
-two_means q n b o (last.SecondByte f two) k bytes byte e x h = told_other q byte (length bytes) k symbol.Two e tt h.fed
+two_means q n b o last.Finished k bytes byte e x h = reported_other q byte (length bytes) k symbol.Two e tt h.fed
+two_means q n b o (last.Doubled f) k bytes byte e x h = reported_other q byte (length bytes) k symbol.Two e tt h.fed
+two_means q n b o (last.FirstByte f two) k bytes byte e x h = reported_other q byte (length bytes) k symbol.Two e tt h.fed
+two_means q n b o (last.SecondByte f two) k bytes byte e x h = reported_other q byte (length bytes) k symbol.Two e tt h.fed
 
 prime_means : (q : Bool) (n b : List Token) (o : Option ℕ) (t : LastMove) (k : ℕ) (bytes : List ℕ) (byte : ℕ) → symbol_of byte ≡ symbol.Apostrophe → byte ≡ 39 → Reads (state n b o t k) bytes → Outcome Whole q bytes byte (fed_to (k + 1) (primed t (state n b o t k)))
 unfolding state
@@ -289,9 +289,9 @@ prime_means q n b o (last.Bare f) k bytes byte e x h =
     front_reads _ _ (subst (λ (z : List ℕ). WholeItems o z (outside o n (token_of f Counter ∷ [])) (inside o b (token_of f Counter ∷ []))) (sym (ap₂ (λ (y : List ℕ) (z : ℕ). y ++ z ∷ []) h.bytes_are x ∙ append_assoc h.front (base_bytes f) (39 ∷ []))) (front_piece _ _ _ _ (Spelled f (Prime Plain)) h.is_front)) refl (fed_more _ _ _ h.fed) (omega (arith, h.room, count_more o n b (token_of f Quarter ∷ []), count_more o n b (token_of f Counter ∷ [])))
 prime_means q n b o (last.Doubled f) k bytes byte e x h =
     front_reads _ _ (subst (λ (z : List ℕ). WholeItems o z (outside o n (token_of f Half ∷ [])) (inside o b (token_of f Half ∷ []))) (sym (ap₂ (λ (y : List ℕ) (z : ℕ). y ++ z ∷ []) h.bytes_are x ∙ append_assoc h.front (base_bytes f ++ 50 ∷ []) (39 ∷ []) ∙ ap (λ y. h.front ++ y) (append_assoc (base_bytes f) (50 ∷ []) (39 ∷ [])))) (front_piece _ _ _ _ (Spelled f (TwoPrime Plain)) h.is_front)) refl (fed_more _ _ _ h.fed) h.room
-prime_means q n b o last.Finished k bytes byte e x h = told_other q byte (length bytes) k symbol.Apostrophe e tt h.fed
-prime_means q n b o (last.FirstByte f two) k bytes byte e x h = told_other q byte (length bytes) k symbol.Apostrophe e tt h.fed
-prime_means q n b o (last.SecondByte f two) k bytes byte e x h = told_other q byte (length bytes) k symbol.Apostrophe e tt h.fed
+prime_means q n b o last.Finished k bytes byte e x h = reported_other q byte (length bytes) k symbol.Apostrophe e tt h.fed
+prime_means q n b o (last.FirstByte f two) k bytes byte e x h = reported_other q byte (length bytes) k symbol.Apostrophe e tt h.fed
+prime_means q n b o (last.SecondByte f two) k bytes byte e x h = reported_other q byte (length bytes) k symbol.Apostrophe e tt h.fed
 
 cut_means : (q : Bool) (n b : List Token) (o : Option ℕ) (t : LastMove) (k : ℕ) (bytes : List ℕ) (byte : ℕ) → symbol_of byte ≡ symbol.Cut → byte ≡ 0xE2 → Reads (state n b o t k) bytes → Outcome Whole q bytes byte (fed_to (k + 1) (cut t (state n b o t k)))
 unfolding state
@@ -311,9 +311,9 @@ cut_means q n b o (last.Doubled f) k bytes byte e x h =
       fed = fed_more _ _ _ h.fed;
       room = h.room;
     }
-cut_means q n b o last.Finished k bytes byte e x h = told_other q byte (length bytes) k symbol.Cut e tt h.fed
-cut_means q n b o (last.FirstByte f two) k bytes byte e x h = told_other q byte (length bytes) k symbol.Cut e tt h.fed
-cut_means q n b o (last.SecondByte f two) k bytes byte e x h = told_other q byte (length bytes) k symbol.Cut e tt h.fed
+cut_means q n b o last.Finished k bytes byte e x h = reported_other q byte (length bytes) k symbol.Cut e tt h.fed
+cut_means q n b o (last.FirstByte f two) k bytes byte e x h = reported_other q byte (length bytes) k symbol.Cut e tt h.fed
+cut_means q n b o (last.SecondByte f two) k bytes byte e x h = reported_other q byte (length bytes) k symbol.Cut e tt h.fed
 
 symbol_means : (x : Symbol) (n b : List Token) (o : Option ℕ) (t : LastMove) (k : ℕ) (bytes : List ℕ) (byte : ℕ) → symbol_of byte ≡ x → IsSymbol x byte → IsReady t → Reads (state n b o t k) bytes → Outcome Whole (is_open o) bytes byte (fed_to (k + 1) (step_by 256 x (state n b o t k)))
 unfolding state
@@ -325,7 +325,7 @@ symbol_means symbol.Wide n b o t k bytes byte e i r h = wide_means _ n b o t k b
 symbol_means symbol.Two n b o t k bytes byte e i r h = two_means _ n b o t k bytes byte e i h
 symbol_means symbol.Apostrophe n b o t k bytes byte e i r h = prime_means _ n b o t k bytes byte e i h
 symbol_means symbol.Cut n b o t k bytes byte e i r h = cut_means _ n b o t k bytes byte e i h
-symbol_means symbol.Other n b o t k bytes byte e i r h = told_other _ byte (length bytes) k symbol.Other e tt h.fed
+symbol_means symbol.Other n b o t k bytes byte e i r h = reported_other _ byte (length bytes) k symbol.Other e tt h.fed
 
 first_means : (n b : List Token) (o : Option ℕ) (f : Base) (two : Bool) (k : ℕ) (bytes : List ℕ) (byte : ℕ) → Reads (state n b o (last.FirstByte f two) k) bytes → Outcome LacksTwo (is_open o) bytes byte (fed_to (k + 1) (step_at 256 (last.FirstByte f two) (state n b o (last.FirstByte f two) k) byte))
 unfolding state

@@ -95,32 +95,32 @@ stop_at front rest byte s f e g =
           cc;
     }
 
-pub told_stops : (c : Cut) (o : Bool) (byte n : ℕ) (bytes : List ℕ) (f : ReadFault) → Refusal c o byte n f → StopsAt bytes (n + 1) c o byte → Stops bytes f
-told_stops Whole o byte n bytes (NotAMove col) t h =
+pub reported_stops : (c : Cut) (o : Bool) (byte n : ℕ) (bytes : List ℕ) (f : ReadFault) → Refusal c o byte n f → StopsAt bytes (n + 1) c o byte → Stops bytes f
+reported_stops Whole o byte n bytes (NotAMove col) t h =
     inl (byte, o, subst (λ (x : ℕ). StopsAt bytes x Whole o byte) (sym t.0) h, t.1, t.2, t.3)
-told_stops Whole o byte n bytes (Nested col) t h =
+reported_stops Whole o byte n bytes (Nested col) t h =
     subst₃ (λ (x y : ℕ) (z : Bool). StopsAt bytes x Whole z y) (sym t.0) t.1 t.2 h
-told_stops Whole o byte n bytes (Unopened col) t h =
+reported_stops Whole o byte n bytes (Unopened col) t h =
     subst₃ (λ (x y : ℕ) (z : Bool). StopsAt bytes x Whole z y) (sym t.0) t.1 t.2 h
-told_stops Whole o byte n bytes (TooLong col) t h =
+reported_stops Whole o byte n bytes (TooLong col) t h =
     (byte, o, t.1, subst (λ (x : ℕ). StopsAt bytes x Whole o byte) (sym t.0) h)
-told_stops Whole o byte n bytes (Unclosed col) t h = absurd t
-told_stops LacksOne o byte n bytes (NotAMove col) t h =
+reported_stops Whole o byte n bytes (Unclosed col) t h = absurd t
+reported_stops LacksOne o byte n bytes (NotAMove col) t h =
     inr (byte, o, LacksOne, omega arith, subst (λ (x : ℕ). StopsAt bytes x LacksOne o byte) (sym t) h)
-told_stops LacksTwo o byte n bytes (NotAMove col) t h =
+reported_stops LacksTwo o byte n bytes (NotAMove col) t h =
     inr (byte, o, LacksTwo, omega arith, subst (λ (x : ℕ). StopsAt bytes x LacksTwo o byte) (sym t) h)
-told_stops LacksOne o byte n bytes (Nested col) t h = absurd t
-told_stops LacksOne o byte n bytes (Unopened col) t h = absurd t
-told_stops LacksOne o byte n bytes (TooLong col) t h = absurd t
-told_stops LacksOne o byte n bytes (Unclosed col) t h = absurd t
-told_stops LacksTwo o byte n bytes (Nested col) t h = absurd t
-told_stops LacksTwo o byte n bytes (Unopened col) t h = absurd t
-told_stops LacksTwo o byte n bytes (TooLong col) t h = absurd t
-told_stops LacksTwo o byte n bytes (Unclosed col) t h = absurd t
+reported_stops LacksOne o byte n bytes (Nested col) t h = absurd t
+reported_stops LacksOne o byte n bytes (Unopened col) t h = absurd t
+reported_stops LacksOne o byte n bytes (TooLong col) t h = absurd t
+reported_stops LacksOne o byte n bytes (Unclosed col) t h = absurd t
+reported_stops LacksTwo o byte n bytes (Nested col) t h = absurd t
+reported_stops LacksTwo o byte n bytes (Unopened col) t h = absurd t
+reported_stops LacksTwo o byte n bytes (TooLong col) t h = absurd t
+reported_stops LacksTwo o byte n bytes (Unclosed col) t h = absurd t
 
 pub step_stops : (front rest : List ℕ) (byte : ℕ) (s : State) (f : ReadFault) → run start front ≡ Ok s → step s byte ≡ Err f → Stops (front ++ byte ∷ rest) f
 step_stops front rest byte s f e g =
-    told_stops _ _ byte (length front) _ f (subst (λ (r : Result State ReadFault). Outcome (cut_of s.last) (is_open s.bracket) front byte r) g (step_means s front byte (reads_all front s e))) (stop_at front rest byte s f e g)
+    reported_stops _ _ byte (length front) _ f (subst (λ (r : Result State ReadFault). Outcome (cut_of s.last) (is_open s.bracket) front byte r) g (step_means s front byte (reads_all front s e))) (stop_at front rest byte s f e g)
 
 -- where a run was refused
 pub record Refused (s : State) (bytes : List ℕ) (f : ReadFault) : Type 0 where

@@ -19,16 +19,16 @@ use Rattle.niss_moves.specs.declared.turn.Turn.{Turn}
 use Rattle.niss_moves.specs.declared.token.Token.{Token}
 use Rattle.niss_moves.specs.declared.rotation.Rotation.{Rotation}
 
-abbrev pub behind_first : Turn → Option (List Turn) → Option (List Turn)
-behind_first t None = None
-behind_first t (Some s) = Some (t ∷ s)
+abbrev pub after_first : Turn → Option (List Turn) → Option (List Turn)
+after_first t None = None
+after_first t (Some s) = Some (t ∷ s)
 
 -- the list with the leftmost neighbours rewritten that break the order, where there are any
 unfoldable pub rewritten_once : List Turn → Option (List Turn)
 rewritten_once [] = None
 rewritten_once (t ∷ []) = None
 rewritten_once (t ∷ u ∷ s) =
-    if face_may_follow t.face u.face then behind_first t (rewritten_once (u ∷ s)) else Some (rewritten_pair t u ++ s)
+    if face_may_follow t.face u.face then after_first t (rewritten_once (u ∷ s)) else Some (rewritten_pair t u ++ s)
 
 -- the list after at most n rewritings
 unfoldable pub rewritten_within : ℕ → List Turn → List Turn

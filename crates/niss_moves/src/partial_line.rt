@@ -156,7 +156,7 @@ impl PartialLine {
     }
 
     /// Ends the line: it is whole then, or has a fault.
-    pub fn close(&mut self) -> Result<(), ReadFault>
+    pub fn end(&mut self) -> Result<(), ReadFault>
         requires { HasRoom (state_of self.old) }
         ensures value { moves_if result self.new.niss ≡ ended (Ok (state_of self.old)) }
         ensures room { HasRoom (state_of self.new) }
@@ -176,18 +176,18 @@ impl PartialLine {
     }
 
     /// The line that ends here.
-    pub fn end(self) -> Result<Niss, ReadFault>
+    pub fn finish(self) -> Result<Niss, ReadFault>
         requires { HasRoom (state_of self) }
         ensures { result ≡ ended (Ok (state_of self)) }
     {
         let mut line = self;
-        match line.close() {
+        match line.end() {
             Ok(()) => Ok(line.niss),
             Err(fault) => Err(fault),
         }
     }
 
-    /// The moves of the line, once it is closed.
+    /// The moves of the line, once it is ended.
     pub fn moves(&self) -> &Niss
         ensures { result.now ≡ self.now.niss }
     {

@@ -65,7 +65,7 @@ impl LineReader {
             IsOk result ↔ CanContinue (bytes ++ byte ∷ []) }
         ensures fault { (bytes : List ℕ) → IsFed self.old bytes →
             IfErr result (λ f. Stops (bytes ++ byte ∷ []) f) }
-        ensures told { MatchResult result
+        ensures reported { MatchResult result
             (λ _. self.new.fault ≡ None)
             (λ f. self.new.fault ≡ Some f) }
         ensures again { (f : ReadFault) → self.old.fault ≡ Some f →
@@ -110,7 +110,7 @@ impl LineReader {
     {
         match self.fault {
             Some(fault) => Err(fault),
-            None => self.line.close(),
+            None => self.line.end(),
         }
     }
 
@@ -138,7 +138,7 @@ impl LineReader {
     {
         match self.fault {
             Some(fault) => Err(fault),
-            None => self.line.end(),
+            None => self.line.finish(),
         }
     }
 }

@@ -16,7 +16,7 @@ use Rattle.niss_search.specs.Solutions.{look_bound, from_to, up_to, last_length,
 use Rattle.niss_search.specs.Looks.{looks, all_looks}
 use Rattle.niss_search.specs.declared.outcome.Outcome.{Outcome}
 use Rattle.niss_search.specs.Cubes.{HasPosition, near_solutions_of, near_looks_of}
-use Rattle.niss_search.specs.Laws.{PositionsTell, NoSlackIsLeast}
+use Rattle.niss_search.specs.Laws.{PositionsFollowCubes, NoSlackIsLeast}
 use Rattle.niss_search.specs.Path.{Path}
 use Rattle.niss_search.specs.Delivery.{WentThrough, StoppedIn, at_limit}
 use Rattle.niss_search.specs.Descent.{found_below, looks_below, GoesThrough, StopsIn, descent_state}
@@ -279,7 +279,7 @@ module _ (step : Step) (x : List Coordinates) (n slack : ℕ) {K : Type 0} (took
         rw (solutions-longer (turns_of step) (reaches_at step x) n slack, all_looks-longer (turns_of step) (reaches_at step x) n slack (far_at step x), e)
         (StopsIn-after took refused _ _ _ _ m0 m1 m2 c s0 s1 s2 went h)
 
--- What a search tells of a cube, by what it answers.
+-- What a search says of a cube, by what it answers.
 pub record Searched {K F : Type 0} (took refused : K → Path → K → Type 0) (step : Step) (e : Place → Place) (n slack m m1 : ℕ) (s s1 : K) (r : Result Outcome F) : Type 0 where
   pub solutions : IfOk r (λ o. o.solutions ≡ length (near_solutions_of step e n slack))
   pub ok : OnOk r (WentThrough (at_limit took n) s (near_solutions_of step e n slack) s1)
@@ -288,10 +288,10 @@ pub record Searched {K F : Type 0} (took refused : K → Path → K → Type 0) 
   pub looks_at_most : m1 ≤ m + near_looks_of step e n slack
 
 module _ {K F : Type 0} (took refused : K → Path → K → Type 0) (step : Step) (x : List Coordinates) (n slack m m1 : ℕ) (s s1 : K) where
-  pub searched : PositionsTell → (e : Place → Place) → HasPosition step e x → (r : Result Outcome F) → Delivers took refused n (solutions_at step x n slack) (all_looks_at step x n slack) m m1 s s1 (λ o. o.solutions) r → Searched took refused step e n slack m m1 s s1 r
-  searched tell e at (Ok o) h =
-      let found = solutions-cube tell step e x at n slack in
-      let looked = all_looks-cube tell step e x at n slack in
+  pub searched : PositionsFollowCubes → (e : Place → Place) → HasPosition step e x → (r : Result Outcome F) → Delivers took refused n (solutions_at step x n slack) (all_looks_at step x n slack) m m1 s s1 (λ o. o.solutions) r → Searched took refused step e n slack m m1 s s1 r
+  searched law e at (Ok o) h =
+      let found = solutions-cube law step e x at n slack in
+      let looked = all_looks-cube law step e x at n slack in
       record {
         solutions = omega (arith, ap length found, h.counted);
         ok = rw found h.delivered;
@@ -299,9 +299,9 @@ module _ {K F : Type 0} (took refused : K → Path → K → Type 0) (step : Ste
         looks = omega (arith, looked, h.looked);
         looks_at_most = omega (arith, looked, h.looked);
       }
-  searched tell e at (Err fault) h =
-      let found = solutions-cube tell step e x at n slack in
-      let looked = all_looks-cube tell step e x at n slack in
+  searched law e at (Err fault) h =
+      let found = solutions-cube law step e x at n slack in
+      let looked = all_looks-cube law step e x at n slack in
       record {
         solutions = tt;
         ok = tt;

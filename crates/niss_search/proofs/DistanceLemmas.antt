@@ -94,7 +94,7 @@ first_or-either f g a (suc n) d h =
       by_tests false true l m e = omega arith
       by_tests false false l m e = e
 
--- where either of two tests is to be reached, the nearer one tells the distance
+-- where either of two tests is to be reached, the nearer one gives the distance
 pub distance-either : (turns : List Turn) (p q : List Turn → Bool) → distance turns (λ s. p s || q s) ≡ min (distance turns p) (distance turns q)
 unfolding distance
 distance-either turns p q =

@@ -125,11 +125,11 @@ entry_distance-zero alt i =
       by_test true = refl
       by_test false = refl
 
-module _ (tell : EntriesTurn) (alt : Alternative) where
+module _ (law : EntriesTurn) (alt : Alternative) where
   -- the position of an entry after a turn is that of the entry after it
   after-entry : (i : ℕ) (t : Turn) → i < count_for alt.goal → position_after (entry_at alt.goal i ∷ []) t ≡ entry_at alt.goal (entry_after alt.goal i t) ∷ []
   unfolding position_after
-  after-entry i t h = ap (λ (c : Coordinates). c ∷ []) (sym (tell.leads alt.goal i t h))
+  after-entry i t h = ap (λ (c : Coordinates). c ∷ []) (sym (law.leads alt.goal i t h))
 
   pub entry_distance-turn : (i : ℕ) (t : Turn) → i < count_for alt.goal → Contains (turns_of alt.step) t → entry_distance alt i ≤ 1 + entry_distance alt (entry_after alt.goal i t)
   unfolding entry_distance
@@ -139,7 +139,7 @@ module _ (tell : EntriesTurn) (alt : Alternative) where
   -- a turn leads at most one further away
   pub entry_distance-back : (i : ℕ) (t : Turn) → i < count_for alt.goal → Contains (turns_of alt.step) t → entry_distance alt (entry_after alt.goal i t) ≤ 1 + entry_distance alt i
   entry_distance-back i t h m =
-      subst (λ j. entry_distance alt (entry_after alt.goal i t) ≤ 1 + entry_distance alt j) (tell.back alt.goal i t h) (entry_distance-turn (entry_after alt.goal i t) (inverse_turn t) (tell.below alt.goal i t h) (tell.inverses alt.step t m))
+      subst (λ j. entry_distance alt (entry_after alt.goal i t) ≤ 1 + entry_distance alt j) (law.back alt.goal i t h) (entry_distance-turn (entry_after alt.goal i t) (inverse_turn t) (law.below alt.goal i t h) (law.inverses alt.step t m))
 
   -- from an entry that isn't the goal some turn leads nearer
   pub entry_distance-nearer : (i k : ℕ) → i < count_for alt.goal → entry_distance alt i ≡ suc k → k < 20 → (t : Turn) × (Contains (turns_of alt.step) t × (entry_distance alt (entry_after alt.goal i t) ≤ k))

@@ -21,11 +21,11 @@ byte_at-near level d h = rw (le-leb d level h) refl
 byte_at-far : (level d : ℕ) → level < d → byte_at level d ≡ 21
 byte_at-far level d h = rw (lt-leb d level h) refl
 
-module _ (tell : EntriesTurn) (alt : Alternative) (level : ℕ) (small : level < 20) where
+module _ (law : EntriesTurn) (alt : Alternative) (level : ℕ) (small : level < 20) where
   -- an entry that was not met gets the next level
   module _ (xs : List ℕ) (f : IsFilling alt level xs) (x : ℕ) (t : Turn) (here : entry_distance alt x ≡ level) (in_range : x < count_for alt.goal) (m : Contains (turns_of alt.step) t) where
     met-le : entry_distance alt (entry_after alt.goal x t) ≤ level + 1
-    met-le = omega (arith, entry_distance-back tell alt x t in_range m)
+    met-le = omega (arith, entry_distance-back law alt x t in_range m)
 
     pub set-filling : slice_index xs (entry_after alt.goal x t) ≡ 21 → IsFilling alt level (set xs (entry_after alt.goal x t) (level + 1))
     set-filling unmet = record {
@@ -34,7 +34,7 @@ module _ (tell : EntriesTurn) (alt : Alternative) (level : ℕ) (small : level <
       far = λ i l n. far-at i l n (eqb_tells i (entry_after alt.goal x t));
     } where
       next-range : entry_after alt.goal x t < length xs
-      next-range = omega (arith, f.size, tell.below alt.goal x t in_range)
+      next-range = omega (arith, f.size, law.below alt.goal x t in_range)
 
       near-at : (i : ℕ) → i < count_for alt.goal → entry_distance alt i ≤ level → ((eqb i (entry_after alt.goal x t) ≡ true) × (i ≡ entry_after alt.goal x t)) ⊎ ((eqb i (entry_after alt.goal x t) ≡ false) × (i ≢ entry_after alt.goal x t)) → slice_index (set xs (entry_after alt.goal x t) (level + 1)) i ≡ entry_distance alt i
       near-at i l n (inl e) =
@@ -57,7 +57,7 @@ module _ (tell : EntriesTurn) (alt : Alternative) (level : ℕ) (small : level <
 
     pub set-met : slice_index (set xs (entry_after alt.goal x t) (level + 1)) (entry_after alt.goal x t) < 21
     set-met =
-        let next-range : entry_after alt.goal x t < length xs = omega (arith, f.size, tell.below alt.goal x t in_range) in
+        let next-range : entry_after alt.goal x t < length xs = omega (arith, f.size, law.below alt.goal x t in_range) in
         omega (arith, get_or-set_same xs (entry_after alt.goal x t) (level + 1) 0 next-range)
 
   pub set-kept : (xs : List ℕ) (j i : ℕ) → slice_index xs i < 21 → slice_index (set xs j (level + 1)) i < 21
@@ -103,8 +103,8 @@ module _ (tell : EntriesTurn) (alt : Alternative) (level : ℕ) (small : level <
           let least : min (slice_index xs (entry_after alt.goal i t)) (level + 1) ≡ level + 1 = omega (arith, e.1) in
           inl (e.1, ap (set xs (entry_after alt.goal i t)) least)
       by_byte (inr e) =
-          let met = filling-met xs f (entry_after alt.goal i t) (tell.below alt.goal i t in_range) e.1 in
-          let small = met-small xs f (entry_after alt.goal i t) (tell.below alt.goal i t in_range) met in
+          let met = filling-met xs f (entry_after alt.goal i t) (law.below alt.goal i t in_range) e.1 in
+          let small = met-small xs f (entry_after alt.goal i t) (law.below alt.goal i t in_range) met in
           let least : min (slice_index xs (entry_after alt.goal i t)) (level + 1) ≡ slice_index xs (entry_after alt.goal i t) = omega (arith, small) in
           inr (met, ap (set xs (entry_after alt.goal i t)) least ∙ set-get_or xs (entry_after alt.goal i t) 0)
 
@@ -142,13 +142,13 @@ module _ (tell : EntriesTurn) (alt : Alternative) (level : ℕ) (small : level <
 
     next-at : (i : ℕ) → i < count_for alt.goal → entry_distance alt i ≡ level + 1 → slice_index xs i ≡ entry_distance alt i
     next-at i l n =
-        let nearer = entry_distance-nearer tell alt i level l (omega arith) small in
+        let nearer = entry_distance-nearer law alt i level l (omega arith) small in
         let t = nearer.0 in
         let m = nearer.1.0 in
         let j = entry_after alt.goal i t in
-        let at : entry_distance alt j ≡ level = omega (arith, nearer.1.1, entry_distance-turn tell alt i t l m) in
-        let met = extended j (tell.below alt.goal i t l) at (inverse_turn t) (tell.inverses alt.step t m) in
-        let met_here : slice_index xs i < 21 = subst (λ (y : ℕ). slice_index xs y < 21) (tell.back alt.goal i t l) met in
+        let at : entry_distance alt j ≡ level = omega (arith, nearer.1.1, entry_distance-turn law alt i t l m) in
+        let met = extended j (law.below alt.goal i t l) at (inverse_turn t) (law.inverses alt.step t m) in
+        let met_here : slice_index xs i < 21 = subst (λ (y : ℕ). slice_index xs y < 21) (law.back alt.goal i t l) met in
         met-near i met_here (f.far i l (omega arith))
 
     by_side : (i : ℕ) → i < count_for alt.goal → ((leb (entry_distance alt i) (level + 1) ≡ true) × (entry_distance alt i ≤ level + 1)) ⊎ ((leb (entry_distance alt i) (level + 1) ≡ false) × (level + 1 < entry_distance alt i)) → ((leb (entry_distance alt i) level ≡ true) × (entry_distance alt i ≤ level)) ⊎ ((leb (entry_distance alt i) level ≡ false) × (level < entry_distance alt i)) → slice_index xs i ≡ byte_at (level + 1) (entry_distance alt i)

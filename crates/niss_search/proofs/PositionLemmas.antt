@@ -1,4 +1,4 @@
--- What a position tells of each cube that has it, by the laws of the coordinates and of the steps.
+-- What a position says of each cube that has it, by the laws of the coordinates and of the steps.
 use Rattle.std.proofs.Common.{◌≡◌, true, List, [], ◌∷◌, map, Option, Contains, IsTrue, refl, sym, ap, ◌∙◌, subst}
 use Rattle.std.specs.List.{list_any}
 use Rattle.std.specs.Option.{option_map_or}
@@ -11,13 +11,13 @@ use Rattle.niss_cube.specs.Coordinates.{flip_of, twist_of, slice_of}
 use Rattle.niss_cube.specs.Steps.{goals_of, may_start, reached, holds}
 use Rattle.niss_cube.specs.StepLaws.{StartIsKept, StepsSeePlaces, DominoKeepsStart}
 use Rattle.niss_cube.specs.declared.cube.coordinate.Coordinate.TheVariants as coordinate
-use Rattle.niss_cube.proofs.CallerLemmas.{alike_is_cube, zero_tells}
+use Rattle.niss_cube.proofs.CallerLemmas.{alike_is_cube, zero_test}
 use Rattle.niss_cube.specs.declared.step.Goal.{Goal}
 use Rattle.niss_cube.specs.declared.step.Goal.TheVariants.{Edges, Domino}
 use Rattle.niss_cube.specs.declared.step.Step.{Step}
 use Rattle.niss_search.specs.declared.tables.position.Coordinates.TheVariants.{Flip}
 use Rattle.niss_search.specs.Positions.{coordinates_of, coordinates_after, are_zero, position_of, position_after, is_reached_at}
-use Rattle.niss_search.specs.Laws.{PositionsTell}
+use Rattle.niss_search.specs.Laws.{PositionsFollowCubes}
 use Rattle.niss_search.proofs.ListLemmas.{Contains-first, Contains-later}
 
 map_alike : {X Y : Type 0} (f g : X → Y) (xs : List X) → ((x : X) → f x ≡ g x) → map f xs ≡ map g xs
@@ -55,11 +55,11 @@ module _ (coordinates : AreCoordinates) where
 
   module _ (e : Place → Place) (h : IsCube e) where
     edges_zero : (a : Axis) → holds (Edges a) e ≡ are_zero (coordinates_of (Edges a) e)
-    edges_zero a = sym (zero_tells coordinate.Flip a e (flip_of a e) ((coordinates coordinate.Flip a).zero_where_kept e h))
+    edges_zero a = sym (zero_test coordinate.Flip a e (flip_of a e) ((coordinates coordinate.Flip a).zero_where_kept e h))
 
     domino_zero : (o a : Axis) → IsTrue (holds (Edges o) e) → holds (Domino o a) e ≡ are_zero (coordinates_of (Domino o a) e)
     domino_zero o a k =
-        rw (k, zero_tells coordinate.Twist a e (twist_of a e) ((coordinates coordinate.Twist a).zero_where_kept e h), zero_tells coordinate.Slice a e (slice_of a e) ((coordinates coordinate.Slice a).zero_where_kept e h))
+        rw (k, zero_test coordinate.Twist a e (twist_of a e) ((coordinates coordinate.Twist a).zero_where_kept e h), zero_test coordinate.Slice a e (slice_of a e) ((coordinates coordinate.Slice a).zero_where_kept e h))
 
     -- a goal holds where its coordinates are 0, if the step may start
     goal_zero : DominoKeepsStart → (s : Step) → IsTrue (may_start s e) → (g : Goal) → Contains (goals_of s) g → holds g e ≡ are_zero (coordinates_of g e)
@@ -77,8 +77,8 @@ module _ (coordinates : AreCoordinates) where
       by_goals (g ∷ gs) each =
           rw (each g (Contains-first g gs), by_goals gs (λ h m. each h (Contains-later g gs h m)))
 
-pub positions_tell : AreCoordinates → TurnedIsCube → StartIsKept → StepsSeePlaces → DominoKeepsStart → PositionsTell
-positions_tell coordinates is_cube kept see begins = record {
+pub positions_follow_cubes : AreCoordinates → TurnedIsCube → StartIsKept → StepsSeePlaces → DominoKeepsStart → PositionsFollowCubes
+positions_follow_cubes coordinates is_cube kept see begins = record {
   alike = λ s d e h same starts. record {
     cube = alike_is_cube d e h same;
     starts = subst IsTrue ((see d e same).start s) starts;

@@ -69,7 +69,7 @@ unfolding count_for
 values-numbered (Edges a) k e = flips-numbered a 2048 k e
 values-numbered (Domino o a) k e = pairs-numbered a 495 2187 k e
 
--- the list has as many entries as their number tells
+-- the list has as many entries as are counted
 pub entries-counted : EntriesAreCounted
 unfolding entries_of entry_count
 entries-counted s = length-flat_map values_for (goals_of s) ∙ sum_by-same (λ g. length (values_for g)) count_for (goals_of s) (λ g m. values-counted g) where

@@ -17,7 +17,7 @@ use Rattle.niss_search.specs.declared.tables.position.Coordinates.{Coordinates}
 use Rattle.niss_search.specs.Positions.{position_after, distance_at}
 use Rattle.niss_search.specs.Cubes.{HasPosition, distance_of, reaches, least_length_of, near_solutions_of, near_looks_of}
 use Rattle.niss_search.specs.Deepening.{reaches_at, least_length_at, solutions_at, all_looks_at}
-use Rattle.niss_search.specs.Laws.{PositionsTell}
+use Rattle.niss_search.specs.Laws.{PositionsFollowCubes}
 use Rattle.niss_search.proofs.ListLemmas.{Contains-first, Contains-later, find-same, flat_map-same}
 use Rattle.niss_search.proofs.DistanceLemmas.{reached_in}
 use Rattle.niss_search.proofs.LookLemmas.{distance_at-goal}
@@ -128,15 +128,15 @@ module _ (turns : List Turn) where
           (Each-all (λ k. Unit {0}) ks (λ k m. tt))
 
 -- a cube and its position
-module _ (tell : PositionsTell) (step : Step) where
+module _ (law : PositionsFollowCubes) (step : Step) where
   has_position-all : (s : List Turn) (e : Place → Place) (x : List Coordinates) → HasPosition step e x → IsOver (turns_of step) s → HasPosition step (λ q. effect_of_turns s (e q)) (fold position_after x s)
   has_position-all [] e x h over = h
   has_position-all (t ∷ s) e x h over =
-      has_position-all s (λ q. turned t (e q)) (position_after x t) (tell.after_turn step e x t over.0 h) over.1
+      has_position-all s (λ q. turned t (e q)) (position_after x t) (law.after_turn step e x t over.0 h) over.1
 
   reach-same : (s : List Turn) (e : Place → Place) (x : List Coordinates) → HasPosition step e x → IsOver (turns_of step) s → reaches step e s ≡ reaches_at step x s
   reach-same s e x h over =
-      tell.goal step (λ q. effect_of_turns s (e q)) (fold position_after x s) (has_position-all s e x h over)
+      law.goal step (λ q. effect_of_turns s (e q)) (fold position_after x s) (has_position-all s e x h over)
 
   -- the distance of a position is that of every cube that has it
   pub distance-cube : (e : Place → Place) (x : List Coordinates) → HasPosition step e x → distance_of step e ≡ distance_at step x
@@ -163,7 +163,7 @@ module _ (tell : PositionsTell) (step : Step) where
     -- the distance is 0 exactly where the step is reached
     pub distance-reached-cube : (distance_at step x ≡ 0) ↔ IsTrue (reached step e)
     distance-reached-cube =
-        by_test (distance_at step x) (reached step e) (distance_at-goal step x ∙ sym (tell.goal step e x h)) where
+        by_test (distance_at step x) (reached step e) (distance_at-goal step x ∙ sym (law.goal step e x h)) where
           by_test : (n : ℕ) (r : Bool) → leb n 0 ≡ r → (n ≡ 0) ↔ IsTrue r
           by_test zero r q = (λ z. sym q, λ k. refl)
           by_test (suc n) r q = (λ z. absurd (omega (arith, z)), λ k. absurd (cc (k, q, lt-leb (suc n) 0 (omega arith))))

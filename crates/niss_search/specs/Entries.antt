@@ -1,4 +1,4 @@
--- The entries of a step's pruning table: one for each value of the coordinates that tell whether its goal holds.
+-- The entries of a step's pruning table: one for each value of the coordinates that decide whether its goal holds.
 use Rattle.std.specs.Prelude.{ℕ, ◌*◌, nat_le, List, map, flat_map, length, sum_by, count_by, [], ◌∷◌}
 use Rattle.std.specs.List.{range_with_len}
 use Rattle.niss_moves.specs.declared.axis.Axis.{Axis}
@@ -19,7 +19,7 @@ unfoldable pub pairs_below : Axis → (twists slices : ℕ) → List Coordinates
 pairs_below axis twists slices =
     flat_map (λ twist. map (TwistAndSlice axis twist) (range_with_len 0 slices)) (range_with_len 0 twists)
 
--- all values of the coordinates that tell whether a goal holds
+-- all values of the coordinates that decide whether a goal holds
 abbrev pub values_for : Goal → List Coordinates
 values_for (Edges axis) = flips_below axis 2048
 values_for (Domino edges axis) = pairs_below axis 2187 495

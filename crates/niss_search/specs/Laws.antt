@@ -52,7 +52,7 @@ StepBoundIsLess = (s : Step) (n : ℕ) → look_bound (turns_of s) n ≤ look_bo
 abbrev pub BoundIsSmall : Type 0
 BoundIsSmall = (s : Step) (n : ℕ) → n ≤ 20 → look_bound (turns_of s) n < 2 ^ 93
 
--- The list of a step's entries has as many as their number tells.
+-- The list of a step's entries has as many as are counted.
 abbrev pub EntriesAreCounted : Type 0
 EntriesAreCounted = (s : Step) → length (entries_of s) ≡ entry_count s
 
@@ -70,8 +70,8 @@ DistanceIsLeast =
     (s : Step) (c : Coordinates) (x : List Coordinates) →
     distance_at s (c ∷ x) ≡ min (distance_at s (c ∷ [])) (distance_at s x)
 
--- What a position tells of each cube that has it.
-pub record PositionsTell : Type 0 where
+-- What a position says of each cube that has it.
+pub record PositionsFollowCubes : Type 0 where
   pub alike :
       (s : Step) (d e : Place → Place) → IsCube d → SameMap d e → IsTrue (may_start s d) →
       HasPosition s e (position_of s d)

@@ -14,7 +14,7 @@ use Rattle.niss_search.specs.Distance.{distance}
 use Rattle.niss_search.specs.declared.tables.position.Coordinates.{Coordinates}
 use Rattle.niss_search.specs.declared.tables.position.Coordinates.TheVariants.{Flip, TwistAndSlice}
 
--- the coordinates of a map of the places that tell whether a goal holds, where the step may start
+-- the coordinates of a map of the places that decide whether a goal holds, where the step may start
 abbrev pub coordinates_of : Goal → (Place → Place) → Coordinates
 coordinates_of (Edges axis) e = Flip axis (flip_of axis e)
 coordinates_of (Domino edges axis) e = TwistAndSlice axis (twist_of axis e) (slice_of axis e)

@@ -9,7 +9,7 @@ ghost use Rattle.niss_search.specs.Delivery.{WentThrough, StoppedIn, at_limit};
 ghost use Rattle.niss_search.specs.Deepening.{least_length_at, solutions_at, all_looks_at, reaching_at, looks_at, Delivers};
 
 use crate::descent::Descent;
-use crate::laws::positions_tell;
+use crate::laws::positions_follow_cubes;
 use crate::limit::Limit;
 use crate::outcome::Outcome;
 use crate::sink::Sink;
@@ -54,7 +54,7 @@ pub fn search<K: Sink, A: Allocator>(
     ensures rises { meter.old ≤ meter.new }
     ensures bound { meter.new ≤ meter.old + look_bound (turns_of tables.now) path.old.limit }
 {
-    positions_tell();
+    positions_follow_cubes();
     let root = Root { tables, position };
     root.find(slack, path, meter, sink)
 }

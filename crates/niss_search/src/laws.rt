@@ -1,5 +1,5 @@
 //! Laws over the definitions, each as a contract.
-ghost use Rattle.niss_search.specs.Laws.{CountRecurrence, PartHasNoMore, LooksWithinBound, NoSlackIsLeast, StepBoundIsLess, BoundIsSmall, EntriesAreCounted, EdgeFillIsSmall, FillIsSmall, DistanceIsLeast, PositionsTell};
+ghost use Rattle.niss_search.specs.Laws.{CountRecurrence, PartHasNoMore, LooksWithinBound, NoSlackIsLeast, StepBoundIsLess, BoundIsSmall, EntriesAreCounted, EdgeFillIsSmall, FillIsSmall, DistanceIsLeast, PositionsFollowCubes};
 ghost use Rattle.niss_search.specs.Filling.{EntriesTurn};
 
 use niss_cube::laws::{
@@ -29,9 +29,9 @@ pub fn no_slack_is_least()
     ensures { NoSlackIsLeast }
 {}
 
-/// What a position tells of each cube that has it.
-pub fn positions_tell()
-    ensures { PositionsTell }
+/// What a position says of each cube that has it.
+pub fn positions_follow_cubes()
+    ensures { PositionsFollowCubes }
 {
     are_coordinates();
     turned_is_cube();

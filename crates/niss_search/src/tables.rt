@@ -13,7 +13,7 @@ mod pruning_table;
 mod search_tables;
 mod state_space;
 
-use crate::laws::positions_tell;
+use crate::laws::positions_follow_cubes;
 pub(crate) use followers::Follower;
 pub(crate) use kind::Kind;
 pub use meter::Meter;
@@ -108,7 +108,7 @@ impl<A: Allocator> Tables<A> {
         ensures of_cube { (e : Place → Place) → SameMap (map_of cube.now) e → HasPosition self.now e result }
         ensures position { IsPosition self.now result }
     {
-        positions_tell();
+        positions_follow_cubes();
         Position::of(self.step.goals(), cube)
     }
 
@@ -122,7 +122,7 @@ impl<A: Allocator> Tables<A> {
             → HasPosition self.now (λ q. turned turn (e q)) result }
         ensures position { IsPosition self.now result }
     {
-        positions_tell();
+        positions_follow_cubes();
         self.position_after(position, turn)
     }
 
@@ -157,7 +157,7 @@ impl<A: Allocator> Tables<A> {
         ensures never_above { (e : Place → Place) → HasPosition self.now e position.now
             → result ≤ distance_of self.now e }
     {
-        positions_tell();
+        positions_follow_cubes();
         self.distance(position, meter)
     }
 

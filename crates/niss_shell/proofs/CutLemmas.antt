@@ -24,18 +24,18 @@ cut_step false front bs b e h p q =
     subst (λ t. IsCutInto t (ended_lines (front ++ b ∷ []) bs) (last_part (front ++ b ∷ []) bs)) (append_assoc front (b ∷ []) bs)
     (q (All-push (λ n. n ≢ 10) front b h (no_feed_after b e)))
 
-cut_behind : (front bs : List ℕ) → HasNoLineFeed front → IsCutInto (front ++ bs) (ended_lines front bs) (last_part front bs)
+cut_after : (front bs : List ℕ) → HasNoLineFeed front → IsCutInto (front ++ bs) (ended_lines front bs) (last_part front bs)
 unfolding ended_lines last_part
-cut_behind front [] h = record {
+cut_after front [] h = record {
   unbroken_lines = All-nil HasNoLineFeed;
   unbroken_last = h;
   whole = sym (append-nil front);
 }
-cut_behind front (b ∷ bs) h =
-    cut_step (b == 10) front bs b refl h (cut_behind [] bs (All-nil (λ n. n ≢ 10))) (λ k. cut_behind (front ++ b ∷ []) bs k)
+cut_after front (b ∷ bs) h =
+    cut_step (b == 10) front bs b refl h (cut_after [] bs (All-nil (λ n. n ≢ 10))) (λ k. cut_after (front ++ b ∷ []) bs k)
 
 pub text_is_cut : TextIsCut
-text_is_cut text = cut_behind [] text (All-nil (λ n. n ≢ 10))
+text_is_cut text = cut_after [] text (All-nil (λ n. n ≢ 10))
 
 -- bytes that are no line feed only move to the front
 other_ended : (c : Bool) (front bs : List ℕ) (b : ℕ) → c ≡ false
@@ -48,36 +48,36 @@ other_last : (c : Bool) (front bs : List ℕ) (b : ℕ) → c ≡ false
 other_last true front bs b e = absurd (cc e)
 other_last false front bs b e = refl
 
-ended_behind : (front part bs : List ℕ) → HasNoLineFeed part → ended_lines front (part ++ bs) ≡ ended_lines (front ++ part) bs
+ended_after : (front part bs : List ℕ) → HasNoLineFeed part → ended_lines front (part ++ bs) ≡ ended_lines (front ++ part) bs
 unfolding ended_lines
-ended_behind front [] bs h = ap (λ v. ended_lines v bs) (sym (append-nil front))
-ended_behind front (b ∷ part) bs h =
+ended_after front [] bs h = ap (λ v. ended_lines v bs) (sym (append-nil front))
+ended_after front (b ∷ part) bs h =
     other_ended (b == 10) front (part ++ bs) b (ne_eqb b 10 (All-head (λ n. n ≢ 10) b part h))
-    ∙ ended_behind (front ++ b ∷ []) part bs (All-tail (λ n. n ≢ 10) b part h)
+    ∙ ended_after (front ++ b ∷ []) part bs (All-tail (λ n. n ≢ 10) b part h)
     ∙ ap (λ v. ended_lines v bs) (append_assoc front (b ∷ []) part)
 
-last_behind : (front part bs : List ℕ) → HasNoLineFeed part → last_part front (part ++ bs) ≡ last_part (front ++ part) bs
+last_after : (front part bs : List ℕ) → HasNoLineFeed part → last_part front (part ++ bs) ≡ last_part (front ++ part) bs
 unfolding last_part
-last_behind front [] bs h = ap (λ v. last_part v bs) (sym (append-nil front))
-last_behind front (b ∷ part) bs h =
+last_after front [] bs h = ap (λ v. last_part v bs) (sym (append-nil front))
+last_after front (b ∷ part) bs h =
     other_last (b == 10) front (part ++ bs) b (ne_eqb b 10 (All-head (λ n. n ≢ 10) b part h))
-    ∙ last_behind (front ++ b ∷ []) part bs (All-tail (λ n. n ≢ 10) b part h)
+    ∙ last_after (front ++ b ∷ []) part bs (All-tail (λ n. n ≢ 10) b part h)
     ∙ ap (λ v. last_part v bs) (append_assoc front (b ∷ []) part)
 
 -- a line and its line feed come off the front
 ended_first : (line bs : List ℕ) → HasNoLineFeed line → ended_lines [] (line_to_feed line ++ bs) ≡ line ∷ ended_lines [] bs
 unfolding ended_lines
-ended_first line bs h = ap (λ v. ended_lines [] v) (append_assoc line (10 ∷ []) bs) ∙ ended_behind [] line (10 ∷ bs) h
+ended_first line bs h = ap (λ v. ended_lines [] v) (append_assoc line (10 ∷ []) bs) ∙ ended_after [] line (10 ∷ bs) h
 
 last_first : (line bs : List ℕ) → HasNoLineFeed line → last_part [] (line_to_feed line ++ bs) ≡ last_part [] bs
 unfolding last_part
-last_first line bs h = ap (λ v. last_part [] v) (append_assoc line (10 ∷ []) bs) ∙ last_behind [] line (10 ∷ bs) h
+last_first line bs h = ap (λ v. last_part [] v) (append_assoc line (10 ∷ []) bs) ∙ last_after [] line (10 ∷ bs) h
 
 -- joined lines are cut again where they were joined
 
 lines_again : (lines : List (List ℕ)) (last : List ℕ) → All HasNoLineFeed lines → HasNoLineFeed last → ended_lines [] (flat_map line_to_feed lines ++ last) ≡ lines
 unfolding ended_lines
-lines_again [] last h k = ap (λ v. ended_lines [] v) (sym (append-nil last)) ∙ ended_behind [] last [] k
+lines_again [] last h k = ap (λ v. ended_lines [] v) (sym (append-nil last)) ∙ ended_after [] last [] k
 lines_again (line ∷ lines) last h k =
     ap (λ v. ended_lines [] v) (append_assoc (line_to_feed line) (flat_map line_to_feed lines) last)
     ∙ ended_first line (flat_map line_to_feed lines ++ last) (All-head HasNoLineFeed line lines h)
@@ -85,7 +85,7 @@ lines_again (line ∷ lines) last h k =
 
 last_again : (lines : List (List ℕ)) (last : List ℕ) → All HasNoLineFeed lines → HasNoLineFeed last → last_part [] (flat_map line_to_feed lines ++ last) ≡ last
 unfolding last_part
-last_again [] last h k = ap (λ v. last_part [] v) (sym (append-nil last)) ∙ last_behind [] last [] k
+last_again [] last h k = ap (λ v. last_part [] v) (sym (append-nil last)) ∙ last_after [] last [] k
 last_again (line ∷ lines) last h k =
     ap (λ v. last_part [] v) (append_assoc (line_to_feed line) (flat_map line_to_feed lines) last)
     ∙ last_first line (flat_map line_to_feed lines ++ last) (All-head HasNoLineFeed line lines h)

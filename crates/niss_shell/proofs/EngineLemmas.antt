@@ -140,10 +140,10 @@ written_more f n xs ys a b c p q =
     (sym (written_text-append f.answer_of n xs ys p.faultless)) (sym (looks_for-append f n xs ys p.faultless)) (sym (most_looks_for-append f n xs ys p.faultless))
     (writes_more (written_text f.answer_of xs) (written_text f.answer_of ys) (looks_for f xs) (most_looks_for f xs) (looks_for f ys) (most_looks_for f ys) a b c p.writes q)
 
-refused_behind : (f : LineAnswers) (n : ℕ) (xs ys : List (List ℕ)) (a b c : AnswerState)
+refused_after : (f : LineAnswers) (n : ℕ) (xs ys : List (List ℕ)) (a b c : AnswerState)
     → AllAnswered f n xs a b → Refuses (written_text f.answer_of ys) (looks_for f ys) (most_looks_for f ys) b c
     → Refuses (written_text f.answer_of (xs ++ ys)) (looks_for f (xs ++ ys)) (most_looks_for f (xs ++ ys)) a c
-refused_behind f n xs ys a b c p q =
+refused_after f n xs ys a b c p q =
     refuses_as (written_text f.answer_of xs ++ written_text f.answer_of ys) (written_text f.answer_of (xs ++ ys))
     (looks_for f xs + looks_for f ys) (most_looks_for f xs + most_looks_for f ys) (looks_for f (xs ++ ys)) (most_looks_for f (xs ++ ys)) a c
     (sym (written_text-append f.answer_of n xs ys p.faultless)) (sym (looks_for-append f n xs ys p.faultless)) (sym (most_looks_for-append f n xs ys p.faultless))
@@ -163,7 +163,7 @@ answered_more f n m xs ys a b c e p q = record {
 
 pub stopped_more : (f : LineAnswers) (n m : ℕ) (xs ys : List (List ℕ)) (stop : Stop) (a b c : AnswerState)
     → m ≡ n + length xs → AllAnswered f n xs a b → StopsWithin f m ys stop b c → StopsWithin f n (xs ++ ys) stop a c
-stopped_more f n m xs ys CannotWrite a b c e p q = refused_behind f n xs ys a b c p q
+stopped_more f n m xs ys CannotWrite a b c e p q = refused_after f n xs ys a b c p q
 stopped_more f n m xs ys (Line at fault) a b c e p q = record {
   first = later_fault f n m xs ys e p.faultless ∙ q.first;
   writes = written_more f n xs ys a b c p q.writes;

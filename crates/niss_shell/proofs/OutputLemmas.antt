@@ -52,14 +52,14 @@ module _ {W : Type 0} (state : W → TargetState) where
   looked_refuses text looks most_looks before after now old new rises most bound w =
       record { refused = w.refused; rises = rises; looked = most; bounded = bound }
 
-  pub told_after : (r : Result (Unit {0}) DeviceFault) (piece text : List ℕ) (looks most_looks before after : ℕ) (old new : Output W)
+  pub reported_after : (r : Result (Unit {0}) DeviceFault) (piece text : List ℕ) (looks most_looks before after : ℕ) (old new : Output W)
       → piece ≡ text → after ≡ before + looks → after ≤ before + most_looks → Delivers state r piece old new
       → has_fault (state old.target.now) ≡ false
       → WritesOrRefuses r text looks most_looks (output_state state old before) (output_state state new after)
-  told_after (Ok u) piece text looks most_looks before after old new e exact bound d works =
+  reported_after (Ok u) piece text looks most_looks before after old new e exact bound d works =
       subst (λ t. Writes t looks most_looks (output_state state old before) (output_state state new after)) e
       (looked_writes piece looks most_looks before after after old new exact bound (d works after))
-  told_after (Err x) piece text looks most_looks before after old new e exact bound d works =
+  reported_after (Err x) piece text looks most_looks before after old new e exact bound d works =
       subst (λ t. Refuses t looks most_looks (output_state state old before) (output_state state new after)) e
       (looked_refuses piece looks most_looks before after after old new (omega (arith, exact)) (omega (arith, exact)) bound (d works after))
 

@@ -37,15 +37,6 @@ waits text pending rest a looks e works = record {
   bounded = omega arith;
 }
 
--- a text whose beginning waited
-
-pub behind : {T : Type 0} (r : Result T DeviceFault) (text : List ℕ) (looks most_looks : ℕ) (a b c : AnswerState)
-    → Writes [] 0 0 a b → WritesOrRefuses r text looks most_looks b c → WritesOrRefuses r text looks most_looks a c
-behind (Ok u) text looks most_looks a b c p q =
-    writes_as text text (0 + looks) (0 + most_looks) looks most_looks a c refl (omega arith) (omega arith) (writes_more [] text 0 0 looks most_looks a b c p q)
-behind (Err x) text looks most_looks a b c p q =
-    refuses_as text text (0 + looks) (0 + most_looks) looks most_looks a c refl (omega arith) (omega arith) (refuses_more [] text 0 0 looks most_looks a b c p q)
-
 -- what waits is written after a text
 
 pub then_sent : {T : Type 0} (r : Result T DeviceFault) (text : List ℕ) (looks most_looks : ℕ) (a b c : AnswerState)

@@ -12,7 +12,7 @@ use Rattle.niss_shell.specs.Output.{Answer, Ending, More, End, Fail, ending, sto
 use Rattle.niss_cube.specs.Steps.{steps}
 use Rattle.niss_shell.specs.Engine.{AnswerState, pending_state, AnswersSource, Answers, Writes, Refuses, EndsUnflushed, RunsUnflushed, flushed_stop, FlushesLast}
 use Rattle.niss_shell.specs.Job.{IsInput}
-use Rattle.niss_shell.specs.Run.{Devices, devices, OutputRefused, EndsByFault, Ends, TellsError, Looked, Runs}
+use Rattle.niss_shell.specs.Run.{Devices, devices, OutputRefused, EndsByFault, Ends, ReportsError, Looked, Runs}
 use Rattle.niss_shell.specs.declared.device.DeviceFault.{DeviceFault}
 use Rattle.niss_shell.specs.declared.command.UsageFault.{UsageFault}
 use Rattle.niss_shell.specs.declared.command.LineCommand.{LineCommand}
@@ -32,9 +32,9 @@ by_words bytes None command (w ∷ ws) P is h p = absurd (omega arith)
 
 -- the error writer
 
-pub told : (text piece : List ℕ) (r : Result (Unit {0}) DeviceFault) (a b : TargetState)
-    → piece ≡ text → OnOk r (Appended a b piece) → OnErr r (WriteRefused piece a b) → b.flush_failed ≡ a.flush_failed → TellsError text a b
-told text piece (Ok u) a b e whole refused unflushed = record {
+pub reported : (text piece : List ℕ) (r : Result (Unit {0}) DeviceFault) (a b : TargetState)
+    → piece ≡ text → OnOk r (Appended a b piece) → OnErr r (WriteRefused piece a b) → b.flush_failed ≡ a.flush_failed → ReportsError text a b
+reported text piece (Ok u) a b e whole refused unflushed = record {
   part = text;
   rest = [];
   beginning = append-nil text;
@@ -42,7 +42,7 @@ told text piece (Ok u) a b e whole refused unflushed = record {
   written = subst (λ t. Appended a b t) e whole;
   unflushed = unflushed;
 }
-told text piece (Err x) a b e whole refused unflushed = record {
+reported text piece (Err x) a b e whole refused unflushed = record {
   part = refused.part;
   rest = refused.cut.0;
   beginning = refused.cut.1 ∙ e;
@@ -157,25 +157,25 @@ runs_usage asked fault a h e works = subst (λ x. RunsUnflushed x Usage a a h h)
 
 -- the same of a job, whose work has the command, and whose states are known by equations
 
-pub from_source : (command told : LineCommand) (ws : List (List ℕ)) (stop : Stop) (a b : SourceState) (h k i j : AnswerState)
-    → told ≡ command → k ≡ h → j ≡ i → length ws ≡ 0 → AnswersSource (line_answers told) stop a b k j
+pub from_source : (command given : LineCommand) (ws : List (List ℕ)) (stop : Stop) (a b : SourceState) (h k i j : AnswerState)
+    → given ≡ command → k ≡ h → j ≡ i → length ws ≡ 0 → AnswersSource (line_answers given) stop a b k j
     → RunsUnflushed (Ok (OnLines command ws)) stop a b h i
-from_source command told ws stop a b h k i j e f g none x =
+from_source command given ws stop a b h k i j e f g none x =
     runs_source command ws stop a b h i none
     (subst (λ v. AnswersSource (line_answers v) stop a b h i) e
-    (subst (λ s. AnswersSource (line_answers told) stop a b s i) f
-    (subst (λ s. AnswersSource (line_answers told) stop a b k s) g x)))
+    (subst (λ s. AnswersSource (line_answers given) stop a b s i) f
+    (subst (λ s. AnswersSource (line_answers given) stop a b k s) g x)))
 
-pub from_text : (command told : LineCommand) (ws : List (List ℕ)) (text piece : List ℕ) (stop : Stop) (a : SourceState) (h k i j : AnswerState)
-    → told ≡ command → k ≡ h → j ≡ i → piece ≡ text → 0 < length ws → text ≡ joined ws → length (joined ws) ≤ limit
-    → Answers (answer_lines (line_answers told) piece End) stop k j
+pub from_text : (command given : LineCommand) (ws : List (List ℕ)) (text piece : List ℕ) (stop : Stop) (a : SourceState) (h k i j : AnswerState)
+    → given ≡ command → k ≡ h → j ≡ i → piece ≡ text → 0 < length ws → text ≡ joined ws → length (joined ws) ≤ limit
+    → Answers (answer_lines (line_answers given) piece End) stop k j
     → RunsUnflushed (Ok (OnLines command ws)) stop a a h i
-from_text command told ws text piece stop a h k i j e f g same some whole fits x =
+from_text command given ws text piece stop a h k i j e f g same some whole fits x =
     runs_text command ws text stop a h i some whole fits
     (subst (λ v. Answers (answer_lines (line_answers v) text End) stop h i) e
-    (subst (λ t. Answers (answer_lines (line_answers told) t End) stop h i) same
-    (subst (λ s. Answers (answer_lines (line_answers told) piece End) stop s i) f
-    (subst (λ s. Answers (answer_lines (line_answers told) piece End) stop k s) g x))))
+    (subst (λ t. Answers (answer_lines (line_answers given) t End) stop h i) same
+    (subst (λ s. Answers (answer_lines (line_answers given) piece End) stop s i) f
+    (subst (λ s. Answers (answer_lines (line_answers given) piece End) stop k s) g x))))
 
 -- of the commands without lines, the one that draws no scrambles
 pub without_lines : (k : Command) → takes_lines (requested k) ≡ false
@@ -380,9 +380,9 @@ one_flush asked stop stop_now a b h i j works x flush = not_flushed j.is_flushed
 
 pub runs_flushed : (words : List (List ℕ)) (status : ℕ) (stop stop_now : Stop) (a b : SourceState) (h i j : TargetState) (p q : List ℕ) (k l : TargetState) (looks looks_now : ℕ)
     → p ≡ [] → q ≡ [] → RunsUnflushed (request_of words) stop a b (pending_state h p looks) (pending_state i q looks_now) → FlushesLast stop stop_now i j
-    → TellsError (error_text stop_now) k l → status ≡ status_of stop_now
+    → ReportsError (error_text stop_now) k l → status ≡ status_of stop_now
     → Runs words (devices a h k) (devices b j l) looks looks_now status
-runs_flushed words status stop stop_now a b h i j p q k l looks looks_now none none_now x flush tells answers =
+runs_flushed words status stop stop_now a b h i j p q k l looks looks_now none none_now x flush reports answers =
     let how = flushes_as stop stop_now i j flush in
     record {
       input = x.input;
@@ -394,7 +394,7 @@ runs_flushed words status stop stop_now a b h i j p q k l looks looks_now none n
       looked = subst (λ v. Looked v j.write_failed (out_of words x.input b).looks looks looks_now) (sym flush.stop_is)
           (looked_flushed (out_of words x.input b) (request_of words) stop a b (pending_state h p looks) (pending_state i q looks_now) j flush.refused x.ends how);
       within_bound = bounded_looks (out_of words x.input b) (request_of words) stop a b (pending_state h p looks) (pending_state i q looks_now) x.ends;
-      tells = tells;
+      reports = reports;
       answers = answers;
     }
 

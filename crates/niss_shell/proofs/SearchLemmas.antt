@@ -43,36 +43,36 @@ starts_refused : (step : Step) (b : Bool) (text : List ℕ) (looks most_looks n 
 starts_refused step true text looks most_looks n stop old new e f p = (f, p)
 starts_refused step false text looks most_looks n stop old new e f p = absurd (cc e)
 
-starts_not : (step told : Step) (b : Bool) (text : List ℕ) (looks most_looks n : ℕ) (r : Result (Unit {0}) Stop) (old new : AnswerState)
-    → b ≡ false → told ≡ step → ((l m : ℕ) → AnswersLine (Err (NoStart told)) l m n r old new)
+starts_not : (step given : Step) (b : Bool) (text : List ℕ) (looks most_looks n : ℕ) (r : Result (Unit {0}) Stop) (old new : AnswerState)
+    → b ≡ false → given ≡ step → ((l m : ℕ) → AnswersLine (Err (NoStart given)) l m n r old new)
     → AnswersLine (where_it_starts step b text) looks most_looks n r old new
-starts_not step told true text looks most_looks n r old new e f h = absurd (cc e)
-starts_not step told false text looks most_looks n r old new e f h =
+starts_not step given true text looks most_looks n r old new e f h = absurd (cc e)
+starts_not step given false text looks most_looks n r old new e f h =
     subst (λ s. AnswersLine (Err (NoStart s)) looks most_looks n r old new) f (h looks most_looks)
 
 -- the same of the command on the line
 
-module _ (command : LineCommand) (line told : Moves) (report asked : Report) (step : Step) (limit slack : ℕ) (n : ℕ) (old new : AnswerState)
-    (searches : command ≡ search_command report step limit slack) (reports : report ≡ asked) (same : told ≡ line) where
-  answered : (r : Result (Unit {0}) Stop) → AnswersMoves (search_command asked step limit slack) told n r old new → AnswersMoves command line n r old new
+module _ (command : LineCommand) (line given : Moves) (report asked : Report) (step : Step) (limit slack : ℕ) (n : ℕ) (old new : AnswerState)
+    (searches : command ≡ search_command report step limit slack) (reports : report ≡ asked) (same : given ≡ line) where
+  answered : (r : Result (Unit {0}) Stop) → AnswersMoves (search_command asked step limit slack) given n r old new → AnswersMoves command line n r old new
   answered r x =
       subst (λ k. AnswersMoves k line n r old new) (sym searches)
       (subst (λ k. AnswersMoves (search_command k step limit slack) line n r old new) (sym reports)
       (subst (λ m. AnswersMoves (search_command asked step limit slack) m n r old new) same x))
 
-  pub all_told : (u : Unit {0}) → IsTrue (may_start step (home told))
-      → Writes (search_text asked step limit slack (home told)) (near_looks_of step (home told) limit slack) (look_bound (turns_of step) limit) old new
+  pub all_reported : (u : Unit {0}) → IsTrue (may_start step (home given))
+      → Writes (search_text asked step limit slack (home given)) (near_looks_of step (home given) limit slack) (look_bound (turns_of step) limit) old new
       → AnswersMoves command line n (Ok u) old new
-  all_told u e p = answered (Ok u) (starts step (may_start step (home told)) (search_text asked step limit slack (home told))
-      (near_looks_of step (home told) limit slack) (look_bound (turns_of step) limit) n u old new e p)
+  all_reported u e p = answered (Ok u) (starts step (may_start step (home given)) (search_text asked step limit slack (home given))
+      (near_looks_of step (home given) limit slack) (look_bound (turns_of step) limit) n u old new e p)
 
-  pub told_refused : (stop : Stop) → IsTrue (may_start step (home told)) → stop ≡ CannotWrite
-      → Refuses (search_text asked step limit slack (home told)) (near_looks_of step (home told) limit slack) (look_bound (turns_of step) limit) old new
+  pub refusal_reported : (stop : Stop) → IsTrue (may_start step (home given)) → stop ≡ CannotWrite
+      → Refuses (search_text asked step limit slack (home given)) (near_looks_of step (home given) limit slack) (look_bound (turns_of step) limit) old new
       → AnswersMoves command line n (Err stop) old new
-  told_refused stop e f p = answered (Err stop) (starts_refused step (may_start step (home told)) (search_text asked step limit slack (home told))
-      (near_looks_of step (home told) limit slack) (look_bound (turns_of step) limit) n stop old new e f p)
+  refusal_reported stop e f p = answered (Err stop) (starts_refused step (may_start step (home given)) (search_text asked step limit slack (home given))
+      (near_looks_of step (home given) limit slack) (look_bound (turns_of step) limit) n stop old new e f p)
 
-  pub not_started : (named : Step) (r : Result (Unit {0}) Stop) → may_start step (home told) ≡ false → named ≡ step
+  pub not_started : (named : Step) (r : Result (Unit {0}) Stop) → may_start step (home given) ≡ false → named ≡ step
       → ((l m : ℕ) → AnswersLine (Err (NoStart named)) l m n r old new) → AnswersMoves command line n r old new
-  not_started named r e f h = answered r (starts_not step named (may_start step (home told)) (search_text asked step limit slack (home told))
-      (near_looks_of step (home told) limit slack) (look_bound (turns_of step) limit) n r old new e f h)
+  not_started named r e f h = answered r (starts_not step named (may_start step (home given)) (search_text asked step limit slack (home given))
+      (near_looks_of step (home given) limit slack) (look_bound (turns_of step) limit) n r old new e f h)

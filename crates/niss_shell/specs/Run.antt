@@ -63,7 +63,7 @@ Ends OutOfMemory due asked old new = MemoryRefused asked old new
 Ends stop due asked old new = EndsByFault stop due old new
 
 -- The error writer took this text, or a beginning of it where it refused a write.
-pub record TellsError (text : List ℕ) (old new : TargetState) : Type 0 where
+pub record ReportsError (text : List ℕ) (old new : TargetState) : Type 0 where
   pub part : List ℕ
   pub rest : List ℕ
   pub beginning : part ++ rest ≡ text
@@ -91,5 +91,5 @@ pub record Runs (words : List (List ℕ)) (old new : Devices) (looks looks_now :
   pub looked : Looked stop new.output.write_failed (out_of words input new.source).looks looks looks_now
   pub within_bound : looks_now ≤ looks + (out_of words input new.source).most_looks
   -- what was written on the error writer
-  pub tells : TellsError (error_text stop) old.error new.error
+  pub reports : ReportsError (error_text stop) old.error new.error
   pub answers : status ≡ status_of stop

@@ -240,7 +240,7 @@ pub fn parse_words(words: &[String]) -> Result<Command<'_>, UsageFault>
         (λ command. request_of (map string_bytes words.now) ≡ Ok (requested command))
         (λ fault. request_of (map string_bytes words.now) ≡ Err fault) }
     ensures in_range { IfOk result (λ command. IsInRange (requested command)) }
-    // The request doesn't tell `solve` from `near` with a slack of 0.
+    // The request of `solve` is that of `near` with a slack of 0.
     ensures named { IfOk result (λ command.
         slice_get (map string_bytes words.now) 0 ≡ Some (name_of_command command)) }
 {

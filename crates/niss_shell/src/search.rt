@@ -41,7 +41,7 @@ impl Sink for Uncollected {
 
 impl<A: Allocator> Search<A> {
     ghost use Rattle.niss_shell.specs.Output.{solve_text, count_text};
-    ghost use Rattle.niss_shell.specs.Search.{Told};
+    ghost use Rattle.niss_shell.specs.Search.{Reported};
 
     /// Writes each solution from a position as it is found. That there are none, and the empty line, wait.
     pub fn solve<W: Target>(
@@ -54,8 +54,8 @@ impl<A: Allocator> Search<A> {
         requires meter { looks.old ≤ 2 ^ 127 }
         ensures same_target { output.new.target.ghost_name ≡ output.old.target.ghost_name }
         ensures empty { OnErr result (output.new.pending.items ≡ []) }
-        ensures told { (e : Place → Place) → HasPosition self.now.tables e position.now →
-            Told W.state result
+        ensures reported { (e : Place → Place) → HasPosition self.now.tables e position.now →
+            Reported W.state result
             (solve_text self.now.limit (near_solutions_of self.now.tables e self.now.limit self.now.slack))
             self.now e output.old output.new looks.old looks.new }
         ensures bound { looks.new ≤ looks.old + look_bound (turns_of self.now.tables) self.now.limit }
@@ -78,8 +78,8 @@ impl<A: Allocator> Search<A> {
         requires meter { looks.old ≤ 2 ^ 127 }
         ensures same_target { output.new.target.ghost_name ≡ output.old.target.ghost_name }
         ensures empty { OnErr result (output.new.pending.items ≡ []) }
-        ensures told { (e : Place → Place) → HasPosition self.now.tables e position.now →
-            Told W.state result (count_text (least_length_of self.now.tables e self.now.limit)
+        ensures reported { (e : Place → Place) → HasPosition self.now.tables e position.now →
+            Reported W.state result (count_text (least_length_of self.now.tables e self.now.limit)
             (length (near_solutions_of self.now.tables e self.now.limit self.now.slack))
             (near_looks_of self.now.tables e self.now.limit self.now.slack))
             self.now e output.old output.new looks.old looks.new }

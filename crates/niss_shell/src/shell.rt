@@ -5,7 +5,7 @@ ghost use Rattle.niss_shell.specs.Output.{error_text, step_line, unsearched};
 ghost use Rattle.niss_cube.specs.Steps.{steps};
 ghost use Rattle.niss_shell.specs.declared.stop.Stop.TheVariants.{Done};
 ghost use Rattle.niss_shell.specs.Engine.{Answers, RunsUnflushed, output_state, stop_unless};
-ghost use Rattle.niss_shell.specs.Run.{Runs, TellsError, devices};
+ghost use Rattle.niss_shell.specs.Run.{Runs, ReportsError, devices};
 
 use crate::command::{Command, parse_words};
 use crate::device::{Source, Target};
@@ -77,8 +77,8 @@ fn answer_command<A: Allocator + Copy, R: Source, W: Target>(
     }
 }
 
-fn tell<E: Target>(stop: Stop, err: &mut E)
-    ensures { TellsError (error_text stop) (E.state err.old) (E.state err.new) }
+fn report<E: Target>(stop: Stop, err: &mut E)
+    ensures { ReportsError (error_text stop) (E.state err.old) (E.state err.new) }
 {
     let text = stop.text();
     let _ = write_all(err, text.as_slice());
@@ -112,7 +112,7 @@ pub fn run_in<A: Allocator + Copy, R: Source, W: Target, E: Target>(
     let mut output = Output::new(out);
     let answered = answer_command(alloc, words, input, &mut output, looks);
     let stop = output.finish(answered);
-    tell(stop, err);
+    report(stop, err);
     stop.status()
 }
 

@@ -86,7 +86,7 @@ impl Coordinate {
         }
     }
 
-    /// The number on the standard axis after a turn, for which the cubies that it tells of are turned alone.
+    /// The number on the standard axis after a turn, for which the cubies that it depends on are turned alone.
     pub(crate) fn number_after(self, cube: &Cube, turn: Turn) -> u16
         ensures { result ≡ number_of self (standard_axis self) (λ q. turned turn (map_of cube.now q)) }
     {

@@ -9,7 +9,7 @@ use arrayvec::ArrayVec;
 use niss_cube::{Axis, Cube, Goal};
 use std::marker::Model;
 
-/// The coordinates that tell whether a goal holds on a cube on which the step may start.
+/// The coordinates that decide whether a goal holds on a cube on which the step may start.
 #[derive(Clone, Copy)]
 pub enum Coordinates {
     /// The flip on an axis.

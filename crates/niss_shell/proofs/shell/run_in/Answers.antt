@@ -15,18 +15,18 @@ returns-clause-runs g c =
     lent_back (map string_bytes c.args.words.now) c.status.result
     (g.R.Source.state c.args.input.now) (g.R.Source.state c.answer_command-answered.new.source)
     (g.W.Target.state c.args.out.now) (g.W.Target.state c.finish-stop.new.self.target.now) (g.W.Target.state c.out-1.given.0)
-    (g.E.Target.state c.args.err.now) (g.E.Target.state c.tell.new.err) c.args.looks.now c.answer_command-answered.new.looks
+    (g.E.Target.state c.args.err.now) (g.E.Target.state c.report.new.err) c.args.looks.now c.answer_command-answered.new.looks
     (ap g.W.Target.state (sym back))
     (subst (λ t. Runs (map string_bytes c.args.words.now) (devices (g.R.Source.state c.args.input.now) (g.W.Target.state t) (g.E.Target.state c.args.err.now))
-    (devices (g.R.Source.state c.answer_command-answered.new.source) (g.W.Target.state c.finish-stop.new.self.target.now) (g.E.Target.state c.tell.new.err))
+    (devices (g.R.Source.state c.answer_command-answered.new.source) (g.W.Target.state c.finish-stop.new.self.target.now) (g.E.Target.state c.report.new.err))
     c.args.looks.now c.answer_command-answered.new.looks c.status.result) c.new-output.ensures.unchanged
     (runs_flushed (map string_bytes c.args.words.now) c.status.result (stop_unless c.answer_command-answered.result Done) c.finish-stop.result
     (g.R.Source.state c.args.input.now) (g.R.Source.state c.answer_command-answered.new.source)
     (g.W.Target.state c.new-output.result.target.now) (g.W.Target.state c.answer_command-answered.new.output.target.now) (g.W.Target.state c.finish-stop.new.self.target.now)
     c.new-output.result.pending.items c.answer_command-answered.new.output.pending.items
-    (g.E.Target.state c.args.err.now) (g.E.Target.state c.tell.new.err) c.args.looks.now c.answer_command-answered.new.looks
+    (g.E.Target.state c.args.err.now) (g.E.Target.state c.report.new.err) c.args.looks.now c.answer_command-answered.new.looks
     c.new-output.ensures.empty c.answer_command-answered.ensures.empty
-    c.answer_command-answered.ensures.runs c.finish-stop.ensures.flushes c.tell.ensures c.status.ensures))
+    c.answer_command-answered.ensures.runs c.finish-stop.ensures.flushes c.report.ensures c.status.ensures))
 
 pub returns-clause-one_flush : goal.returns-clause-one_flush
 returns-clause-one_flush g c =

@@ -9,11 +9,11 @@ returns-clause-in_range g c =
 
 pub returns-clause-value : goal.returns-clause-value
 returns-clause-value g c = λ e h.
-    c.distance.ensures.value ∙ sym (distance-cube c.positions_tell.ensures c.args.self.now e c.args.position.now h)
+    c.distance.ensures.value ∙ sym (distance-cube c.positions_follow_cubes.ensures c.args.self.now e c.args.position.now h)
 
 pub returns-clause-zero : goal.returns-clause-zero
 returns-clause-zero g c = λ e h.
-    rw c.distance.ensures.value (distance-reached-cube c.positions_tell.ensures c.args.self.now e c.args.position.now h)
+    rw c.distance.ensures.value (distance-reached-cube c.positions_follow_cubes.ensures c.args.self.now e c.args.position.now h)
 
 pub returns-clause-never_above : goal.returns-clause-never_above
 returns-clause-never_above g c = λ e h. omega (arith, returns-clause-value g c e h)

@@ -7,7 +7,7 @@ use Rattle.niss_search.proofs.tables.Tables.position.Goals as goal
 pub returns-clause-of_cube : goal.returns-clause-of_cube
 returns-clause-of_cube g c = λ e same.
     rw (c.of.ensures, c.goals.ensures, c.self.view_is, ← position_of-is c.args.self.now (map_of c.args.cube.now))
-    (c.positions_tell.ensures.alike c.args.self.now (map_of c.args.cube.now) e (cube-itself c.args.cube.now) same c.requires)
+    (c.positions_follow_cubes.ensures.alike c.args.self.now (map_of c.args.cube.now) e (cube-itself c.args.cube.now) same c.requires)
 
 pub returns-clause-position : goal.returns-clause-position
 returns-clause-position g c = (map_of c.args.cube.now, returns-clause-of_cube g c (map_of c.args.cube.now) (λ q p. refl))

@@ -5,7 +5,7 @@ use Rattle.niss_shell.specs.Job.{command_of}
 use Rattle.niss_shell.specs.Engine.{output_state}
 use Rattle.niss_shell.specs.Taking.{lines_state}
 use Rattle.niss_shell.specs.declared.command.Report.TheVariants.{Solutions, Counts}
-use Rattle.niss_shell.proofs.SearchLemmas.{all_told, told_refused, not_started}
+use Rattle.niss_shell.proofs.SearchLemmas.{all_reported, refusal_reported, not_started}
 use Rattle.niss_shell.proofs.lines.Lines.answer.Goals as goal
 
 pub returns-in_err-put-in-Rewrite-clause-answers : goal.returns-in_err-put-in-Rewrite-clause-answers
@@ -26,29 +26,29 @@ returns-in_default-clause-answers g c =
 pub returns-in_err-solve-in-Solutions-clause-answers : goal.returns-in_err-solve-in-Solutions-clause-answers
 returns-in_err-solve-in-Solutions-clause-answers g c =
     let p = err_from_is_err_and c.from_residual-in_err-solve-in-Solutions.result c.from_residual-in_err-solve-in-Solutions.ensures.1 in
-    rw p.1 (told_refused (command_of c.args.self.now.work.now) _ c.moves-in-Search.result.now c.in-Search.search.report Solutions c.in-Search.search.tables c.in-Search.search.limit c.in-Search.search.slack c.args.self.now.line
+    rw p.1 (refusal_reported (command_of c.args.self.now.work.now) _ c.moves-in-Search.result.now c.in-Search.search.report Solutions c.in-Search.search.tables c.in-Search.search.limit c.in-Search.search.slack c.args.self.now.line
     (lines_state g.W.Target.state c.args.output.now c.args.self.now) (output_state g.W.Target.state c.solve.new.output c.solve.new.looks)
     (ap command_of c.in-Search.is) c.in-Solutions.is c.moves-in-Search.ensures p.0
-    c.in-Some.ensures.starts p.2 (c.in_err-solve-in-Solutions.ensures.told (home c.moves-in-Search.result.now) c.in-Some.ensures c.requires.works))
+    c.in-Some.ensures.starts p.2 (c.in_err-solve-in-Solutions.ensures.reported (home c.moves-in-Search.result.now) c.in-Some.ensures c.requires.works))
 
 pub returns-in_ok-solve-in-Solutions-clause-answers : goal.returns-in_ok-solve-in-Solutions-clause-answers
 returns-in_ok-solve-in-Solutions-clause-answers g c =
-    all_told (command_of c.args.self.now.work.now) _ c.moves-in-Search.result.now c.in-Search.search.report Solutions c.in-Search.search.tables c.in-Search.search.limit c.in-Search.search.slack c.args.self.now.line
+    all_reported (command_of c.args.self.now.work.now) _ c.moves-in-Search.result.now c.in-Search.search.report Solutions c.in-Search.search.tables c.in-Search.search.limit c.in-Search.search.slack c.args.self.now.line
     (lines_state g.W.Target.state c.args.output.now c.args.self.now) (output_state g.W.Target.state c.solve.new.output c.solve.new.looks)
     (ap command_of c.in-Search.is) c.in-Solutions.is c.moves-in-Search.ensures tt
-    c.in-Some.ensures.starts (c.in_ok-solve-in-Solutions.ensures.told (home c.moves-in-Search.result.now) c.in-Some.ensures c.requires.works)
+    c.in-Some.ensures.starts (c.in_ok-solve-in-Solutions.ensures.reported (home c.moves-in-Search.result.now) c.in-Some.ensures c.requires.works)
 
 pub returns-in_err-count-in-Counts-clause-answers : goal.returns-in_err-count-in-Counts-clause-answers
 returns-in_err-count-in-Counts-clause-answers g c =
     let p = err_from_is_err_and c.from_residual-in_err-count-in-Counts.result c.from_residual-in_err-count-in-Counts.ensures.1 in
-    rw p.1 (told_refused (command_of c.args.self.now.work.now) _ c.moves-in-Search.result.now c.in-Search.search.report Counts c.in-Search.search.tables c.in-Search.search.limit c.in-Search.search.slack c.args.self.now.line
+    rw p.1 (refusal_reported (command_of c.args.self.now.work.now) _ c.moves-in-Search.result.now c.in-Search.search.report Counts c.in-Search.search.tables c.in-Search.search.limit c.in-Search.search.slack c.args.self.now.line
     (lines_state g.W.Target.state c.args.output.now c.args.self.now) (output_state g.W.Target.state c.count.new.output c.count.new.looks)
     (ap command_of c.in-Search.is) c.in-Counts.is c.moves-in-Search.ensures p.0
-    c.in-Some.ensures.starts p.2 (c.in_err-count-in-Counts.ensures.told (home c.moves-in-Search.result.now) c.in-Some.ensures c.requires.works))
+    c.in-Some.ensures.starts p.2 (c.in_err-count-in-Counts.ensures.reported (home c.moves-in-Search.result.now) c.in-Some.ensures c.requires.works))
 
 pub returns-in_ok-count-in-Counts-clause-answers : goal.returns-in_ok-count-in-Counts-clause-answers
 returns-in_ok-count-in-Counts-clause-answers g c =
-    all_told (command_of c.args.self.now.work.now) _ c.moves-in-Search.result.now c.in-Search.search.report Counts c.in-Search.search.tables c.in-Search.search.limit c.in-Search.search.slack c.args.self.now.line
+    all_reported (command_of c.args.self.now.work.now) _ c.moves-in-Search.result.now c.in-Search.search.report Counts c.in-Search.search.tables c.in-Search.search.limit c.in-Search.search.slack c.args.self.now.line
     (lines_state g.W.Target.state c.args.output.now c.args.self.now) (output_state g.W.Target.state c.count.new.output c.count.new.looks)
     (ap command_of c.in-Search.is) c.in-Counts.is c.moves-in-Search.ensures tt
-    c.in-Some.ensures.starts (c.in_ok-count-in-Counts.ensures.told (home c.moves-in-Search.result.now) c.in-Some.ensures c.requires.works)
+    c.in-Some.ensures.starts (c.in_ok-count-in-Counts.ensures.reported (home c.moves-in-Search.result.now) c.in-Some.ensures c.requires.works)

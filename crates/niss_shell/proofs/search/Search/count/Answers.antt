@@ -3,11 +3,11 @@ use Rattle.niss_cube.specs.Steps.{turns_of}
 use Rattle.niss_search.specs.Cubes.{least_length_of, near_solutions_of, near_looks_of}
 use Rattle.niss_search.specs.Solutions.{look_bound}
 use Rattle.niss_shell.specs.Output.{count_text}
-use Rattle.niss_shell.proofs.OutputLemmas.{told_after, same_count}
+use Rattle.niss_shell.proofs.OutputLemmas.{reported_after, same_count}
 use Rattle.niss_shell.proofs.search.Search.count.Goals as goal
 
-pub returns-clause-told : goal.returns-clause-told
-returns-clause-told g c = λ e at works.
+pub returns-clause-reported : goal.returns-clause-reported
+returns-clause-reported g c = λ e at works.
     let limit_is : c.new-path.result.limit ≡ c.args.self.now.limit = ap (λ p. p.limit) c.new-path.ensures in
     let length_is : c.in-Ok.outcome.length ≡ least_length_of c.args.self.now.tables e c.args.self.now.limit =
     subst (λ n. c.in-Ok.outcome.length ≡ least_length_of c.args.self.now.tables e n) limit_is (c.in-Ok.ensures.length e at) in
@@ -19,7 +19,7 @@ returns-clause-told g c = λ e at works.
     subst (λ n. c.search.new.meter ≤ c.args.looks.now + look_bound (turns_of c.args.self.now.tables) n) limit_is c.in-Ok.ensures.bound in
     let nodes_are : c.count.result - c.count-before.result ≡ near_looks_of c.args.self.now.tables e c.args.self.now.limit c.args.self.now.slack =
     omega (arith, c.count.ensures, c.count-before.ensures, looked) in
-    told_after g.W.Target.state c.put.result c.put_count.new.text.items
+    reported_after g.W.Target.state c.put.result c.put_count.new.text.items
     (count_text (least_length_of c.args.self.now.tables e c.args.self.now.limit) (length (near_solutions_of c.args.self.now.tables e c.args.self.now.limit c.args.self.now.slack)) (near_looks_of c.args.self.now.tables e c.args.self.now.limit c.args.self.now.slack))
     (near_looks_of c.args.self.now.tables e c.args.self.now.limit c.args.self.now.slack) (look_bound (turns_of c.args.self.now.tables) c.args.self.now.limit)
     c.args.looks.now c.search.new.meter c.args.output.now c.put.new.self

@@ -16,8 +16,8 @@ returns-in_err-outcome-clause-empty g c =
     rw p.1 (nothing_waits g.W.Target.state solution_line _ _ (λ a p b h. h.1) (λ a p b h. h.1)
     _ c.args.output.now c.search.new.sink (c.in_err-outcome.ensures.err c.requires.position.0 c.requires.position.1))
 
-pub returns-in_err-outcome-clause-told : goal.returns-in_err-outcome-clause-told
-returns-in_err-outcome-clause-told g c =
+pub returns-in_err-outcome-clause-reported : goal.returns-in_err-outcome-clause-reported
+returns-in_err-outcome-clause-reported g c =
     let limit_is : c.new-path.result.limit ≡ c.args.self.now.limit = ap (λ p. p.limit) c.new-path.ensures in
     let p = err_from_is_err_and c.from_residual.result c.from_residual.ensures.1 in
     rw (p.1, ← limit_is) (λ e at works. unsolved g.W.Target.state solution_line _ _ (λ a p b h. h.1) (λ a p b h. h.1)
@@ -28,8 +28,8 @@ pub returns-clause-same_target : goal.returns-clause-same_target
 returns-clause-same_target g c = c.put.ensures.same_target ∙ walk_keeps (λ k. k.target.ghost_name) _ (λ a p b h. h.0)
     _ c.args.output.now c.search.new.sink (c.in_ok-outcome.ensures.ok c.requires.position.0 c.requires.position.1)
 
-pub returns-clause-told : goal.returns-clause-told
-returns-clause-told g c =
+pub returns-clause-reported : goal.returns-clause-reported
+returns-clause-reported g c =
     let limit_is : c.new-path.result.limit ≡ c.args.self.now.limit = ap (λ p. p.limit) c.new-path.ensures in
     rw (← limit_is) (λ e at works. solved g.W.Target.state c.put.result c.new-path.result.limit c.in_ok-outcome.outcome.solutions
     (near_solutions_of c.args.self.now.tables e c.new-path.result.limit c.args.self.now.slack) c.put_end.new.text.items _ _ c.args.looks.now c.search.new.meter c.args.output.now c.search.new.sink c.put.new.self
