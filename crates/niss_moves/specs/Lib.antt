@@ -20,3 +20,4 @@ pub mod CleanText
 pub mod CleanedLine
 pub mod Helpers
 pub mod WholeMoves
+pub mod FaultText

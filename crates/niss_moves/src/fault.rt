@@ -1,3 +1,7 @@
+//! Why bytes are no line of moves.
+ghost use Rattle.std.specs.Prelude.{◌≡◌, ◌≤◌, length};
+ghost use Rattle.niss_moves.specs.FaultText.{fault_column, fault_text};
+
 /// Why bytes are no line of moves. Columns count bytes from 1.
 #[derive(Clone, Copy, Debug, PartialEq, Eq)]
 pub enum ReadFault {
@@ -11,4 +15,33 @@ pub enum ReadFault {
     Unclosed { column: u32 },
     /// The first byte of the 257th move.
     TooLong { column: u32 },
+}
+
+impl ReadFault {
+    /// The column of the fault.
+    pub fn column(self) -> u32
+        ensures { result ≡ fault_column self }
+    {
+        match self {
+            ReadFault::NotAMove { column } => column,
+            ReadFault::Nested { column } => column,
+            ReadFault::Unopened { column } => column,
+            ReadFault::Unclosed { column } => column,
+            ReadFault::TooLong { column } => column,
+        }
+    }
+
+    /// What is wrong there in a few words, such as `not a move`.
+    pub fn text(self) -> &'static str
+        ensures text { result.now ≡ fault_text self }
+        ensures short { length result.now ≤ 40 }
+    {
+        match self {
+            ReadFault::NotAMove { .. } => "not a move",
+            ReadFault::Nested { .. } => "bracket inside a bracket",
+            ReadFault::Unopened { .. } => "bracket closed that was not opened",
+            ReadFault::Unclosed { .. } => "bracket not closed",
+            ReadFault::TooLong { .. } => "more than 256 moves",
+        }
+    }
 }

@@ -7,6 +7,7 @@ use Rattle.niss_moves.specs.CleanedLine.{with_clean_line}
 use Rattle.niss_moves.specs.CleanText.{turn_words}
 use Rattle.niss_moves.specs.Effects.{effect, effect_of_turns, inverse}
 use Rattle.niss_moves.specs.Faces.{faces}
+use Rattle.niss_moves.specs.FaultText.{fault_column, fault_text}
 use Rattle.niss_moves.specs.Letters.{letters}
 use Rattle.niss_moves.specs.Line.{Moves}
 use Rattle.niss_moves.specs.Places.{Place}
@@ -27,25 +28,10 @@ use Rattle.niss_cube.specs.declared.step.Step.{Step}
 use Rattle.niss_moves.specs.declared.token.Token.{Token}
 use Rattle.niss_moves.specs.declared.turn.Turn.{Turn}
 use Rattle.niss_moves.specs.declared.fault.ReadFault.{ReadFault}
-use Rattle.niss_moves.specs.declared.fault.ReadFault.TheVariants.{NotAMove, Nested, Unopened, Unclosed, TooLong}
 use Rattle.niss_shell.specs.declared.stop.LineFault.{LineFault}
 use Rattle.niss_shell.specs.declared.stop.LineFault.TheVariants.{Unread, NoStart}
 use Rattle.niss_shell.specs.declared.stop.Stop.{Stop}
 use Rattle.niss_shell.specs.declared.stop.Stop.TheVariants.{Done, Line, Usage, InputTooLong, CannotRead, CannotWrite, OutOfMemory}
-
-abbrev pub fault_column : ReadFault → ℕ
-fault_column (NotAMove column) = column
-fault_column (Nested column) = column
-fault_column (Unopened column) = column
-fault_column (Unclosed column) = column
-fault_column (TooLong column) = column
-
-abbrev pub fault_text : ReadFault → List ℕ
-fault_text (NotAMove column) = codes "not a move"
-fault_text (Nested column) = codes "bracket inside a bracket"
-fault_text (Unopened column) = codes "bracket closed that was not opened"
-fault_text (Unclosed column) = codes "bracket not closed"
-fault_text (TooLong column) = codes "more than 256 moves"
 
 -- the name of the step that must hold before this one
 abbrev pub start_text : Step → List ℕ

@@ -1,6 +1,7 @@
 ghost use Rattle.std.specs.Prelude.{◌≡◌, decimal, codes, ◌+◌, ◌∷◌, [], ◌++◌, ◌≤◌, length};
-ghost use Rattle.niss_shell.specs.Output.{error_text, status_of, fault_column, fault_text, start_text, line_fault_text};
+ghost use Rattle.niss_shell.specs.Output.{error_text, status_of, start_text, line_fault_text};
 ghost use Rattle.niss_shell.specs.Lines.{line_feed};
+ghost use Rattle.niss_moves.specs.FaultText.{fault_column, fault_text};
 ghost use Rattle.niss_shell.specs.declared.stop.Stop.TheVariants.{Usage, CannotWrite, OutOfMemory};
 
 use crate::command::UsageFault;
@@ -31,31 +32,6 @@ pub enum Stop {
     OutOfMemory,
 }
 
-fn column_of(fault: ReadFault) -> u32
-    ensures { result ≡ fault_column fault }
-{
-    match fault {
-        ReadFault::NotAMove { column } => column,
-        ReadFault::Nested { column } => column,
-        ReadFault::Unopened { column } => column,
-        ReadFault::Unclosed { column } => column,
-        ReadFault::TooLong { column } => column,
-    }
-}
-
-fn text_of(fault: ReadFault) -> &'static [u8]
-    ensures text { result.now ≡ fault_text fault }
-    ensures short { length result.now ≤ 100 }
-{
-    match fault {
-        ReadFault::NotAMove { .. } => b"not a move",
-        ReadFault::Nested { .. } => b"bracket inside a bracket",
-        ReadFault::Unopened { .. } => b"bracket closed that was not opened",
-        ReadFault::Unclosed { .. } => b"bracket not closed",
-        ReadFault::TooLong { .. } => b"more than 256 moves",
-    }
-}
-
 fn put_read_fault(fault: ReadFault, text: &mut LineText)
     requires { length text.old.items ≤ 100 }
     ensures { text.new.items
@@ -63,9 +39,9 @@ fn put_read_fault(fault: ReadFault, text: &mut LineText)
         ++ fault_text fault ++ line_feed ∷ [] }
 {
     put_text(b", column ", text);
-    put_number(column_of(fault) as u128, text);
+    put_number(fault.column() as u128, text);
     put_text(b": ", text);
-    put_text(text_of(fault), text);
+    put_text(fault.text().as_bytes(), text);
     text.push(b'\n');
 }
 

@@ -2,6 +2,7 @@
 ghost use Rattle.std.specs.Prelude.{◌≤◌, length};
 
 use niss_moves::{LineReader, ReadFault, read};
+use std::process::Abort;
 
 fn fault_of(line: &[u8]) -> Option<ReadFault>
     requires { length line.now ≤ 16777216 }
@@ -10,7 +11,7 @@ fn fault_of(line: &[u8]) -> Option<ReadFault>
 }
 
 #[test]
-fn tells_a_fault_again(rt: HostRuntime) {
+fn reports_a_fault_again(rt: HostRuntime) {
     let unopened = ReadFault::Unopened { column: 2 };
     let mut reader = LineReader::new();
     assert_eq!(rt; reader.feed(b'R'), Ok(()));
@@ -18,6 +19,24 @@ fn tells_a_fault_again(rt: HostRuntime) {
     assert_eq!(rt; reader.feed(b'U'), Err(unopened));
     assert_eq!(rt; reader.fed(), 3);
     assert_eq!(rt; reader.finish().err(), Some(unopened));
+}
+
+fn check_fault(rt: &impl Abort, line: &[u8], column: u32, text: &str)
+    requires { length line.now ≤ 16777216 }
+{
+    match read(line) {
+        Ok(_) => assert!(rt; false, "no fault: {text}"),
+        Err(fault) => assert_eq!(rt; (fault.column(), fault.text()), (column, text)),
+    }
+}
+
+#[test]
+fn names_each_fault(rt: HostRuntime) {
+    check_fault(&rt, b"R Q", 3, "not a move");
+    check_fault(&rt, b"R (U (", 6, "bracket inside a bracket");
+    check_fault(&rt, b"R)", 2, "bracket closed that was not opened");
+    check_fault(&rt, b"(R) (U", 5, "bracket not closed");
+    check_fault(&rt, &[b'R'; 257], 257, "more than 256 moves");
 }
 
 #[test]
