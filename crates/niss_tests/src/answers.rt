@@ -1,4 +1,4 @@
-//! Commands that answer each line: what a run writes, tells and answers.
+//! Commands that answer each line: what a run writes, reports and answers.
 use crate::runs::{Run, USAGE};
 use std::alloc::{AllocError, Global};
 use std::test::Fail;

@@ -1,6 +1,6 @@
 //! Input that is read in blocks: the same answers wherever a block ends.
 use crate::devices::{Bytes, Held};
-use crate::runs::{CANNOT_WRITE, Outcome, words_of};
+use crate::runs::{CANNOT_WRITE, Outcome, Targets, words_of};
 use std::alloc::{AllocError, Global};
 use std::test::Fail;
 
@@ -32,7 +32,7 @@ fn many_lines(rt: HostRuntime) -> Result<(), Fail> {
 }
 
 #[test]
-fn fault_behind_the_first_block(rt: HostRuntime) -> Result<(), Fail> {
+fn fault_after_the_first_block(rt: HostRuntime) -> Result<(), Fail> {
     let words = words_of(rt.alloc(), &["invert"])?;
     let input = repeated(rt.alloc(), b" ", BLOCK, b"q\n")?;
     let outcome = Outcome {
@@ -80,10 +80,9 @@ fn answers_go_out_before_the_next_read(rt: HostRuntime) -> Result<(), Fail> {
     // how many bytes a read gives, and in how many writes the answers go out
     for (most, writes) in [(1usize, 3usize), (2, 3), (4, 2), (BLOCK, 1)] {
         let mut input = Bytes::new(b"R\nU\nF\n", most);
-        let mut out = Held::new(rt.alloc(), 1000);
-        let mut err = Held::new(rt.alloc(), 1000);
-        outcome.check(&rt, rt.alloc(), &words, &mut input, &mut out, &mut err);
-        assert_eq!(rt; out.writes, writes, "at most {most} bytes a read");
+        let mut targets = Targets::new(rt.alloc(), Held::new(rt.alloc(), 1000));
+        outcome.check(&rt, rt.alloc(), &words, &mut input, &mut targets);
+        assert_eq!(rt; targets.out.writes, writes, "at most {most} bytes a read");
     }
     Ok(())
 }
@@ -95,11 +94,10 @@ fn each_write_of_waiting_answers_fails(rt: HostRuntime) -> Result<(), Fail> {
     let output = b"R'\nU'\n";
     for before in 0..output.len() {
         let mut input = Bytes::new(b"R\nU\nq\n", BLOCK);
-        let mut out = Held::failing_at(rt.alloc(), 1, before + 1);
-        let mut err = Held::new(rt.alloc(), 1000);
+        let mut targets = Targets::new(rt.alloc(), Held::failing_at(rt.alloc(), 1, before + 1));
         let outcome = Outcome::failure(&output[..before], CANNOT_WRITE);
-        outcome.check(&rt, rt.alloc(), &words, &mut input, &mut out, &mut err);
-        assert_eq!(rt; out.writes, before + 1, "after {before} writes");
+        outcome.check(&rt, rt.alloc(), &words, &mut input, &mut targets);
+        assert_eq!(rt; targets.out.writes, before + 1, "after {before} writes");
     }
     Ok(())
 }

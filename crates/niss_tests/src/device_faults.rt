@@ -1,6 +1,6 @@
 //! Runs whose reads, writes or flushes fail, each in turn.
 use crate::devices::{Bytes, Held};
-use crate::runs::{CANNOT_READ, CANNOT_WRITE, Outcome, STEPS, words_of};
+use crate::runs::{CANNOT_READ, CANNOT_WRITE, Outcome, STEPS, Targets, words_of};
 use std::test::Fail;
 
 const NOT_A_MOVE: &[u8] = b"nissy: line 1, column 3: not a move\n";
@@ -61,11 +61,10 @@ fn each_write_fails(rt: HostRuntime) -> Result<(), Fail> {
         let output = output.as_bytes();
         for before in 0..output.len() {
             let mut input = Bytes::new(b"", 1);
-            let mut out = Held::failing_at(rt.alloc(), 1, before + 1);
-            let mut err = Held::new(rt.alloc(), 1000);
+            let mut targets = Targets::new(rt.alloc(), Held::failing_at(rt.alloc(), 1, before + 1));
             let outcome = Outcome::failure(&output[..before], CANNOT_WRITE);
-            outcome.check(&rt, rt.alloc(), &words, &mut input, &mut out, &mut err);
-            assert_eq!(rt; out.writes, before + 1, "after {before} writes");
+            outcome.check(&rt, rt.alloc(), &words, &mut input, &mut targets);
+            assert_eq!(rt; targets.out.writes, before + 1, "after {before} writes");
         }
     }
     Ok(())
@@ -78,11 +77,10 @@ fn each_solution_is_a_write(rt: HostRuntime) -> Result<(), Fail> {
         let solutions = output.lines().filter(|line| line.ends_with(")")).count();
         let words = words_of(rt.alloc(), words)?;
         let mut input = Bytes::new(b"", 1);
-        let mut out = Held::new(rt.alloc(), usize::MAX);
-        let mut err = Held::new(rt.alloc(), 1000);
+        let mut targets = Targets::new(rt.alloc(), Held::new(rt.alloc(), usize::MAX));
         let outcome = Outcome::good(output.as_bytes());
-        outcome.check(&rt, rt.alloc(), &words, &mut input, &mut out, &mut err);
-        assert_eq!(rt; out.writes, solutions + 1, "{solutions} solutions");
+        outcome.check(&rt, rt.alloc(), &words, &mut input, &mut targets);
+        assert_eq!(rt; targets.out.writes, solutions + 1, "{solutions} solutions");
     }
     Ok(())
 }
@@ -92,11 +90,10 @@ fn no_bytes_taken(rt: HostRuntime) -> Result<(), Fail> {
     for (words, _) in RUNS {
         let words = words_of(rt.alloc(), words)?;
         let mut input = Bytes::new(b"", 1);
-        let mut out = Held::new(rt.alloc(), 0);
-        let mut err = Held::new(rt.alloc(), 1000);
+        let mut targets = Targets::new(rt.alloc(), Held::new(rt.alloc(), 0));
         let outcome = Outcome::failure(b"", CANNOT_WRITE);
-        outcome.check(&rt, rt.alloc(), &words, &mut input, &mut out, &mut err);
-        assert_eq!(rt; out.writes, 1);
+        outcome.check(&rt, rt.alloc(), &words, &mut input, &mut targets);
+        assert_eq!(rt; targets.out.writes, 1);
     }
     Ok(())
 }
@@ -106,27 +103,25 @@ fn last_flush_fails(rt: HostRuntime) -> Result<(), Fail> {
     for (words, output) in RUNS {
         let words = words_of(rt.alloc(), words)?;
         let mut input = Bytes::new(b"", 1);
-        let mut out = Held::failing_at_flush(rt.alloc());
-        let mut err = Held::new(rt.alloc(), 1000);
+        let mut targets = Targets::new(rt.alloc(), Held::failing_at_flush(rt.alloc()));
         let outcome = Outcome::failure(output.as_bytes(), CANNOT_WRITE);
-        outcome.check(&rt, rt.alloc(), &words, &mut input, &mut out, &mut err);
-        assert_eq!(rt; out.flushes, 1);
+        outcome.check(&rt, rt.alloc(), &words, &mut input, &mut targets);
+        assert_eq!(rt; targets.out.flushes, 1);
     }
     Ok(())
 }
 
 #[test]
-fn refused_flush_behind_a_fault(rt: HostRuntime) -> Result<(), Fail> {
+fn refused_flush_after_a_fault(rt: HostRuntime) -> Result<(), Fail> {
     let words = words_of(rt.alloc(), &["invert", "R '"])?;
     let mut input = Bytes::new(b"", 1);
-    let mut out = Held::failing_at_flush(rt.alloc());
-    let mut err = Held::new(rt.alloc(), 1000);
+    let mut targets = Targets::new(rt.alloc(), Held::failing_at_flush(rt.alloc()));
     let outcome = Outcome {
         output: b"",
         error: NOT_A_MOVE,
         status: 1,
     };
-    outcome.check(&rt, rt.alloc(), &words, &mut input, &mut out, &mut err);
+    outcome.check(&rt, rt.alloc(), &words, &mut input, &mut targets);
     Ok(())
 }
 
@@ -135,14 +130,16 @@ fn each_write_of_a_fault_fails(rt: HostRuntime) -> Result<(), Fail> {
     let words = words_of(rt.alloc(), &["invert", "R '"])?;
     for before in 0..NOT_A_MOVE.len() {
         let mut input = Bytes::new(b"", 1);
-        let mut out = Held::new(rt.alloc(), 1000);
-        let mut err = Held::failing_at(rt.alloc(), 1, before + 1);
+        let mut targets = Targets {
+            out: Held::new(rt.alloc(), 1000),
+            err: Held::failing_at(rt.alloc(), 1, before + 1),
+        };
         let outcome = Outcome {
             output: b"",
             error: &NOT_A_MOVE[..before],
             status: 1,
         };
-        outcome.check(&rt, rt.alloc(), &words, &mut input, &mut out, &mut err);
+        outcome.check(&rt, rt.alloc(), &words, &mut input, &mut targets);
     }
     Ok(())
 }

@@ -31,14 +31,20 @@ fn filler(heap: &LocalHeap, room: usize) -> Result<Vec<u8, &LocalHeap>, AllocErr
     Vec::with_capacity(heap, AMPLE.saturating_sub(room))
 }
 
+/// Words, and what a run with room writes.
+#[derive(Clone, Copy)]
+struct GrowingRun<'a> {
+    words: &'a [String],
+    output: &'a str,
+}
+
 /// Runs the words where a heap has this room, and answers whether that was enough. Where it wasn't, nothing is read, written
 /// or looked at.
 fn runs_in_room(
     rt: &impl Abort,
     alloc: Global,
     heap: &LocalHeap,
-    words: &[String],
-    output: &str,
+    wanted: GrowingRun<'_>,
     room: usize,
 ) -> Result<bool, AllocError> {
     let filled = filler(heap, room)?;
@@ -47,9 +53,16 @@ fn runs_in_room(
     let mut out = Held::new(alloc, 1000);
     let mut err = Held::new(alloc, 1000);
     let mut looks = Meter::new();
-    let status = run_in(heap, words, &mut input, &mut out, &mut err, &mut looks);
+    let status = run_in(
+        heap,
+        wanted.words,
+        &mut input,
+        &mut out,
+        &mut err,
+        &mut looks,
+    );
     let outcome = match status {
-        0 => Outcome::good(output.as_bytes()),
+        0 => Outcome::good(wanted.output.as_bytes()),
         _ => Outcome::failure(b"", OUT_OF_MEMORY),
     };
     outcome.compare(rt, status, &out, &err);
@@ -70,10 +83,14 @@ fn check_run(
     more: u16,
 ) -> Result<(), AllocError> {
     let words = words_of(alloc, words)?;
+    let wanted = GrowingRun {
+        words: &words,
+        output,
+    };
     let heap = LocalHeap::new(alloc, AMPLE)?;
     for refused in 0..1000usize {
         let room = refused * more as usize;
-        if runs_in_room(rt, alloc, &heap, &words, output, room)? {
+        if runs_in_room(rt, alloc, &heap, wanted, room)? {
             assert!(rt; refused > 0);
             return Ok(());
         }

@@ -30,6 +30,25 @@ pub fn words_of(alloc: Global, texts: &[&str]) -> Result<Vec<String>, AllocError
     Ok(words)
 }
 
+/// What a run writes to.
+#[derive(Drop)]
+pub struct Targets {
+    pub out: Held,
+    pub err: Held,
+}
+
+impl Targets {
+    /// This output, and an error writer that takes all.
+    pub fn new(alloc: Global, out: Held) -> Targets
+        ensures { result.out ≡ out }
+    {
+        Targets {
+            out,
+            err: Held::new(alloc, 1000),
+        }
+    }
+}
+
 /// What a run has to write and to answer.
 #[derive(Clone, Copy)]
 pub struct Outcome<'a> {
@@ -67,25 +86,31 @@ impl<'a> Outcome<'a> {
         assert_eq!(rt; status, self.status);
     }
 
-    /// Runs the words over these devices, with memory of `heap`.
+    /// Runs the words over this source and these targets, with memory of `heap`.
     pub fn check<A: Allocator + Copy, R: Source>(
         self,
         rt: &impl Abort,
         heap: A,
         words: &[String],
         input: &mut R,
-        out: &mut Held,
-        err: &mut Held,
+        targets: &mut Targets,
     )
         requires reads { (R.state input.old).has_failed ≡ false }
         requires goes_on { (R.state input.old).has_ended ≡ false }
-        requires write_works { out.old.write_failed ≡ false }
-        requires flush_works { out.old.flush_failed ≡ false }
+        requires write_works { targets.old.out.write_failed ≡ false }
+        requires flush_works { targets.old.out.flush_failed ≡ false }
     {
-        let flushes = out.flushes;
-        let status = run_in(heap, words, input, out, err, &mut Meter::new());
-        self.compare(rt, status, out, err);
-        assert_eq!(rt; out.flushes, flushes.saturating_add(1));
+        let flushes = targets.out.flushes;
+        let status = run_in(
+            heap,
+            words,
+            input,
+            &mut targets.out,
+            &mut targets.err,
+            &mut Meter::new(),
+        );
+        self.compare(rt, status, &targets.out, &targets.err);
+        assert_eq!(rt; targets.out.flushes, flushes.saturating_add(1));
     }
 
     /// Runs the words over this source and over targets that take all.
@@ -100,9 +125,8 @@ impl<'a> Outcome<'a> {
         requires reads { (R.state input.old).has_failed ≡ false }
         requires goes_on { (R.state input.old).has_ended ≡ false }
     {
-        let mut out = Held::new(alloc, 1000);
-        let mut err = Held::new(alloc, 1000);
-        self.check(rt, heap, words, input, &mut out, &mut err);
+        let mut targets = Targets::new(alloc, Held::new(alloc, 1000));
+        self.check(rt, heap, words, input, &mut targets);
     }
 }
 

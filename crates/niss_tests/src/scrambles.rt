@@ -1,6 +1,6 @@
 //! Rows of the command that writes scrambles.
 use crate::devices::{Bytes, Held};
-use crate::runs::{CANNOT_WRITE, Outcome, Run, USAGE, words_of};
+use crate::runs::{CANNOT_WRITE, Outcome, Run, Targets, USAGE, words_of};
 use linked_list_allocator::LocalHeap;
 use std::test::Fail;
 
@@ -70,11 +70,10 @@ fn usage_of_scramble(rt: HostRuntime) -> Result<(), Fail> {
 fn most_scrambles(rt: HostRuntime) -> Result<(), Fail> {
     let words = words_of(rt.alloc(), &["scramble", "1", "2", "0", "10000"])?;
     let mut input = Bytes::new(b"", 1);
-    let mut out = Held::new(rt.alloc(), 10_000);
-    let mut err = Held::new(rt.alloc(), 1000);
+    let mut targets = Targets::new(rt.alloc(), Held::new(rt.alloc(), 10_000));
     let lines = vec![in rt.alloc(); b'\n'; 10_000]?;
     let outcome = Outcome::good(lines.as_slice());
-    outcome.check(&rt, rt.alloc(), &words, &mut input, &mut out, &mut err);
+    outcome.check(&rt, rt.alloc(), &words, &mut input, &mut targets);
     Ok(())
 }
 
@@ -95,11 +94,10 @@ fn each_write_of_scrambles_fails(rt: HostRuntime) -> Result<(), Fail> {
     let output = b"L' D' F'\nL F' L'\n";
     for before in 0..17usize {
         let mut input = Bytes::new(b"", 1);
-        let mut out = Held::failing_at(rt.alloc(), 1, before + 1);
-        let mut err = Held::new(rt.alloc(), 1000);
+        let mut targets = Targets::new(rt.alloc(), Held::failing_at(rt.alloc(), 1, before + 1));
         let outcome = Outcome::failure(&output[..before], CANNOT_WRITE);
-        outcome.check(&rt, rt.alloc(), &words, &mut input, &mut out, &mut err);
-        assert_eq!(rt; out.writes, before + 1, "after {before} writes");
+        outcome.check(&rt, rt.alloc(), &words, &mut input, &mut targets);
+        assert_eq!(rt; targets.out.writes, before + 1, "after {before} writes");
     }
     Ok(())
 }

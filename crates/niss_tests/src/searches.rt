@@ -134,7 +134,7 @@ fn domino_reduction(rt: HostRuntime) {
 }
 
 #[test]
-fn looks_tell_distances(rt: HostRuntime) {
+fn looks_give_distances(rt: HostRuntime) {
     let tables = Tables::build(rt.alloc(), Step::DrudEofb, &mut Meter::new()).expect(&rt, "tables");
     let mut meter = Meter::new();
     for (moves, distance) in [("", 0u8), ("R", 1), ("R U", 2)] {
@@ -160,7 +160,7 @@ fn a_fill_counts_each_turn_it_tries(rt: HostRuntime) {
 }
 
 #[test]
-fn levels_are_found_in_blocks_and_behind_them(rt: HostRuntime) {
+fn levels_are_found_in_blocks_and_after_them(rt: HostRuntime) {
     let mut table = [21u8; 70];
     for index in [0usize, 31, 32, 69] {
         table[index] = 3;

@@ -169,29 +169,47 @@ fn each_read_fails_once(rt: HostRuntime) -> Result<(), Fail> {
     Ok(())
 }
 
-/// Runs the words over this input and this writer, and compares its status and what is told with these.
-fn check_writer<W: io::Write + Drop>(
-    rt: &impl Abort,
-    alloc: Global,
-    words: &[&str],
-    input: &[u8],
-    writer: W,
+/// Words and their input, and what a run has to answer and to report.
+#[derive(Clone, Copy)]
+struct WriterRun<'a> {
+    words: &'a [&'a str],
+    input: &'a [u8],
     status: u8,
-    error: &[u8],
-) -> Result<(), AllocError> {
-    let words = words_of(alloc, words)?;
-    let mut err = Held::new(alloc, 1000);
-    let answered = run(
-        alloc,
-        words.as_slice(),
-        &mut FromReader::new(Cursor::new(input)),
-        &mut ToWriter::new(writer),
-        &mut err,
-        &mut Meter::new(),
-    );
-    assert_eq!(rt; err.bytes.as_slice(), error);
-    assert_eq!(rt; answered, status);
-    Ok(())
+    error: &'a [u8],
+}
+
+impl<'a> WriterRun<'a> {
+    /// With words that give the input, and an output that fails.
+    fn failure(words: &'a [&'a str]) -> WriterRun<'a> {
+        WriterRun {
+            words,
+            input: b"",
+            status: 3,
+            error: CANNOT_WRITE,
+        }
+    }
+
+    /// Runs it over this writer.
+    fn check<W: io::Write + Drop>(
+        self,
+        rt: &impl Abort,
+        alloc: Global,
+        writer: W,
+    ) -> Result<(), AllocError> {
+        let words = words_of(alloc, self.words)?;
+        let mut err = Held::new(alloc, 1000);
+        let status = run(
+            alloc,
+            words.as_slice(),
+            &mut FromReader::new(Cursor::new(self.input)),
+            &mut ToWriter::new(writer),
+            &mut err,
+            &mut Meter::new(),
+        );
+        assert_eq!(rt; err.bytes.as_slice(), self.error);
+        assert_eq!(rt; status, self.status);
+        Ok(())
+    }
 }
 
 #[test]
@@ -200,7 +218,7 @@ fn each_write_fails_once(rt: HostRuntime) -> Result<(), Fail> {
     for kind in KINDS {
         for before in 0..8usize {
             let mut writer = FailingWriter::new(before + 1, kind);
-            check_writer(&rt, rt.alloc(), &words, b"", &mut writer, 3, CANNOT_WRITE)?;
+            WriterRun::failure(&words).check(&rt, rt.alloc(), &mut writer)?;
             assert_eq!(rt; writer.calls, before + 1, "after {before} writes");
             assert_eq!(rt; writer.flushes, 1, "after {before} writes");
         }
@@ -212,50 +230,51 @@ fn each_write_fails_once(rt: HostRuntime) -> Result<(), Fail> {
 fn no_bytes_taken(rt: HostRuntime) -> Result<(), Fail> {
     let words = ["invert", "R U' F2"];
     let mut writer = FullWriter { calls: 0 };
-    check_writer(&rt, rt.alloc(), &words, b"", &mut writer, 3, CANNOT_WRITE)?;
+    WriterRun::failure(&words).check(&rt, rt.alloc(), &mut writer)?;
     assert_eq!(rt; writer.calls, 1);
     Ok(())
 }
 
 #[test]
 fn last_flush_fails(rt: HostRuntime) -> Result<(), Fail> {
-    let input = b"R U\n".as_slice();
-    check_writer(
-        &rt,
-        rt.alloc(),
-        &["invert"],
-        input,
-        UnflushedWriter,
-        3,
-        CANNOT_WRITE,
-    )?;
+    let wanted = WriterRun {
+        words: &["invert"],
+        input: b"R U\n",
+        status: 3,
+        error: CANNOT_WRITE,
+    };
+    wanted.check(&rt, rt.alloc(), UnflushedWriter)?;
     Ok(())
 }
 
 /// One flush, after the last byte: of a good run, of one that a line's fault ends, and of one that writes nothing.
 #[test]
 fn one_flush(rt: HostRuntime) -> Result<(), Fail> {
-    let fault = b"nissy: line 3, column 3: not a move\n".as_slice();
-    let runs: [(&str, &[u8], usize, u8, &[u8]); 3] = [
-        ("invert", b"R\nU\nF2\n", 9, 0, b""),
-        ("invert", b"R\nU\nR '\n", 6, 1, fault),
-        ("", b"", 0, 2, USAGE.as_bytes()),
-    ];
-    for (command, input, bytes, status, error) in runs {
+    let good = WriterRun {
+        words: &["invert"],
+        input: b"R\nU\nF2\n",
+        status: 0,
+        error: b"",
+    };
+    let fault = WriterRun {
+        words: &["invert"],
+        input: b"R\nU\nR '\n",
+        status: 1,
+        error: b"nissy: line 3, column 3: not a move\n",
+    };
+    let usage = WriterRun {
+        words: &[""],
+        input: b"",
+        status: 2,
+        error: USAGE.as_bytes(),
+    };
+    for (wanted, bytes) in [(good, 9usize), (fault, 6), (usage, 0)] {
         let mut writer = CountingWriter {
             bytes: 0,
             flushes: 0,
             bytes_before_flush: 0,
         };
-        check_writer(
-            &rt,
-            rt.alloc(),
-            &[command],
-            input,
-            &mut writer,
-            status,
-            error,
-        )?;
+        wanted.check(&rt, rt.alloc(), &mut writer)?;
         assert_eq!(rt; writer.bytes, bytes);
         assert_eq!(rt; writer.flushes, 1);
         assert_eq!(rt; writer.bytes_before_flush, bytes);
