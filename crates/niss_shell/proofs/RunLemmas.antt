@@ -5,9 +5,7 @@ use Rattle.std.proofs.lemmas.Grind.{common_steps}
 use Rattle.rand_pcg.specs.Lcg.{Lcg}
 use Rattle.niss_shell.specs.Device.{SourceState, TargetState, has_fault, Appended, StaysSilent, WriteRefused}
 use Rattle.niss_shell.specs.Scrambles.{generator_of, scramble_text}
-use Rattle.niss_shell.specs.Words.{limit, Request, OnLines, ListSteps, DrawScrambles, request_of, requested, reads_source, takes_lines, has_step, joined}
-use Rattle.niss_shell.specs.declared.command.Command.{Command}
-use Rattle.niss_shell.specs.declared.command.Command.TheVariants as command
+use Rattle.niss_shell.specs.Words.{limit, Request, OnLines, ListSteps, DrawScrambles, request_of, reads_source, has_step, joined}
 use Rattle.niss_shell.specs.Output.{Answer, Ending, More, End, Fail, ending, stop_at_end, line_answers, answer_lines, unsearched, step_line, stop_of, out_of, error_text, status_of}
 use Rattle.niss_cube.specs.Steps.{steps}
 use Rattle.niss_shell.specs.Engine.{AnswerState, pending_state, AnswersSource, Answers, Writes, Refuses, EndsUnflushed, RunsUnflushed, flushed_stop, FlushesLast}
@@ -176,19 +174,6 @@ from_text command given ws text piece stop a h k i j e f g same some whole fits 
     (subst (λ t. Answers (answer_lines (line_answers given) t End) stop h i) same
     (subst (λ s. Answers (answer_lines (line_answers given) piece End) stop s i) f
     (subst (λ s. Answers (answer_lines (line_answers given) piece End) stop k s) g x))))
-
--- of the commands without lines, the one that draws no scrambles
-pub without_lines : (k : Command) → takes_lines (requested k) ≡ false
-    → ((state stream turns count : ℕ) → k ≢ command.Scramble state stream turns count) → requested k ≡ ListSteps
-without_lines (command.Invert rest) none other = absurd (cc none)
-without_lines (command.Unniss rest) none other = absurd (cc none)
-without_lines (command.Cleanup rest) none other = absurd (cc none)
-without_lines (command.Print rest) none other = absurd (cc none)
-without_lines (command.Solve step n rest) none other = absurd (cc none)
-without_lines (command.Count step n rest) none other = absurd (cc none)
-without_lines (command.Near step n slack rest) none other = absurd (cc none)
-without_lines command.Steps none other = refl
-without_lines (command.Scramble state stream turns count) none other = absurd (other state stream turns count refl)
 
 -- the names of the steps
 

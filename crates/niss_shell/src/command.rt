@@ -61,6 +61,7 @@ pub struct Query {
 }
 
 impl Query {
+    /// The search of these parts.
     fn new(report: Report, step: Step, limit: Limit, slack: Limit) -> Query
         ensures { Search result ≡ search_command report step limit slack }
     {

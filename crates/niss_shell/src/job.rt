@@ -48,6 +48,7 @@ fn joined_length(words: &[String]) -> Option<usize>
     Some(total)
 }
 
+/// Appends the words, each after a space.
 fn push_more_words<A: Allocator>(words: &[String], text: &mut Vec<u8, A>) -> Result<(), AllocError>
     ensures { OnOk result
         (text.new.items ≡ text.old.items ++ flat_map spaced_word (map string_bytes words.now)) }

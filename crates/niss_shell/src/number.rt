@@ -6,6 +6,7 @@ ghost use Rattle.niss_shell.specs.Words.{number_of, most_limit};
 
 use niss_search::Limit;
 
+/// Whether all that the word has are decimal digits.
 fn has_digits_alone(word: &str) -> bool
     ensures { result ≡ list_all is_ascii_digit word.now }
 {
@@ -20,10 +21,11 @@ pub fn number_of(word: &str, most: u64) -> Option<u64>
     if !has_digits_alone(word) {
         return None;
     }
-    match word.parse::<u64>() {
-        Ok(number) if number <= most => Some(number),
-        _ => None,
+    let number = word.parse::<u64>().ok()?;
+    if number > most {
+        return None;
     }
+    Some(number)
 }
 
 /// The limit that the word spells.

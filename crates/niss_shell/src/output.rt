@@ -21,6 +21,7 @@ pub struct Output<'a, W> {
 }
 
 impl<'a, W: Target> Output<'a, W> {
+    /// The output to this target. No answer waits.
     pub fn new(target: &'a mut W) -> Output<'a, W>
         ensures same_target { result.target.ghost_name ≡ target.entry.ghost_name }
         ensures unchanged { result.target.now ≡ target.old }

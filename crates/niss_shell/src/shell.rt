@@ -72,11 +72,13 @@ fn answer_command<A: Allocator + Copy, R: Source, W: Target>(
             length,
             count,
         } => write_scrambles(Lcg64Xsh32::new(state, stream), length, count, output),
-        // no other command is without lines
-        _ => write_steps(output),
+        Command::Steps => write_steps(output),
+        // the others are commands on lines
+        _ => unreachable!(),
     }
 }
 
+/// Writes what went wrong, or as much of it as the error writer takes.
 fn report<E: Target>(stop: Stop, err: &mut E)
     ensures { ReportsError (error_text stop) (E.state err.old) (E.state err.new) }
 {

@@ -32,6 +32,7 @@ pub enum Stop {
     OutOfMemory,
 }
 
+/// Appends the column and the text of a fault in the moves of a line.
 fn put_read_fault(fault: ReadFault, text: &mut LineText)
     requires { length text.old.items ≤ 100 }
     ensures { text.new.items
@@ -45,6 +46,7 @@ fn put_read_fault(fault: ReadFault, text: &mut LineText)
     text.push(b'\n');
 }
 
+/// Appends the name of the step that has to be reached before this one.
 fn put_start_fault(step: Step, text: &mut LineText)
     requires { length text.old.items ≤ 100 }
     ensures { text.new.items
@@ -57,6 +59,7 @@ fn put_start_fault(step: Step, text: &mut LineText)
     put_text(b" does not hold\n", text);
 }
 
+/// Appends the number of the line, and what is wrong with it.
 fn put_line_fault(line: u32, fault: LineFault, text: &mut LineText)
     requires { length text.old.items ≡ 0 }
     ensures { text.new.items ≡ line_fault_text line fault }
@@ -81,6 +84,7 @@ impl From<DeviceFault> for Stop {
 impl From<UsageFault> for Stop {
     ghost from_gives = { λ _ stop. stop ≡ Usage };
 
+    /// What words that are no command end a run with.
     fn from(_: UsageFault) -> Stop {
         Stop::Usage
     }
@@ -89,6 +93,7 @@ impl From<UsageFault> for Stop {
 impl From<OutOfMemory> for Stop {
     ghost from_gives = { λ _ stop. stop ≡ OutOfMemory };
 
+    /// What refused memory for tables ends a run with.
     fn from(_: OutOfMemory) -> Stop {
         Stop::OutOfMemory
     }
@@ -97,6 +102,7 @@ impl From<OutOfMemory> for Stop {
 impl From<AllocError> for Stop {
     ghost from_gives = { λ _ stop. stop ≡ OutOfMemory };
 
+    /// What refused memory for words ends a run with.
     fn from(_: AllocError) -> Stop {
         Stop::OutOfMemory
     }

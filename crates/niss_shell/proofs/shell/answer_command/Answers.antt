@@ -4,7 +4,7 @@ use Rattle.std.proofs.lemmas.Result.{err_from_is_err_and}
 use Rattle.niss_shell.specs.Words.{OnLines, request_of, reads_source, requested}
 use Rattle.niss_shell.specs.Engine.{RunsUnflushed, output_state, stop_unless}
 use Rattle.niss_shell.specs.declared.stop.Stop.TheVariants.{Done}
-use Rattle.niss_shell.proofs.RunLemmas.{by_words, runs_usage, runs_steps, runs_scrambles, without_lines}
+use Rattle.niss_shell.proofs.RunLemmas.{by_words, runs_usage, runs_steps, runs_scrambles}
 use Rattle.niss_shell.proofs.shell.answer_command.Goals as goal
 
 pub returns-in_default-clause-runs : goal.returns-in_default-clause-runs
@@ -17,17 +17,12 @@ returns-in-Scramble-clause-runs g c = runs_scrambles (request_of (map string_byt
     (g.R.Source.state c.args.source.now) (output_state g.W.Target.state c.args.output.now c.args.looks.now) (output_state g.W.Target.state c.write_scrambles.new.output c.args.looks.now)
     (c.in-Ok.ensures.command ∙ ap (λ k. Ok (requested k)) c.in-Scramble.is) c.new-in-Scramble.ensures (c.write_scrambles.ensures.answers c.args.looks.now)
 
-pub returns-in_default-command : goal.returns-in_default-command
-returns-in_default-command g c = record {
-  same_target = c.write_steps.ensures.same_target;
-  runs = runs_steps (request_of (map string_bytes c.args.words.now)) (stop_unless c.write_steps.result Done)
-      (g.R.Source.state c.args.source.now) (output_state g.W.Target.state c.args.output.now c.args.looks.now)
-      (output_state g.W.Target.state c.write_steps.new.output c.args.looks.now)
-      (c.in-Ok.ensures.command ∙ ap Ok (without_lines c.in-Ok.command c.in_default-on_lines.ensures c.in_default-command.not-Scramble))
-      (c.write_steps.ensures.answers c.args.looks.now);
-  empty = c.write_steps.ensures.empty;
-  unread = λ h. refl;
-}
+pub returns-in-Steps-clause-runs : goal.returns-in-Steps-clause-runs
+returns-in-Steps-clause-runs g c = runs_steps (request_of (map string_bytes c.args.words.now)) (stop_unless c.write_steps.result Done)
+    (g.R.Source.state c.args.source.now) (output_state g.W.Target.state c.args.output.now c.args.looks.now)
+    (output_state g.W.Target.state c.write_steps.new.output c.args.looks.now)
+    (c.in-Ok.ensures.command ∙ ap (λ k. Ok (requested k)) c.in-Steps.is)
+    (c.write_steps.ensures.answers c.args.looks.now)
 
 pub returns-in_err-new-clause-runs : goal.returns-in_err-new-clause-runs
 returns-in_err-new-clause-runs g c =
@@ -48,3 +43,12 @@ returns-in-Some-clause-unread g c = λ h.
     let asked = c.in-Ok.ensures.command ∙ ap (λ k. Ok k) c.in-Some.ensures in
     let given = sym (ap reads_source asked) ∙ h in
     by_words (λ t. t.items) c.in_ok-new.field-0.text c.in-Some.command (map string_bytes c.in-Some.rest.now) _ c.in_ok-new.ensures.input given c.answer.ensures.unread
+
+pub answer-requires-clause-reads : goal.answer-requires-clause-reads
+answer-requires-clause-reads g c = c.requires.reads
+
+pub answer-requires-clause-goes_on : goal.answer-requires-clause-goes_on
+answer-requires-clause-goes_on g c = c.requires.goes_on
+
+pub returns-in_err-new-clause-unread : goal.returns-in_err-new-clause-unread
+returns-in_err-new-clause-unread g c = λ h. refl
