@@ -5,21 +5,24 @@ set -u
 cd "$(dirname "$0")/.." || exit 2
 passed=0 failed=0
 
-stands_once() { # FILE TEXT
-    local text rest
-    [ -f "$1" ] || return 1
-    text=$(cat "$1")
-    rest=${text#*"$2"}
-    [ "$rest" != "$text" ] && [ "${rest#*"$2"}" = "$rest" ]
-}
-
 can_be_made() { # CRATE EDIT
-    local line file='' made=1
+    local line file='' text='' old='' rest made=1
     while IFS= read -r line; do
         case $line in
-            "file: "*) file=crates/$1/${line#file: } ;;
-            "old: "*) stands_once "$file" "${line#old: }" || return 1 ;;
-            "new:"*) made=0 ;;
+            "file: $file") ;;
+            "file: "*)
+                file=${line#file: }
+                text=$(cat "crates/$1/$file") || return 1
+                ;;
+            "old: "*)
+                old=${line#old: }
+                rest=${text#*"$old"}
+                [ "$rest" != "$text" ] && [ "${rest#*"$old"}" = "$rest" ] || return 1
+                ;;
+            "new: "*)
+                text=${text%%"$old"*}${line#new: }${text#*"$old"}
+                made=0
+                ;;
         esac
     done < "$2"
     return $made
