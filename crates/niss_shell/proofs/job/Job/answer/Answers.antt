@@ -1,4 +1,4 @@
-use Rattle.std.proofs.Common.{◌≡◌, sym, ap, ◌∙◌, subst}
+use Rattle.std.proofs.Common.{◌≡◌, refl, sym, ap, ◌∙◌, subst}
 use Rattle.niss_shell.specs.Job.{IsInput, command_of}
 use Rattle.niss_shell.specs.Engine.{output_state}
 use Rattle.niss_shell.proofs.RunLemmas.{from_source, from_text}
@@ -22,3 +22,6 @@ returns-in-Some-clause-runs g c = λ words input.
     (ap command_of c.new-lines.ensures.work) (ap (output_state g.W.Target.state c.args.output.now) c.new-lines.ensures.looks)
     (ap (output_state g.W.Target.state c.take_text.new.output) (sym back))
     c.as_slice.ensures.value joins.0 joins.1 joins.2 c.take_text.ensures.answers
+
+pub returns-in-Some-clause-unread : goal.returns-in-Some-clause-unread
+returns-in-Some-clause-unread g c = rw c.in-Some.is refl

@@ -38,3 +38,14 @@ returns-clause-reported g c =
     (near_solutions_of c.args.self.now.tables e c.new-path.result.limit c.args.self.now.slack) c.args.output.now c.search.new.sink _ _ c.args.looks.now c.search.new.meter works
     (c.in_ok-outcome.ensures.ok e at) (c.in_ok-outcome.ensures.looks e at) c.in_ok-outcome.ensures.bound)
     c.put.ensures.taken)
+
+pub search-requires-clause-meter : goal.search-requires-clause-meter
+search-requires-clause-meter g c = c.requires.meter
+
+pub returns-in_err-outcome-clause-bound : goal.returns-in_err-outcome-clause-bound
+returns-in_err-outcome-clause-bound g c =
+    let limit_is : c.new-path.result.limit ≡ c.args.self.now.limit = ap (λ p. p.limit) c.new-path.ensures in rw (← limit_is) c.in_err-outcome.ensures.bound
+
+pub returns-clause-bound : goal.returns-clause-bound
+returns-clause-bound g c =
+    let limit_is : c.new-path.result.limit ≡ c.args.self.now.limit = ap (λ p. p.limit) c.new-path.ensures in rw (← limit_is) c.in_ok-outcome.ensures.bound
