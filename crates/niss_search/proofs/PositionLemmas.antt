@@ -1,4 +1,4 @@
--- What a position says of each cube that has it, by the laws of the coordinates and of the steps.
+-- What of a cube depends on its position alone, by the laws of the coordinates and of the steps.
 use Rattle.std.proofs.Common.{◌≡◌, true, List, [], ◌∷◌, map, Option, Contains, IsTrue, refl, sym, ap, ◌∙◌, subst}
 use Rattle.std.specs.List.{list_any}
 use Rattle.std.specs.Option.{option_map_or}

@@ -36,15 +36,6 @@ looks_below step x p left = visits (turns_of step) position_after (distance_at s
 unfoldable pub looks_beyond : Step → List Coordinates → List Turn → ℕ → ℕ
 looks_beyond step x p left = looks_below step x p left - 1
 
--- what is found, and the looks, below the path and one turn more, where the turn may follow
-unfoldable pub found_after : Step → List Coordinates → List Turn → ℕ → Turn → List (List Turn)
-found_after step x p left t =
-    if may_follow (last_turn p) t then found_below step (position_after x t) (p ++ t ∷ []) left else []
-
-unfoldable pub looks_after : Step → List Coordinates → List Turn → ℕ → Turn → ℕ
-looks_after step x p left t =
-    if may_follow (last_turn p) t then looks_below step (position_after x t) (p ++ t ∷ []) left else 0
-
 -- What a descent changes beside its path: the meter, the count of what was found, and the sink.
 pub record DescentState (K : Type 0) : Type 0 where
   pub meter : ℕ

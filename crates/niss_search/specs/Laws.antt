@@ -70,7 +70,7 @@ DistanceIsLeast =
     (s : Step) (c : Coordinates) (x : List Coordinates) →
     distance_at s (c ∷ x) ≡ min (distance_at s (c ∷ [])) (distance_at s x)
 
--- What a position says of each cube that has it.
+-- What of a cube depends on its position alone.
 pub record PositionsFollowCubes : Type 0 where
   pub alike :
       (s : Step) (d e : Place → Place) → IsCube d → SameMap d e → IsTrue (may_start s d) →

@@ -1,10 +1,9 @@
 //! One deepening of the search, depth first.
-ghost use Rattle.std.specs.Prelude.{◌≡◌, ◌+◌, ◌<◌, ◌≤◌, ◌^◌, ◌++◌, ◌∷◌, [], length, IsTrue};
-ghost use Rattle.niss_moves.specs.Canonical.{may_follow, last_turn};
+ghost use Rattle.std.specs.Prelude.{◌≡◌, ◌+◌, ◌<◌, ◌≤◌, ◌^◌, ◌++◌, ◌∷◌, [], length, All, IfSome, IfNone};
 ghost use Rattle.niss_search.specs.Cubes.{IsPosition};
-ghost use Rattle.niss_search.specs.Followers.{IsFollower};
+ghost use Rattle.niss_search.specs.Followers.{IsFollower, IsNextNear, AreFar};
 ghost use Rattle.niss_search.specs.Positions.{distance_at};
-ghost use Rattle.niss_search.specs.Descent.{found_below, looks_below, looks_beyond, found_after, looks_after};
+ghost use Rattle.niss_search.specs.Descent.{found_below, looks_below, looks_beyond};
 ghost use Rattle.niss_search.specs.Descending.{Keeps, Finds, turns};
 
 use crate::sink::Sink;
@@ -100,7 +99,7 @@ impl<'a, K: Sink> Descent<'a, K> {
     }
 
     /// Goes on below the path with `left` turns more, once its state was looked at. So a turn is put on the path only where
-    /// the look after it allows: most looks end there, and cost no more than the step of a loop.
+    /// the look after it allows.
     #[cycle(descent)]
     fn extend<S: StateSpace>(
         &mut self,
@@ -126,52 +125,19 @@ impl<'a, K: Sink> Descent<'a, K> {
             return (meter, self.sink.take(self.path));
         }
         let mut meter = meter;
-        for follower in tables.turns_after(self.path.last()) {
-            let (after, below) = self.extend_by(tables, state, *follower, left - 1, meter);
-            meter = after;
+        let mut rest = tables.turns_after(self.path.last());
+        while let Some(index) = next_near(tables, state, rest, left - 1, &mut meter) {
+            let next = rest[index];
+            // the state once more: kept from the look, it would be written to memory at each look
+            let after = tables.after(state, next);
+            let (counted, below) = self.follow(tables, after, next.turn, left - 1, meter);
+            meter = counted;
             if let Err(fault) = below {
                 return (meter, Err(fault));
             }
+            rest = &rest[index + 1..];
         }
         (meter, Ok(()))
-    }
-
-    /// Looks at the state after a turn that may follow, and goes on below it with `left` turns more where the look allows.
-    #[cycle(descent)]
-    #[inline(always)]
-    fn extend_by<S: StateSpace>(
-        &mut self,
-        tables: &SearchTables<S>,
-        state: S::State,
-        follower: Follower,
-        left: u8,
-        meter: Meter,
-    ) -> (Meter, Result<(), K::Fault>)
-        requires of_step { IsFollower tables.now.step follower }
-        requires follows { IsTrue (may_follow (last_turn (turns self.old)) follower.turn) }
-        requires room { length (turns self.old) + 1 + left ≤ self.old.path.now.limit }
-        requires meter { meter
-            + looks_after tables.now.step (S.seen tables.now.space state) (turns self.old) left follower.turn
-            < 2 ^ 128 }
-        requires count { self.old.count ≤ meter }
-        ensures keeps { Keeps self.old self.new }
-        ensures finds { Finds K.took K.refused
-            (found_after tables.now.step (S.seen tables.now.space state) (turns self.old) left follower.turn)
-            (looks_after tables.now.step (S.seen tables.now.space state) (turns self.old) left follower.turn)
-            meter result.0 self.old self.new result.1 }
-    {
-        let mut meter = meter;
-        if tables.look(tables.after(state, follower), &mut meter) > left {
-            return (meter, Ok(()));
-        }
-        // the state once more: kept from the look, it would be written to memory at each look
-        self.follow(
-            tables,
-            tables.after(state, follower),
-            follower.turn,
-            left,
-            meter,
-        )
     }
 
     /// Goes on below the path and a turn with `left` turns more, once the state after the turn was looked at.
@@ -201,4 +167,29 @@ impl<'a, K: Sink> Descent<'a, K> {
         self.path.pop();
         below
     }
+}
+
+/// Looks at the state after each turn, up to the first after which the look allows `left` turns more; answers its index. Most
+/// looks end here: nothing is called in the loop, so that where the tables stand is read once for all of its looks.
+#[inline(always)]
+fn next_near<S: StateSpace>(
+    tables: &SearchTables<S>,
+    state: S::State,
+    followers: &[Follower],
+    left: u8,
+    meter: &mut Meter,
+) -> Option<usize>
+    requires of_step { All (IsFollower tables.now.step) followers.now }
+    requires meter { meter.old + length followers.now < 2 ^ 128 }
+    ensures near { IfSome result (IsNextNear tables.now.step (S.seen tables.now.space state) left
+        followers.now meter.old meter.new) }
+    ensures far { IfNone result (AreFar tables.now.step (S.seen tables.now.space state) left
+        followers.now meter.old meter.new) }
+{
+    for index in 0..followers.len() {
+        if tables.look(tables.after(state, followers[index]), meter) <= left {
+            return Some(index);
+        }
+    }
+    None
 }

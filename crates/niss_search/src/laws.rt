@@ -29,7 +29,7 @@ pub fn no_slack_is_least()
     ensures { NoSlackIsLeast }
 {}
 
-/// What a position says of each cube that has it.
+/// What of a cube depends on its position alone.
 pub fn positions_follow_cubes()
     ensures { PositionsFollowCubes }
 {

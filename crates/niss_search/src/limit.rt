@@ -22,7 +22,7 @@ impl Model for Limit {
 impl Limit {
     ghost use Rattle.std.specs.Prelude.{◌≡◌, ◌≤◌, ◌↔◌, IsSome, IfSome};
 
-    /// The most turns that a limit allows. A pruning table tells a distance of at most so many.
+    /// The most turns that a limit allows. A pruning table has distances of at most so many.
     pub const MOST: u8 = 20;
 
     /// The limit of no turn.

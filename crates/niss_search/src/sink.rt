@@ -4,8 +4,8 @@ ghost use Rattle.niss_search.specs.Path.{Path};
 
 use crate::turn_path::TurnPath;
 
-/// What takes the solutions of a search, one path at a time. It states what a path does to it by two relations between its
-/// value before, the path, by its limit and its turns, and its value after.
+/// What takes the solutions of a search, one path at a time. It states what a path does to it by two relations, each between
+/// its value before, the limit and the turns of the path, and its value after.
 pub trait Sink {
     /// Why a path was refused.
     type Fault;

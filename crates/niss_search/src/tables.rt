@@ -154,8 +154,6 @@ impl<A: Allocator> Tables<A> {
             → result ≡ distance_of self.now e }
         ensures zero { (e : Place → Place) → HasPosition self.now e position.now
             → (result ≡ 0) ↔ IsTrue (reached self.now e) }
-        ensures never_above { (e : Place → Place) → HasPosition self.now e position.now
-            → result ≤ distance_of self.now e }
     {
         positions_follow_cubes();
         self.distance(position, meter)

@@ -6,9 +6,10 @@ use Rattle.niss_search.specs.Delivery.{WentThrough, StoppedIn}
 use Rattle.niss_shell.specs.Device.{TargetState, has_fault}
 use Rattle.niss_shell.specs.Lines.{line_feed}
 use Rattle.niss_shell.specs.Output.{none_line, solution_line, solve_text, count_text}
-use Rattle.niss_shell.specs.Engine.{output_state, Writes, Refuses, WritesOrRefuses, Delivers, TakesLine, RefusesLine}
+use Rattle.niss_shell.specs.Engine.{output_state, pending_state, Writes, Refuses, WritesOrRefuses, Delivers, TakesLine, RefusesLine}
 use Rattle.niss_shell.specs.declared.device.DeviceFault.{DeviceFault}
 use Rattle.niss_shell.specs.declared.output.Output.{Output}
+use Rattle.niss_shell.proofs.PendingLemmas.{behind, then_sent, waits}
 use Rattle.niss_shell.proofs.StateLemmas.{writes_nothing, writes_more, writes_as, refuses_more, refuses_front, refuses_as}
 
 -- what a text does to an output, as a sink says it
@@ -24,6 +25,22 @@ pub line_refused : {W : Type 0} (state : W → TargetState) (r : Result (Unit {0
 line_refused state (Ok u) text line old new N e n none d = tt
 line_refused state (Err x) text line old new N e n none d =
     (n, (none, λ works looks. subst (λ t. Refuses t 0 0 (output_state state old looks) (output_state state new looks)) e (d works looks)))
+
+-- a line that was put where nothing waited any more, and written
+pub line_sent : {W : Type 0} (state : W → TargetState) (r : Result (Unit {0}) DeviceFault) (line text : List ℕ) (old mid new : Output W)
+    → text ≡ line → mid.pending.items ≡ [] → Delivers {T = Unit {0}} state (Ok tt) [] old mid
+    → (has_fault (state mid.target.now) ≡ false → (looks : ℕ) → WritesOrRefuses r [] 0 0
+    (pending_state (state mid.target.now) text looks) (output_state state new looks))
+    → Delivers state r line old new
+line_sent state r line text old mid new e none first then = λ works looks.
+    let sent = first works looks in
+    let a = output_state state old looks in
+    let b = output_state state mid looks in
+    let c = output_state state new looks in
+    let put = pending_state (state mid.target.now) text looks in
+    behind r line 0 0 a b c sent
+    (then_sent r line 0 0 b put c
+    (waits line mid.pending.items text (state mid.target.now) looks (e ∙ ap (λ p. p ++ line) (sym none)) sent.works) (then sent.works looks))
 
 -- what is written of a search, by what it found
 pub same_count : (least found : Option ℕ) (count solutions nodes looks : ℕ) → least ≡ found → count ≡ solutions → nodes ≡ looks

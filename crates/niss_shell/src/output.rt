@@ -87,15 +87,6 @@ impl<'a, W: Target> Output<'a, W> {
     }
 }
 
-/// A solution on a line.
-fn solution_text(path: &TurnPath) -> LineText
-    ensures { result.items ≡ solution_line path.now.turns }
-{
-    let mut text = LineText::new();
-    put_solution(path.turns(), &mut text);
-    text
-}
-
 impl<'a, W: Target> Sink for Output<'a, W> {
     type Fault = DeviceFault;
 
@@ -106,6 +97,9 @@ impl<'a, W: Target> Sink for Output<'a, W> {
         × RefusesLine W.state (solution_line path.turns) old new };
 
     fn take(&mut self, path: &TurnPath) -> Result<(), DeviceFault> {
-        self.write(&solution_text(path))
+        // what waits goes out by itself: the words of a solution begin a text
+        self.send()?;
+        put_solution(path.turns(), &mut self.pending);
+        self.send()
     }
 }

@@ -44,7 +44,7 @@ pub(super) fn fill_table<M: GoalMoves>(moves: &M, distances: &mut [u8], meter: &
     ensures filled { IsFilled (M.alternative moves.now) 20 distances.new }
     ensures ticks { meter.new ≡ meter.old + goal_ticks (M.alternative moves.now) }
 {
-    // the meter is held by value meanwhile: behind the borrow each tick would be written to memory
+    // the meter is held by value meanwhile: through the borrow each tick would be written to memory
     let mut held = mem::replace(meter, Meter::new());
     for level in 0..Limit::MOST {
         extend_level(moves, distances, &Level::new(level), &mut held);

@@ -6,6 +6,7 @@ ghost use Rattle.niss_cube.specs.Steps.{turns_of};
 ghost use Rattle.niss_search.specs.Followers.{AreFollowers};
 ghost use Rattle.niss_search.specs.Moves.{turn_at};
 
+use super::move_table::MOST_TURNS;
 use arrayvec::ArrayVec;
 use niss_cube::{Face, Step, Turn};
 use niss_moves::{Power, allowed};
@@ -18,8 +19,8 @@ pub struct Follower {
     pub column: u8,
 }
 
-/// Some of the 18 turns.
-type FollowerList = ArrayVec<Follower, 18>;
+/// Some of a step's turns.
+type FollowerList = ArrayVec<Follower, MOST_TURNS>;
 
 /// The turns of a step that may stand directly after the last one, in turn order.
 fn turns_after(step: Step, last: Option<Turn>) -> FollowerList

@@ -11,13 +11,13 @@ ghost use Rattle.niss_search.specs.declared.tables.position.Coordinates.TheVaria
 ghost use Rattle.niss_cube.specs.declared.cube.coordinate.Coordinate.TheVariants as coordinate;
 
 use super::entries::{FLIPS, SLICES, TWISTS, pair_number};
-use super::move_table::{MoveTable, Row};
+use super::move_table::{MOST_TURNS, MoveTable, Row};
 use super::position::Coordinates;
 use niss_cube::{Axis, Coordinate, OutOfMemory, Step, TurnTable};
 use std::alloc::Allocator;
 
-/// Where the rows of a pruning table begin after the turns of a step, in turn order; a step has at most 18.
-pub type Starts = [usize; 18];
+/// Where the rows of a pruning table begin after the turns of a step, in turn order.
+pub type Starts = [usize; MOST_TURNS];
 
 /// The coordinates of a goal of a step, as numbers without their axis, and where the step's turns lead them. The entries of
 /// its pruning table stand in rows, so that after a turn those of one row stand in one row again.
@@ -127,7 +127,7 @@ impl<A: Allocator> GoalMoves for EdgeMoves<A> {
     }
 
     fn starts(&self, _row: usize) -> Starts {
-        [0; 18]
+        [0; MOST_TURNS]
     }
 
     #[tactic(auto, unfolding(crate::specs::Filling::row_length))]
@@ -249,7 +249,7 @@ impl<A: Allocator> GoalMoves for DominoMoves<A> {
     #[tactic(auto, unfolding(crate::specs::Filling::row_length, crate::specs::Entries::count_for))]
     fn starts(&self, row: usize) -> Starts {
         let twists = self.twists.row(row as u16);
-        let mut starts = [0; 18];
+        let mut starts = [0; MOST_TURNS];
         for column in 0..self.turns() {
             starts[column] = pair_number(twists[column], 0);
         }

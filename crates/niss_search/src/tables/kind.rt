@@ -65,13 +65,13 @@ impl<A: Allocator + Copy> Kind<A> {
             [
                 Goal::Domino { edges, axis },
                 Goal::Domino {
-                    edges: same_edges,
-                    axis: other,
+                    edges: other_edges,
+                    axis: other_axis,
                 },
             ] => {
                 let turns = DominoTurns::build_in(alloc)?;
                 let first = domino_table(alloc, step, *edges, *axis, &turns)?;
-                let second = domino_table(alloc, step, *same_edges, *other, &turns)?;
+                let second = domino_table(alloc, step, *other_edges, *other_axis, &turns)?;
                 drop(turns);
                 let space = Either::of(first, second);
                 Ok(Kind::EitherDomino(SearchTables::fill(step, space, meter)))

@@ -9,8 +9,11 @@ use niss_cube::{Axis, Coordinate, OutOfMemory, Step, TurnTable};
 use std::alloc::Allocator;
 use std::marker::Model;
 
-/// The numbers after the turns of a step, in turn order; a step has at most 18.
-pub type Row = [u16; 18];
+/// The most turns of a step.
+pub const MOST_TURNS: usize = 18;
+
+/// The numbers after the turns of a step, in turn order.
+pub type Row = [u16; MOST_TURNS];
 
 /// The row of a number.
 fn row_of<A: Allocator>(turn_table: &TurnTable<A>, axis: Axis, step: Step, number: u16) -> Row
@@ -18,7 +21,7 @@ fn row_of<A: Allocator>(turn_table: &TurnTable<A>, axis: Axis, step: Step, numbe
     ensures { IsMoveRow record { coordinate = turn_table.now; axis = axis; step = step } number result }
 {
     let turns = step.turns();
-    let mut row = [0; 18];
+    let mut row = [0; MOST_TURNS];
     for column in 0..turns.len() {
         row[column] = turn_table.next(axis, number, turns[column]);
     }
@@ -57,7 +60,7 @@ impl<A: Allocator> MoveTable<A> {
         ensures { IfOk result (λ t. t ≡ record { coordinate = turn_table.now; axis = axis; step = step }) }
     {
         let coordinate = turn_table.coordinate();
-        let Ok(mut rows) = Vec::from_elem(alloc, [0; 18], coordinate.count()) else {
+        let Ok(mut rows) = Vec::from_elem(alloc, [0; MOST_TURNS], coordinate.count()) else {
             return Err(OutOfMemory);
         };
         for number in 0..rows.len() {
@@ -103,6 +106,6 @@ impl<A: Allocator> MoveTable<A> {
             ≡ number_after self.now.coordinate self.now.axis number (turn_at self.now.step column) }
         ensures below { result < count_of self.now.coordinate }
     {
-        self.rows[number as usize][column]
+        self.row(number)[column]
     }
 }

@@ -14,6 +14,3 @@ returns-clause-value g c = λ e h.
 pub returns-clause-zero : goal.returns-clause-zero
 returns-clause-zero g c = λ e h.
     rw c.distance.ensures.value (distance-reached-cube c.positions_follow_cubes.ensures c.args.self.now e c.args.position.now h)
-
-pub returns-clause-never_above : goal.returns-clause-never_above
-returns-clause-never_above g c = λ e h. omega (arith, returns-clause-value g c e h)

@@ -1,0 +1,52 @@
+use Rattle.std.proofs.Common.{arith, ◌<◌, ◌≤◌, take, get_or, [], ◌∷◌, subst, All}
+use Rattle.std.proofs.lemmas.List.{take_more, take_all}
+use Rattle.std.proofs.lemmas.List.Elements.{All-append}
+use Rattle.niss_moves.specs.declared.turn.Face.TheVariants.{U}
+use Rattle.niss_moves.specs.declared.turn.Power.TheVariants.{Quarter}
+use Rattle.niss_search.specs.Followers.{distance_after}
+use Rattle.niss_search.specs.declared.tables.followers.Follower.{Follower}
+use Rattle.niss_search.proofs.ListLemmas.{All-one, get_or-same}
+use Rattle.niss_search.proofs.descent.next_near.Goals as goal
+
+-- what a list answers past its end
+abbrev first : Follower
+first = record { turn = record { face = U; power = Quarter }; column = 0 }
+
+pub loop-index-init : goal.loop-index-init
+loop-index-init g c = record { far = λ k d l. absurd (omega arith); ticks = omega arith }
+
+pub returns-then-look-left-clause-near : goal.returns-then-look-left-clause-near
+returns-then-look-left-clause-near g c =
+    let inv = c.loop-index.invariant in
+    let step = c.args.tables.now.step in
+    let fs = c.args.followers.now in
+    let value = rw c.after.ensures at c.look.ensures.value in
+    record {
+      inside = c.loop-index-test.true;
+      far = inv.far;
+      near = λ d. subst (λ (f : Follower). distance_after step (g.S.StateSpace.seen c.args.tables.now.space c.args.state) f ≤ c.args.left) (get_or-same fs c.loop-index.index first d c.loop-index-test.true) (omega (arith, value, c.if-look-left.true));
+      looked = omega (arith, inv.ticks, c.look.ensures.tick);
+    }
+
+pub loop-index-preserved : goal.loop-index-preserved
+loop-index-preserved g c =
+    let inv = c.loop-index.invariant in
+    let step = c.args.tables.now.step in
+    let x = g.S.StateSpace.seen c.args.tables.now.space c.args.state in
+    let fs = c.args.followers.now in
+    let value = rw c.after.ensures at c.look.ensures.value in
+    let Far : Follower → Type 0 = λ f. c.args.left < distance_after step x f in
+    record {
+      far = rw (take_more fs c.loop-index.index first c.loop-index-test.true) (All-append Far (take c.loop-index.index fs) (get_or fs c.loop-index.index first ∷ []) inv.far (All-one Far (get_or fs c.loop-index.index first) (omega (arith, value, c.if-look-left.false))));
+      ticks = omega (arith, inv.ticks, c.look.ensures.tick);
+    }
+
+pub returns-clause-far : goal.returns-clause-far
+returns-clause-far g c =
+    let inv = c.loop-index.invariant in
+    let fs = c.args.followers.now in
+    let Far : Follower → Type 0 = λ f. c.args.left < distance_after c.args.tables.now.step (g.S.StateSpace.seen c.args.tables.now.space c.args.state) f in
+    record {
+      far = subst (All Far) (take_all c.loop-index.index fs (omega (arith, c.loop-index-test.false))) inv.far;
+      looked = omega (arith, inv.ticks, c.loop-index.auto, c.loop-index-test.false);
+    }
