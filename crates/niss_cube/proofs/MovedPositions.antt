@@ -4,14 +4,13 @@ use Rattle.std.specs.Prelude.{nat_lt}
 use Rattle.std.proofs.lemmas.Bool.{ltb-true}
 use Rattle.niss_moves.specs.Places.{same_place}
 use Rattle.niss_moves.specs.Effects.{moved_by}
-use Rattle.niss_moves.specs.declared.turn.Power.{Power}
-use Rattle.niss_moves.specs.declared.turn.Power.TheVariants.{Quarter, Half, Counter}
 use Rattle.niss_moves.specs.declared.token.Slice.{Slice}
 use Rattle.niss_moves.specs.declared.token.Slice.TheVariants.{M, E, S}
 use Rattle.niss_moves.specs.declared.token.Token.{Token}
 use Rattle.niss_moves.specs.declared.token.Token.TheVariants as token
 use Rattle.niss_cube.specs.PlacePositions.{place_at, first_number, number_in_kind}
 use Rattle.niss_cube.specs.declared.place_positions.TheConstants.{POSITIONS_AFTER}
+use Rattle.niss_cube.proofs.AxisRenamings.{all_powers, at_power}
 use Rattle.niss_cube.proofs.CubieTurnTables.{all_turns, at_turn}
 use Rattle.niss_cube.proofs.PlaceTables.{all_below, at_below}
 use Rattle.niss_cube.proofs.RotatedPlaces.{all_axes, at_axis}
@@ -19,14 +18,6 @@ use Rattle.niss_cube.proofs.Logic.{and_left, and_right}
 use Rattle.niss_moves.proofs.CallerLemmas.{same_place_is}
 
 -- a test of all moves, by their kinds
-abbrev all_powers : (Power → Bool) → Bool
-all_powers t = t Quarter && (t Half && t Counter)
-
-at_power : (t : Power → Bool) → all_powers t ≡ true → (p : Power) → t p ≡ true
-at_power t h Quarter = and_left _ _ h
-at_power t h Half = and_left _ _ (and_right (t Quarter) _ h)
-at_power t h Counter = and_right (t Half) _ (and_right (t Quarter) _ h)
-
 abbrev all_slices : (Slice → Bool) → Bool
 all_slices t = t M && (t E && t S)
 
