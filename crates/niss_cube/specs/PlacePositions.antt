@@ -19,15 +19,15 @@ place_at n = get_or places n (facelet U 5)
 abbrev pub AreMoved : (old new : List ℕ) → List Token → Type 0
 AreMoved old new s = (k : ℕ) → k < 26 → place_at (slice_index new k) ≡ effect s (place_at (slice_index old k))
 
-abbrev pub slice_number : Slice → ℕ
-slice_number M = 0
-slice_number E = 1
-slice_number S = 2
+abbrev pub layer_index : Slice → ℕ
+layer_index M = 0
+layer_index E = 1
+layer_index S = 2
 
-abbrev pub axis_number : Axis → ℕ
-axis_number Ud = 0
-axis_number Rl = 1
-axis_number Fb = 2
+abbrev pub axis_index : Axis → ℕ
+axis_index Ud = 0
+axis_index Rl = 1
+axis_index Fb = 2
 
 -- the moves are numbered by their kinds, and those of one kind by what they turn and by their powers
 abbrev pub first_number : Token → ℕ
@@ -39,5 +39,5 @@ first_number (token.Rotation axis power) = 45
 abbrev pub number_in_kind : Token → ℕ
 number_in_kind (token.Face t) = 3 * face_index t.face + power_index t.power
 number_in_kind (token.Wide face power) = 3 * face_index face + power_index power
-number_in_kind (token.Slice slice power) = 3 * slice_number slice + power_index power
-number_in_kind (token.Rotation axis power) = 3 * axis_number axis + power_index power
+number_in_kind (token.Slice slice power) = 3 * layer_index slice + power_index power
+number_in_kind (token.Rotation axis power) = 3 * axis_index axis + power_index power
