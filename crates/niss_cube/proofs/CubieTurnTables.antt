@@ -11,10 +11,10 @@ use Rattle.niss_cube.specs.CubieTurns.{quarter_table, half_table, counter_table,
 use Rattle.niss_cube.proofs.PlaceTables.{all_below, at_below, all_faces, at_face}
 use Rattle.niss_cube.proofs.Logic.{and_left, and_right}
 
-abbrev all_turns : (Face → Power → Bool) → Bool
+abbrev pub all_turns : (Face → Power → Bool) → Bool
 all_turns t = all_faces (λ f. t f Quarter && (t f Half && t f Counter))
 
-at_turn : (t : Face → Power → Bool) → all_turns t ≡ true → (f : Face) (p : Power) → t f p ≡ true
+pub at_turn : (t : Face → Power → Bool) → all_turns t ≡ true → (f : Face) (p : Power) → t f p ≡ true
 at_turn t h f Quarter = and_left _ _ (at_face (λ f. t f Quarter && (t f Half && t f Counter)) h f)
 at_turn t h f Half = and_left _ _ (and_right (t f Quarter) _ (at_face (λ f. t f Quarter && (t f Half && t f Counter)) h f))
 at_turn t h f Counter = and_right (t f Half) _ (and_right (t f Quarter) _ (at_face (λ f. t f Quarter && (t f Half && t f Counter)) h f))

@@ -20,10 +20,10 @@ use Rattle.niss_cube.proofs.FaceletLetters.{letters-is}
 use Rattle.niss_cube.proofs.Logic.{and_left, and_right, same_truth}
 use Rattle.niss_moves.proofs.CallerLemmas.{same_place_is, same_place_of, effect-append}
 
-abbrev all_axes : (Axis → Bool) → Bool
+abbrev pub all_axes : (Axis → Bool) → Bool
 all_axes t = t Ud && (t Rl && t Fb)
 
-at_axis : (t : Axis → Bool) → all_axes t ≡ true → (a : Axis) → t a ≡ true
+pub at_axis : (t : Axis → Bool) → all_axes t ≡ true → (a : Axis) → t a ≡ true
 at_axis t h Ud = and_left _ _ h
 at_axis t h Rl = and_left _ _ (and_right (t Ud) _ h)
 at_axis t h Fb = and_right (t Rl) _ (and_right (t Ud) _ h)

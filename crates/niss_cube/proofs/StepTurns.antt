@@ -1,5 +1,5 @@
 -- The turns of the steps: parts of the turn order, which hold their inverses and keep the start.
-use Rattle.std.proofs.Common.{◌≡◌, ℕ, zero, suc, ◌<◌, ◌≤◌, refl, sym, ◌∙◌, ap, Bool, true, false, not, ◌&&◌, ◌||◌, List, [], ◌∷◌, length, Option, None, Some, arith}
+use Rattle.std.proofs.Common.{◌≡◌, ℕ, zero, suc, ◌<◌, ◌≤◌, refl, sym, ◌∙◌, ap, Bool, true, not, ◌&&◌, ◌||◌, List, [], ◌∷◌, length, Option, None, Some, arith}
 use Rattle.std.specs.Prelude.{Contains, flat_map, map, filter, slice_index_or}
 use Rattle.std.specs.List.{list_all, list_any}
 use Rattle.std.specs.Option.{option_map_or}
@@ -11,14 +11,13 @@ use Rattle.niss_moves.specs.Turn.{same_face, inverse_turn}
 use Rattle.niss_moves.specs.Canonical.{face_order, turn_order}
 use Rattle.niss_moves.specs.declared.axis.Axis.{Axis}
 use Rattle.niss_moves.specs.declared.axis.Axis.TheVariants.{Ud, Rl, Fb}
-use Rattle.niss_moves.specs.declared.turn.Power.{Power}
-use Rattle.niss_moves.specs.declared.turn.Power.TheVariants.{Quarter, Half, Counter}
+use Rattle.niss_moves.specs.declared.turn.Power.TheVariants.{Half}
 use Rattle.niss_moves.specs.declared.turn.Turn.{Turn}
 use Rattle.niss_cube.specs.Sets.{Kept, flip_set}
 use Rattle.niss_cube.specs.Steps.{start_of, turns_of, powers_from, is_face_of}
 use Rattle.niss_cube.specs.StepLaws.{InversesOfSteps, StepTurnsInOrder, StepTurnsAreCounted}
 use Rattle.niss_cube.specs.declared.step.Step.{Step}
-use Rattle.niss_moves.proofs.CallerLemmas.{same_face_is}
+use Rattle.niss_moves.proofs.CallerLemmas.{same_face_is, same_power, same_power_is}
 use Rattle.niss_cube.proofs.Each.{at_place, and_left, and_right}
 use Rattle.niss_cube.proofs.KeptTests.{implied}
 
@@ -73,25 +72,13 @@ turn_keeps a t m q h =
 
 -- the inverse of each turn is among them
 
-abbrev same_power : Power → Power → Bool
-same_power Quarter Quarter = true
-same_power Half Half = true
-same_power Counter Counter = true
-same_power _ _ = false
-
 abbrev same_turn : Turn → Turn → Bool
 same_turn t u = same_face t.face u.face && same_power t.power u.power
-
-same_power-is : (p q : Power) → same_power p q ≡ true → p ≡ q
-same_power-is Quarter Quarter h = refl
-same_power-is Half Half h = refl
-same_power-is Counter Counter h = refl
-same_power-is _ _ h = absurd (cc)
 
 same_turn-is : (t u : Turn) → same_turn t u ≡ true → t ≡ u
 same_turn-is t u h =
     let f : t.face ≡ u.face = same_face_is t.face u.face (and_left _ _ h) in
-    let p : t.power ≡ u.power = same_power-is t.power u.power (and_right (same_face t.face u.face) _ h) in
+    let p : t.power ≡ u.power = same_power_is t.power u.power (and_right (same_face t.face u.face) _ h) in
     λ i. record { face = f i; power = p i }
 
 abbrev has_inverse : List Turn → Turn → Bool

@@ -27,9 +27,11 @@ pub record IsCoordinate (k : Coordinate) (a : Axis) : Type 0 where
   pub some_cube : (i : ℕ) → i < count_of k → (c : Cube) × (number_of k a (map_of c) ≡ i)
   pub zero_where_kept : (e : Place → Place) → IsCube e → (number_of k a e ≡ 0) ↔ Kept (set_of k a) e
   pub of_places : (d e : Place → Place) → IsCube d → SameMap d e → number_of k a d ≡ number_of k a e
-  pub follows : (e : Place → Place) (t : Turn) → IsCube e → number_of k a (λ q. turned t (e q)) ≡ number_after k a (number_of k a e) t
+  pub follows : (e : Place → Place) (t : Turn) → IsCube e →
+      number_of k a (λ q. turned t (e q)) ≡ number_after k a (number_of k a e) t
   pub after_below : (i : ℕ) (t : Turn) → i < count_of k → number_after k a i t < count_of k
-  pub back_again : (i : ℕ) (t : Turn) → i < count_of k → number_after k a (number_after k a i t) (inverse_turn t) ≡ i
+  pub back_again : (i : ℕ) (t : Turn) → i < count_of k →
+      number_after k a (number_after k a i t) (inverse_turn t) ≡ i
 
 -- Flips, twists and slices are coordinates, each on each axis.
 abbrev pub AreCoordinates : Type 0

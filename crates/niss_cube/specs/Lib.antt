@@ -13,5 +13,6 @@ pub mod NumberAfter
 pub mod AfterTurn
 pub mod TableRows
 pub mod RotatedText
+pub mod PlacePositions
 pub mod Steps
 pub mod StepLaws

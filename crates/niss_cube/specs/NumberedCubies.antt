@@ -29,7 +29,9 @@ unfoldable pub occupied_of_number : ℕ → ℕ → ℕ → List Bool
 occupied_of_number zero k i = []
 occupied_of_number (suc n) zero i = false ∷ occupied_of_number n zero i
 occupied_of_number (suc n) (suc k) i =
-    if nat_lt i (choose n k) then true ∷ occupied_of_number n k i else false ∷ occupied_of_number n (suc k) (i - choose n k)
+    if nat_lt i (choose n k)
+    then true ∷ occupied_of_number n k i
+    else false ∷ occupied_of_number n (suc k) (i - choose n k)
 
 -- edges 8 and on at the occupied places, the others at the free ones, each in order
 abbrev pub edges_at : List Bool → (free of_slice : ℕ) → List ℕ

@@ -16,4 +16,6 @@ CubesPermutePlaces = (c : Cube) → PermutesPlaces (map_of c)
 
 -- Where a cube's map keeps a set of places, it brings no other place to one of the set: the set is brought to itself.
 abbrev pub KeptIsEqual : Type 0
-KeptIsEqual = (c : Cube) (set : Place → Bool) → Kept set (map_of c) → (q : Place) → IsPlace q → IsTrue (set (map_of c q)) → IsTrue (set q)
+KeptIsEqual =
+    (c : Cube) (set : Place → Bool) → Kept set (map_of c) →
+    (q : Place) → IsPlace q → IsTrue (set (map_of c q)) → IsTrue (set q)

@@ -28,5 +28,6 @@ renamed_home from to homes place = slice_index to (slice_index homes (slice_inde
 -- how it is twisted or flipped there
 abbrev pub renamed_orientation : (facelets : ℕ) (from inward homes orientations : List ℕ) (place : ℕ) → ℕ
 renamed_orientation facelets from inward homes orientations place =
-    (slice_index inward (slice_index homes (slice_index from place)) + slice_index orientations (slice_index from place)
+    (slice_index inward (slice_index homes (slice_index from place))
+    + slice_index orientations (slice_index from place)
     + (facelets - slice_index inward (slice_index from place))) % facelets

@@ -41,7 +41,9 @@ is_kept set e = list_all (λ q. not (set q) || set (e q)) places
 
 -- The test says where a set is kept, for each set of the 54 places.
 abbrev pub KeptIsTested : Type 0
-KeptIsTested = (set : Place → Bool) (e : Place → Place) → ((q : Place) → IsTrue (set q) → IsPlace q) → IsTrue (is_kept set e) ↔ Kept set e
+KeptIsTested =
+    (set : Place → Bool) (e : Place → Place) → ((q : Place) → IsTrue (set q) → IsPlace q) →
+    IsTrue (is_kept set e) ↔ Kept set e
 
 -- The set has sticker places only.
 abbrev pub ArePlaces : (Place → Bool) → Type 0

@@ -13,7 +13,9 @@ use Rattle.niss_cube.specs.declared.step.Step.{Step}
 
 -- A step that may start may start after each of its turns too.
 abbrev pub StartIsKept : Type 0
-StartIsKept = (s : Step) (e : Place → Place) (t : Turn) → Contains (turns_of s) t → IsTrue (may_start s e) → IsTrue (may_start s (λ q. turned t (e q)))
+StartIsKept =
+    (s : Step) (e : Place → Place) (t : Turn) → Contains (turns_of s) t →
+    IsTrue (may_start s e) → IsTrue (may_start s (λ q. turned t (e q)))
 
 -- Maps that are the same on the 54 places have the same start and the same goal.
 pub record SameSteps (d e : Place → Place) : Type 0 where
@@ -37,4 +39,5 @@ StepTurnsAreCounted = (s : Step) → length (turns_of s) ≡ option_map_or (λ a
 
 -- A step that can reach a domino reduction starts at the oriented edges that this keeps.
 abbrev pub DominoKeepsStart : Type 0
-DominoKeepsStart = (s : Step) (edges axis : Axis) → Contains (goals_of s) (Domino edges axis) → start_of s ≡ Some edges
+DominoKeepsStart =
+    (s : Step) (edges axis : Axis) → Contains (goals_of s) (Domino edges axis) → start_of s ≡ Some edges

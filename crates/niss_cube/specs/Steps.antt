@@ -20,7 +20,9 @@ use Rattle.niss_cube.specs.declared.step.Step.TheVariants.{Eofb, Eorl, Eoud, Dru
 
 -- all steps, in the order in which they are listed
 abbrev pub steps : List Step
-steps = Eofb ∷ Eorl ∷ Eoud ∷ DrudEofb ∷ DrrlEofb ∷ DrudEorl ∷ DrfbEorl ∷ DrrlEoud ∷ DrfbEoud ∷ Eo ∷ DrEofb ∷ DrEorl ∷ DrEoud ∷ []
+steps =
+    Eofb ∷ Eorl ∷ Eoud ∷ DrudEofb ∷ DrrlEofb ∷ DrudEorl ∷ DrfbEorl ∷ DrrlEoud ∷ DrfbEoud
+    ∷ Eo ∷ DrEofb ∷ DrEorl ∷ DrEoud ∷ []
 
 abbrev pub name_of : Step → List ℕ
 name_of Eofb = codes "eofb"
@@ -92,13 +94,15 @@ powers_from (Some axis) f = if is_face_of axis f then Half ∷ [] else powers
 
 -- the turns of a step, in turn order
 unfoldable pub turns_of : Step → List Turn
-turns_of step = flat_map (λ f. map (λ p. record { face = f; power = p }) (powers_from (start_of step) f)) face_order
+turns_of step =
+    flat_map (λ f. map (λ p. record { face = f; power = p }) (powers_from (start_of step) f)) face_order
 
 -- A map of the places keeps each set of the goal: the edges are oriented on an axis; or they are, and on another axis
 -- the corners are untwisted and the slice's edges in their slice (a domino reduction).
 abbrev pub holds : Goal → (Place → Place) → Bool
 holds (Edges axis) e = is_kept (flip_set axis) e
-holds (Domino edges axis) e = is_kept (flip_set edges) e && is_kept (twist_set axis) e && is_kept (slice_set axis) e
+holds (Domino edges axis) e =
+    is_kept (flip_set edges) e && is_kept (twist_set axis) e && is_kept (slice_set axis) e
 
 -- The same by the sets themselves: which of them a map keeps where a goal holds,
 abbrev pub KeepsGoal : Goal → (Place → Place) → Type 0

@@ -28,9 +28,11 @@ entry_at row t = slice_index (get_or row (face_index t.face) []) (power_index t.
 
 -- There is a row for each number; in those below n the entry at each of some turns is the number after it, on the
 -- standard axis.
-pub record AreRowsAt (k : Coordinate) (some : Turn → Type 0) (n : ℕ) (rows : List (List (List ℕ))) : Type 0 where
+pub record AreRowsAt (k : Coordinate) (some : Turn → Type 0) (n : ℕ)
+    (rows : List (List (List ℕ))) : Type 0 where
   pub rows_count : length rows ≡ count_of k
-  pub entries : (i : ℕ) (t : Turn) → some t → i < n → entry_at (get_or rows i []) t ≡ number_after k (standard_axis k) i t
+  pub entries : (i : ℕ) (t : Turn) → some t → i < n →
+      entry_at (get_or rows i []) t ≡ number_after k (standard_axis k) i t
 
 abbrev pub IsAnyTurn : Turn → Type 0
 IsAnyTurn t = Unit {0}

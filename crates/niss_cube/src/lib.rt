@@ -35,8 +35,10 @@
 mod cube;
 mod cubie_turns;
 mod digits;
+mod followed_places;
 pub mod laws;
 mod letters;
+mod place_positions;
 mod renamed_faces;
 mod renaming;
 mod rotated_text;
@@ -46,6 +48,7 @@ mod turn_tables;
 
 pub use cube::Cube;
 pub use cube::coordinate::Coordinate;
+pub use followed_places::facelets_after;
 pub use niss_moves::{Axis, Face, Power, Rotation, Turn};
 pub use step::{Goal, Step};
 pub use turn_tables::{OutOfMemory, TurnTable, TurnTables};

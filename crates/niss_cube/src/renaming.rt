@@ -105,28 +105,35 @@ fn rename_homes(homes: &[u8], from: &[u8], to: &[u8], new: &mut [u8])
     }
 }
 
-/// Writes how the renamed cubies are twisted or flipped at the renamed places.
-fn rename_orientations(
-    homes: &[u8],
-    orientations: &[u8],
-    from: &[u8],
-    inward: &[u8],
+/// The renamed places of cubies that have so many facelets.
+#[derive(Clone, Copy)]
+struct RenamedPlaces<'a> {
+    /// The original place of each.
+    from: &'a [u8],
+    /// By the original place: which facelet there the renamed first one is.
+    inward: &'a [u8],
     facelets: u8,
-    new: &mut [u8],
-)
+}
+
+/// Writes how the renamed cubies are twisted or flipped at the renamed places.
+fn rename_orientations(homes: &[u8], orientations: &[u8], places: &RenamedPlaces, new: &mut [u8])
     requires homes_len { length homes.now ≡ length new.old }
     requires orientations_len { length orientations.now ≡ length new.old }
-    requires from_len { length from.now ≡ length new.old }
-    requires in_len { length inward.now ≡ length new.old }
-    requires facelets { (facelets ≡ 2) ⊎ (facelets ≡ 3) }
-    requires from_range { EachIndex from.now (λ k. slice_index from.now k < length homes.now) }
+    requires from_len { length places.now.from.now ≡ length new.old }
+    requires in_len { length places.now.inward.now ≡ length new.old }
+    requires facelets { (places.now.facelets ≡ 2) ⊎ (places.now.facelets ≡ 3) }
+    requires from_range { EachIndex places.now.from.now (λ k.
+        slice_index places.now.from.now k < length homes.now) }
     requires home_range { EachIndex homes.now (λ k. slice_index homes.now k < length homes.now) }
     requires orientation_range { EachIndex orientations.now (λ k.
         slice_index orientations.now k < 3) }
-    requires in_range { EachIndex inward.now (λ k. slice_index inward.now k < facelets) }
-    ensures { EachIndex new.new (λ k. slice_index new.new k
-        ≡ renamed_orientation facelets from.now inward.now homes.now orientations.now k) }
+    requires in_range { EachIndex places.now.inward.now (λ k.
+        slice_index places.now.inward.now k < places.now.facelets) }
+    ensures { let p = places.now in
+        EachIndex new.new (λ k. slice_index new.new k
+        ≡ renamed_orientation p.facelets p.from.now p.inward.now homes.now orientations.now k) }
 {
+    let (from, inward, facelets) = (places.from, places.inward, places.facelets);
     for (place, orientation) in new.iter_mut().enumerate() {
         let old_place = from[place] as usize;
         let home = homes[old_place] as usize;
@@ -150,14 +157,12 @@ pub fn rename_corners(corners: &[u8; 8], twists: &[u8; 8], renaming: Renaming) -
     let table = table_of(renaming);
     let (mut homes, mut orientations) = ([0; 8], [0; 8]);
     rename_homes(corners, &table.corners_from, &table.corners_to, &mut homes);
-    rename_orientations(
-        corners,
-        twists,
-        &table.corners_from,
-        &table.twists_in,
-        3,
-        &mut orientations,
-    );
+    let places = RenamedPlaces {
+        from: &table.corners_from,
+        inward: &table.twists_in,
+        facelets: 3,
+    };
+    rename_orientations(corners, twists, &places, &mut orientations);
     (homes, orientations)
 }
 
@@ -175,13 +180,11 @@ pub fn rename_edges(edges: &[u8; 12], flips: &[u8; 12], renaming: Renaming) -> (
     let table = table_of(renaming);
     let (mut homes, mut orientations) = ([0; 12], [0; 12]);
     rename_homes(edges, &table.edges_from, &table.edges_to, &mut homes);
-    rename_orientations(
-        edges,
-        flips,
-        &table.edges_from,
-        &table.flips_in,
-        2,
-        &mut orientations,
-    );
+    let places = RenamedPlaces {
+        from: &table.edges_from,
+        inward: &table.flips_in,
+        facelets: 2,
+    };
+    rename_orientations(edges, flips, &places, &mut orientations);
     (homes, orientations)
 }

@@ -164,7 +164,7 @@ impl<A: Allocator> TurnTable<A> {
         ensures of_each { (e : Place → Place) → IsCube e → number_of self.now axis e ≡ number →
             result ≡ number_of self.now axis (λ q. turned turn (e q)) }
     {
-        let face = self.coordinate.renamed_face(axis, turn.face);
+        let face = self.coordinate.standard_turn(axis, turn).face;
         entry(&self.rows, number, face, turn.power)
     }
 }
@@ -205,37 +205,37 @@ impl<A: Allocator> TurnTables<A> {
 
     /// The flip number on an axis, below 2048, after a turn of any cube that has this flip number before it.
     #[inline(always)]
-    pub fn next_flip(&self, axis: Axis, coordinate: u16, turn: Turn) -> u16
-        requires { coordinate < 2048 }
-        ensures value { result ≡ number_after Flip axis coordinate turn }
+    pub fn next_flip(&self, axis: Axis, number: u16, turn: Turn) -> u16
+        requires { number < 2048 }
+        ensures value { result ≡ number_after Flip axis number turn }
         ensures in_range { result < 2048 }
-        ensures of_each { (e : Place → Place) → IsCube e → flip_of axis e ≡ coordinate →
+        ensures of_each { (e : Place → Place) → IsCube e → flip_of axis e ≡ number →
             result ≡ flip_of axis (λ q. turned turn (e q)) }
     {
-        self.flips.next(axis, coordinate, turn)
+        self.flips.next(axis, number, turn)
     }
 
     /// The twist number on an axis, below 2187, after a turn of any cube that has this twist number before it.
     #[inline(always)]
-    pub fn next_twist(&self, axis: Axis, coordinate: u16, turn: Turn) -> u16
-        requires { coordinate < 2187 }
-        ensures value { result ≡ number_after Twist axis coordinate turn }
+    pub fn next_twist(&self, axis: Axis, number: u16, turn: Turn) -> u16
+        requires { number < 2187 }
+        ensures value { result ≡ number_after Twist axis number turn }
         ensures in_range { result < 2187 }
-        ensures of_each { (e : Place → Place) → IsCube e → twist_of axis e ≡ coordinate →
+        ensures of_each { (e : Place → Place) → IsCube e → twist_of axis e ≡ number →
             result ≡ twist_of axis (λ q. turned turn (e q)) }
     {
-        self.twists.next(axis, coordinate, turn)
+        self.twists.next(axis, number, turn)
     }
 
     /// The slice number on an axis, below 495, after a turn of any cube that has this slice number before it.
     #[inline(always)]
-    pub fn next_slice(&self, axis: Axis, coordinate: u16, turn: Turn) -> u16
-        requires { coordinate < 495 }
-        ensures value { result ≡ number_after Slice axis coordinate turn }
+    pub fn next_slice(&self, axis: Axis, number: u16, turn: Turn) -> u16
+        requires { number < 495 }
+        ensures value { result ≡ number_after Slice axis number turn }
         ensures in_range { result < 495 }
-        ensures of_each { (e : Place → Place) → IsCube e → slice_of axis e ≡ coordinate →
+        ensures of_each { (e : Place → Place) → IsCube e → slice_of axis e ≡ number →
             result ≡ slice_of axis (λ q. turned turn (e q)) }
     {
-        self.slices.next(axis, coordinate, turn)
+        self.slices.next(axis, number, turn)
     }
 }

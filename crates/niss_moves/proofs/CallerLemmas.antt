@@ -5,7 +5,10 @@ pub use Rattle.niss_moves.proofs.Finite.{same_place_is, same_place_of, same_plac
 pub use Rattle.niss_moves.proofs.Rotations.{same_face_is}
 pub use Rattle.niss_moves.proofs.ListedPlaces.{all_places}
 -- sequences one after the other
-pub use Rattle.niss_moves.proofs.Inverses.{effect-append}
+pub use Rattle.niss_moves.proofs.Inverses.{effect-append, inverse_after, inverse_before, inverse_last, inverse_whole}
 pub use Rattle.niss_moves.proofs.AllCanonical.{last_turn-push}
 -- facelet texts of maps
 pub use Rattle.niss_moves.proofs.SameLetters.{same_letters}
+-- truth values, and powers by their test
+pub use Rattle.niss_moves.proofs.Logic.{not_true, and_left, and_right, and_both}
+pub use Rattle.niss_moves.proofs.OneSpelling.{same_power, same_power_is}

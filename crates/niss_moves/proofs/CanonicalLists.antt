@@ -5,41 +5,41 @@ use Rattle.niss_moves.specs.Canonical.{face_may_follow, IsCanonical}
 use Rattle.niss_moves.specs.declared.turn.Face.{Face}
 use Rattle.niss_moves.specs.declared.turn.Turn.{Turn}
 use Rattle.niss_moves.proofs.Finite.{every_face, at_face, implies, by_implies}
-use Rattle.niss_moves.proofs.Logic.{both, both_left, both_right}
+use Rattle.niss_moves.proofs.Logic.{and_both, and_left, and_right}
 use Rattle.niss_moves.proofs.Rotations.{same_face_is}
 
 pub canonical_tail : (x : Turn) (s : List Turn) → IsCanonical (x ∷ s) → IsCanonical s
 canonical_tail x [] h = refl
-canonical_tail x (y ∷ s) h = both_right (face_may_follow x.face y.face) _ h
+canonical_tail x (y ∷ s) h = and_right (face_may_follow x.face y.face) _ h
 
 pub canonical_after : (a : List Turn) (x : Turn) (b : List Turn) → IsCanonical (a ++ x ∷ b) → IsCanonical (x ∷ b)
 canonical_after [] x b h = h
 canonical_after (y ∷ a) x b h = canonical_after a x b (canonical_tail y (a ++ x ∷ b) h)
 
 pub canonical_pair : (a : List Turn) (x y : Turn) (b : List Turn) → IsCanonical (a ++ x ∷ y ∷ b) → face_may_follow x.face y.face ≡ true
-canonical_pair a x y b h = both_left _ _ (canonical_after a x (y ∷ b) h)
+canonical_pair a x y b h = and_left _ _ (canonical_after a x (y ∷ b) h)
 
 pub canonical_front : (a b : List Turn) → IsCanonical (a ++ b) → IsCanonical a
 canonical_front [] b h = refl
 canonical_front (x ∷ []) b h = refl
 canonical_front (x ∷ y ∷ a) b h =
-    both _ _ (both_left _ _ h) (canonical_front (y ∷ a) b (both_right (face_may_follow x.face y.face) _ h))
+    and_both _ _ (and_left _ _ h) (canonical_front (y ∷ a) b (and_right (face_may_follow x.face y.face) _ h))
 
 pub canonical_join : (a : List Turn) (x : Turn) (b : List Turn) → IsCanonical (a ++ x ∷ []) → IsCanonical (x ∷ b) → IsCanonical (a ++ x ∷ b)
 canonical_join [] x b h k = k
-canonical_join (y ∷ []) x b h k = both _ _ (both_left _ _ h) k
+canonical_join (y ∷ []) x b h k = and_both _ _ (and_left _ _ h) k
 canonical_join (y ∷ z ∷ a) x b h k =
-    both _ _ (both_left _ _ h) (canonical_join (z ∷ a) x b (both_right (face_may_follow y.face z.face) _ h) k)
+    and_both _ _ (and_left _ _ h) (canonical_join (z ∷ a) x b (and_right (face_may_follow y.face z.face) _ h) k)
 
 pub canonical_push : (a : List Turn) (x y : Turn) → IsCanonical (a ++ x ∷ []) → face_may_follow x.face y.face ≡ true → IsCanonical (a ++ x ∷ y ∷ [])
-canonical_push a x y h k = canonical_join a x (y ∷ []) h (both _ _ k refl)
+canonical_push a x y h k = canonical_join a x (y ∷ []) h (and_both _ _ k refl)
 
 -- another turn of the last one's face
 pub canonical_same : (a : List Turn) (x y : Turn) → x.face ≡ y.face → IsCanonical (a ++ x ∷ []) → IsCanonical (a ++ y ∷ [])
 canonical_same [] x y e h = refl
 canonical_same (z ∷ []) x y e h = subst (λ (f : Face). (face_may_follow z.face f && true) ≡ true) e h
 canonical_same (z ∷ w ∷ a) x y e h =
-    both _ _ (both_left _ _ h) (canonical_same (w ∷ a) x y e (both_right (face_may_follow z.face w.face) _ h))
+    and_both _ _ (and_left _ _ h) (canonical_same (w ∷ a) x y e (and_right (face_may_follow z.face w.face) _ h))
 
 pub snoc_assoc : (a : List Turn) (x : Turn) (b : List Turn) → (a ++ x ∷ []) ++ b ≡ a ++ x ∷ b
 snoc_assoc a x b = append_assoc a (x ∷ []) b
@@ -59,7 +59,7 @@ abbrev pub are_exchanged : Face → Face → Bool
 are_exchanged f g = not (same_face f g) && not (face_may_follow f g)
 
 pub exchanged : (f g : Face) → same_face f g ≡ false → face_may_follow f g ≡ false → are_exchanged f g ≡ true
-exchanged f g a b = both _ _ (ap not a) (ap not b)
+exchanged f g a b = and_both _ _ (ap not a) (ap not b)
 
 swap_test : every_face (λ x. every_face (λ t. implies (are_exchanged x t) (face_may_follow t x))) ≡ true
 unfolding every_face
@@ -88,7 +88,7 @@ skip_test = refl
 -- what may stand before the first of two opposite faces may stand before the second
 pub skip_follows : (z y x : Face) → face_may_follow z y ≡ true → are_exchanged x y ≡ true → face_may_follow z x ≡ true
 skip_follows z y x h a =
-    by_implies _ _ (at_face (λ x. Skips z y x) (at_face (λ y. every_face (λ x. Skips z y x)) (at_face (λ z. every_face (λ y. every_face (λ x. Skips z y x))) skip_test z) y) x) (both _ _ h a)
+    by_implies _ _ (at_face (λ x. Skips z y x) (at_face (λ y. every_face (λ x. Skips z y x)) (at_face (λ z. every_face (λ y. every_face (λ x. Skips z y x))) skip_test z) y) x) (and_both _ _ h a)
 
 abbrev Passes : Face → Face → Face → Bool
 Passes y x t = implies (face_may_follow y x && (not (same_face y t) && are_exchanged x t)) (face_may_follow y t)
@@ -100,11 +100,11 @@ pass_test = refl
 -- and the other way round, unless it is of the first one's face itself
 pub pass_follows : (y x t : Face) → face_may_follow y x ≡ true → same_face y t ≡ false → are_exchanged x t ≡ true → face_may_follow y t ≡ true
 pass_follows y x t h a b =
-    by_implies _ _ (at_face (λ t. Passes y x t) (at_face (λ x. every_face (λ t. Passes y x t)) (at_face (λ y. every_face (λ x. every_face (λ t. Passes y x t))) pass_test y) x) t) (both _ _ h (both _ _ (ap not a) b))
+    by_implies _ _ (at_face (λ t. Passes y x t) (at_face (λ x. every_face (λ t. Passes y x t)) (at_face (λ y. every_face (λ x. every_face (λ t. Passes y x t))) pass_test y) x) t) (and_both _ _ h (and_both _ _ (ap not a) b))
 
 -- a list whose last turn but one is left out
 pub skip_middle : (b : List Turn) (y x : Turn) → IsCanonical (b ++ y ∷ x ∷ []) → are_exchanged x.face y.face ≡ true → IsCanonical (b ++ x ∷ [])
 skip_middle [] y x h a = refl
-skip_middle (z ∷ []) y x h a = both _ _ (skip_follows z.face y.face x.face (both_left _ _ h) a) refl
+skip_middle (z ∷ []) y x h a = and_both _ _ (skip_follows z.face y.face x.face (and_left _ _ h) a) refl
 skip_middle (z ∷ w ∷ b) y x h a =
-    both _ _ (both_left _ _ h) (skip_middle (w ∷ b) y x (both_right (face_may_follow z.face w.face) _ h) a)
+    and_both _ _ (and_left _ _ h) (skip_middle (w ∷ b) y x (and_right (face_may_follow z.face w.face) _ h) a)

@@ -9,7 +9,7 @@ use Rattle.niss_moves.specs.Cleaning.{rewritten_pair, IsRewriting, Cleans, Clean
 use Rattle.niss_moves.specs.RewritingLaws.{are_disordered, disorder}
 use Rattle.niss_moves.specs.CleanedLine.{after_first, rewritten_once, rewritten_within, most_rewritings, clean_turns, CleanTurnsAreClean}
 use Rattle.niss_moves.specs.declared.turn.Turn.{Turn}
-use Rattle.niss_moves.proofs.Logic.{both}
+use Rattle.niss_moves.proofs.Logic.{and_both}
 use Rattle.niss_moves.proofs.Disorder.{rewriting_lowers}
 
 -- where nothing is rewritten, nothing breaks the order
@@ -21,7 +21,7 @@ after_first_none t (Some s) e = cc
 none_step : (t u : Turn) (s : List Turn) (b : Bool) → face_may_follow t.face u.face ≡ b
     → cond b (after_first t (rewritten_once (u ∷ s))) (Some (rewritten_pair t u ++ s)) ≡ None
     → (rewritten_once (u ∷ s) ≡ None → IsCanonical (u ∷ s)) → IsCanonical (t ∷ u ∷ s)
-none_step t u s true e h rest = both _ _ e (rest (after_first_none t (rewritten_once (u ∷ s)) h))
+none_step t u s true e h rest = and_both _ _ e (rest (after_first_none t (rewritten_once (u ∷ s)) h))
 none_step t u s false e h rest = cc
 
 none_is_canonical : (s : List Turn) → rewritten_once s ≡ None → IsCanonical s
@@ -38,8 +38,8 @@ after_first_some t (Some s) c e = (s, refl, let h : c ≡ t ∷ s = cc in h)
 
 canonical_after_first : (t u : Turn) (s front : List Turn) (left : Turn) (rest : List Turn) → u ∷ s ≡ front ++ left ∷ rest
     → face_may_follow t.face u.face ≡ true → IsCanonical (front ++ left ∷ []) → IsCanonical (t ∷ front ++ left ∷ [])
-canonical_after_first t u s [] left rest e k h = both _ _ (let same : u ≡ left = cc in subst (λ (x : Turn). face_may_follow t.face x.face ≡ true) same k) refl
-canonical_after_first t u s (x ∷ front) left rest e k h = both _ _ (let same : u ≡ x = cc in subst (λ (x : Turn). face_may_follow t.face x.face ≡ true) same k) h
+canonical_after_first t u s [] left rest e k h = and_both _ _ (let same : u ≡ left = cc in subst (λ (x : Turn). face_may_follow t.face x.face ≡ true) same k) refl
+canonical_after_first t u s (x ∷ front) left rest e k h = and_both _ _ (let same : u ≡ x = cc in subst (λ (x : Turn). face_may_follow t.face x.face ≡ true) same k) h
 
 rewriting_after_first : (t u : Turn) (s r c : List Turn) → face_may_follow t.face u.face ≡ true → c ≡ t ∷ r → IsRewriting (u ∷ s) r → IsRewriting (t ∷ u ∷ s) c
 rewriting_after_first t u s r c k e w = record {

@@ -12,7 +12,7 @@ use Rattle.niss_moves.specs.declared.turn.Power.{Power}
 use Rattle.niss_moves.specs.declared.turn.Turn.{Turn}
 use denote.Enum.Bare.{sameb}
 use Rattle.niss_moves.specs.contracts.turn.Face.{the_type}
-use Rattle.niss_moves.proofs.Logic.{both}
+use Rattle.niss_moves.proofs.Logic.{and_both}
 use Rattle.niss_moves.proofs.Rotations.{same_face_is}
 use Rattle.niss_moves.proofs.CanonicalLists.{canonical_pair, canonical_front, canonical_join, canonical_push, canonical_same, snoc_assoc, last_of, same_may_not_follow, are_exchanged, exchanged, swap_follows, pass_follows, skip_middle}
 
@@ -65,7 +65,7 @@ cleaned_follow a x t h e =
 summed_before : (b : List Turn) (y x : Turn) (o : Option Power) → IsCanonical (b ++ y ∷ x ∷ []) → are_exchanged x.face y.face ≡ true → IsCanonical ((b ++ turn_by y.face o) ++ x ∷ [])
 summed_before b y x None h a = rw append-nil (skip_middle b y x h a)
 summed_before b y x (Some p) h a =
-    rw snoc_assoc (canonical_join b (record y { power = p }) (x ∷ []) (canonical_same b y _ refl (canonical_front (b ++ y ∷ []) (x ∷ []) (rw snoc_assoc h))) (both _ _ (canonical_pair b y x [] h) refl))
+    rw snoc_assoc (canonical_join b (record y { power = p }) (x ∷ []) (canonical_same b y _ refl (canonical_front (b ++ y ∷ []) (x ∷ []) (rw snoc_assoc h))) (and_both _ _ (canonical_pair b y x [] h) refl))
 
 -- A turn of the opposite face that goes first passes the last one, and may be summed with the one before.
 swap_same : (b : List Turn) (y x t : Turn) → IsCanonical (b ++ y ∷ x ∷ []) → same_face x.face t.face ≡ false → face_may_follow x.face t.face ≡ false → same_face y.face t.face ≡ true → Cleaned (b ++ y ∷ x ∷ []) t ((b ++ sum_of_turns y t) ++ x ∷ [])
@@ -84,7 +84,7 @@ swap_same b y x t h n m e =
 swap_other : (b : List Turn) (y x t : Turn) → IsCanonical (b ++ y ∷ x ∷ []) → same_face x.face t.face ≡ false → face_may_follow x.face t.face ≡ false → same_face y.face t.face ≡ false → Cleaned (b ++ y ∷ x ∷ []) t ((b ++ y ∷ t ∷ []) ++ x ∷ [])
 swap_other b y x t h n m e =
     record {
-      canonical = rw append_assoc (canonical_join b y (t ∷ x ∷ []) (canonical_front (b ++ y ∷ []) (x ∷ []) (rw snoc_assoc h)) (both _ _ (pass_follows y.face x.face t.face (canonical_pair b y x [] h) e (exchanged x.face t.face n m)) (both _ _ (swap_follows x.face t.face (exchanged x.face t.face n m)) refl)));
+      canonical = rw append_assoc (canonical_join b y (t ∷ x ∷ []) (canonical_front (b ++ y ∷ []) (x ∷ []) (rw snoc_assoc h)) (and_both _ _ (pass_follows y.face x.face t.face (canonical_pair b y x [] h) e (exchanged x.face t.face n m)) (and_both _ _ (swap_follows x.face t.face (exchanged x.face t.face n m)) refl)));
       cleans = λ rest c d.
           let split : (b ++ y ∷ x ∷ []) ++ t ∷ rest ≡ (b ++ y ∷ []) ++ x ∷ t ∷ rest = rw (append_assoc, append_assoc) refl in
           let mid : ((b ++ y ∷ t ∷ []) ++ x ∷ []) ++ rest ≡ ((b ++ y ∷ []) ++ rewritten_pair x t) ++ rest = rw (other_rewritten x t n) (simp append_assoc) in
@@ -94,7 +94,7 @@ swap_other b y x t h n m e =
 cleaned_swap : (a : List Turn) (x t : Turn) → IsCanonical (a ++ x ∷ []) → same_face x.face t.face ≡ false → face_may_follow x.face t.face ≡ false → Cleaned (a ++ x ∷ []) t (list_with_turn a t ++ x ∷ [])
 cleaned_swap a x t h n m =
     elim (last_of a) [
-      | inl e ↦ subst (λ (a : List Turn). Cleaned (a ++ x ∷ []) t (list_with_turn a t ++ x ∷ [])) (sym e) (record { canonical = both _ _ (swap_follows x.face t.face (exchanged x.face t.face n m)) refl; cleans = λ rest c d. one_rewriting [] x t rest c refl m (rw (other_rewritten x t n) d) })
+      | inl e ↦ subst (λ (a : List Turn). Cleaned (a ++ x ∷ []) t (list_with_turn a t ++ x ∷ [])) (sym e) (record { canonical = and_both _ _ (swap_follows x.face t.face (exchanged x.face t.face n m)) refl; cleans = λ rest c d. one_rewriting [] x t rest c refl m (rw (other_rewritten x t n) d) })
       | inr w ↦ subst (λ (a : List Turn). Cleaned (a ++ x ∷ []) t (list_with_turn a t ++ x ∷ [])) (sym w.2) (swap_after w.0 w.1 x t (subst (λ (a : List Turn). IsCanonical (a ++ x ∷ [])) w.2 h) n m)
     ]
   where

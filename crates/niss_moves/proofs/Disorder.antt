@@ -10,7 +10,7 @@ use Rattle.niss_moves.specs.declared.turn.Face.{Face}
 use Rattle.niss_moves.specs.declared.turn.Power.{Power}
 use Rattle.niss_moves.specs.declared.turn.Turn.{Turn}
 use Rattle.niss_moves.proofs.Finite.{every_face, at_face, implies, by_implies}
-use Rattle.niss_moves.proofs.Logic.{both_left, both_right, not_true}
+use Rattle.niss_moves.proofs.Logic.{and_left, and_right, not_true}
 use Rattle.niss_moves.proofs.CanonicalLists.{are_exchanged, exchanged}
 use Rattle.niss_moves.proofs.Cleaned.{same_rewritten, other_rewritten}
 
@@ -63,7 +63,7 @@ lowers_here front t u rest m true e = inl (shorter front t u rest e)
 lowers_here front t u rest m false e =
     let d = disorders t.face u.face (exchanged t.face u.face e m) in
     let s : front ++ rewritten_pair t u ++ rest ≡ front ++ u ∷ t ∷ rest = rw (other_rewritten t u e, append_assoc) refl in
-    inr (ap length s ∙ as_long front t u rest, subst (λ (x : List Turn). disorder x < disorder (front ++ t ∷ u ∷ rest)) (sym s) (fewer front t u rest (both_left _ _ d) (not_true _ (both_right (are_disordered t u) _ d))))
+    inr (ap length s ∙ as_long front t u rest, subst (λ (x : List Turn). disorder x < disorder (front ++ t ∷ u ∷ rest)) (sym s) (fewer front t u rest (and_left _ _ d) (not_true _ (and_right (are_disordered t u) _ d))))
 
 abbrev Lowers : List Turn → List Turn → Type 0
 Lowers s t = (length t < length s) ⊎ ((length t ≡ length s) × (disorder t < disorder s))

@@ -1,6 +1,6 @@
 -- Facts over the finite types of the crate, by a test that is computed over all values.
 use Rattle.std.proofs.Common.{◌≡◌, Bool, true, false, ◌&&◌, refl, subst, Option, None, Some}
-use Rattle.niss_moves.proofs.Logic.{both_left, both_right, both}
+use Rattle.niss_moves.proofs.Logic.{and_left, and_right, and_both}
 use Rattle.niss_moves.specs.Places.{Coord, Neg, Zero, Pos, Vector, vector, Place, same_coord, same_vector, same_place}
 use Rattle.niss_moves.specs.declared.turn.Face.{Face}
 use Rattle.niss_moves.specs.declared.turn.Face.TheVariants.{U, D, R, L, F, B}
@@ -18,48 +18,48 @@ every_coord p = p Neg && (p Zero && p Pos)
 
 pub at_coord : (p : Coord → Bool) → every_coord p ≡ true → (c : Coord) → p c ≡ true
 unfolding every_coord
-at_coord p e Neg = both_left _ _ e
-at_coord p e Zero = both_left _ _ (both_right (p Neg) _ e)
-at_coord p e Pos = both_right (p Zero) _ (both_right (p Neg) _ e)
+at_coord p e Neg = and_left _ _ e
+at_coord p e Zero = and_left _ _ (and_right (p Neg) _ e)
+at_coord p e Pos = and_right (p Zero) _ (and_right (p Neg) _ e)
 
 unfoldable pub every_face : (Face → Bool) → Bool
 every_face p = p U && (p D && (p R && (p L && (p F && p B))))
 
 pub at_face : (p : Face → Bool) → every_face p ≡ true → (f : Face) → p f ≡ true
 unfolding every_face
-at_face p e U = both_left _ _ e
-at_face p e D = both_left _ _ (both_right (p U) _ e)
-at_face p e R = both_left _ _ (both_right (p D) _ (both_right (p U) _ e))
-at_face p e L = both_left _ _ (both_right (p R) _ (both_right (p D) _ (both_right (p U) _ e)))
-at_face p e F = both_left _ _ (both_right (p L) _ (both_right (p R) _ (both_right (p D) _ (both_right (p U) _ e))))
-at_face p e B = both_right (p F) _ (both_right (p L) _ (both_right (p R) _ (both_right (p D) _ (both_right (p U) _ e))))
+at_face p e U = and_left _ _ e
+at_face p e D = and_left _ _ (and_right (p U) _ e)
+at_face p e R = and_left _ _ (and_right (p D) _ (and_right (p U) _ e))
+at_face p e L = and_left _ _ (and_right (p R) _ (and_right (p D) _ (and_right (p U) _ e)))
+at_face p e F = and_left _ _ (and_right (p L) _ (and_right (p R) _ (and_right (p D) _ (and_right (p U) _ e))))
+at_face p e B = and_right (p F) _ (and_right (p L) _ (and_right (p R) _ (and_right (p D) _ (and_right (p U) _ e))))
 
 unfoldable pub every_power : (Power → Bool) → Bool
 every_power p = p Quarter && (p Half && p Counter)
 
 pub at_power : (p : Power → Bool) → every_power p ≡ true → (c : Power) → p c ≡ true
 unfolding every_power
-at_power p e Quarter = both_left _ _ e
-at_power p e Half = both_left _ _ (both_right (p Quarter) _ e)
-at_power p e Counter = both_right (p Half) _ (both_right (p Quarter) _ e)
+at_power p e Quarter = and_left _ _ e
+at_power p e Half = and_left _ _ (and_right (p Quarter) _ e)
+at_power p e Counter = and_right (p Half) _ (and_right (p Quarter) _ e)
 
 unfoldable pub every_axis : (Axis → Bool) → Bool
 every_axis p = p Ud && (p Rl && p Fb)
 
 pub at_axis : (p : Axis → Bool) → every_axis p ≡ true → (c : Axis) → p c ≡ true
 unfolding every_axis
-at_axis p e Ud = both_left _ _ e
-at_axis p e Rl = both_left _ _ (both_right (p Ud) _ e)
-at_axis p e Fb = both_right (p Rl) _ (both_right (p Ud) _ e)
+at_axis p e Ud = and_left _ _ e
+at_axis p e Rl = and_left _ _ (and_right (p Ud) _ e)
+at_axis p e Fb = and_right (p Rl) _ (and_right (p Ud) _ e)
 
 unfoldable pub every_slice : (Slice → Bool) → Bool
 every_slice p = p M && (p E && p S)
 
 pub at_slice : (p : Slice → Bool) → every_slice p ≡ true → (c : Slice) → p c ≡ true
 unfolding every_slice
-at_slice p e M = both_left _ _ e
-at_slice p e E = both_left _ _ (both_right (p M) _ e)
-at_slice p e S = both_right (p E) _ (both_right (p M) _ e)
+at_slice p e M = and_left _ _ e
+at_slice p e E = and_left _ _ (and_right (p M) _ e)
+at_slice p e S = and_right (p E) _ (and_right (p M) _ e)
 
 unfoldable pub every_vector : (Vector → Bool) → Bool
 every_vector p = every_coord (λ x. every_coord (λ y. every_coord (λ z. p (vector x y z))))
@@ -85,16 +85,16 @@ pub at_token : (p : Token → Bool) → every_token p ≡ true → (t : Token) �
 unfolding every_token
 at_token p e (token.Face t) =
     let h = at_power (λ n. every_face (λ f. p (token.Face (record { face = f; power = n })) && p (token.Wide f n)) && (every_slice (λ l. p (token.Slice l n)) && every_axis (λ a. p (token.Rotation a n)))) e t.power in
-    both_left _ _ (at_face (λ f. p (token.Face (record { face = f; power = t.power })) && p (token.Wide f t.power)) (both_left _ _ h) t.face)
+    and_left _ _ (at_face (λ f. p (token.Face (record { face = f; power = t.power })) && p (token.Wide f t.power)) (and_left _ _ h) t.face)
 at_token p e (token.Wide f n) =
     let h = at_power (λ n. every_face (λ f. p (token.Face (record { face = f; power = n })) && p (token.Wide f n)) && (every_slice (λ l. p (token.Slice l n)) && every_axis (λ a. p (token.Rotation a n)))) e n in
-    both_right (p (token.Face (record { face = f; power = n }))) _ (at_face (λ f. p (token.Face (record { face = f; power = n })) && p (token.Wide f n)) (both_left _ _ h) f)
+    and_right (p (token.Face (record { face = f; power = n }))) _ (at_face (λ f. p (token.Face (record { face = f; power = n })) && p (token.Wide f n)) (and_left _ _ h) f)
 at_token p e (token.Slice l n) =
     let h = at_power (λ n. every_face (λ f. p (token.Face (record { face = f; power = n })) && p (token.Wide f n)) && (every_slice (λ l. p (token.Slice l n)) && every_axis (λ a. p (token.Rotation a n)))) e n in
-    at_slice (λ l. p (token.Slice l n)) (both_left _ _ (both_right (every_face (λ f. p (token.Face (record { face = f; power = n })) && p (token.Wide f n))) _ h)) l
+    at_slice (λ l. p (token.Slice l n)) (and_left _ _ (and_right (every_face (λ f. p (token.Face (record { face = f; power = n })) && p (token.Wide f n))) _ h)) l
 at_token p e (token.Rotation a n) =
     let h = at_power (λ n. every_face (λ f. p (token.Face (record { face = f; power = n })) && p (token.Wide f n)) && (every_slice (λ l. p (token.Slice l n)) && every_axis (λ a. p (token.Rotation a n)))) e n in
-    at_axis (λ a. p (token.Rotation a n)) (both_right (every_slice (λ l. p (token.Slice l n))) _ (both_right (every_face (λ f. p (token.Face (record { face = f; power = n })) && p (token.Wide f n))) _ h)) a
+    at_axis (λ a. p (token.Rotation a n)) (and_right (every_slice (λ l. p (token.Slice l n))) _ (and_right (every_face (λ f. p (token.Face (record { face = f; power = n })) && p (token.Wide f n))) _ h)) a
 
 -- equal by the test, and the other way round
 pub same_coord_is : (a b : Coord) → same_coord a b ≡ true → a ≡ b
@@ -110,16 +110,16 @@ same_coord_is Pos Zero e = cc
 
 pub same_vector_is : (v w : Vector) → same_vector v w ≡ true → v ≡ w
 same_vector_is v w e =
-    let xy : (same_coord v.x w.x && same_coord v.y w.y) ≡ true = both_left _ _ e in
-    let p : v.x ≡ w.x = same_coord_is _ _ (both_left _ _ xy) in
-    let q : v.y ≡ w.y = same_coord_is _ _ (both_right (same_coord v.x w.x) _ xy) in
-    let r : v.z ≡ w.z = same_coord_is _ _ (both_right (same_coord v.x w.x && same_coord v.y w.y) _ e) in
+    let xy : (same_coord v.x w.x && same_coord v.y w.y) ≡ true = and_left _ _ e in
+    let p : v.x ≡ w.x = same_coord_is _ _ (and_left _ _ xy) in
+    let q : v.y ≡ w.y = same_coord_is _ _ (and_right (same_coord v.x w.x) _ xy) in
+    let r : v.z ≡ w.z = same_coord_is _ _ (and_right (same_coord v.x w.x && same_coord v.y w.y) _ e) in
     λ i. record { x = p i; y = q i; z = r i }
 
 pub same_place_is : (q r : Place) → same_place q r ≡ true → q ≡ r
 same_place_is q r e =
-    let a : q.cell ≡ r.cell = same_vector_is _ _ (both_left _ _ e) in
-    let b : q.direction ≡ r.direction = same_vector_is _ _ (both_right (same_vector q.cell r.cell) _ e) in
+    let a : q.cell ≡ r.cell = same_vector_is _ _ (and_left _ _ e) in
+    let b : q.direction ≡ r.direction = same_vector_is _ _ (and_right (same_vector q.cell r.cell) _ e) in
     λ i. record { cell = a i; direction = b i }
 
 pub same_coord_self : (a : Coord) → same_coord a a ≡ true
@@ -128,10 +128,10 @@ same_coord_self Zero = refl
 same_coord_self Pos = refl
 
 pub same_vector_self : (v : Vector) → same_vector v v ≡ true
-same_vector_self v = both _ _ (both _ _ (same_coord_self v.x) (same_coord_self v.y)) (same_coord_self v.z)
+same_vector_self v = and_both _ _ (and_both _ _ (same_coord_self v.x) (same_coord_self v.y)) (same_coord_self v.z)
 
 pub same_place_self : (q : Place) → same_place q q ≡ true
-same_place_self q = both _ _ (same_vector_self q.cell) (same_vector_self q.direction)
+same_place_self q = and_both _ _ (same_vector_self q.cell) (same_vector_self q.direction)
 
 pub same_place_of : (q r : Place) → q ≡ r → same_place q r ≡ true
 same_place_of q r e = subst (λ (r : Place). same_place q r ≡ true) e (same_place_self q)
@@ -141,8 +141,8 @@ every_optional_power p = p None && every_power (λ n. p (Some n))
 
 pub at_optional_power : (p : Option Power → Bool) → every_optional_power p ≡ true → (o : Option Power) → p o ≡ true
 unfolding every_optional_power
-at_optional_power p e None = both_left _ _ e
-at_optional_power p e (Some n) = at_power (λ n. p (Some n)) (both_right (p None) _ e) n
+at_optional_power p e None = and_left _ _ e
+at_optional_power p e (Some n) = at_power (λ n. p (Some n)) (and_right (p None) _ e) n
 
 abbrev pub implies : Bool → Bool → Bool
 implies true b = b

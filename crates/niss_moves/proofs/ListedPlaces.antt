@@ -7,7 +7,7 @@ use Rattle.niss_moves.specs.Places.{Place, is_place, same_place}
 use Rattle.niss_moves.specs.Facelets.{places}
 use Rattle.niss_moves.specs.EffectLaws.{PlacesAreListed, PlacesDiffer}
 use Rattle.niss_moves.proofs.Finite.{every_coord, every_vector, every_place, at_place, same_place_is, same_place_of, implies, by_implies}
-use Rattle.niss_moves.proofs.Logic.{both_left, both_right}
+use Rattle.niss_moves.proofs.Logic.{and_left, and_right}
 use Rattle.niss_moves.proofs.MadeLists.{none, here, later, first_or_later}
 
 -- each place is in the list
@@ -33,8 +33,8 @@ at_list : (p : Place → Bool) → (xs : List Place) (q : Place) → list_all p 
 at_list p [] q e h = absurd (none q h)
 at_list p (x ∷ xs) q e h =
     elim (first_or_later x xs q h) [
-      | inl s ↦ subst (λ (y : Place). p y ≡ true) s (both_left _ _ e)
-      | inr r ↦ at_list p xs q (both_right (p x) _ e) r
+      | inl s ↦ subst (λ (y : Place). p y ≡ true) s (and_left _ _ e)
+      | inr r ↦ at_list p xs q (and_right (p x) _ e) r
     ]
 
 pub all_places : list_all is_place places ≡ true
@@ -49,7 +49,7 @@ places_are_listed q =
 differ_from : (x : Place) (ys : List Place) → list_all (λ y. not (same_place x y)) ys ≡ true → All (λ y. x ≡ y → ⊥) ys
 differ_from x [] e = λ k d lt. absurd (omega (arith, lt))
 differ_from x (y ∷ ys) e =
-    All-cons (λ y. x ≡ y → ⊥) y ys (λ s. unequal (same_place x y) (both_left _ _ e) (same_place_of x y s)) (differ_from x ys (both_right (not (same_place x y)) _ e))
+    All-cons (λ y. x ≡ y → ⊥) y ys (λ s. unequal (same_place x y) (and_left _ _ e) (same_place_of x y s)) (differ_from x ys (and_right (not (same_place x y)) _ e))
   where
     unequal : (b : Bool) → not b ≡ true → b ≡ true → ⊥
     unequal true n h = cc
@@ -63,7 +63,7 @@ differ : (xs : List Place) → all_differ xs ≡ true → AllPairs (λ x y. x �
 unfolding all_differ
 differ [] e = λ i j d le lt. absurd (omega (arith, lt))
 differ (x ∷ xs) e =
-    AllPairs-cons (λ x y. x ≡ y → ⊥) x xs (differ_from x xs (both_left _ _ e)) (differ xs (both_right (list_all (λ y. not (same_place x y)) xs) _ e))
+    AllPairs-cons (λ x y. x ≡ y → ⊥) x xs (differ_from x xs (and_left _ _ e)) (differ xs (and_right (list_all (λ y. not (same_place x y)) xs) _ e))
 
 differ_test : all_differ places ≡ true
 unfolding all_differ

@@ -4,7 +4,7 @@ use Rattle.niss_moves.specs.Canonical.{face_may_follow, IsCanonical}
 use Rattle.niss_moves.specs.Cleaning.{rewritten_pair, IsRewriting, Cleans, Clean, Rewrite}
 use Rattle.niss_moves.specs.RewritingLaws.{OneCleanList, CanonicalStays}
 use Rattle.niss_moves.specs.declared.turn.Turn.{Turn}
-use Rattle.niss_moves.proofs.Logic.{both_left, both_right}
+use Rattle.niss_moves.proofs.Logic.{and_left, and_right}
 use Rattle.niss_moves.proofs.CanonicalLists.{canonical_pair}
 
 -- the leftmost rewriting, computed
@@ -28,9 +28,9 @@ once_later x y s t e h =
 
 once_is : (front : List Turn) (l r : Turn) (rest : List Turn) → IsCanonical (front ++ l ∷ []) → face_may_follow l.face r.face ≡ false → once (front ++ l ∷ r ∷ rest) ≡ Some ((front ++ rewritten_pair l r) ++ rest)
 once_is [] l r rest h e = once_here l r rest e
-once_is (x ∷ []) l r rest h e = once_later x l (r ∷ rest) _ (both_left _ _ h) (once_here l r rest e)
+once_is (x ∷ []) l r rest h e = once_later x l (r ∷ rest) _ (and_left _ _ h) (once_here l r rest e)
 once_is (x ∷ y ∷ front) l r rest h e =
-    once_later x y (front ++ l ∷ r ∷ rest) _ (both_left _ _ h) (once_is (y ∷ front) l r rest (both_right (face_may_follow x.face y.face) _ h) e)
+    once_later x y (front ++ l ∷ r ∷ rest) _ (and_left _ _ h) (once_is (y ∷ front) l r rest (and_right (face_may_follow x.face y.face) _ h) e)
 
 once_rewriting : (s t : List Turn) → IsRewriting s t → once s ≡ Some t
 once_rewriting s t w =

@@ -11,7 +11,7 @@ use Rattle.niss_moves.specs.declared.symbol.Symbol.{Symbol}
 use Rattle.niss_moves.specs.declared.symbol.Symbol.TheVariants as symbol
 use Rattle.niss_moves.specs.declared.fault.ReadFault.{ReadFault}
 use Rattle.niss_moves.specs.declared.fault.ReadFault.TheVariants.{NotAMove, Nested, Unopened, Unclosed, TooLong}
-use Rattle.niss_moves.proofs.Logic.{both_right}
+use Rattle.niss_moves.proofs.Logic.{and_right}
 use Rattle.niss_moves.proofs.Completes.{IsReady, run-append, completes}
 use Rattle.niss_moves.proofs.Sound.{Reads, cut_of, is_open, Refusal, Outcome, step_means}
 use Rattle.niss_moves.proofs.Symbols.{first_symbol, symbol_of_open, symbol_of_close}
@@ -174,7 +174,7 @@ stops_run bytes (Unclosed column) h = absurd h
 -- the last opening bracket is one
 has_opening : (a b : List ℕ) → has_no_bracket (a ++ 40 ∷ b) ≡ true → ⊥
 has_opening [] b e = cc
-has_opening (x ∷ a) b e = has_opening a b (both_right (not (x == 40 || x == 41)) _ e)
+has_opening (x ∷ a) b e = has_opening a b (and_right (not (x == 40 || x == 41)) _ e)
 
 one_opening : (a b c d : List ℕ) → a ++ 40 ∷ b ≡ c ++ 40 ∷ d → has_no_bracket b ≡ true → has_no_bracket d ≡ true → length a ≡ length c
 one_opening [] b [] d e p q = refl

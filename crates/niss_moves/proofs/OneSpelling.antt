@@ -11,17 +11,16 @@ use Rattle.niss_moves.specs.declared.turn.Power.{Power}
 use Rattle.niss_moves.specs.declared.turn.Power.TheVariants.{Quarter, Half, Counter}
 use Rattle.niss_moves.specs.declared.rotation.Rotation.{Rotation}
 use Rattle.niss_moves.proofs.Finite.{every_face, every_power, every_optional_power, all_faces, same_place_of, implies, by_implies}
-use Rattle.niss_moves.proofs.Logic.{both_left, both_right}
+use Rattle.niss_moves.proofs.Logic.{and_left, and_right}
 use Rattle.niss_moves.proofs.Rotations.{every_rotation, at_rotation, same_face_is}
 
-same_power : Power → Power → Bool
+abbrev pub same_power : Power → Power → Bool
 same_power Quarter Quarter = true
 same_power Half Half = true
 same_power Counter Counter = true
 same_power _ _ = false
 
-same_power_is : (a b : Power) → same_power a b ≡ true → a ≡ b
-unfolding same_power
+pub same_power_is : (a b : Power) → same_power a b ≡ true → a ≡ b
 same_power_is Quarter Quarter e = refl
 same_power_is Half Half e = refl
 same_power_is Counter Counter e = refl
@@ -47,12 +46,12 @@ AreOne r s =
     implies (every_face (λ f. AreAlike r s f)) (same_face r.top s.top && same_option r.vertical s.vertical)
 
 one_test : every_rotation (λ r. every_rotation (λ s. AreOne r s)) ≡ true
-unfolding every_rotation every_optional_power every_power every_face same_option same_power
+unfolding every_rotation every_optional_power every_power every_face same_option
 one_test = refl
 
 pub one_spelling : OneSpelling
 one_spelling r s h =
     let t = by_implies _ _ (at_rotation (λ s. AreOne r s) (at_rotation (λ r. every_rotation (λ s. AreOne r s)) one_test r) s) (all_faces (λ f. AreAlike r s f) (λ f. same_place_of _ _ (h f))) in
-    let a : r.top ≡ s.top = same_face_is _ _ (both_left _ _ t) in
-    let b : r.vertical ≡ s.vertical = same_option_is _ _ (both_right (same_face r.top s.top) _ t) in
+    let a : r.top ≡ s.top = same_face_is _ _ (and_left _ _ t) in
+    let b : r.vertical ≡ s.vertical = same_option_is _ _ (and_right (same_face r.top s.top) _ t) in
     λ i. record { top = a i; vertical = b i }

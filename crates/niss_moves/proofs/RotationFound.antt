@@ -21,7 +21,7 @@ use Rattle.niss_moves.specs.declared.turn.Turn.{Turn}
 use Rattle.niss_moves.specs.declared.token.Token.{Token}
 use Rattle.niss_moves.specs.declared.rotation.Rotation.{Rotation}
 use Rattle.niss_moves.proofs.Finite.{same_place_is, same_place_of}
-use Rattle.niss_moves.proofs.Logic.{both, both_left, both_right}
+use Rattle.niss_moves.proofs.Logic.{and_both, and_left, and_right}
 use Rattle.niss_moves.proofs.MadeLists.{none, first_or_later, in_map, in_flat_map}
 use Rattle.niss_moves.proofs.OneSpelling.{one_spelling}
 use Rattle.niss_moves.proofs.OneCleanList.{one_clean_list}
@@ -30,15 +30,15 @@ use Rattle.niss_moves.proofs.Home.{some_rotation}
 
 all_of_order : (p : Face → Bool) → ((f : Face) → p f ≡ true) → list_all p face_order ≡ true
 all_of_order p h =
-    both _ _ (h U) (both _ _ (h D) (both _ _ (h R) (both _ _ (h L) (both _ _ (h F) (both _ _ (h B) refl)))))
+    and_both _ _ (h U) (and_both _ _ (h D) (and_both _ _ (h R) (and_both _ _ (h L) (and_both _ _ (h F) (and_both _ _ (h B) refl)))))
 
 each_of_order : (p : Face → Bool) → list_all p face_order ≡ true → (f : Face) → p f ≡ true
-each_of_order p h U = both_left (p U) _ h
-each_of_order p h D = both_left (p D) _ (both_right (p U) _ h)
-each_of_order p h R = both_left (p R) _ (both_right (p D) _ (both_right (p U) _ h))
-each_of_order p h L = both_left (p L) _ (both_right (p R) _ (both_right (p D) _ (both_right (p U) _ h)))
-each_of_order p h F = both_left (p F) _ (both_right (p L) _ (both_right (p R) _ (both_right (p D) _ (both_right (p U) _ h))))
-each_of_order p h B = both_left (p B) _ (both_right (p F) _ (both_right (p L) _ (both_right (p R) _ (both_right (p D) _ (both_right (p U) _ h)))))
+each_of_order p h U = and_left (p U) _ h
+each_of_order p h D = and_left (p D) _ (and_right (p U) _ h)
+each_of_order p h R = and_left (p R) _ (and_right (p D) _ (and_right (p U) _ h))
+each_of_order p h L = and_left (p L) _ (and_right (p R) _ (and_right (p D) _ (and_right (p U) _ h)))
+each_of_order p h F = and_left (p F) _ (and_right (p L) _ (and_right (p R) _ (and_right (p D) _ (and_right (p U) _ h))))
+each_of_order p h B = and_left (p B) _ (and_right (p F) _ (and_right (p L) _ (and_right (p R) _ (and_right (p D) _ (and_right (p U) _ h)))))
 
 find_step : {X : Type 0} (p : X → Bool) → (z : X) (xs : List X) (x : X) (b : Bool) → p z ≡ b → Contains (z ∷ xs) x → p x ≡ true
     → (Contains xs x → (y : X) × (find p xs ≡ Some y) × (p y ≡ true)) → (y : X) × (cond b (Some z) (find p xs) ≡ Some y) × (p y ≡ true)

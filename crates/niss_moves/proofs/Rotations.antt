@@ -7,7 +7,7 @@ use Rattle.niss_moves.specs.Rotations.{face_before, face_before_power, face_befo
 use Rattle.niss_moves.specs.Turn.{same_face}
 use Rattle.niss_moves.specs.Helpers.{is_beside}
 use Rattle.niss_moves.proofs.Finite.{every_coord, every_vector, at_vector, same_vector_is, every_place, at_place, same_place_is, every_face, at_face, every_power, at_power, every_axis, at_axis, every_optional_power, at_optional_power, implies, by_implies}
-use Rattle.niss_moves.proofs.Logic.{both_left, both_right}
+use Rattle.niss_moves.proofs.Logic.{and_left, and_right}
 use Rattle.niss_moves.proofs.Inverses.{effect-append}
 use Rattle.niss_moves.specs.declared.turn.Face.{Face}
 use Rattle.niss_moves.specs.declared.turn.Face.TheVariants.{U, D, R, L, F, B}
@@ -151,10 +151,10 @@ next r a p o e =
     let h = by_implies _ _ (follows r a p o) (same_face_of _ _ e) in
     record {
       effect = λ q.
-          let v : (v : Vector) → rotated_vector n v ≡ quarters a (times p) (rotated_vector r v) = λ v. same_vector_is _ _ (at_vector (λ v. same_vector (rotated_vector n v) (quarters a (times p) (rotated_vector r v))) (both_left _ _ h) v) in
+          let v : (v : Vector) → rotated_vector n v ≡ quarters a (times p) (rotated_vector r v) = λ v. same_vector_is _ _ (at_vector (λ v. same_vector (rotated_vector n v) (quarters a (times p) (rotated_vector r v))) (and_left _ _ h) v) in
           rw (effect_of_spelling n q, effect_of_spelling r q) (λ i. record { cell = v q.cell i; direction = v q.direction i });
       faces = λ f.
-          same_face_is _ _ (at_face (λ f. same_face (face_before n f) (face_before r (face_before_power a p f))) (both_right (every_vector (λ v. same_vector (rotated_vector n v) (quarters a (times p) (rotated_vector r v)))) _ h) f);
+          same_face_is _ _ (at_face (λ f. same_face (face_before n f) (face_before r (face_before_power a p f))) (and_right (every_vector (λ v. same_vector (rotated_vector n v) (quarters a (times p) (rotated_vector r v)))) _ h) f);
     }
 
 -- what the code knows of the top, the front and the turn about the vertical axis

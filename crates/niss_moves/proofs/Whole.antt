@@ -10,7 +10,7 @@ use Rattle.niss_moves.specs.Notation.{base_bytes, Plain, Typographic, Suffix, No
 use Rattle.niss_moves.specs.declared.base.Base.{Base}
 use Rattle.niss_moves.specs.declared.base.Base.TheVariants as base
 use Rattle.niss_moves.proofs.Finite.{every_face, at_face, every_slice, at_slice, every_axis, at_axis}
-use Rattle.niss_moves.proofs.Logic.{both, both_left, both_right}
+use Rattle.niss_moves.proofs.Logic.{and_both, and_left, and_right}
 use Rattle.niss_moves.specs.declared.token.Token.{Token}
 use Rattle.niss_moves.specs.declared.partial_line.LastMove.{LastMove}
 use Rattle.niss_moves.specs.declared.partial_line.LastMove.TheVariants as last
@@ -199,7 +199,7 @@ no_bracket_suffix (TwoPrime Typographic) = refl
 no_bracket_append : (a b : List ℕ) → has_no_bracket a ≡ true → has_no_bracket b ≡ true → has_no_bracket (a ++ b) ≡ true
 no_bracket_append [] b p q = q
 no_bracket_append (x ∷ a) b p q =
-    both _ _ (both_left _ _ p) (no_bracket_append a b (both_right (not (x == 40 || x == 41)) _ p) q)
+    and_both _ _ (and_left _ _ p) (no_bracket_append a b (and_right (not (x == 40 || x == 41)) _ p) q)
 
 no_bracket_pieces : (ps : List Piece) → has_no_bracket (flat_map piece_bytes ps) ≡ true
 no_bracket_pieces [] = refl

@@ -27,6 +27,11 @@ pub take_one : (bytes : List ℕ) (x : ℕ) → 0 < length bytes → get_or byte
 take_one [] x lt e = absurd (omega arith)
 take_one (a ∷ bytes) x lt e = ap (λ y. y ∷ []) e
 
+-- a plain apostrophe, or none
+pub plain_at : (plain : Bool) (bytes : List ℕ) → 0 < length bytes → (get_or bytes 0 0 == 39) ≡ plain → BeginsApostrophe bytes (bool_byte plain)
+plain_at false bytes lt e = inl refl
+plain_at true bytes lt e = inr (Plain, omega arith, take_one bytes 39 lt (eqb-true _ 39 e))
+
 -- a suffix, by whether a `2` stands there and how long the apostrophe after it is
 pub suffix_at : (two : Bool) (bytes : List ℕ) (n : ℕ) → 0 < length bytes → (get_or bytes 0 0 == 50) ≡ two → BeginsApostrophe (drop (bool_byte two) bytes) n
     → IsSuffix (take (bool_byte two + n) bytes) (get_or (Quarter ∷ Half ∷ Counter ∷ Half ∷ []) (bool_byte two + 2 * bool_byte (nat_lt 0 n)) Quarter)

@@ -28,7 +28,9 @@ unfoldable pub rewritten_once : List Turn → Option (List Turn)
 rewritten_once [] = None
 rewritten_once (t ∷ []) = None
 rewritten_once (t ∷ u ∷ s) =
-    if face_may_follow t.face u.face then after_first t (rewritten_once (u ∷ s)) else Some (rewritten_pair t u ++ s)
+    if face_may_follow t.face u.face
+    then after_first t (rewritten_once (u ∷ s))
+    else Some (rewritten_pair t u ++ s)
 
 -- the list after at most n rewritings
 unfoldable pub rewritten_within : ℕ → List Turn → List Turn
@@ -45,11 +47,14 @@ clean_turns s = rewritten_within (most_rewritings s) s
 
 -- the 24 rotations
 abbrev pub rotations : List Rotation
-rotations = flat_map (λ f. map (λ p. record { top = f; vertical = p }) (None ∷ Some Quarter ∷ Some Half ∷ Some Counter ∷ [])) face_order
+rotations =
+    flat_map (λ f. map (λ p. record { top = f; vertical = p })
+    (None ∷ Some Quarter ∷ Some Half ∷ Some Counter ∷ [])) face_order
 
 -- Does the rotation move the six centres as the sequence does?
 abbrev pub moves_centres_as : List Token → Rotation → Bool
-moves_centres_as s r = list_all (λ f. same_place (effect (spelling r) (centre f)) (effect s (centre f))) face_order
+moves_centres_as s r =
+    list_all (λ f. same_place (effect (spelling r) (centre f)) (effect s (centre f))) face_order
 
 -- the one among the 24 rotations that moves the six centres as the sequence does
 unfoldable pub rotation_left : List Token → Rotation
@@ -61,7 +66,8 @@ clean_words s = cleaned_words (clean_turns (faces s)) (rotation_left s)
 
 -- the text with a cleaned line appended: the normal moves, and the bracketed ones in a bracket, where any word is left
 abbrev pub with_clean_line : List ℕ → Moves → List ℕ
-with_clean_line text line = with_bracket (with_words text (clean_words line.normal)) (clean_words line.bracketed)
+with_clean_line text line =
+    with_bracket (with_words text (clean_words line.normal)) (clean_words line.bracketed)
 
 -- Law: these functions are cleaning, and the rotation that is left.
 abbrev pub CleanTurnsAreClean : Type 0

@@ -33,7 +33,10 @@ pub record Move : Type 0 where
 abbrev pub moved : Move → Place → Place
 moved m q =
     if m.turns (along m.axis q.cell)
-    then record { cell = quarters m.axis m.quarters q.cell; direction = quarters m.axis m.quarters q.direction }
+    then record {
+      cell = quarters m.axis m.quarters q.cell;
+      direction = quarters m.axis m.quarters q.direction;
+    }
     else q
 
 abbrev pub times : Power → ℕ

@@ -29,7 +29,10 @@ coord_of _ = Pos
 
 -- the facelets of a face are numbered from 1 to 9, by rows
 abbrev pub facelet : Face → ℕ → Place
-facelet f n = record { cell = face_cell f (coord_of ((n - 1) % 3)) (coord_of ((n - 1) / 3)); direction = outward f }
+facelet f n = record {
+  cell = face_cell f (coord_of ((n - 1) % 3)) (coord_of ((n - 1) / 3));
+  direction = outward f;
+}
 
 abbrev pub face_places : Face → List Place
 face_places f = map (facelet f) (1 ∷ 2 ∷ 3 ∷ 4 ∷ 5 ∷ 6 ∷ 7 ∷ 8 ∷ 9 ∷ [])

@@ -30,8 +30,10 @@ expanded (token.Wide U p) = FaceTurn D p ∷ WholeRotation Ud p ∷ []
 expanded (token.Wide D p) = FaceTurn U p ∷ WholeRotation Ud (inverse_power p) ∷ []
 expanded (token.Wide F p) = FaceTurn B p ∷ WholeRotation Fb p ∷ []
 expanded (token.Wide B p) = FaceTurn F p ∷ WholeRotation Fb (inverse_power p) ∷ []
-expanded (token.Slice M p) = FaceTurn R p ∷ FaceTurn L (inverse_power p) ∷ WholeRotation Rl (inverse_power p) ∷ []
-expanded (token.Slice E p) = FaceTurn U p ∷ FaceTurn D (inverse_power p) ∷ WholeRotation Ud (inverse_power p) ∷ []
+expanded (token.Slice M p) =
+    FaceTurn R p ∷ FaceTurn L (inverse_power p) ∷ WholeRotation Rl (inverse_power p) ∷ []
+expanded (token.Slice E p) =
+    FaceTurn U p ∷ FaceTurn D (inverse_power p) ∷ WholeRotation Ud (inverse_power p) ∷ []
 expanded (token.Slice S p) = FaceTurn F (inverse_power p) ∷ FaceTurn B p ∷ WholeRotation Fb p ∷ []
 expanded (token.Rotation axis p) = WholeRotation axis p ∷ []
 

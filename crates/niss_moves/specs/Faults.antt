@@ -59,22 +59,29 @@ has_no_bracket (b ∷ bs) = not (b == 40 || b == 41) && has_no_bracket bs
 -- the column of the last opening bracket, with no bracket after it
 abbrev pub OpensAt : List ℕ → ℕ → Type 0
 OpensAt bytes column =
-    (front : List ℕ) × (rest : List ℕ) × (bytes ≡ front ++ 40 ∷ rest) × IsTrue (has_no_bracket rest) × (column ≡ length front + 1)
+    (front : List ℕ) × (rest : List ℕ) × (bytes ≡ front ++ 40 ∷ rest)
+    × IsTrue (has_no_bracket rest) × (column ≡ length front + 1)
 
 -- a byte that can't go on there
 abbrev pub Stops : List ℕ → ReadFault → Type 0
 Stops bytes (NotAMove column) =
-    ((byte : ℕ) × (is_open : Bool) × StopsAt bytes column Whole is_open byte × ((byte ≡ 40) × (is_open ≡ true) → ⊥) × ((byte ≡ 41) × (is_open ≡ false) → ⊥) × (BeginsBase byte → ⊥))
-    ⊎ ((byte : ℕ) × (is_open : Bool) × (cut : Cut) × (0 < cut_length cut) × StopsAt bytes (column + cut_length cut) cut is_open byte)
+    ((byte : ℕ) × (is_open : Bool) × StopsAt bytes column Whole is_open byte
+    × ((byte ≡ 40) × (is_open ≡ true) → ⊥)
+    × ((byte ≡ 41) × (is_open ≡ false) → ⊥)
+    × (BeginsBase byte → ⊥))
+    ⊎ ((byte : ℕ) × (is_open : Bool) × (cut : Cut) × (0 < cut_length cut)
+    × StopsAt bytes (column + cut_length cut) cut is_open byte)
 Stops bytes (Nested column) = StopsAt bytes column Whole true 40
 Stops bytes (Unopened column) = StopsAt bytes column Whole false 41
-Stops bytes (TooLong column) = (byte : ℕ) × (is_open : Bool) × BeginsBase byte × StopsAt bytes column Whole is_open byte
+Stops bytes (TooLong column) =
+    (byte : ℕ) × (is_open : Bool) × BeginsBase byte × StopsAt bytes column Whole is_open byte
 Stops bytes (Unclosed column) = ⊥
 
 -- what the end of the line lacks
 abbrev pub Lacks : List ℕ → ReadFault → Type 0
 Lacks bytes (NotAMove column) =
-    (is_open : Bool) × (cut : Cut) × (0 < cut_length cut) × EndsEarly bytes cut is_open × (column + cut_length cut ≡ length bytes + 1)
+    (is_open : Bool) × (cut : Cut) × (0 < cut_length cut)
+    × EndsEarly bytes cut is_open × (column + cut_length cut ≡ length bytes + 1)
 Lacks bytes (Unclosed column) = EndsEarly bytes Whole true × OpensAt bytes column
 Lacks bytes (Nested column) = ⊥
 Lacks bytes (Unopened column) = ⊥

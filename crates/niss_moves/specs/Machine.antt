@@ -70,7 +70,11 @@ inside (Some c) ts more = ts ++ more
 
 abbrev pub added : State → Token → State
 added s t =
-    record s { normal = outside s.bracket s.normal (t ∷ []); bracketed = inside s.bracket s.bracketed (t ∷ []); last = last.Finished }
+    record s {
+      normal = outside s.bracket s.normal (t ∷ []);
+      bracketed = inside s.bracket s.bracketed (t ∷ []);
+      last = last.Finished;
+    }
 
 -- the power of a move that ends in an apostrophe, after a `2` or not
 abbrev pub apostrophe_power : Bool → Power
@@ -87,7 +91,11 @@ settled_by (last.SecondByte b two) s = added s (token_of b (apostrophe_power two
 
 abbrev pub settled : State → State
 settled s =
-    record s { normal = (settled_by s.last s).normal; bracketed = (settled_by s.last s).bracketed; last = last.Finished }
+    record s {
+      normal = (settled_by s.last s).normal;
+      bracketed = (settled_by s.last s).bracketed;
+      last = last.Finished;
+    }
 
 abbrev pub count : State → ℕ
 count s = length s.normal + length s.bracketed
@@ -127,7 +135,9 @@ cut _ s = refused s
 -- a move begins, where fewer than so many stand before it
 abbrev pub begun : ℕ → Base → State → Result State ReadFault
 begun limit b s =
-    if nat_lt (count (settled s)) limit then Ok (with_last (last.Bare b) (settled s)) else Err (TooLong (s.fed + 1))
+    if nat_lt (count (settled s)) limit
+    then Ok (with_last (last.Bare b) (settled s))
+    else Err (TooLong (s.fed + 1))
 
 -- the next byte where no U+2019 is cut
 abbrev pub step_by : ℕ → Symbol → State → Result State ReadFault
@@ -176,10 +186,17 @@ run s bytes = run_within 256 s bytes
 -- what is read so far
 abbrev pub state_of : PartialLine → State
 state_of p =
-    record { normal = p.niss.normal; bracketed = p.niss.bracketed; bracket = p.bracket; last = p.last; fed = p.fed }
+    record {
+      normal = p.niss.normal;
+      bracketed = p.niss.bracketed;
+      bracket = p.bracket;
+      last = p.last;
+      fed = p.fed;
+    }
 
 -- A step answers a fault, or leaves the next state.
-abbrev pub IsStep : (State → Result State ReadFault) → PartialLine → Result (Unit {0}) ReadFault → PartialLine → Type 0
+abbrev pub IsStep : (State → Result State ReadFault) → PartialLine → Result (Unit {0}) ReadFault
+    → PartialLine → Type 0
 IsStep next old result new =
     MatchResult result (λ _. next (state_of old) ≡ Ok (state_of new)) (λ f. next (state_of old) ≡ Err f)
 

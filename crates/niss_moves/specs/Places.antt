@@ -69,7 +69,8 @@ is_direction d =
 
 -- The cell lies on that side of the axis to which the direction points.
 abbrev pub looks_along : Axis → Place → Bool
-looks_along axis q = not (is_zero (along axis q.direction)) && same_coord (along axis q.cell) (along axis q.direction)
+looks_along axis q =
+    not (is_zero (along axis q.direction)) && same_coord (along axis q.cell) (along axis q.direction)
 
 -- a cell with a direction that points out of the cube there
 abbrev pub is_place : Place → Bool

@@ -26,7 +26,8 @@ OneEnding =
 abbrev pub LineIsSpelled : Type 0
 LineIsSpelled =
     (bytes : List ℕ) (m : Moves) →
-    (read_line bytes ≡ Ok m) ↔ (Spells bytes m.normal m.bracketed × (length m.normal + length m.bracketed ≤ 256))
+    (read_line bytes ≡ Ok m)
+    ↔ (Spells bytes m.normal m.bracketed × (length m.normal + length m.bracketed ≤ 256))
 
 -- The fault of a line is that of bytes that no such moves spell.
 abbrev pub LineIsFaulty : Type 0

@@ -41,7 +41,8 @@ RenamesByRotation =
 -- After each sequence some rotation brings the centres home.
 abbrev pub CentresComeHome : Type 0
 CentresComeHome =
-    (s : List Token) → (home : Rotation) × ((f : Face) → effect (spelling home) (effect s (centre f)) ≡ centre f)
+    (s : List Token) →
+    (home : Rotation) × ((f : Face) → effect (spelling home) (effect s (centre f)) ≡ centre f)
 
 -- With the centres brought home, a sequence has the effect of its face turns.
 abbrev pub FacesAreHome : Type 0
@@ -56,7 +57,8 @@ abbrev pub LineIsHome : Type 0
 LineIsHome =
     (normal bracketed s : List Token) (home : Rotation) → HasMeaning s normal bracketed →
     ((f : Face) → effect (spelling home) (effect s (centre f)) ≡ centre f) →
-    (q : Place) → effect (spelling home) (effect s q) ≡ effect_of_turns (faces (normal ++ inverse bracketed)) q
+    (q : Place) →
+    effect (spelling home) (effect s q) ≡ effect_of_turns (faces (normal ++ inverse bracketed)) q
 
 -- A sequence has the effect of its face turns and then the rotation that is left.
 abbrev pub FacesAndRotation : Type 0
@@ -86,12 +88,14 @@ pub record DiffersFirst (comes_before : Turn → Turn → Bool) (first second : 
 abbrev pub CanonicalInOrder : Type 0
 CanonicalInOrder =
     (comes_before : Turn → Turn → Bool) (turns : List Turn) (k : ℕ) →
-    AllPairs (λ t u. IsTrue (comes_before t u)) turns → AllPairs (DiffersFirst comes_before) (all_canonical turns k)
+    AllPairs (λ t u. IsTrue (comes_before t u)) turns →
+    AllPairs (DiffersFirst comes_before) (all_canonical turns k)
 
 -- A sequence with one turn more is canonical exactly where the sequence is, and the turn may follow its last one.
 abbrev pub CanonicalGrows : Type 0
 CanonicalGrows =
-    (s : List Turn) (t : Turn) → IsCanonical (s ++ t ∷ []) ↔ (IsCanonical s × IsTrue (may_follow (last_turn s) t))
+    (s : List Turn) (t : Turn) →
+    IsCanonical (s ++ t ∷ []) ↔ (IsCanonical s × IsTrue (may_follow (last_turn s) t))
 
 -- Leftmost rewriting ends, for each list.
 abbrev pub CleaningEnds : Type 0
@@ -123,4 +127,5 @@ disorder (t ∷ ts) = count_by (are_disordered t) ts + disorder ts
 -- Each rewriting shortens the list, or keeps its length and leaves fewer pairs in the wrong order.
 abbrev pub RewritingLowers : Type 0
 RewritingLowers =
-    (s t : List Turn) → IsRewriting s t → (length t < length s) ⊎ ((length t ≡ length s) × (disorder t < disorder s))
+    (s t : List Turn) → IsRewriting s t →
+    (length t < length s) ⊎ ((length t ≡ length s) × (disorder t < disorder s))

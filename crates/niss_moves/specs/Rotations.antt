@@ -59,7 +59,8 @@ face_before_quarter Fb L = D
 abbrev pub face_before_power : Axis → Power → Face → Face
 face_before_power axis Quarter f = face_before_quarter axis f
 face_before_power axis Half f = face_before_quarter axis (face_before_quarter axis f)
-face_before_power axis Counter f = face_before_quarter axis (face_before_quarter axis (face_before_quarter axis f))
+face_before_power axis Counter f =
+    face_before_quarter axis (face_before_quarter axis (face_before_quarter axis f))
 
 -- the same for what brings a face to the top, and for the turn about the vertical axis
 abbrev pub face_before_top : Face → Face → Face

@@ -14,6 +14,21 @@ const LONGEST: usize = 7;
 /// By whether a `2` stands there, and twice whether an apostrophe does.
 static POWERS: [Power; 4] = [Power::Quarter, Power::Half, Power::Counter, Power::Half];
 
+/// How many bytes U+2019 in front of the bytes has, if it is whole. It stands by itself, since most apostrophes are plain.
+#[inline(never)]
+fn typographic_length(bytes: &[u8]) -> usize
+    requires first { slice_index bytes.now 0 ≡ 0xE2 }
+    requires fits { 2 < length bytes.now }
+    ensures bytes { BeginsApostrophe bytes.now result }
+    ensures short { result ≤ 3 }
+{
+    if bytes[1] == 0x80 && bytes[2] == 0x99 {
+        3
+    } else {
+        0
+    }
+}
+
 /// How many bytes the apostrophe in front of the bytes has, if there is one.
 fn apostrophe_length(first: u8, bytes: &[u8]) -> usize
     requires first { slice_index bytes.now 0 ≡ first }
@@ -21,10 +36,11 @@ fn apostrophe_length(first: u8, bytes: &[u8]) -> usize
     ensures bytes { BeginsApostrophe bytes.now result }
     ensures short { result ≤ 3 }
 {
-    if first == 0xE2 && bytes[1] == 0x80 && bytes[2] == 0x99 {
-        return 3;
+    if first == 0xE2 {
+        return typographic_length(bytes);
     }
-    if first == b'\'' { 1 } else { 0 }
+    // a number and no branch, which would be mispredicted
+    (first == b'\'') as usize
 }
 
 /// One byte or the other, without a branch.

@@ -2,7 +2,6 @@ pub mod CutLemmas
 pub mod DeviceLemmas
 pub mod DigitLemmas
 pub mod LinesLemmas
-pub mod FaceletLemmas
 pub mod StateLemmas
 pub mod PendingLemmas
 pub mod EngineLemmas

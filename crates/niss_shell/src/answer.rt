@@ -6,16 +6,15 @@ ghost use Rattle.niss_moves.specs.Letters.{letters};
 ghost use Rattle.niss_shell.specs.Output.{line_text, moves_of};
 
 use crate::command::Rewriting;
-use crate::line_cube::cube_of;
 use crate::text::put_text;
+use niss_cube::facelets_after;
 use niss_moves::{LineText, Niss, put_inverted, put_niss_clean, put_unniss};
 
-/// The facelet text of a line: its cube, turned as a whole by the rotation that is left.
+/// The facelet text of a line.
 fn facelets_of(line: &Niss) -> [u8; 54]
     ensures { result ≡ letters (effect (moves_of line.now)) }
 {
-    let (cube, rotation) = cube_of(line);
-    cube.facelets(rotation)
+    facelets_after(line.normal(), line.inverse())
 }
 
 /// Sets the text to what is written for a line without a search.

@@ -15,7 +15,7 @@ use crate::slice_places::{edges_with_slice, slice_number};
 use niss_moves::{Axis, Face, Turn};
 
 /// A coordinate of a cube, which has a number on each axis.
-#[derive(Clone, Copy)]
+#[derive(Clone, Copy, Debug, PartialEq, Eq)]
 pub enum Coordinate {
     /// How the edges are flipped.
     Flip,
@@ -97,9 +97,9 @@ impl Coordinate {
         }
     }
 
-    /// The face that the renamed cube has where the cube has `face`.
+    /// The face to which the renaming for an axis brings `face`.
     #[inline(always)]
-    pub(crate) fn renamed_face(self, axis: Axis, face: Face) -> Face
+    fn renamed_face(self, axis: Axis, face: Face) -> Face
         ensures { result ≡ face_for self axis face }
     {
         match self {
@@ -110,6 +110,7 @@ impl Coordinate {
 
     /// The turn that does to the number on the standard axis, Fb for flips and Ud for twists and slices, what `turn` does to
     /// that on `axis`.
+    #[inline(always)]
     pub fn standard_turn(self, axis: Axis, turn: Turn) -> Turn
         ensures value { result ≡ turn_for self axis turn }
         ensures same_number { (number : ℕ)

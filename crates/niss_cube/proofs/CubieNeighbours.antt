@@ -1,0 +1,67 @@
+-- The next facelet of a cubie, clockwise: moves keep the facelets of a cubie in their order.
+use Rattle.std.proofs.Common.{◌≡◌, ℕ, zero, suc, ◌+◌, ◌%◌, refl, ◌∙◌, ap, List, [], ◌∷◌, Bool, true, ◌&&◌}
+use Rattle.std.specs.Prelude.{if◌then◌else◌}
+use Rattle.std.specs.List.{list_all}
+use Rattle.niss_moves.specs.Places.{Place, is_place, is_corner, is_edge, same_place}
+use Rattle.niss_moves.specs.Facelets.{places}
+use Rattle.niss_moves.specs.Effects.{effect, moved_by}
+use Rattle.niss_moves.specs.declared.token.Token.{Token}
+use Rattle.niss_cube.specs.CubieFacelets.{facelet_at, corner_facelets, edge_facelets}
+use Rattle.niss_cube.proofs.Each.{at_place}
+use Rattle.niss_cube.proofs.MovedPositions.{HoldsOfMoves, at_move}
+use Rattle.niss_cube.proofs.PlaceTables.{row_of, index_of}
+use Rattle.niss_cube.proofs.Logic.{and_left, and_right}
+use Rattle.niss_moves.proofs.CallerLemmas.{same_place_is}
+
+unfoldable pub next : Place → Place
+next q =
+    if is_corner q
+    then facelet_at corner_facelets (row_of corner_facelets q) ((index_of corner_facelets q + 1) % 3)
+    else (if is_edge q then facelet_at edge_facelets (row_of edge_facelets q) ((index_of edge_facelets q + 1) % 2) else q)
+
+abbrev kept_test : Token → Place → Bool
+kept_test m q = is_place (moved_by m q) && same_place (next (moved_by m q)) (moved_by m (next q))
+
+abbrev all_kept : Token → Bool
+all_kept m = list_all (kept_test m) places
+
+kept : HoldsOfMoves all_kept
+unfolding next
+kept = record { faces = refl; wide = refl; slices = refl; rotations = refl }
+
+kept_at : (m : Token) (q : Place) → is_place q ≡ true → kept_test m q ≡ true
+kept_at m q h = at_place (kept_test m) (at_move all_kept kept m) q h
+
+pub moved-place : (m : Token) (q : Place) → is_place q ≡ true → is_place (moved_by m q) ≡ true
+moved-place m q h = and_left _ _ (kept_at m q h)
+
+moved-next : (m : Token) (q : Place) → is_place q ≡ true → next (moved_by m q) ≡ moved_by m (next q)
+moved-next m q h = same_place_is _ _ (and_right (is_place (moved_by m q)) _ (kept_at m q h))
+
+pub effect-place : (s : List Token) (q : Place) → is_place q ≡ true → is_place (effect s q) ≡ true
+effect-place [] q h = h
+effect-place (m ∷ s) q h = effect-place s (moved_by m q) (moved-place m q h)
+
+pub effect-next : (s : List Token) (q : Place) → is_place q ≡ true → next (effect s q) ≡ effect s (next q)
+effect-next [] q h = refl
+effect-next (m ∷ s) q h = effect-next s (moved_by m q) (moved-place m q h) ∙ ap (effect s) (moved-next m q h)
+
+next_places : list_all (λ q. is_place (next q)) places ≡ true
+unfolding next
+next_places = refl
+
+pub next-place : (q : Place) → is_place q ≡ true → is_place (next q) ≡ true
+next-place q h = at_place (λ q. is_place (next q)) next_places q h
+
+-- the k-th facelet after that of a place
+abbrev pub after : ℕ → Place → Place
+after zero q = q
+after (suc k) q = next (after k q)
+
+pub after-place : (k : ℕ) (q : Place) → is_place q ≡ true → is_place (after k q) ≡ true
+after-place zero q h = h
+after-place (suc k) q h = next-place (after k q) (after-place k q h)
+
+pub effect-after : (s : List Token) (k : ℕ) (q : Place) → is_place q ≡ true → after k (effect s q) ≡ effect s (after k q)
+effect-after s zero q h = refl
+effect-after s (suc k) q h = ap next (effect-after s k q h) ∙ effect-next s (after k q) (after-place k q h)

@@ -1,0 +1,8 @@
+use Rattle.std.proofs.Common.{◌≡◌, ℕ, ◌<◌, drop, get_or}
+use Rattle.niss_moves.specs.Effects.{effect}
+use Rattle.niss_cube.specs.PlacePositions.{place_at}
+use Rattle.niss_cube.proofs.followed_places.FollowedPlaces.follow_all.Given as goal
+
+abbrev pub invariant-loop-token : goal.invariant-loop-token
+invariant-loop-token l =
+    (k : ℕ) → k < 26 → effect (drop l.token-index l.tokens) (place_at (get_or l.self.positions k 0)) ≡ effect l.tokens (place_at (get_or l.initial.self.positions k 0))

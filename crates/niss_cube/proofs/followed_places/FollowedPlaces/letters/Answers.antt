@@ -1,0 +1,14 @@
+use Rattle.std.proofs.Common.{arith}
+use Rattle.niss_cube.proofs.FollowedLetters.{is_facelet, followed_letters}
+use Rattle.niss_cube.proofs.followed_places.FollowedPlaces.letters.Goals as goal
+
+pub bounds-self-position : goal.bounds-self-position
+bounds-self-position c = (is_facelet c.loop-position.position (omega (arith, c.loop-position-test.true))).cubie
+
+pub bounds-position-in-loop-position-2 : goal.bounds-position-in-loop-position-2
+bounds-position-in-loop-position-2 c = (is_facelet c.loop-position.position (omega (arith, c.loop-position-test.true))).index
+
+pub returns : goal.returns
+returns c s moved =
+    followed_letters s c.args.self.now.positions c.loop-position.letter-items c.loop-position-test.array_long c.args.self.now.in_range moved
+    (λ j l. c.loop-position.invariant j (omega arith))

@@ -1,0 +1,8 @@
+use Rattle.std.proofs.Common.{◌≡◌, ℕ, ◌<◌, [], get_or}
+use Rattle.niss_cube.specs.declared.followed_places.TheConstants.{CUBIES, FACELETS}
+use Rattle.niss_cube.specs.declared.letters.TheConstants.{CUBIE_LETTERS}
+use Rattle.niss_cube.proofs.followed_places.FollowedPlaces.letters.Given as goal
+
+abbrev pub invariant-loop-position : goal.invariant-loop-position
+invariant-loop-position l =
+    (j : ℕ) → j < l.position → get_or l.letter-items j 0 ≡ get_or (get_or CUBIE_LETTERS (get_or l.self.positions (get_or CUBIES j 0) 0) []) (get_or FACELETS j 0) 0
