@@ -2,15 +2,7 @@
 ghost use Rattle.std.specs.Prelude.{◌≡◌, ◌+◌, ◌*◌};
 
 use crate::limit::Limit;
-
-/// How many flips there are on an axis.
-pub(super) const FLIPS: usize = 2048;
-
-/// How many twists there are on an axis.
-pub(super) const TWISTS: usize = 2187;
-
-/// How many slices there are on an axis.
-pub(super) const SLICES: usize = 495;
+use niss_cube::Coordinate;
 
 /// The entry at which the goal holds: each of its coordinates is 0.
 pub(super) const GOAL_ENTRY: usize = 0;
@@ -22,5 +14,5 @@ pub(super) const FAR: u8 = Limit::MOST + 1;
 pub(super) fn pair_number(twist: u16, slice: u16) -> usize
     ensures { result ≡ twist * 495 + slice }
 {
-    twist as usize * SLICES + slice as usize
+    twist as usize * Coordinate::Slice.count() + slice as usize
 }

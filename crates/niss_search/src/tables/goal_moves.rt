@@ -10,7 +10,7 @@ ghost use Rattle.niss_search.specs.declared.tables.position.Coordinates.{Coordin
 ghost use Rattle.niss_search.specs.declared.tables.position.Coordinates.TheVariants.{Flip, TwistAndSlice};
 ghost use Rattle.niss_cube.specs.declared.cube.coordinate.Coordinate.TheVariants as coordinate;
 
-use super::entries::{FLIPS, SLICES, TWISTS, pair_number};
+use super::entries::pair_number;
 use super::move_table::{MOST_TURNS, MoveTable, Row};
 use super::position::Coordinates;
 use niss_cube::{Axis, Coordinate, OutOfMemory, Step, TurnTable};
@@ -118,12 +118,12 @@ impl<A: Allocator> GoalMoves for EdgeMoves<A> {
 
     #[tactic(auto, unfolding(crate::specs::Entries::count_for))]
     fn entries(&self) -> usize {
-        FLIPS
+        Coordinate::Flip.count()
     }
 
     #[tactic(auto, unfolding(crate::specs::Filling::row_length))]
     fn row_length(&self) -> usize {
-        FLIPS
+        Coordinate::Flip.count()
     }
 
     fn starts(&self, _row: usize) -> Starts {
@@ -238,12 +238,12 @@ impl<A: Allocator> GoalMoves for DominoMoves<A> {
 
     #[tactic(auto, unfolding(crate::specs::Entries::count_for))]
     fn entries(&self) -> usize {
-        TWISTS * SLICES
+        Coordinate::Twist.count() * Coordinate::Slice.count()
     }
 
     #[tactic(auto, unfolding(crate::specs::Filling::row_length))]
     fn row_length(&self) -> usize {
-        SLICES
+        Coordinate::Slice.count()
     }
 
     #[tactic(auto, unfolding(crate::specs::Filling::row_length, crate::specs::Entries::count_for))]
@@ -265,8 +265,8 @@ impl<A: Allocator> GoalMoves for DominoMoves<A> {
     #[tactic(auto, unfolding(crate::specs::Entries::count_for))]
     fn state_at(&self, entry: usize) -> PairState {
         PairState {
-            twist: (entry / SLICES) as u16,
-            slice: (entry % SLICES) as u16,
+            twist: (entry / Coordinate::Slice.count()) as u16,
+            slice: (entry % Coordinate::Slice.count()) as u16,
         }
     }
 
