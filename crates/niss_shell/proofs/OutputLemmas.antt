@@ -9,7 +9,7 @@ use Rattle.niss_shell.specs.Output.{none_line, solution_line, solve_text, count_
 use Rattle.niss_shell.specs.Engine.{output_state, pending_state, Writes, Refuses, WritesOrRefuses, Delivers, TakesLine, RefusesLine}
 use Rattle.niss_shell.specs.declared.device.DeviceFault.{DeviceFault}
 use Rattle.niss_shell.specs.declared.output.Output.{Output}
-use Rattle.niss_shell.proofs.PendingLemmas.{behind, then_sent, waits}
+use Rattle.niss_shell.proofs.PendingLemmas.{after_what_waited, then_sent, waits}
 use Rattle.niss_shell.proofs.StateLemmas.{writes_nothing, writes_more, writes_as, refuses_more, refuses_front, refuses_as}
 
 -- what a text does to an output, as a sink says it
@@ -38,7 +38,7 @@ line_sent state r line text old mid new e none first then = λ works looks.
     let b = output_state state mid looks in
     let c = output_state state new looks in
     let put = pending_state (state mid.target.now) text looks in
-    behind r line 0 0 a b c sent
+    after_what_waited r line 0 0 a b c sent
     (then_sent r line 0 0 b put c
     (waits line mid.pending.items text (state mid.target.now) looks (e ∙ ap (λ p. p ++ line) (sym none)) sent.works) (then sent.works looks))
 
