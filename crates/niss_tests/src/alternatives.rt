@@ -1,7 +1,8 @@
 //! Steps with alternatives: an edge orientation on any axis, and a domino reduction on either of two.
-use crate::runs::Run;
+use crate::runs::{Run, check_all};
+use crate::searches::build;
 use niss_cube::Step;
-use niss_search::{Meter, Tables};
+use niss_search::Meter;
 use std::test::Fail;
 
 #[test]
@@ -45,9 +46,7 @@ fn edges_on_any_axis(rt: HostRuntime) -> Result<(), Fail> {
             "length 5 solutions 28 nodes 582\n",
         ),
     ];
-    for case in runs {
-        case.check(&rt, rt.alloc())?;
-    }
+    check_all(&rt, rt.alloc(), &runs)?;
     Ok(())
 }
 
@@ -88,9 +87,7 @@ fn dominoes_on_either_axis(rt: HostRuntime) -> Result<(), Fail> {
         ),
         Run::good(&["solve", "dr-eoud", "7", "F R"], b"", "R (1)\nR' (1)\n\n"),
     ];
-    for case in runs {
-        case.check(&rt, rt.alloc())?;
-    }
+    check_all(&rt, rt.alloc(), &runs)?;
     Ok(())
 }
 
@@ -113,9 +110,7 @@ fn edges_must_be_oriented_for_a_domino(rt: HostRuntime) -> Result<(), Fail> {
             1,
         ),
     ];
-    for case in runs {
-        case.check(&rt, rt.alloc())?;
-    }
+    check_all(&rt, rt.alloc(), &runs)?;
     Ok(())
 }
 
@@ -129,7 +124,7 @@ fn each_alternative_has_its_table(rt: HostRuntime) {
         (Step::DrEoud, 30_311_820),
     ] {
         let mut meter = Meter::new();
-        assert!(rt; Tables::build(rt.alloc(), step, &mut meter).is_ok());
+        build(&rt, rt.alloc(), step, &mut meter);
         assert_eq!(rt; meter.count(), ticks, "{}", step.name());
     }
 }

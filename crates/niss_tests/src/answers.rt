@@ -1,5 +1,5 @@
 //! Commands that answer each line: what a run writes, reports and answers.
-use crate::runs::{Run, USAGE};
+use crate::runs::{Run, USAGE, check_all};
 use std::alloc::{AllocError, Global};
 use std::test::Fail;
 
@@ -51,9 +51,7 @@ fn invert(rt: HostRuntime) -> Result<(), Fail> {
             status: 1,
         },
     ];
-    for case in runs {
-        case.check(&rt, rt.alloc())?;
-    }
+    check_all(&rt, rt.alloc(), &runs)?;
     Ok(())
 }
 
@@ -80,9 +78,7 @@ fn unniss(rt: HostRuntime) -> Result<(), Fail> {
             status: 1,
         },
     ];
-    for case in runs {
-        case.check(&rt, rt.alloc())?;
-    }
+    check_all(&rt, rt.alloc(), &runs)?;
     Ok(())
 }
 
@@ -103,9 +99,7 @@ fn cleanup(rt: HostRuntime) -> Result<(), Fail> {
         Run::good(&["cleanup", "D U D'"], b"", "U\n"),
         Run::good(&["cleanup", "R2'"], b"", "R2\n"),
     ];
-    for case in runs {
-        case.check(&rt, rt.alloc())?;
-    }
+    check_all(&rt, rt.alloc(), &runs)?;
     Ok(())
 }
 
@@ -146,9 +140,7 @@ fn print(rt: HostRuntime) -> Result<(), Fail> {
             "UBULURUFURURFRBRDRFUFLFRFDFDFDLDRDBDLULBLFLDLBUBRBLBDB\n",
         ),
     ];
-    for case in runs {
-        case.check(&rt, rt.alloc())?;
-    }
+    check_all(&rt, rt.alloc(), &runs)?;
     Ok(())
 }
 
@@ -163,15 +155,21 @@ fn turns(alloc: Global, count: u32) -> Result<String, AllocError> {
 
 const TOO_MANY: &str = "nissy: line 1, column 257: more than 256 moves\n";
 
-#[test]
-fn most_moves(rt: HostRuntime) -> Result<(), Fail> {
-    let alloc = rt.alloc();
-    let (most, more) = (turns(alloc, 256)?, turns(alloc, 257)?);
+/// The inverse of the line of most turns.
+fn inverses(alloc: Global) -> Result<String, AllocError> {
     let mut inverses = String::from_str(alloc, "U'")?;
     for _ in 1..256u32 {
         inverses.push_str(" U'")?;
     }
     inverses.push('\n')?;
+    Ok(inverses)
+}
+
+#[test]
+fn most_moves(rt: HostRuntime) -> Result<(), Fail> {
+    let alloc = rt.alloc();
+    let (most, more) = (turns(alloc, 256)?, turns(alloc, 257)?);
+    let inverses = inverses(alloc)?;
     for (command, moves, output, error, status) in [
         ("invert", most.as_str(), inverses.as_str(), "", 0),
         ("cleanup", most.as_str(), "\n", "", 0),

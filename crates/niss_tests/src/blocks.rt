@@ -8,7 +8,12 @@ use std::test::Fail;
 const BLOCK: usize = 4096;
 
 /// Some text, again and again, and what stands after it.
-fn repeated(alloc: Global, text: &[u8], count: usize, end: &[u8]) -> Result<Vec<u8>, AllocError> {
+pub fn repeated(
+    alloc: Global,
+    text: &[u8],
+    count: usize,
+    end: &[u8],
+) -> Result<Vec<u8>, AllocError> {
     let mut all = Vec::new(alloc);
     for _ in 0..count {
         all.extend_from_slice(text)?;

@@ -1,5 +1,5 @@
 //! Solutions a little longer than the least.
-use crate::runs::{Run, USAGE};
+use crate::runs::{Run, USAGE, check_all};
 use std::test::Fail;
 
 /// The edge orientations of at most two turns of the cube after F.
@@ -92,9 +92,7 @@ fn near(rt: HostRuntime) -> Result<(), Fail> {
             1,
         ),
     ];
-    for case in runs {
-        case.check(&rt, rt.alloc())?;
-    }
+    check_all(&rt, rt.alloc(), &runs)?;
     Ok(())
 }
 

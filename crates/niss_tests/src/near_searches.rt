@@ -1,6 +1,6 @@
 //! Searches for solutions that are up to some turns longer than the least.
 use crate::path_sinks::{Comparison, Refused};
-use crate::steps::cube_after;
+use crate::searches::{position_after, tables_of};
 use niss_cube::Step;
 use niss_search::{Limit, Meter, Outcome, Tables, TurnPath, search};
 use std::alloc::Global;
@@ -25,9 +25,7 @@ struct Row {
 }
 
 fn check_row(rt: &impl Abort, tables: &Tables, row: &Row) {
-    let cube = cube_after(rt, row.moves);
-    assert!(rt; tables.step().may_start(&cube), "{}", row.moves);
-    let position = tables.position(&cube);
+    let position = position_after(rt, tables, row.moves);
     let slack = Limit::new(row.slack).expect(rt, "a slack");
     let mut path = TurnPath::new(Limit::new(row.limit).expect(rt, "a limit"));
     let mut meter = Meter::new();
@@ -45,7 +43,7 @@ fn check_row(rt: &impl Abort, tables: &Tables, row: &Row) {
 }
 
 fn check_rows(rt: &impl Abort, alloc: Global, step: Step, rows: &[Row]) {
-    let tables = Tables::build(alloc, step, &mut Meter::new()).expect(rt, "tables");
+    let tables = tables_of(rt, alloc, step);
     for row in rows {
         check_row(rt, &tables, row);
     }
@@ -115,10 +113,8 @@ fn longer_domino_reductions_pass_through_one(rt: HostRuntime) {
 
 #[test]
 fn a_longer_path_is_refused(rt: HostRuntime) {
-    let tables = Tables::build(rt.alloc(), Step::Eofb, &mut Meter::new()).expect(&rt, "tables");
-    let cube = cube_after(&rt, "F");
-    assert!(rt; tables.step().may_start(&cube));
-    let position = tables.position(&cube);
+    let tables = tables_of(&rt, rt.alloc(), Step::Eofb);
+    let position = position_after(&rt, &tables, "F");
     let slack = Limit::new(1).expect(&rt, "a slack");
     let mut path = TurnPath::new(Limit::new(2).expect(&rt, "a limit"));
     let mut meter = Meter::new();

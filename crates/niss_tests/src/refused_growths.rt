@@ -6,7 +6,7 @@ use linked_list_allocator::LocalHeap;
 use niss_cube::{Cube, OutOfMemory, Step};
 use niss_search::{Meter, Tables};
 use niss_shell::run_in;
-use std::alloc::{AllocError, Global};
+use std::alloc::{AllocError, Allocator, Global};
 use std::process::Abort;
 use std::test::Fail;
 
@@ -154,8 +154,32 @@ fn no_growth(rt: HostRuntime) -> Result<(), Fail> {
     Ok(())
 }
 
-/// Builds the tables of a step where a heap has this room, and answers whether that was enough. Where it wasn't, nothing is
-/// kept, and the meter hasn't risen.
+/// Checks that these are the tables of a step, and that they find the solved cube at its goal.
+fn check_tables<A: Allocator>(rt: &impl Abort, tables: &Tables<A>, step: Step) {
+    let cube = Cube::solved();
+    assert!(rt; tables.step() == step);
+    assert!(rt; tables.step().may_start(&cube));
+    let position = tables.position(&cube);
+    assert_eq!(rt; tables.look(&position, &mut Meter::new()), 0);
+}
+
+/// Builds the tables of a step, and answers whether this room was enough. Where there wasn't, the meter hasn't risen.
+fn tables_are_built(rt: &impl Abort, heap: &LocalHeap, step: Step, room: usize) -> bool {
+    let mut fill = Meter::new();
+    match Tables::build_in(heap, step, &mut fill) {
+        Ok(tables) => {
+            check_tables(rt, &tables, step);
+            true
+        }
+        Err(OutOfMemory) => {
+            assert_eq!(rt; fill.count(), 0, "in {room} bytes");
+            false
+        }
+    }
+}
+
+/// Builds the tables of a step where a heap has this room, and answers whether that was enough. Good or not, nothing of them
+/// is left in the heap.
 fn tables_fit(
     rt: &impl Abort,
     heap: &LocalHeap,
@@ -164,21 +188,7 @@ fn tables_fit(
 ) -> Result<bool, AllocError> {
     let filled = filler(heap, room)?;
     let used = heap.used();
-    let mut fill = Meter::new();
-    let fit = match Tables::build_in(heap, step, &mut fill) {
-        Ok(tables) => {
-            let cube = Cube::solved();
-            assert!(rt; tables.step() == step && step.may_start(&cube));
-            let position = tables.position(&cube);
-            assert_eq!(rt; tables.look(&position, &mut Meter::new()), 0);
-            true
-        }
-        Err(OutOfMemory) => {
-            assert_eq!(rt; fill.count(), 0, "in {room} bytes");
-            false
-        }
-    };
-    // good or not, nothing of it is left in the heap
+    let fit = tables_are_built(rt, heap, step, room);
     assert_eq!(rt; heap.used(), used, "in {room} bytes");
     drop(filled);
     Ok(fit)

@@ -30,6 +30,11 @@ pub fn words_of(alloc: Global, texts: &[&str]) -> Result<Vec<String>, AllocError
     Ok(words)
 }
 
+/// Checks the bytes that a run wrote.
+pub fn check_bytes(rt: &impl Abort, written: &[u8], wanted: &[u8]) {
+    assert_eq!(rt; written, wanted);
+}
+
 /// What a run writes to.
 #[derive(Drop)]
 pub struct Targets {
@@ -80,8 +85,8 @@ impl<'a> Outcome<'a> {
 
     /// Compares it with what a run answered and what its targets hold.
     pub fn compare(self, rt: &impl Abort, status: u8, out: &Held, err: &Held) {
-        assert_eq!(rt; out.bytes.as_slice(), self.output);
-        assert_eq!(rt; err.bytes.as_slice(), self.error);
+        check_bytes(rt, out.bytes.as_slice(), self.output);
+        check_bytes(rt, err.bytes.as_slice(), self.error);
         assert_eq!(rt; err.flushes, 0);
         assert_eq!(rt; status, self.status);
     }
@@ -182,4 +187,12 @@ impl<'a> Run<'a> {
         assert_eq!(rt; out.flushes, 1);
         Ok(looks.count())
     }
+}
+
+/// Checks each of these runs.
+pub fn check_all(rt: &impl Abort, alloc: Global, runs: &[Run<'_>]) -> Result<(), AllocError> {
+    for run in runs {
+        run.check(rt, alloc)?;
+    }
+    Ok(())
 }

@@ -1,6 +1,6 @@
 //! Rows of the command that writes scrambles.
 use crate::devices::{Bytes, Held};
-use crate::runs::{CANNOT_WRITE, Outcome, Run, Targets, USAGE, words_of};
+use crate::runs::{CANNOT_WRITE, Outcome, Run, Targets, USAGE, check_all, words_of};
 use linked_list_allocator::LocalHeap;
 use std::test::Fail;
 
@@ -36,9 +36,7 @@ fn scramble(rt: HostRuntime) -> Result<(), Fail> {
             GREATEST_SEED,
         ),
     ];
-    for case in runs {
-        case.check(&rt, rt.alloc())?;
-    }
+    check_all(&rt, rt.alloc(), &runs)?;
     Ok(())
 }
 

@@ -1,10 +1,34 @@
 //! Searches: what is handed out, how often positions are looked at, and what a refusal leaves.
-use crate::path_sinks::{Comparison, Refused};
+ghost use Rattle.niss_search.specs.Cubes.{IsPosition};
+
+use crate::path_sinks::Comparison;
 use crate::steps::cube_after;
 use niss_cube::Step;
-use niss_search::{Limit, Meter, Outcome, Tables, TurnPath, next_at, search};
+use niss_search::{Limit, Meter, Outcome, Position, Tables, TurnPath, next_at, search};
 use std::alloc::Global;
 use std::process::Abort;
+
+/// Builds the tables of a step, with a meter that counted less than 1,000,000.
+pub fn build(rt: &impl Abort, alloc: Global, step: Step, meter: &mut Meter) -> Tables {
+    assert!(rt; meter.count() < 1_000_000);
+    let tables = Tables::build(alloc, step, meter).expect(rt, "tables");
+    assert!(rt; tables.step() == step);
+    tables
+}
+
+/// The tables of a step.
+pub fn tables_of(rt: &impl Abort, alloc: Global, step: Step) -> Tables {
+    build(rt, alloc, step, &mut Meter::new())
+}
+
+/// The position of the solved cube after some moves, on which the step of the tables may start.
+pub fn position_after(rt: &impl Abort, tables: &Tables, moves: &str) -> Position
+    ensures { IsPosition tables.now result }
+{
+    let cube = cube_after(rt, moves);
+    assert!(rt; tables.step().may_start(&cube), "{moves}");
+    tables.position(&cube)
+}
 
 /// A search from the solved cube after some moves: the paths that are wanted and the looks.
 #[derive(Drop)]
@@ -18,12 +42,10 @@ struct Row {
 
 /// Searches with a new meter.
 fn check_row(rt: &impl Abort, tables: &Tables, row: &Row) {
-    let cube = cube_after(rt, row.moves);
-    assert!(rt; tables.step().may_start(&cube), "{}", row.moves);
+    let position = position_after(rt, tables, row.moves);
     let mut path = TurnPath::new(Limit::new(row.limit).expect(rt, "a limit"));
     let mut meter = Meter::new();
     let mut sink = Comparison::new(row.paths, 1000);
-    let position = tables.position(&cube);
     let outcome = Outcome {
         length: row.length,
         solutions: row.paths.len() as u128,
@@ -44,8 +66,7 @@ fn check_row(rt: &impl Abort, tables: &Tables, row: &Row) {
 }
 
 fn check_rows(rt: &impl Abort, alloc: Global, step: Step, rows: &[Row]) {
-    let tables = Tables::build(alloc, step, &mut Meter::new()).expect(rt, "tables");
-    assert!(rt; tables.step() == step);
+    let tables = tables_of(rt, alloc, step);
     for row in rows {
         check_row(rt, &tables, row);
     }
@@ -133,30 +154,49 @@ fn domino_reduction(rt: HostRuntime) {
     );
 }
 
+/// Looks at the solved cube after some moves, with a meter that counted less than 3.
+fn look_after(rt: &impl Abort, tables: &Tables, moves: &str, meter: &mut Meter) -> u8 {
+    let position = position_after(rt, tables, moves);
+    assert!(rt; meter.count() < 3);
+    tables.look(&position, meter)
+}
+
 #[test]
 fn looks_give_distances(rt: HostRuntime) {
-    let tables = Tables::build(rt.alloc(), Step::DrudEofb, &mut Meter::new()).expect(&rt, "tables");
+    let tables = tables_of(&rt, rt.alloc(), Step::DrudEofb);
     let mut meter = Meter::new();
     for (moves, distance) in [("", 0u8), ("R", 1), ("R U", 2)] {
-        let cube = cube_after(&rt, moves);
-        assert!(rt; tables.step().may_start(&cube), "{moves}");
-        let position = tables.position(&cube);
-        assert!(rt; meter.count() < 3);
-        assert_eq!(rt; tables.look(&position, &mut meter), distance, "{moves}");
+        assert_eq!(rt;
+            look_after(&rt, &tables, moves, &mut meter),
+            distance,
+            "{moves}"
+        );
     }
     assert_eq!(rt; meter.count(), 3u128);
 }
 
 #[test]
 fn a_fill_counts_each_turn_it_tries(rt: HostRuntime) {
-    for step in [Step::Eofb, Step::Eorl, Step::Eoud] {
+    for (step, ticks) in [
+        (Step::Eofb, 36_864u128),
+        (Step::Eorl, 36_864),
+        (Step::Eoud, 36_864),
+        (Step::DrudEofb, 15_155_910),
+    ] {
         let mut meter = Meter::new();
-        assert!(rt; Tables::build(rt.alloc(), step, &mut meter).is_ok());
-        assert_eq!(rt; meter.count(), 36_864u128);
+        build(&rt, rt.alloc(), step, &mut meter);
+        assert_eq!(rt; meter.count(), ticks);
     }
+}
+
+/// What a meter has counted before a fill stays in its count.
+#[test]
+fn a_fill_adds_to_its_meter(rt: HostRuntime) {
     let mut meter = Meter::new();
-    assert!(rt; Tables::build(rt.alloc(), Step::DrudEofb, &mut meter).is_ok());
-    assert_eq!(rt; meter.count(), 15_155_910u128);
+    for ticks in [36_864u128, 73_728, 110_592] {
+        build(&rt, rt.alloc(), Step::Eofb, &mut meter);
+        assert_eq!(rt; meter.count(), ticks);
+    }
 }
 
 #[test]
@@ -189,12 +229,10 @@ fn limits_reach_20(rt: HostRuntime) {
 
 /// The looks of a search whose sink refuses all paths after the first `room`, at the cube that both F and B disorient.
 fn looks_until_refused(rt: &impl Abort, tables: &Tables, room: usize) -> u128 {
-    let cube = cube_after(rt, "F B");
-    assert!(rt; tables.step().may_start(&cube));
+    let position = position_after(rt, tables, "F B");
     let mut path = TurnPath::new(Limit::new(5).expect(rt, "a limit"));
     let mut meter = Meter::new();
     let mut sink = Comparison::new(&["F B", "F B'", "F' B", "F' B'"], room);
-    let position = tables.position(&cube);
     let answer = search(
         tables,
         &position,
@@ -203,8 +241,7 @@ fn looks_until_refused(rt: &impl Abort, tables: &Tables, room: usize) -> u128 {
         &mut meter,
         &mut sink,
     );
-    let fault = if room < 4 { Some(Refused) } else { None };
-    assert_eq!(rt; answer.err(), fault, "{room} paths");
+    assert_eq!(rt; answer.is_err(), room < 4, "{room} paths");
     assert!(rt; sink.is_same, "{room} paths");
     assert_eq!(rt; sink.taken, room, "{room} paths");
     assert!(rt; path.turns().is_empty(), "{room} paths");
@@ -214,7 +251,7 @@ fn looks_until_refused(rt: &impl Abort, tables: &Tables, room: usize) -> u128 {
 
 #[test]
 fn each_path_is_refused(rt: HostRuntime) {
-    let tables = Tables::build(rt.alloc(), Step::Eofb, &mut Meter::new()).expect(&rt, "tables");
+    let tables = tables_of(&rt, rt.alloc(), Step::Eofb);
     let mut looks = looks_until_refused(&rt, &tables, 4);
     assert_eq!(rt; looks, 75u128);
     for room in [3, 2, 1, 0] {

@@ -1,5 +1,5 @@
 //! Rows of the commands that search, and of the command that lists the steps.
-use crate::runs::{Run, STEPS, USAGE};
+use crate::runs::{Run, STEPS, USAGE, check_all};
 use std::test::Fail;
 
 #[test]
@@ -44,9 +44,7 @@ fn solve(rt: HostRuntime) -> Result<(), Fail> {
             status: 1,
         },
     ];
-    for case in runs {
-        case.check(&rt, rt.alloc())?;
-    }
+    check_all(&rt, rt.alloc(), &runs)?;
     Ok(())
 }
 
@@ -58,9 +56,7 @@ fn axes_follow_the_centres(rt: HostRuntime) -> Result<(), Fail> {
         Run::good(&["solve", "eofb", "3", "Fw"], b"", "B (1)\nB' (1)\n\n"),
         Run::good(&["solve", "eofb", "3", "(F)"], b"", "F (1)\nF' (1)\n\n"),
     ];
-    for case in runs {
-        case.check(&rt, rt.alloc())?;
-    }
+    check_all(&rt, rt.alloc(), &runs)?;
     Ok(())
 }
 
@@ -87,9 +83,7 @@ fn start_does_not_hold(rt: HostRuntime) -> Result<(), Fail> {
             status: 1,
         },
     ];
-    for case in runs {
-        case.check(&rt, rt.alloc())?;
-    }
+    check_all(&rt, rt.alloc(), &runs)?;
     Ok(())
 }
 
@@ -137,9 +131,7 @@ fn count(rt: HostRuntime) -> Result<(), Fail> {
             "length 0 solutions 1 nodes 1\n",
         ),
     ];
-    for case in runs {
-        case.check(&rt, rt.alloc())?;
-    }
+    check_all(&rt, rt.alloc(), &runs)?;
     Ok(())
 }
 
@@ -150,21 +142,20 @@ fn looks(rt: HostRuntime) -> Result<(), Fail> {
         b"",
         "F B (2)\nF B' (2)\nF' B (2)\nF' B' (2)\n\n",
     );
-    assert_eq!(rt; solve.check(&rt, rt.alloc())?, 75);
     let count = Run::good(
         &["count", "eofb", "5", "F B"],
         b"",
         "length 2 solutions 4 nodes 75\n",
     );
-    assert_eq!(rt; count.check(&rt, rt.alloc())?, 75);
     let two_lines = Run::good(
         &["count", "eofb", "7"],
         b"F\nR",
         "length 1 solutions 2 nodes 20\nlength 0 solutions 1 nodes 1\n",
     );
-    assert_eq!(rt; two_lines.check(&rt, rt.alloc())?, 21);
     let invert = Run::good(&["invert", "R"], b"", "R'\n");
-    assert_eq!(rt; invert.check(&rt, rt.alloc())?, 0);
+    for (case, looks) in [(solve, 75u128), (count, 75), (two_lines, 21), (invert, 0)] {
+        assert_eq!(rt; case.check(&rt, rt.alloc())?, looks);
+    }
     Ok(())
 }
 

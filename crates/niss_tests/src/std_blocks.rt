@@ -1,9 +1,12 @@
 //! Runs over readers and writers of `std::io` that move blocks, and that fail with each kind of error.
-use crate::devices::{Bytes, Held};
-use crate::runs::{CANNOT_READ, CANNOT_WRITE, Outcome, words_of};
-use niss_shell::{FromReader, Meter, ToWriter, run};
+use crate::blocks::repeated;
+use crate::devices::Held;
+use crate::runs::{CANNOT_READ, CANNOT_WRITE, Outcome, check_bytes, words_of};
+use crate::std_streams::run_over;
+use niss_shell::FromReader;
 use std::alloc::{AllocError, Global};
 use std::io;
+use std::io::Cursor;
 use std::process::Abort;
 use std::test::Fail;
 
@@ -136,7 +139,15 @@ fn each_kind_of_failed_read(rt: HostRuntime) -> Result<(), Fail> {
     Ok(())
 }
 
-/// Runs 700 empty lines and a long one over this writer, which are to have this status and this error text.
+/// 700 empty lines and a long one.
+fn lines(alloc: Global) -> Result<Vec<u8>, AllocError> {
+    let mut lines = repeated(alloc, b"\n", 700, b"")?;
+    let long = repeated(alloc, b"Rw'", 256, b"\n")?;
+    lines.extend_from_slice(long.as_slice())?;
+    Ok(lines)
+}
+
+/// Runs these lines over this writer, which are to have this status and this error text.
 fn check_flushed(
     rt: &impl Abort,
     alloc: Global,
@@ -144,44 +155,36 @@ fn check_flushed(
     status: u8,
     error: &[u8],
 ) -> Result<(), AllocError> {
-    let mut line = Vec::new(alloc);
-    for _ in 0..700 {
-        line.push(b'\n')?;
-    }
-    for _ in 0..256 {
-        line.extend_from_slice(b"Rw'")?;
-    }
-    line.push(b'\n')?;
+    let lines = lines(alloc)?;
     let words = words_of(alloc, &["unniss"])?;
-    let mut input = Bytes::new(line.as_slice(), 4096);
+    let reader = Cursor::new(lines.as_slice());
     let mut err = Held::new(alloc, 1000);
-    let answered = run(
-        alloc,
-        words.as_slice(),
-        &mut input,
-        &mut ToWriter::new(writer),
-        &mut err,
-        &mut Meter::new(),
-    );
-    assert_eq!(rt; err.bytes.as_slice(), error);
+    let answered = run_over(alloc, &words, reader, writer, &mut err);
+    check_bytes(rt, err.bytes.as_slice(), error);
     assert_eq!(rt; answered, status);
     Ok(())
 }
 
-/// Long pieces are taken whole, and a flush that fails with any kind of error is reported and not tried again.
+/// How many bytes these lines give: 256 words of 3 letters with single spaces, and a line feed for each line.
+const FLUSHED: usize = 700 + 256 * 4;
+
 #[test]
-fn each_kind_of_failed_flush(rt: HostRuntime) -> Result<(), Fail> {
-    // 256 words of 3 letters with single spaces, and a line feed for each line
-    let bytes = 700 + 256 * 4;
+fn long_pieces_are_taken_whole(rt: HostRuntime) -> Result<(), Fail> {
     let mut writer = Flushed::new(None);
     check_flushed(&rt, rt.alloc(), &mut writer, 0, b"")?;
-    assert_eq!(rt; writer.bytes, bytes);
-    assert_eq!(rt; writer.longest, bytes);
+    assert_eq!(rt; writer.bytes, FLUSHED);
+    assert_eq!(rt; writer.longest, FLUSHED);
     assert_eq!(rt; writer.flushes, 1);
+    Ok(())
+}
+
+/// A flush that fails with any kind of error is reported and not tried again.
+#[test]
+fn each_kind_of_failed_flush(rt: HostRuntime) -> Result<(), Fail> {
     for kind in KINDS {
         let mut writer = Flushed::new(Some(kind));
         check_flushed(&rt, rt.alloc(), &mut writer, 3, CANNOT_WRITE)?;
-        assert_eq!(rt; writer.bytes, bytes);
+        assert_eq!(rt; writer.bytes, FLUSHED);
         assert_eq!(rt; writer.flushes, 1);
     }
     Ok(())

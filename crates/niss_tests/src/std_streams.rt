@@ -1,8 +1,8 @@
 //! Runs over readers and writers of `std::io`.
 use crate::devices::Held;
-use crate::runs::{CANNOT_READ, CANNOT_WRITE, Outcome, USAGE, words_of};
+use crate::runs::{CANNOT_READ, CANNOT_WRITE, Outcome, USAGE, check_bytes, words_of};
 use crate::std_blocks::KINDS;
-use niss_shell::{FromReader, Meter, ToWriter, run};
+use niss_shell::{FromReader, Meter, Target, ToWriter, run};
 use std::alloc::{AllocError, Global};
 use std::io;
 use std::io::{Cursor, Read};
@@ -130,22 +130,35 @@ impl io::Write for CountingWriter {
     }
 }
 
+/// Runs the words over this reader and this writer.
+pub fn run_over<R: io::Read + Drop, W: io::Write + Drop, E: Target>(
+    alloc: Global,
+    words: &[String],
+    reader: R,
+    writer: W,
+    err: &mut E,
+) -> u8 {
+    run(
+        alloc,
+        words,
+        &mut FromReader::new(reader),
+        &mut ToWriter::new(writer),
+        err,
+        &mut Meter::new(),
+    )
+}
+
 #[test]
 fn all_works(rt: HostRuntime) -> Result<(), Fail> {
     let words = words_of(rt.alloc(), &["invert"])?;
     let mut output = Vec::new(rt.alloc());
     let mut error = Vec::new(rt.alloc());
-    let status = run(
-        rt.alloc(),
-        words.as_slice(),
-        &mut FromReader::new(Cursor::new(b"R U\n".as_slice())),
-        &mut ToWriter::new(&mut output),
-        &mut ToWriter::new(&mut error),
-        &mut Meter::new(),
-    );
+    let reader = Cursor::new(b"R U\n".as_slice());
+    let mut err = ToWriter::new(&mut error);
+    let status = run_over(rt.alloc(), &words, reader, &mut output, &mut err);
     assert_eq!(rt; status, 0);
-    assert_eq!(rt; output.as_slice(), b"U' R'\n".as_slice());
-    assert_eq!(rt; error.as_slice(), b"".as_slice());
+    check_bytes(&rt, output.as_slice(), b"U' R'\n");
+    check_bytes(&rt, error.as_slice(), b"");
     Ok(())
 }
 
@@ -166,6 +179,22 @@ fn each_read_fails_once(rt: HostRuntime) -> Result<(), Fail> {
             assert_eq!(rt; reader.calls, before + 1, "after {before} reads");
         }
     }
+    Ok(())
+}
+
+/// A read that gives few bytes is followed by one more, up to the one that gives none.
+#[test]
+fn short_reads_are_counted(rt: HostRuntime) -> Result<(), Fail> {
+    let words = words_of(rt.alloc(), &["invert"])?;
+    let mut reader = FailingReader::new(b"R\nU\nF", 0, io::ErrorKind::Other);
+    Outcome::good(b"R'\nU'\nF'\n").check_input(
+        &rt,
+        rt.alloc(),
+        rt.alloc(),
+        &words,
+        &mut FromReader::new(&mut reader),
+    );
+    assert_eq!(rt; reader.calls, 6);
     Ok(())
 }
 
@@ -198,15 +227,9 @@ impl<'a> WriterRun<'a> {
     ) -> Result<(), AllocError> {
         let words = words_of(alloc, self.words)?;
         let mut err = Held::new(alloc, 1000);
-        let status = run(
-            alloc,
-            words.as_slice(),
-            &mut FromReader::new(Cursor::new(self.input)),
-            &mut ToWriter::new(writer),
-            &mut err,
-            &mut Meter::new(),
-        );
-        assert_eq!(rt; err.bytes.as_slice(), self.error);
+        let reader = Cursor::new(self.input);
+        let status = run_over(alloc, &words, reader, writer, &mut err);
+        check_bytes(rt, err.bytes.as_slice(), self.error);
         assert_eq!(rt; status, self.status);
         Ok(())
     }

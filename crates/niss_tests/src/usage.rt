@@ -1,7 +1,24 @@
 //! Each fault of wrong words, in the order in which they are looked for.
 use crate::runs::words_of;
 use niss_shell::{UsageFault, parse_words};
+use std::alloc::{AllocError, Global};
+use std::process::Abort;
 use std::test::Fail;
+
+/// Checks that the words have this fault.
+fn check_fault(
+    rt: &impl Abort,
+    alloc: Global,
+    texts: &[&str],
+    fault: UsageFault,
+) -> Result<(), AllocError> {
+    let words = words_of(alloc, texts)?;
+    match parse_words(words.as_slice()) {
+        Ok(_) => assert!(rt; false, "no fault"),
+        Err(found) => assert_eq!(rt; found, fault),
+    }
+    Ok(())
+}
 
 #[test]
 fn each_fault_of_words(rt: HostRuntime) -> Result<(), Fail> {
@@ -39,11 +56,7 @@ fn each_fault_of_words(rt: HostRuntime) -> Result<(), Fail> {
         (&["near", "eofb", "x", "y"], UsageFault::BadNumber),
     ];
     for (texts, fault) in faults {
-        let words = words_of(rt.alloc(), texts)?;
-        match parse_words(words.as_slice()) {
-            Ok(_) => assert!(rt; false, "no fault"),
-            Err(found) => assert_eq!(rt; found, fault),
-        }
+        check_fault(&rt, rt.alloc(), texts, fault)?;
     }
     Ok(())
 }
