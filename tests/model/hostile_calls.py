@@ -1,0 +1,161 @@
+"""Hostile use: system calls refused in turn, by strace. Where there is no strace, or it may not trace, nothing is tried."""
+import ctypes
+import re
+import shutil
+import subprocess
+
+import model
+from hostile_input import lines
+from model import CANNOT_WRITE, NO_MEMORY
+from trial import TIMEOUT
+
+CALL = re.compile(r"^(?:\[pid +\d+\] |\d+ +)?(\w+)\((.*)\) += (-?\d+|\?|0x[0-9a-f]+)(.*)$")
+LIBC = ctypes.CDLL(None)
+ADDRESSES_STAY = 0x0040000
+GROWING = ("mmap", "brk", "mremap")
+# Refused by a way of their own, or not to be refused.
+NOT_HERE = ("read", "write", "execve", "exit", "exit_group", "brk")
+MOST_WRITES = 60
+
+
+def same_addresses():
+    """The same addresses in each run, so that a refused brk can answer the break that stood."""
+    LIBC.personality(ADDRESSES_STAY)
+
+
+class Traced:
+    """A run under strace, with calls refused: what it answered, and its calls as (name, how many of that name, arguments, answer)."""
+
+    def __init__(self, trial, words, data, *refusals):
+        options = [option for refusal in refusals for option in ("-e", "inject=" + refusal)]
+        command = ["strace", "-f", "-a1", "-s0", "-o", trial.path("calls")] + options + [trial.program] + words
+        with trial.input_file(data) as file:
+            done = subprocess.run(command, stdin=file, capture_output=True, timeout=TIMEOUT, preexec_fn=same_addresses, check=False)
+        self.answer, self.calls, seen = (done.stdout, done.stderr, done.returncode), [], {}
+        with open(trial.path("calls"), encoding="utf-8", errors="replace") as file:
+            for name, arguments, answer, _ in [found.groups() for found in map(CALL.match, file) if found]:
+                seen[name] = seen.get(name, 0) + 1
+                self.calls.append((name, seen[name], arguments, answer))
+
+    def on_stream(self, wanted, stream):
+        """The calls of a name on a stream: how many of that name, and how many bytes."""
+        return [(nth, -1 if answer == "?" else int(answer, 0)) for name, nth, arguments, answer in self.calls
+                if name == wanted and arguments.split(",")[0].strip() == str(stream)]
+
+    def own(self):
+        """The index of the program's first own call: there it sets SIGPIPE aside."""
+        return next(at for at, call in enumerate(self.calls) if call[0] == "rt_sigaction" and "SIGPIPE" in call[2])
+
+
+def is_there(trial):
+    """Whether strace is here and may trace."""
+    return shutil.which("strace") is not None and Traced(trial, ["steps"], b"").answer[2] == 0
+
+
+def refused_reads(trial, words, data, errors):
+    """Each read refused: the answers to the lines before, and that it cannot read."""
+    given = 0
+    for nth, size in Traced(trial, words, data).on_stream("read", 0):
+        for error in errors:
+            got = Traced(trial, words, data, "read:error=%s:when=%d" % (error, nth)).answer
+            trial.check("a read refused", words + [error, str(nth)], data, got, model.run(words, data[:given], True))
+        given += max(size, 0)
+
+
+def refused_writes(trial, words, data, errors):
+    """Each write refused, and each taking nothing: what was written before stays a beginning of the output."""
+    whole, sent = model.run(words, data), 0
+    writes = Traced(trial, words, data).on_stream("write", 1)
+    for at, (nth, size) in enumerate(writes):
+        if at < MOST_WRITES or at >= len(writes) - 3:
+            for how in ["error=" + error for error in errors] + ["retval=0"]:
+                got = Traced(trial, words, data, "write:%s:when=%d" % (how, nth)).answer
+                trial.check("a write refused", words + [how, str(nth)], data, got, (whole[0][:sent], CANNOT_WRITE, 3))
+            short_writes(trial, words, data, nth, sent, size)
+        sent += size
+    trial.check("writes counted", words, data, (sent,), (len(whole[0]),))
+
+
+def short_writes(trial, words, data, nth, sent, size):
+    """A write that takes a part only: the rest is written by the next one. What strace says was taken is lost."""
+    output, fault, status = model.run(words, data)
+    for taken in {1, size // 2, size - 1} - {0, size, -1}:
+        got = Traced(trial, words, data, "write:retval=%d:when=%d" % (taken, nth)).answer
+        expected = output[:sent] + output[sent + taken:], fault, status
+        trial.check("a short write", words + [str(nth), str(taken)], data, got, expected)
+
+
+def refused_faults(trial, words):
+    """Each write of the text of a fault refused: output and status stay, the text is a beginning."""
+    whole = model.run(words)
+    for nth, _ in Traced(trial, words, b"").on_stream("write", 2):
+        for how in ("error=EIO", "error=EPIPE", "error=EINTR", "retval=0"):
+            output, fault, status = Traced(trial, words, b"", "write:%s:when=%d" % (how, nth)).answer
+            got = output, whole[1].startswith(fault), status
+            trial.check("a text of faults refused", words + [how, str(nth)], b"", got, (whole[0], True, whole[2]))
+
+
+def judge(trial, kind, words, data, traced, how):
+    """The whole answer, or out of memory with nothing read and nothing written."""
+    expected = model.run(words, data)
+    if traced.answer == (b"", NO_MEMORY, 3) and not traced.on_stream("read", 0):
+        expected = traced.answer
+    trial.check(kind, words + [how], data, traced.answer, expected)
+
+
+def refused_others(trial, words, data):
+    """Each other call of the program's own refused, once and from then on. What the system's loader does before isn't judged."""
+    traced = Traced(trial, words, data)
+    for name, nth, _, _ in traced.calls[traced.own():]:
+        if name in NOT_HERE:
+            continue
+        for error in ["ENOMEM"] if name in ("mmap", "mremap", "munmap", "mprotect") else ["EPERM", "EINTR", "ENOSYS"]:
+            for how in ("%s:error=%s:when=%d" % (name, error, nth), "%s:error=%s:when=%d+" % (name, error, nth)):
+                judge(trial, "another call refused", words, data, Traced(trial, words, data, how), how)
+
+
+def refused_growths(trial, words, data):
+    """Each growth of memory refused, once and from then on: a refused brk answers the old break, as the system does."""
+    traced = Traced(trial, words, data)
+    own, old_break, seen = traced.own(), "0", {"brk": 0, "mmap": 0, "mremap": 0}
+    for at, (name, nth, arguments, answer) in enumerate(traced.calls):
+        if at >= own and name in GROWING and arguments != "NULL":
+            from_here = ["brk:retval=%s:when=%d+" % (old_break, seen["brk"] + 1)]
+            from_here += ["%s:error=ENOMEM:when=%d+" % (call, seen[call] + 1) for call in ("mmap", "mremap")]
+            judge(trial, "every growth from one on refused", words, data, Traced(trial, words, data, *from_here), str(at))
+            once = "brk:retval=%s:when=%d" % (old_break, nth) if name == "brk" else "%s:error=ENOMEM:when=%d" % (name, nth)
+            judge(trial, "one growth refused", words, data, Traced(trial, words, data, once), once)
+        if name in seen:
+            seen[name] = nth
+        if name == "brk":
+            old_break = answer
+
+
+GROWTHS = [(["invert"], b"R U\nF2\n"), (["cleanup"], b"R U\nF2\n"), (["print"], b""), (["steps"], b""),
+           (["scramble", "42", "54", "6", "1"], b""), (["invert", "R U' F2"], b""), (["unniss", " " * 120_000], b""),
+           (["solve", "eofb", "7", "F"], b""), (["solve", "eo", "7"], b"F\n"),
+           (["count", "dr-eofb", "5"], b"R U\n"), (["count", "drud-eorl", "5", "D"], b""), (["near", "dr-eoud", "2", "1", "R"], b""),
+           ([], b""), (["unniss"] + ["R"] * 200, b"")]
+
+
+def calls(trial, draw):
+    """All of these, over a few commands each."""
+    if not is_there(trial):
+        print("skipped: no strace traces here, so no system call is refused")
+        return
+    for words, data, errors in (
+            (["invert"], b"R\nU\nF", ["EIO", "EINTR", "EAGAIN", "EISDIR"]), (["print"], lines(draw, 700, 6)[:9000] + b"\n", ["EIO", "EINTR"]),
+            (["solve", "eofb", "2"], b"F\nB\n(U)\nF", ["EIO"]), (["unniss"], b"R\nq\n", ["EIO"])):
+        refused_reads(trial, words, data, errors)
+    for words, data, errors in (
+            (["solve", "eofb", "5", "F B"], b"", ["EIO", "EINTR", "EAGAIN", "ENOSPC"]), (["invert"], b"R\nU2\n\nM'\nq\n", ["EIO", "EINTR"]),
+            (["scramble", "1", "2", "30", "3"], b"", ["EIO", "ENOSPC"]), (["steps"], b"", ["EIO"]),
+            (["count", "drud-eofb", "5", "R U"], b"", ["EIO"]), (["near", "eo", "2", "1", "F R U"], b"", ["EIO"]),
+            (["cleanup"], lines(draw, 60, 6), ["EIO"]), (["unniss"], "\n".join([" ".join(draw.moves(256))] * 2).encode(), ["EIO"])):
+        refused_writes(trial, words, data, errors)
+    for words in (["invert", "q"], ["solve"], ["solve", "drud-eofb", "5", "F"]):
+        refused_faults(trial, words)
+    for words, data in ((["invert"], b"R U\nF2\n"), (["steps"], b""), (["solve", "eofb", "3"], b"F\n")):
+        refused_others(trial, words, data)
+    for words, data in GROWTHS:
+        refused_growths(trial, words, data)

@@ -1,0 +1,75 @@
+"""Hostile use: each allocation refused, by a library that is loaded first, and less and less memory."""
+import os
+import resource
+import shutil
+import subprocess
+
+import model
+from model import NO_MEMORY
+from trial import TIMEOUT
+
+SOURCE = os.path.join(os.path.dirname(os.path.abspath(__file__)), "refuse.c")
+ALLOCATING = [(["invert"], b"R U\nF2\n"), (["unniss"], b"R\n(U"), (["cleanup"], b"R U\nF2\n"), (["print"], b"R"), (["steps"], b""),
+              (["scramble", "42", "54", "6", "1"], b""), (["invert", "R U' F2"], b""), (["unniss", "R", "(U)", ""], b""), ([], b""),
+              (["solve", "eofb", "7", "F"], b""), (["solve", "eo", "7"], b"F\nR\n"), (["count", "drud-eofb", "5", "R", "U"], b""),
+              (["count", "dr-eofb", "5"], b"R U\n"), (["near", "dr-eoud", "2", "1", "R"], b""), (["near", "eofb", "2", "1"], b"F\n"),
+              (["solve", "drfb-eorl", "3"], b"U\nR\n"), (["solve", "htr", "3", "F"], b"")]
+LIMITED = [(["solve", "eofb", "7"], b"F\n"), (["count", "drud-eofb", "5"], b"R U\n"), (["near", "dr-eofb", "3", "1"], b"\n"),
+           (["invert", "R" + " " * 100_000], b""), (["invert"], b"R\n"), (["scramble", "1", "2", "256", "20"], b"")]
+
+
+def refusing_library(trial):
+    """The library that refuses allocations, or None where no C compiler makes it."""
+    library = trial.path("refuse.so")
+    if shutil.which("cc") is None:
+        return None
+    made = subprocess.run(["cc", "-O1", "-shared", "-fPIC", "-o", library, SOURCE], capture_output=True, check=False)
+    return library if made.returncode == 0 else None
+
+
+def allocating(trial, library, words, data, refused):
+    """What the program answers, how many bytes it read, and how many allocations it made."""
+    with trial.input_file(data) as file, open(trial.path("count"), "wb") as count:
+        environment = {"LD_PRELOAD": library, "REFUSE": refused, "REFUSE_COUNT": str(count.fileno())}
+        done = subprocess.run([trial.program] + words, stdin=file, capture_output=True, timeout=TIMEOUT,
+                              pass_fds=[count.fileno()], env=environment, check=False)
+        read = os.lseek(file.fileno(), 0, os.SEEK_CUR)
+    with open(trial.path("count"), encoding="ascii") as count:
+        text = count.read().strip()
+    return done.stdout, done.stderr, done.returncode, read, int(text) if text else -1
+
+
+def allocations(trial):
+    """Each allocation of a run refused, once and from then on: out of memory, nothing read and nothing written."""
+    library = refusing_library(trial)
+    if library is None:
+        print("skipped: no cc makes a library here, so no allocation is refused")
+        return
+    for words, data in ALLOCATING:
+        *got, _, made = allocating(trial, library, words, data, "0")
+        trial.check("allocations counted", words, data, (tuple(got), made >= 0), (model.run(words, data), True))
+        for nth in range(1, made + 1):
+            for refused in ("%d" % nth, "%d+" % nth):
+                got = allocating(trial, library, words, data, refused)[:4]
+                trial.check("an allocation refused", words + [refused], data, got, (b"", NO_MEMORY, 3, 0))
+
+
+def is_before_main(done):
+    """Whether the system ended the program, or its loader refused, before it began."""
+    return not done.stdout and (done.returncode < 0 or done.returncode == 127 and b"loading shared libraries" in done.stderr)
+
+
+def address_space(trial):
+    """Less and less address space: the whole answer, or out of memory with nothing written."""
+    for words, data in LIMITED:
+        for kilobytes in list(range(200, 8000, 400)) + [10_000, 20_000, 60_000]:
+            def cut():
+                resource.setrlimit(resource.RLIMIT_AS, (kilobytes * 1024, kilobytes * 1024))
+            try:
+                done = subprocess.run([trial.program] + words, input=data, capture_output=True, timeout=TIMEOUT,
+                                      preexec_fn=cut, check=False)
+            except (OSError, subprocess.SubprocessError):
+                continue
+            got = done.stdout, done.stderr, done.returncode
+            is_refused = got == (b"", NO_MEMORY, 3) or is_before_main(done)
+            trial.check("address space limited", words + [str(kilobytes)], data, got, got if is_refused else model.run(words, data))

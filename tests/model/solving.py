@@ -1,0 +1,276 @@
+"""Steps of solving for the independent model: what they reach, how far a position is from it, and every solution.
+
+A step is reached where sets of sticker places are kept. The images of such a set under all cubes are numbered as they are
+found; a position is such numbers, and its distance is found level by level from the goal.
+"""
+import os
+
+from cube import EFFECTS, PLACES
+from notation import TURNS, allowed
+
+AXIS = {"rl": 0, "ud": 1, "fb": 2}
+FARTHEST = 20
+BEYOND = 21
+# Distances of domino reductions are kept in this folder between runs where it is named.
+CACHE = os.environ.get("MODEL_CACHE")
+
+
+class TooMuch(Exception):
+    """A search that takes too long for a model in Python, or goes deeper than its distances are filled."""
+
+
+class Bounds:
+    """What a search may take: positions looked at in one deepening, and the depth to which dominoes' distances are filled."""
+
+    looks = None
+    depth = FARTHEST
+
+
+def kind_of(cell):
+    """3 for a corner, 2 for an edge, 1 for a centre."""
+    return sum(map(abs, cell))
+
+
+def twist_set(axis):
+    """The corner stickers on the two faces of an axis."""
+    return frozenset(number for number, (cell, direction) in enumerate(PLACES) if kind_of(cell) == 3 and direction[axis])
+
+
+def slice_set(axis):
+    """The edges in the layer between these faces."""
+    return frozenset(number for number, (cell, _) in enumerate(PLACES) if kind_of(cell) == 2 and cell[axis] == 0)
+
+
+def flip_set(axis):
+    """One sticker of each edge, such that turns other than quarter turns on the axis keep the set."""
+    other = 0 if axis == 1 else 1
+    return frozenset(number for number, (cell, direction) in enumerate(PLACES)
+                     if kind_of(cell) == 2 and (direction[other] or (cell[other] == 0 and direction[axis])))
+
+
+TURNS_OF = {"all": TURNS}
+for _axis, _faces in (("fb", "FB"), ("rl", "RL"), ("ud", "UD")):
+    TURNS_OF[_axis] = [turn for turn in TURNS if turn[0] not in _faces or turn[1] == 2]
+
+
+class Coordinate:
+    """The images of a set of places under all cubes, numbered from 0 for the set itself, and the number after each turn."""
+
+    def __init__(self, kept, size):
+        self.kept, self.number, self.after = kept, {kept: 0}, [[] for _ in TURNS]
+        queue = [kept]
+        for image in queue:
+            for index, turn in enumerate(TURNS):
+                turned = frozenset(EFFECTS[turn][place] for place in image)
+                if turned not in self.number:
+                    self.number[turned] = len(queue)
+                    queue.append(turned)
+                self.after[index].append(self.number[turned])
+        assert len(queue) == size, (len(queue), size)
+
+    def of(self, effect):
+        """The number of the image under an effect."""
+        return self.number[frozenset(effect[place] for place in self.kept)]
+
+
+COORDINATE_SETS = {"flip": (flip_set, 2048), "twist": (twist_set, 2187), "slice": (slice_set, 495)}
+SLICES = 495
+_coordinates = {}
+
+
+def coordinate(kind, axis):
+    """A coordinate by its kind and the name of its axis, made once."""
+    if (kind, axis) not in _coordinates:
+        places, size = COORDINATE_SETS[kind]
+        _coordinates[kind, axis] = Coordinate(places(AXIS[axis]), size)
+    return _coordinates[kind, axis]
+
+
+def levels(size, tables, deepest):
+    """The distance of each position from position 0, by tables of what each turn makes of its high and low part."""
+    distance = bytearray([BEYOND]) * size
+    distance[0] = 0
+    level, depth = [0], 0
+    while level and depth < deepest:
+        depth += 1
+        level = next_level(distance, level, depth, tables)
+    return bytes(distance)
+
+
+def next_level(distance, level, depth, tables):
+    """The positions one turn beyond a level that were not met before."""
+    found = []
+    for position in level:
+        twist, middle = divmod(position, SLICES)
+        for high, low in tables:
+            turned = high[position] if low is None else high[twist] + low[middle]
+            if distance[turned] == BEYOND:
+                distance[turned] = depth
+                found.append(turned)
+    return found
+
+
+class Orientation:
+    """Edges oriented on an axis: positions are flips."""
+
+    def __init__(self, axis, turns):
+        self.turns, self.flip = [TURNS.index(turn) for turn in TURNS_OF[turns]], coordinate("flip", axis)
+        self.distance = levels(2048, [(self.flip.after[index], None) for index in self.turns], FARTHEST)
+        self.deepest = FARTHEST
+
+    def position(self, effect):
+        """The number of a cube's position."""
+        return self.flip.of(effect)
+
+    def mover(self):
+        """What the step's turn with an index makes of a position."""
+        tables = [self.flip.after[index] for index in self.turns]
+        return lambda position, index: tables[index][position]
+
+
+class Domino:
+    """A domino reduction on an axis: positions are twists and slices."""
+
+    def __init__(self, axis, turns):
+        self.turns = [TURNS.index(turn) for turn in TURNS_OF[turns]]
+        self.twist, self.slice = coordinate("twist", axis), coordinate("slice", axis)
+        self.tables = [([twist * SLICES for twist in self.twist.after[index]], self.slice.after[index]) for index in self.turns]
+        self.deepest = Bounds.depth
+        self.distance = self.cached("domino-%s-%s-%d" % (axis, turns, self.deepest))
+
+    def cached(self, name):
+        """The distances, read from the cache where they are there."""
+        path = CACHE and os.path.join(CACHE, name)
+        if path and os.path.exists(path):
+            with open(path, "rb") as file:
+                return file.read()
+        distance = levels(2187 * SLICES, self.tables, self.deepest)
+        if path:
+            os.makedirs(CACHE, exist_ok=True)
+            with open(path + ".part", "wb") as file:
+                file.write(distance)
+            os.replace(path + ".part", path)
+        return distance
+
+    def position(self, effect):
+        """The number of a cube's position."""
+        return self.twist.of(effect) * SLICES + self.slice.of(effect)
+
+    def mover(self):
+        """What the step's turn with an index makes of a position."""
+        tables = self.tables
+        return lambda position, index: tables[index][0][position // SLICES] + tables[index][1][position % SLICES]
+
+
+# name: the axis whose edges must be oriented at the start, the turns, and the goals, of which one is to be reached
+STEPS = {}
+for _axis in ("fb", "rl", "ud"):
+    STEPS["eo" + _axis] = (None, "all", [(Orientation, _axis)])
+for _domino, _axis in (("ud", "fb"), ("rl", "fb"), ("ud", "rl"), ("fb", "rl"), ("rl", "ud"), ("fb", "ud")):
+    STEPS["dr%s-eo%s" % (_domino, _axis)] = (_axis, _axis, [(Domino, _domino)])
+STEPS["eo"] = (None, "all", [(Orientation, "fb"), (Orientation, "rl"), (Orientation, "ud")])
+STEPS["dr-eofb"] = ("fb", "fb", [(Domino, "ud"), (Domino, "rl")])
+STEPS["dr-eorl"] = ("rl", "rl", [(Domino, "ud"), (Domino, "fb")])
+STEPS["dr-eoud"] = ("ud", "ud", [(Domino, "rl"), (Domino, "fb")])
+ORIENTATIONS = [name for name, (start, _, _) in STEPS.items() if start is None]
+DOMINOES = [name for name in STEPS if name not in ORIENTATIONS]
+_goals, _steps, _solutions = {}, {}, {}
+
+
+def goal(kind, axis, turns):
+    """One goal of a step, made once."""
+    key = kind, axis, turns
+    if key not in _goals:
+        _goals[key] = kind(axis, turns)
+    return _goals[key]
+
+
+class Step:
+    """A step with its goals, turns and searches. A position has a number for each goal, a path is a list of turn indices."""
+
+    def __init__(self, name):
+        self.name = name
+        self.start, turns, goals = STEPS[name]
+        self.turns = TURNS_OF[turns]
+        self.goals = [goal(kind, axis, turns) for kind, axis in goals]
+        self.deepest = min(each.deepest for each in self.goals)
+        self.movers = [each.mover() for each in self.goals]
+        self.follow = {None: list(range(len(self.turns)))}
+        for index, last in enumerate(self.turns):
+            self.follow[index] = [after for after, turn in enumerate(self.turns) if allowed(last, turn)]
+
+    def may_start(self, effect):
+        """Whether the edges are oriented as the step asks for."""
+        return self.start is None or coordinate("flip", self.start).of(effect) == 0
+
+    def position(self, effect):
+        """The position of a cube."""
+        return tuple(each.position(effect) for each in self.goals)
+
+    def look(self, position):
+        """The distance of a position: the least over the goals."""
+        return min(each.distance[number] for each, number in zip(self.goals, position))
+
+    def after(self, position, index):
+        """The position after a turn."""
+        return tuple(move(number, index) for move, number in zip(self.movers, position))
+
+    def search(self, start, limit, slack):
+        """The least length or None, the solutions in order, and the positions looked at, by deepening turn by turn."""
+        least, found, looks, depth, last = None, [], 0, 0, limit
+        while depth <= last:
+            if depth > self.deepest:
+                raise TooMuch
+            solutions, looked = self.deepen(start, depth)
+            looks += looked
+            found += solutions
+            if solutions and least is None:
+                least, last = depth, min(limit, depth + slack)
+            depth += 1
+        return least, found, looks
+
+    def deepen(self, start, depth):
+        """All solutions of exactly this length, and the positions looked at."""
+        found, looks, path = [], 1, []
+        if self.look(start) > depth:
+            return found, looks
+        if depth == 0:
+            return [()], looks
+        waiting = [(start, iter(self.follow[None]))]
+        while waiting:
+            position, choices = waiting[-1]
+            index = next(choices, None)
+            if index is None:
+                waiting.pop()
+                del path[-1:]
+                continue
+            turned = self.after(position, index)
+            looks += 1
+            if Bounds.looks is not None and looks > Bounds.looks:
+                raise TooMuch
+            left = depth - len(path) - 1
+            if self.look(turned) > left:
+                continue
+            if left == 0:
+                found.append(tuple(path) + (index,))
+                continue
+            path.append(index)
+            waiting.append((turned, iter(self.follow[index])))
+        return found, looks
+
+
+def step(name):
+    """A step by its name, made once."""
+    if name not in _steps:
+        _steps[name] = Step(name)
+    return _steps[name]
+
+
+def solutions_of(name, position, limit, slack):
+    """What the search answers, kept for the same question again."""
+    key = name, position, limit, slack
+    if key not in _solutions:
+        if len(_solutions) > 20000:
+            _solutions.clear()
+        _solutions[key] = step(name).search(position, limit, slack)
+    return _solutions[key]

@@ -1,0 +1,158 @@
+"""Running the program and comparing it with the independent model: counts by kind of run, and each difference made small."""
+import collections
+import os
+import subprocess
+import sys
+import tempfile
+import time
+
+import model
+from solving import TooMuch
+
+TIMEOUT = 120
+SHOWN = 15
+SHRUNK = 3
+SHRINKING = 8
+
+
+def short(value, most=300):
+    """Bytes or another value as they are shown."""
+    text = repr(value)
+    if isinstance(value, bytes) and len(value) > most:
+        return "%r... (%d bytes)" % (value[:most], len(value))
+    return text if len(text) <= most else text[:most] + "..."
+
+
+def apart(mine, wanted, name):
+    """Two values as they are shown, texts from shortly before the place where they part."""
+    if not (isinstance(mine, bytes) and isinstance(wanted, bytes)):
+        return short(mine), name, short(wanted)
+    at = max(0, len(os.path.commonprefix([mine, wanted])) - 60)
+    before = "(%d bytes) .. " % at if at else ""
+    return before + short(mine[at:]), name, before + short(wanted[at:])
+
+
+class Trial:
+    """Runs of one program, counted by kind, and the differences from the model."""
+
+    def __init__(self, program):
+        self.program = os.path.abspath(program)
+        self.counts, self.differences, self.skipped = collections.Counter(), collections.Counter(), 0
+        self.room = tempfile.TemporaryDirectory()
+        self.began = time.time()
+
+    def path(self, name):
+        """A file of this trial's own."""
+        return os.path.join(self.room.name, name)
+
+    def input_file(self, data):
+        """A file with this input, open for reading."""
+        with open(self.path("input"), "wb") as file:
+            file.write(data)
+        return open(self.path("input"), "rb")
+
+    def run(self, words, data=b"", by_file=False):
+        """What the program answers to words and input, which comes by a pipe or from a file."""
+        try:
+            if by_file:
+                with self.input_file(data) as file:
+                    done = subprocess.run([self.program] + words, stdin=file, capture_output=True, timeout=TIMEOUT, check=False)
+            else:
+                done = subprocess.run([self.program] + words, input=data, capture_output=True, timeout=TIMEOUT, check=False)
+        except subprocess.TimeoutExpired:
+            return b"", b"(hangs)", -1000
+        return done.stdout, done.stderr, done.returncode
+
+    def is_searchable(self, words, line):
+        """Whether the model answers this line; one that it doesn't is counted."""
+        try:
+            model.run(words, line + b"\n")
+        except TooMuch:
+            self.skipped += 1
+            return False
+        return True
+
+    def compare(self, kind, words, data=b"", by_file=False):
+        """One run against the model; it is left out where the model's search would take too long."""
+        try:
+            expected = model.run(words, data)
+        except TooMuch:
+            self.skipped += 1
+            return
+        self.counts[kind] += 1
+        got = self.run(words, data, by_file)
+        if got == expected:
+            return
+        if sum(self.differences.values()) < SHRUNK:
+            words, data = self.shrunk(words, data)
+            got, expected = self.run(words, data), model.run(words, data)
+        self.differs(kind, words, data, got, expected)
+
+    def check(self, kind, words, data, got, expected):
+        """What was seen of one run against what was to be seen."""
+        self.counts[kind] += 1
+        if got != expected:
+            self.differs(kind, words, data, got, expected)
+
+    def differs(self, kind, words, data, got, expected):
+        """Counts a difference, and shows it where it is one of the first."""
+        self.differences[kind] += 1
+        if sum(self.differences.values()) > SHOWN:
+            return
+        print("not so: %s\n  nissy with the words %s\n  and the input %s" % (kind, short(words), short(data)))
+        for name, mine, wanted in zip(("output", "standard error", "status"), got, expected):
+            if mine != wanted:
+                print("  %s of the program: %s\n  %s of the model:   %s" % ((name,) + apart(mine, wanted, name)))
+        sys.stdout.flush()
+
+    def is_different(self, words, data):
+        """Whether program and model differ here too."""
+        try:
+            return self.run(words, data) != model.run(words, data)
+        except TooMuch:
+            return False
+
+    def shrunk(self, words, data):
+        """A smaller run that still differs, found in a few seconds."""
+        end, before = time.time() + SHRINKING, None
+        while before != (words, data) and time.time() < end:
+            before = words, data
+            data = self.shrunk_data(words, data, end)
+            words = self.shrunk_words(words, data, end)
+        return words, data
+
+    def shrunk_data(self, words, data, end):
+        """The input with pieces left out, of half its size at first."""
+        size = max(len(data) // 2, 1)
+        while size and data:
+            at = 0
+            while at < len(data) and time.time() < end:
+                less = data[:at] + data[at + size:]
+                if self.is_different(words, less):
+                    data = less
+                else:
+                    at += size
+            size //= 2
+        return data
+
+    def shrunk_words(self, words, data, end):
+        """The words with one word or one of its first characters left out."""
+        for at in range(len(words) - 1, 0, -1):
+            word = words[at]
+            shorter = [words[:at] + words[at + 1:]]
+            shorter += [words[:at] + [word[:cut] + word[cut + 1:]] + words[at + 1:] for cut in range(min(len(word), 20))]
+            for less in shorter:
+                if time.time() < end and self.is_different(less, data):
+                    return less
+        return words
+
+    def report(self):
+        """Shows the counts and, as the last line, how many kinds passed and failed; the status of the whole."""
+        for kind in sorted(self.counts):
+            print("%7d runs: %s%s" % (self.counts[kind], kind, ", %d DIFFERENT" % self.differences[kind] if self.differences[kind] else ""))
+        left_out = ", %d left out, too large for the model" % self.skipped if self.skipped else ""
+        print("%d runs in %.0f s%s" % (sum(self.counts.values()), time.time() - self.began, left_out))
+        kinds = set(self.counts) | set(self.differences)
+        print("%d passed, %d failed" % (len(kinds) - len(self.differences), len(self.differences)))
+        self.room.cleanup()
+        return 1 if self.differences else 0
