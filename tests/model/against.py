@@ -164,19 +164,24 @@ def distances(trial, draw, count, most_lines):
         trial.compare("positions by distance", words, draw.ended(searchable(trial, words, lines[:10])))
 
 
+def lines_of_orientations(step):
+    """A line at each of the 2,048 positions of an edge orientation, grown turn by turn."""
+    lines, queue = {0: ""}, [0]
+    for position in queue:
+        for index, turn in enumerate(step.turns):
+            turned = step.movers[0](position, index)
+            if turned not in lines:
+                lines[turned] = lines[position] + word_of(turn)
+                queue.append(turned)
+    assert len(lines) == 2048, len(lines)
+    return lines
+
+
 def every_orientation(trial):
-    """All 2,048 positions of each edge orientation, by lines that are grown turn by turn."""
+    """All positions of the edge orientations on one axis."""
     solving.Bounds.looks = None
     for name in solving.ORIENTATIONS[:3]:
-        step = solving.step(name)
-        lines, queue = {0: ""}, [0]
-        for position in queue:
-            for index, turn in enumerate(step.turns):
-                turned = step.movers[0](position, index)
-                if turned not in lines:
-                    lines[turned] = lines[position] + word_of(turn)
-                    queue.append(turned)
-        assert len(lines) == 2048
+        lines = lines_of_orientations(solving.step(name))
         data = "".join(lines[position] + "\n" for position in sorted(lines)).encode()
         for command in ("count", "solve"):
             trial.compare("every edge orientation", [command, name, "20"], data, True)
