@@ -3,8 +3,8 @@
 
     tests/model/against.py PROGRAM [SEED] [SCALE]
 
-SCALE 1, about five minutes, draws some 8,700 runs, and takes every position of the edge orientations. Below 0.5 the search of
-the model is held to short ones, and what tries each of a kind in turn is left out. The last line is `N passed, M failed`, by
+SCALE 1, about five minutes, draws some 8,700 runs, and takes every position of the edge orientations. Below 0.5 the searches
+are short ones, and neither those positions nor all numbers of `near` are tried. The last line is `N passed, M failed`, by
 kinds of runs, and the status is 1 where M isn't 0.
 """
 import sys
@@ -196,6 +196,7 @@ def all_kinds(trial, draw, scale):
     rewriting(trial, draw, scaled(1500))
     rewriting_words(trial, draw, scaled(700))
     faults(trial, draw, scaled(1500))
+    faults_everywhere(trial)
     most_moves(trial, draw, scaled(150))
     usage(trial, draw, scaled(700))
     scrambles(trial, draw, scaled(250))
@@ -206,7 +207,6 @@ def all_kinds(trial, draw, scale):
     failing_starts(trial, draw, scaled(60))
     distances(trial, draw, max(13, scaled(52)), 40 if whole else 8)
     if whole:
-        faults_everywhere(trial)
         near_numbers(trial)
         every_orientation(trial)
 
