@@ -15,5 +15,5 @@ if ! command -v python3 > /dev/null; then
     echo "0 passed, 0 failed"
     exit 0
 fi
-export PYTHONDONTWRITEBYTECODE=1
+export PYTHONDONTWRITEBYTECODE=1 PYTHONUTF8=1
 exec python3 "$folder/model/against.py" "$program" $seed $scale

@@ -3,8 +3,8 @@
 
     tests/model/against.py PROGRAM [SEED] [SCALE]
 
-SCALE 1, about five minutes, draws some 8,700 runs, and takes every position of the edge orientations. Below 0.5 the search of
-the model is held to short ones, and what tries each of a kind in turn is left out. The last line is `N passed, M failed`, by
+SCALE 1, about five minutes, draws some 8,700 runs, and takes every position of the edge orientations. Below 0.5 the searches
+are short ones, and neither those positions nor all numbers of `near` are tried. The last line is `N passed, M failed`, by
 kinds of runs, and the status is 1 where M isn't 0.
 """
 import sys
@@ -164,19 +164,24 @@ def distances(trial, draw, count, most_lines):
         trial.compare("positions by distance", words, draw.ended(searchable(trial, words, lines[:10])))
 
 
+def lines_of_orientations(step):
+    """A line at each of the 2,048 positions of an edge orientation, grown turn by turn."""
+    lines, queue = {0: ""}, [0]
+    for position in queue:
+        for index, turn in enumerate(step.turns):
+            turned = step.movers[0](position, index)
+            if turned not in lines:
+                lines[turned] = lines[position] + word_of(turn)
+                queue.append(turned)
+    assert len(lines) == 2048, len(lines)
+    return lines
+
+
 def every_orientation(trial):
-    """All 2,048 positions of each edge orientation, by lines that are grown turn by turn."""
+    """All positions of the edge orientations on one axis."""
     solving.Bounds.looks = None
     for name in solving.ORIENTATIONS[:3]:
-        step = solving.step(name)
-        lines, queue = {0: ""}, [0]
-        for position in queue:
-            for index, turn in enumerate(step.turns):
-                turned = step.movers[0](position, index)
-                if turned not in lines:
-                    lines[turned] = lines[position] + word_of(turn)
-                    queue.append(turned)
-        assert len(lines) == 2048
+        lines = lines_of_orientations(solving.step(name))
         data = "".join(lines[position] + "\n" for position in sorted(lines)).encode()
         for command in ("count", "solve"):
             trial.compare("every edge orientation", [command, name, "20"], data, True)
@@ -191,6 +196,7 @@ def all_kinds(trial, draw, scale):
     rewriting(trial, draw, scaled(1500))
     rewriting_words(trial, draw, scaled(700))
     faults(trial, draw, scaled(1500))
+    faults_everywhere(trial)
     most_moves(trial, draw, scaled(150))
     usage(trial, draw, scaled(700))
     scrambles(trial, draw, scaled(250))
@@ -201,7 +207,6 @@ def all_kinds(trial, draw, scale):
     failing_starts(trial, draw, scaled(60))
     distances(trial, draw, max(13, scaled(52)), 40 if whole else 8)
     if whole:
-        faults_everywhere(trial)
         near_numbers(trial)
         every_orientation(trial)
 

@@ -115,9 +115,9 @@ class Drawing(random.Random):
         step = solving.step(name)
         distance, move = step.goals[0].distance, step.movers[0]
         wanted = self.choice(sorted(set(distance) - {solving.BEYOND}))
-        position = self.randrange(len(distance))
-        while distance[position] != wanted:
-            position = (position + 1) % len(distance)
+        position = distance.find(wanted, self.randrange(len(distance)))
+        if position < 0:
+            position = distance.find(wanted)
         turns = []
         while distance[position]:
             nearer = [index for index in range(len(step.turns)) if distance[move(position, index)] < distance[position]]

@@ -16,6 +16,7 @@ from notation import word_of
 
 POSITIONS = 1_082_565
 AT_ONCE = 200_000
+WHOLLY = 500
 SHOWN = 3
 
 
@@ -52,18 +53,25 @@ def is_right(name, line, distance, answer, wholly):
     return not wholly or answer + b"\n" == model.run(["count", name, "20", line.decode()])[0]
 
 
-def differences(program, name):
-    """How many positions of a step are answered otherwise."""
-    step, wrong = solving.step(name), 0
+def wrong_answers(program, name):
+    """The lines of a step that are answered otherwise, with their answers."""
+    step = solving.step(name)
     lines = list(line_of_each(step).items())
     for at in range(0, POSITIONS, AT_ONCE):
         part = lines[at:at + AT_ONCE]
         answers = answers_of(program, name, [line for _, line in part])
         for number, ((position, line), answer) in enumerate(zip(part, answers)):
-            if not is_right(name, line, step.goals[0].distance[position], answer, number % 500 == 0):
-                wrong += 1
-                if wrong <= SHOWN:
-                    print("not so: %s of %r: %r" % (name, line, answer))
+            if not is_right(name, line, step.goals[0].distance[position], answer, number % WHOLLY == 0):
+                yield line, answer
+
+
+def differences(program, name):
+    """How many positions of a step are answered otherwise; the first ones are shown."""
+    wrong = 0
+    for line, answer in wrong_answers(program, name):
+        wrong += 1
+        if wrong <= SHOWN:
+            print("not so: %s of %r: %r" % (name, line, answer))
     return wrong
 
 

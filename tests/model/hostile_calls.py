@@ -28,6 +28,7 @@ class Traced:
 
     def __init__(self, trial, words, data, *refusals):
         options = [option for refusal in refusals for option in ("-e", "inject=" + refusal)]
+        self.words, self.data = words, data
         command = ["strace", "-f", "-a1", "-s0", "-o", trial.path("calls")] + options + [trial.program] + words
         with trial.input_file(data) as file:
             done = subprocess.run(command, stdin=file, capture_output=True, timeout=TIMEOUT, preexec_fn=same_addresses, check=False)
@@ -71,14 +72,14 @@ def refused_writes(trial, words, data, errors):
             for how in ["error=" + error for error in errors] + ["retval=0"]:
                 got = Traced(trial, words, data, "write:%s:when=%d" % (how, nth)).answer
                 trial.check("a write refused", words + [how, str(nth)], data, got, (whole[0][:sent], CANNOT_WRITE, 3))
-            short_writes(trial, words, data, nth, sent, size)
+            short_writes(trial, words, data, (nth, size), sent)
         sent += size
     trial.check("writes counted", words, data, (sent,), (len(whole[0]),))
 
 
-def short_writes(trial, words, data, nth, sent, size):
+def short_writes(trial, words, data, write, sent):
     """A write that takes a part only: the rest is written by the next one. What strace says was taken is lost."""
-    output, fault, status = model.run(words, data)
+    (nth, size), (output, fault, status) = write, model.run(words, data)
     for taken in {1, size // 2, size - 1} - {0, size, -1}:
         got = Traced(trial, words, data, "write:retval=%d:when=%d" % (taken, nth)).answer
         expected = output[:sent] + output[sent + taken:], fault, status
@@ -95,12 +96,12 @@ def refused_faults(trial, words):
             trial.check("a text of faults refused", words + [how, str(nth)], b"", got, (whole[0], True, whole[2]))
 
 
-def judge(trial, kind, words, data, traced, how):
+def judge(trial, kind, traced, how):
     """The whole answer, or out of memory with nothing read and nothing written."""
-    expected = model.run(words, data)
+    expected = model.run(traced.words, traced.data)
     if traced.answer == (b"", NO_MEMORY, 3) and not traced.on_stream("read", 0):
         expected = traced.answer
-    trial.check(kind, words + [how], data, traced.answer, expected)
+    trial.check(kind, traced.words + [how], traced.data, traced.answer, expected)
 
 
 def refused_others(trial, words, data):
@@ -111,7 +112,7 @@ def refused_others(trial, words, data):
             continue
         for error in ["ENOMEM"] if name in ("mmap", "mremap", "munmap", "mprotect") else ["EPERM", "EINTR", "ENOSYS"]:
             for how in ("%s:error=%s:when=%d" % (name, error, nth), "%s:error=%s:when=%d+" % (name, error, nth)):
-                judge(trial, "another call refused", words, data, Traced(trial, words, data, how), how)
+                judge(trial, "another call refused", Traced(trial, words, data, how), how)
 
 
 def refused_growths(trial, words, data):
@@ -122,9 +123,9 @@ def refused_growths(trial, words, data):
         if at >= own and name in GROWING and arguments != "NULL":
             from_here = ["brk:retval=%s:when=%d+" % (old_break, seen["brk"] + 1)]
             from_here += ["%s:error=ENOMEM:when=%d+" % (call, seen[call] + 1) for call in ("mmap", "mremap")]
-            judge(trial, "every growth from one on refused", words, data, Traced(trial, words, data, *from_here), str(at))
+            judge(trial, "every growth from one on refused", Traced(trial, words, data, *from_here), str(at))
             once = "brk:retval=%s:when=%d" % (old_break, nth) if name == "brk" else "%s:error=ENOMEM:when=%d" % (name, nth)
-            judge(trial, "one growth refused", words, data, Traced(trial, words, data, once), once)
+            judge(trial, "one growth refused", Traced(trial, words, data, once), once)
         if name in seen:
             seen[name] = nth
         if name == "brk":

@@ -215,6 +215,15 @@ def silent_terminal():
     return terminal, user
 
 
+def asked(process, writing, text, size):
+    """What comes for a line before the next one is given, up to the size that is waited for."""
+    os.write(writing, text)
+    answer, end = b"", time.time() + 10
+    while len(answer) < size and select.select([process.stdout], [], [], max(0, end - time.time()))[0]:
+        answer += os.read(process.stdout.fileno(), 65536)
+    return answer
+
+
 def line_by_line(trial):
     """A user who waits for the answer to each line, over a pipe and over a terminal."""
     for kind, make in (("pipe", os.pipe), ("terminal", silent_terminal)):
@@ -222,13 +231,9 @@ def line_by_line(trial):
             reading, writing = make()
             process = started(trial, words, stdin=reading)
             os.close(reading)
-            got, expected = b"", b""
-            for text in (b"R U\n", b"\n", b"U2 (R) D\n"):
-                os.write(writing, text)
-                expected += model.run(words, text)[0]
-                end = time.time() + 10
-                while len(got) < len(expected) and select.select([process.stdout], [], [], max(0, end - time.time()))[0]:
-                    got += os.read(process.stdout.fileno(), 65536)
+            texts = (b"R U\n", b"\n", b"U2 (R) D\n")
+            expected = [model.run(words, text)[0] for text in texts]
+            got = [asked(process, writing, text, len(answer)) for text, answer in zip(texts, expected)]
             if kind == "terminal":
                 os.write(writing, b"\x04")
             else:
