@@ -94,8 +94,8 @@ impl FollowedPlaces {
     {
         let mut text = [0; 54];
         for (position, letter) in text.iter_mut().enumerate() {
-            let cubie = self.positions[CUBIES[position] as usize];
-            *letter = CUBIE_LETTERS[cubie as usize][FACELETS[position] as usize];
+            let first = self.positions[CUBIES[position] as usize];
+            *letter = CUBIE_LETTERS[first as usize][FACELETS[position] as usize];
         }
         text
     }

@@ -15,6 +15,8 @@
 //! let number = cube.flip(Axis::Fb);                     // 550: the turn flips four edges with respect to F and B
 //! ```
 //!
+//! For the letters of moves alone, of any kind, `facelets_after` makes no cube.
+//!
 //! The coordinate after a turn follows from the coordinate alone, so a table gives it without a cube. A step asks whether its
 //! coordinates are 0:
 //!

@@ -48,8 +48,9 @@ clean_turns s = rewritten_within (most_rewritings s) s
 -- the 24 rotations
 abbrev pub rotations : List Rotation
 rotations =
-    flat_map (λ f. map (λ p. record { top = f; vertical = p })
-    (None ∷ Some Quarter ∷ Some Half ∷ Some Counter ∷ [])) face_order
+    flat_map
+    (λ f. map (λ p. record { top = f; vertical = p }) (None ∷ Some Quarter ∷ Some Half ∷ Some Counter ∷ []))
+    face_order
 
 -- Does the rotation move the six centres as the sequence does?
 abbrev pub moves_centres_as : List Token → Rotation → Bool

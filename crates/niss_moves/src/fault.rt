@@ -2,7 +2,7 @@
 ghost use Rattle.std.specs.Prelude.{◌≡◌, ◌≤◌, length};
 ghost use Rattle.niss_moves.specs.FaultText.{fault_column, fault_text};
 
-/// Why bytes are no line of moves. Columns count bytes from 1.
+/// What is wrong in a line, and where. Columns count bytes from 1.
 #[derive(Clone, Copy, Debug, PartialEq, Eq)]
 pub enum ReadFault {
     /// A byte that can't go on there; of a cut U+2019, its first byte.
@@ -31,7 +31,7 @@ impl ReadFault {
         }
     }
 
-    /// What is wrong there in a few words, such as `not a move`.
+    /// What is wrong at the column in a few words, such as `not a move`.
     pub fn text(self) -> &'static str
         ensures text { result.now ≡ fault_text self }
         ensures short { length result.now ≤ 40 }

@@ -1,4 +1,5 @@
--- The turns of a step that may stand after a turn, with their columns. (For the search's own functions.)
+-- The turns of a step that may stand after a turn, with their columns, and the first of them after which a state is near. (For the
+-- search's own functions.)
 use Rattle.std.specs.Prelude.{◌≡◌, ℕ, ◌+◌, ◌<◌, ◌≤◌, Bool, List, map, filter, take, get_or, length, All}
 use Rattle.niss_moves.specs.declared.turn.Turn.{Turn}
 use Rattle.niss_cube.specs.Steps.{turns_of}

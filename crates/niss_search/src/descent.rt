@@ -170,7 +170,7 @@ impl<'a, K: Sink> Descent<'a, K> {
 }
 
 /// Looks at the state after each turn, up to the first after which the look allows `left` turns more; answers its index. Most
-/// looks end here: nothing is called in the loop, so that where the tables stand is read once for all of its looks.
+/// looks end here: all that the loop calls is inlined, so that where the tables stand is read once for all of its looks.
 #[inline(always)]
 fn next_near<S: StateSpace>(
     tables: &SearchTables<S>,

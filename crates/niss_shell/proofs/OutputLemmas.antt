@@ -1,5 +1,7 @@
 -- What an output takes: a text, the lines of a search, and what stands after them.
-use Rattle.std.proofs.Common.{◌≡◌, ℕ, ◌+◌, ◌≤◌, false, Option, Result, Ok, Err, List, [], ◌∷◌, ◌++◌, inl, inr, length, sym, ap, ◌∙◌, subst, append_assoc, arith}
+use Rattle.std.proofs.Common.{◌≡◌, ◌==◌, ◌⊎◌, Bool, true, refl, ℕ, ◌+◌, ◌≤◌, false, Option, Result, Ok, Err, List, [], ◌∷◌, ◌++◌, inl, inr, length, sym, ap, ◌∙◌, subst, append_assoc, arith}
+use Rattle.std.proofs.lemmas.Bool.Decides.{eqb_tells}
+use Rattle.std.proofs.lemmas.List.{nil_from_length}
 use Rattle.std.specs.Prelude.{OnOk, OnErr, flat_map}
 use Rattle.niss_moves.specs.declared.turn.Turn.{Turn}
 use Rattle.niss_search.specs.Delivery.{WentThrough, StoppedIn}
@@ -9,7 +11,7 @@ use Rattle.niss_shell.specs.Output.{none_line, solution_line, solve_text, count_
 use Rattle.niss_shell.specs.Engine.{output_state, pending_state, Writes, Refuses, WritesOrRefuses, Delivers, TakesLine, RefusesLine}
 use Rattle.niss_shell.specs.declared.device.DeviceFault.{DeviceFault}
 use Rattle.niss_shell.specs.declared.output.Output.{Output}
-use Rattle.niss_shell.proofs.PendingLemmas.{after_what_waited, then_sent, waits}
+use Rattle.niss_shell.proofs.PendingLemmas.{then_sent, waits}
 use Rattle.niss_shell.proofs.StateLemmas.{writes_nothing, writes_more, writes_as, refuses_more, refuses_front, refuses_as}
 
 -- what a text does to an output, as a sink says it
@@ -26,21 +28,23 @@ line_refused state (Ok u) text line old new N e n none d = tt
 line_refused state (Err x) text line old new N e n none d =
     (n, (none, λ works looks. subst (λ t. Refuses t 0 0 (output_state state old looks) (output_state state new looks)) e (d works looks)))
 
--- a line that was put where nothing waited any more, and written
-pub line_sent : {W : Type 0} (state : W → TargetState) (r : Result (Unit {0}) DeviceFault) (line text : List ℕ) (old mid new : Output W)
-    → text ≡ line → mid.pending.items ≡ [] → Delivers {T = Unit {0}} state (Ok tt) [] old mid
-    → (has_fault (state mid.target.now) ≡ false → (looks : ℕ) → WritesOrRefuses r [] 0 0
-    (pending_state (state mid.target.now) text looks) (output_state state new looks))
+-- a text that was tested to be empty
+empty_where : (n : ℕ) (bytes : List ℕ) → n ≡ length bytes → ((n == 0 ≡ true) × (n ≡ 0)) ⊎ ((n == 0 ≡ false) × (n ≡ 0 → ⊥)) → (n == 0) ≡ true → bytes ≡ []
+empty_where n bytes e (inl h) k = nil_from_length bytes (omega (arith, e, h.1))
+empty_where n bytes e (inr h) k = absurd (cc (h.0, k))
+
+pub no_bytes : (empty : Bool) (bytes : List ℕ) → empty ≡ (length bytes == 0) → empty ≡ true → bytes ≡ []
+no_bytes empty bytes e k = empty_where (length bytes) bytes refl (eqb_tells (length bytes) 0) (sym e ∙ k)
+
+-- a line that was put where nothing waited, and written
+pub line_sent : {W : Type 0} (state : W → TargetState) (r : Result (Unit {0}) DeviceFault) (line text : List ℕ) (old new : Output W)
+    → text ≡ line → old.pending.items ≡ []
+    → (has_fault (state old.target.now) ≡ false → (looks : ℕ) → WritesOrRefuses r [] 0 0
+    (pending_state (state old.target.now) text looks) (output_state state new looks))
     → Delivers state r line old new
-line_sent state r line text old mid new e none first then = λ works looks.
-    let sent = first works looks in
-    let a = output_state state old looks in
-    let b = output_state state mid looks in
-    let c = output_state state new looks in
-    let put = pending_state (state mid.target.now) text looks in
-    after_what_waited r line 0 0 a b c sent
-    (then_sent r line 0 0 b put c
-    (waits line mid.pending.items text (state mid.target.now) looks (e ∙ ap (λ p. p ++ line) (sym none)) sent.works) (then sent.works looks))
+line_sent state r line text old new e none then = λ works looks.
+    then_sent r line 0 0 (output_state state old looks) (pending_state (state old.target.now) text looks) (output_state state new looks)
+    (waits line old.pending.items text (state old.target.now) looks (e ∙ ap (λ p. p ++ line) (sym none)) works) (then works looks)
 
 -- what is written of a search, by what it found
 pub same_count : (least found : Option ℕ) (count solutions nodes looks : ℕ) → least ≡ found → count ≡ solutions → nodes ≡ looks

@@ -1,5 +1,5 @@
 -- Answers that wait, and what is written after them.
-use Rattle.std.proofs.Common.{◌≡◌, ℕ, ◌+◌, false, Result, Ok, Err, List, [], ◌++◌, refl, sym, ap, ◌∙◌, subst, append-nil, arith}
+use Rattle.std.proofs.Common.{◌≡◌, ℕ, ◌+◌, false, Result, Ok, Err, List, [], ◌++◌, sym, ap, ◌∙◌, subst, append-nil, arith}
 use Rattle.std.specs.Prelude.{OnOk, OnErr}
 use Rattle.niss_shell.specs.Device.{TargetState, has_fault, Appended, WriteRefused}
 use Rattle.niss_shell.specs.Lines.{ended_lines, written_text}
@@ -36,14 +36,6 @@ waits text pending rest a looks e works = record {
   looked = omega arith;
   bounded = omega arith;
 }
-
--- a text of which what waited was written first
-pub after_what_waited : {T : Type 0} (r : Result T DeviceFault) (text : List ℕ) (looks most_looks : ℕ) (a b c : AnswerState)
-    → Writes [] 0 0 a b → WritesOrRefuses r text looks most_looks b c → WritesOrRefuses r text looks most_looks a c
-after_what_waited (Ok u) text looks most_looks a b c p q =
-    writes_as text text (0 + looks) (0 + most_looks) looks most_looks a c refl (omega arith) (omega arith) (writes_more [] text 0 0 looks most_looks a b c p q)
-after_what_waited (Err x) text looks most_looks a b c p q =
-    refuses_as text text (0 + looks) (0 + most_looks) looks most_looks a c refl (omega arith) (omega arith) (refuses_more [] text 0 0 looks most_looks a b c p q)
 
 -- what waits is written after a text
 

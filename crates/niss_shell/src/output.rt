@@ -87,6 +87,15 @@ impl<'a, W: Target> Output<'a, W> {
     }
 }
 
+/// A solution on a line.
+fn solution_text(path: &TurnPath) -> LineText
+    ensures { result.items ≡ solution_line path.now.turns }
+{
+    let mut text = LineText::new();
+    put_solution(path.turns(), &mut text);
+    text
+}
+
 impl<'a, W: Target> Sink for Output<'a, W> {
     type Fault = DeviceFault;
 
@@ -97,8 +106,9 @@ impl<'a, W: Target> Sink for Output<'a, W> {
         × RefusesLine W.state (solution_line path.turns) old new };
 
     fn take(&mut self, path: &TurnPath) -> Result<(), DeviceFault> {
-        // what waits goes out by itself: the words of a solution begin a text
-        self.send()?;
+        if !self.pending.is_empty() {
+            return self.write(&solution_text(path));
+        }
         put_solution(path.turns(), &mut self.pending);
         self.send()
     }

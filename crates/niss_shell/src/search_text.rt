@@ -35,6 +35,7 @@ pub fn put_end(solutions: u128, limit: Limit, text: &mut LineText)
     text.push(b'\n');
 }
 
+/// Appends the least length of a solution, or `none`.
 fn put_length(least: Option<u8>, text: &mut LineText)
     requires { length text.old.items ≤ 100 }
     ensures words { text.new.items ≡ text.old.items ++ length_text least }

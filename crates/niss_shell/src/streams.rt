@@ -70,7 +70,8 @@ impl<R: io::Read> Source for FromReader<R> {
         ensures whole { found_end result buf.new ≡ true →
             IsAtEnd (⟦<FromReader<R> as Source>⟧.state self.new).left }
         // The reader gives what is answered, and where it fails nothing.
-        ensures reader { ReadConsumes (R.remaining self.old.reader) (R.remaining self.new.reader) result buf.new }
+        ensures reader { ReadConsumes (R.remaining self.old.reader) (R.remaining self.new.reader)
+            result buf.new }
     {
         let answer = self.reader.read(buf);
         self.judge(answer, buf)
@@ -171,7 +172,8 @@ impl<W: io::Write> Target for ToWriter<W> {
         ensures bound { IfOk result (λ count. count ≤ length piece.now) }
         ensures bytes { Appended (⟦<ToWriter<W> as Target>⟧.state self.old)
             (⟦<ToWriter<W> as Target>⟧.state self.new) (moved_bytes result piece.now) }
-        ensures silent { StaysSilent (⟦<ToWriter<W> as Target>⟧.state self.old) (⟦<ToWriter<W> as Target>⟧.state self.new) }
+        ensures silent { StaysSilent (⟦<ToWriter<W> as Target>⟧.state self.old)
+            (⟦<ToWriter<W> as Target>⟧.state self.new) }
         ensures write_failed { (⟦<ToWriter<W> as Target>⟧.state self.new).write_failed
             ≡ ((⟦<ToWriter<W> as Target>⟧.state self.old).write_failed || is_refused result piece.now) }
         ensures flush_failed { (⟦<ToWriter<W> as Target>⟧.state self.new).flush_failed
@@ -181,15 +183,18 @@ impl<W: io::Write> Target for ToWriter<W> {
         ensures unflushed { 0 < length (moved_bytes result piece.now) →
             (⟦<ToWriter<W> as Target>⟧.state self.new).is_flushed ≡ false }
         // Whatever failed before, the writer takes what is answered and nothing else.
-        ensures writer { WriteAppends (W.contents self.old.writer) (W.contents self.new.writer) result piece.now }
+        ensures writer { WriteAppends (W.contents self.old.writer) (W.contents self.new.writer)
+            result piece.now }
     {
         let answer = self.writer.write(piece);
         self.judge_write(answer, piece)
     }
 
     fn flush(&mut self) -> Result<(), DeviceFault>
-        ensures bytes { Appended (⟦<ToWriter<W> as Target>⟧.state self.old) (⟦<ToWriter<W> as Target>⟧.state self.new) [] }
-        ensures silent { StaysSilent (⟦<ToWriter<W> as Target>⟧.state self.old) (⟦<ToWriter<W> as Target>⟧.state self.new) }
+        ensures bytes { Appended (⟦<ToWriter<W> as Target>⟧.state self.old)
+            (⟦<ToWriter<W> as Target>⟧.state self.new) [] }
+        ensures silent { StaysSilent (⟦<ToWriter<W> as Target>⟧.state self.old)
+            (⟦<ToWriter<W> as Target>⟧.state self.new) }
         ensures write_failed { (⟦<ToWriter<W> as Target>⟧.state self.new).write_failed
             ≡ (⟦<ToWriter<W> as Target>⟧.state self.old).write_failed }
         ensures flush_failed { (⟦<ToWriter<W> as Target>⟧.state self.new).flush_failed

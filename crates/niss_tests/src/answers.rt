@@ -139,6 +139,17 @@ fn print(rt: HostRuntime) -> Result<(), Fail> {
             b"",
             "UBULURUFURURFRBRDRFUFLFRFDFDFDLDRDBDLULBLFLDLBUBRBLBDB\n",
         ),
+        // brackets, wide moves, slices and rotations between turns, by an independent model
+        Run::good(
+            &["print", "R x (U Fw)"],
+            b"",
+            "DRRFRRFRRBBBBBRBBRLDDDDDDDDLLLLLLBBUFUULFFLFFUURFUUFUU\n",
+        ),
+        Run::good(
+            &["print", "(Bw2 E) z' D (S y2)"],
+            b"",
+            "LLLFDDRRRURFFBBBRDBBBULUDDDLLLBUURRRBLDFFBULFUUUDRDFFF\n",
+        ),
     ];
     check_all(&rt, rt.alloc(), &runs)?;
     Ok(())
