@@ -66,11 +66,11 @@ OpensAt bytes column =
 abbrev pub Stops : List ℕ → ReadFault → Type 0
 Stops bytes (NotAMove column) =
     ((byte : ℕ) × (is_open : Bool) × StopsAt bytes column Whole is_open byte
-      × ((byte ≡ 40) × (is_open ≡ true) → ⊥)
-      × ((byte ≡ 41) × (is_open ≡ false) → ⊥)
-      × (BeginsBase byte → ⊥))
+    × ((byte ≡ 40) × (is_open ≡ true) → ⊥)
+    × ((byte ≡ 41) × (is_open ≡ false) → ⊥)
+    × (BeginsBase byte → ⊥))
     ⊎ ((byte : ℕ) × (is_open : Bool) × (cut : Cut) × (0 < cut_length cut)
-      × StopsAt bytes (column + cut_length cut) cut is_open byte)
+    × StopsAt bytes (column + cut_length cut) cut is_open byte)
 Stops bytes (Nested column) = StopsAt bytes column Whole true 40
 Stops bytes (Unopened column) = StopsAt bytes column Whole false 41
 Stops bytes (TooLong column) =
