@@ -1,9 +1,8 @@
 //! Turns of the faces on cubies.
 ghost use Rattle.std.specs.Prelude.{◌≡◌, ◌<◌, ◌+◌, ◌%◌, length, EachIndex, slice_index};
 ghost use Rattle.niss_cube.specs.CubieTurns.{turn_table};
-ghost use Rattle.niss_cube.specs.TableRows.{face_index, power_index};
 
-use niss_moves::{Face, Power, Turn};
+use niss_moves::Turn;
 
 /// A turn of a face: for each place, from which place its cubie comes, and what is added to its twist or flip.
 #[derive(Clone, Copy)]
@@ -171,36 +170,11 @@ static CUBIE_TURNS: [[CubieTurn; 3]; 6] = [
 /// The remainders by 3 of the sums of two twists.
 const TWIST_SUMS: [u8; 5] = [0, 1, 2, 0, 1];
 
-/// The index of a face in a table by faces.
-pub fn face_number(face: Face) -> usize
-    ensures { result ≡ face_index face }
-{
-    match face {
-        Face::U => 0,
-        Face::D => 1,
-        Face::R => 2,
-        Face::L => 3,
-        Face::F => 4,
-        Face::B => 5,
-    }
-}
-
-/// The index of a power in a table by powers.
-pub fn power_number(power: Power) -> usize
-    ensures { result ≡ power_index power }
-{
-    match power {
-        Power::Quarter => 0,
-        Power::Half => 1,
-        Power::Counter => 2,
-    }
-}
-
 /// The table of a turn.
 fn cubie_turn(turn: Turn) -> &'static CubieTurn
     ensures { result.now ≡ turn_table turn.face turn.power }
 {
-    &CUBIE_TURNS[face_number(turn.face)][power_number(turn.power)]
+    &CUBIE_TURNS[turn.face as usize][turn.power as usize]
 }
 
 /// Writes which cubie stands at each place, after each came from the place that the table names.

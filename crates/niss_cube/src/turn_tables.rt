@@ -16,7 +16,6 @@ ghost use Rattle.niss_cube.specs.declared.cube.coordinate.Coordinate.TheVariants
 
 use crate::cube::Cube;
 use crate::cube::coordinate::Coordinate;
-use crate::cubie_turns::{face_number, power_number};
 use niss_moves::{Axis, Face, Power, Turn};
 use std::alloc::{Allocator, Global};
 use std::marker::Model;
@@ -113,7 +112,7 @@ fn entry(rows: &[Row], number: u16, face: Face, power: Power) -> u16
     ensures { result
         ≡ entry_at (get_or rows.now number []) (record { face = face; power = power }) }
 {
-    rows[number as usize][face_number(face)][power_number(power)]
+    rows[number as usize][face as usize][power as usize]
 }
 
 /// The allocator refused memory. Nothing is kept then.
