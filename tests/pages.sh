@@ -33,7 +33,8 @@ stands_in_a_crate() { # src/x.rt, or niss_tests/src/x.rt
 }
 
 edit_or_row() {
-    compgen -G "crates/*/must-fail/$1.edit" > /dev/null || grep -qrE "fn $1\(" crates/niss_tests/src
+    compgen -G "crates/*/must-fail/$1.edit" > /dev/null || compgen -G "tests/wrong-bodies/*/$1.edit" > /dev/null ||
+        grep -qrE "fn $1\(" crates/niss_tests/src
 }
 
 # Each row of a table belongs to one that begins with a head and a line of dashes.
