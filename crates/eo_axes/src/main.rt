@@ -72,7 +72,7 @@ fn main(rt: HostRuntime) -> io::Result<()> {
                     print_solutions(&rt, table, &cube)?;
                 }
             }
-            Err(fault) => println!(rt; "{fault:?}")?,
+            Err(fault) => println!(rt; "column {}: {}", fault.column(), fault.text())?,
         }
     }
     Ok(())
