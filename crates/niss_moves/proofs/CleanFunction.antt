@@ -6,7 +6,7 @@ use Rattle.std.proofs.Math.Nat.{mul-le-mul_left, mul_comm}
 use Rattle.std.proofs.lemmas.List.Sums.{count_by-le-length}
 use Rattle.niss_moves.specs.Canonical.{face_may_follow, IsCanonical}
 use Rattle.niss_moves.specs.Cleaning.{rewritten_pair, IsRewriting, Cleans, Clean, Rewrite}
-use Rattle.niss_moves.specs.RewritingLaws.{are_disordered, disorder}
+use Rattle.niss_moves.specs.RewritingLaws.{are_disordered, disorder, CleaningEnds}
 use Rattle.niss_moves.specs.CleanedLine.{after_first, rewritten_once, rewritten_within, most_rewritings, clean_turns, CleanTurnsAreClean}
 use Rattle.niss_moves.specs.declared.turn.Turn.{Turn}
 use Rattle.niss_moves.proofs.Logic.{and_both}
@@ -133,3 +133,7 @@ within_cleans m (suc n) s cap fuel = within_step m n s (rewritten_once s) refl c
 pub clean_turns_are_clean : CleanTurnsAreClean
 unfolding clean_turns left_over
 clean_turns_are_clean s = within_cleans (length s * length s) (most_rewritings s) s (omega arith) (omega arith)
+
+-- Cleaning ends, for each list.
+pub cleaning_ends : CleaningEnds
+cleaning_ends s = (clean_turns s, clean_turns_are_clean s)

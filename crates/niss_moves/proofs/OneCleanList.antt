@@ -1,40 +1,32 @@
 -- Cleaning has one result, since the leftmost rewriting is a function.
-use Rattle.std.proofs.Common.{◌≡◌, true, false, refl, ap, sym, ◌∙◌, subst, List, [], ◌∷◌, ◌++◌, Option, None, Some, cond}
+use Rattle.std.proofs.Common.{◌≡◌, true, false, refl, ap, sym, ◌∙◌, subst, List, [], ◌∷◌, ◌++◌, Some, cond}
 use Rattle.niss_moves.specs.Canonical.{face_may_follow, IsCanonical}
 use Rattle.niss_moves.specs.Cleaning.{rewritten_pair, IsRewriting, Cleans, Clean, Rewrite}
+use Rattle.niss_moves.specs.CleanedLine.{after_first, rewritten_once}
 use Rattle.niss_moves.specs.RewritingLaws.{OneCleanList, CanonicalStays}
 use Rattle.niss_moves.specs.declared.turn.Turn.{Turn}
 use Rattle.niss_moves.proofs.Logic.{and_left, and_right}
 use Rattle.niss_moves.proofs.CanonicalLists.{canonical_pair}
 
 -- the leftmost rewriting, computed
-with_first : Turn → Option (List Turn) → Option (List Turn)
-with_first x None = None
-with_first x (Some s) = Some (x ∷ s)
+once_here : (x y : Turn) (s : List Turn) → face_may_follow x.face y.face ≡ false → rewritten_once (x ∷ y ∷ s) ≡ Some (rewritten_pair x y ++ s)
+unfolding rewritten_once
+once_here x y s e = ap (λ b. cond b (after_first x (rewritten_once (y ∷ s))) (Some (rewritten_pair x y ++ s))) e
 
-once : List Turn → Option (List Turn)
-once [] = None
-once (x ∷ []) = None
-once (x ∷ y ∷ s) = cond (face_may_follow x.face y.face) (with_first x (once (y ∷ s))) (Some (rewritten_pair x y ++ s))
-
-once_here : (x y : Turn) (s : List Turn) → face_may_follow x.face y.face ≡ false → once (x ∷ y ∷ s) ≡ Some (rewritten_pair x y ++ s)
-unfolding once
-once_here x y s e = ap (λ b. cond b (with_first x (once (y ∷ s))) (Some (rewritten_pair x y ++ s))) e
-
-once_later : (x y : Turn) (s t : List Turn) → face_may_follow x.face y.face ≡ true → once (y ∷ s) ≡ Some t → once (x ∷ y ∷ s) ≡ Some (x ∷ t)
-unfolding once with_first
+once_later : (x y : Turn) (s t : List Turn) → face_may_follow x.face y.face ≡ true → rewritten_once (y ∷ s) ≡ Some t → rewritten_once (x ∷ y ∷ s) ≡ Some (x ∷ t)
+unfolding rewritten_once
 once_later x y s t e h =
-    ap (λ b. cond b (with_first x (once (y ∷ s))) (Some (rewritten_pair x y ++ s))) e ∙ ap (with_first x) h
+    ap (λ b. cond b (after_first x (rewritten_once (y ∷ s))) (Some (rewritten_pair x y ++ s))) e ∙ ap (after_first x) h
 
-once_is : (front : List Turn) (l r : Turn) (rest : List Turn) → IsCanonical (front ++ l ∷ []) → face_may_follow l.face r.face ≡ false → once (front ++ l ∷ r ∷ rest) ≡ Some ((front ++ rewritten_pair l r) ++ rest)
+once_is : (front : List Turn) (l r : Turn) (rest : List Turn) → IsCanonical (front ++ l ∷ []) → face_may_follow l.face r.face ≡ false → rewritten_once (front ++ l ∷ r ∷ rest) ≡ Some ((front ++ rewritten_pair l r) ++ rest)
 once_is [] l r rest h e = once_here l r rest e
 once_is (x ∷ []) l r rest h e = once_later x l (r ∷ rest) _ (and_left _ _ h) (once_here l r rest e)
 once_is (x ∷ y ∷ front) l r rest h e =
     once_later x y (front ++ l ∷ r ∷ rest) _ (and_left _ _ h) (once_is (y ∷ front) l r rest (and_right (face_may_follow x.face y.face) _ h) e)
 
-once_rewriting : (s t : List Turn) → IsRewriting s t → once s ≡ Some t
+once_rewriting : (s t : List Turn) → IsRewriting s t → rewritten_once s ≡ Some t
 once_rewriting s t w =
-    ap once w.at ∙ once_is w.front w.left w.right w.rest w.leftmost w.breaks ∙ ap Some (sym w.result)
+    ap rewritten_once w.at ∙ once_is w.front w.left w.right w.rest w.leftmost w.breaks ∙ ap Some (sym w.result)
 
 not_both : (s t : List Turn) → IsCanonical s → IsRewriting s t → ⊥
 not_both s t h w =
