@@ -5,7 +5,7 @@ use Rattle.std.proofs.lemmas.List.Elements.{Contains-push, All-push, All-contain
 use Rattle.std.proofs.lemmas.List.{get_or_append_left}
 use Rattle.niss_moves.specs.Canonical.{may_follow, IsCanonical, last_turn, canonical_extensions, all_canonical}
 use Rattle.niss_moves.specs.RewritingLaws.{CanonicalMembers, CanonicalGrows}
-use Rattle.niss_moves.specs.declared.turn.Turn.{Turn}
+use Rattle.niss_moves.specs.Names.{Turn}
 use Rattle.niss_moves.proofs.MadeLists.{none, here, first_or_later, in_map, from_map, in_filter, from_filter, in_flat_map, from_flat_map}
 use Rattle.niss_moves.proofs.CanonicalLists.{canonical_front, canonical_pair, canonical_push, last_of, snoc_assoc}
 

@@ -6,7 +6,7 @@ use Rattle.std.proofs.lemmas.List.Elements.{All-append, All-weaker, All-contains
 use Rattle.std.proofs.lemmas.List.Kept.{AllPairs-cons, AllPairs-filter}
 use Rattle.niss_moves.specs.Canonical.{may_follow, last_turn, canonical_extensions, all_canonical}
 use Rattle.niss_moves.specs.RewritingLaws.{DiffersFirst, CanonicalInOrder}
-use Rattle.niss_moves.specs.declared.turn.Turn.{Turn}
+use Rattle.niss_moves.specs.Names.{Turn}
 use Rattle.niss_moves.proofs.MadeLists.{here, later, from_map, from_flat_map}
 
 -- pairs of a list by its first element and its rest

@@ -5,9 +5,7 @@ use Rattle.niss_moves.specs.Effects.{effect_of_turns}
 use Rattle.niss_moves.specs.Turn.{opposite, same_face}
 use Rattle.niss_moves.specs.Canonical.{face_may_follow, IsCanonical}
 use Rattle.niss_moves.specs.Cleaning.{sum_of_turns, rewritten_pair, IsRewriting, Cleans, Clean, Rewrite}
-use Rattle.niss_moves.specs.declared.turn.Face.{Face}
-use Rattle.niss_moves.specs.declared.turn.Power.{Power}
-use Rattle.niss_moves.specs.declared.turn.Turn.{Turn}
+use Rattle.niss_moves.specs.Names.{Face, Power, Turn}
 use Rattle.niss_moves.proofs.Finite.{every_face, every_power, at_power, every_place, at_place, every_vector, every_coord, same_place_is}
 use Rattle.niss_moves.proofs.Rotations.{turn, same_face_is, every_turn, at_turn, effect_of_turns-append}
 use Rattle.niss_moves.proofs.CanonicalLists.{exchanged, exchanged_opposite}

@@ -8,7 +8,7 @@ use Rattle.niss_moves.specs.Canonical.{face_may_follow, IsCanonical}
 use Rattle.niss_moves.specs.Cleaning.{rewritten_pair, IsRewriting, Cleans, Clean, Rewrite}
 use Rattle.niss_moves.specs.RewritingLaws.{are_disordered, disorder, CleaningEnds}
 use Rattle.niss_moves.specs.CleanedLine.{after_first, rewritten_once, rewritten_within, most_rewritings, clean_turns, CleanTurnsAreClean}
-use Rattle.niss_moves.specs.declared.turn.Turn.{Turn}
+use Rattle.niss_moves.specs.Names.{Turn}
 use Rattle.niss_moves.proofs.Logic.{and_both}
 use Rattle.niss_moves.proofs.Disorder.{rewriting_lowers}
 

@@ -9,9 +9,7 @@ use Rattle.niss_moves.specs.Line.{Moves}
 use Rattle.niss_moves.specs.Rotations.{IsRotationOf}
 use Rattle.niss_moves.specs.Faces.{faces}
 use Rattle.niss_moves.specs.Cleaning.{Cleans}
-use Rattle.niss_moves.specs.declared.turn.Turn.{Turn}
-use Rattle.niss_moves.specs.declared.rotation.Rotation.{Rotation}
-use Rattle.niss_moves.specs.declared.token.Token.{Token}
+use Rattle.niss_moves.specs.Names.{Turn, Token, Rotation}
 
 with_words-append : (t : List ℕ) (a b : List (List ℕ)) → with_words t (a ++ b) ≡ with_words (with_words t a) b
 with_words-append t [] b = refl

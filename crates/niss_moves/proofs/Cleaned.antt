@@ -6,10 +6,7 @@ use Rattle.niss_moves.specs.Canonical.{face_may_follow, last_turn, IsCanonical}
 use Rattle.niss_moves.proofs.AllCanonical.{last_turn-push}
 use Rattle.niss_moves.specs.Cleaning.{turn_by, sum_of_powers, sum_of_turns, rewritten_pair, Cleans, Clean, Rewrite}
 use Rattle.niss_moves.specs.Helpers.{pair_of_turns, list_with_turn}
-use Rattle.niss_moves.specs.declared.turn.Face.{Face}
-use Rattle.niss_moves.specs.declared.turn.Face.TheVariants.{U, D, R, L, F, B}
-use Rattle.niss_moves.specs.declared.turn.Power.{Power}
-use Rattle.niss_moves.specs.declared.turn.Turn.{Turn}
+use Rattle.niss_moves.specs.Names.{Face, U, D, R, L, F, B, Power, Turn}
 use denote.Enum.Bare.{sameb}
 use Rattle.niss_moves.specs.contracts.turn.Face.{the_type}
 use Rattle.niss_moves.proofs.Logic.{and_both}

@@ -6,16 +6,10 @@ use Rattle.niss_moves.proofs.Symbols.{symbol_of_face, symbol_of_lower, symbol_of
 use Rattle.niss_moves.specs.Notation.{lower_letter, slice_letter, rotation_letter, base_bytes, token_of, Plain, Typographic, Suffix, Nothing, Two, Prime, TwoPrime, suffix_bytes, suffix_power, Blank, blank_byte}
 use Rattle.niss_moves.specs.Line.{Piece, Gap, Spelled, piece_bytes, piece_moves, Item, Outside, Bracket, item_bytes, item_normal, item_bracketed, Spells}
 use Rattle.niss_moves.specs.Machine.{symbol_of, State, start, outside, inside, added, settled, opened, closed, count, with_last, fed_to, step_by, step_at, step_within, and_then, run_within}
-use Rattle.niss_moves.specs.declared.turn.Face.{Face}
-use Rattle.niss_moves.specs.declared.turn.Power.TheVariants.{Half, Counter}
-use Rattle.niss_moves.specs.declared.token.Token.{Token}
-use Rattle.niss_moves.specs.declared.base.Base.{Base}
+use Rattle.niss_moves.specs.Names.{Face, Half, Counter, Token, Base, LastMove, ReadFault, TooLong}
 use Rattle.niss_moves.specs.declared.base.Base.TheVariants as base
-use Rattle.niss_moves.specs.declared.partial_line.LastMove.{LastMove}
 use Rattle.niss_moves.specs.declared.partial_line.LastMove.TheVariants as last
 use Rattle.niss_moves.specs.declared.symbol.Symbol.TheVariants as symbol
-use Rattle.niss_moves.specs.declared.fault.ReadFault.{ReadFault}
-use Rattle.niss_moves.specs.declared.fault.ReadFault.TheVariants.{TooLong}
 
 pub and_then-assoc : (r : Result State ReadFault) (f g h : State → Result State ReadFault) → ((t : State) → h t ≡ and_then (f t) g) → and_then r h ≡ and_then (and_then r f) g
 and_then-assoc (Ok t) f g h e = e t

@@ -6,9 +6,7 @@ use Rattle.niss_moves.specs.Turn.{opposite, same_face, goes_first}
 use Rattle.niss_moves.specs.Canonical.{face_may_follow}
 use Rattle.niss_moves.specs.Cleaning.{turn_by, sum_of_powers, rewritten_pair}
 use Rattle.niss_moves.specs.RewritingLaws.{are_disordered, disorder, RewritingLowers}
-use Rattle.niss_moves.specs.declared.turn.Face.{Face}
-use Rattle.niss_moves.specs.declared.turn.Power.{Power}
-use Rattle.niss_moves.specs.declared.turn.Turn.{Turn}
+use Rattle.niss_moves.specs.Names.{Face, Power, Turn}
 use Rattle.niss_moves.proofs.Finite.{every_face, at_face, implies, by_implies}
 use Rattle.niss_moves.proofs.Logic.{and_left, and_right, not_true}
 use Rattle.niss_moves.proofs.CanonicalLists.{are_exchanged, exchanged}

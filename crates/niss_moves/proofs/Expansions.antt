@@ -3,7 +3,7 @@ use Rattle.std.proofs.Common.{◌≡◌, Bool, true, refl, map}
 use Rattle.niss_moves.specs.Places.{Place, same_place}
 use Rattle.niss_moves.specs.Effects.{effect, moved_by}
 use Rattle.niss_moves.specs.Faces.{expanded, token_of_basic}
-use Rattle.niss_moves.specs.declared.token.Token.{Token}
+use Rattle.niss_moves.specs.Names.{Token}
 use Rattle.niss_moves.proofs.Finite.{every_coord, every_vector, every_slice, every_place, at_place, every_token, at_token, same_place_is, every_face, every_power, every_axis}
 
 abbrev Expands : Token → Place → Bool

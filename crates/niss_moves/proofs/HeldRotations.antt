@@ -3,11 +3,7 @@ use Rattle.std.proofs.Common.{◌≡◌, ap₂, sym, ◌∙◌, subst, [], ◌�
 use Rattle.niss_moves.specs.Canonical.{face_order}
 use Rattle.niss_moves.specs.Helpers.{rotation_by}
 use Rattle.niss_moves.specs.Rotations.{face_before, face_before_power}
-use Rattle.niss_moves.specs.declared.axis.Axis.{Axis}
-use Rattle.niss_moves.specs.declared.turn.Face.{Face}
-use Rattle.niss_moves.specs.declared.turn.Face.TheVariants.{U, D, R, L, F, B}
-use Rattle.niss_moves.specs.declared.turn.Power.{Power}
-use Rattle.niss_moves.specs.declared.rotation.Rotation.{Rotation}
+use Rattle.niss_moves.specs.Names.{Face, U, D, R, L, F, B, Power, Axis, Rotation}
 use Rattle.niss_moves.proofs.Rotations.{IsNext}
 use Rattle.niss_moves.proofs.Home.{next_rotation, is_next}
 

@@ -8,16 +8,8 @@ use Rattle.niss_moves.specs.Rotations.{face_before, face_before_power, renamed_t
 use Rattle.niss_moves.specs.Helpers.{vertical_of, rotation_by}
 use Rattle.niss_moves.specs.Faces.{BasicMove, FaceTurn, WholeRotation, token_of_basic, expanded, faces_with, faces}
 use Rattle.niss_moves.specs.RewritingLaws.{CentresComeHome, FacesAreHome}
-use Rattle.niss_moves.specs.declared.axis.Axis.{Axis}
-use Rattle.niss_moves.specs.declared.axis.Axis.TheVariants.{Ud, Rl, Fb}
-use Rattle.niss_moves.specs.declared.turn.Face.{Face}
-use Rattle.niss_moves.specs.declared.turn.Face.TheVariants.{U, D, R, L, F, B}
-use Rattle.niss_moves.specs.declared.turn.Power.{Power}
-use Rattle.niss_moves.specs.declared.turn.Power.TheVariants.{Quarter, Half, Counter}
-use Rattle.niss_moves.specs.declared.turn.Turn.{Turn}
-use Rattle.niss_moves.specs.declared.token.Token.{Token}
+use Rattle.niss_moves.specs.Names.{Face, U, D, R, L, F, B, Power, Quarter, Half, Counter, Turn, Axis, Ud, Rl, Fb, Token, Rotation}
 use Rattle.niss_moves.specs.declared.token.Token.TheVariants as token
-use Rattle.niss_moves.specs.declared.rotation.Rotation.{Rotation}
 use Rattle.niss_moves.proofs.Finite.{every_face, every_power, at_power, every_axis, at_axis, every_optional_power}
 use Rattle.niss_moves.proofs.Inverses.{effect-append, inverse_after}
 use Rattle.niss_moves.proofs.Expansions.{effect_of_expanded}

@@ -4,7 +4,7 @@ use Rattle.niss_moves.specs.Canonical.{face_may_follow, IsCanonical}
 use Rattle.niss_moves.specs.Cleaning.{rewritten_pair, IsRewriting, Cleans, Clean, Rewrite}
 use Rattle.niss_moves.specs.CleanedLine.{after_first, rewritten_once}
 use Rattle.niss_moves.specs.RewritingLaws.{OneCleanList, CanonicalStays}
-use Rattle.niss_moves.specs.declared.turn.Turn.{Turn}
+use Rattle.niss_moves.specs.Names.{Turn}
 use Rattle.niss_moves.proofs.Logic.{and_left, and_right}
 use Rattle.niss_moves.proofs.CanonicalLists.{canonical_pair}
 

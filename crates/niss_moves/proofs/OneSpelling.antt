@@ -6,10 +6,7 @@ use Rattle.niss_moves.specs.Effects.{effect}
 use Rattle.niss_moves.specs.Rotations.{spelling}
 use Rattle.niss_moves.specs.Turn.{same_face}
 use Rattle.niss_moves.specs.RewritingLaws.{OneSpelling}
-use Rattle.niss_moves.specs.declared.turn.Face.{Face}
-use Rattle.niss_moves.specs.declared.turn.Power.{Power}
-use Rattle.niss_moves.specs.declared.turn.Power.TheVariants.{Quarter, Half, Counter}
-use Rattle.niss_moves.specs.declared.rotation.Rotation.{Rotation}
+use Rattle.niss_moves.specs.Names.{Face, Power, Quarter, Half, Counter, Rotation}
 use Rattle.niss_moves.proofs.Finite.{every_face, every_power, every_optional_power, all_faces, same_place_of, implies, by_implies}
 use Rattle.niss_moves.proofs.Logic.{and_left, and_right}
 use Rattle.niss_moves.proofs.Rotations.{every_rotation, at_rotation, same_face_is}

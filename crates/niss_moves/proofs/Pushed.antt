@@ -8,15 +8,8 @@ use Rattle.niss_moves.specs.Rotations.{face_before, face_before_power, renamed_t
 use Rattle.niss_moves.specs.Faces.{BasicMove, FaceTurn, WholeRotation, faces, expanded, token_of_basic, faces_with}
 use Rattle.niss_moves.specs.Cleaning.{Cleans}
 use Rattle.niss_moves.specs.Turn.{opposite}
-use Rattle.niss_moves.specs.declared.turn.Face.{Face}
-use Rattle.niss_moves.specs.declared.turn.Face.TheVariants.{U}
-use Rattle.niss_moves.specs.declared.turn.Power.{Power}
-use Rattle.niss_moves.specs.declared.turn.Turn.{Turn}
-use Rattle.niss_moves.specs.declared.axis.Axis.{Axis}
-use Rattle.niss_moves.specs.declared.token.Slice.{Slice}
-use Rattle.niss_moves.specs.declared.token.Token.{Token}
+use Rattle.niss_moves.specs.Names.{Face, U, Power, Turn, Axis, Slice, Token, Rotation}
 use Rattle.niss_moves.specs.declared.token.Token.TheVariants as token
-use Rattle.niss_moves.specs.declared.rotation.Rotation.{Rotation}
 use Rattle.niss_moves.proofs.Finite.{every_face, every_power, at_face, same_place_is}
 use Rattle.niss_moves.proofs.Expansions.{effect_of_expanded}
 use Rattle.niss_moves.proofs.Rotations.{turn, rotation, every_turn, at_turn, IsNext, turn_after, effect_of_turns-append}

@@ -5,15 +5,8 @@ use Rattle.niss_moves.specs.Letters.{face_letter}
 use Rattle.niss_moves.specs.Notation.{base_bytes, Suffix, Nothing, Two, Prime, Plain, suffix_bytes, suffix_power, Space}
 use Rattle.niss_moves.specs.Line.{Gap, Spelled, Item, Outside, item_bytes, item_normal, item_bracketed, Spells}
 use Rattle.niss_moves.specs.Text.{word, power_bytes, gap, gap_after, with_word, with_words}
-use Rattle.niss_moves.specs.declared.turn.Face.{Face}
-use Rattle.niss_moves.specs.declared.turn.Face.TheVariants.{U, D, R, L, F, B}
-use Rattle.niss_moves.specs.declared.turn.Power.{Power}
-use Rattle.niss_moves.specs.declared.turn.Power.TheVariants.{Quarter, Half, Counter}
-use Rattle.niss_moves.specs.declared.token.Slice.TheVariants.{M, E, S}
-use Rattle.niss_moves.specs.declared.axis.Axis.TheVariants.{Ud, Rl, Fb}
-use Rattle.niss_moves.specs.declared.token.Token.{Token}
+use Rattle.niss_moves.specs.Names.{Face, U, D, R, L, F, B, Power, Quarter, Half, Counter, Ud, Rl, Fb, M, E, S, Token, Base}
 use Rattle.niss_moves.specs.declared.token.Token.TheVariants as token
-use Rattle.niss_moves.specs.declared.base.Base.{Base}
 use Rattle.niss_moves.specs.declared.base.Base.TheVariants as base
 
 base_of : Token → Base

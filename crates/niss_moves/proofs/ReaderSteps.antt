@@ -2,14 +2,9 @@
 use Rattle.std.proofs.Common.{◌≡◌, ℕ, Bool, refl, ap, sym, ◌∙◌, subst, Result, Ok, Err, MatchResult}
 use Rattle.niss_moves.specs.Notation.{token_of}
 use Rattle.niss_moves.specs.Machine.{State, symbol_of, added, settled, settled_by, apostrophe_power, primed, step_by, step_at, state_of, IsStep}
-use Rattle.niss_moves.specs.declared.turn.Power.TheVariants.{Quarter, Half, Counter}
-use Rattle.niss_moves.specs.declared.token.Token.{Token}
-use Rattle.niss_moves.specs.declared.base.Base.{Base}
-use Rattle.niss_moves.specs.declared.symbol.Symbol.{Symbol}
+use Rattle.niss_moves.specs.Names.{Quarter, Half, Counter, Token, Base, Symbol, LastMove, ReadFault}
 use Rattle.niss_moves.specs.declared.partial_line.PartialLine.{PartialLine}
-use Rattle.niss_moves.specs.declared.partial_line.LastMove.{LastMove}
 use Rattle.niss_moves.specs.declared.partial_line.LastMove.TheVariants as last
-use Rattle.niss_moves.specs.declared.fault.ReadFault.{ReadFault}
 use Rattle.niss_moves.proofs.Completes.{IsReady}
 
 pub settled_at : (t : LastMove) (s n : State) (k : Token) → s.last ≡ t → n ≡ added s k → ((settled_by t s).normal ≡ (added s k).normal) → ((settled_by t s).bracketed ≡ (added s k).bracketed) → n ≡ settled s

@@ -8,11 +8,7 @@ use Rattle.niss_moves.specs.Canonical.{all_canonical, turn_order, is_canonical}
 use Rattle.niss_moves.specs.Cleaning.{Cleans, Clean, Rewrite}
 use Rattle.niss_moves.specs.Text.{with_words}
 use Rattle.niss_moves.specs.CleanText.{rotation_words, cleaned_words, with_bracket}
-use Rattle.niss_moves.specs.declared.axis.Axis.TheVariants.{Ud, Rl, Fb}
-use Rattle.niss_moves.specs.declared.turn.Face.TheVariants.{U, D, R, L, F, B}
-use Rattle.niss_moves.specs.declared.turn.Power.TheVariants.{Quarter, Half, Counter}
-use Rattle.niss_moves.specs.declared.turn.Turn.{Turn}
-use Rattle.niss_moves.specs.declared.token.Slice.TheVariants.{M}
+use Rattle.niss_moves.specs.Names.{U, D, R, L, F, B, Quarter, Half, Counter, Turn, Ud, Rl, Fb, M}
 use Rattle.niss_moves.specs.declared.token.Token.TheVariants as token
 use Rattle.niss_moves.proofs.Finite.{every_coord, every_vector, every_place, at_place, same_place_is}
 use Rattle.niss_moves.proofs.Rotations.{turn, rotation}

@@ -3,17 +3,11 @@ use Rattle.std.proofs.Common.{◌≡◌, ℕ, ◌+◌, ◌-◌, ◌<◌, ◌≤�
 use Rattle.std.proofs.lemmas.Bool.{ltb-true}
 use Rattle.niss_moves.specs.Notation.{token_of}
 use Rattle.niss_moves.specs.Machine.{symbol_of, State, outside, inside, settled, settled_by, opened, closed, begun, count, with_last, fed_to, step_by, step_at, step, step_within, HasRoom, state_of}
-use Rattle.niss_moves.specs.declared.turn.Power.TheVariants.{Quarter, Half, Counter}
-use Rattle.niss_moves.specs.declared.token.Token.{Token}
-use Rattle.niss_moves.specs.declared.base.Base.{Base}
-use Rattle.niss_moves.specs.declared.base.Base.TheVariants as base
+use Rattle.niss_moves.specs.Names.{Quarter, Half, Counter, Token, Base, Symbol, LastMove, ReadFault, NotAMove, TooLong}
 use Rattle.niss_moves.specs.declared.partial_line.PartialLine.{PartialLine}
-use Rattle.niss_moves.specs.declared.partial_line.LastMove.{LastMove}
+use Rattle.niss_moves.specs.declared.base.Base.TheVariants as base
 use Rattle.niss_moves.specs.declared.partial_line.LastMove.TheVariants as last
-use Rattle.niss_moves.specs.declared.symbol.Symbol.{Symbol}
 use Rattle.niss_moves.specs.declared.symbol.Symbol.TheVariants as symbol
-use Rattle.niss_moves.specs.declared.fault.ReadFault.{ReadFault}
-use Rattle.niss_moves.specs.declared.fault.ReadFault.TheVariants.{NotAMove, TooLong}
 use Rattle.niss_moves.proofs.Completes.{count_more}
 
 abbrev Roomy : Result State ReadFault → Type 0

@@ -13,13 +13,7 @@ use Rattle.niss_moves.specs.Text.{with_words}
 use Rattle.niss_moves.specs.CleanText.{cleaned_words, with_bracket}
 use Rattle.niss_moves.proofs.CleanWords.{PutsClean}
 use Rattle.niss_moves.specs.CleanedLine.{clean_turns, rotations, moves_centres_as, rotation_left, with_clean_line, RotationIsLeft}
-use Rattle.niss_moves.specs.declared.turn.Face.{Face}
-use Rattle.niss_moves.specs.declared.turn.Face.TheVariants.{U, D, R, L, F, B}
-use Rattle.niss_moves.specs.declared.turn.Power.{Power}
-use Rattle.niss_moves.specs.declared.turn.Power.TheVariants.{Quarter, Half, Counter}
-use Rattle.niss_moves.specs.declared.turn.Turn.{Turn}
-use Rattle.niss_moves.specs.declared.token.Token.{Token}
-use Rattle.niss_moves.specs.declared.rotation.Rotation.{Rotation}
+use Rattle.niss_moves.specs.Names.{Face, U, D, R, L, F, B, Power, Quarter, Half, Counter, Turn, Token, Rotation}
 use Rattle.niss_moves.proofs.Finite.{same_place_is, same_place_of}
 use Rattle.niss_moves.proofs.Logic.{and_both, and_left, and_right}
 use Rattle.niss_moves.proofs.MadeLists.{none, first_or_later, in_map, in_flat_map}

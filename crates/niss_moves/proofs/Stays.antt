@@ -3,7 +3,7 @@ use Rattle.std.proofs.Common.{◌≡◌, Bool, true, refl}
 use Rattle.niss_moves.specs.Places.{Place, is_place}
 use Rattle.niss_moves.specs.Effects.{moved_by}
 use Rattle.niss_moves.specs.EffectLaws.{PlacesStay}
-use Rattle.niss_moves.specs.declared.token.Token.{Token}
+use Rattle.niss_moves.specs.Names.{Token}
 use Rattle.niss_moves.proofs.Finite.{every_place, at_place, every_token, at_token, every_vector, every_coord, every_power, every_face, every_slice, every_axis, implies, by_implies}
 
 abbrev Stays : Token → Place → Bool

@@ -7,8 +7,7 @@ use Rattle.niss_moves.specs.EffectLaws.{TurnsAreMoves, OneMeaning}
 use Rattle.niss_moves.specs.Rotations.{spelling}
 use Rattle.niss_moves.specs.Faces.{faces}
 use Rattle.niss_moves.specs.RewritingLaws.{LineIsHome, FacesAndRotation, CleanedEffect}
-use Rattle.niss_moves.specs.declared.token.Token.{Token}
-use Rattle.niss_moves.specs.declared.turn.Face.{Face}
+use Rattle.niss_moves.specs.Names.{Face, Token}
 use Rattle.niss_moves.proofs.Inverses.{inverse_after, meaning, undone_by}
 use Rattle.niss_moves.proofs.CleanEffect.{cleans_effect}
 use Rattle.niss_moves.proofs.OneSpelling.{one_spelling}

@@ -6,7 +6,7 @@ use Rattle.niss_moves.specs.Facelets.{centre}
 use Rattle.niss_moves.specs.Faces.{faces}
 use Rattle.niss_moves.specs.Helpers.{turns_in}
 use Rattle.niss_moves.specs.Rotations.{face_before, renamed_turn, spelling}
-use Rattle.niss_moves.specs.declared.turn.Turn.{Turn}
+use Rattle.niss_moves.specs.Names.{Turn}
 use Rattle.niss_moves.proofs.Cleaned.{cleans_all}
 use Rattle.niss_moves.proofs.Pushed.{Pushed, cleans_more, centres_more, map_none}
 use Rattle.niss_moves.proofs.cleaning.clean_into.Goals as goal

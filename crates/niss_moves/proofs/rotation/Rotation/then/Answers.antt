@@ -1,5 +1,5 @@
 use Rattle.std.proofs.Common.{sym, subst}
-use Rattle.niss_moves.specs.declared.rotation.Rotation.{Rotation}
+use Rattle.niss_moves.specs.Names.{Rotation}
 use Rattle.niss_moves.proofs.Rotations.{IsNext, beside_of}
 use Rattle.niss_moves.proofs.HeldRotations.{by_next}
 use Rattle.niss_moves.proofs.rotation.Rotation.then.Goals as goal
