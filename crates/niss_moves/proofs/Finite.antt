@@ -99,8 +99,7 @@ same_place_is q r e =
 
 pub same_coord_self : (a : Coord) → same_coord a a ≡ true
 same_coord_self Neg = refl
-same_coord_self Zero = refl
-same_coord_self Pos = refl
+same_coord_self _ = refl
 
 pub same_vector_self : (v : Vector) → same_vector v v ≡ true
 same_vector_self v = and_both _ _ (and_both _ _ (same_coord_self v.x) (same_coord_self v.y)) (same_coord_self v.z)

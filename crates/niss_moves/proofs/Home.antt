@@ -91,16 +91,8 @@ left_by (t ∷ s) =
 no_faces : (f : Face) (o : Option Power) → faces (inverse (spelling (rotation f o))) ≡ []
 no_faces U None = refl
 no_faces U (Some p) = refl
-no_faces D None = refl
-no_faces D (Some p) = refl
-no_faces R None = refl
-no_faces R (Some p) = refl
-no_faces L None = refl
-no_faces L (Some p) = refl
-no_faces F None = refl
-no_faces F (Some p) = refl
-no_faces B None = refl
-no_faces B (Some p) = refl
+no_faces _ None = refl
+no_faces _ (Some p) = refl
 
 undone : (r : Rotation) → (h : Rotation) × ((q : Place) → effect (spelling h) (effect (spelling r) q) ≡ q)
 undone r =

@@ -3,7 +3,7 @@ use Rattle.std.proofs.Common.{◌≡◌, Bool, true, refl, ap, sym, ◌∙◌, L
 use Rattle.std.proofs.lemmas.List.{reverse-append, map-append, reverse-reverse}
 use Rattle.niss_moves.specs.Places.{Place, same_place}
 use Rattle.niss_moves.specs.Effects.{effect, moved_by, inverse, inverse_token, inverse_power, HasMeaning}
-use Rattle.niss_moves.specs.Names.{Power, Quarter, Half, Counter, Token}
+use Rattle.niss_moves.specs.Names.{Power, Quarter, Token}
 use Rattle.niss_moves.specs.declared.token.Token.TheVariants as token
 use Rattle.niss_moves.proofs.Finite.{every_place, at_place, every_token, at_token, every_vector, every_coord, every_power, every_face, every_slice, every_axis, same_place_is}
 
@@ -23,8 +23,7 @@ undoes t q = same_place_is _ _ (at_place (λ q. Undoes t q) (at_token (λ t. eve
 
 twice_power : (p : Power) → inverse_power (inverse_power p) ≡ p
 twice_power Quarter = refl
-twice_power Half = refl
-twice_power Counter = refl
+twice_power _ = refl
 
 twice_token : (t : Token) → inverse_token (inverse_token t) ≡ t
 twice_token (token.Face t) = ap (λ p. token.Face (record t { power = p })) (twice_power t.power)

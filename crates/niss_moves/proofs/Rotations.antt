@@ -44,11 +44,7 @@ same_face_is _ _ e = cc
 
 same_face_self : (a : Face) → same_face a a ≡ true
 same_face_self U = refl
-same_face_self D = refl
-same_face_self R = refl
-same_face_self L = refl
-same_face_self F = refl
-same_face_self B = refl
+same_face_self _ = refl
 
 pub same_face_of : (a b : Face) → a ≡ b → same_face a b ≡ true
 same_face_of a b e = subst (λ (b : Face). same_face a b ≡ true) e (same_face_self a)
@@ -75,16 +71,8 @@ on_place g q = record { cell = g q.cell; direction = g q.direction }
 effect_of_rotation : (f : Face) (o : Option Power) (q : Place) → effect (spelling (rotation f o)) q ≡ on_place (rotated_vector (rotation f o)) q
 effect_of_rotation U None q = refl
 effect_of_rotation U (Some p) q = refl
-effect_of_rotation D None q = refl
-effect_of_rotation D (Some p) q = refl
-effect_of_rotation R None q = refl
-effect_of_rotation R (Some p) q = refl
-effect_of_rotation L None q = refl
-effect_of_rotation L (Some p) q = refl
-effect_of_rotation F None q = refl
-effect_of_rotation F (Some p) q = refl
-effect_of_rotation B None q = refl
-effect_of_rotation B (Some p) q = refl
+effect_of_rotation _ None q = refl
+effect_of_rotation _ (Some p) q = refl
 
 pub effect_of_spelling : (r : Rotation) (q : Place) → effect (spelling r) q ≡ on_place (rotated_vector r) q
 effect_of_spelling r q = effect_of_rotation r.top r.vertical q

@@ -165,10 +165,9 @@ ready_front s bytes r h =
   where
     whole : (t : LastMove) → IsReady t → cut_of t ≡ Whole
     whole last.Finished r = refl
-    whole (last.Bare b) r = refl
-    whole (last.Doubled b) r = refl
     whole (last.FirstByte b two) r = absurd r
     whole (last.SecondByte b two) r = absurd r
+    whole _ r = refl
 
 abbrev pub is_open : Option ℕ → Bool
 is_open None = false

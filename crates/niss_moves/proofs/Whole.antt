@@ -6,7 +6,7 @@ use Rattle.std.proofs.Math.Seq.{take-append_seam, take-append-add, get_or-append
 use Rattle.niss_moves.specs.Line.{Gap, Spelled, piece_bytes, Piece, item_bytes, Spells, IsLine}
 use Rattle.niss_moves.specs.Faults.{has_no_bracket, Cut, Whole, LacksOne, LacksTwo, cut_ending, cut_length, bracket_ending, Continues, CanContinue, StopsAt, EndsEarly, OpensAt, Stops, Lacks}
 use Rattle.niss_moves.specs.Machine.{State, start, settled, step, and_then, run}
-use Rattle.niss_moves.specs.Notation.{base_bytes, Plain, Typographic, Suffix, Nothing, Two, Prime, TwoPrime, suffix_bytes, Space, Tab, Return}
+use Rattle.niss_moves.specs.Notation.{base_bytes, Plain, Suffix, Prime, TwoPrime, suffix_bytes, Space, Tab, Return}
 use Rattle.niss_moves.specs.Names.{Token, Base, LastMove, ReadFault, NotAMove, Nested, Unopened, Unclosed, TooLong}
 use Rattle.niss_moves.specs.declared.base.Base.TheVariants as base
 use Rattle.niss_moves.proofs.Finite.{every_face, at_face, every_slice, at_slice, every_axis, at_axis}
@@ -185,12 +185,9 @@ no_bracket_base (base.Slice l) = at_slice (λ l. has_no_bracket (base_bytes (bas
 no_bracket_base (base.Rotation a) = at_axis (λ a. has_no_bracket (base_bytes (base.Rotation a))) refl a
 
 no_bracket_suffix : (s : Suffix) → has_no_bracket (suffix_bytes s) ≡ true
-no_bracket_suffix Nothing = refl
-no_bracket_suffix Two = refl
 no_bracket_suffix (Prime Plain) = refl
-no_bracket_suffix (Prime Typographic) = refl
 no_bracket_suffix (TwoPrime Plain) = refl
-no_bracket_suffix (TwoPrime Typographic) = refl
+no_bracket_suffix _ = refl
 
 no_bracket_append : (a b : List ℕ) → has_no_bracket a ≡ true → has_no_bracket b ≡ true → has_no_bracket (a ++ b) ≡ true
 no_bracket_append [] b p q = q
