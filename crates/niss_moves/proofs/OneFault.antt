@@ -8,7 +8,7 @@ use Rattle.niss_moves.specs.declared.partial_line.LastMove.TheVariants as last
 use Rattle.niss_moves.specs.declared.symbol.Symbol.TheVariants as symbol
 use Rattle.niss_moves.proofs.Logic.{and_right}
 use Rattle.niss_moves.proofs.Completes.{IsReady, run-append, completes}
-use Rattle.niss_moves.proofs.Sound.{Reads, cut_of, is_open, Refusal, Outcome, step_means}
+use Rattle.niss_moves.proofs.Sound.{Reads, ready_whole, cut_of, is_open, Refusal, Outcome, step_means}
 use Rattle.niss_moves.proofs.Symbols.{first_symbol, symbol_of_open, symbol_of_close}
 use Rattle.niss_moves.proofs.Whole.{reads_all, can_continue, continued_ok, opens_at}
 
@@ -29,39 +29,21 @@ done_ending n b (Some c) k true end e h = refl
 
 ready_ending : (n b : List Token) (o : Option ℕ) (t : LastMove) (k : ℕ) (q : Bool) (end : State) → run (make n b o t k) (bracket_ending q) ≡ Ok end → IsReady end.last → end.bracket ≡ None → (cut_of t ≡ Whole) × (is_open o ≡ q)
 unfolding step_within symbol_of make
-ready_ending n b o t k false end e r h = by_last t (let x : make n b o t k ≡ end = cc in ap (λ s. s.last) x) (let x : make n b o t k ≡ end = cc in ap (λ s. s.bracket) x)
-  where
-    closed_now : (o : Option ℕ) → o ≡ end.bracket → is_open o ≡ false
-    closed_now o x = ap is_open (x ∙ h)
-
-    by_last : (t : LastMove) → t ≡ end.last → o ≡ end.bracket → (cut_of t ≡ Whole) × (is_open o ≡ false)
-    by_last last.Finished x y = (refl, closed_now o y)
-    by_last (last.Bare b) x y = (refl, closed_now o y)
-    by_last (last.Doubled b) x y = (refl, closed_now o y)
-    by_last (last.FirstByte b two) x y = absurd (subst IsReady (sym x) r)
-    by_last (last.SecondByte b two) x y = absurd (subst IsReady (sym x) r)
-ready_ending n b None last.Finished k true end e r h = absurd (cc)
-ready_ending n b None (last.Bare x) k true end e r h = absurd (cc)
-ready_ending n b None (last.Doubled x) k true end e r h = absurd (cc)
+ready_ending n b o t k false end e r h =
+    let x : make n b o t k ≡ end = cc in
+    (ready_whole t (subst (λ (s : State). IsReady s.last) (sym x) r), ap (λ (s : State). is_open s.bracket) x ∙ ap is_open h)
 ready_ending n b (Some c) last.Finished k true end e r h = (refl, refl)
 ready_ending n b (Some c) (last.Bare x) k true end e r h = (refl, refl)
 ready_ending n b (Some c) (last.Doubled x) k true end e r h = (refl, refl)
-ready_ending n b o (last.FirstByte x two) k true end e r h = absurd (cc)
-ready_ending n b o (last.SecondByte x two) k true end e r h = absurd (cc)
+ready_ending n b None last.Finished k true end e r h = absurd (cc)
+ready_ending n b _ _ k true end e r h = absurd (cc)
 
 cut_ending_is : (n b : List Token) (o : Option ℕ) (t : LastMove) (k : ℕ) (c : Cut) (q : Bool) (end : State) → and_then (run (make n b o t k) (cut_ending c)) (λ u. run u (bracket_ending q)) ≡ Ok end → IsReady end.last → end.bracket ≡ None → (cut_of t ≡ c) × (is_open o ≡ q)
 unfolding step_within symbol_of make
 cut_ending_is n b o t k Whole q end e r h = ready_ending n b o t k q end e r h
-cut_ending_is n b o last.Finished k LacksOne q end e r h = absurd (cc)
-cut_ending_is n b o (last.Bare x) k LacksOne q end e r h = absurd (cc)
-cut_ending_is n b o (last.Doubled x) k LacksOne q end e r h = absurd (cc)
-cut_ending_is n b o (last.FirstByte x two) k LacksOne q end e r h = absurd (cc)
 cut_ending_is n b o (last.SecondByte x two) k LacksOne q end e r h = (refl, done_ending _ _ o _ q end e h)
-cut_ending_is n b o last.Finished k LacksTwo q end e r h = absurd (cc)
-cut_ending_is n b o (last.Bare x) k LacksTwo q end e r h = absurd (cc)
-cut_ending_is n b o (last.Doubled x) k LacksTwo q end e r h = absurd (cc)
 cut_ending_is n b o (last.FirstByte x two) k LacksTwo q end e r h = (refl, done_ending _ _ o _ q end e h)
-cut_ending_is n b o (last.SecondByte x two) k LacksTwo q end e r h = absurd (cc)
+cut_ending_is n b o _ k _ q end e r h = absurd (cc)
 
 pub one_ending : (bytes : List ℕ) (s : State) (c : Cut) (q : Bool) → run start bytes ≡ Ok s → Continues bytes c q → (cut_of s.last ≡ c) × (is_open s.bracket ≡ q)
 unfolding make
@@ -142,15 +124,8 @@ long_reported column byte q (Unclosed c) p n t = absurd t
 cut_reported : (column byte : ℕ) (q : Bool) (c : Cut) (g : ReadFault) → 0 < cut_length c → Refusal c q byte (column + cut_length c - 1) g → g ≡ NotAMove column
 cut_reported column byte q Whole g p t = absurd (omega arith)
 cut_reported column byte q LacksOne (NotAMove c) p t = ap NotAMove (omega (arith, t))
-cut_reported column byte q LacksOne (Nested c) p t = absurd t
-cut_reported column byte q LacksOne (Unopened c) p t = absurd t
-cut_reported column byte q LacksOne (TooLong c) p t = absurd t
-cut_reported column byte q LacksOne (Unclosed c) p t = absurd t
 cut_reported column byte q LacksTwo (NotAMove c) p t = ap NotAMove (omega (arith, t))
-cut_reported column byte q LacksTwo (Nested c) p t = absurd t
-cut_reported column byte q LacksTwo (Unopened c) p t = absurd t
-cut_reported column byte q LacksTwo (TooLong c) p t = absurd t
-cut_reported column byte q LacksTwo (Unclosed c) p t = absurd t
+cut_reported column byte q _ _ p t = absurd t
 
 stops_run : (bytes : List ℕ) (f : ReadFault) → Stops bytes f → run start bytes ≡ Err f
 stops_run bytes (NotAMove column) h =
@@ -188,13 +163,11 @@ lacks_ended bytes (NotAMove column) h =
     ap ended w.1 ∙ by_last w.0 w.0.last one.0 (reads_all bytes w.0 w.1)
   where
     by_last : (s : State) (t : LastMove) → cut_of t ≡ h.1 → Reads s bytes → ended_at t s ≡ Err (NotAMove column)
-    by_last s last.Finished e r = absurd (let l = ap cut_length e in omega (arith, h.2))
-    by_last s (last.Bare b) e r = absurd (let l = ap cut_length e in omega (arith, h.2))
-    by_last s (last.Doubled b) e r = absurd (let l = ap cut_length e in omega (arith, h.2))
     by_last s (last.FirstByte b two) e r =
         let l = ap cut_length e in ap (λ n. Err (NotAMove n)) (omega (arith, h.4, r.fed))
     by_last s (last.SecondByte b two) e r =
         let l = ap cut_length e in ap (λ n. Err (NotAMove n)) (omega (arith, h.4, r.fed))
+    by_last s _ e r = absurd (let l = ap cut_length e in omega (arith, h.2))
 lacks_ended bytes (Unclosed column) h =
     let whole = h.0.before (length bytes) (omega arith) in
     let w = continued_ok bytes (subst CanContinue (take_all (length bytes) bytes (omega arith)) whole) in
@@ -202,11 +175,9 @@ lacks_ended bytes (Unclosed column) h =
     ap ended w.1 ∙ by_last w.0 w.0.last one.0 ∙ by_bracket w.0 w.0.bracket refl one.1 (reads_all bytes w.0 w.1)
   where
     by_last : (s : State) (t : LastMove) → cut_of t ≡ Whole → ended_at t s ≡ ended_in s.bracket s
-    by_last s last.Finished e = refl
-    by_last s (last.Bare b) e = refl
-    by_last s (last.Doubled b) e = refl
     by_last s (last.FirstByte b two) e = absurd (cc)
     by_last s (last.SecondByte b two) e = absurd (cc)
+    by_last s _ e = refl
 
     by_bracket : (s : State) (o : Option ℕ) → s.bracket ≡ o → is_open o ≡ true → Reads s bytes → ended_in o s ≡ Err (Unclosed column)
     by_bracket s None b e r = absurd (cc)
@@ -215,9 +186,7 @@ lacks_ended bytes (Unclosed column) h =
         let y = h.1 in
         let l = one_opening x.0 x.1 y.0 y.1 (sym x.2 ∙ y.2) x.3 y.3 in
         ap (λ n. Err (Unclosed n)) (omega (arith, x.4, y.4))
-lacks_ended bytes (Nested column) h = absurd h
-lacks_ended bytes (Unopened column) h = absurd h
-lacks_ended bytes (TooLong column) h = absurd h
+lacks_ended bytes _ h = absurd h
 
 pub fault_ended : (bytes : List ℕ) (f : ReadFault) → Faults bytes f → ended (run start bytes) ≡ Err f
 fault_ended bytes f h = elim h [ inl s ↦ ap ended (stops_run bytes f s) | inr l ↦ lacks_ended bytes f l ]

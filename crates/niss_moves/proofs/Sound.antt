@@ -3,10 +3,10 @@ use Rattle.std.proofs.Common.{◌≡◌, ℕ, ◌+◌, ◌-◌, ◌<◌, ◌≤�
 use Rattle.std.proofs.lemmas.Bool.{ltb-true, eqb-true}
 use Rattle.std.proofs.lemmas.List.Concat.{flat_map-append}
 use Rattle.niss_moves.specs.Letters.{face_letter}
-use Rattle.niss_moves.specs.Notation.{token_of, base_bytes, Typographic, Plain, Suffix, Nothing, Two, Prime, TwoPrime, blank_byte}
+use Rattle.niss_moves.specs.Notation.{token_of, base_bytes, Typographic, Plain, Nothing, Two, Prime, TwoPrime, blank_byte}
 use Rattle.niss_moves.specs.Line.{Piece, Gap, Spelled, piece_bytes, piece_moves, Item, Outside, Bracket, item_bytes, item_normal, item_bracketed}
 use Rattle.niss_moves.specs.Faults.{Cut, Whole, LacksOne, LacksTwo, cut_ending, BeginsBase}
-use Rattle.niss_moves.specs.Machine.{symbol_of, State, start, outside, inside, added, settled, settled_by, opened, closed, widened, doubled, primed, cut, begun, count, with_last, fed_to, step_by, step_at, step, step_within}
+use Rattle.niss_moves.specs.Machine.{symbol_of, State, start, outside, inside, settled, settled_by, opened, closed, widened, doubled, primed, cut, begun, count, with_last, fed_to, step_by, step_at, step, step_within}
 use Rattle.niss_moves.specs.Names.{Quarter, Half, Counter, Token, Base, Symbol, LastMove, ReadFault, NotAMove, Nested, Unopened, Unclosed, TooLong}
 use Rattle.niss_moves.specs.declared.base.Base.TheVariants as base
 use Rattle.niss_moves.specs.declared.partial_line.LastMove.TheVariants as last
@@ -132,42 +132,35 @@ cut_of (last.FirstByte b two) = LacksTwo
 cut_of (last.SecondByte b two) = LacksOne
 cut_of _ = Whole
 
-abbrev cut_suffix : Bool → Suffix
-cut_suffix true = TwoPrime Typographic
-cut_suffix false = Prime Typographic
-
 -- the bytes with the end of a cut U+2019, as whole pieces
 pub settled_front : (s : State) (bytes : List ℕ) → Reads s bytes → WholeItems s.bracket (bytes ++ cut_ending (cut_of s.last)) (settled s).normal (settled s).bracketed
 settled_front s bytes h = by_last s.last refl
   where
-    front_is : (t : LastMove) → s.last ≡ t → bytes ≡ h.front ++ last_bytes t
-    front_is t e = h.bytes_are ∙ ap (λ t. h.front ++ last_bytes t) e
+    ended : (t : LastMove) → s.last ≡ t → (p : Piece) → last_bytes t ++ cut_ending (cut_of t) ≡ piece_bytes p
+        → WholeItems s.bracket (bytes ++ cut_ending (cut_of t)) (outside s.bracket s.normal (piece_moves p)) (inside s.bracket s.bracketed (piece_moves p))
+    ended t e p same =
+        let is : bytes ++ cut_ending (cut_of t) ≡ h.front ++ piece_bytes p =
+        ap (λ x. x ++ cut_ending (cut_of t)) (h.bytes_are ∙ ap (λ t. h.front ++ last_bytes t) e) ∙ append_assoc h.front (last_bytes t) (cut_ending (cut_of t)) ∙ ap (λ x. h.front ++ x) same in
+        subst (λ (x : List ℕ). WholeItems s.bracket x (outside s.bracket s.normal (piece_moves p)) (inside s.bracket s.bracketed (piece_moves p))) (sym is) (front_piece _ _ _ _ p h.is_front)
 
     by_last : (t : LastMove) → s.last ≡ t → WholeItems s.bracket (bytes ++ cut_ending (cut_of t)) (settled_by t s).normal (settled_by t s).bracketed
     by_last last.Finished e =
-        subst (λ (x : List ℕ). WholeItems s.bracket x s.normal s.bracketed) (sym (append-nil _ ∙ (h.bytes_are ∙ ap (λ t. h.front ++ last_bytes t) e) ∙ append-nil _)) h.is_front
-    by_last (last.Bare b) e =
-        subst (λ (x : List ℕ). WholeItems s.bracket x (added s (token_of b Quarter)).normal (added s (token_of b Quarter)).bracketed) (sym (append-nil _ ∙ (h.bytes_are ∙ ap (λ t. h.front ++ last_bytes t) e) ∙ ap (λ x. h.front ++ x) (sym (append-nil (base_bytes b))))) (front_piece _ _ _ _ (Spelled b Nothing) h.is_front)
-    by_last (last.Doubled b) e =
-        subst (λ (x : List ℕ). WholeItems s.bracket x (added s (token_of b Half)).normal (added s (token_of b Half)).bracketed) (sym (append-nil _ ∙ (h.bytes_are ∙ ap (λ t. h.front ++ last_bytes t) e))) (front_piece _ _ _ _ (Spelled b Two) h.is_front)
-    by_last (last.FirstByte b true) e =
-        subst (λ (x : List ℕ). WholeItems s.bracket x (added s (token_of b Half)).normal (added s (token_of b Half)).bracketed) (sym (ap (λ x. x ++ 0x80 ∷ 0x99 ∷ []) (h.bytes_are ∙ ap (λ t. h.front ++ last_bytes t) e) ∙ simp append_assoc)) (front_piece _ _ _ _ (Spelled b (TwoPrime Typographic)) h.is_front)
-    by_last (last.FirstByte b false) e =
-        subst (λ (x : List ℕ). WholeItems s.bracket x (added s (token_of b Counter)).normal (added s (token_of b Counter)).bracketed) (sym (ap (λ x. x ++ 0x80 ∷ 0x99 ∷ []) (h.bytes_are ∙ ap (λ t. h.front ++ last_bytes t) e) ∙ simp append_assoc)) (front_piece _ _ _ _ (Spelled b (Prime Typographic)) h.is_front)
-    by_last (last.SecondByte b true) e =
-        subst (λ (x : List ℕ). WholeItems s.bracket x (added s (token_of b Half)).normal (added s (token_of b Half)).bracketed) (sym (ap (λ x. x ++ 0x99 ∷ []) (h.bytes_are ∙ ap (λ t. h.front ++ last_bytes t) e) ∙ simp append_assoc)) (front_piece _ _ _ _ (Spelled b (TwoPrime Typographic)) h.is_front)
-    by_last (last.SecondByte b false) e =
-        subst (λ (x : List ℕ). WholeItems s.bracket x (added s (token_of b Counter)).normal (added s (token_of b Counter)).bracketed) (sym (ap (λ x. x ++ 0x99 ∷ []) (h.bytes_are ∙ ap (λ t. h.front ++ last_bytes t) e) ∙ simp append_assoc)) (front_piece _ _ _ _ (Spelled b (Prime Typographic)) h.is_front)
+        subst (λ (x : List ℕ). WholeItems s.bracket x s.normal s.bracketed) (sym (append-nil _ ∙ h.bytes_are ∙ ap (λ t. h.front ++ last_bytes t) e ∙ append-nil _)) h.is_front
+    by_last (last.Bare b) e = ended (last.Bare b) e (Spelled b Nothing) refl
+    by_last (last.Doubled b) e = ended (last.Doubled b) e (Spelled b Two) (append-nil _)
+    by_last (last.FirstByte b true) e = ended (last.FirstByte b true) e (Spelled b (TwoPrime Typographic)) (simp append_assoc)
+    by_last (last.FirstByte b false) e = ended (last.FirstByte b false) e (Spelled b (Prime Typographic)) (simp append_assoc)
+    by_last (last.SecondByte b true) e = ended (last.SecondByte b true) e (Spelled b (TwoPrime Typographic)) (simp append_assoc)
+    by_last (last.SecondByte b false) e = ended (last.SecondByte b false) e (Spelled b (Prime Typographic)) (simp append_assoc)
+
+pub ready_whole : (t : LastMove) → IsReady t → cut_of t ≡ Whole
+ready_whole (last.FirstByte b two) r = absurd r
+ready_whole (last.SecondByte b two) r = absurd r
+ready_whole _ r = refl
 
 ready_front : (s : State) (bytes : List ℕ) → IsReady s.last → Reads s bytes → WholeItems s.bracket bytes (settled s).normal (settled s).bracketed
 ready_front s bytes r h =
-    subst (λ (x : List ℕ). WholeItems s.bracket x (settled s).normal (settled s).bracketed) (ap (λ c. bytes ++ cut_ending c) (whole s.last r) ∙ append-nil bytes) (settled_front s bytes h)
-  where
-    whole : (t : LastMove) → IsReady t → cut_of t ≡ Whole
-    whole last.Finished r = refl
-    whole (last.FirstByte b two) r = absurd r
-    whole (last.SecondByte b two) r = absurd r
-    whole _ r = refl
+    subst (λ (x : List ℕ). WholeItems s.bracket x (settled s).normal (settled s).bracketed) (ap (λ c. bytes ++ cut_ending c) (ready_whole s.last r) ∙ append-nil bytes) (settled_front s bytes h)
 
 abbrev pub is_open : Option ℕ → Bool
 is_open None = false
@@ -252,14 +245,7 @@ wide_means q n b o (last.Bare (base.Face f)) k bytes byte e x h =
       fed = fed_more _ _ _ h.fed;
       room = omega (arith, h.room, count_more o n b (token_of (base.Face f) Quarter ∷ []), count_more o n b (token_of (base.Wide f) Quarter ∷ []));
     }
-wide_means q n b o (last.Bare (base.Wide f)) k bytes byte e x h = reported_other q byte (length bytes) k symbol.Wide e tt h.fed
-wide_means q n b o (last.Bare (base.LowerCase f)) k bytes byte e x h = reported_other q byte (length bytes) k symbol.Wide e tt h.fed
-wide_means q n b o (last.Bare (base.Slice f)) k bytes byte e x h = reported_other q byte (length bytes) k symbol.Wide e tt h.fed
-wide_means q n b o (last.Bare (base.Rotation f)) k bytes byte e x h = reported_other q byte (length bytes) k symbol.Wide e tt h.fed
-wide_means q n b o last.Finished k bytes byte e x h = reported_other q byte (length bytes) k symbol.Wide e tt h.fed
-wide_means q n b o (last.Doubled f) k bytes byte e x h = reported_other q byte (length bytes) k symbol.Wide e tt h.fed
-wide_means q n b o (last.FirstByte f two) k bytes byte e x h = reported_other q byte (length bytes) k symbol.Wide e tt h.fed
-wide_means q n b o (last.SecondByte f two) k bytes byte e x h = reported_other q byte (length bytes) k symbol.Wide e tt h.fed
+wide_means q n b o _ k bytes byte e x h = reported_other q byte (length bytes) k symbol.Wide e tt h.fed
 
 two_means : (q : Bool) (n b : List Token) (o : Option ℕ) (t : LastMove) (k : ℕ) (bytes : List ℕ) (byte : ℕ) → symbol_of byte ≡ symbol.Two → byte ≡ 50 → Reads (state n b o t k) bytes → Outcome Whole q bytes byte (fed_to (k + 1) (doubled t (state n b o t k)))
 unfolding state
@@ -271,10 +257,7 @@ two_means q n b o (last.Bare f) k bytes byte e x h =
       fed = fed_more _ _ _ h.fed;
       room = omega (arith, h.room, count_more o n b (token_of f Quarter ∷ []), count_more o n b (token_of f Half ∷ []));
     }
-two_means q n b o last.Finished k bytes byte e x h = reported_other q byte (length bytes) k symbol.Two e tt h.fed
-two_means q n b o (last.Doubled f) k bytes byte e x h = reported_other q byte (length bytes) k symbol.Two e tt h.fed
-two_means q n b o (last.FirstByte f two) k bytes byte e x h = reported_other q byte (length bytes) k symbol.Two e tt h.fed
-two_means q n b o (last.SecondByte f two) k bytes byte e x h = reported_other q byte (length bytes) k symbol.Two e tt h.fed
+two_means q n b o _ k bytes byte e x h = reported_other q byte (length bytes) k symbol.Two e tt h.fed
 
 prime_means : (q : Bool) (n b : List Token) (o : Option ℕ) (t : LastMove) (k : ℕ) (bytes : List ℕ) (byte : ℕ) → symbol_of byte ≡ symbol.Apostrophe → byte ≡ 39 → Reads (state n b o t k) bytes → Outcome Whole q bytes byte (fed_to (k + 1) (primed t (state n b o t k)))
 unfolding state
@@ -282,9 +265,7 @@ prime_means q n b o (last.Bare f) k bytes byte e x h =
     front_reads _ _ (subst (λ (z : List ℕ). WholeItems o z (outside o n (token_of f Counter ∷ [])) (inside o b (token_of f Counter ∷ []))) (sym (ap₂ (λ (y : List ℕ) (z : ℕ). y ++ z ∷ []) h.bytes_are x ∙ append_assoc h.front (base_bytes f) (39 ∷ []))) (front_piece _ _ _ _ (Spelled f (Prime Plain)) h.is_front)) refl (fed_more _ _ _ h.fed) (omega (arith, h.room, count_more o n b (token_of f Quarter ∷ []), count_more o n b (token_of f Counter ∷ [])))
 prime_means q n b o (last.Doubled f) k bytes byte e x h =
     front_reads _ _ (subst (λ (z : List ℕ). WholeItems o z (outside o n (token_of f Half ∷ [])) (inside o b (token_of f Half ∷ []))) (sym (ap₂ (λ (y : List ℕ) (z : ℕ). y ++ z ∷ []) h.bytes_are x ∙ append_assoc h.front (base_bytes f ++ 50 ∷ []) (39 ∷ []) ∙ ap (λ y. h.front ++ y) (append_assoc (base_bytes f) (50 ∷ []) (39 ∷ [])))) (front_piece _ _ _ _ (Spelled f (TwoPrime Plain)) h.is_front)) refl (fed_more _ _ _ h.fed) h.room
-prime_means q n b o last.Finished k bytes byte e x h = reported_other q byte (length bytes) k symbol.Apostrophe e tt h.fed
-prime_means q n b o (last.FirstByte f two) k bytes byte e x h = reported_other q byte (length bytes) k symbol.Apostrophe e tt h.fed
-prime_means q n b o (last.SecondByte f two) k bytes byte e x h = reported_other q byte (length bytes) k symbol.Apostrophe e tt h.fed
+prime_means q n b o _ k bytes byte e x h = reported_other q byte (length bytes) k symbol.Apostrophe e tt h.fed
 
 cut_means : (q : Bool) (n b : List Token) (o : Option ℕ) (t : LastMove) (k : ℕ) (bytes : List ℕ) (byte : ℕ) → symbol_of byte ≡ symbol.Cut → byte ≡ 0xE2 → Reads (state n b o t k) bytes → Outcome Whole q bytes byte (fed_to (k + 1) (cut t (state n b o t k)))
 unfolding state
@@ -304,9 +285,7 @@ cut_means q n b o (last.Doubled f) k bytes byte e x h =
       fed = fed_more _ _ _ h.fed;
       room = h.room;
     }
-cut_means q n b o last.Finished k bytes byte e x h = reported_other q byte (length bytes) k symbol.Cut e tt h.fed
-cut_means q n b o (last.FirstByte f two) k bytes byte e x h = reported_other q byte (length bytes) k symbol.Cut e tt h.fed
-cut_means q n b o (last.SecondByte f two) k bytes byte e x h = reported_other q byte (length bytes) k symbol.Cut e tt h.fed
+cut_means q n b o _ k bytes byte e x h = reported_other q byte (length bytes) k symbol.Cut e tt h.fed
 
 symbol_means : (x : Symbol) (n b : List Token) (o : Option ℕ) (t : LastMove) (k : ℕ) (bytes : List ℕ) (byte : ℕ) → symbol_of byte ≡ x → IsSymbol x byte → IsReady t → Reads (state n b o t k) bytes → Outcome Whole (is_open o) bytes byte (fed_to (k + 1) (step_by 256 x (state n b o t k)))
 unfolding state
@@ -358,8 +337,6 @@ unfolding step_within state
 step_means s bytes byte h = by_last s.normal s.bracketed s.bracket s.last s.fed h
   where
     by_last : (n b : List Token) (o : Option ℕ) (t : LastMove) (k : ℕ) → Reads (state n b o t k) bytes → Outcome (cut_of t) (is_open o) bytes byte (fed_to (k + 1) (step_at 256 t (state n b o t k) byte))
-    by_last n b o last.Finished k h = symbol_means (symbol_of byte) n b o last.Finished k bytes byte refl (symbol_is byte) tt h
-    by_last n b o (last.Bare f) k h = symbol_means (symbol_of byte) n b o (last.Bare f) k bytes byte refl (symbol_is byte) tt h
-    by_last n b o (last.Doubled f) k h = symbol_means (symbol_of byte) n b o (last.Doubled f) k bytes byte refl (symbol_is byte) tt h
     by_last n b o (last.FirstByte f two) k h = first_means n b o f two k bytes byte h
     by_last n b o (last.SecondByte f two) k h = second_means n b o f two k bytes byte h
+    by_last n b o t k h = symbol_means (symbol_of byte) n b o t k bytes byte refl (symbol_is byte) tt h

@@ -6,7 +6,7 @@ use Rattle.std.proofs.Math.Seq.{take-append_seam, take-append-add, get_or-append
 use Rattle.niss_moves.specs.Line.{Gap, Spelled, piece_bytes, Piece, item_bytes, Spells, IsLine}
 use Rattle.niss_moves.specs.Faults.{has_no_bracket, Cut, Whole, LacksOne, LacksTwo, cut_ending, cut_length, bracket_ending, Continues, CanContinue, StopsAt, EndsEarly, OpensAt, Stops, Lacks}
 use Rattle.niss_moves.specs.Machine.{State, start, settled, step, and_then, run}
-use Rattle.niss_moves.specs.Notation.{base_bytes, Plain, Suffix, Prime, TwoPrime, suffix_bytes, Space, Tab, Return}
+use Rattle.niss_moves.specs.Notation.{base_bytes, Plain, Suffix, Prime, TwoPrime, suffix_bytes, Space}
 use Rattle.niss_moves.specs.Names.{Token, Base, LastMove, ReadFault, NotAMove, Nested, Unopened, Unclosed, TooLong}
 use Rattle.niss_moves.specs.declared.base.Base.TheVariants as base
 use Rattle.niss_moves.proofs.Finite.{every_face, at_face, every_slice, at_slice, every_axis, at_axis}
@@ -100,19 +100,11 @@ reported_stops Whole o byte n bytes (Unopened col) t h =
     subst₃ (λ (x y : ℕ) (z : Bool). StopsAt bytes x Whole z y) (sym t.0) t.1 t.2 h
 reported_stops Whole o byte n bytes (TooLong col) t h =
     (byte, o, t.1, subst (λ (x : ℕ). StopsAt bytes x Whole o byte) (sym t.0) h)
-reported_stops Whole o byte n bytes (Unclosed col) t h = absurd t
 reported_stops LacksOne o byte n bytes (NotAMove col) t h =
     inr (byte, o, LacksOne, omega arith, subst (λ (x : ℕ). StopsAt bytes x LacksOne o byte) (sym t) h)
 reported_stops LacksTwo o byte n bytes (NotAMove col) t h =
     inr (byte, o, LacksTwo, omega arith, subst (λ (x : ℕ). StopsAt bytes x LacksTwo o byte) (sym t) h)
-reported_stops LacksOne o byte n bytes (Nested col) t h = absurd t
-reported_stops LacksOne o byte n bytes (Unopened col) t h = absurd t
-reported_stops LacksOne o byte n bytes (TooLong col) t h = absurd t
-reported_stops LacksOne o byte n bytes (Unclosed col) t h = absurd t
-reported_stops LacksTwo o byte n bytes (Nested col) t h = absurd t
-reported_stops LacksTwo o byte n bytes (Unopened col) t h = absurd t
-reported_stops LacksTwo o byte n bytes (TooLong col) t h = absurd t
-reported_stops LacksTwo o byte n bytes (Unclosed col) t h = absurd t
+reported_stops _ o byte n bytes _ t h = absurd t
 
 pub step_stops : (front rest : List ℕ) (byte : ℕ) (s : State) (f : ReadFault) → run start front ≡ Ok s → step s byte ≡ Err f → Stops (front ++ byte ∷ rest) f
 step_stops front rest byte s f e g =
@@ -197,8 +189,7 @@ no_bracket_append (x ∷ a) b p q =
 no_bracket_pieces : (ps : List Piece) → has_no_bracket (flat_map piece_bytes ps) ≡ true
 no_bracket_pieces [] = refl
 no_bracket_pieces (Gap Space ∷ ps) = no_bracket_pieces ps
-no_bracket_pieces (Gap Tab ∷ ps) = no_bracket_pieces ps
-no_bracket_pieces (Gap Return ∷ ps) = no_bracket_pieces ps
+no_bracket_pieces (Gap _ ∷ ps) = no_bracket_pieces ps
 no_bracket_pieces (Spelled b s ∷ ps) =
     no_bracket_append (base_bytes b ++ suffix_bytes s) _ (no_bracket_append (base_bytes b) _ (no_bracket_base b) (no_bracket_suffix s)) (no_bracket_pieces ps)
 
