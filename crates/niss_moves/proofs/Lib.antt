@@ -25,7 +25,6 @@ pub mod ReadBack
 pub mod Inverses
 pub mod Stays
 pub mod CleanWords
-pub mod HeldRotations
 pub mod Home
 pub mod WholeEffect
 pub mod ListedPlaces

@@ -53,10 +53,6 @@ item_move (token.Wide f p) = ap (λ p. token.Wide f p ∷ []) (power_is p)
 item_move (token.Slice l p) = ap (λ p. token.Slice l p ∷ []) (power_is p)
 item_move (token.Rotation a p) = ap (λ p. token.Rotation a p ∷ []) (power_is p)
 
-item_inside : (t : Token) → item_bracketed (move_item t) ≡ []
-unfolding move_item
-item_inside t = refl
-
 -- after a word stands a space
 gap_snoc : (a : List ℕ) (b : ℕ) → gap (a ++ b ∷ []) ≡ gap_after (Some b)
 gap_snoc a b =

@@ -148,10 +148,6 @@ can_end s = by_last s.normal s.bracketed s.bracket s.last s.fed
 abbrev pub IsOutcome : Result State ReadFault → List ℕ → Type 0
 IsOutcome r bytes = (more : List ℕ) → answer_after r more ≡ read_line (bytes ++ more)
 
-pub outcome_of_none : IsOutcome (Ok start) []
-unfolding read_line
-outcome_of_none more = refl
-
 pub outcome_of_more : (r next : Result State ReadFault) (bytes : List ℕ) (byte : ℕ) → next ≡ and_then r (λ s. step s byte) → IsOutcome r bytes → IsOutcome next (bytes ++ byte ∷ [])
 outcome_of_more r next bytes byte e h more =
     ap (λ r. answer_after r more) e ∙ ap ended (sym (and_then-assoc r (λ s. step s byte) (λ s. run s more) (λ s. run s (byte ∷ more)) (λ t. refl))) ∙ h (byte ∷ more) ∙ ap read_line (sym (append_assoc bytes (byte ∷ []) more))

@@ -7,7 +7,7 @@ use Rattle.niss_moves.specs.EffectLaws.{TurnsAreMoves, OneMeaning}
 use Rattle.niss_moves.specs.Rotations.{spelling}
 use Rattle.niss_moves.specs.Faces.{faces}
 use Rattle.niss_moves.specs.RewritingLaws.{LineIsHome, FacesAndRotation, CleanedEffect}
-use Rattle.niss_moves.specs.Names.{Face, Token}
+use Rattle.niss_moves.specs.Names.{Token}
 use Rattle.niss_moves.proofs.Inverses.{inverse_after, meaning, undone_by}
 use Rattle.niss_moves.proofs.CleanEffect.{cleans_effect}
 use Rattle.niss_moves.proofs.OneSpelling.{one_spelling}
@@ -39,9 +39,8 @@ line_is_home n b s home h centres q =
 pub faces_and_rotation : FacesAndRotation
 faces_and_rotation s r h q =
     let n = left_by s in
-    let centres : (f : Face) → effect (spelling n.0) (centre f) ≡ effect s (centre f) = λ f. sym (n.1 (centre f) ∙ ap (effect (spelling n.0)) (keep_centre (faces s) f)) in
-    let one : n.0 ≡ r = one_spelling n.0 r (λ f. centres f ∙ sym (h f)) in
-    n.1 q ∙ ap (λ n. effect (spelling n) (effect_of_turns (faces s) q)) one
+    let one : n.0 ≡ r = one_spelling n.0 r (λ f. ap (effect (spelling n.0)) (sym (keep_centre (faces s) f)) ∙ n.1 (centre f) ∙ sym (h f)) in
+    sym (n.1 q) ∙ ap (λ n. effect (spelling n) (effect_of_turns (faces s) q)) one
 
 pub cleaned_effect : CleanedEffect
 cleaned_effect s c r d h q = faces_and_rotation s r h q ∙ ap (effect (spelling r)) (sym (cleans_effect (faces s) c d q))
