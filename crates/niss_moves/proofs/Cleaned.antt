@@ -11,7 +11,7 @@ use denote.Enum.Bare.{sameb}
 use Rattle.niss_moves.specs.contracts.turn.Face.{the_type}
 use Rattle.niss_moves.proofs.Logic.{and_both}
 use Rattle.niss_moves.proofs.Rotations.{same_face_is}
-use Rattle.niss_moves.proofs.CanonicalLists.{canonical_pair, canonical_front, canonical_join, canonical_same, snoc_assoc, last_of, same_may_not_follow, are_exchanged, exchanged, swap_follows, pass_follows, skip_middle}
+use Rattle.niss_moves.proofs.CanonicalLists.{canonical_pair, canonical_front, canonical_join, canonical_same, snoc_assoc, last_of, same_may_not_follow, are_exchanged, exchanged, exchange, pass_follows, skip_middle}
 
 -- what a turn at the end leaves
 pub list_with_turn-last : (a : List Turn) (x t : Turn) → list_with_turn (a ++ x ∷ []) t ≡ a ++ pair_of_turns x t
@@ -76,7 +76,7 @@ swap_same b y x t h n m e =
 swap_other : (b : List Turn) (y x t : Turn) → IsCanonical (b ++ y ∷ x ∷ []) → same_face x.face t.face ≡ false → face_may_follow x.face t.face ≡ false → same_face y.face t.face ≡ false → Cleaned (b ++ y ∷ x ∷ []) t ((b ++ y ∷ t ∷ []) ++ x ∷ [])
 swap_other b y x t h n m e =
     record {
-      canonical = rw append_assoc (canonical_join b y (t ∷ x ∷ []) (canonical_front (b ++ y ∷ []) (x ∷ []) (rw snoc_assoc h)) (and_both _ _ (pass_follows y.face x.face t.face (canonical_pair b y x [] h) e (exchanged x.face t.face n m)) (and_both _ _ (swap_follows x.face t.face (exchanged x.face t.face n m)) refl)));
+      canonical = rw append_assoc (canonical_join b y (t ∷ x ∷ []) (canonical_front (b ++ y ∷ []) (x ∷ []) (rw snoc_assoc h)) (and_both _ _ (pass_follows y.face x.face t.face (canonical_pair b y x [] h) e (exchanged x.face t.face n m)) (and_both _ _ ((exchange x.face t.face (exchanged x.face t.face n m)).0) refl)));
       cleans = λ rest c d.
           let split : (b ++ y ∷ x ∷ []) ++ t ∷ rest ≡ (b ++ y ∷ []) ++ x ∷ t ∷ rest = rw (append_assoc, append_assoc) refl in
           let mid : ((b ++ y ∷ t ∷ []) ++ x ∷ []) ++ rest ≡ ((b ++ y ∷ []) ++ rewritten_pair x t) ++ rest = rw (other_rewritten x t n) (simp append_assoc) in
@@ -86,7 +86,7 @@ swap_other b y x t h n m e =
 cleaned_swap : (a : List Turn) (x t : Turn) → IsCanonical (a ++ x ∷ []) → same_face x.face t.face ≡ false → face_may_follow x.face t.face ≡ false → Cleaned (a ++ x ∷ []) t (list_with_turn a t ++ x ∷ [])
 cleaned_swap a x t h n m =
     elim (last_of a) [
-      | inl e ↦ subst (λ (a : List Turn). Cleaned (a ++ x ∷ []) t (list_with_turn a t ++ x ∷ [])) (sym e) (record { canonical = and_both _ _ (swap_follows x.face t.face (exchanged x.face t.face n m)) refl; cleans = λ rest c d. one_rewriting [] x t rest c refl m (rw (other_rewritten x t n) d) })
+      | inl e ↦ subst (λ (a : List Turn). Cleaned (a ++ x ∷ []) t (list_with_turn a t ++ x ∷ [])) (sym e) (record { canonical = and_both _ _ ((exchange x.face t.face (exchanged x.face t.face n m)).0) refl; cleans = λ rest c d. one_rewriting [] x t rest c refl m (rw (other_rewritten x t n) d) })
       | inr w ↦ subst (λ (a : List Turn). Cleaned (a ++ x ∷ []) t (list_with_turn a t ++ x ∷ [])) (sym w.2) (swap_after w.0 w.1 x t (subst (λ (a : List Turn). IsCanonical (a ++ x ∷ [])) w.2 h) n m)
     ]
   where

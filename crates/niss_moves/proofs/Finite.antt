@@ -1,6 +1,8 @@
 -- Facts over the finite types of the crate, by a test that is computed over all values.
 use Rattle.std.proofs.Common.{◌≡◌, Bool, true, false, ◌&&◌, refl, subst, Option, None, Some}
 use Rattle.std.proofs.lemmas.Bool.{and_parts}
+use Rattle.std.specs.List.{list_all}
+use Rattle.niss_moves.specs.Canonical.{face_order}
 use Rattle.niss_moves.proofs.Logic.{and_left, and_right, and_both}
 use Rattle.niss_moves.specs.Places.{Coord, Neg, Zero, Pos, Vector, vector, Place, same_coord, same_vector, same_place}
 use Rattle.niss_moves.specs.Names.{Face, U, D, R, L, F, B, Power, Quarter, Half, Counter, Axis, Ud, Rl, Fb, Slice, M, E, S, Token}
@@ -16,7 +18,7 @@ at_coord p e Zero = and_left _ _ (and_right (p Neg) _ e)
 at_coord p e Pos = and_right (p Zero) _ (and_right (p Neg) _ e)
 
 unfoldable pub every_face : (Face → Bool) → Bool
-every_face p = p U && (p D && (p R && (p L && (p F && p B))))
+every_face p = list_all p face_order
 
 pub at_face : (p : Face → Bool) → every_face p ≡ true → (f : Face) → p f ≡ true
 unfolding every_face
@@ -25,7 +27,7 @@ at_face p e D = and_left _ _ (and_right (p U) _ e)
 at_face p e R = and_left _ _ (and_right (p D) _ (and_right (p U) _ e))
 at_face p e L = and_left _ _ (and_right (p R) _ (and_right (p D) _ (and_right (p U) _ e)))
 at_face p e F = and_left _ _ (and_right (p L) _ (and_right (p R) _ (and_right (p D) _ (and_right (p U) _ e))))
-at_face p e B = and_right (p F) _ (and_right (p L) _ (and_right (p R) _ (and_right (p D) _ (and_right (p U) _ e))))
+at_face p e B = and_left (p B) _ (and_right (p F) _ (and_right (p L) _ (and_right (p R) _ (and_right (p D) _ (and_right (p U) _ e)))))
 
 unfoldable pub every_power : (Power → Bool) → Bool
 every_power p = p Quarter && (p Half && p Counter)
