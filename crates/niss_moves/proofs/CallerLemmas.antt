@@ -8,7 +8,7 @@ pub use Rattle.niss_moves.proofs.ListedPlaces.{all_places}
 pub use Rattle.niss_moves.proofs.Inverses.{effect-append, inverse_after, inverse_before, inverse_last, inverse_whole}
 pub use Rattle.niss_moves.proofs.AllCanonical.{last_turn-push}
 -- facelet texts of maps
-pub use Rattle.niss_moves.proofs.SameLetters.{same_letters}
+pub use Rattle.niss_moves.proofs.ListedPlaces.{same_letters}
 -- truth values, and powers by their test
 pub use Rattle.niss_moves.proofs.Logic.{not_true, and_left, and_right, and_both}
 pub use Rattle.niss_moves.proofs.OneSpelling.{same_power, same_power_is}

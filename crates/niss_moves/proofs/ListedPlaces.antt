@@ -1,5 +1,5 @@
--- The list of the sticker places, computed.
-use Rattle.std.proofs.Common.{◌≡◌, true, refl, ap, sym}
+-- The list of the sticker places, computed, and the facelet texts of maps on it.
+use Rattle.std.proofs.Common.{◌≡◌, true, refl, ap, sym, List, [], ◌∷◌, map}
 use Rattle.std.specs.Cmp.{IsEquivalence}
 use Rattle.std.specs.List.{list_any, list_all}
 use Rattle.std.proofs.lemmas.Bool.Decides.{same_from_decides}
@@ -7,10 +7,13 @@ use Rattle.std.proofs.lemmas.List.Elements.{All-contains}
 use Rattle.std.proofs.lemmas.List.Sums.{AllPass-from_list_all}
 use Rattle.std.proofs.lemmas.Map.Made.{IsDistinct-from_count, AllPairs-from_IsDistinct}
 use Rattle.std.proofs.lemmas.Map.Views.{Contains-from_any}
-use Rattle.niss_moves.specs.Places.{is_place, same_place}
+use Rattle.niss_moves.specs.Places.{is_place, same_place, Place, SameMap}
 use Rattle.niss_moves.specs.Facelets.{places}
-use Rattle.niss_moves.specs.EffectLaws.{PlacesAreListed, PlacesDiffer}
+use Rattle.niss_moves.specs.EffectLaws.{PlacesAreListed, PlacesDiffer, SameLetters}
 use Rattle.niss_moves.proofs.Finite.{every_coord, every_vector, every_place, at_place, same_place_is, same_place_of, same_place_self, implies, by_implies}
+use Rattle.std.specs.Prelude.{if◌then◌else◌}
+use Rattle.niss_moves.specs.Letters.{letter_at, letter_of, letters}
+use Rattle.niss_moves.proofs.Logic.{and_left, and_right}
 
 listed_test : every_place (λ q. implies (is_place q) (list_any (same_place q) places)) ≡ true
 unfolding every_place every_vector every_coord
@@ -36,3 +39,16 @@ same_place_laws =
 pub places_differ : PlacesDiffer
 places_differ =
     AllPairs-from_IsDistinct (λ x y. (same_place_is x y, same_place_of x y)) places (IsDistinct-from_count same_place_laws places refl)
+
+-- Maps that are the same on the 54 places have the same facelet text.
+letter_of-same : (d e : Place → Place) → SameMap d e → (q : Place) (ps : List Place) → list_all is_place ps ≡ true → letter_of d ps q ≡ letter_of e ps q
+unfolding letter_of
+letter_of-same d e s q [] all = refl
+letter_of-same d e s q (p ∷ ps) all =
+    let at : d p ≡ e p = s p (and_left (is_place p) _ all) in
+    let rest : letter_of d ps q ≡ letter_of e ps q = letter_of-same d e s q ps (and_right (is_place p) _ all) in
+    λ i. if same_place (at i) q then letter_at p else rest i
+
+pub same_letters : SameLetters
+unfolding letters
+same_letters d e s = λ i. map (λ q. letter_of-same d e s q places all_places i) places

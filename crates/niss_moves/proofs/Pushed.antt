@@ -11,9 +11,8 @@ use Rattle.niss_moves.specs.Turn.{opposite}
 use Rattle.niss_moves.specs.Names.{Face, U, Power, Turn, Axis, Slice, Token, Rotation}
 use Rattle.niss_moves.specs.declared.token.Token.TheVariants as token
 use Rattle.niss_moves.proofs.Finite.{every_face, every_power, at_face, same_place_is}
-use Rattle.niss_moves.proofs.Expansions.{effect_of_expanded}
+use Rattle.niss_moves.proofs.Inverses.{effect_of_expanded, effect-append}
 use Rattle.niss_moves.proofs.Rotations.{turn, rotation, every_turn, at_turn, IsNext, turn_after, effect_of_turns-append}
-use Rattle.niss_moves.proofs.Inverses.{effect-append}
 
 abbrev pub before : Rotation → Turn → Turn
 before r = renamed_turn (face_before r)

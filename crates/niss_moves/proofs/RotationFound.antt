@@ -20,8 +20,7 @@ use Rattle.niss_moves.proofs.Rotations.{every_rotation, at_rotation}
 use Rattle.niss_moves.proofs.Finite.{every_face, at_face, all_faces, every_power, every_optional_power, same_place_is, same_place_of}
 use Rattle.niss_moves.proofs.MadeLists.{none, first_or_later}
 use Rattle.niss_moves.proofs.OneSpelling.{same_rotation, same_rotation_is, one_spelling}
-use Rattle.niss_moves.proofs.OneCleanList.{one_clean_list}
-use Rattle.niss_moves.proofs.CleanFunction.{clean_turns_are_clean}
+use Rattle.niss_moves.proofs.CleanFunction.{one_clean_list, clean_turns_are_clean}
 use Rattle.niss_moves.proofs.Home.{some_rotation}
 
 found : {X : Type 0} (p : X → Bool) → (xs : List X) (x : X) → Contains xs x → p x ≡ true → (y : X) × (find p xs ≡ Some y) × (p y ≡ true)

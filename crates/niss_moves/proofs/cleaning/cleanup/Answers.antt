@@ -1,5 +1,5 @@
 use Rattle.niss_moves.proofs.CleanEffect.{cleans_effect}
-use Rattle.niss_moves.proofs.WholeEffect.{cleaned_effect}
+use Rattle.niss_moves.proofs.Home.{cleaned_effect}
 use Rattle.niss_moves.proofs.cleaning.cleanup.Goals as goal
 
 pub returns-clause-effect : goal.returns-clause-effect
