@@ -1,6 +1,7 @@
 -- What is read is spelled.
 use Rattle.std.proofs.Common.{◌≡◌, ℕ, ◌+◌, ◌-◌, ◌<◌, ◌≤◌, Bool, true, false, cond, nat_lt, eqb, refl, ap, ap₂, sym, ◌∙◌, subst, subst₂, List, [], ◌∷◌, ◌++◌, length, flat_map, append_assoc, append-nil, Option, None, Some, Result, Ok, Err, arith, length-append}
 use Rattle.std.proofs.lemmas.Bool.{ltb-true, eqb-true}
+use Rattle.std.proofs.Math.Path.{subst₃}
 use Rattle.std.proofs.lemmas.List.Concat.{flat_map-append}
 use Rattle.niss_moves.specs.Letters.{face_letter}
 use Rattle.niss_moves.specs.Notation.{token_of, base_bytes, Typographic, Plain, Nothing, Two, Prime, TwoPrime, blank_byte}
@@ -14,88 +15,32 @@ use Rattle.niss_moves.specs.declared.symbol.Symbol.TheVariants as symbol
 use Rattle.niss_moves.proofs.Completes.{IsReady, counted, count_more, outside_none, inside_none}
 use Rattle.niss_moves.proofs.Symbols.{IsSymbol, symbol_is, symbol_of_open, symbol_of_close, first_symbol}
 
--- the bytes so far as whole items, and an open bracket with its pieces if there is one
-abbrev pub front_bytes : List Item → Option (List Piece) → List ℕ
-front_bytes items None = flat_map item_bytes items
-front_bytes items (Some ps) = flat_map item_bytes items ++ 40 ∷ flat_map piece_bytes ps
-
-abbrev pub front_bracketed : List Item → Option (List Piece) → List Token
-front_bracketed items None = flat_map item_bracketed items
-front_bracketed items (Some ps) = flat_map item_bracketed items ++ flat_map piece_moves ps
-
-abbrev pub IsBracket : Option ℕ → List Item → Option (List Piece) → Type 0
-IsBracket None items None = Unit {0}
-IsBracket (Some c) items (Some ps) = c ≡ length (flat_map item_bytes items) + 1
-IsBracket None items (Some ps) = ⊥
-IsBracket (Some c) items None = ⊥
-
-pub record WholeItems (o : Option ℕ) (bytes : List ℕ) (n b : List Token) : Type 0 where
-  pub items : List Item
-  pub inner : Option (List Piece)
-  pub bytes_are : bytes ≡ front_bytes items inner
-  pub normal_are : n ≡ flat_map item_normal items
-  pub bracketed_are : b ≡ front_bracketed items inner
-  pub bracket_is : IsBracket o items inner
+-- the bytes so far as whole items, with these moves, and an open bracket with its pieces if there is one
+pub data WholeItems : Option ℕ → List ℕ → List Token → List Token → Type 0 where
+  Closed : (items : List Item) → WholeItems None (flat_map item_bytes items) (flat_map item_normal items) (flat_map item_bracketed items)
+  Opened : (items : List Item) (ps : List Piece) → WholeItems (Some (length (flat_map item_bytes items) + 1)) (flat_map item_bytes items ++ 40 ∷ flat_map piece_bytes ps) (flat_map item_normal items) (flat_map item_bracketed items ++ flat_map piece_moves ps)
 
 flat_push : {X A : Type 0} (f : X → List A) (xs : List X) (x : X) → flat_map f (xs ++ x ∷ []) ≡ flat_map f xs ++ f x
 flat_push f xs x = flat_map-append f xs (x ∷ []) ∙ ap (λ y. flat_map f xs ++ y) (append-nil (f x))
 
 pub front_piece : (o : Option ℕ) (bytes : List ℕ) (n b : List Token) (p : Piece) → WholeItems o bytes n b → WholeItems o (bytes ++ piece_bytes p) (outside o n (piece_moves p)) (inside o b (piece_moves p))
-front_piece o bytes n b p h = by_inner o h.items h.inner h.bytes_are h.normal_are h.bracketed_are h.bracket_is
-  where
-    by_inner : (o : Option ℕ) (items : List Item) (inner : Option (List Piece)) → bytes ≡ front_bytes items inner → n ≡ flat_map item_normal items → b ≡ front_bracketed items inner → IsBracket o items inner → WholeItems o (bytes ++ piece_bytes p) (outside o n (piece_moves p)) (inside o b (piece_moves p))
-    by_inner None items None e f g k =
-        record {
-          items = items ++ Outside p ∷ [];
-          inner = None;
-          bytes_are = ap (λ x. x ++ piece_bytes p) e ∙ sym (flat_push item_bytes items (Outside p));
-          normal_are = ap (λ x. x ++ piece_moves p) f ∙ sym (flat_push item_normal items (Outside p));
-          bracketed_are = g ∙ sym (append-nil _) ∙ sym (flat_push item_bracketed items (Outside p));
-          bracket_is = tt;
-        }
-    by_inner (Some c) items (Some ps) e f g k =
-        record {
-          items = items;
-          inner = Some (ps ++ p ∷ []);
-          bytes_are = ap (λ x. x ++ piece_bytes p) e ∙ append_assoc (flat_map item_bytes items) (40 ∷ flat_map piece_bytes ps) (piece_bytes p) ∙ ap (λ x. flat_map item_bytes items ++ 40 ∷ x) (sym (flat_push piece_bytes ps p));
-          normal_are = f;
-          bracketed_are = ap (λ x. x ++ piece_moves p) g ∙ append_assoc (flat_map item_bracketed items) (flat_map piece_moves ps) (piece_moves p) ∙ ap (λ x. flat_map item_bracketed items ++ x) (sym (flat_push piece_moves ps p));
-          bracket_is = k;
-        }
-    by_inner None items (Some ps) e f g k = absurd k
-    by_inner (Some c) items None e f g k = absurd k
+front_piece o bytes n b p (Closed items) =
+    subst₃ (λ (x : List ℕ) (n b : List Token). WholeItems None x n b) (flat_push item_bytes items (Outside p)) (flat_push item_normal items (Outside p)) (flat_push item_bracketed items (Outside p) ∙ append-nil _) (Closed (items ++ Outside p ∷ []))
+front_piece o bytes n b p (Opened items ps) =
+    let bytes_are = ap (λ x. flat_map item_bytes items ++ 40 ∷ x) (flat_push piece_bytes ps p) ∙ sym (append_assoc (flat_map item_bytes items) (40 ∷ flat_map piece_bytes ps) (piece_bytes p)) in
+    let moves_are = ap (λ x. flat_map item_bracketed items ++ x) (flat_push piece_moves ps p) ∙ sym (append_assoc (flat_map item_bracketed items) (flat_map piece_moves ps) (piece_moves p)) in
+    subst₂ (λ (x : List ℕ) (b : List Token). WholeItems o x n b) bytes_are moves_are (Opened items (ps ++ p ∷ []))
 
 pub front_open : (o : Option ℕ) (c : ℕ) (bytes : List ℕ) (n b : List Token) → o ≡ None → c ≡ length bytes + 1 → WholeItems o bytes n b → WholeItems (Some c) (bytes ++ 40 ∷ []) n b
-front_open o c bytes n b none col h =
-    by_inner h.items h.inner h.bytes_are h.normal_are h.bracketed_are (subst (λ (o : Option ℕ). IsBracket o h.items h.inner) none h.bracket_is)
-  where
-    by_inner : (items : List Item) (inner : Option (List Piece)) → bytes ≡ front_bytes items inner → n ≡ flat_map item_normal items → b ≡ front_bracketed items inner → IsBracket None items inner → WholeItems (Some c) (bytes ++ 40 ∷ []) n b
-    by_inner items None e f g k =
-        record {
-          items = items;
-          inner = Some [];
-          bytes_are = ap (λ x. x ++ 40 ∷ []) e;
-          normal_are = f;
-          bracketed_are = g ∙ sym (append-nil _);
-          bracket_is = col ∙ ap (λ x. length x + 1) e;
-        }
-    by_inner items (Some ps) e f g k = absurd k
+front_open o c bytes n b none col (Closed items) =
+    subst₂ (λ (c : ℕ) (b : List Token). WholeItems (Some c) (bytes ++ 40 ∷ []) n b) (sym col) (append-nil _) (Opened items [])
+front_open o c bytes n b none col (Opened items ps) = absurd (cc)
 
 pub front_close : (o : Option ℕ) (c : ℕ) (bytes : List ℕ) (n b : List Token) → o ≡ Some c → WholeItems o bytes n b → WholeItems None (bytes ++ 41 ∷ []) n b
-front_close o c bytes n b some h =
-    by_inner h.items h.inner h.bytes_are h.normal_are h.bracketed_are (subst (λ (o : Option ℕ). IsBracket o h.items h.inner) some h.bracket_is)
-  where
-    by_inner : (items : List Item) (inner : Option (List Piece)) → bytes ≡ front_bytes items inner → n ≡ flat_map item_normal items → b ≡ front_bracketed items inner → IsBracket (Some c) items inner → WholeItems None (bytes ++ 41 ∷ []) n b
-    by_inner items (Some ps) e f g k =
-        record {
-          items = items ++ Bracket ps ∷ [];
-          inner = None;
-          bytes_are = ap (λ x. x ++ 41 ∷ []) e ∙ append_assoc (flat_map item_bytes items) (40 ∷ flat_map piece_bytes ps) (41 ∷ []) ∙ sym (flat_push item_bytes items (Bracket ps));
-          normal_are = f ∙ sym (append-nil _) ∙ sym (flat_push item_normal items (Bracket ps));
-          bracketed_are = g ∙ sym (flat_push item_bracketed items (Bracket ps));
-          bracket_is = tt;
-        }
-    by_inner items None e f g k = absurd k
+front_close o c bytes n b some (Closed items) = absurd (cc)
+front_close o c bytes n b some (Opened items ps) =
+    let bytes_are = flat_push item_bytes items (Bracket ps) ∙ sym (append_assoc (flat_map item_bytes items) (40 ∷ flat_map piece_bytes ps) (41 ∷ [])) in
+    subst₃ (λ (x : List ℕ) (n b : List Token). WholeItems None x n b) bytes_are (flat_push item_normal items (Bracket ps) ∙ append-nil _) (flat_push item_bracketed items (Bracket ps)) (Closed (items ++ Bracket ps ∷ []))
 
 -- the bytes of the last move as far as it goes
 abbrev pub two_bytes : Bool → List ℕ
@@ -121,7 +66,7 @@ pub reads_start : Reads start []
 reads_start =
     record {
       front = [];
-      is_front = record { items = []; inner = None; bytes_are = refl; normal_are = refl; bracketed_are = refl; bracket_is = tt };
+      is_front = Closed [];
       bytes_are = refl;
       fed = refl;
       room = omega arith;
