@@ -1,18 +1,13 @@
 -- The rotation that is found among the 24 is the one that is left.
-use Rattle.std.proofs.Common.{◌≡◌, ℕ, inl, inr, Bool, true, false, refl, ap, sym, ◌∙◌, subst, List, [], ◌∷◌, None, Some}
+use Rattle.std.proofs.Common.{◌≡◌, inl, inr, Bool, true, false, refl, ap, sym, ◌∙◌, subst, List, [], ◌∷◌, None, Some}
 use Rattle.std.specs.List.{Contains, find}
 use Rattle.std.specs.Prelude.{unwrap_or}
 use Rattle.niss_moves.specs.Places.{same_place}
 use Rattle.niss_moves.specs.Facelets.{centre}
 use Rattle.niss_moves.specs.Effects.{effect}
 use Rattle.niss_moves.specs.Rotations.{spelling, IsRotationOf}
-use Rattle.niss_moves.specs.Faces.{faces}
-use Rattle.niss_moves.specs.Line.{Moves}
-use Rattle.niss_moves.specs.Text.{with_words}
-use Rattle.niss_moves.specs.CleanText.{cleaned_words, with_bracket}
-use Rattle.niss_moves.proofs.CleanWords.{PutsClean}
-use Rattle.niss_moves.specs.CleanedLine.{clean_turns, rotations, moves_centres_as, rotation_left, with_clean_line, RotationIsLeft}
-use Rattle.niss_moves.specs.Names.{U, Turn, Token, Rotation}
+use Rattle.niss_moves.specs.CleanedLine.{rotations, moves_centres_as, rotation_left, RotationIsLeft}
+use Rattle.niss_moves.specs.Names.{U, Token, Rotation}
 use Rattle.std.specs.List.{list_any}
 use Rattle.std.proofs.lemmas.Bool.{cases_Bool, cond-true, cond-false}
 use Rattle.std.proofs.lemmas.Map.Views.{Contains-from_any}
@@ -20,7 +15,6 @@ use Rattle.niss_moves.proofs.Rotations.{every_rotation, at_rotation}
 use Rattle.niss_moves.proofs.Finite.{every_face, at_face, all_faces, every_power, every_optional_power, same_place_is, same_place_of}
 use Rattle.niss_moves.proofs.MadeLists.{none, first_or_later}
 use Rattle.niss_moves.proofs.OneSpelling.{same_rotation, same_rotation_is, one_spelling}
-use Rattle.niss_moves.proofs.CleanFunction.{one_clean_list, clean_turns_are_clean}
 use Rattle.niss_moves.proofs.Home.{some_rotation}
 
 found : {X : Type 0} (p : X → Bool) → (xs : List X) (x : X) → Contains xs x → p x ≡ true → (y : X) × (find p xs ≡ Some y) × (p y ≡ true)
@@ -53,18 +47,3 @@ rotation_left_is s r h =
 
 pub rotation_is_left : RotationIsLeft
 rotation_is_left s = let w = some_rotation s in subst (λ (r : Rotation). IsRotationOf s r) (sym (rotation_left_is s w.0 w.1)) w.1
-
-line_of : List ℕ → List Turn → Rotation → List Turn → Rotation → List ℕ
-line_of text n r b q = with_bracket (with_words text (cleaned_words n r)) (cleaned_words b q)
-
--- A line is cleaned in one way.
-pub puts_clean_line : (line : Moves) (old new : List ℕ) → PutsClean line old new → new ≡ with_clean_line old line
-unfolding line_of
-puts_clean_line line old new w =
-    let n : w.normal ≡ clean_turns (faces line.normal) = one_clean_list (faces line.normal) _ _ w.normal_cleaned.turns_are (clean_turns_are_clean (faces line.normal)) in
-    let r : w.after_normal ≡ rotation_left line.normal = sym (rotation_left_is line.normal w.after_normal w.normal_cleaned.rotation_is) in
-    let b : w.bracketed ≡ clean_turns (faces line.bracketed) = one_clean_list (faces line.bracketed) _ _ w.bracketed_cleaned.turns_are (clean_turns_are_clean (faces line.bracketed)) in
-    let q : w.after_bracketed ≡ rotation_left line.bracketed = sym (rotation_left_is line.bracketed w.after_bracketed w.bracketed_cleaned.rotation_is) in
-    w.text ∙ ap (λ v. line_of old v w.after_normal w.bracketed w.after_bracketed) n ∙ ap (λ v. line_of old (clean_turns (faces line.normal)) v w.bracketed w.after_bracketed) r
-    ∙ ap (λ v. line_of old (clean_turns (faces line.normal)) (rotation_left line.normal) v w.after_bracketed) b
-    ∙ ap (λ v. line_of old (clean_turns (faces line.normal)) (rotation_left line.normal) (clean_turns (faces line.bracketed)) v) q
