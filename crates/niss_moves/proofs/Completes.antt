@@ -26,6 +26,10 @@ IsReady (last.FirstByte b two) = ⊥
 IsReady (last.SecondByte b two) = ⊥
 IsReady _ = Unit {0}
 
+-- a state by its parts
+unfoldable pub state : List Token → List Token → Option ℕ → LastMove → ℕ → State
+state n b o t k = record { normal = n; bracketed = b; bracket = o; last = t; fed = k }
+
 -- one more byte was fed
 abbrev pub counted : State → State
 counted s = record s { fed = s.fed + 1 }

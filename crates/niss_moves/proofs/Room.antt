@@ -8,14 +8,11 @@ use Rattle.niss_moves.specs.declared.partial_line.PartialLine.{PartialLine}
 use Rattle.niss_moves.specs.declared.base.Base.TheVariants as base
 use Rattle.niss_moves.specs.declared.partial_line.LastMove.TheVariants as last
 use Rattle.niss_moves.specs.declared.symbol.Symbol.TheVariants as symbol
-use Rattle.niss_moves.proofs.Completes.{count_more}
+use Rattle.niss_moves.proofs.Completes.{state, count_more}
 
 abbrev Roomy : Result State ReadFault → Type 0
 Roomy (Ok t) = HasRoom t
 Roomy (Err f) = Unit {0}
-
-pub state : List Token → List Token → Option ℕ → LastMove → ℕ → State
-state n b o t k = record { normal = n; bracketed = b; bracket = o; last = t; fed = k }
 
 room_one : (n b : List Token) (o : Option ℕ) (x y : Token) → length (outside o n (x ∷ [])) + length (inside o b (x ∷ [])) ≤ 256 → length (outside o n (y ∷ [])) + length (inside o b (y ∷ [])) ≤ 256
 room_one n b o x y h = omega (arith, count_more o n b (x ∷ []), count_more o n b (y ∷ []))

@@ -12,7 +12,7 @@ use Rattle.niss_moves.specs.Names.{Quarter, Half, Counter, Token, Base, Symbol, 
 use Rattle.niss_moves.specs.declared.base.Base.TheVariants as base
 use Rattle.niss_moves.specs.declared.partial_line.LastMove.TheVariants as last
 use Rattle.niss_moves.specs.declared.symbol.Symbol.TheVariants as symbol
-use Rattle.niss_moves.proofs.Completes.{IsReady, counted, count_more, outside_none, inside_none}
+use Rattle.niss_moves.proofs.Completes.{IsReady, state, counted, count_more, outside_none, inside_none}
 use Rattle.niss_moves.proofs.Symbols.{IsSymbol, symbol_is, symbol_of_open, symbol_of_close, first_symbol}
 
 -- the bytes so far as whole items, with these moves, and an open bracket with its pieces if there is one
@@ -139,9 +139,6 @@ IsFollower _ = ⊥
 reported_other : (o : Bool) (byte n k : ℕ) (x : Symbol) → symbol_of byte ≡ x → IsFollower x → k ≡ n → Refusal Whole o byte n (NotAMove (k + 1))
 reported_other o byte n k x e f q =
     (ap (λ n. n + 1) q, λ h. subst IsFollower (sym e ∙ ap symbol_of h.0 ∙ symbol_of_open) f, λ h. subst IsFollower (sym e ∙ ap symbol_of h.0 ∙ symbol_of_close) f, λ h. let w = first_symbol h.0 byte h.1 h.2 in subst IsFollower (sym e ∙ w.1) f)
-
-state : List Token → List Token → Option ℕ → LastMove → ℕ → State
-state n b o t k = record { normal = n; bracketed = b; bracket = o; last = t; fed = k }
 
 front_reads : (s : State) (bytes : List ℕ) → WholeItems s.bracket bytes s.normal s.bracketed → s.last ≡ last.Finished → s.fed ≡ length bytes → count (settled s) ≤ 256 → Reads s bytes
 front_reads s bytes h e k r =
