@@ -26,6 +26,5 @@ pub mod ListedPlaces
 pub mod RewritingRows
 pub mod MadeLists
 pub mod CleanFunction
-pub mod RotationFound
 pub mod Gathered
 pub mod WholeMoves

@@ -8,7 +8,7 @@ use Rattle.niss_moves.specs.Canonical.{all_canonical, turn_order, is_canonical}
 use Rattle.niss_moves.specs.Cleaning.{Cleans}
 use Rattle.niss_moves.specs.CleanedLine.{clean_turns, rewritten_within, rewritten_once}
 use Rattle.niss_moves.proofs.CleanFunction.{clean_turns_are_clean}
-use Rattle.niss_moves.proofs.RotationFound.{is_left_of_test}
+use Rattle.niss_moves.proofs.Home.{is_left_of_test}
 use Rattle.niss_moves.specs.Text.{with_words}
 use Rattle.niss_moves.specs.CleanText.{rotation_words, cleaned_words, with_bracket}
 use Rattle.niss_moves.specs.Names.{U, D, R, L, F, B, Quarter, Half, Counter, Turn, Ud, Rl, Fb, M}

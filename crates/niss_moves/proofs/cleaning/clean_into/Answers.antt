@@ -8,7 +8,7 @@ use Rattle.niss_moves.specs.Helpers.{turns_in}
 use Rattle.niss_moves.specs.Rotations.{face_before, renamed_turn}
 use Rattle.niss_moves.specs.Names.{Turn}
 use Rattle.niss_moves.proofs.CleanFunction.{clean_turns_are_clean, one_clean_list}
-use Rattle.niss_moves.proofs.RotationFound.{rotation_left_is}
+use Rattle.niss_moves.proofs.Home.{rotation_left_is}
 use Rattle.niss_moves.proofs.Cleaned.{cleans_all}
 use Rattle.niss_moves.proofs.Pushed.{Pushed, cleans_more, centres_more, map_none}
 use Rattle.niss_moves.proofs.cleaning.clean_into.Goals as goal

@@ -1,7 +1,6 @@
 use Rattle.niss_moves.proofs.CleanEffect.{cleans_effect}
 use Rattle.niss_moves.proofs.CleanFunction.{clean_turns_are_clean}
-use Rattle.niss_moves.proofs.Home.{cleaned_effect}
-use Rattle.niss_moves.proofs.RotationFound.{rotation_is_left}
+use Rattle.niss_moves.proofs.Home.{cleaned_effect, rotation_is_left}
 use Rattle.niss_moves.proofs.cleaning.cleanup.Goals as goal
 
 pub returns-clause-clean : goal.returns-clause-clean
