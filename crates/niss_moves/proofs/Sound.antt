@@ -1,5 +1,5 @@
 -- What is read is spelled.
-use Rattle.std.proofs.Common.{◌≡◌, ℕ, ◌+◌, ◌-◌, ◌<◌, ◌≤◌, Bool, true, false, cond, nat_lt, eqb, refl, ap, ap₂, sym, ◌∙◌, subst, subst₂, List, [], ◌∷◌, ◌++◌, length, flat_map, append_assoc, append-nil, Option, None, Some, Result, Ok, Err, arith, length-append}
+use Rattle.std.proofs.Common.{◌≡◌, ℕ, ◌+◌, ◌-◌, ◌<◌, ◌≤◌, Bool, true, false, cond, nat_lt, eqb, refl, ap, sym, ◌∙◌, subst, subst₂, List, [], ◌∷◌, ◌++◌, length, flat_map, append_assoc, append-nil, Option, None, Some, Result, Ok, Err, arith, length-append}
 use Rattle.std.proofs.lemmas.Bool.{ltb-true, eqb-true}
 use Rattle.std.proofs.Math.Path.{subst₃}
 use Rattle.std.proofs.lemmas.List.Concat.{flat_map-append}
@@ -7,7 +7,7 @@ use Rattle.niss_moves.specs.Letters.{face_letter}
 use Rattle.niss_moves.specs.Notation.{token_of, base_bytes, Typographic, Plain, Nothing, Two, Prime, TwoPrime, blank_byte}
 use Rattle.niss_moves.specs.Line.{Piece, Gap, Spelled, piece_bytes, piece_moves, Item, Outside, Bracket, item_bytes, item_normal, item_bracketed}
 use Rattle.niss_moves.specs.Faults.{Cut, Whole, LacksOne, LacksTwo, cut_ending, BeginsBase}
-use Rattle.niss_moves.specs.Machine.{symbol_of, State, start, outside, inside, settled, settled_by, opened, closed, widened, doubled, primed, cut, begun, count, with_last, fed_to, step_by, step_at, step, step_within}
+use Rattle.niss_moves.specs.Machine.{symbol_of, State, start, outside, inside, settled, settled_by, opened, closed, begun, count, with_last, fed_to, step_by, step_at, step, step_within}
 use Rattle.niss_moves.specs.Names.{Quarter, Half, Counter, Token, Base, Symbol, LastMove, ReadFault, NotAMove, Nested, Unopened, Unclosed, TooLong}
 use Rattle.niss_moves.specs.declared.base.Base.TheVariants as base
 use Rattle.niss_moves.specs.declared.partial_line.LastMove.TheVariants as last
@@ -177,57 +177,25 @@ base_means o s bytes byte b r h k = chosen (nat_lt (count (settled s)) 256) refl
     chosen false e = (ap (λ n. n + 1) h.fed, (b, [], k))
 
 -- the last move goes on
-wide_means : (q : Bool) (n b : List Token) (o : Option ℕ) (t : LastMove) (k : ℕ) (bytes : List ℕ) (byte : ℕ) → symbol_of byte ≡ symbol.Wide → byte ≡ 119 → Reads (state n b o t k) bytes → Outcome Whole q bytes byte (fed_to (k + 1) (widened t (state n b o t k)))
+goes_on : (n b : List Token) (o : Option ℕ) (t u : LastMove) (k : ℕ) (bytes : List ℕ) (byte : ℕ) → Reads (state n b o t k) bytes → last_bytes t ++ byte ∷ [] ≡ last_bytes u
+    → count (settled (state n b o u (k + 1))) ≤ 256 → Reads (state n b o u (k + 1)) (bytes ++ byte ∷ [])
 unfolding state
-wide_means q n b o (last.Bare (base.Face f)) k bytes byte e x h =
+goes_on n b o t u k bytes byte h same room =
     record {
       front = h.front;
       is_front = h.is_front;
-      bytes_are = ap₂ (λ (y : List ℕ) (z : ℕ). y ++ z ∷ []) h.bytes_are x ∙ append_assoc h.front (face_letter f ∷ []) (119 ∷ []);
+      bytes_are = ap (λ x. x ++ byte ∷ []) h.bytes_are ∙ append_assoc h.front (last_bytes t) (byte ∷ []) ∙ ap (λ x. h.front ++ x) same;
       fed = fed_more _ _ _ h.fed;
-      room = omega (arith, h.room, count_more o n b (token_of (base.Face f) Quarter ∷ []), count_more o n b (token_of (base.Wide f) Quarter ∷ []));
+      room = room;
     }
-wide_means q n b o _ k bytes byte e x h = reported_other q byte (length bytes) k symbol.Wide e tt h.fed
 
-two_means : (q : Bool) (n b : List Token) (o : Option ℕ) (t : LastMove) (k : ℕ) (bytes : List ℕ) (byte : ℕ) → symbol_of byte ≡ symbol.Two → byte ≡ 50 → Reads (state n b o t k) bytes → Outcome Whole q bytes byte (fed_to (k + 1) (doubled t (state n b o t k)))
+-- the last move is whole
+ends_so : (n b : List Token) (o : Option ℕ) (t : LastMove) (k : ℕ) (bytes : List ℕ) (byte : ℕ) (p : Piece) → Reads (state n b o t k) bytes → last_bytes t ++ byte ∷ [] ≡ piece_bytes p
+    → length (outside o n (piece_moves p)) + length (inside o b (piece_moves p)) ≤ 256 → Reads (state (outside o n (piece_moves p)) (inside o b (piece_moves p)) o last.Finished (k + 1)) (bytes ++ byte ∷ [])
 unfolding state
-two_means q n b o (last.Bare f) k bytes byte e x h =
-    record {
-      front = h.front;
-      is_front = h.is_front;
-      bytes_are = ap₂ (λ (y : List ℕ) (z : ℕ). y ++ z ∷ []) h.bytes_are x ∙ append_assoc h.front (base_bytes f) (50 ∷ []);
-      fed = fed_more _ _ _ h.fed;
-      room = omega (arith, h.room, count_more o n b (token_of f Quarter ∷ []), count_more o n b (token_of f Half ∷ []));
-    }
-two_means q n b o _ k bytes byte e x h = reported_other q byte (length bytes) k symbol.Two e tt h.fed
-
-prime_means : (q : Bool) (n b : List Token) (o : Option ℕ) (t : LastMove) (k : ℕ) (bytes : List ℕ) (byte : ℕ) → symbol_of byte ≡ symbol.Apostrophe → byte ≡ 39 → Reads (state n b o t k) bytes → Outcome Whole q bytes byte (fed_to (k + 1) (primed t (state n b o t k)))
-unfolding state
-prime_means q n b o (last.Bare f) k bytes byte e x h =
-    front_reads _ _ (subst (λ (z : List ℕ). WholeItems o z (outside o n (token_of f Counter ∷ [])) (inside o b (token_of f Counter ∷ []))) (sym (ap₂ (λ (y : List ℕ) (z : ℕ). y ++ z ∷ []) h.bytes_are x ∙ append_assoc h.front (base_bytes f) (39 ∷ []))) (front_piece _ _ _ _ (Spelled f (Prime Plain)) h.is_front)) refl (fed_more _ _ _ h.fed) (omega (arith, h.room, count_more o n b (token_of f Quarter ∷ []), count_more o n b (token_of f Counter ∷ [])))
-prime_means q n b o (last.Doubled f) k bytes byte e x h =
-    front_reads _ _ (subst (λ (z : List ℕ). WholeItems o z (outside o n (token_of f Half ∷ [])) (inside o b (token_of f Half ∷ []))) (sym (ap₂ (λ (y : List ℕ) (z : ℕ). y ++ z ∷ []) h.bytes_are x ∙ append_assoc h.front (base_bytes f ++ 50 ∷ []) (39 ∷ []) ∙ ap (λ y. h.front ++ y) (append_assoc (base_bytes f) (50 ∷ []) (39 ∷ [])))) (front_piece _ _ _ _ (Spelled f (TwoPrime Plain)) h.is_front)) refl (fed_more _ _ _ h.fed) h.room
-prime_means q n b o _ k bytes byte e x h = reported_other q byte (length bytes) k symbol.Apostrophe e tt h.fed
-
-cut_means : (q : Bool) (n b : List Token) (o : Option ℕ) (t : LastMove) (k : ℕ) (bytes : List ℕ) (byte : ℕ) → symbol_of byte ≡ symbol.Cut → byte ≡ 0xE2 → Reads (state n b o t k) bytes → Outcome Whole q bytes byte (fed_to (k + 1) (cut t (state n b o t k)))
-unfolding state
-cut_means q n b o (last.Bare f) k bytes byte e x h =
-    record {
-      front = h.front;
-      is_front = h.is_front;
-      bytes_are = ap₂ (λ (y : List ℕ) (z : ℕ). y ++ z ∷ []) h.bytes_are x ∙ append_assoc h.front (base_bytes f) (0xE2 ∷ []) ∙ ap (λ y. h.front ++ (y ++ 0xE2 ∷ [])) (sym (append-nil (base_bytes f)));
-      fed = fed_more _ _ _ h.fed;
-      room = omega (arith, h.room, count_more o n b (token_of f Quarter ∷ []), count_more o n b (token_of f Counter ∷ []));
-    }
-cut_means q n b o (last.Doubled f) k bytes byte e x h =
-    record {
-      front = h.front;
-      is_front = h.is_front;
-      bytes_are = ap₂ (λ (y : List ℕ) (z : ℕ). y ++ z ∷ []) h.bytes_are x ∙ append_assoc h.front (base_bytes f ++ 50 ∷ []) (0xE2 ∷ []);
-      fed = fed_more _ _ _ h.fed;
-      room = h.room;
-    }
-cut_means q n b o _ k bytes byte e x h = reported_other q byte (length bytes) k symbol.Cut e tt h.fed
+ends_so n b o t k bytes byte p h same room =
+    let is = ap (λ x. x ++ byte ∷ []) h.bytes_are ∙ append_assoc h.front (last_bytes t) (byte ∷ []) ∙ ap (λ x. h.front ++ x) same in
+    front_reads _ _ (subst (λ (z : List ℕ). WholeItems o z (outside o n (piece_moves p)) (inside o b (piece_moves p))) (sym is) (front_piece _ _ _ _ p h.is_front)) refl (fed_more _ _ _ h.fed) room
 
 symbol_means : (x : Symbol) (n b : List Token) (o : Option ℕ) (t : LastMove) (k : ℕ) (bytes : List ℕ) (byte : ℕ) → symbol_of byte ≡ x → IsSymbol x byte → IsReady t → Reads (state n b o t k) bytes → Outcome Whole (is_open o) bytes byte (fed_to (k + 1) (step_by 256 x (state n b o t k)))
 unfolding state
@@ -235,25 +203,26 @@ symbol_means symbol.Blank n b o t k bytes byte e i r h = blank_means _ bytes byt
 symbol_means symbol.Open n b o t k bytes byte e i r h = open_means o _ bytes byte refl r h i
 symbol_means symbol.Close n b o t k bytes byte e i r h = close_means o _ bytes byte refl r h i
 symbol_means (symbol.Base x) n b o t k bytes byte e i r h = base_means _ _ bytes byte x r h i
-symbol_means symbol.Wide n b o t k bytes byte e i r h = wide_means _ n b o t k bytes byte e i h
-symbol_means symbol.Two n b o t k bytes byte e i r h = two_means _ n b o t k bytes byte e i h
-symbol_means symbol.Apostrophe n b o t k bytes byte e i r h = prime_means _ n b o t k bytes byte e i h
-symbol_means symbol.Cut n b o t k bytes byte e i r h = cut_means _ n b o t k bytes byte e i h
-symbol_means symbol.Other n b o t k bytes byte e i r h = reported_other _ byte (length bytes) k symbol.Other e tt h.fed
+symbol_means symbol.Wide n b o (last.Bare (base.Face f)) k bytes byte e i r h =
+    goes_on n b o _ (last.Bare (base.Wide f)) k bytes byte h (ap (λ z. face_letter f ∷ z ∷ []) i) (omega (arith, h.room, count_more o n b (token_of (base.Face f) Quarter ∷ []), count_more o n b (token_of (base.Wide f) Quarter ∷ [])))
+symbol_means symbol.Two n b o (last.Bare f) k bytes byte e i r h =
+    goes_on n b o _ (last.Doubled f) k bytes byte h (ap (λ z. base_bytes f ++ z ∷ []) i) (omega (arith, h.room, count_more o n b (token_of f Quarter ∷ []), count_more o n b (token_of f Half ∷ [])))
+symbol_means symbol.Apostrophe n b o (last.Bare f) k bytes byte e i r h =
+    ends_so n b o _ k bytes byte (Spelled f (Prime Plain)) h (ap (λ z. base_bytes f ++ z ∷ []) i) (omega (arith, h.room, count_more o n b (token_of f Quarter ∷ []), count_more o n b (token_of f Counter ∷ [])))
+symbol_means symbol.Apostrophe n b o (last.Doubled f) k bytes byte e i r h =
+    ends_so n b o _ k bytes byte (Spelled f (TwoPrime Plain)) h (rw i (append_assoc (base_bytes f) (50 ∷ []) (39 ∷ []))) h.room
+symbol_means symbol.Cut n b o (last.Bare f) k bytes byte e i r h =
+    goes_on n b o _ (last.FirstByte f false) k bytes byte h (rw (i, append-nil) refl) (omega (arith, h.room, count_more o n b (token_of f Quarter ∷ []), count_more o n b (token_of f Counter ∷ [])))
+symbol_means symbol.Cut n b o (last.Doubled f) k bytes byte e i r h =
+    goes_on n b o _ (last.FirstByte f true) k bytes byte h (ap (λ z. (base_bytes f ++ 50 ∷ []) ++ z ∷ []) i) h.room
+symbol_means x n b o t k bytes byte e i r h = reported_other _ byte (length bytes) k x e tt h.fed
 
 first_means : (n b : List Token) (o : Option ℕ) (f : Base) (two : Bool) (k : ℕ) (bytes : List ℕ) (byte : ℕ) → Reads (state n b o (last.FirstByte f two) k) bytes → Outcome LacksTwo (is_open o) bytes byte (fed_to (k + 1) (step_at 256 (last.FirstByte f two) (state n b o (last.FirstByte f two) k) byte))
 unfolding state
 first_means n b o f two k bytes byte h = chosen (eqb byte 0x80) refl
   where
     chosen : (c : Bool) → eqb byte 0x80 ≡ c → Outcome LacksTwo (is_open o) bytes byte (fed_to (k + 1) (cond c (Ok (with_last (last.SecondByte f two) (state n b o (last.FirstByte f two) k))) (Err (NotAMove k))))
-    chosen true e =
-        record {
-          front = h.front;
-          is_front = h.is_front;
-          bytes_are = ap₂ (λ (y : List ℕ) (z : ℕ). y ++ z ∷ []) h.bytes_are (eqb-true _ _ e) ∙ simp append_assoc;
-          fed = fed_more _ _ _ h.fed;
-          room = h.room;
-        }
+    chosen true e = goes_on n b o _ (last.SecondByte f two) k bytes byte h (rw (eqb-true _ _ e) (simp append_assoc)) h.room
     chosen false e = ap (λ n. n + 1) h.fed
 
 pub long_enough : (front more : List ℕ) (two : Bool) (b : Base) (bytes : List ℕ) → bytes ≡ front ++ last_bytes (last.SecondByte b two) → 2 ≤ length bytes
