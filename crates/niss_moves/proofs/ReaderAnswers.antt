@@ -1,5 +1,5 @@
 -- What the reader's answers mean.
-use Rattle.std.proofs.Common.{◌≡◌, ℕ, ◌+◌, ◌-◌, ◌<◌, ◌≤◌, ◌↔◌, refl, ap, sym, ◌∙◌, subst, subst₂, List, [], ◌∷◌, ◌++◌, length, append_assoc, append-nil, Option, None, Some, Result, Ok, Err, IsOk, IfErr, arith, inl, inr, length-append}
+use Rattle.std.proofs.Common.{◌≡◌, ℕ, ◌+◌, ◌-◌, ◌<◌, ◌≤◌, ◌↔◌, refl, ap, sym, ◌∙◌, subst, List, [], ◌∷◌, ◌++◌, length, append_assoc, append-nil, Option, None, Some, Result, Ok, Err, IsOk, IfErr, arith, inl, inr, length-append}
 use Rattle.std.specs.Result.{result_err}
 use Rattle.niss_moves.specs.Line.{Moves, Spells, IsLine}
 use Rattle.niss_moves.specs.Faults.{Whole, cut_length, cut_ending, bracket_ending, CanContinue, Stops, Faults}
@@ -166,31 +166,32 @@ at_ok p q byte (Err f) h e k = record { fed = k; outcome = sym e; answered = ref
 
 pub fed_on : (fault next : Option ReadFault) (p q t : PartialLine) (byte : ℕ) (result r : Result (Unit {0}) ReadFault) → fault ≡ None → HasRoomUnless fault (state_of p) → IsStep (λ s. step s byte) p r t → t.fed ≡ p.fed + 1 → result ≡ r → next ≡ result_err result → q ≡ t → IsFedOn fault p byte next q result
 fed_on fault next p q t byte result r none room h counts er en eq =
-    let one = at_ok p t byte r (subst (λ (o : Option ReadFault). HasRoomUnless o (state_of p)) none room) h counts in
-    subst₂ (λ (o : Option ReadFault) (x : Result (Unit {0}) ReadFault). IsFedOn o p byte next q x) (sym none) (sym er) (subst₂ (λ (o : Option ReadFault) (x : PartialLine). IsFedOn None p byte o x r) (sym (en ∙ ap result_err er)) (sym eq) one)
+    let here = subst (λ (o : Option ReadFault). HasRoomUnless o (state_of p)) none room in
+    rw (none, en, er, eq) (at_ok p t byte r here h counts)
 
 pub fed_again : (fault next : Option ReadFault) (p q t : PartialLine) (byte : ℕ) (result : Result (Unit {0}) ReadFault) (f : ReadFault) → fault ≡ Some f → t.fed ≡ p.fed + 1 → result ≡ Err f → next ≡ result_err result → q ≡ t → IsFedOn fault p byte next q result
 fed_again fault next p q t byte result f some counts er en eq =
-    let one : IsFedOn (Some f) p byte (Some f) q (Err f) = record { fed = ap (λ (x : PartialLine). x.fed) eq ∙ counts; outcome = refl; answered = refl; room = tt } in
-    subst₂ (λ (o : Option ReadFault) (x : Result (Unit {0}) ReadFault). IsFedOn o p byte next q x) (sym some) (sym er) (subst (λ (o : Option ReadFault). IsFedOn (Some f) p byte o q (Err f)) (sym (en ∙ ap result_err er)) one)
+    rw (some, en, er, eq) (record { fed = counts; outcome = refl; answered = refl; room = tt })
+
+fed_outcome : (fault next : Option ReadFault) (p q : PartialLine) (byte : ℕ) (result : Result (Unit {0}) ReadFault) (bytes : List ℕ) → IsFedOn fault p byte next q result → IsFed (record { fed = p.fed; fault = fault; so_far = state_of p }) bytes → IsOutcome (outcome_of next q) (bytes ++ byte ∷ [])
+unfolding line_with
+fed_outcome fault next p q byte result bytes h k = outcome_of_more (outcome_of fault p) (outcome_of next q) bytes byte h.outcome k.line
 
 pub is_fed_on : (fault next : Option ReadFault) (p q : PartialLine) (byte : ℕ) (result : Result (Unit {0}) ReadFault) (bytes : List ℕ) → IsFedOn fault p byte next q result → IsFed (record { fed = p.fed; fault = fault; so_far = state_of p }) bytes → IsFed (record { fed = q.fed; fault = next; so_far = state_of q }) (bytes ++ byte ∷ [])
 unfolding line_with
 is_fed_on fault next p q byte result bytes h k =
     record {
       fed = let e = k.fed in omega (arith, h.fed, length-append bytes (byte ∷ []));
-      line = outcome_of_more (outcome_of fault p) (outcome_of next q) bytes byte h.outcome k.line;
+      line = fed_outcome fault next p q byte result bytes h k;
     }
 
 pub fed_taken : (fault next : Option ReadFault) (p q : PartialLine) (byte : ℕ) (result : Result (Unit {0}) ReadFault) (bytes : List ℕ) → IsFedOn fault p byte next q result → IsFed (record { fed = p.fed; fault = fault; so_far = state_of p }) bytes → IsOk result ↔ CanContinue (bytes ++ byte ∷ [])
-unfolding line_with
 fed_taken fault next p q byte result bytes h k =
-    subst (λ (x : Result (Unit {0}) ReadFault). IsOk x ↔ CanContinue (bytes ++ byte ∷ [])) (sym h.answered) (taken_iff (outcome_of next q) (bytes ++ byte ∷ []) (outcome_of_more (outcome_of fault p) (outcome_of next q) bytes byte h.outcome k.line))
+    subst (λ (x : Result (Unit {0}) ReadFault). IsOk x ↔ CanContinue (bytes ++ byte ∷ [])) (sym h.answered) (taken_iff (outcome_of next q) (bytes ++ byte ∷ []) (fed_outcome fault next p q byte result bytes h k))
 
 pub fed_stops : (fault next : Option ReadFault) (p q : PartialLine) (byte : ℕ) (result : Result (Unit {0}) ReadFault) (bytes : List ℕ) → IsFedOn fault p byte next q result → IsFed (record { fed = p.fed; fault = fault; so_far = state_of p }) bytes → IfErr result (λ f. Stops (bytes ++ byte ∷ []) f)
-unfolding line_with
 fed_stops fault next p q byte result bytes h k =
-    subst (λ (x : Result (Unit {0}) ReadFault). IfErr x (λ f. Stops (bytes ++ byte ∷ []) f)) (sym h.answered) (refused_stops (outcome_of next q) (bytes ++ byte ∷ []) (outcome_of_more (outcome_of fault p) (outcome_of next q) bytes byte h.outcome k.line))
+    subst (λ (x : Result (Unit {0}) ReadFault). IfErr x (λ f. Stops (bytes ++ byte ∷ []) f)) (sym h.answered) (refused_stops (outcome_of next q) (bytes ++ byte ∷ []) (fed_outcome fault next p q byte result bytes h k))
 
 pub new_fed : (p : PartialLine) → state_of p ≡ start → IsFed (record { fed = p.fed; fault = None; so_far = state_of p }) []
 unfolding line_with read_line
