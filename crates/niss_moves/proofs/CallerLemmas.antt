@@ -1,14 +1,12 @@
 -- Facts on the public definitions that the crates above cite. Of this crate's proofs they name this file alone.
 
--- places and faces by their tests
+-- places and faces by their tests, and facelet texts of maps
 pub use Rattle.niss_moves.proofs.Finite.{same_place_is, same_place_of, same_place_self}
 pub use Rattle.niss_moves.proofs.Rotations.{same_face_is}
-pub use Rattle.niss_moves.proofs.ListedPlaces.{all_places}
+pub use Rattle.niss_moves.proofs.ListedPlaces.{all_places, same_letters}
 -- sequences one after the other
 pub use Rattle.niss_moves.proofs.Inverses.{effect-append, inverse_after, inverse_before, inverse_last, inverse_whole}
 pub use Rattle.niss_moves.proofs.AllCanonical.{last_turn-push}
--- facelet texts of maps
-pub use Rattle.niss_moves.proofs.SameLetters.{same_letters}
 -- truth values, and powers by their test
 pub use Rattle.niss_moves.proofs.Logic.{not_true, and_left, and_right, and_both}
 pub use Rattle.niss_moves.proofs.OneSpelling.{same_power, same_power_is}

@@ -1,11 +1,11 @@
 -- Canonical lists and their parts.
 use Rattle.std.proofs.Common.{◌≡◌, Bool, true, false, not, ◌&&◌, refl, ap, subst, List, [], ◌∷◌, ◌++◌, append_assoc, ◌⊎◌, inl, inr}
-use Rattle.niss_moves.specs.Turn.{opposite, same_face}
+use Rattle.niss_moves.specs.Turn.{opposite, same_face, goes_first}
 use Rattle.niss_moves.specs.Canonical.{face_may_follow, IsCanonical}
-use Rattle.niss_moves.specs.declared.turn.Face.{Face}
-use Rattle.niss_moves.specs.declared.turn.Turn.{Turn}
+use Rattle.niss_moves.specs.Names.{Face, Turn}
 use Rattle.niss_moves.proofs.Finite.{every_face, at_face, implies, by_implies}
-use Rattle.niss_moves.proofs.Logic.{and_both, and_left, and_right}
+use Rattle.std.proofs.lemmas.Bool.{and_parts}
+use Rattle.niss_moves.proofs.Logic.{not_true, and_both, and_left, and_right}
 use Rattle.niss_moves.proofs.Rotations.{same_face_is}
 
 pub canonical_tail : (x : Turn) (s : List Turn) → IsCanonical (x ∷ s) → IsCanonical s
@@ -61,46 +61,39 @@ are_exchanged f g = not (same_face f g) && not (face_may_follow f g)
 pub exchanged : (f g : Face) → same_face f g ≡ false → face_may_follow f g ≡ false → are_exchanged f g ≡ true
 exchanged f g a b = and_both _ _ (ap not a) (ap not b)
 
-swap_test : every_face (λ x. every_face (λ t. implies (are_exchanged x t) (face_may_follow t x))) ≡ true
+-- two faces of one axis of which the second goes first
+abbrev pub goes_late : Face → Face → Bool
+goes_late f g = same_face (opposite f) g && goes_first g
+
+exchange_test : every_face (λ f. every_face (λ g. implies (are_exchanged f g) (face_may_follow g f && (goes_late f g && not (goes_late g f))))) ≡ true
 unfolding every_face
-swap_test = refl
+exchange_test = refl
 
 -- exchanged, they are in order
-pub swap_follows : (x t : Face) → are_exchanged x t ≡ true → face_may_follow t x ≡ true
-swap_follows x t h =
-    by_implies _ _ (at_face (λ t. implies (are_exchanged x t) (face_may_follow t x)) (at_face (λ x. every_face (λ t. implies (are_exchanged x t) (face_may_follow t x))) swap_test x) t) h
-
-opposite_test : every_face (λ f. every_face (λ g. implies (are_exchanged f g) (same_face (opposite f) g))) ≡ true
-unfolding every_face
-opposite_test = refl
+pub exchange : (f g : Face) → are_exchanged f g ≡ true → (face_may_follow g f ≡ true) × (goes_late f g ≡ true) × (goes_late g f ≡ false)
+exchange f g h =
+    let both = and_parts (face_may_follow g f) (goes_late f g && not (goes_late g f)) (by_implies _ _ (at_face _ (at_face _ exchange_test f) g) h) in
+    let late = and_parts (goes_late f g) (not (goes_late g f)) both.1 in
+    (both.0, late.0, not_true _ late.1)
 
 pub exchanged_opposite : (f g : Face) → are_exchanged f g ≡ true → opposite f ≡ g
-exchanged_opposite f g h =
-    same_face_is _ _ (by_implies _ _ (at_face (λ g. implies (are_exchanged f g) (same_face (opposite f) g)) (at_face (λ f. every_face (λ g. implies (are_exchanged f g) (same_face (opposite f) g))) opposite_test f) g) h)
+exchanged_opposite f g h = same_face_is _ _ (and_left _ _ (exchange f g h).1)
 
-abbrev Skips : Face → Face → Face → Bool
-Skips z y x = implies (face_may_follow z y && are_exchanged x y) (face_may_follow z x)
-
-skip_test : every_face (λ z. every_face (λ y. every_face (λ x. Skips z y x))) ≡ true
+skip_test : every_face (λ z. every_face (λ y. every_face (λ x. implies (face_may_follow z y && are_exchanged x y) (face_may_follow z x)))) ≡ true
 unfolding every_face
 skip_test = refl
 
 -- what may stand before the first of two opposite faces may stand before the second
-pub skip_follows : (z y x : Face) → face_may_follow z y ≡ true → are_exchanged x y ≡ true → face_may_follow z x ≡ true
-skip_follows z y x h a =
-    by_implies _ _ (at_face (λ x. Skips z y x) (at_face (λ y. every_face (λ x. Skips z y x)) (at_face (λ z. every_face (λ y. every_face (λ x. Skips z y x))) skip_test z) y) x) (and_both _ _ h a)
+skip_follows : (z y x : Face) → face_may_follow z y ≡ true → are_exchanged x y ≡ true → face_may_follow z x ≡ true
+skip_follows z y x h a = by_implies _ _ (at_face _ (at_face _ (at_face _ skip_test z) y) x) (and_both _ _ h a)
 
-abbrev Passes : Face → Face → Face → Bool
-Passes y x t = implies (face_may_follow y x && (not (same_face y t) && are_exchanged x t)) (face_may_follow y t)
-
-pass_test : every_face (λ y. every_face (λ x. every_face (λ t. Passes y x t))) ≡ true
+pass_test : every_face (λ y. every_face (λ x. every_face (λ t. implies (face_may_follow y x && (not (same_face y t) && are_exchanged x t)) (face_may_follow y t)))) ≡ true
 unfolding every_face
 pass_test = refl
 
 -- and the other way round, unless it is of the first one's face itself
 pub pass_follows : (y x t : Face) → face_may_follow y x ≡ true → same_face y t ≡ false → are_exchanged x t ≡ true → face_may_follow y t ≡ true
-pass_follows y x t h a b =
-    by_implies _ _ (at_face (λ t. Passes y x t) (at_face (λ x. every_face (λ t. Passes y x t)) (at_face (λ y. every_face (λ x. every_face (λ t. Passes y x t))) pass_test y) x) t) (and_both _ _ h (and_both _ _ (ap not a) b))
+pass_follows y x t h a b = by_implies _ _ (at_face _ (at_face _ (at_face _ pass_test y) x) t) (and_both _ _ h (and_both _ _ (ap not a) b))
 
 -- a list whose last turn but one is left out
 pub skip_middle : (b : List Turn) (y x : Turn) → IsCanonical (b ++ y ∷ x ∷ []) → are_exchanged x.face y.face ≡ true → IsCanonical (b ++ x ∷ [])

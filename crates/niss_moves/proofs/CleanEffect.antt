@@ -3,49 +3,32 @@ use Rattle.std.proofs.Common.{◌≡◌, Bool, true, false, refl, ap, sym, ◌�
 use Rattle.niss_moves.specs.Places.{Place, same_place}
 use Rattle.niss_moves.specs.Effects.{effect_of_turns}
 use Rattle.niss_moves.specs.Turn.{opposite, same_face}
-use Rattle.niss_moves.specs.Canonical.{face_may_follow, IsCanonical}
+use Rattle.niss_moves.specs.Canonical.{face_may_follow}
 use Rattle.niss_moves.specs.Cleaning.{sum_of_turns, rewritten_pair, IsRewriting, Cleans, Clean, Rewrite}
-use Rattle.niss_moves.specs.declared.turn.Face.{Face}
-use Rattle.niss_moves.specs.declared.turn.Power.{Power}
-use Rattle.niss_moves.specs.declared.turn.Turn.{Turn}
+use Rattle.niss_moves.specs.Names.{Face, Turn}
 use Rattle.niss_moves.proofs.Finite.{every_face, every_power, at_power, every_place, at_place, every_vector, every_coord, same_place_is}
 use Rattle.niss_moves.proofs.Rotations.{turn, same_face_is, every_turn, at_turn, effect_of_turns-append}
 use Rattle.niss_moves.proofs.CanonicalLists.{exchanged, exchanged_opposite}
 use Rattle.niss_moves.proofs.Cleaned.{same_rewritten, other_rewritten}
 
 -- Two turns of one face have the effect of their sum.
-abbrev Sums : Turn → Power → Place → Bool
-Sums t q r = same_place (effect_of_turns (sum_of_turns t (turn t.face q)) r) (effect_of_turns (t ∷ turn t.face q ∷ []) r)
-
-sums_test : every_turn (λ t. every_power (λ q. every_place (λ r. Sums t q r))) ≡ true
+sums_test : every_turn (λ t. every_power (λ q. every_place (λ r. same_place (effect_of_turns (sum_of_turns t (turn t.face q)) r) (effect_of_turns (t ∷ turn t.face q ∷ []) r)))) ≡ true
 unfolding every_turn every_face every_power every_place every_vector every_coord
 sums_test = refl
 
-sum_effect : (t : Turn) (q : Power) (r : Place) → effect_of_turns (sum_of_turns t (turn t.face q)) r ≡ effect_of_turns (t ∷ turn t.face q ∷ []) r
-sum_effect t q r =
-    same_place_is _ _ (at_place (λ r. Sums t q r) (at_power (λ q. every_place (λ r. Sums t q r)) (at_turn (λ t. every_power (λ q. every_place (λ r. Sums t q r))) sums_test t) q) r)
-
 -- Turns of opposite faces commute.
-abbrev Commutes : Turn → Power → Place → Bool
-Commutes t q r =
-    same_place (effect_of_turns (turn (opposite t.face) q ∷ t ∷ []) r) (effect_of_turns (t ∷ turn (opposite t.face) q ∷ []) r)
-
-commutes_test : every_turn (λ t. every_power (λ q. every_place (λ r. Commutes t q r))) ≡ true
+commutes_test : every_turn (λ t. every_power (λ q. every_place (λ r. same_place (effect_of_turns (turn (opposite t.face) q ∷ t ∷ []) r) (effect_of_turns (t ∷ turn (opposite t.face) q ∷ []) r)))) ≡ true
 unfolding every_turn every_face every_power every_place every_vector every_coord
 commutes_test = refl
-
-exchange_effect : (t : Turn) (q : Power) (r : Place) → effect_of_turns (turn (opposite t.face) q ∷ t ∷ []) r ≡ effect_of_turns (t ∷ turn (opposite t.face) q ∷ []) r
-exchange_effect t q r =
-    same_place_is _ _ (at_place (λ r. Commutes t q r) (at_power (λ q. every_place (λ r. Commutes t q r)) (at_turn (λ t. every_power (λ q. every_place (λ r. Commutes t q r))) commutes_test t) q) r)
 
 rewritten_effect : (x t : Turn) → face_may_follow x.face t.face ≡ false → (r : Place) → effect_of_turns (rewritten_pair x t) r ≡ effect_of_turns (x ∷ t ∷ []) r
 rewritten_effect x t h r = by_case (same_face x.face t.face) refl
   where
     by_case : (s : Bool) → same_face x.face t.face ≡ s → effect_of_turns (rewritten_pair x t) r ≡ effect_of_turns (x ∷ t ∷ []) r
     by_case true e =
-        rw (same_rewritten x t e) (sum_effect x t.power r ∙ ap (λ f. effect_of_turns (x ∷ turn f t.power ∷ []) r) (same_face_is _ _ e))
+        rw (same_rewritten x t e) (same_place_is _ _ (at_place _ (at_power _ (at_turn _ sums_test x) t.power) r) ∙ ap (λ f. effect_of_turns (x ∷ turn f t.power ∷ []) r) (same_face_is _ _ e))
     by_case false e =
-        rw (other_rewritten x t e) (subst (λ (f : Face). effect_of_turns (turn f t.power ∷ x ∷ []) r ≡ effect_of_turns (x ∷ turn f t.power ∷ []) r) (exchanged_opposite x.face t.face (exchanged x.face t.face e h)) (exchange_effect x t.power r))
+        rw (other_rewritten x t e) (subst (λ (f : Face). effect_of_turns (turn f t.power ∷ x ∷ []) r ≡ effect_of_turns (x ∷ turn f t.power ∷ []) r) (exchanged_opposite x.face t.face (exchanged x.face t.face e h)) (same_place_is _ _ (at_place _ (at_power _ (at_turn _ commutes_test x) t.power) r)))
 
 one_effect : (s t : List Turn) → IsRewriting s t → (r : Place) → effect_of_turns t r ≡ effect_of_turns s r
 one_effect s t w r =
@@ -54,7 +37,3 @@ one_effect s t w r =
 pub cleans_effect : (s c : List Turn) → Cleans s c → (r : Place) → effect_of_turns c r ≡ effect_of_turns s r
 cleans_effect s c (Clean h) r = refl
 cleans_effect s c (Rewrite w d) r = cleans_effect _ c d r ∙ one_effect s _ w r
-
-pub cleans_canonical : (s c : List Turn) → Cleans s c → IsCanonical c
-cleans_canonical s c (Clean h) = h
-cleans_canonical s c (Rewrite w d) = cleans_canonical _ c d

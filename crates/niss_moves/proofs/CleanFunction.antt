@@ -1,48 +1,31 @@
--- Cleaning as a function is the relation.
-use Rattle.std.proofs.Common.{◌≡◌, ℕ, zero, suc, ◌+◌, ◌*◌, ◌<◌, ◌≤◌, inl, inr, Bool, true, false, refl, ap, ◌∙◌, subst, List, [], ◌∷◌, ◌++◌, length, cond, arith, Option, None, Some}
+-- Cleaning as a function is the relation, and has one result.
+use Rattle.std.proofs.Common.{◌≡◌, ℕ, zero, suc, ◌+◌, ◌*◌, ◌<◌, ◌≤◌, inl, inr, Bool, true, false, refl, ap, ◌∙◌, subst, List, [], ◌∷◌, ◌++◌, length, cond, arith, Option, None, Some, sym}
 use Rattle.std.specs.Option.{option_map_or}
 use Rattle.std.specs.List.{count_by}
 use Rattle.std.proofs.Math.Nat.{mul-le-mul_left, mul_comm}
 use Rattle.std.proofs.lemmas.List.Sums.{count_by-le-length}
 use Rattle.niss_moves.specs.Canonical.{face_may_follow, IsCanonical}
 use Rattle.niss_moves.specs.Cleaning.{rewritten_pair, IsRewriting, Cleans, Clean, Rewrite}
-use Rattle.niss_moves.specs.RewritingLaws.{are_disordered, disorder}
+use Rattle.niss_moves.specs.RewritingLaws.{are_disordered, disorder, CleaningEnds, OneCleanList, CanonicalStays}
 use Rattle.niss_moves.specs.CleanedLine.{after_first, rewritten_once, rewritten_within, most_rewritings, clean_turns, CleanTurnsAreClean}
-use Rattle.niss_moves.specs.declared.turn.Turn.{Turn}
-use Rattle.niss_moves.proofs.Logic.{and_both}
+use Rattle.niss_moves.specs.Names.{Turn}
+use Rattle.niss_moves.proofs.Logic.{and_both, and_left, and_right}
 use Rattle.niss_moves.proofs.Disorder.{rewriting_lowers}
+use Rattle.niss_moves.proofs.CanonicalLists.{canonical_pair}
 
--- where nothing is rewritten, nothing breaks the order
-
-after_first_none : (t : Turn) (o : Option (List Turn)) → after_first t o ≡ None → o ≡ None
-after_first_none t None e = refl
-after_first_none t (Some s) e = cc
-
-none_step : (t u : Turn) (s : List Turn) (b : Bool) → face_may_follow t.face u.face ≡ b
-    → cond b (after_first t (rewritten_once (u ∷ s))) (Some (rewritten_pair t u ++ s)) ≡ None
-    → (rewritten_once (u ∷ s) ≡ None → IsCanonical (u ∷ s)) → IsCanonical (t ∷ u ∷ s)
-none_step t u s true e h rest = and_both _ _ e (rest (after_first_none t (rewritten_once (u ∷ s)) h))
-none_step t u s false e h rest = cc
-
-none_is_canonical : (s : List Turn) → rewritten_once s ≡ None → IsCanonical s
-unfolding rewritten_once
-none_is_canonical [] e = refl
-none_is_canonical (t ∷ []) e = refl
-none_is_canonical (t ∷ u ∷ s) e = none_step t u s (face_may_follow t.face u.face) refl e (none_is_canonical (u ∷ s))
-
--- what is rewritten is the leftmost pair that breaks the order
-
-after_first_some : (t : Turn) (o : Option (List Turn)) (c : List Turn) → after_first t o ≡ Some c → (r : List Turn) × (o ≡ Some r) × (c ≡ t ∷ r)
-after_first_some t None c e = cc
-after_first_some t (Some s) c e = (s, refl, let h : c ≡ t ∷ s = cc in h)
+-- what the leftmost rewriting tells: where nothing is rewritten, nothing breaks the order, and else it is the leftmost pair that does
+abbrev Tells : List Turn → Option (List Turn) → Type 0
+Tells s None = IsCanonical s
+Tells s (Some c) = IsRewriting s c
 
 canonical_after_first : (t u : Turn) (s front : List Turn) (left : Turn) (rest : List Turn) → u ∷ s ≡ front ++ left ∷ rest
     → face_may_follow t.face u.face ≡ true → IsCanonical (front ++ left ∷ []) → IsCanonical (t ∷ front ++ left ∷ [])
 canonical_after_first t u s [] left rest e k h = and_both _ _ (let same : u ≡ left = cc in subst (λ (x : Turn). face_may_follow t.face x.face ≡ true) same k) refl
 canonical_after_first t u s (x ∷ front) left rest e k h = and_both _ _ (let same : u ≡ x = cc in subst (λ (x : Turn). face_may_follow t.face x.face ≡ true) same k) h
 
-rewriting_after_first : (t u : Turn) (s r c : List Turn) → face_may_follow t.face u.face ≡ true → c ≡ t ∷ r → IsRewriting (u ∷ s) r → IsRewriting (t ∷ u ∷ s) c
-rewriting_after_first t u s r c k e w = record {
+tells_after_first : (t u : Turn) (s : List Turn) (o : Option (List Turn)) → face_may_follow t.face u.face ≡ true → Tells (u ∷ s) o → Tells (t ∷ u ∷ s) (after_first t o)
+tells_after_first t u s None k h = and_both _ _ k h
+tells_after_first t u s (Some r) k w = record {
   front = t ∷ w.front;
   left = w.left;
   right = w.right;
@@ -50,30 +33,18 @@ rewriting_after_first t u s r c k e w = record {
   at = ap (λ v. t ∷ v) w.at;
   leftmost = canonical_after_first t u s w.front w.left (w.right ∷ w.rest) w.at k w.leftmost;
   breaks = w.breaks;
-  result = e ∙ ap (λ v. t ∷ v) w.result;
+  result = ap (λ v. t ∷ v) w.result;
 }
 
-some_step : (t u : Turn) (s c : List Turn) (b : Bool) → face_may_follow t.face u.face ≡ b
-    → cond b (after_first t (rewritten_once (u ∷ s))) (Some (rewritten_pair t u ++ s)) ≡ Some c
-    → ((r : List Turn) → rewritten_once (u ∷ s) ≡ Some r → IsRewriting (u ∷ s) r) → IsRewriting (t ∷ u ∷ s) c
-some_step t u s c true e h rest =
-    let w = after_first_some t (rewritten_once (u ∷ s)) c h in rewriting_after_first t u s w.0 c e w.2 (rest w.0 w.1)
-some_step t u s c false e h rest = record {
-  front = [];
-  left = t;
-  right = u;
-  rest = s;
-  at = refl;
-  leftmost = refl;
-  breaks = e;
-  result = let k : c ≡ rewritten_pair t u ++ s = cc in k;
-}
-
-some_is_rewriting : (s c : List Turn) → rewritten_once s ≡ Some c → IsRewriting s c
+once_tells : (s : List Turn) → Tells s (rewritten_once s)
 unfolding rewritten_once
-some_is_rewriting [] c e = cc
-some_is_rewriting (t ∷ []) c e = cc
-some_is_rewriting (t ∷ u ∷ s) c e = some_step t u s c (face_may_follow t.face u.face) refl e (some_is_rewriting (u ∷ s))
+once_tells [] = refl
+once_tells (t ∷ []) = refl
+once_tells (t ∷ u ∷ s) = by_order (face_may_follow t.face u.face) refl (once_tells (u ∷ s))
+  where
+    by_order : (b : Bool) → face_may_follow t.face u.face ≡ b → Tells (u ∷ s) (rewritten_once (u ∷ s)) → Tells (t ∷ u ∷ s) (cond b (after_first t (rewritten_once (u ∷ s))) (Some (rewritten_pair t u ++ s)))
+    by_order true e h = tells_after_first t u s (rewritten_once (u ∷ s)) e h
+    by_order false e h = record { front = []; left = t; right = u; rest = s; at = refl; leftmost = refl; breaks = e; result = refl }
 
 -- how many rewritings there can be
 
@@ -112,24 +83,66 @@ lowers m s t cap w = elim (rewriting_lowers s t w) [
 
 -- the rewritings to the end
 
-within_step : (m n : ℕ) (s : List Turn) (o : Option (List Turn)) → rewritten_once s ≡ o → length s * length s ≤ m → left_over m s ≤ suc n
+within_step : (m n : ℕ) (s : List Turn) (o : Option (List Turn)) → Tells s o → length s * length s ≤ m → left_over m s ≤ suc n
     → ((t : List Turn) → length t * length t ≤ m → left_over m t ≤ n → Cleans t (rewritten_within n t))
     → Cleans s (option_map_or (rewritten_within n) o s)
-within_step m n s None e cap fuel more = Clean (none_is_canonical s e)
-within_step m n s (Some t) e cap fuel more =
-    let w = some_is_rewriting s t e in
+within_step m n s None h cap fuel more = Clean h
+within_step m n s (Some t) w cap fuel more =
     let l = lowers m s t cap w in
     Rewrite w (more t l.1 (omega (arith, l.0, fuel)))
 
-end_step : (m : ℕ) (s : List Turn) (o : Option (List Turn)) → rewritten_once s ≡ o → length s * length s ≤ m → left_over m s ≤ 0 → Cleans s s
-end_step m s None e cap fuel = Clean (none_is_canonical s e)
-end_step m s (Some t) e cap fuel = absurd (let l = lowers m s t cap (some_is_rewriting s t e) in omega (arith, l.0, fuel))
+end_step : (m : ℕ) (s : List Turn) (o : Option (List Turn)) → Tells s o → length s * length s ≤ m → left_over m s ≤ 0 → Cleans s s
+end_step m s None h cap fuel = Clean h
+end_step m s (Some t) w cap fuel = absurd (let l = lowers m s t cap w in omega (arith, l.0, fuel))
 
 within_cleans : (m n : ℕ) (s : List Turn) → length s * length s ≤ m → left_over m s ≤ n → Cleans s (rewritten_within n s)
 unfolding rewritten_within
-within_cleans m zero s cap fuel = end_step m s (rewritten_once s) refl cap fuel
-within_cleans m (suc n) s cap fuel = within_step m n s (rewritten_once s) refl cap fuel (within_cleans m n)
+within_cleans m zero s cap fuel = end_step m s (rewritten_once s) (once_tells s) cap fuel
+within_cleans m (suc n) s cap fuel = within_step m n s (rewritten_once s) (once_tells s) cap fuel (within_cleans m n)
 
 pub clean_turns_are_clean : CleanTurnsAreClean
 unfolding clean_turns left_over
 clean_turns_are_clean s = within_cleans (length s * length s) (most_rewritings s) s (omega arith) (omega arith)
+
+-- Cleaning ends, for each list.
+pub cleaning_ends : CleaningEnds
+cleaning_ends s = (clean_turns s, clean_turns_are_clean s)
+
+-- Cleaning has one result, since the leftmost rewriting is a function.
+
+-- the leftmost rewriting, computed
+once_here : (x y : Turn) (s : List Turn) → face_may_follow x.face y.face ≡ false → rewritten_once (x ∷ y ∷ s) ≡ Some (rewritten_pair x y ++ s)
+unfolding rewritten_once
+once_here x y s e = ap (λ b. cond b (after_first x (rewritten_once (y ∷ s))) (Some (rewritten_pair x y ++ s))) e
+
+once_later : (x y : Turn) (s t : List Turn) → face_may_follow x.face y.face ≡ true → rewritten_once (y ∷ s) ≡ Some t → rewritten_once (x ∷ y ∷ s) ≡ Some (x ∷ t)
+unfolding rewritten_once
+once_later x y s t e h =
+    ap (λ b. cond b (after_first x (rewritten_once (y ∷ s))) (Some (rewritten_pair x y ++ s))) e ∙ ap (after_first x) h
+
+once_is : (front : List Turn) (l r : Turn) (rest : List Turn) → IsCanonical (front ++ l ∷ []) → face_may_follow l.face r.face ≡ false → rewritten_once (front ++ l ∷ r ∷ rest) ≡ Some ((front ++ rewritten_pair l r) ++ rest)
+once_is [] l r rest h e = once_here l r rest e
+once_is (x ∷ []) l r rest h e = once_later x l (r ∷ rest) _ (and_left _ _ h) (once_here l r rest e)
+once_is (x ∷ y ∷ front) l r rest h e =
+    once_later x y (front ++ l ∷ r ∷ rest) _ (and_left _ _ h) (once_is (y ∷ front) l r rest (and_right (face_may_follow x.face y.face) _ h) e)
+
+once_rewriting : (s t : List Turn) → IsRewriting s t → rewritten_once s ≡ Some t
+once_rewriting s t w =
+    ap rewritten_once w.at ∙ once_is w.front w.left w.right w.rest w.leftmost w.breaks ∙ ap Some (sym w.result)
+
+not_both : (s t : List Turn) → IsCanonical s → IsRewriting s t → ⊥
+not_both s t h w =
+    let k = canonical_pair w.front w.left w.right w.rest (subst (λ (x : List Turn). IsCanonical x) w.at h) in
+    let q : true ≡ false = sym k ∙ w.breaks in
+    cc
+
+pub one_clean_list : OneCleanList
+one_clean_list s c d (Clean h) (Clean k) = refl
+one_clean_list s c d (Clean h) (Rewrite w k) = absurd (not_both s _ h w)
+one_clean_list s c d (Rewrite w h) (Clean k) = absurd (not_both s _ k w)
+one_clean_list s c d (Rewrite {t = t} w h) (Rewrite {t = u} v k) =
+    let e : t ≡ u = (let q : Some t ≡ Some u = sym (once_rewriting s t w) ∙ once_rewriting s u v in cc) in
+    one_clean_list t c d h (subst (λ (x : List Turn). Cleans x d) (sym e) k)
+
+pub canonical_stays : CanonicalStays
+canonical_stays s c h d = one_clean_list s c s d (Clean h)

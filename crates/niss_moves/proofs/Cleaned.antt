@@ -1,20 +1,17 @@
 -- Cleaning in one pass.
-use Rattle.std.proofs.Common.{◌≡◌, Bool, true, false, ◌||◌, refl, ap, sym, ◌∙◌, subst, subst₂, List, [], ◌∷◌, ◌++◌, append_assoc, append-nil, inl, inr, Option, None, Some}
+use Rattle.std.proofs.Common.{◌≡◌, Bool, true, false, refl, ap, sym, ◌∙◌, subst, subst₂, List, [], ◌∷◌, ◌++◌, append_assoc, append-nil, inl, inr, Option, None, Some}
 use Rattle.std.specs.Prelude.{IfSome}
 use Rattle.niss_moves.specs.Turn.{same_face}
 use Rattle.niss_moves.specs.Canonical.{face_may_follow, last_turn, IsCanonical}
 use Rattle.niss_moves.proofs.AllCanonical.{last_turn-push}
 use Rattle.niss_moves.specs.Cleaning.{turn_by, sum_of_powers, sum_of_turns, rewritten_pair, Cleans, Clean, Rewrite}
 use Rattle.niss_moves.specs.Helpers.{pair_of_turns, list_with_turn}
-use Rattle.niss_moves.specs.declared.turn.Face.{Face}
-use Rattle.niss_moves.specs.declared.turn.Face.TheVariants.{U, D, R, L, F, B}
-use Rattle.niss_moves.specs.declared.turn.Power.{Power}
-use Rattle.niss_moves.specs.declared.turn.Turn.{Turn}
+use Rattle.niss_moves.specs.Names.{Face, U, D, R, L, F, B, Power, Turn}
 use denote.Enum.Bare.{sameb}
 use Rattle.niss_moves.specs.contracts.turn.Face.{the_type}
 use Rattle.niss_moves.proofs.Logic.{and_both}
 use Rattle.niss_moves.proofs.Rotations.{same_face_is}
-use Rattle.niss_moves.proofs.CanonicalLists.{canonical_pair, canonical_front, canonical_join, canonical_push, canonical_same, snoc_assoc, last_of, same_may_not_follow, are_exchanged, exchanged, swap_follows, pass_follows, skip_middle}
+use Rattle.niss_moves.proofs.CanonicalLists.{canonical_pair, canonical_front, canonical_join, canonical_same, snoc_assoc, last_of, same_may_not_follow, are_exchanged, exchanged, exchange, pass_follows, skip_middle}
 
 -- what a turn at the end leaves
 pub list_with_turn-last : (a : List Turn) (x t : Turn) → list_with_turn (a ++ x ∷ []) t ≡ a ++ pair_of_turns x t
@@ -56,11 +53,6 @@ cleaned_same a x t h e =
           rw snoc_assoc (one_rewriting a x t rest c h (same_may_not_follow _ _ e) (rw (same_rewritten x t e) d));
     }
 
--- a turn that may follow
-cleaned_follow : (a : List Turn) (x t : Turn) → IsCanonical (a ++ x ∷ []) → face_may_follow x.face t.face ≡ true → Cleaned (a ++ x ∷ []) t (a ++ x ∷ t ∷ [])
-cleaned_follow a x t h e =
-    record { canonical = canonical_push a x t h e; cleans = λ rest c d. rw snoc_assoc (rw append_assoc at d) }
-
 -- with the last turn summed, the other one stands after it
 summed_before : (b : List Turn) (y x : Turn) (o : Option Power) → IsCanonical (b ++ y ∷ x ∷ []) → are_exchanged x.face y.face ≡ true → IsCanonical ((b ++ turn_by y.face o) ++ x ∷ [])
 summed_before b y x None h a = rw append-nil (skip_middle b y x h a)
@@ -84,7 +76,7 @@ swap_same b y x t h n m e =
 swap_other : (b : List Turn) (y x t : Turn) → IsCanonical (b ++ y ∷ x ∷ []) → same_face x.face t.face ≡ false → face_may_follow x.face t.face ≡ false → same_face y.face t.face ≡ false → Cleaned (b ++ y ∷ x ∷ []) t ((b ++ y ∷ t ∷ []) ++ x ∷ [])
 swap_other b y x t h n m e =
     record {
-      canonical = rw append_assoc (canonical_join b y (t ∷ x ∷ []) (canonical_front (b ++ y ∷ []) (x ∷ []) (rw snoc_assoc h)) (and_both _ _ (pass_follows y.face x.face t.face (canonical_pair b y x [] h) e (exchanged x.face t.face n m)) (and_both _ _ (swap_follows x.face t.face (exchanged x.face t.face n m)) refl)));
+      canonical = rw append_assoc (canonical_join b y (t ∷ x ∷ []) (canonical_front (b ++ y ∷ []) (x ∷ []) (rw snoc_assoc h)) (and_both _ _ (pass_follows y.face x.face t.face (canonical_pair b y x [] h) e (exchanged x.face t.face n m)) (and_both _ _ ((exchange x.face t.face (exchanged x.face t.face n m)).0) refl)));
       cleans = λ rest c d.
           let split : (b ++ y ∷ x ∷ []) ++ t ∷ rest ≡ (b ++ y ∷ []) ++ x ∷ t ∷ rest = rw (append_assoc, append_assoc) refl in
           let mid : ((b ++ y ∷ t ∷ []) ++ x ∷ []) ++ rest ≡ ((b ++ y ∷ []) ++ rewritten_pair x t) ++ rest = rw (other_rewritten x t n) (simp append_assoc) in
@@ -94,7 +86,7 @@ swap_other b y x t h n m e =
 cleaned_swap : (a : List Turn) (x t : Turn) → IsCanonical (a ++ x ∷ []) → same_face x.face t.face ≡ false → face_may_follow x.face t.face ≡ false → Cleaned (a ++ x ∷ []) t (list_with_turn a t ++ x ∷ [])
 cleaned_swap a x t h n m =
     elim (last_of a) [
-      | inl e ↦ subst (λ (a : List Turn). Cleaned (a ++ x ∷ []) t (list_with_turn a t ++ x ∷ [])) (sym e) (record { canonical = and_both _ _ (swap_follows x.face t.face (exchanged x.face t.face n m)) refl; cleans = λ rest c d. one_rewriting [] x t rest c refl m (rw (other_rewritten x t n) d) })
+      | inl e ↦ subst (λ (a : List Turn). Cleaned (a ++ x ∷ []) t (list_with_turn a t ++ x ∷ [])) (sym e) (record { canonical = and_both _ _ ((exchange x.face t.face (exchanged x.face t.face n m)).0) refl; cleans = λ rest c d. one_rewriting [] x t rest c refl m (rw (other_rewritten x t n) d) })
       | inr w ↦ subst (λ (a : List Turn). Cleaned (a ++ x ∷ []) t (list_with_turn a t ++ x ∷ [])) (sym w.2) (swap_after w.0 w.1 x t (subst (λ (a : List Turn). IsCanonical (a ++ x ∷ [])) w.2 h) n m)
     ]
   where
@@ -136,47 +128,5 @@ cleaned_passed a old mid new x t h o e b m n =
     subst (λ (l : Option Turn). IfSome l (λ u. face_may_follow u.face t.face ≡ false)) (ap last_turn o ∙ last_turn-push a x) b in
     subst₂ (λ (o n : List Turn). Cleaned o t n) (sym o) (sym (n ∙ ap (λ s. s ++ x ∷ []) m)) (cleaned_swap a x t (subst (λ (s : List Turn). IsCanonical s) o h) e breaks)
 
-cleaned_in_order : (a : List Turn) (x t : Turn) → IsCanonical (a ++ x ∷ []) → (s : Bool) → same_face x.face t.face ≡ s → (s || face_may_follow x.face t.face) ≡ true → Cleaned (a ++ x ∷ []) t (a ++ pair_of_turns x t)
-cleaned_in_order a x t h true e k = rw (same_pair x t e) (cleaned_same a x t h e)
-cleaned_in_order a x t h false e k = rw (other_pair x t e) (cleaned_follow a x t h k)
-
-cleaned_stays : (a old mid new : List Turn) (x t : Turn) → IsCanonical old → old ≡ a ++ x ∷ [] → (same_face x.face t.face || face_may_follow x.face t.face) ≡ true → mid ≡ a ++ x ∷ [] → new ≡ list_with_turn mid t → Cleaned old t new
-cleaned_stays a old mid new x t h o k m n =
-    subst₂ (λ (o n : List Turn). Cleaned o t n) (sym o) (sym (n ∙ ap (λ s. list_with_turn s t) m ∙ list_with_turn-last a x t)) (cleaned_in_order a x t (subst (λ (s : List Turn). IsCanonical s) o h) (same_face x.face t.face) refl k)
-
-or_false_left : (a b : Bool) → (a || b) ≡ false → a ≡ false
-or_false_left true b e = e
-or_false_left false b e = refl
-
-or_false_right : (a b : Bool) → (a || b) ≡ false → b ≡ false
-or_false_right true b e = cc
-or_false_right false b e = e
-
-cleaned_passes : (a old mid new : List Turn) (x t : Turn) → IsCanonical old → old ≡ a ++ x ∷ [] → (same_face x.face t.face || face_may_follow x.face t.face) ≡ false → mid ≡ list_with_turn a t → new ≡ mid ++ x ∷ [] → Cleaned old t new
-cleaned_passes a old mid new x t h o k m n =
-    subst₂ (λ (o n : List Turn). Cleaned o t n) (sym o) (sym (n ∙ ap (λ s. s ++ x ∷ []) m)) (cleaned_swap a x t (subst (λ (s : List Turn). IsCanonical s) o h) (or_false_left _ _ k) (or_false_right (same_face x.face t.face) _ k))
-
 pub cleans_all : (s rest : List Turn) → IsCanonical s → rest ≡ [] → Cleans (s ++ rest) s
 cleans_all s rest h e = subst (λ (x : List Turn). Cleans x s) (sym (ap (λ r. s ++ r) e ∙ append-nil s)) (Clean h)
-
--- Cleaning ends: some list is clean with one more turn, and so with all.
-cleaned_any : (old : List Turn) (t : Turn) → IsCanonical old → (new : List Turn) × Cleaned old t new
-cleaned_any old t h =
-    elim (last_of old) [
-      | inl e ↦ (t ∷ [], subst (λ (a : List Turn). Cleaned a t (t ∷ [])) (sym e) (record { canonical = refl; cleans = λ rest c d. d }))
-      | inr w ↦ (let k = by_order w.0 w.1 (subst (λ (a : List Turn). IsCanonical a) w.2 h) (same_face w.1.face t.face || face_may_follow w.1.face t.face) refl in (k.0, subst (λ (a : List Turn). Cleaned a t k.0) (sym w.2) k.1))
-    ]
-  where
-    by_order : (a : List Turn) (x : Turn) → IsCanonical (a ++ x ∷ []) → (s : Bool) → (same_face x.face t.face || face_may_follow x.face t.face) ≡ s → (new : List Turn) × Cleaned (a ++ x ∷ []) t new
-    by_order a x k true e = (_, cleaned_stays a _ _ _ x t k refl e refl refl)
-    by_order a x k false e = (_, cleaned_passes a _ _ _ x t k refl e refl refl)
-
-clean_from : (rest old : List Turn) → IsCanonical old → (c : List Turn) × Cleans (old ++ rest) c
-clean_from [] old h = (old, subst (λ (x : List Turn). Cleans x old) (sym (append-nil old)) (Clean h))
-clean_from (t ∷ rest) old h =
-    let one = cleaned_any old t h in
-    let more = clean_from rest one.0 one.1.canonical in
-    (more.0, one.1.cleans rest more.0 more.1)
-
-pub cleaning_ends : (s : List Turn) → (c : List Turn) × Cleans s c
-cleaning_ends s = clean_from s [] refl

@@ -1,21 +1,15 @@
 -- What is spelled is read.
-use Rattle.std.proofs.Common.{◌≡◌, ℕ, ◌+◌, ◌<◌, ◌≤◌, refl, ap, sym, ◌∙◌, List, [], ◌∷◌, ◌++◌, length, flat_map, append_assoc, append-nil, Option, None, Some, Result, Ok, Err, arith, length-append, cond, ap₂}
+use Rattle.std.proofs.Common.{◌≡◌, ℕ, ◌+◌, ◌<◌, ◌≤◌, refl, ap, sym, ◌∙◌, List, [], ◌∷◌, ◌++◌, length, flat_map, append_assoc, append-nil, Option, None, Some, Result, Ok, Err, arith, length-append, cond}
 use Rattle.std.proofs.lemmas.Bool.{lt-ltb}
 use Rattle.niss_moves.specs.Letters.{face_letter}
 use Rattle.niss_moves.proofs.Symbols.{symbol_of_face, symbol_of_lower, symbol_of_slice, symbol_of_rotation, symbol_of_blank}
 use Rattle.niss_moves.specs.Notation.{lower_letter, slice_letter, rotation_letter, base_bytes, token_of, Plain, Typographic, Suffix, Nothing, Two, Prime, TwoPrime, suffix_bytes, suffix_power, Blank, blank_byte}
 use Rattle.niss_moves.specs.Line.{Piece, Gap, Spelled, piece_bytes, piece_moves, Item, Outside, Bracket, item_bytes, item_normal, item_bracketed, Spells}
 use Rattle.niss_moves.specs.Machine.{symbol_of, State, start, outside, inside, added, settled, opened, closed, count, with_last, fed_to, step_by, step_at, step_within, and_then, run_within}
-use Rattle.niss_moves.specs.declared.turn.Face.{Face}
-use Rattle.niss_moves.specs.declared.turn.Power.TheVariants.{Half, Counter}
-use Rattle.niss_moves.specs.declared.token.Token.{Token}
-use Rattle.niss_moves.specs.declared.base.Base.{Base}
+use Rattle.niss_moves.specs.Names.{Face, Half, Counter, Token, Base, LastMove, ReadFault, TooLong}
 use Rattle.niss_moves.specs.declared.base.Base.TheVariants as base
-use Rattle.niss_moves.specs.declared.partial_line.LastMove.{LastMove}
 use Rattle.niss_moves.specs.declared.partial_line.LastMove.TheVariants as last
 use Rattle.niss_moves.specs.declared.symbol.Symbol.TheVariants as symbol
-use Rattle.niss_moves.specs.declared.fault.ReadFault.{ReadFault}
-use Rattle.niss_moves.specs.declared.fault.ReadFault.TheVariants.{TooLong}
 
 pub and_then-assoc : (r : Result State ReadFault) (f g h : State → Result State ReadFault) → ((t : State) → h t ≡ and_then (f t) g) → and_then r h ≡ and_then (and_then r f) g
 and_then-assoc (Ok t) f g h e = e t
@@ -31,6 +25,10 @@ abbrev pub IsReady : LastMove → Type 0
 IsReady (last.FirstByte b two) = ⊥
 IsReady (last.SecondByte b two) = ⊥
 IsReady _ = Unit {0}
+
+-- a state by its parts
+unfoldable pub state : List Token → List Token → Option ℕ → LastMove → ℕ → State
+state n b o t k = record { normal = n; bracketed = b; bracket = o; last = t; fed = k }
 
 -- one more byte was fed
 abbrev pub counted : State → State
@@ -125,15 +123,6 @@ run_move limit s b x k h room =
     run-append limit s front (blank_byte k ∷ []) ∙ ap (λ r. and_then r (λ t. run_within limit t (blank_byte k ∷ []))) one.ran
     ∙ run_one limit one.end _ (blank_byte k) (step_blank limit one.end k one.ready) ∙ ap (λ t. Ok (counted t)) one.settles ∙ ap (λ n. Ok (at_fed (settled s) (token_of b (suffix_power x)) n)) sum
 
--- what was read from a state on: these moves, where the bracket is as it was
-pub record Ran (limit : ℕ) (s : State) (bytes : List ℕ) (moves : List Token) : Type 0 where
-  pub end : State
-  pub ran : run_within limit s bytes ≡ Ok end
-  pub ready : IsReady end.last
-  pub normal : (settled end).normal ≡ outside s.bracket (settled s).normal moves
-  pub bracketed : (settled end).bracketed ≡ inside s.bracket (settled s).bracketed moves
-  pub bracket : end.bracket ≡ s.bracket
-
 pub outside_none : (o : Option ℕ) (n : List Token) → n ≡ outside o n []
 outside_none None n = sym (append-nil n)
 outside_none (Some c) n = refl
@@ -142,80 +131,25 @@ pub inside_none : (o : Option ℕ) (n : List Token) → n ≡ inside o n []
 inside_none None n = refl
 inside_none (Some c) n = sym (append-nil n)
 
-outside_more : (o : Option ℕ) (n a b : List Token) → outside o (outside o n a) b ≡ outside o n (a ++ b)
-outside_more None n a b = append_assoc n a b
-outside_more (Some c) n a b = refl
-
-inside_more : (o : Option ℕ) (n a b : List Token) → inside o (inside o n a) b ≡ inside o n (a ++ b)
-inside_more None n a b = refl
-inside_more (Some c) n a b = append_assoc n a b
-
 pub count_more : (o : Option ℕ) (n b m : List Token) → length (outside o n m) + length (inside o b m) ≡ length n + length b + length m
 count_more None n b m = omega (arith, length-append n m)
 count_more (Some c) n b m = omega (arith, length-append b m)
 
-ran_none : (limit : ℕ) → (s : State) → IsReady s.last → Ran limit s [] []
-ran_none limit s h =
-    record { end = s; ran = refl; ready = h; normal = outside_none _ _; bracketed = inside_none _ _; bracket = refl }
-
-ran_more : (limit : ℕ) → (s : State) (a b : List ℕ) (m k : List Token) (h : Ran limit s a m) → Ran limit h.end b k → Ran limit s (a ++ b) (m ++ k)
-ran_more limit s a b m k h g =
-    record {
-      end = g.end;
-      ran = run-append limit s a b ∙ ap (λ r. and_then r (λ t. run_within limit t b)) h.ran ∙ g.ran;
-      ready = g.ready;
-      normal = g.normal ∙ ap (λ o. outside o (settled h.end).normal k) h.bracket ∙ ap (λ n. outside s.bracket n k) h.normal ∙ outside_more s.bracket (settled s).normal m k;
-      bracketed = g.bracketed ∙ ap (λ o. inside o (settled h.end).bracketed k) h.bracket ∙ ap (λ n. inside s.bracket n k) h.bracketed ∙ inside_more s.bracket (settled s).bracketed m k;
-      bracket = g.bracket ∙ h.bracket;
-    }
-
-ran_count : (limit : ℕ) → (s : State) (a : List ℕ) (m : List Token) (h : Ran limit s a m) → count (settled h.end) ≡ count (settled s) + length m
-ran_count limit s a m h =
-    ap₂ (λ (x y : List Token). length x + length y) h.normal h.bracketed ∙ count_more s.bracket (settled s).normal (settled s).bracketed m
-
-ran_piece : (limit : ℕ) → (s : State) (p : Piece) → IsReady s.last → count (settled s) + length (piece_moves p) ≤ limit → Ran limit s (piece_bytes p) (piece_moves p)
-ran_piece limit s (Gap b) h room =
-    record {
-      end = counted (settled s);
-      ran = run_one limit s _ (blank_byte b) (step_blank limit s b h);
-      ready = tt;
-      normal = outside_none _ _;
-      bracketed = inside_none _ _;
-      bracket = refl;
-    }
-ran_piece limit s (Spelled b x) h room =
-    let one = ran_move limit s b x h (omega arith) in
-    record {
-      end = one.end;
-      ran = one.ran;
-      ready = one.ready;
-      normal = ap (λ (t : State). t.normal) one.settles;
-      bracketed = ap (λ (t : State). t.bracketed) one.settles;
-      bracket = ap (λ (t : State). t.bracket) one.settles;
-    }
-
-ran_pieces : (limit : ℕ) → (s : State) (ps : List Piece) → IsReady s.last → count (settled s) + length (flat_map piece_moves ps) ≤ limit → Ran limit s (flat_map piece_bytes ps) (flat_map piece_moves ps)
-ran_pieces limit s [] h room = ran_none limit s h
-ran_pieces limit s (p ∷ ps) h room =
-    let l = length-append (piece_moves p) (flat_map piece_moves ps) in
-    let one = ran_piece limit s p h (omega arith) in
-    ran_more limit s (piece_bytes p) (flat_map piece_bytes ps) _ _ one (ran_pieces limit one.end ps one.ready (omega (arith, ran_count limit s _ _ one)))
-
--- what was read outside brackets: these normal and these bracketed moves
-pub record Read (limit : ℕ) (s : State) (bytes : List ℕ) (n b : List Token) : Type 0 where
+-- what was read from a state on: these normal and these bracketed moves, and then a bracket is open or none is
+pub record Read (limit : ℕ) (s : State) (bytes : List ℕ) (n b : List Token) (o : Option ℕ) : Type 0 where
   pub end : State
   pub ran : run_within limit s bytes ≡ Ok end
   pub ready : IsReady end.last
   pub normal : (settled end).normal ≡ (settled s).normal ++ n
   pub bracketed : (settled end).bracketed ≡ (settled s).bracketed ++ b
-  pub bracket : end.bracket ≡ None
+  pub bracket : end.bracket ≡ o
 
-read_none : (limit : ℕ) → (s : State) → IsReady s.last → s.bracket ≡ None → Read limit s [] [] []
-read_none limit s h o =
-    record { end = s; ran = refl; ready = h; normal = sym (append-nil _); bracketed = sym (append-nil _); bracket = o }
+read_none : (limit : ℕ) → (s : State) (o : Option ℕ) → IsReady s.last → s.bracket ≡ o → Read limit s [] [] [] o
+read_none limit s o h e =
+    record { end = s; ran = refl; ready = h; normal = sym (append-nil _); bracketed = sym (append-nil _); bracket = e }
 
-read_more : (limit : ℕ) → (s : State) (a b : List ℕ) (m k p q : List Token) (h : Read limit s a m p) → Read limit h.end b k q → Read limit s (a ++ b) (m ++ k) (p ++ q)
-read_more limit s a b m k p q h g =
+read_more : (limit : ℕ) → (s : State) (a b : List ℕ) (m k p q : List Token) (o r : Option ℕ) (h : Read limit s a m p o) → Read limit h.end b k q r → Read limit s (a ++ b) (m ++ k) (p ++ q) r
+read_more limit s a b m k p q o r h g =
     record {
       end = g.end;
       ran = run-append limit s a b ∙ ap (λ r. and_then r (λ t. run_within limit t b)) h.ran ∙ g.ran;
@@ -225,11 +159,59 @@ read_more limit s a b m k p q h g =
       bracket = g.bracket;
     }
 
-read_count : (limit : ℕ) → (s : State) (a : List ℕ) (m p : List Token) (h : Read limit s a m p) → count (settled h.end) ≡ count (settled s) + length m + length p
-read_count limit s a m p h =
+read_count : (limit : ℕ) → (s : State) (a : List ℕ) (m p : List Token) (o : Option ℕ) (h : Read limit s a m p o) → count (settled h.end) ≡ count (settled s) + length m + length p
+read_count limit s a m p o h =
     let e = ap length h.normal in
     let f = ap length h.bracketed in
     omega (arith, length-append (settled s).normal m, length-append (settled s).bracketed p)
+
+-- the moves of a piece, where a bracket is open or none is
+abbrev normal_in : Option ℕ → List Token → List Token
+normal_in None m = m
+normal_in (Some c) m = []
+
+abbrev bracketed_in : Option ℕ → List Token → List Token
+bracketed_in None m = []
+bracketed_in (Some c) m = m
+
+outside_is : (o : Option ℕ) (n m : List Token) → outside o n m ≡ n ++ normal_in o m
+outside_is None n m = refl
+outside_is (Some c) n m = sym (append-nil n)
+
+inside_is : (o : Option ℕ) (n m : List Token) → inside o n m ≡ n ++ bracketed_in o m
+inside_is None n m = sym (append-nil n)
+inside_is (Some c) n m = refl
+
+read_piece : (limit : ℕ) → (s : State) (p : Piece) (o : Option ℕ) → IsReady s.last → s.bracket ≡ o → count (settled s) + length (piece_moves p) ≤ limit
+    → Read limit s (piece_bytes p) (normal_in o (piece_moves p)) (bracketed_in o (piece_moves p)) o
+read_piece limit s (Gap b) o h e room =
+    record {
+      end = counted (settled s);
+      ran = run_one limit s _ (blank_byte b) (step_blank limit s b h);
+      ready = tt;
+      normal = outside_none o _ ∙ outside_is o _ [];
+      bracketed = inside_none o _ ∙ inside_is o _ [];
+      bracket = e;
+    }
+read_piece limit s (Spelled b x) o h e room =
+    let one = ran_move limit s b x h (omega arith) in
+    let t = token_of b (suffix_power x) ∷ [] in
+    record {
+      end = one.end;
+      ran = one.ran;
+      ready = one.ready;
+      normal = ap (λ (t : State). t.normal) one.settles ∙ ap (λ o. outside o (settled s).normal t) e ∙ outside_is o _ t;
+      bracketed = ap (λ (t : State). t.bracketed) one.settles ∙ ap (λ o. inside o (settled s).bracketed t) e ∙ inside_is o _ t;
+      bracket = ap (λ (t : State). t.bracket) one.settles ∙ e;
+    }
+
+read_pieces : (limit : ℕ) → (s : State) (ps : List Piece) (c : ℕ) → IsReady s.last → s.bracket ≡ Some c → count (settled s) + length (flat_map piece_moves ps) ≤ limit
+    → Read limit s (flat_map piece_bytes ps) [] (flat_map piece_moves ps) (Some c)
+read_pieces limit s [] c h e room = read_none limit s (Some c) h e
+read_pieces limit s (p ∷ ps) c h e room =
+    let l = length-append (piece_moves p) (flat_map piece_moves ps) in
+    let one = read_piece limit s p (Some c) h e (omega arith) in
+    read_more limit s (piece_bytes p) (flat_map piece_bytes ps) [] [] _ _ _ _ one (read_pieces limit one.end ps c one.ready one.bracket (omega (arith, read_count limit s _ _ _ _ one)))
 
 entered : State → State
 entered s = counted (record (settled s) { bracket = Some (s.fed + 1) })
@@ -242,39 +224,32 @@ step_close : (limit : ℕ) → (s : State) (c : ℕ) → IsReady s.last → s.br
 unfolding symbol_of
 step_close limit s c h o = step_ready limit s 41 h ∙ ap (λ b. fed_to (s.fed + 1) (closed b s)) o
 
-read_item : (limit : ℕ) → (s : State) (x : Item) → IsReady s.last → s.bracket ≡ None → count (settled s) + length (item_normal x) + length (item_bracketed x) ≤ limit → Read limit s (item_bytes x) (item_normal x) (item_bracketed x)
+read_item : (limit : ℕ) → (s : State) (x : Item) → IsReady s.last → s.bracket ≡ None → count (settled s) + length (item_normal x) + length (item_bracketed x) ≤ limit
+    → Read limit s (item_bytes x) (item_normal x) (item_bracketed x) None
 unfolding entered
-read_item limit s (Outside p) h o room =
-    let r = ran_piece limit s p h (omega arith) in
-    record {
-      end = r.end;
-      ran = r.ran;
-      ready = r.ready;
-      normal = r.normal ∙ ap (λ o. outside o (settled s).normal (piece_moves p)) o;
-      bracketed = r.bracketed ∙ ap (λ o. inside o (settled s).bracketed (piece_moves p)) o ∙ sym (append-nil _);
-      bracket = r.bracket ∙ o;
-    }
+read_item limit s (Outside p) h o room = read_piece limit s p None h o (omega arith)
 read_item limit s (Bracket ps) h o room =
-    let r = ran_pieces limit (entered s) ps tt (omega arith) in
+    let r = read_pieces limit (entered s) ps (s.fed + 1) tt refl (omega arith) in
     record {
       end = counted (record (settled r.end) { bracket = None });
       ran = run_on limit s (entered s) 40 (flat_map piece_bytes ps ++ 41 ∷ []) (step_open limit s h o) ∙ run-append limit (entered s) (flat_map piece_bytes ps) (41 ∷ []) ∙ ap (λ q. and_then q (λ t. run_within limit t (41 ∷ []))) r.ran ∙ run_one limit r.end _ 41 (step_close limit r.end (s.fed + 1) r.ready r.bracket);
       ready = tt;
-      normal = r.normal ∙ sym (append-nil _);
+      normal = r.normal;
       bracketed = r.bracketed;
       bracket = refl;
     }
 
-read_items : (limit : ℕ) → (s : State) (xs : List Item) → IsReady s.last → s.bracket ≡ None → count (settled s) + length (flat_map item_normal xs) + length (flat_map item_bracketed xs) ≤ limit → Read limit s (flat_map item_bytes xs) (flat_map item_normal xs) (flat_map item_bracketed xs)
-read_items limit s [] h o room = read_none limit s h o
+read_items : (limit : ℕ) → (s : State) (xs : List Item) → IsReady s.last → s.bracket ≡ None → count (settled s) + length (flat_map item_normal xs) + length (flat_map item_bracketed xs) ≤ limit
+    → Read limit s (flat_map item_bytes xs) (flat_map item_normal xs) (flat_map item_bracketed xs) None
+read_items limit s [] h o room = read_none limit s None h o
 read_items limit s (x ∷ xs) h o room =
     let l = length-append (item_normal x) (flat_map item_normal xs) in
     let k = length-append (item_bracketed x) (flat_map item_bracketed xs) in
     let one = read_item limit s x h o (omega arith) in
-    read_more limit s (item_bytes x) (flat_map item_bytes xs) _ _ _ _ one (read_items limit one.end xs one.ready one.bracket (omega (arith, read_count limit s _ _ _ one)))
+    read_more limit s (item_bytes x) (flat_map item_bytes xs) _ _ _ _ _ _ one (read_items limit one.end xs one.ready one.bracket (omega (arith, read_count limit s _ _ _ _ one)))
 
 -- A line that is spelled by at most 256 moves is read as these.
-pub completes : (limit : ℕ) → (bytes : List ℕ) (n b : List Token) → Spells bytes n b → length n + length b ≤ limit → Read limit start bytes n b
+pub completes : (limit : ℕ) → (bytes : List ℕ) (n b : List Token) → Spells bytes n b → length n + length b ≤ limit → Read limit start bytes n b None
 completes limit bytes n b h room =
     let e = ap length h.normal_are in
     let f = ap length h.bracketed_are in

@@ -1,30 +1,14 @@
 -- Each rewriting shortens the list, or leaves fewer pairs in the wrong order.
-use Rattle.std.proofs.Common.{◌≡◌, ℕ, ◌+◌, ◌<◌, ◌≤◌, ◌⊎◌, inl, inr, Bool, true, false, not, ◌&&◌, refl, ap, sym, ◌∙◌, subst, subst₂, List, [], ◌∷◌, ◌++◌, length, length-append, append_assoc, cond, arith, Option, None, Some}
+use Rattle.std.proofs.Common.{◌≡◌, ℕ, ◌+◌, ◌<◌, ◌≤◌, ◌⊎◌, inl, inr, Bool, true, false, refl, ap, sym, ◌∙◌, subst, subst₂, List, [], ◌∷◌, ◌++◌, length, length-append, append_assoc, cond, arith, Option, None, Some}
 use Rattle.std.specs.List.{count_by}
 use Rattle.std.proofs.lemmas.List.Sums.{sum_by-cons}
-use Rattle.niss_moves.specs.Turn.{opposite, same_face, goes_first}
+use Rattle.niss_moves.specs.Turn.{same_face}
 use Rattle.niss_moves.specs.Canonical.{face_may_follow}
 use Rattle.niss_moves.specs.Cleaning.{turn_by, sum_of_powers, rewritten_pair}
 use Rattle.niss_moves.specs.RewritingLaws.{are_disordered, disorder, RewritingLowers}
-use Rattle.niss_moves.specs.declared.turn.Face.{Face}
-use Rattle.niss_moves.specs.declared.turn.Power.{Power}
-use Rattle.niss_moves.specs.declared.turn.Turn.{Turn}
-use Rattle.niss_moves.proofs.Finite.{every_face, at_face, implies, by_implies}
-use Rattle.niss_moves.proofs.Logic.{and_left, and_right, not_true}
-use Rattle.niss_moves.proofs.CanonicalLists.{are_exchanged, exchanged}
+use Rattle.niss_moves.specs.Names.{Face, Power, Turn}
+use Rattle.niss_moves.proofs.CanonicalLists.{exchanged, exchange}
 use Rattle.niss_moves.proofs.Cleaned.{same_rewritten, other_rewritten}
-
-abbrev Disorders : Face → Face → Bool
-Disorders f g =
-    implies (are_exchanged f g) ((same_face (opposite f) g && goes_first g) && not (same_face (opposite g) f && goes_first f))
-
-disorders_test : every_face (λ f. every_face (λ g. Disorders f g)) ≡ true
-unfolding every_face
-disorders_test = refl
-
-disorders : (f g : Face) → are_exchanged f g ≡ true → ((same_face (opposite f) g && goes_first g) && not (same_face (opposite g) f && goes_first f)) ≡ true
-disorders f g h =
-    by_implies _ _ (at_face (λ g. Disorders f g) (at_face (λ f. every_face (λ g. Disorders f g)) disorders_test f) g) h
 
 count_by-cons : (p : Turn → Bool) (t : Turn) (ts : List Turn) → count_by p (t ∷ ts) ≡ cond (p t) 1 0 + count_by p ts
 count_by-cons p t ts = sum_by-cons (λ x. cond (p x) 1 0) t ts
@@ -61,9 +45,9 @@ as_long front t u rest = length-append front (u ∷ t ∷ rest) ∙ sym (length-
 lowers_here : (front : List Turn) (t u : Turn) (rest : List Turn) → face_may_follow t.face u.face ≡ false → (b : Bool) → same_face t.face u.face ≡ b → (length (front ++ rewritten_pair t u ++ rest) < length (front ++ t ∷ u ∷ rest)) ⊎ ((length (front ++ rewritten_pair t u ++ rest) ≡ length (front ++ t ∷ u ∷ rest)) × (disorder (front ++ rewritten_pair t u ++ rest) < disorder (front ++ t ∷ u ∷ rest)))
 lowers_here front t u rest m true e = inl (shorter front t u rest e)
 lowers_here front t u rest m false e =
-    let d = disorders t.face u.face (exchanged t.face u.face e m) in
+    let d = exchange t.face u.face (exchanged t.face u.face e m) in
     let s : front ++ rewritten_pair t u ++ rest ≡ front ++ u ∷ t ∷ rest = rw (other_rewritten t u e, append_assoc) refl in
-    inr (ap length s ∙ as_long front t u rest, subst (λ (x : List Turn). disorder x < disorder (front ++ t ∷ u ∷ rest)) (sym s) (fewer front t u rest (and_left _ _ d) (not_true _ (and_right (are_disordered t u) _ d))))
+    inr (ap length s ∙ as_long front t u rest, subst (λ (x : List Turn). disorder x < disorder (front ++ t ∷ u ∷ rest)) (sym s) (fewer front t u rest d.1 d.2))
 
 abbrev Lowers : List Turn → List Turn → Type 0
 Lowers s t = (length t < length s) ⊎ ((length t ≡ length s) × (disorder t < disorder s))

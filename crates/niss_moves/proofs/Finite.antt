@@ -1,16 +1,11 @@
 -- Facts over the finite types of the crate, by a test that is computed over all values.
 use Rattle.std.proofs.Common.{◌≡◌, Bool, true, false, ◌&&◌, refl, subst, Option, None, Some}
+use Rattle.std.proofs.lemmas.Bool.{and_parts}
+use Rattle.std.specs.List.{list_all}
+use Rattle.niss_moves.specs.Canonical.{face_order}
 use Rattle.niss_moves.proofs.Logic.{and_left, and_right, and_both}
 use Rattle.niss_moves.specs.Places.{Coord, Neg, Zero, Pos, Vector, vector, Place, same_coord, same_vector, same_place}
-use Rattle.niss_moves.specs.declared.turn.Face.{Face}
-use Rattle.niss_moves.specs.declared.turn.Face.TheVariants.{U, D, R, L, F, B}
-use Rattle.niss_moves.specs.declared.turn.Power.{Power}
-use Rattle.niss_moves.specs.declared.turn.Power.TheVariants.{Quarter, Half, Counter}
-use Rattle.niss_moves.specs.declared.token.Slice.{Slice}
-use Rattle.niss_moves.specs.declared.token.Slice.TheVariants.{M, E, S}
-use Rattle.niss_moves.specs.declared.axis.Axis.{Axis}
-use Rattle.niss_moves.specs.declared.axis.Axis.TheVariants.{Ud, Rl, Fb}
-use Rattle.niss_moves.specs.declared.token.Token.{Token}
+use Rattle.niss_moves.specs.Names.{Face, U, D, R, L, F, B, Power, Quarter, Half, Counter, Axis, Ud, Rl, Fb, Slice, M, E, S, Token}
 use Rattle.niss_moves.specs.declared.token.Token.TheVariants as token
 
 unfoldable pub every_coord : (Coord → Bool) → Bool
@@ -23,7 +18,7 @@ at_coord p e Zero = and_left _ _ (and_right (p Neg) _ e)
 at_coord p e Pos = and_right (p Zero) _ (and_right (p Neg) _ e)
 
 unfoldable pub every_face : (Face → Bool) → Bool
-every_face p = p U && (p D && (p R && (p L && (p F && p B))))
+every_face p = list_all p face_order
 
 pub at_face : (p : Face → Bool) → every_face p ≡ true → (f : Face) → p f ≡ true
 unfolding every_face
@@ -32,7 +27,7 @@ at_face p e D = and_left _ _ (and_right (p U) _ e)
 at_face p e R = and_left _ _ (and_right (p D) _ (and_right (p U) _ e))
 at_face p e L = and_left _ _ (and_right (p R) _ (and_right (p D) _ (and_right (p U) _ e)))
 at_face p e F = and_left _ _ (and_right (p L) _ (and_right (p R) _ (and_right (p D) _ (and_right (p U) _ e))))
-at_face p e B = and_right (p F) _ (and_right (p L) _ (and_right (p R) _ (and_right (p D) _ (and_right (p U) _ e))))
+at_face p e B = and_left (p B) _ (and_right (p F) _ (and_right (p L) _ (and_right (p R) _ (and_right (p D) _ (and_right (p U) _ e)))))
 
 unfoldable pub every_power : (Power → Bool) → Bool
 every_power p = p Quarter && (p Half && p Counter)
@@ -66,16 +61,14 @@ every_vector p = every_coord (λ x. every_coord (λ y. every_coord (λ z. p (vec
 
 pub at_vector : (p : Vector → Bool) → every_vector p ≡ true → (v : Vector) → p v ≡ true
 unfolding every_vector
-at_vector p e v =
-    at_coord (λ z. p (vector v.x v.y z)) (at_coord (λ y. every_coord (λ z. p (vector v.x y z))) (at_coord (λ x. every_coord (λ y. every_coord (λ z. p (vector x y z)))) e v.x) v.y) v.z
+at_vector p e v = at_coord _ (at_coord _ (at_coord _ e v.x) v.y) v.z
 
 unfoldable pub every_place : (Place → Bool) → Bool
 every_place p = every_vector (λ c. every_vector (λ n. p (record { cell = c; direction = n })))
 
 pub at_place : (p : Place → Bool) → every_place p ≡ true → (q : Place) → p q ≡ true
 unfolding every_place
-at_place p e q =
-    at_vector (λ n. p (record { cell = q.cell; direction = n })) (at_vector (λ c. every_vector (λ n. p (record { cell = c; direction = n }))) e q.cell) q.direction
+at_place p e q = at_vector _ (at_vector _ e q.cell) q.direction
 
 unfoldable pub every_token : (Token → Bool) → Bool
 every_token p =
@@ -83,49 +76,32 @@ every_token p =
 
 pub at_token : (p : Token → Bool) → every_token p ≡ true → (t : Token) → p t ≡ true
 unfolding every_token
-at_token p e (token.Face t) =
-    let h = at_power (λ n. every_face (λ f. p (token.Face (record { face = f; power = n })) && p (token.Wide f n)) && (every_slice (λ l. p (token.Slice l n)) && every_axis (λ a. p (token.Rotation a n)))) e t.power in
-    and_left _ _ (at_face (λ f. p (token.Face (record { face = f; power = t.power })) && p (token.Wide f t.power)) (and_left _ _ h) t.face)
-at_token p e (token.Wide f n) =
-    let h = at_power (λ n. every_face (λ f. p (token.Face (record { face = f; power = n })) && p (token.Wide f n)) && (every_slice (λ l. p (token.Slice l n)) && every_axis (λ a. p (token.Rotation a n)))) e n in
-    and_right (p (token.Face (record { face = f; power = n }))) _ (at_face (λ f. p (token.Face (record { face = f; power = n })) && p (token.Wide f n)) (and_left _ _ h) f)
-at_token p e (token.Slice l n) =
-    let h = at_power (λ n. every_face (λ f. p (token.Face (record { face = f; power = n })) && p (token.Wide f n)) && (every_slice (λ l. p (token.Slice l n)) && every_axis (λ a. p (token.Rotation a n)))) e n in
-    at_slice (λ l. p (token.Slice l n)) (and_left _ _ (and_right (every_face (λ f. p (token.Face (record { face = f; power = n })) && p (token.Wide f n))) _ h)) l
-at_token p e (token.Rotation a n) =
-    let h = at_power (λ n. every_face (λ f. p (token.Face (record { face = f; power = n })) && p (token.Wide f n)) && (every_slice (λ l. p (token.Slice l n)) && every_axis (λ a. p (token.Rotation a n)))) e n in
-    at_axis (λ a. p (token.Rotation a n)) (and_right (every_slice (λ l. p (token.Slice l n))) _ (and_right (every_face (λ f. p (token.Face (record { face = f; power = n })) && p (token.Wide f n))) _ h)) a
+at_token p e (token.Face t) = (and_parts _ _ (at_face _ (and_parts _ _ (at_power _ e t.power)).0 t.face)).0
+at_token p e (token.Wide f n) = (and_parts _ _ (at_face _ (and_parts _ _ (at_power _ e n)).0 f)).1
+at_token p e (token.Slice l n) = at_slice _ (and_parts _ _ (and_parts _ _ (at_power _ e n)).1).0 l
+at_token p e (token.Rotation a n) = at_axis _ (and_parts _ _ (and_parts _ _ (at_power _ e n)).1).1 a
 
 -- equal by the test, and the other way round
 pub same_coord_is : (a b : Coord) → same_coord a b ≡ true → a ≡ b
 same_coord_is Neg Neg e = refl
 same_coord_is Zero Zero e = refl
 same_coord_is Pos Pos e = refl
-same_coord_is Neg Zero e = cc
-same_coord_is Neg Pos e = cc
-same_coord_is Zero Neg e = cc
-same_coord_is Zero Pos e = cc
-same_coord_is Pos Neg e = cc
-same_coord_is Pos Zero e = cc
+same_coord_is _ _ e = cc
 
 pub same_vector_is : (v w : Vector) → same_vector v w ≡ true → v ≡ w
 same_vector_is v w e =
-    let xy : (same_coord v.x w.x && same_coord v.y w.y) ≡ true = and_left _ _ e in
-    let p : v.x ≡ w.x = same_coord_is _ _ (and_left _ _ xy) in
-    let q : v.y ≡ w.y = same_coord_is _ _ (and_right (same_coord v.x w.x) _ xy) in
-    let r : v.z ≡ w.z = same_coord_is _ _ (and_right (same_coord v.x w.x && same_coord v.y w.y) _ e) in
-    λ i. record { x = p i; y = q i; z = r i }
+    let xy = and_parts (same_coord v.x w.x) (same_coord v.y w.y) (and_left _ _ e) in
+    let z = and_right (same_coord v.x w.x && same_coord v.y w.y) (same_coord v.z w.z) e in
+    λ i. record { x = same_coord_is v.x w.x xy.0 i; y = same_coord_is v.y w.y xy.1 i; z = same_coord_is v.z w.z z i }
 
 pub same_place_is : (q r : Place) → same_place q r ≡ true → q ≡ r
 same_place_is q r e =
-    let a : q.cell ≡ r.cell = same_vector_is _ _ (and_left _ _ e) in
-    let b : q.direction ≡ r.direction = same_vector_is _ _ (and_right (same_vector q.cell r.cell) _ e) in
-    λ i. record { cell = a i; direction = b i }
+    let both = and_parts (same_vector q.cell r.cell) (same_vector q.direction r.direction) e in
+    λ i. record { cell = same_vector_is q.cell r.cell both.0 i; direction = same_vector_is q.direction r.direction both.1 i }
 
 pub same_coord_self : (a : Coord) → same_coord a a ≡ true
 same_coord_self Neg = refl
-same_coord_self Zero = refl
-same_coord_self Pos = refl
+same_coord_self _ = refl
 
 pub same_vector_self : (v : Vector) → same_vector v v ≡ true
 same_vector_self v = and_both _ _ (and_both _ _ (same_coord_self v.x) (same_coord_self v.y)) (same_coord_self v.z)
@@ -141,8 +117,8 @@ every_optional_power p = p None && every_power (λ n. p (Some n))
 
 pub at_optional_power : (p : Option Power → Bool) → every_optional_power p ≡ true → (o : Option Power) → p o ≡ true
 unfolding every_optional_power
-at_optional_power p e None = and_left _ _ e
-at_optional_power p e (Some n) = at_power (λ n. p (Some n)) (and_right (p None) _ e) n
+at_optional_power p e None = (and_parts _ _ e).0
+at_optional_power p e (Some n) = at_power _ (and_parts _ _ e).1 n
 
 abbrev pub implies : Bool → Bool → Bool
 implies true b = b

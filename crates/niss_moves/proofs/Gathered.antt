@@ -6,7 +6,7 @@ use Rattle.std.specs.List.{between}
 use Rattle.std.proofs.lemmas.Slice.{between_is, between_from_start}
 use borrow.Rule.Slice.PartMut.{put_mid, post_of}
 use Rattle.niss_moves.specs.Text.{word, gap, with_word, with_words}
-use Rattle.niss_moves.specs.declared.token.Token.{Token}
+use Rattle.niss_moves.specs.Names.{Token}
 use Rattle.niss_moves.proofs.ReadBack.{gap_word}
 
 -- the first bytes of a list into which a piece was copied

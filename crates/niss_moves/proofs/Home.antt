@@ -1,135 +1,169 @@
--- Rotations one after the other, and sequences whose centres are brought home.
-use Rattle.std.proofs.Common.{◌≡◌, Bool, true, refl, ap, sym, ◌∙◌, List, [], ◌∷◌, map, Option, None, Some}
-use Rattle.niss_moves.specs.Places.{Place}
+-- Rotations one after the other, sequences whose centres are brought home, and what is left of sequences and lines.
+use Rattle.std.proofs.Common.{◌≡◌, ◌++◌, refl, ap₂, subst, ap, sym, ◌∙◌, List, [], ◌∷◌, map, Option, None, Some, inl, inr, Bool, true, false}
+use Rattle.niss_moves.specs.Places.{Place, same_place}
 use Rattle.niss_moves.specs.Facelets.{centre}
-use Rattle.niss_moves.specs.Effects.{effect, effect_of_turns, moved_by, turned, inverse}
-use Rattle.niss_moves.specs.Turn.{same_face}
-use Rattle.niss_moves.specs.Rotations.{face_before, face_before_power, renamed_turn, to_top, about_vertical, spelling, IsRotationOf}
-use Rattle.niss_moves.specs.Helpers.{vertical_of, rotation_by}
-use Rattle.niss_moves.specs.Faces.{BasicMove, FaceTurn, WholeRotation, token_of_basic, expanded, faces_with, faces}
-use Rattle.niss_moves.specs.RewritingLaws.{CentresComeHome, FacesAreHome}
-use Rattle.niss_moves.specs.declared.axis.Axis.{Axis}
-use Rattle.niss_moves.specs.declared.axis.Axis.TheVariants.{Ud, Rl, Fb}
-use Rattle.niss_moves.specs.declared.turn.Face.{Face}
-use Rattle.niss_moves.specs.declared.turn.Face.TheVariants.{U, D, R, L, F, B}
-use Rattle.niss_moves.specs.declared.turn.Power.{Power}
-use Rattle.niss_moves.specs.declared.turn.Power.TheVariants.{Quarter, Half, Counter}
-use Rattle.niss_moves.specs.declared.turn.Turn.{Turn}
-use Rattle.niss_moves.specs.declared.token.Token.{Token}
-use Rattle.niss_moves.specs.declared.token.Token.TheVariants as token
-use Rattle.niss_moves.specs.declared.rotation.Rotation.{Rotation}
-use Rattle.niss_moves.proofs.Finite.{every_face, every_power, at_power, every_axis, at_axis, every_optional_power}
-use Rattle.niss_moves.proofs.Inverses.{effect-append, inverse_after}
-use Rattle.niss_moves.proofs.Expansions.{effect_of_expanded}
-use Rattle.niss_moves.proofs.Rotations.{turn, rotation, every_rotation, at_rotation, same_face_is, next_top, next_front, IsNext, next, renames_power}
-use Rattle.niss_moves.proofs.Pushed.{keep_centre}
-use Rattle.niss_moves.proofs.OneSpelling.{one_spelling}
+use Rattle.niss_moves.specs.Effects.{effect, effect_of_turns, inverse, turned, HasMeaning}
+use Rattle.niss_moves.specs.Rotations.{face_before, face_before_power, spelling, IsRotationOf}
+use Rattle.niss_moves.specs.Helpers.{rotation_by}
+use Rattle.niss_moves.specs.Canonical.{face_order}
+use Rattle.niss_moves.specs.Faces.{BasicMove, FaceTurn, WholeRotation, expanded, faces}
+use Rattle.niss_moves.specs.RewritingLaws.{CentresComeHome, FacesAreHome, LineIsHome, FacesAndRotation, CleanedEffect}
+use Rattle.niss_moves.specs.Names.{Face, U, D, R, L, F, B, Power, Turn, Axis, Token, Rotation}
+use Rattle.niss_moves.proofs.Inverses.{inverse_after, effect_of_expanded, meaning, undone_by}
+use Rattle.niss_moves.proofs.Rotations.{turn, rotation, IsNext, next_rotation, is_next, effect_of_turns-append, every_rotation, at_rotation}
+use Rattle.niss_moves.proofs.Pushed.{before, Pushes, pushes_none, pushes_turn, pushes_rotation, map_none, keep_centre}
+use Rattle.niss_moves.proofs.OneSpelling.{one_spelling, same_rotation, same_rotation_is}
+use Rattle.niss_moves.specs.EffectLaws.{TurnsAreMoves, OneMeaning}
+use Rattle.niss_moves.proofs.CleanEffect.{cleans_effect}
+use Rattle.std.specs.List.{Contains, find, list_any}
+use Rattle.std.specs.Prelude.{unwrap_or}
+use Rattle.niss_moves.specs.CleanedLine.{rotations, moves_centres_as, rotation_left, RotationIsLeft}
+use Rattle.std.proofs.lemmas.Bool.{cases_Bool, cond-true, cond-false}
+use Rattle.std.proofs.lemmas.Map.Views.{Contains-from_any}
+use Rattle.niss_moves.proofs.Finite.{every_face, at_face, all_faces, every_power, every_optional_power, same_place_is, same_place_of}
+use Rattle.niss_moves.proofs.MadeLists.{none, first_or_later}
 
--- a rotation and one more about an axis
-unfoldable pub next_rotation : Rotation → Axis → Power → Rotation
-next_rotation r a p = rotation_by (next_top r a p) (next_front r a p)
+-- basic moves after a rotation and face turns
+pushes_all : (moves : List BasicMove) (r : Rotation) (old : List Turn) → (new : List Turn) × (n : Rotation) × Pushes r moves old new n
+pushes_all [] r old = (old, r, pushes_none r old)
+pushes_all (FaceTurn f p ∷ moves) r old =
+    let w = pushes_all moves r (old ++ before r (turn f p) ∷ []) in (w.0, w.1, pushes_turn r f p moves old _ w.0 w.1 refl w.2)
+pushes_all (WholeRotation a p ∷ moves) r old =
+    let w = pushes_all moves (next_rotation r a p) old in (w.0, w.1, pushes_rotation r a p _ moves old w.0 w.1 (is_next r a p) w.2)
 
-abbrev Fits : Rotation → Axis → Power → Bool
-Fits r a p =
-    same_face (face_before (rotation (next_top r a p) (vertical_of (next_top r a p) (next_front r a p))) F) (next_front r a p)
+-- A rotation and then a sequence have the effect of the renamed face turns and then some rotation.
+left_from : (s : List Token) (r : Rotation) → (n : Rotation) × ((q : Place) → effect (spelling n) (effect_of_turns (map (before r) (faces s)) q) ≡ effect s (effect (spelling r) q))
+left_from [] r = (r, λ q. refl)
+left_from (t ∷ s) r =
+    let one = pushes_all (expanded t) r [] in
+    let w = left_from s one.1 in (
+      w.0,
+      λ q. ap (λ ts. effect (spelling w.0) (effect_of_turns ts q)) (sym (one.2.faces (faces s))) ∙ ap (effect (spelling w.0)) (effect_of_turns-append one.0 (map (before one.1) (faces s)) q) ∙ w.1 (effect_of_turns one.0 q)
+          ∙ ap (effect s) (one.2.effect q ∙ effect_of_expanded t (effect (spelling r) q)),
+    )
 
-fits_test : every_rotation (λ r. every_axis (λ a. every_power (λ p. Fits r a p))) ≡ true
-unfolding every_rotation every_optional_power every_axis every_power every_face
-fits_test = refl
+pub left_by : (s : List Token) → (n : Rotation) × ((q : Place) → effect (spelling n) (effect_of_turns (faces s) q) ≡ effect s q)
+left_by s =
+    let w = left_from s (rotation U None) in
+    (w.0, λ q. ap (λ ts. effect (spelling w.0) (effect_of_turns ts q)) (sym (map_none (faces s))) ∙ w.1 q)
 
-pub is_next : (r : Rotation) (a : Axis) (p : Power) → IsNext r a p (next_rotation r a p)
-unfolding next_rotation
-is_next r a p =
-    next r a p (vertical_of (next_top r a p) (next_front r a p)) (same_face_is _ _ (at_power (λ p. Fits r a p) (at_axis (λ a. every_power (λ p. Fits r a p)) (at_rotation (λ r. every_axis (λ a. every_power (λ p. Fits r a p))) fits_test r) a) p))
+-- a rotation and then a sequence of rotations
+rotated : (s : List Token) (r : Rotation) → faces s ≡ [] → (n : Rotation) × ((q : Place) → effect (spelling n) q ≡ effect s (effect (spelling r) q))
+rotated s r none =
+    let w = left_from s r in
+    (w.0, λ q. ap (λ ts. effect (spelling w.0) (effect_of_turns (map (before r) ts) q)) (sym none) ∙ w.1 q)
 
--- The rotation n has the effect of r and then of the sequence s.
-abbrev IsAfter : Rotation → List Token → Rotation → Type 0
-IsAfter r s n = (q : Place) → effect (spelling n) q ≡ effect s (effect (spelling r) q)
-
-after_axis : (r : Rotation) (a : Axis) (p : Power) → (n : Rotation) × IsAfter r (token.Rotation a p ∷ []) n
-after_axis r a p = (next_rotation r a p, (is_next r a p).effect)
-
-after_top : (r : Rotation) (f : Face) → (n : Rotation) × IsAfter r (to_top f) n
-after_top r U = (r, λ q. refl)
-after_top r F = after_axis r Rl Quarter
-after_top r D = after_axis r Rl Half
-after_top r B = after_axis r Rl Counter
-after_top r L = after_axis r Fb Quarter
-after_top r R = after_axis r Fb Counter
-
-after_vertical : (r : Rotation) (o : Option Power) → (n : Rotation) × IsAfter r (about_vertical o) n
-after_vertical r None = (r, λ q. refl)
-after_vertical r (Some p) = after_axis r Ud p
-
-after_rotation : (r h : Rotation) → (n : Rotation) × IsAfter r (spelling h) n
-after_rotation r h =
-    let m = after_top r h.top in
-    let n = after_vertical m.0 h.vertical in
-    (n.0, λ q. n.1 q ∙ ap (effect (about_vertical h.vertical)) (m.1 q) ∙ sym (effect-append (to_top h.top) (about_vertical h.vertical) (effect (spelling r) q)))
-
--- face turns after a rotation
-turns_after : (a : Axis) (p : Power) (s : List Turn) (q : Place) → effect_of_turns s (moved_by (token.Rotation a p) q) ≡ moved_by (token.Rotation a p) (effect_of_turns (map (renamed_turn (face_before_power a p)) s) q)
-turns_after a p [] q = refl
-turns_after a p (t ∷ s) q =
-    ap (effect_of_turns s) (renames_power a p t q) ∙ turns_after a p s (turned (renamed_turn (face_before_power a p) t) q)
-
--- A sequence has the effect of its face turns and then some rotation.
-abbrev pub IsLeft : (Place → Place) → List Turn → Rotation → Type 0
-IsLeft e turns n = (q : Place) → e q ≡ effect (spelling n) (effect_of_turns turns q)
-
-left_by_moves : (moves : List BasicMove) (rest : List Turn) (r : Rotation) → (n : Rotation) × IsLeft (λ q. effect (spelling r) (effect_of_turns rest (effect (map token_of_basic moves) q))) (faces_with moves rest) n
-left_by_moves [] rest r = (r, λ q. refl)
-left_by_moves (FaceTurn f p ∷ moves) rest r =
-    let w = left_by_moves moves rest r in (w.0, λ q. w.1 (turned (turn f p) q))
-left_by_moves (WholeRotation a p ∷ moves) rest r =
-    let w = left_by_moves moves rest r in
-    let first = after_axis (rotation U None) a p in
-    let n = after_rotation first.0 w.0 in
-    let turns : List Turn = map (renamed_turn (face_before_power a p)) (faces_with moves rest) in
-    (n.0, λ q. w.1 (moved_by (token.Rotation a p) q) ∙ ap (effect (spelling w.0)) (turns_after a p (faces_with moves rest) q) ∙ ap (effect (spelling w.0)) (sym (first.1 (effect_of_turns turns q))) ∙ sym (n.1 (effect_of_turns turns q)))
-
-pub left_by : (s : List Token) → (n : Rotation) × IsLeft (effect s) (faces s) n
-left_by [] = (rotation U None, λ q. refl)
-left_by (t ∷ s) =
-    let w = left_by s in
-    let n = left_by_moves (expanded t) (faces s) w.0 in
-    (n.0, λ q. w.1 (moved_by t q) ∙ ap (λ x. effect (spelling w.0) (effect_of_turns (faces s) x)) (sym (effect_of_expanded t q)) ∙ n.1 q)
-
--- Each rotation has one that undoes it.
-no_faces : (f : Face) (o : Option Power) → faces (inverse (spelling (rotation f o))) ≡ []
+no_faces : (f : Face) (o : Option Power) → faces (spelling (rotation f o)) ≡ []
 no_faces U None = refl
 no_faces U (Some p) = refl
-no_faces D None = refl
-no_faces D (Some p) = refl
-no_faces R None = refl
-no_faces R (Some p) = refl
-no_faces L None = refl
-no_faces L (Some p) = refl
-no_faces F None = refl
-no_faces F (Some p) = refl
-no_faces B None = refl
-no_faces B (Some p) = refl
+no_faces _ None = refl
+no_faces _ (Some p) = refl
+
+-- Each rotation has one that undoes it.
+no_faces_back : (f : Face) (o : Option Power) → faces (inverse (spelling (rotation f o))) ≡ []
+no_faces_back U None = refl
+no_faces_back U (Some p) = refl
+no_faces_back _ None = refl
+no_faces_back _ (Some p) = refl
 
 undone : (r : Rotation) → (h : Rotation) × ((q : Place) → effect (spelling h) (effect (spelling r) q) ≡ q)
 undone r =
-    let h = left_by (inverse (spelling r)) in
-    (h.0, λ q. ap (λ s. effect (spelling h.0) (effect_of_turns s (effect (spelling r) q))) (sym (no_faces r.top r.vertical)) ∙ sym (h.1 (effect (spelling r) q)) ∙ inverse_after (spelling r) q)
+    let h = rotated (inverse (spelling r)) (rotation U None) (no_faces_back r.top r.vertical) in
+    (h.0, λ q. h.1 (effect (spelling r) q) ∙ inverse_after (spelling r) q)
 
 pub centres_come_home : CentresComeHome
 centres_come_home s =
     let r = left_by s in
     let h = undone r.0 in
-    (h.0, λ f. ap (effect (spelling h.0)) (r.1 (centre f)) ∙ h.1 (effect_of_turns (faces s) (centre f)) ∙ keep_centre (faces s) f)
+    (h.0, λ f. ap (effect (spelling h.0)) (sym (r.1 (centre f))) ∙ h.1 (effect_of_turns (faces s) (centre f)) ∙ keep_centre (faces s) f)
 
 pub faces_are_home : FacesAreHome
 faces_are_home s home h q =
     let r = left_by s in
-    let n = after_rotation r.0 home in
-    let whole : (q : Place) → effect (spelling n.0) (effect_of_turns (faces s) q) ≡ effect (spelling home) (effect s q) = λ q. n.1 (effect_of_turns (faces s) q) ∙ ap (effect (spelling home)) (sym (r.1 q)) in
+    let n = rotated (spelling home) r.0 (no_faces home.top home.vertical) in
+    let whole : (q : Place) → effect (spelling n.0) (effect_of_turns (faces s) q) ≡ effect (spelling home) (effect s q) = λ q. n.1 (effect_of_turns (faces s) q) ∙ ap (effect (spelling home)) (r.1 q) in
     let none : n.0 ≡ rotation U None = one_spelling n.0 (rotation U None) (λ f. ap (effect (spelling n.0)) (sym (keep_centre (faces s) f)) ∙ whole (centre f) ∙ h f) in
     sym (whole q) ∙ ap (λ n. effect (spelling n) (effect_of_turns (faces s) q)) none
 
 -- Some rotation moves the six centres as a sequence does.
 pub some_rotation : (s : List Token) → (r : Rotation) × IsRotationOf s r
 some_rotation s =
-    let r = left_by s in (r.0, λ f. sym (r.1 (centre f) ∙ ap (effect (spelling r.0)) (keep_centre (faces s) f)))
+    let r = left_by s in (r.0, λ f. ap (effect (spelling r.0)) (sym (keep_centre (faces s) f)) ∙ r.1 (centre f))
+
+-- a rotation held as six faces, and one more about an axis
+pub by_next : (r : Rotation) (a : Axis) (p : Power) (top front : Face) → top ≡ face_before r (face_before_power a p U)
+    → front ≡ face_before r (face_before_power a p F) → IsNext r a p (rotation_by top front)
+unfolding next_rotation
+by_next r a p top front t f = subst (λ (n : Rotation). IsNext r a p n) (sym (ap₂ rotation_by t f)) (is_next r a p)
+
+-- these six faces are brought to the places of U, D, R, L, F and B
+pub held : (r : Rotation) (a : Axis) (p : Power) (x1 x2 x3 x4 x5 x6 : Face) (n : Rotation) → IsNext r a p n → x1 ≡ face_before r (face_before_power a p U)
+    → x2 ≡ face_before r (face_before_power a p D) → x3 ≡ face_before r (face_before_power a p R) → x4 ≡ face_before r (face_before_power a p L)
+    → x5 ≡ face_before r (face_before_power a p F) → x6 ≡ face_before r (face_before_power a p B)
+    → (x1 ∷ x2 ∷ x3 ∷ x4 ∷ x5 ∷ x6 ∷ []) ≡ map (face_before n) face_order
+held r a p x1 x2 x3 x4 x5 x6 n h e1 e2 e3 e4 e5 e6 =
+    λ i. (e1 ∙ sym (h.faces U)) i ∷ (e2 ∙ sym (h.faces D)) i ∷ (e3 ∙ sym (h.faces R)) i ∷ (e4 ∙ sym (h.faces L)) i ∷ (e5 ∙ sym (h.faces F)) i ∷ (e6 ∙ sym (h.faces B)) i ∷ []
+
+-- The whole effect of sequences and lines, by their face turns and a rotation.
+pub turns_are_moves : TurnsAreMoves
+turns_are_moves [] q = refl
+turns_are_moves (t ∷ ts) q = turns_are_moves ts (turned t q)
+
+-- the effect that a meaning comes to
+meaning_undone : (s n b : List Token) → HasMeaning s n b → (q : Place) → effect s q ≡ effect (inverse b) (effect n q)
+meaning_undone s n b h q = sym (inverse_after b (effect s q)) ∙ ap (effect (inverse b)) (h q)
+
+pub one_meaning : OneMeaning
+one_meaning s t n b h k q = meaning_undone s n b h q ∙ sym (meaning_undone t n b k q)
+
+-- the inverse of a line, after any sequence of its meaning
+pub inverse_undoes_line : (m n b s : List Token) (q : Place) → HasMeaning s n b → m ≡ inverse (n ++ inverse b) → effect m (effect s q) ≡ q
+inverse_undoes_line m n b s q h e =
+    ap (effect m) (one_meaning s (n ++ inverse b) n b h (meaning n b) q) ∙ undone_by m (n ++ inverse b) q e
+
+pub line_is_home : LineIsHome
+line_is_home n b s home h centres q =
+    let same = one_meaning s (n ++ inverse b) n b h (meaning n b) in
+    ap (effect (spelling home)) (same q)
+    ∙ faces_are_home (n ++ inverse b) home (λ f. ap (effect (spelling home)) (sym (same (centre f))) ∙ centres f) q
+
+pub faces_and_rotation : FacesAndRotation
+faces_and_rotation s r h q =
+    let n = left_by s in
+    let one : n.0 ≡ r = one_spelling n.0 r (λ f. ap (effect (spelling n.0)) (sym (keep_centre (faces s) f)) ∙ n.1 (centre f) ∙ sym (h f)) in
+    sym (n.1 q) ∙ ap (λ n. effect (spelling n) (effect_of_turns (faces s) q)) one
+
+pub cleaned_effect : CleanedEffect
+cleaned_effect s c r d h q = faces_and_rotation s r h q ∙ ap (effect (spelling r)) (sym (cleans_effect (faces s) c d q))
+
+-- The rotation that is found among the 24 is the one that is left.
+found : {X : Type 0} (p : X → Bool) → (xs : List X) (x : X) → Contains xs x → p x ≡ true → (y : X) × (find p xs ≡ Some y) × (p y ≡ true)
+found p [] x h k = absurd (none x h)
+found p (z ∷ xs) x h k =
+    elim (cases_Bool (p z)) [
+      | inl e ↦ (z, cond-true (p z) _ _ e, e)
+      | inr e ↦
+          (elim (first_or_later z xs x h) [
+            | inl q ↦ absurd (let bad : true ≡ false = sym k ∙ sym (ap p q) ∙ e in cc)
+            | inr c ↦ (let w = found p xs x c k in (w.0, cond-false (p z) _ _ e ∙ w.1, w.2))
+          ])
+    ]
+
+rotations_test : every_rotation (λ r. list_any (same_rotation r) rotations) ≡ true
+unfolding every_rotation every_optional_power every_power every_face
+rotations_test = refl
+
+pub is_left_of_test : (s : List Token) (r : Rotation) → moves_centres_as s r ≡ true → IsRotationOf s r
+unfolding every_face
+is_left_of_test s r h f = same_place_is _ _ (at_face (λ f. same_place (effect (spelling r) (centre f)) (effect s (centre f))) h f)
+
+pub rotation_left_is : (s : List Token) (r : Rotation) → IsRotationOf s r → rotation_left s ≡ r
+unfolding rotation_left every_face
+rotation_left_is s r h =
+    let here = Contains-from_any same_rotation_is r rotations (at_rotation _ rotations_test r) in
+    let test : moves_centres_as s r ≡ true = all_faces (λ f. same_place (effect (spelling r) (centre f)) (effect s (centre f))) (λ f. same_place_of _ _ (h f)) in
+    let w = found (moves_centres_as s) rotations r here test in
+    ap (λ o. unwrap_or o (record { top = U; vertical = None })) w.1 ∙ one_spelling w.0 r (λ f. is_left_of_test s w.0 w.2 f ∙ sym (h f))
+
+pub rotation_is_left : RotationIsLeft
+rotation_is_left s = let w = some_rotation s in subst (λ (r : Rotation). IsRotationOf s r) (sym (rotation_left_is s w.0 w.1)) w.1

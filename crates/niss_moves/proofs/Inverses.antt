@@ -1,32 +1,28 @@
--- A sequence and its inverse.
-use Rattle.std.proofs.Common.{◌≡◌, Bool, true, refl, ap, sym, ◌∙◌, List, [], ◌∷◌, ◌++◌, length, map, reverse}
+-- Single moves, computed over all places; a sequence and its inverse.
+use Rattle.std.proofs.Common.{◌≡◌, true, refl, ap, sym, ◌∙◌, List, [], ◌∷◌, ◌++◌, length, map, reverse}
 use Rattle.std.proofs.lemmas.List.{reverse-append, map-append, reverse-reverse}
-use Rattle.niss_moves.specs.Places.{Place, same_place}
+use Rattle.niss_moves.specs.Places.{Place, same_place, is_place}
 use Rattle.niss_moves.specs.Effects.{effect, moved_by, inverse, inverse_token, inverse_power, HasMeaning}
-use Rattle.niss_moves.specs.declared.token.Token.{Token}
+use Rattle.niss_moves.specs.Names.{Power, Quarter, Token}
 use Rattle.niss_moves.specs.declared.token.Token.TheVariants as token
-use Rattle.niss_moves.specs.declared.turn.Power.{Power}
-use Rattle.niss_moves.specs.declared.turn.Power.TheVariants.{Quarter, Half, Counter}
-use Rattle.niss_moves.proofs.Finite.{every_place, at_place, every_token, at_token, every_vector, every_coord, every_power, every_face, every_slice, every_axis, same_place_is}
+use Rattle.niss_moves.proofs.Finite.{every_place, at_place, every_token, at_token, every_vector, every_coord, every_power, every_face, every_slice, every_axis, same_place_is, implies, by_implies}
+use Rattle.niss_moves.specs.Faces.{expanded, token_of_basic}
+use Rattle.niss_moves.specs.EffectLaws.{PlacesStay}
 
 pub effect-append : (s t : List Token) (q : Place) → effect (s ++ t) q ≡ effect t (effect s q)
 effect-append [] t q = refl
 effect-append (x ∷ s) t q = effect-append s t (moved_by x q)
 
-abbrev Undoes : Token → Place → Bool
-Undoes t q = same_place (moved_by (inverse_token t) (moved_by t q)) q
-
-undoes_test : every_token (λ t. every_place (λ q. Undoes t q)) ≡ true
+undoes_test : every_token (λ t. every_place (λ q. same_place (moved_by (inverse_token t) (moved_by t q)) q)) ≡ true
 unfolding every_place every_vector every_coord every_power every_face every_axis every_slice every_token
 undoes_test = refl
 
 undoes : (t : Token) (q : Place) → moved_by (inverse_token t) (moved_by t q) ≡ q
-undoes t q = same_place_is _ _ (at_place (λ q. Undoes t q) (at_token (λ t. every_place (λ q. Undoes t q)) undoes_test t) q)
+undoes t q = same_place_is _ _ (at_place _ (at_token _ undoes_test t) q)
 
 twice_power : (p : Power) → inverse_power (inverse_power p) ≡ p
 twice_power Quarter = refl
-twice_power Half = refl
-twice_power Counter = refl
+twice_power _ = refl
 
 twice_token : (t : Token) → inverse_token (inverse_token t) ≡ t
 twice_token (token.Face t) = ap (λ p. token.Face (record t { power = p })) (twice_power t.power)
@@ -87,3 +83,19 @@ inverse_none (t ∷ s) e = cc
 pub inverse_last : (s front : List Token) (t u : Token) → s ≡ front ++ t ∷ [] → u ≡ inverse_token t → inverse s ≡ u ∷ inverse front
 inverse_last s front t u e i =
     ap inverse e ∙ inverse-append front (t ∷ []) ∙ ap (λ x. x ∷ inverse front) (sym i)
+
+-- Each move has the effect of the basic moves that it is expanded to.
+expansions_test : every_token (λ t. every_place (λ q. same_place (effect (map token_of_basic (expanded t)) q) (moved_by t q))) ≡ true
+unfolding every_place every_vector every_coord every_power every_face every_axis every_token every_slice
+expansions_test = refl
+
+pub effect_of_expanded : (t : Token) (q : Place) → effect (map token_of_basic (expanded t)) q ≡ moved_by t q
+effect_of_expanded t q = same_place_is _ _ (at_place _ (at_token _ expansions_test t) q)
+
+-- A move brings places to places.
+stays_test : every_token (λ t. every_place (λ q. implies (is_place q) (is_place (moved_by t q)))) ≡ true
+unfolding every_place every_vector every_coord every_power every_face every_axis every_slice every_token
+stays_test = refl
+
+pub places_stay : PlacesStay
+places_stay t q h = by_implies _ _ (at_place _ (at_token _ stays_test t) q) h

@@ -1,73 +1,54 @@
--- The list of the sticker places, computed.
-use Rattle.std.proofs.Common.{◌≡◌, Bool, true, false, not, ◌&&◌, ◌||◌, refl, sym, subst, inl, inr, List, [], ◌∷◌, arith}
-use Rattle.std.specs.List.{All, AllPairs, Contains, list_any, list_all}
-use Rattle.std.proofs.lemmas.List.Elements.{All-cons}
-use Rattle.std.proofs.lemmas.List.Kept.{AllPairs-cons}
-use Rattle.niss_moves.specs.Places.{Place, is_place, same_place}
+-- The list of the sticker places, computed, and the facelet texts of maps on it.
+use Rattle.std.proofs.Common.{◌≡◌, true, refl, ap, sym, List, [], ◌∷◌, map}
+use Rattle.std.specs.Cmp.{IsEquivalence}
+use Rattle.std.specs.List.{list_any, list_all}
+use Rattle.std.proofs.lemmas.Bool.Decides.{same_from_decides}
+use Rattle.std.proofs.lemmas.List.Elements.{All-contains}
+use Rattle.std.proofs.lemmas.List.Sums.{AllPass-from_list_all}
+use Rattle.std.proofs.lemmas.Map.Made.{IsDistinct-from_count, AllPairs-from_IsDistinct}
+use Rattle.std.proofs.lemmas.Map.Views.{Contains-from_any}
+use Rattle.niss_moves.specs.Places.{is_place, same_place, Place, SameMap}
 use Rattle.niss_moves.specs.Facelets.{places}
-use Rattle.niss_moves.specs.EffectLaws.{PlacesAreListed, PlacesDiffer}
-use Rattle.niss_moves.proofs.Finite.{every_coord, every_vector, every_place, at_place, same_place_is, same_place_of, implies, by_implies}
+use Rattle.niss_moves.specs.EffectLaws.{PlacesAreListed, PlacesDiffer, SameLetters}
+use Rattle.niss_moves.proofs.Finite.{every_coord, every_vector, every_place, at_place, same_place_is, same_place_of, same_place_self, implies, by_implies}
+use Rattle.std.specs.Prelude.{if◌then◌else◌}
+use Rattle.niss_moves.specs.Letters.{letter_at, letter_of, letters}
 use Rattle.niss_moves.proofs.Logic.{and_left, and_right}
-use Rattle.niss_moves.proofs.MadeLists.{none, here, later, first_or_later}
 
--- each place is in the list
-
-in_list_step : (q x : Place) (xs : List Place) (b : Bool) → same_place q x ≡ b → (b || list_any (same_place q) xs) ≡ true → (list_any (same_place q) xs ≡ true → Contains xs q) → Contains (x ∷ xs) q
-in_list_step q x xs true e h more = subst (λ (y : Place). Contains (x ∷ xs) y) (sym (same_place_is q x e)) (here x xs)
-in_list_step q x xs false e h more = later x xs q (more h)
-
-in_list : (q : Place) (xs : List Place) → list_any (same_place q) xs ≡ true → Contains xs q
-in_list q [] h = cc
-in_list q (x ∷ xs) h = in_list_step q x xs (same_place q x) refl h (in_list q xs)
-
-abbrev Listed : Place → Bool
-Listed q = implies (is_place q) (list_any (same_place q) places)
-
-listed_test : every_place (λ q. Listed q) ≡ true
+listed_test : every_place (λ q. implies (is_place q) (list_any (same_place q) places)) ≡ true
 unfolding every_place every_vector every_coord
 listed_test = refl
-
--- each in the list is a place
-
-at_list : (p : Place → Bool) → (xs : List Place) (q : Place) → list_all p xs ≡ true → Contains xs q → p q ≡ true
-at_list p [] q e h = absurd (none q h)
-at_list p (x ∷ xs) q e h =
-    elim (first_or_later x xs q h) [
-      | inl s ↦ subst (λ (y : Place). p y ≡ true) s (and_left _ _ e)
-      | inr r ↦ at_list p xs q (and_right (p x) _ e) r
-    ]
 
 pub all_places : list_all is_place places ≡ true
 all_places = refl
 
 pub places_are_listed : PlacesAreListed
 places_are_listed q =
-    (λ h. in_list q places (by_implies _ _ (at_place (λ q. Listed q) listed_test q) h), at_list is_place places q all_places)
+    (λ h. Contains-from_any same_place_is q places (by_implies _ _ (at_place _ listed_test q) h), λ h. All-contains (λ q. is_place q ≡ true) places q (AllPass-from_list_all is_place places all_places) h)
 
 -- none stands twice
 
-differ_from : (x : Place) (ys : List Place) → list_all (λ y. not (same_place x y)) ys ≡ true → All (λ y. x ≡ y → ⊥) ys
-differ_from x [] e = λ k d lt. absurd (omega (arith, lt))
-differ_from x (y ∷ ys) e =
-    All-cons (λ y. x ≡ y → ⊥) y ys (λ s. unequal (same_place x y) (and_left _ _ e) (same_place_of x y s)) (differ_from x ys (and_right (not (same_place x y)) _ e))
-  where
-    unequal : (b : Bool) → not b ≡ true → b ≡ true → ⊥
-    unequal true n h = cc
-    unequal false n h = cc
-
-all_differ : List Place → Bool
-all_differ [] = true
-all_differ (x ∷ xs) = list_all (λ y. not (same_place x y)) xs && all_differ xs
-
-differ : (xs : List Place) → all_differ xs ≡ true → AllPairs (λ x y. x ≡ y → ⊥) xs
-unfolding all_differ
-differ [] e = λ i j d le lt. absurd (omega (arith, lt))
-differ (x ∷ xs) e =
-    AllPairs-cons (λ x y. x ≡ y → ⊥) x xs (differ_from x xs (and_left _ _ e)) (differ xs (and_right (list_all (λ y. not (same_place x y)) xs) _ e))
-
-differ_test : all_differ places ≡ true
-unfolding all_differ
-differ_test = refl
+same_place_laws : IsEquivalence same_place
+same_place_laws =
+    record {
+      refl = same_place_self;
+      symm = λ x y. same_from_decides _ _ (same_place_is x y, same_place_of x y) (λ e. sym (same_place_is y x e), λ e. same_place_of y x (sym e));
+      congr = λ x y z e. ap (λ w. same_place w z) (same_place_is x y e);
+    }
 
 pub places_differ : PlacesDiffer
-places_differ = differ places differ_test
+places_differ =
+    AllPairs-from_IsDistinct (λ x y. (same_place_is x y, same_place_of x y)) places (IsDistinct-from_count same_place_laws places refl)
+
+-- Maps that are the same on the 54 places have the same facelet text.
+letter_of-same : (d e : Place → Place) → SameMap d e → (q : Place) (ps : List Place) → list_all is_place ps ≡ true → letter_of d ps q ≡ letter_of e ps q
+unfolding letter_of
+letter_of-same d e s q [] all = refl
+letter_of-same d e s q (p ∷ ps) all =
+    let at : d p ≡ e p = s p (and_left (is_place p) _ all) in
+    let rest : letter_of d ps q ≡ letter_of e ps q = letter_of-same d e s q ps (and_right (is_place p) _ all) in
+    λ i. if same_place (at i) q then letter_at p else rest i
+
+pub same_letters : SameLetters
+unfolding letters
+same_letters d e s = λ i. map (λ q. letter_of-same d e s q places all_places i) places

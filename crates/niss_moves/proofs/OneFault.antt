@@ -3,26 +3,18 @@ use Rattle.std.proofs.Common.{◌≡◌, ℕ, ◌+◌, ◌-◌, ◌<◌, Bool, t
 use Rattle.std.proofs.lemmas.List.{take-append-drop, take_more, take_all, length-take-le}
 use Rattle.niss_moves.specs.Faults.{has_no_bracket, Cut, Whole, LacksOne, LacksTwo, cut_ending, cut_length, bracket_ending, Continues, CanContinue, BeginsBase, StopsAt, Stops, Lacks, Faults}
 use Rattle.niss_moves.specs.Machine.{symbol_of, State, start, step, step_within, and_then, run, ended, ended_at, ended_in}
-use Rattle.niss_moves.specs.declared.token.Token.{Token}
-use Rattle.niss_moves.specs.declared.base.Base.{Base}
-use Rattle.niss_moves.specs.declared.partial_line.LastMove.{LastMove}
+use Rattle.niss_moves.specs.Names.{Token, Base, Symbol, LastMove, ReadFault, NotAMove, Nested, Unopened, Unclosed, TooLong}
 use Rattle.niss_moves.specs.declared.partial_line.LastMove.TheVariants as last
-use Rattle.niss_moves.specs.declared.symbol.Symbol.{Symbol}
 use Rattle.niss_moves.specs.declared.symbol.Symbol.TheVariants as symbol
-use Rattle.niss_moves.specs.declared.fault.ReadFault.{ReadFault}
-use Rattle.niss_moves.specs.declared.fault.ReadFault.TheVariants.{NotAMove, Nested, Unopened, Unclosed, TooLong}
 use Rattle.niss_moves.proofs.Logic.{and_right}
-use Rattle.niss_moves.proofs.Completes.{IsReady, run-append, completes}
-use Rattle.niss_moves.proofs.Sound.{Reads, cut_of, is_open, Refusal, Outcome, step_means}
+use Rattle.niss_moves.proofs.Completes.{IsReady, state, run-append, completes}
+use Rattle.niss_moves.proofs.Sound.{Reads, ready_whole, cut_of, is_open, Refusal, Outcome, step_means}
 use Rattle.niss_moves.proofs.Symbols.{first_symbol, symbol_of_open, symbol_of_close}
 use Rattle.niss_moves.proofs.Whole.{reads_all, can_continue, continued_ok, opens_at}
 
-make : List Token → List Token → Option ℕ → LastMove → ℕ → State
-make n b o t k = record { normal = n; bracketed = b; bracket = o; last = t; fed = k }
-
 -- with no cut apostrophe the ending is a bracket or nothing
-done_ending : (n b : List Token) (o : Option ℕ) (k : ℕ) (q : Bool) (end : State) → run (make n b o last.Finished k) (bracket_ending q) ≡ Ok end → end.bracket ≡ None → is_open o ≡ q
-unfolding step_within symbol_of make
+done_ending : (n b : List Token) (o : Option ℕ) (k : ℕ) (q : Bool) (end : State) → run (state n b o last.Finished k) (bracket_ending q) ≡ Ok end → end.bracket ≡ None → is_open o ≡ q
+unfolding step_within symbol_of state
 done_ending n b None k false end e h = refl
 done_ending n b (Some c) k false end e h = absurd (let x : Some c ≡ None = ap (λ r. bracket_of r) e ∙ h in cc)
   where
@@ -32,44 +24,26 @@ done_ending n b (Some c) k false end e h = absurd (let x : Some c ≡ None = ap 
 done_ending n b None k true end e h = absurd (cc)
 done_ending n b (Some c) k true end e h = refl
 
-ready_ending : (n b : List Token) (o : Option ℕ) (t : LastMove) (k : ℕ) (q : Bool) (end : State) → run (make n b o t k) (bracket_ending q) ≡ Ok end → IsReady end.last → end.bracket ≡ None → (cut_of t ≡ Whole) × (is_open o ≡ q)
-unfolding step_within symbol_of make
-ready_ending n b o t k false end e r h = by_last t (let x : make n b o t k ≡ end = cc in ap (λ s. s.last) x) (let x : make n b o t k ≡ end = cc in ap (λ s. s.bracket) x)
-  where
-    closed_now : (o : Option ℕ) → o ≡ end.bracket → is_open o ≡ false
-    closed_now o x = ap is_open (x ∙ h)
-
-    by_last : (t : LastMove) → t ≡ end.last → o ≡ end.bracket → (cut_of t ≡ Whole) × (is_open o ≡ false)
-    by_last last.Finished x y = (refl, closed_now o y)
-    by_last (last.Bare b) x y = (refl, closed_now o y)
-    by_last (last.Doubled b) x y = (refl, closed_now o y)
-    by_last (last.FirstByte b two) x y = absurd (subst IsReady (sym x) r)
-    by_last (last.SecondByte b two) x y = absurd (subst IsReady (sym x) r)
-ready_ending n b None last.Finished k true end e r h = absurd (cc)
-ready_ending n b None (last.Bare x) k true end e r h = absurd (cc)
-ready_ending n b None (last.Doubled x) k true end e r h = absurd (cc)
+ready_ending : (n b : List Token) (o : Option ℕ) (t : LastMove) (k : ℕ) (q : Bool) (end : State) → run (state n b o t k) (bracket_ending q) ≡ Ok end → IsReady end.last → end.bracket ≡ None → (cut_of t ≡ Whole) × (is_open o ≡ q)
+unfolding step_within symbol_of state
+ready_ending n b o t k false end e r h =
+    let x : state n b o t k ≡ end = cc in
+    (ready_whole t (subst (λ (s : State). IsReady s.last) (sym x) r), ap (λ (s : State). is_open s.bracket) x ∙ ap is_open h)
 ready_ending n b (Some c) last.Finished k true end e r h = (refl, refl)
 ready_ending n b (Some c) (last.Bare x) k true end e r h = (refl, refl)
 ready_ending n b (Some c) (last.Doubled x) k true end e r h = (refl, refl)
-ready_ending n b o (last.FirstByte x two) k true end e r h = absurd (cc)
-ready_ending n b o (last.SecondByte x two) k true end e r h = absurd (cc)
+ready_ending n b None last.Finished k true end e r h = absurd (cc)
+ready_ending n b _ _ k true end e r h = absurd (cc)
 
-cut_ending_is : (n b : List Token) (o : Option ℕ) (t : LastMove) (k : ℕ) (c : Cut) (q : Bool) (end : State) → and_then (run (make n b o t k) (cut_ending c)) (λ u. run u (bracket_ending q)) ≡ Ok end → IsReady end.last → end.bracket ≡ None → (cut_of t ≡ c) × (is_open o ≡ q)
-unfolding step_within symbol_of make
+cut_ending_is : (n b : List Token) (o : Option ℕ) (t : LastMove) (k : ℕ) (c : Cut) (q : Bool) (end : State) → and_then (run (state n b o t k) (cut_ending c)) (λ u. run u (bracket_ending q)) ≡ Ok end → IsReady end.last → end.bracket ≡ None → (cut_of t ≡ c) × (is_open o ≡ q)
+unfolding step_within symbol_of state
 cut_ending_is n b o t k Whole q end e r h = ready_ending n b o t k q end e r h
-cut_ending_is n b o last.Finished k LacksOne q end e r h = absurd (cc)
-cut_ending_is n b o (last.Bare x) k LacksOne q end e r h = absurd (cc)
-cut_ending_is n b o (last.Doubled x) k LacksOne q end e r h = absurd (cc)
-cut_ending_is n b o (last.FirstByte x two) k LacksOne q end e r h = absurd (cc)
 cut_ending_is n b o (last.SecondByte x two) k LacksOne q end e r h = (refl, done_ending _ _ o _ q end e h)
-cut_ending_is n b o last.Finished k LacksTwo q end e r h = absurd (cc)
-cut_ending_is n b o (last.Bare x) k LacksTwo q end e r h = absurd (cc)
-cut_ending_is n b o (last.Doubled x) k LacksTwo q end e r h = absurd (cc)
 cut_ending_is n b o (last.FirstByte x two) k LacksTwo q end e r h = (refl, done_ending _ _ o _ q end e h)
-cut_ending_is n b o (last.SecondByte x two) k LacksTwo q end e r h = absurd (cc)
+cut_ending_is n b o _ k _ q end e r h = absurd (cc)
 
 pub one_ending : (bytes : List ℕ) (s : State) (c : Cut) (q : Bool) → run start bytes ≡ Ok s → Continues bytes c q → (cut_of s.last ≡ c) × (is_open s.bracket ≡ q)
-unfolding make
+unfolding state
 one_ending bytes s c q e line =
     let d = completes 256 _ _ _ line.spells line.fits in
     let x : and_then (run s (cut_ending c)) (λ u. run u (bracket_ending q)) ≡ Ok d.end = sym (run-append 256 start (bytes ++ cut_ending c) (bracket_ending q) ∙ ap (λ r. and_then r (λ u. run u (bracket_ending q))) (run-append 256 start bytes (cut_ending c) ∙ ap (λ r. and_then r (λ t. run t (cut_ending c))) e)) ∙ d.ran in
@@ -147,15 +121,8 @@ long_reported column byte q (Unclosed c) p n t = absurd t
 cut_reported : (column byte : ℕ) (q : Bool) (c : Cut) (g : ReadFault) → 0 < cut_length c → Refusal c q byte (column + cut_length c - 1) g → g ≡ NotAMove column
 cut_reported column byte q Whole g p t = absurd (omega arith)
 cut_reported column byte q LacksOne (NotAMove c) p t = ap NotAMove (omega (arith, t))
-cut_reported column byte q LacksOne (Nested c) p t = absurd t
-cut_reported column byte q LacksOne (Unopened c) p t = absurd t
-cut_reported column byte q LacksOne (TooLong c) p t = absurd t
-cut_reported column byte q LacksOne (Unclosed c) p t = absurd t
 cut_reported column byte q LacksTwo (NotAMove c) p t = ap NotAMove (omega (arith, t))
-cut_reported column byte q LacksTwo (Nested c) p t = absurd t
-cut_reported column byte q LacksTwo (Unopened c) p t = absurd t
-cut_reported column byte q LacksTwo (TooLong c) p t = absurd t
-cut_reported column byte q LacksTwo (Unclosed c) p t = absurd t
+cut_reported column byte q _ _ p t = absurd t
 
 stops_run : (bytes : List ℕ) (f : ReadFault) → Stops bytes f → run start bytes ≡ Err f
 stops_run bytes (NotAMove column) h =
@@ -185,6 +152,11 @@ one_opening (x ∷ a) b [] d e p q =
 one_opening (x ∷ a) b (y ∷ c) d e p q =
     let t : a ++ 40 ∷ b ≡ c ++ 40 ∷ d = cc in ap suc (one_opening a b c d t p q)
 
+pub ended_whole : (s : State) (t : LastMove) → cut_of t ≡ Whole → ended_at t s ≡ ended_in s.bracket s
+ended_whole s (last.FirstByte b two) e = absurd (cc)
+ended_whole s (last.SecondByte b two) e = absurd (cc)
+ended_whole s _ e = refl
+
 lacks_ended : (bytes : List ℕ) (f : ReadFault) → Lacks bytes f → ended (run start bytes) ≡ Err f
 lacks_ended bytes (NotAMove column) h =
     let whole = h.3.before (length bytes) (omega arith) in
@@ -193,26 +165,17 @@ lacks_ended bytes (NotAMove column) h =
     ap ended w.1 ∙ by_last w.0 w.0.last one.0 (reads_all bytes w.0 w.1)
   where
     by_last : (s : State) (t : LastMove) → cut_of t ≡ h.1 → Reads s bytes → ended_at t s ≡ Err (NotAMove column)
-    by_last s last.Finished e r = absurd (let l = ap cut_length e in omega (arith, h.2))
-    by_last s (last.Bare b) e r = absurd (let l = ap cut_length e in omega (arith, h.2))
-    by_last s (last.Doubled b) e r = absurd (let l = ap cut_length e in omega (arith, h.2))
     by_last s (last.FirstByte b two) e r =
         let l = ap cut_length e in ap (λ n. Err (NotAMove n)) (omega (arith, h.4, r.fed))
     by_last s (last.SecondByte b two) e r =
         let l = ap cut_length e in ap (λ n. Err (NotAMove n)) (omega (arith, h.4, r.fed))
+    by_last s _ e r = absurd (let l = ap cut_length e in omega (arith, h.2))
 lacks_ended bytes (Unclosed column) h =
     let whole = h.0.before (length bytes) (omega arith) in
     let w = continued_ok bytes (subst CanContinue (take_all (length bytes) bytes (omega arith)) whole) in
     let one = one_ending bytes w.0 Whole true w.1 h.0.ends_so in
-    ap ended w.1 ∙ by_last w.0 w.0.last one.0 ∙ by_bracket w.0 w.0.bracket refl one.1 (reads_all bytes w.0 w.1)
+    ap ended w.1 ∙ ended_whole w.0 w.0.last one.0 ∙ by_bracket w.0 w.0.bracket refl one.1 (reads_all bytes w.0 w.1)
   where
-    by_last : (s : State) (t : LastMove) → cut_of t ≡ Whole → ended_at t s ≡ ended_in s.bracket s
-    by_last s last.Finished e = refl
-    by_last s (last.Bare b) e = refl
-    by_last s (last.Doubled b) e = refl
-    by_last s (last.FirstByte b two) e = absurd (cc)
-    by_last s (last.SecondByte b two) e = absurd (cc)
-
     by_bracket : (s : State) (o : Option ℕ) → s.bracket ≡ o → is_open o ≡ true → Reads s bytes → ended_in o s ≡ Err (Unclosed column)
     by_bracket s None b e r = absurd (cc)
     by_bracket s (Some c) b e r =
@@ -220,9 +183,7 @@ lacks_ended bytes (Unclosed column) h =
         let y = h.1 in
         let l = one_opening x.0 x.1 y.0 y.1 (sym x.2 ∙ y.2) x.3 y.3 in
         ap (λ n. Err (Unclosed n)) (omega (arith, x.4, y.4))
-lacks_ended bytes (Nested column) h = absurd h
-lacks_ended bytes (Unopened column) h = absurd h
-lacks_ended bytes (TooLong column) h = absurd h
+lacks_ended bytes _ h = absurd h
 
 pub fault_ended : (bytes : List ℕ) (f : ReadFault) → Faults bytes f → ended (run start bytes) ≡ Err f
 fault_ended bytes f h = elim h [ inl s ↦ ap ended (stops_run bytes f s) | inr l ↦ lacks_ended bytes f l ]

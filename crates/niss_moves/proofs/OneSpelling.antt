@@ -6,12 +6,9 @@ use Rattle.niss_moves.specs.Effects.{effect}
 use Rattle.niss_moves.specs.Rotations.{spelling}
 use Rattle.niss_moves.specs.Turn.{same_face}
 use Rattle.niss_moves.specs.RewritingLaws.{OneSpelling}
-use Rattle.niss_moves.specs.declared.turn.Face.{Face}
-use Rattle.niss_moves.specs.declared.turn.Power.{Power}
-use Rattle.niss_moves.specs.declared.turn.Power.TheVariants.{Quarter, Half, Counter}
-use Rattle.niss_moves.specs.declared.rotation.Rotation.{Rotation}
+use Rattle.niss_moves.specs.Names.{Face, Power, Quarter, Half, Counter, Rotation}
 use Rattle.niss_moves.proofs.Finite.{every_face, every_power, every_optional_power, all_faces, same_place_of, implies, by_implies}
-use Rattle.niss_moves.proofs.Logic.{and_left, and_right}
+use Rattle.std.proofs.lemmas.Bool.{and_parts}
 use Rattle.niss_moves.proofs.Rotations.{every_rotation, at_rotation, same_face_is}
 
 abbrev pub same_power : Power → Power → Bool
@@ -26,32 +23,32 @@ same_power_is Half Half e = refl
 same_power_is Counter Counter e = refl
 same_power_is _ _ e = cc
 
-same_option : Option Power → Option Power → Bool
+abbrev pub same_option : Option Power → Option Power → Bool
 same_option None None = true
 same_option (Some a) (Some b) = same_power a b
 same_option _ _ = false
 
 same_option_is : (a b : Option Power) → same_option a b ≡ true → a ≡ b
-unfolding same_option
 same_option_is None None e = refl
 same_option_is (Some a) (Some b) e = ap Some (same_power_is a b e)
 same_option_is None (Some b) e = cc
 same_option_is (Some a) None e = cc
 
+abbrev pub same_rotation : Rotation → Rotation → Bool
+same_rotation r s = same_face r.top s.top && same_option r.vertical s.vertical
+
+pub same_rotation_is : (r s : Rotation) → same_rotation r s ≡ true → r ≡ s
+same_rotation_is r s e =
+    let both = and_parts (same_face r.top s.top) (same_option r.vertical s.vertical) e in
+    λ i. record { top = same_face_is _ _ both.0 i; vertical = same_option_is _ _ both.1 i }
+
 abbrev AreAlike : Rotation → Rotation → Face → Bool
 AreAlike r s f = same_place (effect (spelling r) (centre f)) (effect (spelling s) (centre f))
 
-abbrev AreOne : Rotation → Rotation → Bool
-AreOne r s =
-    implies (every_face (λ f. AreAlike r s f)) (same_face r.top s.top && same_option r.vertical s.vertical)
-
-one_test : every_rotation (λ r. every_rotation (λ s. AreOne r s)) ≡ true
-unfolding every_rotation every_optional_power every_power every_face same_option
+one_test : every_rotation (λ r. every_rotation (λ s. implies (every_face (AreAlike r s)) (same_rotation r s))) ≡ true
+unfolding every_rotation every_optional_power every_power every_face
 one_test = refl
 
 pub one_spelling : OneSpelling
 one_spelling r s h =
-    let t = by_implies _ _ (at_rotation (λ s. AreOne r s) (at_rotation (λ r. every_rotation (λ s. AreOne r s)) one_test r) s) (all_faces (λ f. AreAlike r s f) (λ f. same_place_of _ _ (h f))) in
-    let a : r.top ≡ s.top = same_face_is _ _ (and_left _ _ t) in
-    let b : r.vertical ≡ s.vertical = same_option_is _ _ (and_right (same_face r.top s.top) _ t) in
-    λ i. record { top = a i; vertical = b i }
+    same_rotation_is r s (by_implies _ _ (at_rotation _ (at_rotation _ one_test r) s) (all_faces (AreAlike r s) (λ f. same_place_of _ _ (h f))))

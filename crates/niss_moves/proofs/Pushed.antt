@@ -1,5 +1,5 @@
 -- Face turns pushed after a rotation, basic move by basic move.
-use Rattle.std.proofs.Common.{◌≡◌, ℕ, refl, ap, sym, ◌∙◌, List, [], ◌∷◌, ◌++◌, map, append_assoc, subst, ◌+◌, ◌<◌, length, take, drop, get_or, Bool, true, None}
+use Rattle.std.proofs.Common.{◌≡◌, ℕ, refl, ap, sym, ◌∙◌, List, [], ◌∷◌, ◌++◌, map, append_assoc, subst, ◌+◌, ◌<◌, length, take, drop, get_or, true, None}
 use Rattle.std.proofs.lemmas.List.{take_more, at_drop_more}
 use Rattle.niss_moves.specs.Places.{Place, same_place}
 use Rattle.niss_moves.specs.Facelets.{centre}
@@ -8,21 +8,13 @@ use Rattle.niss_moves.specs.Rotations.{face_before, face_before_power, renamed_t
 use Rattle.niss_moves.specs.Faces.{BasicMove, FaceTurn, WholeRotation, faces, expanded, token_of_basic, faces_with}
 use Rattle.niss_moves.specs.Cleaning.{Cleans}
 use Rattle.niss_moves.specs.Turn.{opposite}
-use Rattle.niss_moves.specs.declared.turn.Face.{Face}
-use Rattle.niss_moves.specs.declared.turn.Face.TheVariants.{U}
-use Rattle.niss_moves.specs.declared.turn.Power.{Power}
-use Rattle.niss_moves.specs.declared.turn.Turn.{Turn}
-use Rattle.niss_moves.specs.declared.axis.Axis.{Axis}
-use Rattle.niss_moves.specs.declared.token.Slice.{Slice}
-use Rattle.niss_moves.specs.declared.token.Token.{Token}
+use Rattle.niss_moves.specs.Names.{Face, U, Power, Turn, Axis, Slice, Token, Rotation}
 use Rattle.niss_moves.specs.declared.token.Token.TheVariants as token
-use Rattle.niss_moves.specs.declared.rotation.Rotation.{Rotation}
 use Rattle.niss_moves.proofs.Finite.{every_face, every_power, at_face, same_place_is}
-use Rattle.niss_moves.proofs.Expansions.{effect_of_expanded}
+use Rattle.niss_moves.proofs.Inverses.{effect_of_expanded, effect-append}
 use Rattle.niss_moves.proofs.Rotations.{turn, rotation, every_turn, at_turn, IsNext, turn_after, effect_of_turns-append}
-use Rattle.niss_moves.proofs.Inverses.{effect-append}
 
-abbrev before : Rotation → Turn → Turn
+abbrev pub before : Rotation → Turn → Turn
 before r = renamed_turn (face_before r)
 
 -- After the rotation, these basic moves add these turns and leave that rotation.
@@ -30,10 +22,10 @@ pub record Pushes (r : Rotation) (moves : List BasicMove) (old new : List Turn) 
   pub faces : (rest : List Turn) → new ++ map (before n) rest ≡ old ++ map (before r) (faces_with moves rest)
   pub effect : (q : Place) → effect (spelling n) (effect_of_turns new q) ≡ effect (map token_of_basic moves) (effect (spelling r) (effect_of_turns old q))
 
-pushes_none : (r : Rotation) (old : List Turn) → Pushes r [] old old r
+pub pushes_none : (r : Rotation) (old : List Turn) → Pushes r [] old old r
 pushes_none r old = record { faces = λ rest. refl; effect = λ q. refl }
 
-pushes_turn : (r : Rotation) (f : Face) (p : Power) (moves : List BasicMove) (old mid new : List Turn) (n : Rotation) → mid ≡ old ++ before r (turn f p) ∷ [] → Pushes r moves mid new n → Pushes r (FaceTurn f p ∷ moves) old new n
+pub pushes_turn : (r : Rotation) (f : Face) (p : Power) (moves : List BasicMove) (old mid new : List Turn) (n : Rotation) → mid ≡ old ++ before r (turn f p) ∷ [] → Pushes r moves mid new n → Pushes r (FaceTurn f p ∷ moves) old new n
 pushes_turn r f p moves old mid new n e h =
     record {
       faces = λ rest. h.faces rest ∙ ap (λ s. s ++ map (before r) (faces_with moves rest)) e ∙ append_assoc old (before r (turn f p) ∷ []) (map (before r) (faces_with moves rest));
@@ -44,7 +36,7 @@ map_before : (r : Rotation) (a : Axis) (p : Power) (m : Rotation) → IsNext r a
 map_before r a p m h [] = refl
 map_before r a p m h (t ∷ s) = λ i. turn (h.faces t.face i) t.power ∷ map_before r a p m h s i
 
-pushes_rotation : (r : Rotation) (a : Axis) (p : Power) (m : Rotation) (moves : List BasicMove) (old new : List Turn) (n : Rotation) → IsNext r a p m → Pushes m moves old new n → Pushes r (WholeRotation a p ∷ moves) old new n
+pub pushes_rotation : (r : Rotation) (a : Axis) (p : Power) (m : Rotation) (moves : List BasicMove) (old new : List Turn) (n : Rotation) → IsNext r a p m → Pushes m moves old new n → Pushes r (WholeRotation a p ∷ moves) old new n
 pushes_rotation r a p m moves old new n next h =
     record {
       faces = λ rest. h.faces rest ∙ ap (λ s. old ++ s) (map_before r a p m next (faces_with moves rest));
@@ -103,19 +95,13 @@ map_none [] = refl
 map_none (t ∷ s) = ap (λ u. t ∷ u) (map_none s)
 
 -- Face turns keep the centres.
-abbrev Keeps : Turn → Face → Bool
-Keeps t g = same_place (turned t (centre g)) (centre g)
-
-keeps_test : every_turn (λ t. every_face (λ g. Keeps t g)) ≡ true
+keeps_test : every_turn (λ t. every_face (λ g. same_place (turned t (centre g)) (centre g))) ≡ true
 unfolding every_turn every_face every_power
 keeps_test = refl
 
-keeps_centre : (t : Turn) (g : Face) → turned t (centre g) ≡ centre g
-keeps_centre t g = same_place_is _ _ (at_face (λ g. Keeps t g) (at_turn (λ t. every_face (λ g. Keeps t g)) keeps_test t) g)
-
 pub keep_centre : (s : List Turn) (g : Face) → effect_of_turns s (centre g) ≡ centre g
 keep_centre [] g = refl
-keep_centre (t ∷ s) g = ap (effect_of_turns s) (keeps_centre t g) ∙ keep_centre s g
+keep_centre (t ∷ s) g = ap (effect_of_turns s) (same_place_is _ _ (at_face _ (at_turn _ keeps_test t) g)) ∙ keep_centre s g
 
 -- the centres in a loop over the moves
 pub centres_more : (ts : List Token) (i : ℕ) (d : Token) (r n : Rotation) (turns : List Turn) → i < length ts → Pushed r (get_or ts i d) [] turns n

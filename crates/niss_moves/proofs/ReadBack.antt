@@ -5,15 +5,8 @@ use Rattle.niss_moves.specs.Letters.{face_letter}
 use Rattle.niss_moves.specs.Notation.{base_bytes, Suffix, Nothing, Two, Prime, Plain, suffix_bytes, suffix_power, Space}
 use Rattle.niss_moves.specs.Line.{Gap, Spelled, Item, Outside, item_bytes, item_normal, item_bracketed, Spells}
 use Rattle.niss_moves.specs.Text.{word, power_bytes, gap, gap_after, with_word, with_words}
-use Rattle.niss_moves.specs.declared.turn.Face.{Face}
-use Rattle.niss_moves.specs.declared.turn.Face.TheVariants.{U, D, R, L, F, B}
-use Rattle.niss_moves.specs.declared.turn.Power.{Power}
-use Rattle.niss_moves.specs.declared.turn.Power.TheVariants.{Quarter, Half, Counter}
-use Rattle.niss_moves.specs.declared.token.Slice.TheVariants.{M, E, S}
-use Rattle.niss_moves.specs.declared.axis.Axis.TheVariants.{Ud, Rl, Fb}
-use Rattle.niss_moves.specs.declared.token.Token.{Token}
+use Rattle.niss_moves.specs.Names.{Face, U, Power, Quarter, Half, Counter, Ud, Rl, Fb, M, E, S, Token, Base}
 use Rattle.niss_moves.specs.declared.token.Token.TheVariants as token
-use Rattle.niss_moves.specs.declared.base.Base.{Base}
 use Rattle.niss_moves.specs.declared.base.Base.TheVariants as base
 
 base_of : Token → Base
@@ -39,14 +32,12 @@ move_item t = Outside (Spelled (base_of t) (suffix_of (power_of t)))
 suffix_is : (p : Power) → suffix_bytes (suffix_of p) ≡ power_bytes p
 unfolding suffix_of
 suffix_is Quarter = refl
-suffix_is Half = refl
-suffix_is Counter = refl
+suffix_is _ = refl
 
 power_is : (p : Power) → suffix_power (suffix_of p) ≡ p
 unfolding suffix_of
 power_is Quarter = refl
-power_is Half = refl
-power_is Counter = refl
+power_is _ = refl
 
 item_word : (t : Token) → item_bytes (move_item t) ≡ word t
 unfolding move_item base_of power_of
@@ -61,10 +52,6 @@ item_move (token.Face t) = ap (λ p. token.Face (record t { power = p }) ∷ [])
 item_move (token.Wide f p) = ap (λ p. token.Wide f p ∷ []) (power_is p)
 item_move (token.Slice l p) = ap (λ p. token.Slice l p ∷ []) (power_is p)
 item_move (token.Rotation a p) = ap (λ p. token.Rotation a p ∷ []) (power_is p)
-
-item_inside : (t : Token) → item_bracketed (move_item t) ≡ []
-unfolding move_item
-item_inside t = refl
 
 -- after a word stands a space
 gap_snoc : (a : List ℕ) (b : ℕ) → gap (a ++ b ∷ []) ≡ gap_after (Some b)
@@ -83,11 +70,7 @@ gap_two a b Counter e = ap gap (sym (append_assoc a (b ∷ []) (39 ∷ []))) ∙
 
 letter_gap : (f : Face) → gap_after (Some (face_letter f)) ≡ 32 ∷ []
 letter_gap U = refl
-letter_gap D = refl
-letter_gap R = refl
-letter_gap L = refl
-letter_gap F = refl
-letter_gap B = refl
+letter_gap _ = refl
 
 pub gap_word : (a : List ℕ) (t : Token) → gap (a ++ word t) ≡ 32 ∷ []
 gap_word a (token.Face t) = gap_two a (face_letter t.face) t.power (letter_gap t.face)

@@ -1,19 +1,17 @@
 -- What the reader's answers mean.
-use Rattle.std.proofs.Common.{◌≡◌, ℕ, ◌+◌, ◌-◌, ◌<◌, ◌≤◌, ◌↔◌, refl, ap, sym, ◌∙◌, subst, subst₂, List, [], ◌∷◌, ◌++◌, length, append_assoc, append-nil, Option, None, Some, Result, Ok, Err, IsOk, IfErr, arith, inl, inr, length-append}
+use Rattle.std.proofs.Common.{◌≡◌, ℕ, ◌+◌, ◌-◌, ◌<◌, ◌≤◌, ◌↔◌, refl, ap, sym, ◌∙◌, subst, List, [], ◌∷◌, ◌++◌, length, append_assoc, append-nil, Option, None, Some, Result, Ok, Err, IsOk, IfErr, arith, inl, inr, length-append}
 use Rattle.std.specs.Result.{result_err}
 use Rattle.niss_moves.specs.Line.{Moves, Spells, IsLine}
 use Rattle.niss_moves.specs.Faults.{Whole, cut_length, cut_ending, bracket_ending, CanContinue, Stops, Faults}
-use Rattle.niss_moves.specs.Machine.{State, start, settled, count, step, step_within, symbol_of, and_then, run, ended, ended_at, ended_in, answer_after, state_of, state_or, HasRoom, HasRoomUnless, IsStep}
+use Rattle.niss_moves.specs.Machine.{State, start, settled, step, step_within, symbol_of, and_then, run, ended, ended_at, ended_in, answer_after, state_of, state_or, HasRoom, HasRoomUnless, IsStep}
 use Rattle.niss_moves.specs.Reader.{Reader, IsFed, line_with, read_line}
-use Rattle.niss_moves.specs.declared.token.Token.{Token}
+use Rattle.niss_moves.specs.Names.{Token, LastMove, ReadFault}
 use Rattle.niss_moves.specs.declared.partial_line.PartialLine.{PartialLine}
-use Rattle.niss_moves.specs.declared.partial_line.LastMove.{LastMove}
 use Rattle.niss_moves.specs.declared.partial_line.LastMove.TheVariants as last
-use Rattle.niss_moves.specs.declared.fault.ReadFault.{ReadFault}
-use Rattle.niss_moves.proofs.Completes.{IsReady, and_then-assoc, run-append, completes}
-use Rattle.niss_moves.proofs.Sound.{last_bytes, cut_of, is_open, long_enough}
+use Rattle.niss_moves.proofs.Completes.{IsReady, state, and_then-assoc, run-append, completes}
+use Rattle.niss_moves.proofs.Sound.{ready_whole, last_bytes, cut_of, is_open, long_enough}
 use Rattle.niss_moves.proofs.Whole.{reads_all, run_stops, ends_whole, lacks_bracket, lacks_apostrophe}
-use Rattle.niss_moves.proofs.OneFault.{fault_ended}
+use Rattle.niss_moves.proofs.OneFault.{ended_whole, fault_ended}
 use Rattle.niss_moves.proofs.Room.{room_kept}
 
 -- what a caller gets of an outcome
@@ -27,7 +25,7 @@ outcome_of fault p = state_or fault (state_of p)
 
 -- the end of a line
 abbrev Final : List ℕ → Result Moves ReadFault → Type 0
-Final bytes (Ok m) = Spells bytes m.normal m.bracketed
+Final bytes (Ok m) = Spells bytes m.normal m.bracketed × (length m.normal + length m.bracketed ≤ 256)
 Final bytes (Err f) = Faults bytes f
 
 final : (bytes : List ℕ) (r : Result State ReadFault) → r ≡ run start bytes → Final bytes (ended r)
@@ -35,13 +33,10 @@ final bytes (Err f) e = inl (run_stops bytes f (sym e))
 final bytes (Ok s) e = by_last s.last refl
   where
     by_bracket : (o : Option ℕ) → cut_of s.last ≡ Whole → s.bracket ≡ o → Final bytes (ended_in o s)
-    by_bracket None w o = ends_whole bytes s (sym e) w o
+    by_bracket None w o = (ends_whole bytes s (sym e) w o, (reads_all bytes s (sym e)).room)
     by_bracket (Some c) w o = inr (lacks_bracket bytes s c (sym e) w o)
 
     by_last : (t : LastMove) → s.last ≡ t → Final bytes (ended_at t s)
-    by_last last.Finished t = by_bracket s.bracket (ap cut_of t) refl
-    by_last (last.Bare b) t = by_bracket s.bracket (ap cut_of t) refl
-    by_last (last.Doubled b) t = by_bracket s.bracket (ap cut_of t) refl
     by_last (last.FirstByte b two) t =
         let h = reads_all bytes s (sym e) in
         inr (lacks_apostrophe bytes s s.fed (sym e) (subst (λ (x : LastMove). 0 < cut_length (cut_of x)) (sym t) (omega arith)) (λ r. subst (λ (x : LastMove). IsReady x) t r) (subst (λ (x : LastMove). s.fed + cut_length (cut_of x) ≡ length bytes + 1) (sym t) (omega (arith, h.fed))))
@@ -49,50 +44,16 @@ final bytes (Ok s) e = by_last s.last refl
         let h = reads_all bytes s (sym e) in
         let long = long_enough h.front [] two b bytes (h.bytes_are ∙ ap (λ t. h.front ++ last_bytes t) t) in
         inr (lacks_apostrophe bytes s (s.fed - 1) (sym e) (subst (λ (x : LastMove). 0 < cut_length (cut_of x)) (sym t) (omega arith)) (λ r. subst (λ (x : LastMove). IsReady x) t r) (subst (λ (x : LastMove). s.fed - 1 + cut_length (cut_of x) ≡ length bytes + 1) (sym t) (omega (arith, h.fed))))
-
-final_spelled : (bytes : List ℕ) (n b : List Token) → Spells bytes n b → length n + length b ≤ 256 → ended (run start bytes) ≡ Ok (record { normal = n; bracketed = b })
-final_spelled bytes n b h fits =
-    let d = completes 256 bytes n b h fits in
-    ap ended d.ran ∙ by_last d.end.last refl d.ready ∙ ap (λ o. ended_in o d.end) d.bracket ∙ (λ i. Ok (record { normal = d.normal i; bracketed = d.bracketed i }))
-  where
-    by_last : (t : LastMove) → (completes 256 bytes n b h fits).end.last ≡ t → IsReady t → ended_at t (completes 256 bytes n b h fits).end ≡ ended_in (completes 256 bytes n b h fits).end.bracket (completes 256 bytes n b h fits).end
-    by_last last.Finished t r = refl
-    by_last (last.Bare b) t r = refl
-    by_last (last.Doubled b) t r = refl
-    by_last (last.FirstByte b two) t r = absurd r
-    by_last (last.SecondByte b two) t r = absurd r
-
--- a line has at most 256 moves
-abbrev HasFew : Result Moves ReadFault → Type 0
-HasFew (Ok m) = length m.normal + length m.bracketed ≤ 256
-HasFew (Err f) = Unit {0}
-
-few_ended : (s : State) → count (settled s) ≤ 256 → HasFew (ended_at s.last s)
-few_ended s h = by_last s.last
-  where
-    by_bracket : (o : Option ℕ) → HasFew (ended_in o s)
-    by_bracket None = h
-    by_bracket (Some c) = tt
-
-    by_last : (t : LastMove) → HasFew (ended_at t s)
-    by_last last.Finished = by_bracket s.bracket
-    by_last (last.Bare b) = by_bracket s.bracket
-    by_last (last.Doubled b) = by_bracket s.bracket
-    by_last (last.FirstByte b two) = tt
-    by_last (last.SecondByte b two) = tt
-
-few : (bytes : List ℕ) (r : Result State ReadFault) → r ≡ run start bytes → HasFew (ended r)
-few bytes (Ok s) e = few_ended s (reads_all bytes s (sym e)).room
-few bytes (Err f) e = tt
+    by_last _ t = by_bracket s.bracket (ap cut_of t) refl
 
 -- what the answer for all bytes says
 pub line_spells : (bytes : List ℕ) (m : Moves) → read_line bytes ≡ Ok m → Spells bytes m.normal m.bracketed
 unfolding read_line
-line_spells bytes m e = subst (Final bytes) e (final bytes (run start bytes) refl)
+line_spells bytes m e = (subst (Final bytes) e (final bytes (run start bytes) refl)).0
 
 pub line_fits : (bytes : List ℕ) (m : Moves) → read_line bytes ≡ Ok m → length m.normal + length m.bracketed ≤ 256
 unfolding read_line
-line_fits bytes m e = subst HasFew e (few bytes (run start bytes) refl)
+line_fits bytes m e = (subst (Final bytes) e (final bytes (run start bytes) refl)).1
 
 pub line_faults : (bytes : List ℕ) (f : ReadFault) → read_line bytes ≡ Err f → Faults bytes f
 unfolding read_line
@@ -100,7 +61,9 @@ line_faults bytes f e = subst (Final bytes) e (final bytes (run start bytes) ref
 
 pub spelled_line : (bytes : List ℕ) (n b : List Token) → Spells bytes n b → length n + length b ≤ 256 → read_line bytes ≡ Ok (record { normal = n; bracketed = b })
 unfolding read_line
-spelled_line bytes n b h fits = final_spelled bytes n b h fits
+spelled_line bytes n b h fits =
+    let d = completes 256 bytes n b h fits in
+    ap ended d.ran ∙ ended_whole d.end d.end.last (ready_whole d.end.last d.ready) ∙ ap (λ o. ended_in o d.end) d.bracket ∙ (λ i. Ok (record { normal = d.normal i; bracketed = d.bracketed i }))
 
 pub faulty_line : (bytes : List ℕ) (f : ReadFault) → Faults bytes f → read_line bytes ≡ Err f
 unfolding read_line
@@ -127,32 +90,19 @@ one_reading bytes n b m c h k =
     (sym x.normal ∙ ap (λ s. (settled s).normal) q ∙ y.normal, sym x.bracketed ∙ ap (λ s. (settled s).bracketed) q ∙ y.bracketed)
 
 -- each state can be ended
-state : List Token → List Token → Option ℕ → LastMove → ℕ → State
-state n b o t k = record { normal = n; bracketed = b; bracket = o; last = t; fed = k }
-
 can_end : (s : State) → (m : Moves) × (answer_after (Ok s) (cut_ending (cut_of s.last) ++ bracket_ending (is_open s.bracket)) ≡ Ok m)
 unfolding step_within symbol_of state
 can_end s = by_last s.normal s.bracketed s.bracket s.last s.fed
   where
     by_last : (n b : List Token) (o : Option ℕ) (t : LastMove) (k : ℕ) → (m : Moves) × (answer_after (Ok (state n b o t k)) (cut_ending (cut_of t) ++ bracket_ending (is_open o)) ≡ Ok m)
     by_last n b None last.Finished k = (_, refl)
-    by_last n b None (last.Bare x) k = (_, refl)
-    by_last n b None (last.Doubled x) k = (_, refl)
-    by_last n b None (last.FirstByte x two) k = (_, refl)
-    by_last n b None (last.SecondByte x two) k = (_, refl)
+    by_last n b None _ k = (_, refl)
     by_last n b (Some c) last.Finished k = (_, refl)
-    by_last n b (Some c) (last.Bare x) k = (_, refl)
-    by_last n b (Some c) (last.Doubled x) k = (_, refl)
-    by_last n b (Some c) (last.FirstByte x two) k = (_, refl)
-    by_last n b (Some c) (last.SecondByte x two) k = (_, refl)
+    by_last n b (Some c) _ k = (_, refl)
 
 -- The outcome is that of these bytes, whatever bytes follow.
 abbrev pub IsOutcome : Result State ReadFault → List ℕ → Type 0
 IsOutcome r bytes = (more : List ℕ) → answer_after r more ≡ read_line (bytes ++ more)
-
-pub outcome_of_none : IsOutcome (Ok start) []
-unfolding read_line
-outcome_of_none more = refl
 
 pub outcome_of_more : (r next : Result State ReadFault) (bytes : List ℕ) (byte : ℕ) → next ≡ and_then r (λ s. step s byte) → IsOutcome r bytes → IsOutcome next (bytes ++ byte ∷ [])
 outcome_of_more r next bytes byte e h more =
@@ -216,31 +166,32 @@ at_ok p q byte (Err f) h e k = record { fed = k; outcome = sym e; answered = ref
 
 pub fed_on : (fault next : Option ReadFault) (p q t : PartialLine) (byte : ℕ) (result r : Result (Unit {0}) ReadFault) → fault ≡ None → HasRoomUnless fault (state_of p) → IsStep (λ s. step s byte) p r t → t.fed ≡ p.fed + 1 → result ≡ r → next ≡ result_err result → q ≡ t → IsFedOn fault p byte next q result
 fed_on fault next p q t byte result r none room h counts er en eq =
-    let one = at_ok p t byte r (subst (λ (o : Option ReadFault). HasRoomUnless o (state_of p)) none room) h counts in
-    subst₂ (λ (o : Option ReadFault) (x : Result (Unit {0}) ReadFault). IsFedOn o p byte next q x) (sym none) (sym er) (subst₂ (λ (o : Option ReadFault) (x : PartialLine). IsFedOn None p byte o x r) (sym (en ∙ ap result_err er)) (sym eq) one)
+    let here = subst (λ (o : Option ReadFault). HasRoomUnless o (state_of p)) none room in
+    rw (none, en, er, eq) (at_ok p t byte r here h counts)
 
 pub fed_again : (fault next : Option ReadFault) (p q t : PartialLine) (byte : ℕ) (result : Result (Unit {0}) ReadFault) (f : ReadFault) → fault ≡ Some f → t.fed ≡ p.fed + 1 → result ≡ Err f → next ≡ result_err result → q ≡ t → IsFedOn fault p byte next q result
 fed_again fault next p q t byte result f some counts er en eq =
-    let one : IsFedOn (Some f) p byte (Some f) q (Err f) = record { fed = ap (λ (x : PartialLine). x.fed) eq ∙ counts; outcome = refl; answered = refl; room = tt } in
-    subst₂ (λ (o : Option ReadFault) (x : Result (Unit {0}) ReadFault). IsFedOn o p byte next q x) (sym some) (sym er) (subst (λ (o : Option ReadFault). IsFedOn (Some f) p byte o q (Err f)) (sym (en ∙ ap result_err er)) one)
+    rw (some, en, er, eq) (record { fed = counts; outcome = refl; answered = refl; room = tt })
+
+fed_outcome : (fault next : Option ReadFault) (p q : PartialLine) (byte : ℕ) (result : Result (Unit {0}) ReadFault) (bytes : List ℕ) → IsFedOn fault p byte next q result → IsFed (record { fed = p.fed; fault = fault; so_far = state_of p }) bytes → IsOutcome (outcome_of next q) (bytes ++ byte ∷ [])
+unfolding line_with
+fed_outcome fault next p q byte result bytes h k = outcome_of_more (outcome_of fault p) (outcome_of next q) bytes byte h.outcome k.line
 
 pub is_fed_on : (fault next : Option ReadFault) (p q : PartialLine) (byte : ℕ) (result : Result (Unit {0}) ReadFault) (bytes : List ℕ) → IsFedOn fault p byte next q result → IsFed (record { fed = p.fed; fault = fault; so_far = state_of p }) bytes → IsFed (record { fed = q.fed; fault = next; so_far = state_of q }) (bytes ++ byte ∷ [])
 unfolding line_with
 is_fed_on fault next p q byte result bytes h k =
     record {
       fed = let e = k.fed in omega (arith, h.fed, length-append bytes (byte ∷ []));
-      line = outcome_of_more (outcome_of fault p) (outcome_of next q) bytes byte h.outcome k.line;
+      line = fed_outcome fault next p q byte result bytes h k;
     }
 
 pub fed_taken : (fault next : Option ReadFault) (p q : PartialLine) (byte : ℕ) (result : Result (Unit {0}) ReadFault) (bytes : List ℕ) → IsFedOn fault p byte next q result → IsFed (record { fed = p.fed; fault = fault; so_far = state_of p }) bytes → IsOk result ↔ CanContinue (bytes ++ byte ∷ [])
-unfolding line_with
 fed_taken fault next p q byte result bytes h k =
-    subst (λ (x : Result (Unit {0}) ReadFault). IsOk x ↔ CanContinue (bytes ++ byte ∷ [])) (sym h.answered) (taken_iff (outcome_of next q) (bytes ++ byte ∷ []) (outcome_of_more (outcome_of fault p) (outcome_of next q) bytes byte h.outcome k.line))
+    subst (λ (x : Result (Unit {0}) ReadFault). IsOk x ↔ CanContinue (bytes ++ byte ∷ [])) (sym h.answered) (taken_iff (outcome_of next q) (bytes ++ byte ∷ []) (fed_outcome fault next p q byte result bytes h k))
 
 pub fed_stops : (fault next : Option ReadFault) (p q : PartialLine) (byte : ℕ) (result : Result (Unit {0}) ReadFault) (bytes : List ℕ) → IsFedOn fault p byte next q result → IsFed (record { fed = p.fed; fault = fault; so_far = state_of p }) bytes → IfErr result (λ f. Stops (bytes ++ byte ∷ []) f)
-unfolding line_with
 fed_stops fault next p q byte result bytes h k =
-    subst (λ (x : Result (Unit {0}) ReadFault). IfErr x (λ f. Stops (bytes ++ byte ∷ []) f)) (sym h.answered) (refused_stops (outcome_of next q) (bytes ++ byte ∷ []) (outcome_of_more (outcome_of fault p) (outcome_of next q) bytes byte h.outcome k.line))
+    subst (λ (x : Result (Unit {0}) ReadFault). IfErr x (λ f. Stops (bytes ++ byte ∷ []) f)) (sym h.answered) (refused_stops (outcome_of next q) (bytes ++ byte ∷ []) (fed_outcome fault next p q byte result bytes h k))
 
 pub new_fed : (p : PartialLine) → state_of p ≡ start → IsFed (record { fed = p.fed; fault = None; so_far = state_of p }) []
 unfolding line_with read_line

@@ -1,18 +1,17 @@
 -- Worked rows of rotations, canonical sequences, cleaning and their texts, computed from the definitions.
-use Rattle.std.proofs.Common.{◌≡◌, Bool, true, false, refl, List, [], ◌∷◌, length, None, Some, codes}
+use Rattle.std.proofs.Common.{◌≡◌, true, false, refl, List, [], ◌∷◌, length, None, Some, codes}
 use Rattle.niss_moves.specs.Places.{Place, same_place}
 use Rattle.niss_moves.specs.Effects.{effect_of_turns}
 use Rattle.niss_moves.specs.Rotations.{IsRotationOf}
 use Rattle.niss_moves.specs.Faces.{faces}
 use Rattle.niss_moves.specs.Canonical.{all_canonical, turn_order, is_canonical}
-use Rattle.niss_moves.specs.Cleaning.{Cleans, Clean, Rewrite}
+use Rattle.niss_moves.specs.Cleaning.{Cleans}
+use Rattle.niss_moves.specs.CleanedLine.{clean_turns, rewritten_within, rewritten_once}
+use Rattle.niss_moves.proofs.CleanFunction.{clean_turns_are_clean}
+use Rattle.niss_moves.proofs.Home.{is_left_of_test}
 use Rattle.niss_moves.specs.Text.{with_words}
 use Rattle.niss_moves.specs.CleanText.{rotation_words, cleaned_words, with_bracket}
-use Rattle.niss_moves.specs.declared.axis.Axis.TheVariants.{Ud, Rl, Fb}
-use Rattle.niss_moves.specs.declared.turn.Face.TheVariants.{U, D, R, L, F, B}
-use Rattle.niss_moves.specs.declared.turn.Power.TheVariants.{Quarter, Half, Counter}
-use Rattle.niss_moves.specs.declared.turn.Turn.{Turn}
-use Rattle.niss_moves.specs.declared.token.Slice.TheVariants.{M}
+use Rattle.niss_moves.specs.Names.{U, D, R, L, F, B, Quarter, Half, Counter, Turn, Ud, Rl, Fb, M}
 use Rattle.niss_moves.specs.declared.token.Token.TheVariants as token
 use Rattle.niss_moves.proofs.Finite.{every_coord, every_vector, every_place, at_place, same_place_is}
 use Rattle.niss_moves.proofs.Rotations.{turn, rotation}
@@ -45,69 +44,49 @@ slice_turn : faces (token.Slice M Quarter ∷ []) ≡ turn R Quarter ∷ turn L 
 slice_turn = refl
 
 rotation_of_wide_turn : IsRotationOf (token.Wide R Quarter ∷ token.Face (turn U Quarter) ∷ []) (rotation F None)
-rotation_of_wide_turn U = refl
-rotation_of_wide_turn D = refl
-rotation_of_wide_turn R = refl
-rotation_of_wide_turn L = refl
-rotation_of_wide_turn F = refl
-rotation_of_wide_turn B = refl
+rotation_of_wide_turn = is_left_of_test (token.Wide R Quarter ∷ token.Face (turn U Quarter) ∷ []) (rotation F None) refl
 
 rotation_of_slice_turn : IsRotationOf (token.Slice M Quarter ∷ []) (rotation B None)
-rotation_of_slice_turn U = refl
-rotation_of_slice_turn D = refl
-rotation_of_slice_turn R = refl
-rotation_of_slice_turn L = refl
-rotation_of_slice_turn F = refl
-rotation_of_slice_turn B = refl
+rotation_of_slice_turn = is_left_of_test (token.Slice M Quarter ∷ []) (rotation B None) refl
 
 -- `z z` is `x2 y2`, spelled so, and `x y x'` is `z`
 two_rotations : IsRotationOf (token.Rotation Fb Quarter ∷ token.Rotation Fb Quarter ∷ []) (rotation D (Some Half))
-two_rotations U = refl
-two_rotations D = refl
-two_rotations R = refl
-two_rotations L = refl
-two_rotations F = refl
-two_rotations B = refl
+two_rotations = is_left_of_test (token.Rotation Fb Quarter ∷ token.Rotation Fb Quarter ∷ []) (rotation D (Some Half)) refl
 
 two_words : rotation_words (rotation D (Some Half)) ≡ codes "x2" ∷ codes "y2" ∷ []
 two_words = refl
 
 three_rotations : IsRotationOf (token.Rotation Rl Quarter ∷ token.Rotation Ud Quarter ∷ token.Rotation Rl Counter ∷ []) (rotation L None)
-three_rotations U = refl
-three_rotations D = refl
-three_rotations R = refl
-three_rotations L = refl
-three_rotations F = refl
-three_rotations B = refl
+three_rotations = is_left_of_test (token.Rotation Rl Quarter ∷ token.Rotation Ud Quarter ∷ token.Rotation Rl Counter ∷ []) (rotation L None) refl
 
 -- `U D U'` is cleaned to `D`, by `U U' D`
 passed : Cleans (turn U Quarter ∷ turn D Quarter ∷ turn U Counter ∷ []) (turn D Quarter ∷ [])
-passed =
-    Rewrite {t = turn U Quarter ∷ turn U Counter ∷ turn D Quarter ∷ []} (record { front = turn U Quarter ∷ []; left = turn D Quarter; right = turn U Counter; rest = []; at = refl; leftmost = refl; breaks = refl; result = refl }) (Rewrite {t = turn D Quarter ∷ []} (record { front = []; left = turn U Quarter; right = turn U Counter; rest = turn D Quarter ∷ []; at = refl; leftmost = refl; breaks = refl; result = refl }) (Clean refl))
+unfolding clean_turns rewritten_within rewritten_once
+passed = clean_turns_are_clean (turn U Quarter ∷ turn D Quarter ∷ turn U Counter ∷ [])
 
 -- `D U D'` is cleaned to `U`, by `U D D'`
 exchanged : Cleans (turn D Quarter ∷ turn U Quarter ∷ turn D Counter ∷ []) (turn U Quarter ∷ [])
-exchanged =
-    Rewrite {t = turn U Quarter ∷ turn D Quarter ∷ turn D Counter ∷ []} (record { front = []; left = turn D Quarter; right = turn U Quarter; rest = turn D Counter ∷ []; at = refl; leftmost = refl; breaks = refl; result = refl }) (Rewrite {t = turn U Quarter ∷ []} (record { front = turn U Quarter ∷ []; left = turn D Quarter; right = turn D Counter; rest = []; at = refl; leftmost = refl; breaks = refl; result = refl }) (Clean refl))
+unfolding clean_turns rewritten_within rewritten_once
+exchanged = clean_turns_are_clean (turn D Quarter ∷ turn U Quarter ∷ turn D Counter ∷ [])
 
 -- `F F F F` is cleaned to nothing, by `F2 F F` and `F' F`
 whole_round : Cleans (turn F Quarter ∷ turn F Quarter ∷ turn F Quarter ∷ turn F Quarter ∷ []) []
-whole_round =
-    Rewrite {t = turn F Half ∷ turn F Quarter ∷ turn F Quarter ∷ []} (record { front = []; left = turn F Quarter; right = turn F Quarter; rest = turn F Quarter ∷ turn F Quarter ∷ []; at = refl; leftmost = refl; breaks = refl; result = refl }) (Rewrite {t = turn F Counter ∷ turn F Quarter ∷ []} (record { front = []; left = turn F Half; right = turn F Quarter; rest = turn F Quarter ∷ []; at = refl; leftmost = refl; breaks = refl; result = refl }) (Rewrite {t = []} (record { front = []; left = turn F Counter; right = turn F Quarter; rest = []; at = refl; leftmost = refl; breaks = refl; result = refl }) (Clean refl)))
+unfolding clean_turns rewritten_within rewritten_once
+whole_round = clean_turns_are_clean (turn F Quarter ∷ turn F Quarter ∷ turn F Quarter ∷ turn F Quarter ∷ [])
 
 -- `R R'` is cleaned to nothing, and `U U` to `U2`
 undone : Cleans (turn R Quarter ∷ turn R Counter ∷ []) []
-undone =
-    Rewrite {t = []} (record { front = []; left = turn R Quarter; right = turn R Counter; rest = []; at = refl; leftmost = refl; breaks = refl; result = refl }) (Clean refl)
+unfolding clean_turns rewritten_within rewritten_once
+undone = clean_turns_are_clean (turn R Quarter ∷ turn R Counter ∷ [])
 
 doubled : Cleans (turn U Quarter ∷ turn U Quarter ∷ []) (turn U Half ∷ [])
-doubled =
-    Rewrite {t = turn U Half ∷ []} (record { front = []; left = turn U Quarter; right = turn U Quarter; rest = []; at = refl; leftmost = refl; breaks = refl; result = refl }) (Clean refl)
+unfolding clean_turns rewritten_within rewritten_once
+doubled = clean_turns_are_clean (turn U Quarter ∷ turn U Quarter ∷ [])
 
 -- `R L R` is cleaned to `R2 L`, by `R R L`
 summed : Cleans (turn R Quarter ∷ turn L Quarter ∷ turn R Quarter ∷ []) (turn R Half ∷ turn L Quarter ∷ [])
-summed =
-    Rewrite {t = turn R Quarter ∷ turn R Quarter ∷ turn L Quarter ∷ []} (record { front = turn R Quarter ∷ []; left = turn L Quarter; right = turn R Quarter; rest = []; at = refl; leftmost = refl; breaks = refl; result = refl }) (Rewrite {t = turn R Half ∷ turn L Quarter ∷ []} (record { front = []; left = turn R Quarter; right = turn R Quarter; rest = turn L Quarter ∷ []; at = refl; leftmost = refl; breaks = refl; result = refl }) (Clean refl))
+unfolding clean_turns rewritten_within rewritten_once
+summed = clean_turns_are_clean (turn R Quarter ∷ turn L Quarter ∷ turn R Quarter ∷ [])
 
 -- `R2 L2 U2 D2` and `U2 D2 R2 L2` are both canonical and have one effect: the clean list is more than that.
 right_first : List Turn
@@ -124,15 +103,12 @@ up_first_canonical : is_canonical up_first ≡ true
 unfolding up_first
 up_first_canonical = refl
 
-abbrev AreAlike : Place → Bool
-AreAlike q = same_place (effect_of_turns right_first q) (effect_of_turns up_first q)
-
-alike_test : every_place (λ q. AreAlike q) ≡ true
+alike_test : every_place (λ q. same_place (effect_of_turns right_first q) (effect_of_turns up_first q)) ≡ true
 unfolding every_place every_vector every_coord right_first up_first
 alike_test = refl
 
 one_effect : (q : Place) → effect_of_turns right_first q ≡ effect_of_turns up_first q
-one_effect q = same_place_is _ _ (at_place (λ q. AreAlike q) alike_test q)
+one_effect q = same_place_is _ _ (at_place _ alike_test q)
 
 -- nothing left and then `U2` in a bracket, `x` and then `y` in a bracket, `L F x` and then nothing
 bracket_text : with_bracket (with_words [] (cleaned_words [] (rotation U None))) (cleaned_words (turn U Half ∷ []) (rotation U None)) ≡ codes "(U2)"

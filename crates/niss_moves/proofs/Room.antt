@@ -3,25 +3,16 @@ use Rattle.std.proofs.Common.{◌≡◌, ℕ, ◌+◌, ◌-◌, ◌<◌, ◌≤�
 use Rattle.std.proofs.lemmas.Bool.{ltb-true}
 use Rattle.niss_moves.specs.Notation.{token_of}
 use Rattle.niss_moves.specs.Machine.{symbol_of, State, outside, inside, settled, settled_by, opened, closed, begun, count, with_last, fed_to, step_by, step_at, step, step_within, HasRoom, state_of}
-use Rattle.niss_moves.specs.declared.turn.Power.TheVariants.{Quarter, Half, Counter}
-use Rattle.niss_moves.specs.declared.token.Token.{Token}
-use Rattle.niss_moves.specs.declared.base.Base.{Base}
-use Rattle.niss_moves.specs.declared.base.Base.TheVariants as base
+use Rattle.niss_moves.specs.Names.{Quarter, Half, Counter, Token, Base, Symbol, LastMove, ReadFault, NotAMove, TooLong}
 use Rattle.niss_moves.specs.declared.partial_line.PartialLine.{PartialLine}
-use Rattle.niss_moves.specs.declared.partial_line.LastMove.{LastMove}
+use Rattle.niss_moves.specs.declared.base.Base.TheVariants as base
 use Rattle.niss_moves.specs.declared.partial_line.LastMove.TheVariants as last
-use Rattle.niss_moves.specs.declared.symbol.Symbol.{Symbol}
 use Rattle.niss_moves.specs.declared.symbol.Symbol.TheVariants as symbol
-use Rattle.niss_moves.specs.declared.fault.ReadFault.{ReadFault}
-use Rattle.niss_moves.specs.declared.fault.ReadFault.TheVariants.{NotAMove, TooLong}
-use Rattle.niss_moves.proofs.Completes.{count_more}
+use Rattle.niss_moves.proofs.Completes.{state, count_more}
 
 abbrev Roomy : Result State ReadFault → Type 0
 Roomy (Ok t) = HasRoom t
 Roomy (Err f) = Unit {0}
-
-pub state : List Token → List Token → Option ℕ → LastMove → ℕ → State
-state n b o t k = record { normal = n; bracketed = b; bracket = o; last = t; fed = k }
 
 room_one : (n b : List Token) (o : Option ℕ) (x y : Token) → length (outside o n (x ∷ [])) + length (inside o b (x ∷ [])) ≤ 256 → length (outside o n (y ∷ [])) + length (inside o b (y ∷ [])) ≤ 256
 room_one n b o x y h = omega (arith, count_more o n b (x ∷ []), count_more o n b (y ∷ []))
@@ -51,30 +42,12 @@ room_symbol symbol.Close n b o t k h = room_close o (state n b o t k) h
 room_symbol (symbol.Base x) n b o t k h = room_begun (state n b o t k) x h
 room_symbol symbol.Wide n b o (last.Bare (base.Face f)) k h =
     room_one n b o (token_of (base.Face f) Quarter) (token_of (base.Wide f) Quarter) h
-room_symbol symbol.Wide n b o (last.Bare (base.Wide f)) k h = tt
-room_symbol symbol.Wide n b o (last.Bare (base.LowerCase f)) k h = tt
-room_symbol symbol.Wide n b o (last.Bare (base.Slice f)) k h = tt
-room_symbol symbol.Wide n b o (last.Bare (base.Rotation f)) k h = tt
-room_symbol symbol.Wide n b o last.Finished k h = tt
-room_symbol symbol.Wide n b o (last.Doubled f) k h = tt
-room_symbol symbol.Wide n b o (last.FirstByte f two) k h = tt
-room_symbol symbol.Wide n b o (last.SecondByte f two) k h = tt
 room_symbol symbol.Two n b o (last.Bare f) k h = room_one n b o (token_of f Quarter) (token_of f Half) h
-room_symbol symbol.Two n b o last.Finished k h = tt
-room_symbol symbol.Two n b o (last.Doubled f) k h = tt
-room_symbol symbol.Two n b o (last.FirstByte f two) k h = tt
-room_symbol symbol.Two n b o (last.SecondByte f two) k h = tt
 room_symbol symbol.Apostrophe n b o (last.Bare f) k h = room_one n b o (token_of f Quarter) (token_of f Counter) h
-room_symbol symbol.Apostrophe n b o last.Finished k h = tt
 room_symbol symbol.Apostrophe n b o (last.Doubled f) k h = h
-room_symbol symbol.Apostrophe n b o (last.FirstByte f two) k h = tt
-room_symbol symbol.Apostrophe n b o (last.SecondByte f two) k h = tt
 room_symbol symbol.Cut n b o (last.Bare f) k h = room_one n b o (token_of f Quarter) (token_of f Counter) h
-room_symbol symbol.Cut n b o last.Finished k h = tt
 room_symbol symbol.Cut n b o (last.Doubled f) k h = h
-room_symbol symbol.Cut n b o (last.FirstByte f two) k h = tt
-room_symbol symbol.Cut n b o (last.SecondByte f two) k h = tt
-room_symbol symbol.Other n b o t k h = tt
+room_symbol _ n b o _ k h = tt
 
 -- how many bytes were fed is nothing to it
 room_fed : (n : ℕ) (r : Result State ReadFault) → Roomy r → Roomy (fed_to n r)
@@ -83,10 +56,7 @@ room_fed n (Ok s) h = by_last s.last h
   where
     by_last : (t : LastMove) → length (settled_by t s).normal + length (settled_by t s).bracketed ≤ 256 → length (settled_by t (record s { fed = n })).normal + length (settled_by t (record s { fed = n })).bracketed ≤ 256
     by_last last.Finished h = h
-    by_last (last.Bare b) h = h
-    by_last (last.Doubled b) h = h
-    by_last (last.FirstByte b two) h = h
-    by_last (last.SecondByte b two) h = h
+    by_last _ h = h
 
 room_step : (s : State) (byte : ℕ) → HasRoom s → Roomy (step s byte)
 unfolding step_within state
@@ -97,11 +67,9 @@ room_step s byte h = room_fed (s.fed + 1) _ (by_last s.normal s.bracketed s.brac
     chosen false t f h = tt
 
     by_last : (n b : List Token) (o : Option ℕ) (t : LastMove) (k : ℕ) → HasRoom (state n b o t k) → Roomy (step_at 256 t (state n b o t k) byte)
-    by_last n b o last.Finished k h = room_symbol (symbol_of byte) n b o last.Finished k h
-    by_last n b o (last.Bare f) k h = room_symbol (symbol_of byte) n b o (last.Bare f) k h
-    by_last n b o (last.Doubled f) k h = room_symbol (symbol_of byte) n b o (last.Doubled f) k h
     by_last n b o (last.FirstByte f two) k h = chosen (eqb byte 0x80) (with_last (last.SecondByte f two) (state n b o (last.FirstByte f two) k)) (NotAMove k) h
     by_last n b o (last.SecondByte f two) k h = chosen (eqb byte 0x99) (settled (state n b o (last.SecondByte f two) k)) (NotAMove (k - 1)) h
+    by_last n b o t k h = room_symbol (symbol_of byte) n b o t k h
 
 pub room_kept : (p q : PartialLine) (byte : ℕ) → HasRoom (state_of p) → step (state_of p) byte ≡ Ok (state_of q) → HasRoom (state_of q)
 room_kept p q byte h e = subst Roomy e (room_step (state_of p) byte h)

@@ -1,23 +1,15 @@
 -- The 24 rotations, computed.
-use Rattle.std.proofs.Common.{◌≡◌, Bool, true, ◌&&◌, refl, ap, sym, subst, ◌∙◌, List, [], ◌∷◌, ◌++◌, Option, None, Some}
+use Rattle.std.proofs.Common.{◌≡◌, Bool, true, ◌&&◌, refl, ap, sym, ◌∙◌, List, [], ◌∷◌, ◌++◌, Option, None, Some}
 use Rattle.niss_moves.specs.Places.{Place, Vector, same_vector, same_place}
-use Rattle.niss_moves.specs.Facelets.{centre}
 use Rattle.niss_moves.specs.Effects.{effect, effect_of_turns, moved_by, turned, quarters, times}
 use Rattle.niss_moves.specs.Rotations.{face_before, face_before_power, face_before_top, face_before_vertical, renamed_turn, to_top, about_vertical, spelling}
 use Rattle.niss_moves.specs.Turn.{same_face}
-use Rattle.niss_moves.specs.Helpers.{is_beside}
-use Rattle.niss_moves.proofs.Finite.{every_coord, every_vector, at_vector, same_vector_is, every_place, at_place, same_place_is, every_face, at_face, every_power, at_power, every_axis, at_axis, every_optional_power, at_optional_power, implies, by_implies}
-use Rattle.niss_moves.proofs.Logic.{and_left, and_right}
+use Rattle.niss_moves.specs.Helpers.{is_beside, rotation_by}
+use Rattle.niss_moves.proofs.Finite.{every_coord, every_vector, at_vector, same_vector_is, every_place, at_place, same_place_is, every_face, at_face, every_power, at_power, every_axis, at_axis, every_optional_power, at_optional_power}
+use Rattle.std.proofs.lemmas.Bool.{and_parts}
 use Rattle.niss_moves.proofs.Inverses.{effect-append}
-use Rattle.niss_moves.specs.declared.turn.Face.{Face}
-use Rattle.niss_moves.specs.declared.turn.Face.TheVariants.{U, D, R, L, F, B}
-use Rattle.niss_moves.specs.declared.turn.Power.{Power}
-use Rattle.niss_moves.specs.declared.turn.Power.TheVariants.{Quarter, Half, Counter}
-use Rattle.niss_moves.specs.declared.turn.Turn.{Turn}
-use Rattle.niss_moves.specs.declared.axis.Axis.{Axis}
-use Rattle.niss_moves.specs.declared.axis.Axis.TheVariants.{Ud, Rl, Fb}
+use Rattle.niss_moves.specs.Names.{Face, U, D, R, L, F, B, Power, Quarter, Half, Counter, Turn, Axis, Ud, Rl, Fb, Rotation}
 use Rattle.niss_moves.specs.declared.token.Token.TheVariants as token
-use Rattle.niss_moves.specs.declared.rotation.Rotation.{Rotation}
 
 abbrev pub turn : Face → Power → Turn
 turn f p = record { face = f; power = p }
@@ -30,15 +22,14 @@ every_rotation p = every_face (λ f. every_optional_power (λ o. p (rotation f o
 
 pub at_rotation : (p : Rotation → Bool) → every_rotation p ≡ true → (r : Rotation) → p r ≡ true
 unfolding every_rotation
-at_rotation p e r =
-    at_optional_power (λ o. p (rotation r.top o)) (at_face (λ f. every_optional_power (λ o. p (rotation f o))) e r.top) r.vertical
+at_rotation p e r = at_optional_power _ (at_face _ e r.top) r.vertical
 
 unfoldable pub every_turn : (Turn → Bool) → Bool
 every_turn p = every_face (λ f. every_power (λ n. p (turn f n)))
 
 pub at_turn : (p : Turn → Bool) → every_turn p ≡ true → (t : Turn) → p t ≡ true
 unfolding every_turn
-at_turn p e t = at_power (λ n. p (turn t.face n)) (at_face (λ f. every_power (λ n. p (turn f n))) e t.face) t.power
+at_turn p e t = at_power _ (at_face _ e t.face) t.power
 
 pub same_face_is : (a b : Face) → same_face a b ≡ true → a ≡ b
 same_face_is U U e = refl
@@ -48,17 +39,6 @@ same_face_is L L e = refl
 same_face_is F F e = refl
 same_face_is B B e = refl
 same_face_is _ _ e = cc
-
-same_face_self : (a : Face) → same_face a a ≡ true
-same_face_self U = refl
-same_face_self D = refl
-same_face_self R = refl
-same_face_self L = refl
-same_face_self F = refl
-same_face_self B = refl
-
-pub same_face_of : (a b : Face) → a ≡ b → same_face a b ≡ true
-same_face_of a b e = subst (λ (b : Face). same_face a b ≡ true) e (same_face_self a)
 
 -- A rotation brings the cell and the direction of a place where it brings any vector.
 abbrev pub vector_to_top : Face → Vector → Vector
@@ -82,101 +62,57 @@ on_place g q = record { cell = g q.cell; direction = g q.direction }
 effect_of_rotation : (f : Face) (o : Option Power) (q : Place) → effect (spelling (rotation f o)) q ≡ on_place (rotated_vector (rotation f o)) q
 effect_of_rotation U None q = refl
 effect_of_rotation U (Some p) q = refl
-effect_of_rotation D None q = refl
-effect_of_rotation D (Some p) q = refl
-effect_of_rotation R None q = refl
-effect_of_rotation R (Some p) q = refl
-effect_of_rotation L None q = refl
-effect_of_rotation L (Some p) q = refl
-effect_of_rotation F None q = refl
-effect_of_rotation F (Some p) q = refl
-effect_of_rotation B None q = refl
-effect_of_rotation B (Some p) q = refl
+effect_of_rotation _ None q = refl
+effect_of_rotation _ (Some p) q = refl
 
 pub effect_of_spelling : (r : Rotation) (q : Place) → effect (spelling r) q ≡ on_place (rotated_vector r) q
 effect_of_spelling r q = effect_of_rotation r.top r.vertical q
 
--- The rotation brings the centre of the face before to the centre of the face.
-abbrev Brings : Rotation → Face → Bool
-Brings r f = same_place (on_place (rotated_vector r) (centre (face_before r f))) (centre f)
+-- a rotation and one more about an axis, by the faces that come to the top and to the front
+unfoldable pub next_rotation : Rotation → Axis → Power → Rotation
+next_rotation r a p = rotation_by (face_before r (face_before_power a p U)) (face_before r (face_before_power a p F))
 
-brings_test : every_rotation (λ r. every_face (λ f. Brings r f)) ≡ true
-unfolding every_rotation every_optional_power every_power every_face
-brings_test = refl
-
-pub centre_before : (r : Rotation) (f : Face) → effect (spelling r) (centre (face_before r f)) ≡ centre f
-centre_before r f =
-    effect_of_spelling r (centre (face_before r f))
-    ∙ same_place_is _ _ (at_face (λ f. Brings r f) (at_rotation (λ r. every_face (λ f. Brings r f)) brings_test r) f)
-
-pub brings_of : (r : Rotation) (f g : Face) → g ≡ face_before r f → effect (spelling r) (centre g) ≡ centre f
-brings_of r f g e = ap (λ g. effect (spelling r) (centre g)) e ∙ centre_before r f
-
--- What a rotation and one more come to: the top and the front are known, and some vertical turn fits.
-abbrev pub next_top : Rotation → Axis → Power → Face
-next_top r a p = face_before r (face_before_power a p U)
-
-abbrev pub next_front : Rotation → Axis → Power → Face
-next_front r a p = face_before r (face_before_power a p F)
-
-beside_test : every_rotation (λ r. every_axis (λ a. every_power (λ p. is_beside (next_top r a p) (next_front r a p)))) ≡ true
+beside_test : every_rotation (λ r. every_axis (λ a. every_power (λ p. is_beside (face_before r (face_before_power a p U)) (face_before r (face_before_power a p F))))) ≡ true
 unfolding every_rotation every_optional_power every_axis every_power every_face
 beside_test = refl
 
-pub beside : (r : Rotation) (a : Axis) (p : Power) → is_beside (next_top r a p) (next_front r a p) ≡ true
-beside r a p =
-    at_power (λ p. is_beside (next_top r a p) (next_front r a p)) (at_axis (λ a. every_power (λ p. is_beside (next_top r a p) (next_front r a p))) (at_rotation (λ r. every_axis (λ a. every_power (λ p. is_beside (next_top r a p) (next_front r a p)))) beside_test r) a) p
+pub beside_of : (r : Rotation) (a : Axis) (p : Power) (top front : Face) → top ≡ face_before r (face_before_power a p U) → front ≡ face_before r (face_before_power a p F)
+    → is_beside top front ≡ true
+beside_of r a p top front t f = rw (t, f) (at_power _ (at_axis _ (at_rotation _ beside_test r) a) p)
 
 -- The rotation is this one and then one more.
 pub record IsNext (r : Rotation) (a : Axis) (p : Power) (n : Rotation) : Type 0 where
   pub effect : (q : Place) → effect (spelling n) q ≡ moved_by (token.Rotation a p) (effect (spelling r) q)
   pub faces : (f : Face) → face_before n f ≡ face_before r (face_before_power a p f)
 
-Follows : Rotation → Axis → Power → Option Power → Bool
-Follows r a p o =
-    implies (same_face (face_before (rotation (next_top r a p) o) F) (next_front r a p)) (every_vector (λ v. same_vector (rotated_vector (rotation (next_top r a p) o) v) (quarters a (times p) (rotated_vector r v))) && every_face (λ f. same_face (face_before (rotation (next_top r a p) o) f) (face_before r (face_before_power a p f))))
+abbrev TurnsOn : Rotation → Axis → Power → Rotation → Bool
+TurnsOn r a p n = every_vector (λ v. same_vector (rotated_vector n v) (quarters a (times p) (rotated_vector r v)))
 
-follows_test : every_rotation (λ r. every_axis (λ a. every_power (λ p. every_optional_power (λ o. Follows r a p o)))) ≡ true
-unfolding every_vector every_coord every_power every_face every_axis every_optional_power every_rotation Follows
-follows_test = refl
+abbrev RenamesOn : Rotation → Axis → Power → Rotation → Bool
+RenamesOn r a p n = every_face (λ f. same_face (face_before n f) (face_before r (face_before_power a p f)))
 
-follows : (r : Rotation) (a : Axis) (p : Power) (o : Option Power) → Follows r a p o ≡ true
-follows r a p o =
-    at_optional_power (λ o. Follows r a p o) (at_power (λ p. every_optional_power (λ o. Follows r a p o)) (at_axis (λ a. every_power (λ p. every_optional_power (λ o. Follows r a p o))) (at_rotation (λ r. every_axis (λ a. every_power (λ p. every_optional_power (λ o. Follows r a p o)))) follows_test r) a) p) o
+next_test : every_rotation (λ r. every_axis (λ a. every_power (λ p. TurnsOn r a p (next_rotation r a p) && RenamesOn r a p (next_rotation r a p)))) ≡ true
+unfolding every_vector every_coord every_power every_face every_axis every_optional_power every_rotation next_rotation
+next_test = refl
 
-pub next : (r : Rotation) (a : Axis) (p : Power) (o : Option Power) → face_before (rotation (next_top r a p) o) F ≡ next_front r a p → IsNext r a p (rotation (next_top r a p) o)
-unfolding Follows
-next r a p o e =
-    let n : Rotation = rotation (next_top r a p) o in
-    let h = by_implies _ _ (follows r a p o) (same_face_of _ _ e) in
+pub is_next : (r : Rotation) (a : Axis) (p : Power) → IsNext r a p (next_rotation r a p)
+is_next r a p =
+    let n = next_rotation r a p in
+    let h = and_parts (TurnsOn r a p n) (RenamesOn r a p n) (at_power _ (at_axis _ (at_rotation _ next_test r) a) p) in
     record {
       effect = λ q.
-          let v : (v : Vector) → rotated_vector n v ≡ quarters a (times p) (rotated_vector r v) = λ v. same_vector_is _ _ (at_vector (λ v. same_vector (rotated_vector n v) (quarters a (times p) (rotated_vector r v))) (and_left _ _ h) v) in
+          let v : (v : Vector) → rotated_vector n v ≡ quarters a (times p) (rotated_vector r v) = λ v. same_vector_is _ _ (at_vector _ h.0 v) in
           rw (effect_of_spelling n q, effect_of_spelling r q) (λ i. record { cell = v q.cell i; direction = v q.direction i });
-      faces = λ f.
-          same_face_is _ _ (at_face (λ f. same_face (face_before n f) (face_before r (face_before_power a p f))) (and_right (every_vector (λ v. same_vector (rotated_vector n v) (quarters a (times p) (rotated_vector r v)))) _ h) f);
+      faces = λ f. same_face_is _ _ (at_face _ h.1 f);
     }
 
--- what the code knows of the top, the front and the turn about the vertical axis
-pub beside_of : (r : Rotation) (a : Axis) (p : Power) (top front : Face) → top ≡ next_top r a p → front ≡ next_front r a p → is_beside top front ≡ true
-beside_of r a p top front t f = rw (t, f) (beside r a p)
-
-pub next_of : (r : Rotation) (a : Axis) (p : Power) (o : Option Power) (top front : Face) → top ≡ next_top r a p → front ≡ next_front r a p → face_before (rotation top o) F ≡ front → IsNext r a p (rotation top o)
-next_of r a p o top front t f e =
-    subst (λ (top : Face). IsNext r a p (rotation top o)) (sym t) (next r a p o (ap (λ top. face_before (rotation top o) F) (sym t) ∙ e ∙ f))
-
 -- A quarter rotation and then a turn is the renamed turn and then the rotation; so is any rotation.
-abbrev Renames : Axis → Turn → Place → Bool
-Renames a t q =
-    same_place (turned t (moved_by (token.Rotation a Quarter) q)) (moved_by (token.Rotation a Quarter) (turned (renamed_turn (face_before_power a Quarter) t) q))
-
-renames_test : every_axis (λ a. every_turn (λ t. every_place (λ q. Renames a t q))) ≡ true
+renames_test : every_axis (λ a. every_turn (λ t. every_place (λ q. same_place (turned t (moved_by (token.Rotation a Quarter) q)) (moved_by (token.Rotation a Quarter) (turned (renamed_turn (face_before_power a Quarter) t) q))))) ≡ true
 unfolding every_place every_vector every_coord every_power every_face every_axis every_turn
 renames_test = refl
 
-pub renames_quarter : (a : Axis) (t : Turn) (q : Place) → turned t (moved_by (token.Rotation a Quarter) q) ≡ moved_by (token.Rotation a Quarter) (turned (renamed_turn (face_before_power a Quarter) t) q)
-renames_quarter a t q =
-    same_place_is _ _ (at_place (λ q. Renames a t q) (at_turn (λ t. every_place (λ q. Renames a t q)) (at_axis (λ a. every_turn (λ t. every_place (λ q. Renames a t q))) renames_test a) t) q)
+renames_quarter : (a : Axis) (t : Turn) (q : Place) → turned t (moved_by (token.Rotation a Quarter) q) ≡ moved_by (token.Rotation a Quarter) (turned (renamed_turn (face_before_power a Quarter) t) q)
+renames_quarter a t q = same_place_is _ _ (at_place _ (at_turn _ (at_axis _ renames_test a) t) q)
 
 renames_half : (a : Axis) (t : Turn) (q : Place) → turned t (moved_by (token.Rotation a Half) q) ≡ moved_by (token.Rotation a Half) (turned (renamed_turn (face_before_power a Half) t) q)
 renames_half a t q =

@@ -1,107 +1,46 @@
 -- What is read is spelled.
-use Rattle.std.proofs.Common.{◌≡◌, ℕ, ◌+◌, ◌-◌, ◌<◌, ◌≤◌, Bool, true, false, cond, nat_lt, eqb, refl, ap, ap₂, sym, ◌∙◌, subst, subst₂, List, [], ◌∷◌, ◌++◌, length, flat_map, append_assoc, append-nil, Option, None, Some, Result, Ok, Err, arith, length-append}
+use Rattle.std.proofs.Common.{◌≡◌, ℕ, ◌+◌, ◌-◌, ◌<◌, ◌≤◌, Bool, true, false, cond, nat_lt, eqb, refl, ap, sym, ◌∙◌, subst, subst₂, List, [], ◌∷◌, ◌++◌, length, flat_map, append_assoc, append-nil, Option, None, Some, Result, Ok, Err, arith, length-append}
 use Rattle.std.proofs.lemmas.Bool.{ltb-true, eqb-true}
+use Rattle.std.proofs.Math.Path.{subst₃}
 use Rattle.std.proofs.lemmas.List.Concat.{flat_map-append}
 use Rattle.niss_moves.specs.Letters.{face_letter}
-use Rattle.niss_moves.specs.Notation.{token_of, base_bytes, Typographic, Plain, Suffix, Nothing, Two, Prime, TwoPrime, blank_byte}
+use Rattle.niss_moves.specs.Notation.{token_of, base_bytes, Typographic, Plain, Nothing, Two, Prime, TwoPrime, blank_byte}
 use Rattle.niss_moves.specs.Line.{Piece, Gap, Spelled, piece_bytes, piece_moves, Item, Outside, Bracket, item_bytes, item_normal, item_bracketed}
 use Rattle.niss_moves.specs.Faults.{Cut, Whole, LacksOne, LacksTwo, cut_ending, BeginsBase}
-use Rattle.niss_moves.specs.Machine.{symbol_of, State, start, outside, inside, added, settled, settled_by, opened, closed, widened, doubled, primed, cut, begun, count, with_last, fed_to, step_by, step_at, step, step_within}
-use Rattle.niss_moves.specs.declared.turn.Power.TheVariants.{Quarter, Half, Counter}
-use Rattle.niss_moves.specs.declared.token.Token.{Token}
-use Rattle.niss_moves.specs.declared.base.Base.{Base}
+use Rattle.niss_moves.specs.Machine.{symbol_of, State, start, outside, inside, settled, settled_by, opened, closed, begun, count, with_last, fed_to, step_by, step_at, step, step_within}
+use Rattle.niss_moves.specs.Names.{Quarter, Half, Counter, Token, Base, Symbol, LastMove, ReadFault, NotAMove, Nested, Unopened, Unclosed, TooLong}
 use Rattle.niss_moves.specs.declared.base.Base.TheVariants as base
-use Rattle.niss_moves.specs.declared.partial_line.LastMove.{LastMove}
 use Rattle.niss_moves.specs.declared.partial_line.LastMove.TheVariants as last
-use Rattle.niss_moves.specs.declared.symbol.Symbol.{Symbol}
 use Rattle.niss_moves.specs.declared.symbol.Symbol.TheVariants as symbol
-use Rattle.niss_moves.specs.declared.fault.ReadFault.{ReadFault}
-use Rattle.niss_moves.specs.declared.fault.ReadFault.TheVariants.{NotAMove, Nested, Unopened, Unclosed, TooLong}
-use Rattle.niss_moves.proofs.Completes.{IsReady, counted, count_more, outside_none, inside_none}
+use Rattle.niss_moves.proofs.Completes.{IsReady, state, counted, count_more, outside_none, inside_none}
 use Rattle.niss_moves.proofs.Symbols.{IsSymbol, symbol_is, symbol_of_open, symbol_of_close, first_symbol}
 
--- the bytes so far as whole items, and an open bracket with its pieces if there is one
-abbrev pub front_bytes : List Item → Option (List Piece) → List ℕ
-front_bytes items None = flat_map item_bytes items
-front_bytes items (Some ps) = flat_map item_bytes items ++ 40 ∷ flat_map piece_bytes ps
-
-abbrev pub front_bracketed : List Item → Option (List Piece) → List Token
-front_bracketed items None = flat_map item_bracketed items
-front_bracketed items (Some ps) = flat_map item_bracketed items ++ flat_map piece_moves ps
-
-abbrev pub IsBracket : Option ℕ → List Item → Option (List Piece) → Type 0
-IsBracket None items None = Unit {0}
-IsBracket (Some c) items (Some ps) = c ≡ length (flat_map item_bytes items) + 1
-IsBracket None items (Some ps) = ⊥
-IsBracket (Some c) items None = ⊥
-
-pub record WholeItems (o : Option ℕ) (bytes : List ℕ) (n b : List Token) : Type 0 where
-  pub items : List Item
-  pub inner : Option (List Piece)
-  pub bytes_are : bytes ≡ front_bytes items inner
-  pub normal_are : n ≡ flat_map item_normal items
-  pub bracketed_are : b ≡ front_bracketed items inner
-  pub bracket_is : IsBracket o items inner
+-- the bytes so far as whole items, with these moves, and an open bracket with its pieces if there is one
+pub data WholeItems : Option ℕ → List ℕ → List Token → List Token → Type 0 where
+  Closed : (items : List Item) → WholeItems None (flat_map item_bytes items) (flat_map item_normal items) (flat_map item_bracketed items)
+  Opened : (items : List Item) (ps : List Piece) → WholeItems (Some (length (flat_map item_bytes items) + 1)) (flat_map item_bytes items ++ 40 ∷ flat_map piece_bytes ps) (flat_map item_normal items) (flat_map item_bracketed items ++ flat_map piece_moves ps)
 
 flat_push : {X A : Type 0} (f : X → List A) (xs : List X) (x : X) → flat_map f (xs ++ x ∷ []) ≡ flat_map f xs ++ f x
 flat_push f xs x = flat_map-append f xs (x ∷ []) ∙ ap (λ y. flat_map f xs ++ y) (append-nil (f x))
 
 pub front_piece : (o : Option ℕ) (bytes : List ℕ) (n b : List Token) (p : Piece) → WholeItems o bytes n b → WholeItems o (bytes ++ piece_bytes p) (outside o n (piece_moves p)) (inside o b (piece_moves p))
-front_piece o bytes n b p h = by_inner o h.items h.inner h.bytes_are h.normal_are h.bracketed_are h.bracket_is
-  where
-    by_inner : (o : Option ℕ) (items : List Item) (inner : Option (List Piece)) → bytes ≡ front_bytes items inner → n ≡ flat_map item_normal items → b ≡ front_bracketed items inner → IsBracket o items inner → WholeItems o (bytes ++ piece_bytes p) (outside o n (piece_moves p)) (inside o b (piece_moves p))
-    by_inner None items None e f g k =
-        record {
-          items = items ++ Outside p ∷ [];
-          inner = None;
-          bytes_are = ap (λ x. x ++ piece_bytes p) e ∙ sym (flat_push item_bytes items (Outside p));
-          normal_are = ap (λ x. x ++ piece_moves p) f ∙ sym (flat_push item_normal items (Outside p));
-          bracketed_are = g ∙ sym (append-nil _) ∙ sym (flat_push item_bracketed items (Outside p));
-          bracket_is = tt;
-        }
-    by_inner (Some c) items (Some ps) e f g k =
-        record {
-          items = items;
-          inner = Some (ps ++ p ∷ []);
-          bytes_are = ap (λ x. x ++ piece_bytes p) e ∙ append_assoc (flat_map item_bytes items) (40 ∷ flat_map piece_bytes ps) (piece_bytes p) ∙ ap (λ x. flat_map item_bytes items ++ 40 ∷ x) (sym (flat_push piece_bytes ps p));
-          normal_are = f;
-          bracketed_are = ap (λ x. x ++ piece_moves p) g ∙ append_assoc (flat_map item_bracketed items) (flat_map piece_moves ps) (piece_moves p) ∙ ap (λ x. flat_map item_bracketed items ++ x) (sym (flat_push piece_moves ps p));
-          bracket_is = k;
-        }
-    by_inner None items (Some ps) e f g k = absurd k
-    by_inner (Some c) items None e f g k = absurd k
+front_piece o bytes n b p (Closed items) =
+    subst₃ (λ (x : List ℕ) (n b : List Token). WholeItems None x n b) (flat_push item_bytes items (Outside p)) (flat_push item_normal items (Outside p)) (flat_push item_bracketed items (Outside p) ∙ append-nil _) (Closed (items ++ Outside p ∷ []))
+front_piece o bytes n b p (Opened items ps) =
+    let bytes_are = ap (λ x. flat_map item_bytes items ++ 40 ∷ x) (flat_push piece_bytes ps p) ∙ sym (append_assoc (flat_map item_bytes items) (40 ∷ flat_map piece_bytes ps) (piece_bytes p)) in
+    let moves_are = ap (λ x. flat_map item_bracketed items ++ x) (flat_push piece_moves ps p) ∙ sym (append_assoc (flat_map item_bracketed items) (flat_map piece_moves ps) (piece_moves p)) in
+    subst₂ (λ (x : List ℕ) (b : List Token). WholeItems o x n b) bytes_are moves_are (Opened items (ps ++ p ∷ []))
 
 pub front_open : (o : Option ℕ) (c : ℕ) (bytes : List ℕ) (n b : List Token) → o ≡ None → c ≡ length bytes + 1 → WholeItems o bytes n b → WholeItems (Some c) (bytes ++ 40 ∷ []) n b
-front_open o c bytes n b none col h =
-    by_inner h.items h.inner h.bytes_are h.normal_are h.bracketed_are (subst (λ (o : Option ℕ). IsBracket o h.items h.inner) none h.bracket_is)
-  where
-    by_inner : (items : List Item) (inner : Option (List Piece)) → bytes ≡ front_bytes items inner → n ≡ flat_map item_normal items → b ≡ front_bracketed items inner → IsBracket None items inner → WholeItems (Some c) (bytes ++ 40 ∷ []) n b
-    by_inner items None e f g k =
-        record {
-          items = items;
-          inner = Some [];
-          bytes_are = ap (λ x. x ++ 40 ∷ []) e;
-          normal_are = f;
-          bracketed_are = g ∙ sym (append-nil _);
-          bracket_is = col ∙ ap (λ x. length x + 1) e;
-        }
-    by_inner items (Some ps) e f g k = absurd k
+front_open o c bytes n b none col (Closed items) =
+    subst₂ (λ (c : ℕ) (b : List Token). WholeItems (Some c) (bytes ++ 40 ∷ []) n b) (sym col) (append-nil _) (Opened items [])
+front_open o c bytes n b none col (Opened items ps) = absurd (cc)
 
 pub front_close : (o : Option ℕ) (c : ℕ) (bytes : List ℕ) (n b : List Token) → o ≡ Some c → WholeItems o bytes n b → WholeItems None (bytes ++ 41 ∷ []) n b
-front_close o c bytes n b some h =
-    by_inner h.items h.inner h.bytes_are h.normal_are h.bracketed_are (subst (λ (o : Option ℕ). IsBracket o h.items h.inner) some h.bracket_is)
-  where
-    by_inner : (items : List Item) (inner : Option (List Piece)) → bytes ≡ front_bytes items inner → n ≡ flat_map item_normal items → b ≡ front_bracketed items inner → IsBracket (Some c) items inner → WholeItems None (bytes ++ 41 ∷ []) n b
-    by_inner items (Some ps) e f g k =
-        record {
-          items = items ++ Bracket ps ∷ [];
-          inner = None;
-          bytes_are = ap (λ x. x ++ 41 ∷ []) e ∙ append_assoc (flat_map item_bytes items) (40 ∷ flat_map piece_bytes ps) (41 ∷ []) ∙ sym (flat_push item_bytes items (Bracket ps));
-          normal_are = f ∙ sym (append-nil _) ∙ sym (flat_push item_normal items (Bracket ps));
-          bracketed_are = g ∙ sym (flat_push item_bracketed items (Bracket ps));
-          bracket_is = tt;
-        }
-    by_inner items None e f g k = absurd k
+front_close o c bytes n b some (Closed items) = absurd (cc)
+front_close o c bytes n b some (Opened items ps) =
+    let bytes_are = flat_push item_bytes items (Bracket ps) ∙ sym (append_assoc (flat_map item_bytes items) (40 ∷ flat_map piece_bytes ps) (41 ∷ [])) in
+    subst₃ (λ (x : List ℕ) (n b : List Token). WholeItems None x n b) bytes_are (flat_push item_normal items (Bracket ps) ∙ append-nil _) (flat_push item_bracketed items (Bracket ps)) (Closed (items ++ Bracket ps ∷ []))
 
 -- the bytes of the last move as far as it goes
 abbrev pub two_bytes : Bool → List ℕ
@@ -127,7 +66,7 @@ pub reads_start : Reads start []
 reads_start =
     record {
       front = [];
-      is_front = record { items = []; inner = None; bytes_are = refl; normal_are = refl; bracketed_are = refl; bracket_is = tt };
+      is_front = Closed [];
       bytes_are = refl;
       fed = refl;
       room = omega arith;
@@ -138,43 +77,35 @@ cut_of (last.FirstByte b two) = LacksTwo
 cut_of (last.SecondByte b two) = LacksOne
 cut_of _ = Whole
 
-abbrev cut_suffix : Bool → Suffix
-cut_suffix true = TwoPrime Typographic
-cut_suffix false = Prime Typographic
-
 -- the bytes with the end of a cut U+2019, as whole pieces
 pub settled_front : (s : State) (bytes : List ℕ) → Reads s bytes → WholeItems s.bracket (bytes ++ cut_ending (cut_of s.last)) (settled s).normal (settled s).bracketed
 settled_front s bytes h = by_last s.last refl
   where
-    front_is : (t : LastMove) → s.last ≡ t → bytes ≡ h.front ++ last_bytes t
-    front_is t e = h.bytes_are ∙ ap (λ t. h.front ++ last_bytes t) e
+    ended : (t : LastMove) → s.last ≡ t → (p : Piece) → last_bytes t ++ cut_ending (cut_of t) ≡ piece_bytes p
+        → WholeItems s.bracket (bytes ++ cut_ending (cut_of t)) (outside s.bracket s.normal (piece_moves p)) (inside s.bracket s.bracketed (piece_moves p))
+    ended t e p same =
+        let is : bytes ++ cut_ending (cut_of t) ≡ h.front ++ piece_bytes p =
+        ap (λ x. x ++ cut_ending (cut_of t)) (h.bytes_are ∙ ap (λ t. h.front ++ last_bytes t) e) ∙ append_assoc h.front (last_bytes t) (cut_ending (cut_of t)) ∙ ap (λ x. h.front ++ x) same in
+        subst (λ (x : List ℕ). WholeItems s.bracket x (outside s.bracket s.normal (piece_moves p)) (inside s.bracket s.bracketed (piece_moves p))) (sym is) (front_piece _ _ _ _ p h.is_front)
 
     by_last : (t : LastMove) → s.last ≡ t → WholeItems s.bracket (bytes ++ cut_ending (cut_of t)) (settled_by t s).normal (settled_by t s).bracketed
     by_last last.Finished e =
-        subst (λ (x : List ℕ). WholeItems s.bracket x s.normal s.bracketed) (sym (append-nil _ ∙ (h.bytes_are ∙ ap (λ t. h.front ++ last_bytes t) e) ∙ append-nil _)) h.is_front
-    by_last (last.Bare b) e =
-        subst (λ (x : List ℕ). WholeItems s.bracket x (added s (token_of b Quarter)).normal (added s (token_of b Quarter)).bracketed) (sym (append-nil _ ∙ (h.bytes_are ∙ ap (λ t. h.front ++ last_bytes t) e) ∙ ap (λ x. h.front ++ x) (sym (append-nil (base_bytes b))))) (front_piece _ _ _ _ (Spelled b Nothing) h.is_front)
-    by_last (last.Doubled b) e =
-        subst (λ (x : List ℕ). WholeItems s.bracket x (added s (token_of b Half)).normal (added s (token_of b Half)).bracketed) (sym (append-nil _ ∙ (h.bytes_are ∙ ap (λ t. h.front ++ last_bytes t) e))) (front_piece _ _ _ _ (Spelled b Two) h.is_front)
-    by_last (last.FirstByte b true) e =
-        subst (λ (x : List ℕ). WholeItems s.bracket x (added s (token_of b Half)).normal (added s (token_of b Half)).bracketed) (sym (ap (λ x. x ++ 0x80 ∷ 0x99 ∷ []) (h.bytes_are ∙ ap (λ t. h.front ++ last_bytes t) e) ∙ simp append_assoc)) (front_piece _ _ _ _ (Spelled b (TwoPrime Typographic)) h.is_front)
-    by_last (last.FirstByte b false) e =
-        subst (λ (x : List ℕ). WholeItems s.bracket x (added s (token_of b Counter)).normal (added s (token_of b Counter)).bracketed) (sym (ap (λ x. x ++ 0x80 ∷ 0x99 ∷ []) (h.bytes_are ∙ ap (λ t. h.front ++ last_bytes t) e) ∙ simp append_assoc)) (front_piece _ _ _ _ (Spelled b (Prime Typographic)) h.is_front)
-    by_last (last.SecondByte b true) e =
-        subst (λ (x : List ℕ). WholeItems s.bracket x (added s (token_of b Half)).normal (added s (token_of b Half)).bracketed) (sym (ap (λ x. x ++ 0x99 ∷ []) (h.bytes_are ∙ ap (λ t. h.front ++ last_bytes t) e) ∙ simp append_assoc)) (front_piece _ _ _ _ (Spelled b (TwoPrime Typographic)) h.is_front)
-    by_last (last.SecondByte b false) e =
-        subst (λ (x : List ℕ). WholeItems s.bracket x (added s (token_of b Counter)).normal (added s (token_of b Counter)).bracketed) (sym (ap (λ x. x ++ 0x99 ∷ []) (h.bytes_are ∙ ap (λ t. h.front ++ last_bytes t) e) ∙ simp append_assoc)) (front_piece _ _ _ _ (Spelled b (Prime Typographic)) h.is_front)
+        subst (λ (x : List ℕ). WholeItems s.bracket x s.normal s.bracketed) (sym (append-nil _ ∙ h.bytes_are ∙ ap (λ t. h.front ++ last_bytes t) e ∙ append-nil _)) h.is_front
+    by_last (last.Bare b) e = ended (last.Bare b) e (Spelled b Nothing) refl
+    by_last (last.Doubled b) e = ended (last.Doubled b) e (Spelled b Two) (append-nil _)
+    by_last (last.FirstByte b true) e = ended (last.FirstByte b true) e (Spelled b (TwoPrime Typographic)) (simp append_assoc)
+    by_last (last.FirstByte b false) e = ended (last.FirstByte b false) e (Spelled b (Prime Typographic)) (simp append_assoc)
+    by_last (last.SecondByte b true) e = ended (last.SecondByte b true) e (Spelled b (TwoPrime Typographic)) (simp append_assoc)
+    by_last (last.SecondByte b false) e = ended (last.SecondByte b false) e (Spelled b (Prime Typographic)) (simp append_assoc)
+
+pub ready_whole : (t : LastMove) → IsReady t → cut_of t ≡ Whole
+ready_whole (last.FirstByte b two) r = absurd r
+ready_whole (last.SecondByte b two) r = absurd r
+ready_whole _ r = refl
 
 ready_front : (s : State) (bytes : List ℕ) → IsReady s.last → Reads s bytes → WholeItems s.bracket bytes (settled s).normal (settled s).bracketed
 ready_front s bytes r h =
-    subst (λ (x : List ℕ). WholeItems s.bracket x (settled s).normal (settled s).bracketed) (ap (λ c. bytes ++ cut_ending c) (whole s.last r) ∙ append-nil bytes) (settled_front s bytes h)
-  where
-    whole : (t : LastMove) → IsReady t → cut_of t ≡ Whole
-    whole last.Finished r = refl
-    whole (last.Bare b) r = refl
-    whole (last.Doubled b) r = refl
-    whole (last.FirstByte b two) r = absurd r
-    whole (last.SecondByte b two) r = absurd r
+    subst (λ (x : List ℕ). WholeItems s.bracket x (settled s).normal (settled s).bracketed) (ap (λ c. bytes ++ cut_ending c) (ready_whole s.last r) ∙ append-nil bytes) (settled_front s bytes h)
 
 abbrev pub is_open : Option ℕ → Bool
 is_open None = false
@@ -208,9 +139,6 @@ IsFollower _ = ⊥
 reported_other : (o : Bool) (byte n k : ℕ) (x : Symbol) → symbol_of byte ≡ x → IsFollower x → k ≡ n → Refusal Whole o byte n (NotAMove (k + 1))
 reported_other o byte n k x e f q =
     (ap (λ n. n + 1) q, λ h. subst IsFollower (sym e ∙ ap symbol_of h.0 ∙ symbol_of_open) f, λ h. subst IsFollower (sym e ∙ ap symbol_of h.0 ∙ symbol_of_close) f, λ h. let w = first_symbol h.0 byte h.1 h.2 in subst IsFollower (sym e ∙ w.1) f)
-
-state : List Token → List Token → Option ℕ → LastMove → ℕ → State
-state n b o t k = record { normal = n; bracketed = b; bracket = o; last = t; fed = k }
 
 front_reads : (s : State) (bytes : List ℕ) → WholeItems s.bracket bytes s.normal s.bracketed → s.last ≡ last.Finished → s.fed ≡ length bytes → count (settled s) ≤ 256 → Reads s bytes
 front_reads s bytes h e k r =
@@ -249,71 +177,25 @@ base_means o s bytes byte b r h k = chosen (nat_lt (count (settled s)) 256) refl
     chosen false e = (ap (λ n. n + 1) h.fed, (b, [], k))
 
 -- the last move goes on
-wide_means : (q : Bool) (n b : List Token) (o : Option ℕ) (t : LastMove) (k : ℕ) (bytes : List ℕ) (byte : ℕ) → symbol_of byte ≡ symbol.Wide → byte ≡ 119 → Reads (state n b o t k) bytes → Outcome Whole q bytes byte (fed_to (k + 1) (widened t (state n b o t k)))
+goes_on : (n b : List Token) (o : Option ℕ) (t u : LastMove) (k : ℕ) (bytes : List ℕ) (byte : ℕ) → Reads (state n b o t k) bytes → last_bytes t ++ byte ∷ [] ≡ last_bytes u
+    → count (settled (state n b o u (k + 1))) ≤ 256 → Reads (state n b o u (k + 1)) (bytes ++ byte ∷ [])
 unfolding state
-wide_means q n b o (last.Bare (base.Face f)) k bytes byte e x h =
+goes_on n b o t u k bytes byte h same room =
     record {
       front = h.front;
       is_front = h.is_front;
-      bytes_are = ap₂ (λ (y : List ℕ) (z : ℕ). y ++ z ∷ []) h.bytes_are x ∙ append_assoc h.front (face_letter f ∷ []) (119 ∷ []);
+      bytes_are = ap (λ x. x ++ byte ∷ []) h.bytes_are ∙ append_assoc h.front (last_bytes t) (byte ∷ []) ∙ ap (λ x. h.front ++ x) same;
       fed = fed_more _ _ _ h.fed;
-      room = omega (arith, h.room, count_more o n b (token_of (base.Face f) Quarter ∷ []), count_more o n b (token_of (base.Wide f) Quarter ∷ []));
+      room = room;
     }
-wide_means q n b o (last.Bare (base.Wide f)) k bytes byte e x h = reported_other q byte (length bytes) k symbol.Wide e tt h.fed
-wide_means q n b o (last.Bare (base.LowerCase f)) k bytes byte e x h = reported_other q byte (length bytes) k symbol.Wide e tt h.fed
-wide_means q n b o (last.Bare (base.Slice f)) k bytes byte e x h = reported_other q byte (length bytes) k symbol.Wide e tt h.fed
-wide_means q n b o (last.Bare (base.Rotation f)) k bytes byte e x h = reported_other q byte (length bytes) k symbol.Wide e tt h.fed
-wide_means q n b o last.Finished k bytes byte e x h = reported_other q byte (length bytes) k symbol.Wide e tt h.fed
-wide_means q n b o (last.Doubled f) k bytes byte e x h = reported_other q byte (length bytes) k symbol.Wide e tt h.fed
-wide_means q n b o (last.FirstByte f two) k bytes byte e x h = reported_other q byte (length bytes) k symbol.Wide e tt h.fed
-wide_means q n b o (last.SecondByte f two) k bytes byte e x h = reported_other q byte (length bytes) k symbol.Wide e tt h.fed
 
-two_means : (q : Bool) (n b : List Token) (o : Option ℕ) (t : LastMove) (k : ℕ) (bytes : List ℕ) (byte : ℕ) → symbol_of byte ≡ symbol.Two → byte ≡ 50 → Reads (state n b o t k) bytes → Outcome Whole q bytes byte (fed_to (k + 1) (doubled t (state n b o t k)))
+-- the last move is whole
+ends_so : (n b : List Token) (o : Option ℕ) (t : LastMove) (k : ℕ) (bytes : List ℕ) (byte : ℕ) (p : Piece) → Reads (state n b o t k) bytes → last_bytes t ++ byte ∷ [] ≡ piece_bytes p
+    → length (outside o n (piece_moves p)) + length (inside o b (piece_moves p)) ≤ 256 → Reads (state (outside o n (piece_moves p)) (inside o b (piece_moves p)) o last.Finished (k + 1)) (bytes ++ byte ∷ [])
 unfolding state
-two_means q n b o (last.Bare f) k bytes byte e x h =
-    record {
-      front = h.front;
-      is_front = h.is_front;
-      bytes_are = ap₂ (λ (y : List ℕ) (z : ℕ). y ++ z ∷ []) h.bytes_are x ∙ append_assoc h.front (base_bytes f) (50 ∷ []);
-      fed = fed_more _ _ _ h.fed;
-      room = omega (arith, h.room, count_more o n b (token_of f Quarter ∷ []), count_more o n b (token_of f Half ∷ []));
-    }
-two_means q n b o last.Finished k bytes byte e x h = reported_other q byte (length bytes) k symbol.Two e tt h.fed
-two_means q n b o (last.Doubled f) k bytes byte e x h = reported_other q byte (length bytes) k symbol.Two e tt h.fed
-two_means q n b o (last.FirstByte f two) k bytes byte e x h = reported_other q byte (length bytes) k symbol.Two e tt h.fed
-two_means q n b o (last.SecondByte f two) k bytes byte e x h = reported_other q byte (length bytes) k symbol.Two e tt h.fed
-
-prime_means : (q : Bool) (n b : List Token) (o : Option ℕ) (t : LastMove) (k : ℕ) (bytes : List ℕ) (byte : ℕ) → symbol_of byte ≡ symbol.Apostrophe → byte ≡ 39 → Reads (state n b o t k) bytes → Outcome Whole q bytes byte (fed_to (k + 1) (primed t (state n b o t k)))
-unfolding state
-prime_means q n b o (last.Bare f) k bytes byte e x h =
-    front_reads _ _ (subst (λ (z : List ℕ). WholeItems o z (outside o n (token_of f Counter ∷ [])) (inside o b (token_of f Counter ∷ []))) (sym (ap₂ (λ (y : List ℕ) (z : ℕ). y ++ z ∷ []) h.bytes_are x ∙ append_assoc h.front (base_bytes f) (39 ∷ []))) (front_piece _ _ _ _ (Spelled f (Prime Plain)) h.is_front)) refl (fed_more _ _ _ h.fed) (omega (arith, h.room, count_more o n b (token_of f Quarter ∷ []), count_more o n b (token_of f Counter ∷ [])))
-prime_means q n b o (last.Doubled f) k bytes byte e x h =
-    front_reads _ _ (subst (λ (z : List ℕ). WholeItems o z (outside o n (token_of f Half ∷ [])) (inside o b (token_of f Half ∷ []))) (sym (ap₂ (λ (y : List ℕ) (z : ℕ). y ++ z ∷ []) h.bytes_are x ∙ append_assoc h.front (base_bytes f ++ 50 ∷ []) (39 ∷ []) ∙ ap (λ y. h.front ++ y) (append_assoc (base_bytes f) (50 ∷ []) (39 ∷ [])))) (front_piece _ _ _ _ (Spelled f (TwoPrime Plain)) h.is_front)) refl (fed_more _ _ _ h.fed) h.room
-prime_means q n b o last.Finished k bytes byte e x h = reported_other q byte (length bytes) k symbol.Apostrophe e tt h.fed
-prime_means q n b o (last.FirstByte f two) k bytes byte e x h = reported_other q byte (length bytes) k symbol.Apostrophe e tt h.fed
-prime_means q n b o (last.SecondByte f two) k bytes byte e x h = reported_other q byte (length bytes) k symbol.Apostrophe e tt h.fed
-
-cut_means : (q : Bool) (n b : List Token) (o : Option ℕ) (t : LastMove) (k : ℕ) (bytes : List ℕ) (byte : ℕ) → symbol_of byte ≡ symbol.Cut → byte ≡ 0xE2 → Reads (state n b o t k) bytes → Outcome Whole q bytes byte (fed_to (k + 1) (cut t (state n b o t k)))
-unfolding state
-cut_means q n b o (last.Bare f) k bytes byte e x h =
-    record {
-      front = h.front;
-      is_front = h.is_front;
-      bytes_are = ap₂ (λ (y : List ℕ) (z : ℕ). y ++ z ∷ []) h.bytes_are x ∙ append_assoc h.front (base_bytes f) (0xE2 ∷ []) ∙ ap (λ y. h.front ++ (y ++ 0xE2 ∷ [])) (sym (append-nil (base_bytes f)));
-      fed = fed_more _ _ _ h.fed;
-      room = omega (arith, h.room, count_more o n b (token_of f Quarter ∷ []), count_more o n b (token_of f Counter ∷ []));
-    }
-cut_means q n b o (last.Doubled f) k bytes byte e x h =
-    record {
-      front = h.front;
-      is_front = h.is_front;
-      bytes_are = ap₂ (λ (y : List ℕ) (z : ℕ). y ++ z ∷ []) h.bytes_are x ∙ append_assoc h.front (base_bytes f ++ 50 ∷ []) (0xE2 ∷ []);
-      fed = fed_more _ _ _ h.fed;
-      room = h.room;
-    }
-cut_means q n b o last.Finished k bytes byte e x h = reported_other q byte (length bytes) k symbol.Cut e tt h.fed
-cut_means q n b o (last.FirstByte f two) k bytes byte e x h = reported_other q byte (length bytes) k symbol.Cut e tt h.fed
-cut_means q n b o (last.SecondByte f two) k bytes byte e x h = reported_other q byte (length bytes) k symbol.Cut e tt h.fed
+ends_so n b o t k bytes byte p h same room =
+    let is = ap (λ x. x ++ byte ∷ []) h.bytes_are ∙ append_assoc h.front (last_bytes t) (byte ∷ []) ∙ ap (λ x. h.front ++ x) same in
+    front_reads _ _ (subst (λ (z : List ℕ). WholeItems o z (outside o n (piece_moves p)) (inside o b (piece_moves p))) (sym is) (front_piece _ _ _ _ p h.is_front)) refl (fed_more _ _ _ h.fed) room
 
 symbol_means : (x : Symbol) (n b : List Token) (o : Option ℕ) (t : LastMove) (k : ℕ) (bytes : List ℕ) (byte : ℕ) → symbol_of byte ≡ x → IsSymbol x byte → IsReady t → Reads (state n b o t k) bytes → Outcome Whole (is_open o) bytes byte (fed_to (k + 1) (step_by 256 x (state n b o t k)))
 unfolding state
@@ -321,25 +203,26 @@ symbol_means symbol.Blank n b o t k bytes byte e i r h = blank_means _ bytes byt
 symbol_means symbol.Open n b o t k bytes byte e i r h = open_means o _ bytes byte refl r h i
 symbol_means symbol.Close n b o t k bytes byte e i r h = close_means o _ bytes byte refl r h i
 symbol_means (symbol.Base x) n b o t k bytes byte e i r h = base_means _ _ bytes byte x r h i
-symbol_means symbol.Wide n b o t k bytes byte e i r h = wide_means _ n b o t k bytes byte e i h
-symbol_means symbol.Two n b o t k bytes byte e i r h = two_means _ n b o t k bytes byte e i h
-symbol_means symbol.Apostrophe n b o t k bytes byte e i r h = prime_means _ n b o t k bytes byte e i h
-symbol_means symbol.Cut n b o t k bytes byte e i r h = cut_means _ n b o t k bytes byte e i h
-symbol_means symbol.Other n b o t k bytes byte e i r h = reported_other _ byte (length bytes) k symbol.Other e tt h.fed
+symbol_means symbol.Wide n b o (last.Bare (base.Face f)) k bytes byte e i r h =
+    goes_on n b o _ (last.Bare (base.Wide f)) k bytes byte h (ap (λ z. face_letter f ∷ z ∷ []) i) (omega (arith, h.room, count_more o n b (token_of (base.Face f) Quarter ∷ []), count_more o n b (token_of (base.Wide f) Quarter ∷ [])))
+symbol_means symbol.Two n b o (last.Bare f) k bytes byte e i r h =
+    goes_on n b o _ (last.Doubled f) k bytes byte h (ap (λ z. base_bytes f ++ z ∷ []) i) (omega (arith, h.room, count_more o n b (token_of f Quarter ∷ []), count_more o n b (token_of f Half ∷ [])))
+symbol_means symbol.Apostrophe n b o (last.Bare f) k bytes byte e i r h =
+    ends_so n b o _ k bytes byte (Spelled f (Prime Plain)) h (ap (λ z. base_bytes f ++ z ∷ []) i) (omega (arith, h.room, count_more o n b (token_of f Quarter ∷ []), count_more o n b (token_of f Counter ∷ [])))
+symbol_means symbol.Apostrophe n b o (last.Doubled f) k bytes byte e i r h =
+    ends_so n b o _ k bytes byte (Spelled f (TwoPrime Plain)) h (rw i (append_assoc (base_bytes f) (50 ∷ []) (39 ∷ []))) h.room
+symbol_means symbol.Cut n b o (last.Bare f) k bytes byte e i r h =
+    goes_on n b o _ (last.FirstByte f false) k bytes byte h (rw (i, append-nil) refl) (omega (arith, h.room, count_more o n b (token_of f Quarter ∷ []), count_more o n b (token_of f Counter ∷ [])))
+symbol_means symbol.Cut n b o (last.Doubled f) k bytes byte e i r h =
+    goes_on n b o _ (last.FirstByte f true) k bytes byte h (ap (λ z. (base_bytes f ++ 50 ∷ []) ++ z ∷ []) i) h.room
+symbol_means x n b o t k bytes byte e i r h = reported_other _ byte (length bytes) k x e tt h.fed
 
 first_means : (n b : List Token) (o : Option ℕ) (f : Base) (two : Bool) (k : ℕ) (bytes : List ℕ) (byte : ℕ) → Reads (state n b o (last.FirstByte f two) k) bytes → Outcome LacksTwo (is_open o) bytes byte (fed_to (k + 1) (step_at 256 (last.FirstByte f two) (state n b o (last.FirstByte f two) k) byte))
 unfolding state
 first_means n b o f two k bytes byte h = chosen (eqb byte 0x80) refl
   where
     chosen : (c : Bool) → eqb byte 0x80 ≡ c → Outcome LacksTwo (is_open o) bytes byte (fed_to (k + 1) (cond c (Ok (with_last (last.SecondByte f two) (state n b o (last.FirstByte f two) k))) (Err (NotAMove k))))
-    chosen true e =
-        record {
-          front = h.front;
-          is_front = h.is_front;
-          bytes_are = ap₂ (λ (y : List ℕ) (z : ℕ). y ++ z ∷ []) h.bytes_are (eqb-true _ _ e) ∙ simp append_assoc;
-          fed = fed_more _ _ _ h.fed;
-          room = h.room;
-        }
+    chosen true e = goes_on n b o _ (last.SecondByte f two) k bytes byte h (rw (eqb-true _ _ e) (simp append_assoc)) h.room
     chosen false e = ap (λ n. n + 1) h.fed
 
 pub long_enough : (front more : List ℕ) (two : Bool) (b : Base) (bytes : List ℕ) → bytes ≡ front ++ last_bytes (last.SecondByte b two) → 2 ≤ length bytes
@@ -365,8 +248,6 @@ unfolding step_within state
 step_means s bytes byte h = by_last s.normal s.bracketed s.bracket s.last s.fed h
   where
     by_last : (n b : List Token) (o : Option ℕ) (t : LastMove) (k : ℕ) → Reads (state n b o t k) bytes → Outcome (cut_of t) (is_open o) bytes byte (fed_to (k + 1) (step_at 256 t (state n b o t k) byte))
-    by_last n b o last.Finished k h = symbol_means (symbol_of byte) n b o last.Finished k bytes byte refl (symbol_is byte) tt h
-    by_last n b o (last.Bare f) k h = symbol_means (symbol_of byte) n b o (last.Bare f) k bytes byte refl (symbol_is byte) tt h
-    by_last n b o (last.Doubled f) k h = symbol_means (symbol_of byte) n b o (last.Doubled f) k bytes byte refl (symbol_is byte) tt h
     by_last n b o (last.FirstByte f two) k h = first_means n b o f two k bytes byte h
     by_last n b o (last.SecondByte f two) k h = second_means n b o f two k bytes byte h
+    by_last n b o t k h = symbol_means (symbol_of byte) n b o t k bytes byte refl (symbol_is byte) tt h

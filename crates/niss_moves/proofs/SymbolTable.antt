@@ -4,7 +4,7 @@ use Rattle.std.specs.List.{range_with_len}
 use Rattle.std.proofs.lemmas.List.FromFn.{get_or-map-range_with_len}
 use Rattle.niss_moves.specs.Machine.{symbol_of}
 use Rattle.niss_moves.specs.declared.symbol.TheConstants.{SYMBOLS}
-use Rattle.niss_moves.specs.declared.symbol.Symbol.{Symbol}
+use Rattle.niss_moves.specs.Names.{Symbol}
 
 symbols_are : SYMBOLS ≡ map symbol_of (range_with_len 0 256)
 unfolding symbol_of

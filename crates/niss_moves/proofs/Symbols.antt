@@ -4,53 +4,35 @@ use Rattle.std.proofs.lemmas.Bool.{eqb-true}
 use Rattle.niss_moves.specs.Letters.{face_letter}
 use Rattle.niss_moves.specs.Notation.{lower_letter, slice_letter, rotation_letter, base_bytes, Blank, Space, Tab, Return, blank_byte}
 use Rattle.niss_moves.specs.Machine.{Entry, bytes_of_a_line, look_up, symbol_of}
-use Rattle.niss_moves.specs.declared.turn.Face.{Face}
-use Rattle.niss_moves.specs.declared.turn.Face.TheVariants.{U, D, R, L, F, B}
-use Rattle.niss_moves.specs.declared.token.Slice.{Slice}
-use Rattle.niss_moves.specs.declared.token.Slice.TheVariants.{M, E, S}
-use Rattle.niss_moves.specs.declared.axis.Axis.{Axis}
-use Rattle.niss_moves.specs.declared.axis.Axis.TheVariants.{Ud, Rl, Fb}
-use Rattle.niss_moves.specs.declared.base.Base.{Base}
+use Rattle.niss_moves.specs.Names.{Face, U, Axis, Rl, Slice, M, Base, Symbol}
 use Rattle.niss_moves.specs.declared.base.Base.TheVariants as base
-use Rattle.niss_moves.specs.declared.symbol.Symbol.{Symbol}
 use Rattle.niss_moves.specs.declared.symbol.Symbol.TheVariants as symbol
 
 -- what each byte is
 pub symbol_of_face : (f : Face) → symbol_of (face_letter f) ≡ symbol.Base (base.Face f)
 unfolding symbol_of
 symbol_of_face U = refl
-symbol_of_face D = refl
-symbol_of_face R = refl
-symbol_of_face L = refl
-symbol_of_face F = refl
-symbol_of_face B = refl
+symbol_of_face _ = refl
 
 pub symbol_of_lower : (f : Face) → symbol_of (lower_letter f) ≡ symbol.Base (base.LowerCase f)
 unfolding symbol_of
 symbol_of_lower U = refl
-symbol_of_lower D = refl
-symbol_of_lower R = refl
-symbol_of_lower L = refl
-symbol_of_lower F = refl
-symbol_of_lower B = refl
+symbol_of_lower _ = refl
 
 pub symbol_of_slice : (l : Slice) → symbol_of (slice_letter l) ≡ symbol.Base (base.Slice l)
 unfolding symbol_of
 symbol_of_slice M = refl
-symbol_of_slice E = refl
-symbol_of_slice S = refl
+symbol_of_slice _ = refl
 
 pub symbol_of_rotation : (a : Axis) → symbol_of (rotation_letter a) ≡ symbol.Base (base.Rotation a)
 unfolding symbol_of
 symbol_of_rotation Rl = refl
-symbol_of_rotation Ud = refl
-symbol_of_rotation Fb = refl
+symbol_of_rotation _ = refl
 
 pub symbol_of_blank : (b : Blank) → symbol_of (blank_byte b) ≡ symbol.Blank
 unfolding symbol_of
 symbol_of_blank Space = refl
-symbol_of_blank Tab = refl
-symbol_of_blank Return = refl
+symbol_of_blank _ = refl
 
 pub symbol_of_open : symbol_of 40 ≡ symbol.Open
 unfolding symbol_of

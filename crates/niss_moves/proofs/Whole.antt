@@ -6,18 +6,14 @@ use Rattle.std.proofs.Math.Seq.{take-append_seam, take-append-add, get_or-append
 use Rattle.niss_moves.specs.Line.{Gap, Spelled, piece_bytes, Piece, item_bytes, Spells, IsLine}
 use Rattle.niss_moves.specs.Faults.{has_no_bracket, Cut, Whole, LacksOne, LacksTwo, cut_ending, cut_length, bracket_ending, Continues, CanContinue, StopsAt, EndsEarly, OpensAt, Stops, Lacks}
 use Rattle.niss_moves.specs.Machine.{State, start, settled, step, and_then, run}
-use Rattle.niss_moves.specs.Notation.{base_bytes, Plain, Typographic, Suffix, Nothing, Two, Prime, TwoPrime, suffix_bytes, Space, Tab, Return}
-use Rattle.niss_moves.specs.declared.base.Base.{Base}
+use Rattle.niss_moves.specs.Notation.{base_bytes, Plain, Suffix, Prime, TwoPrime, suffix_bytes, Space}
+use Rattle.niss_moves.specs.Names.{Token, Base, LastMove, ReadFault, NotAMove, Nested, Unopened, Unclosed, TooLong}
 use Rattle.niss_moves.specs.declared.base.Base.TheVariants as base
 use Rattle.niss_moves.proofs.Finite.{every_face, at_face, every_slice, at_slice, every_axis, at_axis}
 use Rattle.niss_moves.proofs.Logic.{and_both, and_left, and_right}
-use Rattle.niss_moves.specs.declared.token.Token.{Token}
-use Rattle.niss_moves.specs.declared.partial_line.LastMove.{LastMove}
 use Rattle.niss_moves.specs.declared.partial_line.LastMove.TheVariants as last
-use Rattle.niss_moves.specs.declared.fault.ReadFault.{ReadFault}
-use Rattle.niss_moves.specs.declared.fault.ReadFault.TheVariants.{NotAMove, Nested, Unopened, Unclosed, TooLong}
 use Rattle.niss_moves.proofs.Completes.{IsReady, run-append, completes}
-use Rattle.niss_moves.proofs.Sound.{last_bytes, WholeItems, front_bytes, front_bracketed, front_close, IsBracket, Reads, reads_start, settled_front, cut_of, is_open, Refusal, Outcome, step_means}
+use Rattle.niss_moves.proofs.Sound.{last_bytes, WholeItems, Closed, Opened, front_close, Reads, reads_start, settled_front, cut_of, is_open, Refusal, Outcome, step_means}
 
 -- the state after more bytes
 reads_run : (more bytes : List ℕ) (s t : State) → Reads s bytes → run s more ≡ Ok t → Reads t (bytes ++ more)
@@ -36,12 +32,7 @@ reads_all bytes s e = reads_run bytes [] start s reads_start e
 
 -- whole items spell a line
 front_spells : (bytes : List ℕ) (n b : List Token) → WholeItems None bytes n b → Spells bytes n b
-front_spells bytes n b h = by_inner h.inner h.bytes_are h.bracketed_are h.bracket_is
-  where
-    by_inner : (inner : Option (List Piece)) → bytes ≡ front_bytes h.items inner → b ≡ front_bracketed h.items inner → IsBracket None h.items inner → Spells bytes n b
-    by_inner None e g k =
-        record { items = h.items; bytes_are = e; normal_are = h.normal_are; bracketed_are = g }
-    by_inner (Some ps) e g k = absurd k
+front_spells bytes n b (Closed items) = record { items = items; bytes_are = refl; normal_are = refl; bracketed_are = refl }
 
 closed_front : (o : Option ℕ) (bytes : List ℕ) (n b : List Token) → WholeItems o bytes n b → WholeItems None (bytes ++ bracket_ending (is_open o)) n b
 closed_front None bytes n b h = subst (λ (x : List ℕ). WholeItems None x n b) (sym (append-nil bytes)) h
@@ -104,19 +95,11 @@ reported_stops Whole o byte n bytes (Unopened col) t h =
     subst₃ (λ (x y : ℕ) (z : Bool). StopsAt bytes x Whole z y) (sym t.0) t.1 t.2 h
 reported_stops Whole o byte n bytes (TooLong col) t h =
     (byte, o, t.1, subst (λ (x : ℕ). StopsAt bytes x Whole o byte) (sym t.0) h)
-reported_stops Whole o byte n bytes (Unclosed col) t h = absurd t
 reported_stops LacksOne o byte n bytes (NotAMove col) t h =
     inr (byte, o, LacksOne, omega arith, subst (λ (x : ℕ). StopsAt bytes x LacksOne o byte) (sym t) h)
 reported_stops LacksTwo o byte n bytes (NotAMove col) t h =
     inr (byte, o, LacksTwo, omega arith, subst (λ (x : ℕ). StopsAt bytes x LacksTwo o byte) (sym t) h)
-reported_stops LacksOne o byte n bytes (Nested col) t h = absurd t
-reported_stops LacksOne o byte n bytes (Unopened col) t h = absurd t
-reported_stops LacksOne o byte n bytes (TooLong col) t h = absurd t
-reported_stops LacksOne o byte n bytes (Unclosed col) t h = absurd t
-reported_stops LacksTwo o byte n bytes (Nested col) t h = absurd t
-reported_stops LacksTwo o byte n bytes (Unopened col) t h = absurd t
-reported_stops LacksTwo o byte n bytes (TooLong col) t h = absurd t
-reported_stops LacksTwo o byte n bytes (Unclosed col) t h = absurd t
+reported_stops _ o byte n bytes _ t h = absurd t
 
 pub step_stops : (front rest : List ℕ) (byte : ℕ) (s : State) (f : ReadFault) → run start front ≡ Ok s → step s byte ≡ Err f → Stops (front ++ byte ∷ rest) f
 step_stops front rest byte s f e g =
@@ -189,12 +172,9 @@ no_bracket_base (base.Slice l) = at_slice (λ l. has_no_bracket (base_bytes (bas
 no_bracket_base (base.Rotation a) = at_axis (λ a. has_no_bracket (base_bytes (base.Rotation a))) refl a
 
 no_bracket_suffix : (s : Suffix) → has_no_bracket (suffix_bytes s) ≡ true
-no_bracket_suffix Nothing = refl
-no_bracket_suffix Two = refl
 no_bracket_suffix (Prime Plain) = refl
-no_bracket_suffix (Prime Typographic) = refl
 no_bracket_suffix (TwoPrime Plain) = refl
-no_bracket_suffix (TwoPrime Typographic) = refl
+no_bracket_suffix _ = refl
 
 no_bracket_append : (a b : List ℕ) → has_no_bracket a ≡ true → has_no_bracket b ≡ true → has_no_bracket (a ++ b) ≡ true
 no_bracket_append [] b p q = q
@@ -204,8 +184,7 @@ no_bracket_append (x ∷ a) b p q =
 no_bracket_pieces : (ps : List Piece) → has_no_bracket (flat_map piece_bytes ps) ≡ true
 no_bracket_pieces [] = refl
 no_bracket_pieces (Gap Space ∷ ps) = no_bracket_pieces ps
-no_bracket_pieces (Gap Tab ∷ ps) = no_bracket_pieces ps
-no_bracket_pieces (Gap Return ∷ ps) = no_bracket_pieces ps
+no_bracket_pieces (Gap _ ∷ ps) = no_bracket_pieces ps
 no_bracket_pieces (Spelled b s ∷ ps) =
     no_bracket_append (base_bytes b ++ suffix_bytes s) _ (no_bracket_append (base_bytes b) _ (no_bracket_base b) (no_bracket_suffix s)) (no_bracket_pieces ps)
 
@@ -218,14 +197,14 @@ no_bracket_last (last.FirstByte b false) = no_bracket_append (base_bytes b ++ []
 no_bracket_last (last.SecondByte b true) = no_bracket_append (base_bytes b ++ 50 ∷ []) _ (no_bracket_append (base_bytes b) _ (no_bracket_base b) refl) refl
 no_bracket_last (last.SecondByte b false) = no_bracket_append (base_bytes b ++ []) _ (no_bracket_append (base_bytes b) _ (no_bracket_base b) refl) refl
 
+opens_front : (o : Option ℕ) (front rest : List ℕ) (n b : List Token) (c : ℕ) → WholeItems o front n b → o ≡ Some c → has_no_bracket rest ≡ true → OpensAt (front ++ rest) c
+opens_front o front rest n b c (Closed items) e h = absurd (cc)
+opens_front o front rest n b c (Opened items ps) e h =
+    (flat_map item_bytes items, flat_map piece_bytes ps ++ rest, append_assoc (flat_map item_bytes items) (40 ∷ flat_map piece_bytes ps) rest, no_bracket_append (flat_map piece_bytes ps) _ (no_bracket_pieces ps) h, (let k : c ≡ length (flat_map item_bytes items) + 1 = cc in k))
+
 pub opens_at : (bytes : List ℕ) (s : State) (c : ℕ) → Reads s bytes → s.bracket ≡ Some c → OpensAt bytes c
 opens_at bytes s c h o =
-    by_inner h.is_front.inner h.is_front.bytes_are (subst (λ (o : Option ℕ). IsBracket o h.is_front.items h.is_front.inner) o h.is_front.bracket_is)
-  where
-    by_inner : (inner : Option (List Piece)) → h.front ≡ front_bytes h.is_front.items inner → IsBracket (Some c) h.is_front.items inner → OpensAt bytes c
-    by_inner None e k = absurd k
-    by_inner (Some ps) e k =
-        (flat_map item_bytes h.is_front.items, flat_map piece_bytes ps ++ last_bytes s.last, h.bytes_are ∙ ap (λ x. x ++ last_bytes s.last) e ∙ append_assoc (flat_map item_bytes h.is_front.items) (40 ∷ flat_map piece_bytes ps) (last_bytes s.last), no_bracket_append (flat_map piece_bytes ps) _ (no_bracket_pieces ps) (no_bracket_last s.last), k)
+    subst (λ (x : List ℕ). OpensAt x c) (sym h.bytes_are) (opens_front s.bracket h.front (last_bytes s.last) s.normal s.bracketed c h.is_front o (no_bracket_last s.last))
 
 -- the faults of the end
 pub lacks_bracket : (bytes : List ℕ) (s : State) (c : ℕ) → run start bytes ≡ Ok s → cut_of s.last ≡ Whole → s.bracket ≡ Some c → Lacks bytes (Unclosed c)

@@ -1,11 +1,7 @@
 -- Canonical sequences of face turns, and all of them of one length.
 use Rattle.std.specs.Prelude.{ℕ, zero, suc, Bool, true, not, ◌&&◌, ◌||◌, ◌-◌, List, [], ◌∷◌, ◌++◌, map, filter, flat_map, length, slice_get, Option, None, Some, IsTrue}
 use Rattle.niss_moves.specs.Turn.{opposite, same_face, goes_first}
-use Rattle.niss_moves.specs.declared.turn.Face.{Face}
-use Rattle.niss_moves.specs.declared.turn.Face.TheVariants.{U, D, R, L, F, B}
-use Rattle.niss_moves.specs.declared.turn.Power.{Power}
-use Rattle.niss_moves.specs.declared.turn.Power.TheVariants.{Quarter, Half, Counter}
-use Rattle.niss_moves.specs.declared.turn.Turn.{Turn}
+use Rattle.niss_moves.specs.Names.{Face, U, D, R, L, F, B, Power, Quarter, Half, Counter, Turn}
 
 -- May a turn of the second face stand directly after one of the first? They are two faces, and of two opposite ones
 -- U, R or F is first.

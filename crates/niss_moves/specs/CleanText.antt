@@ -2,9 +2,8 @@
 use Rattle.std.specs.Prelude.{ℕ, List, [], ◌∷◌, ◌++◌, map}
 use Rattle.niss_moves.specs.Rotations.{spelling}
 use Rattle.niss_moves.specs.Text.{word, with_word, with_words}
-use Rattle.niss_moves.specs.declared.turn.Turn.{Turn}
+use Rattle.niss_moves.specs.Names.{Turn, Rotation}
 use Rattle.niss_moves.specs.declared.token.Token.TheVariants as token
-use Rattle.niss_moves.specs.declared.rotation.Rotation.{Rotation}
 
 abbrev pub turn_words : List Turn → List (List ℕ)
 turn_words ts = map (λ t. word (token.Face t)) ts

@@ -13,11 +13,7 @@ use Rattle.niss_moves.specs.RewritingLaws.{disorder}
 use Rattle.niss_moves.specs.Line.{Moves}
 use Rattle.niss_moves.specs.CleanText.{cleaned_words, with_bracket}
 use Rattle.niss_moves.specs.Text.{with_words}
-use Rattle.niss_moves.specs.declared.turn.Face.TheVariants.{U}
-use Rattle.niss_moves.specs.declared.turn.Power.TheVariants.{Quarter, Half, Counter}
-use Rattle.niss_moves.specs.declared.turn.Turn.{Turn}
-use Rattle.niss_moves.specs.declared.token.Token.{Token}
-use Rattle.niss_moves.specs.declared.rotation.Rotation.{Rotation}
+use Rattle.niss_moves.specs.Names.{U, Quarter, Half, Counter, Turn, Token, Rotation}
 
 abbrev pub after_first : Turn → Option (List Turn) → Option (List Turn)
 after_first t None = None

@@ -4,8 +4,7 @@ use Rattle.niss_moves.specs.Places.{Place, IsPlace, SameMap}
 use Rattle.niss_moves.specs.Facelets.{places}
 use Rattle.niss_moves.specs.Letters.{letters}
 use Rattle.niss_moves.specs.Effects.{effect, effect_of_turns, moved_by, inverse, HasMeaning}
-use Rattle.niss_moves.specs.declared.turn.Turn.{Turn}
-use Rattle.niss_moves.specs.declared.token.Token.{Token}
+use Rattle.niss_moves.specs.Names.{Turn, Token}
 use Rattle.niss_moves.specs.declared.token.Token.TheVariants as token
 
 -- A move brings places to places.

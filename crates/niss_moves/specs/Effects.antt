@@ -1,16 +1,7 @@
 -- What moves do to the sticker places (WCA Regulations, article 12; slices by common usage).
 use Rattle.std.specs.Prelude.{◌≡◌, ℕ, zero, suc, ◌*◌, ◌%◌, Bool, true, not, if◌then◌else◌, List, [], ◌∷◌, map, reverse}
 use Rattle.niss_moves.specs.Places.{Coord, negated, is_negative, is_zero, is_positive, Vector, Place, along}
-use Rattle.niss_moves.specs.declared.turn.Face.{Face}
-use Rattle.niss_moves.specs.declared.turn.Face.TheVariants.{U, D, R, L, F, B}
-use Rattle.niss_moves.specs.declared.turn.Power.{Power}
-use Rattle.niss_moves.specs.declared.turn.Power.TheVariants.{Quarter, Half, Counter}
-use Rattle.niss_moves.specs.declared.turn.Turn.{Turn}
-use Rattle.niss_moves.specs.declared.token.Slice.{Slice}
-use Rattle.niss_moves.specs.declared.token.Slice.TheVariants.{M, E, S}
-use Rattle.niss_moves.specs.declared.axis.Axis.{Axis}
-use Rattle.niss_moves.specs.declared.axis.Axis.TheVariants.{Rl, Ud, Fb}
-use Rattle.niss_moves.specs.declared.token.Token.{Token}
+use Rattle.niss_moves.specs.Names.{Face, U, D, R, L, F, B, Power, Quarter, Half, Counter, Turn, Axis, Ud, Rl, Fb, Slice, M, E, S, Token}
 use Rattle.niss_moves.specs.declared.token.Token.TheVariants as token
 
 -- one quarter about an axis, clockwise as seen from its positive end

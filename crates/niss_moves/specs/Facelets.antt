@@ -1,8 +1,7 @@
 -- The facelets of the six faces, and the 54 places in the order of the facelet text (as Kociemba's facelet level has it).
 use Rattle.std.specs.Prelude.{ℕ, zero, suc, ◌-◌, ◌/◌, ◌%◌, List, [], ◌∷◌, ◌++◌, map}
 use Rattle.niss_moves.specs.Places.{Coord, Neg, Zero, Pos, negated, Vector, Place}
-use Rattle.niss_moves.specs.declared.turn.Face.{Face}
-use Rattle.niss_moves.specs.declared.turn.Face.TheVariants.{U, D, R, L, F, B}
+use Rattle.niss_moves.specs.Names.{Face, U, D, R, L, F, B}
 
 -- the cell of a face at a column from left to right and a row from top to bottom
 abbrev pub face_cell : Face → (column row : Coord) → Vector

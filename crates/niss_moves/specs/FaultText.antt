@@ -1,7 +1,6 @@
 -- What a fault is called, and its column.
 use Rattle.std.specs.Prelude.{ℕ, List, codes}
-use Rattle.niss_moves.specs.declared.fault.ReadFault.{ReadFault}
-use Rattle.niss_moves.specs.declared.fault.ReadFault.TheVariants.{NotAMove, Nested, Unopened, Unclosed, TooLong}
+use Rattle.niss_moves.specs.Names.{ReadFault, NotAMove, Nested, Unopened, Unclosed, TooLong}
 
 abbrev pub fault_column : ReadFault → ℕ
 fault_column (NotAMove column) = column

@@ -2,9 +2,7 @@
 use Rattle.std.specs.Prelude.{◌≡◌, ℕ, ◌+◌, ◌-◌, ◌<◌, ◌≤◌, Bool, true, false, List, [], ◌∷◌, ◌++◌, length, take, slice_index, ◌⊎◌, ◌==◌, ◌||◌, ◌&&◌, not, IsTrue}
 use Rattle.niss_moves.specs.Line.{IsLine}
 use Rattle.niss_moves.specs.Notation.{base_bytes}
-use Rattle.niss_moves.specs.declared.base.Base.{Base}
-use Rattle.niss_moves.specs.declared.fault.ReadFault.{ReadFault}
-use Rattle.niss_moves.specs.declared.fault.ReadFault.TheVariants.{NotAMove, Nested, Unopened, Unclosed, TooLong}
+use Rattle.niss_moves.specs.Names.{Base, ReadFault, NotAMove, Nested, Unopened, Unclosed, TooLong}
 
 -- what a cut U+2019 still lacks: nothing where there is none, one byte or two
 pub data Cut : Type 0 where

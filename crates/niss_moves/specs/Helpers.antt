@@ -2,13 +2,8 @@
 use Rattle.std.specs.Prelude.{ℕ, Bool, true, false, not, ◌&&◌, List, [], ◌∷◌, slice_index_or, if◌then◌else◌, Option, None, Some}
 use Rattle.niss_moves.specs.Turn.{opposite, same_face}
 use Rattle.niss_moves.specs.Cleaning.{sum_of_turns}
-use Rattle.niss_moves.specs.declared.turn.Face.{Face}
+use Rattle.niss_moves.specs.Names.{Face, U, R, F, B, Power, Quarter, Half, Counter, Turn, Rotation}
 use Rattle.niss_moves.specs.Rotations.{face_before_top}
-use Rattle.niss_moves.specs.declared.turn.Face.TheVariants.{U, R, F, B}
-use Rattle.niss_moves.specs.declared.turn.Power.{Power}
-use Rattle.niss_moves.specs.declared.turn.Power.TheVariants.{Quarter, Half, Counter}
-use Rattle.niss_moves.specs.declared.turn.Turn.{Turn}
-use Rattle.niss_moves.specs.declared.rotation.Rotation.{Rotation}
 use Rattle.niss_moves.specs.declared.faces.MoveTurns.{MoveTurns}
 use Rattle.niss_moves.specs.declared.faces.MoveTurns.TheVariants.{NoTurn, One, Two}
 

@@ -3,8 +3,7 @@
 use Rattle.std.specs.Prelude.{ℕ, List, [], ◌∷◌, map, if◌then◌else◌}
 use Rattle.niss_moves.specs.Places.{Place, same_place, same_vector}
 use Rattle.niss_moves.specs.Facelets.{places, outward}
-use Rattle.niss_moves.specs.declared.turn.Face.{Face}
-use Rattle.niss_moves.specs.declared.turn.Face.TheVariants.{U, D, R, L, F, B}
+use Rattle.niss_moves.specs.Names.{Face, U, D, R, L, F, B}
 
 -- `U D R L F B`
 abbrev pub face_letter : Face → ℕ

@@ -1,8 +1,7 @@
 -- Which bytes spell a line of moves.
 use Rattle.std.specs.Prelude.{◌≡◌, ℕ, ◌+◌, ◌≤◌, List, [], ◌∷◌, ◌++◌, flat_map, length}
 use Rattle.niss_moves.specs.Notation.{token_of, base_bytes, Suffix, suffix_bytes, suffix_power, Blank, blank_byte}
-use Rattle.niss_moves.specs.declared.base.Base.{Base}
-use Rattle.niss_moves.specs.declared.token.Token.{Token}
+use Rattle.niss_moves.specs.Names.{Token, Base}
 
 -- a blank, or a move as it is spelled: a base and then a suffix, with nothing between
 pub data Piece : Type 0 where

@@ -4,21 +4,11 @@ use Rattle.std.specs.Prelude.{ℕ, ◌+◌, ◌-◌, ◌≤◌, Bool, true, fals
 use Rattle.niss_moves.specs.Letters.{face_letter}
 use Rattle.niss_moves.specs.Notation.{token_of, lower_letter, slice_letter, rotation_letter, blank_byte, Space, Tab, Return}
 use Rattle.niss_moves.specs.Line.{Moves}
-use Rattle.niss_moves.specs.declared.turn.Face.TheVariants.{U, D, R, L, F, B}
-use Rattle.niss_moves.specs.declared.turn.Power.{Power}
-use Rattle.niss_moves.specs.declared.turn.Power.TheVariants.{Quarter, Half, Counter}
-use Rattle.niss_moves.specs.declared.token.Slice.TheVariants.{M, E, S}
-use Rattle.niss_moves.specs.declared.axis.Axis.TheVariants.{Ud, Rl, Fb}
-use Rattle.niss_moves.specs.declared.token.Token.{Token}
-use Rattle.niss_moves.specs.declared.base.Base.{Base}
-use Rattle.niss_moves.specs.declared.base.Base.TheVariants as base
-use Rattle.niss_moves.specs.declared.symbol.Symbol.{Symbol}
-use Rattle.niss_moves.specs.declared.symbol.Symbol.TheVariants as symbol
-use Rattle.niss_moves.specs.declared.partial_line.LastMove.{LastMove}
-use Rattle.niss_moves.specs.declared.partial_line.LastMove.TheVariants as last
+use Rattle.niss_moves.specs.Names.{U, D, R, L, F, B, Power, Quarter, Half, Counter, Ud, Rl, Fb, M, E, S, Token, Base, Symbol, LastMove, ReadFault, NotAMove, Nested, Unopened, Unclosed, TooLong}
 use Rattle.niss_moves.specs.declared.partial_line.PartialLine.{PartialLine}
-use Rattle.niss_moves.specs.declared.fault.ReadFault.{ReadFault}
-use Rattle.niss_moves.specs.declared.fault.ReadFault.TheVariants.{NotAMove, Nested, Unopened, Unclosed, TooLong}
+use Rattle.niss_moves.specs.declared.base.Base.TheVariants as base
+use Rattle.niss_moves.specs.declared.symbol.Symbol.TheVariants as symbol
+use Rattle.niss_moves.specs.declared.partial_line.LastMove.TheVariants as last
 
 pub record Entry : Type 0 where
   pub byte : ℕ

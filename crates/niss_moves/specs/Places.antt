@@ -1,7 +1,6 @@
 -- The 54 sticker places of the cube, by geometry: x to the right, y up, z towards the viewer.
 use Rattle.std.specs.Prelude.{◌≡◌, Bool, true, false, not, ◌&&◌, ◌||◌, IsTrue}
-use Rattle.niss_moves.specs.declared.axis.Axis.{Axis}
-use Rattle.niss_moves.specs.declared.axis.Axis.TheVariants.{Ud, Rl, Fb}
+use Rattle.niss_moves.specs.Names.{Axis, Ud, Rl, Fb}
 
 -- a coordinate of a cell, or of a direction: -1, 0 or 1
 pub data Coord : Type 0 where

@@ -2,7 +2,7 @@
 use Rattle.std.specs.Prelude.{◌≡◌, ℕ, List, ◌++◌, length, Option, Result, Ok}
 use Rattle.niss_moves.specs.Line.{Moves}
 use Rattle.niss_moves.specs.Machine.{State, state_or, start, answer_after}
-use Rattle.niss_moves.specs.declared.fault.ReadFault.{ReadFault}
+use Rattle.niss_moves.specs.Names.{ReadFault}
 
 -- The moves that the bytes spell, where they spell at most 256, and else the fault of the line. `LineIsSpelled` and
 -- `LineIsFaulty` of the module ReadingLaws say which these are; how they are found is nothing to a caller.

@@ -5,8 +5,7 @@ use Rattle.niss_moves.specs.Faults.{Faults, Cut, Continues}
 use Rattle.niss_moves.specs.Line.{Moves, Spells, IsLine}
 use Rattle.niss_moves.specs.Reader.{read_line}
 use Rattle.niss_moves.specs.Text.{word, with_words}
-use Rattle.niss_moves.specs.declared.token.Token.{Token}
-use Rattle.niss_moves.specs.declared.fault.ReadFault.{ReadFault}
+use Rattle.niss_moves.specs.Names.{Token, ReadFault}
 
 -- A line has one reading.
 abbrev pub OneReading : Type 0

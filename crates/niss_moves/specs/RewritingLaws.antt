@@ -8,13 +8,8 @@ use Rattle.niss_moves.specs.Rotations.{spelling, face_before, face_before_power,
 use Rattle.niss_moves.specs.Faces.{expanded, token_of_basic, faces}
 use Rattle.niss_moves.specs.Canonical.{may_follow, last_turn, IsCanonical, all_canonical}
 use Rattle.niss_moves.specs.Cleaning.{IsRewriting, Cleans}
-use Rattle.niss_moves.specs.declared.axis.Axis.{Axis}
-use Rattle.niss_moves.specs.declared.turn.Face.{Face}
-use Rattle.niss_moves.specs.declared.turn.Power.{Power}
-use Rattle.niss_moves.specs.declared.turn.Turn.{Turn}
-use Rattle.niss_moves.specs.declared.token.Token.{Token}
+use Rattle.niss_moves.specs.Names.{Face, Power, Turn, Axis, Token, Rotation}
 use Rattle.niss_moves.specs.declared.token.Token.TheVariants as token
-use Rattle.niss_moves.specs.declared.rotation.Rotation.{Rotation}
 
 -- Two rotations that move the six centres alike are the same one, with one spelling.
 abbrev pub OneSpelling : Type 0

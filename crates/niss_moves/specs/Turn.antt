@@ -1,8 +1,6 @@
 -- Faces and face turns.
 use Rattle.std.specs.Prelude.{Bool, true, false}
-use Rattle.niss_moves.specs.declared.turn.Face.{Face}
-use Rattle.niss_moves.specs.declared.turn.Face.TheVariants.{U, D, R, L, F, B}
-use Rattle.niss_moves.specs.declared.turn.Turn.{Turn}
+use Rattle.niss_moves.specs.Names.{Face, U, D, R, L, F, B, Turn}
 use Rattle.niss_moves.specs.Effects.{inverse_power}
 
 abbrev pub opposite : Face → Face

@@ -7,7 +7,7 @@ use crate::token::{Slice, Token};
 use crate::turn::{Face, Power, Turn};
 
 /// A move without its suffix, as it is written: `R`, `Rw`, `r`, `M`, `x`.
-#[derive(Clone, Copy, Debug, PartialEq, Eq)]
+#[derive(Clone, Copy)]
 pub enum Base {
     Face(Face),
     Wide(Face),

@@ -7,6 +7,7 @@ ghost use Rattle.niss_moves.specs.Rotations.{spelling, IsRotationOf};
 ghost use Rattle.niss_moves.specs.Faces.{faces};
 ghost use Rattle.niss_moves.specs.Canonical.{face_may_follow, last_turn, IsCanonical};
 ghost use Rattle.niss_moves.specs.Cleaning.{sum_of_powers, sum_of_turns, Cleans};
+ghost use Rattle.niss_moves.specs.CleanedLine.{clean_turns, rotation_left};
 ghost use Rattle.niss_moves.specs.Helpers.{list_with_turn, turns_in};
 
 use crate::canonical::allowed;
@@ -126,9 +127,9 @@ pub(crate) fn clean_into(tokens: &[Token], turns: &mut Faces) -> Rotation
     requires moves { length tokens.now ≤ 256 }
     requires empty { turns.old.items ≡ [] }
     ensures len { array_vec_len turns.new ≤ 2 * length tokens.now }
-    ensures clean { Cleans (faces tokens.now) turns.new.items }
+    ensures turns { turns.new.items ≡ clean_turns (faces tokens.now) }
     ensures canonical { IsCanonical turns.new.items }
-    ensures rotation { IsRotationOf tokens.now result }
+    ensures rotation { result ≡ rotation_left tokens.now }
 {
     let mut rotation = HeldRotation::new();
     for token in tokens {

@@ -2,7 +2,7 @@
 ghost use Rattle.niss_moves.specs.EffectLaws.{PlacesStay, PlacesAreListed, PlacesDiffer, PlacesAre54, InverseUndoes, InverseIsUndone, EffectsCompose, TurnsAreMoves, OneMeaning, SameLetters};
 
 /// A move brings places to places.
-#[tactic(auto, using(crate::proofs::Stays::places_stay))]
+#[tactic(auto, using(crate::proofs::Inverses::places_stay))]
 pub fn places_stay()
     ensures { PlacesStay }
 {}
@@ -32,7 +32,7 @@ pub fn effects_compose()
 {}
 
 /// Face turns have one effect, by themselves and as moves of a line.
-#[tactic(auto, using(crate::proofs::WholeEffect::turns_are_moves))]
+#[tactic(auto, using(crate::proofs::Home::turns_are_moves))]
 pub fn turns_are_moves()
     ensures { TurnsAreMoves }
 {}
@@ -43,7 +43,7 @@ pub fn one_meaning()
 {}
 
 /// Maps that are the same on the 54 places have the same facelet text.
-#[tactic(auto, using(crate::proofs::SameLetters::same_letters))]
+#[tactic(auto, using(crate::proofs::ListedPlaces::same_letters))]
 pub fn same_letters()
     ensures { SameLetters }
 {}

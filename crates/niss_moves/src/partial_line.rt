@@ -10,7 +10,7 @@ use crate::turn::Power;
 use crate::whole_move::whole_move;
 
 /// The last move of what is read, as far as it goes.
-#[derive(Clone, Copy, Debug, PartialEq, Eq)]
+#[derive(Clone, Copy)]
 pub enum LastMove {
     /// Nothing can go on.
     Finished,

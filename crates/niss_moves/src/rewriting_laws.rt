@@ -9,7 +9,7 @@ pub fn one_spelling()
 {}
 
 /// Wide turns and slices have the effect of the face turns and rotations to which they are expanded.
-#[tactic(auto, using(crate::proofs::Expansions::effect_of_expanded))]
+#[tactic(auto, using(crate::proofs::Inverses::effect_of_expanded))]
 pub fn expands_alike()
     ensures { ExpandsAlike }
 {}

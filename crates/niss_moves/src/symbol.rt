@@ -8,7 +8,7 @@ use crate::token::Slice;
 use crate::turn::Face;
 
 /// What a byte may be where no U+2019 is cut.
-#[derive(Clone, Copy, Debug, PartialEq, Eq)]
+#[derive(Clone, Copy)]
 pub enum Symbol {
     Blank,
     Open,

@@ -26,8 +26,7 @@ pub enum Token {
 impl Default for Token {
     ghost use Rattle.std.specs.Prelude.{◌≡◌};
     ghost use Rattle.niss_moves.specs.declared.token.Token.TheVariants as token;
-    ghost use Rattle.niss_moves.specs.declared.turn.Face.TheVariants.{U};
-    ghost use Rattle.niss_moves.specs.declared.turn.Power.TheVariants.{Quarter};
+    ghost use Rattle.niss_moves.specs.Names.{U, Quarter};
 
     ghost is_default = { λ t. t ≡ token.Face (record { face = U; power = Quarter }) };
 

@@ -3,7 +3,7 @@ use Rattle.std.proofs.lemmas.List.{drop_more, drop_all}
 use Rattle.niss_moves.specs.Text.{word, with_words}
 use Rattle.niss_moves.specs.CleanText.{turn_words}
 use Rattle.niss_moves.specs.declared.token.Token.TheVariants as token
-use Rattle.niss_moves.specs.declared.turn.Turn.{Turn}
+use Rattle.niss_moves.specs.Names.{Turn}
 use Rattle.niss_moves.proofs.Gathered.{gathers_none, gathers_more, gathers_all}
 use Rattle.niss_moves.proofs.clean_text.put_faces.Goals as goal
 

@@ -1,12 +1,14 @@
-use Rattle.std.proofs.Common.{◌∙◌, ap, subst, refl, arith, List, [], map}
+use Rattle.std.proofs.Common.{sym, ◌∙◌, ap, subst, refl, arith, List, [], map}
 use Rattle.std.proofs.lemmas.List.{take_all, drop_all}
 use Rattle.niss_moves.specs.Cleaning.{Cleans}
 use Rattle.niss_moves.specs.Effects.{effect}
 use Rattle.niss_moves.specs.Facelets.{centre}
 use Rattle.niss_moves.specs.Faces.{faces}
 use Rattle.niss_moves.specs.Helpers.{turns_in}
-use Rattle.niss_moves.specs.Rotations.{face_before, renamed_turn, spelling}
-use Rattle.niss_moves.specs.declared.turn.Turn.{Turn}
+use Rattle.niss_moves.specs.Rotations.{face_before, renamed_turn}
+use Rattle.niss_moves.specs.Names.{Turn}
+use Rattle.niss_moves.proofs.CleanFunction.{clean_turns_are_clean, one_clean_list}
+use Rattle.niss_moves.proofs.Home.{rotation_left_is}
 use Rattle.niss_moves.proofs.Cleaned.{cleans_all}
 use Rattle.niss_moves.proofs.Pushed.{Pushed, cleans_more, centres_more, map_none}
 use Rattle.niss_moves.proofs.cleaning.clean_into.Goals as goal
@@ -28,12 +30,15 @@ loop-token-preserved c =
       centres = centres_more ts l.token-index _ l.rotation m.new.self (turns_in m.result) c.loop-token-test.true pushed l.invariant.centres;
     }
 
-pub returns-clause-clean : goal.returns-clause-clean
-returns-clause-clean c =
+pub returns-clause-turns : goal.returns-clause-turns
+returns-clause-turns c =
     let l = c.loop-token in
-    l.invariant.cleans l.turns.items (cleans_all l.turns.items _ l.invariant.canonical (ap (λ ts. map (renamed_turn (face_before l.rotation)) (faces ts)) (drop_all l.token-index c.args.tokens.now c.loop-token-test.false)))
+    let ts = c.args.tokens.now in
+    let rest = ap (λ ts. map (renamed_turn (face_before l.rotation)) (faces ts)) (drop_all l.token-index ts c.loop-token-test.false) in
+    one_clean_list (faces ts) _ _ (l.invariant.cleans l.turns.items (cleans_all l.turns.items _ l.invariant.canonical rest)) (clean_turns_are_clean (faces ts))
 
 pub returns-clause-rotation : goal.returns-clause-rotation
-returns-clause-rotation c f =
+returns-clause-rotation c =
     let l = c.loop-token in
-    ap (λ r. effect (spelling r) (centre f)) c.rotation.ensures ∙ l.invariant.centres f ∙ ap (λ s. effect s (centre f)) (take_all _ _ c.loop-token-test.false)
+    let ts = c.args.tokens.now in
+    c.rotation.ensures ∙ sym (rotation_left_is ts l.rotation (λ f. l.invariant.centres f ∙ ap (λ s. effect s (centre f)) (take_all l.token-index ts c.loop-token-test.false)))

@@ -6,8 +6,7 @@ use Rattle.niss_moves.specs.Effects.{effect}
 use Rattle.niss_moves.specs.Facelets.{centre}
 use Rattle.niss_moves.specs.Faces.{faces}
 use Rattle.niss_moves.specs.Rotations.{face_before, renamed_turn, spelling}
-use Rattle.niss_moves.specs.declared.turn.Face.{Face}
-use Rattle.niss_moves.specs.declared.turn.Turn.{Turn}
+use Rattle.niss_moves.specs.Names.{Face, Turn}
 use Rattle.niss_moves.proofs.cleaning.clean_into.Given as goal
 
 abbrev pub invariant-loop-token : goal.invariant-loop-token

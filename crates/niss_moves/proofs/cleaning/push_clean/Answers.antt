@@ -1,6 +1,6 @@
 use Rattle.std.proofs.Common.{rules, ◌≡◌, ◌∙◌, ap, sym, subst, List}
 use Rattle.niss_moves.specs.Canonical.{last_turn, may_follow, IsCanonical}
-use Rattle.niss_moves.specs.declared.turn.Turn.{Turn}
+use Rattle.niss_moves.specs.Names.{Turn}
 use Rattle.niss_moves.proofs.AllCanonical.{canonical_more}
 use Rattle.niss_moves.proofs.cleaning.push_clean.Goals as goal
 

@@ -1,4 +1,4 @@
-use Rattle.niss_moves.proofs.WholeEffect.{one_meaning}
+use Rattle.niss_moves.proofs.Home.{one_meaning}
 use Rattle.niss_moves.proofs.effect_laws.one_meaning.Goals as goal
 
 pub returns : goal.returns

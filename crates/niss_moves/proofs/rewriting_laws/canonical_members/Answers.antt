@@ -1,5 +1,4 @@
-use Rattle.niss_moves.proofs.AllCanonical.{canonical_members}
-use Rattle.niss_moves.proofs.CanonicalOrder.{canonical_in_order}
+use Rattle.niss_moves.proofs.AllCanonical.{canonical_members, canonical_in_order}
 use Rattle.niss_moves.proofs.rewriting_laws.canonical_members.Goals as goal
 
 pub returns-clause-members : goal.returns-clause-members

@@ -1,5 +1,5 @@
 use Rattle.niss_moves.proofs.CleanFunction.{clean_turns_are_clean}
-use Rattle.niss_moves.proofs.RotationFound.{rotation_is_left}
+use Rattle.niss_moves.proofs.Home.{rotation_is_left}
 use Rattle.niss_moves.proofs.rewriting_laws.cleaned_lines.Goals as goal
 
 pub returns-clause-turns : goal.returns-clause-turns

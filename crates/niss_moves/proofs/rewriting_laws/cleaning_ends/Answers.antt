@@ -1,4 +1,4 @@
-use Rattle.niss_moves.proofs.Cleaned.{cleaning_ends}
+use Rattle.niss_moves.proofs.CleanFunction.{cleaning_ends}
 use Rattle.niss_moves.proofs.Disorder.{rewriting_lowers}
 use Rattle.niss_moves.proofs.rewriting_laws.cleaning_ends.Goals as goal
 

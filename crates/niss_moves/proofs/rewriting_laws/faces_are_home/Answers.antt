@@ -1,5 +1,4 @@
-use Rattle.niss_moves.proofs.Home.{centres_come_home, faces_are_home}
-use Rattle.niss_moves.proofs.WholeEffect.{line_is_home}
+use Rattle.niss_moves.proofs.Home.{centres_come_home, faces_are_home, line_is_home}
 use Rattle.niss_moves.proofs.rewriting_laws.faces_are_home.Goals as goal
 
 pub returns-clause-rotation : goal.returns-clause-rotation

@@ -1,4 +1,4 @@
-use Rattle.niss_moves.proofs.OneCleanList.{one_clean_list, canonical_stays}
+use Rattle.niss_moves.proofs.CleanFunction.{one_clean_list, canonical_stays}
 use Rattle.niss_moves.proofs.rewriting_laws.one_clean_list.Goals as goal
 
 pub returns-clause-one : goal.returns-clause-one

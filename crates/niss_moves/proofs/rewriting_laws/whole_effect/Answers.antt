@@ -1,4 +1,4 @@
-use Rattle.niss_moves.proofs.WholeEffect.{faces_and_rotation, cleaned_effect}
+use Rattle.niss_moves.proofs.Home.{faces_and_rotation, cleaned_effect}
 use Rattle.niss_moves.proofs.rewriting_laws.whole_effect.Goals as goal
 
 pub returns-clause-faces : goal.returns-clause-faces

@@ -1,5 +1,5 @@
 use Rattle.niss_moves.proofs.Inverses.{joined, inverse_of}
-use Rattle.niss_moves.proofs.WholeEffect.{inverse_undoes_line}
+use Rattle.niss_moves.proofs.Home.{inverse_undoes_line}
 use Rattle.niss_moves.proofs.sequence.invert.Goals as goal
 
 pub returns-clause-moves : goal.returns-clause-moves

@@ -3,7 +3,7 @@ use Rattle.niss_moves.specs.Effects.{inverse}
 use Rattle.niss_moves.specs.Text.{word, with_words}
 use Rattle.niss_moves.proofs.Gathered.{gathers_none, gathers_more, gathers_all}
 use Rattle.niss_moves.proofs.Inverses.{inverse_none, inverse_last}
-use Rattle.niss_moves.specs.declared.token.Token.{Token}
+use Rattle.niss_moves.specs.Names.{Token}
 use Rattle.niss_moves.proofs.text.put_inverse.Goals as goal
 
 pub loop-last-init : goal.loop-last-init

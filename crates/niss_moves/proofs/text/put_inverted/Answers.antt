@@ -1,6 +1,6 @@
 use Rattle.std.proofs.Common.{◌∙◌, ap, map, List}
 use Rattle.niss_moves.specs.Text.{word, with_words}
-use Rattle.niss_moves.specs.declared.token.Token.{Token}
+use Rattle.niss_moves.specs.Names.{Token}
 use Rattle.niss_moves.proofs.CleanWords.{words_joined}
 use Rattle.niss_moves.proofs.Inverses.{inverse_whole}
 use Rattle.niss_moves.proofs.text.put_inverted.Goals as goal

@@ -1,4 +1,4 @@
-use Rattle.niss_moves.proofs.HeldRotations.{by_next, held}
+use Rattle.niss_moves.proofs.Home.{by_next, held}
 use Rattle.niss_moves.proofs.held_rotation.HeldRotation.rotate.Goals as goal
 
 pub invariant_of-self : goal.invariant_of-self

@@ -1,7 +1,7 @@
 use Rattle.std.proofs.Common.{sym, subst}
-use Rattle.niss_moves.specs.declared.rotation.Rotation.{Rotation}
+use Rattle.niss_moves.specs.Names.{Rotation}
 use Rattle.niss_moves.proofs.Rotations.{IsNext, beside_of}
-use Rattle.niss_moves.proofs.HeldRotations.{by_next}
+use Rattle.niss_moves.proofs.Home.{by_next}
 use Rattle.niss_moves.proofs.rotation.Rotation.then.Goals as goal
 use Rattle.niss_moves.proofs.rotation.Rotation.then.Goals.{After-rotation_by}
 
