@@ -1,6 +1,11 @@
 -- The cubies as lists, and what turns do to them.
+use Rattle.std.proofs.Common.{◌≡◌, ◌<◌, length, get_or, arith}
 use Rattle.std.specs.Prelude.{ℕ, zero, suc, ◌+◌, ◌%◌, List, map, slice_index}
 use Rattle.std.specs.List.{range_with_len}
+use Rattle.std.proofs.lemmas.List.FromFn.{get_or-map-range_with_len, length-map-range_with_len}
+use Rattle.niss_moves.specs.Places.{Place}
+use Rattle.niss_cube.specs.Cubies.{AreCubies}
+use Rattle.niss_cube.specs.Map.{sticker_map}
 use Rattle.niss_moves.specs.declared.turn.Face.{Face}
 use Rattle.niss_cube.specs.CubieTurns.{quarter_table}
 
@@ -9,6 +14,15 @@ pub record CubieLists : Type 0 where
   pub twists : List ℕ
   pub edges : List ℕ
   pub flips : List ℕ
+
+abbrev pub Valid : CubieLists → Type 0
+Valid c = AreCubies c.corners c.twists c.edges c.flips
+
+abbrev pub map_lists : CubieLists → Place → Place
+map_lists c = sticker_map c.corners c.twists c.edges c.flips
+
+pub at-range : (n : ℕ) (f : ℕ → ℕ) (i : ℕ) → i < length (map f (range_with_len 0 n)) → get_or (map f (range_with_len 0 n)) i 0 ≡ f i
+at-range n f i l = get_or-map-range_with_len f 0 n i i 0 (omega (arith, l, length-map-range_with_len f 0 n)) (omega arith)
 
 -- the n elements at the places that a table names
 abbrev pub brought : ℕ → (from xs : List ℕ) → List ℕ

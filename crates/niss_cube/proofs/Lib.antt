@@ -13,6 +13,7 @@ pub mod FollowedLetters
 pub mod KeptFlips
 pub mod KeptTests
 pub mod KeptTwists
+pub mod CubieKinds
 pub mod ListTurns
 pub mod Logic
 pub mod MapPlaces

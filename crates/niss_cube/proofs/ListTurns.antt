@@ -12,21 +12,13 @@ use Rattle.niss_moves.specs.declared.turn.Power.TheVariants.{Quarter, Half, Coun
 use Rattle.niss_cube.specs.Cubies.{AreCubies}
 use Rattle.niss_cube.specs.Map.{sticker_map}
 use Rattle.niss_cube.specs.CubieTurns.{quarter_table}
+pub use Rattle.niss_cube.proofs.CubieLists.{Valid, map_lists, at-range}
 use Rattle.niss_cube.proofs.CubieLists.{CubieLists, flips_quarter, twists_quarter, edges_quarter, corners_quarter, repeated}
 use Rattle.niss_cube.specs.Renamings.{renaming_table, renamed_by}
 use Rattle.niss_cube.specs.declared.renaming.Renaming.{Renaming}
 use Rattle.niss_cube.proofs.QuarterSteps.{Written, written-cubies, written-map}
 use Rattle.niss_cube.proofs.MapPlaces.{sticker_map-place, half_map, counter_map}
 use Rattle.niss_cube.proofs.RenamingTables.{AreRenamed, renaming-cubies, renaming-map}
-
-abbrev pub Valid : CubieLists → Type 0
-Valid c = AreCubies c.corners c.twists c.edges c.flips
-
-abbrev pub map_lists : CubieLists → Place → Place
-map_lists c = sticker_map c.corners c.twists c.edges c.flips
-
-pub at-range : (n : ℕ) (f : ℕ → ℕ) (i : ℕ) → i < length (map f (range_with_len 0 n)) → get_or (map f (range_with_len 0 n)) i 0 ≡ f i
-at-range n f i l = get_or-map-range_with_len f 0 n i i 0 (omega (arith, l, length-map-range_with_len f 0 n)) (omega arith)
 
 abbrev pub quartered : Face → CubieLists → CubieLists
 quartered f c = record { corners = corners_quarter f c.corners; twists = twists_quarter f c.twists; edges = edges_quarter f c.edges; flips = flips_quarter f c.flips }
