@@ -3,14 +3,14 @@ use Rattle.std.proofs.Common.{◌≡◌, ℕ, ◌+◌, ◌-◌, ◌%◌, ◌<◌
 use Rattle.std.specs.Prelude.{◌==◌, ◌⊎◌, nat_lt, sum}
 use Rattle.std.specs.List.{list_all, list_any}
 use Rattle.std.proofs.lemmas.Bool.{eqb-true, ltb-true}
-use Rattle.niss_moves.specs.Places.{Place, same_place, is_place, is_corner, is_edge}
+use Rattle.niss_moves.specs.Places.{Place, same_place, is_place, is_corner, is_edge, SameMap}
 use Rattle.niss_moves.specs.Facelets.{places}
 use Rattle.niss_cube.specs.CubieFacelets.{index_in, row_at, facelet_at, corner_facelets, edge_facelets}
 use Rattle.niss_cube.specs.Map.{sticker_place}
 use Rattle.niss_cube.proofs.CubieLists.{CubieLists, Valid, map_lists}
 use Rattle.niss_cube.proofs.Each.{at_place, each_record, at_record}
 use Rattle.niss_cube.proofs.Once.{times_in, place_in, place_in-found, place_in-is, count_by-times}
-use Rattle.niss_cube.proofs.PlaceTables.{all_below, at_below}
+use Rattle.niss_cube.proofs.FiniteTests.{all_below, at_below}
 use Rattle.niss_cube.proofs.SetPlaces.{corner_place, edge_place}
 use Rattle.niss_cube.proofs.Logic.{and_left, and_right, is_true, not_true, or_then}
 use Rattle.niss_moves.proofs.CallerLemmas.{same_place_is}
@@ -120,6 +120,10 @@ pub unturned : (k : Kind) (j : ℕ) → j < facelets k → (0 + j) % facelets k 
 unturned Corners j l = omega arith
 unturned Edges j l = omega arith
 
+pub some_facelet : (k : Kind) → 0 < facelets k
+some_facelet Corners = omega arith
+some_facelet Edges = omega arith
+
 -- the sets of places of the kinds
 pub kind_place : (k : Kind) (q : Place) → is_of k q ≡ true → is_place q ≡ true
 kind_place Corners = corner_place
@@ -154,10 +158,10 @@ kind_of q = elim (is_true (is_corner q)) [
 ]
 
 -- each facelet is found by its row and its index
-abbrev row_of : Kind → Place → ℕ
+abbrev pub row_of : Kind → Place → ℕ
 row_of k q = index_in (λ row. list_any (same_place q) row) (rows k)
 
-abbrev index_of : Kind → Place → ℕ
+abbrev pub index_of : Kind → Place → ℕ
 index_of k q = index_in (same_place q) (row_at (rows k) (row_of k q))
 
 abbrev found_test : Kind → ℕ → ℕ → Bool
@@ -225,6 +229,10 @@ map_at k c h j lh lj =
     map_is k c (at k h j) f.kind
     ∙ ap (λ r. at k (place_of k c r) ((index_of k (at k h j) + turn_at k c (place_of k c r)) % facelets k)) f.row
     ∙ ap (λ i. at k (place_of k c h) ((i + turn_at k c (place_of k c h)) % facelets k)) f.index
+
+-- the same of a map that is theirs on the places
+pub shown_at : (k : Kind) (c : CubieLists) (e : Place → Place) → SameMap e (map_lists c) → (h j : ℕ) → h < count k → j < facelets k → e (at k h j) ≡ at k (place_of k c h) ((j + turn_at k c (place_of k c h)) % facelets k)
+shown_at k c e same h j lh lj = same (at k h j) (kind_place k _ (facelet_kind k h j lh lj)) ∙ map_at k c h j lh lj
 
 pub centre_stays : (c : CubieLists) (q : Place) → is_corner q ≡ false → is_edge q ≡ false → map_lists c q ≡ q
 centre_stays c q w u = rw (w, u) refl

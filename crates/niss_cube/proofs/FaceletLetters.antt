@@ -1,8 +1,8 @@
 -- The facelet text, place by place.
-use Rattle.std.proofs.Common.{◌≡◌, ℕ, zero, suc, ◌+◌, ◌-◌, ◌%◌, ◌<◌, refl, ap, sym, ◌∙◌, subst, List, [], ◌∷◌, length, get_or, map, Bool, true, false, not, arith}
+use Rattle.std.proofs.Common.{◌≡◌, ℕ, zero, suc, ◌+◌, ◌-◌, ◌%◌, ◌<◌, refl, ap, sym, ◌∙◌, List, [], ◌∷◌, length, get_or, map, Bool, true, not, arith}
 use Rattle.std.specs.Prelude.{◌==◌, ◌&&◌, nat_lt}
 use Rattle.std.proofs.lemmas.Bool.{eqb-true, ltb-true}
-use Rattle.std.proofs.lemmas.List.{ext_get_or, get_or-map, length-map, get_or_default}
+use Rattle.std.proofs.lemmas.List.{ext_get_or, get_or-map, length-map}
 use Rattle.niss_moves.specs.Places.{is_place, is_corner, is_edge, same_place, Place}
 use Rattle.niss_moves.specs.declared.turn.Face.TheVariants.{U}
 use Rattle.niss_moves.specs.Facelets.{places, facelet}
@@ -11,7 +11,7 @@ use Rattle.niss_cube.specs.declared.letters.TheConstants.{CORNER_LETTERS, EDGE_L
 use Rattle.niss_cube.proofs.CubieLists.{CubieLists, Valid, map_lists}
 use Rattle.niss_cube.proofs.CubieKinds.{Kind, Corners, Edges, count, facelets, at, home_at, turn_at, Stand, stand, low, rewound}
 use Rattle.niss_cube.proofs.Origins.{kind_letter, centre_letter}
-use Rattle.niss_cube.proofs.PlaceTables.{all_below, at_below}
+use Rattle.niss_cube.proofs.FiniteTests.{all_below, at_below}
 use Rattle.niss_cube.proofs.Logic.{and_left, and_right, not_true}
 use Rattle.niss_moves.proofs.CallerLemmas.{same_place_is}
 

@@ -14,7 +14,7 @@ use Rattle.niss_cube.proofs.CoordinateLaws.{lists_of}
 use Rattle.niss_cube.proofs.CubieLists.{CubieLists, Valid, map_lists}
 use Rattle.niss_cube.proofs.CubieKinds.{Kind, facelets, at, home_at, turn_at, Stand, stand, low, rewound, kind_of, kind_place, facelet_kind, Located, located, origin, centre_stays, map_place, one_to_one}
 use Rattle.niss_cube.proofs.Each.{at_place}
-use Rattle.niss_cube.proofs.PlaceTables.{all_below, at_below}
+use Rattle.niss_cube.proofs.FiniteTests.{all_below, at_below}
 use Rattle.niss_cube.proofs.Sums.{below, below_same, below_permuted, eqb-other, one_if, one_of, below_all_same, one_if-at_most}
 use Rattle.niss_cube.proofs.Logic.{and_left, and_right}
 use Rattle.niss_moves.proofs.CallerLemmas.{same_place_is}

@@ -10,23 +10,14 @@ use Rattle.niss_moves.specs.Rotations.{to_top, about_vertical, spelling}
 use Rattle.niss_moves.specs.declared.rotation.Rotation.{Rotation}
 use Rattle.niss_moves.specs.Letters.{letter_at, letter_of, letters}
 use Rattle.niss_moves.specs.declared.axis.Axis.{Axis}
-use Rattle.niss_moves.specs.declared.axis.Axis.TheVariants.{Ud, Rl, Fb}
 use Rattle.niss_moves.specs.declared.turn.Face.TheVariants.{U}
 use Rattle.niss_cube.specs.Coordinates.{spun}
 use Rattle.niss_cube.specs.RotatedText.{sources_of}
 use Rattle.niss_cube.proofs.Each.{each_record, at_record}
-use Rattle.niss_cube.proofs.PlaceTables.{all_below, at_below}
+use Rattle.niss_cube.proofs.FiniteTests.{all_below, at_below, all_axes, at_axis}
 use Rattle.niss_cube.proofs.FaceletLetters.{letters-is}
 use Rattle.niss_cube.proofs.Logic.{and_left, and_right, same_truth}
 use Rattle.niss_moves.proofs.CallerLemmas.{same_place_is, same_place_of, effect-append}
-
-abbrev pub all_axes : (Axis → Bool) → Bool
-all_axes t = t Ud && (t Rl && t Fb)
-
-pub at_axis : (t : Axis → Bool) → all_axes t ≡ true → (a : Axis) → t a ≡ true
-at_axis t h Ud = and_left _ _ h
-at_axis t h Rl = and_left _ _ (and_right (t Ud) _ h)
-at_axis t h Fb = and_right (t Rl) _ (and_right (t Ud) _ h)
 
 -- a quarter and three more bring each cell and direction back
 abbrev back_test : Axis → Bool

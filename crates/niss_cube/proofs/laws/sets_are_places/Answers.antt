@@ -1,4 +1,4 @@
-use Rattle.niss_cube.proofs.Codes.{sets_are_places}
+use Rattle.niss_cube.proofs.KeptSets.{sets_are_places}
 use Rattle.niss_cube.proofs.laws.sets_are_places.Goals as goal
 
 pub returns : goal.returns
