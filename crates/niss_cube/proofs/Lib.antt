@@ -13,6 +13,7 @@ pub mod FollowedLetters
 pub mod KeptSets
 pub mod KeptTests
 pub mod CubieKinds
+pub mod LawLemmas
 pub mod Logic
 pub mod MovedPositions
 pub mod Numbers
@@ -23,7 +24,7 @@ pub mod Origins
 pub mod Permutations
 pub mod PlacedEdges
 pub mod RenamedCubies
-pub mod RotatedPlaces
+pub mod RotatedLetters
 pub mod SetPlaces
 pub mod ShownCubies
 pub mod SliceCodes
