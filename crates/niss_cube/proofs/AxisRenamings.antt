@@ -1,78 +1,71 @@
 -- The cubies, the maps and the turns of the cube as it is renamed for a coordinate on an axis.
-use Rattle.std.proofs.Common.{◌≡◌, refl, sym, ◌∙◌, Bool, true, ◌&&◌, ap}
+use Rattle.std.proofs.Common.{◌≡◌, refl, sym, ◌∙◌, ap, Bool, true, ◌&&◌, Option, None, Some}
 use Rattle.std.specs.List.{list_all}
 use Rattle.niss_moves.specs.Places.{Place, is_place, same_place, SameMap}
+use Rattle.niss_moves.specs.Facelets.{places}
+use Rattle.niss_moves.specs.Effects.{turned}
+use Rattle.niss_moves.specs.Rotations.{face_before_power, renamed_turn}
+use Rattle.niss_moves.specs.Turn.{inverse_turn}
+use Rattle.niss_moves.specs.declared.axis.Axis.{Axis}
 use Rattle.niss_moves.specs.declared.axis.Axis.TheVariants.{Rl, Ud, Fb}
 use Rattle.niss_moves.specs.declared.turn.Face.{Face}
 use Rattle.niss_moves.specs.declared.turn.Turn.{Turn}
-use Rattle.niss_moves.specs.declared.turn.Power.{Power}
-use Rattle.niss_moves.specs.declared.turn.Power.TheVariants.{Quarter, Half, Counter}
-use Rattle.niss_moves.specs.declared.axis.Axis.{Axis}
-use Rattle.niss_cube.specs.declared.renaming.Renaming.TheVariants.{XCounter, XQuarter, YQuarter, ZCounter}
-use Rattle.niss_moves.specs.Facelets.{places}
-use Rattle.niss_cube.specs.Coordinates.{for_flip, for_twist, spun, turn_for}
-use Rattle.niss_moves.specs.Effects.{turned}
-use Rattle.niss_cube.proofs.CubieLists.{CubieLists}
-use Rattle.niss_moves.specs.Turn.{inverse_turn}
-use Rattle.niss_cube.specs.declared.cube.coordinate.Coordinate.TheVariants.{Flip, Twist}
-use Rattle.niss_cube.proofs.Each.{at_place}
-use Rattle.niss_cube.proofs.PlaceTables.{all_faces, at_face}
+use Rattle.niss_moves.specs.declared.turn.Power.TheVariants.{Quarter, Counter}
+use Rattle.niss_cube.specs.Coordinates.{renamed_for, turn_for}
 use Rattle.niss_cube.specs.Renamings.{renamed_by}
+use Rattle.niss_cube.specs.declared.cube.coordinate.Coordinate.{Coordinate}
+use Rattle.niss_cube.specs.declared.cube.coordinate.Coordinate.TheVariants.{Flip, Twist, Slice}
 use Rattle.niss_cube.specs.declared.renaming.Renaming.{Renaming}
-use Rattle.niss_cube.proofs.MapPlaces.{sticker_map-place}
-use Rattle.niss_cube.proofs.RenamingTables.{rotated, rotated_back, renamed_by-is, all_renamings, at_renaming, keeps_kinds}
-use Rattle.niss_cube.proofs.ListTurns.{Valid, map_lists, renamed_cubies, renamed_cubies-valid, renamed_lists-map}
+use Rattle.niss_cube.specs.declared.renaming.Renaming.TheVariants.{XCounter, XQuarter, YQuarter, ZCounter}
+use Rattle.niss_cube.proofs.CubieLists.{CubieLists, Valid, map_lists}
+use Rattle.niss_cube.proofs.CubieKinds.{map_place}
+use Rattle.niss_cube.proofs.Each.{at_place}
+use Rattle.niss_cube.proofs.FiniteTests.{all_turns, at_turn}
+use Rattle.niss_cube.proofs.RenamedCubies.{rotated, rotated_back, renamed_by-is, all_renamings, at_renaming, keeps_kinds, renamed_cubies, renamed_cubies-valid, renamed_lists-map}
 use Rattle.niss_cube.proofs.Logic.{and_left, and_right}
 use Rattle.niss_moves.proofs.CallerLemmas.{same_place_is}
-
-abbrev pub all_powers : (Power → Bool) → Bool
-all_powers t = t Quarter && (t Half && t Counter)
-
-pub at_power : (t : Power → Bool) → all_powers t ≡ true → (p : Power) → t p ≡ true
-at_power t h Quarter = and_left _ _ h
-at_power t h Half = and_left _ _ (and_right (t Quarter) _ h)
-at_power t h Counter = and_right (t Half) _ (and_right (t Quarter) _ h)
-
-abbrev turn_of : Face → Power → Turn
-turn_of f p = record { face = f; power = p }
-
-abbrev pub all_turns : (Turn → Bool) → Bool
-all_turns t = all_faces (λ f. all_powers (λ p. t (turn_of f p)))
-
--- a test of each turn holds at each
-pub at_turn : (t : Turn → Bool) → all_turns t ≡ true → (s : Turn) → t s ≡ true
-at_turn t h s = at_power (λ p. t (turn_of s.face p)) (at_face (λ f. all_powers (λ p. t (turn_of f p))) h s.face) s.power
 
 abbrev pub KeepsPlaces : (Place → Place) → Type 0
 KeepsPlaces e = (q : Place) → is_place q ≡ true → is_place (e q) ≡ true
 
--- how the cube is renamed for a coordinate on each axis: its map, its turns and its cubies
-pub record IsRenaming (renamed_for : Axis → (Place → Place) → Place → Place) (turn_for : Axis → Turn → Turn) (cubies_for : Axis → CubieLists → CubieLists) : Type 0 where
-  pub valid : (a : Axis) (c : CubieLists) → Valid c → Valid (cubies_for a c)
-  pub map_is : (a : Axis) (c : CubieLists) → Valid c → SameMap (map_lists (cubies_for a c)) (renamed_for a (map_lists c))
-  pub same : (a : Axis) (d e : Place → Place) → SameMap d e → SameMap (renamed_for a d) (renamed_for a e)
-  pub turned_is : (a : Axis) (t : Turn) (e : Place → Place) → KeepsPlaces e → SameMap (renamed_for a (λ q. turned t (e q))) (λ q. turned (turn_for a t) (renamed_for a e q))
-  pub back_is : (a : Axis) (t : Turn) → turn_for a (inverse_turn t) ≡ inverse_turn (turn_for a t)
-  pub onto : (a : Axis) (c : CubieLists) → Valid c → (w : CubieLists) × Valid w × SameMap (map_lists c) (renamed_for a (map_lists w))
+-- how the cube is renamed for a coordinate on an axis: its map, its turns and its cubies
+pub record IsRenaming (rename : (Place → Place) → Place → Place) (turn : Turn → Turn) (cubies : CubieLists → CubieLists) : Type 0 where
+  pub valid : (c : CubieLists) → Valid c → Valid (cubies c)
+  pub map_is : (c : CubieLists) → Valid c → SameMap (map_lists (cubies c)) (rename (map_lists c))
+  pub same : (d e : Place → Place) → SameMap d e → SameMap (rename d) (rename e)
+  pub turned_is : (t : Turn) (e : Place → Place) → KeepsPlaces e → SameMap (rename (λ q. turned t (e q))) (λ q. turned (turn t) (rename e q))
+  pub back_is : (t : Turn) → turn (inverse_turn t) ≡ inverse_turn (turn t)
+  pub onto : (c : CubieLists) → Valid c → (w : CubieLists) × Valid w × SameMap (map_lists c) (rename (map_lists w))
 
 -- under a renaming a turn becomes that of the face to which the face is brought
-abbrev renamed_turn_test : (Turn → Turn) → (Place → Place) → Bool
-renamed_turn_test renamed rotated = all_turns (λ t. list_all (λ q. same_place (rotated (turned t q)) (turned (renamed t) (rotated q))) places)
+abbrev face_by : Renaming → Face → Face
+face_by XCounter f = face_before_power Rl Quarter f
+face_by XQuarter f = face_before_power Rl Counter f
+face_by YQuarter f = face_before_power Ud Counter f
+face_by ZCounter f = face_before_power Fb Quarter f
 
-renamed-turn : (renamed : Turn → Turn) (rotated : Place → Place) → renamed_turn_test renamed rotated ≡ true → (t : Turn) (q : Place) → is_place q ≡ true → rotated (turned t q) ≡ turned (renamed t) (rotated q)
-renamed-turn renamed rotated h t q p =
-    same_place_is _ _
-    (at_place (λ q. same_place (rotated (turned t q)) (turned (renamed t) (rotated q)))
-    (at_turn (λ t. list_all (λ q. same_place (rotated (turned t q)) (turned (renamed t) (rotated q))) places) h t) q p)
+abbrev turn_test : Renaming → Turn → Place → Bool
+turn_test v t q = same_place (rotated v (turned t q)) (turned (renamed_turn (face_by v) t) (rotated v q))
+
+turns_test : all_renamings (λ v. all_turns (λ t. list_all (turn_test v t) places)) ≡ true
+turns_test = refl
+
+renamed-turn : (v : Renaming) (t : Turn) (q : Place) → is_place q ≡ true → rotated v (turned t q) ≡ turned (renamed_turn (face_by v) t) (rotated v q)
+renamed-turn v t q p =
+    same_place_is _ _ (at_place (turn_test v t) (at_turn (λ t. list_all (turn_test v t) places) (at_renaming (λ v. all_turns (λ t. list_all (turn_test v t) places)) turns_test v) t) q p)
 
 -- A rotation made four times brings each place back: so the cubies that become c under a renaming are c renamed thrice.
-four_test : all_renamings (λ v. list_all (λ q. same_place (rotated v (rotated v (rotated v (rotated v q)))) q && same_place (rotated_back v (rotated_back v (rotated_back v (rotated_back v q)))) q) places) ≡ true
-four_test = refl
+abbrev four_test : Renaming → Place → Bool
+four_test v q =
+    same_place (rotated v (rotated v (rotated v (rotated v q)))) q
+    && same_place (rotated_back v (rotated_back v (rotated_back v (rotated_back v q)))) q
+
+fours_test : all_renamings (λ v. list_all (four_test v) places) ≡ true
+fours_test = refl
 
 four-back : (v : Renaming) (q : Place) → is_place q ≡ true → (rotated v (rotated v (rotated v (rotated v q))) ≡ q) × (rotated_back v (rotated_back v (rotated_back v (rotated_back v q))) ≡ q)
 four-back v q p =
-    let h = at_place (λ q. same_place (rotated v (rotated v (rotated v (rotated v q)))) q && same_place (rotated_back v (rotated_back v (rotated_back v (rotated_back v q)))) q)
-    (at_renaming (λ v. list_all (λ q. same_place (rotated v (rotated v (rotated v (rotated v q)))) q && same_place (rotated_back v (rotated_back v (rotated_back v (rotated_back v q)))) q) places) four_test v) q p in
+    let h = at_place (four_test v) (at_renaming (λ v. list_all (four_test v) places) fours_test v) q p in
     (same_place_is _ _ (and_left _ _ h), same_place_is _ _ (and_right (same_place (rotated v (rotated v (rotated v (rotated v q)))) q) _ h))
 
 renamed_from : (v : Renaming) (c : CubieLists) → Valid c → (w : CubieLists) × Valid w × SameMap (map_lists c) (renamed_by v (map_lists w))
@@ -94,85 +87,56 @@ renamed_from v c h =
           ∙ ap (λ x. rotated v (rotated v x)) (renamed_lists-map v d dh (r (r q)) q₂ ∙ renamed_by-is v (map_lists d) (r (r q)))
           ∙ ap (λ x. rotated v (rotated v (rotated v x))) (renamed_lists-map v c h (r (r (r q))) q₃ ∙ renamed_by-is v (map_lists c) (r (r (r q))))
           ∙ ap (λ x. rotated v (rotated v (rotated v (rotated v (map_lists c x))))) (four-back v q p).1
-          ∙ (four-back v (map_lists c q) (sticker_map-place c.corners c.twists c.edges c.flips h q p)).0),
+          ∙ (four-back v (map_lists c q) (map_place c h q p)).0),
     )
 
--- the cubies as the flip on an axis is read from them
-abbrev pub cubies_for_flip : Axis → CubieLists → CubieLists
-cubies_for_flip Ud c = renamed_cubies XCounter c
-cubies_for_flip Rl c = renamed_cubies YQuarter c
-cubies_for_flip Fb c = c
+by_rotation : (v : Renaming) → IsRenaming (renamed_by v) (renamed_turn (face_by v)) (renamed_cubies v)
+by_rotation v = record {
+  valid = renamed_cubies-valid v;
+  map_is = renamed_lists-map v;
+  same = λ d e s q p. renamed_by-is v d q ∙ ap (rotated v) (s (rotated_back v q) (keeps_kinds v q p).home_place) ∙ sym (renamed_by-is v e q);
+  turned_is = λ t e keep q p.
+      renamed_by-is v (λ q. turned t (e q)) q
+      ∙ renamed-turn v t (e (rotated_back v q)) (keep (rotated_back v q) (keeps_kinds v q p).home_place)
+      ∙ ap (turned (renamed_turn (face_by v) t)) (sym (renamed_by-is v e q));
+  back_is = λ t. refl;
+  onto = renamed_from v;
+}
 
-pub cubies_for_flip-valid : (a : Axis) (c : CubieLists) → Valid c → Valid (cubies_for_flip a c)
-cubies_for_flip-valid Ud c v = renamed_cubies-valid XCounter c v
-cubies_for_flip-valid Rl c v = renamed_cubies-valid YQuarter c v
-cubies_for_flip-valid Fb c v = v
+not_renamed : IsRenaming (λ e. e) (λ t. t) (λ c. c)
+not_renamed = record { valid = λ c v. v; map_is = λ c v q p. refl; same = λ d e s. s; turned_is = λ t e keep q p. refl; back_is = λ t. refl; onto = λ c v. (c, v, λ q p. refl) }
 
-pub cubies_for_flip-map : (a : Axis) (c : CubieLists) → Valid c → SameMap (map_lists (cubies_for_flip a c)) (for_flip a (map_lists c))
-cubies_for_flip-map Ud c v = renamed_lists-map XCounter c v
-cubies_for_flip-map Rl c v = renamed_lists-map YQuarter c v
-cubies_for_flip-map Fb c v = λ q p. refl
+-- by which rotation, if by one
+abbrev flip_renaming : Axis → Option Renaming
+flip_renaming Ud = Some XCounter
+flip_renaming Rl = Some YQuarter
+flip_renaming Fb = None
 
-renamed_flip_ud : renamed_turn_test (turn_for Flip Ud) (spun Rl 3) ≡ true
-renamed_flip_ud = refl
+abbrev twist_renaming : Axis → Option Renaming
+twist_renaming Ud = None
+twist_renaming Rl = Some ZCounter
+twist_renaming Fb = Some XQuarter
 
-renamed_flip_rl : renamed_turn_test (turn_for Flip Rl) (spun Ud 1) ≡ true
-renamed_flip_rl = refl
+abbrev renaming_for : Coordinate → Axis → Option Renaming
+renaming_for Flip = flip_renaming
+renaming_for Twist = twist_renaming
+renaming_for Slice = twist_renaming
 
-for_flip-turned : (a : Axis) (t : Turn) (e : Place → Place) → KeepsPlaces e → SameMap (for_flip a (λ q. turned t (e q))) (λ q. turned (turn_for Flip a t) (for_flip a e q))
-for_flip-turned Ud t e keep = λ q p. renamed-turn (turn_for Flip Ud) (spun Rl 3) renamed_flip_ud t (e (spun Rl 1 q)) (keep (spun Rl 1 q) (keeps_kinds XCounter q p).home_place)
-for_flip-turned Rl t e keep = λ q p. renamed-turn (turn_for Flip Rl) (spun Ud 1) renamed_flip_rl t (e (spun Ud 3 q)) (keep (spun Ud 3 q) (keeps_kinds YQuarter q p).home_place)
-for_flip-turned Fb t e keep = λ q p. refl
+abbrev cubies_by : Option Renaming → CubieLists → CubieLists
+cubies_by None c = c
+cubies_by (Some v) c = renamed_cubies v c
 
-for_flip-same : (a : Axis) (d e : Place → Place) → SameMap d e → SameMap (for_flip a d) (for_flip a e)
-for_flip-same Ud d e s = λ q p. ap (spun Rl 3) (s (spun Rl 1 q) (keeps_kinds XCounter q p).home_place)
-for_flip-same Rl d e s = λ q p. ap (spun Ud 1) (s (spun Ud 3 q) (keeps_kinds YQuarter q p).home_place)
-for_flip-same Fb d e s = s
+-- the cubies from which a coordinate on an axis is read
+abbrev pub cubies_for : Coordinate → Axis → CubieLists → CubieLists
+cubies_for k a = cubies_by (renaming_for k a)
 
-cubies_for_flip-onto : (a : Axis) (c : CubieLists) → Valid c → (w : CubieLists) × Valid w × SameMap (map_lists c) (for_flip a (map_lists w))
-cubies_for_flip-onto Ud c v = renamed_from XCounter c v
-cubies_for_flip-onto Rl c v = renamed_from YQuarter c v
-cubies_for_flip-onto Fb c v = (c, v, λ q p. refl)
-
-pub flip_renaming : IsRenaming for_flip (turn_for Flip) cubies_for_flip
-flip_renaming = record { valid = cubies_for_flip-valid; map_is = cubies_for_flip-map; same = for_flip-same; turned_is = for_flip-turned; back_is = λ a t. refl; onto = cubies_for_flip-onto }
-
--- the cubies as the twist and the slice on an axis are read from them
-abbrev pub cubies_for_twist : Axis → CubieLists → CubieLists
-cubies_for_twist Ud c = c
-cubies_for_twist Rl c = renamed_cubies ZCounter c
-cubies_for_twist Fb c = renamed_cubies XQuarter c
-
-pub cubies_for_twist-valid : (a : Axis) (c : CubieLists) → Valid c → Valid (cubies_for_twist a c)
-cubies_for_twist-valid Ud c v = v
-cubies_for_twist-valid Rl c v = renamed_cubies-valid ZCounter c v
-cubies_for_twist-valid Fb c v = renamed_cubies-valid XQuarter c v
-
-pub cubies_for_twist-map : (a : Axis) (c : CubieLists) → Valid c → SameMap (map_lists (cubies_for_twist a c)) (for_twist a (map_lists c))
-cubies_for_twist-map Ud c v = λ q p. refl
-cubies_for_twist-map Rl c v = renamed_lists-map ZCounter c v
-cubies_for_twist-map Fb c v = renamed_lists-map XQuarter c v
-
-renamed_twist_rl : renamed_turn_test (turn_for Twist Rl) (spun Fb 3) ≡ true
-renamed_twist_rl = refl
-
-renamed_twist_fb : renamed_turn_test (turn_for Twist Fb) (spun Rl 1) ≡ true
-renamed_twist_fb = refl
-
-for_twist-turned : (a : Axis) (t : Turn) (e : Place → Place) → KeepsPlaces e → SameMap (for_twist a (λ q. turned t (e q))) (λ q. turned (turn_for Twist a t) (for_twist a e q))
-for_twist-turned Ud t e keep = λ q p. refl
-for_twist-turned Rl t e keep = λ q p. renamed-turn (turn_for Twist Rl) (spun Fb 3) renamed_twist_rl t (e (spun Fb 1 q)) (keep (spun Fb 1 q) (keeps_kinds ZCounter q p).home_place)
-for_twist-turned Fb t e keep = λ q p. renamed-turn (turn_for Twist Fb) (spun Rl 1) renamed_twist_fb t (e (spun Rl 3 q)) (keep (spun Rl 3 q) (keeps_kinds XQuarter q p).home_place)
-
-for_twist-same : (a : Axis) (d e : Place → Place) → SameMap d e → SameMap (for_twist a d) (for_twist a e)
-for_twist-same Ud d e s = s
-for_twist-same Rl d e s = λ q p. ap (spun Fb 3) (s (spun Fb 1 q) (keeps_kinds ZCounter q p).home_place)
-for_twist-same Fb d e s = λ q p. ap (spun Rl 1) (s (spun Rl 3 q) (keeps_kinds XQuarter q p).home_place)
-
-cubies_for_twist-onto : (a : Axis) (c : CubieLists) → Valid c → (w : CubieLists) × Valid w × SameMap (map_lists c) (for_twist a (map_lists w))
-cubies_for_twist-onto Ud c v = (c, v, λ q p. refl)
-cubies_for_twist-onto Rl c v = renamed_from ZCounter c v
-cubies_for_twist-onto Fb c v = renamed_from XQuarter c v
-
-pub twist_renaming : IsRenaming for_twist (turn_for Twist) cubies_for_twist
-twist_renaming = record { valid = cubies_for_twist-valid; map_is = cubies_for_twist-map; same = for_twist-same; turned_is = for_twist-turned; back_is = λ a t. refl; onto = cubies_for_twist-onto }
+pub renaming : (k : Coordinate) (a : Axis) → IsRenaming (renamed_for k a) (turn_for k a) (cubies_for k a)
+renaming Flip Ud = by_rotation XCounter
+renaming Flip Rl = by_rotation YQuarter
+renaming Flip Fb = not_renamed
+renaming Twist Ud = not_renamed
+renaming Twist Rl = by_rotation ZCounter
+renaming Twist Fb = by_rotation XQuarter
+renaming Slice Ud = not_renamed
+renaming Slice Rl = by_rotation ZCounter
+renaming Slice Fb = by_rotation XQuarter

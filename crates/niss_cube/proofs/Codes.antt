@@ -1,32 +1,27 @@
 -- A coordinate as a code of the cubies that it depends on: each number has cubies of its own, and the code after a turn
 -- depends on the code alone.
-use Rattle.std.proofs.Common.{◌≡◌, ℕ, ◌<◌, refl, sym, ◌∙◌, ap, Bool, true, false, List, get_or, map, take, reverse, inl, inr}
-use Rattle.std.specs.Prelude.{count_by, nat_lt, nat_le, ◌==◌, ◌↔◌}
+use Rattle.std.proofs.Common.{◌≡◌, ℕ, ◌<◌, refl, sym, ap, List, get_or, take, reverse}
+use Rattle.std.specs.Prelude.{count_by, nat_lt, ◌==◌}
 use Rattle.std.proofs.lemmas.Bool.{eqb-true, ltb-true}
-use Rattle.std.proofs.lemmas.Bool.Decides.{eqb_tells}
-use Rattle.niss_moves.specs.Places.{Place, SameMap, is_corner, is_edge}
-use Rattle.niss_moves.specs.Effects.{times, turned}
+use Rattle.niss_moves.specs.Places.{Place, SameMap}
+use Rattle.niss_moves.specs.Effects.{turned}
 use Rattle.niss_moves.specs.declared.turn.Turn.{Turn}
 use Rattle.niss_moves.specs.declared.axis.Axis.{Axis}
 use Rattle.niss_cube.specs.declared.cube.coordinate.Coordinate.{Coordinate}
 use Rattle.niss_cube.specs.declared.cube.coordinate.Coordinate.TheVariants.{Flip, Twist, Slice}
-use Rattle.niss_cube.specs.Sets.{Kept, SetsArePlaces, is_kept, set_of}
-use Rattle.niss_cube.specs.Coordinates.{number, rank, number_of, count_of, renamed_for, standard_axis, turn_for}
+use Rattle.niss_cube.specs.Coordinates.{number, rank, flip_of, twist_of, slice_of, number_of, count_of, renamed_for, standard_axis, turn_for}
 use Rattle.niss_cube.specs.Cubies.{corners_home, edges_home, twists_home, flips_home}
+use Rattle.niss_cube.specs.CubieTurns.{turn_table}
 use Rattle.niss_cube.specs.NumberedCubies.{flips_of_number, twists_of_number, edges_of_number}
 use Rattle.niss_cube.specs.NumberAfter.{number_after}
-use Rattle.niss_cube.proofs.CubieLists.{CubieLists, flips_quarter, twists_quarter, edges_quarter, repeated}
-use Rattle.niss_cube.proofs.PlaceTables.{at_below}
-use Rattle.niss_cube.proofs.Logic.{and_left}
-use Rattle.niss_cube.proofs.SetPlaces.{corner_place, edge_place}
-use Rattle.niss_cube.proofs.KeptTests.{kept-tested}
-use Rattle.niss_cube.proofs.CoordinateValues.{flip_of-cubies, twist_of-cubies, slice_of-cubies, flips-below, twists-below, slice-below, slice_occupied, slice_occupied-filled}
-use Rattle.niss_cube.proofs.ListTurns.{Valid, map_lists, turned_lists, turned-part}
-use Rattle.niss_cube.proofs.Orientations.{AreOriented, base_2, base_3, orientations_of_number-are, orientations_of_number-number, oriented-same}
-use Rattle.niss_cube.proofs.KeptFlips.{flips_home-are, are_flips, flip_zero-kept}
-use Rattle.niss_cube.proofs.KeptTwists.{twists_home-are, are_twists, twist_zero-kept, slice_zero-kept}
-use Rattle.niss_cube.proofs.SliceCodes.{ArePlaced, of_number-placed, of_number-rank, repeated-occupied, occupied-same}
-use Rattle.niss_cube.proofs.AxisRenamings.{IsRenaming, cubies_for_flip, flip_renaming, cubies_for_twist, twist_renaming}
+use Rattle.niss_cube.proofs.CubieLists.{CubieLists, Valid, map_lists, tabulated, brought_turned}
+use Rattle.niss_cube.proofs.CubieKinds.{Corners, Edges}
+use Rattle.niss_cube.proofs.FiniteTests.{at_below}
+use Rattle.niss_cube.proofs.ShownCubies.{turns_shown, slice_shown}
+use Rattle.niss_cube.proofs.CoordinateValues.{slice-below, slice_occupied, slice_occupied-filled}
+use Rattle.niss_cube.proofs.TurnedCubies.{turned_lists}
+use Rattle.niss_cube.proofs.Orientations.{AreOriented, base_2, base_3, orientations_of_number-are, orientations_of_number-number, oriented-below, oriented-same}
+use Rattle.niss_cube.proofs.SliceCodes.{ArePlaced, of_number-placed, of_number-rank, turned-occupied, occupied-same}
 
 edges_home-are : ArePlaced edges_home
 edges_home-are = record {
@@ -34,6 +29,12 @@ edges_home-are = record {
   each = λ h l. eqb-true _ _ (at_below 12 (λ h. count_by (λ x. x == h) edges_home == 1) refl h l);
   range = λ n l. ltb-true _ _ (at_below 12 (λ n. nat_lt (get_or edges_home n 0) 12) refl n l);
 }
+
+pub flips_home-are : AreOriented 2 11 flips_home
+flips_home-are = orientations_of_number-are 2 base_2 11 0
+
+pub twists_home-are : AreOriented 3 7 twists_home
+twists_home-are = orientations_of_number-are 3 base_3 7 0
 
 -- cubies with corners at home
 abbrev pub cubies_of : (twists edges flips : List ℕ) → CubieLists
@@ -63,14 +64,21 @@ code Twist c = number 3 (take 7 c.twists)
 code Slice c = rank (slice_occupied c.edges) 4
 
 pub number_of-code : (k : Coordinate) (a : Axis) (e : Place → Place) (c : CubieLists) → Valid c → SameMap (map_lists c) (renamed_for k a e) → number_of k a e ≡ code k c
-number_of-code Flip a e c v s = flip_of-cubies a e c.corners c.twists c.edges c.flips v s
-number_of-code Twist a e c v s = twist_of-cubies a e c.corners c.twists c.edges c.flips v s
-number_of-code Slice a e c v s = slice_of-cubies a e c.corners c.twists c.edges c.flips v s
+unfolding flip_of twist_of slice_of
+number_of-code Flip a e c v s = ap (λ ds. number 2 (take 11 ds)) (turns_shown Edges c v (renamed_for Flip a e) (λ q p. sym (s q p)))
+number_of-code Twist a e c v s = ap (λ ds. number 3 (take 7 ds)) (turns_shown Corners c v (renamed_for Twist a e) (λ q p. sym (s q p)))
+number_of-code Slice a e c v s = ap (λ os. rank (reverse os) 4) (slice_shown c v (renamed_for Slice a e) (λ q p. sym (s q p)))
+
+pub are_flips : (c : CubieLists) → Valid c → AreOriented 2 11 c.flips
+are_flips c v = record { places = v.flip_places; range = v.flip_range; whole = v.flip_sum }
+
+pub are_twists : (c : CubieLists) → Valid c → AreOriented 3 7 c.twists
+are_twists c v = record { places = v.twist_places; range = v.twist_range; whole = v.twist_sum }
 
 pub code-below : (k : Coordinate) (c : CubieLists) → Valid c → code k c < count_of k
-code-below Flip c v = flips-below c.corners c.twists c.edges c.flips v
-code-below Twist c v = twists-below c.corners c.twists c.edges c.flips v
-code-below Slice c v = slice-below c.corners c.twists c.edges c.flips v
+code-below Flip c v = oriented-below 2 11 c.flips (are_flips c v)
+code-below Twist c v = oriented-below 3 7 c.twists (are_twists c v)
+code-below Slice c v = slice-below c v
 
 -- cubies that have a number
 abbrev pub cubies_with : Coordinate → ℕ → CubieLists
@@ -106,33 +114,17 @@ number_after-standard Slice a i t = refl
 -- cubies of one code have one code after a turn
 pub code-turned : (k : Coordinate) (t : Turn) (c d : CubieLists) → Valid c → Valid d → code k c ≡ code k d → code k (turned_lists t c) ≡ code k (turned_lists t d)
 code-turned Flip t c d v w e =
-    ap (λ xs. number 2 (take 11 xs))
-    (turned-part (λ c. c.flips) flips_quarter (λ f c. refl) t c
-    ∙ ap (repeated (times t.power) (flips_quarter t.face)) (oriented-same 2 base_2 11 c.flips d.flips (are_flips c v) (are_flips d w) e)
-    ∙ sym (turned-part (λ c. c.flips) flips_quarter (λ f c. refl) t d))
+    let table = turn_table t.face t.power in
+    ap (λ xs. number 2 (take 11 (tabulated 12 (brought_turned 2 table.edges table.flips xs)))) (oriented-same 2 base_2 11 c.flips d.flips (are_flips c v) (are_flips d w) e)
 code-turned Twist t c d v w e =
-    ap (λ xs. number 3 (take 7 xs))
-    (turned-part (λ c. c.twists) twists_quarter (λ f c. refl) t c
-    ∙ ap (repeated (times t.power) (twists_quarter t.face)) (oriented-same 3 base_3 7 c.twists d.twists (are_twists c v) (are_twists d w) e)
-    ∙ sym (turned-part (λ c. c.twists) twists_quarter (λ f c. refl) t d))
+    let table = turn_table t.face t.power in
+    ap (λ xs. number 3 (take 7 (tabulated 8 (brought_turned 3 table.corners table.twists xs)))) (oriented-same 3 base_3 7 c.twists d.twists (are_twists c v) (are_twists d w) e)
 code-turned Slice t c d v w e =
-    let same : map (nat_le 8) c.edges ≡ map (nat_le 8) d.edges =
-    occupied-same c.edges d.edges v.edge_places w.edge_places (slice_occupied-filled c.corners c.twists c.edges c.flips v) (slice_occupied-filled d.corners d.twists d.edges d.flips w) e in
-    ap (λ xs. rank (slice_occupied xs) 4) (turned-part (λ c. c.edges) edges_quarter (λ f c. refl) t c)
-    ∙ ap (λ os. rank (reverse os) 4) (repeated-occupied (times t.power) t.face c.edges d.edges v.edge_places w.edge_places same)
-    ∙ ap (λ xs. rank (slice_occupied xs) 4) (sym (turned-part (λ c. c.edges) edges_quarter (λ f c. refl) t d))
+    ap (λ os. rank (reverse os) 4)
+    (turned-occupied t c.edges d.edges v.edge_places w.edge_places
+    (occupied-same c.edges d.edges v.edge_places w.edge_places (slice_occupied-filled c v) (slice_occupied-filled d w) e))
 
--- how the cube is renamed for a coordinate
-abbrev pub cubies_for : Coordinate → Axis → CubieLists → CubieLists
-cubies_for Flip = cubies_for_flip
-cubies_for Twist = cubies_for_twist
-cubies_for Slice = cubies_for_twist
-
-pub renaming : (k : Coordinate) → IsRenaming (renamed_for k) (turn_for k) (cubies_for k)
-renaming Flip = flip_renaming
-renaming Twist = twist_renaming
-renaming Slice = twist_renaming
-
+-- on the standard axis the cube isn't renamed
 pub unrenamed : (k : Coordinate) (e : Place → Place) (q : Place) → renamed_for k (standard_axis k) e q ≡ e q
 unrenamed Flip e q = refl
 unrenamed Twist e q = refl
@@ -142,25 +134,3 @@ pub standard_turn-is : (k : Coordinate) (t : Turn) → turn_for k (standard_axis
 standard_turn-is Flip t = refl
 standard_turn-is Twist t = refl
 standard_turn-is Slice t = refl
-
--- the places of its set, which is kept where the number is 0
-pub sets_are_places : SetsArePlaces
-sets_are_places Flip a q h = edge_place q (and_left (is_edge q) _ h)
-sets_are_places Twist a q h = corner_place q (and_left (is_corner q) _ h)
-sets_are_places Slice a q h = edge_place q (and_left (is_edge q) _ h)
-
-pub zero-kept : (k : Coordinate) (a : Axis) (c : CubieLists) → Valid c → (number_of k a (map_lists c) ≡ 0) ↔ Kept (set_of k a) (map_lists c)
-zero-kept Flip = flip_zero-kept
-zero-kept Twist = twist_zero-kept
-zero-kept Slice = slice_zero-kept
-
-is_false : (b : Bool) → (b ≡ true → ⊥) → b ≡ false
-is_false true h = absurd (h refl)
-is_false false h = refl
-
--- A number that is 0 where the set of a coordinate is kept gives the test of the set.
-pub zero_test : (k : Coordinate) (a : Axis) (e : Place → Place) (n : ℕ) → (n ≡ 0) ↔ Kept (set_of k a) e → (n == 0) ≡ is_kept (set_of k a) e
-zero_test k a e n zero = elim (eqb_tells n 0) [
-  | inl w ↦ w.0 ∙ sym ((kept-tested (set_of k a) e (sets_are_places k a)).1 (zero.0 w.1))
-  | inr w ↦ w.0 ∙ sym (is_false (is_kept (set_of k a) e) (λ t. w.1 (zero.1 ((kept-tested (set_of k a) e (sets_are_places k a)).0 t))))
-]

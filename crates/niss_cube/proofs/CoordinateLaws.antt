@@ -15,13 +15,15 @@ use Rattle.niss_cube.specs.Sets.{Kept, set_of}
 use Rattle.niss_cube.specs.Coordinates.{number_of, count_of, renamed_for, standard_axis, turn_for}
 use Rattle.niss_cube.specs.NumberAfter.{number_after}
 use Rattle.niss_cube.specs.AfterTurn.{IsCube, TurnedIsCube, AreCoordinates}
-use Rattle.niss_cube.proofs.CubieLists.{CubieLists}
+use Rattle.niss_cube.proofs.CubieLists.{CubieLists, Valid, map_lists}
 use Rattle.niss_cube.proofs.Each.{at_place}
-use Rattle.niss_cube.proofs.AxisRenamings.{all_turns, at_turn, KeepsPlaces}
-use Rattle.niss_cube.proofs.MapPlaces.{sticker_map-place}
+use Rattle.niss_cube.proofs.FiniteTests.{all_turns, at_turn}
+use Rattle.niss_cube.proofs.AxisRenamings.{cubies_for, renaming}
+use Rattle.niss_cube.proofs.CubieKinds.{map_place}
 use Rattle.niss_cube.proofs.SetPlaces.{kept_same}
-use Rattle.niss_cube.proofs.ListTurns.{Valid, map_lists, turned_lists, turned-valid, turned-map}
-use Rattle.niss_cube.proofs.Codes.{code, number_of-code, code-below, cubies_with, cubies_with-valid, cubies_with-code, number_after-is, code-turned, cubies_for, renaming, unrenamed, standard_turn-is, sets_are_places, zero-kept}
+use Rattle.niss_cube.proofs.TurnedCubies.{turned_lists, turned-valid, turned-map}
+use Rattle.niss_cube.proofs.Codes.{code, number_of-code, code-below, cubies_with, cubies_with-valid, cubies_with-code, number_after-is, code-turned, unrenamed}
+use Rattle.niss_cube.proofs.KeptSets.{sets_are_places, zero-kept}
 use Rattle.niss_moves.proofs.CallerLemmas.{same_place_is}
 
 back_test : all_turns (λ t. list_all (λ q. same_place (turned (inverse_turn t) (turned t q)) q) places) ≡ true
@@ -32,15 +34,12 @@ turned-inverse_turn t q h =
     same_place_is _ _ (at_place (λ q. same_place (turned (inverse_turn t) (turned t q)) q)
     (at_turn (λ t. list_all (λ q. same_place (turned (inverse_turn t) (turned t q)) q) places) back_test t) q h)
 
-pub lists_keep_places : (c : CubieLists) → Valid c → KeepsPlaces (map_lists c)
-lists_keep_places c v = sticker_map-place c.corners c.twists c.edges c.flips v
-
 -- cubies turned and turned back have the map that they had
 turned_back-map : (t : Turn) (c : CubieLists) → Valid c → SameMap (map_lists (turned_lists (inverse_turn t) (turned_lists t c))) (map_lists c)
 turned_back-map t c v = λ q p.
     turned-map (inverse_turn t) (turned_lists t c) (turned-valid t c v) q p
     ∙ ap (turned (inverse_turn t)) (turned-map t c v q p)
-    ∙ turned-inverse_turn t (map_lists c q) (lists_keep_places c v q p)
+    ∙ turned-inverse_turn t (map_lists c q) (map_place c v q p)
 
 abbrev pub lists_of : Cube → CubieLists
 lists_of c = record { corners = c.corners; twists = c.twists; edges = c.edges; flips = c.flips }
@@ -95,7 +94,7 @@ module _ (k : Coordinate) (a : Axis) where
       let j : ℕ = number_after k a i t in
       let lj : j < count_of k = stays_below i t l in
       after_code j (inverse_turn t) lj
-      ∙ ap (λ s. code k (turned_lists s (cubies_with k j))) ((renaming k).back_is a t)
+      ∙ ap (λ s. code k (turned_lists s (cubies_with k j))) ((renaming k a).back_is t)
       ∙ code-turned k (inverse_turn s) (cubies_with k j) w (cubies_with-valid k j lj) wv (cubies_with-code k j lj ∙ after_code i t l)
       ∙ sym (standard-code k u (turned-valid (inverse_turn s) w wv))
       ∙ number_of-code k (standard_axis k) (map_lists u) c cv (λ q p. sym (turned_back-map s c cv q p) ∙ sym (unrenamed k (map_lists u) q))
@@ -107,20 +106,20 @@ module _ (k : Coordinate) (a : Axis) where
     here = cubies_for k a c
 
     here-valid : Valid here
-    here-valid = (renaming k).valid a c v
+    here-valid = (renaming k a).valid c v
 
     number-here : number_of k a e ≡ code k here
     number-here =
-        number_of-code k a e here here-valid (λ q p. (renaming k).map_is a c v q p ∙ (renaming k).same a (map_lists c) e same q p)
+        number_of-code k a e here here-valid (λ q p. (renaming k a).map_is c v q p ∙ (renaming k a).same (map_lists c) e same q p)
 
     turned-here : (t : Turn) → number_of k a (λ q. turned t (e q)) ≡ code k (turned_lists (turn_for k a t) here)
     turned-here t =
         let s : Turn = turn_for k a t in
         number_of-code k a (λ q. turned t (e q)) (turned_lists s here) (turned-valid s here here-valid)
         (λ q p. turned-map s here here-valid q p
-        ∙ ap (turned s) ((renaming k).map_is a c v q p)
-        ∙ sym ((renaming k).turned_is a t (map_lists c) (lists_keep_places c v) q p)
-        ∙ (renaming k).same a (λ q. turned t (map_lists c q)) (λ q. turned t (e q)) (λ q p. ap (turned t) (same q p)) q p)
+        ∙ ap (turned s) ((renaming k a).map_is c v q p)
+        ∙ sym ((renaming k a).turned_is t (map_lists c) (map_place c v) q p)
+        ∙ (renaming k a).same (λ q. turned t (map_lists c q)) (λ q. turned t (e q)) (λ q p. ap (turned t) (same q p)) q p)
 
     number-below : number_of k a e < count_of k
     number-below = let P : ℕ → Type 0 = λ n. n < count_of k in subst P (sym number-here) (code-below k here here-valid)
@@ -149,19 +148,8 @@ module _ (k : Coordinate) (a : Axis) where
   -- cubies that have a number once they are renamed
   some : (i : ℕ) → i < count_of k → (c : Cube) × (number_of k a (map_of c) ≡ i)
   some i l =
-      let w = (renaming k).onto a (cubies_with k i) (cubies_with-valid k i l) in
+      let w = (renaming k a).onto (cubies_with k i) (cubies_with-valid k i l) in
       (cube_of w.0 w.1, number_of-code k a (map_lists w.0) (cubies_with k i) (cubies_with-valid k i l) w.2 ∙ cubies_with-code k i l)
-
--- the number after one turn, and after one more, on the standard axis
-pub standard-after : (k : Coordinate) (i : ℕ) (t : Turn) → i < count_of k → number_after k (standard_axis k) i t ≡ code k (turned_lists t (cubies_with k i))
-standard-after k i t l = after_code k (standard_axis k) i t l ∙ ap (λ s. code k (turned_lists s (cubies_with k i))) (standard_turn-is k t)
-
-pub standard-after-two : (k : Coordinate) (i : ℕ) (s t : Turn) → i < count_of k → number_after k (standard_axis k) (number_after k (standard_axis k) i s) t ≡ code k (turned_lists t (turned_lists s (cubies_with k i)))
-standard-after-two k i s t l =
-    let j : ℕ = number_after k (standard_axis k) i s in
-    let lj : j < count_of k = stays_below k (standard_axis k) i s l in
-    standard-after k j t lj
-    ∙ code-turned k t (cubies_with k j) (turned_lists s (cubies_with k i)) (cubies_with-valid k j lj) (turned-valid s (cubies_with k i) (cubies_with-valid k i l)) (cubies_with-code k j lj ∙ standard-after k i s l)
 
 pub are_coordinates : AreCoordinates
 are_coordinates k a = record {

@@ -1,37 +1,15 @@
--- The coordinates of a cube by its cubies, and their ranges.
+-- The digits and the occupied places of a cube's cubies, and the range of their numbers.
 use Rattle.std.proofs.Common.{◌≡◌, ℕ, zero, suc, ◌+◌, ◌-◌, ◌*◌, ◌<◌, ◌≤◌, refl, sym, ◌∙◌, ap, subst, List, [], ◌∷◌, length, get_or, map, take, drop, reverse, Bool, true, false, arith}
 use Rattle.std.specs.Prelude.{nat_le, ◌==◌}
 use Rattle.std.proofs.lemmas.Bool.{eqb-true}
 use Rattle.std.proofs.lemmas.List.{get_or-reverse, length-reverse, length-map, get_or-map, get_or-take, length-take}
 use Rattle.std.proofs.Math.Seq.{drop-cons}
-use Rattle.niss_moves.specs.Places.{Place, SameMap}
-use Rattle.niss_cube.specs.Cubies.{AreCubies}
-use Rattle.niss_cube.specs.Map.{sticker_map}
-use Rattle.niss_cube.specs.Coordinates.{number, choose, rank, for_flip, for_twist, flip_of, twist_of, slice_of}
-use Rattle.niss_moves.specs.declared.axis.Axis.{Axis}
+use Rattle.niss_cube.specs.Coordinates.{choose, rank}
+use Rattle.niss_cube.proofs.CubieLists.{CubieLists, Valid}
+use Rattle.niss_cube.proofs.CubieKinds.{Edges, stand}
 use Rattle.niss_cube.proofs.Sums.{below, one_if, below_same, below_permuted, below_front}
-use Rattle.niss_cube.proofs.Once.{count_by-times}
-use Rattle.niss_cube.proofs.PlaceTables.{all_below, at_below}
-use Rattle.niss_cube.proofs.Numbers.{number_from, span, Digits, number-below, filled, rank-below}
-use Rattle.niss_cube.proofs.ShownCubies.{flips_shown, twists_shown, slice_shown}
-
-pub same_map-sym : (d e : Place → Place) → SameMap d e → SameMap e d
-same_map-sym d e s q p = sym (s q p)
-
-pub flip_of-cubies : (a : Axis) (e : Place → Place) (corners twists edges flips : List ℕ) → AreCubies corners twists edges flips → SameMap (sticker_map corners twists edges flips) (for_flip a e) → flip_of a e ≡ number 2 (take 11 flips)
-unfolding flip_of
-flip_of-cubies a e corners twists edges flips c s =
-    ap (λ ds. number 2 (take 11 ds)) (flips_shown corners twists edges flips c (for_flip a e) (same_map-sym (sticker_map corners twists edges flips) (for_flip a e) s))
-
-pub twist_of-cubies : (a : Axis) (e : Place → Place) (corners twists edges flips : List ℕ) → AreCubies corners twists edges flips → SameMap (sticker_map corners twists edges flips) (for_twist a e) → twist_of a e ≡ number 3 (take 7 twists)
-unfolding twist_of
-twist_of-cubies a e corners twists edges flips c s =
-    ap (λ ds. number 3 (take 7 ds)) (twists_shown corners twists edges flips c (for_twist a e) (same_map-sym (sticker_map corners twists edges flips) (for_twist a e) s))
-
-pub slice_of-cubies : (a : Axis) (e : Place → Place) (corners twists edges flips : List ℕ) → AreCubies corners twists edges flips → SameMap (sticker_map corners twists edges flips) (for_twist a e) → slice_of a e ≡ rank (reverse (map (nat_le 8) edges)) 4
-unfolding slice_of
-slice_of-cubies a e corners twists edges flips c s =
-    ap (λ os. rank (reverse os) 4) (slice_shown corners twists edges flips c (for_twist a e) (same_map-sym (sticker_map corners twists edges flips) (for_twist a e) s))
+use Rattle.niss_cube.proofs.FiniteTests.{all_below, at_below}
+use Rattle.niss_cube.proofs.Numbers.{number_from, Digits, filled, rank-below}
 
 pub digits_from : (b : ℕ) (xs : List ℕ) → ((i : ℕ) → i < length xs → get_or xs i 0 < b) → Digits b xs
 digits_from b [] h = tt
@@ -44,21 +22,11 @@ digits_taken b n xs l h =
     let s : get_or xs i 0 < b = h i (omega arith) in
     rw (get_or-take n xs i 0 (let q : i < n = omega arith in q)) s)
 
-pub flips-below : (corners twists edges flips : List ℕ) → AreCubies corners twists edges flips → number 2 (take 11 flips) < 2048
-flips-below corners twists edges flips c =
-    let t : length (take 11 flips) ≡ 11 = length-take 11 flips ∙ omega (arith, c.flip_places) in
-    let r = number-below 2 (take 11 flips) (digits_taken 2 11 flips (omega (arith, c.flip_places)) (λ i l. c.flip_range i (omega (arith, l, c.flip_places)))) in
-    let P : ℕ → Type 0 = λ n. number 2 (take 11 flips) < span 2 n in
-    subst P t r
+-- each edge stands at one place
+pub edge-once : (c : CubieLists) → Valid c → (h : ℕ) → h < 12 → below 12 (λ i. one_if (get_or c.edges i 0 == h)) ≡ 1
+edge-once c v h l = ap (λ n. below n (λ i. one_if (get_or c.edges i 0 == h))) (sym v.edge_places) ∙ (stand Edges c v).once h l
 
-pub twists-below : (corners twists edges flips : List ℕ) → AreCubies corners twists edges flips → number 3 (take 7 twists) < 2187
-twists-below corners twists edges flips c =
-    let t : length (take 7 twists) ≡ 7 = length-take 7 twists ∙ omega (arith, c.twist_places) in
-    let r = number-below 3 (take 7 twists) (digits_taken 3 7 twists (omega (arith, c.twist_places)) (λ i l. c.twist_range i (omega (arith, l, c.twist_places)))) in
-    let P : ℕ → Type 0 = λ n. number 3 (take 7 twists) < span 3 n in
-    subst P t r
-
-pub filled-below : (os : List Bool) → filled os ≡ below (length os) (λ k. one_if (get_or os k false))
+filled-below : (os : List Bool) → filled os ≡ below (length os) (λ k. one_if (get_or os k false))
 filled-below [] = refl
 filled-below (true ∷ os) = omega (arith, filled-below os, below_front (length os) (λ k. one_if (get_or (true ∷ os) k false)))
 filled-below (false ∷ os) = omega (arith, filled-below os, below_front (length os) (λ k. one_if (get_or (false ∷ os) k false)))
@@ -66,7 +34,7 @@ filled-below (false ∷ os) = omega (arith, filled-below os, below_front (length
 down_once : all_below 12 (λ h. below 12 (λ k. one_if (11 - k == h)) == 1) ≡ true
 down_once = refl
 
-pub down-once : (h : ℕ) → h < 12 → below 12 (λ k. one_if (11 - k == h)) ≡ 1
+down-once : (h : ℕ) → h < 12 → below 12 (λ k. one_if (11 - k == h)) ≡ 1
 down-once h l = eqb-true _ _ (at_below 12 (λ h. below 12 (λ k. one_if (11 - k == h)) == 1) down_once h l)
 
 -- which places, from the last down, hold an edge of the slice
@@ -84,20 +52,18 @@ slice_occupied-at edges l k lk =
     ∙ get_or-map (nat_le 8) edges (11 - k) 0 false (omega arith)
 
 -- four places are occupied
-pub slice_occupied-filled : (corners twists edges flips : List ℕ) → AreCubies corners twists edges flips → filled (slice_occupied edges) ≡ 4
-slice_occupied-filled corners twists edges flips c =
-    filled-below (slice_occupied edges)
-    ∙ ap (λ n. below n (λ k. one_if (get_or (slice_occupied edges) k false))) (slice_occupied-length edges c.edge_places)
-    ∙ below_same 12 (λ k. one_if (get_or (slice_occupied edges) k false)) (λ k. one_if (nat_le 8 (get_or edges (11 - k) 0))) (λ k l. ap one_if (slice_occupied-at edges c.edge_places k l))
-    ∙ below_permuted 12 (λ k. 11 - k) (λ k. one_if (nat_le 8 (get_or edges k 0))) (λ k l. omega arith) down-once
-    ∙ below_permuted 12 (λ k. get_or edges k 0) (λ h. one_if (nat_le 8 h)) c.edge_range
-    (λ h l. ap (λ n. below n (λ k. one_if (get_or edges k 0 == h))) (sym c.edge_places) ∙ sym (count_by-times edges h) ∙ c.each_edge h l)
+pub slice_occupied-filled : (c : CubieLists) → Valid c → filled (slice_occupied c.edges) ≡ 4
+slice_occupied-filled c v =
+    filled-below (slice_occupied c.edges)
+    ∙ ap (λ n. below n (λ k. one_if (get_or (slice_occupied c.edges) k false))) (slice_occupied-length c.edges v.edge_places)
+    ∙ below_same 12 (λ k. one_if (get_or (slice_occupied c.edges) k false)) (λ k. one_if (nat_le 8 (get_or c.edges (11 - k) 0))) (λ k l. ap one_if (slice_occupied-at c.edges v.edge_places k l))
+    ∙ below_permuted 12 (λ k. 11 - k) (λ k. one_if (nat_le 8 (get_or c.edges k 0))) (λ k l. omega arith) down-once
+    ∙ below_permuted 12 (λ k. get_or c.edges k 0) (λ h. one_if (nat_le 8 h)) v.edge_range (edge-once c v)
 
-pub slice-below : (corners twists edges flips : List ℕ) → AreCubies corners twists edges flips → rank (slice_occupied edges) 4 < 495
-slice-below corners twists edges flips c =
-    let r = rank-below (slice_occupied edges) 4 (slice_occupied-filled corners twists edges flips c) in
-    let P : ℕ → Type 0 = λ n. rank (slice_occupied edges) 4 < choose n 4 in
-    subst P (slice_occupied-length edges c.edge_places) r
+pub slice-below : (c : CubieLists) → Valid c → rank (slice_occupied c.edges) 4 < 495
+slice-below c v =
+    let P : ℕ → Type 0 = λ n. rank (slice_occupied c.edges) 4 < choose n 4 in
+    subst P (slice_occupied-length c.edges v.edge_places) (rank-below (slice_occupied c.edges) 4 (slice_occupied-filled c v))
 
 pub rank-le : (os : List Bool) (k : ℕ) → rank os k ≤ choose (length os) k
 rank-le [] zero = omega arith

@@ -1,8 +1,12 @@
 -- The cubies as lists, and what turns do to them.
-use Rattle.std.specs.Prelude.{ℕ, zero, suc, ◌+◌, ◌%◌, List, map, slice_index}
+use Rattle.std.proofs.Common.{◌≡◌, ◌<◌, ◌∙◌, sym, length, get_or, arith}
+use Rattle.std.specs.Prelude.{ℕ, ◌+◌, ◌%◌, List, map, slice_index, EachIndex}
 use Rattle.std.specs.List.{range_with_len}
-use Rattle.niss_moves.specs.declared.turn.Face.{Face}
-use Rattle.niss_cube.specs.CubieTurns.{quarter_table}
+use Rattle.std.proofs.lemmas.List.FromFn.{get_or-map-range_with_len, length-map-range_with_len}
+use Rattle.std.proofs.lemmas.List.{ext_get_or}
+use Rattle.niss_moves.specs.Places.{Place}
+use Rattle.niss_cube.specs.Cubies.{AreCubies}
+use Rattle.niss_cube.specs.Map.{sticker_map}
 
 pub record CubieLists : Type 0 where
   pub corners : List ℕ
@@ -10,26 +14,34 @@ pub record CubieLists : Type 0 where
   pub edges : List ℕ
   pub flips : List ℕ
 
--- the n elements at the places that a table names
-abbrev pub brought : ℕ → (from xs : List ℕ) → List ℕ
-brought n from xs = map (λ i. slice_index xs (slice_index from i)) (range_with_len 0 n)
+pub lists_path : (c d : CubieLists) → c.corners ≡ d.corners → c.twists ≡ d.twists → c.edges ≡ d.edges → c.flips ≡ d.flips → c ≡ d
+lists_path c d p q r s = λ i. record { corners = p i; twists = q i; edges = r i; flips = s i }
 
--- the same, with what the table adds to each
-abbrev pub brought_turned : ℕ → ℕ → (from added xs : List ℕ) → List ℕ
-brought_turned n m from added xs = map (λ i. (slice_index xs (slice_index from i) + slice_index added i) % m) (range_with_len 0 n)
+abbrev pub Valid : CubieLists → Type 0
+Valid c = AreCubies c.corners c.twists c.edges c.flips
 
-unfoldable pub flips_quarter : Face → List ℕ → List ℕ
-flips_quarter f = brought_turned 12 2 (quarter_table f).edges (quarter_table f).flips
+abbrev pub map_lists : CubieLists → Place → Place
+map_lists c = sticker_map c.corners c.twists c.edges c.flips
 
-unfoldable pub twists_quarter : Face → List ℕ → List ℕ
-twists_quarter f = brought_turned 8 3 (quarter_table f).corners (quarter_table f).twists
+-- the n values of a function from 0 on
+unfoldable pub tabulated : ℕ → (ℕ → ℕ) → List ℕ
+tabulated n f = map f (range_with_len 0 n)
 
-unfoldable pub edges_quarter : Face → List ℕ → List ℕ
-edges_quarter f = brought 12 (quarter_table f).edges
+pub tabulated-length : (n : ℕ) (f : ℕ → ℕ) → length (tabulated n f) ≡ n
+unfolding tabulated
+tabulated-length n f = length-map-range_with_len f 0 n
 
-unfoldable pub corners_quarter : Face → List ℕ → List ℕ
-corners_quarter f = brought 8 (quarter_table f).corners
+pub tabulated-at : (n : ℕ) (f : ℕ → ℕ) (i : ℕ) → i < n → get_or (tabulated n f) i 0 ≡ f i
+unfolding tabulated
+tabulated-at n f i l = get_or-map-range_with_len f 0 n i i 0 l (omega arith)
 
-abbrev pub repeated : {A : Type 0} → ℕ → (A → A) → A → A
-repeated zero f x = x
-repeated (suc n) f x = f (repeated n f x)
+-- a list that was written so
+pub tabulated-is : (n : ℕ) (f : ℕ → ℕ) (xs : List ℕ) → length xs ≡ n → EachIndex xs (λ i. slice_index xs i ≡ f i) → xs ≡ tabulated n f
+tabulated-is n f xs l h = ext_get_or 0 xs (tabulated n f) (l ∙ sym (tabulated-length n f)) (λ i li. h i li ∙ sym (tabulated-at n f i (omega (arith, li, l))))
+
+-- what comes to a place from the one that a table names, alone and with what the table adds
+abbrev pub brought : (from xs : List ℕ) → ℕ → ℕ
+brought from xs i = slice_index xs (slice_index from i)
+
+abbrev pub brought_turned : ℕ → (from added xs : List ℕ) → ℕ → ℕ
+brought_turned m from added xs i = (slice_index xs (slice_index from i) + slice_index added i) % m

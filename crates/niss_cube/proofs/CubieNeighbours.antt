@@ -9,15 +9,15 @@ use Rattle.niss_moves.specs.declared.token.Token.{Token}
 use Rattle.niss_cube.specs.CubieFacelets.{facelet_at, corner_facelets, edge_facelets}
 use Rattle.niss_cube.proofs.Each.{at_place}
 use Rattle.niss_cube.proofs.MovedPositions.{HoldsOfMoves, at_move}
-use Rattle.niss_cube.proofs.PlaceTables.{row_of, index_of}
+use Rattle.niss_cube.proofs.CubieKinds.{Corners, Edges, row_of, index_of}
 use Rattle.niss_cube.proofs.Logic.{and_left, and_right}
 use Rattle.niss_moves.proofs.CallerLemmas.{same_place_is}
 
 unfoldable pub next : Place → Place
 next q =
     if is_corner q
-    then facelet_at corner_facelets (row_of corner_facelets q) ((index_of corner_facelets q + 1) % 3)
-    else (if is_edge q then facelet_at edge_facelets (row_of edge_facelets q) ((index_of edge_facelets q + 1) % 2) else q)
+    then facelet_at corner_facelets (row_of Corners q) ((index_of Corners q + 1) % 3)
+    else (if is_edge q then facelet_at edge_facelets (row_of Edges q) ((index_of Edges q + 1) % 2) else q)
 
 abbrev kept_test : Token → Place → Bool
 kept_test m q = is_place (moved_by m q) && same_place (next (moved_by m q)) (moved_by m (next q))

@@ -14,7 +14,7 @@ use Rattle.niss_cube.specs.declared.letters.TheConstants.{CUBIE_LETTERS}
 use Rattle.niss_cube.proofs.CubieNeighbours.{next, after, effect-place, effect-after}
 use Rattle.niss_cube.proofs.FaceletLetters.{letters-is}
 use Rattle.niss_cube.proofs.Origins.{letter_of-is}
-use Rattle.niss_cube.proofs.PlaceTables.{all_below, at_below}
+use Rattle.niss_cube.proofs.FiniteTests.{all_below, at_below}
 use Rattle.niss_cube.proofs.Logic.{and_left, and_right}
 use Rattle.niss_moves.proofs.CallerLemmas.{same_place_is, effect-append, inverse_after, inverse_before}
 

@@ -10,10 +10,7 @@ use Rattle.niss_moves.specs.declared.token.Token.{Token}
 use Rattle.niss_moves.specs.declared.token.Token.TheVariants as token
 use Rattle.niss_cube.specs.PlacePositions.{place_at, first_number, number_in_kind}
 use Rattle.niss_cube.specs.declared.place_positions.TheConstants.{POSITIONS_AFTER}
-use Rattle.niss_cube.proofs.AxisRenamings.{all_powers, at_power}
-use Rattle.niss_cube.proofs.CubieTurnTables.{all_turns, at_turn}
-use Rattle.niss_cube.proofs.PlaceTables.{all_below, at_below}
-use Rattle.niss_cube.proofs.RotatedPlaces.{all_axes, at_axis}
+use Rattle.niss_cube.proofs.FiniteTests.{all_below, at_below, all_powers, at_power, turn_of, all_turns, at_turn, all_axes, at_axis}
 use Rattle.niss_cube.proofs.Logic.{and_left, and_right}
 use Rattle.niss_moves.proofs.CallerLemmas.{same_place_is}
 
@@ -27,14 +24,14 @@ at_slice t h E = and_left _ _ (and_right (t M) _ h)
 at_slice t h S = and_right (t E) _ (and_right (t M) _ h)
 
 pub record HoldsOfMoves (t : Token → Bool) : Type 0 where
-  pub faces : all_turns (λ f p. t (token.Face (record { face = f; power = p }))) ≡ true
-  pub wide : all_turns (λ f p. t (token.Wide f p)) ≡ true
+  pub faces : all_turns (λ u. t (token.Face u)) ≡ true
+  pub wide : all_turns (λ u. t (token.Wide u.face u.power)) ≡ true
   pub slices : all_slices (λ s. all_powers (λ p. t (token.Slice s p))) ≡ true
   pub rotations : all_axes (λ a. all_powers (λ p. t (token.Rotation a p))) ≡ true
 
 pub at_move : (t : Token → Bool) → HoldsOfMoves t → (m : Token) → t m ≡ true
-at_move t h (token.Face u) = at_turn (λ f p. t (token.Face (record { face = f; power = p }))) h.faces u.face u.power
-at_move t h (token.Wide f p) = at_turn (λ f p. t (token.Wide f p)) h.wide f p
+at_move t h (token.Face u) = at_turn (λ u. t (token.Face u)) h.faces u
+at_move t h (token.Wide f p) = at_turn (λ u. t (token.Wide u.face u.power)) h.wide (turn_of f p)
 at_move t h (token.Slice s p) = at_power (λ p. t (token.Slice s p)) (at_slice (λ s. all_powers (λ p. t (token.Slice s p))) h.slices s) p
 at_move t h (token.Rotation a p) = at_power (λ p. t (token.Rotation a p)) (at_axis (λ a. all_powers (λ p. t (token.Rotation a p))) h.rotations a) p
 

@@ -7,7 +7,7 @@ use Rattle.std.proofs.lemmas.Bool.Decides.{eqb_tells}
 use Rattle.niss_cube.specs.Coordinates.{number}
 use Rattle.niss_cube.specs.NumberedCubies.{digits_of_number, orientations_of_number}
 use Rattle.niss_cube.proofs.Sums.{below, sum_by-below}
-use Rattle.niss_cube.proofs.Numbers.{number_from, Digits, Splits, splits-2, splits-3, number-same, span}
+use Rattle.niss_cube.proofs.Numbers.{number_from, Digits, Splits, splits-2, splits-3, number-same, number-below, span}
 use Rattle.niss_cube.proofs.CoordinateValues.{digits_taken}
 
 -- what is used of a base
@@ -112,17 +112,23 @@ orientations_of_number-number b base n i h =
     let ds : List ℕ = digits_of_number b n i in
     ap (number b) (take-more ds ((b - sum ds % b) % b) n (digits_of_number-length b n i)) ∙ digits_of_number-number b base n i h
 
+oriented-digits : (b n : ℕ) (xs : List ℕ) → AreOriented b n xs → Digits b (take n xs)
+oriented-digits b n xs r = digits_taken b n xs (omega (arith, r.places)) (λ i l. r.range i (omega (arith, l, r.places)))
+
+pub oriented-below : (b n : ℕ) (xs : List ℕ) → AreOriented b n xs → number b (take n xs) < span b n
+oriented-below b n xs r =
+    let P : ℕ → Type 0 = λ m. number b (take n xs) < span b m in
+    let len : length (take n xs) ≡ n = length-take n xs ∙ omega (arith, r.places) in
+    subst P len (number-below b (take n xs) (oriented-digits b n xs r))
+
 -- orientations are determined by their number
 pub oriented-same : (b : ℕ) → Base b → (n : ℕ) (xs ys : List ℕ) → AreOriented b n xs → AreOriented b n ys → number b (take n xs) ≡ number b (take n ys) → xs ≡ ys
 oriented-same b base n xs ys p q e =
     ext_get_or 0 xs ys (p.places ∙ sym q.places) (λ i li. go i (omega (arith, li, p.places)))
   where
-    digits : (zs : List ℕ) → AreOriented b n zs → Digits b (take n zs)
-    digits zs r = digits_taken b n zs (omega (arith, r.places)) (λ i l. r.range i (omega (arith, l, r.places)))
-
     front : take n xs ≡ take n ys
     front = number-same b base.splits (take n xs) (take n ys)
-        (length-take n xs ∙ ap (λ k. min n k) (p.places ∙ sym q.places) ∙ sym (length-take n ys)) (digits xs p) (digits ys q) e
+        (length-take n xs ∙ ap (λ k. min n k) (p.places ∙ sym q.places) ∙ sym (length-take n ys)) (oriented-digits b n xs p) (oriented-digits b n ys q) e
 
     last : get_or xs n 0 ≡ get_or ys n 0
     last =

@@ -5,18 +5,18 @@ use mathlib.Core.List.{reverse_aux}
 use Rattle.std.proofs.lemmas.Bool.{eqb-true, le-leb, leb-true, false_from_ne_true}
 use Rattle.std.proofs.lemmas.List.{ext_get_or, get_or-map, length-map, length-reverse, reverse-reverse}
 use Rattle.std.proofs.lemmas.List.Sums.{sum_by-cons}
-use Rattle.niss_moves.specs.declared.turn.Face.{Face}
-use Rattle.niss_cube.specs.CubieTurns.{quarter_table}
+use Rattle.niss_moves.specs.declared.turn.Turn.{Turn}
+use Rattle.niss_cube.specs.CubieTurns.{turn_table}
 use Rattle.niss_cube.specs.Coordinates.{rank}
-use Rattle.niss_cube.proofs.CubieLists.{brought, edges_quarter, repeated}
+use Rattle.niss_cube.proofs.CubieLists.{tabulated, tabulated-length, tabulated-at, brought}
+use Rattle.niss_cube.proofs.CubieKinds.{Edges}
+use Rattle.niss_cube.proofs.TurnedCubies.{is_table}
 use Rattle.niss_cube.specs.NumberedCubies.{edges_at, edges_of_number, occupied_of_number}
 use Rattle.niss_cube.proofs.Sums.{one_if}
-use Rattle.niss_cube.proofs.PlaceTables.{all_below, at_below}
+use Rattle.niss_cube.proofs.FiniteTests.{all_below, at_below}
 use Rattle.niss_cube.proofs.Numbers.{filled, rank-same}
 use Rattle.niss_cube.proofs.OccupiedNumbers.{Numbered, numbered}
-use Rattle.niss_cube.proofs.QuarterTurned.{edges_permute}
 use Rattle.niss_cube.proofs.CoordinateValues.{slice_occupied}
-use Rattle.niss_cube.proofs.ListTurns.{at-range}
 
 -- which edge stands at each edge place
 pub record ArePlaced (edges : List ℕ) : Type 0 where
@@ -125,31 +125,25 @@ of_number-rank i l =
     let o : Occupied i (reverse (occupied_of_number 12 4 i)) = occupied_of i l in
     ap (λ os. rank (reverse os) 4) (edges_at-is (reverse (occupied_of_number 12 4 i)) o.places o.four) ∙ o.rank_is
 
--- where the edges of the slice stand after a quarter depends on where they stood
-quarter-occupied : (f : Face) (xs ys : List ℕ) → length xs ≡ 12 → length ys ≡ 12 → map (nat_le 8) xs ≡ map (nat_le 8) ys → map (nat_le 8) (edges_quarter f xs) ≡ map (nat_le 8) (edges_quarter f ys)
-unfolding edges_quarter
-quarter-occupied f xs ys lx ly e =
-    ext_get_or false (map (nat_le 8) (brought 12 (quarter_table f).edges xs)) (map (nat_le 8) (brought 12 (quarter_table f).edges ys)) refl
-    (λ i l. at xs lx i l ∙ ap (λ os. get_or os (get_or (quarter_table f).edges i 0) false) e ∙ sym (at ys ly i l))
+-- where the edges of the slice stand after a turn depends on where they stood
+pub turned-occupied : (t : Turn) (xs ys : List ℕ) → length xs ≡ 12 → length ys ≡ 12 → map (nat_le 8) xs ≡ map (nat_le 8) ys →
+    map (nat_le 8) (tabulated 12 (brought (turn_table t.face t.power).edges xs)) ≡ map (nat_le 8) (tabulated 12 (brought (turn_table t.face t.power).edges ys))
+turned-occupied t xs ys lx ly e =
+    ext_get_or false (map (nat_le 8) (tabulated 12 (brought from xs))) (map (nat_le 8) (tabulated 12 (brought from ys))) (len xs ∙ sym (len ys)) (λ i l.
+    let li : i < 12 = omega (arith, l, len xs) in
+    at xs lx i li ∙ ap (λ os. get_or os (get_or from i 0) false) e ∙ sym (at ys ly i li))
   where
-    at : (zs : List ℕ) → length zs ≡ 12 → (i : ℕ) → i < 12 → get_or (map (nat_le 8) (brought 12 (quarter_table f).edges zs)) i false ≡ get_or (map (nat_le 8) zs) (get_or (quarter_table f).edges i 0) false
+    from : List ℕ
+    from = (turn_table t.face t.power).edges
+
+    len : (zs : List ℕ) → length (map (nat_le 8) (tabulated 12 (brought from zs))) ≡ 12
+    len zs = length-map (tabulated 12 (brought from zs)) (nat_le 8) ∙ tabulated-length 12 (brought from zs)
+
+    at : (zs : List ℕ) → length zs ≡ 12 → (i : ℕ) → i < 12 → get_or (map (nat_le 8) (tabulated 12 (brought from zs))) i false ≡ get_or (map (nat_le 8) zs) (get_or from i 0) false
     at zs lz i l =
-        get_or-map (nat_le 8) (brought 12 (quarter_table f).edges zs) i 0 false l
-        ∙ ap (nat_le 8) (at-range 12 (λ i. slice_index zs (slice_index (quarter_table f).edges i)) i l)
-        ∙ sym (get_or-map (nat_le 8) zs (get_or (quarter_table f).edges i 0) 0 false (omega (arith, (edges_permute f).small i l, lz)))
-
-edges_quarter-length : (f : Face) (xs : List ℕ) → length (edges_quarter f xs) ≡ 12
-unfolding edges_quarter
-edges_quarter-length f xs = refl
-
-repeated-length : (n : ℕ) (f : Face) (xs : List ℕ) → length xs ≡ 12 → length (repeated n (edges_quarter f) xs) ≡ 12
-repeated-length zero f xs l = l
-repeated-length (suc n) f xs l = edges_quarter-length f (repeated n (edges_quarter f) xs)
-
-pub repeated-occupied : (n : ℕ) (f : Face) (xs ys : List ℕ) → length xs ≡ 12 → length ys ≡ 12 → map (nat_le 8) xs ≡ map (nat_le 8) ys → map (nat_le 8) (repeated n (edges_quarter f) xs) ≡ map (nat_le 8) (repeated n (edges_quarter f) ys)
-repeated-occupied zero f xs ys lx ly e = e
-repeated-occupied (suc n) f xs ys lx ly e =
-    quarter-occupied f (repeated n (edges_quarter f) xs) (repeated n (edges_quarter f) ys) (repeated-length n f xs lx) (repeated-length n f ys ly) (repeated-occupied n f xs ys lx ly e)
+        get_or-map (nat_le 8) (tabulated 12 (brought from zs)) i 0 false (omega (arith, l, tabulated-length 12 (brought from zs)))
+        ∙ ap (nat_le 8) (tabulated-at 12 (brought from zs) i l)
+        ∙ sym (get_or-map (nat_le 8) zs (get_or from i 0) 0 false (omega (arith, (is_table Edges t).from_below i l, lz)))
 
 -- where the edges of a slice stand is determined by their number
 pub occupied-same : (xs ys : List ℕ) → length xs ≡ 12 → length ys ≡ 12 → filled (slice_occupied xs) ≡ 4 → filled (slice_occupied ys) ≡ 4 → rank (slice_occupied xs) 4 ≡ rank (slice_occupied ys) 4 → map (nat_le 8) xs ≡ map (nat_le 8) ys

@@ -6,7 +6,7 @@ use Rattle.std.proofs.Math.Seq.{drop-cons}
 use Rattle.std.proofs.lemmas.List.{length-drop}
 use Rattle.niss_cube.specs.Coordinates.{choose, rank}
 use Rattle.niss_cube.specs.declared.slice_places.TheConstants.{CHOICES}
-use Rattle.niss_cube.proofs.PlaceTables.{all_below, at_below}
+use Rattle.niss_cube.proofs.FiniteTests.{all_below, at_below}
 use Rattle.niss_cube.proofs.CoordinateValues.{slice_occupied, slice_occupied-length, slice_occupied-at}
 
 choices_test : all_below 12 (λ n. all_below 4 (λ k. get_or (get_or CHOICES n []) k 0 == choose n k)) ≡ true

@@ -15,7 +15,7 @@ use Rattle.niss_cube.specs.declared.step.Goal.TheVariants.{Edges, Domino}
 use Rattle.niss_cube.specs.declared.cube.coordinate.Coordinate.TheVariants.{Flip, Twist, Slice}
 use Rattle.niss_cube.proofs.Logic.{same_truth}
 use Rattle.niss_cube.proofs.KeptTests.{kept-tested}
-use Rattle.niss_cube.proofs.Codes.{sets_are_places}
+use Rattle.niss_cube.proofs.KeptSets.{sets_are_places}
 use Rattle.niss_cube.proofs.SetPlaces.{kept_same}
 use Rattle.niss_cube.proofs.StepTurns.{turns_from, turn_keeps}
 

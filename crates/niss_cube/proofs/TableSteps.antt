@@ -1,9 +1,11 @@
 -- The rows of the tables, and what is looked up in them.
-use Rattle.std.proofs.Common.{◌≡◌, refl, ℕ, ◌+◌, ◌<◌, sym, ◌∙◌, ap, subst, List, [], ◌∷◌, length, get_or, set, arith, inl, inr}
+use Rattle.std.proofs.Common.{◌≡◌, refl, ℕ, ◌+◌, ◌<◌, sym, ◌∙◌, ap, subst, List, [], ◌∷◌, length, get_or, set, Bool, true, ◌&&◌, arith, inl, inr}
 use Rattle.std.specs.Prelude.{slice_index}
 use Rattle.std.proofs.lemmas.List.{get_or-set_same, get_or-set_other, length-set}
 use Rattle.std.proofs.lemmas.Bool.Decides.{eqb_tells}
-use Rattle.niss_moves.specs.Places.{Place}
+use Rattle.std.specs.List.{list_all}
+use Rattle.niss_moves.specs.Places.{Place, same_place, is_place}
+use Rattle.niss_moves.specs.Facelets.{places}
 use Rattle.niss_moves.specs.Effects.{turned}
 use Rattle.niss_moves.specs.declared.turn.Face.{Face}
 use Rattle.niss_moves.specs.declared.turn.Face.TheVariants.{U, D, R, L, F, B}
@@ -15,11 +17,16 @@ use Rattle.niss_cube.specs.declared.cube.coordinate.Coordinate.{Coordinate}
 use Rattle.niss_cube.specs.Map.{map_of}
 use Rattle.niss_cube.specs.Coordinates.{count_of, face_for, number_of, standard_axis, turn_for}
 use Rattle.niss_cube.specs.NumberAfter.{number_after}
-use Rattle.niss_cube.specs.AfterTurn.{IsCoordinate}
+use Rattle.niss_cube.specs.AfterTurn.{IsCoordinate, IsCube}
 use Rattle.niss_cube.specs.TableRows.{AreRows, AreRowsAt, AreQuarters, IsQuarter, entry_at, face_index, power_index}
 use Rattle.niss_moves.specs.declared.axis.Axis.{Axis}
 use Rattle.niss_cube.proofs.Codes.{number_after-standard}
-use Rattle.niss_cube.proofs.CoordinateLaws.{are_coordinates, standard-after, standard-after-two}
+use Rattle.niss_cube.proofs.CoordinateLaws.{are_coordinates, cube-itself, lists_of, turned_is_cube}
+use Rattle.niss_cube.proofs.CubieKinds.{map_place}
+use Rattle.niss_cube.proofs.Each.{at_place}
+use Rattle.niss_cube.proofs.FiniteTests.{at_face, turn_of}
+use Rattle.niss_cube.proofs.Logic.{and_left, and_right}
+use Rattle.niss_moves.proofs.CallerLemmas.{same_place_is}
 
 abbrev after_of : Coordinate → ℕ → Turn → ℕ
 after_of k = number_after k (standard_axis k)
@@ -29,9 +36,6 @@ coordinate_of k = number_of k (standard_axis k)
 
 law : (k : Coordinate) → IsCoordinate k (standard_axis k)
 law k = are_coordinates k (standard_axis k)
-
-abbrev turn_of : Face → Power → Turn
-turn_of f p = record { face = f; power = p }
 
 -- the entries of a row at the quarters
 pub quarters-are : (k : Coordinate) (e : Place → Place) (u d r l f b : ℕ) → u ≡ coordinate_of k (λ q. turned (turn_of U Quarter) (e q)) → d ≡ coordinate_of k (λ q. turned (turn_of D Quarter) (e q)) → r ≡ coordinate_of k (λ q. turned (turn_of R Quarter) (e q)) →
@@ -44,12 +48,35 @@ quarters-are k e u d r l f b hu hd hr hl hf hb L = hl
 quarters-are k e u d r l f b hu hd hr hl hf hb F = hf
 quarters-are k e u d r l f b hu hd hr hl hf hb B = hb
 
+-- a turn and another one after it are one where they bring each place alike
+after-both : (k : Coordinate) (s t u : Turn) → ((q : Place) → is_place q ≡ true → turned t (turned s q) ≡ turned u q) → (i : ℕ) → i < count_of k → after_of k (after_of k i s) t ≡ after_of k i u
+after-both k s t u same i l =
+    let c = (law k).some_cube i l in
+    let e : Place → Place = map_of c.0 in
+    let once : IsCube (λ q. turned s (e q)) = turned_is_cube e s (cube-itself c.0) in
+    let number : (w : Turn) → coordinate_of k (λ q. turned w (e q)) ≡ after_of k i w = λ w. (law k).follows e w (cube-itself c.0) ∙ ap (λ j. after_of k j w) c.1 in
+    ap (λ j. after_of k j t) (sym (number s))
+    ∙ sym ((law k).follows (λ q. turned s (e q)) t once)
+    ∙ (law k).of_places (λ q. turned t (turned s (e q))) (λ q. turned u (e q)) (turned_is_cube (λ q. turned s (e q)) t once)
+    (λ q p. same (e q) (map_place (lists_of c.0) c.0.are_cubies q p))
+    ∙ number u
+
 -- a half turn is two quarters, a counter turn three
+abbrev powers_test : Face → Place → Bool
+powers_test f q =
+    same_place (turned (turn_of f Quarter) (turned (turn_of f Quarter) q)) (turned (turn_of f Half) q)
+    && same_place (turned (turn_of f Quarter) (turned (turn_of f Half) q)) (turned (turn_of f Counter) q)
+
+powers_tested : (f : Face) (q : Place) → is_place q ≡ true → powers_test f q ≡ true
+powers_tested f q p = at_place (powers_test f) (at_face (λ f. list_all (powers_test f) places) refl f) q p
+
 after-twice : (k : Coordinate) (f : Face) (i : ℕ) → i < count_of k → after_of k (after_of k i (turn_of f Quarter)) (turn_of f Quarter) ≡ after_of k i (turn_of f Half)
-after-twice k f i l = standard-after-two k i (turn_of f Quarter) (turn_of f Quarter) l ∙ sym (standard-after k i (turn_of f Half) l)
+after-twice k f = after-both k (turn_of f Quarter) (turn_of f Quarter) (turn_of f Half) (λ q p. same_place_is _ _ (and_left _ _ (powers_tested f q p)))
 
 after-thrice : (k : Coordinate) (f : Face) (i : ℕ) → i < count_of k → after_of k (after_of k i (turn_of f Half)) (turn_of f Quarter) ≡ after_of k i (turn_of f Counter)
-after-thrice k f i l = standard-after-two k i (turn_of f Half) (turn_of f Quarter) l ∙ sym (standard-after k i (turn_of f Counter) l)
+after-thrice k f =
+    after-both k (turn_of f Half) (turn_of f Quarter) (turn_of f Counter)
+    (λ q p. same_place_is _ _ (and_right (same_place (turned (turn_of f Quarter) (turned (turn_of f Quarter) q)) (turned (turn_of f Half) q)) _ (powers_tested f q p)))
 
 abbrev AreNumbersAfter : Coordinate → ℕ → Face → List ℕ → Type 0
 AreNumbersAfter k i f numbers = (p : Power) → slice_index numbers (power_index p) ≡ after_of k i (turn_of f p)

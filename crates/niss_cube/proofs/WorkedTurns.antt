@@ -13,8 +13,7 @@ use Rattle.niss_cube.specs.Coordinates.{flip_of, twist_of, slice_of, number_of}
 use Rattle.niss_cube.specs.NumberAfter.{number_after}
 use Rattle.niss_cube.specs.declared.cube.coordinate.Coordinate.{Coordinate}
 use Rattle.niss_cube.specs.declared.cube.coordinate.Coordinate.TheVariants.{Flip, Twist, Slice}
-use Rattle.niss_cube.proofs.PlaceTables.{all_faces}
-use Rattle.niss_cube.proofs.AxisRenamings.{all_powers}
+use Rattle.niss_cube.proofs.FiniteTests.{all_turns}
 
 abbrev turn : Face → Turn
 turn f = record { face = f; power = Quarter }
@@ -32,7 +31,7 @@ abbrev pub mixed : Place → Place
 mixed q = turned (record { face = U; power = Counter }) (turned (record { face = F; power = Quarter }) (turned (turn R) q))
 
 abbrev follow : Coordinate → Axis → Bool
-follow k a = all_faces (λ f. all_powers (λ p. number_of k a (λ q. turned (record { face = f; power = p }) (mixed q)) == number_after k a (number_of k a mixed) (record { face = f; power = p })))
+follow k a = all_turns (λ t. number_of k a (λ q. turned t (mixed q)) == number_after k a (number_of k a mixed) t)
 
 follow_test : follow Twist Rl && follow Twist Fb && follow Slice Rl && follow Slice Fb && follow Flip Ud ≡ true
 unfolding number_after flips_of_number twists_of_number edges_of_number flip_of twist_of slice_of occupied_of_number

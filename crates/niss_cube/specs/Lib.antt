@@ -12,7 +12,6 @@ pub mod NumberedCubies
 pub mod NumberAfter
 pub mod AfterTurn
 pub mod TableRows
-pub mod RotatedText
 pub mod PlacePositions
 pub mod Steps
 pub mod StepLaws

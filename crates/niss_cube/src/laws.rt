@@ -1,4 +1,6 @@
 //! Laws over the definitions, each as a contract.
+#![tactic(auto, using(crate::proofs::LawLemmas::laws))]
+
 ghost use Rattle.niss_cube.specs.AfterTurn.{TurnedIsCube, AreCoordinates};
 ghost use Rattle.niss_cube.specs.Sets.{KeptIsTested, SetsArePlaces};
 ghost use Rattle.niss_cube.specs.Permutations.{CubesPermutePlaces, KeptIsEqual};

@@ -3,11 +3,11 @@ ghost use Rattle.std.specs.Prelude.{◌≡◌, ◌↔◌, IsTrue, ◌≢◌, IfS
 ghost use Rattle.std.specs.List.{Any};
 ghost use Rattle.std.specs.Option.{option_copied};
 ghost use Rattle.niss_cube.specs.Map.{map_of};
-ghost use Rattle.niss_cube.specs.Sets.{flip_set, twist_set, slice_set, is_kept, Kept};
 ghost use Rattle.niss_cube.specs.Steps.{steps, name_of, start_of, start_name_of, goals_of, turns_of, holds, may_start, reached, KeepsGoal, KeepsStart};
 ghost use Rattle.niss_cube.specs.declared.step.Step.{Step};
 
 use crate::cube::Cube;
+use crate::cube::coordinate::Coordinate;
 use niss_moves::{Axis, Face, Power, Turn, turn_order};
 
 /// A step of solving, named as solvers do: an edge orientation (`eo`) on an axis, or a domino reduction (`dr`) on an axis
@@ -242,33 +242,12 @@ impl Goal {
         ensures kept { IsTrue result ↔ KeepsGoal self (map_of cube.now) }
     {
         match self {
-            Goal::Edges(axis) => has_oriented_edges(cube, axis),
+            Goal::Edges(axis) => Coordinate::Flip.is_zero(axis, cube),
             Goal::Domino { edges, axis } => {
-                has_oriented_edges(cube, edges)
-                    && has_untwisted_corners(cube, axis)
-                    && has_full_slice(cube, axis)
+                Coordinate::Flip.is_zero(edges, cube)
+                    && Coordinate::Twist.is_zero(axis, cube)
+                    && Coordinate::Slice.is_zero(axis, cube)
             }
         }
     }
-}
-
-fn has_oriented_edges(cube: &Cube, axis: Axis) -> bool
-    ensures value { result ≡ is_kept (flip_set axis) (map_of cube.now) }
-    ensures kept { IsTrue result ↔ Kept (flip_set axis) (map_of cube.now) }
-{
-    cube.flip(axis) == 0
-}
-
-fn has_untwisted_corners(cube: &Cube, axis: Axis) -> bool
-    ensures value { result ≡ is_kept (twist_set axis) (map_of cube.now) }
-    ensures kept { IsTrue result ↔ Kept (twist_set axis) (map_of cube.now) }
-{
-    cube.twist(axis) == 0
-}
-
-fn has_full_slice(cube: &Cube, axis: Axis) -> bool
-    ensures value { result ≡ is_kept (slice_set axis) (map_of cube.now) }
-    ensures kept { IsTrue result ↔ Kept (slice_set axis) (map_of cube.now) }
-{
-    cube.slice(axis) == 0
 }

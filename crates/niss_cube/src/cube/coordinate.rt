@@ -1,9 +1,9 @@
 //! The coordinates of a cube, each as one value.
-ghost use Rattle.std.specs.Prelude.{◌≡◌, ◌<◌, ◌↔◌, ℕ};
+ghost use Rattle.std.specs.Prelude.{◌≡◌, ◌<◌, ◌↔◌, ℕ, IsTrue};
 ghost use Rattle.niss_moves.specs.Effects.{turned};
 ghost use Rattle.niss_moves.specs.Places.{SameMap};
 ghost use Rattle.niss_cube.specs.Map.{map_of};
-ghost use Rattle.niss_cube.specs.Sets.{Kept, set_of};
+ghost use Rattle.niss_cube.specs.Sets.{Kept, is_kept, set_of};
 ghost use Rattle.niss_cube.specs.Coordinates.{count_of, face_for, number_of, renamed_for, standard_axis, turn_for};
 ghost use Rattle.niss_cube.specs.NumberAfter.{number_after};
 
@@ -44,6 +44,14 @@ impl Coordinate {
         ensures kept { (result ≡ 0) ↔ Kept (set_of self axis) (map_of cube.now) }
     {
         self.standard_number(&self.renamed(axis, cube))
+    }
+
+    /// Whether it is 0 on an axis: whether the cube keeps its set of places.
+    pub(crate) fn is_zero(self, axis: Axis, cube: &Cube) -> bool
+        ensures value { result ≡ is_kept (set_of self axis) (map_of cube.now) }
+        ensures kept { IsTrue result ↔ Kept (set_of self axis) (map_of cube.now) }
+    {
+        self.number(axis, cube) == 0
     }
 
     /// A cube as the coordinate on an axis is read from it.

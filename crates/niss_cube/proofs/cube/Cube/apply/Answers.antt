@@ -1,4 +1,4 @@
-use Rattle.std.proofs.Common.{◌+◌, ◌∙◌, ap, sym, drop}
+use Rattle.std.proofs.Common.{◌+◌, ◌∙◌, refl, ap, sym, drop}
 use Rattle.std.proofs.lemmas.List.{at_drop_more}
 use Rattle.niss_cube.specs.Map.{map_of}
 use Rattle.niss_moves.specs.Effects.{effect_of_turns}
@@ -9,3 +9,6 @@ loop-turn-preserved c q p =
     ap (effect_of_turns (drop (c.loop-turn.turn-index + 1) c.args.turns.now)) (c.turn.ensures q p)
     ∙ sym (at_drop_more (λ ts. effect_of_turns ts (map_of c.loop-turn.self q)) c.args.turns.now c.loop-turn.turn-index _ c.loop-turn-test.true)
     ∙ c.loop-turn.invariant q p
+
+pub loop-turn-init : goal.loop-turn-init
+loop-turn-init c = λ q p. refl

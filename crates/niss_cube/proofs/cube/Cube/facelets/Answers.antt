@@ -2,7 +2,7 @@ use Rattle.std.proofs.Common.{◌∙◌}
 use Rattle.niss_moves.specs.Effects.{effect}
 use Rattle.niss_moves.specs.Rotations.{to_top}
 use Rattle.niss_cube.specs.Map.{map_of}
-use Rattle.niss_cube.proofs.RotatedPlaces.{letters-spelling}
+use Rattle.niss_cube.proofs.RotatedLetters.{letters-spelling}
 use Rattle.niss_cube.proofs.cube.Cube.facelets.Goals as goal
 
 pub returns : goal.returns

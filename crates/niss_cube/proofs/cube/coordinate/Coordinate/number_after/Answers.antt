@@ -2,8 +2,8 @@ use Rattle.std.proofs.Common.{◌≡◌, ◌<◌, ◌∙◌, sym, ap, arith, tak
 use Rattle.niss_cube.specs.Coordinates.{number, rank}
 use Rattle.niss_cube.specs.declared.cube.coordinate.Coordinate.TheVariants.{Flip, Twist, Slice}
 use Rattle.niss_cube.proofs.CoordinateValues.{slice_occupied}
-use Rattle.niss_cube.proofs.ListTurns.{turned_lists, turned-valid}
-use Rattle.niss_cube.proofs.TableTurns.{flips-turned, twists-turned, edges-turned}
+use Rattle.niss_cube.proofs.CubieLists.{tabulated-is}
+use Rattle.niss_cube.proofs.TurnedCubies.{turned_lists, turned-valid}
 use Rattle.niss_cube.proofs.Codes.{code-below}
 use Rattle.niss_cube.proofs.CoordinateLaws.{lists_of, standard-turned}
 use Rattle.niss_cube.proofs.cube.coordinate.Coordinate.number_after.Goals as goal
@@ -11,39 +11,28 @@ use Rattle.niss_cube.proofs.cube.coordinate.Coordinate.number_after.Goals as goa
 pub number_of-requires-clause-fits : goal.number_of-requires-clause-fits
 number_of-requires-clause-fits c =
     let a = lists_of c.args.cube.now in
-    let v = c.args.cube.now.are_cubies in
-    let same : c.turn_flips.result ≡ (turned_lists c.args.turn a).flips = flips-turned c.args.turn a c.turn_flips.result (omega arith) c.turn_flips.ensures in
-    let l : number 2 (take 11 (turned_lists c.args.turn a).flips) < 2048 = code-below Flip (turned_lists c.args.turn a) (turned-valid c.args.turn a v) in
+    let same : c.turn_flips.result ≡ (turned_lists c.args.turn a).flips = tabulated-is 12 _ _ (omega arith) c.turn_flips.ensures in
+    let l : number 2 (take 11 (turned_lists c.args.turn a).flips) < 2048 = code-below Flip (turned_lists c.args.turn a) (turned-valid c.args.turn a c.args.cube.now.are_cubies) in
     omega (arith, l, ap (λ xs. number 2 (take 11 xs)) same)
 
 pub number_of-requires-in-Twist-clause-fits : goal.number_of-requires-in-Twist-clause-fits
 number_of-requires-in-Twist-clause-fits c =
     let a = lists_of c.args.cube.now in
-    let v = c.args.cube.now.are_cubies in
-    let same : c.turn_twists.result ≡ (turned_lists c.args.turn a).twists = twists-turned c.args.turn a c.turn_twists.result (omega arith) c.turn_twists.ensures in
-    let l : number 3 (take 7 (turned_lists c.args.turn a).twists) < 2187 = code-below Twist (turned_lists c.args.turn a) (turned-valid c.args.turn a v) in
+    let same : c.turn_twists.result ≡ (turned_lists c.args.turn a).twists = tabulated-is 8 _ _ (omega arith) c.turn_twists.ensures in
+    let l : number 3 (take 7 (turned_lists c.args.turn a).twists) < 2187 = code-below Twist (turned_lists c.args.turn a) (turned-valid c.args.turn a c.args.cube.now.are_cubies) in
     omega (arith, l, ap (λ xs. number 3 (take 7 xs)) same)
 
 pub returns-in-Flip : goal.returns-in-Flip
-returns-in-Flip c =
-    let a = lists_of c.args.cube.now in
-    let v = c.args.cube.now.are_cubies in
-    rw c.in-Flip.is (c.number_of.ensures
-    ∙ ap (λ xs. number 2 (take 11 xs)) (flips-turned c.args.turn a c.turn_flips.result (omega arith) c.turn_flips.ensures)
-    ∙ sym (standard-turned Flip c.args.turn a v))
+returns-in-Flip c = rw c.in-Flip.is (c.number_of.ensures
+    ∙ ap (λ xs. number 2 (take 11 xs)) (tabulated-is 12 _ _ (omega arith) c.turn_flips.ensures)
+    ∙ sym (standard-turned Flip c.args.turn (lists_of c.args.cube.now) c.args.cube.now.are_cubies))
 
 pub returns-in-Twist : goal.returns-in-Twist
-returns-in-Twist c =
-    let a = lists_of c.args.cube.now in
-    let v = c.args.cube.now.are_cubies in
-    rw c.in-Twist.is (c.number_of-in-Twist.ensures
-    ∙ ap (λ xs. number 3 (take 7 xs)) (twists-turned c.args.turn a c.turn_twists.result (omega arith) c.turn_twists.ensures)
-    ∙ sym (standard-turned Twist c.args.turn a v))
+returns-in-Twist c = rw c.in-Twist.is (c.number_of-in-Twist.ensures
+    ∙ ap (λ xs. number 3 (take 7 xs)) (tabulated-is 8 _ _ (omega arith) c.turn_twists.ensures)
+    ∙ sym (standard-turned Twist c.args.turn (lists_of c.args.cube.now) c.args.cube.now.are_cubies))
 
 pub returns-in-Slice : goal.returns-in-Slice
-returns-in-Slice c =
-    let a = lists_of c.args.cube.now in
-    let v = c.args.cube.now.are_cubies in
-    rw c.in-Slice.is (c.slice_number.ensures
-    ∙ ap (λ xs. rank (slice_occupied xs) 4) (edges-turned c.args.turn a c.turn_edges.result (omega arith) c.turn_edges.ensures)
-    ∙ sym (standard-turned Slice c.args.turn a v))
+returns-in-Slice c = rw c.in-Slice.is (c.slice_number.ensures
+    ∙ ap (λ xs. rank (slice_occupied xs) 4) (tabulated-is 12 _ _ (omega arith) c.turn_edges.ensures)
+    ∙ sym (standard-turned Slice c.args.turn (lists_of c.args.cube.now) c.args.cube.now.are_cubies))

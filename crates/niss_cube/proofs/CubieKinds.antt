@@ -1,0 +1,303 @@
+-- Corners and edges as two kinds of cubies: what holds of both, and where the map of cubies brings their facelets.
+use Rattle.std.proofs.Common.{◌≡◌, ℕ, ◌+◌, ◌-◌, ◌%◌, ◌<◌, refl, sym, ◌∙◌, ap, List, length, get_or, Bool, true, false, ◌&&◌, ◌||◌, not, arith, inl, inr}
+use Rattle.std.specs.Prelude.{◌==◌, ◌⊎◌, nat_lt, sum}
+use Rattle.std.specs.List.{list_all, list_any}
+use Rattle.std.proofs.lemmas.Bool.{eqb-true, ltb-true}
+use Rattle.niss_moves.specs.Places.{Place, same_place, is_place, is_corner, is_edge, SameMap}
+use Rattle.niss_moves.specs.Facelets.{places}
+use Rattle.niss_cube.specs.CubieFacelets.{index_in, row_at, facelet_at, corner_facelets, edge_facelets}
+use Rattle.niss_cube.specs.Map.{sticker_place}
+use Rattle.niss_cube.proofs.CubieLists.{CubieLists, Valid, map_lists}
+use Rattle.niss_cube.proofs.Each.{at_place, each_record, at_record}
+use Rattle.niss_cube.proofs.Once.{times_in, place_in, place_in-found, place_in-is, count_by-times}
+use Rattle.niss_cube.proofs.FiniteTests.{all_below, at_below}
+use Rattle.niss_cube.proofs.SetPlaces.{corner_place, edge_place}
+use Rattle.niss_cube.proofs.Logic.{and_left, and_right, is_true, not_true, or_then}
+use Rattle.niss_moves.proofs.CallerLemmas.{same_place_is}
+
+pub data Kind : Type 0 where
+  Corners : Kind
+  Edges : Kind
+
+-- how many there are, how many facelets each has, and which they are
+abbrev pub count : Kind → ℕ
+count Corners = 8
+count Edges = 12
+
+abbrev pub facelets : Kind → ℕ
+facelets Corners = 3
+facelets Edges = 2
+
+abbrev pub rows : Kind → List (List Place)
+rows Corners = corner_facelets
+rows Edges = edge_facelets
+
+abbrev pub at : Kind → ℕ → ℕ → Place
+at k i j = facelet_at (rows k) i j
+
+abbrev pub is_of : Kind → Place → Bool
+is_of Corners = is_corner
+is_of Edges = is_edge
+
+-- which of them stands at each place, and how it is turned there
+abbrev pub homes : Kind → CubieLists → List ℕ
+homes Corners c = c.corners
+homes Edges c = c.edges
+
+abbrev pub turns : Kind → CubieLists → List ℕ
+turns Corners c = c.twists
+turns Edges c = c.flips
+
+abbrev pub home_at : Kind → CubieLists → ℕ → ℕ
+home_at k c i = get_or (homes k c) i 0
+
+abbrev pub turn_at : Kind → CubieLists → ℕ → ℕ
+turn_at k c i = get_or (turns k c) i 0
+
+abbrev pub place_of : Kind → CubieLists → ℕ → ℕ
+place_of k c h = place_in (homes k c) h
+
+-- what valid cubies are, by the kind
+pub record Stand (k : Kind) (c : CubieLists) : Type 0 where
+  pub homes_len : length (homes k c) ≡ count k
+  pub turns_len : length (turns k c) ≡ count k
+  pub once : (h : ℕ) → h < count k → times_in (homes k c) h ≡ 1
+  pub home_below : (i : ℕ) → i < count k → home_at k c i < count k
+  pub turn_below : (i : ℕ) → i < count k → turn_at k c i < facelets k
+  pub whole : sum (turns k c) % facelets k ≡ 0
+
+pub stand : (k : Kind) (c : CubieLists) → Valid c → Stand k c
+stand Corners c v = record {
+  homes_len = v.corner_places;
+  turns_len = v.twist_places;
+  once = λ h l. sym (count_by-times c.corners h) ∙ v.each_corner h l;
+  home_below = v.corner_range;
+  turn_below = v.twist_range;
+  whole = v.twist_sum;
+}
+stand Edges c v = record {
+  homes_len = v.edge_places;
+  turns_len = v.flip_places;
+  once = λ h l. sym (count_by-times c.edges h) ∙ v.each_edge h l;
+  home_below = v.edge_range;
+  turn_below = v.flip_range;
+  whole = v.flip_sum;
+}
+
+pub standing-valid : (c : CubieLists) → ((k : Kind) → Stand k c) → Valid c
+standing-valid c s =
+    let a : Stand Corners c = s Corners in
+    let b : Stand Edges c = s Edges in
+    record {
+      corner_places = a.homes_len;
+      twist_places = a.turns_len;
+      edge_places = b.homes_len;
+      flip_places = b.turns_len;
+      each_corner = λ h l. count_by-times c.corners h ∙ a.once h l;
+      each_edge = λ h l. count_by-times c.edges h ∙ b.once h l;
+      corner_range = a.home_below;
+      edge_range = b.home_below;
+      twist_range = a.turn_below;
+      flip_range = b.turn_below;
+      twist_sum = a.whole;
+      flip_sum = b.whole;
+    }
+
+-- remainders by the number of facelets
+pub low : (k : Kind) (a : ℕ) → a % facelets k < facelets k
+low Corners a = omega arith
+low Edges a = omega arith
+
+pub cancelled : (k : Kind) (t x y : ℕ) → x < facelets k → y < facelets k → (x + t) % facelets k ≡ (y + t) % facelets k → x ≡ y
+cancelled Corners t x y lx ly e = omega arith
+cancelled Edges t x y lx ly e = omega arith
+
+pub rewound : (k : Kind) (j t : ℕ) → j < facelets k → t < facelets k → ((facelets k - t + j) % facelets k + t) % facelets k ≡ j
+rewound Corners j t lj lt = omega arith
+rewound Edges j t lj lt = omega arith
+
+pub unturned : (k : Kind) (j : ℕ) → j < facelets k → (0 + j) % facelets k ≡ j
+unturned Corners j l = omega arith
+unturned Edges j l = omega arith
+
+pub some_facelet : (k : Kind) → 0 < facelets k
+some_facelet Corners = omega arith
+some_facelet Edges = omega arith
+
+-- the sets of places of the kinds
+pub kind_place : (k : Kind) (q : Place) → is_of k q ≡ true → is_place q ≡ true
+kind_place Corners = corner_place
+kind_place Edges = edge_place
+
+apart_test : each_record (λ q. not (is_edge q) || not (is_corner q)) ≡ true
+apart_test = refl
+
+pub no_corner : (q : Place) → is_edge q ≡ true → is_corner q ≡ false
+no_corner q h = not_true _ (or_then (is_edge q) _ (at_record (λ q. not (is_edge q) || not (is_corner q)) apart_test q) h)
+
+no_edge : (q : Place) → is_corner q ≡ true → is_edge q ≡ false
+no_edge q h = elim (is_true (is_edge q)) [
+  | inl w ↦ absurd (let n : is_corner q ≡ false = no_corner q w in cc)
+  | inr w ↦ w
+]
+
+alike : (j k : Kind) (p q : Place) → is_of j p ≡ true → is_of j q ≡ true → is_of k p ≡ is_of k q
+alike Corners Corners p q a b = a ∙ sym b
+alike Corners Edges p q a b = no_edge p a ∙ sym (no_edge q b)
+alike Edges Corners p q a b = no_corner p a ∙ sym (no_corner q b)
+alike Edges Edges p q a b = a ∙ sym b
+
+-- a place is of a kind, or a centre
+pub kind_of : (q : Place) → ((k : Kind) × (is_of k q ≡ true)) ⊎ ((is_corner q ≡ false) × (is_edge q ≡ false))
+kind_of q = elim (is_true (is_corner q)) [
+  | inl w ↦ inl (Corners, w)
+  | inr w ↦ elim (is_true (is_edge q)) [
+    | inl u ↦ inl (Edges, u)
+    | inr u ↦ inr (w, u)
+  ]
+]
+
+-- each facelet is found by its row and its index
+abbrev pub row_of : Kind → Place → ℕ
+row_of k q = index_in (λ row. list_any (same_place q) row) (rows k)
+
+abbrev pub index_of : Kind → Place → ℕ
+index_of k q = index_in (same_place q) (row_at (rows k) (row_of k q))
+
+abbrev found_test : Kind → ℕ → ℕ → Bool
+found_test k i j = (row_of k (at k i j) == i) && ((index_of k (at k i j) == j) && is_of k (at k i j))
+
+all_found : (k : Kind) → all_below (count k) (λ i. all_below (facelets k) (found_test k i)) ≡ true
+all_found Corners = refl
+all_found Edges = refl
+
+record Found (k : Kind) (i j : ℕ) : Type 0 where
+  pub row : row_of k (at k i j) ≡ i
+  pub index : index_of k (at k i j) ≡ j
+  pub kind : is_of k (at k i j) ≡ true
+
+found : (k : Kind) (i j : ℕ) → i < count k → j < facelets k → Found k i j
+found k i j li lj =
+    let t : found_test k i j ≡ true = at_below (facelets k) (found_test k i) (at_below (count k) (λ i. all_below (facelets k) (found_test k i)) (all_found k) i li) j lj in
+    let u = and_right (row_of k (at k i j) == i) _ t in
+    record { row = eqb-true _ _ (and_left _ _ t); index = eqb-true _ _ (and_left _ _ u); kind = and_right (index_of k (at k i j) == j) _ u }
+
+pub facelet_kind : (k : Kind) (i j : ℕ) → i < count k → j < facelets k → is_of k (at k i j) ≡ true
+facelet_kind k i j li lj = (found k i j li lj).kind
+
+pub same_facelet : (k : Kind) (i j i' j' : ℕ) → i < count k → j < facelets k → i' < count k → j' < facelets k → at k i j ≡ at k i' j' → (i ≡ i') × (j ≡ j')
+same_facelet k i j i' j' li lj li' lj' e =
+    let f = found k i j li lj in
+    let g = found k i' j' li' lj' in
+    (sym f.row ∙ ap (row_of k) e ∙ g.row, sym f.index ∙ ap (index_of k) e ∙ g.index)
+
+-- each place of a kind is a facelet of it
+abbrev located_test : Kind → Place → Bool
+located_test k q = not (is_of k q) || (nat_lt (row_of k q) (count k) && (nat_lt (index_of k q) (facelets k) && same_place q (at k (row_of k q) (index_of k q))))
+
+all_located : (k : Kind) → list_all (located_test k) places ≡ true
+all_located Corners = refl
+all_located Edges = refl
+
+pub record Located (k : Kind) (q : Place) : Type 0 where
+  pub row : ℕ
+  pub index : ℕ
+  pub row_below : row < count k
+  pub index_below : index < facelets k
+  pub is : q ≡ at k row index
+
+pub located : (k : Kind) (q : Place) → is_of k q ≡ true → Located k q
+located k q h =
+    let t = or_then (is_of k q) _ (at_place (located_test k) (all_located k) q (kind_place k q h)) h in
+    let u = and_right (nat_lt (row_of k q) (count k)) _ t in
+    record {
+      row = row_of k q;
+      index = index_of k q;
+      row_below = ltb-true _ _ (and_left _ _ t);
+      index_below = ltb-true _ _ (and_left _ _ u);
+      is = same_place_is _ _ (and_right (nat_lt (index_of k q) (facelets k)) _ u);
+    }
+
+-- where the map of cubies brings the facelets, and the centres
+map_is : (k : Kind) (c : CubieLists) (q : Place) → is_of k q ≡ true → map_lists c q ≡ sticker_place (facelets k) (rows k) (homes k c) (turns k c) q
+map_is Corners c q h = rw h refl
+map_is Edges c q h = rw (no_corner q h, h) refl
+
+pub map_at : (k : Kind) (c : CubieLists) (h j : ℕ) → h < count k → j < facelets k → map_lists c (at k h j) ≡ at k (place_of k c h) ((j + turn_at k c (place_of k c h)) % facelets k)
+map_at k c h j lh lj =
+    let f = found k h j lh lj in
+    map_is k c (at k h j) f.kind
+    ∙ ap (λ r. at k (place_of k c r) ((index_of k (at k h j) + turn_at k c (place_of k c r)) % facelets k)) f.row
+    ∙ ap (λ i. at k (place_of k c h) ((i + turn_at k c (place_of k c h)) % facelets k)) f.index
+
+-- the same of a map that is theirs on the places
+pub shown_at : (k : Kind) (c : CubieLists) (e : Place → Place) → SameMap e (map_lists c) → (h j : ℕ) → h < count k → j < facelets k → e (at k h j) ≡ at k (place_of k c h) ((j + turn_at k c (place_of k c h)) % facelets k)
+shown_at k c e same h j lh lj = same (at k h j) (kind_place k _ (facelet_kind k h j lh lj)) ∙ map_at k c h j lh lj
+
+pub centre_stays : (c : CubieLists) (q : Place) → is_corner q ≡ false → is_edge q ≡ false → map_lists c q ≡ q
+centre_stays c q w u = rw (w, u) refl
+
+module _ (k : Kind) (c : CubieLists) (v : Valid c) where
+  -- each stands at one place
+  pub stands : (h : ℕ) → h < count k → (place_of k c h < count k) × (home_at k c (place_of k c h) ≡ h)
+  stands h l =
+      let s : Stand k c = stand k c v in
+      let r : (place_of k c h < length (homes k c)) × (home_at k c (place_of k c h) ≡ h) = place_in-found (homes k c) h (omega (arith, s.once h l)) in
+      (omega (arith, r.0, s.homes_len), r.1)
+
+  pub stands-at : (i : ℕ) → i < count k → place_of k c (home_at k c i) ≡ i
+  stands-at i l =
+      let s : Stand k c = stand k c v in
+      place_in-is (homes k c) (home_at k c i) i (s.once _ (s.home_below i l)) (omega (arith, l, s.homes_len)) refl
+
+  -- the facelet that stands at facelet j of place i
+  pub origin : (i j j' : ℕ) → i < count k → j' < facelets k → (j' + turn_at k c i) % facelets k ≡ j → map_lists c (at k (home_at k c i) j') ≡ at k i j
+  origin i j j' li lj e =
+      map_at k c (home_at k c i) j' ((stand k c v).home_below i li) lj
+      ∙ ap (λ x. at k x ((j' + turn_at k c x) % facelets k)) (stands-at i li)
+      ∙ ap (at k i) e
+
+  facelets_apart : (h j i m : ℕ) → h < count k → j < facelets k → i < count k → m < facelets k → map_lists c (at k h j) ≡ map_lists c (at k i m) → (h ≡ i) × (j ≡ m)
+  facelets_apart h j i m lh lj li lm e =
+      let a = stands h lh in
+      let b = stands i li in
+      let s = same_facelet k (place_of k c h) ((j + turn_at k c (place_of k c h)) % facelets k) (place_of k c i) ((m + turn_at k c (place_of k c i)) % facelets k) a.0 (low k _) b.0 (low k _)
+      (sym (map_at k c h j lh lj) ∙ e ∙ map_at k c i m li lm) in (
+        sym a.1 ∙ ap (home_at k c) s.0 ∙ b.1,
+        cancelled k (turn_at k c (place_of k c h)) j m lj lm (s.1 ∙ ap (λ x. (m + turn_at k c x) % facelets k) (sym s.0)),
+      )
+
+  kept_kind : (q : Place) → is_of k q ≡ true → is_of k (map_lists c q) ≡ true
+  kept_kind q h =
+      let a : Located k q = located k q h in
+      ap (λ z. is_of k (map_lists c z)) a.is
+      ∙ ap (is_of k) (map_at k c a.row a.index a.row_below a.index_below)
+      ∙ facelet_kind k _ _ (stands a.row a.row_below).0 (low k _)
+
+-- the map keeps the kinds, and brings no two places to one
+module _ (c : CubieLists) (v : Valid c) where
+  same_kind : (k : Kind) (q : Place) → is_of k (map_lists c q) ≡ is_of k q
+  same_kind k q = elim (kind_of q) [
+    | inl w ↦ alike w.0 k (map_lists c q) q (kept_kind w.0 c v q w.1) w.1
+    | inr w ↦ ap (is_of k) (centre_stays c q w.0 w.1)
+  ]
+
+  pub map_place : (q : Place) → is_place q ≡ true → is_place (map_lists c q) ≡ true
+  map_place q p = elim (kind_of q) [
+    | inl w ↦ kind_place w.0 (map_lists c q) (kept_kind w.0 c v q w.1)
+    | inr w ↦ ap is_place (centre_stays c q w.0 w.1) ∙ p
+  ]
+
+  pub one_to_one : (p q : Place) → map_lists c p ≡ map_lists c q → p ≡ q
+  one_to_one p q e = elim (kind_of p) [
+    | inl w ↦
+        let k : Kind = w.0 in
+        let a : Located k p = located k p w.1 in
+        let b : Located k q = located k q (sym (same_kind k q) ∙ ap (is_of k) (sym e) ∙ same_kind k p ∙ w.1) in
+        let s = facelets_apart k c v a.row a.index b.row b.index a.row_below a.index_below b.row_below b.index_below
+        (ap (map_lists c) (sym a.is) ∙ e ∙ ap (map_lists c) b.is) in
+        a.is ∙ ap (λ h. at k h a.index) s.0 ∙ ap (at k b.row) s.1 ∙ sym b.is
+    | inr w ↦
+        let other : (k : Kind) → is_of k p ≡ false → is_of k q ≡ false = λ k n. sym (same_kind k q) ∙ ap (is_of k) (sym e) ∙ same_kind k p ∙ n in
+        sym (centre_stays c p w.0 w.1) ∙ e ∙ centre_stays c q (other Corners w.0) (other Edges w.1)
+  ]

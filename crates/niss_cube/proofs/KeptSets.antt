@@ -1,0 +1,231 @@
+-- A coordinate is 0 exactly where its set of places is kept.
+use Rattle.std.proofs.Common.{◌≡◌, ℕ, ◌+◌, ◌-◌, ◌%◌, ◌<◌, refl, sym, ◌∙◌, ap, List, [], ◌∷◌, get_or, Bool, true, false, ◌&&◌, not, arith, inl, inr}
+use Rattle.std.specs.Prelude.{◌==◌, ◌↔◌, nat_le}
+use Rattle.std.specs.List.{list_all}
+use Rattle.std.proofs.lemmas.Bool.{eqb-true, false_from_ne_true}
+use Rattle.std.proofs.lemmas.Bool.Decides.{eqb_tells}
+use Rattle.std.proofs.lemmas.List.{ext_get_or}
+use Rattle.niss_moves.specs.Places.{Place, is_place, is_edge, SameMap}
+use Rattle.niss_moves.specs.Facelets.{places}
+use Rattle.niss_moves.specs.declared.axis.Axis.{Axis}
+use Rattle.niss_moves.specs.declared.axis.Axis.TheVariants.{Ud, Rl, Fb}
+use Rattle.niss_cube.specs.declared.cube.coordinate.Coordinate.{Coordinate}
+use Rattle.niss_cube.specs.declared.cube.coordinate.Coordinate.TheVariants.{Flip, Twist, Slice}
+use Rattle.niss_cube.specs.declared.renaming.Renaming.{Renaming}
+use Rattle.niss_cube.specs.declared.renaming.Renaming.TheVariants.{XCounter, XQuarter, YQuarter, ZCounter}
+use Rattle.niss_cube.specs.Coordinates.{rank, number_of, renamed_for}
+use Rattle.niss_cube.specs.Cubies.{flips_home, twists_home}
+use Rattle.niss_cube.specs.Sets.{Kept, SetsArePlaces, is_kept, flip_set, twist_set, slice_set, set_of}
+use Rattle.niss_cube.proofs.CubieLists.{CubieLists, Valid, map_lists}
+use Rattle.niss_cube.proofs.CubieKinds.{Kind, Corners, Edges, count, facelets, at, is_of, home_at, turn_at, place_of, stand, stands, stands-at, low, some_facelet, kind_place, Located, located, shown_at, map_place}
+use Rattle.niss_cube.proofs.Each.{at_place}
+use Rattle.niss_cube.proofs.FiniteTests.{all_below, at_below}
+use Rattle.niss_cube.proofs.Sums.{one_if, below_permuted, below_all_same, one_if-at_most, eqb-itself}
+use Rattle.niss_cube.proofs.Numbers.{rank-same}
+use Rattle.niss_cube.proofs.CoordinateValues.{edge-once, slice_occupied, slice_occupied-length, slice_occupied-at, slice_occupied-filled}
+use Rattle.niss_cube.proofs.RenamedCubies.{rotated, rotated_back, keeps_kinds, same_bool, same_bool-is}
+use Rattle.niss_cube.proofs.AxisRenamings.{KeepsPlaces, cubies_for, renaming}
+use Rattle.niss_cube.proofs.Orientations.{base_2, base_3, oriented_zero}
+use Rattle.niss_cube.proofs.Codes.{code, number_of-code, are_flips, are_twists, flips_home-are, twists_home-are}
+use Rattle.niss_cube.proofs.KeptTests.{kept-tested}
+use Rattle.niss_cube.proofs.Logic.{and_left}
+
+-- the cubies of a coordinate, and the places of its set
+abbrev kind_for : Coordinate → Kind
+kind_for Flip = Edges
+kind_for Twist = Corners
+kind_for Slice = Edges
+
+set_kind : (k : Coordinate) (a : Axis) (q : Place) → set_of k a q ≡ true → is_of (kind_for k) q ≡ true
+set_kind Flip a q h = and_left _ _ h
+set_kind Twist a q h = and_left _ _ h
+set_kind Slice a q h = and_left _ _ h
+
+pub sets_are_places : SetsArePlaces
+sets_are_places k a q h = kind_place (kind_for k) q (set_kind k a q h)
+
+-- the set of the cube that is renamed for an axis
+abbrev standard_set : Coordinate → Axis → Place → Bool
+standard_set Flip Ud q = is_edge q && not (flip_set Fb q)
+standard_set Flip Rl q = flip_set Fb q
+standard_set Flip Fb q = flip_set Fb q
+standard_set Twist a q = twist_set Ud q
+standard_set Slice a q = slice_set Ud q
+
+standard_kind : (k : Coordinate) (a : Axis) (q : Place) → standard_set k a q ≡ true → is_of (kind_for k) q ≡ true
+standard_kind Flip Ud q h = and_left _ _ h
+standard_kind Flip Rl q h = and_left _ _ h
+standard_kind Flip Fb q h = and_left _ _ h
+standard_kind Twist a q h = and_left _ _ h
+standard_kind Slice a q h = and_left _ _ h
+
+-- a set is kept where the renamed set is kept by the renamed map
+renaming_kept : (v : Renaming) (set renamed_set : Place → Bool) → list_all (λ q. same_bool (set q) (renamed_set (rotated v q))) places ≡ true → ((q : Place) → set q ≡ true → is_place q ≡ true) → ((q : Place) → renamed_set q ≡ true → is_place q ≡ true) → (e : Place → Place) → ((q : Place) → is_place q ≡ true → is_place (e q) ≡ true) →
+    Kept set e ↔ Kept renamed_set (λ q. rotated v (e (rotated_back v q)))
+renaming_kept v set renamed_set test p p' e keep = (
+  (λ kept q q_in.
+      let k = keeps_kinds v q (p' q q_in) in
+      sym (same (e (rotated_back v q)) (keep (rotated_back v q) k.home_place)) ∙ kept (rotated_back v q) (same (rotated_back v q) k.home_place ∙ ap renamed_set k.out_home ∙ q_in)),
+  (λ kept q q_in.
+      let l : is_place q ≡ true = p q q_in in
+      let k = keeps_kinds v q l in
+      same (e q) (keep q l) ∙ ap (λ z. renamed_set (rotated v (e z))) (sym k.home_out) ∙ kept (rotated v q) (sym (same q l) ∙ q_in)),
+)
+  where
+    same : (q : Place) → is_place q ≡ true → set q ≡ renamed_set (rotated v q)
+    same q l = same_bool-is _ _ (at_place (λ q. same_bool (set q) (renamed_set (rotated v q))) test q l)
+
+kept_renamed : (k : Coordinate) (a : Axis) (e : Place → Place) → KeepsPlaces e → Kept (set_of k a) e ↔ Kept (standard_set k a) (renamed_for k a e)
+kept_renamed k a e keep = go k a
+  where
+    by : (v : Renaming) (k : Coordinate) (a : Axis) → list_all (λ q. same_bool (set_of k a q) (standard_set k a (rotated v q))) places ≡ true → Kept (set_of k a) e ↔ Kept (standard_set k a) (λ q. rotated v (e (rotated_back v q)))
+    by v k a test = renaming_kept v (set_of k a) (standard_set k a) test (sets_are_places k a) (λ q h. kind_place (kind_for k) q (standard_kind k a q h)) e keep
+
+    go : (k : Coordinate) (a : Axis) → Kept (set_of k a) e ↔ Kept (standard_set k a) (renamed_for k a e)
+    go Flip Ud = by XCounter Flip Ud refl
+    go Flip Rl = by YQuarter Flip Rl refl
+    go Flip Fb = ((λ h. h), (λ h. h))
+    go Twist Ud = ((λ h. h), (λ h. h))
+    go Twist Rl = by ZCounter Twist Rl refl
+    go Twist Fb = by XQuarter Twist Fb refl
+    go Slice Ud = ((λ h. h), (λ h. h))
+    go Slice Rl = by ZCounter Slice Rl refl
+    go Slice Fb = by XQuarter Slice Fb refl
+
+-- in each row one facelet, the s-th, belongs to the set
+abbrev row_test : Kind → (Place → Bool) → ℕ → ℕ → Bool
+row_test k set s i = all_below (facelets k) λ j. same_bool (set (at k i j)) (j == s)
+
+none_turned : (k : Kind) (s t : ℕ) → s < facelets k → t < facelets k → (s + t) % facelets k ≡ s → t ≡ 0
+none_turned Corners s t ls lt e = omega arith
+none_turned Edges s t ls lt e = omega arith
+
+turned_by_none : (k : Kind) (s : ℕ) → s < facelets k → (s + 0) % facelets k ≡ s
+turned_by_none Corners s l = omega arith
+turned_by_none Edges s l = omega arith
+
+-- a set with one facelet in each row is kept where no cubie is turned
+module _ (k : Kind) (set : Place → Bool) (inside : (q : Place) → set q ≡ true → is_of k q ≡ true) (s : ℕ) (ls : s < facelets k) (rows_ok : all_below (count k) (row_test k set s) ≡ true)
+    (c : CubieLists) (v : Valid c) (e : Place → Place) (same : SameMap e (map_lists c)) where
+  in_set : (i j : ℕ) → i < count k → j < facelets k → set (at k i j) ≡ (j == s)
+  in_set i j li lj = same_bool-is _ _ (at_below (facelets k) (λ j. same_bool (set (at k i j)) (j == s)) (at_below (count k) (row_test k set s) rows_ok i li) j lj)
+
+  kept-unturned : Kept set e → (i : ℕ) → i < count k → turn_at k c i ≡ 0
+  kept-unturned kept i li =
+      let h : ℕ = home_at k c i in
+      let lh : h < count k = (stand k c v).home_below i li in
+      let there : e (at k h s) ≡ at k i ((s + turn_at k c i) % facelets k) = shown_at k c e same h s lh ls ∙ ap (λ n. at k n ((s + turn_at k c n) % facelets k)) (stands-at k c v i li) in
+      none_turned k s (turn_at k c i) ls ((stand k c v).turn_below i li)
+      (eqb-true _ _ (sym (in_set i _ li (low k _)) ∙ ap set (sym there) ∙ kept (at k h s) (in_set h s lh ls ∙ eqb-itself s)))
+
+  unturned-kept : ((i : ℕ) → i < count k → turn_at k c i ≡ 0) → Kept set e
+  unturned-kept zeros q q_in =
+      let a : Located k q = located k q (inside q q_in) in
+      let n : ℕ = place_of k c a.row in
+      let ln : n < count k = (stands k c v a.row a.row_below).0 in
+      let first : a.index ≡ s = eqb-true _ _ (sym (in_set a.row a.index a.row_below a.index_below) ∙ ap set (sym a.is) ∙ q_in) in
+      ap (λ z. set (e z)) (a.is ∙ ap (at k a.row) first)
+      ∙ ap set (shown_at k c e same a.row s a.row_below ls ∙ ap (λ t. at k n ((s + t) % facelets k)) (zeros n ln) ∙ ap (at k n) (turned_by_none k s ls))
+      ∙ in_set n s ln ls ∙ eqb-itself s
+
+  turns_kept : Kept set e ↔ ((i : ℕ) → i < count k → turn_at k c i ≡ 0)
+  turns_kept = (kept-unturned, unturned-kept)
+
+one_if-same : (a b : Bool) → one_if a ≡ one_if b → a ≡ b
+one_if-same true true h = refl
+one_if-same true false h = absurd (omega arith)
+one_if-same false true h = absurd (omega arith)
+one_if-same false false h = refl
+
+-- the places of the slice's edges at home, from the last place down
+abbrev home_occupied : List Bool
+home_occupied = true ∷ true ∷ true ∷ true ∷ false ∷ false ∷ false ∷ false ∷ false ∷ false ∷ false ∷ false ∷ []
+
+home_occupied-test : all_below 12 (λ k. same_bool (get_or home_occupied k false) (nat_le 8 (11 - k))) ≡ true
+home_occupied-test = refl
+
+home_occupied-at : (k : ℕ) → k < 12 → get_or home_occupied k false ≡ nat_le 8 (11 - k)
+home_occupied-at k l = same_bool-is _ _ (at_below 12 (λ k. same_bool (get_or home_occupied k false) (nat_le 8 (11 - k))) home_occupied-test k l)
+
+slice_rows : all_below 12 (λ h. all_below 2 λ k. same_bool (slice_set Ud (at Edges h k)) (nat_le 8 h)) ≡ true
+slice_rows = refl
+
+slice_at : (h k : ℕ) → h < 12 → k < 2 → slice_set Ud (at Edges h k) ≡ nat_le 8 h
+slice_at h k lh lk = same_bool-is _ _ (at_below 2 (λ k. same_bool (slice_set Ud (at Edges h k)) (nat_le 8 h)) (at_below 12 (λ h. all_below 2 λ k. same_bool (slice_set Ud (at Edges h k)) (nat_le 8 h)) slice_rows h lh) k lk)
+
+-- each place of the slice holds an edge of it, and no other does
+abbrev AtHome : List ℕ → Type 0
+AtHome edges = (i : ℕ) → i < 12 → nat_le 8 (get_or edges i 0) ≡ nat_le 8 i
+
+slice_number_zero : (c : CubieLists) → Valid c → (rank (slice_occupied c.edges) 4 ≡ 0) ↔ AtHome c.edges
+slice_number_zero c v = (
+  (λ e i l.
+      let same : slice_occupied c.edges ≡ home_occupied = rank-same (slice_occupied c.edges) home_occupied 4 (slice_occupied-length c.edges v.edge_places) (slice_occupied-filled c v) refl e in
+      let back : 11 - (11 - i) ≡ i = omega arith in
+      ap (λ k. nat_le 8 (get_or c.edges k 0)) (sym back)
+      ∙ sym (slice_occupied-at c.edges v.edge_places (11 - i) (omega arith))
+      ∙ ap (λ os. get_or os (11 - i) false) same
+      ∙ home_occupied-at (11 - i) (omega arith)
+      ∙ ap (nat_le 8) back),
+  (λ h. ap (λ os. rank os 4) (ext_get_or false (slice_occupied c.edges) home_occupied (slice_occupied-length c.edges v.edge_places) (λ k l.
+      let lk : k < 12 = omega (arith, l, slice_occupied-length c.edges v.edge_places) in
+      slice_occupied-at c.edges v.edge_places k lk ∙ h (11 - k) (omega arith) ∙ sym (home_occupied-at k lk)))),
+)
+
+-- the slice is kept where its edges stand in it
+module _ (c : CubieLists) (v : Valid c) (e : Place → Place) (same : SameMap e (map_lists c)) where
+  goes : (h j : ℕ) → h < 12 → j < 2 → slice_set Ud (e (at Edges h j)) ≡ nat_le 8 (place_of Edges c h)
+  goes h j lh lj = ap (slice_set Ud) (shown_at Edges c e same h j lh lj) ∙ slice_at (place_of Edges c h) _ (stands Edges c v h lh).0 (low Edges _)
+
+  home-kept : AtHome c.edges → Kept (slice_set Ud) e
+  home-kept home q q_in =
+      let a : Located Edges q = located Edges q (and_left _ _ q_in) in
+      let there = stands Edges c v a.row a.row_below in
+      ap (λ z. slice_set Ud (e z)) a.is ∙ goes a.row a.index a.row_below a.index_below
+      ∙ sym (home (place_of Edges c a.row) there.0) ∙ ap (nat_le 8) there.1
+      ∙ sym (slice_at a.row a.index a.row_below a.index_below) ∙ ap (slice_set Ud) (sym a.is) ∙ q_in
+
+  kept-home : Kept (slice_set Ud) e → AtHome c.edges
+  kept-home kept i l =
+      one_if-same _ _ (below_all_same 12 (λ i. one_if (nat_le 8 (get_or c.edges i 0))) (λ i. one_if (nat_le 8 i))
+      (λ i li. one_if-at_most _ _ (λ h.
+      let n : ℕ = get_or c.edges i 0 in
+      let ln : n < 12 = v.edge_range i li in
+      ap (nat_le 8) (sym (stands-at Edges c v i li)) ∙ sym (goes n 0 ln (some_facelet Edges)) ∙ kept (at Edges n 0) (slice_at n 0 ln (some_facelet Edges) ∙ h)))
+      (below_permuted 12 (λ i. get_or c.edges i 0) (λ h. one_if (nat_le 8 h)) v.edge_range (edge-once c v)) i l)
+
+-- what the cubies of code 0 are
+abbrev AtZero : Coordinate → CubieLists → Type 0
+AtZero Flip c = (i : ℕ) → i < 12 → get_or c.flips i 0 ≡ 0
+AtZero Twist c = (i : ℕ) → i < 8 → get_or c.twists i 0 ≡ 0
+AtZero Slice c = AtHome c.edges
+
+code_zero : (k : Coordinate) (c : CubieLists) → Valid c → (code k c ≡ 0) ↔ AtZero k c
+code_zero Flip c v = oriented_zero 2 base_2 11 c.flips flips_home (are_flips c v) flips_home-are refl (λ i l. eqb-true _ _ (at_below 12 (λ i. get_or flips_home i 0 == 0) refl i l))
+code_zero Twist c v = oriented_zero 3 base_3 7 c.twists twists_home (are_twists c v) twists_home-are refl (λ i l. eqb-true _ _ (at_below 8 (λ i. get_or twists_home i 0 == 0) refl i l))
+code_zero Slice c v = slice_number_zero c v
+
+kept_zero : (k : Coordinate) (a : Axis) (c : CubieLists) → Valid c → (e : Place → Place) → SameMap e (map_lists c) → Kept (standard_set k a) e ↔ AtZero k c
+kept_zero Flip Ud c v e same = turns_kept Edges (standard_set Flip Ud) (standard_kind Flip Ud) 1 (omega arith) refl c v e same
+kept_zero Flip Rl c v e same = turns_kept Edges (standard_set Flip Rl) (standard_kind Flip Rl) 0 (some_facelet Edges) refl c v e same
+kept_zero Flip Fb c v e same = turns_kept Edges (standard_set Flip Fb) (standard_kind Flip Fb) 0 (some_facelet Edges) refl c v e same
+kept_zero Twist a c v e same = turns_kept Corners (standard_set Twist a) (standard_kind Twist a) 0 (some_facelet Corners) refl c v e same
+kept_zero Slice a c v e same = (kept-home c v e same, home-kept c v e same)
+
+pub zero-kept : (k : Coordinate) (a : Axis) (c : CubieLists) → Valid c → (number_of k a (map_lists c) ≡ 0) ↔ Kept (set_of k a) (map_lists c)
+zero-kept k a c v =
+    let w : CubieLists = cubies_for k a c in
+    let wv : Valid w = (renaming k a).valid c v in
+    let is : SameMap (map_lists w) (renamed_for k a (map_lists c)) = (renaming k a).map_is c v in
+    let number = number_of-code k a (map_lists c) w wv is in
+    let code_is = code_zero k w wv in
+    let kept = kept_zero k a w wv (renamed_for k a (map_lists c)) (λ q p. sym (is q p)) in
+    let renamed = kept_renamed k a (map_lists c) (map_place c v) in
+    ((λ e. renamed.1 (kept.1 (code_is.0 (sym number ∙ e)))), (λ h. number ∙ code_is.1 (kept.0 (renamed.0 h))))
+
+-- A number that is 0 where the set of a coordinate is kept gives the test of the set.
+pub zero_test : (k : Coordinate) (a : Axis) (e : Place → Place) (n : ℕ) → (n ≡ 0) ↔ Kept (set_of k a) e → (n == 0) ≡ is_kept (set_of k a) e
+zero_test k a e n zero = elim (eqb_tells n 0) [
+  | inl w ↦ w.0 ∙ sym ((kept-tested (set_of k a) e (sets_are_places k a)).1 (zero.0 w.1))
+  | inr w ↦ w.0 ∙ sym (false_from_ne_true (is_kept (set_of k a) e) (λ t. w.1 (zero.1 ((kept-tested (set_of k a) e (sets_are_places k a)).0 t))))
+]

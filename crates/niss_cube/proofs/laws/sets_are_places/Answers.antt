@@ -1,5 +1,0 @@
-use Rattle.niss_cube.proofs.Codes.{sets_are_places}
-use Rattle.niss_cube.proofs.laws.sets_are_places.Goals as goal
-
-pub returns : goal.returns
-returns c = sets_are_places

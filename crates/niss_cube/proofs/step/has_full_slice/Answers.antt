@@ -1,8 +1,0 @@
-use Rattle.niss_cube.specs.Map.{map_of}
-use Rattle.niss_cube.specs.declared.cube.coordinate.Coordinate.TheVariants.{Slice}
-use Rattle.niss_cube.proofs.Codes.{zero_test}
-use Rattle.niss_cube.proofs.step.has_full_slice.Goals as goal
-
-pub returns-clause-value : goal.returns-clause-value
-returns-clause-value c =
-    zero_test Slice c.args.axis (map_of c.args.cube.now) c.slice.result c.slice.ensures.kept

@@ -1,8 +1,0 @@
-use Rattle.niss_cube.specs.Map.{map_of}
-use Rattle.niss_cube.specs.declared.cube.coordinate.Coordinate.TheVariants.{Twist}
-use Rattle.niss_cube.proofs.Codes.{zero_test}
-use Rattle.niss_cube.proofs.step.has_untwisted_corners.Goals as goal
-
-pub returns-clause-value : goal.returns-clause-value
-returns-clause-value c =
-    zero_test Twist c.args.axis (map_of c.args.cube.now) c.twist.result c.twist.ensures.kept
