@@ -1,33 +1,41 @@
 //! The tables of a step, by what it looks at.
-ghost use Rattle.std.specs.Prelude.{◌≡◌, ◌+◌, ◌≤◌, ◌^◌, IfOk, OnOk, OnErr};
+ghost use Rattle.std.specs.Prelude.{◌≡◌, ◌+◌, ◌≤◌, ◌^◌, ◌∷◌, [], map, IfOk, OnOk, OnErr};
+ghost use Rattle.niss_cube.specs.Steps.{goals_of};
 ghost use Rattle.niss_cube.specs.declared.cube.coordinate.Coordinate.TheVariants as coordinate;
 ghost use Rattle.niss_cube.specs.declared.step.Goal.TheVariants as goals;
 ghost use Rattle.niss_search.specs.Entries.{fill_ticks};
 ghost use Rattle.niss_search.specs.Filling.{IsFilled};
+ghost use Rattle.niss_search.specs.Kinds.{AreReady};
 ghost use Rattle.niss_search.specs.KindOfStep.{IsOfStep, edge_alternative, domino_alternative};
 
 use super::goal_moves::{DominoMoves, DominoTurns, EdgeMoves};
 use super::meter::Meter;
 use super::pruning_table::PruningTable;
 use super::search_tables::SearchTables;
-use super::state_space::Either;
+use super::state_space::{Either, StateSpace};
 use niss_cube::{Axis, Coordinate, Goal, OutOfMemory, Step, TurnTable};
 use std::alloc::Allocator;
 
 /// The pruning table of an edge orientation.
 type EdgeTable<A> = PruningTable<EdgeMoves<A>, A>;
 
+/// Those of an edge orientation on each axis.
+type EdgeTables<A> = Either<EdgeTable<A>, Either<EdgeTable<A>, EdgeTable<A>>>;
+
 /// The pruning table of a domino reduction.
 type DominoTable<A> = PruningTable<DominoMoves<A>, A>;
+
+/// Those of two domino reductions.
+type DominoTables<A> = Either<DominoTable<A>, DominoTable<A>>;
 
 /// The tables of a step, by what it looks at: the flip on an axis, or on each of the three; or twist and slice on an axis, or
 /// on either of two.
 #[derive(Drop)]
 pub enum Kind<A: Allocator> {
     Edges(SearchTables<EdgeTable<A>>),
-    AnyEdges(SearchTables<Either<EdgeTable<A>, Either<EdgeTable<A>, EdgeTable<A>>>>),
+    AnyEdges(SearchTables<EdgeTables<A>>),
     Domino(SearchTables<DominoTable<A>>),
-    EitherDomino(SearchTables<Either<DominoTable<A>, DominoTable<A>>>),
+    EitherDomino(SearchTables<DominoTables<A>>),
 }
 
 impl<A: Allocator + Copy> Kind<A> {
@@ -38,29 +46,18 @@ impl<A: Allocator + Copy> Kind<A> {
         ensures ticks { OnOk result (meter.new ≡ meter.old + fill_ticks step) }
         ensures refused { OnErr result (meter.new ≡ meter.old) }
     {
-        match step.goals() {
+        match *step.goals() {
             [Goal::Edges(axis)] => {
-                let table = edge_table(alloc, step, *axis, &flip_turns(alloc)?)?;
-                Ok(Kind::Edges(SearchTables::fill(step, table, meter)))
+                let space = edges(alloc, step, axis)?;
+                Ok(Kind::Edges(SearchTables::fill(step, space, meter)))
             }
             [Goal::Edges(first), Goal::Edges(second), Goal::Edges(third)] => {
-                let flips = flip_turns(alloc)?;
-                let first = edge_table(alloc, step, *first, &flips)?;
-                let second = edge_table(alloc, step, *second, &flips)?;
-                let third = edge_table(alloc, step, *third, &flips)?;
-                drop(flips);
-                let space = Either::of(first, Either::of(second, third));
+                let space = any_edges(alloc, step, [first, second, third])?;
                 Ok(Kind::AnyEdges(SearchTables::fill(step, space, meter)))
             }
             [Goal::Domino { edges, axis }] => {
-                let table = domino_table(
-                    alloc,
-                    step,
-                    *edges,
-                    *axis,
-                    &DominoTurns::build_in(alloc)?,
-                )?;
-                Ok(Kind::Domino(SearchTables::fill(step, table, meter)))
+                let space = domino(alloc, step, edges, axis)?;
+                Ok(Kind::Domino(SearchTables::fill(step, space, meter)))
             }
             [
                 Goal::Domino { edges, axis },
@@ -69,11 +66,7 @@ impl<A: Allocator + Copy> Kind<A> {
                     axis: other_axis,
                 },
             ] => {
-                let turns = DominoTurns::build_in(alloc)?;
-                let first = domino_table(alloc, step, *edges, *axis, &turns)?;
-                let second = domino_table(alloc, step, *other_edges, *other_axis, &turns)?;
-                drop(turns);
-                let space = Either::of(first, second);
+                let space = either_domino(alloc, step, (edges, axis), (other_edges, other_axis))?;
                 Ok(Kind::EitherDomino(SearchTables::fill(step, space, meter)))
             }
             _ => unreachable!(),
@@ -81,11 +74,31 @@ impl<A: Allocator + Copy> Kind<A> {
     }
 }
 
-/// The turn table of the flips.
-fn flip_turns<A: Allocator>(alloc: A) -> Result<TurnTable<A>, OutOfMemory>
-    ensures { IfOk result (λ table. table ≡ coordinate.Flip) }
+/// The space of an edge orientation, still to be filled. The turn table is given back here, before that.
+fn edges<A: Allocator + Copy>(alloc: A, step: Step, axis: Axis) -> Result<EdgeTable<A>, OutOfMemory>
+    requires { goals_of step ≡ goals.Edges axis ∷ [] }
+    ensures { let of = ⟦<EdgeTable<A> as StateSpace>⟧ in
+        IfOk result (λ s. AreReady step (of.step s) (of.goals s) (of.is_filled s 0)) }
 {
-    TurnTable::build_in(alloc, Coordinate::Flip)
+    let flips = TurnTable::build_in(alloc, Coordinate::Flip)?;
+    edge_table(alloc, step, axis, &flips)
+}
+
+/// The space of an edge orientation on any of three axes, still to be filled.
+fn any_edges<A: Allocator + Copy>(
+    alloc: A,
+    step: Step,
+    axes: [Axis; 3],
+) -> Result<EdgeTables<A>, OutOfMemory>
+    requires { goals_of step ≡ map goals.Edges axes }
+    ensures { let of = ⟦<EdgeTables<A> as StateSpace>⟧ in
+        IfOk result (λ s. AreReady step (of.step s) (of.goals s) (of.is_filled s 0)) }
+{
+    let flips = TurnTable::build_in(alloc, Coordinate::Flip)?;
+    let first = edge_table(alloc, step, axes[0], &flips)?;
+    let second = edge_table(alloc, step, axes[1], &flips)?;
+    let third = edge_table(alloc, step, axes[2], &flips)?;
+    Ok(Either::of(first, Either::of(second, third)))
 }
 
 /// The pruning table of an edge orientation, still to be filled.
@@ -101,6 +114,38 @@ fn edge_table<A: Allocator + Copy>(
 {
     let moves = EdgeMoves::build_in(alloc, step, axis, flips)?;
     PruningTable::new_in(alloc, moves)
+}
+
+/// The space of a domino reduction, still to be filled.
+fn domino<A: Allocator + Copy>(
+    alloc: A,
+    step: Step,
+    edges: Axis,
+    axis: Axis,
+) -> Result<DominoTable<A>, OutOfMemory>
+    requires { goals_of step ≡ goals.Domino edges axis ∷ [] }
+    ensures { let of = ⟦<DominoTable<A> as StateSpace>⟧ in
+        IfOk result (λ s. AreReady step (of.step s) (of.goals s) (of.is_filled s 0)) }
+{
+    let turns = DominoTurns::build_in(alloc)?;
+    domino_table(alloc, step, edges, axis, &turns)
+}
+
+/// The space of either of two domino reductions, still to be filled.
+fn either_domino<A: Allocator + Copy>(
+    alloc: A,
+    step: Step,
+    first: (Axis, Axis),
+    second: (Axis, Axis),
+) -> Result<DominoTables<A>, OutOfMemory>
+    requires { goals_of step ≡ goals.Domino first.0 first.1 ∷ goals.Domino second.0 second.1 ∷ [] }
+    ensures { let of = ⟦<DominoTables<A> as StateSpace>⟧ in
+        IfOk result (λ s. AreReady step (of.step s) (of.goals s) (of.is_filled s 0)) }
+{
+    let turns = DominoTurns::build_in(alloc)?;
+    let first = domino_table(alloc, step, first.0, first.1, &turns)?;
+    let second = domino_table(alloc, step, second.0, second.1, &turns)?;
+    Ok(Either::of(first, second))
 }
 
 /// The pruning table of a domino reduction, still to be filled.
