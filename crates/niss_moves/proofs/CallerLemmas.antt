@@ -5,7 +5,7 @@ pub use Rattle.niss_moves.proofs.Finite.{same_place_is, same_place_of, same_plac
 pub use Rattle.niss_moves.proofs.Rotations.{same_face_is}
 pub use Rattle.niss_moves.proofs.ListedPlaces.{all_places, same_letters}
 -- tests over all values of a type
-pub use Rattle.niss_moves.proofs.Finite.{every_face, at_face, every_power, at_power, every_axis, at_axis, every_slice, at_slice}
+pub use Rattle.niss_moves.proofs.Finite.{every_face, at_face, every_power, at_power, every_axis, at_axis, every_slice, at_slice, every_token, at_token}
 -- sequences one after the other
 pub use Rattle.niss_moves.proofs.Inverses.{effect-append, inverse_after, inverse_before, inverse_last, inverse_whole}
 pub use Rattle.niss_moves.proofs.AllCanonical.{last_turn-push}
