@@ -5,7 +5,8 @@ pub use Rattle.niss_moves.proofs.Finite.{same_place_is, same_place_of, same_plac
 pub use Rattle.niss_moves.proofs.Rotations.{same_face_is}
 pub use Rattle.niss_moves.proofs.ListedPlaces.{all_places, same_letters}
 -- tests over all values of a type
-pub use Rattle.niss_moves.proofs.Finite.{every_face, at_face, every_power, at_power, every_axis, at_axis, every_slice, at_slice, every_token, at_token}
+unfoldable pub use Rattle.niss_moves.proofs.Finite.{every_face, every_power, every_axis, every_slice, every_token}
+pub use Rattle.niss_moves.proofs.Finite.{at_face, at_power, at_axis, at_slice, at_token}
 -- sequences one after the other
 pub use Rattle.niss_moves.proofs.Inverses.{effect-append, inverse_after, inverse_before, inverse_last, inverse_whole}
 pub use Rattle.niss_moves.proofs.AllCanonical.{last_turn-push}
