@@ -3,9 +3,8 @@ use Rattle.std.proofs.Common.{◌≡◌, Bool, true, false, not, ◌&&◌, refl,
 use Rattle.niss_moves.specs.Turn.{opposite, same_face, goes_first}
 use Rattle.niss_moves.specs.Canonical.{face_may_follow, IsCanonical}
 use Rattle.niss_moves.specs.Names.{Face, Turn}
-use Rattle.niss_moves.proofs.Finite.{every_face, at_face, implies, by_implies}
+use Rattle.niss_moves.proofs.Finite.{every_face, at_face, implies, by_implies, not_true, and_both, and_left, and_right}
 use Rattle.std.proofs.lemmas.Bool.{and_parts}
-use Rattle.niss_moves.proofs.Logic.{not_true, and_both, and_left, and_right}
 use Rattle.niss_moves.proofs.Rotations.{same_face_is}
 
 pub canonical_tail : (x : Turn) (s : List Turn) → IsCanonical (x ∷ s) → IsCanonical s

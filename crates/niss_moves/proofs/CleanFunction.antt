@@ -9,7 +9,7 @@ use Rattle.niss_moves.specs.Cleaning.{rewritten_pair, IsRewriting, Cleans, Clean
 use Rattle.niss_moves.specs.RewritingLaws.{are_disordered, disorder, CleaningEnds, OneCleanList, CanonicalStays}
 use Rattle.niss_moves.specs.CleanedLine.{after_first, rewritten_once, rewritten_within, most_rewritings, clean_turns, CleanTurnsAreClean}
 use Rattle.niss_moves.specs.Names.{Turn}
-use Rattle.niss_moves.proofs.Logic.{and_both, and_left, and_right}
+use Rattle.niss_moves.proofs.Finite.{and_both, and_left, and_right}
 use Rattle.niss_moves.proofs.Disorder.{rewriting_lowers}
 use Rattle.niss_moves.proofs.CanonicalLists.{canonical_pair}
 

@@ -9,7 +9,7 @@ use Rattle.niss_moves.specs.Helpers.{pair_of_turns, list_with_turn}
 use Rattle.niss_moves.specs.Names.{Face, U, D, R, L, F, B, Power, Turn}
 use denote.Enum.Bare.{sameb}
 use Rattle.niss_moves.specs.contracts.turn.Face.{the_type}
-use Rattle.niss_moves.proofs.Logic.{and_both}
+use Rattle.niss_moves.proofs.Finite.{and_both}
 use Rattle.niss_moves.proofs.Rotations.{same_face_is}
 use Rattle.niss_moves.proofs.CanonicalLists.{canonical_pair, canonical_front, canonical_join, canonical_same, snoc_assoc, last_of, same_may_not_follow, are_exchanged, exchanged, exchange, pass_follows, skip_middle}
 

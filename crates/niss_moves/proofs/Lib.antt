@@ -1,4 +1,3 @@
-pub mod Logic
 pub mod Finite
 pub mod Rotations
 pub mod Pushed
@@ -16,7 +15,6 @@ pub mod Sound
 pub mod Whole
 pub mod Room
 pub mod OneFault
-pub mod ReaderSteps
 pub mod ReaderAnswers
 pub mod ReadBack
 pub mod Inverses

@@ -6,7 +6,7 @@ use Rattle.niss_moves.specs.Machine.{symbol_of, State, start, step, step_within,
 use Rattle.niss_moves.specs.Names.{Token, Base, Symbol, LastMove, ReadFault, NotAMove, Nested, Unopened, Unclosed, TooLong}
 use Rattle.niss_moves.specs.declared.partial_line.LastMove.TheVariants as last
 use Rattle.niss_moves.specs.declared.symbol.Symbol.TheVariants as symbol
-use Rattle.niss_moves.proofs.Logic.{and_right}
+use Rattle.niss_moves.proofs.Finite.{and_right}
 use Rattle.niss_moves.proofs.Completes.{IsReady, state, run-append, completes}
 use Rattle.niss_moves.proofs.Sound.{Reads, ready_whole, cut_of, is_open, Refusal, Outcome, step_means}
 use Rattle.niss_moves.proofs.Symbols.{first_symbol, symbol_of_open, symbol_of_close}

@@ -1,14 +1,14 @@
--- A step keeps the moves within their bound.
-use Rattle.std.proofs.Common.{◌≡◌, ℕ, ◌+◌, ◌-◌, ◌<◌, ◌≤◌, Bool, true, false, cond, nat_lt, eqb, refl, subst, List, [], ◌∷◌, length, Option, None, Some, Result, Ok, Err, arith}
+-- What the steps of a line do to its state: they keep the moves within their bound.
+use Rattle.std.proofs.Common.{◌≡◌, ℕ, ◌+◌, ◌-◌, ◌<◌, ◌≤◌, Bool, true, false, cond, nat_lt, eqb, refl, subst, List, [], ◌∷◌, length, Option, None, Some, Result, Ok, Err, arith, ap, sym, ◌∙◌, MatchResult}
 use Rattle.std.proofs.lemmas.Bool.{ltb-true}
 use Rattle.niss_moves.specs.Notation.{token_of}
-use Rattle.niss_moves.specs.Machine.{symbol_of, State, outside, inside, settled, settled_by, opened, closed, begun, count, with_last, fed_to, step_by, step_at, step, step_within, HasRoom, state_of}
+use Rattle.niss_moves.specs.Machine.{symbol_of, State, outside, inside, settled, settled_by, opened, closed, begun, count, with_last, fed_to, step_by, step_at, step, step_within, HasRoom, state_of, IsStep}
 use Rattle.niss_moves.specs.Names.{Quarter, Half, Counter, Token, Base, Symbol, LastMove, ReadFault, NotAMove, TooLong}
 use Rattle.niss_moves.specs.declared.partial_line.PartialLine.{PartialLine}
 use Rattle.niss_moves.specs.declared.base.Base.TheVariants as base
 use Rattle.niss_moves.specs.declared.partial_line.LastMove.TheVariants as last
 use Rattle.niss_moves.specs.declared.symbol.Symbol.TheVariants as symbol
-use Rattle.niss_moves.proofs.Completes.{state, count_more}
+use Rattle.niss_moves.proofs.Completes.{state, count_more, IsReady}
 
 abbrev Roomy : Result State ReadFault → Type 0
 Roomy (Ok t) = HasRoom t
@@ -73,3 +73,27 @@ room_step s byte h = room_fed (s.fed + 1) _ (by_last s.normal s.bracketed s.brac
 
 pub room_kept : (p q : PartialLine) (byte : ℕ) → HasRoom (state_of p) → step (state_of p) byte ≡ Ok (state_of q) → HasRoom (state_of q)
 room_kept p q byte h e = subst Roomy e (room_step (state_of p) byte h)
+
+-- The fields of a line as far as it is read, and its state.
+
+-- the last move made whole, by what it is
+pub settled_at : (t : LastMove) (s n : State) → s.last ≡ t
+    → n ≡ record s { normal = (settled_by t s).normal; bracketed = (settled_by t s).bracketed; last = last.Finished } → n ≡ settled s
+settled_at t s n e h =
+    h ∙ ap (λ (t : LastMove). record s { normal = (settled_by t s).normal; bracketed = (settled_by t s).bracketed; last = last.Finished }) (sym e)
+
+pub step_whole : (byte : ℕ) (x : Symbol) (p q : PartialLine) (r : Result (Unit {0}) ReadFault) → x ≡ symbol_of byte → IsReady p.last → IsStep (step_by 256 x) p r q → IsStep (λ s. step_at 256 s.last s byte) p r q
+step_whole byte x p q r e ready h = by_last p.last ready
+  where
+    whole : IsStep (step_by 256 (symbol_of byte)) p r q
+    whole = subst (λ (y : Symbol). IsStep (step_by 256 y) p r q) e h
+
+    by_last : (t : LastMove) → IsReady t → MatchResult r (λ _. step_at 256 t (state_of p) byte ≡ Ok (state_of q)) (λ f. step_at 256 t (state_of p) byte ≡ Err f)
+    by_last (last.FirstByte b two) k = absurd k
+    by_last (last.SecondByte b two) k = absurd k
+    by_last _ k = whole
+
+pub is_ready : (t : LastMove) → ((b : Base) (two : Bool) → t ≡ last.FirstByte b two → ⊥) → ((b : Base) (two : Bool) → t ≡ last.SecondByte b two → ⊥) → IsReady t
+is_ready (last.FirstByte b two) f g = f b two refl
+is_ready (last.SecondByte b two) f g = g b two refl
+is_ready _ f g = tt

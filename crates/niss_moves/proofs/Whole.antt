@@ -9,8 +9,7 @@ use Rattle.niss_moves.specs.Machine.{State, start, settled, step, and_then, run}
 use Rattle.niss_moves.specs.Notation.{base_bytes, Plain, Suffix, Prime, TwoPrime, suffix_bytes, Space}
 use Rattle.niss_moves.specs.Names.{Token, Base, LastMove, ReadFault, NotAMove, Nested, Unopened, Unclosed, TooLong}
 use Rattle.niss_moves.specs.declared.base.Base.TheVariants as base
-use Rattle.niss_moves.proofs.Finite.{every_face, at_face, every_slice, at_slice, every_axis, at_axis}
-use Rattle.niss_moves.proofs.Logic.{and_both, and_left, and_right}
+use Rattle.niss_moves.proofs.Finite.{every_face, at_face, every_slice, at_slice, every_axis, at_axis, and_both, and_left, and_right}
 use Rattle.niss_moves.specs.declared.partial_line.LastMove.TheVariants as last
 use Rattle.niss_moves.proofs.Completes.{IsReady, run-append, completes}
 use Rattle.niss_moves.proofs.Sound.{last_bytes, WholeItems, Closed, Opened, front_close, Reads, reads_start, settled_front, cut_of, is_open, Refusal, Outcome, step_means}

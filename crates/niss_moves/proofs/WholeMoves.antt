@@ -4,8 +4,7 @@ use mir.Val.{bool_byte}
 use Rattle.std.proofs.lemmas.List.{take_more}
 use Rattle.std.specs.Prelude.{◌==◌, ◌*◌, nat_lt, not, Bool, true, false}
 use Rattle.niss_moves.specs.Letters.{face_letter}
-use Rattle.niss_moves.proofs.Logic.{not_true}
-use Rattle.niss_moves.proofs.Finite.{every_face, at_face, every_slice, at_slice, every_axis, at_axis}
+use Rattle.niss_moves.proofs.Finite.{not_true, every_face, at_face, every_slice, at_slice, every_axis, at_axis}
 use Rattle.std.proofs.lemmas.Bool.{lt-ltb, eqb-true}
 use Rattle.niss_moves.specs.Notation.{token_of, lower_letter, slice_letter, rotation_letter, base_bytes, Plain, Typographic, Suffix, Nothing, Two, Prime, TwoPrime, suffix_bytes, Blank, Space, Tab, Return, blank_byte}
 use Rattle.niss_moves.specs.Machine.{State, state_of, HasRoom, added, settled, settled_by, count, run, and_then, ended, answer_after}

@@ -40,57 +40,23 @@ static BEFORE: [[[Face; 6]; 3]; 3] = [
     ],
 ];
 
+const NONE: Option<Power> = None;
+
+const QUARTER: Option<Power> = Some(Power::Quarter);
+
+const HALF: Option<Power> = Some(Power::Half);
+
+const COUNTER: Option<Power> = Some(Power::Counter);
+
 /// By the faces that come to the top and to the front: the turn about the vertical axis. A face that comes to the top, and
 /// its opposite, can't come to the front.
 static VERTICAL: [[Option<Power>; 6]; 6] = [
-    [
-        None,
-        None,
-        Some(Power::Quarter),
-        Some(Power::Counter),
-        None,
-        Some(Power::Half),
-    ],
-    [
-        None,
-        None,
-        Some(Power::Quarter),
-        Some(Power::Counter),
-        Some(Power::Half),
-        None,
-    ],
-    [
-        Some(Power::Counter),
-        Some(Power::Quarter),
-        None,
-        None,
-        None,
-        Some(Power::Half),
-    ],
-    [
-        Some(Power::Quarter),
-        Some(Power::Counter),
-        None,
-        None,
-        None,
-        Some(Power::Half),
-    ],
-    [
-        Some(Power::Half),
-        None,
-        Some(Power::Quarter),
-        Some(Power::Counter),
-        None,
-        None,
-    ],
-    [
-        None,
-        Some(Power::Half),
-        Some(Power::Quarter),
-        Some(Power::Counter),
-        None,
-        None,
-    ],
+    [NONE, NONE, QUARTER, COUNTER, NONE, HALF],
+    [NONE, NONE, QUARTER, COUNTER, HALF, NONE],
+    [COUNTER, QUARTER, NONE, NONE, NONE, HALF],
+    [QUARTER, COUNTER, NONE, NONE, NONE, HALF],
+    [HALF, NONE, QUARTER, COUNTER, NONE, NONE],
+    [NONE, HALF, QUARTER, COUNTER, NONE, NONE],
 ];
 
 impl Axis {

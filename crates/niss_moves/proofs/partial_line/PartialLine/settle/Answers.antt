@@ -2,7 +2,7 @@ use Rattle.std.proofs.Common.{ap, ◌∙◌}
 use Rattle.niss_moves.specs.Machine.{added, state_of}
 use Rattle.niss_moves.specs.Notation.{token_of}
 use Rattle.niss_moves.specs.declared.partial_line.LastMove.TheVariants as last
-use Rattle.niss_moves.proofs.ReaderSteps.{settled_at}
+use Rattle.niss_moves.proofs.Room.{settled_at}
 use Rattle.niss_moves.proofs.partial_line.PartialLine.settle.Goals as goal
 
 pub returns-in-Bare : goal.returns-in-Bare

@@ -1,4 +1,4 @@
-use Rattle.niss_moves.proofs.ReaderSteps.{step_whole, is_ready}
+use Rattle.niss_moves.proofs.Room.{step_whole, is_ready}
 use Rattle.niss_moves.proofs.partial_line.PartialLine.take.Goals as goal
 
 pub returns-in_default : goal.returns-in_default
