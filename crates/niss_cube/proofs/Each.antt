@@ -1,5 +1,6 @@
 -- A test that holds at each of the 54 places holds at each place.
-use Rattle.std.proofs.Common.{◌≡◌, refl, ◌∙◌, ap, List, [], ◌∷◌, Bool, true, false, ◌&&◌, ◌||◌, not}
+use Rattle.std.proofs.Common.{◌≡◌, ℕ, zero, suc, ◌<◌, refl, sym, ◌∙◌, ap, List, [], ◌∷◌, length, arith, Bool, true, false, ◌&&◌, ◌||◌, not}
+use Rattle.std.specs.Prelude.{Contains, slice_index_or}
 use Rattle.std.specs.List.{list_all, list_any}
 use Rattle.niss_moves.specs.Places.{Coord, Neg, Zero, Pos, vector, Place, same_place, is_place}
 use Rattle.niss_moves.specs.Facelets.{places}
@@ -52,3 +53,12 @@ at_listed t (p ∷ ps) q h m = go (same_place q p) refl m (at_listed t ps q (and
 -- a test that holds at the 54 places of the list holds at each place
 pub at_place : (t : Place → Bool) → list_all t places ≡ true → (q : Place) → is_place q ≡ true → t q ≡ true
 at_place t h q p = at_listed t places q h (listed q p)
+
+-- a test that holds at each element of a list
+at_index : {A : Type 0} (test : A → Bool) (xs : List A) → list_all test xs ≡ true → (k : ℕ) (x : A) → k < length xs → test (slice_index_or xs k x) ≡ true
+at_index test [] h k x l = absurd (omega arith)
+at_index test (y ∷ ys) h zero x l = and_left _ (list_all test ys) h
+at_index test (y ∷ ys) h (suc k) x l = at_index test ys (and_right (test y) _ h) k x (omega arith)
+
+pub at_member : {A : Type 0} (test : A → Bool) (xs : List A) (x : A) → list_all test xs ≡ true → Contains xs x → test x ≡ true
+at_member test xs x h m = ap test (sym m.2) ∙ at_index test xs h m.0 x m.1
