@@ -1,5 +1,5 @@
 -- The orientations of pieces, flips or twists, by their number.
-use Rattle.std.proofs.Common.{◌≡◌, ℕ, zero, suc, ◌+◌, ◌-◌, ◌*◌, ◌/◌, ◌%◌, ◌<◌, ◌≤◌, refl, sym, ◌∙◌, ap, subst, List, [], ◌∷◌, ◌++◌, length, get_or, take, length-append, arith, min, inl, inr, ◌⊎◌}
+use Rattle.std.proofs.Common.{◌≡◌, ℕ, zero, suc, ◌+◌, ◌-◌, ◌*◌, ◌/◌, ◌%◌, ◌<◌, refl, sym, ◌∙◌, ap, subst, List, [], ◌∷◌, ◌++◌, length, get_or, take, length-append, arith, min, inl, inr, ◌⊎◌}
 use Rattle.std.specs.Prelude.{slice_index, sum, ◌↔◌}
 use Rattle.std.proofs.lemmas.List.{ext_get_or, get_or-take, length-take}
 use Rattle.std.proofs.lemmas.List.Sums.{fold-append, sum_by-append}
@@ -7,7 +7,6 @@ use Rattle.std.proofs.Math.Seq.{take-suc, take-length, take-append_seam}
 use Rattle.std.proofs.lemmas.Bool.Decides.{eqb_tells}
 use Rattle.niss_cube.specs.Coordinates.{number}
 use Rattle.niss_cube.specs.NumberedCubies.{digits_of_number, orientations_of_number}
-use Rattle.niss_cube.proofs.Sums.{below, sum_by-below}
 use Rattle.niss_cube.proofs.Numbers.{number_from, Digits, Splits, splits-2, splits-3, number-same, number-below, span}
 use Rattle.niss_cube.proofs.CoordinateValues.{digits_taken}
 
