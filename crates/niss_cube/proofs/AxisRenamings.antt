@@ -1,5 +1,5 @@
 -- The cubies, the maps and the turns of the cube as it is renamed for a coordinate on an axis.
-use Rattle.std.proofs.Common.{◌≡◌, refl, sym, ◌∙◌, ap, Bool, true, ◌&&◌, Option, None, Some}
+use Rattle.std.proofs.Common.{◌≡◌, refl, sym, ◌∙◌, ap, Bool, true, ◌&&◌}
 use Rattle.std.specs.List.{list_all}
 use Rattle.niss_moves.specs.Places.{Place, is_place, same_place, SameMap}
 use Rattle.niss_moves.specs.Facelets.{places}
@@ -106,29 +106,17 @@ by_rotation v = record {
 not_renamed : IsRenaming (λ e. e) (λ t. t) (λ c. c)
 not_renamed = record { valid = λ c v. v; map_is = λ c v q p. refl; same = λ d e s. s; turned_is = λ t e keep q p. refl; back_is = λ t. refl; onto = λ c v. (c, v, λ q p. refl) }
 
--- by which rotation, if by one
-abbrev flip_renaming : Axis → Option Renaming
-flip_renaming Ud = Some XCounter
-flip_renaming Rl = Some YQuarter
-flip_renaming Fb = None
-
-abbrev twist_renaming : Axis → Option Renaming
-twist_renaming Ud = None
-twist_renaming Rl = Some ZCounter
-twist_renaming Fb = Some XQuarter
-
-abbrev renaming_for : Coordinate → Axis → Option Renaming
-renaming_for Flip = flip_renaming
-renaming_for Twist = twist_renaming
-renaming_for Slice = twist_renaming
-
-abbrev cubies_by : Option Renaming → CubieLists → CubieLists
-cubies_by None c = c
-cubies_by (Some v) c = renamed_cubies v c
-
 -- the cubies from which a coordinate on an axis is read
 abbrev pub cubies_for : Coordinate → Axis → CubieLists → CubieLists
-cubies_for k a = cubies_by (renaming_for k a)
+cubies_for Flip Ud c = renamed_cubies XCounter c
+cubies_for Flip Rl c = renamed_cubies YQuarter c
+cubies_for Flip Fb c = c
+cubies_for Twist Ud c = c
+cubies_for Twist Rl c = renamed_cubies ZCounter c
+cubies_for Twist Fb c = renamed_cubies XQuarter c
+cubies_for Slice Ud c = c
+cubies_for Slice Rl c = renamed_cubies ZCounter c
+cubies_for Slice Fb c = renamed_cubies XQuarter c
 
 pub renaming : (k : Coordinate) (a : Axis) → IsRenaming (renamed_for k a) (turn_for k a) (cubies_for k a)
 renaming Flip Ud = by_rotation XCounter

@@ -1,6 +1,10 @@
 -- A test that holds at each of the 54 places holds at each place.
-use Rattle.std.proofs.Common.{◌≡◌, refl, ◌∙◌, ap, List, [], ◌∷◌, Bool, true, false, ◌&&◌, ◌||◌, not}
+use Rattle.std.proofs.Common.{◌≡◌, refl, sym, ◌∙◌, ap, List, Bool, true, ◌&&◌, ◌||◌, not}
+use Rattle.std.specs.Prelude.{Contains}
 use Rattle.std.specs.List.{list_all, list_any}
+use Rattle.std.proofs.lemmas.List.Elements.{All-contains}
+use Rattle.std.proofs.lemmas.List.Folds.{Any-from_list_any}
+use Rattle.std.proofs.lemmas.List.Sums.{AllPass-from_list_all}
 use Rattle.niss_moves.specs.Places.{Coord, Neg, Zero, Pos, vector, Place, same_place, is_place}
 use Rattle.niss_moves.specs.Facelets.{places}
 pub use Rattle.niss_cube.proofs.Logic.{and_left, and_right}
@@ -41,14 +45,12 @@ listed q h =
     or_then (is_place q) (list_any (same_place q) places)
     (at_record (λ q. not (is_place q) || list_any (same_place q) places) listed_test q) h
 
-at_listed : (t : Place → Bool) (qs : List Place) (q : Place) → list_all t qs ≡ true → list_any (same_place q) qs ≡ true → t q ≡ true
-at_listed t [] q h m = absurd (cc)
-at_listed t (p ∷ ps) q h m = go (same_place q p) refl m (at_listed t ps q (and_right (t p) _ h))
-  where
-    go : (b : Bool) → same_place q p ≡ b → (b || list_any (same_place q) ps) ≡ true → (list_any (same_place q) ps ≡ true → t q ≡ true) → t q ≡ true
-    go true e m rest = ap t (same_place_is q p e) ∙ and_left (t p) _ h
-    go false e m rest = rest m
-
 -- a test that holds at the 54 places of the list holds at each place
 pub at_place : (t : Place → Bool) → list_all t places ≡ true → (q : Place) → is_place q ≡ true → t q ≡ true
-at_place t h q p = at_listed t places q h (listed q p)
+at_place t h q p =
+    let m = Any-from_list_any (same_place q) places (listed q p) in
+    ap t (same_place_is q m.1 m.4 ∙ sym m.3) ∙ AllPass-from_list_all t places h m.0 m.1 m.2
+
+-- a test that holds at each element of a list
+pub at_member : {A : Type 0} (test : A → Bool) (xs : List A) (x : A) → list_all test xs ≡ true → Contains xs x → test x ≡ true
+at_member test xs x h m = All-contains (λ x. test x ≡ true) xs x (AllPass-from_list_all test xs h) m

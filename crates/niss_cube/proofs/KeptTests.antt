@@ -1,7 +1,7 @@
 -- A set is kept where the test says so.
-use Rattle.std.proofs.Common.{◌≡◌, refl, Bool, true, false, not, ◌||◌, List, [], ◌∷◌}
+use Rattle.std.proofs.Common.{◌≡◌, refl, Bool, true, false, not, ◌||◌}
 use Rattle.std.specs.Prelude.{IsTrue, ◌↔◌}
-use Rattle.std.specs.List.{list_all}
+use Rattle.std.proofs.lemmas.List.Sums.{list_all-from_AllPass}
 use Rattle.niss_moves.specs.Places.{Place, is_place}
 use Rattle.niss_moves.specs.Facelets.{places}
 use Rattle.niss_cube.specs.Sets.{Kept}
@@ -13,15 +13,11 @@ implies : (a b : Bool) → (a ≡ true → b ≡ true) → (not a || b) ≡ true
 implies true b h = h refl
 implies false b h = refl
 
-all_of : (t : Place → Bool) (xs : List Place) → ((q : Place) → t q ≡ true) → list_all t xs ≡ true
-all_of t [] h = refl
-all_of t (x ∷ xs) h = rw (h x) (all_of t xs h)
-
 pub kept-tested : (set : Place → Bool) (e : Place → Place) → ((q : Place) → set q ≡ true → is_place q ≡ true) → IsTrue (is_kept set e) ↔ Kept set e
 unfolding is_kept
 kept-tested set e inside = (
   (λ h q m. or_then (set q) (set (e q)) (at_place (λ q. not (set q) || set (e q)) h q (inside q m)) m),
-  (λ k. all_of (λ q. not (set q) || set (e q)) places (λ q. implies (set q) (set (e q)) (k q))),
+  (λ k. list_all-from_AllPass (λ q. not (set q) || set (e q)) places (λ i q l. implies _ _ (k _))),
 )
 
 pub kept_is_tested : KeptIsTested

@@ -37,4 +37,5 @@ pub mod TableSteps
 pub mod TurnedCubies
 pub mod WorkedTurns
 pub mod WorkedValues
+pub mod WrittenLists
 pub mod WrittenOrientations

@@ -1,12 +1,12 @@
 -- The orientations of pieces, flips or twists, by their number.
-use Rattle.std.proofs.Common.{◌≡◌, ℕ, zero, suc, ◌+◌, ◌-◌, ◌*◌, ◌/◌, ◌%◌, ◌<◌, ◌≤◌, refl, sym, ◌∙◌, ap, subst, List, [], ◌∷◌, ◌++◌, length, get_or, take, arith, min, inl, inr, ◌⊎◌}
+use Rattle.std.proofs.Common.{◌≡◌, ℕ, zero, suc, ◌+◌, ◌-◌, ◌*◌, ◌/◌, ◌%◌, ◌<◌, refl, sym, ◌∙◌, ap, subst, List, [], ◌∷◌, ◌++◌, length, get_or, take, length-append, arith, min, inl, inr, ◌⊎◌}
 use Rattle.std.specs.Prelude.{slice_index, sum, ◌↔◌}
 use Rattle.std.proofs.lemmas.List.{ext_get_or, get_or-take, length-take}
-use Rattle.std.proofs.lemmas.List.Sums.{sum_by-cons}
+use Rattle.std.proofs.lemmas.List.Sums.{fold-append, sum_by-append}
+use Rattle.std.proofs.Math.Seq.{take-suc, take-length, take-append_seam}
 use Rattle.std.proofs.lemmas.Bool.Decides.{eqb_tells}
 use Rattle.niss_cube.specs.Coordinates.{number}
 use Rattle.niss_cube.specs.NumberedCubies.{digits_of_number, orientations_of_number}
-use Rattle.niss_cube.proofs.Sums.{below, sum_by-below}
 use Rattle.niss_cube.proofs.Numbers.{number_from, Digits, Splits, splits-2, splits-3, number-same, number-below, span}
 use Rattle.niss_cube.proofs.CoordinateValues.{digits_taken}
 
@@ -38,22 +38,16 @@ pub record AreOriented (b n : ℕ) (xs : List ℕ) : Type 0 where
   pub whole : sum xs % b ≡ 0
 
 length-more : (xs : List ℕ) (d : ℕ) → length (xs ++ d ∷ []) ≡ suc (length xs)
-length-more [] d = refl
-length-more (x ∷ xs) d = ap suc (length-more xs d)
+length-more xs d = length-append xs (d ∷ []) ∙ omega arith
 
 sum-more : (xs : List ℕ) (d : ℕ) → sum (xs ++ d ∷ []) ≡ sum xs + d
-sum-more [] d = omega arith
-sum-more (x ∷ xs) d = omega (arith, sum_by-cons (λ x. x) x (xs ++ d ∷ []), sum_by-cons (λ x. x) x xs, sum-more xs d)
+sum-more xs d = sum_by-append (λ x. x) xs (d ∷ []) ∙ omega arith
 
 number-more : (b : ℕ) (xs : List ℕ) (a d : ℕ) → number_from b a (xs ++ d ∷ []) ≡ b * number_from b a xs + d
-number-more b [] a d = refl
-number-more b (x ∷ xs) a d = number-more b xs (b * a + x) d
+number-more b xs a d = fold-append (λ n d. b * n + d) a xs (d ∷ [])
 
 take-more : (xs : List ℕ) (d n : ℕ) → length xs ≡ n → take n (xs ++ d ∷ []) ≡ xs
-take-more [] d zero l = refl
-take-more [] d (suc n) l = absurd (omega arith)
-take-more (x ∷ xs) d zero l = absurd (omega arith)
-take-more (x ∷ xs) d (suc n) l = ap (λ ys. x ∷ ys) (take-more xs d n (omega arith))
+take-more xs d n l = ap (λ k. take k (xs ++ d ∷ [])) (sym l) ∙ take-append_seam xs (d ∷ [])
 
 digits-more : (b : ℕ) (xs : List ℕ) (d : ℕ) → Digits b xs → d < b → Digits b (xs ++ d ∷ [])
 digits-more b [] d p l = (l, tt)
@@ -79,20 +73,10 @@ digits_of_number-number b base (suc n) i l =
     ∙ ap (λ k. b * k + i % b) (digits_of_number-number b base n (i / b) (base.lower i (span b n) l))
     ∙ base.whole i
 
-pub sum_taken : (n : ℕ) (xs : List ℕ) → length xs ≡ suc n → sum xs ≡ sum (take n xs) + get_or xs n 0
+sum_taken : (n : ℕ) (xs : List ℕ) → length xs ≡ suc n → sum xs ≡ sum (take n xs) + get_or xs n 0
 sum_taken n xs l =
-    let t : length (take n xs) ≡ n = length-take n xs ∙ omega arith in
-    let a : sum xs ≡ below (suc n) (λ k. get_or xs k 0) = sum_by-below (λ x. x) xs ∙ ap (λ m. below m (λ k. get_or xs k 0)) l in
-    let b : sum (take n xs) ≡ below n (λ k. get_or xs k 0) =
-    sum_by-below (λ x. x) (take n xs) ∙ ap (λ m. below m (λ k. get_or (take n xs) k 0)) t ∙ taken n in
-    omega arith
-  where
-    taken_to : (m : ℕ) → m ≤ n → below m (λ k. get_or (take n xs) k 0) ≡ below m (λ k. get_or xs k 0)
-    taken_to zero h = refl
-    taken_to (suc m) h = let e : get_or (take n xs) m 0 ≡ get_or xs m 0 = get_or-take n xs m 0 h in omega (arith, taken_to m (omega arith))
-
-    taken : (m : ℕ) → below n (λ k. get_or (take n xs) k 0) ≡ below n (λ k. get_or xs k 0)
-    taken m = taken_to n (omega arith)
+    ap sum (sym (take-length xs) ∙ ap (λ k. take k xs) l ∙ take-suc xs n 0 (omega arith))
+    ∙ sum-more (take n xs) (get_or xs n 0)
 
 -- each number is that of its orientations
 pub orientations_of_number-are : (b : ℕ) → Base b → (n i : ℕ) → AreOriented b n (orientations_of_number b n i)

@@ -2,6 +2,7 @@
 use Rattle.std.proofs.Common.{◌≡◌, ℕ, ◌+◌, ◌%◌, ◌<◌, refl, sym, ◌∙◌, ap, List, [], ◌∷◌, Bool, true, false, ◌||◌}
 use Rattle.std.specs.Prelude.{if◌then◌else◌}
 use Rattle.std.specs.List.{list_all, list_any}
+use Rattle.std.proofs.lemmas.List.Folds.{Any-from_list_any, list_any-from_Any}
 use Rattle.niss_moves.specs.Places.{Place, same_place, is_place, is_corner, is_edge}
 use Rattle.niss_moves.specs.Facelets.{places}
 use Rattle.niss_moves.specs.Letters.{letter_of, letter_at}
@@ -9,7 +10,7 @@ use Rattle.niss_cube.proofs.CubieLists.{CubieLists, Valid, map_lists}
 use Rattle.niss_cube.proofs.CubieKinds.{Kind, count, facelets, at, home_at, turn_at, stand, kind_place, facelet_kind, origin, centre_stays, one_to_one}
 use Rattle.niss_cube.proofs.Each.{listed}
 use Rattle.niss_cube.proofs.Logic.{and_left, and_right}
-use Rattle.niss_moves.proofs.CallerLemmas.{same_place_is, same_place_self, all_places}
+use Rattle.niss_moves.proofs.CallerLemmas.{same_place_is, same_place_of, all_places}
 
 -- the only place from which e brings a sticker to q has this letter, and there is one
 letter_of-only : (e : Place → Place) (q : Place) (letter : ℕ) (ps : List Place) → list_all is_place ps ≡ true → ((p : Place) → is_place p ≡ true → e p ≡ q → letter_at p ≡ letter) → list_any (λ p. same_place (e p) q) ps ≡ true → letter_of e ps q ≡ letter
@@ -22,18 +23,9 @@ letter_of-only e q letter (p ∷ ps) all only some = go (same_place (e p) q) ref
     go false h s rest = rest s
 
 any_brought : (e : Place → Place) (q p : Place) (ps : List Place) → e p ≡ q → list_any (same_place p) ps ≡ true → list_any (λ p. same_place (e p) q) ps ≡ true
-any_brought e q p [] h some = absurd (cc)
-any_brought e q p (r ∷ rs) h some = go (same_place p r) refl some (any_brought e q p rs h)
-  where
-    go : (b : Bool) → same_place p r ≡ b → (b || list_any (same_place p) rs) ≡ true → (list_any (same_place p) rs ≡ true → list_any (λ p. same_place (e p) q) rs ≡ true) → (same_place (e r) q || list_any (λ p. same_place (e p) q) rs) ≡ true
-    go true w s rest =
-        let at : same_place (e r) q ≡ true = ap (λ z. same_place (e z) q) (sym (same_place_is p r w)) ∙ ap (λ z. same_place z q) h ∙ same_place_self q in
-        rw at refl
-    go false w s rest = or_second (same_place (e r) q) _ (rest s)
-      where
-        or_second : (a b : Bool) → b ≡ true → (a || b) ≡ true
-        or_second true b h = refl
-        or_second false b h = h
+any_brought e q p ps h some =
+    let m = Any-from_list_any (same_place p) ps some in
+    list_any-from_Any (λ p. same_place (e p) q) ps (m.0, m.1, m.2, m.3, same_place_of _ _ (ap e (sym (same_place_is p m.1 m.4)) ∙ h))
 
 pub letter_of-is : (e : Place → Place) (q p : Place) → is_place p ≡ true → e p ≡ q → ((p' : Place) → is_place p' ≡ true → e p' ≡ q → p' ≡ p) → letter_of e places q ≡ letter_at p
 letter_of-is e q p l h only =

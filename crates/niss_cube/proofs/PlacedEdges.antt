@@ -1,8 +1,9 @@
 -- The steps of the loop that places the edges of a slice.
-use Rattle.std.proofs.Common.{◌≡◌, ℕ, suc, ◌+◌, ◌-◌, ◌<◌, refl, sym, ◌∙◌, ap, subst, List, [], ◌∷◌, ◌++◌, length, get_or, set, take, drop, reverse, Bool, true, false, arith, append_assoc}
-use Rattle.std.proofs.lemmas.List.{take_more_set, length-set, get_or-reverse, append-nil}
-use Rattle.std.proofs.Math.Seq.{drop-cons, drop-length, take-length}
+use Rattle.std.proofs.Common.{◌≡◌, ℕ, suc, ◌+◌, ◌-◌, ◌<◌, refl, sym, ◌∙◌, ap, subst, List, ◌∷◌, ◌++◌, length, get_or, set, take, drop, reverse, Bool, true, false, arith}
+use Rattle.std.proofs.lemmas.List.{length-set, get_or-reverse}
+use Rattle.std.proofs.Math.Seq.{drop-cons, drop-length}
 use Rattle.niss_cube.specs.NumberedCubies.{edges_at}
+use Rattle.niss_cube.proofs.WrittenLists.{one_more, all_written}
 
 -- what the loop keeps: the edges placed and those still to come are those of the occupied places
 pub record Placed (os : List Bool) (place free of_slice : ℕ) (xs : List ℕ) : Type 0 where
@@ -17,9 +18,6 @@ next : (os : List Bool) (b : Bool) (place : ℕ) → place < length os → get_o
 next os b place l e =
     drop-cons os place false l ∙ ap (λ c. c ∷ drop (suc place) os) e ∙ ap (λ k. b ∷ drop k os) (let a : suc place ≡ place + 1 = omega arith in a)
 
-one_more : (xs : List ℕ) (place x : ℕ) (ys : List ℕ) → place < length xs → take (place + 1) (set xs place x) ++ ys ≡ take place xs ++ (x ∷ ys)
-one_more xs place x ys l = ap (λ zs. zs ++ ys) (take_more_set xs place x l) ∙ append_assoc (take place xs) (x ∷ []) ys
-
 -- the places are counted from the last down
 pub reversed-at : (occupied : List Bool) (place : ℕ) (b : Bool) → length occupied ≡ 12 → place < 12 → get_or occupied (11 - place) false ≡ b → get_or (reverse occupied) place false ≡ b
 reversed-at occupied place b l h e =
@@ -27,38 +25,28 @@ reversed-at occupied place b l h e =
     ∙ ap (λ n. get_or occupied (n - 1 - place) false) l
     ∙ e
 
-pub placed-slice : (os : List Bool) (place free of_slice : ℕ) (xs : List ℕ) → length os ≡ 12 → place < 12 → get_or os place false ≡ true → Placed os place free of_slice xs → Placed os (place + 1) free (of_slice + 1) (set xs place of_slice)
-placed-slice os place free of_slice xs l h e p =
-    record {
-      places = length-set xs place of_slice ∙ p.places;
-      is =
-          ap (λ k. take (place + 1) (set xs place of_slice) ++ edges_at (drop (place + 1) os) free k) (let a : of_slice + 1 ≡ suc of_slice = omega arith in a)
-          ∙ one_more xs place of_slice (edges_at (drop (place + 1) os) free (suc of_slice)) (omega (arith, p.places))
-          ∙ ap (λ rs. take place xs ++ edges_at rs free of_slice) (sym (next os true place (omega arith) e))
-          ∙ p.is;
+placed-step : (os : List Bool) (place free of_slice free' of_slice' x : ℕ) (xs xs' : List ℕ) → place < 12 → xs' ≡ set xs place x →
+    edges_at (drop place os) free of_slice ≡ x ∷ edges_at (drop (place + 1) os) free' of_slice' → Placed os place free of_slice xs → Placed os (place + 1) free' of_slice' xs'
+placed-step os place free of_slice free' of_slice' x xs xs' l same head p =
+    let P : List ℕ → Type 0 = λ ys. Placed os (place + 1) free' of_slice' ys in
+    subst P (sym same) record {
+      places = length-set xs place x ∙ p.places;
+      is = one_more xs place x (edges_at (drop place os) free of_slice) (edges_at (drop (place + 1) os) free' of_slice') _ (omega (arith, p.places)) head p.is;
     }
 
-pub placed-free : (os : List Bool) (place free of_slice : ℕ) (xs : List ℕ) → length os ≡ 12 → place < 12 → get_or os place false ≡ false → Placed os place free of_slice xs → Placed os (place + 1) (free + 1) of_slice (set xs place free)
-placed-free os place free of_slice xs l h e p =
-    record {
-      places = length-set xs place free ∙ p.places;
-      is =
-          ap (λ k. take (place + 1) (set xs place free) ++ edges_at (drop (place + 1) os) k of_slice) (let a : free + 1 ≡ suc free = omega arith in a)
-          ∙ one_more xs place free (edges_at (drop (place + 1) os) (suc free) of_slice) (omega (arith, p.places))
-          ∙ ap (λ rs. take place xs ++ edges_at rs free of_slice) (sym (next os false place (omega arith) e))
-          ∙ p.is;
-    }
+module _ (os : List Bool) (place free of_slice free' of_slice' : ℕ) (xs xs' : List ℕ) (len : length os ≡ 12) (l : place < 12) (now : Placed os place free of_slice xs) where
+  pub placed-slice : get_or os place false ≡ true → free' ≡ free → of_slice' ≡ of_slice + 1 → xs' ≡ set xs place of_slice → Placed os (place + 1) free' of_slice' xs'
+  placed-slice e p q r =
+      let more : of_slice' ≡ suc of_slice = omega arith in
+      let here = next os true place (omega arith) e in
+      placed-step os place free of_slice free' of_slice' of_slice xs xs' l r (ap (λ rs. edges_at rs free of_slice) here ∙ (cc)) now
 
--- the parts of a step, at equal values
-pub placed-at : (os : List Bool) (place free free' of_slice of_slice' : ℕ) (xs xs' : List ℕ) → free' ≡ free → of_slice' ≡ of_slice → xs' ≡ xs → Placed os place free of_slice xs → Placed os place free' of_slice' xs'
-placed-at os place free free' of_slice of_slice' xs xs' p q r h =
-    let P : ℕ → Type 0 = λ k. Placed os place k of_slice xs in
-    let Q : ℕ → Type 0 = λ k. Placed os place free' k xs in
-    let S : List ℕ → Type 0 = λ ys. Placed os place free' of_slice' ys in
-    subst S (sym r) (subst Q (sym q) (subst P (sym p) h))
+  pub placed-free : get_or os place false ≡ false → free' ≡ free + 1 → of_slice' ≡ of_slice → xs' ≡ set xs place free → Placed os (place + 1) free' of_slice' xs'
+  placed-free e p q r =
+      let more : free' ≡ suc free = omega arith in
+      let here = next os false place (omega arith) e in
+      placed-step os place free of_slice free' of_slice' free xs xs' l r (ap (λ rs. edges_at rs free of_slice) here ∙ (cc)) now
 
 pub placed-end : (os : List Bool) (place free of_slice : ℕ) (xs : List ℕ) → length os ≡ 12 → place ≡ 12 → Placed os place free of_slice xs → xs ≡ edges_at os 0 8
 placed-end os place free of_slice xs l e p =
-    let all : take place xs ≡ xs = ap (λ k. take k xs) (e ∙ sym p.places) ∙ take-length xs in
-    let none : drop place os ≡ [] = ap (λ k. drop k os) (e ∙ sym l) ∙ drop-length os in
-    sym (append-nil xs) ∙ ap (λ ys. ys ++ []) (sym all) ∙ ap (λ rs. take place xs ++ edges_at rs free of_slice) (sym none) ∙ p.is
+    all_written xs place (edges_at (drop place os) free of_slice) _ (e ∙ sym p.places) (ap (λ rs. edges_at rs free of_slice) (ap (λ k. drop k os) (e ∙ sym l) ∙ drop-length os)) p.is

@@ -1,10 +1,12 @@
 -- The flips and twists that a cube's map shows are those of its cubies.
-use Rattle.std.proofs.Common.{◌≡◌, ℕ, zero, suc, ◌<◌, refl, sym, ◌∙◌, ap, List, [], ◌∷◌, length, get_or, map, drop, Bool, true, false, ◌&&◌, ◌||◌, arith, inl, inr, ◌⊎◌}
+use Rattle.std.proofs.Common.{◌≡◌, ℕ, zero, suc, ◌<◌, refl, sym, ◌∙◌, ap, List, [], ◌∷◌, length, get_or, map, drop, Bool, true, false, ◌&&◌, arith, inl, inr}
 use Rattle.std.specs.Prelude.{◌==◌, nat_le}
-use Rattle.std.specs.List.{list_any}
+use Rattle.std.specs.List.{list_any, range_with_len}
 use Rattle.std.proofs.lemmas.Bool.{eqb-true, eq-eqb}
 use Rattle.std.proofs.lemmas.Bool.Decides.{eqb_tells}
-use Rattle.std.proofs.lemmas.List.{ext_get_or, get_or-map, length-map}
+use Rattle.std.proofs.lemmas.List.{ext_get_or, get_or-map, length-map, get_or_default}
+use Rattle.std.proofs.lemmas.List.Folds.{Any-from_list_any, list_any_at}
+use Rattle.std.proofs.lemmas.List.FromFn.{get_or-range_with_len, length-range_with_len}
 use Rattle.niss_moves.specs.Places.{Place, same_place, SameMap}
 use Rattle.niss_moves.specs.declared.turn.Face.TheVariants.{U}
 use Rattle.niss_moves.specs.Facelets.{facelet}
@@ -17,31 +19,18 @@ use Rattle.niss_cube.proofs.Sums.{eqb-itself, eqb-other}
 use Rattle.niss_cube.proofs.Logic.{and_left, and_right, and_both, same_truth}
 use Rattle.niss_moves.proofs.CallerLemmas.{same_place_is, same_place_of}
 
-abbrev pub any_up : ℕ → (ℕ → Bool) → Bool
-any_up zero t = false
-any_up (suc n) t = t 0 || any_up n (λ k. t (suc k))
+-- whether a test passes at a number below n
+abbrev any_below : ℕ → (ℕ → Bool) → Bool
+any_below n t = list_any t (range_with_len 0 n)
 
-pub or_right : (a b : Bool) → b ≡ true → (a || b) ≡ true
-or_right true b h = refl
-or_right false b h = h
+any_below-some : (n : ℕ) (t : ℕ → Bool) (k : ℕ) → k < n → t k ≡ true → any_below n t ≡ true
+any_below-some n t k l h = list_any_at t (range_with_len 0 n) k 0 (omega (arith, length-range_with_len 0 n)) (ap t (get_or-range_with_len 0 n k 0 l ∙ omega arith) ∙ h)
 
-pub or_cases : (a b : Bool) → (a || b) ≡ true → (a ≡ true) ⊎ (b ≡ true)
-or_cases true b h = inl refl
-or_cases false b h = inr h
-
-pub any_up-some : (n : ℕ) (t : ℕ → Bool) (k : ℕ) → k < n → t k ≡ true → any_up n t ≡ true
-any_up-some zero t k l h = absurd (omega arith)
-any_up-some (suc n) t zero l h = rw h refl
-any_up-some (suc n) t (suc k) l h = or_right (t 0) _ (any_up-some n (λ k. t (suc k)) k (omega arith) h)
-
-pub any_up-found : (n : ℕ) (t : ℕ → Bool) → any_up n t ≡ true → (k : ℕ) × (k < n) × (t k ≡ true)
-any_up-found zero t h = absurd (cc)
-any_up-found (suc n) t h = elim (or_cases (t 0) _ h) [
-  | inl w ↦ (0, omega arith, w)
-  | inr w ↦
-      let r : (k : ℕ) × (k < n) × (t (suc k) ≡ true) = any_up-found n (λ k. t (suc k)) w in
-      (suc r.0, omega arith, r.2)
-]
+any_below-found : (n : ℕ) (t : ℕ → Bool) → any_below n t ≡ true → (k : ℕ) × (k < n) × (t k ≡ true)
+any_below-found n t h =
+    let m = Any-from_list_any t (range_with_len 0 n) h in
+    let l : m.0 < n = omega (arith, m.2, length-range_with_len 0 n) in
+    (m.1, omega (arith, l, m.3, get_or-range_with_len 0 n m.0 m.1 l), m.4)
 
 eqb-next : (a b : ℕ) → (suc a == suc b) ≡ (a == b)
 eqb-next a b = elim (eqb_tells a b) [
@@ -49,22 +38,17 @@ eqb-next a b = elim (eqb_tells a b) [
   | inr w ↦ eqb-other (suc a) (suc b) (λ e. w.1 (omega arith)) ∙ sym w.0
 ]
 
-pub list_any-up : {A : Type 0} (test : A → Bool) (xs : List A) (d : A) → list_any test xs ≡ any_up (length xs) (λ k. test (get_or xs k d))
-list_any-up test [] d = refl
-list_any-up test (x ∷ xs) d = ap (λ b. test x || b) (list_any-up test xs d)
-
 -- a test that passes at one index at most passes where it does there
-pub list_any-is : {A : Type 0} (test : A → Bool) (xs : List A) (d : A) (s : Bool) (t : ℕ) → t < length xs → ((k : ℕ) → k < length xs → test (get_or xs k d) ≡ (s && (t == k))) → list_any test xs ≡ s
+list_any-is : {A : Type 0} (test : A → Bool) (xs : List A) (d : A) (s : Bool) (t : ℕ) → t < length xs → ((k : ℕ) → k < length xs → test (get_or xs k d) ≡ (s && (t == k))) → list_any test xs ≡ s
 list_any-is test xs d s t l h =
-    list_any-up test xs d
-    ∙ same_truth _ _
+    same_truth _ _
     (λ a.
-    let r : (k : ℕ) × (k < length xs) × (test (get_or xs k d) ≡ true) = any_up-found (length xs) (λ k. test (get_or xs k d)) a in
-    and_left _ _ (sym (h r.0 r.1) ∙ r.2))
-    (λ b. any_up-some (length xs) (λ k. test (get_or xs k d)) t l (h t l ∙ and_both _ _ b (eqb-itself t)))
+    let m = Any-from_list_any test xs a in
+    and_left _ _ (sym (h m.0 m.2) ∙ ap test (get_or_default xs m.0 d m.1 m.2 ∙ m.3) ∙ m.4))
+    (λ b. list_any_at test xs t d l (h t l ∙ and_both _ _ b (eqb-itself t)))
 
 -- index_in finds the one index that passes
-pub index_in-is : {A : Type 0} (test : A → Bool) (xs : List A) (d : A) (t : ℕ) → t < length xs → ((k : ℕ) → k < length xs → test (get_or xs k d) ≡ (t == k)) → index_in test xs ≡ t
+index_in-is : {A : Type 0} (test : A → Bool) (xs : List A) (d : A) (t : ℕ) → t < length xs → ((k : ℕ) → k < length xs → test (get_or xs k d) ≡ (t == k)) → index_in test xs ≡ t
 index_in-is test [] d t l h = absurd (omega arith)
 index_in-is test (x ∷ xs) d zero l h = rw (h 0 (omega arith)) refl
 index_in-is test (x ∷ xs) d (suc t) l h =
@@ -82,7 +66,7 @@ row_lens Edges = refl
 row_len : (k : Kind) (i : ℕ) → i < count k → length (row_at (rows k) i) ≡ facelets k
 row_len k i l = eqb-true _ _ (at_below (count k) (λ i. length (row_at (rows k) i) == facelets k) (row_lens k) i l)
 
-brought_first : (k : Kind) (e : Place → Place) (q : Place) → brings e (firsts (rows k)) q ≡ any_up (count k) (λ h. same_place (e (at k h 0)) q)
+brought_first : (k : Kind) (e : Place → Place) (q : Place) → brings e (firsts (rows k)) q ≡ any_below (count k) (λ h. same_place (e (at k h 0)) q)
 brought_first Corners e q = refl
 brought_first Edges e q = refl
 
@@ -95,11 +79,11 @@ module _ (k : Kind) (c : CubieLists) (v : Valid c) (e : Place → Place) (same :
       ∙ ap (at k (place_of k c h)) (unturned k _ ((stand k c v).turn_below _ (stands k c v h l).0))
 
   -- that of a home that is selected is brought to facelet j of place i
-  brings_test : (sel : ℕ → Bool) (i j : ℕ) → i < count k → j < facelets k → any_up (count k) (λ h. sel h && same_place (e (at k h 0)) (at k i j)) ≡ (sel (home_at k c i) && (turn_at k c i == j))
+  brings_test : (sel : ℕ → Bool) (i j : ℕ) → i < count k → j < facelets k → any_below (count k) (λ h. sel h && same_place (e (at k h 0)) (at k i j)) ≡ (sel (home_at k c i) && (turn_at k c i == j))
   brings_test sel i j li lj =
       same_truth _ _
       (λ a.
-      let r : (h : ℕ) × (h < count k) × ((sel h && same_place (e (at k h 0)) (at k i j)) ≡ true) = any_up-found (count k) (λ h. sel h && same_place (e (at k h 0)) (at k i j)) a in
+      let r : (h : ℕ) × (h < count k) × ((sel h && same_place (e (at k h 0)) (at k i j)) ≡ true) = any_below-found (count k) (λ h. sel h && same_place (e (at k h 0)) (at k i j)) a in
       let w = stands k c v r.0 r.1 in
       let s = same_facelet k (place_of k c r.0) (turn_at k c (place_of k c r.0)) i j w.0 ((stand k c v).turn_below _ w.0) li lj
       (sym (first_at r.0 r.1) ∙ same_place_is _ _ (and_right (sel r.0) _ r.2)) in
@@ -107,7 +91,7 @@ module _ (k : Kind) (c : CubieLists) (v : Valid c) (e : Place → Place) (same :
       (λ b.
       let h : ℕ = home_at k c i in
       let lh : h < count k = (stand k c v).home_below i li in
-      any_up-some (count k) (λ h. sel h && same_place (e (at k h 0)) (at k i j)) h lh
+      any_below-some (count k) (λ h. sel h && same_place (e (at k h 0)) (at k i j)) h lh
       (and_both _ _ (and_left (sel h) _ b)
       (same_place_of _ _ (first_at h lh ∙ ap (λ n. at k n (turn_at k c n)) (stands-at k c v i li) ∙ ap (at k i) (eqb-true _ _ (and_right (sel h) _ b))))))
 

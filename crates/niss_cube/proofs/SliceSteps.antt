@@ -1,5 +1,5 @@
 -- The steps of the number of a slice.
-use Rattle.std.proofs.Common.{◌≡◌, ℕ, zero, suc, ◌+◌, ◌-◌, ◌<◌, ◌≤◌, refl, sym, ◌∙◌, ap, List, [], ◌∷◌, length, get_or, drop, Bool, true, false, arith}
+use Rattle.std.proofs.Common.{◌≡◌, ℕ, suc, ◌+◌, ◌-◌, ◌<◌, ◌≤◌, refl, ◌∙◌, ap, List, [], ◌∷◌, length, get_or, drop, true, false, arith}
 use Rattle.std.specs.Prelude.{nat_le, ◌==◌}
 use Rattle.std.proofs.lemmas.Bool.{eqb-true, le-leb, leb-true, false_from_ne_true}
 use Rattle.std.proofs.Math.Seq.{drop-cons}
@@ -40,22 +40,19 @@ module _ (edges : List ℕ) (l : length edges ≡ 12) (met n : ℕ) (lm : met < 
       ∙ ap (λ b. rank (b ∷ drop (suc met) (slice_occupied edges)) (suc w)) (lt-leb_false 8 (get_or edges (11 - met) 0) h)
       ∙ ap (λ k. choose k w + rank (drop (suc met) (slice_occupied edges)) (suc w)) left
 
-  pub counted_yes : (w total : ℕ) → 0 < w → 8 ≤ get_or edges (11 - met) 0 → n + rank (drop met (slice_occupied edges)) w ≡ total → n + rank (drop (met + 1) (slice_occupied edges)) (w - 1) ≡ total
-  counted_yes zero total p h e = absurd (omega arith)
-  counted_yes (suc w) total p h e =
-      ap (λ k. n + rank (drop k (slice_occupied edges)) (suc w - 1)) (let a : met + 1 ≡ suc met = omega arith in a)
-      ∙ ap (λ k. n + rank (drop (suc met) (slice_occupied edges)) k) (let a : suc w - 1 ≡ w = omega arith in a)
-      ∙ ap (λ k. n + k) (sym (step_yes w h)) ∙ e
+  pub counted_yes : (w w' n' total : ℕ) → 0 < w → 8 ≤ get_or edges (11 - met) 0 → w' ≡ w - 1 → n' ≡ n → n + rank (drop met (slice_occupied edges)) w ≡ total → n' + rank (drop (met + 1) (slice_occupied edges)) w' ≡ total
+  counted_yes w w' n' total p h ew en e =
+      let some : w ≡ suc (w - 1) = omega arith in
+      let more : met + 1 ≡ suc met = omega arith in
+      let step = step_yes (w - 1) h in
+      let same : rank (drop met (slice_occupied edges)) w ≡ rank (drop (met + 1) (slice_occupied edges)) w' = cc in
+      omega (arith, same)
 
-  pub counted_no : (w total : ℕ) → 0 < w → w ≤ 4 → get_or edges (11 - met) 0 < 8 → n + rank (drop met (slice_occupied edges)) w ≡ total → (n + get_or (get_or CHOICES (11 - met) []) (w - 1) 0) + rank (drop (met + 1) (slice_occupied edges)) w ≡ total
-  counted_no zero total p q h e = absurd (omega arith)
-  counted_no (suc w) total p q h e =
-      let a : met + 1 ≡ suc met = omega arith in
-      let b : suc w - 1 ≡ w = omega arith in
-      let c : get_or (get_or CHOICES (11 - met) []) (suc w - 1) 0 ≡ choose (11 - met) w = ap (λ k. get_or (get_or CHOICES (11 - met) []) k 0) b ∙ choices-are (11 - met) w (omega arith) (omega arith) in
-      let d : rank (drop (met + 1) (slice_occupied edges)) (suc w) ≡ rank (drop (suc met) (slice_occupied edges)) (suc w) = ap (λ k. rank (drop k (slice_occupied edges)) (suc w)) a in
-      omega (arith, step_no w h, c, d, e)
-
--- the sum that a loop keeps, at equal parts
-pub kept_sum : (n n' w w' total : ℕ) (os : List Bool) → n' ≡ n → w' ≡ w → n + rank os w ≡ total → n' + rank os w' ≡ total
-kept_sum n n' w w' total os p q e = ap (λ k. k + rank os w') p ∙ ap (λ k. n + rank os k) q ∙ e
+  pub counted_no : (w w' n' total : ℕ) → 0 < w → w ≤ 4 → get_or edges (11 - met) 0 < 8 → w' ≡ w → n' ≡ n + get_or (get_or CHOICES (11 - met) []) (w - 1) 0 →
+      n + rank (drop met (slice_occupied edges)) w ≡ total → n' + rank (drop (met + 1) (slice_occupied edges)) w' ≡ total
+  counted_no w w' n' total p q h ew en e =
+      let some : w ≡ suc (w - 1) = omega arith in
+      let more : met + 1 ≡ suc met = omega arith in
+      let step = step_no (w - 1) h in
+      let same : rank (drop met (slice_occupied edges)) w ≡ choose (11 - met) (w - 1) + rank (drop (met + 1) (slice_occupied edges)) w' = cc in
+      omega (arith, same, choices-are (11 - met) (w - 1) (omega arith) (omega arith))

@@ -1,6 +1,5 @@
 -- The goals of the steps: what a step can reach keeps its start.
-use Rattle.std.proofs.Common.{◌≡◌, ℕ, zero, suc, ◌<◌, refl, sym, ◌∙◌, ap, Bool, true, false, List, [], ◌∷◌, length, Option, Some, arith}
-use Rattle.std.specs.Prelude.{slice_index_or}
+use Rattle.std.proofs.Common.{◌≡◌, refl, Bool, true, false, Option, Some}
 use Rattle.std.specs.List.{list_all}
 use Rattle.niss_moves.specs.declared.axis.Axis.{Axis}
 use Rattle.niss_moves.specs.declared.axis.Axis.TheVariants.{Ud, Rl, Fb}
@@ -10,7 +9,7 @@ use Rattle.niss_cube.specs.declared.step.Goal.{Goal}
 use Rattle.niss_cube.specs.declared.step.Goal.TheVariants.{Edges, Domino}
 use Rattle.niss_cube.specs.declared.step.Step.{Step}
 use Rattle.niss_cube.specs.declared.step.Step.TheVariants.{Eofb, Eorl, Eoud, DrudEofb, DrrlEofb, DrudEorl, DrfbEorl, DrrlEoud, DrfbEoud, Eo, DrEofb, DrEorl, DrEoud}
-use Rattle.niss_cube.proofs.Each.{and_left, and_right}
+use Rattle.niss_cube.proofs.Each.{at_member}
 
 abbrev keeps : Option Axis → Goal → Bool
 keeps _ (Edges _) = true
@@ -34,11 +33,6 @@ all_keep DrEofb = refl
 all_keep DrEorl = refl
 all_keep DrEoud = refl
 
-at_index : (test : Goal → Bool) (gs : List Goal) → list_all test gs ≡ true → (k : ℕ) (g : Goal) → k < length gs → test (slice_index_or gs k g) ≡ true
-at_index test [] h k g l = absurd (omega arith)
-at_index test (x ∷ gs) h zero g l = and_left _ (list_all test gs) h
-at_index test (x ∷ gs) h (suc k) g l = at_index test gs (and_right (test x) _ h) k g (omega arith)
-
 starts_there : (start : Option Axis) (o a : Axis) → keeps start (Domino o a) ≡ true → start ≡ Some o
 starts_there (Some Ud) Ud a h = refl
 starts_there (Some Rl) Rl a h = refl
@@ -47,4 +41,4 @@ starts_there _ _ _ h = absurd (cc)
 
 pub domino_keeps_start : DominoKeepsStart
 domino_keeps_start s o a m =
-    starts_there (start_of s) o a (ap (keeps (start_of s)) (sym m.2) ∙ at_index (keeps (start_of s)) (goals_of s) (all_keep s) m.0 (Domino o a) m.1)
+    starts_there (start_of s) o a (at_member (keeps (start_of s)) (goals_of s) (Domino o a) (all_keep s) m)

@@ -1,6 +1,6 @@
 -- The turns of the steps: parts of the turn order, which hold their inverses and keep the start.
-use Rattle.std.proofs.Common.{◌≡◌, ℕ, zero, suc, ◌<◌, ◌≤◌, refl, sym, ◌∙◌, ap, Bool, true, not, ◌&&◌, ◌||◌, List, [], ◌∷◌, length, Option, None, Some, arith}
-use Rattle.std.specs.Prelude.{Contains, flat_map, map, filter, slice_index_or}
+use Rattle.std.proofs.Common.{◌≡◌, ◌≤◌, refl, ◌∙◌, ap, Bool, true, not, ◌&&◌, ◌||◌, List, length, Option, None, Some, arith}
+use Rattle.std.specs.Prelude.{Contains, flat_map, map, filter}
 use Rattle.std.specs.List.{list_all, list_any}
 use Rattle.std.specs.Option.{option_map_or}
 use Rattle.std.proofs.lemmas.Map.Views.{Contains-from_any}
@@ -18,7 +18,7 @@ use Rattle.niss_cube.specs.Steps.{start_of, turns_of, powers_from, is_face_of}
 use Rattle.niss_cube.specs.StepLaws.{InversesOfSteps, StepTurnsInOrder, StepTurnsAreCounted}
 use Rattle.niss_cube.specs.declared.step.Step.{Step}
 use Rattle.niss_moves.proofs.CallerLemmas.{same_face_is, same_power, same_power_is}
-use Rattle.niss_cube.proofs.Each.{at_place, and_left, and_right}
+use Rattle.niss_cube.proofs.Each.{at_place, and_left, and_right, at_member}
 use Rattle.niss_cube.proofs.KeptTests.{implied}
 
 -- the turns of a step from its start
@@ -46,14 +46,6 @@ turns_of-length s = by_start (start_of s) (step_turns_are_counted s)
 -- and at most 14 from oriented edges
 pub turns_of-oriented : (s : Step) (a : Axis) → start_of s ≡ Some a → length (turns_of s) ≤ 14
 turns_of-oriented s a e = omega (arith, step_turns_are_counted s ∙ ap (λ start. option_map_or (λ axis. 14) start 18) e)
-
-at_index : (test : Turn → Bool) (ts : List Turn) → list_all test ts ≡ true → (k : ℕ) (t : Turn) → k < length ts → test (slice_index_or ts k t) ≡ true
-at_index test [] h k t l = absurd (omega arith)
-at_index test (x ∷ ts) h zero t l = and_left _ (list_all test ts) h
-at_index test (x ∷ ts) h (suc k) t l = at_index test ts (and_right (test x) _ h) k t (omega arith)
-
-at_member : (test : Turn → Bool) (ts : List Turn) (t : Turn) → list_all test ts ≡ true → Contains ts t → test t ≡ true
-at_member test ts t h m = ap test (sym m.2) ∙ at_index test ts h m.0 t m.1
 
 -- each turn from oriented edges keeps them so
 

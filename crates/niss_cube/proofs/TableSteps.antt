@@ -37,17 +37,6 @@ coordinate_of k = number_of k (standard_axis k)
 law : (k : Coordinate) → IsCoordinate k (standard_axis k)
 law k = are_coordinates k (standard_axis k)
 
--- the entries of a row at the quarters
-pub quarters-are : (k : Coordinate) (e : Place → Place) (u d r l f b : ℕ) → u ≡ coordinate_of k (λ q. turned (turn_of U Quarter) (e q)) → d ≡ coordinate_of k (λ q. turned (turn_of D Quarter) (e q)) → r ≡ coordinate_of k (λ q. turned (turn_of R Quarter) (e q)) →
-    l ≡ coordinate_of k (λ q. turned (turn_of L Quarter) (e q)) → f ≡ coordinate_of k (λ q. turned (turn_of F Quarter) (e q)) → b ≡ coordinate_of k (λ q. turned (turn_of B Quarter) (e q)) →
-    (g : Face) → entry_at ((u ∷ 0 ∷ 0 ∷ []) ∷ (d ∷ 0 ∷ 0 ∷ []) ∷ (r ∷ 0 ∷ 0 ∷ []) ∷ (l ∷ 0 ∷ 0 ∷ []) ∷ (f ∷ 0 ∷ 0 ∷ []) ∷ (b ∷ 0 ∷ 0 ∷ []) ∷ []) (turn_of g Quarter) ≡ coordinate_of k (λ q. turned (turn_of g Quarter) (e q))
-quarters-are k e u d r l f b hu hd hr hl hf hb U = hu
-quarters-are k e u d r l f b hu hd hr hl hf hb D = hd
-quarters-are k e u d r l f b hu hd hr hl hf hb R = hr
-quarters-are k e u d r l f b hu hd hr hl hf hb L = hl
-quarters-are k e u d r l f b hu hd hr hl hf hb F = hf
-quarters-are k e u d r l f b hu hd hr hl hf hb B = hb
-
 -- a turn and another one after it are one where they bring each place alike
 after-both : (k : Coordinate) (s t u : Turn) → ((q : Place) → is_place q ≡ true → turned t (turned s q) ≡ turned u q) → (i : ℕ) → i < count_of k → after_of k (after_of k i s) t ≡ after_of k i u
 after-both k s t u same i l =

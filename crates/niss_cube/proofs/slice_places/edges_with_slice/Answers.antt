@@ -1,7 +1,7 @@
-use Rattle.std.proofs.Common.{arith, refl, set, List, Bool, true, false, ◌+◌, ◌≡◌, ◌∙◌, ap, length, reverse}
+use Rattle.std.proofs.Common.{arith, refl, List, Bool, true, false, ◌≡◌, ◌∙◌, ap, length, reverse}
 use Rattle.std.proofs.lemmas.List.{length-reverse}
 use Rattle.niss_cube.specs.NumberedCubies.{edges_at, edges_of_number}
-use Rattle.niss_cube.proofs.PlacedEdges.{placed-at, placed-start, placed-slice, placed-free, placed-end, reversed-at}
+use Rattle.niss_cube.proofs.PlacedEdges.{placed-start, placed-slice, placed-free, placed-end, reversed-at}
 use Rattle.niss_cube.proofs.slice_places.edges_with_slice.Goals as goal
 use Rattle.niss_cube.proofs.slice_places.edges_with_slice.Goals.{then-occupied-place, else-occupied-place}
 
@@ -10,19 +10,19 @@ loop-place-init c = record { placed = placed-start (reverse c.occupied_places-oc
 
 pub loop-place-preserved : goal.loop-place-preserved
 loop-place-preserved c =
-    let os : List Bool = reverse c.occupied_places-occupied.result in
-    let twelve : length c.occupied_places-occupied.result ≡ 12 = omega arith in
-    let l : length os ≡ 12 = length-reverse c.occupied_places-occupied.result ∙ twelve in
+    let p = c.loop-place in
+    let occupied : List Bool = c.occupied_places-occupied.result in
+    let os : List Bool = reverse occupied in
+    let twelve : length occupied ≡ 12 = omega arith in
+    let l : length os ≡ 12 = length-reverse occupied ∙ twelve in
     elim c.if-occupied-place.branch [
       | then-occupied-place w ↦ record {
-        placed = placed-at os (c.loop-place.place + 1) c.loop-place.free c.if-occupied-place.free (c.loop-place.of_slice + 1) c.if-occupied-place.of_slice (set c.loop-place.edge-items c.loop-place.place c.loop-place.of_slice) c.if-occupied-place.edge-items w.free-is w.of_slice-is w.edge-items-is
-            (placed-slice os c.loop-place.place c.loop-place.free c.loop-place.of_slice c.loop-place.edge-items l c.loop-place-test.true (reversed-at c.occupied_places-occupied.result c.loop-place.place true twelve c.loop-place-test.true w.if-occupied-place.true) c.loop-place.invariant.placed);
+        placed = placed-slice os p.place p.free p.of_slice _ _ p.edge-items _ l c.loop-place-test.true p.invariant.placed (reversed-at occupied p.place true twelve c.loop-place-test.true w.if-occupied-place.true) w.free-is w.of_slice-is w.edge-items-is;
         free_below = omega (arith, w.free-is);
         slice_below = omega (arith, w.of_slice-is);
       }
       | else-occupied-place w ↦ record {
-        placed = placed-at os (c.loop-place.place + 1) (c.loop-place.free + 1) c.if-occupied-place.free c.loop-place.of_slice c.if-occupied-place.of_slice (set c.loop-place.edge-items c.loop-place.place c.loop-place.free) c.if-occupied-place.edge-items w.free-is w.of_slice-is w.edge-items-is
-            (placed-free os c.loop-place.place c.loop-place.free c.loop-place.of_slice c.loop-place.edge-items l c.loop-place-test.true (reversed-at c.occupied_places-occupied.result c.loop-place.place false twelve c.loop-place-test.true w.if-occupied-place.false) c.loop-place.invariant.placed);
+        placed = placed-free os p.place p.free p.of_slice _ _ p.edge-items _ l c.loop-place-test.true p.invariant.placed (reversed-at occupied p.place false twelve c.loop-place-test.true w.if-occupied-place.false) w.free-is w.of_slice-is w.edge-items-is;
         free_below = omega (arith, w.free-is);
         slice_below = omega (arith, w.of_slice-is);
       }

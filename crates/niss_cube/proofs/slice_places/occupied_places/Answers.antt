@@ -1,22 +1,27 @@
 use Rattle.std.proofs.Common.{arith}
-use Rattle.niss_cube.proofs.OccupiedNumbers.{written-yes, written-no, written-none, written-at, written-end}
+use Rattle.niss_cube.proofs.OccupiedNumbers.{written-start, written-yes, written-no, written-none, written-end}
 use Rattle.niss_cube.proofs.slice_places.occupied_places.Goals.{then-wanted-gt0+then-rest-with, then-wanted-gt0+else-rest-with, else-wanted-gt0}
 use Rattle.niss_cube.proofs.slice_places.occupied_places.Goals as goal
 
+pub loop-met-init : goal.loop-met-init
+loop-met-init c = record { wanted_below = omega arith; written = written-start c.args.index _ (omega arith) }
+
 pub loop-met-preserved : goal.loop-met-preserved
 loop-met-preserved c =
+    let l = c.loop-met in
+    let s = l.invariant.written in
     elim c.if-wanted-gt0.branch [
       | then-wanted-gt0+then-rest-with w ↦ record {
-        wanted_below = omega (arith, c.loop-met.invariant.wanted_below, w.wanted-is);
-        written = written-at _ _ _ _ _ _ _ _ _ w.wanted-is w.rest-is w.here-is (written-yes c.args.index c.loop-met.met c.loop-met.wanted c.loop-met.rest c.loop-met.occupied c.loop-met-test.true w.if-wanted-gt0.true c.loop-met.invariant.wanted_below w.if-rest-with.true c.loop-met.invariant.written);
+        wanted_below = omega (arith, l.invariant.wanted_below, w.wanted-is);
+        written = written-yes c.args.index l.met l.wanted l.rest _ _ _ l.occupied c.loop-met-test.true s w.if-wanted-gt0.true l.invariant.wanted_below w.if-rest-with.true w.wanted-is w.rest-is w.here-is;
       }
       | then-wanted-gt0+else-rest-with w ↦ record {
-        wanted_below = omega (arith, c.loop-met.invariant.wanted_below, w.wanted-is);
-        written = written-at _ _ _ _ _ _ _ _ _ w.wanted-is w.rest-is w.here-is (written-no c.args.index c.loop-met.met c.loop-met.wanted c.loop-met.rest c.loop-met.occupied c.loop-met-test.true w.if-wanted-gt0.true c.loop-met.invariant.wanted_below w.if-rest-with.false c.loop-met.invariant.written);
+        wanted_below = omega (arith, l.invariant.wanted_below, w.wanted-is);
+        written = written-no c.args.index l.met l.wanted l.rest _ _ _ l.occupied c.loop-met-test.true s w.if-wanted-gt0.true l.invariant.wanted_below w.if-rest-with.false w.wanted-is w.rest-is w.here-is;
       }
       | else-wanted-gt0 w ↦ record {
-        wanted_below = omega (arith, c.loop-met.invariant.wanted_below, w.wanted-is);
-        written = written-at _ _ _ _ _ _ _ _ _ w.wanted-is w.rest-is w.here-is (written-none c.args.index c.loop-met.met c.loop-met.wanted c.loop-met.rest c.loop-met.occupied c.loop-met-test.true w.if-wanted-gt0.false c.loop-met.invariant.written);
+        wanted_below = omega (arith, l.invariant.wanted_below, w.wanted-is);
+        written = written-none c.args.index l.met l.wanted l.rest _ _ _ l.occupied c.loop-met-test.true s w.if-wanted-gt0.false w.wanted-is w.rest-is w.here-is;
       }
     ]
 
