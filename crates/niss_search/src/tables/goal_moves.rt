@@ -1,5 +1,5 @@
 //! How the turns of a step move the coordinates of one of its goals.
-ghost use Rattle.std.specs.Prelude.{◌≡◌, ◌*◌, ◌<◌, length, IfOk};
+ghost use Rattle.std.specs.Prelude.{◌≡◌, ◌*◌, ◌<◌, ◌≤◌, length, IfOk};
 ghost use Rattle.niss_cube.specs.Steps.{turns_of};
 ghost use Rattle.niss_cube.specs.declared.step.Goal.TheVariants.{Edges, Domino};
 ghost use Rattle.niss_search.specs.Entries.{count_for};
@@ -33,7 +33,8 @@ pub trait GoalMoves {
 
     /// How many turns the step has.
     fn turns(&self) -> usize
-        ensures { result ≡ length (turns_of (alternative self.now).step) };
+        ensures value { result ≡ length (turns_of (alternative self.now).step) }
+        ensures few { result ≤ 18 };
 
     /// How many entries the pruning table has.
     fn entries(&self) -> usize

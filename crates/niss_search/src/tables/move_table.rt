@@ -1,5 +1,5 @@
 //! The numbers of a coordinate after the turns of a step.
-ghost use Rattle.std.specs.Prelude.{◌≡◌, ◌<◌, length, IfOk};
+ghost use Rattle.std.specs.Prelude.{◌≡◌, ◌<◌, ◌≤◌, length, IfOk};
 ghost use Rattle.niss_cube.specs.Coordinates.{count_of};
 ghost use Rattle.niss_cube.specs.NumberAfter.{number_after};
 ghost use Rattle.niss_cube.specs.Steps.{turns_of};
@@ -83,7 +83,8 @@ impl<A: Allocator> MoveTable<A> {
 
     /// How many turns the step has.
     pub fn turns(&self) -> usize
-        ensures { result ≡ length (turns_of self.now.step) }
+        ensures value { result ≡ length (turns_of self.now.step) }
+        ensures few { result ≤ 18 }
     {
         self.step.turns().len()
     }

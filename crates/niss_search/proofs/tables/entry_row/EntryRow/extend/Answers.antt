@@ -7,26 +7,9 @@ use Rattle.niss_moves.specs.declared.turn.Power.TheVariants.{Quarter}
 use Rattle.niss_cube.specs.Steps.{turns_of}
 use Rattle.niss_search.specs.Filling.{entry_after}
 use Rattle.niss_search.specs.Moves.{turn_at}
-use Rattle.niss_search.proofs.Bounds.{turns_of-length}
 use Rattle.niss_search.proofs.EntryLemmas.{row-entry}
 use Rattle.niss_search.proofs.FillLemmas.{least-filling, least-met, least-kept}
 use Rattle.niss_search.proofs.tables.entry_row.EntryRow.extend.Goals as goal
-
-pub offset_bounds-self-column : goal.offset_bounds-self-column
-offset_bounds-self-column g c =
-    omega (arith, c.loop-column.invariant.end, c.loop-column-test.true, turns_of-length (g.M.GoalMoves.alternative c.args.self.now.moves.now).step)
-
-pub bounds-self-column : goal.bounds-self-column
-bounds-self-column g c =
-    omega (arith, c.loop-column.invariant.end, c.loop-column-test.true, turns_of-length (g.M.GoalMoves.alternative c.args.self.now.moves.now).step)
-
-pub offset_bounds-places-column : goal.offset_bounds-places-column
-offset_bounds-places-column g c =
-    omega (arith, c.loop-column.invariant.end, c.loop-column-test.true, turns_of-length (g.M.GoalMoves.alternative c.args.self.now.moves.now).step)
-
-pub bounds-places-column : goal.bounds-places-column
-bounds-places-column g c =
-    omega (arith, c.loop-column.invariant.end, c.loop-column-test.true, turns_of-length (g.M.GoalMoves.alternative c.args.self.now.moves.now).step)
 
 pub bounds-distances-next : goal.bounds-distances-next
 bounds-distances-next g c =

@@ -1,23 +1,6 @@
 use Rattle.std.proofs.Common.{arith, ◌∙◌, ap, ◌*◌, below_more, length-set, get_or-set_other, get_or-set_same}
-use Rattle.niss_search.proofs.Bounds.{turns_of-length}
 use Rattle.niss_search.proofs.EntryLemmas.{row-domino}
 use Rattle.niss_search.proofs.tables.goal_moves.DominoMovesGoalMoves.starts.Goals as goal
-
-pub offset_bounds-twists-column : goal.offset_bounds-twists-column
-offset_bounds-twists-column g c =
-    omega (arith, c.loop-column.invariant.end, c.loop-column-test.true, turns_of-length c.args.self.now.twists.step)
-
-pub bounds-twists-column : goal.bounds-twists-column
-bounds-twists-column g c =
-    omega (arith, c.loop-column.invariant.end, c.loop-column-test.true, turns_of-length c.args.self.now.twists.step)
-
-pub offset_bounds-starts-column : goal.offset_bounds-starts-column
-offset_bounds-starts-column g c =
-    omega (arith, c.loop-column.invariant.end, c.loop-column-test.true, turns_of-length c.args.self.now.twists.step)
-
-pub bounds-starts-column : goal.bounds-starts-column
-bounds-starts-column g c =
-    omega (arith, c.loop-column.invariant.end, c.loop-column-test.true, turns_of-length c.args.self.now.twists.step)
 
 pub loop-column-preserved : goal.loop-column-preserved
 loop-column-preserved g c =
@@ -29,7 +12,7 @@ loop-column-preserved g c =
       size = length-set starts column c.pair_number.result ∙ inv.size;
       written = below_more _ _
           (λ k l. get_or-set_other starts column k c.pair_number.result 0 (omega arith) ∙ inv.written k l)
-          (get_or-set_same starts column c.pair_number.result 0 (omega (arith, inv.size, inv.end, c.loop-column-test.true, turns_of-length c.args.self.now.twists.step)) ∙ omega (arith, c.pair_number.ensures));
+          (get_or-set_same starts column c.pair_number.result 0 (omega (arith, inv.size, inv.end, c.loop-column-test.true)) ∙ omega (arith, c.pair_number.ensures));
     }
 
 pub returns : goal.returns
