@@ -79,6 +79,13 @@ pub enum LineCommand {
     Search(Query),
 }
 
+/// What is done with each line, and the words that give the lines; without words they are read.
+#[derive(Clone, Copy)]
+pub struct LineRequest<'a> {
+    pub command: LineCommand,
+    pub words: &'a [String],
+}
+
 /// A command. The words that it lends are the input; where there are none, the input comes from the source.
 #[derive(Clone, Copy)]
 pub enum Command<'a> {
@@ -108,30 +115,31 @@ pub enum Command<'a> {
 }
 
 impl<'a> Command<'a> {
-    /// What is done with each line, and the words that are the input, of a command on lines.
-    pub(crate) fn on_lines(&self) -> Option<(LineCommand, &'a [String])>
+    /// What a command on lines asks for.
+    pub(crate) fn on_lines(&self) -> Option<LineRequest<'a>>
         ensures { MatchOption result (takes_lines (requested self.now) ≡ false)
-            (λ parts. requested self.now ≡ OnLines parts.0 (map string_bytes parts.1.now)) }
+            (λ asked. requested self.now ≡ OnLines asked.command (map string_bytes asked.words.now)) }
     {
-        match *self {
-            Command::Invert(rest) => Some((LineCommand::Rewrite(Rewriting::Invert), rest)),
-            Command::Unniss(rest) => Some((LineCommand::Rewrite(Rewriting::Unniss), rest)),
-            Command::Cleanup(rest) => Some((LineCommand::Rewrite(Rewriting::Cleanup), rest)),
-            Command::Print(rest) => Some((LineCommand::Rewrite(Rewriting::Print), rest)),
-            Command::Solve(step, limit, rest) => {
+        let (command, words) = match *self {
+            Command::Invert(words) => (LineCommand::Rewrite(Rewriting::Invert), words),
+            Command::Unniss(words) => (LineCommand::Rewrite(Rewriting::Unniss), words),
+            Command::Cleanup(words) => (LineCommand::Rewrite(Rewriting::Cleanup), words),
+            Command::Print(words) => (LineCommand::Rewrite(Rewriting::Print), words),
+            Command::Solve(step, limit, words) => {
                 let query = Query::new(Report::Solutions, step, limit, Limit::ZERO);
-                Some((LineCommand::Search(query), rest))
+                (LineCommand::Search(query), words)
             }
-            Command::Count(step, limit, rest) => {
+            Command::Count(step, limit, words) => {
                 let query = Query::new(Report::Counts, step, limit, Limit::ZERO);
-                Some((LineCommand::Search(query), rest))
+                (LineCommand::Search(query), words)
             }
-            Command::Near(step, limit, slack, rest) => {
+            Command::Near(step, limit, slack, words) => {
                 let query = Query::new(Report::Solutions, step, limit, slack);
-                Some((LineCommand::Search(query), rest))
+                (LineCommand::Search(query), words)
             }
-            Command::Steps | Command::Scramble { .. } => None,
-        }
+            Command::Steps | Command::Scramble { .. } => return None,
+        };
+        Some(LineRequest { command, words })
     }
 }
 

@@ -6,7 +6,7 @@ ghost use Rattle.niss_shell.specs.Engine.{RunsUnflushed, EndsAtOnce, output_stat
 ghost use Rattle.niss_shell.specs.Job.{IsInput, command_of};
 ghost use Rattle.niss_shell.specs.declared.stop.Stop.TheVariants.{Done};
 
-use crate::command::{LineCommand, Query, Rewriting};
+use crate::command::{LineCommand, LineRequest, Query, Rewriting};
 use crate::device::{Source, Target};
 use crate::lines::{LIMIT, Lines};
 use crate::output::Output;
@@ -167,8 +167,7 @@ impl<A: Allocator> Job<A> {
 /// Does a command on the lines of the words, or of the source where there are none.
 pub fn answer_lines<A: Allocator + Copy, R: Source, W: Target>(
     alloc: A,
-    command: LineCommand,
-    words: &[String],
+    request: LineRequest<'_>,
     source: &mut R,
     output: &mut Output<W>,
     looks: &mut Meter,
@@ -179,12 +178,14 @@ pub fn answer_lines<A: Allocator + Copy, R: Source, W: Target>(
     requires empty { output.old.pending.items ≡ [] }
     requires meter { looks.old ≤ 2 ^ 64 }
     ensures same_target { output.new.target.ghost_name ≡ output.old.target.ghost_name }
-    ensures runs { RunsUnflushed (Ok (OnLines command (map string_bytes words.now))) (stop_unless result Done)
-        (R.state source.old) (R.state source.new)
+    ensures runs { RunsUnflushed
+        (Ok (OnLines request.entry.command (map string_bytes request.entry.words.now)))
+        (stop_unless result Done) (R.state source.old) (R.state source.new)
         (output_state W.state output.old looks.old) (output_state W.state output.new looks.new) }
     ensures empty { output.new.pending.items ≡ [] }
-    ensures unread { reads_source (Ok (OnLines command (map string_bytes words.now))) ≡ false →
+    ensures unread { reads_source
+        (Ok (OnLines request.entry.command (map string_bytes request.entry.words.now))) ≡ false →
         R.state source.new ≡ R.state source.old }
 {
-    Job::new(alloc, command, words)?.answer(source, output, looks)
+    Job::new(alloc, request.command, request.words)?.answer(source, output, looks)
 }

@@ -62,8 +62,8 @@ fn answer_command<A: Allocator + Copy, R: Source, W: Target>(
     let Ok(command) = parse_words(words) else {
         return Err(Stop::Usage);
     };
-    if let Some((command, rest)) = command.on_lines() {
-        return answer_lines(alloc, command, rest, source, output, looks);
+    if let Some(request) = command.on_lines() {
+        return answer_lines(alloc, request, source, output, looks);
     }
     match command {
         Command::Scramble {

@@ -14,14 +14,14 @@ returns-in_err-new-clause-runs g c =
 
 pub returns-clause-runs : goal.returns-clause-runs
 returns-clause-runs g c =
-    subst (λ k. RunsUnflushed (Ok (OnLines k (map string_bytes c.args.words.now))) (stop_unless c.answer.result Done)
+    subst (λ k. RunsUnflushed (Ok (OnLines k (map string_bytes c.args.request.words.now))) (stop_unless c.answer.result Done)
     (g.R.Source.state c.args.source.now) (g.R.Source.state c.answer.new.source)
     (output_state g.W.Target.state c.args.output.now c.args.looks.now) (output_state g.W.Target.state c.answer.new.output c.answer.new.looks))
-    c.in_ok-new.ensures.work (c.answer.ensures.runs (map string_bytes c.args.words.now) c.in_ok-new.ensures.input)
+    c.in_ok-new.ensures.work (c.answer.ensures.runs (map string_bytes c.args.request.words.now) c.in_ok-new.ensures.input)
 
 pub returns-clause-unread : goal.returns-clause-unread
 returns-clause-unread g c = λ given.
-    by_words (λ t. t.items) c.in_ok-new.field-0.text c.args.command (map string_bytes c.args.words.now) _ c.in_ok-new.ensures.input given c.answer.ensures.unread
+    by_words (λ t. t.items) c.in_ok-new.field-0.text c.args.request.command (map string_bytes c.args.request.words.now) _ c.in_ok-new.ensures.input given c.answer.ensures.unread
 
 pub answer-requires-clause-reads : goal.answer-requires-clause-reads
 answer-requires-clause-reads g c = c.requires.reads
