@@ -1,5 +1,5 @@
 -- Numbers and names among words.
-use Rattle.std.proofs.Common.{◌≡◌, ◌≢◌, ℕ, ◌^◌, ◌<◌, ◌≤◌, Bool, true, false, ◌&&◌, if◌then◌else◌, Some, None, Result, Ok, Err, List, [], ◌∷◌, length, map, drop, get_or, refl, sym, ap, ◌∙◌, subst, rules, arith}
+use Rattle.std.proofs.Common.{◌≡◌, ◌≢◌, ℕ, ◌^◌, ◌<◌, ◌≤◌, Bool, true, false, ◌&&◌, if◌then◌else◌, Some, None, Result, Ok, Err, List, [], ◌∷◌, length, refl, ap, subst, rules, arith}
 use Rattle.std.specs.Prelude.{nat_lt, nat_le, find, bytes_eq}
 use Rattle.std.specs.Char.{is_ascii_digit}
 use Rattle.std.specs.List.{list_all}
@@ -9,8 +9,7 @@ use Rattle.std.proofs.lemmas.Slice.Eq.{bytes_eq-Decides}
 use Rattle.std.proofs.lemmas.Str.Parse.{IsDigitsTest, IsNumeralModel, numerals_by_value, parse_digits}
 use Rattle.niss_cube.specs.Steps.{name_of, steps}
 use Rattle.niss_cube.specs.declared.step.Step.{Step}
-use Rattle.niss_shell.specs.Words.{number_of, most_limit, step_named, search_for, search_words, near_for, near_words}
-use Rattle.niss_shell.specs.declared.command.Report.{Report}
+use Rattle.niss_shell.specs.Words.{number_of, step_named}
 
 -- numbers
 
@@ -64,28 +63,6 @@ number_too_large E most word (Err e) digits small parsed large =
     (λ some fits. p (below_tested 0 (length word) some, omega (arith, small, most_tested (digits_value 10 word) most fits)))
 
 -- steps
-
--- a command that searches, by its words
-pub searched : {S : Type 0} (bytes : S → List ℕ) (report : Report) (words : List S) (step most : S) → 2 ≤ length words
-    → step ≡ get_or words 0 step → most ≡ get_or words 1 most
-    → search_words report (map bytes words) ≡ search_for report (step_named (bytes step)) (number_of most_limit (bytes most)) (map bytes (drop 2 words))
-searched bytes report [] step most h e f = absurd (omega arith)
-searched bytes report (a ∷ []) step most h e f = absurd (omega arith)
-searched bytes report (a ∷ b ∷ rest) step most h e f =
-    ap (λ v. search_for report (step_named (bytes v)) (number_of most_limit (bytes b)) (map bytes rest)) (sym e)
-    ∙ ap (λ v. search_for report (step_named (bytes step)) (number_of most_limit (bytes v)) (map bytes rest)) (sym f)
-
--- the command `near`, by its words
-pub searched_near : {S : Type 0} (bytes : S → List ℕ) (words : List S) (step most slack : S) → 3 ≤ length words
-    → step ≡ get_or words 0 step → most ≡ get_or words 1 most → slack ≡ get_or words 2 slack
-    → near_words (map bytes words) ≡ near_for (step_named (bytes step)) (number_of most_limit (bytes most)) (number_of most_limit (bytes slack)) (map bytes (drop 3 words))
-searched_near bytes [] step most slack h e f k = absurd (omega arith)
-searched_near bytes (a ∷ []) step most slack h e f k = absurd (omega arith)
-searched_near bytes (a ∷ b ∷ []) step most slack h e f k = absurd (omega arith)
-searched_near bytes (a ∷ b ∷ c ∷ rest) step most slack h e f k =
-    ap (λ v. near_for (step_named (bytes v)) (number_of most_limit (bytes b)) (number_of most_limit (bytes c)) (map bytes rest)) (sym e)
-    ∙ ap (λ v. near_for (step_named (bytes step)) (number_of most_limit (bytes v)) (number_of most_limit (bytes c)) (map bytes rest)) (sym f)
-    ∙ ap (λ v. near_for (step_named (bytes step)) (number_of most_limit (bytes most)) (number_of most_limit (bytes v)) (map bytes rest)) (sym k)
 
 find_none : (name : List ℕ) (candidates : List Step) → ((step : Step) → name_of step ≢ name) → find (λ step. bytes_eq name (name_of step)) candidates ≡ None
 find_none name [] other = refl

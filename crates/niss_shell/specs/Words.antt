@@ -137,6 +137,11 @@ requested (command.Near step n slack rest) = OnLines (search_command Solutions s
 requested command.Steps = ListSteps
 requested (command.Scramble state stream turns count) = DrawScrambles state stream turns count
 
+-- the first word of the command that searches for a report
+abbrev pub name_of_report : Report → List ℕ
+name_of_report Solutions = codes "solve"
+name_of_report Counts = codes "count"
+
 -- the first word of a command
 abbrev pub name_of_command : Command → List ℕ
 name_of_command (command.Invert rest) = codes "invert"

@@ -1,11 +1,9 @@
 ghost use Rattle.std.specs.Prelude.{◌≡◌, Ok, Err, Some, false, IfSome, IfOk, MatchOption, MatchResult};
 ghost use Rattle.std.specs.Prelude.{map, codes, slice_get, string_bytes};
 ghost use Rattle.niss_shell.specs.declared.command.LineCommand.TheVariants.{Search};
-ghost use Rattle.niss_shell.specs.declared.command.Report.{Report};
-ghost use Rattle.niss_shell.specs.declared.command.Report.TheVariants.{Solutions};
 ghost use Rattle.niss_shell.specs.Words.{OnLines, ListSteps, search_command, number_of, most_state, most_turns};
 ghost use Rattle.niss_shell.specs.Words.{most_scrambles, search_words, near_words, scramble_with, scramble_words};
-ghost use Rattle.niss_shell.specs.Words.{without_words, request_of, requested, name_of_command, takes_lines, IsInRange};
+ghost use Rattle.niss_shell.specs.Words.{without_words, request_of, requested, name_of_command, name_of_report, takes_lines, IsInRange};
 
 use crate::number::{limit_of, number_of};
 use niss_cube::Step;
@@ -33,7 +31,7 @@ pub enum UsageFault {
 }
 
 /// What is written for a line without a search.
-#[derive(Clone, Copy, Debug, PartialEq, Eq)]
+#[derive(Clone, Copy)]
 pub enum Rewriting {
     Invert,
     Unniss,
@@ -42,7 +40,7 @@ pub enum Rewriting {
 }
 
 /// What is written of a search.
-#[derive(Clone, Copy, Debug, PartialEq, Eq)]
+#[derive(Clone, Copy)]
 pub enum Report {
     /// Each solution.
     Solutions,
@@ -52,7 +50,7 @@ pub enum Report {
 
 /// A search for each line: what is written of it, for which step, the most turns of a solution, and how many turns a solution
 /// may have more than the shortest.
-#[derive(Clone, Copy, Debug)]
+#[derive(Clone, Copy)]
 pub struct Query {
     pub report: Report,
     pub step: Step,
@@ -75,10 +73,17 @@ impl Query {
 }
 
 /// A command on each line of the input.
-#[derive(Clone, Copy, Debug)]
+#[derive(Clone, Copy)]
 pub enum LineCommand {
     Rewrite(Rewriting),
     Search(Query),
+}
+
+/// What is done with each line, and the words that give the lines; without words they are read.
+#[derive(Clone, Copy)]
+pub struct LineRequest<'a> {
+    pub command: LineCommand,
+    pub words: &'a [String],
 }
 
 /// A command. The words that it lends are the input; where there are none, the input comes from the source.
@@ -110,39 +115,41 @@ pub enum Command<'a> {
 }
 
 impl<'a> Command<'a> {
-    /// What is done with each line, and the words that are the input, of a command on lines.
-    pub(crate) fn on_lines(&self) -> Option<(LineCommand, &'a [String])>
+    /// What a command on lines asks for.
+    pub(crate) fn on_lines(&self) -> Option<LineRequest<'a>>
         ensures { MatchOption result (takes_lines (requested self.now) ≡ false)
-            (λ parts. requested self.now ≡ OnLines parts.0 (map string_bytes parts.1.now)) }
+            (λ asked. requested self.now ≡ OnLines asked.command (map string_bytes asked.words.now)) }
     {
-        match *self {
-            Command::Invert(rest) => Some((LineCommand::Rewrite(Rewriting::Invert), rest)),
-            Command::Unniss(rest) => Some((LineCommand::Rewrite(Rewriting::Unniss), rest)),
-            Command::Cleanup(rest) => Some((LineCommand::Rewrite(Rewriting::Cleanup), rest)),
-            Command::Print(rest) => Some((LineCommand::Rewrite(Rewriting::Print), rest)),
-            Command::Solve(step, limit, rest) => {
+        let (command, words) = match *self {
+            Command::Invert(words) => (LineCommand::Rewrite(Rewriting::Invert), words),
+            Command::Unniss(words) => (LineCommand::Rewrite(Rewriting::Unniss), words),
+            Command::Cleanup(words) => (LineCommand::Rewrite(Rewriting::Cleanup), words),
+            Command::Print(words) => (LineCommand::Rewrite(Rewriting::Print), words),
+            Command::Solve(step, limit, words) => {
                 let query = Query::new(Report::Solutions, step, limit, Limit::ZERO);
-                Some((LineCommand::Search(query), rest))
+                (LineCommand::Search(query), words)
             }
-            Command::Count(step, limit, rest) => {
+            Command::Count(step, limit, words) => {
                 let query = Query::new(Report::Counts, step, limit, Limit::ZERO);
-                Some((LineCommand::Search(query), rest))
+                (LineCommand::Search(query), words)
             }
-            Command::Near(step, limit, slack, rest) => {
+            Command::Near(step, limit, slack, words) => {
                 let query = Query::new(Report::Solutions, step, limit, slack);
-                Some((LineCommand::Search(query), rest))
+                (LineCommand::Search(query), words)
             }
-            Command::Steps | Command::Scramble { .. } => None,
-        }
+            Command::Steps | Command::Scramble { .. } => return None,
+        };
+        Some(LineRequest { command, words })
     }
 }
 
-/// The step, the limit and the words that are the input, of a command that searches.
-fn parse_search(words: &[String]) -> Result<(Step, Limit, &[String]), UsageFault>
-    ensures { (report : Report) → MatchResult result
-        (λ parts. search_words report (map string_bytes words.now)
-        ≡ Ok (OnLines (search_command report parts.0 parts.1 0) (map string_bytes parts.2.now)))
+/// The command that searches each line for a report, by its step, its limit and the words that are the input.
+fn parse_search(report: Report, words: &[String]) -> Result<Command<'_>, UsageFault>
+    ensures command { MatchResult result
+        (λ command. search_words report (map string_bytes words.now) ≡ Ok (requested command))
         (λ fault. search_words report (map string_bytes words.now) ≡ Err fault) }
+    ensures in_range { IfOk result (λ command. IsInRange (requested command)) }
+    ensures named { IfOk result (λ command. name_of_command command ≡ name_of_report report) }
 {
     let [step, most, rest @ ..] = words else {
         return Err(UsageFault::WrongCount);
@@ -153,15 +160,19 @@ fn parse_search(words: &[String]) -> Result<(Step, Limit, &[String]), UsageFault
     let Some(limit) = limit_of(most.as_str()) else {
         return Err(UsageFault::BadNumber);
     };
-    Ok((step, limit, rest))
+    match report {
+        Report::Solutions => Ok(Command::Solve(step, limit, rest)),
+        Report::Counts => Ok(Command::Count(step, limit, rest)),
+    }
 }
 
-/// The step, the limit, the slack and the words that are the input, of the command `near`.
-fn parse_near(words: &[String]) -> Result<(Step, Limit, Limit, &[String]), UsageFault>
-    ensures { MatchResult result
-        (λ parts. near_words (map string_bytes words.now)
-        ≡ Ok (OnLines (search_command Solutions parts.0 parts.1 parts.2) (map string_bytes parts.3.now)))
+/// The command `near`, by its step, its limit, its slack and the words that are the input.
+fn parse_near(words: &[String]) -> Result<Command<'_>, UsageFault>
+    ensures command { MatchResult result
+        (λ command. near_words (map string_bytes words.now) ≡ Ok (requested command))
         (λ fault. near_words (map string_bytes words.now) ≡ Err fault) }
+    ensures in_range { IfOk result (λ command. IsInRange (requested command)) }
+    ensures named { IfOk result (λ command. name_of_command command ≡ codes "near") }
 {
     let [name, most, slack, rest @ ..] = words else {
         return Err(UsageFault::WrongCount);
@@ -175,7 +186,7 @@ fn parse_near(words: &[String]) -> Result<(Step, Limit, Limit, &[String]), Usage
     let Some(slack) = limit_of(slack.as_str()) else {
         return Err(UsageFault::BadNumber);
     };
-    Ok((step, limit, slack, rest))
+    Ok(Command::Near(step, limit, slack, rest))
 }
 
 /// The command `steps`, which takes no words.
@@ -183,6 +194,7 @@ fn parse_steps(words: &[String]) -> Result<Command<'_>, UsageFault>
     ensures command { MatchResult result
         (λ command. without_words ListSteps (map string_bytes words.now) ≡ Ok (requested command))
         (λ fault. without_words ListSteps (map string_bytes words.now) ≡ Err fault) }
+    ensures in_range { IfOk result (λ command. IsInRange (requested command)) }
     ensures named { IfOk result (λ command. name_of_command command ≡ codes "steps") }
 {
     match words {
@@ -253,18 +265,9 @@ pub fn parse_words(words: &[String]) -> Result<Command<'_>, UsageFault>
         "unniss" => Ok(Command::Unniss(rest)),
         "cleanup" => Ok(Command::Cleanup(rest)),
         "print" => Ok(Command::Print(rest)),
-        "solve" => match parse_search(rest) {
-            Ok((step, limit, rest)) => Ok(Command::Solve(step, limit, rest)),
-            Err(fault) => Err(fault),
-        },
-        "count" => match parse_search(rest) {
-            Ok((step, limit, rest)) => Ok(Command::Count(step, limit, rest)),
-            Err(fault) => Err(fault),
-        },
-        "near" => match parse_near(rest) {
-            Ok((step, limit, slack, rest)) => Ok(Command::Near(step, limit, slack, rest)),
-            Err(fault) => Err(fault),
-        },
+        "solve" => parse_search(Report::Solutions, rest),
+        "count" => parse_search(Report::Counts, rest),
+        "near" => parse_near(rest),
         "steps" => parse_steps(rest),
         "scramble" => parse_scramble(rest),
         _ => Err(UsageFault::UnknownCommand),

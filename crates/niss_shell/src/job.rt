@@ -1,12 +1,12 @@
 //! A command on lines with all that its run takes memory for, taken before the first byte is read or written.
 ghost use Rattle.std.specs.Prelude.{◌≡◌, ◌<◌, ◌≤◌, ◌^◌, ◌++◌, true, false, Ok, List, [], ℕ, map, flat_map, string_bytes, length, OnOk, OnErr, IfOk, IfErr, IfSome, MatchOption};
 ghost use Rattle.niss_shell.specs.Device.{has_fault};
-ghost use Rattle.niss_shell.specs.Words.{limit, joined, spaced_word, has_step, OnLines};
+ghost use Rattle.niss_shell.specs.Words.{limit, joined, spaced_word, has_step, reads_source, OnLines};
 ghost use Rattle.niss_shell.specs.Engine.{RunsUnflushed, EndsAtOnce, output_state, stop_unless};
 ghost use Rattle.niss_shell.specs.Job.{IsInput, command_of};
 ghost use Rattle.niss_shell.specs.declared.stop.Stop.TheVariants.{Done};
 
-use crate::command::{LineCommand, Query, Rewriting};
+use crate::command::{LineCommand, LineRequest, Query, Rewriting};
 use crate::device::{Source, Target};
 use crate::lines::{LIMIT, Lines};
 use crate::output::Output;
@@ -162,4 +162,30 @@ impl<A: Allocator> Job<A> {
             Some(text) => lines.take_text(text.as_slice(), output),
         }
     }
+}
+
+/// Does a command on the lines of the words, or of the source where there are none.
+pub fn answer_lines<A: Allocator + Copy, R: Source, W: Target>(
+    alloc: A,
+    request: LineRequest<'_>,
+    source: &mut R,
+    output: &mut Output<W>,
+    looks: &mut Meter,
+) -> Result<(), Stop>
+    requires reads { (R.state source.old).has_failed ≡ false }
+    requires goes_on { (R.state source.old).has_ended ≡ false }
+    requires works { has_fault (W.state output.old.target.now) ≡ false }
+    requires empty { output.old.pending.items ≡ [] }
+    requires meter { looks.old ≤ 2 ^ 64 }
+    ensures same_target { output.new.target.ghost_name ≡ output.old.target.ghost_name }
+    ensures runs { RunsUnflushed
+        (Ok (OnLines request.entry.command (map string_bytes request.entry.words.now)))
+        (stop_unless result Done) (R.state source.old) (R.state source.new)
+        (output_state W.state output.old looks.old) (output_state W.state output.new looks.new) }
+    ensures empty { output.new.pending.items ≡ [] }
+    ensures unread { reads_source
+        (Ok (OnLines request.entry.command (map string_bytes request.entry.words.now))) ≡ false →
+        R.state source.new ≡ R.state source.old }
+{
+    Job::new(alloc, request.command, request.words)?.answer(source, output, looks)
 }

@@ -9,7 +9,7 @@ ghost use Rattle.niss_shell.specs.Run.{Runs, ReportsError, devices};
 
 use crate::command::{Command, parse_words};
 use crate::device::{Source, Target};
-use crate::job::Job;
+use crate::job::answer_lines;
 use crate::output::Output;
 use crate::scrambles::write_scrambles;
 use crate::stop::Stop;
@@ -62,8 +62,8 @@ fn answer_command<A: Allocator + Copy, R: Source, W: Target>(
     let Ok(command) = parse_words(words) else {
         return Err(Stop::Usage);
     };
-    if let Some((command, rest)) = command.on_lines() {
-        return Job::new(alloc, command, rest)?.answer(source, output, looks);
+    if let Some(request) = command.on_lines() {
+        return answer_lines(alloc, request, source, output, looks);
     }
     match command {
         Command::Scramble {

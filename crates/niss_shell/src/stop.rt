@@ -2,9 +2,8 @@ ghost use Rattle.std.specs.Prelude.{◌≡◌, decimal, codes, ◌+◌, ◌∷�
 ghost use Rattle.niss_shell.specs.Output.{error_text, status_of, start_text, line_fault_text};
 ghost use Rattle.niss_shell.specs.Lines.{line_feed};
 ghost use Rattle.niss_moves.specs.FaultText.{fault_column, fault_text};
-ghost use Rattle.niss_shell.specs.declared.stop.Stop.TheVariants.{Usage, CannotWrite, OutOfMemory};
+ghost use Rattle.niss_shell.specs.declared.stop.Stop.TheVariants.{CannotWrite, OutOfMemory};
 
-use crate::command::UsageFault;
 use crate::device::DeviceFault;
 use crate::text::{put_number, put_text};
 use niss_cube::{OutOfMemory, Step};
@@ -12,7 +11,7 @@ use niss_moves::{LineText, ReadFault};
 use std::alloc::AllocError;
 
 /// What is wrong with a line.
-#[derive(Clone, Copy, Debug, PartialEq, Eq)]
+#[derive(Clone, Copy)]
 pub enum LineFault {
     /// It spells no moves.
     Unread(ReadFault),
@@ -21,7 +20,7 @@ pub enum LineFault {
 }
 
 /// How a run ends.
-#[derive(Clone, Copy, Debug, PartialEq, Eq)]
+#[derive(Clone, Copy)]
 pub enum Stop {
     Done,
     Line { line: u32, fault: LineFault },
@@ -78,15 +77,6 @@ impl From<DeviceFault> for Stop {
     /// What a refused write or flush of the output ends a run with.
     fn from(_: DeviceFault) -> Stop {
         Stop::CannotWrite
-    }
-}
-
-impl From<UsageFault> for Stop {
-    ghost from_gives = { λ _ stop. stop ≡ Usage };
-
-    /// What words that are no command end a run with.
-    fn from(_: UsageFault) -> Stop {
-        Stop::Usage
     }
 }
 

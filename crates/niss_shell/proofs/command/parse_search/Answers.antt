@@ -1,11 +1,20 @@
-use Rattle.std.proofs.Common.{map, ap, sym, ◌∙◌, drop}
+use Rattle.std.proofs.Common.{◌≡◌, None, sym, ◌∙◌, arith}
 use Rattle.std.specs.Prelude.{string_bytes}
-use Rattle.niss_shell.specs.Words.{number_of, most_limit, search_for}
-use Rattle.niss_shell.proofs.NumberLemmas.{searched, step_unknown}
+use Rattle.std.proofs.lemmas.Grind.{common_steps}
+use Rattle.niss_shell.specs.Words.{step_named}
+use Rattle.niss_shell.proofs.NumberLemmas.{step_unknown}
 use Rattle.niss_shell.proofs.command.parse_search.Goals as goal
 
-pub returns-in_default-from_name : goal.returns-in_default-from_name
-returns-in_default-from_name c = λ report.
-    searched string_bytes report c.args.words.now c.step-item.result c.most-item.result c.in-len2-up.len_at_least c.step-item.is c.most-item.is
-    ∙ ap (λ o. search_for report o (number_of most_limit (string_bytes c.most-item.result)) (map string_bytes (drop 2 c.args.words.now)))
-    (step_unknown (string_bytes c.step-item.result) (λ step e. c.in_default-from_name.ensures.unknown step (e ∙ sym c.as_bytes.ensures.value)))
+pub returns-in_default-from_name-clause-command : goal.returns-in_default-from_name-clause-command
+returns-in_default-from_name-clause-command c =
+    let unknown : step_named (string_bytes c.step-item.result) ≡ None = step_unknown _ (λ step e. c.in_default-from_name.ensures.unknown step (e ∙ sym c.as_bytes.ensures.value)) in
+    grind (arith, common_steps, unknown)
+
+pub returns-in_default-limit_of-clause-command : goal.returns-in_default-limit_of-clause-command
+returns-in_default-limit_of-clause-command c = grind (arith, common_steps)
+
+pub returns-in-Solutions-clause-command : goal.returns-in-Solutions-clause-command
+returns-in-Solutions-clause-command c = grind (arith, common_steps)
+
+pub returns-in-Counts-clause-command : goal.returns-in-Counts-clause-command
+returns-in-Counts-clause-command c = grind (arith, common_steps)
