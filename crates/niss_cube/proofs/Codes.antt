@@ -129,8 +129,3 @@ pub unrenamed : (k : Coordinate) (e : Place → Place) (q : Place) → renamed_f
 unrenamed Flip e q = refl
 unrenamed Twist e q = refl
 unrenamed Slice e q = refl
-
-pub standard_turn-is : (k : Coordinate) (t : Turn) → turn_for k (standard_axis k) t ≡ t
-standard_turn-is Flip t = refl
-standard_turn-is Twist t = refl
-standard_turn-is Slice t = refl

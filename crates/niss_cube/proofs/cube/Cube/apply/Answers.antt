@@ -1,5 +1,5 @@
-use Rattle.std.proofs.Common.{◌+◌, ◌∙◌, refl, ap, sym, drop}
-use Rattle.std.proofs.lemmas.List.{at_drop_more}
+use Rattle.std.proofs.Common.{◌+◌, ◌∙◌, ap, sym, drop}
+use Rattle.std.proofs.lemmas.List.{at_drop_more, at_drop_all}
 use Rattle.niss_cube.specs.Map.{map_of}
 use Rattle.niss_moves.specs.Effects.{effect_of_turns}
 use Rattle.niss_cube.proofs.cube.Cube.apply.Goals as goal
@@ -10,5 +10,7 @@ loop-turn-preserved c q p =
     ∙ sym (at_drop_more (λ ts. effect_of_turns ts (map_of c.loop-turn.self q)) c.args.turns.now c.loop-turn.turn-index _ c.loop-turn-test.true)
     ∙ c.loop-turn.invariant q p
 
-pub loop-turn-init : goal.loop-turn-init
-loop-turn-init c = λ q p. refl
+pub returns : goal.returns
+returns c = λ q p.
+    sym (at_drop_all (λ ts. effect_of_turns ts (map_of c.loop-turn.self q)) c.args.turns.now c.loop-turn.turn-index c.loop-turn-test.false)
+    ∙ c.loop-turn.invariant q p
