@@ -8,10 +8,9 @@ use Rattle.niss_moves.specs.Effects.{effect, moved_by}
 use Rattle.niss_moves.specs.declared.token.Token.{Token}
 use Rattle.niss_cube.specs.CubieFacelets.{facelet_at, corner_facelets, edge_facelets}
 use Rattle.niss_cube.proofs.Each.{at_place}
-use Rattle.niss_cube.proofs.MovedPositions.{HoldsOfMoves, at_move}
 use Rattle.niss_cube.proofs.CubieKinds.{Corners, Edges, row_of, index_of}
 use Rattle.niss_cube.proofs.Logic.{and_left, and_right}
-use Rattle.niss_moves.proofs.CallerLemmas.{same_place_is}
+use Rattle.niss_moves.proofs.CallerLemmas.{same_place_is, every_token, every_face, every_power, every_slice, every_axis, at_token}
 
 unfoldable pub next : Place → Place
 next q =
@@ -25,12 +24,12 @@ kept_test m q = is_place (moved_by m q) && same_place (next (moved_by m q)) (mov
 abbrev all_kept : Token → Bool
 all_kept m = list_all (kept_test m) places
 
-kept : HoldsOfMoves all_kept
-unfolding next
-kept = record { faces = refl; wide = refl; slices = refl; rotations = refl }
+kept : every_token all_kept ≡ true
+unfolding next every_token every_face every_power every_slice every_axis
+kept = refl
 
 kept_at : (m : Token) (q : Place) → is_place q ≡ true → kept_test m q ≡ true
-kept_at m q h = at_place (kept_test m) (at_move all_kept kept m) q h
+kept_at m q h = at_place (kept_test m) (at_token _ kept m) q h
 
 pub moved-place : (m : Token) (q : Place) → is_place q ≡ true → is_place (moved_by m q) ≡ true
 moved-place m q h = and_left _ _ (kept_at m q h)

@@ -1,4 +1,4 @@
--- Tests of each number below a bound, face, power, turn or axis: what computation shows of all holds of each.
+-- Tests of each number below a bound, face, power or turn: what computation shows of all holds of each.
 use Rattle.std.proofs.Common.{◌≡◌, ℕ, zero, suc, ◌<◌, ◌∙◌, ap, Bool, true, ◌&&◌, arith, inl, inr}
 use Rattle.std.proofs.lemmas.Bool.Decides.{eqb_tells}
 use Rattle.niss_moves.specs.declared.turn.Face.{Face}
@@ -6,8 +6,6 @@ use Rattle.niss_moves.specs.declared.turn.Face.TheVariants.{U, D, R, L, F, B}
 use Rattle.niss_moves.specs.declared.turn.Power.{Power}
 use Rattle.niss_moves.specs.declared.turn.Power.TheVariants.{Quarter, Half, Counter}
 use Rattle.niss_moves.specs.declared.turn.Turn.{Turn}
-use Rattle.niss_moves.specs.declared.axis.Axis.{Axis}
-use Rattle.niss_moves.specs.declared.axis.Axis.TheVariants.{Ud, Rl, Fb}
 use Rattle.niss_cube.proofs.Logic.{and_left, and_right}
 
 abbrev pub all_below : ℕ → (ℕ → Bool) → Bool
@@ -48,11 +46,3 @@ all_turns t = all_faces (λ f. all_powers (λ p. t (turn_of f p)))
 
 pub at_turn : (t : Turn → Bool) → all_turns t ≡ true → (s : Turn) → t s ≡ true
 at_turn t h s = at_power (λ p. t (turn_of s.face p)) (at_face (λ f. all_powers (λ p. t (turn_of f p))) h s.face) s.power
-
-abbrev pub all_axes : (Axis → Bool) → Bool
-all_axes t = t Ud && (t Rl && t Fb)
-
-pub at_axis : (t : Axis → Bool) → all_axes t ≡ true → (a : Axis) → t a ≡ true
-at_axis t h Ud = and_left _ _ h
-at_axis t h Rl = and_left _ _ (and_right (t Ud) _ h)
-at_axis t h Fb = and_right (t Rl) _ (and_right (t Ud) _ h)

@@ -4,36 +4,12 @@ use Rattle.std.specs.Prelude.{nat_lt}
 use Rattle.std.proofs.lemmas.Bool.{ltb-true}
 use Rattle.niss_moves.specs.Places.{same_place}
 use Rattle.niss_moves.specs.Effects.{moved_by}
-use Rattle.niss_moves.specs.declared.token.Slice.{Slice}
-use Rattle.niss_moves.specs.declared.token.Slice.TheVariants.{M, E, S}
 use Rattle.niss_moves.specs.declared.token.Token.{Token}
-use Rattle.niss_moves.specs.declared.token.Token.TheVariants as token
 use Rattle.niss_cube.specs.PlacePositions.{place_at, first_number, number_in_kind}
 use Rattle.niss_cube.specs.declared.place_positions.TheConstants.{POSITIONS_AFTER}
-use Rattle.niss_cube.proofs.FiniteTests.{all_below, at_below, all_powers, at_power, turn_of, all_turns, at_turn, all_axes, at_axis}
+use Rattle.niss_cube.proofs.FiniteTests.{all_below, at_below}
 use Rattle.niss_cube.proofs.Logic.{and_left, and_right}
-use Rattle.niss_moves.proofs.CallerLemmas.{same_place_is}
-
--- a test of all moves, by their kinds
-abbrev all_slices : (Slice → Bool) → Bool
-all_slices t = t M && (t E && t S)
-
-at_slice : (t : Slice → Bool) → all_slices t ≡ true → (s : Slice) → t s ≡ true
-at_slice t h M = and_left _ _ h
-at_slice t h E = and_left _ _ (and_right (t M) _ h)
-at_slice t h S = and_right (t E) _ (and_right (t M) _ h)
-
-pub record HoldsOfMoves (t : Token → Bool) : Type 0 where
-  pub faces : all_turns (λ u. t (token.Face u)) ≡ true
-  pub wide : all_turns (λ u. t (token.Wide u.face u.power)) ≡ true
-  pub slices : all_slices (λ s. all_powers (λ p. t (token.Slice s p))) ≡ true
-  pub rotations : all_axes (λ a. all_powers (λ p. t (token.Rotation a p))) ≡ true
-
-pub at_move : (t : Token → Bool) → HoldsOfMoves t → (m : Token) → t m ≡ true
-at_move t h (token.Face u) = at_turn (λ u. t (token.Face u)) h.faces u
-at_move t h (token.Wide f p) = at_turn (λ u. t (token.Wide u.face u.power)) h.wide (turn_of f p)
-at_move t h (token.Slice s p) = at_power (λ p. t (token.Slice s p)) (at_slice (λ s. all_powers (λ p. t (token.Slice s p))) h.slices s) p
-at_move t h (token.Rotation a p) = at_power (λ p. t (token.Rotation a p)) (at_axis (λ a. all_powers (λ p. t (token.Rotation a p))) h.rotations a) p
+use Rattle.niss_moves.proofs.CallerLemmas.{same_place_is, every_token, every_face, every_power, every_slice, every_axis, at_token}
 
 abbrev row_of : Token → List ℕ
 row_of m = get_or POSITIONS_AFTER (first_number m + number_in_kind m) []
@@ -45,12 +21,12 @@ entry_test m i =
 abbrev row_test : Token → Bool
 row_test m = all_below 54 (entry_test m)
 
-rows_hold : HoldsOfMoves row_test
-unfolding place_at
-rows_hold = record { faces = refl; wide = refl; slices = refl; rotations = refl }
+rows_hold : every_token row_test ≡ true
+unfolding place_at every_token every_face every_power every_slice every_axis
+rows_hold = refl
 
 entry_holds : (m : Token) (i : ℕ) → i < 54 → entry_test m i ≡ true
-entry_holds m i l = at_below 54 (entry_test m) (at_move row_test rows_hold m) i l
+entry_holds m i l = at_below 54 (entry_test m) (at_token _ rows_hold m) i l
 
 -- the row that stands at the number of a move
 module _ (m : Token) (n : ℕ) (e : n ≡ first_number m + number_in_kind m) where
