@@ -28,12 +28,6 @@ unfolding last_part
 last_part-append front [] ys = refl
 last_part-append front (b ∷ xs) ys = unended_step (b == 10) front xs ys b (last_part-append [] xs ys) (last_part-append (front ++ b ∷ []) xs ys)
 
--- no fault in a line and the rest
-fault_none_step : {E : Type 0} (r : Result (List ℕ) E) (n : ℕ) (a b : Option (ℕ × E))
-    → (a ≡ None → b ≡ a) → fault_before r n a ≡ None → fault_before r n b ≡ fault_before r n a
-fault_none_step (Ok text) n a b same none = same none
-fault_none_step (Err e) n a b same none = refl
-
 pub first_fault-none_head : {E : Type 0} (r : Result (List ℕ) E) (n : ℕ) (a : Option (ℕ × E)) → fault_before r n a ≡ None → a ≡ None
 first_fault-none_head (Ok text) n a none = none
 first_fault-none_head (Err e) n a none = absurd (cc none)

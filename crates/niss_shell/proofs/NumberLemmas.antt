@@ -1,5 +1,5 @@
 -- Numbers and names among words.
-use Rattle.std.proofs.Common.{◌≡◌, ◌≢◌, ℕ, ◌^◌, ◌<◌, ◌≤◌, Bool, true, false, ◌&&◌, if◌then◌else◌, Some, None, Result, Ok, Err, List, [], ◌∷◌, length, refl, ap, subst, rules, arith}
+use Rattle.std.proofs.Common.{◌≡◌, ◌≢◌, ℕ, ◌^◌, ◌<◌, ◌≤◌, Bool, true, false, ◌&&◌, if◌then◌else◌, Some, None, Result, Ok, Err, List, [], ◌∷◌, length, refl, rules, arith}
 use Rattle.std.specs.Prelude.{nat_lt, nat_le, find, bytes_eq}
 use Rattle.std.specs.Char.{is_ascii_digit}
 use Rattle.std.specs.List.{list_all}
@@ -18,25 +18,6 @@ digits_test = search rules
 
 digits_model : IsNumeralModel (λ ds. list_all is_ascii_digit ds ≡ true) (digits_value 10)
 digits_model = numerals_by_value (λ ds. list_all is_ascii_digit ds ≡ true) digits_test
-
-number_by : (most n v : ℕ) (word : List ℕ) (a b c : Bool) → n ≡ v → a ≡ true → b ≡ true → c ≡ true → Some n ≡ (if a && b && c then Some v else None)
-number_by most n v word true true true e f g h = ap Some e
-number_by most n v word false b c e f g h = absurd (cc f)
-number_by most n v word true false c e f g h = absurd (cc g)
-number_by most n v word true true false e f g h = absurd (cc h)
-
-below_test : (n m : ℕ) → n < m → nat_lt n m ≡ true
-below_test n m h = grind (arith, common_steps)
-
-most_test : (n m : ℕ) → n ≤ m → nat_le n m ≡ true
-most_test n m h = grind (arith, common_steps)
-
-pub number_parsed : (E : Type 0) (most n : ℕ) (word : List ℕ) → list_all is_ascii_digit word ≡ true → ParsesUnsigned {E = E} 64 10 word (Ok n) → n ≤ most
-    → Some n ≡ number_of most word
-number_parsed E most n word digits parsed fits =
-    let p = parse_digits digits_model {E = E} 64 word (Ok n) parsed digits in
-    number_by most n (digits_value 10 word) word (list_all is_ascii_digit word) (nat_lt 0 (length word)) (nat_le (digits_value 10 word) most)
-    p.1 digits (below_test 0 (length word) p.0.0) (most_test (digits_value 10 word) most (subst (λ v. v ≤ most) p.1 fits))
 
 no_number_by : {X : Type 0} (v : X) (a b c : Bool) → (b ≡ true → c ≡ true → ⊥) → None ≡ (if a && b && c then Some v else None)
 no_number_by v false b c h = refl

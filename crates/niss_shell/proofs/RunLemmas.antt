@@ -85,10 +85,6 @@ runs_source command [] stop a b h i e x = record {
 }
 runs_source command (w ∷ ws) stop a b h i e x = absurd (omega arith)
 
-pub reads_without_words : (command : LineCommand) (ws : List (List ℕ)) → length ws ≡ 0 → reads_source (Ok (OnLines command ws)) ≡ false → ⊥
-reads_without_words command [] e r = cc r
-reads_without_words command (w ∷ ws) e r = absurd (omega arith)
-
 -- the input comes from the words
 
 pub runs_text : (command : LineCommand) (ws : List (List ℕ)) (text : List ℕ) (stop : Stop) (a : SourceState) (h i : AnswerState)
@@ -202,10 +198,6 @@ runs_scrambles asked state stream turns count rng stop a h i e r w = subst (λ x
 })
 
 -- the last flush
-
-rest_some : (xs : List ℕ) → 0 < length xs → xs ≡ [] → ⊥
-rest_some [] h e = omega arith
-rest_some (x ∷ xs) h e = cc e
 
 fault_after : (i j : TargetState) (f : Bool) → has_fault i ≡ false → j.write_failed ≡ i.write_failed → j.flush_failed ≡ (i.flush_failed || f) → has_fault j ≡ f
 fault_after i j f works same e =
