@@ -9,7 +9,7 @@ pub record StepSpace (S : Type 0) : Type 0 where
   pub step : Step
   pub space : S
 
--- The space is of the step, by its goals, and its pruning tables are filled.
+-- The space is of the step, by its goals, and its pruning tables are filled as far as is said.
 pub record AreReady (step of_step : Step) (goals : List Goal) (filled : Type 0) : Type 0 where
   pub same_step : of_step ≡ step
   pub same_goals : goals ≡ goals_of step

@@ -1,10 +1,11 @@
 //! The tables of a search, by the kind of its states.
-ghost use Rattle.std.specs.Prelude.{◌≡◌, ◌+◌, ◌*◌, ◌<◌, ◌^◌, length, Contains};
+ghost use Rattle.std.specs.Prelude.{◌≡◌, ◌+◌, ◌<◌, ◌≤◌, ◌^◌, Contains};
 ghost use Rattle.niss_moves.specs.Canonical.{may_follow};
-ghost use Rattle.niss_cube.specs.Steps.{goals_of, turns_of};
+ghost use Rattle.niss_cube.specs.Steps.{turns_of};
 ghost use Rattle.niss_search.specs.Cubes.{IsPosition};
 ghost use Rattle.niss_search.specs.Entries.{fill_ticks};
 ghost use Rattle.niss_search.specs.Followers.{IsFollower, AreFollowers};
+ghost use Rattle.niss_search.specs.Kinds.{AreReady};
 ghost use Rattle.niss_search.specs.Positions.{position_after, distance_at};
 
 use super::followers::{Follower, Followers};
@@ -36,10 +37,8 @@ impl<S: StateSpace> Model for SearchTables<S> {
 impl<S: StateSpace> SearchTables<S> {
     /// Those of a step, whose space is still to be filled.
     pub fn fill(step: Step, space: S, meter: &mut Meter) -> SearchTables<S>
-        requires of_step { S.step space ≡ step }
-        requires of_goals { S.goals space ≡ goals_of step }
-        requires filled { S.is_filled space 0 }
-        requires meter { meter.old + length (goals_of step) * 2 ^ 32 < 2 ^ 128 }
+        requires space { AreReady step (S.step space) (S.goals space) (S.is_filled space 0) }
+        requires meter { meter.old ≤ 2 ^ 127 }
         ensures step { result.step ≡ step }
         ensures ticks { meter.new ≡ meter.old + fill_ticks step }
     {

@@ -4,4 +4,4 @@ use Rattle.niss_search.proofs.tables.search_tables.SearchTables.fill.Goals as go
 
 pub returns-clause-ticks : goal.returns-clause-ticks
 returns-clause-ticks g c =
-    omega (arith, rw (c.requires.of_step, c.requires.of_goals) at c.fill.ensures.ticks, ticks-of-goals c.args.step)
+    omega (arith, rw (c.requires.space.same_step, c.requires.space.same_goals) at c.fill.ensures.ticks, ticks-of-goals c.args.step)
