@@ -5,6 +5,7 @@ use crate::runs::{OUT_OF_MEMORY, Outcome, TOO_LONG, words_of};
 use linked_list_allocator::LocalHeap;
 use niss_cube::{OutOfMemory, TurnTables};
 use std::alloc::{AllocError, Global};
+use std::process::Abort;
 use std::test::Fail;
 
 /// One word of this many spaces, after a command.
@@ -18,6 +19,21 @@ fn spaces(alloc: Global, count: usize) -> Result<Vec<String>, AllocError> {
     Ok(words)
 }
 
+/// Runs the words over a source that they leave unread, with a heap of this size.
+fn check_heap(
+    rt: &impl Abort,
+    alloc: Global,
+    words: &[String],
+    size: usize,
+    outcome: Outcome<'_>,
+) -> Result<(), AllocError> {
+    let heap = LocalHeap::new(alloc, size)?;
+    let mut input = Bytes::new(b"R", 1);
+    outcome.check_input(rt, alloc, &heap, words, &mut input);
+    assert!(rt; input.reads == 0, "a heap of {size}");
+    Ok(())
+}
+
 #[test]
 fn growth_refused(rt: HostRuntime) -> Result<(), Fail> {
     let words = spaces(rt.alloc(), 1000)?;
@@ -27,10 +43,7 @@ fn growth_refused(rt: HostRuntime) -> Result<(), Fail> {
         (992, Outcome::failure(b"", OUT_OF_MEMORY)),
         (4096, Outcome::good(b"\n")),
     ] {
-        let heap = LocalHeap::new(rt.alloc(), size)?;
-        let mut input = Bytes::new(b"R", 1);
-        outcome.check_input(&rt, rt.alloc(), &heap, &words, &mut input);
-        assert_eq!(rt; input.reads, 0, "a heap of {size}");
+        check_heap(&rt, rt.alloc(), &words, size, outcome)?;
     }
     Ok(())
 }
@@ -38,17 +51,33 @@ fn growth_refused(rt: HostRuntime) -> Result<(), Fail> {
 #[test]
 fn words_at_the_limit(rt: HostRuntime) -> Result<(), Fail> {
     // no growth is asked for where the words are too many
-    let heap = LocalHeap::new(rt.alloc(), 16)?;
     let words = spaces(rt.alloc(), 16_777_216)?;
-    let mut input = Bytes::new(b"", 1);
-    let outcome = Outcome::failure(b"", TOO_LONG);
-    outcome.check_input(&rt, rt.alloc(), &heap, &words, &mut input);
+    check_heap(&rt, rt.alloc(), &words, 16, Outcome::failure(b"", TOO_LONG))?;
+    drop(words);
 
     let words = spaces(rt.alloc(), 16_777_215)?;
     let mut input = Bytes::new(b"", 1);
     let outcome = Outcome::good(b"\n");
     outcome.check_input(&rt, rt.alloc(), rt.alloc(), &words, &mut input);
+    drop(words);
     Ok(())
+}
+
+/// Whether a heap has no room for the tables.
+fn refuses_tables(heap: &LocalHeap) -> bool {
+    TurnTables::build_in(heap).err() == Some(OutOfMemory)
+}
+
+/// Fills the heap with tables, and does so again where they were dropped.
+fn check_room_for_one(rt: &impl Abort, heap: &LocalHeap) {
+    let built = TurnTables::build_in(heap);
+    check_tables(rt, &built);
+    assert!(rt; refuses_tables(heap));
+    check_tables(rt, &built);
+    drop(built);
+    let again = TurnTables::build_in(heap);
+    check_tables(rt, &again);
+    drop(again);
 }
 
 #[test]
@@ -56,16 +85,10 @@ fn tables_refused(rt: HostRuntime) -> Result<(), Fail> {
     // the three growths ask for 73728, 78732 and 17820 bytes, and each takes a multiple of 16
     for size in [73_712usize, 152_448, 170_272] {
         let heap = LocalHeap::new(rt.alloc(), size)?;
-        let refused = TurnTables::build_in(&heap).err();
-        assert_eq!(rt; refused, Some(OutOfMemory), "a heap of {size}");
-        assert_eq!(rt; heap.used(), 0, "a heap of {size}");
+        assert!(rt; refuses_tables(&heap), "a heap of {size}");
+        assert!(rt; heap.used() == 0, "a heap of {size}");
     }
     let heap = LocalHeap::new(rt.alloc(), 170_288)?;
-    let tables = TurnTables::build_in(&heap);
-    check_tables(&rt, &tables);
-    assert_eq!(rt; TurnTables::build_in(&heap).err(), Some(OutOfMemory));
-    check_tables(&rt, &tables);
-    drop(tables);
-    check_tables(&rt, &TurnTables::build_in(&heap));
+    check_room_for_one(&rt, &heap);
     Ok(())
 }

@@ -5,19 +5,19 @@ use niss_moves::{Axis, Face, Power, Rotation};
 #[test]
 fn turns_the_cube_as_r_u_and_f(rt: HostRuntime) {
     let x = Rotation::IDENTITY.then(Axis::Rl, Power::Quarter);
-    assert_eq!(rt; x.face_before(Face::U), Face::F);
-    assert_eq!(rt; x.face_before(Face::B), Face::U);
-    assert_eq!(rt; x.face_before(Face::R), Face::R);
+    assert!(rt; x.face_before(Face::U) == Face::F);
+    assert!(rt; x.face_before(Face::B) == Face::U);
+    assert!(rt; x.face_before(Face::R) == Face::R);
 
     let y = Rotation::IDENTITY.then(Axis::Ud, Power::Quarter);
-    assert_eq!(rt; y.face_before(Face::F), Face::R);
-    assert_eq!(rt; y.face_before(Face::L), Face::F);
-    assert_eq!(rt; y.face_before(Face::U), Face::U);
+    assert!(rt; y.face_before(Face::F) == Face::R);
+    assert!(rt; y.face_before(Face::L) == Face::F);
+    assert!(rt; y.face_before(Face::U) == Face::U);
 
     let z = Rotation::IDENTITY.then(Axis::Fb, Power::Quarter);
-    assert_eq!(rt; z.face_before(Face::R), Face::U);
-    assert_eq!(rt; z.face_before(Face::U), Face::L);
-    assert_eq!(rt; z.face_before(Face::F), Face::F);
+    assert!(rt; z.face_before(Face::R) == Face::U);
+    assert!(rt; z.face_before(Face::U) == Face::L);
+    assert!(rt; z.face_before(Face::F) == Face::F);
 }
 
 #[test]
@@ -25,7 +25,7 @@ fn turns_about_two_axes(rt: HostRuntime) {
     let x2_then_y = Rotation::IDENTITY
         .then(Axis::Rl, Power::Half)
         .then(Axis::Ud, Power::Quarter);
-    assert_eq!(rt; x2_then_y.face_before(Face::U), Face::D);
-    assert_eq!(rt; x2_then_y.face_before(Face::F), Face::R);
-    assert_eq!(rt; x2_then_y.face_before(Face::L), Face::B);
+    assert!(rt; x2_then_y.face_before(Face::U) == Face::D);
+    assert!(rt; x2_then_y.face_before(Face::F) == Face::R);
+    assert!(rt; x2_then_y.face_before(Face::L) == Face::B);
 }
