@@ -8,26 +8,42 @@ use std::process::Abort;
 fn a_solved_cube_has_coordinates_0(rt: HostRuntime) {
     let cube = Cube::solved();
     for axis in [Axis::Ud, Axis::Rl, Axis::Fb] {
-        assert!(rt; cube.flip(axis) == 0);
-        assert!(rt; cube.twist(axis) == 0);
-        assert!(rt; cube.slice(axis) == 0);
+        let numbers = [cube.flip(axis), cube.twist(axis), cube.slice(axis)];
+        assert!(rt; numbers == [0, 0, 0]);
     }
 }
 
 #[test]
-fn turned_cubes_have_their_coordinates(rt: HostRuntime) {
-    let front = quarter(Face::F);
-    assert!(rt; front.flip(Axis::Fb) == 550);
-    assert!(rt; front.slice(Axis::Ud) == 33);
-    assert!(rt; front.slice(Axis::Rl) == 33);
-    let right = quarter(Face::R);
-    assert!(rt; right.twist(Axis::Ud) == 1494);
-    assert!(rt; right.twist(Axis::Fb) == 1494);
-    assert!(rt; right.flip(Axis::Rl) == 550);
-    assert!(rt; quarter(Face::U).flip(Axis::Ud) == 550);
-    let down = quarter(Face::D);
-    assert!(rt; down.twist(Axis::Rl) == 1494);
-    assert!(rt; down.slice(Axis::Fb) == 33);
+fn a_quarter_turn_flips_edges(rt: HostRuntime) {
+    for (face, axis) in [
+        (Face::F, Axis::Fb),
+        (Face::R, Axis::Rl),
+        (Face::U, Axis::Ud),
+    ] {
+        assert!(rt; quarter(face).flip(axis) == 550);
+    }
+}
+
+#[test]
+fn a_quarter_turn_twists_corners(rt: HostRuntime) {
+    for (face, axis) in [
+        (Face::R, Axis::Ud),
+        (Face::R, Axis::Fb),
+        (Face::D, Axis::Rl),
+    ] {
+        assert!(rt; quarter(face).twist(axis) == 1494);
+    }
+}
+
+#[test]
+fn a_quarter_turn_takes_edges_out_of_a_slice(rt: HostRuntime) {
+    for (face, axis) in [
+        (Face::F, Axis::Ud),
+        (Face::F, Axis::Rl),
+        (Face::D, Axis::Fb),
+    ] {
+        assert!(rt; quarter(face).slice(axis) == 33);
+    }
 }
 
 // R U R2 B' L' brings the edges FR, FL, BL, BR to the places UF, UL, UB, UR.

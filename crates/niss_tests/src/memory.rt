@@ -34,17 +34,18 @@ fn check_heap(
     Ok(())
 }
 
+/// Runs words that ask for one growth, of 1001 bytes.
+fn check_heaps(rt: &impl Abort, alloc: Global, words: &[String]) -> Result<(), AllocError> {
+    for size in [16, 992] {
+        check_heap(rt, alloc, words, size, Outcome::failure(b"", OUT_OF_MEMORY))?;
+    }
+    check_heap(rt, alloc, words, 4096, Outcome::good(b"\n"))
+}
+
 #[test]
 fn growth_refused(rt: HostRuntime) -> Result<(), Fail> {
     let words = spaces(rt.alloc(), 1000)?;
-    // the one growth asks for 1001 bytes
-    for (size, outcome) in [
-        (16usize, Outcome::failure(b"", OUT_OF_MEMORY)),
-        (992, Outcome::failure(b"", OUT_OF_MEMORY)),
-        (4096, Outcome::good(b"\n")),
-    ] {
-        check_heap(&rt, rt.alloc(), &words, size, outcome)?;
-    }
+    check_heaps(&rt, rt.alloc(), &words)?;
     Ok(())
 }
 
@@ -80,13 +81,19 @@ fn check_room_for_one(rt: &impl Abort, heap: &LocalHeap) {
     drop(again);
 }
 
+/// A heap of this size has no room for the tables, and nothing of them is left in it.
+fn check_refused(rt: &impl Abort, alloc: Global, size: usize) -> Result<(), AllocError> {
+    let heap = LocalHeap::new(alloc, size)?;
+    assert!(rt; refuses_tables(&heap), "a heap of {size}");
+    assert!(rt; heap.used() == 0, "a heap of {size}");
+    Ok(())
+}
+
 #[test]
 fn tables_refused(rt: HostRuntime) -> Result<(), Fail> {
     // the three growths ask for 73728, 78732 and 17820 bytes, and each takes a multiple of 16
-    for size in [73_712usize, 152_448, 170_272] {
-        let heap = LocalHeap::new(rt.alloc(), size)?;
-        assert!(rt; refuses_tables(&heap), "a heap of {size}");
-        assert!(rt; heap.used() == 0, "a heap of {size}");
+    for size in [73_712, 152_448, 170_272] {
+        check_refused(&rt, rt.alloc(), size)?;
     }
     let heap = LocalHeap::new(rt.alloc(), 170_288)?;
     check_room_for_one(&rt, &heap);

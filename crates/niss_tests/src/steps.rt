@@ -43,8 +43,8 @@ fn check_turns(rt: &impl Abort, step: Step, turns: &str) {
     assert!(rt; text.as_slice() == turns.as_bytes(), "{}", step.name());
 }
 
-fn check_row(rt: &impl Abort, index: usize, row: Row) {
-    let (step, name, start_name, turns) = row;
+fn check_row(rt: &impl Abort, index: usize, row: &Row) {
+    let (step, name, start_name, turns) = *row;
     assert!(rt; Step::all().get(index) == Some(&step), "{name}");
     check_names(rt, step, name, start_name);
     check_turns(rt, step, turns);
@@ -53,7 +53,7 @@ fn check_row(rt: &impl Abort, index: usize, row: Row) {
 #[test]
 fn steps_have_their_names_and_turns(rt: HostRuntime) {
     for (index, row) in STEPS.iter().enumerate() {
-        check_row(&rt, index, *row);
+        check_row(&rt, index, row);
     }
 }
 
