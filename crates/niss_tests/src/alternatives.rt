@@ -26,7 +26,7 @@ fn check_errors(rt: &impl Abort, alloc: Global, rows: &[Row]) -> Result<(), Allo
     Ok(())
 }
 
-const EDGES: [Row; 7] = [
+const EDGES: &[Row] = &[
     // two alternatives hold, and the empty sequence is one solution
     (&["count", "eo", "3", "F"], "length 0 solutions 1 nodes 1\n"),
     (&["solve", "eo", "3", "F", "R", "U"], "U (1)\nU' (1)\n\n"),
@@ -55,11 +55,11 @@ const EDGES: [Row; 7] = [
 
 #[test]
 fn edges_on_any_axis(rt: HostRuntime) -> Result<(), Fail> {
-    check_outputs(&rt, rt.alloc(), &EDGES)?;
+    check_outputs(&rt, rt.alloc(), EDGES)?;
     Ok(())
 }
 
-const DOMINOES: [Row; 8] = [
+const DOMINOES: &[Row] = &[
     (&["solve", "dr-eofb", "5", "R"], "(0)\n\n"),
     // one turn for the second axis, where the first needs two
     (&["solve", "dr-eofb", "5", "R", "U"], "U (1)\nU' (1)\n\n"),
@@ -88,11 +88,11 @@ const DOMINOES: [Row; 8] = [
 
 #[test]
 fn dominoes_on_either_axis(rt: HostRuntime) -> Result<(), Fail> {
-    check_outputs(&rt, rt.alloc(), &DOMINOES)?;
+    check_outputs(&rt, rt.alloc(), DOMINOES)?;
     Ok(())
 }
 
-const WITHOUT_EDGES: [Row; 3] = [
+const WITHOUT_EDGES: &[Row] = &[
     (
         &["solve", "dr-eoud", "3", "U"],
         "nissy: line 1: eoud does not hold\n",
@@ -109,7 +109,7 @@ const WITHOUT_EDGES: [Row; 3] = [
 
 #[test]
 fn edges_must_be_oriented_for_a_domino(rt: HostRuntime) -> Result<(), Fail> {
-    check_errors(&rt, rt.alloc(), &WITHOUT_EDGES)?;
+    check_errors(&rt, rt.alloc(), WITHOUT_EDGES)?;
     Ok(())
 }
 

@@ -18,6 +18,7 @@ fn check_spaces(
     let spaces = vec![in alloc; b' '; count]?;
     let mut input = Bytes::new(spaces.as_slice(), 4096);
     outcome.check_input(rt, alloc, alloc, words, &mut input);
+    drop(spaces);
     Ok(())
 }
 

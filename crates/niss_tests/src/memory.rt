@@ -69,7 +69,7 @@ fn refuses_tables(heap: &LocalHeap) -> bool {
     TurnTables::build_in(heap).err() == Some(OutOfMemory)
 }
 
-/// Fills the heap with tables, and does so again where they were dropped.
+/// Fills a heap with the tables, and does so again where they were dropped.
 fn check_room_for_one(rt: &impl Abort, heap: &LocalHeap) {
     let built = TurnTables::build_in(heap);
     check_tables(rt, &built);
@@ -95,6 +95,11 @@ fn tables_refused(rt: HostRuntime) -> Result<(), Fail> {
     for size in [73_712, 152_448, 170_272] {
         check_refused(&rt, rt.alloc(), size)?;
     }
+    Ok(())
+}
+
+#[test]
+fn tables_fill_a_heap(rt: HostRuntime) -> Result<(), Fail> {
     let heap = LocalHeap::new(rt.alloc(), 170_288)?;
     check_room_for_one(&rt, &heap);
     Ok(())

@@ -239,23 +239,31 @@ fn a_fill_adds_to_its_meter(rt: HostRuntime) {
     }
 }
 
+/// Checks where the level 3 is found next, from some indices on.
+fn check_found(rt: &impl Abort, table: &[u8], rows: &[(usize, Option<usize>)]) {
+    for (from, found) in rows {
+        assert!(rt; *from <= table.len());
+        assert!(rt; next_at(table, *from, 3) == *found, "from {from}");
+    }
+}
+
 #[test]
 fn levels_are_found_in_blocks_and_after_them(rt: HostRuntime) {
     let mut table = [21u8; 70];
-    for index in [0usize, 31, 32, 69] {
-        table[index] = 3;
-    }
-    for (from, found) in [
-        (0usize, Some(0usize)),
+    table[0] = 3;
+    table[31] = 3;
+    table[32] = 3;
+    table[69] = 3;
+    let rows = [
+        (0, Some(0)),
         (1, Some(31)),
         (32, Some(32)),
         (33, Some(69)),
         (70, None),
-    ] {
-        assert!(rt; next_at(&table, from, 3) == found, "from {from}");
-    }
+    ];
+    check_found(&rt, &table, &rows);
+    check_found(&rt, &[], &[(0, None)]);
     assert!(rt; next_at(&table, 0, 4).is_none());
-    assert!(rt; next_at(&[], 0, 3).is_none());
 }
 
 #[test]
