@@ -143,7 +143,7 @@ fn each_growth_of_a_run(rt: HostRuntime) -> Result<(), Fail> {
 }
 
 /// What asks for no memory: lines from the source, scrambles, and the list of steps.
-const WITHOUT_GROWTH: [(&[&str], &str); 7] = [
+const WITHOUT_GROWTH: &[(&[&str], &str)] = &[
     (&["invert"], "U'\nR'\n"),
     (&["unniss"], "U\nR\n"),
     (&["cleanup"], "U\nR\n"),
@@ -181,7 +181,7 @@ fn check_without_growth(
     alloc: Global,
     heap: &LocalHeap,
 ) -> Result<(), AllocError> {
-    for (words, output) in &WITHOUT_GROWTH {
+    for (words, output) in WITHOUT_GROWTH {
         check_in(rt, alloc, heap, Run::good(words, b"U\nR", output))?;
     }
     let fault = Run {

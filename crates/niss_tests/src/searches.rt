@@ -16,7 +16,8 @@ pub fn build(rt: &impl Abort, alloc: Global, step: Step, meter: &mut Meter) -> T
     tables
 }
 
-/// The tables of a step.
+/// The tables of a step. Who has them ends with `drop(tables)`, which is proved once: where a scope ends without it, the
+/// proof goes through all parts of the tables again.
 pub fn tables_of(rt: &impl Abort, alloc: Global, step: Step) -> Tables {
     build(rt, alloc, step, &mut Meter::new())
 }
