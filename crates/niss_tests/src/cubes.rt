@@ -1,5 +1,6 @@
 //! Cubes: their facelets, and the round of a sequence.
 use niss_cube::{Cube, Face, Power, Rotation, Turn};
+use std::process::Abort;
 
 pub fn turn(face: Face, power: Power) -> Turn {
     Turn { face, power }
@@ -41,12 +42,16 @@ fn superflip() -> Cube {
     ])
 }
 
+fn check_facelets(rt: &impl Abort, cube: &Cube, rotation: Rotation, facelets: &[u8; 54]) {
+    assert!(rt; cube.facelets(rotation) == *facelets);
+}
+
 #[test]
 fn facelets_are_those_of_the_cube(rt: HostRuntime) {
-    let solved = Cube::solved().facelets(Rotation::IDENTITY);
-    assert!(rt; solved == *b"UUUUUUUUURRRRRRRRRFFFFFFFFFDDDDDDDDDLLLLLLLLLBBBBBBBBB");
-    let right = quarter(Face::R).facelets(Rotation::IDENTITY);
-    assert!(rt; right == *b"UUFUUFUUFRRRRRRRRRFFDFFDFFDDDBDDBDDBLLLLLLLLLUBBUBBUBB");
+    let solved = b"UUUUUUUUURRRRRRRRRFFFFFFFFFDDDDDDDDDLLLLLLLLLBBBBBBBBB";
+    check_facelets(&rt, &Cube::solved(), Rotation::IDENTITY, solved);
+    let right = b"UUFUUFUUFRRRRRRRRRFFDFFDFFDDDBDDBDDBLLLLLLLLLUBBUBBUBB";
+    check_facelets(&rt, &quarter(Face::R), Rotation::IDENTITY, right);
     let checkerboard = after(&[
         turn(Face::R, Power::Half),
         turn(Face::L, Power::Half),
@@ -55,10 +60,10 @@ fn facelets_are_those_of_the_cube(rt: HostRuntime) {
         turn(Face::F, Power::Half),
         turn(Face::B, Power::Half),
     ]);
-    let checkered = checkerboard.facelets(Rotation::IDENTITY);
-    assert!(rt; checkered == *b"UDUDUDUDURLRLRLRLRFBFBFBFBFDUDUDUDUDLRLRLRLRLBFBFBFBFB");
-    let superflip = superflip().facelets(Rotation::IDENTITY);
-    assert!(rt; superflip == *b"UBULURUFURURFRBRDRFUFLFRFDFDFDLDRDBDLULBLFLDLBUBRBLBDB");
+    let checkered = b"UDUDUDUDURLRLRLRLRFBFBFBFBFDUDUDUDUDLRLRLRLRLBFBFBFBFB";
+    check_facelets(&rt, &checkerboard, Rotation::IDENTITY, checkered);
+    let flipped = b"UBULURUFURURFRBRDRFUFLFRFDFDFDLDRDBDLULBLFLDLBUBRBLBDB";
+    check_facelets(&rt, &superflip(), Rotation::IDENTITY, flipped);
 }
 
 #[test]
@@ -67,17 +72,16 @@ fn facelets_are_rotated_as_a_whole(rt: HostRuntime) {
         top: Face::F,
         vertical: None,
     };
-    let tilted = Cube::solved().facelets(x);
-    assert!(rt; tilted == *b"FFFFFFFFFRRRRRRRRRDDDDDDDDDBBBBBBBBBLLLLLLLLLUUUUUUUUU");
+    let tilted = b"FFFFFFFFFRRRRRRRRRDDDDDDDDDBBBBBBBBBLLLLLLLLLUUUUUUUUU";
+    check_facelets(&rt, &Cube::solved(), x, tilted);
     // The slice M is R L' and then x'.
     let x_counter = Rotation {
         top: Face::B,
         vertical: None,
     };
     let middle = after(&[turn(Face::R, Power::Quarter), turn(Face::L, Power::Counter)]);
-    assert!(rt;
-        middle.facelets(x_counter) == *b"UBUUBUUBURRRRRRRRRFUFFUFFUFDFDDFDDFDLLLLLLLLLBDBBDBBDB"
-    );
+    let sliced = b"UBUUBUUBURRRRRRRRRFUFFUFFUFDFDDFDDFDLLLLLLLLLBDBBDBBDB";
+    check_facelets(&rt, &middle, x_counter, sliced);
 }
 
 #[test]

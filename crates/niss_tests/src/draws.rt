@@ -1,10 +1,11 @@
 //! The generator's words, and the sequences that they draw.
 ghost use Rattle.std.specs.Prelude.{◌≤◌};
 
-use niss_moves::{LineText, allowed, put_faces};
+use niss_moves::{LineText, Turn, allowed, put_faces};
 use niss_search::random_turns;
 use rand_core::utils::NextWord;
 use rand_pcg::Lcg64Xsh32;
+use std::process::Abort;
 use std::test::Fail;
 
 /// The words of the next sequence of `count` turns.
@@ -29,7 +30,7 @@ fn words_of_the_reference(rt: HostRuntime) -> Result<(), Fail> {
     ];
     let mut rng = Lcg64Xsh32::new(42, 54);
     for word in words {
-        assert_eq!(rt; rng.next_word(), word);
+        assert!(rt; rng.next_word() == word);
     }
     Ok(())
 }
@@ -37,7 +38,7 @@ fn words_of_the_reference(rt: HostRuntime) -> Result<(), Fail> {
 #[test]
 fn six_turns(rt: HostRuntime) -> Result<(), Fail> {
     let text = next_text(&mut Lcg64Xsh32::new(42, 54), 6);
-    assert_eq!(rt; text.as_slice(), b"L' D' F' R2 F' L'".as_slice());
+    assert!(rt; text.as_slice() == b"L' D' F' R2 F' L'".as_slice());
     Ok(())
 }
 
@@ -47,7 +48,7 @@ fn three_turns_twice(rt: HostRuntime) -> Result<(), Fail> {
     let mut rng = Lcg64Xsh32::new(42, 54);
     for turns in ["L' D' F'", "L F' L'"] {
         let text = next_text(&mut rng, 3);
-        assert_eq!(rt; text.as_slice(), turns.as_bytes());
+        assert!(rt; text.as_slice() == turns.as_bytes());
     }
     Ok(())
 }
@@ -56,22 +57,27 @@ fn three_turns_twice(rt: HostRuntime) -> Result<(), Fail> {
 fn no_turns(rt: HostRuntime) -> Result<(), Fail> {
     let mut rng = Lcg64Xsh32::new(42, 54);
     assert!(rt; random_turns(&mut rng, 0).is_empty());
-    assert_eq!(rt; rng, Lcg64Xsh32::new(42, 54));
+    assert!(rt; rng == Lcg64Xsh32::new(42, 54));
     Ok(())
+}
+
+/// Checks that each turn may follow the one before.
+fn check_allowed(rt: &impl Abort, turns: &[Turn]) {
+    let mut last = None;
+    for turn in turns {
+        assert!(rt; allowed(last, *turn));
+        last = Some(*turn);
+    }
 }
 
 #[test]
 fn most_turns(rt: HostRuntime) -> Result<(), Fail> {
     let mut rng = Lcg64Xsh32::new(42, 54);
     let turns = random_turns(&mut rng, 256);
-    assert_eq!(rt; turns.len(), 256);
-    let mut last = None;
-    for turn in turns.as_slice() {
-        assert!(rt; allowed(last, *turn));
-        last = Some(*turn);
-    }
+    assert!(rt; turns.len() == 256);
+    check_allowed(&rt, turns.as_slice());
     let mut ahead = Lcg64Xsh32::new(42, 54);
     ahead.advance(256);
-    assert_eq!(rt; rng, ahead);
+    assert!(rt; rng == ahead);
     Ok(())
 }

@@ -1,7 +1,7 @@
 //! Each growth refused in turn: in rooms that grow until one has room for all. Rooms differ by less than the smallest
 //! growth, so each growth is refused in one of them, whatever sizes the growths have.
 use crate::devices::{Bytes, Held};
-use crate::runs::{OUT_OF_MEMORY, Outcome, STEPS, words_of};
+use crate::runs::{OUT_OF_MEMORY, Outcome, Run, STEPS, Targets, words_of};
 use linked_list_allocator::LocalHeap;
 use niss_cube::{Cube, OutOfMemory, Step};
 use niss_search::{Meter, Tables};
@@ -23,6 +23,9 @@ const FOR_EDGES: u16 = 2_000;
 /// The same for a domino reduction: each of its tables has 17,820 bytes or more.
 const FOR_DOMINOES: u16 = 16_000;
 
+/// How many rooms are tried.
+const MOST_ROOMS: usize = 1000;
+
 /// What the source gives, where it is read.
 const INPUT: &[u8] = b"F";
 
@@ -31,47 +34,72 @@ fn filler(heap: &LocalHeap, room: usize) -> Result<Vec<u8, &LocalHeap>, AllocErr
     Vec::with_capacity(heap, AMPLE.saturating_sub(room))
 }
 
-/// Words, and what a run with room writes.
+/// Words, the heap that their run takes memory of, and what it writes where there is room.
 #[derive(Clone, Copy)]
 struct GrowingRun<'a> {
     words: &'a [String],
+    heap: &'a LocalHeap,
     output: &'a str,
 }
 
-/// Runs the words where a heap has this room, and answers whether that was enough. Where it wasn't, nothing is read, written
-/// or looked at.
-fn runs_in_room(
-    rt: &impl Abort,
-    alloc: Global,
-    heap: &LocalHeap,
-    wanted: GrowingRun<'_>,
-    room: usize,
-) -> Result<bool, AllocError> {
-    let filled = filler(heap, room)?;
-    let used = heap.used();
-    let mut input = Bytes::new(INPUT, 1);
-    let mut out = Held::new(alloc, 1000);
-    let mut err = Held::new(alloc, 1000);
-    let mut looks = Meter::new();
-    let status = run_in(
-        heap,
-        wanted.words,
-        &mut input,
-        &mut out,
-        &mut err,
-        &mut looks,
-    );
-    let outcome = match status {
-        0 => Outcome::good(wanted.output.as_bytes()),
-        _ => Outcome::failure(b"", OUT_OF_MEMORY),
-    };
-    outcome.compare(rt, status, &out, &err);
-    let is_untouched = input.reads == 0 && out.writes == 0 && looks.count() == 0;
-    assert!(rt; status == 0 || is_untouched, "in {room} bytes");
-    assert_eq!(rt; out.flushes, 1, "in {room} bytes");
-    assert_eq!(rt; heap.used(), used, "in {room} bytes");
-    drop(filled);
-    Ok(status == 0)
+impl GrowingRun<'_> {
+    /// Runs the words in the room that the heap has, and answers whether that was enough. Where it wasn't, nothing is read,
+    /// written or looked at.
+    fn run(self, rt: &impl Abort, alloc: Global) -> bool {
+        let mut input = Bytes::new(INPUT, 1);
+        let mut targets = Targets::new(alloc, Held::new(alloc, 1000));
+        let mut looks = Meter::new();
+        let status = run_in(
+            self.heap,
+            self.words,
+            &mut input,
+            &mut targets.out,
+            &mut targets.err,
+            &mut looks,
+        );
+        let is_untouched = input.reads == 0 && targets.out.writes == 0 && looks.count() == 0;
+        assert!(rt; status == 0 || is_untouched);
+        self.compare(rt, status, &targets);
+        drop(targets);
+        status == 0
+    }
+
+    /// Compares what a run answered and wrote with what it has to.
+    fn compare(self, rt: &impl Abort, status: u8, targets: &Targets) {
+        let outcome = match status {
+            0 => Outcome::good(self.output.as_bytes()),
+            _ => Outcome::failure(b"", OUT_OF_MEMORY),
+        };
+        outcome.compare(rt, status, &targets.out, &targets.err);
+        assert!(rt; targets.out.flushes == 1);
+    }
+
+    /// Runs the words where the heap has this room, and answers whether that was enough. Good or not, nothing of the run is
+    /// left in the heap.
+    fn runs_in_room(self, rt: &impl Abort, alloc: Global, room: usize) -> Result<bool, AllocError> {
+        let filled = filler(self.heap, room)?;
+        let used = self.heap.used();
+        let is_enough = self.run(rt, alloc);
+        assert!(rt; self.heap.used() == used, "in {room} bytes");
+        drop(filled);
+        Ok(is_enough)
+    }
+
+    /// How many rooms, each `more` bytes larger than the one before, are not enough.
+    fn refusals(self, rt: &impl Abort, alloc: Global, more: u16) -> Result<usize, AllocError> {
+        for refused in 0..MOST_ROOMS {
+            if self.runs_in_room(rt, alloc, refused * more as usize)? {
+                return Ok(refused);
+            }
+        }
+        Ok(MOST_ROOMS)
+    }
+}
+
+/// Checks that some rooms were refused, and that one was enough.
+fn check_refusals(rt: &impl Abort, refused: usize) {
+    assert!(rt; refused > 0);
+    assert!(rt; refused < MOST_ROOMS, "no room is enough");
 }
 
 /// Runs the words in rooms that grow by `more` bytes.
@@ -83,19 +111,13 @@ fn check_run(
     more: u16,
 ) -> Result<(), AllocError> {
     let words = words_of(alloc, words)?;
-    let wanted = GrowingRun {
+    let heap = LocalHeap::new(alloc, AMPLE)?;
+    let run = GrowingRun {
         words: &words,
+        heap: &heap,
         output,
     };
-    let heap = LocalHeap::new(alloc, AMPLE)?;
-    for refused in 0..1000usize {
-        let room = refused * more as usize;
-        if runs_in_room(rt, alloc, &heap, wanted, room)? {
-            assert!(rt; refused > 0);
-            return Ok(());
-        }
-    }
-    assert!(rt; false, "no room is enough");
+    check_refusals(rt, run.refusals(rt, alloc, more)?);
     Ok(())
 }
 
@@ -120,36 +142,64 @@ fn each_growth_of_a_run(rt: HostRuntime) -> Result<(), Fail> {
     Ok(())
 }
 
-/// Neither lines from the source, scrambles nor the list of steps ask for memory.
+/// What asks for no memory: lines from the source, scrambles, and the list of steps.
+const WITHOUT_GROWTH: &[(&[&str], &str)] = &[
+    (&["invert"], "U'\nR'\n"),
+    (&["unniss"], "U\nR\n"),
+    (&["cleanup"], "U\nR\n"),
+    (
+        &["print"],
+        "UUUUUUUUUBBBRRRRRRRRRFFFFFFDDDDDDDDDFFFLLLLLLLLLBBBBBB\nUUFUUFUUFRRRRRRRRRFFDFFDFFDDDBDDBDDBLLLLLLLLLUBBUBBUBB\n",
+    ),
+    (&["steps"], STEPS),
+    (&["scramble", "42", "54", "6", "1"], "L' D' F' R2 F' L'\n"),
+    (&["scramble", "42", "54", "3", "2"], "L' D' F'\nL F' L'\n"),
+];
+
+/// Runs words with memory of this heap.
+fn check_in(
+    rt: &impl Abort,
+    alloc: Global,
+    heap: &LocalHeap,
+    run: Run<'_>,
+) -> Result<(), AllocError> {
+    let words = words_of(alloc, run.words)?;
+    let mut input = Bytes::new(run.input, 1);
+    let outcome = Outcome {
+        output: run.output.as_bytes(),
+        error: run.error.as_bytes(),
+        status: run.status,
+    };
+    outcome.check_input(rt, alloc, heap, &words, &mut input);
+    drop(words);
+    Ok(())
+}
+
+/// Makes the runs that ask for no memory with a full heap.
+fn check_without_growth(
+    rt: &impl Abort,
+    alloc: Global,
+    heap: &LocalHeap,
+) -> Result<(), AllocError> {
+    for (words, output) in WITHOUT_GROWTH {
+        check_in(rt, alloc, heap, Run::good(words, b"U\nR", output))?;
+    }
+    let fault = Run {
+        words: &["unniss"],
+        input: b"R\n(U",
+        output: "R\n",
+        error: "nissy: line 2, column 1: bracket not closed\n",
+        status: 1,
+    };
+    check_in(rt, alloc, heap, fault)
+}
+
 #[test]
 fn no_growth(rt: HostRuntime) -> Result<(), Fail> {
     let heap = LocalHeap::new(rt.alloc(), AMPLE)?;
     let filled = filler(&heap, 0)?;
-    assert_eq!(rt; heap.free(), 0);
-    let facelets = b"UUUUUUUUUBBBRRRRRRRRRFFFFFFDDDDDDDDDFFFLLLLLLLLLBBBBBB\n\
-        UUFUUFUUFRRRRRRRRRFFDFFDFFDDDBDDBDDBLLLLLLLLLUBBUBBUBB\n";
-    let runs: [(&[&str], &[u8]); 7] = [
-        (&["invert"], b"U'\nR'\n"),
-        (&["unniss"], b"U\nR\n"),
-        (&["cleanup"], b"U\nR\n"),
-        (&["print"], facelets),
-        (&["steps"], STEPS.as_bytes()),
-        (&["scramble", "42", "54", "6", "1"], b"L' D' F' R2 F' L'\n"),
-        (&["scramble", "42", "54", "3", "2"], b"L' D' F'\nL F' L'\n"),
-    ];
-    for (words, output) in runs {
-        let words = words_of(rt.alloc(), words)?;
-        let mut input = Bytes::new(b"U\nR", 1);
-        Outcome::good(output).check_input(&rt, rt.alloc(), &heap, &words, &mut input);
-    }
-    let words = words_of(rt.alloc(), &["unniss"])?;
-    let mut input = Bytes::new(b"R\n(U", 1);
-    let outcome = Outcome {
-        output: b"R\n",
-        error: b"nissy: line 2, column 1: bracket not closed\n",
-        status: 1,
-    };
-    outcome.check_input(&rt, rt.alloc(), &heap, &words, &mut input);
+    assert!(rt; heap.free() == 0);
+    check_without_growth(&rt, rt.alloc(), &heap)?;
     drop(filled);
     Ok(())
 }
@@ -160,22 +210,32 @@ fn check_tables<A: Allocator>(rt: &impl Abort, tables: &Tables<A>, step: Step) {
     assert!(rt; tables.step() == step);
     assert!(rt; tables.step().may_start(&cube));
     let position = tables.position(&cube);
-    assert_eq!(rt; tables.look(&position, &mut Meter::new()), 0);
+    assert!(rt; tables.look(&position, &mut Meter::new()) == 0);
 }
 
-/// Builds the tables of a step, and answers whether this room was enough. Where there wasn't, the meter hasn't risen.
-fn tables_are_built(rt: &impl Abort, heap: &LocalHeap, step: Step, room: usize) -> bool {
-    let mut fill = Meter::new();
-    match Tables::build_in(heap, step, &mut fill) {
+/// Checks tables that were to be built, and answers whether there are any.
+fn check_built<A: Allocator>(
+    rt: &impl Abort,
+    built: &Result<Tables<A>, OutOfMemory>,
+    step: Step,
+) -> bool {
+    match built {
         Ok(tables) => {
-            check_tables(rt, &tables, step);
+            check_tables(rt, tables, step);
             true
         }
-        Err(OutOfMemory) => {
-            assert_eq!(rt; fill.count(), 0, "in {room} bytes");
-            false
-        }
+        Err(OutOfMemory) => false,
     }
+}
+
+/// Builds the tables of a step, and answers whether the heap had room. Where it hadn't, the meter hasn't risen.
+fn tables_are_built(rt: &impl Abort, heap: &LocalHeap, step: Step) -> bool {
+    let mut fill = Meter::new();
+    let built = Tables::build_in(heap, step, &mut fill);
+    let has_room = check_built(rt, &built, step);
+    drop(built);
+    assert!(rt; has_room || fill.count() == 0);
+    has_room
 }
 
 /// Builds the tables of a step where a heap has this room, and answers whether that was enough. Good or not, nothing of them
@@ -188,23 +248,31 @@ fn tables_fit(
 ) -> Result<bool, AllocError> {
     let filled = filler(heap, room)?;
     let used = heap.used();
-    let fit = tables_are_built(rt, heap, step, room);
-    assert_eq!(rt; heap.used(), used, "in {room} bytes");
+    let fit = tables_are_built(rt, heap, step);
+    assert!(rt; heap.used() == used, "in {room} bytes");
     drop(filled);
     Ok(fit)
+}
+
+/// How many rooms, each `more` bytes larger than the one before, are not enough for the tables of a step.
+fn table_refusals(
+    rt: &impl Abort,
+    heap: &LocalHeap,
+    step: Step,
+    more: u16,
+) -> Result<usize, AllocError> {
+    for refused in 0..MOST_ROOMS {
+        if tables_fit(rt, heap, step, refused * more as usize)? {
+            return Ok(refused);
+        }
+    }
+    Ok(MOST_ROOMS)
 }
 
 /// Builds the tables of a step in rooms that grow by `more` bytes.
 fn check_step(rt: &impl Abort, alloc: Global, step: Step, more: u16) -> Result<(), AllocError> {
     let heap = LocalHeap::new(alloc, AMPLE)?;
-    for refused in 0..1000usize {
-        let room = refused * more as usize;
-        if tables_fit(rt, &heap, step, room)? {
-            assert!(rt; refused > 0);
-            return Ok(());
-        }
-    }
-    assert!(rt; false, "no room is enough");
+    check_refusals(rt, table_refusals(rt, &heap, step, more)?);
     Ok(())
 }
 

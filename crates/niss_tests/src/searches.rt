@@ -1,7 +1,7 @@
 //! Searches: what is handed out, how often positions are looked at, and what a refusal leaves.
 ghost use Rattle.niss_search.specs.Cubes.{IsPosition};
 
-use crate::path_sinks::Comparison;
+use crate::path_sinks::{Comparison, Refused};
 use crate::steps::cube_after;
 use niss_cube::Step;
 use niss_search::{Limit, Meter, Outcome, Position, Tables, TurnPath, next_at, search};
@@ -16,7 +16,8 @@ pub fn build(rt: &impl Abort, alloc: Global, step: Step, meter: &mut Meter) -> T
     tables
 }
 
-/// The tables of a step.
+/// The tables of a step. Who has them ends with `drop(tables)`, which is proved once: where a scope ends without it, the
+/// proof goes through all parts of the tables again.
 pub fn tables_of(rt: &impl Abort, alloc: Global, step: Step) -> Tables {
     build(rt, alloc, step, &mut Meter::new())
 }
@@ -30,46 +31,72 @@ pub fn position_after(rt: &impl Abort, tables: &Tables, moves: &str) -> Position
     tables.position(&cube)
 }
 
-/// A search from the solved cube after some moves: the paths that are wanted and the looks.
-#[derive(Drop)]
-struct Row {
-    moves: &'static str,
-    limit: u8,
-    paths: &'static [&'static str],
-    length: Option<u8>,
-    looks: u128,
+/// A search from the solved cube after some moves, and the paths that are wanted of it.
+#[derive(Clone, Copy)]
+pub struct Search {
+    pub moves: &'static str,
+    pub limit: u8,
+    pub slack: u8,
+    pub paths: &'static [&'static str],
 }
 
-/// Searches with a new meter.
-fn check_row(rt: &impl Abort, tables: &Tables, row: &Row) {
-    let position = position_after(rt, tables, row.moves);
-    let mut path = TurnPath::new(Limit::new(row.limit).expect(rt, "a limit"));
-    let mut meter = Meter::new();
-    let mut sink = Comparison::new(row.paths, 1000);
+/// What a search answered, how many paths its sink took, and the looks at positions.
+#[derive(Drop)]
+pub struct Searched {
+    pub answer: Result<Outcome, Refused>,
+    pub taken: usize,
+    pub looks: u128,
+}
+
+impl Search {
+    /// Searches with a new meter and a sink that refuses all paths after the first `room`. The paths that it takes are those
+    /// that are wanted, and the path that the search goes along is left empty, with its limit.
+    pub fn run(self, rt: &impl Abort, tables: &Tables, room: usize) -> Searched {
+        let position = position_after(rt, tables, self.moves);
+        let slack = Limit::new(self.slack).expect(rt, "a slack");
+        let mut path = TurnPath::new(Limit::new(self.limit).expect(rt, "a limit"));
+        let mut meter = Meter::new();
+        let mut sink = Comparison::new(self.paths, room);
+        let answer = search(tables, &position, slack, &mut path, &mut meter, &mut sink);
+        assert!(rt; sink.is_same, "{}", self.moves);
+        assert!(rt; path.turns().is_empty(), "{}", self.moves);
+        assert!(rt; path.limit().get() == self.limit, "{}", self.moves);
+        Searched {
+            answer,
+            taken: sink.taken,
+            looks: meter.count(),
+        }
+    }
+}
+
+/// A search whose paths are all taken, with the length of the shortest and the looks at positions.
+#[derive(Clone, Copy)]
+pub struct Row {
+    pub search: Search,
+    pub length: Option<u8>,
+    pub looks: u128,
+}
+
+fn check_row(rt: &impl Abort, tables: &Tables, row: Row) {
+    let moves = row.search.moves;
+    let paths = row.search.paths.len();
     let outcome = Outcome {
         length: row.length,
-        solutions: row.paths.len() as u128,
+        solutions: paths as u128,
     };
-    let answer = search(
-        tables,
-        &position,
-        Limit::ZERO,
-        &mut path,
-        &mut meter,
-        &mut sink,
-    );
-    assert!(rt; answer == Ok(outcome), "{}", row.moves);
-    assert_eq!(rt; meter.count(), row.looks, "{}", row.moves);
-    assert!(rt; sink.is_same, "{}", row.moves);
-    assert_eq!(rt; sink.taken, row.paths.len(), "{}", row.moves);
-    assert!(rt; path.turns().is_empty(), "{}", row.moves);
+    let searched = row.search.run(rt, tables, 1000);
+    assert!(rt; searched.answer == Ok(outcome), "{moves}");
+    assert!(rt; searched.taken == paths, "{moves}");
+    assert!(rt; searched.looks == row.looks, "{moves}");
 }
 
-fn check_rows(rt: &impl Abort, alloc: Global, step: Step, rows: &[Row]) {
+/// Makes these searches with the tables of a step.
+pub fn check_rows(rt: &impl Abort, alloc: Global, step: Step, rows: &[Row]) {
     let tables = tables_of(rt, alloc, step);
     for row in rows {
-        check_row(rt, &tables, row);
+        check_row(rt, &tables, *row);
     }
+    drop(tables);
 }
 
 /// A search that finds something.
@@ -81,9 +108,12 @@ const fn found(
     looks: u128,
 ) -> Row {
     Row {
-        moves,
-        limit,
-        paths,
+        search: Search {
+            moves,
+            limit,
+            slack: 0,
+            paths,
+        },
         length: Some(length),
         looks,
     }
@@ -92,9 +122,12 @@ const fn found(
 /// A search that finds nothing.
 const fn nothing(moves: &'static str, limit: u8, looks: u128) -> Row {
     Row {
-        moves,
-        limit,
-        paths: &[],
+        search: Search {
+            moves,
+            limit,
+            slack: 0,
+            paths: &[],
+        },
         length: None,
         looks,
     }
@@ -161,18 +194,29 @@ fn look_after(rt: &impl Abort, tables: &Tables, moves: &str, meter: &mut Meter) 
     tables.look(&position, meter)
 }
 
-#[test]
-fn looks_give_distances(rt: HostRuntime) {
-    let tables = tables_of(&rt, rt.alloc(), Step::DrudEofb);
+/// Checks the distances of the solved cube after some moves, each by one look.
+fn check_distances(rt: &impl Abort, tables: &Tables) {
     let mut meter = Meter::new();
     for (moves, distance) in [("", 0u8), ("R", 1), ("R U", 2)] {
-        assert_eq!(rt;
-            look_after(&rt, &tables, moves, &mut meter),
-            distance,
+        assert!(rt;
+            look_after(rt, tables, moves, &mut meter) == distance,
             "{moves}"
         );
     }
-    assert_eq!(rt; meter.count(), 3u128);
+    assert!(rt; meter.count() == 3);
+}
+
+#[test]
+fn looks_give_distances(rt: HostRuntime) {
+    let tables = tables_of(&rt, rt.alloc(), Step::DrudEofb);
+    check_distances(&rt, &tables);
+    drop(tables);
+}
+
+/// Builds the tables of a step, and answers what the meter has counted then.
+pub fn count_after_fill(rt: &impl Abort, alloc: Global, step: Step, meter: &mut Meter) -> u128 {
+    drop(build(rt, alloc, step, meter));
+    meter.count()
 }
 
 #[test]
@@ -183,9 +227,7 @@ fn a_fill_counts_each_turn_it_tries(rt: HostRuntime) {
         (Step::Eoud, 36_864),
         (Step::DrudEofb, 15_155_910),
     ] {
-        let mut meter = Meter::new();
-        build(&rt, rt.alloc(), step, &mut meter);
-        assert_eq!(rt; meter.count(), ticks);
+        assert!(rt; count_after_fill(&rt, rt.alloc(), step, &mut Meter::new()) == ticks);
     }
 }
 
@@ -194,28 +236,35 @@ fn a_fill_counts_each_turn_it_tries(rt: HostRuntime) {
 fn a_fill_adds_to_its_meter(rt: HostRuntime) {
     let mut meter = Meter::new();
     for ticks in [36_864u128, 73_728, 110_592] {
-        build(&rt, rt.alloc(), Step::Eofb, &mut meter);
-        assert_eq!(rt; meter.count(), ticks);
+        assert!(rt; count_after_fill(&rt, rt.alloc(), Step::Eofb, &mut meter) == ticks);
+    }
+}
+
+/// Checks where the level 3 is found next, from some indices on.
+fn check_found(rt: &impl Abort, table: &[u8], rows: &[(usize, Option<usize>)]) {
+    for (from, found) in rows {
+        assert!(rt; *from <= table.len());
+        assert!(rt; next_at(table, *from, 3) == *found, "from {from}");
     }
 }
 
 #[test]
 fn levels_are_found_in_blocks_and_after_them(rt: HostRuntime) {
     let mut table = [21u8; 70];
-    for index in [0usize, 31, 32, 69] {
-        table[index] = 3;
-    }
-    for (from, found) in [
-        (0usize, Some(0usize)),
+    table[0] = 3;
+    table[31] = 3;
+    table[32] = 3;
+    table[69] = 3;
+    let rows = [
+        (0, Some(0)),
         (1, Some(31)),
         (32, Some(32)),
         (33, Some(69)),
         (70, None),
-    ] {
-        assert_eq!(rt; next_at(&table, from, 3), found, "from {from}");
-    }
-    assert_eq!(rt; next_at(&table, 0, 4), None);
-    assert_eq!(rt; next_at(&[], 0, 3), None);
+    ];
+    check_found(&rt, &table, &rows);
+    check_found(&rt, &[], &[(0, None)]);
+    assert!(rt; next_at(&table, 0, 4).is_none());
 }
 
 #[test]
@@ -229,34 +278,32 @@ fn limits_reach_20(rt: HostRuntime) {
 
 /// The looks of a search whose sink refuses all paths after the first `room`, at the cube that both F and B disorient.
 fn looks_until_refused(rt: &impl Abort, tables: &Tables, room: usize) -> u128 {
-    let position = position_after(rt, tables, "F B");
-    let mut path = TurnPath::new(Limit::new(5).expect(rt, "a limit"));
-    let mut meter = Meter::new();
-    let mut sink = Comparison::new(&["F B", "F B'", "F' B", "F' B'"], room);
-    let answer = search(
-        tables,
-        &position,
-        Limit::ZERO,
-        &mut path,
-        &mut meter,
-        &mut sink,
-    );
-    assert_eq!(rt; answer.is_err(), room < 4, "{room} paths");
-    assert!(rt; sink.is_same, "{room} paths");
-    assert_eq!(rt; sink.taken, room, "{room} paths");
-    assert!(rt; path.turns().is_empty(), "{room} paths");
-    assert_eq!(rt; path.limit().get(), 5, "{room} paths");
-    meter.count()
+    let wanted = Search {
+        moves: "F B",
+        limit: 5,
+        slack: 0,
+        paths: &["F B", "F B'", "F' B", "F' B'"],
+    };
+    let searched = wanted.run(rt, tables, room);
+    assert!(rt; searched.answer.is_err() == (room < 4), "{room} paths");
+    assert!(rt; searched.taken == room, "{room} paths");
+    searched.looks
+}
+
+/// With less room, fewer positions are looked at.
+fn check_rooms(rt: &impl Abort, tables: &Tables) {
+    let mut looks = looks_until_refused(rt, tables, 4);
+    assert!(rt; looks == 75);
+    for room in [3, 2, 1, 0] {
+        let fewer = looks_until_refused(rt, tables, room);
+        assert!(rt; fewer < looks, "{room} paths");
+        looks = fewer;
+    }
 }
 
 #[test]
 fn each_path_is_refused(rt: HostRuntime) {
     let tables = tables_of(&rt, rt.alloc(), Step::Eofb);
-    let mut looks = looks_until_refused(&rt, &tables, 4);
-    assert_eq!(rt; looks, 75u128);
-    for room in [3, 2, 1, 0] {
-        let fewer = looks_until_refused(&rt, &tables, room);
-        assert!(rt; fewer < looks, "{room} paths");
-        looks = fewer;
-    }
+    check_rooms(&rt, &tables);
+    drop(tables);
 }

@@ -11,8 +11,10 @@ const TURNS_FROM_RL: &str = "U U2 U' D D2 D' R2 L2 F F2 F' B B2 B'";
 
 const TURNS_FROM_FB: &str = "U U2 U' D D2 D' R R2 R' L L2 L' F2 B2";
 
-// Each step with its name, the name of the step before it, and its turns.
-const STEPS: [(Step, &str, Option<&str>, &str); 13] = [
+// A step with its name, the name of the step before it, and its turns.
+type Row = (Step, &'static str, Option<&'static str>, &'static str);
+
+const STEPS: &[Row] = &[
     (Step::Eofb, "eofb", None, ALL_TURNS),
     (Step::Eorl, "eorl", None, ALL_TURNS),
     (Step::Eoud, "eoud", None, ALL_TURNS),
@@ -29,7 +31,7 @@ const STEPS: [(Step, &str, Option<&str>, &str); 13] = [
 ];
 
 fn check_names(rt: &impl Abort, step: Step, name: &str, start_name: Option<&str>) {
-    assert_eq!(rt; step.name(), name);
+    assert!(rt; step.name() == name, "{name}");
     assert!(rt; Step::from_name(name.as_bytes()) == Some(step), "{name}");
     assert!(rt; step.start_name() == start_name, "{name}");
 }
@@ -38,16 +40,25 @@ fn check_turns(rt: &impl Abort, step: Step, turns: &str) {
     let mut text = LineText::new();
     assert!(rt; step.turns().len() <= 18, "{}", step.name());
     put_faces(step.turns(), &mut text);
-    assert_eq!(rt; text.as_slice(), turns.as_bytes(), "{}", step.name());
+    assert!(rt; text.as_slice() == turns.as_bytes(), "{}", step.name());
+}
+
+fn check_row(rt: &impl Abort, index: usize, row: &Row) {
+    let (step, name, start_name, turns) = *row;
+    assert!(rt; Step::all().get(index) == Some(&step), "{name}");
+    check_names(rt, step, name, start_name);
+    check_turns(rt, step, turns);
+}
+
+fn check_rows(rt: &impl Abort, rows: &[Row]) {
+    for (index, row) in rows.iter().enumerate() {
+        check_row(rt, index, row);
+    }
 }
 
 #[test]
 fn steps_have_their_names_and_turns(rt: HostRuntime) {
-    for (index, (step, name, start_name, turns)) in STEPS.iter().enumerate() {
-        assert!(rt; Step::all().get(index) == Some(step), "{name}");
-        check_names(&rt, *step, name, *start_name);
-        check_turns(&rt, *step, turns);
-    }
+    check_rows(&rt, STEPS);
 }
 
 #[test]
