@@ -29,28 +29,30 @@ fn check_read(
     input: &[u8],
     most_read: usize,
     outcome: Outcome<'_>,
-) -> Result<usize, AllocError> {
+) -> usize {
     let devices = Devices {
         input,
         most_read,
         most_written: 1000,
         ..FAULTLESS
     };
-    let calls = check_devices(rt, alloc, &["invert"], devices, outcome)?;
-    Ok(calls.reads)
+    check_devices(rt, alloc, &["invert"], devices, outcome).reads
+}
+
+/// Runs `invert` over many lines, of which a read gives at most so many bytes: it takes so many reads.
+fn check_many_lines(rt: &impl Abort, alloc: Global, most_read: usize, wanted: usize) {
+    let input = repeated(alloc, b"R U'\n", 3000, b"").expect(rt, "memory for input");
+    let output = repeated(alloc, b"U R'\n", 3000, b"").expect(rt, "memory for output");
+    let outcome = Outcome::good(output.as_slice());
+    let reads = check_read(rt, alloc, input.as_slice(), most_read, outcome);
+    check_count(rt, "reads", reads, wanted);
 }
 
 #[test]
-fn many_lines(rt: HostRuntime) -> Result<(), AllocError> {
-    let input = repeated(rt.alloc(), b"R U'\n", 3000, b"")?;
-    let output = repeated(rt.alloc(), b"U R'\n", 3000, b"")?;
-    // how many bytes a read gives at most, and how many reads that takes
-    for (most, wanted) in [(1usize, 15_001usize), (7, 2_144), (BLOCK, 5)] {
-        let outcome = Outcome::good(output.as_slice());
-        let reads = check_read(&rt, rt.alloc(), input.as_slice(), most, outcome)?;
-        check_count(&rt, "reads", reads, wanted);
-    }
-    Ok(())
+fn many_lines(rt: HostRuntime) {
+    check_many_lines(&rt, rt.alloc(), 1, 15_001);
+    check_many_lines(&rt, rt.alloc(), 7, 2_144);
+    check_many_lines(&rt, rt.alloc(), BLOCK, 5);
 }
 
 #[test]
@@ -61,21 +63,15 @@ fn fault_after_the_first_block(rt: HostRuntime) -> Result<(), AllocError> {
         error: b"nissy: line 1, column 4097: not a move\n",
         status: 1,
     };
-    check_read(&rt, rt.alloc(), input.as_slice(), BLOCK, outcome)?;
+    check_read(&rt, rt.alloc(), input.as_slice(), BLOCK, outcome);
     Ok(())
 }
 
 /// Runs `invert` over blanks and this text, so many bytes of which stand in the first block.
-fn check_cut(
-    rt: &impl Abort,
-    alloc: Global,
-    taken: usize,
-    text: &[u8],
-    output: &[u8],
-) -> Result<(), AllocError> {
-    let input = repeated(alloc, b" ", BLOCK.saturating_sub(taken), text)?;
-    check_read(rt, alloc, input.as_slice(), BLOCK, Outcome::good(output))?;
-    Ok(())
+fn check_cut(rt: &impl Abort, alloc: Global, taken: usize, text: &[u8], output: &[u8]) {
+    let input = repeated(alloc, b" ", BLOCK.saturating_sub(taken), text);
+    let input = input.expect(rt, "memory for input");
+    check_read(rt, alloc, input.as_slice(), BLOCK, Outcome::good(output));
 }
 
 /// How many bytes of a text stand in the first block, the text, and what is answered.
@@ -96,46 +92,39 @@ const CUTS: [(usize, &[u8], &[u8]); 8] = [
 ];
 
 #[test]
-fn cut_by_the_end_of_a_block(rt: HostRuntime) -> Result<(), AllocError> {
+fn cut_by_the_end_of_a_block(rt: HostRuntime) {
     for (taken, text, output) in &CUTS {
-        check_cut(&rt, rt.alloc(), *taken, text, output)?;
+        check_cut(&rt, rt.alloc(), *taken, text, output);
     }
-    Ok(())
 }
 
 /// Runs `invert` over three lines, of which a read gives at most so many bytes: the answers go out in so many writes.
-fn check_writes(
-    rt: &impl Abort,
-    alloc: Global,
-    most_read: usize,
-    wanted: usize,
-) -> Result<(), AllocError> {
+fn check_writes(rt: &impl Abort, alloc: Global, most_read: usize, wanted: usize) {
     let devices = Devices {
         input: b"R\nU\nF\n",
         most_read,
         ..FAULTLESS
     };
     let outcome = Outcome::good(b"R'\nU'\nF'\n");
-    let calls = check_devices(rt, alloc, &["invert"], devices, outcome)?;
+    let calls = check_devices(rt, alloc, &["invert"], devices, outcome);
     check_count(rt, "writes", calls.writes, wanted);
-    Ok(())
 }
 
 #[test]
-fn answers_go_out_before_the_next_read(rt: HostRuntime) -> Result<(), AllocError> {
-    check_writes(&rt, rt.alloc(), 1, 3)?;
-    check_writes(&rt, rt.alloc(), 2, 3)?;
-    check_writes(&rt, rt.alloc(), 4, 2)?;
-    check_writes(&rt, rt.alloc(), BLOCK, 1)
+fn answers_go_out_before_the_next_read(rt: HostRuntime) {
+    check_writes(&rt, rt.alloc(), 1, 3);
+    check_writes(&rt, rt.alloc(), 2, 3);
+    check_writes(&rt, rt.alloc(), 4, 2);
+    check_writes(&rt, rt.alloc(), BLOCK, 1);
 }
 
 /// The fault comes after the answers that wait, and a refused write before it.
 #[test]
-fn each_write_of_waiting_answers_fails(rt: HostRuntime) -> Result<(), AllocError> {
+fn each_write_of_waiting_answers_fails(rt: HostRuntime) {
     let devices = Devices {
         input: b"R\nU\nq\n",
         most_read: BLOCK,
         ..FAULTLESS
     };
-    check_each_write(&rt, rt.alloc(), &["invert"], devices, b"R'\nU'\n")
+    check_each_write(&rt, rt.alloc(), &["invert"], devices, b"R'\nU'\n");
 }

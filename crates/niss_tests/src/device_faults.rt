@@ -13,12 +13,7 @@ const NOT_A_MOVE: &[u8] = b"nissy: line 1, column 3: not a move\n";
 
 /// Has each read of three lines fail in turn, which are read byte by byte: two reads give a line. These are the outputs
 /// after no line, after one and after two.
-fn check_each_read(
-    rt: &impl Abort,
-    alloc: Global,
-    words: &[&str],
-    outputs: [&[u8]; 3],
-) -> Result<(), AllocError> {
+fn check_each_read(rt: &impl Abort, alloc: Global, words: &[&str], outputs: [&[u8]; 3]) {
     for before in 0..6usize {
         let devices = Devices {
             input: b"R\nU\nF",
@@ -26,10 +21,9 @@ fn check_each_read(
             ..FAULTLESS
         };
         let outcome = Outcome::failure(outputs[before / 2], CANNOT_READ);
-        let calls = check_devices(rt, alloc, words, devices, outcome)?;
+        let calls = check_devices(rt, alloc, words, devices, outcome);
         check_count(rt, "reads", calls.reads, before + 1);
     }
-    Ok(())
 }
 
 /// Commands on lines, and what they have written before each of three lines.
@@ -47,11 +41,10 @@ const READING: [(&[&str], [&[u8]; 3]); 4] = [
 ];
 
 #[test]
-fn each_read_fails(rt: HostRuntime) -> Result<(), AllocError> {
+fn each_read_fails(rt: HostRuntime) {
     for (words, outputs) in &READING {
-        check_each_read(&rt, rt.alloc(), words, *outputs)?;
+        check_each_read(&rt, rt.alloc(), words, *outputs);
     }
-    Ok(())
 }
 
 const FOUR_SOLUTIONS: &str = "F B (2)\nF B' (2)\nF' B (2)\nF' B' (2)\n\n";
@@ -76,11 +69,10 @@ const RUNS: [(&[&str], &str); 6] = [
 ];
 
 #[test]
-fn each_write_fails(rt: HostRuntime) -> Result<(), AllocError> {
+fn each_write_fails(rt: HostRuntime) {
     for (words, output) in &RUNS {
-        check_each_write(&rt, rt.alloc(), words, FAULTLESS, output.as_bytes())?;
+        check_each_write(&rt, rt.alloc(), words, FAULTLESS, output.as_bytes());
     }
-    Ok(())
 }
 
 /// How many writes an output is to take: one for each solution, and one for what stands after the last.
@@ -91,27 +83,25 @@ fn writes_of(output: &str) -> usize {
 
 /// Each solution goes out by itself as it is found, and so does what stands after the last one.
 #[test]
-fn each_solution_is_a_write(rt: HostRuntime) -> Result<(), AllocError> {
+fn each_solution_is_a_write(rt: HostRuntime) {
     for (words, output) in &RUNS {
         let outcome = Outcome::good(output.as_bytes());
-        let calls = check_devices(&rt, rt.alloc(), words, FAULTLESS, outcome)?;
+        let calls = check_devices(&rt, rt.alloc(), words, FAULTLESS, outcome);
         check_count(&rt, "writes", calls.writes, writes_of(output));
     }
-    Ok(())
 }
 
 #[test]
-fn no_bytes_taken(rt: HostRuntime) -> Result<(), AllocError> {
+fn no_bytes_taken(rt: HostRuntime) {
     let devices = Devices {
         most_written: 0,
         ..FAULTLESS
     };
     for (words, _) in &RUNS {
         let outcome = Outcome::failure(b"", CANNOT_WRITE);
-        let calls = check_devices(&rt, rt.alloc(), words, devices, outcome)?;
+        let calls = check_devices(&rt, rt.alloc(), words, devices, outcome);
         check_count(&rt, "writes", calls.writes, 1);
     }
-    Ok(())
 }
 
 /// All is taken, and the flush after it fails.
@@ -121,24 +111,22 @@ const UNFLUSHED: Devices<'static> = Devices {
 };
 
 #[test]
-fn last_flush_fails(rt: HostRuntime) -> Result<(), AllocError> {
+fn last_flush_fails(rt: HostRuntime) {
     for (words, output) in &RUNS {
         let outcome = Outcome::failure(output.as_bytes(), CANNOT_WRITE);
-        let calls = check_devices(&rt, rt.alloc(), words, UNFLUSHED, outcome)?;
+        let calls = check_devices(&rt, rt.alloc(), words, UNFLUSHED, outcome);
         check_count(&rt, "flushes", calls.flushes, 1);
     }
-    Ok(())
 }
 
 #[test]
-fn refused_flush_after_a_fault(rt: HostRuntime) -> Result<(), AllocError> {
+fn refused_flush_after_a_fault(rt: HostRuntime) {
     let outcome = Outcome {
         output: b"",
         error: NOT_A_MOVE,
         status: 1,
     };
-    check_devices(&rt, rt.alloc(), &["invert", "R '"], UNFLUSHED, outcome)?;
-    Ok(())
+    check_devices(&rt, rt.alloc(), &["invert", "R '"], UNFLUSHED, outcome);
 }
 
 /// Runs these words, whose fault is this one, over an error writer that takes this many bytes of it.

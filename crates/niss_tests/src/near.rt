@@ -59,7 +59,7 @@ U' B2 (2)
 ";
 
 #[test]
-fn near(rt: HostRuntime) -> Result<(), AllocError> {
+fn near(rt: HostRuntime) {
     let runs: &[Good] = &[
         (&["near", "eofb", "7", "0", "F"], b"", "F (1)\nF' (1)\n\n"),
         (&["near", "eofb", "1", "5", "F"], b"", "F (1)\nF' (1)\n\n"),
@@ -80,7 +80,7 @@ fn near(rt: HostRuntime) -> Result<(), AllocError> {
         (&["near", "eofb", "007", "00"], b"F\n", "F (1)\nF' (1)\n\n"),
         (&["near", "eofb", "5", "0"], b"", ""),
     ];
-    check_good(&rt, rt.alloc(), runs)?;
+    check_good(&rt, rt.alloc(), runs);
     let faults: &[Faulty] = &[
         (
             &["near", "eofb", "1", "0"],
@@ -95,12 +95,12 @@ fn near(rt: HostRuntime) -> Result<(), AllocError> {
             "nissy: line 1: eoud does not hold\n",
         ),
     ];
-    check_faults(&rt, rt.alloc(), faults)
+    check_faults(&rt, rt.alloc(), faults);
 }
 
 /// The looks of all deepenings to the last length: 1, 19 and 76.
 #[test]
-fn looks_of_near(rt: HostRuntime) -> Result<(), AllocError> {
+fn looks_of_near(rt: HostRuntime) {
     let runs: &[(Good, u128)] = &[
         ((&["near", "eofb", "2", "1", "F"], b"", AFTER_F), 96),
         (
@@ -108,11 +108,11 @@ fn looks_of_near(rt: HostRuntime) -> Result<(), AllocError> {
             20,
         ),
     ];
-    check_looks(&rt, rt.alloc(), runs)
+    check_looks(&rt, rt.alloc(), runs);
 }
 
 #[test]
-fn usage_of_near(rt: HostRuntime) -> Result<(), AllocError> {
+fn usage_of_near(rt: HostRuntime) {
     let wrong: &[&[&str]] = &[
         &["near"],
         &["near", "eofb"],
@@ -125,5 +125,5 @@ fn usage_of_near(rt: HostRuntime) -> Result<(), AllocError> {
         &["near", "htr", "5", "5", "F"],
         &["near", "5", "5", "eofb", "F"],
     ];
-    check_usage(&rt, rt.alloc(), wrong)
+    check_usage(&rt, rt.alloc(), wrong);
 }

@@ -160,16 +160,16 @@ pub fn check_devices(
     words: &[&str],
     devices: Devices<'_>,
     outcome: Outcome<'_>,
-) -> Result<Calls, AllocError> {
-    let words = words_of(alloc, words)?;
+) -> Calls {
+    let words = words_of(alloc, words).expect(rt, "memory for words");
     let mut input = devices.source();
     let mut targets = Targets::new(alloc, devices.target(alloc));
     outcome.check(rt, alloc, &words, &mut input, &mut targets);
-    Ok(Calls {
+    Calls {
         reads: input.reads,
         writes: targets.out.writes,
         flushes: targets.out.flushes,
-    })
+    }
 }
 
 /// Runs these words over this input, and has each write of a byte of the output fail in turn.
@@ -179,7 +179,7 @@ pub fn check_each_write(
     words: &[&str],
     devices: Devices<'_>,
     output: &[u8],
-) -> Result<(), AllocError> {
+) {
     for before in 0..output.len() {
         let failing = Devices {
             most_written: 1,
@@ -187,10 +187,9 @@ pub fn check_each_write(
             ..devices
         };
         let outcome = Outcome::failure(&output[..before], CANNOT_WRITE);
-        let calls = check_devices(rt, alloc, words, failing, outcome)?;
+        let calls = check_devices(rt, alloc, words, failing, outcome);
         check_count(rt, "writes", calls.writes, before + 1);
     }
-    Ok(())
 }
 
 /// A run, and what it has to write and to answer.
@@ -228,8 +227,8 @@ impl<'a> Run<'a> {
 
     /// Runs it over a source that gives few bytes in a read, and targets that take few in a write, and answers the looks
     /// at positions.
-    pub fn check(self, rt: &impl Abort, alloc: Global) -> Result<u128, AllocError> {
-        let words = words_of(alloc, self.words)?;
+    pub fn looks(self, rt: &impl Abort, alloc: Global) -> u128 {
+        let words = words_of(alloc, self.words).expect(rt, "memory for words");
         // a read asks for more: so lines and moves are cut at every third byte
         let mut input = Bytes::new(self.input, 3);
         let mut out = Held::new(alloc, 5);
@@ -243,14 +242,14 @@ impl<'a> Run<'a> {
         };
         outcome.compare(rt, status, &out, &err);
         check_count(rt, "flushes", out.flushes, 1);
-        Ok(looks.count())
+        looks.count()
     }
 }
 
 /// Checks each of these runs.
 pub fn check_all(rt: &impl Abort, alloc: Global, runs: &[Run<'_>]) -> Result<(), AllocError> {
     for run in runs {
-        run.check(rt, alloc)?;
+        run.looks(rt, alloc);
     }
     Ok(())
 }
@@ -263,41 +262,29 @@ pub type Good<'a> = (&'a [&'a str], &'a [u8], &'a str);
 pub type Faulty<'a> = (&'a [&'a str], &'a [u8], &'a str, &'a str);
 
 /// Checks each of these good runs.
-pub fn check_good(rt: &impl Abort, alloc: Global, runs: &[Good<'_>]) -> Result<(), AllocError> {
+pub fn check_good(rt: &impl Abort, alloc: Global, runs: &[Good<'_>]) {
     for (words, input, output) in runs {
-        Run::good(words, input, output).check(rt, alloc)?;
+        Run::good(words, input, output).looks(rt, alloc);
     }
-    Ok(())
 }
 
 /// Checks these good runs, and how many positions each looks at.
-pub fn check_looks(
-    rt: &impl Abort,
-    alloc: Global,
-    runs: &[(Good<'_>, u128)],
-) -> Result<(), AllocError> {
+pub fn check_looks(rt: &impl Abort, alloc: Global, runs: &[(Good<'_>, u128)]) {
     for ((words, input, output), looks) in runs {
-        let found = Run::good(words, input, output).check(rt, alloc)?;
+        let found = Run::good(words, input, output).looks(rt, alloc);
         assert_eq!(rt; found, *looks);
     }
-    Ok(())
 }
 
 /// Checks what a command answers to each of these lines, given as a word.
-pub fn check_answers(
-    rt: &impl Abort,
-    alloc: Global,
-    command: &str,
-    answers: &[(&str, &str)],
-) -> Result<(), AllocError> {
+pub fn check_answers(rt: &impl Abort, alloc: Global, command: &str, answers: &[(&str, &str)]) {
     for (line, answer) in answers {
-        Run::good(&[command, line], b"", answer).check(rt, alloc)?;
+        Run::good(&[command, line], b"", answer).looks(rt, alloc);
     }
-    Ok(())
 }
 
 /// Checks each of these runs that a line's fault ends.
-pub fn check_faults(rt: &impl Abort, alloc: Global, runs: &[Faulty<'_>]) -> Result<(), AllocError> {
+pub fn check_faults(rt: &impl Abort, alloc: Global, runs: &[Faulty<'_>]) {
     for (words, input, output, error) in runs {
         let run = Run {
             words,
@@ -306,15 +293,13 @@ pub fn check_faults(rt: &impl Abort, alloc: Global, runs: &[Faulty<'_>]) -> Resu
             error,
             status: 1,
         };
-        run.check(rt, alloc)?;
+        run.looks(rt, alloc);
     }
-    Ok(())
 }
 
 /// Checks that each of these lists of words is refused.
-pub fn check_usage(rt: &impl Abort, alloc: Global, wrong: &[&[&str]]) -> Result<(), AllocError> {
+pub fn check_usage(rt: &impl Abort, alloc: Global, wrong: &[&[&str]]) {
     for words in wrong {
-        Run::fault(words, USAGE, 2).check(rt, alloc)?;
+        Run::fault(words, USAGE, 2).looks(rt, alloc);
     }
-    Ok(())
 }

@@ -8,7 +8,7 @@ use std::alloc::AllocError;
 use std::test::Fail;
 
 #[test]
-fn scramble(rt: HostRuntime) -> Result<(), AllocError> {
+fn scramble(rt: HostRuntime) {
     const GREATEST: &str = "18446744073709551615";
     const GREATEST_SEED: &str =
         "U' L2 F2 D' L D' B2 R D2 R2 F' U2\nL F' U2 L2 D' B2 L2 U D2 B D2 B\n";
@@ -39,11 +39,11 @@ fn scramble(rt: HostRuntime) -> Result<(), AllocError> {
             GREATEST_SEED,
         ),
     ];
-    check_good(&rt, rt.alloc(), runs)
+    check_good(&rt, rt.alloc(), runs);
 }
 
 #[test]
-fn usage_of_scramble(rt: HostRuntime) -> Result<(), AllocError> {
+fn usage_of_scramble(rt: HostRuntime) {
     let wrong: &[&[&str]] = &[
         &["scramble"],
         &["scramble", "1", "2", "3"],
@@ -60,7 +60,7 @@ fn usage_of_scramble(rt: HostRuntime) -> Result<(), AllocError> {
         &["scramble", "1 2", "3", "4"],
         &["scramble", "1", "2", "3", "\u{664}"],
     ];
-    check_usage(&rt, rt.alloc(), wrong)
+    check_usage(&rt, rt.alloc(), wrong);
 }
 
 #[test]
@@ -72,7 +72,7 @@ fn most_scrambles(rt: HostRuntime) -> Result<(), AllocError> {
         ..FAULTLESS
     };
     let outcome = Outcome::good(lines.as_slice());
-    check_devices(&rt, rt.alloc(), &words, devices, outcome)?;
+    check_devices(&rt, rt.alloc(), &words, devices, outcome);
     Ok(())
 }
 
@@ -88,8 +88,8 @@ fn nothing_is_read_and_no_memory_taken(rt: HostRuntime) -> Result<(), Fail> {
 }
 
 #[test]
-fn each_write_of_scrambles_fails(rt: HostRuntime) -> Result<(), AllocError> {
+fn each_write_of_scrambles_fails(rt: HostRuntime) {
     let words = ["scramble", "42", "54", "3", "2"];
     let output = b"L' D' F'\nL F' L'\n";
-    check_each_write(&rt, rt.alloc(), &words, FAULTLESS, output)
+    check_each_write(&rt, rt.alloc(), &words, FAULTLESS, output);
 }

@@ -3,7 +3,7 @@ use crate::runs::{Faulty, Good, STEPS, check_faults, check_good, check_looks, ch
 use std::alloc::AllocError;
 
 #[test]
-fn solve(rt: HostRuntime) -> Result<(), AllocError> {
+fn solve(rt: HostRuntime) {
     let runs: &[Good] = &[
         (&["solve", "eofb", "7", "F"], b"", "F (1)\nF' (1)\n\n"),
         (
@@ -37,29 +37,29 @@ fn solve(rt: HostRuntime) -> Result<(), AllocError> {
             "F (1)\nF' (1)\n\n",
         ),
     ];
-    check_good(&rt, rt.alloc(), runs)?;
+    check_good(&rt, rt.alloc(), runs);
     let faults: &[Faulty] = &[(
         &["solve", "eofb", "2"],
         b"R\nF\nq\nF",
         "(0)\n\nF (1)\nF' (1)\n\n",
         "nissy: line 3, column 1: not a move\n",
     )];
-    check_faults(&rt, rt.alloc(), faults)
+    check_faults(&rt, rt.alloc(), faults);
 }
 
 #[test]
-fn axes_follow_the_centres(rt: HostRuntime) -> Result<(), AllocError> {
+fn axes_follow_the_centres(rt: HostRuntime) {
     let runs: &[Good] = &[
         (&["solve", "eofb", "3", "x U"], b"", "F (1)\nF' (1)\n\n"),
         (&["solve", "eofb", "3", "x F"], b"", "(0)\n\n"),
         (&["solve", "eofb", "3", "Fw"], b"", "B (1)\nB' (1)\n\n"),
         (&["solve", "eofb", "3", "(F)"], b"", "F (1)\nF' (1)\n\n"),
     ];
-    check_good(&rt, rt.alloc(), runs)
+    check_good(&rt, rt.alloc(), runs);
 }
 
 #[test]
-fn start_does_not_hold(rt: HostRuntime) -> Result<(), AllocError> {
+fn start_does_not_hold(rt: HostRuntime) {
     let faults: &[Faulty] = &[
         (
             &["solve", "drud-eofb", "5", "F"],
@@ -80,11 +80,11 @@ fn start_does_not_hold(rt: HostRuntime) -> Result<(), AllocError> {
             "nissy: line 1: eoud does not hold\n",
         ),
     ];
-    check_faults(&rt, rt.alloc(), faults)
+    check_faults(&rt, rt.alloc(), faults);
 }
 
 #[test]
-fn count(rt: HostRuntime) -> Result<(), AllocError> {
+fn count(rt: HostRuntime) {
     let runs: &[Good] = &[
         (
             &["count", "eofb", "5", "F B"],
@@ -127,11 +127,11 @@ fn count(rt: HostRuntime) -> Result<(), AllocError> {
             "length 0 solutions 1 nodes 1\n",
         ),
     ];
-    check_good(&rt, rt.alloc(), runs)
+    check_good(&rt, rt.alloc(), runs);
 }
 
 #[test]
-fn looks(rt: HostRuntime) -> Result<(), AllocError> {
+fn looks(rt: HostRuntime) {
     let runs: &[(Good, u128)] = &[
         (
             (
@@ -159,16 +159,16 @@ fn looks(rt: HostRuntime) -> Result<(), AllocError> {
         ),
         ((&["invert", "R"], b"", "R'\n"), 0),
     ];
-    check_looks(&rt, rt.alloc(), runs)
+    check_looks(&rt, rt.alloc(), runs);
 }
 
 #[test]
-fn steps(rt: HostRuntime) -> Result<(), AllocError> {
-    check_good(&rt, rt.alloc(), &[(&["steps"], b"R", STEPS)])
+fn steps(rt: HostRuntime) {
+    check_good(&rt, rt.alloc(), &[(&["steps"], b"R", STEPS)]);
 }
 
 #[test]
-fn usage(rt: HostRuntime) -> Result<(), AllocError> {
+fn usage(rt: HostRuntime) {
     let wrong: &[&[&str]] = &[
         &["solve"],
         &["solve", "eofb"],
@@ -184,5 +184,5 @@ fn usage(rt: HostRuntime) -> Result<(), AllocError> {
         &["count", "", "3", "F"],
         &["steps", "eofb"],
     ];
-    check_usage(&rt, rt.alloc(), wrong)
+    check_usage(&rt, rt.alloc(), wrong);
 }

@@ -97,48 +97,36 @@ impl io::Write for Flushed {
 }
 
 /// A reader that fills so many blocks is read to its end, by reads that each ask for a whole block.
-fn check_blocks(
-    rt: &impl Abort,
-    alloc: Global,
-    blocks: usize,
-    output: &[u8],
-) -> Result<(), AllocError> {
+fn check_blocks(rt: &impl Abort, alloc: Global, blocks: usize, output: &[u8]) {
     let mut reader = Spaces::new(blocks.saturating_mul(BLOCK), 0, io::ErrorKind::Other);
-    check_reader(rt, alloc, &mut reader, Outcome::good(output))?;
+    check_reader(rt, alloc, &mut reader, Outcome::good(output));
     check_count(rt, "reads", reader.calls, blocks.saturating_add(1));
     check_count(rt, "least that a read asks for", reader.least, BLOCK);
     check_count(rt, "most that a read asks for", reader.most, BLOCK);
-    Ok(())
 }
 
 #[test]
-fn reads_whole_blocks(rt: HostRuntime) -> Result<(), AllocError> {
-    check_blocks(&rt, rt.alloc(), 0, b"")?;
-    check_blocks(&rt, rt.alloc(), 1, b"\n")?;
-    check_blocks(&rt, rt.alloc(), 2, b"\n")?;
-    check_blocks(&rt, rt.alloc(), 3, b"\n")
+fn reads_whole_blocks(rt: HostRuntime) {
+    check_blocks(&rt, rt.alloc(), 0, b"");
+    check_blocks(&rt, rt.alloc(), 1, b"\n");
+    check_blocks(&rt, rt.alloc(), 2, b"\n");
+    check_blocks(&rt, rt.alloc(), 3, b"\n");
 }
 
 /// A read that fails with this kind of error is not tried again, also after whole blocks.
-fn check_failed_reads(
-    rt: &impl Abort,
-    alloc: Global,
-    kind: io::ErrorKind,
-) -> Result<(), AllocError> {
+fn check_failed_reads(rt: &impl Abort, alloc: Global, kind: io::ErrorKind) {
     for fails_at in 1..4usize {
         let mut reader = Spaces::new(4 * BLOCK, fails_at, kind);
-        check_reader(rt, alloc, &mut reader, Outcome::failure(b"", CANNOT_READ))?;
+        check_reader(rt, alloc, &mut reader, Outcome::failure(b"", CANNOT_READ));
         check_count(rt, "reads", reader.calls, fails_at);
     }
-    Ok(())
 }
 
 #[test]
-fn each_kind_of_failed_read(rt: HostRuntime) -> Result<(), AllocError> {
+fn each_kind_of_failed_read(rt: HostRuntime) {
     for kind in KINDS {
-        check_failed_reads(&rt, rt.alloc(), kind)?;
+        check_failed_reads(&rt, rt.alloc(), kind);
     }
-    Ok(())
 }
 
 /// 700 empty lines and a long one.
@@ -150,44 +138,35 @@ fn lines(alloc: Global) -> Result<Vec<u8>, AllocError> {
 }
 
 /// Runs these lines over this writer, which are to have this status and this error text.
-fn check_flushed(
-    rt: &impl Abort,
-    alloc: Global,
-    writer: &mut Flushed,
-    status: u8,
-    error: &[u8],
-) -> Result<(), AllocError> {
-    let lines = lines(alloc)?;
-    let words = words_of(alloc, &["unniss"])?;
+fn check_flushed(rt: &impl Abort, alloc: Global, writer: &mut Flushed, status: u8, error: &[u8]) {
+    let lines = lines(alloc).expect(rt, "memory for lines");
+    let words = words_of(alloc, &["unniss"]).expect(rt, "memory for words");
     let reader = Cursor::new(lines.as_slice());
     let mut err = Held::new(alloc, 1000);
     let answered = run_over(alloc, &words, reader, writer, &mut err);
     check_bytes(rt, err.bytes.as_slice(), error);
     check_count(rt, "status", usize::from(answered), usize::from(status));
-    Ok(())
 }
 
 /// How many bytes these lines give: 256 words of 3 letters with single spaces, and a line feed for each line.
 const FLUSHED: usize = 700 + 256 * 4;
 
 #[test]
-fn long_pieces_are_taken_whole(rt: HostRuntime) -> Result<(), AllocError> {
+fn long_pieces_are_taken_whole(rt: HostRuntime) {
     let mut writer = Flushed::new(None);
-    check_flushed(&rt, rt.alloc(), &mut writer, 0, b"")?;
+    check_flushed(&rt, rt.alloc(), &mut writer, 0, b"");
     check_count(&rt, "bytes", writer.bytes, FLUSHED);
     check_count(&rt, "bytes of the longest piece", writer.longest, FLUSHED);
     check_count(&rt, "flushes", writer.flushes, 1);
-    Ok(())
 }
 
 /// A flush that fails with any kind of error is reported and not tried again.
 #[test]
-fn each_kind_of_failed_flush(rt: HostRuntime) -> Result<(), AllocError> {
+fn each_kind_of_failed_flush(rt: HostRuntime) {
     for kind in KINDS {
         let mut writer = Flushed::new(Some(kind));
-        check_flushed(&rt, rt.alloc(), &mut writer, 3, CANNOT_WRITE)?;
+        check_flushed(&rt, rt.alloc(), &mut writer, 3, CANNOT_WRITE);
         check_count(&rt, "bytes", writer.bytes, FLUSHED);
         check_count(&rt, "flushes", writer.flushes, 1);
     }
-    Ok(())
 }

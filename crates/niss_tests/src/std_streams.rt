@@ -167,38 +167,35 @@ pub fn check_reader<R: io::Read + Drop>(
     alloc: Global,
     reader: R,
     outcome: Outcome<'_>,
-) -> Result<(), AllocError> {
-    let words = words_of(alloc, &["invert"])?;
+) {
+    let words = words_of(alloc, &["invert"]).expect(rt, "memory for words");
     outcome.check_input(rt, alloc, alloc, &words, &mut FromReader::new(reader));
-    Ok(())
 }
 
 /// Has each read of three lines fail once with this kind of error, which are read byte by byte.
-fn check_each_read(rt: &impl Abort, alloc: Global, kind: io::ErrorKind) -> Result<(), AllocError> {
+fn check_each_read(rt: &impl Abort, alloc: Global, kind: io::ErrorKind) {
     let outputs: [&[u8]; 6] = [b"", b"", b"R'\n", b"R'\n", b"R'\nU'\n", b"R'\nU'\n"];
     for before in 0..6usize {
         let mut reader = FailingReader::new(b"R\nU\nF", before + 1, kind);
         let outcome = Outcome::failure(outputs[before], CANNOT_READ);
-        check_reader(rt, alloc, &mut reader, outcome)?;
+        check_reader(rt, alloc, &mut reader, outcome);
         check_count(rt, "reads", reader.calls, before + 1);
     }
-    Ok(())
 }
 
 #[test]
-fn each_read_fails_once(rt: HostRuntime) -> Result<(), AllocError> {
-    check_each_read(&rt, rt.alloc(), io::ErrorKind::Interrupted)?;
-    check_each_read(&rt, rt.alloc(), io::ErrorKind::BrokenPipe)
+fn each_read_fails_once(rt: HostRuntime) {
+    check_each_read(&rt, rt.alloc(), io::ErrorKind::Interrupted);
+    check_each_read(&rt, rt.alloc(), io::ErrorKind::BrokenPipe);
 }
 
 /// A read that gives few bytes is followed by one more, up to the one that gives none.
 #[test]
-fn short_reads_are_counted(rt: HostRuntime) -> Result<(), AllocError> {
+fn short_reads_are_counted(rt: HostRuntime) {
     let mut reader = FailingReader::new(b"R\nU\nF", 0, io::ErrorKind::Other);
     let outcome = Outcome::good(b"R'\nU'\nF'\n");
-    check_reader(&rt, rt.alloc(), &mut reader, outcome)?;
+    check_reader(&rt, rt.alloc(), &mut reader, outcome);
     check_count(&rt, "reads", reader.calls, 6);
-    Ok(())
 }
 
 /// Words and their input, and what a run has to answer and to report.
@@ -212,19 +209,13 @@ struct WriterRun<'a> {
 
 impl WriterRun<'_> {
     /// Runs it over this writer.
-    fn check<W: io::Write + Drop>(
-        self,
-        rt: &impl Abort,
-        alloc: Global,
-        writer: W,
-    ) -> Result<(), AllocError> {
-        let words = words_of(alloc, self.words)?;
+    fn check<W: io::Write + Drop>(self, rt: &impl Abort, alloc: Global, writer: W) {
+        let words = words_of(alloc, self.words).expect(rt, "memory for words");
         let mut err = Held::new(alloc, 1000);
         let reader = Cursor::new(self.input);
         let status = run_over(alloc, &words, reader, writer, &mut err);
         check_bytes(rt, err.bytes.as_slice(), self.error);
         check_count(rt, "status", usize::from(status), usize::from(self.status));
-        Ok(())
     }
 }
 
@@ -236,52 +227,49 @@ const FAILING: WriterRun<'static> = WriterRun {
 };
 
 /// Has each write of eight bytes fail once with this kind of error: none follows it, and one flush.
-fn check_each_write(rt: &impl Abort, alloc: Global, kind: io::ErrorKind) -> Result<(), AllocError> {
+fn check_each_write(rt: &impl Abort, alloc: Global, kind: io::ErrorKind) {
     for before in 0..8usize {
         let mut writer = FailingWriter::new(before + 1, kind);
-        FAILING.check(rt, alloc, &mut writer)?;
+        FAILING.check(rt, alloc, &mut writer);
         check_count(rt, "writes", writer.calls, before + 1);
         check_count(rt, "flushes", writer.flushes, 1);
     }
-    Ok(())
 }
 
 #[test]
-fn each_write_fails_once(rt: HostRuntime) -> Result<(), AllocError> {
+fn each_write_fails_once(rt: HostRuntime) {
     for kind in KINDS {
-        check_each_write(&rt, rt.alloc(), kind)?;
+        check_each_write(&rt, rt.alloc(), kind);
     }
-    Ok(())
 }
 
 #[test]
-fn no_bytes_taken(rt: HostRuntime) -> Result<(), AllocError> {
+fn no_bytes_taken(rt: HostRuntime) {
     let mut writer = FullWriter { calls: 0 };
-    FAILING.check(&rt, rt.alloc(), &mut writer)?;
+    FAILING.check(&rt, rt.alloc(), &mut writer);
     check_count(&rt, "writes", writer.calls, 1);
-    Ok(())
 }
 
 #[test]
-fn last_flush_fails(rt: HostRuntime) -> Result<(), AllocError> {
+fn last_flush_fails(rt: HostRuntime) {
     let wanted = WriterRun {
         words: &["invert"],
         input: b"R U\n",
         status: 3,
         error: CANNOT_WRITE,
     };
-    wanted.check(&rt, rt.alloc(), UnflushedWriter)
+    wanted.check(&rt, rt.alloc(), UnflushedWriter);
 }
 
 impl WriterRun<'_> {
     /// Runs it over a writer that is to have so many bytes and then one flush.
-    fn check_flush(self, rt: &impl Abort, alloc: Global, bytes: usize) -> Result<(), AllocError> {
+    fn check_flush(self, rt: &impl Abort, alloc: Global, bytes: usize) {
         let mut writer = CountingWriter {
             bytes: 0,
             flushes: 0,
             bytes_before_flush: 0,
         };
-        self.check(rt, alloc, &mut writer)?;
+        self.check(rt, alloc, &mut writer);
         check_count(rt, "bytes", writer.bytes, bytes);
         check_count(rt, "flushes", writer.flushes, 1);
         check_count(
@@ -290,32 +278,31 @@ impl WriterRun<'_> {
             writer.bytes_before_flush,
             bytes,
         );
-        Ok(())
     }
 }
 
 /// One flush, after the last byte: of a good run, of one that a line's fault ends, and of one that writes nothing.
 #[test]
-fn one_flush(rt: HostRuntime) -> Result<(), AllocError> {
+fn one_flush(rt: HostRuntime) {
     let good = WriterRun {
         words: &["invert"],
         input: b"R\nU\nF2\n",
         status: 0,
         error: b"",
     };
-    good.check_flush(&rt, rt.alloc(), 9)?;
+    good.check_flush(&rt, rt.alloc(), 9);
     let fault = WriterRun {
         words: &["invert"],
         input: b"R\nU\nR '\n",
         status: 1,
         error: b"nissy: line 3, column 3: not a move\n",
     };
-    fault.check_flush(&rt, rt.alloc(), 6)?;
+    fault.check_flush(&rt, rt.alloc(), 6);
     let usage = WriterRun {
         words: &[""],
         input: b"",
         status: 2,
         error: USAGE.as_bytes(),
     };
-    usage.check_flush(&rt, rt.alloc(), 0)
+    usage.check_flush(&rt, rt.alloc(), 0);
 }

@@ -5,28 +5,21 @@ use std::alloc::{AllocError, Global};
 use std::process::Abort;
 
 /// Checks that a run with these words answers so, and reads nothing.
-fn check_unread(
-    rt: &impl Abort,
-    alloc: Global,
-    words: &[&str],
-    output: &[u8],
-) -> Result<(), AllocError> {
+fn check_unread(rt: &impl Abort, alloc: Global, words: &[&str], output: &[u8]) {
     let devices = Devices {
         input: b"R",
         ..FAULTLESS
     };
-    let calls = check_devices(rt, alloc, words, devices, Outcome::good(output))?;
+    let calls = check_devices(rt, alloc, words, devices, Outcome::good(output));
     check_count(rt, "reads", calls.reads, 0);
-    Ok(())
 }
 
 /// The solved cube has reached each step, which needs its tables to say so.
 #[test]
-fn each_step_has_its_tables(rt: HostRuntime) -> Result<(), AllocError> {
+fn each_step_has_its_tables(rt: HostRuntime) {
     for step in STEPS.lines() {
-        check_unread(&rt, rt.alloc(), &["solve", step, "0", ""], b"(0)\n\n")?;
+        check_unread(&rt, rt.alloc(), &["solve", step, "0", ""], b"(0)\n\n");
     }
-    Ok(())
 }
 
 /// A word of so many blanks.
@@ -43,7 +36,7 @@ fn blanks(alloc: Global, count: usize) -> Result<String, AllocError> {
 fn words_of_each_length(rt: HostRuntime) -> Result<(), AllocError> {
     for length in [0usize, 1, 15, 16, 255, 256, 4095, 4096, 5000, 65_536] {
         let word = blanks(rt.alloc(), length)?;
-        check_unread(&rt, rt.alloc(), &["invert", &word], b"\n")?;
+        check_unread(&rt, rt.alloc(), &["invert", &word], b"\n");
     }
     Ok(())
 }
