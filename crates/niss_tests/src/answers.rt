@@ -1,6 +1,7 @@
 //! Commands that answer each line: what a run writes, reports and answers.
 use crate::runs::{Faulty, Good, check_answers, check_faults, check_good, check_usage};
 use std::alloc::{AllocError, Global};
+use std::process::Abort;
 
 #[test]
 fn usage(rt: HostRuntime) {
@@ -167,21 +168,21 @@ fn inverses(alloc: Global) -> Result<String, AllocError> {
 }
 
 #[test]
-fn most_moves(rt: HostRuntime) -> Result<(), AllocError> {
-    let most = turns(rt.alloc(), 256)?;
-    let inverses = inverses(rt.alloc())?;
+fn most_moves(rt: HostRuntime) {
+    let most = turns(rt.alloc(), 256).expect(&rt, "memory for moves");
+    let inverses = inverses(rt.alloc()).expect(&rt, "memory for moves");
     check_answers(&rt, rt.alloc(), "invert", &[(&most, &inverses)]);
     check_answers(&rt, rt.alloc(), "cleanup", &[(&most, "\n")]);
-    Ok(())
+}
+
+/// Checks that this line, of a move too many, is refused.
+fn check_too_many(rt: &impl Abort, alloc: Global, command: &str, line: &str) {
+    check_faults(rt, alloc, &[(&[command, line], b"", "", TOO_MANY)]);
 }
 
 #[test]
-fn a_move_too_many(rt: HostRuntime) -> Result<(), AllocError> {
-    let more = turns(rt.alloc(), 257)?;
-    let faults: &[Faulty] = &[
-        (&["invert", &more], b"", "", TOO_MANY),
-        (&["cleanup", &more], b"", "", TOO_MANY),
-    ];
-    check_faults(&rt, rt.alloc(), faults);
-    Ok(())
+fn a_move_too_many(rt: HostRuntime) {
+    let more = turns(rt.alloc(), 257).expect(&rt, "memory for moves");
+    check_too_many(&rt, rt.alloc(), "invert", &more);
+    check_too_many(&rt, rt.alloc(), "cleanup", &more);
 }

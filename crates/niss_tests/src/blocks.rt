@@ -56,15 +56,14 @@ fn many_lines(rt: HostRuntime) {
 }
 
 #[test]
-fn fault_after_the_first_block(rt: HostRuntime) -> Result<(), AllocError> {
-    let input = repeated(rt.alloc(), b" ", BLOCK, b"q\n")?;
+fn fault_after_the_first_block(rt: HostRuntime) {
+    let input = repeated(rt.alloc(), b" ", BLOCK, b"q\n").expect(&rt, "memory for input");
     let outcome = Outcome {
         output: b"",
         error: b"nissy: line 1, column 4097: not a move\n",
         status: 1,
     };
     check_read(&rt, rt.alloc(), input.as_slice(), BLOCK, outcome);
-    Ok(())
 }
 
 /// Runs `invert` over blanks and this text, so many bytes of which stand in the first block.

@@ -6,14 +6,14 @@ use crate::runs::{
     CANNOT_READ, CANNOT_WRITE, Outcome, STEPS, Targets, check_count, check_devices,
     check_each_write, words_of,
 };
-use std::alloc::{AllocError, Global};
+use std::alloc::Global;
 use std::process::Abort;
 
 const NOT_A_MOVE: &[u8] = b"nissy: line 1, column 3: not a move\n";
 
 /// Has each read of three lines fail in turn, which are read byte by byte: two reads give a line. These are the outputs
 /// after no line, after one and after two.
-fn check_each_read(rt: &impl Abort, alloc: Global, words: &[&str], outputs: [&[u8]; 3]) {
+fn check_each_read(rt: &impl Abort, alloc: Global, words: &[&str], outputs: &[&[u8]; 3]) {
     for before in 0..6usize {
         let devices = Devices {
             input: b"R\nU\nF",
@@ -43,7 +43,7 @@ const READING: [(&[&str], [&[u8]; 3]); 4] = [
 #[test]
 fn each_read_fails(rt: HostRuntime) {
     for (words, outputs) in &READING {
-        check_each_read(&rt, rt.alloc(), words, *outputs);
+        check_each_read(&rt, rt.alloc(), words, outputs);
     }
 }
 
@@ -146,10 +146,9 @@ fn check_cut_fault(rt: &impl Abort, alloc: Global, words: &[String], fault: &[u8
 }
 
 #[test]
-fn each_write_of_a_fault_fails(rt: HostRuntime) -> Result<(), AllocError> {
-    let words = words_of(rt.alloc(), &["invert", "R '"])?;
+fn each_write_of_a_fault_fails(rt: HostRuntime) {
+    let words = words_of(rt.alloc(), &["invert", "R '"]).expect(&rt, "memory for words");
     for before in 0..NOT_A_MOVE.len() {
         check_cut_fault(&rt, rt.alloc(), &words, NOT_A_MOVE, before);
     }
-    Ok(())
 }

@@ -1,6 +1,5 @@
 //! Solutions a little longer than the least.
 use crate::runs::{Faulty, Good, check_faults, check_good, check_looks, check_usage};
-use std::alloc::AllocError;
 
 /// The edge orientations of at most two turns of the cube after F.
 const AFTER_F: &str = "F (1)

@@ -4,7 +4,6 @@ use crate::runs::{
     Good, Outcome, check_count, check_devices, check_each_write, check_good, check_usage, words_of,
 };
 use linked_list_allocator::LocalHeap;
-use std::alloc::AllocError;
 use std::test::Fail;
 
 #[test]
@@ -64,16 +63,15 @@ fn usage_of_scramble(rt: HostRuntime) {
 }
 
 #[test]
-fn most_scrambles(rt: HostRuntime) -> Result<(), AllocError> {
+fn most_scrambles(rt: HostRuntime) {
     let words = ["scramble", "1", "2", "0", "10000"];
-    let lines = vec![in rt.alloc(); b'\n'; 10_000]?;
+    let lines = vec![in rt.alloc(); b'\n'; 10_000].expect(&rt, "memory for lines");
     let devices = Devices {
         most_written: 10_000,
         ..FAULTLESS
     };
     let outcome = Outcome::good(lines.as_slice());
     check_devices(&rt, rt.alloc(), &words, devices, outcome);
-    Ok(())
 }
 
 #[test]

@@ -1,6 +1,5 @@
 //! Rows of the commands that search, and of the command that lists the steps.
 use crate::runs::{Faulty, Good, STEPS, check_faults, check_good, check_looks, check_usage};
-use std::alloc::AllocError;
 
 #[test]
 fn solve(rt: HostRuntime) {

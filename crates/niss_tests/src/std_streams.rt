@@ -3,7 +3,7 @@ use crate::devices::Held;
 use crate::runs::{CANNOT_READ, CANNOT_WRITE, Outcome, USAGE, check_bytes, check_count, words_of};
 use crate::std_blocks::KINDS;
 use niss_shell::{FromReader, Meter, Target, ToWriter, run};
-use std::alloc::{AllocError, Global};
+use std::alloc::Global;
 use std::io;
 use std::io::{Cursor, Read};
 use std::process::Abort;
@@ -148,8 +148,8 @@ pub fn run_over<R: io::Read + Drop, W: io::Write + Drop, E: Target>(
 }
 
 #[test]
-fn all_works(rt: HostRuntime) -> Result<(), AllocError> {
-    let words = words_of(rt.alloc(), &["invert"])?;
+fn all_works(rt: HostRuntime) {
+    let words = words_of(rt.alloc(), &["invert"]).expect(&rt, "memory for words");
     let mut output = Vec::new(rt.alloc());
     let mut error = Vec::new(rt.alloc());
     let reader = Cursor::new(b"R U\n".as_slice());
@@ -158,7 +158,6 @@ fn all_works(rt: HostRuntime) -> Result<(), AllocError> {
     check_count(&rt, "status", usize::from(status), 0);
     check_bytes(&rt, output.as_slice(), b"U' R'\n");
     check_bytes(&rt, error.as_slice(), b"");
-    Ok(())
 }
 
 /// Runs `invert` over this reader.

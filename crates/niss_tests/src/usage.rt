@@ -1,16 +1,16 @@
 //! Each fault of wrong words, in the order in which they are looked for.
 use crate::runs::words_of;
 use niss_shell::{UsageFault, parse_words};
-use std::alloc::{AllocError, Global};
+use std::alloc::Global;
 use std::process::Abort;
 
 /// Checks that the words have this fault.
 fn check_fault(rt: &impl Abort, alloc: Global, texts: &[&str], fault: UsageFault) {
     let words = words_of(alloc, texts).expect(rt, "memory for words");
-    match parse_words(words.as_slice()) {
-        Ok(_) => assert!(rt; false, "no fault"),
-        Err(found) => assert_eq!(rt; found, fault),
-    }
+    let Err(found) = parse_words(words.as_slice()) else {
+        panic!(rt; "no fault")
+    };
+    assert_eq!(rt; found, fault);
 }
 
 const FAULTS: [(&[&str], UsageFault); 26] = [
