@@ -1,5 +1,5 @@
 //! Solutions a little longer than the least.
-use crate::runs::{Faulty, Good, check_faults, check_good, check_looks, check_usage};
+use crate::runs::{Faulty, Good, Run, check_faults, check_good, check_looks, check_usage};
 
 /// The edge orientations of at most two turns of the cube after F.
 const AFTER_F: &str = "F (1)
@@ -100,14 +100,10 @@ fn near(rt: HostRuntime) {
 /// The looks of all deepenings to the last length: 1, 19 and 76.
 #[test]
 fn looks_of_near(rt: HostRuntime) {
-    let runs: &[(Good, u128)] = &[
-        ((&["near", "eofb", "2", "1", "F"], b"", AFTER_F), 96),
-        (
-            (&["near", "eofb", "2", "0", "F"], b"", "F (1)\nF' (1)\n\n"),
-            20,
-        ),
-    ];
-    check_looks(&rt, rt.alloc(), runs);
+    let near = Run::good(&["near", "eofb", "2", "1", "F"], b"", AFTER_F);
+    check_looks(&rt, rt.alloc(), near, 96);
+    let least = Run::good(&["near", "eofb", "2", "0", "F"], b"", "F (1)\nF' (1)\n\n");
+    check_looks(&rt, rt.alloc(), least, 20);
 }
 
 #[test]

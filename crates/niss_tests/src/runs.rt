@@ -268,12 +268,9 @@ pub fn check_good(rt: &impl Abort, alloc: Global, runs: &[Good<'_>]) {
     }
 }
 
-/// Checks these good runs, and how many positions each looks at.
-pub fn check_looks(rt: &impl Abort, alloc: Global, runs: &[(Good<'_>, u128)]) {
-    for ((words, input, output), looks) in runs {
-        let found = Run::good(words, input, output).looks(rt, alloc);
-        assert_eq!(rt; found, *looks);
-    }
+/// Checks this run, and how many positions it looks at.
+pub fn check_looks(rt: &impl Abort, alloc: Global, run: Run<'_>, looks: u128) {
+    assert_eq!(rt; run.looks(rt, alloc), looks);
 }
 
 /// Checks what a command answers to each of these lines, given as a word.

@@ -1,5 +1,5 @@
 //! Rows of the commands that search, and of the command that lists the steps.
-use crate::runs::{Faulty, Good, STEPS, check_faults, check_good, check_looks, check_usage};
+use crate::runs::{Faulty, Good, Run, STEPS, check_faults, check_good, check_looks, check_usage};
 
 #[test]
 fn solve(rt: HostRuntime) {
@@ -131,34 +131,17 @@ fn count(rt: HostRuntime) {
 
 #[test]
 fn looks(rt: HostRuntime) {
-    let runs: &[(Good, u128)] = &[
-        (
-            (
-                &["solve", "eofb", "5", "F B"],
-                b"",
-                "F B (2)\nF B' (2)\nF' B (2)\nF' B' (2)\n\n",
-            ),
-            75,
-        ),
-        (
-            (
-                &["count", "eofb", "5", "F B"],
-                b"",
-                "length 2 solutions 4 nodes 75\n",
-            ),
-            75,
-        ),
-        (
-            (
-                &["count", "eofb", "7"],
-                b"F\nR",
-                "length 1 solutions 2 nodes 20\nlength 0 solutions 1 nodes 1\n",
-            ),
-            21,
-        ),
-        ((&["invert", "R"], b"", "R'\n"), 0),
-    ];
-    check_looks(&rt, rt.alloc(), runs);
+    let solutions = "F B (2)\nF B' (2)\nF' B (2)\nF' B' (2)\n\n";
+    let solve = Run::good(&["solve", "eofb", "5", "F B"], b"", solutions);
+    check_looks(&rt, rt.alloc(), solve, 75);
+    let number = "length 2 solutions 4 nodes 75\n";
+    let count = Run::good(&["count", "eofb", "5", "F B"], b"", number);
+    check_looks(&rt, rt.alloc(), count, 75);
+    let numbers = "length 1 solutions 2 nodes 20\nlength 0 solutions 1 nodes 1\n";
+    let two_lines = Run::good(&["count", "eofb", "7"], b"F\nR", numbers);
+    check_looks(&rt, rt.alloc(), two_lines, 21);
+    let invert = Run::good(&["invert", "R"], b"", "R'\n");
+    check_looks(&rt, rt.alloc(), invert, 0);
 }
 
 #[test]
