@@ -1,11 +1,11 @@
 //! Commands that answer each line: what a run writes, reports and answers.
-use crate::runs::{Run, USAGE, check_all};
+use crate::runs::{Faulty, Good, check_answers, check_faults, check_good, check_usage};
 use std::alloc::{AllocError, Global};
-use std::test::Fail;
+use std::process::Abort;
 
 #[test]
-fn usage(rt: HostRuntime) -> Result<(), Fail> {
-    let wrong: [&[&str]; 6] = [
+fn usage(rt: HostRuntime) {
+    let wrong: &[&[&str]] = &[
         &[],
         &["turn", "R"],
         &["solve", "eofb", "21", "F"],
@@ -13,146 +13,137 @@ fn usage(rt: HostRuntime) -> Result<(), Fail> {
         &["solve", "eofb"],
         &["scramble", "1", "2", "3"],
     ];
-    for words in wrong {
-        Run::fault(words, USAGE, 2).check(&rt, rt.alloc())?;
-    }
-    Ok(())
+    check_usage(&rt, rt.alloc(), wrong);
 }
 
 #[test]
-fn invert(rt: HostRuntime) -> Result<(), Fail> {
-    let runs = [
-        Run::good(&["invert", "R U' F2"], b"", "F2 U R'\n"),
-        Run::good(&["invert", ""], b"", "\n"),
-        Run::good(&["invert", "R2'", "U"], b"", "U' R2\n"),
-        Run::good(&["invert"], b"", ""),
-        Run::good(&["invert"], b"R\nU", "R'\nU'\n"),
-        Run::good(&["invert"], b"R\nU\n\n", "R'\nU'\n\n"),
-        Run::fault(
+fn invert(rt: HostRuntime) {
+    let runs: &[Good] = &[
+        (&["invert", "R U' F2"], b"", "F2 U R'\n"),
+        (&["invert", ""], b"", "\n"),
+        (&["invert", "R2'", "U"], b"", "U' R2\n"),
+        (&["invert"], b"", ""),
+        (&["invert"], b"R\nU", "R'\nU'\n"),
+        (&["invert"], b"R\nU\n\n", "R'\nU'\n\n"),
+        (&["invert", "(R)"], b"", "R\n"),
+        (&["invert", "R (U F') D"], b"", "U F' D' R'\n"),
+        (&["invert"], b"R\xe2\x80\x99\n", "R\n"),
+    ];
+    check_good(&rt, rt.alloc(), runs);
+    let faults: &[Faulty] = &[
+        (
             &["invert", "R '"],
+            b"",
+            "",
             "nissy: line 1, column 3: not a move\n",
-            1,
         ),
-        Run::good(&["invert", "(R)"], b"", "R\n"),
-        Run::good(&["invert", "R (U F') D"], b"", "U F' D' R'\n"),
-        Run::good(&["invert"], b"R\xe2\x80\x99\n", "R\n"),
-        Run {
-            words: &["invert"],
-            input: b"R\xe2\x80U\n",
-            output: "",
-            error: "nissy: line 1, column 2: not a move\n",
-            status: 1,
-        },
-        Run {
-            words: &["invert"],
-            input: b"R\nq\nU",
-            output: "R'\n",
-            error: "nissy: line 2, column 1: not a move\n",
-            status: 1,
-        },
+        (
+            &["invert"],
+            b"R\xe2\x80U\n",
+            "",
+            "nissy: line 1, column 2: not a move\n",
+        ),
+        (
+            &["invert"],
+            b"R\nq\nU",
+            "R'\n",
+            "nissy: line 2, column 1: not a move\n",
+        ),
     ];
-    check_all(&rt, rt.alloc(), &runs)?;
-    Ok(())
+    check_faults(&rt, rt.alloc(), faults);
 }
 
 #[test]
-fn unniss(rt: HostRuntime) -> Result<(), Fail> {
-    let runs = [
-        Run::good(&["unniss", "R (U F') D"], b"", "R D F U'\n"),
-        Run::good(&["unniss", "r2' Mx'"], b"", "Rw2 M x'\n"),
-        Run::fault(
+fn unniss(rt: HostRuntime) {
+    let runs: &[Good] = &[
+        (&["unniss", "R (U F') D"], b"", "R D F U'\n"),
+        (&["unniss", "r2' Mx'"], b"", "Rw2 M x'\n"),
+    ];
+    check_good(&rt, rt.alloc(), runs);
+    let faults: &[Faulty] = &[
+        (
             &["unniss", "(R (U))"],
+            b"",
+            "",
             "nissy: line 1, column 4: bracket inside a bracket\n",
-            1,
         ),
-        Run::fault(
+        (
             &["unniss", "R )"],
+            b"",
+            "",
             "nissy: line 1, column 3: bracket closed that was not opened\n",
-            1,
         ),
-        Run {
-            words: &["unniss"],
-            input: b"R\n(U",
-            output: "R\n",
-            error: "nissy: line 2, column 1: bracket not closed\n",
-            status: 1,
-        },
+        (
+            &["unniss"],
+            b"R\n(U",
+            "R\n",
+            "nissy: line 2, column 1: bracket not closed\n",
+        ),
     ];
-    check_all(&rt, rt.alloc(), &runs)?;
-    Ok(())
+    check_faults(&rt, rt.alloc(), faults);
 }
 
 #[test]
-fn cleanup(rt: HostRuntime) -> Result<(), Fail> {
-    let runs = [
-        Run::good(&["cleanup", "Rw U"], b"", "L F x\n"),
-        Run::good(&["cleanup", "r U"], b"", "L F x\n"),
-        Run::good(&["cleanup", "M"], b"", "R L' x'\n"),
-        Run::good(&["cleanup", "z z"], b"", "x2 y2\n"),
-        Run::good(&["cleanup", "x y x'"], b"", "z\n"),
-        Run::good(&["cleanup", "U D U'"], b"", "D\n"),
-        Run::good(&["cleanup", "R L R"], b"", "R2 L\n"),
-        Run::good(&["cleanup", "F F F F"], b"", "\n"),
-        Run::good(&["cleanup", "R (U U) R'"], b"", "(U2)\n"),
-        Run::good(&["cleanup", "x (y)"], b"", "x (y)\n"),
-        Run::good(&["cleanup", "R (U2 x)"], b"", "R (U2 x)\n"),
-        Run::good(&["cleanup", "D U D'"], b"", "U\n"),
-        Run::good(&["cleanup", "R2'"], b"", "R2\n"),
+fn cleanup(rt: HostRuntime) {
+    let answers: &[(&str, &str)] = &[
+        ("Rw U", "L F x\n"),
+        ("r U", "L F x\n"),
+        ("M", "R L' x'\n"),
+        ("z z", "x2 y2\n"),
+        ("x y x'", "z\n"),
+        ("U D U'", "D\n"),
+        ("R L R", "R2 L\n"),
+        ("F F F F", "\n"),
+        ("R (U U) R'", "(U2)\n"),
+        ("x (y)", "x (y)\n"),
+        ("R (U2 x)", "R (U2 x)\n"),
+        ("D U D'", "U\n"),
+        ("R2'", "R2\n"),
     ];
-    check_all(&rt, rt.alloc(), &runs)?;
-    Ok(())
+    check_answers(&rt, rt.alloc(), "cleanup", answers);
 }
 
 // the superflip, by a sequence of 20 turns
 const SUPERFLIP: &str = "U R2 F B R B2 R U2 L B2 R U' D' R2 F R' L B2 U2 F2";
 
 #[test]
-fn print(rt: HostRuntime) -> Result<(), Fail> {
-    let runs = [
-        Run::good(
-            &["print", "R"],
-            b"",
+fn print(rt: HostRuntime) {
+    let answers: &[(&str, &str)] = &[
+        (
+            "R",
             "UUFUUFUUFRRRRRRRRRFFDFFDFFDDDBDDBDDBLLLLLLLLLUBBUBBUBB\n",
         ),
-        Run::good(
-            &["print", "x"],
-            b"",
+        (
+            "x",
             "FFFFFFFFFRRRRRRRRRDDDDDDDDDBBBBBBBBBLLLLLLLLLUUUUUUUUU\n",
         ),
-        Run::good(
-            &["print", "M"],
-            b"",
+        (
+            "M",
             "UBUUBUUBURRRRRRRRRFUFFUFFUFDFDDFDDFDLLLLLLLLLBDBBDBBDB\n",
         ),
-        Run::good(
-            &["print", ""],
-            b"",
+        (
+            "",
             "UUUUUUUUURRRRRRRRRFFFFFFFFFDDDDDDDDDLLLLLLLLLBBBBBBBBB\n",
         ),
-        Run::good(
-            &["print", "M2 E2 S2"],
-            b"",
+        (
+            "M2 E2 S2",
             "UDUDUDUDURLRLRLRLRFBFBFBFBFDUDUDUDUDLRLRLRLRLBFBFBFBFB\n",
         ),
-        Run::good(
-            &["print", SUPERFLIP],
-            b"",
+        (
+            SUPERFLIP,
             "UBULURUFURURFRBRDRFUFLFRFDFDFDLDRDBDLULBLFLDLBUBRBLBDB\n",
         ),
         // brackets, wide moves, slices and rotations between turns, by an independent model
-        Run::good(
-            &["print", "R x (U Fw)"],
-            b"",
+        (
+            "R x (U Fw)",
             "DRRFRRFRRBBBBBRBBRLDDDDDDDDLLLLLLBBUFUULFFLFFUURFUUFUU\n",
         ),
-        Run::good(
-            &["print", "(Bw2 E) z' D (S y2)"],
-            b"",
+        (
+            "(Bw2 E) z' D (S y2)",
             "LLLFDDRRRURFFBBBRDBBBULUDDDLLLBUURRRBLDFFBULFUUUDRDFFF\n",
         ),
     ];
-    check_all(&rt, rt.alloc(), &runs)?;
-    Ok(())
+    check_answers(&rt, rt.alloc(), "print", answers);
 }
 
 /// This many turns `U`.
@@ -177,24 +168,21 @@ fn inverses(alloc: Global) -> Result<String, AllocError> {
 }
 
 #[test]
-fn most_moves(rt: HostRuntime) -> Result<(), Fail> {
-    let alloc = rt.alloc();
-    let (most, more) = (turns(alloc, 256)?, turns(alloc, 257)?);
-    let inverses = inverses(alloc)?;
-    for (command, moves, output, error, status) in [
-        ("invert", most.as_str(), inverses.as_str(), "", 0),
-        ("cleanup", most.as_str(), "\n", "", 0),
-        ("invert", more.as_str(), "", TOO_MANY, 1),
-        ("cleanup", more.as_str(), "", TOO_MANY, 1),
-    ] {
-        let case = Run {
-            words: &[command, moves],
-            input: b"",
-            output,
-            error,
-            status,
-        };
-        case.check(&rt, alloc)?;
-    }
-    Ok(())
+fn most_moves(rt: HostRuntime) {
+    let most = turns(rt.alloc(), 256).expect(&rt, "memory for moves");
+    let inverses = inverses(rt.alloc()).expect(&rt, "memory for moves");
+    check_answers(&rt, rt.alloc(), "invert", &[(&most, &inverses)]);
+    check_answers(&rt, rt.alloc(), "cleanup", &[(&most, "\n")]);
+}
+
+/// Checks that this line, of a move too many, is refused.
+fn check_too_many(rt: &impl Abort, alloc: Global, command: &str, line: &str) {
+    check_faults(rt, alloc, &[(&[command, line], b"", "", TOO_MANY)]);
+}
+
+#[test]
+fn a_move_too_many(rt: HostRuntime) {
+    let more = turns(rt.alloc(), 257).expect(&rt, "memory for moves");
+    check_too_many(&rt, rt.alloc(), "invert", &more);
+    check_too_many(&rt, rt.alloc(), "cleanup", &more);
 }

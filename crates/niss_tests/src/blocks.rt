@@ -1,8 +1,8 @@
 //! Input that is read in blocks: the same answers wherever a block ends.
-use crate::devices::{Bytes, Held};
-use crate::runs::{CANNOT_WRITE, Outcome, Targets, words_of};
+use crate::devices::{Devices, FAULTLESS};
+use crate::runs::{Outcome, check_count, check_devices, check_each_write};
 use std::alloc::{AllocError, Global};
-use std::test::Fail;
+use std::process::Abort;
 
 /// How many bytes a read asks for.
 const BLOCK: usize = 4096;
@@ -22,87 +22,108 @@ pub fn repeated(
     Ok(all)
 }
 
-#[test]
-fn many_lines(rt: HostRuntime) -> Result<(), Fail> {
-    let words = words_of(rt.alloc(), &["invert"])?;
-    let input = repeated(rt.alloc(), b"R U'\n", 3000, b"")?;
-    let output = repeated(rt.alloc(), b"U R'\n", 3000, b"")?;
+/// Runs `invert` over this input, of which a read gives at most so many bytes, and answers how often it read.
+fn check_read(
+    rt: &impl Abort,
+    alloc: Global,
+    input: &[u8],
+    most_read: usize,
+    outcome: Outcome<'_>,
+) -> usize {
+    let devices = Devices {
+        input,
+        most_read,
+        most_written: 1000,
+        ..FAULTLESS
+    };
+    check_devices(rt, alloc, &["invert"], devices, outcome).reads
+}
+
+/// Runs `invert` over many lines, of which a read gives at most so many bytes: it takes so many reads.
+fn check_many_lines(rt: &impl Abort, alloc: Global, most_read: usize, wanted: usize) {
+    let input = repeated(alloc, b"R U'\n", 3000, b"").expect(rt, "memory for input");
+    let output = repeated(alloc, b"U R'\n", 3000, b"").expect(rt, "memory for output");
     let outcome = Outcome::good(output.as_slice());
-    for (most, reads) in [(1usize, 15_001usize), (7, 2_144), (BLOCK, 5)] {
-        let mut source = Bytes::new(input.as_slice(), most);
-        outcome.check_input(&rt, rt.alloc(), rt.alloc(), &words, &mut source);
-        assert_eq!(rt; source.reads, reads, "at most {most} bytes a read");
-    }
-    Ok(())
+    let reads = check_read(rt, alloc, input.as_slice(), most_read, outcome);
+    check_count(rt, "reads", reads, wanted);
 }
 
 #[test]
-fn fault_after_the_first_block(rt: HostRuntime) -> Result<(), Fail> {
-    let words = words_of(rt.alloc(), &["invert"])?;
-    let input = repeated(rt.alloc(), b" ", BLOCK, b"q\n")?;
+fn many_lines(rt: HostRuntime) {
+    check_many_lines(&rt, rt.alloc(), 1, 15_001);
+    check_many_lines(&rt, rt.alloc(), 7, 2_144);
+    check_many_lines(&rt, rt.alloc(), BLOCK, 5);
+}
+
+#[test]
+fn fault_after_the_first_block(rt: HostRuntime) {
+    let input = repeated(rt.alloc(), b" ", BLOCK, b"q\n").expect(&rt, "memory for input");
     let outcome = Outcome {
         output: b"",
         error: b"nissy: line 1, column 4097: not a move\n",
         status: 1,
     };
-    let mut source = Bytes::new(input.as_slice(), BLOCK);
-    outcome.check_input(&rt, rt.alloc(), rt.alloc(), &words, &mut source);
-    Ok(())
+    check_read(&rt, rt.alloc(), input.as_slice(), BLOCK, outcome);
 }
 
+/// Runs `invert` over blanks and this text, so many bytes of which stand in the first block.
+fn check_cut(rt: &impl Abort, alloc: Global, taken: usize, text: &[u8], output: &[u8]) {
+    let input = repeated(alloc, b" ", BLOCK.saturating_sub(taken), text);
+    let input = input.expect(rt, "memory for input");
+    check_read(rt, alloc, input.as_slice(), BLOCK, Outcome::good(output));
+}
+
+/// How many bytes of a text stand in the first block, the text, and what is answered.
+const CUTS: [(usize, &[u8], &[u8]); 8] = [
+    // a line feed ends the block, and the line
+    (4, b"R U\nF'\n", b"U' R'\nF\n"),
+    (4, b"R U\n", b"U' R'\n"),
+    // the input ends with the block
+    (3, b"R U", b"U' R'\n"),
+    // a move and its suffix
+    (1, b"R2\n", b"R2\n"),
+    // a carriage return and the line feed after it
+    (2, b"R\r\nU\r\n", b"R'\nU'\n"),
+    // the three bytes of a right single quotation mark
+    (1, b"R\xe2\x80\x99 U\n", b"U' R\n"),
+    (2, b"R\xe2\x80\x99 U\n", b"U' R\n"),
+    (3, b"R\xe2\x80\x99 U\n", b"U' R\n"),
+];
+
 #[test]
-fn cut_by_the_end_of_a_block(rt: HostRuntime) -> Result<(), Fail> {
-    let words = words_of(rt.alloc(), &["invert"])?;
-    // the first block takes this many bytes of the text after the blanks
-    let cases: [(usize, &[u8], &[u8]); 8] = [
-        // a line feed ends the block, and the line
-        (4, b"R U\nF'\n", b"U' R'\nF\n"),
-        (4, b"R U\n", b"U' R'\n"),
-        // the input ends with the block
-        (3, b"R U", b"U' R'\n"),
-        // a move and its suffix
-        (1, b"R2\n", b"R2\n"),
-        // a carriage return and the line feed after it
-        (2, b"R\r\nU\r\n", b"R'\nU'\n"),
-        // the three bytes of a right single quotation mark
-        (1, b"R\xe2\x80\x99 U\n", b"U' R\n"),
-        (2, b"R\xe2\x80\x99 U\n", b"U' R\n"),
-        (3, b"R\xe2\x80\x99 U\n", b"U' R\n"),
-    ];
-    for (taken, text, output) in cases {
-        let input = repeated(rt.alloc(), b" ", BLOCK - taken, text)?;
-        let mut source = Bytes::new(input.as_slice(), BLOCK);
-        let outcome = Outcome::good(output);
-        outcome.check_input(&rt, rt.alloc(), rt.alloc(), &words, &mut source);
+fn cut_by_the_end_of_a_block(rt: HostRuntime) {
+    for (taken, text, output) in &CUTS {
+        check_cut(&rt, rt.alloc(), *taken, text, output);
     }
-    Ok(())
 }
 
-#[test]
-fn answers_go_out_before_the_next_read(rt: HostRuntime) -> Result<(), Fail> {
-    let words = words_of(rt.alloc(), &["invert"])?;
+/// Runs `invert` over three lines, of which a read gives at most so many bytes: the answers go out in so many writes.
+fn check_writes(rt: &impl Abort, alloc: Global, most_read: usize, wanted: usize) {
+    let devices = Devices {
+        input: b"R\nU\nF\n",
+        most_read,
+        ..FAULTLESS
+    };
     let outcome = Outcome::good(b"R'\nU'\nF'\n");
-    // how many bytes a read gives, and in how many writes the answers go out
-    for (most, writes) in [(1usize, 3usize), (2, 3), (4, 2), (BLOCK, 1)] {
-        let mut input = Bytes::new(b"R\nU\nF\n", most);
-        let mut targets = Targets::new(rt.alloc(), Held::new(rt.alloc(), 1000));
-        outcome.check(&rt, rt.alloc(), &words, &mut input, &mut targets);
-        assert_eq!(rt; targets.out.writes, writes, "at most {most} bytes a read");
-    }
-    Ok(())
+    let calls = check_devices(rt, alloc, &["invert"], devices, outcome);
+    check_count(rt, "writes", calls.writes, wanted);
 }
 
 #[test]
-fn each_write_of_waiting_answers_fails(rt: HostRuntime) -> Result<(), Fail> {
-    let words = words_of(rt.alloc(), &["invert"])?;
-    // the fault comes after the answers that wait, and a refused write before it
-    let output = b"R'\nU'\n";
-    for before in 0..output.len() {
-        let mut input = Bytes::new(b"R\nU\nq\n", BLOCK);
-        let mut targets = Targets::new(rt.alloc(), Held::failing_at(rt.alloc(), 1, before + 1));
-        let outcome = Outcome::failure(&output[..before], CANNOT_WRITE);
-        outcome.check(&rt, rt.alloc(), &words, &mut input, &mut targets);
-        assert_eq!(rt; targets.out.writes, before + 1, "after {before} writes");
-    }
-    Ok(())
+fn answers_go_out_before_the_next_read(rt: HostRuntime) {
+    check_writes(&rt, rt.alloc(), 1, 3);
+    check_writes(&rt, rt.alloc(), 2, 3);
+    check_writes(&rt, rt.alloc(), 4, 2);
+    check_writes(&rt, rt.alloc(), BLOCK, 1);
+}
+
+/// The fault comes after the answers that wait, and a refused write before it.
+#[test]
+fn each_write_of_waiting_answers_fails(rt: HostRuntime) {
+    let devices = Devices {
+        input: b"R\nU\nq\n",
+        most_read: BLOCK,
+        ..FAULTLESS
+    };
+    check_each_write(&rt, rt.alloc(), &["invert"], devices, b"R'\nU'\n");
 }

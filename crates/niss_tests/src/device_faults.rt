@@ -1,36 +1,38 @@
 //! Runs whose reads, writes or flushes fail, each in turn.
-use crate::devices::{Bytes, Held};
-use crate::runs::{CANNOT_READ, CANNOT_WRITE, Outcome, STEPS, Targets, words_of};
-use std::test::Fail;
+ghost use Rattle.std.specs.Prelude.{◌<◌, length};
+
+use crate::devices::{Devices, FAULTLESS, Held};
+use crate::runs::{
+    CANNOT_READ, CANNOT_WRITE, Outcome, STEPS, Targets, check_count, check_devices,
+    check_each_write, words_of,
+};
+use std::alloc::Global;
+use std::process::Abort;
 
 const NOT_A_MOVE: &[u8] = b"nissy: line 1, column 3: not a move\n";
 
-#[test]
-fn each_read_fails(rt: HostRuntime) -> Result<(), Fail> {
-    let runs: [(&[&str], [&[u8]; 3]); 4] = [
-        (&["unniss"], [b"", b"R\n", b"R\nU\n"]),
-        (&["invert"], [b"", b"R'\n", b"R'\nU'\n"]),
-        (
-            &["solve", "eofb", "7"],
-            [b"", b"(0)\n\n", b"(0)\n\n(0)\n\n"],
-        ),
-        (
-            &["near", "eofb", "7", "0"],
-            [b"", b"(0)\n\n", b"(0)\n\n(0)\n\n"],
-        ),
-    ];
-    for (words, outputs) in runs {
-        let words = words_of(rt.alloc(), words)?;
-        for before in 0..6usize {
-            // two reads give a line
-            let output = outputs[before / 2];
-            let mut input = Bytes::failing_at(b"R\nU\nF", 1, before + 1);
-            let outcome = Outcome::failure(output, CANNOT_READ);
-            outcome.check_input(&rt, rt.alloc(), rt.alloc(), &words, &mut input);
-            assert_eq!(rt; input.reads, before + 1, "after {before} reads");
-        }
+/// Has each read of three lines fail in turn, which are read byte by byte: two reads give a line. These are the outputs
+/// after no line, after one and after two.
+fn check_each_read(rt: &impl Abort, alloc: Global, words: &[&str], outputs: &[&[u8]; 3]) {
+    for before in 0..6usize {
+        let devices = Devices {
+            input: b"R\nU\nF",
+            failed_read: before + 1,
+            ..FAULTLESS
+        };
+        let outcome = Outcome::failure(outputs[before / 2], CANNOT_READ);
+        let calls = check_devices(rt, alloc, words, devices, outcome);
+        check_count(rt, "reads", calls.reads, before + 1);
     }
-    Ok(())
+}
+
+#[test]
+fn each_read_fails(rt: HostRuntime) {
+    let solved: &[&[u8]; 3] = &[b"", b"(0)\n\n", b"(0)\n\n(0)\n\n"];
+    check_each_read(&rt, rt.alloc(), &["unniss"], &[b"", b"R\n", b"R\nU\n"]);
+    check_each_read(&rt, rt.alloc(), &["invert"], &[b"", b"R'\n", b"R'\nU'\n"]);
+    check_each_read(&rt, rt.alloc(), &["solve", "eofb", "7"], solved);
+    check_each_read(&rt, rt.alloc(), &["near", "eofb", "7", "0"], solved);
 }
 
 const FOUR_SOLUTIONS: &str = "F B (2)\nF B' (2)\nF' B (2)\nF' B' (2)\n\n";
@@ -55,91 +57,86 @@ const RUNS: [(&[&str], &str); 6] = [
 ];
 
 #[test]
-fn each_write_fails(rt: HostRuntime) -> Result<(), Fail> {
-    for (words, output) in RUNS {
-        let words = words_of(rt.alloc(), words)?;
-        let output = output.as_bytes();
-        for before in 0..output.len() {
-            let mut input = Bytes::new(b"", 1);
-            let mut targets = Targets::new(rt.alloc(), Held::failing_at(rt.alloc(), 1, before + 1));
-            let outcome = Outcome::failure(&output[..before], CANNOT_WRITE);
-            outcome.check(&rt, rt.alloc(), &words, &mut input, &mut targets);
-            assert_eq!(rt; targets.out.writes, before + 1, "after {before} writes");
-        }
+fn each_write_fails(rt: HostRuntime) {
+    for (words, output) in &RUNS {
+        check_each_write(&rt, rt.alloc(), words, FAULTLESS, output.as_bytes());
     }
-    Ok(())
+}
+
+/// How many writes an output is to take: one for each solution, and one for what stands after the last.
+fn writes_of(output: &str) -> usize {
+    let solutions = output.lines().filter(|line| line.ends_with(")")).count();
+    solutions.saturating_add(1)
 }
 
 /// Each solution goes out by itself as it is found, and so does what stands after the last one.
 #[test]
-fn each_solution_is_a_write(rt: HostRuntime) -> Result<(), Fail> {
-    for (words, output) in RUNS {
-        let solutions = output.lines().filter(|line| line.ends_with(")")).count();
-        let words = words_of(rt.alloc(), words)?;
-        let mut input = Bytes::new(b"", 1);
-        let mut targets = Targets::new(rt.alloc(), Held::new(rt.alloc(), usize::MAX));
+fn each_solution_is_a_write(rt: HostRuntime) {
+    for (words, output) in &RUNS {
         let outcome = Outcome::good(output.as_bytes());
-        outcome.check(&rt, rt.alloc(), &words, &mut input, &mut targets);
-        assert_eq!(rt; targets.out.writes, solutions + 1, "{solutions} solutions");
+        let calls = check_devices(&rt, rt.alloc(), words, FAULTLESS, outcome);
+        check_count(&rt, "writes", calls.writes, writes_of(output));
     }
-    Ok(())
 }
 
 #[test]
-fn no_bytes_taken(rt: HostRuntime) -> Result<(), Fail> {
-    for (words, _) in RUNS {
-        let words = words_of(rt.alloc(), words)?;
-        let mut input = Bytes::new(b"", 1);
-        let mut targets = Targets::new(rt.alloc(), Held::new(rt.alloc(), 0));
+fn no_bytes_taken(rt: HostRuntime) {
+    let devices = Devices {
+        most_written: 0,
+        ..FAULTLESS
+    };
+    for (words, _) in &RUNS {
         let outcome = Outcome::failure(b"", CANNOT_WRITE);
-        outcome.check(&rt, rt.alloc(), &words, &mut input, &mut targets);
-        assert_eq!(rt; targets.out.writes, 1);
+        let calls = check_devices(&rt, rt.alloc(), words, devices, outcome);
+        check_count(&rt, "writes", calls.writes, 1);
     }
-    Ok(())
 }
 
+/// All is taken, and the flush after it fails.
+const UNFLUSHED: Devices<'static> = Devices {
+    flush_fails: true,
+    ..FAULTLESS
+};
+
 #[test]
-fn last_flush_fails(rt: HostRuntime) -> Result<(), Fail> {
-    for (words, output) in RUNS {
-        let words = words_of(rt.alloc(), words)?;
-        let mut input = Bytes::new(b"", 1);
-        let mut targets = Targets::new(rt.alloc(), Held::failing_at_flush(rt.alloc()));
+fn last_flush_fails(rt: HostRuntime) {
+    for (words, output) in &RUNS {
         let outcome = Outcome::failure(output.as_bytes(), CANNOT_WRITE);
-        outcome.check(&rt, rt.alloc(), &words, &mut input, &mut targets);
-        assert_eq!(rt; targets.out.flushes, 1);
+        let calls = check_devices(&rt, rt.alloc(), words, UNFLUSHED, outcome);
+        check_count(&rt, "flushes", calls.flushes, 1);
     }
-    Ok(())
 }
 
 #[test]
-fn refused_flush_after_a_fault(rt: HostRuntime) -> Result<(), Fail> {
-    let words = words_of(rt.alloc(), &["invert", "R '"])?;
-    let mut input = Bytes::new(b"", 1);
-    let mut targets = Targets::new(rt.alloc(), Held::failing_at_flush(rt.alloc()));
+fn refused_flush_after_a_fault(rt: HostRuntime) {
     let outcome = Outcome {
         output: b"",
         error: NOT_A_MOVE,
         status: 1,
     };
-    outcome.check(&rt, rt.alloc(), &words, &mut input, &mut targets);
-    Ok(())
+    check_devices(&rt, rt.alloc(), &["invert", "R '"], UNFLUSHED, outcome);
+}
+
+/// Runs these words, whose fault is this one, over an error writer that takes this many bytes of it.
+fn check_cut_fault(rt: &impl Abort, alloc: Global, words: &[String], fault: &[u8], taken: usize)
+    requires a_part { taken < length fault.now }
+{
+    let mut targets = Targets {
+        out: FAULTLESS.target(alloc),
+        err: Held::failing_at(alloc, 1, taken + 1),
+    };
+    let outcome = Outcome {
+        output: b"",
+        error: &fault[..taken],
+        status: 1,
+    };
+    outcome.check(rt, alloc, words, &mut FAULTLESS.source(), &mut targets);
 }
 
 #[test]
-fn each_write_of_a_fault_fails(rt: HostRuntime) -> Result<(), Fail> {
-    let words = words_of(rt.alloc(), &["invert", "R '"])?;
+fn each_write_of_a_fault_fails(rt: HostRuntime) {
+    let words = words_of(rt.alloc(), &["invert", "R '"]).expect(&rt, "memory for words");
     for before in 0..NOT_A_MOVE.len() {
-        let mut input = Bytes::new(b"", 1);
-        let mut targets = Targets {
-            out: Held::new(rt.alloc(), 1000),
-            err: Held::failing_at(rt.alloc(), 1, before + 1),
-        };
-        let outcome = Outcome {
-            output: b"",
-            error: &NOT_A_MOVE[..before],
-            status: 1,
-        };
-        outcome.check(&rt, rt.alloc(), &words, &mut input, &mut targets);
+        check_cut_fault(&rt, rt.alloc(), &words, NOT_A_MOVE, before);
     }
-    Ok(())
 }

@@ -90,6 +90,46 @@ impl Source for Endless {
     }
 }
 
+/// What the devices of a run have to give, how few bytes they move at once, and which of their calls fails, by its number
+/// from 1.
+#[derive(Clone, Copy)]
+pub struct Devices<'a> {
+    pub input: &'a [u8],
+    pub most_read: usize,
+    pub failed_read: usize,
+    pub most_written: usize,
+    pub failed_write: usize,
+    pub flush_fails: bool,
+}
+
+/// No input, and no call that fails.
+pub const FAULTLESS: Devices<'static> = Devices {
+    input: b"",
+    most_read: 1,
+    failed_read: 0,
+    most_written: usize::MAX,
+    failed_write: 0,
+    flush_fails: false,
+};
+
+impl<'a> Devices<'a> {
+    pub fn source(self) -> Bytes<'a>
+        ensures works { result.failed ≡ false }
+        ensures goes_on { result.ended ≡ false }
+    {
+        Bytes::failing_at(self.input, self.most_read, self.failed_read)
+    }
+
+    pub fn target(self, alloc: Global) -> Held
+        ensures write_works { result.write_failed ≡ false }
+        ensures flush_works { result.flush_failed ≡ false }
+    {
+        let mut held = Held::failing_at(alloc, self.most_written, self.failed_write);
+        held.flush_fails = self.flush_fails;
+        held
+    }
+}
+
 /// A target in memory, which takes at most `most` bytes in a write, and whose write number `fails_at`, from 1, fails.
 #[derive(Drop)]
 pub struct Held {

@@ -1,6 +1,7 @@
 //! Lines rewritten: brackets joined, inverses, cleaned lines, and which turns may stand side by side.
 ghost use Rattle.std.specs.Prelude.{◌≤◌, length};
 
+use crate::runs::check_bytes;
 use niss_moves::{
     Face, LineText, Power, Token, Turn, allowed, invert, put_faces, put_niss_clean, put_tokens,
     read, turn_order, unniss,
@@ -27,10 +28,8 @@ fn allows_up_down_and_not_down_up(rt: HostRuntime) {
 fn writes_the_turns_in_order(rt: HostRuntime) {
     let mut text = LineText::new();
     put_faces(turn_order(), &mut text);
-    assert_eq!(rt;
-        text.as_slice(),
-        b"U U2 U' D D2 D' R R2 R' L L2 L' F F2 F' B B2 B'".as_slice()
-    );
+    let wanted = b"U U2 U' D D2 D' R R2 R' L L2 L' F F2 F' B B2 B'";
+    check_bytes(&rt, text.as_slice(), wanted);
 }
 
 fn words(moves: &[Token]) -> LineText {
@@ -46,14 +45,8 @@ fn writes_each_kind_of_move(rt: HostRuntime) {
     let line = read(b"u2 (f'M' yB2\xE2\x80\x99)");
     assert!(rt; line.is_ok());
     if let Ok(line) = line {
-        assert_eq!(rt;
-            words(&unniss(&line)).as_slice(),
-            b"Uw2 B2 y' M Fw".as_slice()
-        );
-        assert_eq!(rt;
-            words(&invert(&line)).as_slice(),
-            b"Fw' M' y B2 Uw2".as_slice()
-        );
+        check_bytes(&rt, words(&unniss(&line)).as_slice(), b"Uw2 B2 y' M Fw");
+        check_bytes(&rt, words(&invert(&line)).as_slice(), b"Fw' M' y B2 Uw2");
     }
 }
 
@@ -69,11 +62,8 @@ fn cleaned(line: &[u8]) -> LineText
 
 #[test]
 fn writes_cleaned_lines(rt: HostRuntime) {
-    assert_eq!(rt; cleaned(b"Rw U").as_slice(), b"L F x".as_slice());
-    assert_eq!(rt; cleaned(b"z z").as_slice(), b"x2 y2".as_slice());
-    assert_eq!(rt;
-        cleaned(b"R L R (U U) R'").as_slice(),
-        b"R L (U2)".as_slice()
-    );
-    assert_eq!(rt; cleaned(b"x (y)").as_slice(), b"x (y)".as_slice());
+    check_bytes(&rt, cleaned(b"Rw U").as_slice(), b"L F x");
+    check_bytes(&rt, cleaned(b"z z").as_slice(), b"x2 y2");
+    check_bytes(&rt, cleaned(b"R L R (U U) R'").as_slice(), b"R L (U2)");
+    check_bytes(&rt, cleaned(b"x (y)").as_slice(), b"x (y)");
 }

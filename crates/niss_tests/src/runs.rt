@@ -1,7 +1,7 @@
 //! What a run has to write and to answer, and the check of it.
 ghost use Rattle.std.specs.Prelude.{◌≡◌, Bool, true, false};
 
-use crate::devices::{Bytes, Held};
+use crate::devices::{Bytes, Devices, Held};
 use niss_shell::{Meter, Source, run, run_in};
 use std::alloc::{AllocError, Allocator, Global};
 use std::process::Abort;
@@ -33,6 +33,11 @@ pub fn words_of(alloc: Global, texts: &[&str]) -> Result<Vec<String>, AllocError
 /// Checks the bytes that a run wrote.
 pub fn check_bytes(rt: &impl Abort, written: &[u8], wanted: &[u8]) {
     assert_eq!(rt; written, wanted);
+}
+
+/// Checks how often something was done.
+pub fn check_count(rt: &impl Abort, what: &str, found: usize, wanted: usize) {
+    assert_eq!(rt; found, wanted, "{what}");
 }
 
 /// What a run writes to.
@@ -87,8 +92,8 @@ impl<'a> Outcome<'a> {
     pub fn compare(self, rt: &impl Abort, status: u8, out: &Held, err: &Held) {
         check_bytes(rt, out.bytes.as_slice(), self.output);
         check_bytes(rt, err.bytes.as_slice(), self.error);
-        assert_eq!(rt; err.flushes, 0);
-        assert_eq!(rt; status, self.status);
+        check_count(rt, "flushes of the error writer", err.flushes, 0);
+        check_count(rt, "status", usize::from(status), usize::from(self.status));
     }
 
     /// Runs the words over this source and these targets, with memory of `heap`.
@@ -115,7 +120,12 @@ impl<'a> Outcome<'a> {
             &mut Meter::new(),
         );
         self.compare(rt, status, &targets.out, &targets.err);
-        assert_eq!(rt; targets.out.flushes, flushes.saturating_add(1));
+        check_count(
+            rt,
+            "flushes",
+            targets.out.flushes,
+            flushes.saturating_add(1),
+        );
     }
 
     /// Runs the words over this source and over targets that take all.
@@ -132,6 +142,53 @@ impl<'a> Outcome<'a> {
     {
         let mut targets = Targets::new(alloc, Held::new(alloc, 1000));
         self.check(rt, heap, words, input, &mut targets);
+    }
+}
+
+/// How often a run called its devices.
+#[derive(Clone, Copy)]
+pub struct Calls {
+    pub reads: usize,
+    pub writes: usize,
+    pub flushes: usize,
+}
+
+/// Runs these words over such devices, which are to have this outcome.
+pub fn check_devices(
+    rt: &impl Abort,
+    alloc: Global,
+    words: &[&str],
+    devices: Devices<'_>,
+    outcome: Outcome<'_>,
+) -> Calls {
+    let words = words_of(alloc, words).expect(rt, "memory for words");
+    let mut input = devices.source();
+    let mut targets = Targets::new(alloc, devices.target(alloc));
+    outcome.check(rt, alloc, &words, &mut input, &mut targets);
+    Calls {
+        reads: input.reads,
+        writes: targets.out.writes,
+        flushes: targets.out.flushes,
+    }
+}
+
+/// Runs these words over this input, and has each write of a byte of the output fail in turn.
+pub fn check_each_write(
+    rt: &impl Abort,
+    alloc: Global,
+    words: &[&str],
+    devices: Devices<'_>,
+    output: &[u8],
+) {
+    for before in 0..output.len() {
+        let failing = Devices {
+            most_written: 1,
+            failed_write: before + 1,
+            ..devices
+        };
+        let outcome = Outcome::failure(&output[..before], CANNOT_WRITE);
+        let calls = check_devices(rt, alloc, words, failing, outcome);
+        check_count(rt, "writes", calls.writes, before + 1);
     }
 }
 
@@ -170,8 +227,8 @@ impl<'a> Run<'a> {
 
     /// Runs it over a source that gives few bytes in a read, and targets that take few in a write, and answers the looks
     /// at positions.
-    pub fn check(self, rt: &impl Abort, alloc: Global) -> Result<u128, AllocError> {
-        let words = words_of(alloc, self.words)?;
+    pub fn looks(self, rt: &impl Abort, alloc: Global) -> u128 {
+        let words = words_of(alloc, self.words).expect(rt, "memory for words");
         // a read asks for more: so lines and moves are cut at every third byte
         let mut input = Bytes::new(self.input, 3);
         let mut out = Held::new(alloc, 5);
@@ -184,15 +241,62 @@ impl<'a> Run<'a> {
             status: self.status,
         };
         outcome.compare(rt, status, &out, &err);
-        assert_eq!(rt; out.flushes, 1);
-        Ok(looks.count())
+        check_count(rt, "flushes", out.flushes, 1);
+        looks.count()
     }
 }
 
 /// Checks each of these runs.
 pub fn check_all(rt: &impl Abort, alloc: Global, runs: &[Run<'_>]) -> Result<(), AllocError> {
     for run in runs {
-        run.check(rt, alloc)?;
+        run.looks(rt, alloc);
     }
     Ok(())
+}
+
+/// The words and the input of a good run, and what it writes. A table of such rows is a constant, which a test passes on
+/// at little cost.
+pub type Good<'a> = (&'a [&'a str], &'a [u8], &'a str);
+
+/// The words and the input of a run that a line's fault ends, what it writes, and the fault.
+pub type Faulty<'a> = (&'a [&'a str], &'a [u8], &'a str, &'a str);
+
+/// Checks each of these good runs.
+pub fn check_good(rt: &impl Abort, alloc: Global, runs: &[Good<'_>]) {
+    for (words, input, output) in runs {
+        Run::good(words, input, output).looks(rt, alloc);
+    }
+}
+
+/// Checks this run, and how many positions it looks at.
+pub fn check_looks(rt: &impl Abort, alloc: Global, run: Run<'_>, looks: u128) {
+    assert_eq!(rt; run.looks(rt, alloc), looks);
+}
+
+/// Checks what a command answers to each of these lines, given as a word.
+pub fn check_answers(rt: &impl Abort, alloc: Global, command: &str, answers: &[(&str, &str)]) {
+    for (line, answer) in answers {
+        Run::good(&[command, line], b"", answer).looks(rt, alloc);
+    }
+}
+
+/// Checks each of these runs that a line's fault ends.
+pub fn check_faults(rt: &impl Abort, alloc: Global, runs: &[Faulty<'_>]) {
+    for (words, input, output, error) in runs {
+        let run = Run {
+            words,
+            input,
+            output,
+            error,
+            status: 1,
+        };
+        run.looks(rt, alloc);
+    }
+}
+
+/// Checks that each of these lists of words is refused.
+pub fn check_usage(rt: &impl Abort, alloc: Global, wrong: &[&[&str]]) {
+    for words in wrong {
+        Run::fault(words, USAGE, 2).looks(rt, alloc);
+    }
 }

@@ -1,14 +1,12 @@
 //! Runs over readers and writers of `std::io` that move blocks, and that fail with each kind of error.
 use crate::blocks::repeated;
 use crate::devices::Held;
-use crate::runs::{CANNOT_READ, CANNOT_WRITE, Outcome, check_bytes, words_of};
-use crate::std_streams::run_over;
-use niss_shell::FromReader;
+use crate::runs::{CANNOT_READ, CANNOT_WRITE, Outcome, check_bytes, check_count, words_of};
+use crate::std_streams::{check_reader, run_over};
 use std::alloc::{AllocError, Global};
 use std::io;
 use std::io::Cursor;
 use std::process::Abort;
-use std::test::Fail;
 
 /// Kinds of error that a stream may answer with: none of them is tried again.
 pub const KINDS: [io::ErrorKind; 5] = [
@@ -98,45 +96,37 @@ impl io::Write for Flushed {
     }
 }
 
-/// A reader that fills each block is read to its end, by reads that each ask for a whole block.
-#[test]
-fn reads_whole_blocks(rt: HostRuntime) -> Result<(), Fail> {
-    let words = words_of(rt.alloc(), &["invert"])?;
-    for blocks in 0..4usize {
-        let mut reader = Spaces::new(blocks * BLOCK, 0, io::ErrorKind::Other);
-        let output = if blocks == 0 { "" } else { "\n" };
-        Outcome::good(output.as_bytes()).check_input(
-            &rt,
-            rt.alloc(),
-            rt.alloc(),
-            &words,
-            &mut FromReader::new(&mut reader),
-        );
-        assert_eq!(rt; reader.calls, blocks + 1);
-        assert_eq!(rt; reader.least, BLOCK);
-        assert_eq!(rt; reader.most, BLOCK);
-    }
-    Ok(())
+/// A reader that fills so many blocks is read to its end, by reads that each ask for a whole block.
+fn check_blocks(rt: &impl Abort, alloc: Global, blocks: usize, output: &[u8]) {
+    let mut reader = Spaces::new(blocks.saturating_mul(BLOCK), 0, io::ErrorKind::Other);
+    check_reader(rt, alloc, &mut reader, Outcome::good(output));
+    check_count(rt, "reads", reader.calls, blocks.saturating_add(1));
+    check_count(rt, "least that a read asks for", reader.least, BLOCK);
+    check_count(rt, "most that a read asks for", reader.most, BLOCK);
 }
 
-/// A read that fails with any kind of error is not tried again, also after whole blocks.
 #[test]
-fn each_kind_of_failed_read(rt: HostRuntime) -> Result<(), Fail> {
-    let words = words_of(rt.alloc(), &["invert"])?;
-    for kind in KINDS {
-        for fails_at in 1..4usize {
-            let mut reader = Spaces::new(4 * BLOCK, fails_at, kind);
-            Outcome::failure(b"", CANNOT_READ).check_input(
-                &rt,
-                rt.alloc(),
-                rt.alloc(),
-                &words,
-                &mut FromReader::new(&mut reader),
-            );
-            assert_eq!(rt; reader.calls, fails_at);
-        }
+fn reads_whole_blocks(rt: HostRuntime) {
+    check_blocks(&rt, rt.alloc(), 0, b"");
+    check_blocks(&rt, rt.alloc(), 1, b"\n");
+    check_blocks(&rt, rt.alloc(), 2, b"\n");
+    check_blocks(&rt, rt.alloc(), 3, b"\n");
+}
+
+/// A read that fails with this kind of error is not tried again, also after whole blocks.
+fn check_failed_reads(rt: &impl Abort, alloc: Global, kind: io::ErrorKind) {
+    for fails_at in 1..4usize {
+        let mut reader = Spaces::new(4 * BLOCK, fails_at, kind);
+        check_reader(rt, alloc, &mut reader, Outcome::failure(b"", CANNOT_READ));
+        check_count(rt, "reads", reader.calls, fails_at);
     }
-    Ok(())
+}
+
+#[test]
+fn each_kind_of_failed_read(rt: HostRuntime) {
+    for kind in KINDS {
+        check_failed_reads(&rt, rt.alloc(), kind);
+    }
 }
 
 /// 700 empty lines and a long one.
@@ -148,44 +138,35 @@ fn lines(alloc: Global) -> Result<Vec<u8>, AllocError> {
 }
 
 /// Runs these lines over this writer, which are to have this status and this error text.
-fn check_flushed(
-    rt: &impl Abort,
-    alloc: Global,
-    writer: &mut Flushed,
-    status: u8,
-    error: &[u8],
-) -> Result<(), AllocError> {
-    let lines = lines(alloc)?;
-    let words = words_of(alloc, &["unniss"])?;
+fn check_flushed(rt: &impl Abort, alloc: Global, writer: &mut Flushed, status: u8, error: &[u8]) {
+    let lines = lines(alloc).expect(rt, "memory for lines");
+    let words = words_of(alloc, &["unniss"]).expect(rt, "memory for words");
     let reader = Cursor::new(lines.as_slice());
     let mut err = Held::new(alloc, 1000);
     let answered = run_over(alloc, &words, reader, writer, &mut err);
     check_bytes(rt, err.bytes.as_slice(), error);
-    assert_eq!(rt; answered, status);
-    Ok(())
+    check_count(rt, "status", usize::from(answered), usize::from(status));
 }
 
 /// How many bytes these lines give: 256 words of 3 letters with single spaces, and a line feed for each line.
 const FLUSHED: usize = 700 + 256 * 4;
 
 #[test]
-fn long_pieces_are_taken_whole(rt: HostRuntime) -> Result<(), Fail> {
+fn long_pieces_are_taken_whole(rt: HostRuntime) {
     let mut writer = Flushed::new(None);
-    check_flushed(&rt, rt.alloc(), &mut writer, 0, b"")?;
-    assert_eq!(rt; writer.bytes, FLUSHED);
-    assert_eq!(rt; writer.longest, FLUSHED);
-    assert_eq!(rt; writer.flushes, 1);
-    Ok(())
+    check_flushed(&rt, rt.alloc(), &mut writer, 0, b"");
+    check_count(&rt, "bytes", writer.bytes, FLUSHED);
+    check_count(&rt, "bytes of the longest piece", writer.longest, FLUSHED);
+    check_count(&rt, "flushes", writer.flushes, 1);
 }
 
 /// A flush that fails with any kind of error is reported and not tried again.
 #[test]
-fn each_kind_of_failed_flush(rt: HostRuntime) -> Result<(), Fail> {
+fn each_kind_of_failed_flush(rt: HostRuntime) {
     for kind in KINDS {
         let mut writer = Flushed::new(Some(kind));
-        check_flushed(&rt, rt.alloc(), &mut writer, 3, CANNOT_WRITE)?;
-        assert_eq!(rt; writer.bytes, FLUSHED);
-        assert_eq!(rt; writer.flushes, 1);
+        check_flushed(&rt, rt.alloc(), &mut writer, 3, CANNOT_WRITE);
+        check_count(&rt, "bytes", writer.bytes, FLUSHED);
+        check_count(&rt, "flushes", writer.flushes, 1);
     }
-    Ok(())
 }

@@ -1,13 +1,12 @@
 //! Runs over readers and writers of `std::io`.
 use crate::devices::Held;
-use crate::runs::{CANNOT_READ, CANNOT_WRITE, Outcome, USAGE, check_bytes, words_of};
+use crate::runs::{CANNOT_READ, CANNOT_WRITE, Outcome, USAGE, check_bytes, check_count, words_of};
 use crate::std_blocks::KINDS;
 use niss_shell::{FromReader, Meter, Target, ToWriter, run};
-use std::alloc::{AllocError, Global};
+use std::alloc::Global;
 use std::io;
 use std::io::{Cursor, Read};
 use std::process::Abort;
-use std::test::Fail;
 
 /// A reader of a byte a call, whose call number `fails_at`, from 1, fails with `kind`. It gives the rest to later calls.
 #[derive(Drop)]
@@ -149,53 +148,53 @@ pub fn run_over<R: io::Read + Drop, W: io::Write + Drop, E: Target>(
 }
 
 #[test]
-fn all_works(rt: HostRuntime) -> Result<(), Fail> {
-    let words = words_of(rt.alloc(), &["invert"])?;
+fn all_works(rt: HostRuntime) {
+    let words = words_of(rt.alloc(), &["invert"]).expect(&rt, "memory for words");
     let mut output = Vec::new(rt.alloc());
     let mut error = Vec::new(rt.alloc());
     let reader = Cursor::new(b"R U\n".as_slice());
     let mut err = ToWriter::new(&mut error);
     let status = run_over(rt.alloc(), &words, reader, &mut output, &mut err);
-    assert_eq!(rt; status, 0);
+    check_count(&rt, "status", usize::from(status), 0);
     check_bytes(&rt, output.as_slice(), b"U' R'\n");
     check_bytes(&rt, error.as_slice(), b"");
-    Ok(())
+}
+
+/// Runs `invert` over this reader.
+pub fn check_reader<R: io::Read + Drop>(
+    rt: &impl Abort,
+    alloc: Global,
+    reader: R,
+    outcome: Outcome<'_>,
+) {
+    let words = words_of(alloc, &["invert"]).expect(rt, "memory for words");
+    outcome.check_input(rt, alloc, alloc, &words, &mut FromReader::new(reader));
+}
+
+/// Has each read of three lines fail once with this kind of error, which are read byte by byte.
+fn check_each_read(rt: &impl Abort, alloc: Global, kind: io::ErrorKind) {
+    let outputs: [&[u8]; 6] = [b"", b"", b"R'\n", b"R'\n", b"R'\nU'\n", b"R'\nU'\n"];
+    for before in 0..6usize {
+        let mut reader = FailingReader::new(b"R\nU\nF", before + 1, kind);
+        let outcome = Outcome::failure(outputs[before], CANNOT_READ);
+        check_reader(rt, alloc, &mut reader, outcome);
+        check_count(rt, "reads", reader.calls, before + 1);
+    }
 }
 
 #[test]
-fn each_read_fails_once(rt: HostRuntime) -> Result<(), Fail> {
-    let words = words_of(rt.alloc(), &["invert"])?;
-    let outputs: [&[u8]; 6] = [b"", b"", b"R'\n", b"R'\n", b"R'\nU'\n", b"R'\nU'\n"];
-    for kind in [io::ErrorKind::Interrupted, io::ErrorKind::BrokenPipe] {
-        for (before, output) in outputs.iter().enumerate() {
-            let mut reader = FailingReader::new(b"R\nU\nF", before + 1, kind);
-            Outcome::failure(output, CANNOT_READ).check_input(
-                &rt,
-                rt.alloc(),
-                rt.alloc(),
-                &words,
-                &mut FromReader::new(&mut reader),
-            );
-            assert_eq!(rt; reader.calls, before + 1, "after {before} reads");
-        }
-    }
-    Ok(())
+fn each_read_fails_once(rt: HostRuntime) {
+    check_each_read(&rt, rt.alloc(), io::ErrorKind::Interrupted);
+    check_each_read(&rt, rt.alloc(), io::ErrorKind::BrokenPipe);
 }
 
 /// A read that gives few bytes is followed by one more, up to the one that gives none.
 #[test]
-fn short_reads_are_counted(rt: HostRuntime) -> Result<(), Fail> {
-    let words = words_of(rt.alloc(), &["invert"])?;
+fn short_reads_are_counted(rt: HostRuntime) {
     let mut reader = FailingReader::new(b"R\nU\nF", 0, io::ErrorKind::Other);
-    Outcome::good(b"R'\nU'\nF'\n").check_input(
-        &rt,
-        rt.alloc(),
-        rt.alloc(),
-        &words,
-        &mut FromReader::new(&mut reader),
-    );
-    assert_eq!(rt; reader.calls, 6);
-    Ok(())
+    let outcome = Outcome::good(b"R'\nU'\nF'\n");
+    check_reader(&rt, rt.alloc(), &mut reader, outcome);
+    check_count(&rt, "reads", reader.calls, 6);
 }
 
 /// Words and their input, and what a run has to answer and to report.
@@ -207,100 +206,102 @@ struct WriterRun<'a> {
     error: &'a [u8],
 }
 
-impl<'a> WriterRun<'a> {
-    /// With words that give the input, and an output that fails.
-    fn failure(words: &'a [&'a str]) -> WriterRun<'a> {
-        WriterRun {
-            words,
-            input: b"",
-            status: 3,
-            error: CANNOT_WRITE,
-        }
-    }
-
+impl WriterRun<'_> {
     /// Runs it over this writer.
-    fn check<W: io::Write + Drop>(
-        self,
-        rt: &impl Abort,
-        alloc: Global,
-        writer: W,
-    ) -> Result<(), AllocError> {
-        let words = words_of(alloc, self.words)?;
+    fn check<W: io::Write + Drop>(self, rt: &impl Abort, alloc: Global, writer: W) {
+        let words = words_of(alloc, self.words).expect(rt, "memory for words");
         let mut err = Held::new(alloc, 1000);
         let reader = Cursor::new(self.input);
         let status = run_over(alloc, &words, reader, writer, &mut err);
         check_bytes(rt, err.bytes.as_slice(), self.error);
-        assert_eq!(rt; status, self.status);
-        Ok(())
+        check_count(rt, "status", usize::from(status), usize::from(self.status));
+    }
+}
+
+const FAILING: WriterRun<'static> = WriterRun {
+    words: &["invert", "R U' F2"],
+    input: b"",
+    status: 3,
+    error: CANNOT_WRITE,
+};
+
+/// Has each write of eight bytes fail once with this kind of error: none follows it, and one flush.
+fn check_each_write(rt: &impl Abort, alloc: Global, kind: io::ErrorKind) {
+    for before in 0..8usize {
+        let mut writer = FailingWriter::new(before + 1, kind);
+        FAILING.check(rt, alloc, &mut writer);
+        check_count(rt, "writes", writer.calls, before + 1);
+        check_count(rt, "flushes", writer.flushes, 1);
     }
 }
 
 #[test]
-fn each_write_fails_once(rt: HostRuntime) -> Result<(), Fail> {
-    let words = ["invert", "R U' F2"];
+fn each_write_fails_once(rt: HostRuntime) {
     for kind in KINDS {
-        for before in 0..8usize {
-            let mut writer = FailingWriter::new(before + 1, kind);
-            WriterRun::failure(&words).check(&rt, rt.alloc(), &mut writer)?;
-            assert_eq!(rt; writer.calls, before + 1, "after {before} writes");
-            assert_eq!(rt; writer.flushes, 1, "after {before} writes");
-        }
+        check_each_write(&rt, rt.alloc(), kind);
     }
-    Ok(())
 }
 
 #[test]
-fn no_bytes_taken(rt: HostRuntime) -> Result<(), Fail> {
-    let words = ["invert", "R U' F2"];
+fn no_bytes_taken(rt: HostRuntime) {
     let mut writer = FullWriter { calls: 0 };
-    WriterRun::failure(&words).check(&rt, rt.alloc(), &mut writer)?;
-    assert_eq!(rt; writer.calls, 1);
-    Ok(())
+    FAILING.check(&rt, rt.alloc(), &mut writer);
+    check_count(&rt, "writes", writer.calls, 1);
 }
 
 #[test]
-fn last_flush_fails(rt: HostRuntime) -> Result<(), Fail> {
+fn last_flush_fails(rt: HostRuntime) {
     let wanted = WriterRun {
         words: &["invert"],
         input: b"R U\n",
         status: 3,
         error: CANNOT_WRITE,
     };
-    wanted.check(&rt, rt.alloc(), UnflushedWriter)?;
-    Ok(())
+    wanted.check(&rt, rt.alloc(), UnflushedWriter);
+}
+
+impl WriterRun<'_> {
+    /// Runs it over a writer that is to have so many bytes and then one flush.
+    fn check_flush(self, rt: &impl Abort, alloc: Global, bytes: usize) {
+        let mut writer = CountingWriter {
+            bytes: 0,
+            flushes: 0,
+            bytes_before_flush: 0,
+        };
+        self.check(rt, alloc, &mut writer);
+        check_count(rt, "bytes", writer.bytes, bytes);
+        check_count(rt, "flushes", writer.flushes, 1);
+        check_count(
+            rt,
+            "bytes before the flush",
+            writer.bytes_before_flush,
+            bytes,
+        );
+    }
 }
 
 /// One flush, after the last byte: of a good run, of one that a line's fault ends, and of one that writes nothing.
 #[test]
-fn one_flush(rt: HostRuntime) -> Result<(), Fail> {
+fn one_flush(rt: HostRuntime) {
     let good = WriterRun {
         words: &["invert"],
         input: b"R\nU\nF2\n",
         status: 0,
         error: b"",
     };
+    good.check_flush(&rt, rt.alloc(), 9);
     let fault = WriterRun {
         words: &["invert"],
         input: b"R\nU\nR '\n",
         status: 1,
         error: b"nissy: line 3, column 3: not a move\n",
     };
+    fault.check_flush(&rt, rt.alloc(), 6);
     let usage = WriterRun {
         words: &[""],
         input: b"",
         status: 2,
         error: USAGE.as_bytes(),
     };
-    for (wanted, bytes) in [(good, 9usize), (fault, 6), (usage, 0)] {
-        let mut writer = CountingWriter {
-            bytes: 0,
-            flushes: 0,
-            bytes_before_flush: 0,
-        };
-        wanted.check(&rt, rt.alloc(), &mut writer)?;
-        assert_eq!(rt; writer.bytes, bytes);
-        assert_eq!(rt; writer.flushes, 1);
-        assert_eq!(rt; writer.bytes_before_flush, bytes);
-    }
-    Ok(())
+    usage.check_flush(&rt, rt.alloc(), 0);
 }

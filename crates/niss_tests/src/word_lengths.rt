@@ -1,33 +1,45 @@
 //! Runs whose memory is ample: each step has its tables, and words of each length are joined.
-use crate::devices::Bytes;
-use crate::runs::{Outcome, STEPS, words_of};
-use std::test::Fail;
+use crate::devices::{Devices, FAULTLESS};
+use crate::runs::{Outcome, STEPS, check_count, check_devices};
+use std::alloc::{AllocError, Global};
+use std::process::Abort;
+
+/// Checks that a run with these words answers so, and reads nothing.
+fn check_unread(rt: &impl Abort, alloc: Global, words: &[&str], output: &[u8]) {
+    let devices = Devices {
+        input: b"R",
+        ..FAULTLESS
+    };
+    let calls = check_devices(rt, alloc, words, devices, Outcome::good(output));
+    check_count(rt, "reads", calls.reads, 0);
+}
 
 /// The solved cube has reached each step, which needs its tables to say so.
 #[test]
-fn each_step_has_its_tables(rt: HostRuntime) -> Result<(), Fail> {
+fn each_step_has_its_tables(rt: HostRuntime) {
     for step in STEPS.lines() {
-        let words = words_of(rt.alloc(), &["solve", step, "0", ""])?;
-        let mut input = Bytes::new(b"", 1);
-        Outcome::good(b"(0)\n\n").check_input(&rt, rt.alloc(), rt.alloc(), &words, &mut input);
-        assert_eq!(rt; input.reads, 0);
+        check_unread(&rt, rt.alloc(), &["solve", step, "0", ""], b"(0)\n\n");
     }
-    Ok(())
 }
 
-/// A word of blanks is an empty line, however long it is.
-#[test]
-fn words_of_each_length(rt: HostRuntime) -> Result<(), Fail> {
-    for length in [0usize, 1, 15, 16, 255, 256, 4095, 4096, 5000, 65_536] {
-        let mut word = String::new(rt.alloc());
-        for _ in 0..length {
-            word.push(' ')?;
-        }
-        let mut words = words_of(rt.alloc(), &["invert"])?;
-        words.push(word)?;
-        let mut input = Bytes::new(b"R", 1);
-        Outcome::good(b"\n").check_input(&rt, rt.alloc(), rt.alloc(), &words, &mut input);
-        assert_eq!(rt; input.reads, 0);
+/// A word of so many blanks.
+fn blanks(alloc: Global, count: usize) -> Result<String, AllocError> {
+    let mut word = String::new(alloc);
+    for _ in 0..count {
+        word.push(' ')?;
     }
-    Ok(())
+    Ok(word)
+}
+
+/// A word of so many blanks is an empty line.
+fn check_blanks(rt: &impl Abort, alloc: Global, count: usize) {
+    let word = blanks(alloc, count).expect(rt, "memory for a word");
+    check_unread(rt, alloc, &["invert", &word], b"\n");
+}
+
+#[test]
+fn words_of_each_length(rt: HostRuntime) {
+    for length in [0usize, 1, 15, 16, 255, 256, 4095, 4096, 5000, 65_536] {
+        check_blanks(&rt, rt.alloc(), length);
+    }
 }
