@@ -12,57 +12,54 @@ const ORIENTED_AFTER_F: &[&str] = &[
     "F' L", "F' L2", "F' L'", "F' B2",
 ];
 
+const LONGER_EDGE_ORIENTATIONS: &[Row] = &[
+    Row {
+        search: Search {
+            moves: "F",
+            limit: 2,
+            slack: 1,
+            paths: ORIENTED_AFTER_F,
+        },
+        length: Some(1),
+        looks: 96,
+    },
+    // the limit cuts the slack
+    Row {
+        search: Search {
+            moves: "F",
+            limit: 1,
+            slack: 5,
+            paths: &["F", "F'"],
+        },
+        length: Some(1),
+        looks: 20,
+    },
+    // the slack cuts the limit
+    Row {
+        search: Search {
+            moves: "F",
+            limit: 7,
+            slack: 0,
+            paths: &["F", "F'"],
+        },
+        length: Some(1),
+        looks: 20,
+    },
+    Row {
+        search: Search {
+            moves: "F",
+            limit: 0,
+            slack: 3,
+            paths: &[],
+        },
+        length: None,
+        looks: 1,
+    },
+];
+
 #[test]
 fn longer_edge_orientations_follow_the_shortest(rt: HostRuntime) {
-    check_rows(
-        &rt,
-        rt.alloc(),
-        Step::Eofb,
-        &[
-            Row {
-                search: Search {
-                    moves: "F",
-                    limit: 2,
-                    slack: 1,
-                    paths: ORIENTED_AFTER_F,
-                },
-                length: Some(1),
-                looks: 96,
-            },
-            // the limit cuts the slack
-            Row {
-                search: Search {
-                    moves: "F",
-                    limit: 1,
-                    slack: 5,
-                    paths: &["F", "F'"],
-                },
-                length: Some(1),
-                looks: 20,
-            },
-            // the slack cuts the limit
-            Row {
-                search: Search {
-                    moves: "F",
-                    limit: 7,
-                    slack: 0,
-                    paths: &["F", "F'"],
-                },
-                length: Some(1),
-                looks: 20,
-            },
-            Row {
-                search: Search {
-                    moves: "F",
-                    limit: 0,
-                    slack: 3,
-                    paths: &[],
-                },
-                length: None,
-                looks: 1,
-            },
-        ],
-    );
+    check_rows(&rt, rt.alloc(), Step::Eofb, LONGER_EDGE_ORIENTATIONS);
 }
 
 #[test]

@@ -82,51 +82,52 @@ fn start_does_not_hold(rt: HostRuntime) {
     check_faults(&rt, rt.alloc(), faults);
 }
 
+const COUNTS: &[Good] = &[
+    (
+        &["count", "eofb", "5", "F B"],
+        b"",
+        "length 2 solutions 4 nodes 75\n",
+    ),
+    (
+        &["count", "eofb", "1", "F B"],
+        b"",
+        "length none solutions 0 nodes 2\n",
+    ),
+    (
+        &["count", "eofb", "20", ""],
+        b"",
+        "length 0 solutions 1 nodes 1\n",
+    ),
+    (
+        &["count", "eofb", "0", "F"],
+        b"",
+        "length none solutions 0 nodes 1\n",
+    ),
+    (
+        &["count", "eofb", "7", "F"],
+        b"",
+        "length 1 solutions 2 nodes 20\n",
+    ),
+    (
+        &["count", "drud-eofb", "5", "R"],
+        b"",
+        "length 1 solutions 2 nodes 16\n",
+    ),
+    (
+        &["count", "drud-eofb", "5", "R U"],
+        b"",
+        "length 2 solutions 2 nodes 28\n",
+    ),
+    (
+        &["count", "drrl-eofb", "5", "R"],
+        b"",
+        "length 0 solutions 1 nodes 1\n",
+    ),
+];
+
 #[test]
 fn count(rt: HostRuntime) {
-    let runs: &[Good] = &[
-        (
-            &["count", "eofb", "5", "F B"],
-            b"",
-            "length 2 solutions 4 nodes 75\n",
-        ),
-        (
-            &["count", "eofb", "1", "F B"],
-            b"",
-            "length none solutions 0 nodes 2\n",
-        ),
-        (
-            &["count", "eofb", "20", ""],
-            b"",
-            "length 0 solutions 1 nodes 1\n",
-        ),
-        (
-            &["count", "eofb", "0", "F"],
-            b"",
-            "length none solutions 0 nodes 1\n",
-        ),
-        (
-            &["count", "eofb", "7", "F"],
-            b"",
-            "length 1 solutions 2 nodes 20\n",
-        ),
-        (
-            &["count", "drud-eofb", "5", "R"],
-            b"",
-            "length 1 solutions 2 nodes 16\n",
-        ),
-        (
-            &["count", "drud-eofb", "5", "R U"],
-            b"",
-            "length 2 solutions 2 nodes 28\n",
-        ),
-        (
-            &["count", "drrl-eofb", "5", "R"],
-            b"",
-            "length 0 solutions 1 nodes 1\n",
-        ),
-    ];
-    check_good(&rt, rt.alloc(), runs);
+    check_good(&rt, rt.alloc(), COUNTS);
 }
 
 #[test]
