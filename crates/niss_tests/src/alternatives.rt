@@ -1,116 +1,119 @@
 //! Steps with alternatives: an edge orientation on any axis, and a domino reduction on either of two.
-use crate::runs::Run;
+use crate::runs::{Faulty, Good, check_faults, check_good};
 use crate::searches::count_after_fill;
 use niss_cube::Step;
 use niss_search::Meter;
-use std::alloc::{AllocError, Global};
-use std::process::Abort;
-use std::test::Fail;
 
-/// Words, and what a good run of them writes, or what a run with status 1 says.
-type Row = (&'static [&'static str], &'static str);
-
-/// Good runs that read nothing.
-fn check_outputs(rt: &impl Abort, alloc: Global, rows: &[Row]) -> Result<(), AllocError> {
-    for (words, output) in rows {
-        Run::good(words, b"", output).check(rt, alloc)?;
-    }
-    Ok(())
-}
-
-/// Runs that write nothing, and end with status 1.
-fn check_errors(rt: &impl Abort, alloc: Global, rows: &[Row]) -> Result<(), AllocError> {
-    for (words, error) in rows {
-        Run::fault(words, error, 1).check(rt, alloc)?;
-    }
-    Ok(())
-}
-
-const EDGES: &[Row] = &[
+const EDGES: &[Good<'static>] = &[
     // two alternatives hold, and the empty sequence is one solution
-    (&["count", "eo", "3", "F"], "length 0 solutions 1 nodes 1\n"),
-    (&["solve", "eo", "3", "F", "R", "U"], "U (1)\nU' (1)\n\n"),
+    (
+        &["count", "eo", "3", "F"],
+        b"",
+        "length 0 solutions 1 nodes 1\n",
+    ),
+    (
+        &["solve", "eo", "3", "F", "R", "U"],
+        b"",
+        "U (1)\nU' (1)\n\n",
+    ),
     (
         &["count", "eo", "3", "F", "R", "U"],
+        b"",
         "length 1 solutions 2 nodes 20\n",
     ),
     (
         &["solve", "eo", "0", "F R U"],
+        b"",
         "no solution within 0 moves\n\n",
     ),
     // four turns on the axis of U and D, five on each of the others
     (
         &["count", "eo", "20", "F R U B L D F"],
+        b"",
         "length 4 solutions 8 nodes 176\n",
     ),
     (
         &["count", "eorl", "20", "F R U B L D F"],
+        b"",
         "length 5 solutions 32 nodes 627\n",
     ),
     (
         &["count", "eofb", "20", "F R U B L D F"],
+        b"",
         "length 5 solutions 28 nodes 582\n",
     ),
 ];
 
 #[test]
-fn edges_on_any_axis(rt: HostRuntime) -> Result<(), Fail> {
-    check_outputs(&rt, rt.alloc(), EDGES)?;
-    Ok(())
+fn edges_on_any_axis(rt: HostRuntime) {
+    check_good(&rt, rt.alloc(), EDGES);
 }
 
-const DOMINOES: &[Row] = &[
-    (&["solve", "dr-eofb", "5", "R"], "(0)\n\n"),
+const DOMINOES: &[Good<'static>] = &[
+    (&["solve", "dr-eofb", "5", "R"], b"", "(0)\n\n"),
     // one turn for the second axis, where the first needs two
-    (&["solve", "dr-eofb", "5", "R", "U"], "U (1)\nU' (1)\n\n"),
+    (
+        &["solve", "dr-eofb", "5", "R", "U"],
+        b"",
+        "U (1)\nU' (1)\n\n",
+    ),
     (
         &["count", "dr-eofb", "3", ""],
+        b"",
         "length 0 solutions 1 nodes 1\n",
     ),
     (
         &["count", "dr-eofb", "0", "R U"],
+        b"",
         "length none solutions 0 nodes 1\n",
     ),
     (
         &["solve", "dr-eofb", "7", "R U F2 L D R"],
+        b"",
         "R' D' L' F2 U (5)\nR' D' L' F2 U' (5)\n\n",
     ),
     (
         &["count", "dr-eofb", "20", "R U F2 L D R"],
+        b"",
         "length 5 solutions 2 nodes 60\n",
     ),
     (
         &["solve", "dr-eorl", "7", "U F R2"],
+        b"",
         "R2 F (2)\nR2 F' (2)\n\n",
     ),
-    (&["solve", "dr-eoud", "7", "F R"], "R (1)\nR' (1)\n\n"),
+    (&["solve", "dr-eoud", "7", "F R"], b"", "R (1)\nR' (1)\n\n"),
 ];
 
 #[test]
-fn dominoes_on_either_axis(rt: HostRuntime) -> Result<(), Fail> {
-    check_outputs(&rt, rt.alloc(), DOMINOES)?;
-    Ok(())
+fn dominoes_on_either_axis(rt: HostRuntime) {
+    check_good(&rt, rt.alloc(), DOMINOES);
 }
 
-const WITHOUT_EDGES: &[Row] = &[
+const WITHOUT_EDGES: &[Faulty<'static>] = &[
     (
         &["solve", "dr-eoud", "3", "U"],
+        b"",
+        "",
         "nissy: line 1: eoud does not hold\n",
     ),
     (
         &["solve", "dr-eofb", "3", "F"],
+        b"",
+        "",
         "nissy: line 1: eofb does not hold\n",
     ),
     (
         &["count", "dr-eorl", "3", "R"],
+        b"",
+        "",
         "nissy: line 1: eorl does not hold\n",
     ),
 ];
 
 #[test]
-fn edges_must_be_oriented_for_a_domino(rt: HostRuntime) -> Result<(), Fail> {
-    check_errors(&rt, rt.alloc(), WITHOUT_EDGES)?;
-    Ok(())
+fn edges_must_be_oriented_for_a_domino(rt: HostRuntime) {
+    check_faults(&rt, rt.alloc(), WITHOUT_EDGES);
 }
 
 /// A table for each alternative is filled, each with 18 turns from each of 2,048 entries, or 14 from each of 1,082,565.
