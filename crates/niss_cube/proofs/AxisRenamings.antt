@@ -1,4 +1,4 @@
--- The cubies, the maps and the turns of the cube as it is renamed for a coordinate on an axis.
+-- The cubies, the maps and the turns of the cube as it is renamed.
 use Rattle.std.proofs.Common.{◌≡◌, refl, sym, ◌∙◌, ap, Bool, true, ◌&&◌}
 use Rattle.std.specs.List.{list_all}
 use Rattle.niss_moves.specs.Places.{Place, is_place, same_place, SameMap}
@@ -6,15 +6,11 @@ use Rattle.niss_moves.specs.Facelets.{places}
 use Rattle.niss_moves.specs.Effects.{turned}
 use Rattle.niss_moves.specs.Rotations.{face_before_power, renamed_turn}
 use Rattle.niss_moves.specs.Turn.{inverse_turn}
-use Rattle.niss_moves.specs.declared.axis.Axis.{Axis}
 use Rattle.niss_moves.specs.declared.axis.Axis.TheVariants.{Rl, Ud, Fb}
 use Rattle.niss_moves.specs.declared.turn.Face.{Face}
 use Rattle.niss_moves.specs.declared.turn.Turn.{Turn}
 use Rattle.niss_moves.specs.declared.turn.Power.TheVariants.{Quarter, Counter}
-use Rattle.niss_cube.specs.Coordinates.{renamed_for, turn_for}
 use Rattle.niss_cube.specs.Renamings.{renamed_by}
-use Rattle.niss_cube.specs.declared.cube.coordinate.Coordinate.{Coordinate}
-use Rattle.niss_cube.specs.declared.cube.coordinate.Coordinate.TheVariants.{Flip, Twist, Slice}
 use Rattle.niss_cube.specs.declared.renaming.Renaming.{Renaming}
 use Rattle.niss_cube.specs.declared.renaming.Renaming.TheVariants.{XCounter, XQuarter, YQuarter, ZCounter}
 use Rattle.niss_cube.proofs.CubieLists.{CubieLists, Valid, map_lists}
@@ -90,7 +86,7 @@ renamed_from v c h =
           ∙ (four-back v (map_lists c q) (map_place c h q p)).0),
     )
 
-by_rotation : (v : Renaming) → IsRenaming (renamed_by v) (renamed_turn (face_by v)) (renamed_cubies v)
+pub by_rotation : (v : Renaming) → IsRenaming (renamed_by v) (renamed_turn (face_by v)) (renamed_cubies v)
 by_rotation v = record {
   valid = renamed_cubies-valid v;
   map_is = renamed_lists-map v;
@@ -103,28 +99,5 @@ by_rotation v = record {
   onto = renamed_from v;
 }
 
-not_renamed : IsRenaming (λ e. e) (λ t. t) (λ c. c)
+pub not_renamed : IsRenaming (λ e. e) (λ t. t) (λ c. c)
 not_renamed = record { valid = λ c v. v; map_is = λ c v q p. refl; same = λ d e s. s; turned_is = λ t e keep q p. refl; back_is = λ t. refl; onto = λ c v. (c, v, λ q p. refl) }
-
--- the cubies from which a coordinate on an axis is read
-abbrev pub cubies_for : Coordinate → Axis → CubieLists → CubieLists
-cubies_for Flip Ud c = renamed_cubies XCounter c
-cubies_for Flip Rl c = renamed_cubies YQuarter c
-cubies_for Flip Fb c = c
-cubies_for Twist Ud c = c
-cubies_for Twist Rl c = renamed_cubies ZCounter c
-cubies_for Twist Fb c = renamed_cubies XQuarter c
-cubies_for Slice Ud c = c
-cubies_for Slice Rl c = renamed_cubies ZCounter c
-cubies_for Slice Fb c = renamed_cubies XQuarter c
-
-pub renaming : (k : Coordinate) (a : Axis) → IsRenaming (renamed_for k a) (turn_for k a) (cubies_for k a)
-renaming Flip Ud = by_rotation XCounter
-renaming Flip Rl = by_rotation YQuarter
-renaming Flip Fb = not_renamed
-renaming Twist Ud = not_renamed
-renaming Twist Rl = by_rotation ZCounter
-renaming Twist Fb = by_rotation XQuarter
-renaming Slice Ud = not_renamed
-renaming Slice Rl = by_rotation ZCounter
-renaming Slice Fb = by_rotation XQuarter

@@ -1,4 +1,4 @@
--- A coordinate is 0 exactly where its set of places is kept.
+-- How a coordinate on an axis is renamed, and that it is 0 exactly where its set of places is kept.
 use Rattle.std.proofs.Common.{◌≡◌, ℕ, ◌+◌, ◌-◌, ◌%◌, ◌<◌, refl, sym, ◌∙◌, ap, List, [], ◌∷◌, get_or, Bool, true, false, ◌&&◌, not, arith, inl, inr}
 use Rattle.std.specs.Prelude.{◌==◌, ◌↔◌, nat_le}
 use Rattle.std.specs.List.{list_all}
@@ -13,7 +13,7 @@ use Rattle.niss_cube.specs.declared.cube.coordinate.Coordinate.{Coordinate}
 use Rattle.niss_cube.specs.declared.cube.coordinate.Coordinate.TheVariants.{Flip, Twist, Slice}
 use Rattle.niss_cube.specs.declared.renaming.Renaming.{Renaming}
 use Rattle.niss_cube.specs.declared.renaming.Renaming.TheVariants.{XCounter, XQuarter, YQuarter, ZCounter}
-use Rattle.niss_cube.specs.Coordinates.{rank, number_of, renamed_for}
+use Rattle.niss_cube.specs.Coordinates.{rank, number_of, renamed_for, turn_for}
 use Rattle.niss_cube.specs.Cubies.{flips_home, twists_home}
 use Rattle.niss_cube.specs.Sets.{Kept, SetsArePlaces, is_kept, flip_set, twist_set, slice_set, set_of}
 use Rattle.niss_cube.proofs.CubieLists.{CubieLists, Valid, map_lists}
@@ -23,12 +23,35 @@ use Rattle.niss_cube.proofs.FiniteTests.{all_below, at_below}
 use Rattle.niss_cube.proofs.Sums.{one_if, below_permuted, below_all_same, one_if-at_most, eqb-itself}
 use Rattle.niss_cube.proofs.Numbers.{rank-same}
 use Rattle.niss_cube.proofs.CoordinateValues.{edge-once, slice_occupied, slice_occupied-length, slice_occupied-at, slice_occupied-filled}
-use Rattle.niss_cube.proofs.RenamedCubies.{rotated, rotated_back, keeps_kinds, same_bool, same_bool-is}
-use Rattle.niss_cube.proofs.AxisRenamings.{KeepsPlaces, cubies_for, renaming}
+use Rattle.niss_cube.proofs.RenamedCubies.{rotated, rotated_back, keeps_kinds, renamed_cubies, same_bool, same_bool-is}
+use Rattle.niss_cube.proofs.AxisRenamings.{KeepsPlaces, IsRenaming, by_rotation, not_renamed}
 use Rattle.niss_cube.proofs.Orientations.{base_2, base_3, oriented_zero}
 use Rattle.niss_cube.proofs.Codes.{code, number_of-code, are_flips, are_twists, flips_home-are, twists_home-are}
 use Rattle.niss_cube.proofs.KeptTests.{kept-tested}
 use Rattle.niss_cube.proofs.Logic.{and_left}
+
+-- the cubies from which a coordinate on an axis is read
+abbrev pub cubies_for : Coordinate → Axis → CubieLists → CubieLists
+cubies_for Flip Ud c = renamed_cubies XCounter c
+cubies_for Flip Rl c = renamed_cubies YQuarter c
+cubies_for Flip Fb c = c
+cubies_for Twist Ud c = c
+cubies_for Twist Rl c = renamed_cubies ZCounter c
+cubies_for Twist Fb c = renamed_cubies XQuarter c
+cubies_for Slice Ud c = c
+cubies_for Slice Rl c = renamed_cubies ZCounter c
+cubies_for Slice Fb c = renamed_cubies XQuarter c
+
+pub renaming : (k : Coordinate) (a : Axis) → IsRenaming (renamed_for k a) (turn_for k a) (cubies_for k a)
+renaming Flip Ud = by_rotation XCounter
+renaming Flip Rl = by_rotation YQuarter
+renaming Flip Fb = not_renamed
+renaming Twist Ud = not_renamed
+renaming Twist Rl = by_rotation ZCounter
+renaming Twist Fb = by_rotation XQuarter
+renaming Slice Ud = not_renamed
+renaming Slice Rl = by_rotation ZCounter
+renaming Slice Fb = by_rotation XQuarter
 
 -- the cubies of a coordinate, and the places of its set
 abbrev kind_for : Coordinate → Kind
