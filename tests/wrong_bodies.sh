@@ -12,7 +12,7 @@ for edit in tests/wrong-bodies/*/*.edit; do
     name=$(basename "$(dirname "$edit")")
     crate=crates/$name
     function=$(sed -n "s/^refused: $name:://p" "$edit")
-    sed -n 's/^file: //p' "$edit" | sort -u | (cd "$crate" && xargs cp --parents -t "$room")
+    tools/apply-edit --files "$edit" | (cd "$crate" && xargs cp --parents -t "$room")
     if [ -n "$function" ] && grep -rqE "fn ${function##*::}\b" "$crate/src" && tools/apply-edit "$edit" "$room"; then
         passed=$((passed + 1))
     else
