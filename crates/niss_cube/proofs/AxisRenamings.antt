@@ -16,10 +16,9 @@ use Rattle.niss_cube.specs.declared.renaming.Renaming.TheVariants.{XCounter, XQu
 use Rattle.niss_cube.proofs.CubieLists.{CubieLists, Valid, map_lists}
 use Rattle.niss_cube.proofs.CubieKinds.{map_place}
 use Rattle.niss_cube.proofs.Each.{at_place}
-use Rattle.niss_cube.proofs.FiniteTests.{all_turns, at_turn}
 use Rattle.niss_cube.proofs.RenamedCubies.{rotated, rotated_back, renamed_by-is, all_renamings, at_renaming, keeps_kinds, renamed_cubies, renamed_cubies-valid, renamed_lists-map}
 use Rattle.niss_cube.proofs.Logic.{and_left, and_right}
-use Rattle.niss_moves.proofs.CallerLemmas.{same_place_is}
+use Rattle.niss_moves.proofs.CallerLemmas.{same_place_is, every_turn, every_face, every_power, at_turn}
 
 abbrev pub KeepsPlaces : (Place → Place) → Type 0
 KeepsPlaces e = (q : Place) → is_place q ≡ true → is_place (e q) ≡ true
@@ -43,12 +42,13 @@ face_by ZCounter f = face_before_power Fb Quarter f
 abbrev turn_test : Renaming → Turn → Place → Bool
 turn_test v t q = same_place (rotated v (turned t q)) (turned (renamed_turn (face_by v) t) (rotated v q))
 
-turns_test : all_renamings (λ v. all_turns (λ t. list_all (turn_test v t) places)) ≡ true
+turns_test : all_renamings (λ v. every_turn (λ t. list_all (turn_test v t) places)) ≡ true
+unfolding every_turn every_face every_power
 turns_test = refl
 
 renamed-turn : (v : Renaming) (t : Turn) (q : Place) → is_place q ≡ true → rotated v (turned t q) ≡ turned (renamed_turn (face_by v) t) (rotated v q)
 renamed-turn v t q p =
-    same_place_is _ _ (at_place (turn_test v t) (at_turn (λ t. list_all (turn_test v t) places) (at_renaming (λ v. all_turns (λ t. list_all (turn_test v t) places)) turns_test v) t) q p)
+    same_place_is _ _ (at_place (turn_test v t) (at_turn (λ t. list_all (turn_test v t) places) (at_renaming (λ v. every_turn (λ t. list_all (turn_test v t) places)) turns_test v) t) q p)
 
 -- A rotation made four times brings each place back: so the cubies that become c under a renaming are c renamed thrice.
 abbrev four_test : Renaming → Place → Bool

@@ -24,9 +24,8 @@ use Rattle.niss_cube.proofs.Codes.{number_after-standard}
 use Rattle.niss_cube.proofs.CoordinateLaws.{are_coordinates, cube-itself, lists_of, turned_is_cube}
 use Rattle.niss_cube.proofs.CubieKinds.{map_place}
 use Rattle.niss_cube.proofs.Each.{at_place}
-use Rattle.niss_cube.proofs.FiniteTests.{at_face, turn_of}
 use Rattle.niss_cube.proofs.Logic.{and_left, and_right}
-use Rattle.niss_moves.proofs.CallerLemmas.{same_place_is}
+use Rattle.niss_moves.proofs.CallerLemmas.{same_place_is, every_face, at_face, turn}
 
 abbrev after_of : Coordinate → ℕ → Turn → ℕ
 after_of k = number_after k (standard_axis k)
@@ -53,47 +52,51 @@ after-both k s t u same i l =
 -- a half turn is two quarters, a counter turn three
 abbrev powers_test : Face → Place → Bool
 powers_test f q =
-    same_place (turned (turn_of f Quarter) (turned (turn_of f Quarter) q)) (turned (turn_of f Half) q)
-    && same_place (turned (turn_of f Quarter) (turned (turn_of f Half) q)) (turned (turn_of f Counter) q)
+    same_place (turned (turn f Quarter) (turned (turn f Quarter) q)) (turned (turn f Half) q)
+    && same_place (turned (turn f Quarter) (turned (turn f Half) q)) (turned (turn f Counter) q)
+
+powers_hold : every_face (λ f. list_all (powers_test f) places) ≡ true
+unfolding every_face
+powers_hold = refl
 
 powers_tested : (f : Face) (q : Place) → is_place q ≡ true → powers_test f q ≡ true
-powers_tested f q p = at_place (powers_test f) (at_face (λ f. list_all (powers_test f) places) refl f) q p
+powers_tested f q p = at_place (powers_test f) (at_face (λ f. list_all (powers_test f) places) powers_hold f) q p
 
-after-twice : (k : Coordinate) (f : Face) (i : ℕ) → i < count_of k → after_of k (after_of k i (turn_of f Quarter)) (turn_of f Quarter) ≡ after_of k i (turn_of f Half)
-after-twice k f = after-both k (turn_of f Quarter) (turn_of f Quarter) (turn_of f Half) (λ q p. same_place_is _ _ (and_left _ _ (powers_tested f q p)))
+after-twice : (k : Coordinate) (f : Face) (i : ℕ) → i < count_of k → after_of k (after_of k i (turn f Quarter)) (turn f Quarter) ≡ after_of k i (turn f Half)
+after-twice k f = after-both k (turn f Quarter) (turn f Quarter) (turn f Half) (λ q p. same_place_is _ _ (and_left _ _ (powers_tested f q p)))
 
-after-thrice : (k : Coordinate) (f : Face) (i : ℕ) → i < count_of k → after_of k (after_of k i (turn_of f Half)) (turn_of f Quarter) ≡ after_of k i (turn_of f Counter)
+after-thrice : (k : Coordinate) (f : Face) (i : ℕ) → i < count_of k → after_of k (after_of k i (turn f Half)) (turn f Quarter) ≡ after_of k i (turn f Counter)
 after-thrice k f =
-    after-both k (turn_of f Half) (turn_of f Quarter) (turn_of f Counter)
-    (λ q p. same_place_is _ _ (and_right (same_place (turned (turn_of f Quarter) (turned (turn_of f Quarter) q)) (turned (turn_of f Half) q)) _ (powers_tested f q p)))
+    after-both k (turn f Half) (turn f Quarter) (turn f Counter)
+    (λ q p. same_place_is _ _ (and_right (same_place (turned (turn f Quarter) (turned (turn f Quarter) q)) (turned (turn f Half) q)) _ (powers_tested f q p)))
 
 abbrev AreNumbersAfter : Coordinate → ℕ → Face → List ℕ → Type 0
-AreNumbersAfter k i f numbers = (p : Power) → slice_index numbers (power_index p) ≡ after_of k i (turn_of f p)
+AreNumbersAfter k i f numbers = (p : Power) → slice_index numbers (power_index p) ≡ after_of k i (turn f p)
 
-module _ (k : Coordinate) (rows : List (List (List ℕ))) (h : AreQuarters k rows) (i : ℕ) (f : Face) (l : i < count_of k) (once : ℕ) (x : once ≡ entry_at (get_or rows i []) (turn_of f Quarter)) where
-  once-is : once ≡ after_of k i (turn_of f Quarter)
-  once-is = x ∙ h.entries i (turn_of f Quarter) refl l
+module _ (k : Coordinate) (rows : List (List (List ℕ))) (h : AreQuarters k rows) (i : ℕ) (f : Face) (l : i < count_of k) (once : ℕ) (x : once ≡ entry_at (get_or rows i []) (turn f Quarter)) where
+  once-is : once ≡ after_of k i (turn f Quarter)
+  once-is = x ∙ h.entries i (turn f Quarter) refl l
 
   pub once-below : once < count_of k
-  once-below = let P : ℕ → Type 0 = λ n. n < count_of k in subst P (sym once-is) ((law k).after_below i (turn_of f Quarter) l)
+  once-below = let P : ℕ → Type 0 = λ n. n < count_of k in subst P (sym once-is) ((law k).after_below i (turn f Quarter) l)
 
-  module _ (twice : ℕ) (y : twice ≡ entry_at (get_or rows once []) (turn_of f Quarter)) where
-    twice-is : twice ≡ after_of k i (turn_of f Half)
-    twice-is = y ∙ h.entries once (turn_of f Quarter) refl once-below ∙ ap (λ j. after_of k j (turn_of f Quarter)) once-is ∙ after-twice k f i l
+  module _ (twice : ℕ) (y : twice ≡ entry_at (get_or rows once []) (turn f Quarter)) where
+    twice-is : twice ≡ after_of k i (turn f Half)
+    twice-is = y ∙ h.entries once (turn f Quarter) refl once-below ∙ ap (λ j. after_of k j (turn f Quarter)) once-is ∙ after-twice k f i l
 
     pub twice-below : twice < count_of k
-    twice-below = let P : ℕ → Type 0 = λ n. n < count_of k in subst P (sym twice-is) ((law k).after_below i (turn_of f Half) l)
+    twice-below = let P : ℕ → Type 0 = λ n. n < count_of k in subst P (sym twice-is) ((law k).after_below i (turn f Half) l)
 
-    pub numbers_after-are : (thrice : ℕ) → thrice ≡ entry_at (get_or rows twice []) (turn_of f Quarter) → AreNumbersAfter k i f (once ∷ twice ∷ thrice ∷ [])
+    pub numbers_after-are : (thrice : ℕ) → thrice ≡ entry_at (get_or rows twice []) (turn f Quarter) → AreNumbersAfter k i f (once ∷ twice ∷ thrice ∷ [])
     numbers_after-are thrice z Quarter = once-is
     numbers_after-are thrice z Half = twice-is
-    numbers_after-are thrice z Counter = z ∙ h.entries twice (turn_of f Quarter) refl twice-below ∙ ap (λ j. after_of k j (turn_of f Quarter)) twice-is ∙ after-thrice k f i l
+    numbers_after-are thrice z Counter = z ∙ h.entries twice (turn f Quarter) refl twice-below ∙ ap (λ j. after_of k j (turn f Quarter)) twice-is ∙ after-thrice k f i l
 
 pub row-is : (k : Coordinate) (i : ℕ) (u d r l f b : List ℕ) → AreNumbersAfter k i U u → AreNumbersAfter k i D d → AreNumbersAfter k i R r → AreNumbersAfter k i L l → AreNumbersAfter k i F f → AreNumbersAfter k i B b →
     (t : Turn) → entry_at (u ∷ d ∷ r ∷ l ∷ f ∷ b ∷ []) t ≡ after_of k i t
 row-is k i u d r l f b hu hd hr hl hf hb t = at t.face t.power
   where
-    at : (g : Face) (p : Power) → slice_index (get_or (u ∷ d ∷ r ∷ l ∷ f ∷ b ∷ []) (face_index g) []) (power_index p) ≡ after_of k i (turn_of g p)
+    at : (g : Face) (p : Power) → slice_index (get_or (u ∷ d ∷ r ∷ l ∷ f ∷ b ∷ []) (face_index g) []) (power_index p) ≡ after_of k i (turn g p)
     at U p = hu p
     at D p = hd p
     at R p = hr p
@@ -134,14 +137,14 @@ pub quarters-kept : (k : Coordinate) (n : ℕ) (rows : List (List (List ℕ))) (
 quarters-kept k n rows row l r done = row-written k IsQuarter (count_of k) (count_of k) n rows row l (λ t s. r t) (λ i h w. h) done
 
 -- a row of the quarters of a cube that has the number
-pub quarter-row : (k : Coordinate) (n : ℕ) (row : List (List ℕ)) (c : Cube) → coordinate_of k (map_of c) ≡ n → ((f : Face) → entry_at row (turn_of f Quarter) ≡ coordinate_of k (λ q. turned (turn_of f Quarter) (map_of c q))) →
+pub quarter-row : (k : Coordinate) (n : ℕ) (row : List (List ℕ)) (c : Cube) → coordinate_of k (map_of c) ≡ n → ((f : Face) → entry_at row (turn f Quarter) ≡ coordinate_of k (λ q. turned (turn f Quarter) (map_of c q))) →
     (t : Turn) → IsQuarter t → entry_at row t ≡ after_of k n t
 quarter-row k n row c e r t s =
-    let P : Power → Type 0 = λ p. entry_at row (turn_of t.face p) ≡ after_of k n (turn_of t.face p) in
-    subst P (sym s) (r t.face ∙ (law k).follows (map_of c) (turn_of t.face Quarter) (c, λ q p. refl) ∙ ap (λ j. after_of k j (turn_of t.face Quarter)) e)
+    let P : Power → Type 0 = λ p. entry_at row (turn t.face p) ≡ after_of k n (turn t.face p) in
+    subst P (sym s) (r t.face ∙ (law k).follows (map_of c) (turn t.face Quarter) (c, λ q p. refl) ∙ ap (λ j. after_of k j (turn t.face Quarter)) e)
 
 -- what is looked up in rows, at the turn of the renamed cube
 pub looked_up : (k : Coordinate) (rows : List (List (List ℕ))) → AreRows k rows → (a : Axis) (i : ℕ) (t : Turn) (result : ℕ) (f : Face) → i < count_of k → f ≡ face_for k a t.face →
-    result ≡ entry_at (get_or rows i []) (turn_of f t.power) → result ≡ number_after k a i t
+    result ≡ entry_at (get_or rows i []) (turn f t.power) → result ≡ number_after k a i t
 looked_up k rows right a i t result f l face e =
-    e ∙ ap (λ g. entry_at (get_or rows i []) (turn_of g t.power)) face ∙ right.entries i (turn_for k a t) tt l ∙ number_after-standard k a i t
+    e ∙ ap (λ g. entry_at (get_or rows i []) (turn g t.power)) face ∙ right.entries i (turn_for k a t) tt l ∙ number_after-standard k a i t

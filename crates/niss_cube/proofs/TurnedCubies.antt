@@ -12,11 +12,11 @@ use Rattle.niss_cube.specs.declared.cubie_turns.CubieTurn.{CubieTurn}
 use Rattle.niss_cube.proofs.CubieLists.{CubieLists, Valid, map_lists, tabulated, tabulated-length, tabulated-at, brought, brought_turned}
 use Rattle.niss_cube.proofs.CubieKinds.{Kind, Corners, Edges, count, facelets, at, home_at, turn_at, homes, turns, place_of, Stand, stand, standing-valid, stands, low, kind_of, Located, located, map_at, centre_stays}
 use Rattle.niss_cube.proofs.Each.{at_place}
-use Rattle.niss_cube.proofs.FiniteTests.{all_below, at_below, all_turns, at_turn}
+use Rattle.niss_cube.proofs.FiniteTests.{all_below, at_below}
 use Rattle.niss_cube.proofs.Once.{place_in-is}
 use Rattle.niss_cube.proofs.Sums.{below, one_if, below_same, below_add, below_permuted, sum_by-below}
 use Rattle.niss_cube.proofs.Logic.{and_left, and_right}
-use Rattle.niss_moves.proofs.CallerLemmas.{same_place_is}
+use Rattle.niss_moves.proofs.CallerLemmas.{same_place_is, every_turn, every_face, every_power, at_turn}
 
 -- from which place the cubies of a kind come by a table, and what is added to how each is turned
 abbrev from_by : Kind → CubieTurn → ℕ → ℕ
@@ -46,7 +46,8 @@ place_test k u i =
 abbrev table_test : Kind → Turn → Bool
 table_test k u = all_below (count k) (place_test k u) && (below (count k) (added_at k u) % facelets k == 0)
 
-tables_test : (k : Kind) → all_turns (table_test k) ≡ true
+tables_test : (k : Kind) → every_turn (table_test k) ≡ true
+unfolding every_turn every_face every_power
 tables_test Corners = refl
 tables_test Edges = refl
 
@@ -153,7 +154,8 @@ module _ (u : Turn) (c d : CubieLists) (v : Valid c) (b : (k : Kind) → Brought
       ∙ ap (λ x. turned u (at k x ((j + turn_at k c x) % facelets k))) (sym was)
       ∙ ap (turned u) (sym (map_at k c h j lh lj))
 
-centres_test : all_turns (λ u. list_all (λ q. is_corner q || is_edge q || same_place (turned u q) q) places) ≡ true
+centres_test : every_turn (λ u. list_all (λ q. is_corner q || is_edge q || same_place (turned u q) q) places) ≡ true
+unfolding every_turn every_face every_power
 centres_test = refl
 
 centre_turned : (u : Turn) (q : Place) → is_place q ≡ true → is_corner q ≡ false → is_edge q ≡ false → turned u q ≡ q

@@ -13,7 +13,7 @@ use Rattle.niss_cube.specs.Coordinates.{flip_of, twist_of, slice_of, number_of}
 use Rattle.niss_cube.specs.NumberAfter.{number_after}
 use Rattle.niss_cube.specs.declared.cube.coordinate.Coordinate.{Coordinate}
 use Rattle.niss_cube.specs.declared.cube.coordinate.Coordinate.TheVariants.{Flip, Twist, Slice}
-use Rattle.niss_cube.proofs.FiniteTests.{all_turns}
+use Rattle.niss_moves.proofs.CallerLemmas.{every_turn, every_face, every_power}
 
 abbrev turn : Face → Turn
 turn f = record { face = f; power = Quarter }
@@ -31,8 +31,8 @@ abbrev pub mixed : Place → Place
 mixed q = turned (record { face = U; power = Counter }) (turned (record { face = F; power = Quarter }) (turned (turn R) q))
 
 abbrev follow : Coordinate → Axis → Bool
-follow k a = all_turns (λ t. number_of k a (λ q. turned t (mixed q)) == number_after k a (number_of k a mixed) t)
+follow k a = every_turn (λ t. number_of k a (λ q. turned t (mixed q)) == number_after k a (number_of k a mixed) t)
 
 follow_test : follow Twist Rl && follow Twist Fb && follow Slice Rl && follow Slice Fb && follow Flip Ud ≡ true
-unfolding number_after flips_of_number twists_of_number edges_of_number flip_of twist_of slice_of occupied_of_number
+unfolding every_turn every_face every_power number_after flips_of_number twists_of_number edges_of_number flip_of twist_of slice_of occupied_of_number
 follow_test = refl

@@ -6,6 +6,8 @@ pub use Rattle.niss_moves.proofs.Rotations.{same_face_is}
 pub use Rattle.niss_moves.proofs.ListedPlaces.{all_places, same_letters}
 -- tests over all values of a type
 unfoldable pub use Rattle.niss_moves.proofs.Finite.{every_face, every_power, every_axis, every_slice, every_token}
+unfoldable pub use Rattle.niss_moves.proofs.Rotations.{every_turn}
+pub use Rattle.niss_moves.proofs.Rotations.{turn, at_turn}
 pub use Rattle.niss_moves.proofs.Finite.{at_face, at_power, at_axis, at_slice, at_token}
 -- sequences one after the other
 pub use Rattle.niss_moves.proofs.Inverses.{effect-append, inverse_after, inverse_before, inverse_last, inverse_whole}
