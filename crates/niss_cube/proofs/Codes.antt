@@ -5,10 +5,7 @@ use Rattle.std.specs.Prelude.{count_by, nat_lt, ◌==◌}
 use Rattle.std.proofs.lemmas.Bool.{eqb-true, ltb-true}
 use Rattle.niss_moves.specs.Places.{Place, SameMap}
 use Rattle.niss_moves.specs.Effects.{turned}
-use Rattle.niss_moves.specs.declared.turn.Turn.{Turn}
-use Rattle.niss_moves.specs.declared.axis.Axis.{Axis}
-use Rattle.niss_cube.specs.declared.cube.coordinate.Coordinate.{Coordinate}
-use Rattle.niss_cube.specs.declared.cube.coordinate.Coordinate.TheVariants.{Flip, Twist, Slice}
+use Rattle.niss_cube.specs.Names.{Turn, Axis, Coordinate, Flip, Twist, Slice}
 use Rattle.niss_cube.specs.Coordinates.{number, rank, flip_of, twist_of, slice_of, number_of, count_of, renamed_for, standard_axis, turn_for}
 use Rattle.niss_cube.specs.Cubies.{corners_home, edges_home, twists_home, flips_home}
 use Rattle.niss_cube.specs.CubieTurns.{turn_table}

@@ -6,10 +6,7 @@ use Rattle.niss_moves.specs.Places.{Place, same_place, is_place, SameMap}
 use Rattle.niss_moves.specs.Facelets.{places}
 use Rattle.niss_moves.specs.Effects.{turned}
 use Rattle.niss_moves.specs.Turn.{inverse_turn}
-use Rattle.niss_moves.specs.declared.turn.Turn.{Turn}
-use Rattle.niss_moves.specs.declared.axis.Axis.{Axis}
-use Rattle.niss_cube.specs.declared.cube.Cube.{Cube}
-use Rattle.niss_cube.specs.declared.cube.coordinate.Coordinate.{Coordinate}
+use Rattle.niss_cube.specs.Names.{Turn, Axis, Cube, Coordinate}
 use Rattle.niss_cube.specs.Map.{map_of}
 use Rattle.niss_cube.specs.Sets.{Kept, set_of}
 use Rattle.niss_cube.specs.Coordinates.{number_of, count_of, renamed_for, standard_axis, turn_for}

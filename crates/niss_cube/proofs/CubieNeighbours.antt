@@ -5,7 +5,7 @@ use Rattle.std.specs.List.{list_all}
 use Rattle.niss_moves.specs.Places.{Place, is_place, is_corner, is_edge, same_place}
 use Rattle.niss_moves.specs.Facelets.{places}
 use Rattle.niss_moves.specs.Effects.{effect, moved_by}
-use Rattle.niss_moves.specs.declared.token.Token.{Token}
+use Rattle.niss_cube.specs.Names.{Token}
 use Rattle.niss_cube.specs.CubieFacelets.{facelet_at, corner_facelets, edge_facelets}
 use Rattle.niss_cube.proofs.Each.{at_place}
 use Rattle.niss_cube.proofs.CubieKinds.{Corners, Edges, row_of, index_of}

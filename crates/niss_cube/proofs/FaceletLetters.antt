@@ -4,7 +4,7 @@ use Rattle.std.specs.Prelude.{◌==◌, ◌&&◌, nat_lt}
 use Rattle.std.proofs.lemmas.Bool.{eqb-true, ltb-true}
 use Rattle.std.proofs.lemmas.List.{ext_get_or, get_or-map, length-map}
 use Rattle.niss_moves.specs.Places.{is_place, is_corner, is_edge, same_place, Place}
-use Rattle.niss_moves.specs.declared.turn.Face.TheVariants.{U}
+use Rattle.niss_cube.specs.Names.{U}
 use Rattle.niss_moves.specs.Facelets.{places, facelet}
 use Rattle.niss_moves.specs.Letters.{letter_at, letter_of, letters}
 use Rattle.niss_cube.specs.declared.letters.TheConstants.{CORNER_LETTERS, EDGE_LETTERS}

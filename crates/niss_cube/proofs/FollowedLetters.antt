@@ -6,8 +6,7 @@ use Rattle.niss_moves.specs.Places.{Place, same_place, is_place}
 use Rattle.niss_moves.specs.Facelets.{places, facelet}
 use Rattle.niss_moves.specs.Effects.{effect, inverse}
 use Rattle.niss_moves.specs.Letters.{letter_at, letter_of, letters}
-use Rattle.niss_moves.specs.declared.turn.Face.TheVariants.{U}
-use Rattle.niss_moves.specs.declared.token.Token.{Token}
+use Rattle.niss_cube.specs.Names.{U, Token}
 use Rattle.niss_cube.specs.PlacePositions.{place_at, AreMoved}
 use Rattle.niss_cube.specs.declared.followed_places.TheConstants.{FIRST_FACELETS, CUBIES, FACELETS}
 use Rattle.niss_cube.specs.declared.letters.TheConstants.{CUBIE_LETTERS}

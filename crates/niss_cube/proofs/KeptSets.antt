@@ -7,12 +7,7 @@ use Rattle.std.proofs.lemmas.Bool.Decides.{eqb_tells}
 use Rattle.std.proofs.lemmas.List.{ext_get_or}
 use Rattle.niss_moves.specs.Places.{Place, is_place, is_edge, SameMap}
 use Rattle.niss_moves.specs.Facelets.{places}
-use Rattle.niss_moves.specs.declared.axis.Axis.{Axis}
-use Rattle.niss_moves.specs.declared.axis.Axis.TheVariants.{Ud, Rl, Fb}
-use Rattle.niss_cube.specs.declared.cube.coordinate.Coordinate.{Coordinate}
-use Rattle.niss_cube.specs.declared.cube.coordinate.Coordinate.TheVariants.{Flip, Twist, Slice}
-use Rattle.niss_cube.specs.declared.renaming.Renaming.{Renaming}
-use Rattle.niss_cube.specs.declared.renaming.Renaming.TheVariants.{XCounter, XQuarter, YQuarter, ZCounter}
+use Rattle.niss_cube.specs.Names.{Axis, Ud, Rl, Fb, Coordinate, Flip, Twist, Slice, Renaming, XCounter, XQuarter, YQuarter, ZCounter}
 use Rattle.niss_cube.specs.Coordinates.{rank, number_of, renamed_for, turn_for}
 use Rattle.niss_cube.specs.Cubies.{flips_home, twists_home}
 use Rattle.niss_cube.specs.Sets.{Kept, SetsArePlaces, is_kept, flip_set, twist_set, slice_set, set_of}

@@ -4,7 +4,7 @@ use Rattle.std.specs.Prelude.{nat_lt}
 use Rattle.std.proofs.lemmas.Bool.{ltb-true}
 use Rattle.niss_moves.specs.Places.{same_place}
 use Rattle.niss_moves.specs.Effects.{moved_by}
-use Rattle.niss_moves.specs.declared.token.Token.{Token}
+use Rattle.niss_cube.specs.Names.{Token}
 use Rattle.niss_cube.specs.PlacePositions.{place_at, first_number, number_in_kind}
 use Rattle.niss_cube.specs.declared.place_positions.TheConstants.{POSITIONS_AFTER}
 use Rattle.niss_cube.proofs.FiniteTests.{all_below, at_below}

@@ -6,7 +6,7 @@ use Rattle.std.proofs.lemmas.Bool.{ltb-true, eqb-true, eq-eqb}
 use Rattle.std.proofs.lemmas.Bool.Decides.{eqb_tells}
 use Rattle.niss_moves.specs.Places.{Place, same_place, is_place}
 use Rattle.niss_moves.specs.Facelets.{places, facelet}
-use Rattle.niss_moves.specs.declared.turn.Face.TheVariants.{U}
+use Rattle.niss_cube.specs.Names.{U}
 use Rattle.niss_cube.specs.CubieFacelets.{index_in}
 use Rattle.niss_cube.specs.Sets.{Kept}
 use Rattle.niss_cube.specs.Permutations.{PermutesPlaces, CubesPermutePlaces, KeptIsEqual}

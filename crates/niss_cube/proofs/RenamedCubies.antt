@@ -5,9 +5,7 @@ use Rattle.std.specs.List.{list_all}
 use Rattle.std.proofs.lemmas.Bool.{eqb-true, ltb-true, eq-eqb}
 use Rattle.niss_moves.specs.Places.{Place, same_place, is_place, is_corner, is_edge, SameMap}
 use Rattle.niss_moves.specs.Facelets.{places}
-use Rattle.niss_moves.specs.declared.axis.Axis.TheVariants.{Rl, Ud, Fb}
-use Rattle.niss_cube.specs.declared.renaming.Renaming.{Renaming}
-use Rattle.niss_cube.specs.declared.renaming.Renaming.TheVariants.{XCounter, XQuarter, YQuarter, ZCounter}
+use Rattle.niss_cube.specs.Names.{Rl, Ud, Fb, Renaming, XCounter, XQuarter, YQuarter, ZCounter}
 use Rattle.niss_cube.specs.Coordinates.{spun}
 use Rattle.niss_cube.specs.Renamings.{renaming_table, renamed_by, renamed_home, renamed_orientation}
 use Rattle.niss_cube.proofs.CubieLists.{CubieLists, Valid, map_lists, tabulated, tabulated-length, tabulated-at}

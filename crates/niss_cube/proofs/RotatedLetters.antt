@@ -8,8 +8,7 @@ use Rattle.niss_moves.specs.Effects.{effect, moved_by, inverse_token}
 use Rattle.niss_moves.specs.Rotations.{to_top, about_vertical, spelling}
 use Rattle.niss_moves.specs.Letters.{letter_at, letter_of, letters}
 use Rattle.niss_moves.specs.declared.rotation.Rotation.{Rotation}
-use Rattle.niss_moves.specs.declared.token.Token.{Token}
-use Rattle.niss_moves.specs.declared.turn.Face.TheVariants.{U}
+use Rattle.niss_cube.specs.Names.{Token, U}
 use Rattle.niss_cube.specs.PlacePositions.{place_at}
 use Rattle.niss_cube.proofs.FaceletLetters.{letters-is}
 use Rattle.niss_cube.proofs.Logic.{same_truth}

@@ -8,7 +8,7 @@ use Rattle.std.proofs.lemmas.List.{ext_get_or, get_or-map, length-map, get_or_de
 use Rattle.std.proofs.lemmas.List.Folds.{Any-from_list_any, list_any_at}
 use Rattle.std.proofs.lemmas.List.FromFn.{get_or-range_with_len, length-range_with_len}
 use Rattle.niss_moves.specs.Places.{Place, same_place, SameMap}
-use Rattle.niss_moves.specs.declared.turn.Face.TheVariants.{U}
+use Rattle.niss_cube.specs.Names.{U}
 use Rattle.niss_moves.specs.Facelets.{facelet}
 use Rattle.niss_cube.specs.CubieFacelets.{index_in, row_at, edge_facelets}
 use Rattle.niss_cube.specs.Coordinates.{firsts, brings, orientations, occupied}

@@ -5,7 +5,7 @@ use mathlib.Core.List.{reverse_aux}
 use Rattle.std.proofs.lemmas.Bool.{eqb-true, le-leb, leb-true, false_from_ne_true}
 use Rattle.std.proofs.lemmas.List.{ext_get_or, get_or-map, length-map, length-reverse, reverse-reverse}
 use Rattle.std.proofs.lemmas.List.Sums.{sum_by-cons}
-use Rattle.niss_moves.specs.declared.turn.Turn.{Turn}
+use Rattle.niss_cube.specs.Names.{Turn}
 use Rattle.niss_cube.specs.CubieTurns.{turn_table}
 use Rattle.niss_cube.specs.Coordinates.{rank}
 use Rattle.niss_cube.proofs.CubieLists.{tabulated, tabulated-length, tabulated-at, brought}

@@ -1,14 +1,9 @@
 -- The goals of the steps: what a step can reach keeps its start.
 use Rattle.std.proofs.Common.{◌≡◌, refl, Bool, true, false, Option, Some}
 use Rattle.std.specs.List.{list_all}
-use Rattle.niss_moves.specs.declared.axis.Axis.{Axis}
-use Rattle.niss_moves.specs.declared.axis.Axis.TheVariants.{Ud, Rl, Fb}
+use Rattle.niss_cube.specs.Names.{Axis, Ud, Rl, Fb, Goal, Edges, Domino, Step, Eofb, Eorl, Eoud, DrudEofb, DrrlEofb, DrudEorl, DrfbEorl, DrrlEoud, DrfbEoud, Eo, DrEofb, DrEorl, DrEoud}
 use Rattle.niss_cube.specs.Steps.{start_of, goals_of}
 use Rattle.niss_cube.specs.StepLaws.{DominoKeepsStart}
-use Rattle.niss_cube.specs.declared.step.Goal.{Goal}
-use Rattle.niss_cube.specs.declared.step.Goal.TheVariants.{Edges, Domino}
-use Rattle.niss_cube.specs.declared.step.Step.{Step}
-use Rattle.niss_cube.specs.declared.step.Step.TheVariants.{Eofb, Eorl, Eoud, DrudEofb, DrrlEofb, DrudEorl, DrfbEorl, DrrlEoud, DrfbEoud, Eo, DrEofb, DrEorl, DrEoud}
 use Rattle.niss_cube.proofs.Each.{at_member}
 
 abbrev keeps : Option Axis → Goal → Bool

@@ -5,14 +5,10 @@ use Rattle.std.specs.List.{list_any}
 use Rattle.std.specs.Option.{option_map_or}
 use Rattle.niss_moves.specs.Places.{Place, SameMap}
 use Rattle.niss_moves.specs.Effects.{turned}
-use Rattle.niss_moves.specs.declared.axis.Axis.{Axis}
-use Rattle.niss_moves.specs.declared.turn.Turn.{Turn}
+use Rattle.niss_cube.specs.Names.{Axis, Turn, Goal, Edges, Domino, Flip, Twist, Slice}
 use Rattle.niss_cube.specs.Sets.{ArePlaces, is_kept, flip_set, twist_set, slice_set}
 use Rattle.niss_cube.specs.Steps.{start_of, goals_of, turns_of, holds, may_start, reached}
 use Rattle.niss_cube.specs.StepLaws.{StartIsKept, StepsSeePlaces}
-use Rattle.niss_cube.specs.declared.step.Goal.{Goal}
-use Rattle.niss_cube.specs.declared.step.Goal.TheVariants.{Edges, Domino}
-use Rattle.niss_cube.specs.declared.cube.coordinate.Coordinate.TheVariants.{Flip, Twist, Slice}
 use Rattle.niss_cube.proofs.Logic.{same_truth}
 use Rattle.niss_cube.proofs.KeptTests.{kept-tested}
 use Rattle.niss_cube.proofs.KeptSets.{sets_are_places}

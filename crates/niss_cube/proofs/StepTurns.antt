@@ -9,14 +9,10 @@ use Rattle.niss_moves.specs.Facelets.{places}
 use Rattle.niss_moves.specs.Effects.{turned}
 use Rattle.niss_moves.specs.Turn.{same_face, inverse_turn}
 use Rattle.niss_moves.specs.Canonical.{face_order, turn_order}
-use Rattle.niss_moves.specs.declared.axis.Axis.{Axis}
-use Rattle.niss_moves.specs.declared.axis.Axis.TheVariants.{Ud, Rl, Fb}
-use Rattle.niss_moves.specs.declared.turn.Power.TheVariants.{Half}
-use Rattle.niss_moves.specs.declared.turn.Turn.{Turn}
+use Rattle.niss_cube.specs.Names.{Axis, Ud, Rl, Fb, Half, Turn, Step}
 use Rattle.niss_cube.specs.Sets.{Kept, flip_set}
 use Rattle.niss_cube.specs.Steps.{start_of, turns_of, powers_from, is_face_of}
 use Rattle.niss_cube.specs.StepLaws.{InversesOfSteps, StepTurnsInOrder, StepTurnsAreCounted}
-use Rattle.niss_cube.specs.declared.step.Step.{Step}
 use Rattle.niss_moves.proofs.CallerLemmas.{same_face_is, same_power, same_power_is}
 use Rattle.niss_cube.proofs.Each.{at_place, and_left, and_right, at_member}
 use Rattle.niss_cube.proofs.KeptTests.{implied}

@@ -7,19 +7,12 @@ use Rattle.std.specs.List.{list_all}
 use Rattle.niss_moves.specs.Places.{Place, same_place, is_place}
 use Rattle.niss_moves.specs.Facelets.{places}
 use Rattle.niss_moves.specs.Effects.{turned}
-use Rattle.niss_moves.specs.declared.turn.Face.{Face}
-use Rattle.niss_moves.specs.declared.turn.Face.TheVariants.{U, D, R, L, F, B}
-use Rattle.niss_moves.specs.declared.turn.Power.{Power}
-use Rattle.niss_moves.specs.declared.turn.Power.TheVariants.{Quarter, Half, Counter}
-use Rattle.niss_moves.specs.declared.turn.Turn.{Turn}
-use Rattle.niss_cube.specs.declared.cube.Cube.{Cube}
-use Rattle.niss_cube.specs.declared.cube.coordinate.Coordinate.{Coordinate}
+use Rattle.niss_cube.specs.Names.{Face, U, D, R, L, F, B, Power, Quarter, Half, Counter, Turn, Cube, Coordinate, Axis}
 use Rattle.niss_cube.specs.Map.{map_of}
 use Rattle.niss_cube.specs.Coordinates.{count_of, face_for, number_of, standard_axis, turn_for}
 use Rattle.niss_cube.specs.NumberAfter.{number_after}
 use Rattle.niss_cube.specs.AfterTurn.{IsCoordinate, IsCube}
 use Rattle.niss_cube.specs.TableRows.{AreRows, AreRowsAt, AreQuarters, IsQuarter, entry_at, face_index, power_index}
-use Rattle.niss_moves.specs.declared.axis.Axis.{Axis}
 use Rattle.niss_cube.proofs.Codes.{number_after-standard}
 use Rattle.niss_cube.proofs.CoordinateLaws.{are_coordinates, cube-itself, lists_of, turned_is_cube}
 use Rattle.niss_cube.proofs.CubieKinds.{map_place}

@@ -1,18 +1,11 @@
 -- Worked values of the coordinates after a turn.
 use Rattle.std.proofs.Common.{◌≡◌, refl, true, Bool, ◌==◌, ◌&&◌}
-use Rattle.niss_moves.specs.declared.turn.Face.{Face}
-use Rattle.niss_moves.specs.declared.turn.Turn.{Turn}
-use Rattle.niss_moves.specs.declared.turn.Face.TheVariants.{U, D, R, F}
-use Rattle.niss_moves.specs.declared.turn.Power.TheVariants.{Quarter, Counter}
-use Rattle.niss_moves.specs.declared.axis.Axis.{Axis}
-use Rattle.niss_moves.specs.declared.axis.Axis.TheVariants.{Ud, Rl, Fb}
+use Rattle.niss_cube.specs.Names.{Face, Turn, U, D, R, F, Quarter, Counter, Axis, Ud, Rl, Fb, Coordinate, Flip, Twist, Slice}
 use Rattle.niss_moves.specs.Places.{Place}
 use Rattle.niss_moves.specs.Effects.{turned}
 use Rattle.niss_cube.specs.NumberedCubies.{flips_of_number, twists_of_number, edges_of_number, occupied_of_number}
 use Rattle.niss_cube.specs.Coordinates.{flip_of, twist_of, slice_of, number_of}
 use Rattle.niss_cube.specs.NumberAfter.{number_after}
-use Rattle.niss_cube.specs.declared.cube.coordinate.Coordinate.{Coordinate}
-use Rattle.niss_cube.specs.declared.cube.coordinate.Coordinate.TheVariants.{Flip, Twist, Slice}
 use Rattle.niss_moves.proofs.CallerLemmas.{every_turn, every_face, every_power}
 
 abbrev turn : Face → Turn

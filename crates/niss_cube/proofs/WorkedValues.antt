@@ -2,12 +2,8 @@
 use Rattle.std.proofs.Common.{◌≡◌, refl, true, false, Bool, ◌==◌, ◌&&◌, [], ◌∷◌, reverse}
 use Rattle.niss_moves.specs.Places.{Place}
 use Rattle.niss_moves.specs.Effects.{moved, face_move}
-use Rattle.niss_moves.specs.declared.axis.Axis.TheVariants.{Ud, Rl, Fb}
-use Rattle.niss_moves.specs.declared.turn.Face.{Face}
-use Rattle.niss_moves.specs.declared.turn.Face.TheVariants.{U, D, R, F}
+use Rattle.niss_cube.specs.Names.{Ud, Rl, Fb, Face, U, D, R, F, Coordinate, Flip, Twist, Slice}
 use Rattle.niss_cube.specs.Coordinates.{number_of, flip_of, twist_of, slice_of, rank}
-use Rattle.niss_cube.specs.declared.cube.coordinate.Coordinate.{Coordinate}
-use Rattle.niss_cube.specs.declared.cube.coordinate.Coordinate.TheVariants.{Flip, Twist, Slice}
 
 -- of the solved cube, on each axis
 abbrev is_0_when_solved : Coordinate → Bool

@@ -3,10 +3,7 @@ use Rattle.std.specs.Prelude.{◌≡◌, ℕ, ◌<◌, ◌↔◌}
 use Rattle.niss_moves.specs.Places.{Place, SameMap}
 use Rattle.niss_moves.specs.Effects.{turned}
 use Rattle.niss_moves.specs.Turn.{inverse_turn}
-use Rattle.niss_moves.specs.declared.axis.Axis.{Axis}
-use Rattle.niss_moves.specs.declared.turn.Turn.{Turn}
-use Rattle.niss_cube.specs.declared.cube.Cube.{Cube}
-use Rattle.niss_cube.specs.declared.cube.coordinate.Coordinate.{Coordinate}
+use Rattle.niss_cube.specs.Names.{Axis, Turn, Cube, Coordinate}
 use Rattle.niss_cube.specs.Map.{map_of}
 use Rattle.niss_cube.specs.Sets.{Kept, set_of}
 use Rattle.niss_cube.specs.Coordinates.{count_of, number_of}

@@ -4,14 +4,9 @@ use Rattle.std.specs.List.{list_any}
 use Rattle.niss_moves.specs.Places.{Place, same_place}
 use Rattle.niss_moves.specs.Effects.{quarters}
 use Rattle.niss_moves.specs.Rotations.{renamed_turn}
-use Rattle.niss_moves.specs.declared.axis.Axis.{Axis}
-use Rattle.niss_moves.specs.declared.axis.Axis.TheVariants.{Ud, Rl, Fb}
-use Rattle.niss_moves.specs.declared.turn.Face.{Face}
-use Rattle.niss_moves.specs.declared.turn.Turn.{Turn}
+use Rattle.niss_cube.specs.Names.{Axis, Ud, Rl, Fb, Face, Turn, Coordinate, Flip, Twist, Slice}
 use Rattle.niss_cube.specs.CubieFacelets.{index_in, corner_facelets, edge_facelets}
 use Rattle.niss_cube.specs.RenamedFaces.{face_for_flip, face_for_twist}
-use Rattle.niss_cube.specs.declared.cube.coordinate.Coordinate.{Coordinate}
-use Rattle.niss_cube.specs.declared.cube.coordinate.Coordinate.TheVariants.{Flip, Twist, Slice}
 
 -- a place after quarters of the whole cube about an axis
 abbrev pub spun : Axis → ℕ → Place → Place

@@ -2,7 +2,7 @@
 use Rattle.std.specs.Prelude.{ℕ, suc, Bool, if◌then◌else◌, List, [], ◌∷◌, get_or}
 use Rattle.niss_moves.specs.Places.{Place}
 use Rattle.niss_moves.specs.Facelets.{facelet}
-use Rattle.niss_moves.specs.declared.turn.Face.TheVariants.{U, D, R, L, F, B}
+use Rattle.niss_cube.specs.Names.{U, D, R, L, F, B}
 
 -- URF, UFL, ULB, UBR, DFR, DLF, DBL, DRB
 abbrev pub corner_facelets : List (List Place)

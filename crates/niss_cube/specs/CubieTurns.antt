@@ -1,8 +1,5 @@
 -- The turns of the faces by their tables.
-use Rattle.niss_moves.specs.declared.turn.Face.{Face}
-use Rattle.niss_moves.specs.declared.turn.Face.TheVariants.{U, D, R, L, F, B}
-use Rattle.niss_moves.specs.declared.turn.Power.{Power}
-use Rattle.niss_moves.specs.declared.turn.Power.TheVariants.{Quarter, Half, Counter}
+use Rattle.niss_cube.specs.Names.{Face, U, D, R, L, F, B, Power, Quarter, Half, Counter}
 use Rattle.niss_cube.specs.declared.cubie_turns.CubieTurn.{CubieTurn}
 use Rattle.niss_cube.specs.declared.cubie_turns.TheConstants.{UP, DOWN, RIGHT, LEFT, FRONT, BACK, UP_HALF, DOWN_HALF, RIGHT_HALF, LEFT_HALF, FRONT_HALF, BACK_HALF, UP_COUNTER, DOWN_COUNTER, RIGHT_COUNTER, LEFT_COUNTER, FRONT_COUNTER, BACK_COUNTER}
 

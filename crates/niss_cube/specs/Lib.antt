@@ -1,3 +1,4 @@
+pub mod Names
 pub mod CubieFacelets
 pub mod Cubies
 pub mod Map

@@ -1,11 +1,9 @@
 -- The number of a coordinate after a turn: a cube with the number is turned, and its number read again.
 use Rattle.std.specs.Prelude.{ℕ}
 use Rattle.niss_moves.specs.Effects.{turned}
-use Rattle.niss_moves.specs.declared.axis.Axis.{Axis}
-use Rattle.niss_moves.specs.declared.turn.Turn.{Turn}
+use Rattle.niss_cube.specs.Names.{Axis, Turn, Coordinate}
 use Rattle.niss_cube.specs.NumberedCubies.{numbered}
 use Rattle.niss_cube.specs.Coordinates.{number_of, standard_axis, turn_for}
-use Rattle.niss_cube.specs.declared.cube.coordinate.Coordinate.{Coordinate}
 
 -- the number on an axis after a turn
 unfoldable pub number_after : Coordinate → Axis → ℕ → Turn → ℕ

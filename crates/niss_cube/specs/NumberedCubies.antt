@@ -4,8 +4,7 @@ use Rattle.niss_moves.specs.Places.{Place}
 use Rattle.niss_cube.specs.Coordinates.{choose}
 use Rattle.niss_cube.specs.Cubies.{corners_home, twists_home, edges_home, flips_home}
 use Rattle.niss_cube.specs.Map.{sticker_map}
-use Rattle.niss_cube.specs.declared.cube.coordinate.Coordinate.{Coordinate}
-use Rattle.niss_cube.specs.declared.cube.coordinate.Coordinate.TheVariants.{Flip, Twist, Slice}
+use Rattle.niss_cube.specs.Names.{Coordinate, Flip, Twist, Slice}
 
 -- the number i as n digits in base b, the highest first
 abbrev pub digits_of_number : (b n i : ℕ) → List ℕ

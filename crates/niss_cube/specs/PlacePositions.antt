@@ -3,12 +3,9 @@ use Rattle.std.specs.Prelude.{◌≡◌, ℕ, ◌+◌, ◌*◌, ◌<◌, List, s
 use Rattle.niss_moves.specs.Places.{Place}
 use Rattle.niss_moves.specs.Facelets.{places, facelet}
 use Rattle.niss_moves.specs.Effects.{effect}
-use Rattle.niss_moves.specs.declared.axis.Axis.{Axis}
-use Rattle.niss_moves.specs.declared.axis.Axis.TheVariants.{Ud, Rl, Fb}
-use Rattle.niss_moves.specs.declared.turn.Face.TheVariants.{U}
+use Rattle.niss_cube.specs.Names.{Axis, Ud, Rl, Fb, U, Token}
 use Rattle.niss_moves.specs.declared.token.Slice.{Slice}
 use Rattle.niss_moves.specs.declared.token.Slice.TheVariants.{M, E, S}
-use Rattle.niss_moves.specs.declared.token.Token.{Token}
 use Rattle.niss_moves.specs.declared.token.Token.TheVariants as token
 use Rattle.niss_cube.specs.TableRows.{face_index, power_index}
 

@@ -1,9 +1,6 @@
 -- The faces of the cube that is renamed before a coordinate is read.
 use Rattle.niss_moves.specs.Rotations.{face_before_power}
-use Rattle.niss_moves.specs.declared.axis.Axis.{Axis}
-use Rattle.niss_moves.specs.declared.axis.Axis.TheVariants.{Ud, Rl, Fb}
-use Rattle.niss_moves.specs.declared.turn.Face.{Face}
-use Rattle.niss_moves.specs.declared.turn.Power.TheVariants.{Quarter, Counter}
+use Rattle.niss_cube.specs.Names.{Axis, Ud, Rl, Fb, Face, Quarter, Counter}
 
 -- the face to which a face is brought by x' (Ud), by y (Rl), by nothing (Fb): the one that the inverse brings to its place
 abbrev pub face_for_flip : Axis → Face → Face

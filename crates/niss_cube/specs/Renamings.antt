@@ -1,12 +1,10 @@
 -- The rotations of the whole cube by which a cube is renamed before a coordinate is read.
 use Rattle.std.specs.Prelude.{ℕ, ◌+◌, ◌-◌, ◌%◌, List, slice_index}
 use Rattle.niss_moves.specs.Places.{Place}
-use Rattle.niss_moves.specs.declared.axis.Axis.TheVariants.{Rl, Ud, Fb}
+use Rattle.niss_cube.specs.Names.{Rl, Ud, Fb, Renaming, XCounter, XQuarter, YQuarter, ZCounter}
 use Rattle.niss_cube.specs.Coordinates.{renamed}
 use Rattle.niss_cube.specs.declared.renaming.RenamingTable.{RenamingTable}
 use Rattle.niss_cube.specs.declared.renaming.TheConstants.{X_COUNTER, X_QUARTER, Y_QUARTER, Z_COUNTER}
-use Rattle.niss_cube.specs.declared.renaming.Renaming.{Renaming}
-use Rattle.niss_cube.specs.declared.renaming.Renaming.TheVariants.{XCounter, XQuarter, YQuarter, ZCounter}
 
 abbrev pub renaming_table : Renaming → RenamingTable
 renaming_table XCounter = X_COUNTER

@@ -3,10 +3,7 @@ use Rattle.std.specs.Prelude.{Bool, ◌&&◌, ◌||◌, not, IsTrue, ◌↔◌}
 use Rattle.std.specs.List.{list_all}
 use Rattle.niss_moves.specs.Places.{Place, along, looks_along, is_zero, is_corner, is_edge, IsPlace}
 use Rattle.niss_moves.specs.Facelets.{places}
-use Rattle.niss_moves.specs.declared.axis.Axis.{Axis}
-use Rattle.niss_moves.specs.declared.axis.Axis.TheVariants.{Ud, Rl, Fb}
-use Rattle.niss_cube.specs.declared.cube.coordinate.Coordinate.{Coordinate}
-use Rattle.niss_cube.specs.declared.cube.coordinate.Coordinate.TheVariants.{Flip, Twist, Slice}
+use Rattle.niss_cube.specs.Names.{Axis, Ud, Rl, Fb, Coordinate, Flip, Twist, Slice}
 
 -- the helper axis of the flips on an axis
 abbrev pub helper_of : Axis → Axis

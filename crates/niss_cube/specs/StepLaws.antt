@@ -5,11 +5,8 @@ use Rattle.niss_moves.specs.Places.{Place, SameMap}
 use Rattle.niss_moves.specs.Effects.{turned}
 use Rattle.niss_moves.specs.Turn.{inverse_turn}
 use Rattle.niss_moves.specs.Canonical.{turn_order}
-use Rattle.niss_moves.specs.declared.turn.Turn.{Turn}
-use Rattle.niss_moves.specs.declared.axis.Axis.{Axis}
+use Rattle.niss_cube.specs.Names.{Turn, Axis, Domino, Step}
 use Rattle.niss_cube.specs.Steps.{start_of, goals_of, turns_of, may_start, reached}
-use Rattle.niss_cube.specs.declared.step.Goal.TheVariants.{Domino}
-use Rattle.niss_cube.specs.declared.step.Step.{Step}
 
 -- A step that may start may start after each of its turns too.
 abbrev pub StartIsKept : Type 0

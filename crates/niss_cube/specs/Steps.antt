@@ -5,18 +5,8 @@ use Rattle.std.specs.Option.{option_map, option_map_or}
 use Rattle.niss_moves.specs.Places.{Place}
 use Rattle.niss_moves.specs.Turn.{same_face}
 use Rattle.niss_moves.specs.Canonical.{face_order, powers}
-use Rattle.niss_moves.specs.declared.axis.Axis.{Axis}
-use Rattle.niss_moves.specs.declared.axis.Axis.TheVariants.{Ud, Rl, Fb}
-use Rattle.niss_moves.specs.declared.turn.Face.{Face}
-use Rattle.niss_moves.specs.declared.turn.Face.TheVariants.{U, D, R, L, F, B}
-use Rattle.niss_moves.specs.declared.turn.Power.{Power}
-use Rattle.niss_moves.specs.declared.turn.Power.TheVariants.{Half}
-use Rattle.niss_moves.specs.declared.turn.Turn.{Turn}
+use Rattle.niss_cube.specs.Names.{Axis, Ud, Rl, Fb, Face, U, D, R, L, F, B, Power, Half, Turn, Goal, Edges, Domino, Step, Eofb, Eorl, Eoud, DrudEofb, DrrlEofb, DrudEorl, DrfbEorl, DrrlEoud, DrfbEoud, Eo, DrEofb, DrEorl, DrEoud}
 use Rattle.niss_cube.specs.Sets.{flip_set, twist_set, slice_set, is_kept, Kept}
-use Rattle.niss_cube.specs.declared.step.Goal.{Goal}
-use Rattle.niss_cube.specs.declared.step.Goal.TheVariants.{Edges, Domino}
-use Rattle.niss_cube.specs.declared.step.Step.{Step}
-use Rattle.niss_cube.specs.declared.step.Step.TheVariants.{Eofb, Eorl, Eoud, DrudEofb, DrrlEofb, DrudEorl, DrfbEorl, DrrlEoud, DrfbEoud, Eo, DrEofb, DrEorl, DrEoud}
 
 -- all steps, in the order in which they are listed
 abbrev pub steps : List Step

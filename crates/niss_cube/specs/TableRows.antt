@@ -1,13 +1,8 @@
 -- Tables of the number of a coordinate after each turn.
 use Rattle.std.specs.Prelude.{◌≡◌, ℕ, ◌<◌, List, [], length, slice_index, get_or}
-use Rattle.niss_moves.specs.declared.turn.Face.{Face}
-use Rattle.niss_moves.specs.declared.turn.Face.TheVariants.{U, D, R, L, F, B}
-use Rattle.niss_moves.specs.declared.turn.Power.{Power}
-use Rattle.niss_moves.specs.declared.turn.Power.TheVariants.{Quarter, Half, Counter}
-use Rattle.niss_moves.specs.declared.turn.Turn.{Turn}
+use Rattle.niss_cube.specs.Names.{Face, U, D, R, L, F, B, Power, Quarter, Half, Counter, Turn, Coordinate}
 use Rattle.niss_cube.specs.Coordinates.{count_of, standard_axis}
 use Rattle.niss_cube.specs.NumberAfter.{number_after}
-use Rattle.niss_cube.specs.declared.cube.coordinate.Coordinate.{Coordinate}
 
 abbrev pub face_index : Face → ℕ
 face_index U = 0

@@ -1,5 +1,5 @@
 use Rattle.std.proofs.Common.{ℕ, ◌<◌, sym, ◌∙◌, ap, subst}
-use Rattle.niss_moves.specs.declared.turn.Turn.{Turn}
+use Rattle.niss_cube.specs.Names.{Turn}
 use Rattle.niss_cube.specs.Coordinates.{count_of}
 use Rattle.niss_cube.specs.TableRows.{AreRows}
 use Rattle.niss_cube.specs.NumberAfter.{number_after}

@@ -1,5 +1,5 @@
 use Rattle.std.proofs.Common.{◌∙◌, ap}
-use Rattle.niss_moves.specs.declared.turn.Face.{Face}
+use Rattle.niss_cube.specs.Names.{Face}
 use Rattle.niss_cube.specs.Coordinates.{standard_axis}
 use Rattle.niss_cube.specs.NumberAfter.{number_after}
 use Rattle.niss_cube.proofs.Codes.{number_after-standard}
