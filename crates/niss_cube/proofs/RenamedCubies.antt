@@ -6,6 +6,7 @@ use Rattle.std.proofs.lemmas.Bool.{eqb-true, ltb-true, eq-eqb}
 use Rattle.niss_moves.specs.Places.{Place, same_place, is_place, is_corner, is_edge, SameMap}
 use Rattle.niss_moves.specs.Facelets.{places}
 use Rattle.niss_cube.specs.Names.{Rl, Ud, Fb, Renaming, XCounter, XQuarter, YQuarter, ZCounter}
+use Rattle.niss_cube.specs.declared.renaming.RenamingTable.{RenamingTable}
 use Rattle.niss_cube.specs.Coordinates.{spun}
 use Rattle.niss_cube.specs.Renamings.{renaming_table, renamed_by, renamed_home, renamed_orientation}
 use Rattle.niss_cube.proofs.CubieLists.{CubieLists, Valid, map_lists, tabulated, tabulated-length, tabulated-at}
@@ -89,16 +90,16 @@ keeps_kinds v q p =
 
 -- the tables of a renaming, by the kind
 abbrev from_at : Kind → Renaming → ℕ → ℕ
-from_at Corners v i = get_or (renaming_table v).corners_from i 0
-from_at Edges v i = get_or (renaming_table v).edges_from i 0
+from_at Corners v i = get_or (renaming_table v).corners.from i 0
+from_at Edges v i = get_or (renaming_table v).edges.from i 0
 
 abbrev to_at : Kind → Renaming → ℕ → ℕ
-to_at Corners v i = get_or (renaming_table v).corners_to i 0
-to_at Edges v i = get_or (renaming_table v).edges_to i 0
+to_at Corners v i = get_or (renaming_table v).corners.to i 0
+to_at Edges v i = get_or (renaming_table v).edges.to i 0
 
 abbrev inward_at : Kind → Renaming → ℕ → ℕ
-inward_at Corners v i = get_or (renaming_table v).twists_in i 0
-inward_at Edges v i = get_or (renaming_table v).flips_in i 0
+inward_at Corners v i = get_or (renaming_table v).corners.inward i 0
+inward_at Edges v i = get_or (renaming_table v).edges.inward i 0
 
 abbrev outward_at : Kind → Renaming → ℕ → ℕ
 outward_at k v i = facelets k - inward_at k v i
@@ -248,15 +249,17 @@ module _ (v : Renaming) (c d : CubieLists) (a : Valid c) (b : (k : Kind) → Ren
         ∙ sym (renamed_by-is v (map_lists c) q)
   ]
 
-abbrev pub renamed_cubies : Renaming → CubieLists → CubieLists
-renamed_cubies v c =
-    let t = renaming_table v in
+abbrev pub renamed_with : RenamingTable → CubieLists → CubieLists
+renamed_with t c =
     record {
-      corners = tabulated 8 (renamed_home t.corners_from t.corners_to c.corners);
-      twists = tabulated 8 (renamed_orientation 3 t.corners_from t.twists_in c.corners c.twists);
-      edges = tabulated 12 (renamed_home t.edges_from t.edges_to c.edges);
-      flips = tabulated 12 (renamed_orientation 2 t.edges_from t.flips_in c.edges c.flips);
+      corners = tabulated 8 (renamed_home t.corners.from t.corners.to c.corners);
+      twists = tabulated 8 (renamed_orientation 3 t.corners.from t.corners.inward c.corners c.twists);
+      edges = tabulated 12 (renamed_home t.edges.from t.edges.to c.edges);
+      flips = tabulated 12 (renamed_orientation 2 t.edges.from t.edges.inward c.edges c.flips);
     }
+
+abbrev pub renamed_cubies : Renaming → CubieLists → CubieLists
+renamed_cubies v = renamed_with (renaming_table v)
 
 are_renamed : (v : Renaming) (c : CubieLists) (k : Kind) → Renamed k v c (renamed_cubies v c)
 are_renamed v c Corners = record { homes_len = tabulated-length 8 _; turns_len = tabulated-length 8 _; homes_are = tabulated-at 8 _; turns_are = tabulated-at 8 _ }

@@ -4,7 +4,7 @@ ghost use Rattle.niss_cube.specs.Cubies.{AreCubies};
 
 use crate::cubie_turns::{turn_corners, turn_edges, turn_flips, turn_twists};
 use crate::letters::{CORNER_LETTERS, EDGE_LETTERS};
-use crate::renaming::{Renaming, rename_corners, rename_edges};
+use crate::renaming::Renaming;
 use crate::rotated_text::{bring_to_top, turn_about_vertical};
 use coordinate::Coordinate;
 use niss_moves::{Axis, Rotation, Turn};
@@ -87,8 +87,9 @@ impl Cube {
     fn renamed(&self, renaming: Renaming) -> Cube
         ensures { SameMap (map_of result) (renamed_by renaming (map_of self.now)) }
     {
-        let (corners, twists) = rename_corners(&self.corners, &self.twists, renaming);
-        let (edges, flips) = rename_edges(&self.edges, &self.flips, renaming);
+        let table = renaming.table();
+        let (corners, twists) = table.corners.renamed(3, &self.corners, &self.twists);
+        let (edges, flips) = table.edges.renamed(2, &self.edges, &self.flips);
         Cube {
             corners,
             twists,

@@ -1,5 +1,0 @@
-use Rattle.std.proofs.Common.{◌≡◌, ℕ, ◌<◌, ◌+◌, ◌-◌, ◌%◌, get_or}
-use Rattle.niss_cube.proofs.renaming.rename_orientations.Given as goal
-
-abbrev pub invariant-loop-place : goal.invariant-loop-place
-invariant-loop-place l = (i : ℕ) → i < l.place → get_or l.new i 0 ≡ (get_or l.inward (get_or l.homes (get_or l.from i 0) 0) 0 + get_or l.orientations (get_or l.from i 0) 0 + (l.facelets - get_or l.inward (get_or l.from i 0) 0)) % l.facelets
