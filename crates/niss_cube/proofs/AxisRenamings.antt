@@ -4,10 +4,10 @@ use Rattle.std.specs.List.{list_all}
 use Rattle.niss_moves.specs.Places.{Place, is_place, same_place, SameMap}
 use Rattle.niss_moves.specs.Facelets.{places}
 use Rattle.niss_moves.specs.Effects.{turned}
-use Rattle.niss_moves.specs.Rotations.{face_before_power, renamed_turn}
+use Rattle.niss_moves.specs.Rotations.{renamed_turn}
 use Rattle.niss_moves.specs.Turn.{inverse_turn}
-use Rattle.niss_cube.specs.Names.{Rl, Ud, Fb, Face, Turn, Quarter, Counter, Renaming, XCounter, XQuarter, YQuarter, ZCounter}
-use Rattle.niss_cube.specs.Renamings.{renamed_by}
+use Rattle.niss_cube.specs.Names.{Turn, Renaming}
+use Rattle.niss_cube.specs.Renamings.{face_by, renamed_by}
 use Rattle.niss_cube.proofs.CubieLists.{CubieLists, Valid, map_lists}
 use Rattle.niss_cube.proofs.CubieKinds.{map_place}
 use Rattle.niss_cube.proofs.Each.{at_place}
@@ -28,12 +28,6 @@ pub record IsRenaming (rename : (Place → Place) → Place → Place) (turn : T
   pub onto : (c : CubieLists) → Valid c → (w : CubieLists) × Valid w × SameMap (map_lists c) (rename (map_lists w))
 
 -- under a renaming a turn becomes that of the face to which the face is brought
-abbrev face_by : Renaming → Face → Face
-face_by XCounter f = face_before_power Rl Quarter f
-face_by XQuarter f = face_before_power Rl Counter f
-face_by YQuarter f = face_before_power Ud Counter f
-face_by ZCounter f = face_before_power Fb Quarter f
-
 abbrev turn_test : Renaming → Turn → Place → Bool
 turn_test v t q = same_place (rotated v (turned t q)) (turned (renamed_turn (face_by v) t) (rotated v q))
 

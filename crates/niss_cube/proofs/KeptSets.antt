@@ -1,5 +1,5 @@
 -- How a coordinate on an axis is renamed, and that it is 0 exactly where its set of places is kept.
-use Rattle.std.proofs.Common.{◌≡◌, ℕ, ◌+◌, ◌-◌, ◌%◌, ◌<◌, refl, sym, ◌∙◌, ap, List, [], ◌∷◌, get_or, Bool, true, false, ◌&&◌, not, arith, inl, inr}
+use Rattle.std.proofs.Common.{◌≡◌, ℕ, ◌+◌, ◌-◌, ◌%◌, ◌<◌, refl, sym, ◌∙◌, ap, List, [], ◌∷◌, get_or, Option, None, Some, Bool, true, false, ◌&&◌, not, arith, inl, inr}
 use Rattle.std.specs.Prelude.{◌==◌, ◌↔◌, nat_le}
 use Rattle.std.specs.List.{list_all}
 use Rattle.std.proofs.lemmas.Bool.{eqb-true, false_from_ne_true}
@@ -7,8 +7,10 @@ use Rattle.std.proofs.lemmas.Bool.Decides.{eqb_tells}
 use Rattle.std.proofs.lemmas.List.{ext_get_or}
 use Rattle.niss_moves.specs.Places.{Place, is_place, is_edge, SameMap}
 use Rattle.niss_moves.specs.Facelets.{places}
+use Rattle.niss_moves.specs.Rotations.{renamed_turn}
 use Rattle.niss_cube.specs.Names.{Axis, Ud, Rl, Fb, Coordinate, Flip, Twist, Slice, Renaming, XCounter, XQuarter, YQuarter, ZCounter}
-use Rattle.niss_cube.specs.Coordinates.{rank, number_of, renamed_for, turn_for}
+use Rattle.niss_cube.specs.Renamings.{renamed_if, face_if}
+use Rattle.niss_cube.specs.Coordinates.{rank, number_of, renaming_for, renamed_for, turn_for}
 use Rattle.niss_cube.specs.Cubies.{flips_home, twists_home}
 use Rattle.niss_cube.specs.Sets.{Kept, SetsArePlaces, is_kept, flip_set, twist_set, slice_set, set_of}
 use Rattle.niss_cube.proofs.CubieLists.{CubieLists, Valid, map_lists}
@@ -26,27 +28,19 @@ use Rattle.niss_cube.proofs.KeptTests.{kept-tested}
 use Rattle.niss_cube.proofs.Logic.{and_left}
 
 -- the cubies from which a coordinate on an axis is read
+abbrev renamed_cubies_if : Option Renaming → CubieLists → CubieLists
+renamed_cubies_if None c = c
+renamed_cubies_if (Some v) c = renamed_cubies v c
+
 abbrev pub cubies_for : Coordinate → Axis → CubieLists → CubieLists
-cubies_for Flip Ud c = renamed_cubies XCounter c
-cubies_for Flip Rl c = renamed_cubies YQuarter c
-cubies_for Flip Fb c = c
-cubies_for Twist Ud c = c
-cubies_for Twist Rl c = renamed_cubies ZCounter c
-cubies_for Twist Fb c = renamed_cubies XQuarter c
-cubies_for Slice Ud c = c
-cubies_for Slice Rl c = renamed_cubies ZCounter c
-cubies_for Slice Fb c = renamed_cubies XQuarter c
+cubies_for k a = renamed_cubies_if (renaming_for k a)
+
+if_renamed : (o : Option Renaming) → IsRenaming (renamed_if o) (renamed_turn (face_if o)) (renamed_cubies_if o)
+if_renamed None = not_renamed
+if_renamed (Some v) = by_rotation v
 
 pub renaming : (k : Coordinate) (a : Axis) → IsRenaming (renamed_for k a) (turn_for k a) (cubies_for k a)
-renaming Flip Ud = by_rotation XCounter
-renaming Flip Rl = by_rotation YQuarter
-renaming Flip Fb = not_renamed
-renaming Twist Ud = not_renamed
-renaming Twist Rl = by_rotation ZCounter
-renaming Twist Fb = by_rotation XQuarter
-renaming Slice Ud = not_renamed
-renaming Slice Rl = by_rotation ZCounter
-renaming Slice Fb = by_rotation XQuarter
+renaming k a = if_renamed (renaming_for k a)
 
 -- the cubies of a coordinate, and the places of its set
 abbrev kind_for : Coordinate → Kind

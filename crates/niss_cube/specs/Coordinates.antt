@@ -1,32 +1,35 @@
 -- The coordinates of a map of the sticker places, in the order of the cubies.
-use Rattle.std.specs.Prelude.{ℕ, zero, suc, ◌+◌, ◌*◌, ◌-◌, Bool, true, false, List, [], ◌∷◌, map, take, drop, fold, reverse, length}
+use Rattle.std.specs.Prelude.{ℕ, zero, suc, ◌+◌, ◌*◌, Option, None, Some, Bool, true, false, List, [], ◌∷◌, map, take, drop, fold, reverse, length}
 use Rattle.std.specs.List.{list_any}
 use Rattle.niss_moves.specs.Places.{Place, same_place}
-use Rattle.niss_moves.specs.Effects.{quarters}
 use Rattle.niss_moves.specs.Rotations.{renamed_turn}
-use Rattle.niss_cube.specs.Names.{Axis, Ud, Rl, Fb, Face, Turn, Coordinate, Flip, Twist, Slice}
+use Rattle.niss_cube.specs.Names.{Axis, Ud, Rl, Fb, Face, Turn, Coordinate, Flip, Twist, Slice, Renaming, XCounter, XQuarter, YQuarter, ZCounter}
 use Rattle.niss_cube.specs.CubieFacelets.{index_in, corner_facelets, edge_facelets}
-use Rattle.niss_cube.specs.RenamedFaces.{face_for_flip, face_for_twist}
+use Rattle.niss_cube.specs.Renamings.{renamed_if, face_if}
 
--- a place after quarters of the whole cube about an axis
-abbrev pub spun : Axis → ℕ → Place → Place
-spun axis n q = record { cell = quarters axis n q.cell; direction = quarters axis n q.direction }
+-- The rotation by which the cube is renamed before a coordinate on an axis is read, if it is:
+-- for flips by x' (Ud), by y (Rl), by none (Fb); for twists and slices by none (Ud), by z' (Rl), by x (Fb).
+abbrev pub renaming_for : Coordinate → Axis → Option Renaming
+renaming_for Flip Ud = Some XCounter
+renaming_for Flip Rl = Some YQuarter
+renaming_for Flip Fb = None
+renaming_for Twist Ud = None
+renaming_for Twist Rl = Some ZCounter
+renaming_for Twist Fb = Some XQuarter
+renaming_for Slice Ud = None
+renaming_for Slice Rl = Some ZCounter
+renaming_for Slice Fb = Some XQuarter
 
--- the map of the cube renamed by a rotation of the whole cube: where e goes from q to r, this goes from g q to g r
-abbrev pub renamed : Axis → ℕ → (Place → Place) → Place → Place
-renamed axis n e q = spun axis n (e (spun axis (4 - n) q))
+-- the map of the cube from which the coordinate is read,
+abbrev pub renamed_for : Coordinate → Axis → (Place → Place) → Place → Place
+renamed_for k a = renamed_if (renaming_for k a)
 
--- flips are read of the cube renamed by x' (Ud), y (Rl), nothing (Fb)
-abbrev pub for_flip : Axis → (Place → Place) → Place → Place
-for_flip Ud e = renamed Rl 3 e
-for_flip Rl e = renamed Ud 1 e
-for_flip Fb e = e
+-- and a turn of the cube as one of that cube
+abbrev pub face_for : Coordinate → Axis → Face → Face
+face_for k a = face_if (renaming_for k a)
 
--- twists and slices of the cube renamed by nothing (Ud), z' (Rl), x (Fb)
-abbrev pub for_twist : Axis → (Place → Place) → Place → Place
-for_twist Ud e = e
-for_twist Rl e = renamed Fb 3 e
-for_twist Fb e = renamed Rl 1 e
+abbrev pub turn_for : Coordinate → Axis → Turn → Turn
+turn_for k a t = renamed_turn (face_for k a) t
 
 -- the first facelet of each row
 abbrev pub firsts : List (List Place) → List Place
@@ -47,10 +50,10 @@ abbrev pub number : ℕ → List ℕ → ℕ
 number b ds = fold (λ n d. b * n + d) 0 ds
 
 unfoldable pub flip_of : Axis → (Place → Place) → ℕ
-flip_of a e = number 2 (take 11 (orientations (for_flip a e) edge_facelets))
+flip_of a e = number 2 (take 11 (orientations (renamed_for Flip a e) edge_facelets))
 
 unfoldable pub twist_of : Axis → (Place → Place) → ℕ
-twist_of a e = number 3 (take 7 (orientations (for_twist a e) corner_facelets))
+twist_of a e = number 3 (take 7 (orientations (renamed_for Twist a e) corner_facelets))
 
 -- at which edge places one of the edges 8 to 11 stands
 abbrev pub occupied : (Place → Place) → List Bool
@@ -70,7 +73,7 @@ rank (true ∷ os) (suc k) = rank os k
 rank (false ∷ os) (suc k) = choose (length os) k + rank os (suc k)
 
 unfoldable pub slice_of : Axis → (Place → Place) → ℕ
-slice_of a e = rank (reverse (occupied (for_twist a e))) 4
+slice_of a e = rank (reverse (occupied (renamed_for Slice a e))) 4
 
 -- The same, each coordinate as one value: its number on an axis,
 abbrev pub number_of : Coordinate → Axis → (Place → Place) → ℕ
@@ -83,21 +86,6 @@ abbrev pub count_of : Coordinate → ℕ
 count_of Flip = 2048
 count_of Twist = 2187
 count_of Slice = 495
-
--- the map of the cube from which it is read, and which face of that cube a face is,
-abbrev pub renamed_for : Coordinate → Axis → (Place → Place) → Place → Place
-renamed_for Flip = for_flip
-renamed_for Twist = for_twist
-renamed_for Slice = for_twist
-
-abbrev pub face_for : Coordinate → Axis → Face → Face
-face_for Flip = face_for_flip
-face_for Twist = face_for_twist
-face_for Slice = face_for_twist
-
--- a turn of the cube as one of that cube,
-abbrev pub turn_for : Coordinate → Axis → Turn → Turn
-turn_for k a t = renamed_turn (face_for k a) t
 
 -- and the axis for which the cube isn't renamed
 abbrev pub standard_axis : Coordinate → Axis

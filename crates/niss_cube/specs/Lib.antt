@@ -8,7 +8,6 @@ pub mod Coordinates
 pub mod SameCubies
 pub mod CubieTurns
 pub mod Renamings
-pub mod RenamedFaces
 pub mod NumberedCubies
 pub mod NumberAfter
 pub mod AfterTurn

@@ -1,16 +1,19 @@
 -- The rotations of the whole cube by which a cube is renamed before a coordinate is read.
-use Rattle.std.specs.Prelude.{ℕ, ◌+◌, ◌-◌, ◌%◌, List, slice_index}
+use Rattle.std.specs.Prelude.{ℕ, ◌+◌, ◌-◌, ◌%◌, List, Option, None, Some, slice_index}
 use Rattle.niss_moves.specs.Places.{Place}
-use Rattle.niss_cube.specs.Names.{Rl, Ud, Fb, Renaming, XCounter, XQuarter, YQuarter, ZCounter}
-use Rattle.niss_cube.specs.Coordinates.{renamed}
+use Rattle.niss_moves.specs.Effects.{quarters}
+use Rattle.niss_moves.specs.Rotations.{face_before_power}
+use Rattle.niss_cube.specs.Names.{Axis, Rl, Ud, Fb, Face, Quarter, Counter, Renaming, XCounter, XQuarter, YQuarter, ZCounter}
 use Rattle.niss_cube.specs.declared.renaming.RenamingTable.{RenamingTable}
 use Rattle.niss_cube.specs.declared.renaming.TheConstants.{X_COUNTER, X_QUARTER, Y_QUARTER, Z_COUNTER}
 
-abbrev pub renaming_table : Renaming → RenamingTable
-renaming_table XCounter = X_COUNTER
-renaming_table XQuarter = X_QUARTER
-renaming_table YQuarter = Y_QUARTER
-renaming_table ZCounter = Z_COUNTER
+-- a place after quarters of the whole cube about an axis
+abbrev pub spun : Axis → ℕ → Place → Place
+spun axis n q = record { cell = quarters axis n q.cell; direction = quarters axis n q.direction }
+
+-- the map of the cube renamed by a rotation of the whole cube: where e goes from q to r, this goes from g q to g r
+abbrev pub renamed : Axis → ℕ → (Place → Place) → Place → Place
+renamed axis n e q = spun axis n (e (spun axis (4 - n) q))
 
 -- the map of the renamed cube
 abbrev pub renamed_by : Renaming → (Place → Place) → Place → Place
@@ -18,6 +21,29 @@ renamed_by XCounter e = renamed Rl 3 e
 renamed_by XQuarter e = renamed Rl 1 e
 renamed_by YQuarter e = renamed Ud 1 e
 renamed_by ZCounter e = renamed Fb 3 e
+
+-- the face to which a face is brought: the one that the inverse brings to its place
+abbrev pub face_by : Renaming → Face → Face
+face_by XCounter f = face_before_power Rl Quarter f
+face_by XQuarter f = face_before_power Rl Counter f
+face_by YQuarter f = face_before_power Ud Counter f
+face_by ZCounter f = face_before_power Fb Quarter f
+
+-- the same where the cube may be left as it is
+abbrev pub renamed_if : Option Renaming → (Place → Place) → Place → Place
+renamed_if None e = e
+renamed_if (Some v) e = renamed_by v e
+
+abbrev pub face_if : Option Renaming → Face → Face
+face_if None f = f
+face_if (Some v) f = face_by v f
+
+-- the table of a renaming
+abbrev pub renaming_table : Renaming → RenamingTable
+renaming_table XCounter = X_COUNTER
+renaming_table XQuarter = X_QUARTER
+renaming_table YQuarter = Y_QUARTER
+renaming_table ZCounter = Z_COUNTER
 
 -- which renamed cubie stands at a renamed place
 abbrev pub renamed_home : (from to homes : List ℕ) (place : ℕ) → ℕ

@@ -48,7 +48,7 @@ impl Cube {
     ghost use Rattle.niss_moves.specs.Effects.{effect};
     ghost use Rattle.niss_moves.specs.Rotations.{spelling};
     ghost use Rattle.niss_cube.specs.CubieFacelets.{facelet_at, corner_facelets, edge_facelets};
-    ghost use Rattle.niss_cube.specs.Coordinates.{for_flip, for_twist, flip_of, twist_of, slice_of};
+    ghost use Rattle.niss_cube.specs.Coordinates.{flip_of, twist_of, slice_of};
 
     /// The solved cube.
     pub fn solved() -> Self
@@ -95,28 +95,6 @@ impl Cube {
             twists,
             edges,
             flips,
-        }
-    }
-
-    /// The cube as the flip on an axis is read from it.
-    fn renamed_for_flip(&self, axis: Axis) -> Cube
-        ensures { SameMap (map_of result) (for_flip axis (map_of self.now)) }
-    {
-        match axis {
-            Axis::Ud => self.renamed(Renaming::XCounter),
-            Axis::Rl => self.renamed(Renaming::YQuarter),
-            Axis::Fb => *self,
-        }
-    }
-
-    /// The cube as the twist and the slice on an axis are read from it.
-    fn renamed_for_twist(&self, axis: Axis) -> Cube
-        ensures { SameMap (map_of result) (for_twist axis (map_of self.now)) }
-    {
-        match axis {
-            Axis::Ud => *self,
-            Axis::Rl => self.renamed(Renaming::ZCounter),
-            Axis::Fb => self.renamed(Renaming::XQuarter),
         }
     }
 

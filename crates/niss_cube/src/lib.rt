@@ -41,7 +41,6 @@ mod followed_places;
 pub mod laws;
 mod letters;
 mod place_positions;
-mod renamed_faces;
 mod renaming;
 mod rotated_text;
 mod slice_places;

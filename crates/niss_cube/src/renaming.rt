@@ -1,6 +1,8 @@
 //! Cubies under a rotation that renames the places.
-ghost use Rattle.niss_cube.specs.Renamings.{renaming_table, renamed_home, renamed_orientation};
-ghost use Rattle.std.specs.Prelude.{◌≡◌, ◌<◌, ◌≤◌, length, EachIndex, slice_index};
+ghost use Rattle.niss_cube.specs.Renamings.{face_by, renaming_table, renamed_home, renamed_orientation};
+ghost use Rattle.std.specs.Prelude.{◌≡◌, ◌<◌, ◌≤◌, EachIndex, slice_index};
+
+use niss_moves::{Face, Power, Rotation};
 
 /// The places of one kind of cubies under a rotation of the whole cube that renames them.
 #[derive(Clone, Copy)]
@@ -143,5 +145,19 @@ impl Renaming {
             Renaming::YQuarter => &Y_QUARTER,
             Renaming::ZCounter => &Z_COUNTER,
         }
+    }
+
+    /// The face to which it brings a face: the one that the inverse rotation (`x`, `x'`, `y'`, `z`) brings to its place.
+    #[inline(always)]
+    pub fn face(self, face: Face) -> Face
+        ensures { result ≡ face_by self face }
+    {
+        let (top, vertical) = match self {
+            Renaming::XCounter => (Face::F, None),
+            Renaming::XQuarter => (Face::B, None),
+            Renaming::YQuarter => (Face::U, Some(Power::Counter)),
+            Renaming::ZCounter => (Face::L, None),
+        };
+        Rotation { top, vertical }.face_before(face)
     }
 }

@@ -4,13 +4,13 @@ ghost use Rattle.niss_moves.specs.Effects.{turned};
 ghost use Rattle.niss_moves.specs.Places.{SameMap};
 ghost use Rattle.niss_cube.specs.Map.{map_of};
 ghost use Rattle.niss_cube.specs.Sets.{Kept, is_kept, set_of};
-ghost use Rattle.niss_cube.specs.Coordinates.{count_of, face_for, number_of, renamed_for, standard_axis, turn_for};
+ghost use Rattle.niss_cube.specs.Coordinates.{count_of, face_for, number_of, renamed_for, renaming_for, standard_axis, turn_for};
 ghost use Rattle.niss_cube.specs.NumberAfter.{number_after};
 
 use super::{CORNERS_HOME, Cube, EDGES_HOME};
 use crate::cubie_turns::{turn_edges, turn_flips, turn_twists};
 use crate::digits::{number_of, write_orientations};
-use crate::renamed_faces::{renamed_face_for_flip, renamed_face_for_twist};
+use crate::renaming::Renaming;
 use crate::slice_places::{edges_with_slice, slice_number};
 use niss_moves::{Axis, Face, Turn};
 
@@ -54,13 +54,32 @@ impl Coordinate {
         self.number(axis, cube) == 0
     }
 
+    /// The rotation by which a cube is renamed before the coordinate on an axis is read, if it is.
+    #[inline(always)]
+    fn renaming(self, axis: Axis) -> Option<Renaming>
+        ensures { result ≡ renaming_for self axis }
+    {
+        match self {
+            Coordinate::Flip => match axis {
+                Axis::Ud => Some(Renaming::XCounter),
+                Axis::Rl => Some(Renaming::YQuarter),
+                Axis::Fb => None,
+            },
+            Coordinate::Twist | Coordinate::Slice => match axis {
+                Axis::Ud => None,
+                Axis::Rl => Some(Renaming::ZCounter),
+                Axis::Fb => Some(Renaming::XQuarter),
+            },
+        }
+    }
+
     /// A cube as the coordinate on an axis is read from it.
     fn renamed(self, axis: Axis, cube: &Cube) -> Cube
         ensures { SameMap (map_of result) (renamed_for self axis (map_of cube.now)) }
     {
-        match self {
-            Coordinate::Flip => cube.renamed_for_flip(axis),
-            Coordinate::Twist | Coordinate::Slice => cube.renamed_for_twist(axis),
+        match self.renaming(axis) {
+            Some(renaming) => cube.renamed(renaming),
+            None => *cube,
         }
     }
 
@@ -110,9 +129,9 @@ impl Coordinate {
     fn renamed_face(self, axis: Axis, face: Face) -> Face
         ensures { result ≡ face_for self axis face }
     {
-        match self {
-            Coordinate::Flip => renamed_face_for_flip(axis, face),
-            Coordinate::Twist | Coordinate::Slice => renamed_face_for_twist(axis, face),
+        match self.renaming(axis) {
+            Some(renaming) => renaming.face(face),
+            None => face,
         }
     }
 
