@@ -1,6 +1,7 @@
 #!/usr/bin/env bash
-# Holds the pages against the repository: each link leads to a file and a heading, each file that a page names is there, and each
-# edit and row that docs/PROMISES.md names; the examples of the crates' first pages against the programs and tests that hold them.
+# Holds the pages against the repository: each link leads to a file and a heading, each file and name of code that a page gives is there,
+# and each clause, law, edit and row that docs/PROMISES.md names; the examples of the crates' first pages against the programs and tests
+# that hold them.
 # The last line is `N passed, M failed`, and the status is 1 where M isn't 0.
 # shellcheck disable=SC2013,SC2016 # names hold no blanks; backquotes are text
 set -u
@@ -53,6 +54,20 @@ for page in docs/ARCHITECTURE.md docs/PROMISES.md docs/DECISIONS.md; do
         holds "$page: $name is there" stands_in_a_crate "$name"
     done
 done
+# each name of code that these pages give in backquotes is a word of the repository
+find crates tests tools Makefile -name out -prune -o -type f -print -exec cat {} + | grep -oE '[A-Za-z_0-9]+' | sort -u > "$shown"
+for page in docs/ARCHITECTURE.md docs/PROMISES.md docs/DECISIONS.md; do
+    for name in $(grep -oE '`[A-Za-z_0-9:]+`' "$page" | tr -d '\`' | tr -s : '\n' | sort -u); do
+        holds "$page: $name is a name of the repository" grep -qx "$name" "$shown"
+    done
+done
+# after the word of what it is, docs/PROMISES.md names clauses and laws, and the records and fields of definitions
+named_after() { grep -oE "$1"' (`[a-z_A-Z]+`(, | and )?)+' docs/PROMISES.md | grep -oE '`[A-Za-z_]+`' | tr -d '\`' | sort -u; }
+stands_in_code() { grep -rqE --include='*.rt' --include='*.antt' --exclude-dir=out "$1" crates/niss_*; }
+for name in $(named_after 'clauses?'); do holds "docs/PROMISES.md: $name is a clause" stands_in_code "ensures $name \{"; done
+for name in $(named_after 'laws?'); do holds "docs/PROMISES.md: $name is a law" stands_in_code "pub fn $name\(\)"; done
+for name in $(named_after 'records?'); do holds "docs/PROMISES.md: $name is a record" stands_in_code "record $name "; done
+for name in $(named_after 'fields?'); do holds "docs/PROMISES.md: $name is a field" stands_in_code "pub $name :"; done
 # in the table of wrong programs each row names edits after the word, and rows of niss_tests
 for name in $(sed -n '/^## Wrong programs/,/^## Only tested/p' docs/PROMISES.md | grep '^|.*| .*edit' |
     sed 's/.* | //' | grep -oE '`[a-z0-9_]+`' | tr -d '\`' | grep -vx 'niss_[a-z]*' | sort -u); do

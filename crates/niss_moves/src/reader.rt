@@ -99,7 +99,7 @@ impl LineReader {
         }
     }
 
-    /// Ends the line: the bytes spell `moves`, or have a fault, which later calls answer again.
+    /// Ends the line: the bytes spell `moves`, or have a fault, which leaves the reader as it was.
     pub fn end(&mut self) -> Result<(), ReadFault>
         ensures line { (bytes : List ℕ) → IsFed self.old bytes →
             moves_if result (moves_of self.new) ≡ read_line bytes }
