@@ -7,6 +7,8 @@ use Rattle.niss_moves.specs.Turn.{inverse_turn}
 use Rattle.niss_moves.specs.Canonical.{turn_order}
 use Rattle.niss_moves.specs.declared.turn.Turn.{Turn}
 use Rattle.niss_moves.specs.declared.axis.Axis.{Axis}
+use Rattle.niss_cube.specs.declared.cube.Cube.{Cube}
+use Rattle.niss_cube.specs.Map.{map_of}
 use Rattle.niss_cube.specs.Steps.{start_of, goals_of, turns_of, may_start, reached}
 use Rattle.niss_cube.specs.declared.step.Goal.TheVariants.{Domino}
 use Rattle.niss_cube.specs.declared.step.Step.{Step}
@@ -16,6 +18,12 @@ abbrev pub StartIsKept : Type 0
 StartIsKept =
     (s : Step) (e : Place → Place) (t : Turn) → Contains (turns_of s) t →
     IsTrue (may_start s e) → IsTrue (may_start s (λ q. turned t (e q)))
+
+-- A turn that is none of the step's brings each cube on which the step may start to one on which it may not.
+abbrev pub OtherTurnsLeaveStart : Type 0
+OtherTurnsLeaveStart =
+    (s : Step) (c : Cube) (t : Turn) → IsTrue (may_start s (map_of c)) →
+    IsTrue (may_start s (λ q. turned t (map_of c q))) → Contains (turns_of s) t
 
 -- Maps that are the same on the 54 places have the same start and the same goal.
 pub record SameSteps (d e : Place → Place) : Type 0 where
