@@ -21,6 +21,7 @@ pub mod OccupiedNumbers
 pub mod Once
 pub mod Orientations
 pub mod Origins
+pub mod OtherTurns
 pub mod Permutations
 pub mod PlacedEdges
 pub mod RenamedCubies

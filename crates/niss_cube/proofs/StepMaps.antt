@@ -17,7 +17,7 @@ use Rattle.niss_cube.proofs.StepTurns.{turns_from, turn_keeps}
 
 -- the start is kept
 
-abbrev starts : Option Axis → (Place → Place) → Bool
+abbrev pub starts : Option Axis → (Place → Place) → Bool
 starts start e = option_map_or (λ a. holds (Edges a) e) start true
 
 start_kept : (start : Option Axis) (e : Place → Place) (t : Turn) → Contains (turns_from start) t → IsTrue (starts start e) → IsTrue (starts start (λ q. turned t (e q)))

@@ -60,10 +60,10 @@ turn_keeps a t m q h =
 
 -- the inverse of each turn is among them
 
-abbrev same_turn : Turn → Turn → Bool
+abbrev pub same_turn : Turn → Turn → Bool
 same_turn t u = same_face t.face u.face && same_power t.power u.power
 
-same_turn-is : (t u : Turn) → same_turn t u ≡ true → t ≡ u
+pub same_turn-is : (t u : Turn) → same_turn t u ≡ true → t ≡ u
 same_turn-is t u h =
     let f : t.face ≡ u.face = same_face_is t.face u.face (and_left _ _ h) in
     let p : t.power ≡ u.power = same_power_is t.power u.power (and_right (same_face t.face u.face) _ h) in

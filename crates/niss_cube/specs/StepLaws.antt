@@ -5,7 +5,8 @@ use Rattle.niss_moves.specs.Places.{Place, SameMap}
 use Rattle.niss_moves.specs.Effects.{turned}
 use Rattle.niss_moves.specs.Turn.{inverse_turn}
 use Rattle.niss_moves.specs.Canonical.{turn_order}
-use Rattle.niss_cube.specs.Names.{Turn, Axis, Domino, Step}
+use Rattle.niss_cube.specs.Names.{Turn, Axis, Domino, Cube, Step}
+use Rattle.niss_cube.specs.Map.{map_of}
 use Rattle.niss_cube.specs.Steps.{start_of, goals_of, turns_of, may_start, reached}
 
 -- A step that may start may start after each of its turns too.
@@ -13,6 +14,12 @@ abbrev pub StartIsKept : Type 0
 StartIsKept =
     (s : Step) (e : Place → Place) (t : Turn) → Contains (turns_of s) t →
     IsTrue (may_start s e) → IsTrue (may_start s (λ q. turned t (e q)))
+
+-- A turn that is none of the step's brings each cube on which the step may start to one on which it may not.
+abbrev pub OtherTurnsLeaveStart : Type 0
+OtherTurnsLeaveStart =
+    (s : Step) (c : Cube) (t : Turn) → IsTrue (may_start s (map_of c)) →
+    IsTrue (may_start s (λ q. turned t (map_of c q))) → Contains (turns_of s) t
 
 -- Maps that are the same on the 54 places have the same start and the same goal.
 pub record SameSteps (d e : Place → Place) : Type 0 where

@@ -4,7 +4,7 @@
 ghost use Rattle.niss_cube.specs.AfterTurn.{TurnedIsCube, AreCoordinates};
 ghost use Rattle.niss_cube.specs.Sets.{KeptIsTested, SetsArePlaces};
 ghost use Rattle.niss_cube.specs.Permutations.{CubesPermutePlaces, KeptIsEqual};
-ghost use Rattle.niss_cube.specs.StepLaws.{StartIsKept, StepsSeePlaces, InversesOfSteps, StepTurnsInOrder, StepTurnsAreCounted, DominoKeepsStart};
+ghost use Rattle.niss_cube.specs.StepLaws.{StartIsKept, OtherTurnsLeaveStart, StepsSeePlaces, InversesOfSteps, StepTurnsInOrder, StepTurnsAreCounted, DominoKeepsStart};
 
 /// A turned cube is a cube.
 pub fn turned_is_cube()
@@ -40,6 +40,11 @@ pub fn sets_are_places()
 /// A step that may start may start after each of its turns too.
 pub fn start_is_kept()
     ensures { StartIsKept }
+{}
+
+/// A step that may start may not start after a turn that is none of its own.
+pub fn other_turns_leave_start()
+    ensures { OtherTurnsLeaveStart }
 {}
 
 /// Whether a step may start and whether it is reached depends on the 54 sticker places alone.

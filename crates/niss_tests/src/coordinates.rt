@@ -1,5 +1,6 @@
 //! Coordinates of cubes, and the tables that turn them.
 use crate::cubes::{after, quarter, turn};
+use crate::steps::cube_after;
 use niss_cube::{Axis, Coordinate, Cube, Face, OutOfMemory, Power, TurnTable, TurnTables};
 use std::alloc::Allocator;
 use std::process::Abort;
@@ -57,6 +58,20 @@ fn the_largest_slice_number_is_494(rt: HostRuntime) {
         turn(Face::L, Power::Counter),
     ]);
     assert!(rt; cube.slice(Axis::Ud) == 494);
+}
+
+// The numbers of one cube on each axis, worked out from its stickers' places by a program that turns places and no cubies.
+#[test]
+fn a_turned_cube_has_its_numbers_on_each_axis(rt: HostRuntime) {
+    let cube = cube_after(&rt, "R U' F2 L D B'");
+    for (axis, wanted) in [
+        (Axis::Ud, [1309, 518, 14]),
+        (Axis::Rl, [1221, 1588, 350]),
+        (Axis::Fb, [137, 749, 378]),
+    ] {
+        let numbers = [cube.flip(axis), cube.twist(axis), cube.slice(axis)];
+        assert!(rt; numbers == wanted);
+    }
 }
 
 /// Turns the numbers of the solved cube.

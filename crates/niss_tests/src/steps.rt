@@ -61,6 +61,31 @@ fn steps_have_their_names_and_turns(rt: HostRuntime) {
     check_rows(&rt, STEPS);
 }
 
+fn check_equal(rt: &impl Abort, step: Step, other: Step) {
+    let one_name = step.name() == other.name();
+    let name = step.name();
+    assert!(rt; (step == other) == one_name, "{name} and {}", other.name());
+    assert!(rt;
+        (step.goals() == other.goals()) == one_name,
+        "{name} and {}",
+        other.name()
+    );
+}
+
+fn check_equals(rt: &impl Abort, step: Step) {
+    for other in Step::all() {
+        check_equal(rt, step, *other);
+    }
+}
+
+// The nine single goals are those of the first nine steps.
+#[test]
+fn steps_and_goals_are_equal_to_themselves_alone(rt: HostRuntime) {
+    for step in Step::all() {
+        check_equals(&rt, *step);
+    }
+}
+
 #[test]
 fn other_names_are_of_no_step(rt: HostRuntime) {
     for name in [
