@@ -138,20 +138,29 @@ refused_stops (Err f) bytes h = by_run (run start bytes) refl
         run_stops bytes f (e ∙ ap Err (sym w))
 
 -- what a reader answers at the end
-pub line_end : (r : Reader) (bytes : List ℕ) → IsFed r bytes → read_line bytes ≡ ended (state_or r.fault r.so_far)
+pub reader_line : (r : Reader) → line_with r [] ≡ ended (state_or r.fault r.so_far)
 unfolding line_with
-line_end r bytes h =
-    ap read_line (sym (append-nil bytes)) ∙ sym (h.line []) ∙ ap ended (same (state_or r.fault r.so_far))
+reader_line r = ap ended (same (state_or r.fault r.so_far))
   where
     same : (r : Result State ReadFault) → and_then r (λ s. Ok s) ≡ r
     same (Ok s) = refl
     same (Err f) = refl
+
+pub line_end : (r : Reader) (bytes : List ℕ) → IsFed r bytes → read_line bytes ≡ ended (state_or r.fault r.so_far)
+line_end r bytes h = ap read_line (sym (append-nil bytes)) ∙ sym (h.line []) ∙ reader_line r
 
 pub reported_line : (fault : Option ReadFault) (p : PartialLine) (bytes : List ℕ) (f : ReadFault) → fault ≡ Some f → IsFed (record { fed = p.fed; fault = fault; so_far = state_of p }) bytes → Err f ≡ read_line bytes
 reported_line fault p bytes f e h = sym (line_end _ bytes h ∙ ap (λ o. ended (state_or o (state_of p))) e)
 
 pub ended_line : (fault : Option ReadFault) (p : PartialLine) (bytes : List ℕ) → fault ≡ None → IsFed (record { fed = p.fed; fault = fault; so_far = state_of p }) bytes → ended_at p.last (state_of p) ≡ read_line bytes
 ended_line fault p bytes e h = sym (line_end _ bytes h ∙ ap (λ o. ended (state_or o (state_of p))) e)
+
+-- the same for the line of what was fed
+pub reported_end : (fault : Option ReadFault) (p : PartialLine) (f : ReadFault) → fault ≡ Some f → Err f ≡ line_with (record { fed = p.fed; fault = fault; so_far = state_of p }) []
+reported_end fault p f e = sym (reader_line _ ∙ ap (λ o. ended (state_or o (state_of p))) e)
+
+pub ended_end : (fault : Option ReadFault) (p : PartialLine) → fault ≡ None → ended (Ok (state_of p)) ≡ line_with (record { fed = p.fed; fault = fault; so_far = state_of p }) []
+ended_end fault p e = sym (reader_line _ ∙ ap (λ o. ended (state_or o (state_of p))) e)
 
 -- a byte fed to a reader
 pub record IsFedOn (fault : Option ReadFault) (p : PartialLine) (byte : ℕ) (next : Option ReadFault) (q : PartialLine) (result : Result (Unit {0}) ReadFault) : Type 0 where

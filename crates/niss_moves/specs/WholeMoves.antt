@@ -3,7 +3,7 @@ use Rattle.std.specs.Prelude.{ℕ, ◌≡◌, ◌==◌, ◌<◌, ◌⊎◌, fals
 use Rattle.niss_moves.specs.Notation.{token_of, base_bytes, Apostrophe, apostrophe_bytes, Suffix, suffix_bytes, suffix_power, Blank, blank_byte}
 use Rattle.niss_moves.specs.Names.{Power, Token, Base}
 
--- The first n bytes are an apostrophe, or there is none and n is 0.
+-- The first n bytes are an apostrophe, or n is 0.
 abbrev pub BeginsApostrophe : List ℕ → ℕ → Type 0
 BeginsApostrophe bytes n = (n ≡ 0) ⊎ ((a : Apostrophe) × (0 < n) × (take n bytes ≡ apostrophe_bytes a))
 

@@ -34,7 +34,7 @@ pub fn put_faces(turns: &[Turn], text: &mut LineText)
 }
 
 /// Appends the one spelling of the rotation, as `x2 y2`, with one space before each word, but not at the beginning of the
-/// text or after `(`. The identity has no word.
+/// text or after `(`. The identity has no word. The text needs six free bytes.
 pub fn put_rotation(rotation: Rotation, text: &mut LineText)
     requires { array_vec_len text.old + 6 ≤ 2048 }
     ensures items { text.new.items ≡ with_words text.old.items (rotation_words rotation) }
@@ -62,7 +62,7 @@ fn have_no_word(turns: &[Turn], rotation: Rotation) -> bool
 
 /// Appends the cleaned line, as `R (U2 x)`: the normal face turns and rotation, and then the bracketed ones in a bracket,
 /// where any word of these is left. The normal and the bracketed moves are cleaned each by itself. That takes at most
-/// three bytes for each of 512 face turns, six for each rotation and three for the bracket.
+/// three bytes for each of 512 face turns, six for each rotation and three for the bracket: the text needs 1,600 free bytes.
 pub fn put_niss_clean(niss: &Niss, text: &mut LineText)
     requires { array_vec_len text.old + 1600 ≤ 2048 }
     ensures items { text.new.items ≡ with_clean_line text.old.items niss.now }

@@ -159,6 +159,7 @@ impl PartialLine {
     pub fn end(&mut self) -> Result<(), ReadFault>
         requires { HasRoom (state_of self.old) }
         ensures value { moves_if result self.new.niss ≡ ended (Ok (state_of self.old)) }
+        ensures again { ended (Ok (state_of self.new)) ≡ ended (Ok (state_of self.old)) }
         ensures room { HasRoom (state_of self.new) }
         ensures fed { self.new.fed ≡ self.old.fed }
         ensures refused { OnErr result (self.new ≡ self.old) }

@@ -30,7 +30,7 @@ impl LineReader {
     ghost use Rattle.niss_moves.specs.Faults.{CanContinue, Stops};
     ghost use Rattle.niss_moves.specs.WholeMoves.{HasNoLineFeed};
     ghost use Rattle.niss_moves.specs.Machine.{moves_if};
-    ghost use Rattle.niss_moves.specs.Reader.{IsFed, read_line, moves_of};
+    ghost use Rattle.niss_moves.specs.Reader.{IsFed, read_line, line_with, moves_of};
     ghost use Rattle.niss_moves.specs.declared.fault.ReadFault.{ReadFault};
 
     /// A reader before the first byte of a line.
@@ -52,8 +52,8 @@ impl LineReader {
         self.line.fed()
     }
 
-    /// Takes one byte. It answers a fault as soon as the bytes are the beginning of no line, and from then on always
-    /// that fault. At most 16,777,216 bytes can be fed.
+    /// Takes one byte. It answers a fault as soon as the bytes are the beginning of no line, and from then on that fault
+    /// until `clear`. At most 16,777,216 bytes can be fed.
     pub fn feed(&mut self, byte: u8) -> Result<(), ReadFault>
         requires { self.old.fed < 16777216 }
         ensures fed { self.new.fed ≡ self.old.fed + 1 }
@@ -92,6 +92,7 @@ impl LineReader {
             IsFed self.new (front ++ take result bytes.now) }
         ensures inside { HasNoLineFeed (take result bytes.now) }
         ensures fault { self.new.fault ≡ self.old.fault }
+        ensures none { (f : ReadFault) → self.old.fault ≡ Some f → result ≡ 0 }
     {
         match self.fault {
             Some(_) => 0,
@@ -99,10 +100,13 @@ impl LineReader {
         }
     }
 
-    /// Ends the line: the bytes spell `moves`, or have a fault, which leaves the reader as it was.
+    /// Ends the line: the bytes spell `moves`, or have a fault, and then the reader stays as it was. Ended again it answers
+    /// the same. Once the line is ended well, `clear` comes before the next byte.
     pub fn end(&mut self) -> Result<(), ReadFault>
         ensures line { (bytes : List ℕ) → IsFed self.old bytes →
             moves_if result (moves_of self.new) ≡ read_line bytes }
+        ensures ends { moves_if result (moves_of self.new) ≡ line_with self.old [] }
+        ensures once_more { line_with self.new [] ≡ line_with self.old [] }
         ensures fed { self.new.fed ≡ self.old.fed }
         ensures fault { self.new.fault ≡ self.old.fault }
         ensures refused { OnErr result (self.new ≡ self.old) }
@@ -134,6 +138,7 @@ impl LineReader {
     /// The line that the bytes spell, or its fault: `read_line`, of which the law `line_is_read` says which it is.
     pub fn finish(self) -> Result<Niss, ReadFault>
         ensures value { (bytes : List ℕ) → IsFed self bytes → result ≡ read_line bytes }
+        ensures ends { result ≡ line_with self [] }
         ensures again { (f : ReadFault) → self.fault ≡ Some f → result ≡ Err f }
     {
         match self.fault {

@@ -50,7 +50,8 @@ fn put_inverse(tokens: &[Token], text: &mut LineText)
     words.write(text);
 }
 
-/// Appends the words of the moves that `unniss` gives, in the same way, and makes no list of them.
+/// Appends the words of the moves that `unniss` gives, in the same way, and makes no list of them. The text needs 1,024
+/// free bytes.
 pub fn put_unniss(niss: &Niss, text: &mut LineText)
     requires { array_vec_len text.old + 1024 ≤ 2048 }
     ensures items { text.new.items
@@ -61,7 +62,8 @@ pub fn put_unniss(niss: &Niss, text: &mut LineText)
     put_inverse(niss.inverse(), text);
 }
 
-/// Appends the words of the moves that `invert` gives, in the same way, and makes no list of them.
+/// Appends the words of the moves that `invert` gives, in the same way, and makes no list of them. The text needs 1,024
+/// free bytes.
 pub fn put_inverted(niss: &Niss, text: &mut LineText)
     requires { array_vec_len text.old + 1024 ≤ 2048 }
     ensures items { text.new.items

@@ -1,10 +1,10 @@
 //! Lines rewritten: brackets joined, inverses, cleaned lines, and which turns may stand side by side.
 ghost use Rattle.std.specs.Prelude.{◌≤◌, length};
 
-use crate::runs::check_bytes;
+use crate::runs::{check_bytes, check_count};
 use niss_moves::{
-    Face, LineText, Power, Token, Turn, allowed, invert, put_faces, put_niss_clean, put_tokens,
-    read, turn_order, unniss,
+    Face, Faces, LineText, Power, Token, Turn, allowed, invert, put_faces, put_niss_clean,
+    put_tokens, read, turn_order, unniss,
 };
 
 fn quarter(face: Face) -> Turn {
@@ -66,4 +66,16 @@ fn writes_cleaned_lines(rt: HostRuntime) {
     check_bytes(&rt, cleaned(b"z z").as_slice(), b"x2 y2");
     check_bytes(&rt, cleaned(b"R L R (U U) R'").as_slice(), b"R L (U2)");
     check_bytes(&rt, cleaned(b"x (y)").as_slice(), b"x (y)");
+}
+
+// A line has at most 256 moves, of at most two face turns each. What bounds a list is seen by no contract.
+#[test]
+fn lists_have_room_for_a_line_and_no_more(rt: HostRuntime) {
+    check_count(&rt, "face turns", Faces::new().capacity(), 512);
+    check_count(&rt, "bytes", LineText::new().capacity(), 2048);
+    let Ok(line) = read(b"") else {
+        panic!(rt; "an empty line")
+    };
+    check_count(&rt, "moves of a line", unniss(&line).capacity(), 256);
+    check_count(&rt, "inverted moves", invert(&line).capacity(), 256);
 }
