@@ -1,9 +1,12 @@
-//! Heaps of the size that some growths ask for, or a little less.
+//! Heaps of the size that some growths ask for, or a little less, and a heap while a search goes on.
 use crate::coordinates::check_tables;
 use crate::devices::Bytes;
+use crate::path_sinks::HeapWatch;
 use crate::runs::{OUT_OF_MEMORY, Outcome, TOO_LONG, words_of};
+use crate::steps::cube_after;
 use linked_list_allocator::LocalHeap;
-use niss_cube::{OutOfMemory, TurnTables};
+use niss_cube::{OutOfMemory, Step, TurnTables};
+use niss_search::{Limit, Meter, Tables, TurnPath, search};
 use std::alloc::{AllocError, Global};
 use std::process::Abort;
 use std::test::Fail;
@@ -104,5 +107,36 @@ fn tables_refused(rt: HostRuntime) -> Result<(), Fail> {
 fn tables_fill_a_heap(rt: HostRuntime) -> Result<(), Fail> {
     let heap = LocalHeap::new(rt.alloc(), 170_288)?;
     check_room_for_one(&rt, &heap);
+    Ok(())
+}
+
+/// Searches from the solved cube after some moves. At each hand-out the heap of the tables has given nothing more.
+fn check_search(rt: &impl Abort, heap: &LocalHeap, tables: &Tables<&LocalHeap>, moves: &str) {
+    let cube = cube_after(rt, moves);
+    assert!(rt; tables.step().may_start(&cube), "{moves}");
+    let position = tables.position(&cube);
+    let slack = Limit::new(1).expect(rt, "a slack");
+    let mut path = TurnPath::new(Limit::new(3).expect(rt, "a limit"));
+    let mut meter = Meter::new();
+    let mut sink = HeapWatch::new(heap);
+    let answer = search(tables, &position, slack, &mut path, &mut meter, &mut sink);
+    assert!(rt; answer.expect(rt, "a search").solutions > 0, "{moves}");
+    assert!(rt; sink.is_same, "{moves}");
+}
+
+/// A search keeps nothing in the memory of its tables, of whatever kind these are.
+#[test]
+fn searches_hold_no_memory(rt: HostRuntime) -> Result<(), Fail> {
+    for (step, moves) in [
+        (Step::Eofb, "F"),
+        (Step::Eo, "F R U"),
+        (Step::DrudEofb, "R"),
+        (Step::DrEofb, "R U"),
+    ] {
+        let heap = LocalHeap::new(rt.alloc(), 1 << 22)?;
+        let tables = Tables::build_in(&heap, step, &mut Meter::new()).expect(&rt, "tables");
+        check_search(&rt, &heap, &tables, moves);
+        drop(tables);
+    }
     Ok(())
 }

@@ -92,8 +92,8 @@ fn check_refused(rt: &impl Abort, tables: &Tables) {
     let searched = wanted.run(rt, tables, 2);
     assert!(rt; searched.answer == Err(Refused));
     assert!(rt; searched.taken == 2);
-    // the two deepenings before it, and some looks of the third
-    assert!(rt; 20 < searched.looks && searched.looks < 96);
+    // 20 in the two deepenings before it; in the third the one at the root, 13 to F, and the one to F U
+    assert!(rt; searched.looks == 35);
 }
 
 #[test]

@@ -1,4 +1,5 @@
-//! A sink that compares what it is handed.
+//! Sinks that compare what they are handed, or what a heap has given meanwhile.
+use linked_list_allocator::LocalHeap;
 use niss_moves::{LineText, put_faces};
 use niss_search::{Sink, TurnPath};
 
@@ -49,6 +50,38 @@ impl Sink for Comparison<'_> {
         };
         self.is_same = self.is_same && is_wanted;
         self.taken += 1;
+        Ok(())
+    }
+}
+
+/// Compares at each path what a heap has given with what it had given before the search.
+#[derive(Drop)]
+pub struct HeapWatch<'a> {
+    heap: &'a LocalHeap,
+    used: usize,
+    pub is_same: bool,
+}
+
+impl<'a> HeapWatch<'a> {
+    /// The search hasn't begun.
+    pub fn new(heap: &'a LocalHeap) -> HeapWatch<'a> {
+        HeapWatch {
+            heap,
+            used: heap.used(),
+            is_same: true,
+        }
+    }
+}
+
+impl Sink for HeapWatch<'_> {
+    type Fault = Refused;
+
+    ghost took = { λ old path new. Unit {0} };
+
+    ghost refused = { λ old path new. Unit {0} };
+
+    fn take(&mut self, _path: &TurnPath) -> Result<(), Refused> {
+        self.is_same = self.is_same && self.heap.used() == self.used;
         Ok(())
     }
 }

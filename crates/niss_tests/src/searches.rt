@@ -290,14 +290,14 @@ fn looks_until_refused(rt: &impl Abort, tables: &Tables, room: usize) -> u128 {
     searched.looks
 }
 
-/// With less room, fewer positions are looked at.
+/// A refusal ends the search at once. The looks before it: one in each of the deepenings to 0 and 1; then the one at the root
+/// and 13 to F, 13 more to F B and 2 to F B'; 2 to F', 13 to F' B and 2 to F' B'. Without a refusal 27 follow below B and B'.
 fn check_rooms(rt: &impl Abort, tables: &Tables) {
-    let mut looks = looks_until_refused(rt, tables, 4);
-    assert!(rt; looks == 75);
-    for room in [3, 2, 1, 0] {
-        let fewer = looks_until_refused(rt, tables, room);
-        assert!(rt; fewer < looks, "{room} paths");
-        looks = fewer;
+    for (room, looks) in [(0, 29u128), (1, 31), (2, 46), (3, 48), (4, 75)] {
+        assert!(rt;
+            looks_until_refused(rt, tables, room) == looks,
+            "{room} paths"
+        );
     }
 }
 
