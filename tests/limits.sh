@@ -53,5 +53,23 @@ if [ "$status" -eq 3 ]; then
 else
     echo "skipped: no memory was refused here"
 fi
+
+# Under more and more memory long words are refused, at first where the program takes them and then where it joins them, and answered.
+# Below some size the program isn't even loaded.
+word=$(head -c 100000 /dev/zero | tr '\0' ' ')
+words=("$word" "$word" "$word" "$word" "$word" "$word" "$word" "$word" "$word" "$word")
+is_refused() { [ "$status" -eq 3 ] && [ ! -s got.out ] && [ "$(od -c got.err)" = "$(printf 'nissy: out of memory\n' | od -c)" ]; }
+refused=0 status=0
+for ((kilobytes = 2000; kilobytes < 20000; kilobytes += 100)); do
+    prlimit --as=$((kilobytes * 1024)) "$nissy" invert "${words[@]}" > got.out 2> got.err
+    status=$?
+    is_refused && refused=$((refused + 1))
+    is_refused || [ "$status" -ge 126 ] || break
+done
+if [ "$refused" -eq 0 ] && { [ "$status" -eq 0 ] || [ "$status" -ge 126 ]; }; then
+    echo "skipped: no memory was refused to words here"
+else
+    check "long words under more and more memory" 0 "\n" ""
+fi
 echo "$passed passed, $failed failed"
 [ "$failed" -eq 0 ]

@@ -1,7 +1,10 @@
 #!/usr/bin/env bash
 # What the built program does with its words, its three streams and its status, as a user calls it.
-cd "$(dirname "$0")/.." || exit 1
-nissy=$PWD/build/nissy
+#
+#     tests/program.sh [PROGRAM]
+#
+# The program is build/nissy where none is named. The last line is `N passed, M failed`, and the status is 1 where M isn't 0.
+nissy=$(realpath "${1:-$(dirname "$0")/../build/nissy}")
 work=$(mktemp -d) || exit 1
 trap 'rm -rf "$work"' EXIT
 passed=0
@@ -42,6 +45,33 @@ case_of 'words after the numbers' 0 'length 2 solutions 4 nodes 75\n' '' five_wo
 case_of 'an empty word' 0 '\n' '' empty_word
 case_of 'four numbers' 0 "L' D' F'\nL F' L'\n" '' four_numbers
 case_of 'words leave the input alone' 0 "R'\nq\n" '' words_alone
+
+long_word() { "$nissy" invert "$(printf '%100000s' R)" </dev/null; }
+# shellcheck disable=SC2046 # each word is to be an argument of its own
+many_words() { "$nissy" cleanup $(yes "U D'" | head -n 64) </dev/null; }
+own_blanks() { "$nissy" invert ' R' 'q ' </dev/null; }
+no_option() { "$nissy" invert -- R </dev/null; }
+no_help() { "$nissy" invert R --help </dev/null; }
+case_of 'a long word' 0 "R'\n" '' long_word
+case_of 'many words' 0 '\n' '' many_words
+case_of 'blanks of a word are its own' 1 '' 'nissy: line 1, column 4: not a move\n' own_blanks
+case_of 'two dashes are read as moves' 1 '' 'nissy: line 1, column 1: not a move\n' no_option
+case_of 'an option is read as moves' 1 '' 'nissy: line 1, column 3: not a move\n' no_help
+
+# Gives lines one by one, each after the answer to the one before.
+line_by_line() {
+    local line answer
+    coproc "$nissy" invert
+    local give=${COPROC[1]} take=${COPROC[0]} process=$COPROC_PID
+    for line in R '' "U F2"; do
+        echo "$line" >&"$give"
+        read -r -t 10 answer <&"$take" || return 100
+        echo "$answer"
+    done
+    exec {give}>&-
+    wait "$process"
+}
+case_of 'each answer comes before the next line' 0 "R'\n\nF2 U'\n" '' line_by_line
 
 wrong_line() { "$nissy" invert "R '" </dev/null; }
 wrong_second_line() { printf 'R\n(U' | "$nissy" unniss; }

@@ -101,6 +101,9 @@ impl<W: io::Write> ToWriter<W> {
     pub fn new(writer: W) -> ToWriter<W>
         ensures bytes { (⟦<ToWriter<W> as Target>⟧.state result).held ≡ W.contents writer }
         ensures works { has_fault (⟦<ToWriter<W> as Target>⟧.state result) ≡ false }
+        // No flush came yet, whatever the writer was told before.
+        ensures untried { (⟦<ToWriter<W> as Target>⟧.state result).flush_tried ≡ false }
+        ensures unflushed { (⟦<ToWriter<W> as Target>⟧.state result).is_flushed ≡ false }
     {
         ToWriter {
             writer,

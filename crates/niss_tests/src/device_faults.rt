@@ -140,3 +140,23 @@ fn each_write_of_a_fault_fails(rt: HostRuntime) {
         check_cut_fault(&rt, rt.alloc(), &words, NOT_A_MOVE, before);
     }
 }
+
+/// A fault goes out whole in one write, so that what others write beside it doesn't cut it.
+#[test]
+fn a_fault_is_one_write(rt: HostRuntime) {
+    let words = words_of(rt.alloc(), &["invert", "R '"]).expect(&rt, "memory for words");
+    let mut targets = Targets::new(rt.alloc(), FAULTLESS.target(rt.alloc()));
+    let outcome = Outcome {
+        output: b"",
+        error: NOT_A_MOVE,
+        status: 1,
+    };
+    outcome.check(
+        &rt,
+        rt.alloc(),
+        &words,
+        &mut FAULTLESS.source(),
+        &mut targets,
+    );
+    check_count(&rt, "writes of the fault", targets.err.writes, 1);
+}
