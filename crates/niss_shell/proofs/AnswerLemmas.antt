@@ -10,8 +10,7 @@ use Rattle.niss_moves.specs.Reader.{Reader, IsFed}
 use Rattle.niss_shell.specs.Words.{limit}
 use Rattle.niss_shell.specs.Output.{Ending, More, End, Fail, ending, ending_of, LineAnswers, looks_for, most_looks_for, answer_lines, line_with_bytes, last_line, complete_lines, stop_of}
 use Rattle.niss_shell.specs.Engine.{AnswerState, Progress, stop_unless, WritesAnswers, Refuses, AllAnswered, StopsWithin, TakesBytes, TakesEnd, AnswersBytes, IsAt, Answers, AnswersSource}
-use Rattle.niss_shell.specs.declared.stop.Stop.{Stop}
-use Rattle.niss_shell.specs.declared.stop.Stop.TheVariants.{Done, Line, Usage, InputTooLong, CannotRead, CannotWrite, OutOfMemory}
+use Rattle.niss_shell.specs.Names.{Stop, Done, Line, Usage, InputTooLong, CannotRead, CannotWrite, OutOfMemory}
 use Rattle.niss_shell.proofs.DeviceLemmas.{gave_nothing, gave_more}
 use Rattle.niss_shell.proofs.LinesLemmas.{first_fault-stays}
 use Rattle.niss_shell.proofs.EngineLemmas.{answered_line, stopped_line, answered_none, answered_more, stopped_more, stopped_front, writes_stays, takes_none, takes_more}

@@ -5,7 +5,7 @@ use Rattle.std.specs.Io.KnownBytes.{ReadConsumes}
 use Rattle.std.proofs.Math.Bool.{or-false}
 use Rattle.std.proofs.lemmas.Bool.{or_parts}
 use Rattle.niss_shell.specs.Device.{SourceState, TargetState, has_fault, GaveOf, Gave, AppendedOf, Appended, StaysSilentOf, StaysSilent, is_empty_answer, moved_bytes}
-use Rattle.niss_shell.specs.declared.device.DeviceFault.{DeviceFault}
+use Rattle.niss_shell.specs.Names.{DeviceFault}
 
 nothing_appended : (held : Option (List ℕ)) (failed : Bool) → AppendedOf held held failed []
 nothing_appended None failed = tt

@@ -11,9 +11,7 @@ use Rattle.niss_moves.specs.WholeMoves.{HasNoLineFeed}
 use Rattle.niss_moves.specs.Reader.{Reader, IsFed}
 use Rattle.niss_shell.specs.Output.{LineAnswers, looks_for, most_looks_for}
 use Rattle.niss_shell.specs.Engine.{AnswerState, Progress, WritesAnswers, Refuses, AllAnswered, StopsWithin, TakesBytes, AnswersLine, AnswersBytes}
-use Rattle.niss_shell.specs.declared.stop.LineFault.{LineFault}
-use Rattle.niss_shell.specs.declared.stop.Stop.{Stop}
-use Rattle.niss_shell.specs.declared.stop.Stop.TheVariants.{Done, Line, Usage, InputTooLong, CannotRead, CannotWrite, OutOfMemory}
+use Rattle.niss_shell.specs.Names.{LineFault, Stop, Done, Line, Usage, InputTooLong, CannotRead, CannotWrite, OutOfMemory}
 use Rattle.niss_shell.proofs.StateLemmas.{writes_nothing, writes_more, writes_as, refuses_more, refuses_front, refuses_as, looks_for-append, most_looks_for-append, looks_for-stays, most_looks_for-stays, looks_for-front, most_looks_for-front}
 use Rattle.niss_shell.proofs.LinesLemmas.{ended_lines-append, last_part-append, first_fault-append, first_fault-stays, written_text-append, written_text-stays, written_text-front}
 

@@ -8,7 +8,7 @@ use Rattle.std.proofs.lemmas.Grind.{common_steps}
 use Rattle.std.proofs.lemmas.Slice.Eq.{bytes_eq-Decides}
 use Rattle.std.proofs.lemmas.Str.Parse.{IsDigitsTest, IsNumeralModel, numerals_by_value, parse_digits}
 use Rattle.niss_cube.specs.Steps.{name_of, steps}
-use Rattle.niss_cube.specs.declared.step.Step.{Step}
+use Rattle.niss_shell.specs.Names.{Step}
 use Rattle.niss_shell.specs.Words.{number_of, step_named}
 
 -- numbers

@@ -3,14 +3,12 @@ use Rattle.std.proofs.Common.{◌≡◌, ◌==◌, ◌⊎◌, Bool, true, refl, 
 use Rattle.std.proofs.lemmas.Bool.Decides.{eqb_tells}
 use Rattle.std.proofs.lemmas.List.{nil_from_length}
 use Rattle.std.specs.Prelude.{OnOk, OnErr, flat_map}
-use Rattle.niss_moves.specs.declared.turn.Turn.{Turn}
+use Rattle.niss_shell.specs.Names.{Turn, DeviceFault, Output}
 use Rattle.niss_search.specs.Delivery.{WentThrough, StoppedIn}
 use Rattle.niss_shell.specs.Device.{TargetState, has_fault}
 use Rattle.niss_shell.specs.Lines.{line_feed}
 use Rattle.niss_shell.specs.Output.{none_line, solution_line, solve_text, count_text}
 use Rattle.niss_shell.specs.Engine.{output_state, pending_state, Writes, Refuses, WritesOrRefuses, Delivers, TakesLine, RefusesLine}
-use Rattle.niss_shell.specs.declared.device.DeviceFault.{DeviceFault}
-use Rattle.niss_shell.specs.declared.output.Output.{Output}
 use Rattle.niss_shell.proofs.PendingLemmas.{then_sent, waits}
 use Rattle.niss_shell.proofs.StateLemmas.{writes_nothing, writes_more, writes_as, refuses_more, refuses_front, refuses_as}
 

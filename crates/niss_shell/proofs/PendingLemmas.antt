@@ -5,8 +5,7 @@ use Rattle.niss_shell.specs.Device.{TargetState, has_fault, Appended, WriteRefus
 use Rattle.niss_shell.specs.Lines.{ended_lines, written_text}
 use Rattle.niss_shell.specs.Output.{LineAnswers, looks_for, most_looks_for, line_with_bytes}
 use Rattle.niss_shell.specs.Engine.{AnswerState, pending_state, Progress, Writes, Refuses, WritesOrRefuses, AllAnswered, TakesBytes, TakesEnd}
-use Rattle.niss_shell.specs.declared.device.DeviceFault.{DeviceFault}
-use Rattle.niss_shell.specs.declared.stop.Stop.TheVariants.{CannotWrite}
+use Rattle.niss_shell.specs.Names.{DeviceFault, CannotWrite}
 use Rattle.niss_shell.proofs.DeviceLemmas.{appended_nothing}
 use Rattle.niss_shell.proofs.StateLemmas.{writes_more, writes_as, refuses_more, refuses_as}
 

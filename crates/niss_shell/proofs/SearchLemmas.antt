@@ -1,21 +1,15 @@
 -- What a search keeps of its sink, and how the text of a line ends it.
 use Rattle.std.proofs.Common.{◌≡◌, ℕ, Bool, true, false, Result, Ok, Err, List, [], ◌∷◌, inl, inr, sym, ap, ◌∙◌, subst}
 use Rattle.std.specs.Prelude.{IsTrue}
-use Rattle.niss_moves.specs.declared.turn.Turn.{Turn}
+use Rattle.niss_shell.specs.Names.{Turn, Step, LineCommand, Report, NoStart, Stop, CannotWrite}
 use Rattle.niss_search.specs.Delivery.{WentThrough, StoppedIn}
 use Rattle.niss_shell.specs.Engine.{AnswerState, Writes, Refuses, AnswersLine, AnswersMoves}
 use Rattle.niss_cube.specs.Steps.{turns_of, may_start}
-use Rattle.niss_cube.specs.declared.step.Step.{Step}
 use Rattle.niss_moves.specs.Line.{Moves}
 use Rattle.niss_search.specs.Cubes.{near_looks_of}
 use Rattle.niss_search.specs.Solutions.{look_bound}
 use Rattle.niss_shell.specs.Output.{where_it_starts, search_text, home}
-use Rattle.niss_shell.specs.declared.command.LineCommand.{LineCommand}
 use Rattle.niss_shell.specs.Words.{search_command}
-use Rattle.niss_shell.specs.declared.command.Report.{Report}
-use Rattle.niss_shell.specs.declared.stop.LineFault.TheVariants.{NoStart}
-use Rattle.niss_shell.specs.declared.stop.Stop.{Stop}
-use Rattle.niss_shell.specs.declared.stop.Stop.TheVariants.{CannotWrite}
 
 -- What every path keeps, a walk through a list of paths keeps.
 

@@ -2,13 +2,12 @@
 use Rattle.std.proofs.Common.{◌≡◌, ℕ, Bool, true, false, Ok, List, refl, ap, ◌∙◌}
 use Rattle.std.specs.Prelude.{IsTrue}
 use Rattle.niss_cube.specs.Steps.{turns_of, may_start}
-use Rattle.niss_cube.specs.declared.step.Step.{Step}
+use Rattle.niss_shell.specs.Names.{Step, Solutions}
 use Rattle.niss_search.specs.Cubes.{solutions_of}
 use Rattle.niss_search.specs.Laws.{LooksWithinBound}
 use Rattle.niss_shell.specs.Output.{home, solve_text, answer_to, looks_at, where_it_starts}
 use Rattle.niss_shell.specs.SolveLaw.{AcceptedLinesAreSolved}
 use Rattle.niss_shell.specs.Words.{search_command}
-use Rattle.niss_shell.specs.declared.command.Report.TheVariants.{Solutions}
 
 starts : (step : Step) (b : Bool) (text : List ℕ) → IsTrue b → where_it_starts step b text ≡ Ok text
 starts step true text h = refl

@@ -6,7 +6,7 @@ use Rattle.niss_shell.specs.Device.{TargetState, has_fault, Appended, IsCut, Wri
 use Rattle.niss_shell.specs.Lines.{answered_lines, first_fault}
 use Rattle.niss_shell.specs.Output.{LineAnswers, looks_for, most_looks_for}
 use Rattle.niss_shell.specs.Engine.{AnswerState, TakesIn, Writes, Refuses}
-use Rattle.niss_shell.specs.declared.stop.LineFault.{LineFault}
+use Rattle.niss_shell.specs.Names.{LineFault}
 use Rattle.niss_shell.proofs.DeviceLemmas.{appended_nothing, appended_more, no_flush_fault}
 use Rattle.niss_shell.proofs.LinesLemmas.{answered_lines-append, answered_lines-stays, answered_lines-front}
 

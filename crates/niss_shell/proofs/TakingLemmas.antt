@@ -6,8 +6,7 @@ use Rattle.niss_shell.specs.Output.{line_answers}
 use Rattle.niss_shell.specs.Engine.{AnswerState, TakesBytes, TakesEnd}
 use Rattle.niss_shell.specs.Job.{command_of}
 use Rattle.niss_shell.specs.Taking.{Keeps, Takes, Ends, answers_of, progress_of}
-use Rattle.niss_shell.specs.declared.lines.Lines.{Lines}
-use Rattle.niss_shell.specs.declared.stop.Stop.{Stop}
+use Rattle.niss_shell.specs.Names.{Lines, Stop}
 use Rattle.niss_shell.proofs.EngineLemmas.{takes_piece, takes_stopped}
 
 module _ {A : Type 0} where

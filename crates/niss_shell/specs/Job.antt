@@ -1,9 +1,7 @@
 -- What a command on lines has for its run.
 use Rattle.std.specs.Prelude.{◌≡◌, ℕ, ◌<◌, ◌≤◌, Option, Some, None, List, length}
 use Rattle.niss_shell.specs.Words.{limit, joined, search_command}
-use Rattle.niss_shell.specs.declared.command.LineCommand.{LineCommand}
-use Rattle.niss_shell.specs.declared.command.LineCommand.TheVariants.{Rewrite}
-use Rattle.niss_shell.specs.declared.job.Work.{Work}
+use Rattle.niss_shell.specs.Names.{LineCommand, Rewrite, Work}
 use Rattle.niss_shell.specs.declared.job.Work.TheVariants as work
 
 -- the command of the work on lines

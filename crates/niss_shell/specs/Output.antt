@@ -17,21 +17,7 @@ use Rattle.niss_search.specs.Cubes.{least_length_of, near_solutions_of, near_loo
 use Rattle.niss_search.specs.Solutions.{look_bound}
 use Rattle.niss_shell.specs.Scrambles.{generator_of, scramble_text}
 use Rattle.niss_shell.specs.Words.{limit, Request, OnLines, ListSteps, DrawScrambles, request_of, joined}
-use Rattle.niss_shell.specs.declared.command.UsageFault.{UsageFault}
-use Rattle.niss_shell.specs.declared.command.LineCommand.{LineCommand}
-use Rattle.niss_shell.specs.declared.command.LineCommand.TheVariants.{Rewrite, Search}
-use Rattle.niss_shell.specs.declared.command.Report.{Report}
-use Rattle.niss_shell.specs.declared.command.Report.TheVariants.{Solutions, Counts}
-use Rattle.niss_shell.specs.declared.command.Rewriting.{Rewriting}
-use Rattle.niss_shell.specs.declared.command.Rewriting.TheVariants.{Invert, Unniss, Cleanup, Print}
-use Rattle.niss_cube.specs.declared.step.Step.{Step}
-use Rattle.niss_moves.specs.declared.token.Token.{Token}
-use Rattle.niss_moves.specs.declared.turn.Turn.{Turn}
-use Rattle.niss_moves.specs.declared.fault.ReadFault.{ReadFault}
-use Rattle.niss_shell.specs.declared.stop.LineFault.{LineFault}
-use Rattle.niss_shell.specs.declared.stop.LineFault.TheVariants.{Unread, NoStart}
-use Rattle.niss_shell.specs.declared.stop.Stop.{Stop}
-use Rattle.niss_shell.specs.declared.stop.Stop.TheVariants.{Done, Line, Usage, InputTooLong, CannotRead, CannotWrite, OutOfMemory}
+use Rattle.niss_shell.specs.Names.{UsageFault, LineCommand, Rewrite, Search, Report, Solutions, Counts, Rewriting, Invert, Unniss, Cleanup, Print, LineFault, Unread, NoStart, Stop, Done, Line, Usage, InputTooLong, CannotRead, CannotWrite, OutOfMemory, Step, Token, Turn, ReadFault}
 
 -- the name of the step that must hold before this one
 abbrev pub start_text : Step → List ℕ

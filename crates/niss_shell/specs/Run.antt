@@ -3,9 +3,7 @@ use Rattle.std.specs.Prelude.{◌≡◌, ℕ, ◌+◌, ◌<◌, ◌≤◌, Bool,
 use Rattle.niss_shell.specs.Device.{SourceState, TargetState, has_fault, Gave, Appended}
 use Rattle.niss_shell.specs.Words.{Request, request_of, reads_source, takes_memory}
 use Rattle.niss_shell.specs.Output.{Answer, out_of, error_text, status_of}
-use Rattle.niss_shell.specs.declared.command.UsageFault.{UsageFault}
-use Rattle.niss_shell.specs.declared.stop.Stop.{Stop}
-use Rattle.niss_shell.specs.declared.stop.Stop.TheVariants.{Done, CannotWrite, OutOfMemory}
+use Rattle.niss_shell.specs.Names.{UsageFault, Stop, Done, CannotWrite, OutOfMemory}
 
 -- the source, the output and the error writer
 pub record Devices : Type 0 where

@@ -6,8 +6,7 @@ use Rattle.niss_search.specs.Cubes.{near_looks_of}
 use Rattle.niss_search.specs.Solutions.{look_bound}
 use Rattle.niss_shell.specs.Device.{TargetState, has_fault}
 use Rattle.niss_shell.specs.Engine.{WritesOrRefuses, output_state}
-use Rattle.niss_shell.specs.declared.device.DeviceFault.{DeviceFault}
-use Rattle.niss_shell.specs.declared.output.Output.{Output}
+use Rattle.niss_shell.specs.Names.{DeviceFault, Output}
 use Rattle.niss_shell.specs.declared.search.Search.{Search}
 
 -- An output that worked took the text, after what waited, with the looks of this search from a cube.

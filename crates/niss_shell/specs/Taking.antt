@@ -5,9 +5,7 @@ use Rattle.niss_shell.specs.Device.{TargetState}
 use Rattle.niss_shell.specs.Job.{command_of}
 use Rattle.niss_shell.specs.Output.{LineAnswers, line_answers}
 use Rattle.niss_shell.specs.Engine.{AnswerState, Progress, TakesBytes, TakesEnd, AnswersBytes, output_state}
-use Rattle.niss_shell.specs.declared.lines.Lines.{Lines}
-use Rattle.niss_shell.specs.declared.output.Output.{Output}
-use Rattle.niss_shell.specs.declared.stop.Stop.{Stop}
+use Rattle.niss_shell.specs.Names.{Lines, Output, Stop}
 
 -- what lines change of their output, by what a contract sees of its target
 abbrev pub lines_state : {A W : Type 0} → (W → TargetState) → Output W → Lines A → AnswerState

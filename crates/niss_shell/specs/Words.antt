@@ -4,16 +4,8 @@ use Rattle.std.specs.Char.{is_ascii_digit}
 use Rattle.std.specs.List.{list_all}
 use Rattle.std.specs.Str.Parse.{digits_value}
 use Rattle.niss_cube.specs.Steps.{name_of, steps}
-use Rattle.niss_cube.specs.declared.step.Step.{Step}
+use Rattle.niss_shell.specs.Names.{Step, UsageFault, NoCommand, UnknownCommand, WrongCount, BadNumber, UnknownStep, LineCommand, Rewrite, Search, Report, Solutions, Counts, Invert, Unniss, Cleanup, Print, Command}
 use Rattle.niss_shell.specs.Lines.{line_feed, space}
-use Rattle.niss_shell.specs.declared.command.UsageFault.{UsageFault}
-use Rattle.niss_shell.specs.declared.command.UsageFault.TheVariants.{NoCommand, UnknownCommand, WrongCount, BadNumber, UnknownStep}
-use Rattle.niss_shell.specs.declared.command.LineCommand.{LineCommand}
-use Rattle.niss_shell.specs.declared.command.LineCommand.TheVariants.{Rewrite, Search}
-use Rattle.niss_shell.specs.declared.command.Report.{Report}
-use Rattle.niss_shell.specs.declared.command.Report.TheVariants.{Solutions, Counts}
-use Rattle.niss_shell.specs.declared.command.Rewriting.TheVariants.{Invert, Unniss, Cleanup, Print}
-use Rattle.niss_shell.specs.declared.command.Command.{Command}
 use Rattle.niss_shell.specs.declared.command.Command.TheVariants as command
 
 -- the most bytes of input

@@ -1,6 +1,6 @@
 ghost use Rattle.std.specs.Prelude.{◌≡◌, Ok, Err, Some, false, IfSome, IfOk, MatchOption, MatchResult};
 ghost use Rattle.std.specs.Prelude.{map, codes, slice_get, string_bytes};
-ghost use Rattle.niss_shell.specs.declared.command.LineCommand.TheVariants.{Search};
+ghost use Rattle.niss_shell.specs.Names.{Search};
 ghost use Rattle.niss_shell.specs.Words.{OnLines, ListSteps, search_command, number_of, most_state, most_turns};
 ghost use Rattle.niss_shell.specs.Words.{most_scrambles, search_words, near_words, scramble_with, scramble_words};
 ghost use Rattle.niss_shell.specs.Words.{without_words, request_of, requested, name_of_command, name_of_report, takes_lines, IsInRange};

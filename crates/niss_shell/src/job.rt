@@ -4,7 +4,7 @@ ghost use Rattle.niss_shell.specs.Device.{has_fault};
 ghost use Rattle.niss_shell.specs.Words.{limit, joined, spaced_word, has_step, reads_source, OnLines};
 ghost use Rattle.niss_shell.specs.Engine.{RunsUnflushed, EndsAtOnce, output_state, stop_unless};
 ghost use Rattle.niss_shell.specs.Job.{IsInput, command_of};
-ghost use Rattle.niss_shell.specs.declared.stop.Stop.TheVariants.{Done};
+ghost use Rattle.niss_shell.specs.Names.{Done};
 
 use crate::command::{LineCommand, LineRequest, Query, Rewriting};
 use crate::device::{Source, Target};

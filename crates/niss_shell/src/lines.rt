@@ -34,7 +34,7 @@ pub struct Lines<'a, A: Allocator> {
 }
 
 impl<'a, A: Allocator> Lines<'a, A> {
-    ghost use Rattle.niss_shell.specs.declared.stop.Stop.TheVariants.{Done};
+    ghost use Rattle.niss_shell.specs.Names.{Done};
     ghost use Rattle.niss_moves.specs.Reader.{moves_of};
     ghost use Rattle.niss_shell.specs.Engine.{AnswersLine, AnswersMoves, AnswersSource, Answers, HasRoom};
     ghost use Rattle.niss_shell.specs.Engine.{piece_of, only_stop, stop_unless};

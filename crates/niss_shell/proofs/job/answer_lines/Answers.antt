@@ -3,7 +3,7 @@ use Rattle.std.specs.Prelude.{string_bytes}
 use Rattle.std.proofs.lemmas.Result.{err_from_is_err_and}
 use Rattle.niss_shell.specs.Words.{OnLines}
 use Rattle.niss_shell.specs.Engine.{RunsUnflushed, output_state, stop_unless}
-use Rattle.niss_shell.specs.declared.stop.Stop.TheVariants.{Done}
+use Rattle.niss_shell.specs.Names.{Done}
 use Rattle.niss_shell.proofs.RunLemmas.{by_words}
 use Rattle.niss_shell.proofs.job.answer_lines.Goals as goal
 

@@ -2,7 +2,7 @@ use Rattle.std.proofs.Common.{map, Ok, ap, ◌∙◌}
 use Rattle.std.specs.Prelude.{string_bytes}
 use Rattle.niss_shell.specs.Words.{request_of, requested}
 use Rattle.niss_shell.specs.Engine.{output_state, stop_unless}
-use Rattle.niss_shell.specs.declared.stop.Stop.TheVariants.{Done}
+use Rattle.niss_shell.specs.Names.{Done}
 use Rattle.niss_shell.proofs.RunLemmas.{runs_usage, runs_steps, runs_scrambles}
 use Rattle.niss_shell.proofs.shell.answer_command.Goals as goal
 

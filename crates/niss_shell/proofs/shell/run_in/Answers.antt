@@ -4,7 +4,7 @@ use Rattle.niss_shell.specs.Words.{request_of}
 use Rattle.niss_shell.specs.Device.{has_fault}
 use Rattle.niss_shell.specs.Engine.{output_state, stop_unless}
 use Rattle.niss_shell.specs.Run.{Runs, devices}
-use Rattle.niss_shell.specs.declared.stop.Stop.TheVariants.{Done}
+use Rattle.niss_shell.specs.Names.{Done}
 use Rattle.niss_shell.proofs.RunLemmas.{runs_flushed, lent_back, one_flush}
 use Rattle.niss_shell.proofs.shell.run_in.Goals as goal
 
