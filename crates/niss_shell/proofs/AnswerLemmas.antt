@@ -5,15 +5,14 @@ use Rattle.std.proofs.lemmas.Grind.{common_steps}
 use Rattle.std.proofs.lemmas.List.{take_all}
 use Rattle.std.proofs.Math.Seq.{take-append-add}
 use Rattle.niss_shell.specs.Device.{SourceState, has_fault, Gave}
-use Rattle.niss_shell.specs.Lines.{ended_lines, last_part, written_text, first_fault}
+use Rattle.niss_shell.specs.Lines.{ended_lines, last_part, first_fault}
 use Rattle.niss_moves.specs.Reader.{Reader, IsFed}
 use Rattle.niss_shell.specs.Words.{limit}
-use Rattle.niss_shell.specs.Output.{Ending, More, End, Fail, ending, ending_of, LineAnswers, looks_for, most_looks_for, answer_lines, line_with_bytes, last_line, complete_lines, stop_of}
-use Rattle.niss_shell.specs.Engine.{AnswerState, Progress, stop_unless, WritesAnswers, Refuses, AllAnswered, StopsWithin, TakesBytes, TakesEnd, AnswersBytes, IsAt, Answers, AnswersSource}
+use Rattle.niss_shell.specs.Output.{Ending, More, End, Fail, ending, ending_of, LineAnswers, answer_lines, line_with_bytes, last_line, complete_lines, stop_of}
+use Rattle.niss_shell.specs.Engine.{AnswerState, Progress, stop_unless, WritesAnswers, RefusesAnswers, AllAnswered, StopsWithin, TakesBytes, TakesEnd, AnswersBytes, IsAt, Answers, AnswersSource}
 use Rattle.niss_shell.specs.Names.{Stop, Done, Line, Usage, InputTooLong, CannotRead, CannotWrite, OutOfMemory}
 use Rattle.niss_shell.proofs.DeviceLemmas.{gave_nothing, gave_more}
-use Rattle.niss_shell.proofs.LinesLemmas.{first_fault-stays}
-use Rattle.niss_shell.proofs.EngineLemmas.{answered_line, stopped_line, answered_none, answered_more, stopped_more, stopped_front, writes_stays, takes_none, takes_more}
+use Rattle.niss_shell.proofs.EngineLemmas.{answered_line, stopped_line, answered_none, answered_more, stopped_more, stopped_front, takes_none, takes_more}
 
 -- the last line
 
@@ -46,26 +45,21 @@ pub takes_last_line : (f : LineAnswers) (front : List ℕ) (n : ℕ) (r : Reader
 takes_last_line f front n r result old new at some answers =
     last_taken f front n result old new answers (one_line front (λ z. some (at.fed ∙ z)))
 
--- a run that was stopped within the lines that count
-
-stopped_answers : (f : LineAnswers) (input : List ℕ) (stop : Stop) (a b : AnswerState)
-    → StopsWithin f 1 (ended_lines [] (take limit input)) stop a b → Answers (answer_lines f input More) stop a b
-stopped_answers f input CannotWrite a b x =
-    subst (λ ls. Refuses (written_text f.answer_of ls) (looks_for f ls) (most_looks_for f ls) a b) (sym (append-nil (ended_lines [] (take limit input)))) x
-stopped_answers f input (Line at fault) a b x = (
-  sym (ap (λ o. stop_of o input More) (first_fault-stays f.answer_of 1 (ended_lines [] (take limit input)) [] (at, fault) x.first)),
-  writes_stays f 1 (ended_lines [] (take limit input)) [] (at, fault) a b x.first x.writes,
+-- a run that was stopped by one of these lines, which are all that count
+stopped_answers : (f : LineAnswers) (input : List ℕ) (m : Ending) (lines : List (List ℕ)) (stop : Stop) (a b : AnswerState)
+    → complete_lines input m ≡ lines → StopsWithin f 1 lines stop a b → Answers (answer_lines f input m) stop a b
+stopped_answers f input m lines CannotWrite a b e x = subst (λ ls. RefusesAnswers f ls a b) (sym e) x
+stopped_answers f input m lines (Line at fault) a b e x = (
+  sym (ap (λ o. stop_of o input m) (ap (λ ls. first_fault f.answer_of 1 ls) e ∙ x.first)),
+  subst (λ ls. WritesAnswers f ls a b) (sym e) x.writes,
 )
-stopped_answers f input Done a b x = absurd x
-stopped_answers f input Usage a b x = absurd x
-stopped_answers f input InputTooLong a b x = absurd x
-stopped_answers f input CannotRead a b x = absurd x
-stopped_answers f input OutOfMemory a b x = absurd x
+stopped_answers f input m lines _ a b e x = absurd x
 
-pub answers_stopped : (f : LineAnswers) (input whole : List ℕ) (q : Progress) (stop : Stop) (a b : AnswerState)
+answers_stopped : (f : LineAnswers) (input whole : List ℕ) (q : Progress) (stop : Stop) (a b : AnswerState)
     → take limit input ≡ whole → TakesBytes f [] whole 1 q (Err stop) a b → Answers (answer_lines f input More) stop a b
 answers_stopped f input whole q stop a b e x =
-    stopped_answers f input stop a b (subst (λ xs. StopsWithin f 1 (ended_lines [] xs) stop a b) (sym e) x)
+    stopped_answers f input More (ended_lines [] whole) stop a b
+    (append-nil (ended_lines [] (take limit input)) ∙ ap (λ xs. ended_lines [] xs) e) x
 
 -- what is written where no line has a fault
 faultless_answers : (f : LineAnswers) (input : List ℕ) (m : Ending) (lines : List (List ℕ)) (stop : Stop) (a b : AnswerState)
@@ -95,7 +89,7 @@ choose_true false x y e = absurd (cc e)
 whole_input : (input : List ℕ) → length input ≤ limit → take limit input ≡ input
 whole_input input h = take_all limit input h
 
-pub answers_cannot_read : (f : LineAnswers) (input : List ℕ) (q : Progress) (a b : AnswerState)
+answers_cannot_read : (f : LineAnswers) (input : List ℕ) (q : Progress) (a b : AnswerState)
     → length input ≤ limit → TakesBytes f [] input 1 q (Ok tt) a b → Answers (answer_lines f input Fail) CannotRead a b
 answers_cannot_read f input q a b h x =
     faultless_answers f input Fail (ended_lines [] input) CannotRead a b
@@ -103,7 +97,7 @@ answers_cannot_read f input q a b h x =
     (sym (choose_false (nat_lt limit (length input)) InputTooLong CannotRead (short_test (length input) h)))
     x.0
 
-pub answers_too_long : (f : LineAnswers) (input whole : List ℕ) (q : Progress) (a b : AnswerState)
+answers_too_long : (f : LineAnswers) (input whole : List ℕ) (q : Progress) (a b : AnswerState)
     → limit < length input → take limit input ≡ whole → TakesBytes f [] whole 1 q (Ok tt) a b → Answers (answer_lines f input More) InputTooLong a b
 answers_too_long f input whole q a b h e x =
     faultless_answers f input More (ended_lines [] whole) InputTooLong a b
@@ -116,36 +110,22 @@ all_lines input h =
     ap (λ xs. ended_lines [] xs ++ last_line End input) (whole_input input h)
     ∙ ap (λ ls. ended_lines [] input ++ ls) (choose_false (nat_lt limit (length input)) [] (line_with_bytes (last_part [] input)) (short_test (length input) h))
 
-pub answers_done : (f : LineAnswers) (input : List ℕ) (q : Progress) (a b c : AnswerState)
+answers_done : (f : LineAnswers) (input : List ℕ) (q : Progress) (a b c : AnswerState)
     → length input ≤ limit → TakesBytes f [] input 1 q (Ok tt) a b → AllAnswered f q.line (line_with_bytes (last_part [] input)) b c
     → Answers (answer_lines f input End) Done a c
 answers_done f input q a b c h x y =
     faultless_answers f input End (ended_lines [] input ++ line_with_bytes (last_part [] input)) Done a c
     (all_lines input h)
     (sym (choose_false (nat_lt limit (length input)) InputTooLong Done (short_test (length input) h)))
-    (answered_more f 1 q.line (ended_lines [] input) (line_with_bytes (last_part [] input)) a b c x.1.line x.0 y)
+    (answered_more x.0 (line_with_bytes (last_part [] input)) c q.line x.1.line y)
 
 -- a run that was stopped by the last line
-last_stopped : (f : LineAnswers) (input : List ℕ) (lines : List (List ℕ)) (stop : Stop) (a b : AnswerState)
-    → complete_lines input End ≡ lines → StopsWithin f 1 lines stop a b → Answers (answer_lines f input End) stop a b
-last_stopped f input lines CannotWrite a b e x =
-    subst (λ ls. Refuses (written_text f.answer_of ls) (looks_for f ls) (most_looks_for f ls) a b) (sym e) x
-last_stopped f input lines (Line at fault) a b e x = (
-  sym (ap (λ o. stop_of o input End) (ap (λ ls. first_fault f.answer_of 1 ls) e ∙ x.first)),
-  subst (λ ls. WritesAnswers f ls a b) (sym e) x.writes,
-)
-last_stopped f input lines Done a b e x = absurd x
-last_stopped f input lines Usage a b e x = absurd x
-last_stopped f input lines InputTooLong a b e x = absurd x
-last_stopped f input lines CannotRead a b e x = absurd x
-last_stopped f input lines OutOfMemory a b e x = absurd x
-
-pub answers_last_stopped : (f : LineAnswers) (input : List ℕ) (q : Progress) (stop : Stop) (a b c : AnswerState)
+answers_last_stopped : (f : LineAnswers) (input : List ℕ) (q : Progress) (stop : Stop) (a b c : AnswerState)
     → length input ≤ limit → TakesBytes f [] input 1 q (Ok tt) a b → StopsWithin f q.line (line_with_bytes (last_part [] input)) stop b c
     → Answers (answer_lines f input End) stop a c
 answers_last_stopped f input q stop a b c h x y =
-    last_stopped f input (ended_lines [] input ++ line_with_bytes (last_part [] input)) stop a c (all_lines input h)
-    (stopped_more f 1 q.line (ended_lines [] input) (line_with_bytes (last_part [] input)) stop a b c x.1.line x.0 y)
+    stopped_answers f input End (ended_lines [] input ++ line_with_bytes (last_part [] input)) stop a c (all_lines input h)
+    (stopped_more x.0 (line_with_bytes (last_part [] input)) c q.line stop x.1.line y)
 
 -- the end of an input of which all bytes were taken
 input_ends : (f : LineAnswers) (input : List ℕ) (q : Progress) (a b c : AnswerState) (r : Result (Unit {0}) Stop)
@@ -288,7 +268,7 @@ pub text_stopped : (f : LineAnswers) (text : List ℕ) (p q : Progress) (stop : 
     → ((front : List ℕ) → IsFed p.reader front → TakesBytes f front text p.line q (Err stop) h j)
     → Answers (answer_lines f text End) stop h j
 text_stopped f text p q stop h j fits reader line takes =
-    last_stopped f text (ended_lines [] text ++ line_with_bytes (last_part [] text)) stop h j (all_lines text fits)
+    stopped_answers f text End (ended_lines [] text ++ line_with_bytes (last_part [] text)) stop h j (all_lines text fits)
     (stopped_front f 1 (ended_lines [] text) (line_with_bytes (last_part [] text)) stop h j
     (text_taken f text p q (Err stop) h j reader line takes))
 

@@ -92,19 +92,16 @@ module _ {W : Type 0} (state : W → TargetState) where
         subst (λ k. Writes [] 0 0 (output_state state a looks) (output_state state k looks)) h (writes_nothing (output_state state a looks) works)
     walk_writes (p ∷ ps) a b looks works h =
         let one = (wrote a p h.0 h.1.0).1 works looks in
-        writes_more (line p) (flat_map line ps) 0 0 0 0 (output_state state a looks) (output_state state h.0 looks) (output_state state b looks)
-        one (walk_writes ps h.0 b looks one.works h.1.1)
+        writes_more one (walk_writes ps h.0 b looks one.works h.1.1)
 
     stop_writes : (ps : List (List Turn)) (a b : Output W) (looks : ℕ) → has_fault (state a.target.now) ≡ false → StoppedIn took refused a ps b
         → Refuses (flat_map line ps) 0 0 (output_state state a looks) (output_state state b looks)
     stop_writes [] a b looks works h = absurd h
     stop_writes (p ∷ ps) a b looks works (inl h) =
-        refuses_front (line p) (flat_map line ps) 0 0 0 0 (output_state state a looks) (output_state state b looks) (omega arith) (omega arith)
-        ((cut a p b h).1 works looks)
+        refuses_front (flat_map line ps) (omega arith) (omega arith) ((cut a p b h).1 works looks)
     stop_writes (p ∷ ps) a b looks works (inr h) =
         let one = (wrote a p h.0 h.1.0).1 works looks in
-        refuses_more (line p) (flat_map line ps) 0 0 0 0 (output_state state a looks) (output_state state h.0 looks) (output_state state b looks)
-        one (stop_writes ps h.0 b looks one.works h.1.1)
+        refuses_more one (stop_writes ps h.0 b looks one.works h.1.1)
 
     pub found_all : (ps : List (List Turn)) (a b : Output W) (looks most_looks before after : ℕ) → has_fault (state a.target.now) ≡ false
         → WentThrough took a ps b → after ≡ before + looks → after ≤ before + most_looks
@@ -116,7 +113,7 @@ module _ {W : Type 0} (state : W → TargetState) where
         → StoppedIn took refused a ps b → before ≤ after → after ≤ before + looks → after ≤ before + most_looks
         → Refuses (flat_map line ps ++ rest) looks most_looks (output_state state a before) (output_state state b after)
     found_some ps rest a b looks most_looks before after works h rises most bound =
-        refuses_front (flat_map line ps) rest looks most_looks looks most_looks (output_state state a before) (output_state state b after) (omega arith) (omega arith)
+        refuses_front rest (omega arith) (omega arith)
         (looked_refuses (flat_map line ps) looks most_looks before after after a b rises most bound (stop_writes ps a b after works h))
 
     pub unsolved : (n : ℕ) (ps : List (List Turn)) (a b : Output W) (looks most_looks before after : ℕ) → has_fault (state a.target.now) ≡ false
@@ -138,13 +135,14 @@ module _ {W : Type 0} (state : W → TargetState) where
       → Writes (flat_map solution_line solutions) looks most_looks (output_state state a before) (output_state state b after)
       → Delivers state r piece b c
       → WritesOrRefuses r (solve_text n solutions) looks most_looks (output_state state a before) (output_state state c after)
-  solved (Ok u) n count solutions piece looks most_looks before after a b c e f p d =
-      writes_as (flat_map solution_line solutions ++ piece) (solve_text n solutions) (looks + 0) (most_looks + 0) looks most_looks
-      (output_state state a before) (output_state state c after)
-      (ap (λ t. flat_map solution_line solutions ++ t) (f ∙ ap (λ k. none_line n k ++ line_feed ∷ []) e) ∙ sym (append_assoc (flat_map solution_line solutions) (none_line n (length solutions)) (line_feed ∷ []))) (omega arith) (omega arith)
-      (writes_more (flat_map solution_line solutions) piece looks most_looks 0 0 (output_state state a before) (output_state state b after) (output_state state c after) p (d p.works after))
-  solved (Err x) n count solutions piece looks most_looks before after a b c e f p d =
-      refuses_as (flat_map solution_line solutions ++ piece) (solve_text n solutions) (looks + 0) (most_looks + 0) looks most_looks
-      (output_state state a before) (output_state state c after)
-      (ap (λ t. flat_map solution_line solutions ++ t) (f ∙ ap (λ k. none_line n k ++ line_feed ∷ []) e) ∙ sym (append_assoc (flat_map solution_line solutions) (none_line n (length solutions)) (line_feed ∷ []))) (omega arith) (omega arith)
-      (refuses_more (flat_map solution_line solutions) piece looks most_looks 0 0 (output_state state a before) (output_state state b after) (output_state state c after) p (d p.works after))
+  solved r n count solutions piece looks most_looks before after a b c e f p d = by_answer r d
+    where
+      whole : flat_map solution_line solutions ++ piece ≡ solve_text n solutions
+      whole =
+          ap (λ t. flat_map solution_line solutions ++ t) (f ∙ ap (λ k. none_line n k ++ line_feed ∷ []) e)
+          ∙ sym (append_assoc (flat_map solution_line solutions) (none_line n (length solutions)) (line_feed ∷ []))
+
+      by_answer : (r : Result (Unit {0}) DeviceFault) → Delivers state r piece b c
+          → WritesOrRefuses r (solve_text n solutions) looks most_looks (output_state state a before) (output_state state c after)
+      by_answer (Ok u) d = writes_as whole (omega arith) (omega arith) (writes_more p (d p.works after))
+      by_answer (Err x) d = refuses_as whole (omega arith) (omega arith) (refuses_more p (d p.works after))

@@ -40,12 +40,8 @@ waits text pending rest a looks e works = record {
 
 pub then_sent : {T : Type 0} (r : Result T DeviceFault) (text : List ℕ) (looks most_looks : ℕ) (a b c : AnswerState)
     → Writes text looks most_looks a b → WritesOrRefuses r [] 0 0 b c → WritesOrRefuses r text looks most_looks a c
-then_sent (Ok u) text looks most_looks a b c p q =
-    writes_as (text ++ []) text (looks + 0) (most_looks + 0) looks most_looks a c (append-nil text) (omega arith) (omega arith)
-    (writes_more text [] looks most_looks 0 0 a b c p q)
-then_sent (Err x) text looks most_looks a b c p q =
-    refuses_as (text ++ []) text (looks + 0) (most_looks + 0) looks most_looks a c (append-nil text) (omega arith) (omega arith)
-    (refuses_more text [] looks most_looks 0 0 a b c p q)
+then_sent (Ok u) text looks most_looks a b c p q = writes_as (append-nil text) (omega arith) (omega arith) (writes_more p q)
+then_sent (Err x) text looks most_looks a b c p q = refuses_as (append-nil text) (omega arith) (omega arith) (refuses_more p q)
 
 -- what waits is written after lines that were taken
 

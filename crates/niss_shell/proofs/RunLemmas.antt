@@ -61,13 +61,9 @@ no_stop_of_memory None input m = either_stop (nat_lt limit (length input)) Input
 
 ends_of_answers : (a : Answer) (asked : Result Request UsageFault) (stop : Stop) (source source_now : SourceState) (h i : AnswerState)
     → a.stop ≢ OutOfMemory → Answers a stop h i → EndsUnflushed stop a asked source source_now h i
-ends_of_answers a asked Done source source_now h i n w = w
-ends_of_answers a asked (Line at fault) source source_now h i n w = w
-ends_of_answers a asked Usage source source_now h i n w = w
-ends_of_answers a asked InputTooLong source source_now h i n w = w
-ends_of_answers a asked CannotRead source source_now h i n w = w
-ends_of_answers a asked CannotWrite source source_now h i n w = w
 ends_of_answers a asked OutOfMemory source source_now h i n w = absurd (n (sym w.0))
+ends_of_answers a asked CannotWrite source source_now h i n w = w
+ends_of_answers a asked _ source source_now h i n w = w
 
 -- the input comes from the source
 pub runs_source : (command : LineCommand) (ws : List (List ℕ)) (stop : Stop) (a b : SourceState) (h i : AnswerState)
@@ -270,10 +266,6 @@ ends_flushed : (a : Answer) (asked : Result Request UsageFault) (stop : Stop) (d
     → FlushesAs i.target e.output f
     → Ends (flushed_stop stop f) a asked d e
 ends_flushed a asked Done d e h i f at none none_now w whole flush = ends_done a asked d e h i f at none none_now w (whole refl) flush
-ends_flushed a asked (Line n fault) d e h i f at none none_now w whole flush = ends_by_fault a d e h i (Line n fault) f at none none_now w flush
-ends_flushed a asked Usage d e h i f at none none_now w whole flush = ends_by_fault a d e h i Usage f at none none_now w flush
-ends_flushed a asked InputTooLong d e h i f at none none_now w whole flush = ends_by_fault a d e h i InputTooLong f at none none_now w flush
-ends_flushed a asked CannotRead d e h i f at none none_now w whole flush = ends_by_fault a d e h i CannotRead f at none none_now w flush
 ends_flushed a asked CannotWrite d e h i f at none none_now w whole flush = ends_refused a asked d e h i f at none w flush
 ends_flushed a asked OutOfMemory d e h i f at none none_now w whole flush = record {
   asks = w.0;
@@ -281,19 +273,15 @@ ends_flushed a asked OutOfMemory d e h i f at none none_now w whole flush = reco
   nothing = appended_then d.output i.target e.output [] w.2.works (subst (λ t. Appended t i.target []) at (all_sent [] h i none none_now w.2.written)) flush.bytes;
   unrefused = flush.write_failed ∙ no_write_fault i.target w.2.works;
 }
+ends_flushed a asked stop d e h i f at none none_now w whole flush = ends_by_fault a d e h i stop f at none none_now w flush
 
 -- the looks
 
 -- where no write was refused
 exact_looks : (stop : Stop) (failed : Bool) (due looks looks_now : ℕ) → stop ≢ OutOfMemory → failed ≡ false → looks_now ≡ looks + due → Looked stop failed due looks looks_now
-exact_looks Done false due looks looks_now n e p = p
-exact_looks (Line at fault) false due looks looks_now n e p = p
-exact_looks Usage false due looks looks_now n e p = p
-exact_looks InputTooLong false due looks looks_now n e p = p
-exact_looks CannotRead false due looks looks_now n e p = p
-exact_looks CannotWrite false due looks looks_now n e p = p
-exact_looks OutOfMemory false due looks looks_now n e p = absurd (n refl)
 exact_looks stop true due looks looks_now n e p = absurd (cc e)
+exact_looks OutOfMemory false due looks looks_now n e p = absurd (n refl)
+exact_looks _ false due looks looks_now n e p = p
 
 refused_looks : (failed : Bool) (due looks looks_now : ℕ) → failed ≡ true → looks ≤ looks_now → looks_now ≤ looks + due → Looked CannotWrite failed due looks looks_now
 refused_looks true due looks looks_now e p q = (p, q)
@@ -308,37 +296,23 @@ looked_flushed : (a : Answer) (asked : Result Request UsageFault) (stop : Stop) 
     → Looked (flushed_stop stop f) j.write_failed a.looks h.looks i.looks
 looked_flushed a asked Done source source_now h i j f w flush =
     exact_looks (flushed_stop Done f) j.write_failed a.looks h.looks i.looks (done_flushed f) (flush.write_failed ∙ no_write_fault i.target w.1.works) w.1.looked
-looked_flushed a asked (Line n fault) source source_now h i j f w flush =
-    exact_looks (Line n fault) j.write_failed a.looks h.looks i.looks (λ e. cc e) (flush.write_failed ∙ no_write_fault i.target w.1.works) w.1.looked
-looked_flushed a asked Usage source source_now h i j f w flush =
-    exact_looks Usage j.write_failed a.looks h.looks i.looks (λ e. cc e) (flush.write_failed ∙ no_write_fault i.target w.1.works) w.1.looked
-looked_flushed a asked InputTooLong source source_now h i j f w flush =
-    exact_looks InputTooLong j.write_failed a.looks h.looks i.looks (λ e. cc e) (flush.write_failed ∙ no_write_fault i.target w.1.works) w.1.looked
-looked_flushed a asked CannotRead source source_now h i j f w flush =
-    exact_looks CannotRead j.write_failed a.looks h.looks i.looks (λ e. cc e) (flush.write_failed ∙ no_write_fault i.target w.1.works) w.1.looked
 looked_flushed a asked CannotWrite source source_now h i j f w flush =
     refused_looks j.write_failed a.looks h.looks i.looks (flush.write_failed ∙ w.refused.refused) w.rises w.looked
 looked_flushed a asked OutOfMemory source source_now h i j f w flush = w.2.looked ∙ add-zero h.looks
+looked_flushed a asked stop source source_now h i j f w flush =
+    exact_looks stop j.write_failed a.looks h.looks i.looks (λ e. cc e) (flush.write_failed ∙ no_write_fault i.target w.1.works) w.1.looked
 
 bounded_looks : (a : Answer) (asked : Result Request UsageFault) (stop : Stop) (source source_now : SourceState) (h i : AnswerState)
     → EndsUnflushed stop a asked source source_now h i → i.looks ≤ h.looks + a.most_looks
-bounded_looks a asked Done source source_now h i w = w.1.bounded
-bounded_looks a asked (Line n fault) source source_now h i w = w.1.bounded
-bounded_looks a asked Usage source source_now h i w = w.1.bounded
-bounded_looks a asked InputTooLong source source_now h i w = w.1.bounded
-bounded_looks a asked CannotRead source source_now h i w = w.1.bounded
 bounded_looks a asked CannotWrite source source_now h i w = w.bounded
 bounded_looks a asked OutOfMemory source source_now h i w = omega (arith, w.2.bounded)
+bounded_looks a asked _ source source_now h i w = w.1.bounded
 
 flushes_worked : (a : Answer) (asked : Result Request UsageFault) (stop : Stop) (source source_now : SourceState) (h i : AnswerState)
     → has_fault h.target ≡ false → EndsUnflushed stop a asked source source_now h i → i.target.flush_failed ≡ false
-flushes_worked a asked Done source source_now h i works w = no_flush_fault i.target w.1.works
-flushes_worked a asked (Line at fault) source source_now h i works w = no_flush_fault i.target w.1.works
-flushes_worked a asked Usage source source_now h i works w = no_flush_fault i.target w.1.works
-flushes_worked a asked InputTooLong source source_now h i works w = no_flush_fault i.target w.1.works
-flushes_worked a asked CannotRead source source_now h i works w = no_flush_fault i.target w.1.works
 flushes_worked a asked CannotWrite source source_now h i works w = w.refused.flushes_work (no_flush_fault h.target works)
 flushes_worked a asked OutOfMemory source source_now h i works w = no_flush_fault i.target w.2.works
+flushes_worked a asked _ source source_now h i works w = no_flush_fault i.target w.1.works
 
 not_flushed : (c f r : Bool) → c ≡ not r → f ≡ r → f ≡ not c
 not_flushed c f true e h = h ∙ sym (ap not e)

@@ -59,9 +59,7 @@ pub written_more : (turns i : ℕ) (g : Lcg) (line : List ℕ) (a b c : AnswerSt
     → line ≡ turns_line (scramble turns g i) → Writes (scramble_text turns i g) 0 0 a b → Writes line 0 0 b c
     → Writes (scramble_text turns (i + 1) g) 0 0 a c
 written_more turns i g line a b c e p q =
-    writes_as (scramble_text turns i g ++ line) (scramble_text turns (i + 1) g) 0 0 0 0 a c
-    (ap (λ l. scramble_text turns i g ++ l) e ∙ sym (text_more turns i g)) refl refl
-    (writes_more (scramble_text turns i g) line 0 0 0 0 a b c p q)
+    writes_as (ap (λ l. scramble_text turns i g ++ l) e ∙ sym (text_more turns i g)) refl refl (writes_more p q)
 
 pub all_written : (turns i count : ℕ) (g : Lcg) (a b : AnswerState) → i ≡ count
     → Writes (scramble_text turns i g) 0 0 a b → Writes (scramble_text turns count g) 0 0 a b
@@ -72,7 +70,6 @@ pub refused_line : (turns i count : ℕ) (g : Lcg) (line : List ℕ) (a b c : An
     → Refuses (scramble_text turns count g) 0 0 a c
 refused_line turns i count g line a b c h e p q =
     let rest = flat_map turns_line (drop (i + 1) (scrambles turns count g)) in
-    refuses_as ((scramble_text turns i g ++ line) ++ rest) (scramble_text turns count g) 0 0 0 0 a c
+    refuses_as
     (ap (λ l. (scramble_text turns i g ++ l) ++ rest) e ∙ ap (λ t. t ++ rest) (sym (text_more turns i g)) ∙ text_front turns (i + 1) count g (omega arith)) refl refl
-    (refuses_front (scramble_text turns i g ++ line) rest 0 0 0 0 a c (omega arith) (omega arith)
-    (refuses_more (scramble_text turns i g) line 0 0 0 0 a b c p q))
+    (refuses_front rest (omega arith) (omega arith) (refuses_more p q))

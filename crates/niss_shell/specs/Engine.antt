@@ -72,6 +72,11 @@ abbrev pub WritesAnswers : LineAnswers → List (List ℕ) → AnswerState → A
 WritesAnswers f lines old new =
     Writes (written_text f.answer_of lines) (looks_for f lines) (most_looks_for f lines) old new
 
+-- a write of them was refused
+abbrev pub RefusesAnswers : LineAnswers → List (List ℕ) → AnswerState → AnswerState → Type 0
+RefusesAnswers f lines old new =
+    Refuses (written_text f.answer_of lines) (looks_for f lines) (most_looks_for f lines) old new
+
 -- None of the lines has a fault, and all answers are written.
 pub record AllAnswered (f : LineAnswers) (n : ℕ) (lines : List (List ℕ)) (old new : AnswerState) : Type 0 where
   pub faultless : first_fault f.answer_of n lines ≡ None
@@ -85,14 +90,9 @@ pub record FaultCame (f : LineAnswers) (n : ℕ) (lines : List (List ℕ))
 
 -- how the lines stop a run
 abbrev pub StopsWithin : LineAnswers → ℕ → List (List ℕ) → Stop → AnswerState → AnswerState → Type 0
-StopsWithin f n lines CannotWrite old new =
-    Refuses (written_text f.answer_of lines) (looks_for f lines) (most_looks_for f lines) old new
+StopsWithin f n lines CannotWrite old new = RefusesAnswers f lines old new
 StopsWithin f n lines (Line at fault) old new = FaultCame f n lines at fault old new
-StopsWithin f n lines Done old new = ⊥
-StopsWithin f n lines Usage old new = ⊥
-StopsWithin f n lines InputTooLong old new = ⊥
-StopsWithin f n lines CannotRead old new = ⊥
-StopsWithin f n lines OutOfMemory old new = ⊥
+StopsWithin f n lines stop old new = ⊥
 
 -- The line that is being read, and its number.
 pub record Progress : Type 0 where
