@@ -21,7 +21,7 @@ returns-clause-runs g c =
 
 pub returns-clause-unread : goal.returns-clause-unread
 returns-clause-unread g c = λ given.
-    by_words (λ t. t.items) c.in_ok-new.field-0.text c.args.request.command (map string_bytes c.args.request.words.now) _ c.in_ok-new.ensures.input given c.answer.ensures.unread
+    by_words _ _ c.args.request.command _ _ c.in_ok-new.ensures.input given c.answer.ensures.unread
 
 pub answer-requires-clause-reads : goal.answer-requires-clause-reads
 answer-requires-clause-reads g c = c.requires.reads
