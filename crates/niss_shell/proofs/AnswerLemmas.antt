@@ -34,16 +34,16 @@ last_taken : (f : LineAnswers) (front : List ℕ) (n : ℕ) (result : Result (Un
     → TakesEnd f front n result old new
 last_taken f front n (Ok u) old new answers e =
     subst (λ ls. AllAnswered f n ls old new) (sym e)
-    (answered_line f n front (f.answer_of front) u old new refl answers)
+    (answered_line _ _ _ _ _ _ _ refl answers)
 last_taken f front n (Err stop) old new answers e =
     subst (λ ls. StopsWithin f n ls stop old new) (sym e)
-    (stopped_line f n front (f.answer_of front) stop old new refl answers)
+    (stopped_line _ _ _ _ _ _ _ refl answers)
 
 pub takes_last_line : (f : LineAnswers) (front : List ℕ) (n : ℕ) (r : Reader) (result : Result (Unit {0}) Stop) (old new : AnswerState)
     → IsFed r front → r.fed ≢ 0 → AnswersBytes f front n result old new
     → TakesEnd f front n result old new
 takes_last_line f front n r result old new at some answers =
-    last_taken f front n result old new answers (one_line front (λ z. some (at.fed ∙ z)))
+    last_taken _ _ _ _ _ _ answers (one_line _ (λ z. some (at.fed ∙ z)))
 
 -- a run that was stopped by one of these lines, which are all that count
 stopped_answers : (f : LineAnswers) (input : List ℕ) (m : Ending) (lines : List (List ℕ)) (stop : Stop) (a b : AnswerState)
@@ -57,8 +57,8 @@ stopped_answers f input m lines _ a b e x = absurd x
 
 answers_stopped : (f : LineAnswers) (input whole : List ℕ) (q : Progress) (stop : Stop) (a b : AnswerState)
     → take limit input ≡ whole → TakesBytes f [] whole 1 q (Err stop) a b → Answers (answer_lines f input More) stop a b
-answers_stopped f input whole q stop a b e x =
-    stopped_answers f input More (ended_lines [] whole) stop a b
+answers_stopped f input whole _ stop a b e x =
+    stopped_answers _ _ More _ _ _ _
     (append-nil (ended_lines [] (take limit input)) ∙ ap (λ xs. ended_lines [] xs) e) x
 
 -- what is written where no line has a fault
@@ -92,23 +92,23 @@ whole_input input h = take_all limit input h
 answers_cannot_read : (f : LineAnswers) (input : List ℕ) (q : Progress) (a b : AnswerState)
     → length input ≤ limit → TakesBytes f [] input 1 q (Ok tt) a b → Answers (answer_lines f input Fail) CannotRead a b
 answers_cannot_read f input q a b h x =
-    faultless_answers f input Fail (ended_lines [] input) CannotRead a b
-    (append-nil (ended_lines [] (take limit input)) ∙ ap (λ xs. ended_lines [] xs) (whole_input input h))
-    (sym (choose_false (nat_lt limit (length input)) InputTooLong CannotRead (short_test (length input) h)))
+    faultless_answers _ _ Fail _ _ _ _
+    (append-nil (ended_lines [] (take limit input)) ∙ ap (λ xs. ended_lines [] xs) (whole_input _ h))
+    (sym (choose_false _ _ _ (short_test _ h)))
     x.0
 
 answers_too_long : (f : LineAnswers) (input whole : List ℕ) (q : Progress) (a b : AnswerState)
     → limit < length input → take limit input ≡ whole → TakesBytes f [] whole 1 q (Ok tt) a b → Answers (answer_lines f input More) InputTooLong a b
-answers_too_long f input whole q a b h e x =
-    faultless_answers f input More (ended_lines [] whole) InputTooLong a b
+answers_too_long f input whole _ a b h e x =
+    faultless_answers _ _ More _ _ _ _
     (append-nil (ended_lines [] (take limit input)) ∙ ap (λ xs. ended_lines [] xs) e)
-    (sym (choose_true (nat_lt limit (length input)) InputTooLong Done (long_test (length input) h)))
+    (sym (choose_true _ _ _ (long_test _ h)))
     x.0
 
 all_lines : (input : List ℕ) → length input ≤ limit → complete_lines input End ≡ ended_lines [] input ++ line_with_bytes (last_part [] input)
 all_lines input h =
-    ap (λ xs. ended_lines [] xs ++ last_line End input) (whole_input input h)
-    ∙ ap (λ ls. ended_lines [] input ++ ls) (choose_false (nat_lt limit (length input)) [] (line_with_bytes (last_part [] input)) (short_test (length input) h))
+    ap (λ xs. ended_lines [] xs ++ last_line End input) (whole_input _ h)
+    ∙ ap (λ ls. ended_lines [] input ++ ls) (choose_false _ [] (line_with_bytes (last_part [] input)) (short_test _ h))
 
 answers_done : (f : LineAnswers) (input : List ℕ) (q : Progress) (a b c : AnswerState)
     → length input ≤ limit → TakesBytes f [] input 1 q (Ok tt) a b → AllAnswered f q.line (line_with_bytes (last_part [] input)) b c
@@ -131,8 +131,8 @@ answers_last_stopped f input q stop a b c h x y =
 input_ends : (f : LineAnswers) (input : List ℕ) (q : Progress) (a b c : AnswerState) (r : Result (Unit {0}) Stop)
     → length input ≤ limit → TakesBytes f [] input 1 q (Ok tt) a b → TakesEnd f (last_part [] input) q.line r b c
     → Answers (answer_lines f input End) (stop_unless r Done) a c
-input_ends f input q a b c (Ok u) fits x last = answers_done f input q a b c fits x last
-input_ends f input q a b c (Err stop) fits x last = answers_last_stopped f input q stop a b c fits x last
+input_ends f input q a b c (Ok u) fits x last = answers_done _ _ _ _ _ _ fits x last
+input_ends f input q a b c (Err stop) fits x last = answers_last_stopped _ _ _ _ _ _ _ fits x last
 
 -- the engine's loop over a source
 
@@ -165,7 +165,7 @@ at_more f count n block p q a b c h i j x good gave fits takes = record {
 
 -- a read that gave nothing
 gave_no_more : (a b c : SourceState) (x : List ℕ) → b.has_failed ≡ false → Gave a b x → Gave b c [] → Gave a c x
-gave_no_more a b c x good p q = subst (λ xs. Gave a c xs) (append-nil x) (gave_more a b c x [] good p q)
+gave_no_more a b c x good p q = subst (λ xs. Gave a c xs) (append-nil x) (gave_more a b c _ [] good p q)
 
 pub at_failure : (f : LineAnswers) (count : ℕ) (p : Progress) (a b c : SourceState) (h i : AnswerState)
     → IsAt f count p a b h i → count ≤ limit → b.has_failed ≡ false → Gave b c [] → c.has_failed ≡ true
@@ -188,10 +188,10 @@ pub at_end : (f : LineAnswers) (count : ℕ) (p : Progress) (a b c : SourceState
     → AnswersSource f stop a c h j
 at_end f count p a b c h i j r stop x room good gave failed ended last e = record {
   input = x.input;
-  gave = gave_no_more a b c x.input good x.gave gave;
-  answers = subst (λ m. Answers (answer_lines f x.input m) stop h j) (sym (ending_is c false true failed ended))
+  gave = gave_no_more a b c _ good x.gave gave;
+  answers = subst (λ m. Answers (answer_lines f x.input m) stop h j) (sym (ending_is c _ _ failed ended))
       (subst (λ k. Answers (answer_lines f x.input End) k h j) (sym e)
-      (input_ends f x.input p h i j r (omega (arith, x.count_is, room)) x.takes (last (last_part [] x.input) x.takes.1.reader)));
+      (input_ends _ _ _ _ _ _ _ (omega (arith, x.count_is, room)) x.takes (last (last_part [] x.input) x.takes.1.reader)));
   read_whole = λ d. ended;
 }
 
@@ -200,7 +200,7 @@ cut_block : (input block : List ℕ) (count n room : ℕ) → count ≡ length i
     → take limit (input ++ take n block) ≡ input ++ take room block
 cut_block input block count n room e f g h =
     let k : limit ≡ length input + room = omega (arith, e, f) in
-    ap (λ v. take v (input ++ take n block)) k ∙ take-append-add input (take n block) room ∙ ap (λ v. input ++ v) (taken_twice room n block g)
+    ap (λ v. take v (input ++ take n block)) k ∙ take-append-add input (take n block) room ∙ ap (λ v. input ++ v) (taken_twice _ _ _ g)
 
 too_long_answers : (f : LineAnswers) (input whole : List ℕ) (q : Progress) (h j : AnswerState) (r : Result (Unit {0}) Stop)
     → limit < length input → take limit input ≡ whole → TakesBytes f [] whole 1 q r h j
@@ -215,7 +215,7 @@ stop_is_not_done f bytes q h j stop x e = subst (λ k. StopsWithin f 1 (ended_li
 not_done : (f : LineAnswers) (bytes : List ℕ) (q : Progress) (h j : AnswerState) (r : Result (Unit {0}) Stop)
     → TakesBytes f [] bytes 1 q r h j → stop_unless r InputTooLong ≡ Done → ⊥
 not_done f bytes q h j (Ok u) x e = cc e
-not_done f bytes q h j (Err stop) x e = stop_is_not_done f bytes q h j stop x e
+not_done f bytes q h j (Err stop) x e = stop_is_not_done _ _ q _ _ _ x e
 
 pub at_limit : (f : LineAnswers) (count n room : ℕ) (block : List ℕ) (p q : Progress) (a b c : SourceState) (h i j : AnswerState) (r : Result (Unit {0}) Stop) (stop : Stop)
     → IsAt f count p a b h i → room + count ≡ limit → room < n → n ≤ length block → b.has_failed ≡ false → Gave b c (take n block) → c.has_failed ≡ false → c.has_ended ≡ false
@@ -223,17 +223,17 @@ pub at_limit : (f : LineAnswers) (count n room : ℕ) (block : List ℕ) (p q : 
     → stop ≡ stop_unless r InputTooLong
     → AnswersSource f stop a c h j
 at_limit f count n room block p q a b c h i j r stop x sum long fits good gave failed ended takes e =
-    let y = takes_more f [] x.input (take room block) 1 p q tt r h i j x.takes (takes (last_part [] x.input) x.takes.1.reader) in
+    let y = takes_more _ [] x.input (take room block) 1 p q tt r h i j x.takes (takes (last_part [] x.input) x.takes.1.reader) in
     let l : length (x.input ++ take n block) ≡ length x.input + length (take n block) = length-append x.input (take n block) in
-    let k : length (take n block) ≡ n = length_taken n block fits in
+    let k : length (take n block) ≡ n = length_taken _ _ fits in
     record {
       input = x.input ++ take n block;
-      gave = gave_more a b c x.input (take n block) good x.gave gave;
-      answers = subst (λ m. Answers (answer_lines f (x.input ++ take n block) m) stop h j) (sym (ending_is c false false failed ended))
+      gave = gave_more a b c _ _ good x.gave gave;
+      answers = subst (λ m. Answers (answer_lines f (x.input ++ take n block) m) stop h j) (sym (ending_is c _ _ failed ended))
           (subst (λ v. Answers (answer_lines f (x.input ++ take n block) More) v h j) (sym e)
-          (too_long_answers f (x.input ++ take n block) (x.input ++ take room block) q h j r
-          (omega (arith, l, k, x.count_is, sum, long)) (cut_block x.input block count n room x.count_is sum (omega (arith, long)) fits) y));
-      read_whole = λ d. absurd (not_done f (x.input ++ take room block) q h j r y (sym e ∙ d));
+          (too_long_answers _ _ _ _ _ _ _
+          (omega (arith, l, k, x.count_is, sum, long)) (cut_block _ _ _ _ _ x.count_is sum (omega (arith, long)) fits) y));
+      read_whole = λ d. absurd (not_done _ _ _ _ _ _ y (sym e ∙ d));
     }
 
 pub at_stop : (f : LineAnswers) (count n : ℕ) (block : List ℕ) (p q : Progress) (a b c : SourceState) (h i j : AnswerState) (stop : Stop)
@@ -241,16 +241,16 @@ pub at_stop : (f : LineAnswers) (count n : ℕ) (block : List ℕ) (p q : Progre
     → ((front : List ℕ) → IsFed p.reader front → TakesBytes f front (take n block) p.line q (Err stop) i j)
     → AnswersSource f stop a c h j
 at_stop f count n block p q a b c h i j stop x room fits good gave failed ended takes =
-    let y = takes_more f [] x.input (take n block) 1 p q tt (Err stop) h i j x.takes (takes (last_part [] x.input) x.takes.1.reader) in
+    let y = takes_more _ [] x.input (take n block) 1 p q tt (Err stop) h i j x.takes (takes (last_part [] x.input) x.takes.1.reader) in
     let l : length (x.input ++ take n block) ≡ length x.input + length (take n block) = length-append x.input (take n block) in
-    let k : length (take n block) ≡ n = length_taken n block fits in
+    let k : length (take n block) ≡ n = length_taken _ _ fits in
     record {
       input = x.input ++ take n block;
-      gave = gave_more a b c x.input (take n block) good x.gave gave;
-      answers = subst (λ m. Answers (answer_lines f (x.input ++ take n block) m) stop h j) (sym (ending_is c false false failed ended))
-          (answers_stopped f (x.input ++ take n block) (x.input ++ take n block) q stop h j
-          (whole_input (x.input ++ take n block) (omega (arith, l, k, x.count_is, room))) y);
-      read_whole = λ d. absurd (stop_is_not_done f (x.input ++ take n block) q h j stop y d);
+      gave = gave_more a b c _ _ good x.gave gave;
+      answers = subst (λ m. Answers (answer_lines f (x.input ++ take n block) m) stop h j) (sym (ending_is c _ _ failed ended))
+          (answers_stopped _ _ _ q _ _ _
+          (whole_input _ (omega (arith, l, k, x.count_is, room))) y);
+      read_whole = λ d. absurd (stop_is_not_done _ _ q _ _ _ y d);
     }
 
 pub gave_nothing_of : (a b : SourceState) (n : ℕ) (block : List ℕ) → n ≡ 0 → Gave a b (take n block) → Gave a b []

@@ -22,7 +22,7 @@ cut_step true front bs b e h p q = record {
 }
 cut_step false front bs b e h p q =
     subst (λ t. IsCutInto t (ended_lines (front ++ b ∷ []) bs) (last_part (front ++ b ∷ []) bs)) (append_assoc front (b ∷ []) bs)
-    (q (All-push (λ n. n ≢ 10) front b h (no_feed_after b e)))
+    (q (All-push (λ n. n ≢ 10) front b h (no_feed_after _ e)))
 
 cut_after : (front bs : List ℕ) → HasNoLineFeed front → IsCutInto (front ++ bs) (ended_lines front bs) (last_part front bs)
 unfolding ended_lines last_part
@@ -52,7 +52,7 @@ ended_after : (front part bs : List ℕ) → HasNoLineFeed part → ended_lines 
 unfolding ended_lines
 ended_after front [] bs h = ap (λ v. ended_lines v bs) (sym (append-nil front))
 ended_after front (b ∷ part) bs h =
-    other_ended (b == 10) front (part ++ bs) b (ne_eqb b 10 (All-head (λ n. n ≢ 10) b part h))
+    other_ended _ _ (part ++ bs) b (ne_eqb b 10 (All-head (λ n. n ≢ 10) b part h))
     ∙ ended_after (front ++ b ∷ []) part bs (All-tail (λ n. n ≢ 10) b part h)
     ∙ ap (λ v. ended_lines v bs) (append_assoc front (b ∷ []) part)
 
@@ -60,7 +60,7 @@ last_after : (front part bs : List ℕ) → HasNoLineFeed part → last_part fro
 unfolding last_part
 last_after front [] bs h = ap (λ v. last_part v bs) (sym (append-nil front))
 last_after front (b ∷ part) bs h =
-    other_last (b == 10) front (part ++ bs) b (ne_eqb b 10 (All-head (λ n. n ≢ 10) b part h))
+    other_last _ front (part ++ bs) b (ne_eqb b 10 (All-head (λ n. n ≢ 10) b part h))
     ∙ last_after (front ++ b ∷ []) part bs (All-tail (λ n. n ≢ 10) b part h)
     ∙ ap (λ v. last_part v bs) (append_assoc front (b ∷ []) part)
 
@@ -80,15 +80,15 @@ unfolding ended_lines
 lines_again [] last h k = ap (λ v. ended_lines [] v) (sym (append-nil last)) ∙ ended_after [] last [] k
 lines_again (line ∷ lines) last h k =
     ap (λ v. ended_lines [] v) (append_assoc (line_to_feed line) (flat_map line_to_feed lines) last)
-    ∙ ended_first line (flat_map line_to_feed lines ++ last) (All-head HasNoLineFeed line lines h)
-    ∙ ap (λ v. line ∷ v) (lines_again lines last (All-tail HasNoLineFeed line lines h) k)
+    ∙ ended_first _ _ (All-head HasNoLineFeed line lines h)
+    ∙ ap (λ v. line ∷ v) (lines_again _ _ (All-tail HasNoLineFeed line lines h) k)
 
 last_again : (lines : List (List ℕ)) (last : List ℕ) → All HasNoLineFeed lines → HasNoLineFeed last → last_part [] (flat_map line_to_feed lines ++ last) ≡ last
 unfolding last_part
 last_again [] last h k = ap (λ v. last_part [] v) (sym (append-nil last)) ∙ last_after [] last [] k
 last_again (line ∷ lines) last h k =
     ap (λ v. last_part [] v) (append_assoc (line_to_feed line) (flat_map line_to_feed lines) last)
-    ∙ last_first line (flat_map line_to_feed lines ++ last) (All-head HasNoLineFeed line lines h)
+    ∙ last_first _ _ (All-head HasNoLineFeed line lines h)
     ∙ last_again lines last (All-tail HasNoLineFeed line lines h) k
 
 pub one_cut : OneCut

@@ -12,7 +12,7 @@ nothing_appended None failed = tt
 nothing_appended (Some all) failed = sym (append-nil all)
 
 pub appended_nothing : (a : TargetState) → Appended a a []
-appended_nothing a = nothing_appended a.held (has_fault a)
+appended_nothing a = nothing_appended _ _
 
 more_appended : (a b c : Option (List ℕ)) (s t : Bool) (x y : List ℕ) → (s ≡ true → t ≡ true) → StaysSilentOf s b c
     → AppendedOf a b s x → AppendedOf b c t y → AppendedOf a c t (x ++ y)
@@ -26,7 +26,7 @@ more_appended (Some old) (Some mid) (Some new) s t x y sticks silent p q = q ∙
 -- two calls, also on a target that failed before
 pub appended_on : (a b c : TargetState) (x y : List ℕ) → (has_fault b ≡ true → has_fault c ≡ true) → StaysSilent b c
     → Appended a b x → Appended b c y → Appended a c (x ++ y)
-appended_on a b c x y sticks silent p q = more_appended a.held b.held c.held (has_fault b) (has_fault c) x y sticks silent p q
+appended_on a b c x y sticks silent p q = more_appended _ _ _ _ _ _ _ sticks silent p q
 
 pub appended_more : (a b c : TargetState) (x y : List ℕ) → has_fault b ≡ false → Appended a b x → Appended b c y → Appended a c (x ++ y)
 appended_more a b c x y e p q =
@@ -60,7 +60,7 @@ nothing_given None failed = tt
 nothing_given (Some all) failed = refl
 
 pub gave_nothing : (a : SourceState) → Gave a a []
-gave_nothing a = nothing_given a.left a.has_failed
+gave_nothing a = nothing_given _ _
 
 more_given : (a b c : Option (List ℕ)) (s t : Bool) (x y : List ℕ) → s ≡ false → GaveOf a b s x → GaveOf b c t y → GaveOf a c t (x ++ y)
 more_given None b c s t x y e p q = tt
@@ -69,7 +69,7 @@ more_given (Some old) (Some mid) None s t x y e p q = (q.0, (q.1.0, p ∙ ap (λ
 more_given (Some old) (Some mid) (Some new) s t x y e p q = p ∙ ap (λ v. x ++ v) q ∙ sym (append_assoc x y new)
 
 pub gave_more : (a b c : SourceState) (x y : List ℕ) → b.has_failed ≡ false → Gave a b x → Gave b c y → Gave a c (x ++ y)
-gave_more a b c x y e p q = more_given a.left b.left c.left b.has_failed c.has_failed x y e p q
+gave_more a b c x y e p q = more_given _ _ _ _ _ _ _ e p q
 
 pub is_empty_answer-some : (n : ℕ) (bytes : List ℕ) → n ≢ 0 → is_empty_answer n bytes ≡ false
 is_empty_answer-some zero bytes h = absurd (h refl)

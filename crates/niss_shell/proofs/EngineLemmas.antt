@@ -49,7 +49,7 @@ pub answered_line : (f : LineAnswers) (n : ℕ) (front : List ℕ) (r : Result (
 unfolding first_fault
 answered_line f n front (Ok text) u old new e p = record {
   faultless = ap (λ r. fault_before r n None) e;
-  writes = one_line f front text old new e p;
+  writes = one_line _ _ _ _ _ e p;
 }
 answered_line f n front (Err fault) u old new e p = absurd p
 
@@ -57,12 +57,12 @@ pub stopped_line : (f : LineAnswers) (n : ℕ) (front : List ℕ) (r : Result (L
     → f.answer_of front ≡ r → AnswersLine r (f.looks_of front) f.most_looks n (Err stop) old new → StopsWithin f n (front ∷ []) stop old new
 unfolding first_fault
 stopped_line f n front (Ok text) stop old new e p =
-    subst (λ s. StopsWithin f n (front ∷ []) s old new) (sym p.0) (one_refused f front text old new e p.1)
+    subst (λ s. StopsWithin f n (front ∷ []) s old new) (sym p.0) (one_refused _ _ _ _ _ e p.1)
 stopped_line f n front (Err fault) stop old new e (inl p) =
     subst (λ s. StopsWithin f n (front ∷ []) s old new) (sym p.0)
-    (record { first = ap (λ r. fault_before r n None) e; writes = no_line f front fault old new e p.1 })
+    (record { first = ap (λ r. fault_before r n None) e; writes = no_line _ _ _ _ _ e p.1 })
 stopped_line f n front (Err fault) stop old new e (inr p) =
-    subst (λ s. StopsWithin f n (front ∷ []) s old new) (sym p.0) (no_refused f front fault old new e p.1)
+    subst (λ s. StopsWithin f n (front ∷ []) s old new) (sym p.0) (no_refused _ _ _ _ _ e p.1)
 
 -- a line feed
 takes_line_feed : (f : LineAnswers) (front : List ℕ) (n : ℕ) (q : Progress) (result : Result (Unit {0}) Stop) (old new : AnswerState)
@@ -71,11 +71,11 @@ takes_line_feed : (f : LineAnswers) (front : List ℕ) (n : ℕ) (q : Progress) 
     → TakesBytes f front (10 ∷ []) n q result old new
 unfolding ended_lines last_part
 takes_line_feed f front n q (Ok u) old new answers reader line = (
-  answered_line f n front (f.answer_of front) u old new refl answers,
+  answered_line _ _ _ _ _ _ _ refl answers,
   record { reader = reader; line = line },
 )
 takes_line_feed f front n q (Err stop) old new answers reader line =
-    stopped_line f n front (f.answer_of front) stop old new refl answers
+    stopped_line _ _ _ _ _ _ _ refl answers
 
 pub takes_end_of_line : (f : LineAnswers) (front : List ℕ) (byte n : ℕ) (q : Progress) (result : Result (Unit {0}) Stop) (old new : AnswerState)
     → byte ≡ 10
@@ -84,7 +84,7 @@ pub takes_end_of_line : (f : LineAnswers) (front : List ℕ) (byte n : ℕ) (q :
     → TakesBytes f front (byte ∷ []) n q result old new
 takes_end_of_line f front byte n q result old new e answers reader line =
     subst (λ b. TakesBytes f front (b ∷ []) n q result old new) (sym e)
-    (takes_line_feed f front n q result old new answers reader line)
+    (takes_line_feed _ _ _ _ _ _ _ answers reader line)
 
 -- another byte
 other_ended : (c : Bool) (front : List ℕ) (b : ℕ) → c ≡ false → (if c then front ∷ ended_lines [] [] else ended_lines (front ++ b ∷ []) []) ≡ []
@@ -99,11 +99,11 @@ other_last false front b e = refl
 
 no_line_ended : (front : List ℕ) (byte : ℕ) → (byte == 10) ≡ false → ended_lines front (byte ∷ []) ≡ []
 unfolding ended_lines
-no_line_ended front byte e = other_ended (byte == 10) front byte e
+no_line_ended front byte e = other_ended _ _ byte e
 
 still_open : (front : List ℕ) (byte : ℕ) → (byte == 10) ≡ false → last_part front (byte ∷ []) ≡ front ++ byte ∷ []
 unfolding last_part
-still_open front byte e = other_last (byte == 10) front byte e
+still_open front byte e = other_last _ _ _ e
 
 pub answered_none : (f : LineAnswers) (n : ℕ) (out : AnswerState) → has_fault out.target ≡ false → AllAnswered f n [] out out
 unfolding first_fault answered_lines
@@ -168,10 +168,10 @@ all_open front = refl
 pub takes_none : (f : LineAnswers) (front : List ℕ) (n : ℕ) (p : Progress) (out : AnswerState) (u : Unit {0})
     → IsFed p.reader front → p.line ≡ n → has_fault out.target ≡ false → TakesBytes f front [] n p (Ok u) out out
 takes_none f front n p out u at line works = (
-  subst (λ ls. AllAnswered f n ls out out) (sym (none_ended front)) (answered_none f n out works),
+  subst (λ ls. AllAnswered f n ls out out) (sym (none_ended _)) (answered_none _ _ _ works),
   record {
-    reader = subst (λ v. IsFed p.reader v) (sym (all_open front)) at;
-    line = let e : length (ended_lines front []) ≡ 0 = ap length (none_ended front) in omega (arith, line, e);
+    reader = subst (λ v. IsFed p.reader v) (sym (all_open _)) at;
+    line = let e : length (ended_lines front []) ≡ 0 = ap length (none_ended _) in omega (arith, line, e);
   },
 )
 
@@ -196,15 +196,15 @@ takes_more f front xs ys n q r u (Err stop) a b c x y =
 pub takes_front : (f : LineAnswers) (front xs ys : List ℕ) (n : ℕ) (q : Progress) (stop : Stop) (a c : AnswerState)
     → TakesBytes f front xs n q (Err stop) a c → TakesBytes f front (xs ++ ys) n q (Err stop) a c
 takes_front f front xs ys n q stop a c x =
-    subst (λ ls. StopsWithin f n ls stop a c) (sym (ended_lines-append front xs ys))
-    (stopped_front f n (ended_lines front xs) (ended_lines (last_part front xs) ys) stop a c x)
+    subst (λ ls. StopsWithin f n ls stop a c) (sym (ended_lines-append _ _ _))
+    (stopped_front _ _ _ _ _ _ _ x)
 
 -- a block in which the run was stopped
 pub takes_stopped : (f : LineAnswers) (front bytes : List ℕ) (i n : ℕ) (q : Progress) (stop : Stop) (a c : AnswerState)
     → TakesBytes f front (take i bytes) n q (Err stop) a c → TakesBytes f front bytes n q (Err stop) a c
 takes_stopped f front bytes i n q stop a c x =
     subst (λ xs. TakesBytes f front xs n q (Err stop) a c) (take-append-drop i bytes)
-    (takes_front f front (take i bytes) (drop i bytes) n q stop a c x)
+    (takes_front _ _ _ _ _ q _ _ _ x)
 
 -- bytes inside a line
 inside_ended : (front xs : List ℕ) → HasNoLineFeed xs → ended_lines front xs ≡ []
@@ -247,7 +247,7 @@ pub takes_piece : (f : LineAnswers) (front bytes rest : List ℕ) (i k n : ℕ) 
     → TakesBytes f front (take (i + k) bytes) n r result a c
 takes_piece f front bytes rest i k n q r u result a b c e x y =
     subst (λ xs. TakesBytes f front xs n r result a c) (ap (λ t. take i bytes ++ take k t) e ∙ sym (take-add i k bytes))
-    (takes_more f front (take i bytes) (take k rest) n q r u result a b c x (y (last_part front (take i bytes)) x.1.reader))
+    (takes_more _ _ _ _ _ _ _ _ _ _ _ _ x (y (last_part front (take i bytes)) x.1.reader))
 
 pub rest_is : (bytes : List ℕ) (i : ℕ) → between i (length bytes) bytes ≡ drop i bytes
 rest_is bytes i = between_to_end bytes i (length bytes) (omega arith)

@@ -68,7 +68,7 @@ pub answered_lines-append : {E : Type 0} (f : List ℕ → Result (List ℕ) E) 
 unfolding first_fault answered_lines
 answered_lines-append f n [] ys none = refl
 answered_lines-append f n (l ∷ xs) ys none =
-    answered_ok_step (f l) n (first_fault f (n + 1) xs) l (answered_lines f (xs ++ ys)) (answered_lines f xs) (answered_lines f ys) none
+    answered_ok_step _ _ _ _ _ _ _ none
     (answered_lines-append f (n + 1) xs ys (first_fault-none_head (f l) n (first_fault f (n + 1) xs) none))
 
 answered_some_step : {E : Type 0} (r : Result (List ℕ) E) (n : ℕ) (a : Option (ℕ × E)) (e : ℕ × E) (line : List ℕ) (x y : List (List ℕ))
@@ -81,7 +81,7 @@ pub answered_lines-stays : {E : Type 0} (f : List ℕ → Result (List ℕ) E) (
 unfolding first_fault answered_lines
 answered_lines-stays f n [] ys e some = absurd (cc some)
 answered_lines-stays f n (l ∷ xs) ys e some =
-    answered_some_step (f l) n (first_fault f (n + 1) xs) e l (answered_lines f (xs ++ ys)) (answered_lines f xs)
+    answered_some_step _ _ _ _ _ _ _
     (answered_lines-stays f (n + 1) xs ys e) some
 
 -- what is answered of some lines is a beginning of what is answered of these and more

@@ -36,12 +36,12 @@ pub number_too_large : (E : Type 0) (most : ℕ) (word : List ℕ) (r : Result �
     → ParsesUnsigned 64 10 word r → ((n : ℕ) → r ≡ Ok n → most < n) → None ≡ number_of most word
 number_too_large E most word (Ok n) digits small parsed large =
     let p = parse_digits digits_model {E = E} 64 word (Ok n) parsed digits in
-    no_number_by (digits_value 10 word) (list_all is_ascii_digit word) (nat_lt 0 (length word)) (nat_le (digits_value 10 word) most)
+    no_number_by (digits_value 10 word) (list_all is_ascii_digit word) (nat_lt 0 (length word)) _
     (λ some fits. omega (arith, large n refl, most_tested (digits_value 10 word) most fits, p.1))
 number_too_large E most word (Err e) digits small parsed large =
     let p = parse_digits digits_model {E = E} 64 word (Err e) parsed digits in
-    no_number_by (digits_value 10 word) (list_all is_ascii_digit word) (nat_lt 0 (length word)) (nat_le (digits_value 10 word) most)
-    (λ some fits. p (below_tested 0 (length word) some, omega (arith, small, most_tested (digits_value 10 word) most fits)))
+    no_number_by _ _ _ _
+    (λ some fits. p (below_tested _ _ some, omega (arith, small, most_tested _ _ fits)))
 
 -- steps
 

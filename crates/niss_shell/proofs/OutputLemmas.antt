@@ -32,7 +32,7 @@ empty_where n bytes e (inl h) k = nil_from_length bytes (omega (arith, e, h.1))
 empty_where n bytes e (inr h) k = absurd (cc (h.0, k))
 
 pub no_bytes : (empty : Bool) (bytes : List ℕ) → empty ≡ (length bytes == 0) → empty ≡ true → bytes ≡ []
-no_bytes empty bytes e k = empty_where (length bytes) bytes refl (eqb_tells (length bytes) 0) (sym e ∙ k)
+no_bytes empty bytes e k = empty_where _ _ refl (eqb_tells (length bytes) 0) (sym e ∙ k)
 
 -- a line that was put where nothing waited, and written
 pub line_sent : {W : Type 0} (state : W → TargetState) (r : Result (Unit {0}) DeviceFault) (line text : List ℕ) (old new : Output W)
@@ -77,10 +77,10 @@ module _ {W : Type 0} (state : W → TargetState) where
       → WritesOrRefuses r text looks most_looks (output_state state old before) (output_state state new after)
   reported_after (Ok u) piece text looks most_looks before after old new e exact bound d works =
       subst (λ t. Writes t looks most_looks (output_state state old before) (output_state state new after)) e
-      (looked_writes piece looks most_looks before after after old new exact bound (d works after))
+      (looked_writes _ _ _ _ _ _ old new exact bound (d works after))
   reported_after (Err x) piece text looks most_looks before after old new e exact bound d works =
       subst (λ t. Refuses t looks most_looks (output_state state old before) (output_state state new after)) e
-      (looked_refuses piece looks most_looks before after after old new (omega (arith, exact)) (omega (arith, exact)) bound (d works after))
+      (looked_refuses _ _ _ _ _ _ old new (omega (arith, exact)) (omega (arith, exact)) bound (d works after))
 
   -- the lines of the paths are taken one after the other
   module _ (line : List Turn → List ℕ) (took refused : Output W → List Turn → Output W → Type 0)
@@ -89,7 +89,7 @@ module _ {W : Type 0} (state : W → TargetState) where
     walk_writes : (ps : List (List Turn)) (a b : Output W) (looks : ℕ) → has_fault (state a.target.now) ≡ false → WentThrough took a ps b
         → Writes (flat_map line ps) 0 0 (output_state state a looks) (output_state state b looks)
     walk_writes [] a b looks works h =
-        subst (λ k. Writes [] 0 0 (output_state state a looks) (output_state state k looks)) h (writes_nothing (output_state state a looks) works)
+        subst (λ k. Writes [] 0 0 (output_state state a looks) (output_state state k looks)) h (writes_nothing _ works)
     walk_writes (p ∷ ps) a b looks works h =
         let one = (wrote a p h.0 h.1.0).1 works looks in
         writes_more one (walk_writes ps h.0 b looks one.works h.1.1)
@@ -98,7 +98,7 @@ module _ {W : Type 0} (state : W → TargetState) where
         → Refuses (flat_map line ps) 0 0 (output_state state a looks) (output_state state b looks)
     stop_writes [] a b looks works h = absurd h
     stop_writes (p ∷ ps) a b looks works (inl h) =
-        refuses_front (flat_map line ps) (omega arith) (omega arith) ((cut a p b h).1 works looks)
+        refuses_front _ (omega arith) (omega arith) ((cut a p b h).1 works looks)
     stop_writes (p ∷ ps) a b looks works (inr h) =
         let one = (wrote a p h.0 h.1.0).1 works looks in
         refuses_more one (stop_writes ps h.0 b looks one.works h.1.1)
@@ -107,14 +107,14 @@ module _ {W : Type 0} (state : W → TargetState) where
         → WentThrough took a ps b → after ≡ before + looks → after ≤ before + most_looks
         → Writes (flat_map line ps) looks most_looks (output_state state a before) (output_state state b after)
     found_all ps a b looks most_looks before after works h exact bound =
-        looked_writes (flat_map line ps) looks most_looks before after after a b exact bound (walk_writes ps a b after works h)
+        looked_writes _ _ _ _ _ after a b exact bound (walk_writes _ _ _ _ works h)
 
     pub found_some : (ps : List (List Turn)) (rest : List ℕ) (a b : Output W) (looks most_looks before after : ℕ) → has_fault (state a.target.now) ≡ false
         → StoppedIn took refused a ps b → before ≤ after → after ≤ before + looks → after ≤ before + most_looks
         → Refuses (flat_map line ps ++ rest) looks most_looks (output_state state a before) (output_state state b after)
     found_some ps rest a b looks most_looks before after works h rises most bound =
-        refuses_front rest (omega arith) (omega arith)
-        (looked_refuses (flat_map line ps) looks most_looks before after after a b rises most bound (stop_writes ps a b after works h))
+        refuses_front _ (omega arith) (omega arith)
+        (looked_refuses _ _ _ _ _ after a b rises most bound (stop_writes _ _ _ _ works h))
 
     pub unsolved : (n : ℕ) (ps : List (List Turn)) (a b : Output W) (looks most_looks before after : ℕ) → has_fault (state a.target.now) ≡ false
         → StoppedIn took refused a ps b → before ≤ after → after ≤ before + looks → after ≤ before + most_looks
@@ -122,7 +122,7 @@ module _ {W : Type 0} (state : W → TargetState) where
     unsolved n ps a b looks most_looks before after works h rises most bound =
         subst (λ t. Refuses t looks most_looks (output_state state a before) (output_state state b after))
         (sym (append_assoc (flat_map line ps) (none_line n (length ps)) (line_feed ∷ [])))
-        (found_some ps (none_line n (length ps) ++ line_feed ∷ []) a b looks most_looks before after works h rises most bound)
+        (found_some _ _ _ _ _ _ _ _ works h rises most bound)
 
     pub nothing_waits : (ps : List (List Turn)) (a b : Output W) → StoppedIn took refused a ps b → b.pending.items ≡ []
     nothing_waits [] a b h = absurd h
@@ -135,7 +135,7 @@ module _ {W : Type 0} (state : W → TargetState) where
       → Writes (flat_map solution_line solutions) looks most_looks (output_state state a before) (output_state state b after)
       → Delivers state r piece b c
       → WritesOrRefuses r (solve_text n solutions) looks most_looks (output_state state a before) (output_state state c after)
-  solved r n count solutions piece looks most_looks before after a b c e f p d = by_answer r d
+  solved r n count solutions piece looks most_looks before after a b c e f p d = by_answer _ d
     where
       whole : flat_map solution_line solutions ++ piece ≡ solve_text n solutions
       whole =

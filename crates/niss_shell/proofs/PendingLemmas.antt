@@ -49,7 +49,7 @@ lines_sent : (f : LineAnswers) (n : ℕ) (lines : List (List ℕ)) (u : Unit {0}
     → AllAnswered f n lines a b → WritesOrRefuses {T = Unit {0}} (Ok u) [] 0 0 b c → AllAnswered f n lines a c
 lines_sent f n lines u a b c x q = record {
   faultless = x.faultless;
-  writes = then_sent {T = Unit {0}} (Ok u) (written_text f.answer_of lines) (looks_for f lines) (most_looks_for f lines) a b c x.writes q;
+  writes = then_sent {T = Unit {0}} (Ok u) _ _ _ _ _ c x.writes q;
 }
 
 pub takes_sent : (f : LineAnswers) (front bytes : List ℕ) (n : ℕ) (q : Progress) (u v : Unit {0}) (a b c : AnswerState)
@@ -64,7 +64,7 @@ takes_unsent f front bytes n q u e a b c x w =
 
 pub end_sent : (f : LineAnswers) (front : List ℕ) (n : ℕ) (u v : Unit {0}) (a b c : AnswerState)
     → TakesEnd f front n (Ok u) a b → Writes [] 0 0 b c → TakesEnd f front n (Ok v) a c
-end_sent f front n u v a b c x w = lines_sent f n (line_with_bytes front) u a b c x w
+end_sent f front n u v a b c x w = lines_sent _ _ _ _ _ _ _ x w
 
 pub end_unsent : (f : LineAnswers) (front : List ℕ) (n : ℕ) (u : Unit {0}) (e : DeviceFault) (a b c : AnswerState)
     → TakesEnd f front n (Ok u) a b → Refuses [] 0 0 b c → TakesEnd f front n (Err CannotWrite) a c

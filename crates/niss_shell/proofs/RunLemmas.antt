@@ -87,8 +87,8 @@ runs_text command (v ∷ ws) text stop a h i n e fits w = record {
   gave = gave_nothing a;
   ends =
       subst (λ x. EndsUnflushed stop x (Ok (OnLines command (v ∷ ws))) a a h i)
-      (ap (λ t. answer_lines (line_answers command) t End) e ∙ sym (choose_false (nat_lt limit (length (joined (v ∷ ws)))) (unsearched [] InputTooLong) (answer_lines (line_answers command) (joined (v ∷ ws)) End) (short_test (length (joined (v ∷ ws))) fits)))
-      (ends_of_answers (answer_lines (line_answers command) text End) (Ok (OnLines command (v ∷ ws))) stop a a h i (no_stop_of_memory _ text End) w);
+      (ap (λ t. answer_lines (line_answers command) t End) e ∙ sym (choose_false _ _ _ (short_test _ fits)))
+      (ends_of_answers (answer_lines (line_answers command) text End) (Ok (OnLines command (v ∷ ws))) _ a a h i (no_stop_of_memory _ text End) w);
   read_whole = λ d r. absurd (cc r);
 }
 
@@ -116,7 +116,7 @@ runs_memory command [] a h n works fits = absurd (omega arith)
 runs_memory command (v ∷ ws) a h n works fits = record {
   input = [];
   gave = gave_nothing a;
-  ends = (fits_test (length (joined (v ∷ ws))) fits, refl, writes_nothing h works);
+  ends = (fits_test _ fits, refl, writes_nothing _ works);
   read_whole = λ d r. absurd (cc r);
 }
 
@@ -126,7 +126,7 @@ pub runs_memory_source : (command : LineCommand) (ws : List (List ℕ)) (a : Sou
 runs_memory_source command [] a h n works asks = record {
   input = [];
   gave = gave_nothing a;
-  ends = (asks, refl, writes_nothing h works);
+  ends = (asks, refl, writes_nothing _ works);
   read_whole = λ d r. absurd (cc d);
 }
 runs_memory_source command (v ∷ ws) a h n works asks = absurd (omega arith)
@@ -136,7 +136,7 @@ pub runs_usage : (asked : Result Request UsageFault) (fault : UsageFault) (a : S
 runs_usage asked fault a h e works = subst (λ x. RunsUnflushed x Usage a a h h) (sym e) (record {
   input = [];
   gave = gave_nothing a;
-  ends = (refl, writes_nothing h works);
+  ends = (refl, writes_nothing _ works);
   read_whole = λ d r. absurd (cc r);
 })
 
@@ -146,7 +146,7 @@ pub from_source : (command given : LineCommand) (ws : List (List ℕ)) (stop : S
     → given ≡ command → k ≡ h → j ≡ i → length ws ≡ 0 → AnswersSource (line_answers given) stop a b k j
     → RunsUnflushed (Ok (OnLines command ws)) stop a b h i
 from_source command given ws stop a b h k i j e f g none x =
-    runs_source command ws stop a b h i none
+    runs_source _ _ _ _ _ _ _ none
     (subst (λ v. AnswersSource (line_answers v) stop a b h i) e
     (subst (λ s. AnswersSource (line_answers given) stop a b s i) f
     (subst (λ s. AnswersSource (line_answers given) stop a b k s) g x)))
@@ -169,7 +169,7 @@ pub runs_steps : (asked : Result Request UsageFault) (stop : Stop) (a : SourceSt
 runs_steps asked stop a h i e w = subst (λ x. RunsUnflushed x stop a a h i) (sym e) (record {
   input = [];
   gave = gave_nothing a;
-  ends = ends_of_answers (unsearched (flat_map step_line steps) Done) (Ok ListSteps) stop a a h i (λ n. cc n) w;
+  ends = ends_of_answers _ _ _ _ _ _ _ (λ n. cc n) w;
   read_whole = λ d r. absurd (cc r);
 })
 
@@ -183,7 +183,7 @@ runs_scrambles asked state stream turns count rng stop a h i e r w = subst (λ x
   gave = gave_nothing a;
   ends =
       let text = scramble_text turns count (generator_of state stream) in
-      ends_of_answers (unsearched text Done) (Ok (DrawScrambles state stream turns count)) stop a a h i (λ n. cc n)
+      ends_of_answers _ _ _ _ _ _ _ (λ n. cc n)
       (subst (λ x. Answers (unsearched (scramble_text turns count x) Done) stop h i) r w);
   read_whole = λ d r. absurd (cc r);
 })
@@ -295,9 +295,9 @@ looked_flushed : (a : Answer) (asked : Result Request UsageFault) (stop : Stop) 
     → EndsUnflushed stop a asked source source_now h i → FlushesAs i.target j f
     → Looked (flushed_stop stop f) j.write_failed a.looks h.looks i.looks
 looked_flushed a asked Done source source_now h i j f w flush =
-    exact_looks (flushed_stop Done f) j.write_failed a.looks h.looks i.looks (done_flushed f) (flush.write_failed ∙ no_write_fault i.target w.1.works) w.1.looked
+    exact_looks _ _ _ _ _ (done_flushed _) (flush.write_failed ∙ no_write_fault i.target w.1.works) w.1.looked
 looked_flushed a asked CannotWrite source source_now h i j f w flush =
-    refused_looks j.write_failed a.looks h.looks i.looks (flush.write_failed ∙ w.refused.refused) w.rises w.looked
+    refused_looks _ _ _ _ (flush.write_failed ∙ w.refused.refused) w.rises w.looked
 looked_flushed a asked OutOfMemory source source_now h i j f w flush = w.2.looked ∙ add-zero h.looks
 looked_flushed a asked stop source source_now h i j f w flush =
     exact_looks stop j.write_failed a.looks h.looks i.looks (λ e. cc e) (flush.write_failed ∙ no_write_fault i.target w.1.works) w.1.looked

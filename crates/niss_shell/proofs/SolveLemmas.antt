@@ -16,7 +16,7 @@ starts step false text h = absurd (cc h)
 pub accepted_lines : LooksWithinBound → AcceptedLinesAreSolved
 accepted_lines within step n bytes line e h = record {
   text = ap (answer_to (search_command Solutions step n 0)) e
-      ∙ starts step (may_start step (home line)) (solve_text n (solutions_of step (home line) n)) h;
+      ∙ starts _ _ _ h;
   looks = ap (looks_at (search_command Solutions step n 0)) e;
   within = within (turns_of step) _ _ n 0;
 }

@@ -55,7 +55,7 @@ refused_more : (xs ys : List ℕ) (a b c : TargetState)
 refused_more xs ys a b c works p q = record {
   refused = q.refused;
   part = xs ++ q.part;
-  cut = cut_more q.part xs ys q.cut;
+  cut = cut_more _ _ _ q.cut;
   appended = appended_more a b c xs q.part works p q.appended;
   flushes_work = λ e. q.flushes_work (no_flush_fault b works);
 }
@@ -64,7 +64,7 @@ refused_front : (xs ys : List ℕ) (a c : TargetState) → WriteRefused xs a c �
 refused_front xs ys a c q = record {
   refused = q.refused;
   part = q.part;
-  cut = cut_front q.part xs ys q.cut;
+  cut = cut_front _ _ _ q.cut;
   appended = q.appended;
   flushes_work = q.flushes_work;
 }
@@ -81,7 +81,7 @@ refuses_more {x = x} {y = y} {a = a} {b = b} {c = c} p q = record {
 
 pub refuses_front : {x : List ℕ} (y : List ℕ) {l m k n : ℕ} {a c : AnswerState} → l ≤ k → m ≤ n → Refuses x l m a c → Refuses (x ++ y) k n a c
 refuses_front {x = x} y {a = a} {c = c} p q r = record {
-  refused = subst (λ t. WriteRefused t a.target c.target) (append_assoc a.pending x y) (refused_front (a.pending ++ x) y a.target c.target r.refused);
+  refused = subst (λ t. WriteRefused t a.target c.target) (append_assoc a.pending x y) (refused_front _ _ _ _ r.refused);
   rises = r.rises;
   looked = omega (arith, r.looked, p);
   bounded = omega (arith, r.bounded, q);
@@ -133,4 +133,4 @@ module _ (f : LineAnswers) (xs ys : List (List ℕ)) where
   lines_cut {a = a} {c = c} p =
       let looks : sum_by f.looks_of (xs ++ ys) ≡ sum_by f.looks_of xs + sum_by f.looks_of ys = sum_by-append f.looks_of xs ys in
       subst (λ t. Refuses t (sum_by f.looks_of (xs ++ ys)) (f.most_looks * length (xs ++ ys)) a c) (sym (flat_map-append (text_at f) xs ys))
-      (refuses_front (flat_map (text_at f) ys) (omega (arith, looks)) (omega (arith, most_more)) p)
+      (refuses_front _ (omega (arith, looks)) (omega (arith, most_more)) p)
