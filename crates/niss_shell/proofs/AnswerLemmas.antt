@@ -27,7 +27,7 @@ one_line (b ∷ bs) e = refl
 pub takes_no_line : (f : LineAnswers) (front : List ℕ) (n : ℕ) (r : Reader) (out : AnswerState)
     → IsFed r front → r.fed ≡ 0 → has_fault out.target ≡ false → AllAnswered f n (line_with_bytes front) out out
 takes_no_line f front n r out at none works =
-    subst (λ ls. AllAnswered f n ls out out) (sym (no_line front (sym (at.fed) ∙ none))) (answered_none f n out works)
+    subst (λ ls. AllAnswered f n ls out out) (sym (no_line front (sym (at.fed) ∙ none))) (answered_none _ _ _ works)
 
 last_taken : (f : LineAnswers) (front : List ℕ) (n : ℕ) (result : Result (Unit {0}) Stop) (old new : AnswerState)
     → AnswersBytes f front n result old new → line_with_bytes front ≡ front ∷ []
@@ -114,18 +114,18 @@ answers_done : (f : LineAnswers) (input : List ℕ) (q : Progress) (a b c : Answ
     → length input ≤ limit → TakesBytes f [] input 1 q (Ok tt) a b → AllAnswered f q.line (line_with_bytes (last_part [] input)) b c
     → Answers (answer_lines f input End) Done a c
 answers_done f input q a b c h x y =
-    faultless_answers f input End (ended_lines [] input ++ line_with_bytes (last_part [] input)) Done a c
-    (all_lines input h)
-    (sym (choose_false (nat_lt limit (length input)) InputTooLong Done (short_test (length input) h)))
-    (answered_more x.0 (line_with_bytes (last_part [] input)) c q.line x.1.line y)
+    faultless_answers _ _ End _ _ _ _
+    (all_lines _ h)
+    (sym (choose_false _ _ _ (short_test _ h)))
+    (answered_more x.0 _ _ _ x.1.line y)
 
 -- a run that was stopped by the last line
 answers_last_stopped : (f : LineAnswers) (input : List ℕ) (q : Progress) (stop : Stop) (a b c : AnswerState)
     → length input ≤ limit → TakesBytes f [] input 1 q (Ok tt) a b → StopsWithin f q.line (line_with_bytes (last_part [] input)) stop b c
     → Answers (answer_lines f input End) stop a c
 answers_last_stopped f input q stop a b c h x y =
-    stopped_answers f input End (ended_lines [] input ++ line_with_bytes (last_part [] input)) stop a c (all_lines input h)
-    (stopped_more x.0 (line_with_bytes (last_part [] input)) c q.line stop x.1.line y)
+    stopped_answers _ _ End _ _ a _ (all_lines _ h)
+    (stopped_more x.0 _ _ _ _ x.1.line y)
 
 -- the end of an input of which all bytes were taken
 input_ends : (f : LineAnswers) (input : List ℕ) (q : Progress) (a b c : AnswerState) (r : Result (Unit {0}) Stop)
@@ -147,7 +147,7 @@ pub at_start : (f : LineAnswers) (p : Progress) (source : SourceState) (out : An
 at_start f p source out reader line works = record {
   input = [];
   gave = gave_nothing source;
-  takes = takes_none f [] 1 p out tt reader line works;
+  takes = takes_none _ [] 1 p out tt reader line works;
   count_is = refl;
 }
 
@@ -157,10 +157,10 @@ pub at_more : (f : LineAnswers) (count n : ℕ) (block : List ℕ) (p q : Progre
     → IsAt f (count + n) q a c h j
 at_more f count n block p q a b c h i j x good gave fits takes = record {
   input = x.input ++ take n block;
-  gave = gave_more a b c x.input (take n block) good x.gave gave;
-  takes = takes_more f [] x.input (take n block) 1 p q tt (Ok tt) h i j x.takes (takes (last_part [] x.input) x.takes.1.reader);
+  gave = gave_more a b c _ _ good x.gave gave;
+  takes = takes_more _ [] x.input (take n block) 1 p q tt (Ok tt) h i j x.takes (takes (last_part [] x.input) x.takes.1.reader);
   count_is = let e : length (x.input ++ take n block) ≡ length x.input + length (take n block) = length-append x.input (take n block) in
-      let f : length (take n block) ≡ n = length_taken n block fits in omega (arith, e, f, x.count_is);
+      let f : length (take n block) ≡ n = length_taken _ _ fits in omega (arith, e, f, x.count_is);
 }
 
 -- a read that gave nothing
@@ -172,9 +172,9 @@ pub at_failure : (f : LineAnswers) (count : ℕ) (p : Progress) (a b c : SourceS
     → AnswersSource f CannotRead a c h i
 at_failure f count p a b c h i x room good gave failed = record {
   input = x.input;
-  gave = gave_no_more a b c x.input good x.gave gave;
+  gave = gave_no_more a b c _ good x.gave gave;
   answers = subst (λ v. Answers (answer_lines f x.input (ending_of v c.has_ended)) CannotRead h i) (sym failed)
-      (answers_cannot_read f x.input p h i (omega (arith, x.count_is, room)) x.takes);
+      (answers_cannot_read _ _ _ _ _ (omega (arith, x.count_is, room)) x.takes);
   read_whole = λ e. absurd (cc e);
 }
 
@@ -205,8 +205,8 @@ cut_block input block count n room e f g h =
 too_long_answers : (f : LineAnswers) (input whole : List ℕ) (q : Progress) (h j : AnswerState) (r : Result (Unit {0}) Stop)
     → limit < length input → take limit input ≡ whole → TakesBytes f [] whole 1 q r h j
     → Answers (answer_lines f input More) (stop_unless r InputTooLong) h j
-too_long_answers f input whole q h j (Ok u) long e x = answers_too_long f input whole q h j long e x
-too_long_answers f input whole q h j (Err stop) long e x = answers_stopped f input whole q stop h j e x
+too_long_answers f input whole q h j (Ok u) long e x = answers_too_long _ _ _ _ _ _ long e x
+too_long_answers f input whole q h j (Err stop) long e x = answers_stopped _ _ _ q _ _ _ e x
 
 stop_is_not_done : (f : LineAnswers) (bytes : List ℕ) (q : Progress) (h j : AnswerState) (stop : Stop)
     → TakesBytes f [] bytes 1 q (Err stop) h j → stop ≡ Done → ⊥
@@ -268,9 +268,9 @@ pub text_stopped : (f : LineAnswers) (text : List ℕ) (p q : Progress) (stop : 
     → ((front : List ℕ) → IsFed p.reader front → TakesBytes f front text p.line q (Err stop) h j)
     → Answers (answer_lines f text End) stop h j
 text_stopped f text p q stop h j fits reader line takes =
-    stopped_answers f text End (ended_lines [] text ++ line_with_bytes (last_part [] text)) stop h j (all_lines text fits)
-    (stopped_front f 1 (ended_lines [] text) (line_with_bytes (last_part [] text)) stop h j
-    (text_taken f text p q (Err stop) h j reader line takes))
+    stopped_answers f _ End _ _ h j (all_lines _ fits)
+    (stopped_front _ _ (ended_lines [] text) (line_with_bytes (last_part [] text)) _ h j
+    (text_taken f text _ q (Err stop) h j reader line takes))
 
 pub text_done : (f : LineAnswers) (text : List ℕ) (p q : Progress) (r : Result (Unit {0}) Stop) (stop : Stop) (h i j : AnswerState)
     → length text ≤ limit → IsFed p.reader [] → p.line ≡ 1

@@ -32,7 +32,7 @@ cut_after front [] h = record {
   whole = sym (append-nil front);
 }
 cut_after front (b ∷ bs) h =
-    cut_step (b == 10) front bs b refl h (cut_after [] bs (All-nil (λ n. n ≢ 10))) (λ k. cut_after (front ++ b ∷ []) bs k)
+    cut_step _ _ _ _ refl h (cut_after [] bs (All-nil (λ n. n ≢ 10))) (λ k. cut_after (front ++ b ∷ []) bs k)
 
 pub text_is_cut : TextIsCut
 text_is_cut text = cut_after [] text (All-nil (λ n. n ≢ 10))
@@ -93,6 +93,6 @@ last_again (line ∷ lines) last h k =
 
 pub one_cut : OneCut
 one_cut text lines last p = (
-  sym (lines_again lines last p.unbroken_lines p.unbroken_last) ∙ ap (λ t. ended_lines [] t) p.whole,
-  sym (last_again lines last p.unbroken_lines p.unbroken_last) ∙ ap (λ t. last_part [] t) p.whole,
+  sym (lines_again _ _ p.unbroken_lines p.unbroken_last) ∙ ap (λ t. ended_lines [] t) p.whole,
+  sym (last_again _ _ p.unbroken_lines p.unbroken_last) ∙ ap (λ t. last_part [] t) p.whole,
 )

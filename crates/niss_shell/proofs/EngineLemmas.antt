@@ -107,16 +107,16 @@ still_open front byte e = other_last _ _ _ e
 
 pub answered_none : (f : LineAnswers) (n : ℕ) (out : AnswerState) → has_fault out.target ≡ false → AllAnswered f n [] out out
 unfolding first_fault answered_lines
-answered_none f n out works = record { faultless = refl; writes = writes_as refl refl (omega arith) (writes_nothing out works) }
+answered_none f n out works = record { faultless = refl; writes = writes_as refl refl (omega arith) (writes_nothing _ works) }
 
 pub takes_other_byte : (f : LineAnswers) (front : List ℕ) (byte n : ℕ) (q : Progress) (out : AnswerState) (u : Unit {0})
     → (byte == 10) ≡ false → IsFed q.reader (front ++ byte ∷ []) → q.line ≡ n → has_fault out.target ≡ false
     → TakesBytes f front (byte ∷ []) n q (Ok u) out out
 takes_other_byte f front byte n q out u e reader line works = (
-  subst (λ ls. AllAnswered f n ls out out) (sym (no_line_ended front byte e)) (answered_none f n out works),
+  subst (λ ls. AllAnswered f n ls out out) (sym (no_line_ended _ _ e)) (answered_none _ _ _ works),
   record {
-    reader = subst (λ v. IsFed q.reader v) (sym (still_open front byte e)) reader;
-    line = let none : length (ended_lines front (byte ∷ [])) ≡ 0 = ap length (no_line_ended front byte e) in omega (arith, line, none);
+    reader = subst (λ v. IsFed q.reader v) (sym (still_open _ _ e)) reader;
+    line = let none : length (ended_lines front (byte ∷ [])) ≡ 0 = ap length (no_line_ended _ _ e) in omega (arith, line, none);
   },
 )
 
@@ -124,34 +124,34 @@ takes_other_byte f front byte n q out u e reader line works = (
 
 module _ {f : LineAnswers} {n : ℕ} {xs : List (List ℕ)} {a b : AnswerState} (p : AllAnswered f n xs a b) (ys : List (List ℕ)) (c : AnswerState) where
   answered : answered_lines f.answer_of (xs ++ ys) ≡ answered_lines f.answer_of xs ++ answered_lines f.answer_of ys
-  answered = answered_lines-append f.answer_of n xs ys p.faultless
+  answered = answered_lines-append _ _ _ _ p.faultless
 
   written_more : WritesAnswers f ys b c → WritesAnswers f (xs ++ ys) a c
   written_more q = subst (λ ls. WritesLines f ls a c) (sym answered)
-      (lines_written f (answered_lines f.answer_of xs) (answered_lines f.answer_of ys) p.writes q)
+      (lines_written f _ _ p.writes q)
 
   -- the first fault of the lines after it is the first of all
   later_fault : (m : ℕ) → m ≡ n + length xs → first_fault f.answer_of n (xs ++ ys) ≡ first_fault f.answer_of m ys
-  later_fault m e = first_fault-append f.answer_of n xs ys p.faultless ∙ ap (λ k. first_fault f.answer_of k ys) (sym e)
+  later_fault m e = first_fault-append _ _ _ _ p.faultless ∙ ap (λ k. first_fault f.answer_of k ys) (sym e)
 
   pub answered_more : (m : ℕ) → m ≡ n + length xs → AllAnswered f m ys b c → AllAnswered f n (xs ++ ys) a c
-  answered_more m e q = record { faultless = later_fault m e ∙ q.faultless; writes = written_more q.writes }
+  answered_more m e q = record { faultless = later_fault _ e ∙ q.faultless; writes = written_more q.writes }
 
   pub stopped_more : (m : ℕ) (stop : Stop) → m ≡ n + length xs → StopsWithin f m ys stop b c → StopsWithin f n (xs ++ ys) stop a c
   stopped_more m CannotWrite e q = subst (λ ls. RefusesLines f ls a c) (sym answered)
-      (lines_refused f (answered_lines f.answer_of xs) (answered_lines f.answer_of ys) p.writes q)
-  stopped_more m (Line at fault) e q = record { first = later_fault m e ∙ q.first; writes = written_more q.writes }
+      (lines_refused f _ _ p.writes q)
+  stopped_more m (Line at fault) e q = record { first = later_fault _ e ∙ q.first; writes = written_more q.writes }
   stopped_more m _ e q = absurd q
 
 -- lines after the one that stopped the run change nothing
 pub stopped_front : (f : LineAnswers) (n : ℕ) (xs ys : List (List ℕ)) (stop : Stop) (a c : AnswerState)
     → StopsWithin f n xs stop a c → StopsWithin f n (xs ++ ys) stop a c
 stopped_front f n xs ys CannotWrite a c q =
-    let rest = answered_lines-front f.answer_of xs ys in
-    subst (λ ls. RefusesLines f ls a c) rest.1 (lines_cut f (answered_lines f.answer_of xs) rest.0 q)
+    let rest = answered_lines-front _ _ _ in
+    subst (λ ls. RefusesLines f ls a c) rest.1 (lines_cut f _ _ q)
 stopped_front f n xs ys (Line at fault) a c q = record {
-  first = first_fault-stays f.answer_of n xs ys (at, fault) q.first;
-  writes = subst (λ ls. WritesLines f ls a c) (sym (answered_lines-stays f.answer_of n xs ys (at, fault) q.first)) q.writes;
+  first = first_fault-stays _ _ _ _ _ q.first;
+  writes = subst (λ ls. WritesLines f ls a c) (sym (answered_lines-stays _ _ _ _ _ q.first)) q.writes;
 }
 stopped_front f n xs ys _ a c q = absurd q
 
@@ -179,18 +179,18 @@ pub takes_more : (f : LineAnswers) (front xs ys : List ℕ) (n : ℕ) (q r : Pro
     → TakesBytes f front xs n q (Ok u) a b → TakesBytes f (last_part front xs) ys q.line r result b c
     → TakesBytes f front (xs ++ ys) n r result a c
 takes_more f front xs ys n q r u (Ok v) a b c x y = (
-  subst (λ ls. AllAnswered f n ls a c) (sym (ended_lines-append front xs ys))
+  subst (λ ls. AllAnswered f n ls a c) (sym (ended_lines-append _ _ _))
       (answered_more x.0 (ended_lines (last_part front xs) ys) c q.line x.1.line y.0),
   record {
-    reader = subst (λ v. IsFed r.reader v) (sym (last_part-append front xs ys)) y.1.reader;
+    reader = subst (λ v. IsFed r.reader v) (sym (last_part-append _ _ _)) y.1.reader;
     line = let e : length (ended_lines front (xs ++ ys)) ≡ length (ended_lines front xs) + length (ended_lines (last_part front xs) ys) =
-        ap length (ended_lines-append front xs ys) ∙ length-append (ended_lines front xs) (ended_lines (last_part front xs) ys)
+        ap length (ended_lines-append _ _ _) ∙ length-append (ended_lines front xs) (ended_lines (last_part front xs) ys)
         in omega (arith, e, x.1.line, y.1.line);
   },
 )
 takes_more f front xs ys n q r u (Err stop) a b c x y =
-    subst (λ ls. StopsWithin f n ls stop a c) (sym (ended_lines-append front xs ys))
-    (stopped_more x.0 (ended_lines (last_part front xs) ys) c q.line stop x.1.line y)
+    subst (λ ls. StopsWithin f n ls stop a c) (sym (ended_lines-append _ _ _))
+    (stopped_more x.0 _ c q.line stop x.1.line y)
 
 -- a run that was stopped within these bytes stays so, whatever comes after them
 pub takes_front : (f : LineAnswers) (front xs ys : List ℕ) (n : ℕ) (q : Progress) (stop : Stop) (a c : AnswerState)
@@ -221,10 +221,10 @@ pub takes_inside : (f : LineAnswers) (front xs : List ℕ) (n : ℕ) (q : Progre
     → HasNoLineFeed xs → IsFed q.reader (front ++ xs) → q.line ≡ n → has_fault out.target ≡ false
     → TakesBytes f front xs n q (Ok u) out out
 takes_inside f front xs n q out u h reader line works = (
-  subst (λ ls. AllAnswered f n ls out out) (sym (inside_ended front xs h)) (answered_none f n out works),
+  subst (λ ls. AllAnswered f n ls out out) (sym (inside_ended _ _ h)) (answered_none _ _ _ works),
   record {
-    reader = subst (λ v. IsFed q.reader v) (sym (inside_last front xs h)) reader;
-    line = let none : length (ended_lines front xs) ≡ 0 = ap length (inside_ended front xs h) in omega (arith, line, none);
+    reader = subst (λ v. IsFed q.reader v) (sym (inside_last _ _ h)) reader;
+    line = let none : length (ended_lines front xs) ≡ 0 = ap length (inside_ended _ _ h) in omega (arith, line, none);
   },
 )
 

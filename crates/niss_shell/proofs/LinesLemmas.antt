@@ -42,8 +42,8 @@ pub first_fault-append : {E : Type 0} (f : List ℕ → Result (List ℕ) E) (n 
 unfolding first_fault
 first_fault-append f n [] ys none = ap (λ k. first_fault f k ys) (omega arith)
 first_fault-append f n (l ∷ xs) ys none =
-    fault_ok_step (f l) n (first_fault f (n + 1) xs) (first_fault f (n + 1) (xs ++ ys)) (first_fault f (n + length (l ∷ xs)) ys) none
-    (first_fault-append f (n + 1) xs ys (first_fault-none_head (f l) n (first_fault f (n + 1) xs) none)
+    fault_ok_step _ _ _ _ _ none
+    (first_fault-append f (n + 1) xs ys (first_fault-none_head _ _ _ none)
     ∙ ap (λ k. first_fault f k ys) (omega arith))
 
 fault_some_step : {E : Type 0} (r : Result (List ℕ) E) (n : ℕ) (a b : Option (ℕ × E)) (e : ℕ × E)
@@ -56,7 +56,7 @@ pub first_fault-stays : {E : Type 0} (f : List ℕ → Result (List ℕ) E) (n :
 unfolding first_fault
 first_fault-stays f n [] ys e some = absurd (cc some)
 first_fault-stays f n (l ∷ xs) ys e some =
-    fault_some_step (f l) n (first_fault f (n + 1) xs) (first_fault f (n + 1) (xs ++ ys)) e (first_fault-stays f (n + 1) xs ys e) some
+    fault_some_step _ _ _ _ _ (first_fault-stays f (n + 1) xs ys e) some
 
 answered_ok_step : {E : Type 0} (r : Result (List ℕ) E) (n : ℕ) (a : Option (ℕ × E)) (line : List ℕ) (x y z : List (List ℕ))
     → fault_before r n a ≡ None → x ≡ y ++ z → lines_before r line x ≡ lines_before r line y ++ z
@@ -69,7 +69,7 @@ unfolding first_fault answered_lines
 answered_lines-append f n [] ys none = refl
 answered_lines-append f n (l ∷ xs) ys none =
     answered_ok_step _ _ _ _ _ _ _ none
-    (answered_lines-append f (n + 1) xs ys (first_fault-none_head (f l) n (first_fault f (n + 1) xs) none))
+    (answered_lines-append f (n + 1) xs ys (first_fault-none_head _ _ _ none))
 
 answered_some_step : {E : Type 0} (r : Result (List ℕ) E) (n : ℕ) (a : Option (ℕ × E)) (e : ℕ × E) (line : List ℕ) (x y : List (List ℕ))
     → (a ≡ Some e → x ≡ y) → fault_before r n a ≡ Some e → lines_before r line x ≡ lines_before r line y
@@ -87,8 +87,8 @@ answered_lines-stays f n (l ∷ xs) ys e some =
 -- what is answered of some lines is a beginning of what is answered of these and more
 pub answered_lines-front : {E : Type 0} (f : List ℕ → Result (List ℕ) E) (xs ys : List (List ℕ))
     → (rest : List (List ℕ)) × (answered_lines f xs ++ rest ≡ answered_lines f (xs ++ ys))
-answered_lines-front {E = E} f xs ys = by_fault (first_fault f 0 xs) refl
+answered_lines-front {E = E} f xs ys = by_fault _ refl
   where
     by_fault : (o : Option (ℕ × E)) → first_fault f 0 xs ≡ o → (rest : List (List ℕ)) × (answered_lines f xs ++ rest ≡ answered_lines f (xs ++ ys))
-    by_fault None e = (answered_lines f ys, sym (answered_lines-append f 0 xs ys e))
-    by_fault (Some fault) e = ([], append-nil (answered_lines f xs) ∙ sym (answered_lines-stays f 0 xs ys fault e))
+    by_fault None e = (answered_lines f ys, sym (answered_lines-append _ _ _ _ e))
+    by_fault (Some fault) e = ([], append-nil (answered_lines f xs) ∙ sym (answered_lines-stays _ _ _ _ _ e))

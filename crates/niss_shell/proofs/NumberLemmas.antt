@@ -47,7 +47,7 @@ number_too_large E most word (Err e) digits small parsed large =
 
 find_none : (name : List ℕ) (candidates : List Step) → ((step : Step) → name_of step ≢ name) → find (λ step. bytes_eq name (name_of step)) candidates ≡ None
 find_none name [] other = refl
-find_none name (step ∷ candidates) other = not_found (bytes_eq name (name_of step)) step candidates (search (rules, bytes_eq-Decides)) (find_none name candidates other)
+find_none name (step ∷ candidates) other = not_found _ _ _ (search (rules, bytes_eq-Decides)) (find_none name candidates other)
   where
     not_found : (b : Bool) (step : Step) (candidates : List Step) → b ≡ false → find (λ s. bytes_eq name (name_of s)) candidates ≡ None
         → (if b then Some step else find (λ s. bytes_eq name (name_of s)) candidates) ≡ None
@@ -55,4 +55,4 @@ find_none name (step ∷ candidates) other = not_found (bytes_eq name (name_of s
     not_found false step candidates e rest = rest
 
 pub step_unknown : (name : List ℕ) → ((step : Step) → name_of step ≢ name) → step_named name ≡ None
-step_unknown name other = find_none name steps other
+step_unknown name other = find_none _ steps other

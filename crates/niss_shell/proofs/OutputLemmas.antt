@@ -41,8 +41,8 @@ pub line_sent : {W : Type 0} (state : W → TargetState) (r : Result (Unit {0}) 
     (pending_state (state old.target.now) text looks) (output_state state new looks))
     → Delivers state r line old new
 line_sent state r line text old new e none then = λ works looks.
-    then_sent r line 0 0 (output_state state old looks) (pending_state (state old.target.now) text looks) (output_state state new looks)
-    (waits line old.pending.items text (state old.target.now) looks (e ∙ ap (λ p. p ++ line) (sym none)) works) (then works looks)
+    then_sent _ _ _ _ _ _ _
+    (waits _ _ _ _ _ (e ∙ ap (λ p. p ++ line) (sym none)) works) (then works looks)
 
 -- what is written of a search, by what it found
 pub same_count : (least found : Option ℕ) (count solutions nodes looks : ℕ) → least ≡ found → count ≡ solutions → nodes ≡ looks

@@ -54,7 +54,7 @@ lines_sent f n lines u a b c x q = record {
 
 pub takes_sent : (f : LineAnswers) (front bytes : List ℕ) (n : ℕ) (q : Progress) (u v : Unit {0}) (a b c : AnswerState)
     → TakesBytes f front bytes n q (Ok u) a b → Writes [] 0 0 b c → TakesBytes f front bytes n q (Ok v) a c
-takes_sent f front bytes n q u v a b c x w = (lines_sent f n (ended_lines front bytes) u a b c x.0 w, x.1)
+takes_sent f front bytes n q u v a b c x w = (lines_sent _ _ _ _ _ _ _ x.0 w, x.1)
 
 pub takes_unsent : (f : LineAnswers) (front bytes : List ℕ) (n : ℕ) (q : Progress) (u : Unit {0}) (e : DeviceFault) (a b c : AnswerState)
     → TakesBytes f front bytes n q (Ok u) a b → Refuses [] 0 0 b c → TakesBytes f front bytes n q (Err CannotWrite) a c

@@ -71,7 +71,7 @@ pub runs_source : (command : LineCommand) (ws : List (List ℕ)) (stop : Stop) (
 runs_source command [] stop a b h i e x = record {
   input = x.input;
   gave = x.gave;
-  ends = ends_of_answers (answer_lines (line_answers command) x.input (ending b)) (Ok (OnLines command [])) stop a b h i (no_stop_of_memory _ x.input (ending b)) x.answers;
+  ends = ends_of_answers (answer_lines (line_answers command) x.input (ending b)) (Ok (OnLines command [])) _ a b h i (no_stop_of_memory _ x.input (ending b)) x.answers;
   read_whole = λ d r. x.read_whole d;
 }
 runs_source command (w ∷ ws) stop a b h i e x = absurd (omega arith)
@@ -101,8 +101,8 @@ runs_too_long command (v ∷ ws) a h n works long = record {
   gave = gave_nothing a;
   ends =
       subst (λ x. EndsUnflushed InputTooLong x (Ok (OnLines command (v ∷ ws))) a a h h)
-      (sym (choose_true (nat_lt limit (length (joined (v ∷ ws)))) (unsearched [] InputTooLong) (answer_lines (line_answers command) (joined (v ∷ ws)) End) (long_test (length (joined (v ∷ ws))) long)))
-      (refl, writes_nothing h works);
+      (sym (choose_true _ _ _ (long_test _ long)))
+      (refl, writes_nothing _ works);
   read_whole = λ d r. absurd (cc r);
 }
 
@@ -156,7 +156,7 @@ pub from_text : (command given : LineCommand) (ws : List (List ℕ)) (text piece
     → Answers (answer_lines (line_answers given) piece End) stop k j
     → RunsUnflushed (Ok (OnLines command ws)) stop a a h i
 from_text command given ws text piece stop a h k i j e f g same some whole fits x =
-    runs_text command ws text stop a h i some whole fits
+    runs_text _ _ _ _ _ _ _ some whole fits
     (subst (λ v. Answers (answer_lines (line_answers v) text End) stop h i) e
     (subst (λ t. Answers (answer_lines (line_answers given) t End) stop h i) same
     (subst (λ s. Answers (answer_lines (line_answers given) piece End) stop s i) f
@@ -216,11 +216,11 @@ ends_done : (a : Answer) (asked : Result Request UsageFault) (d e : Devices) (h 
     → FlushesAs i.target e.output f
     → Ends (flushed_stop Done f) a asked d e
 ends_done a asked d e h i true at none none_now w whole flush = record {
-  refused = fault_after i.target e.output true w.1.works flush.write_failed flush.flush_failed;
+  refused = fault_after i.target e.output _ w.1.works flush.write_failed flush.flush_failed;
   text = a.output;
   rest = [];
   beginning = append-nil a.output;
-  written = appended_then d.output i.target e.output a.output w.1.works (subst (λ t. Appended t i.target a.output) at (all_sent a.output h i none none_now w.1.written)) flush.bytes;
+  written = appended_then d.output i.target e.output a.output w.1.works (subst (λ t. Appended t i.target a.output) at (all_sent _ _ _ none none_now w.1.written)) flush.bytes;
   cut = λ bad. absurd (cc (bad, flush.write_failed ∙ no_write_fault i.target w.1.works));
   whole = λ good. refl;
   last = λ good. record { good = sym w.0; read_whole = whole };
@@ -228,8 +228,8 @@ ends_done a asked d e h i true at none none_now w whole flush = record {
 }
 ends_done a asked d e h i false at none none_now w whole flush = record {
   ends = record { good = sym w.0; read_whole = whole };
-  works = fault_after i.target e.output false w.1.works flush.write_failed flush.flush_failed;
-  written = appended_then d.output i.target e.output a.output w.1.works (subst (λ t. Appended t i.target a.output) at (all_sent a.output h i none none_now w.1.written)) flush.bytes;
+  works = fault_after i.target e.output _ w.1.works flush.write_failed flush.flush_failed;
+  written = appended_then d.output i.target e.output a.output w.1.works (subst (λ t. Appended t i.target a.output) at (all_sent _ _ _ none none_now w.1.written)) flush.bytes;
   flushed = flush.flushed;
 }
 
@@ -238,7 +238,7 @@ ends_by_fault : (a : Answer) (d e : Devices) (h i : AnswerState) (stop : Stop) (
     → EndsByFault stop a d e
 ends_by_fault a d e h i stop f at none none_now w flush = record {
   fault = sym w.0;
-  written = appended_then d.output i.target e.output a.output w.1.works (subst (λ t. Appended t i.target a.output) at (all_sent a.output h i none none_now w.1.written)) flush.bytes;
+  written = appended_then d.output i.target e.output a.output w.1.works (subst (λ t. Appended t i.target a.output) at (all_sent _ _ _ none none_now w.1.written)) flush.bytes;
   unrefused = flush.write_failed ∙ no_write_fault i.target w.1.works;
 }
 
@@ -265,15 +265,15 @@ ends_flushed : (a : Answer) (asked : Result Request UsageFault) (stop : Stop) (d
     → h.target ≡ d.output → h.pending ≡ [] → i.pending ≡ [] → EndsUnflushed stop a asked d.source e.source h i → (stop ≡ Done → reads_source asked ≡ true → e.source.has_ended ≡ true)
     → FlushesAs i.target e.output f
     → Ends (flushed_stop stop f) a asked d e
-ends_flushed a asked Done d e h i f at none none_now w whole flush = ends_done a asked d e h i f at none none_now w (whole refl) flush
-ends_flushed a asked CannotWrite d e h i f at none none_now w whole flush = ends_refused a asked d e h i f at none w flush
+ends_flushed a asked Done d e h i f at none none_now w whole flush = ends_done _ _ _ _ _ _ _ at none none_now w (whole refl) flush
+ends_flushed a asked CannotWrite d e h i f at none none_now w whole flush = ends_refused _ _ _ _ _ _ _ at none w flush
 ends_flushed a asked OutOfMemory d e h i f at none none_now w whole flush = record {
   asks = w.0;
   unread = w.1;
   nothing = appended_then d.output i.target e.output [] w.2.works (subst (λ t. Appended t i.target []) at (all_sent [] h i none none_now w.2.written)) flush.bytes;
   unrefused = flush.write_failed ∙ no_write_fault i.target w.2.works;
 }
-ends_flushed a asked stop d e h i f at none none_now w whole flush = ends_by_fault a d e h i stop f at none none_now w flush
+ends_flushed a asked stop d e h i f at none none_now w whole flush = ends_by_fault _ _ _ _ _ _ _ at none none_now w flush
 
 -- the looks
 
@@ -321,25 +321,25 @@ not_flushed c f false e h = h ∙ sym (ap not e)
 -- no flush before the last one was refused
 pub one_flush : (asked : Result Request UsageFault) (stop stop_now : Stop) (a b : SourceState) (h i : AnswerState) (j : TargetState)
     → has_fault h.target ≡ false → RunsUnflushed asked stop a b h i → FlushesLast stop stop_now i.target j → j.flush_failed ≡ not j.is_flushed
-one_flush asked stop stop_now a b h i j works x flush = not_flushed j.is_flushed j.flush_failed flush.refused flush.flushed
-    (flush.flush_failed ∙ ap (λ v. v || flush.refused) (flushes_worked _ asked stop a b h i works x.ends))
+one_flush asked stop stop_now a b h i j works x flush = not_flushed _ _ _ flush.flushed
+    (flush.flush_failed ∙ ap (λ v. v || flush.refused) (flushes_worked _ _ _ _ _ _ _ works x.ends))
 
 pub runs_flushed : (words : List (List ℕ)) (status : ℕ) (stop stop_now : Stop) (a b : SourceState) (h i j : TargetState) (p q : List ℕ) (k l : TargetState) (looks looks_now : ℕ)
     → p ≡ [] → q ≡ [] → RunsUnflushed (request_of words) stop a b (pending_state h p looks) (pending_state i q looks_now) → FlushesLast stop stop_now i j
     → ReportsError (error_text stop_now) k l → status ≡ status_of stop_now
     → Runs words (devices a h k) (devices b j l) looks looks_now status
 runs_flushed words status stop stop_now a b h i j p q k l looks looks_now none none_now x flush reports answers =
-    let how = flushes_as stop stop_now i j flush in
+    let how = flushes_as stop stop_now _ _ flush in
     record {
       input = x.input;
       gave = x.gave;
       stop = stop_now;
       ends = subst (λ v. Ends v (out_of words x.input b) (request_of words) (devices a h k) (devices b j l)) (sym flush.stop_is)
-          (ends_flushed (out_of words x.input b) (request_of words) stop (devices a h k) (devices b j l) (pending_state h p looks) (pending_state i q looks_now) flush.refused
+          (ends_flushed _ _ _ _ _ _ _ _
           refl none none_now x.ends x.read_whole how);
       looked = subst (λ v. Looked v j.write_failed (out_of words x.input b).looks looks looks_now) (sym flush.stop_is)
-          (looked_flushed (out_of words x.input b) (request_of words) stop a b (pending_state h p looks) (pending_state i q looks_now) j flush.refused x.ends how);
-      within_bound = bounded_looks (out_of words x.input b) (request_of words) stop a b (pending_state h p looks) (pending_state i q looks_now) x.ends;
+          (looked_flushed _ _ _ _ _ _ _ _ _ x.ends how);
+      within_bound = bounded_looks _ _ _ _ _ _ _ x.ends;
       reports = reports;
       answers = answers;
     }

@@ -24,7 +24,7 @@ state_after-add w k p (suc m) n s =
 pub after_scramble : (turns i : ℕ) (g : Lcg) → after_words turns (after_words (turns * i) g) ≡ after_words (turns * (i + 1)) g
 after_scramble turns i g =
     let e : turns * i + turns ≡ turns * (i + 1) = omega arith in
-    ap (λ s. record g { state = s }) (state_after-add 64 multiplier_64 g.increment (turns * i) turns g.state) ∙ ap (λ n. after_words n g) e
+    ap (λ s. record g { state = s }) (state_after-add _ _ _ _ _ _) ∙ ap (λ n. after_words n g) e
 
 -- the line of the next scramble
 pub line_of_next : (turns i : ℕ) (g rng : Lcg) → rng ≡ after_words (turns * i) g → turns_line (draw None (next_words turns rng)) ≡ turns_line (scramble turns g i)
@@ -53,13 +53,13 @@ text_front turns i count g h =
 -- what an output takes of it
 
 pub none_written : (turns : ℕ) (g : Lcg) (a : AnswerState) → has_fault a.target ≡ false → Writes (scramble_text turns 0 g) 0 0 a a
-none_written turns g a works = writes_nothing a works
+none_written turns g a works = writes_nothing _ works
 
 pub written_more : (turns i : ℕ) (g : Lcg) (line : List ℕ) (a b c : AnswerState)
     → line ≡ turns_line (scramble turns g i) → Writes (scramble_text turns i g) 0 0 a b → Writes line 0 0 b c
     → Writes (scramble_text turns (i + 1) g) 0 0 a c
 written_more turns i g line a b c e p q =
-    writes_as (ap (λ l. scramble_text turns i g ++ l) e ∙ sym (text_more turns i g)) refl refl (writes_more p q)
+    writes_as (ap (λ l. scramble_text turns i g ++ l) e ∙ sym (text_more _ _ _)) refl refl (writes_more p q)
 
 pub all_written : (turns i count : ℕ) (g : Lcg) (a b : AnswerState) → i ≡ count
     → Writes (scramble_text turns i g) 0 0 a b → Writes (scramble_text turns count g) 0 0 a b
@@ -72,4 +72,4 @@ refused_line turns i count g line a b c h e p q =
     let rest = flat_map turns_line (drop (i + 1) (scrambles turns count g)) in
     refuses_as
     (ap (λ l. (scramble_text turns i g ++ l) ++ rest) e ∙ ap (λ t. t ++ rest) (sym (text_more turns i g)) ∙ text_front turns (i + 1) count g (omega arith)) refl refl
-    (refuses_front rest (omega arith) (omega arith) (refuses_more p q))
+    (refuses_front _ (omega arith) (omega arith) (refuses_more p q))

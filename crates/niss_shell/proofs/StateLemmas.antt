@@ -73,7 +73,7 @@ pub refuses_more : {x y : List ℕ} {l m k n : ℕ} {a b c : AnswerState} → Wr
 refuses_more {x = x} {y = y} {a = a} {b = b} {c = c} p q = record {
   refused = subst (λ t. WriteRefused t a.target c.target)
       (sym (append_assoc p.written.sent b.pending y) ∙ ap (λ v. v ++ y) p.written.whole ∙ append_assoc a.pending x y)
-      (refused_more p.written.sent (b.pending ++ y) a.target b.target c.target p.works p.written.appended q.refused);
+      (refused_more _ _ _ _ _ p.works p.written.appended q.refused);
   rises = omega (arith, p.looked, q.rises);
   looked = omega (arith, p.looked, q.looked);
   bounded = omega (arith, p.bounded, q.bounded);
