@@ -6,8 +6,8 @@ use Rattle.std.proofs.lemmas.List.Elements.{All-nil, All-cons, All-head, All-tai
 use Rattle.niss_shell.specs.Lines.{ended_lines, last_part}
 use Rattle.niss_shell.specs.LinesLaws.{HasNoLineFeed, line_to_feed, IsCutInto, TextIsCut, OneCut}
 
-no_feed_after : (b : ℕ) → (b == 10) ≡ false → b ≢ 10
-no_feed_after b e h = cc (e, ap (λ n. n == 10) h)
+no_feed_after : {b : ℕ} → (b == 10) ≡ false → b ≢ 10
+no_feed_after e h = cc (e, ap (λ n. n == 10) h)
 
 -- the first line ends, or goes on
 cut_step : (c : Bool) (front bs : List ℕ) (b : ℕ) → (b == 10) ≡ c → HasNoLineFeed front
@@ -22,7 +22,7 @@ cut_step true front bs b e h p q = record {
 }
 cut_step false front bs b e h p q =
     subst (λ t. IsCutInto t (ended_lines (front ++ b ∷ []) bs) (last_part (front ++ b ∷ []) bs)) (append_assoc front (b ∷ []) bs)
-    (q (All-push (λ n. n ≢ 10) front b h (no_feed_after _ e)))
+    (q (All-push (λ n. n ≢ 10) front b h (no_feed_after e)))
 
 cut_after : (front bs : List ℕ) → HasNoLineFeed front → IsCutInto (front ++ bs) (ended_lines front bs) (last_part front bs)
 unfolding ended_lines last_part

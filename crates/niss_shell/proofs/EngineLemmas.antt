@@ -38,20 +38,20 @@ unfolding answered_lines
 no_line f front fault old new e p =
     subst (λ r. WritesLines f (lines_before r front []) old new) (sym e) (writes_as refl refl (omega arith) p)
 
-no_refused : (f : LineAnswers) (front : List ℕ) (fault : LineFault) (old new : AnswerState) → f.answer_of front ≡ Err fault
+no_refused : (f : LineAnswers) (front : List ℕ) {fault : LineFault} (old new : AnswerState) → f.answer_of front ≡ Err fault
     → Refuses [] 0 0 old new → RefusesAnswers f (front ∷ []) old new
 unfolding answered_lines
-no_refused f front fault old new e p =
+no_refused f front old new e p =
     subst (λ r. RefusesLines f (lines_before r front []) old new) (sym e) (refuses_as refl refl (omega arith) p)
 
-pub answered_line : (f : LineAnswers) (n : ℕ) (front : List ℕ) (r : Result (List ℕ) LineFault) (u : Unit {0}) (old new : AnswerState)
+pub answered_line : {f : LineAnswers} (n : ℕ) {front : List ℕ} (r : Result (List ℕ) LineFault) {u : Unit {0}} {old new : AnswerState}
     → f.answer_of front ≡ r → AnswersLine r (f.looks_of front) f.most_looks n (Ok u) old new → AllAnswered f n (front ∷ []) old new
 unfolding first_fault
-answered_line f n front (Ok text) u old new e p = record {
+answered_line n (Ok text) e p = record {
   faultless = ap (λ r. fault_before r n None) e;
   writes = one_line _ _ _ _ _ e p;
 }
-answered_line f n front (Err fault) u old new e p = absurd p
+answered_line n (Err fault) e p = absurd p
 
 pub stopped_line : (f : LineAnswers) (n : ℕ) (front : List ℕ) (r : Result (List ℕ) LineFault) (stop : Stop) (old new : AnswerState)
     → f.answer_of front ≡ r → AnswersLine r (f.looks_of front) f.most_looks n (Err stop) old new → StopsWithin f n (front ∷ []) stop old new
@@ -62,7 +62,7 @@ stopped_line f n front (Err fault) stop old new e (inl p) =
     subst (λ s. StopsWithin f n (front ∷ []) s old new) (sym p.0)
     (record { first = ap (λ r. fault_before r n None) e; writes = no_line _ _ _ _ _ e p.1 })
 stopped_line f n front (Err fault) stop old new e (inr p) =
-    subst (λ s. StopsWithin f n (front ∷ []) s old new) (sym p.0) (no_refused _ _ _ _ _ e p.1)
+    subst (λ s. StopsWithin f n (front ∷ []) s old new) (sym p.0) (no_refused _ _ _ _ e p.1)
 
 -- a line feed
 takes_line_feed : (f : LineAnswers) (front : List ℕ) (n : ℕ) (q : Progress) (result : Result (Unit {0}) Stop) (old new : AnswerState)
@@ -71,18 +71,18 @@ takes_line_feed : (f : LineAnswers) (front : List ℕ) (n : ℕ) (q : Progress) 
     → TakesBytes f front (10 ∷ []) n q result old new
 unfolding ended_lines last_part
 takes_line_feed f front n q (Ok u) old new answers reader line = (
-  answered_line _ _ _ _ _ _ _ refl answers,
+  answered_line _ _ refl answers,
   record { reader = reader; line = line },
 )
 takes_line_feed f front n q (Err stop) old new answers reader line =
     stopped_line _ _ _ _ _ _ _ refl answers
 
-pub takes_end_of_line : (f : LineAnswers) (front : List ℕ) (byte n : ℕ) (q : Progress) (result : Result (Unit {0}) Stop) (old new : AnswerState)
+pub takes_end_of_line : (f : LineAnswers) (front : List ℕ) {byte : ℕ} (n : ℕ) (q : Progress) (result : Result (Unit {0}) Stop) (old new : AnswerState)
     → byte ≡ 10
     → AnswersBytes f front n result old new
     → OnOk result (IsFed q.reader []) → OnOk result (q.line ≡ n + 1)
     → TakesBytes f front (byte ∷ []) n q result old new
-takes_end_of_line f front byte n q result old new e answers reader line =
+takes_end_of_line f front n q result old new e answers reader line =
     subst (λ b. TakesBytes f front (b ∷ []) n q result old new) (sym e)
     (takes_line_feed _ _ _ _ _ _ _ answers reader line)
 
@@ -105,15 +105,15 @@ still_open : (front : List ℕ) (byte : ℕ) → (byte == 10) ≡ false → last
 unfolding last_part
 still_open front byte e = other_last _ _ _ e
 
-pub answered_none : (f : LineAnswers) (n : ℕ) (out : AnswerState) → has_fault out.target ≡ false → AllAnswered f n [] out out
+pub answered_none : {f : LineAnswers} {n : ℕ} {out : AnswerState} → has_fault out.target ≡ false → AllAnswered f n [] out out
 unfolding first_fault answered_lines
-answered_none f n out works = record { faultless = refl; writes = writes_as refl refl (omega arith) (writes_nothing _ works) }
+answered_none works = record { faultless = refl; writes = writes_as refl refl (omega arith) (writes_nothing _ works) }
 
-pub takes_other_byte : (f : LineAnswers) (front : List ℕ) (byte n : ℕ) (q : Progress) (out : AnswerState) (u : Unit {0})
+pub takes_other_byte : (f : LineAnswers) (front : List ℕ) (byte n : ℕ) (q : Progress) (out : AnswerState) {u : Unit {0}}
     → (byte == 10) ≡ false → IsFed q.reader (front ++ byte ∷ []) → q.line ≡ n → has_fault out.target ≡ false
     → TakesBytes f front (byte ∷ []) n q (Ok u) out out
-takes_other_byte f front byte n q out u e reader line works = (
-  subst (λ ls. AllAnswered f n ls out out) (sym (no_line_ended _ _ e)) (answered_none _ _ _ works),
+takes_other_byte f front byte n q out e reader line works = (
+  subst (λ ls. AllAnswered f n ls out out) (sym (no_line_ended _ _ e)) (answered_none works),
   record {
     reader = subst (λ v. IsFed q.reader v) (sym (still_open _ _ e)) reader;
     line = let none : length (ended_lines front (byte ∷ [])) ≡ 0 = ap length (no_line_ended _ _ e) in omega (arith, line, none);
@@ -131,16 +131,16 @@ module _ {f : LineAnswers} {n : ℕ} {xs : List (List ℕ)} {a b : AnswerState} 
       (lines_written f _ _ p.writes q)
 
   -- the first fault of the lines after it is the first of all
-  later_fault : (m : ℕ) → m ≡ n + length xs → first_fault f.answer_of n (xs ++ ys) ≡ first_fault f.answer_of m ys
-  later_fault m e = first_fault-append _ _ _ _ p.faultless ∙ ap (λ k. first_fault f.answer_of k ys) (sym e)
+  later_fault : {m : ℕ} → m ≡ n + length xs → first_fault f.answer_of n (xs ++ ys) ≡ first_fault f.answer_of m ys
+  later_fault e = first_fault-append _ _ _ _ p.faultless ∙ ap (λ k. first_fault f.answer_of k ys) (sym e)
 
   pub answered_more : (m : ℕ) → m ≡ n + length xs → AllAnswered f m ys b c → AllAnswered f n (xs ++ ys) a c
-  answered_more m e q = record { faultless = later_fault _ e ∙ q.faultless; writes = written_more q.writes }
+  answered_more m e q = record { faultless = later_fault e ∙ q.faultless; writes = written_more q.writes }
 
   pub stopped_more : (m : ℕ) (stop : Stop) → m ≡ n + length xs → StopsWithin f m ys stop b c → StopsWithin f n (xs ++ ys) stop a c
   stopped_more m CannotWrite e q = subst (λ ls. RefusesLines f ls a c) (sym answered)
       (lines_refused f _ _ p.writes q)
-  stopped_more m (Line at fault) e q = record { first = later_fault _ e ∙ q.first; writes = written_more q.writes }
+  stopped_more m (Line at fault) e q = record { first = later_fault e ∙ q.first; writes = written_more q.writes }
   stopped_more m _ e q = absurd q
 
 -- lines after the one that stopped the run change nothing
@@ -161,16 +161,16 @@ none_ended : (front : List ℕ) → ended_lines front [] ≡ []
 unfolding ended_lines
 none_ended front = refl
 
-all_open : (front : List ℕ) → last_part front [] ≡ front
+all_open : {front : List ℕ} → last_part front [] ≡ front
 unfolding last_part
-all_open front = refl
+all_open = refl
 
 pub takes_none : (f : LineAnswers) (front : List ℕ) (n : ℕ) (p : Progress) (out : AnswerState) (u : Unit {0})
     → IsFed p.reader front → p.line ≡ n → has_fault out.target ≡ false → TakesBytes f front [] n p (Ok u) out out
 takes_none f front n p out u at line works = (
-  subst (λ ls. AllAnswered f n ls out out) (sym (none_ended _)) (answered_none _ _ _ works),
+  subst (λ ls. AllAnswered f n ls out out) (sym (none_ended _)) (answered_none works),
   record {
-    reader = subst (λ v. IsFed p.reader v) (sym (all_open _)) at;
+    reader = subst (λ v. IsFed p.reader v) (sym (all_open)) at;
     line = let e : length (ended_lines front []) ≡ 0 = ap length (none_ended _) in omega (arith, line, e);
   },
 )
@@ -221,7 +221,7 @@ pub takes_inside : (f : LineAnswers) (front xs : List ℕ) (n : ℕ) (q : Progre
     → HasNoLineFeed xs → IsFed q.reader (front ++ xs) → q.line ≡ n → has_fault out.target ≡ false
     → TakesBytes f front xs n q (Ok u) out out
 takes_inside f front xs n q out u h reader line works = (
-  subst (λ ls. AllAnswered f n ls out out) (sym (inside_ended _ _ h)) (answered_none _ _ _ works),
+  subst (λ ls. AllAnswered f n ls out out) (sym (inside_ended _ _ h)) (answered_none works),
   record {
     reader = subst (λ v. IsFed q.reader v) (sym (inside_last _ _ h)) reader;
     line = let none : length (ended_lines front xs) ≡ 0 = ap length (inside_ended _ _ h) in omega (arith, line, none);
@@ -240,19 +240,19 @@ pub first_piece : (f : LineAnswers) (front bytes : List ℕ) (n : ℕ) (q : Prog
 first_piece f front bytes n q r a b h x = subst (λ (xs : List ℕ). TakesBytes f front xs n q r a b) (sym (take_more bytes 0 0 h)) x
 
 -- one piece of a block more
-pub takes_piece : (f : LineAnswers) (front bytes rest : List ℕ) (i k n : ℕ) (q r : Progress) (u : Unit {0}) (result : Result (Unit {0}) Stop) (a b c : AnswerState)
+pub takes_piece : (f : LineAnswers) (front bytes : List ℕ) {rest : List ℕ} (i k n : ℕ) {q : Progress} (r : Progress) {u : Unit {0}} (result : Result (Unit {0}) Stop) (a : AnswerState) {b : AnswerState} (c : AnswerState)
     → rest ≡ drop i bytes
     → TakesBytes f front (take i bytes) n q (Ok u) a b
     → ((open_line : List ℕ) → IsFed q.reader open_line → TakesBytes f open_line (take k rest) q.line r result b c)
     → TakesBytes f front (take (i + k) bytes) n r result a c
-takes_piece f front bytes rest i k n q r u result a b c e x y =
+takes_piece f front bytes i k n r result a c e x y =
     subst (λ xs. TakesBytes f front xs n r result a c) (ap (λ t. take i bytes ++ take k t) e ∙ sym (take-add i k bytes))
     (takes_more _ _ _ _ _ _ _ _ _ _ _ _ x (y (last_part front (take i bytes)) x.1.reader))
 
 pub rest_is : (bytes : List ℕ) (i : ℕ) → between i (length bytes) bytes ≡ drop i bytes
 rest_is bytes i = between_to_end bytes i (length bytes) (omega arith)
 
-pub piece_within : (bytes : List ℕ) (i k : ℕ) → i < length bytes → k ≤ length (between i (length bytes) bytes) → i + k ≤ length bytes
-piece_within bytes i k h l =
+pub piece_within : (bytes : List ℕ) (i : ℕ) {k : ℕ} → i < length bytes → k ≤ length (between i (length bytes) bytes) → i + k ≤ length bytes
+piece_within bytes i h l =
     let e : length (between i (length bytes) bytes) ≡ length (drop i bytes) = ap length (rest_is bytes i) in
     omega (arith, e, length-drop i bytes)

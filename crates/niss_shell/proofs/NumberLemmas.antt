@@ -25,8 +25,8 @@ no_number_by v true false c h = refl
 no_number_by v true true false h = refl
 no_number_by v true true true h = absurd (h refl refl)
 
-below_tested : (n m : ℕ) → nat_lt n m ≡ true → n < m
-below_tested n m h = grind (arith, common_steps)
+below_tested : {n m : ℕ} → nat_lt n m ≡ true → n < m
+below_tested h = grind (arith, common_steps)
 
 most_tested : (n m : ℕ) → nat_le n m ≡ true → n ≤ m
 most_tested n m h = grind (arith, common_steps)
@@ -41,7 +41,7 @@ number_too_large E most word (Ok n) digits small parsed large =
 number_too_large E most word (Err e) digits small parsed large =
     let p = parse_digits digits_model {E = E} 64 word (Err e) parsed digits in
     no_number_by _ _ _ _
-    (λ some fits. p (below_tested _ _ some, omega (arith, small, most_tested _ _ fits)))
+    (λ some fits. p (below_tested some, omega (arith, small, most_tested _ _ fits)))
 
 -- steps
 
@@ -54,5 +54,5 @@ find_none name (step ∷ candidates) other = not_found _ _ _ (search (rules, byt
     not_found true step candidates e rest = absurd (cc e)
     not_found false step candidates e rest = rest
 
-pub step_unknown : (name : List ℕ) → ((step : Step) → name_of step ≢ name) → step_named name ≡ None
-step_unknown name other = find_none _ steps other
+pub step_unknown : {name : List ℕ} → ((step : Step) → name_of step ≢ name) → step_named name ≡ None
+step_unknown other = find_none _ steps other

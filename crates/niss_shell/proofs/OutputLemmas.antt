@@ -14,73 +14,73 @@ use Rattle.niss_shell.proofs.StateLemmas.{writes_nothing, writes_more, writes_as
 
 -- what a text does to an output, as a sink says it
 
-pub line_taken : {W : Type 0} (state : W → TargetState) (r : Result (Unit {0}) DeviceFault) (text line : List ℕ) (old new : Output W) (N : Type 0)
+pub line_taken : {W : Type 0} (state : W → TargetState) (r : Result (Unit {0}) DeviceFault) {text line : List ℕ} (old new : Output W) (N : Type 0)
     → text ≡ line → N → new.pending.items ≡ [] → Delivers state r text old new → OnOk r (N × TakesLine state line old new)
-line_taken state (Ok u) text line old new N e n none d =
+line_taken state (Ok u) old new N e n none d =
     (n, (none, λ works looks. subst (λ t. Writes t 0 0 (output_state state old looks) (output_state state new looks)) e (d works looks)))
-line_taken state (Err x) text line old new N e n none d = tt
+line_taken state (Err x) old new N e n none d = tt
 
-pub line_refused : {W : Type 0} (state : W → TargetState) (r : Result (Unit {0}) DeviceFault) (text line : List ℕ) (old new : Output W) (N : Type 0)
+pub line_refused : {W : Type 0} (state : W → TargetState) (r : Result (Unit {0}) DeviceFault) {text line : List ℕ} (old new : Output W) (N : Type 0)
     → text ≡ line → N → new.pending.items ≡ [] → Delivers state r text old new → OnErr r (N × RefusesLine state line old new)
-line_refused state (Ok u) text line old new N e n none d = tt
-line_refused state (Err x) text line old new N e n none d =
+line_refused state (Ok u) old new N e n none d = tt
+line_refused state (Err x) old new N e n none d =
     (n, (none, λ works looks. subst (λ t. Refuses t 0 0 (output_state state old looks) (output_state state new looks)) e (d works looks)))
 
 -- a text that was tested to be empty
-empty_where : (n : ℕ) (bytes : List ℕ) → n ≡ length bytes → ((n == 0 ≡ true) × (n ≡ 0)) ⊎ ((n == 0 ≡ false) × (n ≡ 0 → ⊥)) → (n == 0) ≡ true → bytes ≡ []
-empty_where n bytes e (inl h) k = nil_from_length bytes (omega (arith, e, h.1))
-empty_where n bytes e (inr h) k = absurd (cc (h.0, k))
+empty_where : {n : ℕ} (bytes : List ℕ) → n ≡ length bytes → ((n == 0 ≡ true) × (n ≡ 0)) ⊎ ((n == 0 ≡ false) × (n ≡ 0 → ⊥)) → (n == 0) ≡ true → bytes ≡ []
+empty_where bytes e (inl h) k = nil_from_length bytes (omega (arith, e, h.1))
+empty_where bytes e (inr h) k = absurd (cc (h.0, k))
 
-pub no_bytes : (empty : Bool) (bytes : List ℕ) → empty ≡ (length bytes == 0) → empty ≡ true → bytes ≡ []
-no_bytes empty bytes e k = empty_where _ _ refl (eqb_tells (length bytes) 0) (sym e ∙ k)
+pub no_bytes : {empty : Bool} (bytes : List ℕ) → empty ≡ (length bytes == 0) → empty ≡ true → bytes ≡ []
+no_bytes bytes e k = empty_where _ refl (eqb_tells (length bytes) 0) (sym e ∙ k)
 
 -- a line that was put where nothing waited, and written
-pub line_sent : {W : Type 0} (state : W → TargetState) (r : Result (Unit {0}) DeviceFault) (line text : List ℕ) (old new : Output W)
+pub line_sent : {W : Type 0} (state : W → TargetState) (r : Result (Unit {0}) DeviceFault) (line : List ℕ) {text : List ℕ} (old new : Output W)
     → text ≡ line → old.pending.items ≡ []
     → (has_fault (state old.target.now) ≡ false → (looks : ℕ) → WritesOrRefuses r [] 0 0
     (pending_state (state old.target.now) text looks) (output_state state new looks))
     → Delivers state r line old new
-line_sent state r line text old new e none then = λ works looks.
+line_sent state r line old new e none then = λ works looks.
     then_sent _ _ _ _ _ _ _
-    (waits _ _ _ _ _ (e ∙ ap (λ p. p ++ line) (sym none)) works) (then works looks)
+    (waits _ (e ∙ ap (λ p. p ++ line) (sym none)) works) (then works looks)
 
 -- what is written of a search, by what it found
-pub same_count : (least found : Option ℕ) (count solutions nodes looks : ℕ) → least ≡ found → count ≡ solutions → nodes ≡ looks
+pub same_count : {least : Option ℕ} (found : Option ℕ) (count solutions nodes : ℕ) {looks : ℕ} → least ≡ found → count ≡ solutions → nodes ≡ looks
     → count_text least count nodes ≡ count_text found solutions looks
-same_count least found count solutions nodes looks e f h =
+same_count found count solutions nodes e f h =
     ap (λ l. count_text l count nodes) e ∙ ap (λ s. count_text found s nodes) f ∙ ap (λ k. count_text found solutions k) h
 
 -- the same text with the looks that were made before it
 
 module _ {W : Type 0} (state : W → TargetState) where
-  looked_writes : (text : List ℕ) (looks most_looks before after now : ℕ) (old new : Output W)
+  looked_writes : {text : List ℕ} {looks most_looks before after : ℕ} (now : ℕ) (old new : Output W)
       → after ≡ before + looks → after ≤ before + most_looks
       → Writes text 0 0 (output_state state old now) (output_state state new now)
       → Writes text looks most_looks (output_state state old before) (output_state state new after)
-  looked_writes text looks most_looks before after now old new exact bound w = record {
+  looked_writes now old new exact bound w = record {
     works = w.works;
     written = record { sent = w.written.sent; whole = w.written.whole; appended = w.written.appended };
     looked = exact;
     bounded = bound;
   }
 
-  looked_refuses : (text : List ℕ) (looks most_looks before after now : ℕ) (old new : Output W)
+  looked_refuses : {text : List ℕ} {looks most_looks before after : ℕ} (now : ℕ) (old new : Output W)
       → before ≤ after → after ≤ before + looks → after ≤ before + most_looks
       → Refuses text 0 0 (output_state state old now) (output_state state new now)
       → Refuses text looks most_looks (output_state state old before) (output_state state new after)
-  looked_refuses text looks most_looks before after now old new rises most bound w =
+  looked_refuses now old new rises most bound w =
       record { refused = w.refused; rises = rises; looked = most; bounded = bound }
 
-  pub reported_after : (r : Result (Unit {0}) DeviceFault) (piece text : List ℕ) (looks most_looks before after : ℕ) (old new : Output W)
+  pub reported_after : (r : Result (Unit {0}) DeviceFault) {piece text : List ℕ} (looks most_looks before after : ℕ) (old new : Output W)
       → piece ≡ text → after ≡ before + looks → after ≤ before + most_looks → Delivers state r piece old new
       → has_fault (state old.target.now) ≡ false
       → WritesOrRefuses r text looks most_looks (output_state state old before) (output_state state new after)
-  reported_after (Ok u) piece text looks most_looks before after old new e exact bound d works =
+  reported_after (Ok u) looks most_looks before after old new e exact bound d works =
       subst (λ t. Writes t looks most_looks (output_state state old before) (output_state state new after)) e
-      (looked_writes _ _ _ _ _ _ old new exact bound (d works after))
-  reported_after (Err x) piece text looks most_looks before after old new e exact bound d works =
+      (looked_writes _ old new exact bound (d works after))
+  reported_after (Err x) looks most_looks before after old new e exact bound d works =
       subst (λ t. Refuses t looks most_looks (output_state state old before) (output_state state new after)) e
-      (looked_refuses _ _ _ _ _ _ old new (omega (arith, exact)) (omega (arith, exact)) bound (d works after))
+      (looked_refuses _ old new (omega (arith, exact)) (omega (arith, exact)) bound (d works after))
 
   -- the lines of the paths are taken one after the other
   module _ (line : List Turn → List ℕ) (took refused : Output W → List Turn → Output W → Type 0)
@@ -103,18 +103,18 @@ module _ {W : Type 0} (state : W → TargetState) where
         let one = (wrote a p h.0 h.1.0).1 works looks in
         refuses_more one (stop_writes ps h.0 b looks one.works h.1.1)
 
-    pub found_all : (ps : List (List Turn)) (a b : Output W) (looks most_looks before after : ℕ) → has_fault (state a.target.now) ≡ false
+    pub found_all : (ps : List (List Turn)) (a b : Output W) {looks most_looks before : ℕ} (after : ℕ) → has_fault (state a.target.now) ≡ false
         → WentThrough took a ps b → after ≡ before + looks → after ≤ before + most_looks
         → Writes (flat_map line ps) looks most_looks (output_state state a before) (output_state state b after)
-    found_all ps a b looks most_looks before after works h exact bound =
-        looked_writes _ _ _ _ _ after a b exact bound (walk_writes _ _ _ _ works h)
+    found_all ps a b after works h exact bound =
+        looked_writes after a b exact bound (walk_writes _ _ _ _ works h)
 
-    pub found_some : (ps : List (List Turn)) (rest : List ℕ) (a b : Output W) (looks most_looks before after : ℕ) → has_fault (state a.target.now) ≡ false
+    pub found_some : (ps : List (List Turn)) (rest : List ℕ) (a b : Output W) {looks most_looks before : ℕ} (after : ℕ) → has_fault (state a.target.now) ≡ false
         → StoppedIn took refused a ps b → before ≤ after → after ≤ before + looks → after ≤ before + most_looks
         → Refuses (flat_map line ps ++ rest) looks most_looks (output_state state a before) (output_state state b after)
-    found_some ps rest a b looks most_looks before after works h rises most bound =
+    found_some ps rest a b after works h rises most bound =
         refuses_front _ (omega arith) (omega arith)
-        (looked_refuses _ _ _ _ _ after a b rises most bound (stop_writes _ _ _ _ works h))
+        (looked_refuses after a b rises most bound (stop_writes _ _ _ _ works h))
 
     pub unsolved : (n : ℕ) (ps : List (List Turn)) (a b : Output W) (looks most_looks before after : ℕ) → has_fault (state a.target.now) ≡ false
         → StoppedIn took refused a ps b → before ≤ after → after ≤ before + looks → after ≤ before + most_looks
@@ -122,7 +122,7 @@ module _ {W : Type 0} (state : W → TargetState) where
     unsolved n ps a b looks most_looks before after works h rises most bound =
         subst (λ t. Refuses t looks most_looks (output_state state a before) (output_state state b after))
         (sym (append_assoc (flat_map line ps) (none_line n (length ps)) (line_feed ∷ [])))
-        (found_some _ _ _ _ _ _ _ _ works h rises most bound)
+        (found_some _ _ _ _ _ works h rises most bound)
 
     pub nothing_waits : (ps : List (List Turn)) (a b : Output W) → StoppedIn took refused a ps b → b.pending.items ≡ []
     nothing_waits [] a b h = absurd h
@@ -130,12 +130,12 @@ module _ {W : Type 0} (state : W → TargetState) where
     nothing_waits (p ∷ ps) a b (inr h) = nothing_waits ps h.0 b h.1.1
 
   -- the solutions, and what stands after them
-  pub solved : (r : Result (Unit {0}) DeviceFault) (n count : ℕ) (solutions : List (List Turn)) (piece : List ℕ) (looks most_looks before after : ℕ) (a b c : Output W)
+  pub solved : (r : Result (Unit {0}) DeviceFault) (n : ℕ) {count : ℕ} (solutions : List (List Turn)) (piece : List ℕ) (looks most_looks before after : ℕ) (a b c : Output W)
       → count ≡ length solutions → piece ≡ none_line n count ++ line_feed ∷ []
       → Writes (flat_map solution_line solutions) looks most_looks (output_state state a before) (output_state state b after)
       → Delivers state r piece b c
       → WritesOrRefuses r (solve_text n solutions) looks most_looks (output_state state a before) (output_state state c after)
-  solved r n count solutions piece looks most_looks before after a b c e f p d = by_answer _ d
+  solved r n solutions piece looks most_looks before after a b c e f p d = by_answer _ d
     where
       whole : flat_map solution_line solutions ++ piece ≡ solve_text n solutions
       whole =

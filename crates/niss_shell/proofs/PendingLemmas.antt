@@ -27,9 +27,9 @@ all_sent (Err x) pending piece rest a b looks e f whole same refused works = rec
 }
 
 -- a text waits after what waited
-pub waits : (text pending rest : List ℕ) (a : TargetState) (looks : ℕ) → rest ≡ pending ++ text → has_fault a ≡ false
+pub waits : {text pending rest : List ℕ} (a : TargetState) {looks : ℕ} → rest ≡ pending ++ text → has_fault a ≡ false
     → Writes text 0 0 (pending_state a pending looks) (pending_state a rest looks)
-waits text pending rest a looks e works = record {
+waits a e works = record {
   works = works;
   written = record { sent = []; whole = e; appended = appended_nothing a };
   looked = omega arith;
@@ -45,29 +45,29 @@ then_sent (Err x) text looks most_looks a b c p q = refuses_as (append-nil text)
 
 -- what waits is written after lines that were taken
 
-lines_sent : (f : LineAnswers) (n : ℕ) (lines : List (List ℕ)) (u : Unit {0}) (a b c : AnswerState)
+lines_sent : {f : LineAnswers} {n : ℕ} {lines : List (List ℕ)} (u : Unit {0}) {a b : AnswerState} (c : AnswerState)
     → AllAnswered f n lines a b → WritesOrRefuses {T = Unit {0}} (Ok u) [] 0 0 b c → AllAnswered f n lines a c
-lines_sent f n lines u a b c x q = record {
+lines_sent u c x q = record {
   faultless = x.faultless;
   writes = then_sent {T = Unit {0}} (Ok u) _ _ _ _ _ c x.writes q;
 }
 
-pub takes_sent : (f : LineAnswers) (front bytes : List ℕ) (n : ℕ) (q : Progress) (u v : Unit {0}) (a b c : AnswerState)
+pub takes_sent : {f : LineAnswers} {front bytes : List ℕ} {n : ℕ} {q : Progress} {u v : Unit {0}} {a b c : AnswerState}
     → TakesBytes f front bytes n q (Ok u) a b → Writes [] 0 0 b c → TakesBytes f front bytes n q (Ok v) a c
-takes_sent f front bytes n q u v a b c x w = (lines_sent _ _ _ _ _ _ _ x.0 w, x.1)
+takes_sent x w = (lines_sent _ _ x.0 w, x.1)
 
-pub takes_unsent : (f : LineAnswers) (front bytes : List ℕ) (n : ℕ) (q : Progress) (u : Unit {0}) (e : DeviceFault) (a b c : AnswerState)
+pub takes_unsent : (f : LineAnswers) (front bytes : List ℕ) {n : ℕ} {q : Progress} {u : Unit {0}} (e : DeviceFault) (a b c : AnswerState)
     → TakesBytes f front bytes n q (Ok u) a b → Refuses [] 0 0 b c → TakesBytes f front bytes n q (Err CannotWrite) a c
-takes_unsent f front bytes n q u e a b c x w =
+takes_unsent f front bytes e a b c x w =
     let lines = ended_lines front bytes in
     then_sent {T = Unit {0}} (Err e) (written_text f.answer_of lines) (looks_for f lines) (most_looks_for f lines) a b c x.0.writes w
 
-pub end_sent : (f : LineAnswers) (front : List ℕ) (n : ℕ) (u v : Unit {0}) (a b c : AnswerState)
+pub end_sent : {f : LineAnswers} (front : List ℕ) {n : ℕ} {u v : Unit {0}} {a b c : AnswerState}
     → TakesEnd f front n (Ok u) a b → Writes [] 0 0 b c → TakesEnd f front n (Ok v) a c
-end_sent f front n u v a b c x w = lines_sent _ _ _ _ _ _ _ x w
+end_sent front x w = lines_sent _ _ x w
 
-pub end_unsent : (f : LineAnswers) (front : List ℕ) (n : ℕ) (u : Unit {0}) (e : DeviceFault) (a b c : AnswerState)
+pub end_unsent : (f : LineAnswers) (front : List ℕ) (n : ℕ) {u : Unit {0}} (e : DeviceFault) (a b c : AnswerState)
     → TakesEnd f front n (Ok u) a b → Refuses [] 0 0 b c → TakesEnd f front n (Err CannotWrite) a c
-end_unsent f front n u e a b c x w =
+end_unsent f front n e a b c x w =
     let lines = line_with_bytes front in
     then_sent {T = Unit {0}} (Err e) (written_text f.answer_of lines) (looks_for f lines) (most_looks_for f lines) a b c x.writes w

@@ -25,9 +25,9 @@ by_words bytes None command (w ∷ ws) P is h p = absurd (omega arith)
 
 -- the error writer
 
-pub reported : (text piece : List ℕ) (r : Result (Unit {0}) DeviceFault) (a b : TargetState)
+pub reported : (text : List ℕ) {piece : List ℕ} (r : Result (Unit {0}) DeviceFault) (a b : TargetState)
     → piece ≡ text → OnOk r (Appended a b piece) → OnErr r (WriteRefused piece a b) → b.flush_failed ≡ a.flush_failed → ReportsError text a b
-reported text piece (Ok u) a b e whole refused unflushed = record {
+reported text (Ok u) a b e whole refused unflushed = record {
   part = text;
   rest = [];
   beginning = append-nil text;
@@ -35,7 +35,7 @@ reported text piece (Ok u) a b e whole refused unflushed = record {
   written = subst (λ t. Appended a b t) e whole;
   unflushed = unflushed;
 }
-reported text piece (Err x) a b e whole refused unflushed = record {
+reported text (Err x) a b e whole refused unflushed = record {
   part = refused.part;
   rest = refused.cut.0;
   beginning = refused.cut.1 ∙ e;
@@ -87,7 +87,7 @@ runs_text command (v ∷ ws) text stop a h i n e fits w = record {
   gave = gave_nothing a;
   ends =
       subst (λ x. EndsUnflushed stop x (Ok (OnLines command (v ∷ ws))) a a h i)
-      (ap (λ t. answer_lines (line_answers command) t End) e ∙ sym (choose_false _ _ _ (short_test _ fits)))
+      (ap (λ t. answer_lines (line_answers command) t End) e ∙ sym (choose_false _ _ _ (short_test fits)))
       (ends_of_answers (answer_lines (line_answers command) text End) (Ok (OnLines command (v ∷ ws))) _ a a h i (no_stop_of_memory _ text End) w);
   read_whole = λ d r. absurd (cc r);
 }
@@ -101,13 +101,13 @@ runs_too_long command (v ∷ ws) a h n works long = record {
   gave = gave_nothing a;
   ends =
       subst (λ x. EndsUnflushed InputTooLong x (Ok (OnLines command (v ∷ ws))) a a h h)
-      (sym (choose_true _ _ _ (long_test _ long)))
+      (sym (choose_true _ _ _ (long_test long)))
       (refl, writes_nothing _ works);
   read_whole = λ d r. absurd (cc r);
 }
 
-fits_test : (n : ℕ) → n ≤ limit → nat_le n limit ≡ true
-fits_test n h = grind (arith, common_steps)
+fits_test : {n : ℕ} → n ≤ limit → nat_le n limit ≡ true
+fits_test h = grind (arith, common_steps)
 
 pub runs_memory : (command : LineCommand) (ws : List (List ℕ)) (a : SourceState) (h : AnswerState)
     → 0 < length ws → has_fault h.target ≡ false → length (joined ws) ≤ limit
@@ -116,7 +116,7 @@ runs_memory command [] a h n works fits = absurd (omega arith)
 runs_memory command (v ∷ ws) a h n works fits = record {
   input = [];
   gave = gave_nothing a;
-  ends = (fits_test _ fits, refl, writes_nothing _ works);
+  ends = (fits_test fits, refl, writes_nothing _ works);
   read_whole = λ d r. absurd (cc r);
 }
 
@@ -131,9 +131,9 @@ runs_memory_source command [] a h n works asks = record {
 }
 runs_memory_source command (v ∷ ws) a h n works asks = absurd (omega arith)
 
-pub runs_usage : (asked : Result Request UsageFault) (fault : UsageFault) (a : SourceState) (h : AnswerState)
+pub runs_usage : {asked : Result Request UsageFault} {fault : UsageFault} (a : SourceState) (h : AnswerState)
     → asked ≡ Err fault → has_fault h.target ≡ false → RunsUnflushed asked Usage a a h h
-runs_usage asked fault a h e works = subst (λ x. RunsUnflushed x Usage a a h h) (sym e) (record {
+runs_usage a h e works = subst (λ x. RunsUnflushed x Usage a a h h) (sym e) (record {
   input = [];
   gave = gave_nothing a;
   ends = (refl, writes_nothing _ works);
@@ -142,20 +142,20 @@ runs_usage asked fault a h e works = subst (λ x. RunsUnflushed x Usage a a h h)
 
 -- the same of a job, whose work has the command, and whose states are known by equations
 
-pub from_source : (command given : LineCommand) (ws : List (List ℕ)) (stop : Stop) (a b : SourceState) (h k i j : AnswerState)
+pub from_source : {command : LineCommand} (given : LineCommand) {ws : List (List ℕ)} (stop : Stop) (a b : SourceState) (h k i : AnswerState) {j : AnswerState}
     → given ≡ command → k ≡ h → j ≡ i → length ws ≡ 0 → AnswersSource (line_answers given) stop a b k j
     → RunsUnflushed (Ok (OnLines command ws)) stop a b h i
-from_source command given ws stop a b h k i j e f g none x =
+from_source given stop a b h k i e f g none x =
     runs_source _ _ _ _ _ _ _ none
     (subst (λ v. AnswersSource (line_answers v) stop a b h i) e
     (subst (λ s. AnswersSource (line_answers given) stop a b s i) f
     (subst (λ s. AnswersSource (line_answers given) stop a b k s) g x)))
 
-pub from_text : (command given : LineCommand) (ws : List (List ℕ)) (text piece : List ℕ) (stop : Stop) (a : SourceState) (h k i j : AnswerState)
+pub from_text : {command : LineCommand} (given : LineCommand) {ws : List (List ℕ)} (text piece : List ℕ) (stop : Stop) {a : SourceState} (h k i : AnswerState) {j : AnswerState}
     → given ≡ command → k ≡ h → j ≡ i → piece ≡ text → 0 < length ws → text ≡ joined ws → length (joined ws) ≤ limit
     → Answers (answer_lines (line_answers given) piece End) stop k j
     → RunsUnflushed (Ok (OnLines command ws)) stop a a h i
-from_text command given ws text piece stop a h k i j e f g same some whole fits x =
+from_text given text piece stop h k i e f g same some whole fits x =
     runs_text _ _ _ _ _ _ _ some whole fits
     (subst (λ v. Answers (answer_lines (line_answers v) text End) stop h i) e
     (subst (λ t. Answers (answer_lines (line_answers given) t End) stop h i) same
@@ -164,9 +164,9 @@ from_text command given ws text piece stop a h k i j e f g same some whole fits 
 
 -- the names of the steps
 
-pub runs_steps : (asked : Result Request UsageFault) (stop : Stop) (a : SourceState) (h i : AnswerState)
+pub runs_steps : {asked : Result Request UsageFault} (stop : Stop) (a : SourceState) (h i : AnswerState)
     → asked ≡ Ok ListSteps → Answers (unsearched (flat_map step_line steps) Done) stop h i → RunsUnflushed asked stop a a h i
-runs_steps asked stop a h i e w = subst (λ x. RunsUnflushed x stop a a h i) (sym e) (record {
+runs_steps stop a h i e w = subst (λ x. RunsUnflushed x stop a a h i) (sym e) (record {
   input = [];
   gave = gave_nothing a;
   ends = ends_of_answers _ _ _ _ _ _ _ (λ n. cc n) w;
@@ -175,10 +175,10 @@ runs_steps asked stop a h i e w = subst (λ x. RunsUnflushed x stop a a h i) (sy
 
 -- scrambles
 
-pub runs_scrambles : (asked : Result Request UsageFault) (state stream turns count : ℕ) (rng : Lcg) (stop : Stop) (a : SourceState) (h i : AnswerState)
+pub runs_scrambles : {asked : Result Request UsageFault} (state stream turns count : ℕ) {rng : Lcg} (stop : Stop) (a : SourceState) (h i : AnswerState)
     → asked ≡ Ok (DrawScrambles state stream turns count) → rng ≡ generator_of state stream
     → Answers (unsearched (scramble_text turns count rng) Done) stop h i → RunsUnflushed asked stop a a h i
-runs_scrambles asked state stream turns count rng stop a h i e r w = subst (λ x. RunsUnflushed x stop a a h i) (sym e) (record {
+runs_scrambles state stream turns count stop a h i e r w = subst (λ x. RunsUnflushed x stop a a h i) (sym e) (record {
   input = [];
   gave = gave_nothing a;
   ends =
@@ -202,8 +202,8 @@ record FlushesAs (old new : TargetState) (refused : Bool) : Type 0 where
   flush_failed : new.flush_failed ≡ (old.flush_failed || refused)
   flushed : new.is_flushed ≡ not refused
 
-flushes_as : (stop stop_now : Stop) (old new : TargetState) (flush : FlushesLast stop stop_now old new) → FlushesAs old new flush.refused
-flushes_as stop stop_now old new flush = record {
+flushes_as : (stop stop_now : Stop) {old new : TargetState} (flush : FlushesLast stop stop_now old new) → FlushesAs old new flush.refused
+flushes_as stop stop_now flush = record {
   bytes = flush.bytes;
   silent = flush.silent;
   write_failed = flush.write_failed;
@@ -233,19 +233,19 @@ ends_done a asked d e h i false at none none_now w whole flush = record {
   flushed = flush.flushed;
 }
 
-ends_by_fault : (a : Answer) (d e : Devices) (h i : AnswerState) (stop : Stop) (f : Bool)
+ends_by_fault : (a : Answer) (d e : Devices) {h : AnswerState} (i : AnswerState) {stop : Stop} {f : Bool}
     → h.target ≡ d.output → h.pending ≡ [] → i.pending ≡ [] → (stop ≡ a.stop) × Writes a.output a.looks a.most_looks h i → FlushesAs i.target e.output f
     → EndsByFault stop a d e
-ends_by_fault a d e h i stop f at none none_now w flush = record {
+ends_by_fault a d e i at none none_now w flush = record {
   fault = sym w.0;
   written = appended_then d.output i.target e.output a.output w.1.works (subst (λ t. Appended t i.target a.output) at (all_sent _ _ _ none none_now w.1.written)) flush.bytes;
   unrefused = flush.write_failed ∙ no_write_fault i.target w.1.works;
 }
 
-ends_refused : (a : Answer) (asked : Result Request UsageFault) (d e : Devices) (h i : AnswerState) (f : Bool)
+ends_refused : (a : Answer) {asked : Result Request UsageFault} (d e : Devices) (h i : AnswerState) {f : Bool}
     → h.target ≡ d.output → h.pending ≡ [] → Refuses a.output a.looks a.most_looks h i → FlushesAs i.target e.output f
     → OutputRefused a asked d e
-ends_refused a asked d e h i f at none w flush =
+ends_refused a d e h i at none w flush =
     let r : WriteRefused a.output h.target i.target = subst (λ p. WriteRefused (p ++ a.output) h.target i.target) none w.refused in
     let bad : e.output.write_failed ≡ true = flush.write_failed ∙ r.refused in
     record {
@@ -261,19 +261,19 @@ ends_refused a asked d e h i f at none w flush =
       last_flush = λ good. absurd (cc (good, bad));
     }
 
-ends_flushed : (a : Answer) (asked : Result Request UsageFault) (stop : Stop) (d e : Devices) (h i : AnswerState) (f : Bool)
+ends_flushed : (a : Answer) (asked : Result Request UsageFault) (stop : Stop) (d e : Devices) (h i : AnswerState) {f : Bool}
     → h.target ≡ d.output → h.pending ≡ [] → i.pending ≡ [] → EndsUnflushed stop a asked d.source e.source h i → (stop ≡ Done → reads_source asked ≡ true → e.source.has_ended ≡ true)
     → FlushesAs i.target e.output f
     → Ends (flushed_stop stop f) a asked d e
-ends_flushed a asked Done d e h i f at none none_now w whole flush = ends_done _ _ _ _ _ _ _ at none none_now w (whole refl) flush
-ends_flushed a asked CannotWrite d e h i f at none none_now w whole flush = ends_refused _ _ _ _ _ _ _ at none w flush
-ends_flushed a asked OutOfMemory d e h i f at none none_now w whole flush = record {
+ends_flushed a asked Done d e h i at none none_now w whole flush = ends_done _ _ _ _ _ _ _ at none none_now w (whole refl) flush
+ends_flushed a asked CannotWrite d e h i at none none_now w whole flush = ends_refused _ _ _ _ _ at none w flush
+ends_flushed a asked OutOfMemory d e h i at none none_now w whole flush = record {
   asks = w.0;
   unread = w.1;
   nothing = appended_then d.output i.target e.output [] w.2.works (subst (λ t. Appended t i.target []) at (all_sent [] h i none none_now w.2.written)) flush.bytes;
   unrefused = flush.write_failed ∙ no_write_fault i.target w.2.works;
 }
-ends_flushed a asked stop d e h i f at none none_now w whole flush = ends_by_fault _ _ _ _ _ _ _ at none none_now w flush
+ends_flushed a asked stop d e h i at none none_now w whole flush = ends_by_fault _ _ _ _ at none none_now w flush
 
 -- the looks
 
@@ -291,15 +291,15 @@ done_flushed : (f : Bool) → flushed_stop Done f ≢ OutOfMemory
 done_flushed true e = cc e
 done_flushed false e = cc e
 
-looked_flushed : (a : Answer) (asked : Result Request UsageFault) (stop : Stop) (source source_now : SourceState) (h i : AnswerState) (j : TargetState) (f : Bool)
+looked_flushed : (a : Answer) (asked : Result Request UsageFault) (stop : Stop) (source source_now : SourceState) (h i : AnswerState) (j : TargetState) {f : Bool}
     → EndsUnflushed stop a asked source source_now h i → FlushesAs i.target j f
     → Looked (flushed_stop stop f) j.write_failed a.looks h.looks i.looks
-looked_flushed a asked Done source source_now h i j f w flush =
+looked_flushed a asked Done source source_now h i j w flush =
     exact_looks _ _ _ _ _ (done_flushed _) (flush.write_failed ∙ no_write_fault i.target w.1.works) w.1.looked
-looked_flushed a asked CannotWrite source source_now h i j f w flush =
+looked_flushed a asked CannotWrite source source_now h i j w flush =
     refused_looks _ _ _ _ (flush.write_failed ∙ w.refused.refused) w.rises w.looked
-looked_flushed a asked OutOfMemory source source_now h i j f w flush = w.2.looked ∙ add-zero h.looks
-looked_flushed a asked stop source source_now h i j f w flush =
+looked_flushed a asked OutOfMemory source source_now h i j w flush = w.2.looked ∙ add-zero h.looks
+looked_flushed a asked stop source source_now h i j w flush =
     exact_looks stop j.write_failed a.looks h.looks i.looks (λ e. cc e) (flush.write_failed ∙ no_write_fault i.target w.1.works) w.1.looked
 
 bounded_looks : (a : Answer) (asked : Result Request UsageFault) (stop : Stop) (source source_now : SourceState) (h i : AnswerState)
@@ -319,32 +319,32 @@ not_flushed c f true e h = h ∙ sym (ap not e)
 not_flushed c f false e h = h ∙ sym (ap not e)
 
 -- no flush before the last one was refused
-pub one_flush : (asked : Result Request UsageFault) (stop stop_now : Stop) (a b : SourceState) (h i : AnswerState) (j : TargetState)
+pub one_flush : {asked : Result Request UsageFault} {stop stop_now : Stop} {a b : SourceState} {h i : AnswerState} {j : TargetState}
     → has_fault h.target ≡ false → RunsUnflushed asked stop a b h i → FlushesLast stop stop_now i.target j → j.flush_failed ≡ not j.is_flushed
-one_flush asked stop stop_now a b h i j works x flush = not_flushed _ _ _ flush.flushed
+one_flush works x flush = not_flushed _ _ _ flush.flushed
     (flush.flush_failed ∙ ap (λ v. v || flush.refused) (flushes_worked _ _ _ _ _ _ _ works x.ends))
 
-pub runs_flushed : (words : List (List ℕ)) (status : ℕ) (stop stop_now : Stop) (a b : SourceState) (h i j : TargetState) (p q : List ℕ) (k l : TargetState) (looks looks_now : ℕ)
+pub runs_flushed : (words : List (List ℕ)) {status : ℕ} (stop stop_now : Stop) (a b : SourceState) (h : TargetState) {i : TargetState} (j : TargetState) {p q : List ℕ} (k l : TargetState) (looks looks_now : ℕ)
     → p ≡ [] → q ≡ [] → RunsUnflushed (request_of words) stop a b (pending_state h p looks) (pending_state i q looks_now) → FlushesLast stop stop_now i j
     → ReportsError (error_text stop_now) k l → status ≡ status_of stop_now
     → Runs words (devices a h k) (devices b j l) looks looks_now status
-runs_flushed words status stop stop_now a b h i j p q k l looks looks_now none none_now x flush reports answers =
-    let how = flushes_as stop stop_now _ _ flush in
+runs_flushed words stop stop_now a b h j k l looks looks_now none none_now x flush reports answers =
+    let how = flushes_as stop stop_now flush in
     record {
       input = x.input;
       gave = x.gave;
       stop = stop_now;
       ends = subst (λ v. Ends v (out_of words x.input b) (request_of words) (devices a h k) (devices b j l)) (sym flush.stop_is)
-          (ends_flushed _ _ _ _ _ _ _ _
+          (ends_flushed _ _ _ _ _ _ _
           refl none none_now x.ends x.read_whole how);
       looked = subst (λ v. Looked v j.write_failed (out_of words x.input b).looks looks looks_now) (sym flush.stop_is)
-          (looked_flushed _ _ _ _ _ _ _ _ _ x.ends how);
+          (looked_flushed _ _ _ _ _ _ _ _ x.ends how);
       within_bound = bounded_looks _ _ _ _ _ _ _ x.ends;
       reports = reports;
       answers = answers;
     }
 
 -- the target that the output lent
-pub lent_back : (words : List (List ℕ)) (status : ℕ) (a b : SourceState) (h i j k l : TargetState) (looks looks_now : ℕ)
+pub lent_back : (words : List (List ℕ)) (status : ℕ) (a b : SourceState) (h : TargetState) {i j : TargetState} (k l : TargetState) (looks looks_now : ℕ)
     → i ≡ j → Runs words (devices a h k) (devices b i l) looks looks_now status → Runs words (devices a h k) (devices b j l) looks looks_now status
-lent_back words status a b h i j k l looks looks_now e x = subst (λ t. Runs words (devices a h k) (devices b t l) looks looks_now status) e x
+lent_back words status a b h k l looks looks_now e x = subst (λ t. Runs words (devices a h k) (devices b t l) looks looks_now status) e x

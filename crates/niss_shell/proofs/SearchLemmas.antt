@@ -13,17 +13,17 @@ use Rattle.niss_shell.specs.Words.{search_command}
 
 -- What every path keeps, a walk through a list of paths keeps.
 
-pub walk_keeps : {K N : Type 0} (name : K → N) (took : K → List Turn → K → Type 0) → ((a : K) (p : List Turn) (b : K) → took a p b → name b ≡ name a)
+pub walk_keeps : {K N : Type 0} (name : K → N) {took : K → List Turn → K → Type 0} → ((a : K) (p : List Turn) (b : K) → took a p b → name b ≡ name a)
     → (ps : List (List Turn)) (a b : K) → WentThrough took a ps b → name b ≡ name a
-walk_keeps name took keeps [] a b h = ap name (sym h)
-walk_keeps name took keeps (p ∷ ps) a b h = walk_keeps _ _ keeps ps h.0 b h.1.1 ∙ keeps a p h.0 h.1.0
+walk_keeps name keeps [] a b h = ap name (sym h)
+walk_keeps name keeps (p ∷ ps) a b h = walk_keeps _ keeps ps h.0 b h.1.1 ∙ keeps a p h.0 h.1.0
 
-pub stop_keeps : {K N : Type 0} (name : K → N) (took refused : K → List Turn → K → Type 0) → ((a : K) (p : List Turn) (b : K) → took a p b → name b ≡ name a)
+pub stop_keeps : {K N : Type 0} {name : K → N} {took refused : K → List Turn → K → Type 0} → ((a : K) (p : List Turn) (b : K) → took a p b → name b ≡ name a)
     → ((a : K) (p : List Turn) (b : K) → refused a p b → name b ≡ name a)
     → (ps : List (List Turn)) (a b : K) → StoppedIn took refused a ps b → name b ≡ name a
-stop_keeps name took refused keeps last [] a b h = absurd h
-stop_keeps name took refused keeps last (p ∷ ps) a b (inl h) = last a p b h
-stop_keeps name took refused keeps last (p ∷ ps) a b (inr h) = stop_keeps _ _ _ keeps last ps h.0 b h.1.1 ∙ keeps a p h.0 h.1.0
+stop_keeps keeps last [] a b h = absurd h
+stop_keeps keeps last (p ∷ ps) a b (inl h) = last a p b h
+stop_keeps keeps last (p ∷ ps) a b (inr h) = stop_keeps keeps last ps h.0 b h.1.1 ∙ keeps a p h.0 h.1.0
 
 -- a line on whose cube the step may start, or may not
 
@@ -54,16 +54,16 @@ module _ (command : LineCommand) (line given : Moves) (report asked : Report) (s
       (subst (λ k. AnswersMoves (search_command k step limit slack) line n r old new) (sym reports)
       (subst (λ m. AnswersMoves (search_command asked step limit slack) m n r old new) same x))
 
-  pub all_reported : (u : Unit {0}) → IsTrue (may_start step (home given))
+  pub all_reported : {u : Unit {0}} → IsTrue (may_start step (home given))
       → Writes (search_text asked step limit slack (home given)) (near_looks_of step (home given) limit slack) (look_bound (turns_of step) limit) old new
       → AnswersMoves command line n (Ok u) old new
-  all_reported u e p = answered _ (starts _ _ _
+  all_reported e p = answered _ (starts _ _ _
       _ _ _ _ _ _ e p)
 
-  pub refusal_reported : (stop : Stop) → IsTrue (may_start step (home given)) → stop ≡ CannotWrite
+  pub refusal_reported : {stop : Stop} → IsTrue (may_start step (home given)) → stop ≡ CannotWrite
       → Refuses (search_text asked step limit slack (home given)) (near_looks_of step (home given) limit slack) (look_bound (turns_of step) limit) old new
       → AnswersMoves command line n (Err stop) old new
-  refusal_reported stop e f p = answered _ (starts_refused _ _ _
+  refusal_reported e f p = answered _ (starts_refused _ _ _
       _ _ _ _ _ _ e f p)
 
   pub not_started : (named : Step) (r : Result (Unit {0}) Stop) → may_start step (home given) ≡ false → named ≡ step

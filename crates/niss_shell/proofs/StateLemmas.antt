@@ -44,27 +44,27 @@ writes_more p q = record {
   bounded = omega (arith, p.bounded, q.bounded);
 }
 
-cut_more : (part xs ys : List ℕ) → IsCut part ys → IsCut (xs ++ part) (xs ++ ys)
-cut_more part xs ys p = (p.0, append_assoc xs part p.0 ∙ ap (λ v. xs ++ v) p.1, p.2)
+cut_more : (part xs : List ℕ) {ys : List ℕ} → IsCut part ys → IsCut (xs ++ part) (xs ++ ys)
+cut_more part xs p = (p.0, append_assoc xs part p.0 ∙ ap (λ v. xs ++ v) p.1, p.2)
 
-cut_front : (part xs ys : List ℕ) → IsCut part xs → IsCut part (xs ++ ys)
-cut_front part xs ys p = (p.0 ++ ys, sym (append_assoc part p.0 ys) ∙ ap (λ v. v ++ ys) p.1, omega (arith, p.2, length-append p.0 ys))
+cut_front : (part : List ℕ) {xs : List ℕ} (ys : List ℕ) → IsCut part xs → IsCut part (xs ++ ys)
+cut_front part ys p = (p.0 ++ ys, sym (append_assoc part p.0 ys) ∙ ap (λ v. v ++ ys) p.1, omega (arith, p.2, length-append p.0 ys))
 
-refused_more : (xs ys : List ℕ) (a b c : TargetState)
+refused_more : (xs : List ℕ) {ys : List ℕ} (a b c : TargetState)
     → has_fault b ≡ false → Appended a b xs → WriteRefused ys b c → WriteRefused (xs ++ ys) a c
-refused_more xs ys a b c works p q = record {
+refused_more xs a b c works p q = record {
   refused = q.refused;
   part = xs ++ q.part;
-  cut = cut_more _ _ _ q.cut;
+  cut = cut_more _ _ q.cut;
   appended = appended_more a b c xs q.part works p q.appended;
   flushes_work = λ e. q.flushes_work (no_flush_fault b works);
 }
 
-refused_front : (xs ys : List ℕ) (a c : TargetState) → WriteRefused xs a c → WriteRefused (xs ++ ys) a c
-refused_front xs ys a c q = record {
+refused_front : {xs : List ℕ} (ys : List ℕ) {a c : TargetState} → WriteRefused xs a c → WriteRefused (xs ++ ys) a c
+refused_front ys q = record {
   refused = q.refused;
   part = q.part;
-  cut = cut_front _ _ _ q.cut;
+  cut = cut_front _ _ q.cut;
   appended = q.appended;
   flushes_work = q.flushes_work;
 }
@@ -73,7 +73,7 @@ pub refuses_more : {x y : List ℕ} {l m k n : ℕ} {a b c : AnswerState} → Wr
 refuses_more {x = x} {y = y} {a = a} {b = b} {c = c} p q = record {
   refused = subst (λ t. WriteRefused t a.target c.target)
       (sym (append_assoc p.written.sent b.pending y) ∙ ap (λ v. v ++ y) p.written.whole ∙ append_assoc a.pending x y)
-      (refused_more _ _ _ _ _ p.works p.written.appended q.refused);
+      (refused_more _ _ _ _ p.works p.written.appended q.refused);
   rises = omega (arith, p.looked, q.rises);
   looked = omega (arith, p.looked, q.looked);
   bounded = omega (arith, p.bounded, q.bounded);
@@ -81,7 +81,7 @@ refuses_more {x = x} {y = y} {a = a} {b = b} {c = c} p q = record {
 
 pub refuses_front : {x : List ℕ} (y : List ℕ) {l m k n : ℕ} {a c : AnswerState} → l ≤ k → m ≤ n → Refuses x l m a c → Refuses (x ++ y) k n a c
 refuses_front {x = x} y {a = a} {c = c} p q r = record {
-  refused = subst (λ t. WriteRefused t a.target c.target) (append_assoc a.pending x y) (refused_front _ _ _ _ r.refused);
+  refused = subst (λ t. WriteRefused t a.target c.target) (append_assoc a.pending x y) (refused_front _ r.refused);
   rises = r.rises;
   looked = omega (arith, r.looked, p);
   bounded = omega (arith, r.bounded, q);

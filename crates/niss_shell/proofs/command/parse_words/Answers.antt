@@ -5,12 +5,12 @@ use Rattle.niss_shell.proofs.command.parse_words.Goals as goal
 
 pub returns-in-invert-clause-command : goal.returns-in-invert-clause-command
 returns-in-invert-clause-command c =
-    named_request _ _ _ _ _ c.in-Some.ensures.cases.0 (sym c.as_str.ensures.value ∙ c.in-invert.is)
+    named_request _ _ c.in-Some.ensures.cases.0 (sym c.as_str.ensures.value ∙ c.in-invert.is)
 
 pub returns-in-unniss-clause-command : goal.returns-in-unniss-clause-command
 returns-in-unniss-clause-command c =
-    named_request _ _ _ _ _ c.in-Some.ensures.cases.0 (sym c.as_str.ensures.value ∙ c.in-unniss.is)
+    named_request _ _ c.in-Some.ensures.cases.0 (sym c.as_str.ensures.value ∙ c.in-unniss.is)
 
 pub returns-in-unniss-clause-named : goal.returns-in-unniss-clause-named
 returns-in-unniss-clause-named c =
-    first_word _ _ _ _ _ c.in-Some.ensures.cases.0 (sym c.as_str.ensures.value ∙ c.in-unniss.is)
+    first_word _ c.in-Some.ensures.cases.0 (sym c.as_str.ensures.value ∙ c.in-unniss.is)

@@ -4,5 +4,5 @@ use Rattle.niss_shell.proofs.RunLemmas.{reported}
 use Rattle.niss_shell.proofs.shell.report.Goals as goal
 
 pub returns : goal.returns
-returns g c = reported _ _ _ _ _
+returns g c = reported _ _ _ _
     (c.as_slice.ensures.value ∙ c.text-text.ensures) c.write_all.ensures.whole c.write_all.ensures.refused c.write_all.ensures.unflushed

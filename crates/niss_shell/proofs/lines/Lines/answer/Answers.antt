@@ -28,14 +28,14 @@ returns-in_err-solve-in-Solutions-clause-answers g c =
     let p = err_from_is_err_and c.from_residual-in_err-solve-in-Solutions.result c.from_residual-in_err-solve-in-Solutions.ensures.1 in
     rw p.1 (refusal_reported _ _ c.moves-in-Search.result.now c.in-Search.search.report Solutions _ _ c.in-Search.search.slack _
     _ _
-    (ap command_of c.in-Search.is) c.in-Solutions.is c.moves-in-Search.ensures _
+    (ap command_of c.in-Search.is) c.in-Solutions.is c.moves-in-Search.ensures
     c.in-Some.ensures.starts p.2 (c.in_err-solve-in-Solutions.ensures.reported (home c.moves-in-Search.result.now) c.in-Some.ensures c.requires.works))
 
 pub returns-in_ok-solve-in-Solutions-clause-answers : goal.returns-in_ok-solve-in-Solutions-clause-answers
 returns-in_ok-solve-in-Solutions-clause-answers g c =
     all_reported _ _ c.moves-in-Search.result.now c.in-Search.search.report Solutions _ _ c.in-Search.search.slack _
     _ _
-    (ap command_of c.in-Search.is) c.in-Solutions.is c.moves-in-Search.ensures _
+    (ap command_of c.in-Search.is) c.in-Solutions.is c.moves-in-Search.ensures
     c.in-Some.ensures.starts (c.in_ok-solve-in-Solutions.ensures.reported (home c.moves-in-Search.result.now) c.in-Some.ensures c.requires.works)
 
 pub returns-in_err-count-in-Counts-clause-answers : goal.returns-in_err-count-in-Counts-clause-answers
@@ -43,12 +43,12 @@ returns-in_err-count-in-Counts-clause-answers g c =
     let p = err_from_is_err_and c.from_residual-in_err-count-in-Counts.result c.from_residual-in_err-count-in-Counts.ensures.1 in
     rw p.1 (refusal_reported _ _ c.moves-in-Search.result.now c.in-Search.search.report Counts _ _ c.in-Search.search.slack _
     _ _
-    (ap command_of c.in-Search.is) c.in-Counts.is c.moves-in-Search.ensures _
+    (ap command_of c.in-Search.is) c.in-Counts.is c.moves-in-Search.ensures
     c.in-Some.ensures.starts p.2 (c.in_err-count-in-Counts.ensures.reported (home c.moves-in-Search.result.now) c.in-Some.ensures c.requires.works))
 
 pub returns-in_ok-count-in-Counts-clause-answers : goal.returns-in_ok-count-in-Counts-clause-answers
 returns-in_ok-count-in-Counts-clause-answers g c =
     all_reported _ _ c.moves-in-Search.result.now c.in-Search.search.report Counts _ _ c.in-Search.search.slack _
     _ _
-    (ap command_of c.in-Search.is) c.in-Counts.is c.moves-in-Search.ensures _
+    (ap command_of c.in-Search.is) c.in-Counts.is c.moves-in-Search.ensures
     c.in-Some.ensures.starts (c.in_ok-count-in-Counts.ensures.reported (home c.moves-in-Search.result.now) c.in-Some.ensures c.requires.works)

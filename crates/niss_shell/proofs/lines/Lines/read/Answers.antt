@@ -9,9 +9,9 @@ use Rattle.niss_shell.proofs.lines.Lines.read.Goals as goal
 
 pub loop-given-init : goal.loop-given-init
 loop-given-init g c = record {
-  keeps = keeps_same _;
+  keeps = keeps_same;
   same_target = refl;
-  at = at_start _ _ _ _
+  at = at_start _ _ _
       c.requires.reader c.requires.line c.requires.works;
   reads = c.requires.reads;
   goes_on = c.requires.goes_on;
@@ -25,64 +25,64 @@ loop-given-init g c = record {
 }
 
 pub returns-in-Err-clause-answers : goal.returns-in-Err-clause-answers
-returns-in-Err-clause-answers g c = at_failure _ _ _
+returns-in-Err-clause-answers g c = at_failure _
     _ _ _
     _ _
     c.loop-given.invariant.at c.loop-given.invariant.room c.loop-given.invariant.reads c.in-Err.ensures.bytes c.in-Err.ensures.failed
 
 pub returns-then-given-eq0-clause-answers : goal.returns-then-given-eq0-clause-answers
-returns-then-given-eq0-clause-answers g c = at_end _ _ _
-    _ _ _
+returns-then-given-eq0-clause-answers g c = at_end _
     _ _ _
     _ _
+    _ _
     c.loop-given.invariant.at c.loop-given.invariant.room c.loop-given.invariant.reads
-    (gave_nothing_of (g.S.Source.state c.loop-given.source) (g.S.Source.state c.read.new.self) _ c.read.new.buf c.if-given-eq0.true c.in-Ok.ensures.bytes)
+    (gave_nothing_of (g.S.Source.state c.loop-given.source) (g.S.Source.state c.read.new.self) c.read.new.buf c.if-given-eq0.true c.in-Ok.ensures.bytes)
     c.in-Ok.ensures.failed
     (c.in-Ok.ensures.ended ∙ is_empty_answer-none _ _ c.if-given-eq0.true (rw c.read.auto.buf c.loop-given.invariant.block))
-    (ends_kept _ _ _ _ _ c.loop-given.invariant.keeps c.take_end.ensures.ends) refl
+    (ends_kept _ _ _ _ c.loop-given.invariant.keeps c.take_end.ensures.ends) refl
 
 pub returns-in_err-take_block-clause-answers : goal.returns-in_err-take_block-clause-answers
 returns-in_err-take_block-clause-answers g c =
     let p = err_from_is_err_and c.from_residual.result c.from_residual.ensures.1 in
-    rw (p.1, p.2) (at_limit _ _ _ _ _ _ (progress_of c.take_block.new.self)
+    rw (p.1, p.2) (at_limit _ _ _ _ _ (progress_of c.take_block.new.self)
     _ _ _
     _ _ _
     (Err _) _
     c.loop-given.invariant.at (omega (arith, c.loop-given.invariant.room)) c.if-given-room.true c.in-Ok.ensures.bound c.loop-given.invariant.reads c.in-Ok.ensures.bytes c.in-Ok.ensures.failed
     (c.in-Ok.ensures.ended ∙ is_empty_answer-some _ _ c.if-given-eq0.false)
-    (takes_kept (take (limit - c.loop-given.count) c.read.new.buf) (Err _) _ _ c.take_block.new.self (lines_state g.W.Target.state c.loop-given.output c.loop-given.self) (lines_state g.W.Target.state c.take_block.new.output c.take_block.new.self) c.loop-given.invariant.keeps c.in_err-take_block.ensures.takes) refl)
+    (takes_kept (take (limit - c.loop-given.count) c.read.new.buf) (Err _) _ c.take_block.new.self (lines_state g.W.Target.state c.loop-given.output c.loop-given.self) (lines_state g.W.Target.state c.take_block.new.output c.take_block.new.self) c.loop-given.invariant.keeps c.in_err-take_block.ensures.takes) refl)
 
 pub returns-then-given-room-clause-answers : goal.returns-then-given-room-clause-answers
-returns-then-given-room-clause-answers g c = at_limit _ _ _ _ _ _ (progress_of c.take_block.new.self)
+returns-then-given-room-clause-answers g c = at_limit _ _ _ _ _ (progress_of c.take_block.new.self)
     _ _ _
     _ _ _
     (Ok tt) _
     c.loop-given.invariant.at (omega (arith, c.loop-given.invariant.room)) c.if-given-room.true c.in-Ok.ensures.bound c.loop-given.invariant.reads c.in-Ok.ensures.bytes c.in-Ok.ensures.failed
     (c.in-Ok.ensures.ended ∙ is_empty_answer-some _ _ c.if-given-eq0.false)
-    (takes_kept (take (limit - c.loop-given.count) c.read.new.buf) (Ok tt) _ _ c.take_block.new.self (lines_state g.W.Target.state c.loop-given.output c.loop-given.self) (lines_state g.W.Target.state c.take_block.new.output c.take_block.new.self) c.loop-given.invariant.keeps c.in_ok-take_block.ensures.takes) refl
+    (takes_kept (take (limit - c.loop-given.count) c.read.new.buf) (Ok tt) _ c.take_block.new.self (lines_state g.W.Target.state c.loop-given.output c.loop-given.self) (lines_state g.W.Target.state c.take_block.new.output c.take_block.new.self) c.loop-given.invariant.keeps c.in_ok-take_block.ensures.takes) refl
 
 pub returns-in_err-take_block-2-clause-answers : goal.returns-in_err-take_block-2-clause-answers
 returns-in_err-take_block-2-clause-answers g c =
     let p = err_from_is_err_and c.from_residual-in_err-take_block-2.result c.from_residual-in_err-take_block-2.ensures.1 in
-    rw (p.1, p.2) (at_stop _ _ _ _ _ (progress_of c.take_block-in-loop-given.new.self)
+    rw (p.1, p.2) (at_stop _ _ _ _ (progress_of c.take_block-in-loop-given.new.self)
     _ _ _
     _ _ _
     _
     c.loop-given.invariant.at (omega (arith, c.loop-given.invariant.room, c.if-given-room.false)) c.in-Ok.ensures.bound c.loop-given.invariant.reads c.in-Ok.ensures.bytes c.in-Ok.ensures.failed
     (c.in-Ok.ensures.ended ∙ is_empty_answer-some _ _ c.if-given-eq0.false)
-    (takes_kept (take c.in-Ok.given c.read.new.buf) (Err _) _ _ c.take_block-in-loop-given.new.self (lines_state g.W.Target.state c.loop-given.output c.loop-given.self) (lines_state g.W.Target.state c.take_block-in-loop-given.new.output c.take_block-in-loop-given.new.self) c.loop-given.invariant.keeps c.in_err-take_block-2.ensures.takes))
+    (takes_kept (take c.in-Ok.given c.read.new.buf) (Err _) _ c.take_block-in-loop-given.new.self (lines_state g.W.Target.state c.loop-given.output c.loop-given.self) (lines_state g.W.Target.state c.take_block-in-loop-given.new.output c.take_block-in-loop-given.new.self) c.loop-given.invariant.keeps c.in_err-take_block-2.ensures.takes))
 
 pub loop-given-preserved : goal.loop-given-preserved
 loop-given-preserved g c =
-    let e : length (take c.in-Ok.given c.read.new.buf) ≡ c.in-Ok.given = length_taken _ _ c.in-Ok.ensures.bound in
+    let e : length (take c.in-Ok.given c.read.new.buf) ≡ c.in-Ok.given = length_taken _ c.in-Ok.ensures.bound in
     record {
-      keeps = keeps_more _ _ _ c.loop-given.invariant.keeps c.in_ok-take_block-2.ensures.keeps;
+      keeps = keeps_more c.loop-given.invariant.keeps c.in_ok-take_block-2.ensures.keeps;
       same_target = c.in_ok-take_block-2.ensures.same_target ∙ c.loop-given.invariant.same_target;
-      at = at_more _ _ _ _ _ _
+      at = at_more _ _ _ _ _
           _ _ _
           _ _ _
           c.loop-given.invariant.at c.loop-given.invariant.reads c.in-Ok.ensures.bytes c.in-Ok.ensures.bound
-          (takes_kept (take c.in-Ok.given c.read.new.buf) (Ok tt) _ _ c.take_block-in-loop-given.new.self (lines_state g.W.Target.state c.loop-given.output c.loop-given.self) (lines_state g.W.Target.state c.take_block-in-loop-given.new.output c.take_block-in-loop-given.new.self) c.loop-given.invariant.keeps c.in_ok-take_block-2.ensures.takes);
+          (takes_kept (take c.in-Ok.given c.read.new.buf) (Ok tt) _ c.take_block-in-loop-given.new.self (lines_state g.W.Target.state c.loop-given.output c.loop-given.self) (lines_state g.W.Target.state c.take_block-in-loop-given.new.output c.take_block-in-loop-given.new.self) c.loop-given.invariant.keeps c.in_ok-take_block-2.ensures.takes);
       reads = c.in-Ok.ensures.failed;
       goes_on = c.in-Ok.ensures.ended ∙ is_empty_answer-some _ _ c.if-given-eq0.false;
       works = c.in_ok-take_block-2.ensures.works;

@@ -9,7 +9,7 @@ use Rattle.niss_shell.proofs.lines.Lines.take_block.Goals as goal
 
 pub loop-index-init : goal.loop-index-init
 loop-index-init g c = record {
-  keeps = keeps_same _;
+  keeps = keeps_same;
   same_target = refl;
   takes = λ front at. takes_none _ _ _ _ _ _ at refl c.requires.works;
   works = c.requires.works;
@@ -21,35 +21,35 @@ loop-index-init g c = record {
 
 pub loop-index-preserved : goal.loop-index-preserved
 loop-index-preserved g c = record {
-  keeps = keeps_more _ _ _ c.loop-index.invariant.keeps c.in_ok-index.ensures.keeps;
+  keeps = keeps_more c.loop-index.invariant.keeps c.in_ok-index.ensures.keeps;
   same_target = c.in_ok-index.ensures.same_target ∙ c.loop-index.invariant.same_target;
-  takes = block_more _ _ _ c.in_ok-index.field-0 (Ok tt) _ _ c.take_piece.new.self
-      _ _ (lines_state g.W.Target.state c.take_piece.new.output c.take_piece.new.self)
+  takes = block_more _ _ c.in_ok-index.field-0 (Ok tt) c.take_piece.new.self
+      (lines_state g.W.Target.state c.take_piece.new.output c.take_piece.new.self)
       (rest_is c.args.bytes.now c.loop-index.index) c.loop-index.invariant.keeps c.loop-index.invariant.takes c.in_ok-index.ensures.takes;
   works = c.in_ok-index.ensures.works;
   column = omega (arith, c.in_ok-index.ensures.column, c.loop-index.invariant.column);
   lines = omega (arith, c.in_ok-index.ensures.lines, c.loop-index.invariant.lines);
   meter = c.in_ok-index.ensures.meter;
-  within = piece_within _ _ _ c.loop-index-test.true c.in_ok-index.ensures.count.1;
+  within = piece_within _ _ c.loop-index-test.true c.in_ok-index.ensures.count.1;
 }
 
 pub returns-in_err-index-clause-takes : goal.returns-in_err-index-clause-takes
 returns-in_err-index-clause-takes g c =
     let p = err_from_is_err_and c.from_residual.result c.from_residual.ensures.1 in
-    rw (p.1, p.2) (block_stopped _ _ _ 1 _ _ _ c.take_piece.new.self
-    _ _ _
+    rw (p.1, p.2) (block_stopped _ _ 1 _ c.take_piece.new.self
+    _
     (rest_is c.args.bytes.now c.loop-index.index) c.loop-index.invariant.keeps c.loop-index.invariant.takes c.in_err-index.ensures.takes)
 
 pub returns-in_err-send-clause-takes : goal.returns-in_err-send-clause-takes
 returns-in_err-send-clause-takes g c =
     let p = err_from_is_err_and c.from_residual-in_err-send.result c.from_residual-in_err-send.ensures.1 in
-    rw (p.1, p.2) (λ front at. takes_unsent _ _ _ _ _ _ _
+    rw (p.1, p.2) (λ front at. takes_unsent _ _ _ _
     _ _ _
     (block_whole _ _ c.args.self.now c.loop-index.self _ _ (omega (arith, c.loop-index-test.false)) c.loop-index.invariant.takes front at)
     (c.in_err-send.ensures.sent c.loop-index.invariant.works c.loop-index.self.looks.now))
 
 pub returns-clause-takes : goal.returns-clause-takes
-returns-clause-takes g c = λ front at. takes_sent _ _ _ _ _ _ _
-    _ _ _
+returns-clause-takes g c = λ front at. takes_sent
+   
     (block_whole _ _ c.args.self.now c.loop-index.self _ _ (omega (arith, c.loop-index-test.false)) c.loop-index.invariant.takes front at)
     (c.in_ok-send.ensures.sent c.loop-index.invariant.works c.loop-index.self.looks.now)

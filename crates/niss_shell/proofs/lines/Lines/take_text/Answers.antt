@@ -8,12 +8,12 @@ use Rattle.niss_shell.proofs.lines.Lines.take_text.Goals as goal
 pub returns-in_err-take_block-clause-answers : goal.returns-in_err-take_block-clause-answers
 returns-in_err-take_block-clause-answers g c =
     let p = err_from_is_err_and c.from_residual.result c.from_residual.ensures.1 in
-    rw (p.1, p.2) (text_stopped _ _ _ (progress_of c.take_block.new.self) _
+    rw (p.1, p.2) (text_stopped _ _ (progress_of c.take_block.new.self) _
     _ _
     c.requires.fits c.requires.reader c.requires.line c.in_err-take_block.ensures.takes)
 
 pub returns-clause-answers : goal.returns-clause-answers
-returns-clause-answers g c = text_done _ _ _ _ _ _
+returns-clause-answers g c = text_done _ _ _ _ _
     _ _ _
     c.requires.fits c.requires.reader c.requires.line c.in_ok-take_block.ensures.takes
-    (ends_kept _ _ _ _ _ c.in_ok-take_block.ensures.keeps c.take_end.ensures.ends) refl
+    (ends_kept _ _ _ _ c.in_ok-take_block.ensures.keeps c.take_end.ensures.ends) refl
