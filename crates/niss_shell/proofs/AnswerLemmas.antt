@@ -9,7 +9,7 @@ use Rattle.niss_shell.specs.Lines.{ended_lines, last_part, first_fault}
 use Rattle.niss_moves.specs.Reader.{Reader, IsFed}
 use Rattle.niss_shell.specs.Words.{limit}
 use Rattle.niss_shell.specs.Output.{Ending, More, End, Fail, ending, ending_of, LineAnswers, answer_lines, line_with_bytes, last_line, complete_lines, stop_of}
-use Rattle.niss_shell.specs.Engine.{AnswerState, Progress, stop_unless, WritesAnswers, RefusesAnswers, AllAnswered, StopsWithin, TakesBytes, TakesEnd, AnswersBytes, IsAt, Answers, AnswersSource}
+use Rattle.niss_shell.specs.Engine.{AnswerState, Progress, stop_unless, WritesAnswers, RefusesAnswers, AllAnswered, StopsWithin, TakesBytes, TakesEnd, TakesNext, TakesLast, AnswersBytes, IsAt, Answers, AnswersSource}
 use Rattle.niss_shell.specs.Names.{Stop, Done, Line, Usage, InputTooLong, CannotRead, CannotWrite, OutOfMemory}
 use Rattle.niss_shell.proofs.DeviceLemmas.{gave_nothing, gave_more}
 use Rattle.niss_shell.proofs.EngineLemmas.{answered_line, stopped_line, answered_none, answered_more, stopped_more, stopped_front, takes_none, takes_more}
@@ -33,11 +33,9 @@ last_taken : (f : LineAnswers) {front : List ℕ} (n : ℕ) (result : Result (Un
     → AnswersBytes f front n result old new → line_with_bytes front ≡ front ∷ []
     → TakesEnd f front n result old new
 last_taken f n (Ok u) old new answers e =
-    subst (λ ls. AllAnswered f n ls old new) (sym e)
-    (answered_line _ _ refl answers)
+    subst (λ ls. AllAnswered f n ls old new) (sym e) (answered_line _ _ refl answers)
 last_taken f n (Err stop) old new answers e =
-    subst (λ ls. StopsWithin f n ls stop old new) (sym e)
-    (stopped_line _ _ _ _ _ _ _ refl answers)
+    subst (λ ls. StopsWithin f n ls stop old new) (sym e) (stopped_line _ _ _ _ _ _ _ refl answers)
 
 pub takes_last_line : (f : LineAnswers) {front : List ℕ} (n : ℕ) {r : Reader} (result : Result (Unit {0}) Stop) (old new : AnswerState)
     → IsFed r front → r.fed ≢ 0 → AnswersBytes f front n result old new
@@ -151,26 +149,25 @@ at_start p source out reader line works = record {
   count_is = refl;
 }
 
-pub at_more : (f : LineAnswers) {count : ℕ} (n : ℕ) (block : List ℕ) (p q : Progress) (a b c : SourceState) (h i j : AnswerState)
-    → IsAt f count p a b h i → b.has_failed ≡ false → Gave b c (take n block) → n ≤ length block
-    → ((front : List ℕ) → IsFed p.reader front → TakesBytes f front (take n block) p.line q (Ok tt) i j)
+pub at_more : {f : LineAnswers} {count : ℕ} (n : ℕ) (block : List ℕ) {p q : Progress} {a b c : SourceState} {h i j : AnswerState}
+    → IsAt f count p a b h i → b.has_failed ≡ false → Gave b c (take n block) → n ≤ length block → TakesNext f (take n block) p q (Ok tt) i j
     → IsAt f (count + n) q a c h j
-at_more f n block p q a b c h i j x good gave fits takes = record {
+at_more n block {a = a} {b = b} {c = c} x good gave fits next = record {
   input = x.input ++ take n block;
   gave = gave_more a b c _ _ good x.gave gave;
-  takes = takes_more _ [] x.input (take n block) 1 p q tt (Ok tt) h i j x.takes (takes (last_part [] x.input) x.takes.1.reader);
+  takes = takes_more _ [] x.input (take n block) 1 _ _ tt (Ok tt) _ _ _ x.takes (next.takes (last_part [] x.input) x.takes.1.reader);
   count_is = let e : length (x.input ++ take n block) ≡ length x.input + length (take n block) = length-append x.input (take n block) in
-      let f : length (take n block) ≡ n = length_taken _ fits in omega (arith, e, f, x.count_is);
+      let k : length (take n block) ≡ n = length_taken _ fits in omega (arith, e, k, x.count_is);
 }
 
 -- a read that gave nothing
 gave_no_more : (a b c : SourceState) (x : List ℕ) → b.has_failed ≡ false → Gave a b x → Gave b c [] → Gave a c x
 gave_no_more a b c x good p q = subst (λ xs. Gave a c xs) (append-nil x) (gave_more a b c _ [] good p q)
 
-pub at_failure : (f : LineAnswers) {count : ℕ} {p : Progress} (a b c : SourceState) (h i : AnswerState)
+pub at_failure : {f : LineAnswers} {count : ℕ} {p : Progress} {a b c : SourceState} {h i : AnswerState}
     → IsAt f count p a b h i → count ≤ limit → b.has_failed ≡ false → Gave b c [] → c.has_failed ≡ true
     → AnswersSource f CannotRead a c h i
-at_failure f a b c h i x room good gave failed = record {
+at_failure {f = f} {a = a} {b = b} {c = c} {h = h} {i = i} x room good gave failed = record {
   input = x.input;
   gave = gave_no_more a b c _ good x.gave gave;
   answers = subst (λ v. Answers (answer_lines f x.input (ending_of v c.has_ended)) CannotRead h i) (sym failed)
@@ -181,17 +178,14 @@ at_failure f a b c h i x room good gave failed = record {
 ending_is : (c : SourceState) (f : Bool) {e : Bool} → c.has_failed ≡ f → c.has_ended ≡ e → ending c ≡ ending_of f e
 ending_is c f p q = ap (λ v. ending_of v c.has_ended) p ∙ ap (λ v. ending_of f v) q
 
-pub at_end : (f : LineAnswers) {count : ℕ} {p : Progress} (a b c : SourceState) (h : AnswerState) {i : AnswerState} (j : AnswerState) (r : Result (Unit {0}) Stop) (stop : Stop)
+pub at_end : {f : LineAnswers} {count : ℕ} {p : Progress} {a b c : SourceState} {h i j : AnswerState} {r : Result (Unit {0}) Stop}
     → IsAt f count p a b h i → count ≤ limit → b.has_failed ≡ false → Gave b c [] → c.has_failed ≡ false → c.has_ended ≡ true
-    → ((front : List ℕ) → IsFed p.reader front → TakesEnd f front p.line r i j)
-    → stop ≡ stop_unless r Done
-    → AnswersSource f stop a c h j
-at_end f a b c h j r stop x room good gave failed ended last e = record {
+    → TakesLast f p r i j → AnswersSource f (stop_unless r Done) a c h j
+at_end {f = f} {a = a} {b = b} {c = c} {h = h} {j = j} {r = r} x room good gave failed ended last = record {
   input = x.input;
   gave = gave_no_more a b c _ good x.gave gave;
-  answers = subst (λ m. Answers (answer_lines f x.input m) stop h j) (sym (ending_is c _ failed ended))
-      (subst (λ k. Answers (answer_lines f x.input End) k h j) (sym e)
-      (input_ends _ _ _ _ _ _ _ (omega (arith, x.count_is, room)) x.takes (last (last_part [] x.input) x.takes.1.reader)));
+  answers = subst (λ m. Answers (answer_lines f x.input m) (stop_unless r Done) h j) (sym (ending_is c _ failed ended))
+      (input_ends _ _ _ _ _ _ _ (omega (arith, x.count_is, room)) x.takes (last.takes (last_part [] x.input) x.takes.1.reader));
   read_whole = λ d. ended;
 }
 
@@ -217,39 +211,33 @@ not_done : (f : LineAnswers) (bytes : List ℕ) (q : Progress) (h j : AnswerStat
 not_done f bytes q h j (Ok u) x e = cc e
 not_done f bytes q h j (Err stop) x e = stop_is_not_done _ _ q _ _ x e
 
-pub at_limit : (f : LineAnswers) {count : ℕ} (n room : ℕ) (block : List ℕ) (p q : Progress) (a b c : SourceState) (h i j : AnswerState) (r : Result (Unit {0}) Stop) (stop : Stop)
+pub at_limit : {f : LineAnswers} {count : ℕ} (n room : ℕ) (block : List ℕ) {p q : Progress} {a b c : SourceState} {h i j : AnswerState} {r : Result (Unit {0}) Stop}
     → IsAt f count p a b h i → room + count ≡ limit → room < n → n ≤ length block → b.has_failed ≡ false → Gave b c (take n block) → c.has_failed ≡ false → c.has_ended ≡ false
-    → ((front : List ℕ) → IsFed p.reader front → TakesBytes f front (take room block) p.line q r i j)
-    → stop ≡ stop_unless r InputTooLong
-    → AnswersSource f stop a c h j
-at_limit f n room block p q a b c h i j r stop x sum long fits good gave failed ended takes e =
-    let y = takes_more _ [] x.input (take room block) 1 p q tt r h i j x.takes (takes (last_part [] x.input) x.takes.1.reader) in
+    → TakesNext f (take room block) p q r i j → AnswersSource f (stop_unless r InputTooLong) a c h j
+at_limit {f = f} n room block {a = a} {b = b} {c = c} {h = h} {j = j} {r = r} x sum long fits good gave failed ended next =
+    let y = takes_more _ [] x.input (take room block) 1 _ _ tt r _ _ _ x.takes (next.takes (last_part [] x.input) x.takes.1.reader) in
     let l : length (x.input ++ take n block) ≡ length x.input + length (take n block) = length-append x.input (take n block) in
     let k : length (take n block) ≡ n = length_taken _ fits in
     record {
       input = x.input ++ take n block;
       gave = gave_more a b c _ _ good x.gave gave;
-      answers = subst (λ m. Answers (answer_lines f (x.input ++ take n block) m) stop h j) (sym (ending_is c _ failed ended))
-          (subst (λ v. Answers (answer_lines f (x.input ++ take n block) More) v h j) (sym e)
-          (too_long_answers _ _ _ _ _ _
-          (omega (arith, l, k, x.count_is, sum, long)) (cut_block _ _ _ _ x.count_is sum (omega (arith, long)) fits) y));
-      read_whole = λ d. absurd (not_done _ _ _ _ _ _ y (sym e ∙ d));
+      answers = subst (λ m. Answers (answer_lines f (x.input ++ take n block) m) (stop_unless r InputTooLong) h j) (sym (ending_is c _ failed ended))
+          (too_long_answers _ _ _ _ _ _ (omega (arith, l, k, x.count_is, sum, long)) (cut_block _ _ _ _ x.count_is sum (omega (arith, long)) fits) y);
+      read_whole = λ d. absurd (not_done _ _ _ _ _ _ y d);
     }
 
-pub at_stop : (f : LineAnswers) {count : ℕ} (n : ℕ) (block : List ℕ) (p q : Progress) (a b c : SourceState) (h i j : AnswerState) (stop : Stop)
+pub at_stop : {f : LineAnswers} {count : ℕ} (n : ℕ) (block : List ℕ) {p q : Progress} {a b c : SourceState} {h i j : AnswerState} {stop : Stop}
     → IsAt f count p a b h i → n + count ≤ limit → n ≤ length block → b.has_failed ≡ false → Gave b c (take n block) → c.has_failed ≡ false → c.has_ended ≡ false
-    → ((front : List ℕ) → IsFed p.reader front → TakesBytes f front (take n block) p.line q (Err stop) i j)
-    → AnswersSource f stop a c h j
-at_stop f n block p q a b c h i j stop x room fits good gave failed ended takes =
-    let y = takes_more _ [] x.input (take n block) 1 p q tt (Err stop) h i j x.takes (takes (last_part [] x.input) x.takes.1.reader) in
+    → TakesNext f (take n block) p q (Err stop) i j → AnswersSource f stop a c h j
+at_stop {f = f} n block {q = q} {a = a} {b = b} {c = c} {h = h} {j = j} {stop = stop} x room fits good gave failed ended next =
+    let y = takes_more _ [] x.input (take n block) 1 _ q tt (Err stop) _ _ j x.takes (next.takes (last_part [] x.input) x.takes.1.reader) in
     let l : length (x.input ++ take n block) ≡ length x.input + length (take n block) = length-append x.input (take n block) in
     let k : length (take n block) ≡ n = length_taken _ fits in
     record {
       input = x.input ++ take n block;
       gave = gave_more a b c _ _ good x.gave gave;
       answers = subst (λ m. Answers (answer_lines f (x.input ++ take n block) m) stop h j) (sym (ending_is c _ failed ended))
-          (answers_stopped _ _ q _ _ _
-          (whole_input _ (omega (arith, l, k, x.count_is, room))) y);
+          (answers_stopped _ _ q _ _ _ (whole_input _ (omega (arith, l, k, x.count_is, room))) y);
       read_whole = λ d. absurd (stop_is_not_done _ _ q _ _ y d);
     }
 
@@ -258,27 +246,19 @@ gave_nothing_of a b block e x = subst (λ k. Gave a b (take k block)) e x
 
 -- a whole text at once
 
-text_taken : (f : LineAnswers) (text : List ℕ) (p q : Progress) (r : Result (Unit {0}) Stop) (h i : AnswerState)
-    → IsFed p.reader [] → p.line ≡ 1 → ((front : List ℕ) → IsFed p.reader front → TakesBytes f front text p.line q r h i)
-    → TakesBytes f [] text 1 q r h i
-text_taken f text p q r h i reader line takes = subst (λ n. TakesBytes f [] text n q r h i) line (takes [] reader)
+text_taken : (f : LineAnswers) (text : List ℕ) {p q : Progress} (r : Result (Unit {0}) Stop) {h i : AnswerState}
+    → IsFed p.reader [] → p.line ≡ 1 → TakesNext f text p q r h i → TakesBytes f [] text 1 q r h i
+text_taken f text {q = q} r {h = h} {i = i} reader line next = subst (λ n. TakesBytes f [] text n q r h i) line (next.takes [] reader)
 
-pub text_stopped : (f : LineAnswers) (text : List ℕ) {p : Progress} (q : Progress) (stop : Stop) (h j : AnswerState)
-    → length text ≤ limit → IsFed p.reader [] → p.line ≡ 1
-    → ((front : List ℕ) → IsFed p.reader front → TakesBytes f front text p.line q (Err stop) h j)
-    → Answers (answer_lines f text End) stop h j
-text_stopped f text q stop h j fits reader line takes =
+pub text_stopped : {f : LineAnswers} {text : List ℕ} {p q : Progress} {stop : Stop} {h j : AnswerState}
+    → length text ≤ limit → IsFed p.reader [] → p.line ≡ 1 → TakesNext f text p q (Err stop) h j → Answers (answer_lines f text End) stop h j
+text_stopped {f = f} {text = text} {stop = stop} {h = h} {j = j} fits reader line next =
     stopped_answers f _ End _ h j (all_lines _ fits)
-    (stopped_front _ _ (ended_lines [] text) (line_with_bytes (last_part [] text)) _ h j
-    (text_taken f text _ q (Err stop) h j reader line takes))
+    (stopped_front _ _ (ended_lines [] text) (line_with_bytes (last_part [] text)) _ h j (text_taken f text (Err stop) reader line next))
 
-pub text_done : (f : LineAnswers) (text : List ℕ) (p q : Progress) (r : Result (Unit {0}) Stop) {stop : Stop} (h i j : AnswerState)
-    → length text ≤ limit → IsFed p.reader [] → p.line ≡ 1
-    → ((front : List ℕ) → IsFed p.reader front → TakesBytes f front text p.line q (Ok tt) h i)
-    → ((front : List ℕ) → IsFed q.reader front → TakesEnd f front q.line r i j)
-    → stop ≡ stop_unless r Done
-    → Answers (answer_lines f text End) stop h j
-text_done f text p q r h i j fits reader line takes last e =
-    let x = text_taken f text p q (Ok tt) h i reader line takes in
-    subst (λ k. Answers (answer_lines f text End) k h j) (sym e)
-    (input_ends f text q h i j r fits x (last (last_part [] text) x.1.reader))
+pub text_done : {f : LineAnswers} {text : List ℕ} {p q : Progress} {r : Result (Unit {0}) Stop} {h i j : AnswerState}
+    → length text ≤ limit → IsFed p.reader [] → p.line ≡ 1 → TakesNext f text p q (Ok tt) h i → TakesLast f q r i j
+    → Answers (answer_lines f text End) (stop_unless r Done) h j
+text_done {f = f} {text = text} {q = q} {r = r} {h = h} {i = i} {j = j} fits reader line next last =
+    let x = text_taken f text {q = q} (Ok tt) {h = h} {i = i} reader line next in
+    input_ends f text q h i j r fits x (last.takes (last_part [] text) x.1.reader)

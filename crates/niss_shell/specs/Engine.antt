@@ -126,6 +126,16 @@ abbrev pub TakesEnd : LineAnswers → List ℕ → ℕ → Result (Unit {0}) Sto
 TakesEnd f front n (Ok u) old new = AllAnswered f n (line_with_bytes front) old new
 TakesEnd f front n (Err stop) old new = StopsWithin f n (line_with_bytes front) stop old new
 
+-- The next bytes were taken, whatever stood before them in their line.
+pub record TakesNext (f : LineAnswers) (bytes : List ℕ) (before after : Progress)
+    (result : Result (Unit {0}) Stop) (old new : AnswerState) : Type 0 where
+  pub takes : (front : List ℕ) → IsFed before.reader front → TakesBytes f front bytes before.line after result old new
+
+-- The end of the input was taken, whatever stood before it in its line.
+pub record TakesLast (f : LineAnswers) (before : Progress)
+    (result : Result (Unit {0}) Stop) (old new : AnswerState) : Type 0 where
+  pub takes : (front : List ℕ) → IsFed before.reader front → TakesEnd f front before.line result old new
+
 -- One line was answered, which takes so many looks, and at most so many.
 abbrev pub AnswersLine :
     Result (List ℕ) LineFault → ℕ → ℕ → ℕ → Result (Unit {0}) Stop → AnswerState → AnswerState → Type 0
