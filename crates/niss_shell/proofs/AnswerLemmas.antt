@@ -56,8 +56,7 @@ stopped_answers f input m _ a b e x = absurd x
 answers_stopped : (f : LineAnswers) (input : List ℕ) {whole : List ℕ} (q : Progress) (stop : Stop) (a b : AnswerState)
     → take limit input ≡ whole → TakesBytes f [] whole 1 q (Err stop) a b → Answers (answer_lines f input More) stop a b
 answers_stopped f input _ stop a b e x =
-    stopped_answers _ _ More _ _ _
-    (append-nil (ended_lines [] (take limit input)) ∙ ap (λ xs. ended_lines [] xs) e) x
+    stopped_answers _ _ More _ _ _ (append-nil (ended_lines [] (take limit input)) ∙ ap (λ xs. ended_lines [] xs) e) x
 
 -- what is written where no line has a fault
 faultless_answers : (f : LineAnswers) (input : List ℕ) (m : Ending) {lines : List (List ℕ)} {stop : Stop} (a b : AnswerState)
@@ -90,16 +89,14 @@ whole_input input h = take_all limit input h
 answers_cannot_read : {f : LineAnswers} (input : List ℕ) {q : Progress} {a b : AnswerState}
     → length input ≤ limit → TakesBytes f [] input 1 q (Ok tt) a b → Answers (answer_lines f input Fail) CannotRead a b
 answers_cannot_read input h x =
-    faultless_answers _ _ Fail _ _
-    (append-nil (ended_lines [] (take limit input)) ∙ ap (λ xs. ended_lines [] xs) (whole_input _ h))
+    faultless_answers _ _ Fail _ _ (append-nil (ended_lines [] (take limit input)) ∙ ap (λ xs. ended_lines [] xs) (whole_input _ h))
     (sym (choose_false _ _ _ (short_test h)))
     x.0
 
 answers_too_long : {f : LineAnswers} (input : List ℕ) {whole : List ℕ} {q : Progress} {a b : AnswerState}
     → limit < length input → take limit input ≡ whole → TakesBytes f [] whole 1 q (Ok tt) a b → Answers (answer_lines f input More) InputTooLong a b
 answers_too_long input h e x =
-    faultless_answers _ _ More _ _
-    (append-nil (ended_lines [] (take limit input)) ∙ ap (λ xs. ended_lines [] xs) e)
+    faultless_answers _ _ More _ _ (append-nil (ended_lines [] (take limit input)) ∙ ap (λ xs. ended_lines [] xs) e)
     (sym (choose_true _ _ _ (long_test h)))
     x.0
 
@@ -112,9 +109,7 @@ answers_done : {f : LineAnswers} {input : List ℕ} {q : Progress} {a b c : Answ
     → length input ≤ limit → TakesBytes f [] input 1 q (Ok tt) a b → AllAnswered f q.line (line_with_bytes (last_part [] input)) b c
     → Answers (answer_lines f input End) Done a c
 answers_done h x y =
-    faultless_answers _ _ End _ _
-    (all_lines _ h)
-    (sym (choose_false _ _ _ (short_test h)))
+    faultless_answers _ _ End _ _ (all_lines _ h) (sym (choose_false _ _ _ (short_test h)))
     (answered_more x.0 _ _ _ x.1.line y)
 
 -- a run that was stopped by the last line
@@ -122,8 +117,7 @@ answers_last_stopped : {f : LineAnswers} {input : List ℕ} {q : Progress} (stop
     → length input ≤ limit → TakesBytes f [] input 1 q (Ok tt) a b → StopsWithin f q.line (line_with_bytes (last_part [] input)) stop b c
     → Answers (answer_lines f input End) stop a c
 answers_last_stopped stop a c h x y =
-    stopped_answers _ _ End _ a _ (all_lines _ h)
-    (stopped_more x.0 _ _ _ _ x.1.line y)
+    stopped_answers _ _ End _ a _ (all_lines _ h) (stopped_more x.0 _ _ _ _ x.1.line y)
 
 -- the end of an input of which all bytes were taken
 input_ends : (f : LineAnswers) (input : List ℕ) (q : Progress) (a b c : AnswerState) (r : Result (Unit {0}) Stop)

@@ -170,7 +170,7 @@ pub takes_none : (f : LineAnswers) (front : List ℕ) (n : ℕ) (p : Progress) (
 takes_none f front n p out u at line works = (
   subst (λ ls. AllAnswered f n ls out out) (sym (none_ended _)) (answered_none works),
   record {
-    reader = subst (λ v. IsFed p.reader v) (sym (all_open)) at;
+    reader = subst (λ v. IsFed p.reader v) (sym all_open) at;
     line = let e : length (ended_lines front []) ≡ 0 = ap length (none_ended _) in omega (arith, line, e);
   },
 )
@@ -189,15 +189,13 @@ takes_more f front xs ys n q r u (Ok v) a b c x y = (
   },
 )
 takes_more f front xs ys n q r u (Err stop) a b c x y =
-    subst (λ ls. StopsWithin f n ls stop a c) (sym (ended_lines-append _ _ _))
-    (stopped_more x.0 _ c q.line stop x.1.line y)
+    subst (λ ls. StopsWithin f n ls stop a c) (sym (ended_lines-append _ _ _)) (stopped_more x.0 _ c q.line stop x.1.line y)
 
 -- a run that was stopped within these bytes stays so, whatever comes after them
 pub takes_front : (f : LineAnswers) (front xs ys : List ℕ) (n : ℕ) (q : Progress) (stop : Stop) (a c : AnswerState)
     → TakesBytes f front xs n q (Err stop) a c → TakesBytes f front (xs ++ ys) n q (Err stop) a c
 takes_front f front xs ys n q stop a c x =
-    subst (λ ls. StopsWithin f n ls stop a c) (sym (ended_lines-append _ _ _))
-    (stopped_front _ _ _ _ _ _ _ x)
+    subst (λ ls. StopsWithin f n ls stop a c) (sym (ended_lines-append _ _ _)) (stopped_front _ _ _ _ _ _ _ x)
 
 -- a block in which the run was stopped
 pub takes_stopped : (f : LineAnswers) (front bytes : List ℕ) (i n : ℕ) (q : Progress) (stop : Stop) (a c : AnswerState)

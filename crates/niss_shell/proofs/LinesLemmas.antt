@@ -81,8 +81,7 @@ pub answered_lines-stays : {E : Type 0} (f : List ℕ → Result (List ℕ) E) (
 unfolding first_fault answered_lines
 answered_lines-stays f n [] ys e some = absurd (cc some)
 answered_lines-stays f n (l ∷ xs) ys e some =
-    answered_some_step _ _ _
-    (answered_lines-stays f (n + 1) xs ys e) some
+    answered_some_step _ _ _ (answered_lines-stays f (n + 1) xs ys e) some
 
 -- what is answered of some lines is a beginning of what is answered of these and more
 pub answered_lines-front : {E : Type 0} (f : List ℕ → Result (List ℕ) E) (xs ys : List (List ℕ))

@@ -40,8 +40,7 @@ number_too_large E most word (Ok n) digits small parsed large =
     (λ some fits. omega (arith, large n refl, most_tested (digits_value 10 word) most fits, p.1))
 number_too_large E most word (Err e) digits small parsed large =
     let p = parse_digits digits_model {E = E} 64 word (Err e) parsed digits in
-    no_number_by _ _ _ _
-    (λ some fits. p (below_tested some, omega (arith, small, most_tested _ _ fits)))
+    no_number_by _ _ _ _ (λ some fits. p (below_tested some, omega (arith, small, most_tested _ _ fits)))
 
 -- steps
 

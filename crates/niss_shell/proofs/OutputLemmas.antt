@@ -41,8 +41,7 @@ pub line_sent : {W : Type 0} (state : W → TargetState) (r : Result (Unit {0}) 
     (pending_state (state old.target.now) text looks) (output_state state new looks))
     → Delivers state r line old new
 line_sent state r line old new e none then = λ works looks.
-    then_sent _ _ _ _ _ _ _
-    (waits _ (e ∙ ap (λ p. p ++ line) (sym none)) works) (then works looks)
+    then_sent _ _ _ _ _ _ _ (waits _ (e ∙ ap (λ p. p ++ line) (sym none)) works) (then works looks)
 
 -- what is written of a search, by what it found
 pub same_count : {least : Option ℕ} (found : Option ℕ) (count solutions nodes : ℕ) {looks : ℕ} → least ≡ found → count ≡ solutions → nodes ≡ looks

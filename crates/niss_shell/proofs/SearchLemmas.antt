@@ -57,16 +57,13 @@ module _ (command : LineCommand) (line given : Moves) (report asked : Report) (s
   pub all_reported : {u : Unit {0}} → IsTrue (may_start step (home given))
       → Writes (search_text asked step limit slack (home given)) (near_looks_of step (home given) limit slack) (look_bound (turns_of step) limit) old new
       → AnswersMoves command line n (Ok u) old new
-  all_reported e p = answered _ (starts _ _ _
-      _ _ _ _ _ _ e p)
+  all_reported e p = answered _ (starts _ _ _ _ _ _ _ _ _ e p)
 
   pub refusal_reported : {stop : Stop} → IsTrue (may_start step (home given)) → stop ≡ CannotWrite
       → Refuses (search_text asked step limit slack (home given)) (near_looks_of step (home given) limit slack) (look_bound (turns_of step) limit) old new
       → AnswersMoves command line n (Err stop) old new
-  refusal_reported e f p = answered _ (starts_refused _ _ _
-      _ _ _ _ _ _ e f p)
+  refusal_reported e f p = answered _ (starts_refused _ _ _ _ _ _ _ _ _ e f p)
 
   pub not_started : (named : Step) (r : Result (Unit {0}) Stop) → may_start step (home given) ≡ false → named ≡ step
       → ((l m : ℕ) → AnswersLine (Err (NoStart named)) l m n r old new) → AnswersMoves command line n r old new
-  not_started named r e f h = answered _ (starts_not _ _ _ _
-      _ _ _ _ _ _ e f h)
+  not_started named r e f h = answered _ (starts_not _ _ _ _ _ _ _ _ _ _ e f h)

@@ -208,21 +208,19 @@ stop_unless (Err stop) otherwise = stop
 -- a refused last flush ends a good run, and changes nothing otherwise
 abbrev pub flushed_stop : Stop → Bool → Stop
 flushed_stop Done true = CannotWrite
-flushed_stop Done false = Done
-flushed_stop Usage refused = Usage
-flushed_stop InputTooLong refused = InputTooLong
-flushed_stop CannotRead refused = CannotRead
-flushed_stop CannotWrite refused = CannotWrite
-flushed_stop OutOfMemory refused = OutOfMemory
-flushed_stop (Line n fault) refused = Line n fault
+flushed_stop stop refused = stop
 
--- The last flush, which may be refused.
-pub record FlushesLast (stop stop_now : Stop) (old new : TargetState) : Type 0 where
-  pub refused : Bool
-  pub stop_is : stop_now ≡ flushed_stop stop refused
+-- A flush that was refused or wasn't.
+pub record Flushes (refused : Bool) (old new : TargetState) : Type 0 where
   pub flush_failed : new.flush_failed ≡ (old.flush_failed || refused)
   pub write_failed : new.write_failed ≡ old.write_failed
   pub bytes : Appended old new []
   pub silent : StaysSilent old new
   pub tried : new.flush_tried ≡ true
   pub flushed : new.is_flushed ≡ not refused
+
+-- The last flush, which may be refused.
+pub record FlushesLast (stop stop_now : Stop) (old new : TargetState) : Type 0 where
+  pub refused : Bool
+  pub stop_is : stop_now ≡ flushed_stop stop refused
+  pub flush : Flushes refused old new

@@ -95,9 +95,8 @@ scramble_words _ = Err WrongCount
 
 -- The numbers of a request are in their ranges.
 abbrev pub IsInRange : Request → Type 0
-IsInRange (OnLines command words) = Unit {0}
-IsInRange ListSteps = Unit {0}
 IsInRange (DrawScrambles state stream turns count) = (turns ≤ most_turns) × (count ≤ most_scrambles)
+IsInRange request = Unit {0}
 
 abbrev pub request_named : List ℕ → List (List ℕ) → Result Request UsageFault
 request_named name rest =
@@ -149,8 +148,7 @@ name_of_command (command.Scramble state stream turns count) = codes "scramble"
 -- A command on lines is asked for.
 abbrev pub takes_lines : Request → Bool
 takes_lines (OnLines command words) = true
-takes_lines ListSteps = false
-takes_lines (DrawScrambles state stream turns count) = false
+takes_lines request = false
 
 abbrev pub spaced_word : List ℕ → List ℕ
 spaced_word word = space ∷ word
@@ -162,11 +160,8 @@ joined (word ∷ words) = word ++ flat_map spaced_word words ++ line_feed ∷ []
 
 -- The input comes from the source.
 abbrev pub reads_source : Result Request UsageFault → Bool
-reads_source (Err fault) = false
 reads_source (Ok (OnLines command [])) = true
-reads_source (Ok (OnLines command (word ∷ words))) = false
-reads_source (Ok ListSteps) = false
-reads_source (Ok (DrawScrambles state stream turns count)) = false
+reads_source asked = false
 
 -- The command searches, and has tables of its step.
 abbrev pub has_step : LineCommand → Bool
@@ -175,8 +170,6 @@ has_step (Search query) = true
 
 -- The request asks for memory: for the tables of a step, and for the input, where words of at most the limit give it.
 abbrev pub takes_memory : Result Request UsageFault → Bool
-takes_memory (Err fault) = false
 takes_memory (Ok (OnLines command [])) = has_step command
 takes_memory (Ok (OnLines command (word ∷ words))) = nat_le (length (joined (word ∷ words))) limit
-takes_memory (Ok ListSteps) = false
-takes_memory (Ok (DrawScrambles state stream turns count)) = false
+takes_memory asked = false

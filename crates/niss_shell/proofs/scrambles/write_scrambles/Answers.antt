@@ -18,18 +18,14 @@ pub loop-preserved : goal.loop-preserved
 loop-preserved g c = record {
   generator = c.draw_line.ensures.words ∙ ap (after_words c.args.turns) c.loop.invariant.generator ∙ after_scramble _ _ _;
   same_target = c.in_ok-put.ensures.same_target ∙ c.loop.invariant.same_target;
-  written = λ looks. written_more _ _ _ _
-      _ _ _
-      (c.draw_line.ensures.line ∙ line_of_next _ _ _ c.loop.invariant.generator)
+  written = λ looks. written_more _ _ _ _ _ _ _ (c.draw_line.ensures.line ∙ line_of_next _ _ _ c.loop.invariant.generator)
       (c.loop.invariant.written looks) (c.in_ok-put.ensures.taken (c.loop.invariant.written looks).works looks);
 }
 
 pub returns-in_err-put-clause-answers : goal.returns-in_err-put-clause-answers
 returns-in_err-put-clause-answers g c =
     let p = err_from_is_err_and c.from_residual.result c.from_residual.ensures.1 in
-    rw (p.1, p.2) (λ looks. refused_line _ _ _ _
-   
-    c.loop-test.true
+    rw (p.1, p.2) (λ looks. refused_line _ _ _ _ c.loop-test.true
     (c.draw_line.ensures.line ∙ line_of_next _ _ _ c.loop.invariant.generator)
     (c.loop.invariant.written looks) (c.in_err-put.ensures.taken (c.loop.invariant.written looks).works looks))
 
@@ -37,8 +33,7 @@ pub returns-in_err-send-clause-answers : goal.returns-in_err-send-clause-answers
 returns-in_err-send-clause-answers g c =
     let p = err_from_is_err_and c.from_residual-in_err-send.result c.from_residual-in_err-send.ensures.1 in
     let all : c.loop.counter ≡ c.args.count = omega (arith, c.loop-test.false, c.loop.auto.counter-end) in
-    rw (p.1, p.2) (λ looks. then_sent {T = Unit {0}} (Err (record {})) _ _ _
-    _ _ (output_state g.W.Target.state c.send.new.self looks)
+    rw (p.1, p.2) (λ looks. then_sent {T = Unit {0}} (Err (record {})) _ _ _ _ _ (output_state g.W.Target.state c.send.new.self looks)
     (all_written _ _ _ _ all (c.loop.invariant.written looks))
     (c.in_err-send.ensures.sent (c.loop.invariant.written looks).works looks))
 

@@ -15,8 +15,7 @@ some_words words h = simp length-map h
 pub returns-in_err-work-clause-refused : goal.returns-in_err-work-clause-refused
 returns-in_err-work-clause-refused g c =
     let p = err_from_is_err_and c.from_residual.result c.from_residual.ensures.1 in
-    rw (p.1, p.2) (λ source old works. runs_memory_source _ _ _ _
-    (no_words _ (grind (arith, common_steps))) works c.in_err-work.ensures.asks)
+    rw (p.1, p.2) (λ source old works. runs_memory_source _ _ _ _ (no_words _ (grind (arith, common_steps))) works c.in_err-work.ensures.asks)
 
 pub returns-in_default-clause-refused : goal.returns-in_default-clause-refused
 returns-in_default-clause-refused g c = λ source old works. runs_too_long _ _ _ _

@@ -19,9 +19,6 @@ returns-clause-reported g c = λ e at works.
     subst (λ n. c.search.new.meter ≤ c.args.looks.now + look_bound (turns_of c.args.self.now.tables) n) limit_is c.in-Ok.ensures.bound in
     let nodes_are : c.count.result - c.count-before.result ≡ near_looks_of c.args.self.now.tables e c.args.self.now.limit c.args.self.now.slack =
     omega (arith, c.count.ensures, c.count-before.ensures, looked) in
-    reported_after g.W.Target.state _
-   
-    _ _
-    _ _ c.args.output.now c.put.new.self
+    reported_after g.W.Target.state _ _ _ _ _ c.args.output.now c.put.new.self
     (c.put_count.ensures ∙ same_count _ _ _ _ length_is solutions_are nodes_are)
     looked within c.put.ensures.taken works
