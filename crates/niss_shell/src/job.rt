@@ -165,6 +165,8 @@ impl<A: Allocator> Job<A> {
 }
 
 /// Does a command on the lines of the words, or of the source where there are none.
+///
+/// It is a function of its own so that the job's drop, which is long, is proved apart from `answer_command`.
 pub fn answer_lines<A: Allocator + Copy, R: Source, W: Target>(
     alloc: A,
     request: LineRequest<'_>,

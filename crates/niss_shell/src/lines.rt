@@ -239,9 +239,8 @@ impl<'a, A: Allocator> Lines<'a, A> {
         let mut block = [0u8; BLOCK];
         let mut count = 0usize;
         loop {
-            let given = match source.read(&mut block) {
-                Ok(given) => given,
-                Err(_) => return Err(Stop::CannotRead),
+            let Ok(given) = source.read(&mut block) else {
+                return Err(Stop::CannotRead);
             };
             if given == 0 {
                 return self.take_end(output);

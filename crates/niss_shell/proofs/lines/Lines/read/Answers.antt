@@ -22,9 +22,9 @@ loop-given-init g c = record {
   block = omega arith;
 }
 
-pub returns-in-Err-clause-answers : goal.returns-in-Err-clause-answers
-returns-in-Err-clause-answers g c =
-    at_failure c.loop-given.invariant.at c.loop-given.invariant.room c.loop-given.invariant.reads c.in-Err.ensures.bytes c.in-Err.ensures.failed
+pub returns-in_default-clause-answers : goal.returns-in_default-clause-answers
+returns-in_default-clause-answers g c =
+    at_failure c.loop-given.invariant.at c.loop-given.invariant.room c.loop-given.invariant.reads c.in_default.ensures.bytes c.in_default.ensures.failed
 
 pub returns-then-given-eq0-clause-answers : goal.returns-then-given-eq0-clause-answers
 returns-then-given-eq0-clause-answers g c =
