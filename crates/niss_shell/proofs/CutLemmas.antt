@@ -38,21 +38,11 @@ pub text_is_cut : TextIsCut
 text_is_cut text = cut_after [] text (All-nil (λ n. n ≢ 10))
 
 -- bytes that are no line feed only move to the front
-other_ended : (c : Bool) (front bs : List ℕ) (b : ℕ) → c ≡ false
-    → (if c then front ∷ ended_lines [] bs else ended_lines (front ++ b ∷ []) bs) ≡ ended_lines (front ++ b ∷ []) bs
-other_ended true front bs b e = absurd (cc e)
-other_ended false front bs b e = refl
-
-other_last : (c : Bool) (front bs : List ℕ) (b : ℕ) → c ≡ false
-    → (if c then last_part [] bs else last_part (front ++ b ∷ []) bs) ≡ last_part (front ++ b ∷ []) bs
-other_last true front bs b e = absurd (cc e)
-other_last false front bs b e = refl
-
 ended_after : (front part bs : List ℕ) → HasNoLineFeed part → ended_lines front (part ++ bs) ≡ ended_lines (front ++ part) bs
 unfolding ended_lines
 ended_after front [] bs h = ap (λ v. ended_lines v bs) (sym (append-nil front))
 ended_after front (b ∷ part) bs h =
-    other_ended _ _ (part ++ bs) b (ne_eqb b 10 (All-head (λ n. n ≢ 10) b part h))
+    ap (λ c. if c then front ∷ ended_lines [] (part ++ bs) else ended_lines (front ++ b ∷ []) (part ++ bs)) (ne_eqb b 10 (All-head (λ n. n ≢ 10) b part h))
     ∙ ended_after (front ++ b ∷ []) part bs (All-tail (λ n. n ≢ 10) b part h)
     ∙ ap (λ v. ended_lines v bs) (append_assoc front (b ∷ []) part)
 
@@ -60,7 +50,7 @@ last_after : (front part bs : List ℕ) → HasNoLineFeed part → last_part fro
 unfolding last_part
 last_after front [] bs h = ap (λ v. last_part v bs) (sym (append-nil front))
 last_after front (b ∷ part) bs h =
-    other_last _ front (part ++ bs) b (ne_eqb b 10 (All-head (λ n. n ≢ 10) b part h))
+    ap (λ c. if c then last_part [] (part ++ bs) else last_part (front ++ b ∷ []) (part ++ bs)) (ne_eqb b 10 (All-head (λ n. n ≢ 10) b part h))
     ∙ last_after (front ++ b ∷ []) part bs (All-tail (λ n. n ≢ 10) b part h)
     ∙ ap (λ v. last_part v bs) (append_assoc front (b ∷ []) part)
 

@@ -86,39 +86,36 @@ takes_end_of_line f front n q result old new e answers reader line =
     subst (λ b. TakesBytes f front (b ∷ []) n q result old new) (sym e)
     (takes_line_feed _ _ _ _ _ _ _ answers reader line)
 
--- another byte
-other_ended : (c : Bool) (front : List ℕ) (b : ℕ) → c ≡ false → (if c then front ∷ ended_lines [] [] else ended_lines (front ++ b ∷ []) []) ≡ []
-unfolding ended_lines
-other_ended true front b e = absurd (cc e)
-other_ended false front b e = refl
-
-other_last : (c : Bool) (front : List ℕ) (b : ℕ) → c ≡ false → (if c then last_part [] [] else last_part (front ++ b ∷ []) []) ≡ front ++ b ∷ []
-unfolding last_part
-other_last true front b e = absurd (cc e)
-other_last false front b e = refl
-
-no_line_ended : (front : List ℕ) (byte : ℕ) → (byte == 10) ≡ false → ended_lines front (byte ∷ []) ≡ []
-unfolding ended_lines
-no_line_ended front byte e = other_ended _ _ byte e
-
-still_open : (front : List ℕ) (byte : ℕ) → (byte == 10) ≡ false → last_part front (byte ∷ []) ≡ front ++ byte ∷ []
-unfolding last_part
-still_open front byte e = other_last _ _ _ e
-
 pub answered_none : {f : LineAnswers} {n : ℕ} {out : AnswerState} → has_fault out.target ≡ false → AllAnswered f n [] out out
 unfolding first_fault answered_lines
 answered_none works = record { faultless = refl; writes = writes_as refl refl (omega arith) (writes_nothing _ works) }
 
-pub takes_other_byte : (f : LineAnswers) (front : List ℕ) (byte n : ℕ) (q : Progress) (out : AnswerState) {u : Unit {0}}
-    → (byte == 10) ≡ false → IsFed q.reader (front ++ byte ∷ []) → q.line ≡ n → has_fault out.target ≡ false
-    → TakesBytes f front (byte ∷ []) n q (Ok u) out out
-takes_other_byte f front byte n q out e reader line works = (
-  subst (λ ls. AllAnswered f n ls out out) (sym (no_line_ended _ _ e)) (answered_none works),
+-- bytes inside a line
+inside_ended : (front xs : List ℕ) → HasNoLineFeed xs → ended_lines front xs ≡ []
+unfolding ended_lines
+inside_ended front [] h = refl
+inside_ended front (b ∷ xs) h = ap (λ c. if c then front ∷ ended_lines [] xs else ended_lines (front ++ b ∷ []) xs) h.0 ∙ inside_ended (front ++ b ∷ []) xs h.1
+
+inside_last : (front xs : List ℕ) → HasNoLineFeed xs → last_part front xs ≡ front ++ xs
+unfolding last_part
+inside_last front [] h = sym (append-nil front)
+inside_last front (b ∷ xs) h = ap (λ c. if c then last_part [] xs else last_part (front ++ b ∷ []) xs) h.0 ∙ inside_last (front ++ b ∷ []) xs h.1 ∙ append_assoc front (b ∷ []) xs
+
+pub takes_inside : (f : LineAnswers) (front xs : List ℕ) (n : ℕ) (q : Progress) (out : AnswerState) (u : Unit {0})
+    → HasNoLineFeed xs → IsFed q.reader (front ++ xs) → q.line ≡ n → has_fault out.target ≡ false
+    → TakesBytes f front xs n q (Ok u) out out
+takes_inside f front xs n q out u h reader line works = (
+  subst (λ ls. AllAnswered f n ls out out) (sym (inside_ended _ _ h)) (answered_none works),
   record {
-    reader = subst (λ v. IsFed q.reader v) (sym (still_open _ _ e)) reader;
-    line = let none : length (ended_lines front (byte ∷ [])) ≡ 0 = ap length (no_line_ended _ _ e) in omega (arith, line, none);
+    reader = subst (λ v. IsFed q.reader v) (sym (inside_last _ _ h)) reader;
+    line = let none : length (ended_lines front xs) ≡ 0 = ap length (inside_ended _ _ h) in omega (arith, line, none);
   },
 )
+
+pub takes_none : (f : LineAnswers) (front : List ℕ) (n : ℕ) (p : Progress) (out : AnswerState) (u : Unit {0})
+    → IsFed p.reader front → p.line ≡ n → has_fault out.target ≡ false → TakesBytes f front [] n p (Ok u) out out
+takes_none f front n p out u at line works =
+    takes_inside f front [] n p out u tt (subst (λ v. IsFed p.reader v) (sym (append-nil front)) at) line works
 
 -- lines, and more lines
 
@@ -157,24 +154,6 @@ stopped_front f n xs ys _ a c q = absurd q
 
 -- bytes, and more bytes
 
-none_ended : (front : List ℕ) → ended_lines front [] ≡ []
-unfolding ended_lines
-none_ended front = refl
-
-all_open : {front : List ℕ} → last_part front [] ≡ front
-unfolding last_part
-all_open = refl
-
-pub takes_none : (f : LineAnswers) (front : List ℕ) (n : ℕ) (p : Progress) (out : AnswerState) (u : Unit {0})
-    → IsFed p.reader front → p.line ≡ n → has_fault out.target ≡ false → TakesBytes f front [] n p (Ok u) out out
-takes_none f front n p out u at line works = (
-  subst (λ ls. AllAnswered f n ls out out) (sym (none_ended _)) (answered_none works),
-  record {
-    reader = subst (λ v. IsFed p.reader v) (sym all_open) at;
-    line = let e : length (ended_lines front []) ≡ 0 = ap length (none_ended _) in omega (arith, line, e);
-  },
-)
-
 pub takes_more : (f : LineAnswers) (front xs ys : List ℕ) (n : ℕ) (q r : Progress) (u : Unit {0}) (result : Result (Unit {0}) Stop) (a b c : AnswerState)
     → TakesBytes f front xs n q (Ok u) a b → TakesBytes f (last_part front xs) ys q.line r result b c
     → TakesBytes f front (xs ++ ys) n r result a c
@@ -203,28 +182,6 @@ pub takes_stopped : (f : LineAnswers) (front bytes : List ℕ) (i n : ℕ) (q : 
 takes_stopped f front bytes i n q stop a c x =
     subst (λ xs. TakesBytes f front xs n q (Err stop) a c) (take-append-drop i bytes)
     (takes_front _ _ _ _ _ q _ _ _ x)
-
--- bytes inside a line
-inside_ended : (front xs : List ℕ) → HasNoLineFeed xs → ended_lines front xs ≡ []
-unfolding ended_lines
-inside_ended front [] h = refl
-inside_ended front (b ∷ xs) h = ap (λ c. if c then front ∷ ended_lines [] xs else ended_lines (front ++ b ∷ []) xs) h.0 ∙ inside_ended (front ++ b ∷ []) xs h.1
-
-inside_last : (front xs : List ℕ) → HasNoLineFeed xs → last_part front xs ≡ front ++ xs
-unfolding last_part
-inside_last front [] h = sym (append-nil front)
-inside_last front (b ∷ xs) h = ap (λ c. if c then last_part [] xs else last_part (front ++ b ∷ []) xs) h.0 ∙ inside_last (front ++ b ∷ []) xs h.1 ∙ append_assoc front (b ∷ []) xs
-
-pub takes_inside : (f : LineAnswers) (front xs : List ℕ) (n : ℕ) (q : Progress) (out : AnswerState) (u : Unit {0})
-    → HasNoLineFeed xs → IsFed q.reader (front ++ xs) → q.line ≡ n → has_fault out.target ≡ false
-    → TakesBytes f front xs n q (Ok u) out out
-takes_inside f front xs n q out u h reader line works = (
-  subst (λ ls. AllAnswered f n ls out out) (sym (inside_ended _ _ h)) (answered_none works),
-  record {
-    reader = subst (λ v. IsFed q.reader v) (sym (inside_last _ _ h)) reader;
-    line = let none : length (ended_lines front xs) ≡ 0 = ap length (inside_ended _ _ h) in omega (arith, line, none);
-  },
-)
 
 -- the first byte of a block
 

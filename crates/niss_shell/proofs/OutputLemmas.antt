@@ -1,6 +1,6 @@
 -- What an output takes: a text, the lines of a search, and what stands after them.
 use Rattle.std.proofs.Common.{◌≡◌, ◌==◌, ◌⊎◌, Bool, true, refl, ℕ, ◌+◌, ◌≤◌, false, Option, Result, Ok, Err, List, [], ◌∷◌, ◌++◌, inl, inr, length, sym, ap, ◌∙◌, subst, append_assoc, arith}
-use Rattle.std.proofs.lemmas.Bool.Decides.{eqb_tells}
+use Rattle.std.proofs.lemmas.Bool.{eqb-true}
 use Rattle.std.proofs.lemmas.List.{nil_from_length}
 use Rattle.std.specs.Prelude.{OnOk, OnErr, flat_map}
 use Rattle.niss_shell.specs.Names.{Turn, DeviceFault, Output}
@@ -27,12 +27,8 @@ line_refused state (Err x) old new N e n none d =
     (n, (none, λ works looks. subst (λ t. Refuses t 0 0 (output_state state old looks) (output_state state new looks)) e (d works looks)))
 
 -- a text that was tested to be empty
-empty_where : {n : ℕ} (bytes : List ℕ) → n ≡ length bytes → ((n == 0 ≡ true) × (n ≡ 0)) ⊎ ((n == 0 ≡ false) × (n ≡ 0 → ⊥)) → (n == 0) ≡ true → bytes ≡ []
-empty_where bytes e (inl h) k = nil_from_length bytes (omega (arith, e, h.1))
-empty_where bytes e (inr h) k = absurd (cc (h.0, k))
-
 pub no_bytes : {empty : Bool} (bytes : List ℕ) → empty ≡ (length bytes == 0) → empty ≡ true → bytes ≡ []
-no_bytes bytes e k = empty_where _ refl (eqb_tells (length bytes) 0) (sym e ∙ k)
+no_bytes bytes e k = nil_from_length bytes (eqb-true (length bytes) 0 (sym e ∙ k))
 
 -- a line that was put where nothing waited, and written
 pub line_sent : {W : Type 0} (state : W → TargetState) (r : Result (Unit {0}) DeviceFault) (line : List ℕ) {text : List ℕ} (old new : Output W)

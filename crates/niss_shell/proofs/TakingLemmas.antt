@@ -11,7 +11,7 @@ use Rattle.niss_shell.specs.Engine.{AnswerState, Progress, Writes, Refuses, Answ
 use Rattle.niss_shell.specs.Job.{command_of}
 use Rattle.niss_shell.specs.Taking.{Keeps, answers_of}
 use Rattle.niss_shell.specs.Names.{Lines, Stop, CannotWrite}
-use Rattle.niss_shell.proofs.EngineLemmas.{takes_none, takes_inside, takes_end_of_line, takes_other_byte, nothing_fed, first_piece, takes_piece, takes_stopped}
+use Rattle.niss_shell.proofs.EngineLemmas.{takes_none, takes_inside, takes_end_of_line, nothing_fed, first_piece, takes_piece, takes_stopped}
 use Rattle.niss_shell.proofs.AnswerLemmas.{takes_no_line, takes_last_line}
 use Rattle.niss_shell.proofs.PendingLemmas.{lines_sent, lines_unsent}
 
@@ -44,7 +44,7 @@ pub byte_taken : {f : LineAnswers} (bytes : List ℕ) {p q : Progress} {out : An
     → q.line ≡ p.line → has_fault out.target ≡ false → TakesNext f (take 1 bytes) p q (Ok tt) out out
 byte_taken bytes {p = p} {q = q} {out = out} some other fed line works = record {
   takes = λ front at. first_piece _ front bytes p.line q (Ok tt) out out some
-      (takes_other_byte _ front _ p.line q out (ne_eqb _ _ other) (fed front at) line works);
+      (takes_inside _ front _ p.line q out tt (ne_eqb _ _ other, tt) (fed front at) line works);
 }
 
 -- a block, piece by piece

@@ -78,7 +78,8 @@ RefusesAnswers f lines old new =
     Refuses (written_text f.answer_of lines) (looks_for f lines) (most_looks_for f lines) old new
 
 -- None of the lines has a fault, and all answers are written.
-pub record AllAnswered (f : LineAnswers) (n : ℕ) (lines : List (List ℕ)) (old new : AnswerState) : Type 0 where
+pub record AllAnswered (f : LineAnswers) (n : ℕ) (lines : List (List ℕ))
+    (old new : AnswerState) : Type 0 where
   pub faultless : first_fault f.answer_of n lines ≡ None
   pub writes : WritesAnswers f lines old new
 
@@ -129,7 +130,8 @@ TakesEnd f front n (Err stop) old new = StopsWithin f n (line_with_bytes front) 
 -- The next bytes were taken, whatever stood before them in their line.
 pub record TakesNext (f : LineAnswers) (bytes : List ℕ) (before after : Progress)
     (result : Result (Unit {0}) Stop) (old new : AnswerState) : Type 0 where
-  pub takes : (front : List ℕ) → IsFed before.reader front → TakesBytes f front bytes before.line after result old new
+  pub takes : (front : List ℕ) → IsFed before.reader front →
+      TakesBytes f front bytes before.line after result old new
 
 -- The end of the input was taken, whatever stood before it in its line.
 pub record TakesLast (f : LineAnswers) (before : Progress)
@@ -140,20 +142,24 @@ pub record TakesLast (f : LineAnswers) (before : Progress)
 abbrev pub AnswersLine :
     Result (List ℕ) LineFault → ℕ → ℕ → ℕ → Result (Unit {0}) Stop → AnswerState → AnswerState → Type 0
 AnswersLine (Ok text) looks most_looks n (Ok u) old new = Writes text looks most_looks old new
-AnswersLine (Ok text) looks most_looks n (Err stop) old new = (stop ≡ CannotWrite) × Refuses text looks most_looks old new
+AnswersLine (Ok text) looks most_looks n (Err stop) old new =
+    (stop ≡ CannotWrite) × Refuses text looks most_looks old new
 AnswersLine (Err fault) looks most_looks n (Ok u) old new = ⊥
 AnswersLine (Err fault) looks most_looks n (Err stop) old new =
     ((stop ≡ Line n fault) × Writes [] 0 0 old new) ⊎ ((stop ≡ CannotWrite) × Refuses [] 0 0 old new)
 
 -- the same of the moves of a line, by a command
-abbrev pub AnswersMoves : LineCommand → Moves → ℕ → Result (Unit {0}) Stop → AnswerState → AnswerState → Type 0
+abbrev pub AnswersMoves :
+    LineCommand → Moves → ℕ → Result (Unit {0}) Stop → AnswerState → AnswerState → Type 0
 AnswersMoves command line n result old new =
-    AnswersLine (answer_to_moves command line) (looks_at_moves command line) (most_line_looks command) n result old new
+    AnswersLine (answer_to_moves command line) (looks_at_moves command line) (most_line_looks command) n result
+    old new
 
 -- the same of a line by its bytes
 abbrev pub AnswersBytes :
     LineAnswers → List ℕ → ℕ → Result (Unit {0}) Stop → AnswerState → AnswerState → Type 0
-AnswersBytes f bytes n result old new = AnswersLine (f.answer_of bytes) (f.looks_of bytes) f.most_looks n result old new
+AnswersBytes f bytes n result old new =
+    AnswersLine (f.answer_of bytes) (f.looks_of bytes) f.most_looks n result old new
 
 -- The looks before line n leave room for those of the rest of a run: at most 2 ^ 64 before the first line, and less
 -- than 2 ^ 93 at each.
@@ -193,13 +199,15 @@ pub record RunsUnflushed (asked : Result Request UsageFault) (stop : Stop)
     (source source_now : SourceState) (old new : AnswerState) : Type 0 where
   pub input : List ℕ
   pub gave : Gave source source_now input
-  pub ends : EndsUnflushed stop (answer_request asked input (ending source_now)) asked source source_now old new
+  pub ends : EndsUnflushed stop (answer_request asked input (ending source_now)) asked
+      source source_now old new
   pub read_whole : stop ≡ Done → reads_source asked ≡ true → source_now.has_ended ≡ true
 
 -- A run may stop so before anything was read or written.
 abbrev pub EndsAtOnce : Result Request UsageFault → Stop → Type 0
 EndsAtOnce asked stop =
-    (source : SourceState) (old : AnswerState) → has_fault old.target ≡ false → RunsUnflushed asked stop source source old old
+    (source : SourceState) (old : AnswerState) → has_fault old.target ≡ false →
+    RunsUnflushed asked stop source source old old
 
 abbrev pub stop_unless : Result (Unit {0}) Stop → Stop → Stop
 stop_unless (Ok u) otherwise = otherwise

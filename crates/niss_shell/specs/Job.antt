@@ -12,4 +12,5 @@ command_of (work.Search search) = search_command search.report search.tables sea
 -- The words are the input, joined, or there are none.
 abbrev pub IsInput : {T : Type 0} → (T → List ℕ) → Option T → List (List ℕ) → Type 0
 IsInput bytes None words = length words ≡ 0
-IsInput bytes (Some text) words = (0 < length words) × (bytes text ≡ joined words) × (length (joined words) ≤ limit)
+IsInput bytes (Some text) words =
+    (0 < length words) × (bytes text ≡ joined words) × (length (joined words) ≤ limit)

@@ -16,7 +16,8 @@ devices source output error = record { source = source; output = output; error =
 
 -- Nothing ended the run before its end: it has no fault, and where the input comes from the source, that was read to its
 -- end.
-pub record ReachesEnd (due : Answer) (asked : Result Request UsageFault) (source_now : SourceState) : Type 0 where
+pub record ReachesEnd (due : Answer) (asked : Result Request UsageFault)
+    (source_now : SourceState) : Type 0 where
   pub good : due.stop ≡ Done
   pub read_whole : reads_source asked ≡ true → source_now.has_ended ≡ true
 

@@ -12,7 +12,8 @@ use Rattle.niss_shell.specs.Words.{search_command}
 -- The answer to the line is all solutions of least length within n, in turn order, or that there are none; and the
 -- looks of all deepenings are within the bound.
 pub record SolvesLine (step : Step) (n : ℕ) (bytes : List ℕ) (line : Moves) : Type 0 where
-  pub text : answer (search_command Solutions step n 0) bytes ≡ Ok (solve_text n (solutions_of step (home line) n))
+  pub text : answer (search_command Solutions step n 0) bytes
+      ≡ Ok (solve_text n (solutions_of step (home line) n))
   pub looks : line_looks (search_command Solutions step n 0) bytes ≡ all_looks_of step (home line) n
   pub within : all_looks_of step (home line) n ≤ look_bound (turns_of step) n
 

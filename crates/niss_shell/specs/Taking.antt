@@ -23,9 +23,11 @@ pub record Keeps {A : Type 0} (old new : Lines A) : Type 0 where
   pub looks : new.looks.ghost_name ≡ old.looks.ghost_name
 
 -- The line that is being read was answered, whatever its bytes are.
-abbrev pub AnswersOpenLine : {A : Type 0} → Result (Unit {0}) Stop → Lines A → AnswerState → AnswerState → Type 0
+abbrev pub AnswersOpenLine :
+    {A : Type 0} → Result (Unit {0}) Stop → Lines A → AnswerState → AnswerState → Type 0
 AnswersOpenLine result lines old new =
-    (bytes : List ℕ) → IsFed lines.reader bytes → AnswersBytes (answers_of lines) bytes lines.line result old new
+    (bytes : List ℕ) → IsFed lines.reader bytes →
+    AnswersBytes (answers_of lines) bytes lines.line result old new
 
 -- The next bytes were taken.
 abbrev pub Takes :

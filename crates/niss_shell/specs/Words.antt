@@ -43,7 +43,8 @@ most_limit = 20
 
 -- a search for a step, with the greatest number of turns, and how many turns more than the least a solution may have
 abbrev pub search_command : Report → Step → (n slack : ℕ) → LineCommand
-search_command report step n slack = Search (record { report = report; step = step; limit = n; slack = slack })
+search_command report step n slack =
+    Search (record { report = report; step = step; limit = n; slack = slack })
 
 -- the same where the step and the number are known
 abbrev pub search_for : Report → Option Step → Option ℕ → List (List ℕ) → Result Request UsageFault
@@ -55,7 +56,8 @@ search_for report (Some step) (Some n) rest = Ok (OnLines (search_command report
 abbrev pub search_words : Report → List (List ℕ) → Result Request UsageFault
 search_words report [] = Err WrongCount
 search_words report (step ∷ []) = Err WrongCount
-search_words report (step ∷ most ∷ rest) = search_for report (step_named step) (number_of most_limit most) rest
+search_words report (step ∷ most ∷ rest) =
+    search_for report (step_named step) (number_of most_limit most) rest
 
 -- a search with a slack, where the step and the numbers are known
 abbrev pub near_for : Option Step → Option ℕ → Option ℕ → List (List ℕ) → Result Request UsageFault
@@ -84,13 +86,15 @@ most_state = 2 ^ 64 - 1
 
 -- scrambles, where each of the numbers is one
 abbrev pub scramble_with : Option ℕ → Option ℕ → Option ℕ → Option ℕ → Result Request UsageFault
-scramble_with (Some state) (Some stream) (Some turns) (Some count) = Ok (DrawScrambles state stream turns count)
+scramble_with (Some state) (Some stream) (Some turns) (Some count) =
+    Ok (DrawScrambles state stream turns count)
 scramble_with _ _ _ _ = Err BadNumber
 
 -- the same from its four words
 abbrev pub scramble_words : List (List ℕ) → Result Request UsageFault
 scramble_words (state ∷ stream ∷ turns ∷ count ∷ []) =
-    scramble_with (number_of most_state state) (number_of most_state stream) (number_of most_turns turns) (number_of most_scrambles count)
+    scramble_with (number_of most_state state) (number_of most_state stream)
+    (number_of most_turns turns) (number_of most_scrambles count)
 scramble_words _ = Err WrongCount
 
 -- The numbers of a request are in their ranges.
@@ -122,9 +126,12 @@ requested (command.Invert rest) = OnLines (Rewrite Invert) (map string_bytes res
 requested (command.Unniss rest) = OnLines (Rewrite Unniss) (map string_bytes rest.now)
 requested (command.Cleanup rest) = OnLines (Rewrite Cleanup) (map string_bytes rest.now)
 requested (command.Print rest) = OnLines (Rewrite Print) (map string_bytes rest.now)
-requested (command.Solve step n rest) = OnLines (search_command Solutions step n 0) (map string_bytes rest.now)
-requested (command.Count step n rest) = OnLines (search_command Counts step n 0) (map string_bytes rest.now)
-requested (command.Near step n slack rest) = OnLines (search_command Solutions step n slack) (map string_bytes rest.now)
+requested (command.Solve step n rest) =
+    OnLines (search_command Solutions step n 0) (map string_bytes rest.now)
+requested (command.Count step n rest) =
+    OnLines (search_command Counts step n 0) (map string_bytes rest.now)
+requested (command.Near step n slack rest) =
+    OnLines (search_command Solutions step n slack) (map string_bytes rest.now)
 requested command.Steps = ListSteps
 requested (command.Scramble state stream turns count) = DrawScrambles state stream turns count
 
