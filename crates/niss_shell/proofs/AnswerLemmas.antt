@@ -10,7 +10,7 @@ use Rattle.niss_moves.specs.Reader.{Reader, IsFed}
 use Rattle.niss_shell.specs.Words.{limit}
 use Rattle.niss_shell.specs.Output.{Ending, More, End, Fail, ending, ending_of, LineAnswers, answer_lines, line_with_bytes, last_line, complete_lines, stop_of}
 use Rattle.niss_shell.specs.Engine.{AnswerState, Progress, stop_unless, WritesAnswers, RefusesAnswers, AllAnswered, StopsWithin, TakesBytes, TakesEnd, TakesNext, TakesLast, AnswersBytes, IsAt, Answers, AnswersSource}
-use Rattle.niss_shell.specs.Names.{Stop, Done, Line, Usage, InputTooLong, CannotRead, CannotWrite, OutOfMemory}
+use Rattle.niss_shell.specs.Names.{Stop, Done, Line, InputTooLong, CannotRead, CannotWrite}
 use Rattle.niss_shell.proofs.DeviceLemmas.{gave_nothing, gave_more}
 use Rattle.niss_shell.proofs.EngineLemmas.{answered_line, stopped_line, answered_none, answered_more, stopped_more, stopped_front, takes_none, takes_more}
 

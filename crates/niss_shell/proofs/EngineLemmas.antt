@@ -1,5 +1,5 @@
 -- How the engine's steps join.
-use Rattle.std.proofs.Common.{◌≡◌, ℕ, ◌+◌, ◌*◌, ◌<◌, ◌≤◌, ◌==◌, take, drop, get_or, Bool, true, false, if◌then◌else◌, Some, None, Result, Ok, Err, List, [], ◌∷◌, ◌++◌, length, inl, inr, refl, sym, ap, ◌∙◌, subst, append-nil, append_assoc, length-append, arith}
+use Rattle.std.proofs.Common.{◌≡◌, ℕ, ◌+◌, ◌<◌, ◌≤◌, take, drop, get_or, false, if◌then◌else◌, None, Result, Ok, Err, List, [], ◌∷◌, ◌++◌, length, inl, inr, refl, sym, ap, ◌∙◌, subst, append-nil, append_assoc, length-append, arith}
 use Rattle.std.specs.Prelude.{OnOk}
 use Rattle.std.specs.List.{between}
 use Rattle.std.proofs.lemmas.Slice.{between_to_end}
@@ -11,7 +11,7 @@ use Rattle.niss_moves.specs.WholeMoves.{HasNoLineFeed}
 use Rattle.niss_moves.specs.Reader.{Reader, IsFed}
 use Rattle.niss_shell.specs.Output.{LineAnswers}
 use Rattle.niss_shell.specs.Engine.{AnswerState, Progress, Writes, WritesAnswers, Refuses, RefusesAnswers, AllAnswered, StopsWithin, TakesBytes, AnswersLine, AnswersBytes}
-use Rattle.niss_shell.specs.Names.{LineFault, Stop, Done, Line, Usage, InputTooLong, CannotRead, CannotWrite, OutOfMemory}
+use Rattle.niss_shell.specs.Names.{LineFault, Stop, Line, CannotWrite}
 use Rattle.niss_shell.proofs.StateLemmas.{writes_nothing, writes_as, refuses_as, WritesLines, RefusesLines, lines_written, lines_refused, lines_cut}
 use Rattle.niss_shell.proofs.LinesLemmas.{ended_lines-append, last_part-append, first_fault-append, first_fault-stays, answered_lines-append, answered_lines-stays, answered_lines-front}
 

@@ -1,5 +1,5 @@
 -- Answers that wait, and what is written after them.
-use Rattle.std.proofs.Common.{◌≡◌, ℕ, ◌+◌, false, Result, Ok, Err, List, [], ◌++◌, sym, ap, ◌∙◌, subst, append-nil, arith}
+use Rattle.std.proofs.Common.{◌≡◌, ℕ, false, Result, Ok, Err, List, [], ◌++◌, sym, ap, ◌∙◌, subst, append-nil, arith}
 use Rattle.std.specs.Prelude.{OnOk, OnErr}
 use Rattle.niss_shell.specs.Device.{TargetState, has_fault, Appended, WriteRefused}
 use Rattle.niss_shell.specs.Output.{LineAnswers}

@@ -6,7 +6,6 @@ use Rattle.std.proofs.lemmas.List.{take-append-drop}
 use Rattle.std.proofs.lemmas.List.FromFn.{map-range_with_len_more, take-map-range_with_len}
 use Rattle.niss_search.specs.Draw.{next_words, after_words, draw}
 use Rattle.rand_pcg.specs.Lcg.{Lcg, state_after}
-use Rattle.rand_pcg.specs.Pcg.{multiplier_64}
 use Rattle.niss_shell.specs.Device.{has_fault}
 use Rattle.niss_shell.specs.Scrambles.{scramble, scrambles, turns_line, scramble_text}
 use Rattle.niss_shell.specs.Engine.{AnswerState, Writes, Refuses}

@@ -1,11 +1,10 @@
 -- What `solve` promises of one line.
 use Rattle.std.proofs.Common.{◌≡◌, ℕ, Bool, true, false, Ok, List, refl, ap, ◌∙◌}
 use Rattle.std.specs.Prelude.{IsTrue}
-use Rattle.niss_cube.specs.Steps.{turns_of, may_start}
+use Rattle.niss_cube.specs.Steps.{turns_of}
 use Rattle.niss_shell.specs.Names.{Step, Solutions}
-use Rattle.niss_search.specs.Cubes.{solutions_of}
 use Rattle.niss_search.specs.Laws.{LooksWithinBound}
-use Rattle.niss_shell.specs.Output.{home, solve_text, answer_to, looks_at, where_it_starts}
+use Rattle.niss_shell.specs.Output.{answer_to, looks_at, where_it_starts}
 use Rattle.niss_shell.specs.SolveLaw.{AcceptedLinesAreSolved}
 use Rattle.niss_shell.specs.Words.{search_command}
 

@@ -68,14 +68,12 @@ pub enum LineCommand {
 fn search_for(report: Report, step: Step, limit: Limit, slack: Limit) -> LineCommand
     ensures { result ≡ search_command report step limit slack }
 {
-    LineCommand::Search(
-        Query {
-            report,
-            step,
-            limit,
-            slack,
-        },
-    )
+    LineCommand::Search(Query {
+        report,
+        step,
+        limit,
+        slack,
+    })
 }
 
 /// What is done with each line, and the words that give the lines; without words they are read.
@@ -125,7 +123,10 @@ impl<'a> Command<'a> {
             Command::Cleanup(words) => (LineCommand::Rewrite(Rewriting::Cleanup), words),
             Command::Print(words) => (LineCommand::Rewrite(Rewriting::Print), words),
             Command::Solve(step, limit, words) => {
-                (search_for(Report::Solutions, step, limit, Limit::ZERO), words)
+                (
+                    search_for(Report::Solutions, step, limit, Limit::ZERO),
+                    words,
+                )
             }
             Command::Count(step, limit, words) => {
                 (search_for(Report::Counts, step, limit, Limit::ZERO), words)

@@ -1,8 +1,5 @@
-use Rattle.std.proofs.Common.{map, Ok, ap, ◌∙◌}
-use Rattle.std.specs.Prelude.{string_bytes}
-use Rattle.niss_shell.specs.Words.{request_of, requested}
-use Rattle.niss_shell.specs.Engine.{output_state, stop_unless}
-use Rattle.niss_shell.specs.Names.{Done}
+use Rattle.std.proofs.Common.{Ok, ap, ◌∙◌}
+use Rattle.niss_shell.specs.Words.{requested}
 use Rattle.niss_shell.proofs.RunLemmas.{runs_usage, runs_steps, runs_scrambles}
 use Rattle.niss_shell.proofs.shell.answer_command.Goals as goal
 

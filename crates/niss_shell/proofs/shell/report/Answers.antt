@@ -1,5 +1,4 @@
 use Rattle.std.proofs.Common.{◌∙◌}
-use Rattle.niss_shell.specs.Output.{error_text}
 use Rattle.niss_shell.proofs.RunLemmas.{reported}
 use Rattle.niss_shell.proofs.shell.report.Goals as goal
 

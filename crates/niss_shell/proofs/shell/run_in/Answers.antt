@@ -1,10 +1,7 @@
 use Rattle.std.proofs.Common.{◌≡◌, map, not, false, sym, ap, ◌∙◌, subst}
 use Rattle.std.specs.Prelude.{string_bytes}
-use Rattle.niss_shell.specs.Words.{request_of}
 use Rattle.niss_shell.specs.Device.{has_fault}
-use Rattle.niss_shell.specs.Engine.{output_state, stop_unless}
 use Rattle.niss_shell.specs.Run.{Runs, devices}
-use Rattle.niss_shell.specs.Names.{Done}
 use Rattle.niss_shell.proofs.RunLemmas.{runs_flushed, lent_back, one_flush}
 use Rattle.niss_shell.proofs.shell.run_in.Goals as goal
 

@@ -1,4 +1,3 @@
-use Rattle.niss_shell.specs.Engine.{output_state}
 use Rattle.niss_shell.proofs.PendingLemmas.{then_sent}
 use Rattle.niss_shell.proofs.output.Output.write.Goals as goal
 

@@ -2,7 +2,6 @@ use Rattle.std.proofs.Common.{◌≡◌, ◌+◌, ◌-◌, ◌≤◌, ◌∙◌,
 use Rattle.niss_cube.specs.Steps.{turns_of}
 use Rattle.niss_search.specs.Cubes.{least_length_of, near_solutions_of, near_looks_of}
 use Rattle.niss_search.specs.Solutions.{look_bound}
-use Rattle.niss_shell.specs.Output.{count_text}
 use Rattle.niss_shell.proofs.OutputLemmas.{reported_after, same_count}
 use Rattle.niss_shell.proofs.search.Search.count.Goals as goal
 

@@ -1,6 +1,5 @@
 use Rattle.std.proofs.Common.{◌≡◌, ap, ◌∙◌}
 use Rattle.std.proofs.lemmas.Result.{err_from_is_err_and}
-use Rattle.niss_search.specs.Cubes.{near_solutions_of}
 use Rattle.niss_shell.specs.Output.{solution_line}
 use Rattle.niss_shell.proofs.SearchLemmas.{walk_keeps, stop_keeps}
 use Rattle.niss_shell.proofs.OutputLemmas.{found_all, unsolved, nothing_waits, solved}
