@@ -123,16 +123,16 @@ impl<'a> Command<'a> {
             Command::Cleanup(words) => (LineCommand::Rewrite(Rewriting::Cleanup), words),
             Command::Print(words) => (LineCommand::Rewrite(Rewriting::Print), words),
             Command::Solve(step, limit, words) => {
-                (
-                    search_for(Report::Solutions, step, limit, Limit::ZERO),
-                    words,
-                )
+                let search = search_for(Report::Solutions, step, limit, Limit::ZERO);
+                (search, words)
             }
             Command::Count(step, limit, words) => {
-                (search_for(Report::Counts, step, limit, Limit::ZERO), words)
+                let search = search_for(Report::Counts, step, limit, Limit::ZERO);
+                (search, words)
             }
             Command::Near(step, limit, slack, words) => {
-                (search_for(Report::Solutions, step, limit, slack), words)
+                let search = search_for(Report::Solutions, step, limit, slack);
+                (search, words)
             }
             Command::Steps | Command::Scramble { .. } => return None,
         };
