@@ -5,16 +5,14 @@ use Rattle.std.proofs.lemmas.Grind.{common_steps}
 use Rattle.std.proofs.lemmas.List.{take_all}
 use Rattle.std.proofs.Math.Seq.{take-append-add}
 use Rattle.niss_shell.specs.Device.{SourceState, has_fault, Gave}
-use Rattle.niss_shell.specs.Lines.{ended_lines, last_part, written_text, first_fault}
+use Rattle.niss_shell.specs.Lines.{ended_lines, last_part, first_fault}
 use Rattle.niss_moves.specs.Reader.{Reader, IsFed}
 use Rattle.niss_shell.specs.Words.{limit}
-use Rattle.niss_shell.specs.Output.{Ending, More, End, Fail, ending, ending_of, LineAnswers, looks_for, most_looks_for, answer_lines, line_with_bytes, last_line, complete_lines, stop_of}
-use Rattle.niss_shell.specs.Engine.{AnswerState, Progress, stop_unless, WritesAnswers, Refuses, AllAnswered, StopsWithin, TakesBytes, TakesEnd, AnswersBytes, IsAt, Answers, AnswersSource}
-use Rattle.niss_shell.specs.declared.stop.Stop.{Stop}
-use Rattle.niss_shell.specs.declared.stop.Stop.TheVariants.{Done, Line, Usage, InputTooLong, CannotRead, CannotWrite, OutOfMemory}
+use Rattle.niss_shell.specs.Output.{Ending, More, End, Fail, ending, ending_of, LineAnswers, answer_lines, line_with_bytes, last_line, complete_lines, stop_of}
+use Rattle.niss_shell.specs.Engine.{AnswerState, Progress, stop_unless, WritesAnswers, RefusesAnswers, AllAnswered, StopsWithin, TakesBytes, TakesEnd, TakesNext, TakesLast, AnswersBytes, IsAt, Answers, AnswersSource}
+use Rattle.niss_shell.specs.Names.{Stop, Done, Line, InputTooLong, CannotRead, CannotWrite}
 use Rattle.niss_shell.proofs.DeviceLemmas.{gave_nothing, gave_more}
-use Rattle.niss_shell.proofs.LinesLemmas.{first_fault-stays}
-use Rattle.niss_shell.proofs.EngineLemmas.{answered_line, stopped_line, answered_none, answered_more, stopped_more, stopped_front, writes_stays, takes_none, takes_more}
+use Rattle.niss_shell.proofs.EngineLemmas.{answered_line, stopped_line, answered_none, answered_more, stopped_more, stopped_front, takes_none, takes_more}
 
 -- the last line
 
@@ -26,64 +24,56 @@ one_line : (front : List ℕ) → length front ≢ 0 → line_with_bytes front �
 one_line [] e = absurd (e refl)
 one_line (b ∷ bs) e = refl
 
-pub takes_no_line : (f : LineAnswers) (front : List ℕ) (n : ℕ) (r : Reader) (out : AnswerState)
+pub takes_no_line : (f : LineAnswers) (front : List ℕ) (n : ℕ) {r : Reader} (out : AnswerState)
     → IsFed r front → r.fed ≡ 0 → has_fault out.target ≡ false → AllAnswered f n (line_with_bytes front) out out
-takes_no_line f front n r out at none works =
-    subst (λ ls. AllAnswered f n ls out out) (sym (no_line front (sym (at.fed) ∙ none))) (answered_none f n out works)
+takes_no_line f front n out at none works =
+    subst (λ ls. AllAnswered f n ls out out) (sym (no_line front (sym (at.fed) ∙ none))) (answered_none works)
 
-last_taken : (f : LineAnswers) (front : List ℕ) (n : ℕ) (result : Result (Unit {0}) Stop) (old new : AnswerState)
+last_taken : (f : LineAnswers) {front : List ℕ} (n : ℕ) (result : Result (Unit {0}) Stop) (old new : AnswerState)
     → AnswersBytes f front n result old new → line_with_bytes front ≡ front ∷ []
     → TakesEnd f front n result old new
-last_taken f front n (Ok u) old new answers e =
-    subst (λ ls. AllAnswered f n ls old new) (sym e)
-    (answered_line f n front (f.answer_of front) u old new refl answers)
-last_taken f front n (Err stop) old new answers e =
-    subst (λ ls. StopsWithin f n ls stop old new) (sym e)
-    (stopped_line f n front (f.answer_of front) stop old new refl answers)
+last_taken f n (Ok u) old new answers e =
+    subst (λ ls. AllAnswered f n ls old new) (sym e) (answered_line _ _ refl answers)
+last_taken f n (Err stop) old new answers e =
+    subst (λ ls. StopsWithin f n ls stop old new) (sym e) (stopped_line _ _ _ _ _ _ _ refl answers)
 
-pub takes_last_line : (f : LineAnswers) (front : List ℕ) (n : ℕ) (r : Reader) (result : Result (Unit {0}) Stop) (old new : AnswerState)
+pub takes_last_line : (f : LineAnswers) {front : List ℕ} (n : ℕ) {r : Reader} (result : Result (Unit {0}) Stop) (old new : AnswerState)
     → IsFed r front → r.fed ≢ 0 → AnswersBytes f front n result old new
     → TakesEnd f front n result old new
-takes_last_line f front n r result old new at some answers =
-    last_taken f front n result old new answers (one_line front (λ z. some (at.fed ∙ z)))
+takes_last_line f n result old new at some answers =
+    last_taken _ _ _ _ _ answers (one_line _ (λ z. some (at.fed ∙ z)))
 
--- a run that was stopped within the lines that count
-
-stopped_answers : (f : LineAnswers) (input : List ℕ) (stop : Stop) (a b : AnswerState)
-    → StopsWithin f 1 (ended_lines [] (take limit input)) stop a b → Answers (answer_lines f input More) stop a b
-stopped_answers f input CannotWrite a b x =
-    subst (λ ls. Refuses (written_text f.answer_of ls) (looks_for f ls) (most_looks_for f ls) a b) (sym (append-nil (ended_lines [] (take limit input)))) x
-stopped_answers f input (Line at fault) a b x = (
-  sym (ap (λ o. stop_of o input More) (first_fault-stays f.answer_of 1 (ended_lines [] (take limit input)) [] (at, fault) x.first)),
-  writes_stays f 1 (ended_lines [] (take limit input)) [] (at, fault) a b x.first x.writes,
+-- a run that was stopped by one of these lines, which are all that count
+stopped_answers : (f : LineAnswers) (input : List ℕ) (m : Ending) {lines : List (List ℕ)} (stop : Stop) (a b : AnswerState)
+    → complete_lines input m ≡ lines → StopsWithin f 1 lines stop a b → Answers (answer_lines f input m) stop a b
+stopped_answers f input m CannotWrite a b e x = subst (λ ls. RefusesAnswers f ls a b) (sym e) x
+stopped_answers f input m (Line at fault) a b e x = (
+  sym (ap (λ o. stop_of o input m) (ap (λ ls. first_fault f.answer_of 1 ls) e ∙ x.first)),
+  subst (λ ls. WritesAnswers f ls a b) (sym e) x.writes,
 )
-stopped_answers f input Done a b x = absurd x
-stopped_answers f input Usage a b x = absurd x
-stopped_answers f input InputTooLong a b x = absurd x
-stopped_answers f input CannotRead a b x = absurd x
-stopped_answers f input OutOfMemory a b x = absurd x
+stopped_answers f input m _ a b e x = absurd x
 
-pub answers_stopped : (f : LineAnswers) (input whole : List ℕ) (q : Progress) (stop : Stop) (a b : AnswerState)
+answers_stopped : (f : LineAnswers) (input : List ℕ) {whole : List ℕ} (q : Progress) (stop : Stop) (a b : AnswerState)
     → take limit input ≡ whole → TakesBytes f [] whole 1 q (Err stop) a b → Answers (answer_lines f input More) stop a b
-answers_stopped f input whole q stop a b e x =
-    stopped_answers f input stop a b (subst (λ xs. StopsWithin f 1 (ended_lines [] xs) stop a b) (sym e) x)
+answers_stopped f input _ stop a b e x =
+    stopped_answers _ _ More _ _ _ (append-nil (ended_lines [] (take limit input)) ∙ ap (λ xs. ended_lines [] xs) e) x
 
 -- what is written where no line has a fault
-faultless_answers : (f : LineAnswers) (input : List ℕ) (m : Ending) (lines : List (List ℕ)) (stop : Stop) (a b : AnswerState)
+faultless_answers : (f : LineAnswers) (input : List ℕ) (m : Ending) {lines : List (List ℕ)} {stop : Stop} (a b : AnswerState)
     → complete_lines input m ≡ lines → stop ≡ stop_of None input m → AllAnswered f 1 lines a b
     → (stop ≡ (answer_lines f input m).stop) × WritesAnswers f (complete_lines input m) a b
-faultless_answers f input m lines stop a b e s x = (
+faultless_answers f input m a b e s x = (
   s ∙ sym (ap (λ o. stop_of o input m) (ap (λ ls. first_fault f.answer_of 1 ls) e ∙ x.faultless)),
   subst (λ ls. WritesAnswers f ls a b) (sym e) x.writes,
 )
 
 -- the tests of the length of the input
 
-pub short_test : (n : ℕ) → n ≤ limit → nat_lt limit n ≡ false
-short_test n h = grind (arith, common_steps)
+pub short_test : {n : ℕ} → n ≤ limit → nat_lt limit n ≡ false
+short_test h = grind (arith, common_steps)
 
-pub long_test : (n : ℕ) → limit < n → nat_lt limit n ≡ true
-long_test n h = grind (arith, common_steps)
+pub long_test : {n : ℕ} → limit < n → nat_lt limit n ≡ true
+long_test h = grind (arith, common_steps)
 
 pub choose_false : {A : Type 0} (c : Bool) (x y : A) → c ≡ false → (if c then x else y) ≡ y
 choose_false true x y e = absurd (cc e)
@@ -96,210 +86,173 @@ choose_true false x y e = absurd (cc e)
 whole_input : (input : List ℕ) → length input ≤ limit → take limit input ≡ input
 whole_input input h = take_all limit input h
 
-pub answers_cannot_read : (f : LineAnswers) (input : List ℕ) (q : Progress) (a b : AnswerState)
+answers_cannot_read : {f : LineAnswers} (input : List ℕ) {q : Progress} {a b : AnswerState}
     → length input ≤ limit → TakesBytes f [] input 1 q (Ok tt) a b → Answers (answer_lines f input Fail) CannotRead a b
-answers_cannot_read f input q a b h x =
-    faultless_answers f input Fail (ended_lines [] input) CannotRead a b
-    (append-nil (ended_lines [] (take limit input)) ∙ ap (λ xs. ended_lines [] xs) (whole_input input h))
-    (sym (choose_false (nat_lt limit (length input)) InputTooLong CannotRead (short_test (length input) h)))
+answers_cannot_read input h x =
+    faultless_answers _ _ Fail _ _ (append-nil (ended_lines [] (take limit input)) ∙ ap (λ xs. ended_lines [] xs) (whole_input _ h))
+    (sym (choose_false _ _ _ (short_test h)))
     x.0
 
-pub answers_too_long : (f : LineAnswers) (input whole : List ℕ) (q : Progress) (a b : AnswerState)
+answers_too_long : {f : LineAnswers} (input : List ℕ) {whole : List ℕ} {q : Progress} {a b : AnswerState}
     → limit < length input → take limit input ≡ whole → TakesBytes f [] whole 1 q (Ok tt) a b → Answers (answer_lines f input More) InputTooLong a b
-answers_too_long f input whole q a b h e x =
-    faultless_answers f input More (ended_lines [] whole) InputTooLong a b
-    (append-nil (ended_lines [] (take limit input)) ∙ ap (λ xs. ended_lines [] xs) e)
-    (sym (choose_true (nat_lt limit (length input)) InputTooLong Done (long_test (length input) h)))
+answers_too_long input h e x =
+    faultless_answers _ _ More _ _ (append-nil (ended_lines [] (take limit input)) ∙ ap (λ xs. ended_lines [] xs) e)
+    (sym (choose_true _ _ _ (long_test h)))
     x.0
 
 all_lines : (input : List ℕ) → length input ≤ limit → complete_lines input End ≡ ended_lines [] input ++ line_with_bytes (last_part [] input)
 all_lines input h =
-    ap (λ xs. ended_lines [] xs ++ last_line End input) (whole_input input h)
-    ∙ ap (λ ls. ended_lines [] input ++ ls) (choose_false (nat_lt limit (length input)) [] (line_with_bytes (last_part [] input)) (short_test (length input) h))
+    ap (λ xs. ended_lines [] xs ++ last_line End input) (whole_input _ h)
+    ∙ ap (λ ls. ended_lines [] input ++ ls) (choose_false _ [] (line_with_bytes (last_part [] input)) (short_test h))
 
-pub answers_done : (f : LineAnswers) (input : List ℕ) (q : Progress) (a b c : AnswerState)
+answers_done : {f : LineAnswers} {input : List ℕ} {q : Progress} {a b c : AnswerState}
     → length input ≤ limit → TakesBytes f [] input 1 q (Ok tt) a b → AllAnswered f q.line (line_with_bytes (last_part [] input)) b c
     → Answers (answer_lines f input End) Done a c
-answers_done f input q a b c h x y =
-    faultless_answers f input End (ended_lines [] input ++ line_with_bytes (last_part [] input)) Done a c
-    (all_lines input h)
-    (sym (choose_false (nat_lt limit (length input)) InputTooLong Done (short_test (length input) h)))
-    (answered_more f 1 q.line (ended_lines [] input) (line_with_bytes (last_part [] input)) a b c x.1.line x.0 y)
+answers_done h x y =
+    faultless_answers _ _ End _ _ (all_lines _ h) (sym (choose_false _ _ _ (short_test h)))
+    (answered_more x.0 _ _ _ x.1.line y)
 
 -- a run that was stopped by the last line
-last_stopped : (f : LineAnswers) (input : List ℕ) (lines : List (List ℕ)) (stop : Stop) (a b : AnswerState)
-    → complete_lines input End ≡ lines → StopsWithin f 1 lines stop a b → Answers (answer_lines f input End) stop a b
-last_stopped f input lines CannotWrite a b e x =
-    subst (λ ls. Refuses (written_text f.answer_of ls) (looks_for f ls) (most_looks_for f ls) a b) (sym e) x
-last_stopped f input lines (Line at fault) a b e x = (
-  sym (ap (λ o. stop_of o input End) (ap (λ ls. first_fault f.answer_of 1 ls) e ∙ x.first)),
-  subst (λ ls. WritesAnswers f ls a b) (sym e) x.writes,
-)
-last_stopped f input lines Done a b e x = absurd x
-last_stopped f input lines Usage a b e x = absurd x
-last_stopped f input lines InputTooLong a b e x = absurd x
-last_stopped f input lines CannotRead a b e x = absurd x
-last_stopped f input lines OutOfMemory a b e x = absurd x
-
-pub answers_last_stopped : (f : LineAnswers) (input : List ℕ) (q : Progress) (stop : Stop) (a b c : AnswerState)
+answers_last_stopped : {f : LineAnswers} {input : List ℕ} {q : Progress} (stop : Stop) (a : AnswerState) {b : AnswerState} (c : AnswerState)
     → length input ≤ limit → TakesBytes f [] input 1 q (Ok tt) a b → StopsWithin f q.line (line_with_bytes (last_part [] input)) stop b c
     → Answers (answer_lines f input End) stop a c
-answers_last_stopped f input q stop a b c h x y =
-    last_stopped f input (ended_lines [] input ++ line_with_bytes (last_part [] input)) stop a c (all_lines input h)
-    (stopped_more f 1 q.line (ended_lines [] input) (line_with_bytes (last_part [] input)) stop a b c x.1.line x.0 y)
+answers_last_stopped stop a c h x y =
+    stopped_answers _ _ End _ a _ (all_lines _ h) (stopped_more x.0 _ _ _ _ x.1.line y)
 
 -- the end of an input of which all bytes were taken
 input_ends : (f : LineAnswers) (input : List ℕ) (q : Progress) (a b c : AnswerState) (r : Result (Unit {0}) Stop)
     → length input ≤ limit → TakesBytes f [] input 1 q (Ok tt) a b → TakesEnd f (last_part [] input) q.line r b c
     → Answers (answer_lines f input End) (stop_unless r Done) a c
-input_ends f input q a b c (Ok u) fits x last = answers_done f input q a b c fits x last
-input_ends f input q a b c (Err stop) fits x last = answers_last_stopped f input q stop a b c fits x last
+input_ends f input q a b c (Ok u) fits x last = answers_done fits x last
+input_ends f input q a b c (Err stop) fits x last = answers_last_stopped _ _ _ fits x last
 
 -- the engine's loop over a source
 
-pub length_taken : (n : ℕ) (block : List ℕ) → n ≤ length block → length (take n block) ≡ n
-length_taken n block h = grind (arith, common_steps)
+pub length_taken : {n : ℕ} (block : List ℕ) → n ≤ length block → length (take n block) ≡ n
+length_taken block h = grind (arith, common_steps)
 
-taken_twice : (room n : ℕ) (block : List ℕ) → room ≤ n → take room (take n block) ≡ take room block
-taken_twice room n block h = grind (arith, common_steps)
+taken_twice : {room n : ℕ} (block : List ℕ) → room ≤ n → take room (take n block) ≡ take room block
+taken_twice block h = grind (arith, common_steps)
 
-pub at_start : (f : LineAnswers) (p : Progress) (source : SourceState) (out : AnswerState)
+pub at_start : {f : LineAnswers} (p : Progress) (source : SourceState) (out : AnswerState)
     → IsFed p.reader [] → p.line ≡ 1 → has_fault out.target ≡ false → IsAt f 0 p source source out out
-at_start f p source out reader line works = record {
+at_start p source out reader line works = record {
   input = [];
   gave = gave_nothing source;
-  takes = takes_none f [] 1 p out tt reader line works;
+  takes = takes_none _ [] 1 p out tt reader line works;
   count_is = refl;
 }
 
-pub at_more : (f : LineAnswers) (count n : ℕ) (block : List ℕ) (p q : Progress) (a b c : SourceState) (h i j : AnswerState)
-    → IsAt f count p a b h i → b.has_failed ≡ false → Gave b c (take n block) → n ≤ length block
-    → ((front : List ℕ) → IsFed p.reader front → TakesBytes f front (take n block) p.line q (Ok tt) i j)
+pub at_more : {f : LineAnswers} {count : ℕ} (n : ℕ) (block : List ℕ) {p q : Progress} {a b c : SourceState} {h i j : AnswerState}
+    → IsAt f count p a b h i → b.has_failed ≡ false → Gave b c (take n block) → n ≤ length block → TakesNext f (take n block) p q (Ok tt) i j
     → IsAt f (count + n) q a c h j
-at_more f count n block p q a b c h i j x good gave fits takes = record {
+at_more n block {a = a} {b = b} {c = c} x good gave fits next = record {
   input = x.input ++ take n block;
-  gave = gave_more a b c x.input (take n block) good x.gave gave;
-  takes = takes_more f [] x.input (take n block) 1 p q tt (Ok tt) h i j x.takes (takes (last_part [] x.input) x.takes.1.reader);
+  gave = gave_more a b c _ _ good x.gave gave;
+  takes = takes_more _ [] x.input (take n block) 1 _ _ tt (Ok tt) _ _ _ x.takes (next.takes (last_part [] x.input) x.takes.1.reader);
   count_is = let e : length (x.input ++ take n block) ≡ length x.input + length (take n block) = length-append x.input (take n block) in
-      let f : length (take n block) ≡ n = length_taken n block fits in omega (arith, e, f, x.count_is);
+      let k : length (take n block) ≡ n = length_taken _ fits in omega (arith, e, k, x.count_is);
 }
 
 -- a read that gave nothing
 gave_no_more : (a b c : SourceState) (x : List ℕ) → b.has_failed ≡ false → Gave a b x → Gave b c [] → Gave a c x
-gave_no_more a b c x good p q = subst (λ xs. Gave a c xs) (append-nil x) (gave_more a b c x [] good p q)
+gave_no_more a b c x good p q = subst (λ xs. Gave a c xs) (append-nil x) (gave_more a b c _ [] good p q)
 
-pub at_failure : (f : LineAnswers) (count : ℕ) (p : Progress) (a b c : SourceState) (h i : AnswerState)
+pub at_failure : {f : LineAnswers} {count : ℕ} {p : Progress} {a b c : SourceState} {h i : AnswerState}
     → IsAt f count p a b h i → count ≤ limit → b.has_failed ≡ false → Gave b c [] → c.has_failed ≡ true
     → AnswersSource f CannotRead a c h i
-at_failure f count p a b c h i x room good gave failed = record {
+at_failure {f = f} {a = a} {b = b} {c = c} {h = h} {i = i} x room good gave failed = record {
   input = x.input;
-  gave = gave_no_more a b c x.input good x.gave gave;
+  gave = gave_no_more a b c _ good x.gave gave;
   answers = subst (λ v. Answers (answer_lines f x.input (ending_of v c.has_ended)) CannotRead h i) (sym failed)
-      (answers_cannot_read f x.input p h i (omega (arith, x.count_is, room)) x.takes);
+      (answers_cannot_read _ (omega (arith, x.count_is, room)) x.takes);
   read_whole = λ e. absurd (cc e);
 }
 
-ending_is : (c : SourceState) (f e : Bool) → c.has_failed ≡ f → c.has_ended ≡ e → ending c ≡ ending_of f e
-ending_is c f e p q = ap (λ v. ending_of v c.has_ended) p ∙ ap (λ v. ending_of f v) q
+ending_is : (c : SourceState) (f : Bool) {e : Bool} → c.has_failed ≡ f → c.has_ended ≡ e → ending c ≡ ending_of f e
+ending_is c f p q = ap (λ v. ending_of v c.has_ended) p ∙ ap (λ v. ending_of f v) q
 
-pub at_end : (f : LineAnswers) (count : ℕ) (p : Progress) (a b c : SourceState) (h i j : AnswerState) (r : Result (Unit {0}) Stop) (stop : Stop)
+pub at_end : {f : LineAnswers} {count : ℕ} {p : Progress} {a b c : SourceState} {h i j : AnswerState} {r : Result (Unit {0}) Stop}
     → IsAt f count p a b h i → count ≤ limit → b.has_failed ≡ false → Gave b c [] → c.has_failed ≡ false → c.has_ended ≡ true
-    → ((front : List ℕ) → IsFed p.reader front → TakesEnd f front p.line r i j)
-    → stop ≡ stop_unless r Done
-    → AnswersSource f stop a c h j
-at_end f count p a b c h i j r stop x room good gave failed ended last e = record {
+    → TakesLast f p r i j → AnswersSource f (stop_unless r Done) a c h j
+at_end {f = f} {a = a} {b = b} {c = c} {h = h} {j = j} {r = r} x room good gave failed ended last = record {
   input = x.input;
-  gave = gave_no_more a b c x.input good x.gave gave;
-  answers = subst (λ m. Answers (answer_lines f x.input m) stop h j) (sym (ending_is c false true failed ended))
-      (subst (λ k. Answers (answer_lines f x.input End) k h j) (sym e)
-      (input_ends f x.input p h i j r (omega (arith, x.count_is, room)) x.takes (last (last_part [] x.input) x.takes.1.reader)));
+  gave = gave_no_more a b c _ good x.gave gave;
+  answers = subst (λ m. Answers (answer_lines f x.input m) (stop_unless r Done) h j) (sym (ending_is c _ failed ended))
+      (input_ends _ _ _ _ _ _ _ (omega (arith, x.count_is, room)) x.takes (last.takes (last_part [] x.input) x.takes.1.reader));
   read_whole = λ d. ended;
 }
 
 -- the stated part of a block that goes past the limit
-cut_block : (input block : List ℕ) (count n room : ℕ) → count ≡ length input → room + count ≡ limit → room ≤ n → n ≤ length block
+cut_block : (input block : List ℕ) {count : ℕ} (n room : ℕ) → count ≡ length input → room + count ≡ limit → room ≤ n → n ≤ length block
     → take limit (input ++ take n block) ≡ input ++ take room block
-cut_block input block count n room e f g h =
+cut_block input block n room e f g h =
     let k : limit ≡ length input + room = omega (arith, e, f) in
-    ap (λ v. take v (input ++ take n block)) k ∙ take-append-add input (take n block) room ∙ ap (λ v. input ++ v) (taken_twice room n block g)
+    ap (λ v. take v (input ++ take n block)) k ∙ take-append-add input (take n block) room ∙ ap (λ v. input ++ v) (taken_twice _ g)
 
-too_long_answers : (f : LineAnswers) (input whole : List ℕ) (q : Progress) (h j : AnswerState) (r : Result (Unit {0}) Stop)
+too_long_answers : (f : LineAnswers) (input : List ℕ) {whole : List ℕ} (q : Progress) (h j : AnswerState) (r : Result (Unit {0}) Stop)
     → limit < length input → take limit input ≡ whole → TakesBytes f [] whole 1 q r h j
     → Answers (answer_lines f input More) (stop_unless r InputTooLong) h j
-too_long_answers f input whole q h j (Ok u) long e x = answers_too_long f input whole q h j long e x
-too_long_answers f input whole q h j (Err stop) long e x = answers_stopped f input whole q stop h j e x
+too_long_answers f input q h j (Ok u) long e x = answers_too_long _ long e x
+too_long_answers f input q h j (Err stop) long e x = answers_stopped _ _ q _ _ _ e x
 
-stop_is_not_done : (f : LineAnswers) (bytes : List ℕ) (q : Progress) (h j : AnswerState) (stop : Stop)
+stop_is_not_done : (f : LineAnswers) (bytes : List ℕ) (q : Progress) (h j : AnswerState) {stop : Stop}
     → TakesBytes f [] bytes 1 q (Err stop) h j → stop ≡ Done → ⊥
-stop_is_not_done f bytes q h j stop x e = subst (λ k. StopsWithin f 1 (ended_lines [] bytes) k h j) e x
+stop_is_not_done f bytes q h j x e = subst (λ k. StopsWithin f 1 (ended_lines [] bytes) k h j) e x
 
 not_done : (f : LineAnswers) (bytes : List ℕ) (q : Progress) (h j : AnswerState) (r : Result (Unit {0}) Stop)
     → TakesBytes f [] bytes 1 q r h j → stop_unless r InputTooLong ≡ Done → ⊥
 not_done f bytes q h j (Ok u) x e = cc e
-not_done f bytes q h j (Err stop) x e = stop_is_not_done f bytes q h j stop x e
+not_done f bytes q h j (Err stop) x e = stop_is_not_done _ _ q _ _ x e
 
-pub at_limit : (f : LineAnswers) (count n room : ℕ) (block : List ℕ) (p q : Progress) (a b c : SourceState) (h i j : AnswerState) (r : Result (Unit {0}) Stop) (stop : Stop)
+pub at_limit : {f : LineAnswers} {count : ℕ} (n room : ℕ) (block : List ℕ) {p q : Progress} {a b c : SourceState} {h i j : AnswerState} {r : Result (Unit {0}) Stop}
     → IsAt f count p a b h i → room + count ≡ limit → room < n → n ≤ length block → b.has_failed ≡ false → Gave b c (take n block) → c.has_failed ≡ false → c.has_ended ≡ false
-    → ((front : List ℕ) → IsFed p.reader front → TakesBytes f front (take room block) p.line q r i j)
-    → stop ≡ stop_unless r InputTooLong
-    → AnswersSource f stop a c h j
-at_limit f count n room block p q a b c h i j r stop x sum long fits good gave failed ended takes e =
-    let y = takes_more f [] x.input (take room block) 1 p q tt r h i j x.takes (takes (last_part [] x.input) x.takes.1.reader) in
+    → TakesNext f (take room block) p q r i j → AnswersSource f (stop_unless r InputTooLong) a c h j
+at_limit {f = f} n room block {a = a} {b = b} {c = c} {h = h} {j = j} {r = r} x sum long fits good gave failed ended next =
+    let y = takes_more _ [] x.input (take room block) 1 _ _ tt r _ _ _ x.takes (next.takes (last_part [] x.input) x.takes.1.reader) in
     let l : length (x.input ++ take n block) ≡ length x.input + length (take n block) = length-append x.input (take n block) in
-    let k : length (take n block) ≡ n = length_taken n block fits in
+    let k : length (take n block) ≡ n = length_taken _ fits in
     record {
       input = x.input ++ take n block;
-      gave = gave_more a b c x.input (take n block) good x.gave gave;
-      answers = subst (λ m. Answers (answer_lines f (x.input ++ take n block) m) stop h j) (sym (ending_is c false false failed ended))
-          (subst (λ v. Answers (answer_lines f (x.input ++ take n block) More) v h j) (sym e)
-          (too_long_answers f (x.input ++ take n block) (x.input ++ take room block) q h j r
-          (omega (arith, l, k, x.count_is, sum, long)) (cut_block x.input block count n room x.count_is sum (omega (arith, long)) fits) y));
-      read_whole = λ d. absurd (not_done f (x.input ++ take room block) q h j r y (sym e ∙ d));
+      gave = gave_more a b c _ _ good x.gave gave;
+      answers = subst (λ m. Answers (answer_lines f (x.input ++ take n block) m) (stop_unless r InputTooLong) h j) (sym (ending_is c _ failed ended))
+          (too_long_answers _ _ _ _ _ _ (omega (arith, l, k, x.count_is, sum, long)) (cut_block _ _ _ _ x.count_is sum (omega (arith, long)) fits) y);
+      read_whole = λ d. absurd (not_done _ _ _ _ _ _ y d);
     }
 
-pub at_stop : (f : LineAnswers) (count n : ℕ) (block : List ℕ) (p q : Progress) (a b c : SourceState) (h i j : AnswerState) (stop : Stop)
+pub at_stop : {f : LineAnswers} {count : ℕ} (n : ℕ) (block : List ℕ) {p q : Progress} {a b c : SourceState} {h i j : AnswerState} {stop : Stop}
     → IsAt f count p a b h i → n + count ≤ limit → n ≤ length block → b.has_failed ≡ false → Gave b c (take n block) → c.has_failed ≡ false → c.has_ended ≡ false
-    → ((front : List ℕ) → IsFed p.reader front → TakesBytes f front (take n block) p.line q (Err stop) i j)
-    → AnswersSource f stop a c h j
-at_stop f count n block p q a b c h i j stop x room fits good gave failed ended takes =
-    let y = takes_more f [] x.input (take n block) 1 p q tt (Err stop) h i j x.takes (takes (last_part [] x.input) x.takes.1.reader) in
+    → TakesNext f (take n block) p q (Err stop) i j → AnswersSource f stop a c h j
+at_stop {f = f} n block {q = q} {a = a} {b = b} {c = c} {h = h} {j = j} {stop = stop} x room fits good gave failed ended next =
+    let y = takes_more _ [] x.input (take n block) 1 _ q tt (Err stop) _ _ j x.takes (next.takes (last_part [] x.input) x.takes.1.reader) in
     let l : length (x.input ++ take n block) ≡ length x.input + length (take n block) = length-append x.input (take n block) in
-    let k : length (take n block) ≡ n = length_taken n block fits in
+    let k : length (take n block) ≡ n = length_taken _ fits in
     record {
       input = x.input ++ take n block;
-      gave = gave_more a b c x.input (take n block) good x.gave gave;
-      answers = subst (λ m. Answers (answer_lines f (x.input ++ take n block) m) stop h j) (sym (ending_is c false false failed ended))
-          (answers_stopped f (x.input ++ take n block) (x.input ++ take n block) q stop h j
-          (whole_input (x.input ++ take n block) (omega (arith, l, k, x.count_is, room))) y);
-      read_whole = λ d. absurd (stop_is_not_done f (x.input ++ take n block) q h j stop y d);
+      gave = gave_more a b c _ _ good x.gave gave;
+      answers = subst (λ m. Answers (answer_lines f (x.input ++ take n block) m) stop h j) (sym (ending_is c _ failed ended))
+          (answers_stopped _ _ q _ _ _ (whole_input _ (omega (arith, l, k, x.count_is, room))) y);
+      read_whole = λ d. absurd (stop_is_not_done _ _ q _ _ y d);
     }
 
-pub gave_nothing_of : (a b : SourceState) (n : ℕ) (block : List ℕ) → n ≡ 0 → Gave a b (take n block) → Gave a b []
-gave_nothing_of a b n block e x = subst (λ k. Gave a b (take k block)) e x
+pub gave_nothing_of : (a b : SourceState) {n : ℕ} (block : List ℕ) → n ≡ 0 → Gave a b (take n block) → Gave a b []
+gave_nothing_of a b block e x = subst (λ k. Gave a b (take k block)) e x
 
 -- a whole text at once
 
-text_taken : (f : LineAnswers) (text : List ℕ) (p q : Progress) (r : Result (Unit {0}) Stop) (h i : AnswerState)
-    → IsFed p.reader [] → p.line ≡ 1 → ((front : List ℕ) → IsFed p.reader front → TakesBytes f front text p.line q r h i)
-    → TakesBytes f [] text 1 q r h i
-text_taken f text p q r h i reader line takes = subst (λ n. TakesBytes f [] text n q r h i) line (takes [] reader)
+text_taken : (f : LineAnswers) (text : List ℕ) {p q : Progress} (r : Result (Unit {0}) Stop) {h i : AnswerState}
+    → IsFed p.reader [] → p.line ≡ 1 → TakesNext f text p q r h i → TakesBytes f [] text 1 q r h i
+text_taken f text {q = q} r {h = h} {i = i} reader line next = subst (λ n. TakesBytes f [] text n q r h i) line (next.takes [] reader)
 
-pub text_stopped : (f : LineAnswers) (text : List ℕ) (p q : Progress) (stop : Stop) (h j : AnswerState)
-    → length text ≤ limit → IsFed p.reader [] → p.line ≡ 1
-    → ((front : List ℕ) → IsFed p.reader front → TakesBytes f front text p.line q (Err stop) h j)
-    → Answers (answer_lines f text End) stop h j
-text_stopped f text p q stop h j fits reader line takes =
-    last_stopped f text (ended_lines [] text ++ line_with_bytes (last_part [] text)) stop h j (all_lines text fits)
-    (stopped_front f 1 (ended_lines [] text) (line_with_bytes (last_part [] text)) stop h j
-    (text_taken f text p q (Err stop) h j reader line takes))
+pub text_stopped : {f : LineAnswers} {text : List ℕ} {p q : Progress} {stop : Stop} {h j : AnswerState}
+    → length text ≤ limit → IsFed p.reader [] → p.line ≡ 1 → TakesNext f text p q (Err stop) h j → Answers (answer_lines f text End) stop h j
+text_stopped {f = f} {text = text} {stop = stop} {h = h} {j = j} fits reader line next =
+    stopped_answers f _ End _ h j (all_lines _ fits)
+    (stopped_front _ _ (ended_lines [] text) (line_with_bytes (last_part [] text)) _ h j (text_taken f text (Err stop) reader line next))
 
-pub text_done : (f : LineAnswers) (text : List ℕ) (p q : Progress) (r : Result (Unit {0}) Stop) (stop : Stop) (h i j : AnswerState)
-    → length text ≤ limit → IsFed p.reader [] → p.line ≡ 1
-    → ((front : List ℕ) → IsFed p.reader front → TakesBytes f front text p.line q (Ok tt) h i)
-    → ((front : List ℕ) → IsFed q.reader front → TakesEnd f front q.line r i j)
-    → stop ≡ stop_unless r Done
-    → Answers (answer_lines f text End) stop h j
-text_done f text p q r stop h i j fits reader line takes last e =
-    let x = text_taken f text p q (Ok tt) h i reader line takes in
-    subst (λ k. Answers (answer_lines f text End) k h j) (sym e)
-    (input_ends f text q h i j r fits x (last (last_part [] text) x.1.reader))
+pub text_done : {f : LineAnswers} {text : List ℕ} {p q : Progress} {r : Result (Unit {0}) Stop} {h i j : AnswerState}
+    → length text ≤ limit → IsFed p.reader [] → p.line ≡ 1 → TakesNext f text p q (Ok tt) h i → TakesLast f q r i j
+    → Answers (answer_lines f text End) (stop_unless r Done) h j
+text_done {f = f} {text = text} {q = q} {r = r} {h = h} {i = i} {j = j} fits reader line next last =
+    let x = text_taken f text {q = q} (Ok tt) {h = h} {i = i} reader line next in
+    input_ends f text q h i j r fits x (last.takes (last_part [] text) x.1.reader)

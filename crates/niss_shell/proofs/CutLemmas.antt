@@ -6,8 +6,8 @@ use Rattle.std.proofs.lemmas.List.Elements.{All-nil, All-cons, All-head, All-tai
 use Rattle.niss_shell.specs.Lines.{ended_lines, last_part}
 use Rattle.niss_shell.specs.LinesLaws.{HasNoLineFeed, line_to_feed, IsCutInto, TextIsCut, OneCut}
 
-no_feed_after : (b : ℕ) → (b == 10) ≡ false → b ≢ 10
-no_feed_after b e h = cc (e, ap (λ n. n == 10) h)
+no_feed_after : {b : ℕ} → (b == 10) ≡ false → b ≢ 10
+no_feed_after e h = cc (e, ap (λ n. n == 10) h)
 
 -- the first line ends, or goes on
 cut_step : (c : Bool) (front bs : List ℕ) (b : ℕ) → (b == 10) ≡ c → HasNoLineFeed front
@@ -22,7 +22,7 @@ cut_step true front bs b e h p q = record {
 }
 cut_step false front bs b e h p q =
     subst (λ t. IsCutInto t (ended_lines (front ++ b ∷ []) bs) (last_part (front ++ b ∷ []) bs)) (append_assoc front (b ∷ []) bs)
-    (q (All-push (λ n. n ≢ 10) front b h (no_feed_after b e)))
+    (q (All-push (λ n. n ≢ 10) front b h (no_feed_after e)))
 
 cut_after : (front bs : List ℕ) → HasNoLineFeed front → IsCutInto (front ++ bs) (ended_lines front bs) (last_part front bs)
 unfolding ended_lines last_part
@@ -32,27 +32,17 @@ cut_after front [] h = record {
   whole = sym (append-nil front);
 }
 cut_after front (b ∷ bs) h =
-    cut_step (b == 10) front bs b refl h (cut_after [] bs (All-nil (λ n. n ≢ 10))) (λ k. cut_after (front ++ b ∷ []) bs k)
+    cut_step _ _ _ _ refl h (cut_after [] bs (All-nil (λ n. n ≢ 10))) (λ k. cut_after (front ++ b ∷ []) bs k)
 
 pub text_is_cut : TextIsCut
 text_is_cut text = cut_after [] text (All-nil (λ n. n ≢ 10))
 
 -- bytes that are no line feed only move to the front
-other_ended : (c : Bool) (front bs : List ℕ) (b : ℕ) → c ≡ false
-    → (if c then front ∷ ended_lines [] bs else ended_lines (front ++ b ∷ []) bs) ≡ ended_lines (front ++ b ∷ []) bs
-other_ended true front bs b e = absurd (cc e)
-other_ended false front bs b e = refl
-
-other_last : (c : Bool) (front bs : List ℕ) (b : ℕ) → c ≡ false
-    → (if c then last_part [] bs else last_part (front ++ b ∷ []) bs) ≡ last_part (front ++ b ∷ []) bs
-other_last true front bs b e = absurd (cc e)
-other_last false front bs b e = refl
-
 ended_after : (front part bs : List ℕ) → HasNoLineFeed part → ended_lines front (part ++ bs) ≡ ended_lines (front ++ part) bs
 unfolding ended_lines
 ended_after front [] bs h = ap (λ v. ended_lines v bs) (sym (append-nil front))
 ended_after front (b ∷ part) bs h =
-    other_ended (b == 10) front (part ++ bs) b (ne_eqb b 10 (All-head (λ n. n ≢ 10) b part h))
+    ap (λ c. if c then front ∷ ended_lines [] (part ++ bs) else ended_lines (front ++ b ∷ []) (part ++ bs)) (ne_eqb b 10 (All-head (λ n. n ≢ 10) b part h))
     ∙ ended_after (front ++ b ∷ []) part bs (All-tail (λ n. n ≢ 10) b part h)
     ∙ ap (λ v. ended_lines v bs) (append_assoc front (b ∷ []) part)
 
@@ -60,7 +50,7 @@ last_after : (front part bs : List ℕ) → HasNoLineFeed part → last_part fro
 unfolding last_part
 last_after front [] bs h = ap (λ v. last_part v bs) (sym (append-nil front))
 last_after front (b ∷ part) bs h =
-    other_last (b == 10) front (part ++ bs) b (ne_eqb b 10 (All-head (λ n. n ≢ 10) b part h))
+    ap (λ c. if c then last_part [] (part ++ bs) else last_part (front ++ b ∷ []) (part ++ bs)) (ne_eqb b 10 (All-head (λ n. n ≢ 10) b part h))
     ∙ last_after (front ++ b ∷ []) part bs (All-tail (λ n. n ≢ 10) b part h)
     ∙ ap (λ v. last_part v bs) (append_assoc front (b ∷ []) part)
 
@@ -80,19 +70,19 @@ unfolding ended_lines
 lines_again [] last h k = ap (λ v. ended_lines [] v) (sym (append-nil last)) ∙ ended_after [] last [] k
 lines_again (line ∷ lines) last h k =
     ap (λ v. ended_lines [] v) (append_assoc (line_to_feed line) (flat_map line_to_feed lines) last)
-    ∙ ended_first line (flat_map line_to_feed lines ++ last) (All-head HasNoLineFeed line lines h)
-    ∙ ap (λ v. line ∷ v) (lines_again lines last (All-tail HasNoLineFeed line lines h) k)
+    ∙ ended_first _ _ (All-head HasNoLineFeed line lines h)
+    ∙ ap (λ v. line ∷ v) (lines_again _ _ (All-tail HasNoLineFeed line lines h) k)
 
 last_again : (lines : List (List ℕ)) (last : List ℕ) → All HasNoLineFeed lines → HasNoLineFeed last → last_part [] (flat_map line_to_feed lines ++ last) ≡ last
 unfolding last_part
 last_again [] last h k = ap (λ v. last_part [] v) (sym (append-nil last)) ∙ last_after [] last [] k
 last_again (line ∷ lines) last h k =
     ap (λ v. last_part [] v) (append_assoc (line_to_feed line) (flat_map line_to_feed lines) last)
-    ∙ last_first line (flat_map line_to_feed lines ++ last) (All-head HasNoLineFeed line lines h)
+    ∙ last_first _ _ (All-head HasNoLineFeed line lines h)
     ∙ last_again lines last (All-tail HasNoLineFeed line lines h) k
 
 pub one_cut : OneCut
 one_cut text lines last p = (
-  sym (lines_again lines last p.unbroken_lines p.unbroken_last) ∙ ap (λ t. ended_lines [] t) p.whole,
-  sym (last_again lines last p.unbroken_lines p.unbroken_last) ∙ ap (λ t. last_part [] t) p.whole,
+  sym (lines_again _ _ p.unbroken_lines p.unbroken_last) ∙ ap (λ t. ended_lines [] t) p.whole,
+  sym (last_again _ _ p.unbroken_lines p.unbroken_last) ∙ ap (λ t. last_part [] t) p.whole,
 )

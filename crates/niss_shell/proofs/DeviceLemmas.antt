@@ -5,28 +5,28 @@ use Rattle.std.specs.Io.KnownBytes.{ReadConsumes}
 use Rattle.std.proofs.Math.Bool.{or-false}
 use Rattle.std.proofs.lemmas.Bool.{or_parts}
 use Rattle.niss_shell.specs.Device.{SourceState, TargetState, has_fault, GaveOf, Gave, AppendedOf, Appended, StaysSilentOf, StaysSilent, is_empty_answer, moved_bytes}
-use Rattle.niss_shell.specs.declared.device.DeviceFault.{DeviceFault}
+use Rattle.niss_shell.specs.Names.{DeviceFault}
 
 nothing_appended : (held : Option (List ℕ)) (failed : Bool) → AppendedOf held held failed []
 nothing_appended None failed = tt
 nothing_appended (Some all) failed = sym (append-nil all)
 
 pub appended_nothing : (a : TargetState) → Appended a a []
-appended_nothing a = nothing_appended a.held (has_fault a)
+appended_nothing a = nothing_appended _ _
 
-more_appended : (a b c : Option (List ℕ)) (s t : Bool) (x y : List ℕ) → (s ≡ true → t ≡ true) → StaysSilentOf s b c
+more_appended : (a b c : Option (List ℕ)) {s t : Bool} (x y : List ℕ) → (s ≡ true → t ≡ true) → StaysSilentOf s b c
     → AppendedOf a b s x → AppendedOf b c t y → AppendedOf a c t (x ++ y)
-more_appended None b c s t x y sticks silent p q = tt
-more_appended (Some old) None None s t x y sticks silent p q = sticks p
-more_appended (Some old) None (Some new) s t x y sticks silent p q =
+more_appended None b c x y sticks silent p q = tt
+more_appended (Some old) None None x y sticks silent p q = sticks p
+more_appended (Some old) None (Some new) x y sticks silent p q =
     absurd (let silenced : StaysSilentOf true None (Some new) = subst (λ f. StaysSilentOf f None (Some new)) p silent in silenced)
-more_appended (Some old) (Some mid) None s t x y sticks silent p q = q
-more_appended (Some old) (Some mid) (Some new) s t x y sticks silent p q = q ∙ ap (λ v. v ++ y) p ∙ append_assoc old x y
+more_appended (Some old) (Some mid) None x y sticks silent p q = q
+more_appended (Some old) (Some mid) (Some new) x y sticks silent p q = q ∙ ap (λ v. v ++ y) p ∙ append_assoc old x y
 
 -- two calls, also on a target that failed before
 pub appended_on : (a b c : TargetState) (x y : List ℕ) → (has_fault b ≡ true → has_fault c ≡ true) → StaysSilent b c
     → Appended a b x → Appended b c y → Appended a c (x ++ y)
-appended_on a b c x y sticks silent p q = more_appended a.held b.held c.held (has_fault b) (has_fault c) x y sticks silent p q
+appended_on a b c x y sticks silent p q = more_appended _ _ _ _ _ sticks silent p q
 
 pub appended_more : (a b c : TargetState) (x y : List ℕ) → has_fault b ≡ false → Appended a b x → Appended b c y → Appended a c (x ++ y)
 appended_more a b c x y e p q =
@@ -41,9 +41,9 @@ pub appended_after_failure : (a b c : TargetState) (x : List ℕ) → has_fault 
 appended_after_failure a b c x e silent p q = subst (λ v. Appended a c v) (append-nil x) (appended_on a b c x [] (λ h. e) silent p q)
 
 -- a call that adds these faults
-pub same_fault : (s t : TargetState) (refused : Bool) → t.write_failed ≡ (s.write_failed || refused) → t.flush_failed ≡ s.flush_failed
+pub same_fault : (s t : TargetState) {refused : Bool} → t.write_failed ≡ (s.write_failed || refused) → t.flush_failed ≡ s.flush_failed
     → refused ≡ false → has_fault t ≡ has_fault s
-same_fault s t refused p q e =
+same_fault s t p q e =
     ap (λ f. f || t.flush_failed) (p ∙ ap (λ f. s.write_failed || f) e ∙ or-false s.write_failed) ∙ ap (λ f. s.write_failed || f) q
 
 pub fault_of_write : (t : TargetState) → t.write_failed ≡ true → has_fault t ≡ true
@@ -60,16 +60,16 @@ nothing_given None failed = tt
 nothing_given (Some all) failed = refl
 
 pub gave_nothing : (a : SourceState) → Gave a a []
-gave_nothing a = nothing_given a.left a.has_failed
+gave_nothing a = nothing_given _ _
 
-more_given : (a b c : Option (List ℕ)) (s t : Bool) (x y : List ℕ) → s ≡ false → GaveOf a b s x → GaveOf b c t y → GaveOf a c t (x ++ y)
-more_given None b c s t x y e p q = tt
-more_given (Some old) None c s t x y e p q = absurd (cc (e, p.0))
-more_given (Some old) (Some mid) None s t x y e p q = (q.0, (q.1.0, p ∙ ap (λ v. x ++ v) q.1.1 ∙ sym (append_assoc x y q.1.0)))
-more_given (Some old) (Some mid) (Some new) s t x y e p q = p ∙ ap (λ v. x ++ v) q ∙ sym (append_assoc x y new)
+more_given : (a b c : Option (List ℕ)) {s : Bool} (t : Bool) (x y : List ℕ) → s ≡ false → GaveOf a b s x → GaveOf b c t y → GaveOf a c t (x ++ y)
+more_given None b c t x y e p q = tt
+more_given (Some old) None c t x y e p q = absurd (cc (e, p.0))
+more_given (Some old) (Some mid) None t x y e p q = (q.0, (q.1.0, p ∙ ap (λ v. x ++ v) q.1.1 ∙ sym (append_assoc x y q.1.0)))
+more_given (Some old) (Some mid) (Some new) t x y e p q = p ∙ ap (λ v. x ++ v) q ∙ sym (append_assoc x y new)
 
 pub gave_more : (a b c : SourceState) (x y : List ℕ) → b.has_failed ≡ false → Gave a b x → Gave b c y → Gave a c (x ++ y)
-gave_more a b c x y e p q = more_given a.left b.left c.left b.has_failed c.has_failed x y e p q
+gave_more a b c x y e p q = more_given _ _ _ _ _ _ e p q
 
 pub is_empty_answer-some : (n : ℕ) (bytes : List ℕ) → n ≢ 0 → is_empty_answer n bytes ≡ false
 is_empty_answer-some zero bytes h = absurd (h refl)

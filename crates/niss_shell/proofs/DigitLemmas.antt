@@ -10,7 +10,7 @@ pub decimal_last : (n : ℕ) → 10 ≤ n → n < 2 ^ 128 → decimal n ≡ deci
 decimal_last n h k = decimal_step_wide n h (omega arith)
 
 pub decimal_room : (n : ℕ) → 10 ≤ n → n < 2 ^ 128 → length (decimal (n / 10)) + 1 ≡ length (decimal n)
-decimal_room n h k = omega (arith, ap length (decimal_last n h k), length-append (decimal (n / 10)) ((48 + n % 10) ∷ []))
+decimal_room n h k = omega (arith, ap length (decimal_last _ h k), length-append (decimal (n / 10)) ((48 + n % 10) ∷ []))
 
 pub decimal_one : (n : ℕ) → n < 10 → decimal n ≡ (48 + n) ∷ []
 decimal_one = decimal_digit

@@ -5,9 +5,9 @@ pub mod LinesLemmas
 pub mod StateLemmas
 pub mod PendingLemmas
 pub mod EngineLemmas
-pub mod TakingLemmas
 pub mod ScrambleLemmas
 pub mod AnswerLemmas
+pub mod TakingLemmas
 pub mod SearchLemmas
 pub mod OutputLemmas
 pub mod SolveLemmas

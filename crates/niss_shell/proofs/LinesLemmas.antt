@@ -1,6 +1,6 @@
 -- Lines and answers of a text that comes in two parts.
-use Rattle.std.proofs.Common.{◌≡◌, ℕ, ◌+◌, ◌==◌, Bool, true, false, if◌then◌else◌, Option, Some, None, Result, Ok, Err, List, [], ◌∷◌, ◌++◌, length, refl, sym, ap, ◌∙◌, append_assoc, arith}
-use Rattle.niss_shell.specs.Lines.{ended_lines, last_part, written_text, text_before, answered_lines, lines_before, first_fault, fault_before}
+use Rattle.std.proofs.Common.{◌≡◌, ℕ, ◌+◌, ◌==◌, Bool, true, false, if◌then◌else◌, Option, Some, None, Result, Ok, Err, List, [], ◌∷◌, ◌++◌, length, refl, sym, ap, ◌∙◌, append-nil, arith}
+use Rattle.niss_shell.specs.Lines.{ended_lines, last_part, answered_lines, lines_before, first_fault, fault_before}
 
 ended_step : (c : Bool) (front xs ys : List ℕ) (b : ℕ)
     → ended_lines [] (xs ++ ys) ≡ ended_lines [] xs ++ ended_lines (last_part [] xs) ys
@@ -28,107 +28,66 @@ unfolding last_part
 last_part-append front [] ys = refl
 last_part-append front (b ∷ xs) ys = unended_step (b == 10) front xs ys b (last_part-append [] xs ys) (last_part-append (front ++ b ∷ []) xs ys)
 
-pub first_fault-none_head : {E : Type 0} (r : Result (List ℕ) E) (n : ℕ) (a : Option (ℕ × E)) → fault_before r n a ≡ None → a ≡ None
-first_fault-none_head (Ok text) n a none = none
-first_fault-none_head (Err e) n a none = absurd (cc none)
+first_fault-none_head : {E : Type 0} (r : Result (List ℕ) E) (n : ℕ) {a : Option (ℕ × E)} → fault_before r n a ≡ None → a ≡ None
+first_fault-none_head (Ok text) n none = none
+first_fault-none_head (Err e) n none = absurd (cc none)
 
-fault_ok_step : {E : Type 0} (r : Result (List ℕ) E) (n : ℕ) (a b c : Option (ℕ × E))
+fault_ok_step : {E : Type 0} (r : Result (List ℕ) E) (n : ℕ) (a : Option (ℕ × E)) {b c : Option (ℕ × E)}
     → fault_before r n a ≡ None → b ≡ c → fault_before r n b ≡ c
-fault_ok_step (Ok text) n a b c none same = same
-fault_ok_step (Err e) n a b c none same = absurd (cc none)
+fault_ok_step (Ok text) n a none same = same
+fault_ok_step (Err e) n a none same = absurd (cc none)
 
 pub first_fault-append : {E : Type 0} (f : List ℕ → Result (List ℕ) E) (n : ℕ) (xs ys : List (List ℕ))
     → first_fault f n xs ≡ None → first_fault f n (xs ++ ys) ≡ first_fault f (n + length xs) ys
 unfolding first_fault
 first_fault-append f n [] ys none = ap (λ k. first_fault f k ys) (omega arith)
 first_fault-append f n (l ∷ xs) ys none =
-    fault_ok_step (f l) n (first_fault f (n + 1) xs) (first_fault f (n + 1) (xs ++ ys)) (first_fault f (n + length (l ∷ xs)) ys) none
-    (first_fault-append f (n + 1) xs ys (first_fault-none_head (f l) n (first_fault f (n + 1) xs) none)
+    fault_ok_step _ _ _ none
+    (first_fault-append f (n + 1) xs ys (first_fault-none_head _ _ none)
     ∙ ap (λ k. first_fault f k ys) (omega arith))
 
-fault_some_step : {E : Type 0} (r : Result (List ℕ) E) (n : ℕ) (a b : Option (ℕ × E)) (e : ℕ × E)
+fault_some_step : {E : Type 0} (r : Result (List ℕ) E) (n : ℕ) {a b : Option (ℕ × E)} {e : ℕ × E}
     → (a ≡ Some e → b ≡ Some e) → fault_before r n a ≡ Some e → fault_before r n b ≡ Some e
-fault_some_step (Ok text) n a b e same some = same some
-fault_some_step (Err x) n a b e same some = some
+fault_some_step (Ok text) n same some = same some
+fault_some_step (Err x) n same some = some
 
 pub first_fault-stays : {E : Type 0} (f : List ℕ → Result (List ℕ) E) (n : ℕ) (xs ys : List (List ℕ)) (e : ℕ × E)
     → first_fault f n xs ≡ Some e → first_fault f n (xs ++ ys) ≡ Some e
 unfolding first_fault
 first_fault-stays f n [] ys e some = absurd (cc some)
 first_fault-stays f n (l ∷ xs) ys e some =
-    fault_some_step (f l) n (first_fault f (n + 1) xs) (first_fault f (n + 1) (xs ++ ys)) e (first_fault-stays f (n + 1) xs ys e) some
+    fault_some_step _ _ (first_fault-stays f (n + 1) xs ys e) some
 
-written_ok_step : {E : Type 0} (r : Result (List ℕ) E) (n : ℕ) (a : Option (ℕ × E)) (x y z : List ℕ)
-    → fault_before r n a ≡ None → x ≡ y ++ z → text_before r x ≡ text_before r y ++ z
-written_ok_step (Ok text) n a x y z none same = ap (λ v. text ++ v) same ∙ sym (append_assoc text y z)
-written_ok_step (Err e) n a x y z none same = absurd (cc none)
-
-pub written_text-append : {E : Type 0} (f : List ℕ → Result (List ℕ) E) (n : ℕ) (xs ys : List (List ℕ))
-    → first_fault f n xs ≡ None → written_text f (xs ++ ys) ≡ written_text f xs ++ written_text f ys
-unfolding first_fault written_text
-written_text-append f n [] ys none = refl
-written_text-append f n (l ∷ xs) ys none =
-    written_ok_step (f l) n (first_fault f (n + 1) xs) (written_text f (xs ++ ys)) (written_text f xs) (written_text f ys) none
-    (written_text-append f (n + 1) xs ys (first_fault-none_head (f l) n (first_fault f (n + 1) xs) none))
-
-written_some_step : {E : Type 0} (r : Result (List ℕ) E) (n : ℕ) (a : Option (ℕ × E)) (e : ℕ × E) (x y : List ℕ)
-    → (a ≡ Some e → x ≡ y) → fault_before r n a ≡ Some e → text_before r x ≡ text_before r y
-written_some_step (Ok text) n a e x y same some = ap (λ v. text ++ v) (same some)
-written_some_step (Err k) n a e x y same some = refl
-
-pub written_text-stays : {E : Type 0} (f : List ℕ → Result (List ℕ) E) (n : ℕ) (xs ys : List (List ℕ)) (e : ℕ × E)
-    → first_fault f n xs ≡ Some e → written_text f (xs ++ ys) ≡ written_text f xs
-unfolding first_fault written_text
-written_text-stays f n [] ys e some = absurd (cc some)
-written_text-stays f n (l ∷ xs) ys e some =
-    written_some_step (f l) n (first_fault f (n + 1) xs) e (written_text f (xs ++ ys)) (written_text f xs)
-    (written_text-stays f (n + 1) xs ys e) some
-
--- what is written for some lines is a beginning of what is written for these and more
-written_front_step : {E : Type 0} (r : Result (List ℕ) E) (x y : List ℕ)
-    → ((rest : List ℕ) × (y ++ rest ≡ x)) → (rest : List ℕ) × (text_before r y ++ rest ≡ text_before r x)
-written_front_step (Ok text) x y p = (p.0, append_assoc text y p.0 ∙ ap (λ v. text ++ v) p.1)
-written_front_step (Err e) x y p = ([], refl)
-
-pub written_text-front : {E : Type 0} (f : List ℕ → Result (List ℕ) E) (xs ys : List (List ℕ)) → (rest : List ℕ) × (written_text f xs ++ rest ≡ written_text f (xs ++ ys))
-unfolding written_text
-written_text-front f [] ys = (written_text f ys, refl)
-written_text-front f (l ∷ xs) ys = written_front_step (f l) (written_text f (xs ++ ys)) (written_text f xs) (written_text-front f xs ys)
-
--- the lines that are answered, in the same way
-
-answered_ok_step : {E : Type 0} (r : Result (List ℕ) E) (n : ℕ) (a : Option (ℕ × E)) (line : List ℕ) (x y z : List (List ℕ))
+answered_ok_step : {E : Type 0} (r : Result (List ℕ) E) (n : ℕ) (a : Option (ℕ × E)) (line : List ℕ) {x : List (List ℕ)} (y z : List (List ℕ))
     → fault_before r n a ≡ None → x ≡ y ++ z → lines_before r line x ≡ lines_before r line y ++ z
-answered_ok_step (Ok text) n a line x y z none same = ap (λ v. line ∷ v) same
-answered_ok_step (Err e) n a line x y z none same = absurd (cc none)
+answered_ok_step (Ok text) n a line y z none same = ap (λ v. line ∷ v) same
+answered_ok_step (Err e) n a line y z none same = absurd (cc none)
 
 pub answered_lines-append : {E : Type 0} (f : List ℕ → Result (List ℕ) E) (n : ℕ) (xs ys : List (List ℕ))
     → first_fault f n xs ≡ None → answered_lines f (xs ++ ys) ≡ answered_lines f xs ++ answered_lines f ys
 unfolding first_fault answered_lines
 answered_lines-append f n [] ys none = refl
 answered_lines-append f n (l ∷ xs) ys none =
-    answered_ok_step (f l) n (first_fault f (n + 1) xs) l (answered_lines f (xs ++ ys)) (answered_lines f xs) (answered_lines f ys) none
-    (answered_lines-append f (n + 1) xs ys (first_fault-none_head (f l) n (first_fault f (n + 1) xs) none))
+    answered_ok_step _ _ _ _ _ _ none
+    (answered_lines-append f (n + 1) xs ys (first_fault-none_head _ _ none))
 
-answered_some_step : {E : Type 0} (r : Result (List ℕ) E) (n : ℕ) (a : Option (ℕ × E)) (e : ℕ × E) (line : List ℕ) (x y : List (List ℕ))
+answered_some_step : {E : Type 0} (r : Result (List ℕ) E) (n : ℕ) {a : Option (ℕ × E)} {e : ℕ × E} (line : List ℕ) {x y : List (List ℕ)}
     → (a ≡ Some e → x ≡ y) → fault_before r n a ≡ Some e → lines_before r line x ≡ lines_before r line y
-answered_some_step (Ok text) n a e line x y same some = ap (λ v. line ∷ v) (same some)
-answered_some_step (Err k) n a e line x y same some = refl
+answered_some_step (Ok text) n line same some = ap (λ v. line ∷ v) (same some)
+answered_some_step (Err k) n line same some = refl
 
 pub answered_lines-stays : {E : Type 0} (f : List ℕ → Result (List ℕ) E) (n : ℕ) (xs ys : List (List ℕ)) (e : ℕ × E)
     → first_fault f n xs ≡ Some e → answered_lines f (xs ++ ys) ≡ answered_lines f xs
 unfolding first_fault answered_lines
 answered_lines-stays f n [] ys e some = absurd (cc some)
 answered_lines-stays f n (l ∷ xs) ys e some =
-    answered_some_step (f l) n (first_fault f (n + 1) xs) e l (answered_lines f (xs ++ ys)) (answered_lines f xs)
-    (answered_lines-stays f (n + 1) xs ys e) some
+    answered_some_step _ _ _ (answered_lines-stays f (n + 1) xs ys e) some
 
-answered_front_step : {E : Type 0} (r : Result (List ℕ) E) (line : List ℕ) (x y : List (List ℕ))
-    → ((rest : List (List ℕ)) × (y ++ rest ≡ x)) → (rest : List (List ℕ)) × (lines_before r line y ++ rest ≡ lines_before r line x)
-answered_front_step (Ok text) line x y p = (p.0, ap (λ v. line ∷ v) p.1)
-answered_front_step (Err e) line x y p = ([], refl)
-
-pub answered_lines-front : {E : Type 0} (f : List ℕ → Result (List ℕ) E) (xs ys : List (List ℕ)) → (rest : List (List ℕ)) × (answered_lines f xs ++ rest ≡ answered_lines f (xs ++ ys))
-unfolding answered_lines
-answered_lines-front f [] ys = (answered_lines f ys, refl)
-answered_lines-front f (l ∷ xs) ys = answered_front_step (f l) l (answered_lines f (xs ++ ys)) (answered_lines f xs) (answered_lines-front f xs ys)
+-- what is answered of some lines is a beginning of what is answered of these and more
+pub answered_lines-front : {E : Type 0} (f : List ℕ → Result (List ℕ) E) (xs ys : List (List ℕ))
+    → (rest : List (List ℕ)) × (answered_lines f xs ++ rest ≡ answered_lines f (xs ++ ys))
+answered_lines-front {E = E} f xs ys = by_fault _ refl
+  where
+    by_fault : (o : Option (ℕ × E)) → first_fault f 0 xs ≡ o → (rest : List (List ℕ)) × (answered_lines f xs ++ rest ≡ answered_lines f (xs ++ ys))
+    by_fault None e = (answered_lines f ys, sym (answered_lines-append _ _ _ _ e))
+    by_fault (Some fault) e = ([], append-nil (answered_lines f xs) ∙ sym (answered_lines-stays _ _ _ _ _ e))

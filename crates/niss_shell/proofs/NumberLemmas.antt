@@ -8,7 +8,7 @@ use Rattle.std.proofs.lemmas.Grind.{common_steps}
 use Rattle.std.proofs.lemmas.Slice.Eq.{bytes_eq-Decides}
 use Rattle.std.proofs.lemmas.Str.Parse.{IsDigitsTest, IsNumeralModel, numerals_by_value, parse_digits}
 use Rattle.niss_cube.specs.Steps.{name_of, steps}
-use Rattle.niss_cube.specs.declared.step.Step.{Step}
+use Rattle.niss_shell.specs.Names.{Step}
 use Rattle.niss_shell.specs.Words.{number_of, step_named}
 
 -- numbers
@@ -25,8 +25,8 @@ no_number_by v true false c h = refl
 no_number_by v true true false h = refl
 no_number_by v true true true h = absurd (h refl refl)
 
-below_tested : (n m : ℕ) → nat_lt n m ≡ true → n < m
-below_tested n m h = grind (arith, common_steps)
+below_tested : {n m : ℕ} → nat_lt n m ≡ true → n < m
+below_tested h = grind (arith, common_steps)
 
 most_tested : (n m : ℕ) → nat_le n m ≡ true → n ≤ m
 most_tested n m h = grind (arith, common_steps)
@@ -36,23 +36,22 @@ pub number_too_large : (E : Type 0) (most : ℕ) (word : List ℕ) (r : Result �
     → ParsesUnsigned 64 10 word r → ((n : ℕ) → r ≡ Ok n → most < n) → None ≡ number_of most word
 number_too_large E most word (Ok n) digits small parsed large =
     let p = parse_digits digits_model {E = E} 64 word (Ok n) parsed digits in
-    no_number_by (digits_value 10 word) (list_all is_ascii_digit word) (nat_lt 0 (length word)) (nat_le (digits_value 10 word) most)
+    no_number_by (digits_value 10 word) (list_all is_ascii_digit word) (nat_lt 0 (length word)) _
     (λ some fits. omega (arith, large n refl, most_tested (digits_value 10 word) most fits, p.1))
 number_too_large E most word (Err e) digits small parsed large =
     let p = parse_digits digits_model {E = E} 64 word (Err e) parsed digits in
-    no_number_by (digits_value 10 word) (list_all is_ascii_digit word) (nat_lt 0 (length word)) (nat_le (digits_value 10 word) most)
-    (λ some fits. p (below_tested 0 (length word) some, omega (arith, small, most_tested (digits_value 10 word) most fits)))
+    no_number_by _ _ _ _ (λ some fits. p (below_tested some, omega (arith, small, most_tested _ _ fits)))
 
 -- steps
 
 find_none : (name : List ℕ) (candidates : List Step) → ((step : Step) → name_of step ≢ name) → find (λ step. bytes_eq name (name_of step)) candidates ≡ None
 find_none name [] other = refl
-find_none name (step ∷ candidates) other = not_found (bytes_eq name (name_of step)) step candidates (search (rules, bytes_eq-Decides)) (find_none name candidates other)
+find_none name (step ∷ candidates) other = not_found _ _ _ (search (rules, bytes_eq-Decides)) (find_none name candidates other)
   where
     not_found : (b : Bool) (step : Step) (candidates : List Step) → b ≡ false → find (λ s. bytes_eq name (name_of s)) candidates ≡ None
         → (if b then Some step else find (λ s. bytes_eq name (name_of s)) candidates) ≡ None
     not_found true step candidates e rest = absurd (cc e)
     not_found false step candidates e rest = rest
 
-pub step_unknown : (name : List ℕ) → ((step : Step) → name_of step ≢ name) → step_named name ≡ None
-step_unknown name other = find_none name steps other
+pub step_unknown : {name : List ℕ} → ((step : Step) → name_of step ≢ name) → step_named name ≡ None
+step_unknown other = find_none _ steps other

@@ -1,88 +1,81 @@
 -- What an output takes: a text, the lines of a search, and what stands after them.
-use Rattle.std.proofs.Common.{◌≡◌, ◌==◌, ◌⊎◌, Bool, true, refl, ℕ, ◌+◌, ◌≤◌, false, Option, Result, Ok, Err, List, [], ◌∷◌, ◌++◌, inl, inr, length, sym, ap, ◌∙◌, subst, append_assoc, arith}
-use Rattle.std.proofs.lemmas.Bool.Decides.{eqb_tells}
+use Rattle.std.proofs.Common.{◌≡◌, ◌==◌, Bool, true, ℕ, ◌+◌, ◌≤◌, false, Option, Result, Ok, Err, List, [], ◌∷◌, ◌++◌, inl, inr, length, sym, ap, ◌∙◌, subst, append_assoc, arith}
+use Rattle.std.proofs.lemmas.Bool.{eqb-true}
 use Rattle.std.proofs.lemmas.List.{nil_from_length}
 use Rattle.std.specs.Prelude.{OnOk, OnErr, flat_map}
-use Rattle.niss_moves.specs.declared.turn.Turn.{Turn}
+use Rattle.niss_shell.specs.Names.{Turn, DeviceFault, Output}
 use Rattle.niss_search.specs.Delivery.{WentThrough, StoppedIn}
 use Rattle.niss_shell.specs.Device.{TargetState, has_fault}
 use Rattle.niss_shell.specs.Lines.{line_feed}
 use Rattle.niss_shell.specs.Output.{none_line, solution_line, solve_text, count_text}
 use Rattle.niss_shell.specs.Engine.{output_state, pending_state, Writes, Refuses, WritesOrRefuses, Delivers, TakesLine, RefusesLine}
-use Rattle.niss_shell.specs.declared.device.DeviceFault.{DeviceFault}
-use Rattle.niss_shell.specs.declared.output.Output.{Output}
 use Rattle.niss_shell.proofs.PendingLemmas.{then_sent, waits}
 use Rattle.niss_shell.proofs.StateLemmas.{writes_nothing, writes_more, writes_as, refuses_more, refuses_front, refuses_as}
 
 -- what a text does to an output, as a sink says it
 
-pub line_taken : {W : Type 0} (state : W → TargetState) (r : Result (Unit {0}) DeviceFault) (text line : List ℕ) (old new : Output W) (N : Type 0)
+pub line_taken : {W : Type 0} (state : W → TargetState) (r : Result (Unit {0}) DeviceFault) {text line : List ℕ} (old new : Output W) (N : Type 0)
     → text ≡ line → N → new.pending.items ≡ [] → Delivers state r text old new → OnOk r (N × TakesLine state line old new)
-line_taken state (Ok u) text line old new N e n none d =
+line_taken state (Ok u) old new N e n none d =
     (n, (none, λ works looks. subst (λ t. Writes t 0 0 (output_state state old looks) (output_state state new looks)) e (d works looks)))
-line_taken state (Err x) text line old new N e n none d = tt
+line_taken state (Err x) old new N e n none d = tt
 
-pub line_refused : {W : Type 0} (state : W → TargetState) (r : Result (Unit {0}) DeviceFault) (text line : List ℕ) (old new : Output W) (N : Type 0)
+pub line_refused : {W : Type 0} (state : W → TargetState) (r : Result (Unit {0}) DeviceFault) {text line : List ℕ} (old new : Output W) (N : Type 0)
     → text ≡ line → N → new.pending.items ≡ [] → Delivers state r text old new → OnErr r (N × RefusesLine state line old new)
-line_refused state (Ok u) text line old new N e n none d = tt
-line_refused state (Err x) text line old new N e n none d =
+line_refused state (Ok u) old new N e n none d = tt
+line_refused state (Err x) old new N e n none d =
     (n, (none, λ works looks. subst (λ t. Refuses t 0 0 (output_state state old looks) (output_state state new looks)) e (d works looks)))
 
 -- a text that was tested to be empty
-empty_where : (n : ℕ) (bytes : List ℕ) → n ≡ length bytes → ((n == 0 ≡ true) × (n ≡ 0)) ⊎ ((n == 0 ≡ false) × (n ≡ 0 → ⊥)) → (n == 0) ≡ true → bytes ≡ []
-empty_where n bytes e (inl h) k = nil_from_length bytes (omega (arith, e, h.1))
-empty_where n bytes e (inr h) k = absurd (cc (h.0, k))
-
-pub no_bytes : (empty : Bool) (bytes : List ℕ) → empty ≡ (length bytes == 0) → empty ≡ true → bytes ≡ []
-no_bytes empty bytes e k = empty_where (length bytes) bytes refl (eqb_tells (length bytes) 0) (sym e ∙ k)
+pub no_bytes : {empty : Bool} (bytes : List ℕ) → empty ≡ (length bytes == 0) → empty ≡ true → bytes ≡ []
+no_bytes bytes e k = nil_from_length bytes (eqb-true (length bytes) 0 (sym e ∙ k))
 
 -- a line that was put where nothing waited, and written
-pub line_sent : {W : Type 0} (state : W → TargetState) (r : Result (Unit {0}) DeviceFault) (line text : List ℕ) (old new : Output W)
+pub line_sent : {W : Type 0} (state : W → TargetState) (r : Result (Unit {0}) DeviceFault) (line : List ℕ) {text : List ℕ} (old new : Output W)
     → text ≡ line → old.pending.items ≡ []
     → (has_fault (state old.target.now) ≡ false → (looks : ℕ) → WritesOrRefuses r [] 0 0
     (pending_state (state old.target.now) text looks) (output_state state new looks))
     → Delivers state r line old new
-line_sent state r line text old new e none then = λ works looks.
-    then_sent r line 0 0 (output_state state old looks) (pending_state (state old.target.now) text looks) (output_state state new looks)
-    (waits line old.pending.items text (state old.target.now) looks (e ∙ ap (λ p. p ++ line) (sym none)) works) (then works looks)
+line_sent state r line old new e none then = λ works looks.
+    then_sent _ _ _ _ _ _ _ (waits _ (e ∙ ap (λ p. p ++ line) (sym none)) works) (then works looks)
 
 -- what is written of a search, by what it found
-pub same_count : (least found : Option ℕ) (count solutions nodes looks : ℕ) → least ≡ found → count ≡ solutions → nodes ≡ looks
+pub same_count : {least : Option ℕ} (found : Option ℕ) (count solutions nodes : ℕ) {looks : ℕ} → least ≡ found → count ≡ solutions → nodes ≡ looks
     → count_text least count nodes ≡ count_text found solutions looks
-same_count least found count solutions nodes looks e f h =
+same_count found count solutions nodes e f h =
     ap (λ l. count_text l count nodes) e ∙ ap (λ s. count_text found s nodes) f ∙ ap (λ k. count_text found solutions k) h
 
 -- the same text with the looks that were made before it
 
 module _ {W : Type 0} (state : W → TargetState) where
-  looked_writes : (text : List ℕ) (looks most_looks before after now : ℕ) (old new : Output W)
+  looked_writes : {text : List ℕ} {looks most_looks before after : ℕ} (now : ℕ) (old new : Output W)
       → after ≡ before + looks → after ≤ before + most_looks
       → Writes text 0 0 (output_state state old now) (output_state state new now)
       → Writes text looks most_looks (output_state state old before) (output_state state new after)
-  looked_writes text looks most_looks before after now old new exact bound w = record {
+  looked_writes now old new exact bound w = record {
     works = w.works;
     written = record { sent = w.written.sent; whole = w.written.whole; appended = w.written.appended };
     looked = exact;
     bounded = bound;
   }
 
-  looked_refuses : (text : List ℕ) (looks most_looks before after now : ℕ) (old new : Output W)
+  looked_refuses : {text : List ℕ} {looks most_looks before after : ℕ} (now : ℕ) (old new : Output W)
       → before ≤ after → after ≤ before + looks → after ≤ before + most_looks
       → Refuses text 0 0 (output_state state old now) (output_state state new now)
       → Refuses text looks most_looks (output_state state old before) (output_state state new after)
-  looked_refuses text looks most_looks before after now old new rises most bound w =
+  looked_refuses now old new rises most bound w =
       record { refused = w.refused; rises = rises; looked = most; bounded = bound }
 
-  pub reported_after : (r : Result (Unit {0}) DeviceFault) (piece text : List ℕ) (looks most_looks before after : ℕ) (old new : Output W)
+  pub reported_after : (r : Result (Unit {0}) DeviceFault) {piece text : List ℕ} (looks most_looks before after : ℕ) (old new : Output W)
       → piece ≡ text → after ≡ before + looks → after ≤ before + most_looks → Delivers state r piece old new
       → has_fault (state old.target.now) ≡ false
       → WritesOrRefuses r text looks most_looks (output_state state old before) (output_state state new after)
-  reported_after (Ok u) piece text looks most_looks before after old new e exact bound d works =
+  reported_after (Ok u) looks most_looks before after old new e exact bound d works =
       subst (λ t. Writes t looks most_looks (output_state state old before) (output_state state new after)) e
-      (looked_writes piece looks most_looks before after after old new exact bound (d works after))
-  reported_after (Err x) piece text looks most_looks before after old new e exact bound d works =
+      (looked_writes _ old new exact bound (d works after))
+  reported_after (Err x) looks most_looks before after old new e exact bound d works =
       subst (λ t. Refuses t looks most_looks (output_state state old before) (output_state state new after)) e
-      (looked_refuses piece looks most_looks before after after old new (omega (arith, exact)) (omega (arith, exact)) bound (d works after))
+      (looked_refuses _ old new (omega (arith, exact)) (omega (arith, exact)) bound (d works after))
 
   -- the lines of the paths are taken one after the other
   module _ (line : List Turn → List ℕ) (took refused : Output W → List Turn → Output W → Type 0)
@@ -91,35 +84,32 @@ module _ {W : Type 0} (state : W → TargetState) where
     walk_writes : (ps : List (List Turn)) (a b : Output W) (looks : ℕ) → has_fault (state a.target.now) ≡ false → WentThrough took a ps b
         → Writes (flat_map line ps) 0 0 (output_state state a looks) (output_state state b looks)
     walk_writes [] a b looks works h =
-        subst (λ k. Writes [] 0 0 (output_state state a looks) (output_state state k looks)) h (writes_nothing (output_state state a looks) works)
+        subst (λ k. Writes [] 0 0 (output_state state a looks) (output_state state k looks)) h (writes_nothing _ works)
     walk_writes (p ∷ ps) a b looks works h =
         let one = (wrote a p h.0 h.1.0).1 works looks in
-        writes_more (line p) (flat_map line ps) 0 0 0 0 (output_state state a looks) (output_state state h.0 looks) (output_state state b looks)
-        one (walk_writes ps h.0 b looks one.works h.1.1)
+        writes_more one (walk_writes ps h.0 b looks one.works h.1.1)
 
     stop_writes : (ps : List (List Turn)) (a b : Output W) (looks : ℕ) → has_fault (state a.target.now) ≡ false → StoppedIn took refused a ps b
         → Refuses (flat_map line ps) 0 0 (output_state state a looks) (output_state state b looks)
     stop_writes [] a b looks works h = absurd h
     stop_writes (p ∷ ps) a b looks works (inl h) =
-        refuses_front (line p) (flat_map line ps) 0 0 0 0 (output_state state a looks) (output_state state b looks) (omega arith) (omega arith)
-        ((cut a p b h).1 works looks)
+        refuses_front _ (omega arith) (omega arith) ((cut a p b h).1 works looks)
     stop_writes (p ∷ ps) a b looks works (inr h) =
         let one = (wrote a p h.0 h.1.0).1 works looks in
-        refuses_more (line p) (flat_map line ps) 0 0 0 0 (output_state state a looks) (output_state state h.0 looks) (output_state state b looks)
-        one (stop_writes ps h.0 b looks one.works h.1.1)
+        refuses_more one (stop_writes ps h.0 b looks one.works h.1.1)
 
-    pub found_all : (ps : List (List Turn)) (a b : Output W) (looks most_looks before after : ℕ) → has_fault (state a.target.now) ≡ false
+    pub found_all : (ps : List (List Turn)) (a b : Output W) {looks most_looks before : ℕ} (after : ℕ) → has_fault (state a.target.now) ≡ false
         → WentThrough took a ps b → after ≡ before + looks → after ≤ before + most_looks
         → Writes (flat_map line ps) looks most_looks (output_state state a before) (output_state state b after)
-    found_all ps a b looks most_looks before after works h exact bound =
-        looked_writes (flat_map line ps) looks most_looks before after after a b exact bound (walk_writes ps a b after works h)
+    found_all ps a b after works h exact bound =
+        looked_writes after a b exact bound (walk_writes _ _ _ _ works h)
 
-    pub found_some : (ps : List (List Turn)) (rest : List ℕ) (a b : Output W) (looks most_looks before after : ℕ) → has_fault (state a.target.now) ≡ false
+    pub found_some : (ps : List (List Turn)) (rest : List ℕ) (a b : Output W) {looks most_looks before : ℕ} (after : ℕ) → has_fault (state a.target.now) ≡ false
         → StoppedIn took refused a ps b → before ≤ after → after ≤ before + looks → after ≤ before + most_looks
         → Refuses (flat_map line ps ++ rest) looks most_looks (output_state state a before) (output_state state b after)
-    found_some ps rest a b looks most_looks before after works h rises most bound =
-        refuses_front (flat_map line ps) rest looks most_looks looks most_looks (output_state state a before) (output_state state b after) (omega arith) (omega arith)
-        (looked_refuses (flat_map line ps) looks most_looks before after after a b rises most bound (stop_writes ps a b after works h))
+    found_some ps rest a b after works h rises most bound =
+        refuses_front _ (omega arith) (omega arith)
+        (looked_refuses after a b rises most bound (stop_writes _ _ _ _ works h))
 
     pub unsolved : (n : ℕ) (ps : List (List Turn)) (a b : Output W) (looks most_looks before after : ℕ) → has_fault (state a.target.now) ≡ false
         → StoppedIn took refused a ps b → before ≤ after → after ≤ before + looks → after ≤ before + most_looks
@@ -127,7 +117,7 @@ module _ {W : Type 0} (state : W → TargetState) where
     unsolved n ps a b looks most_looks before after works h rises most bound =
         subst (λ t. Refuses t looks most_looks (output_state state a before) (output_state state b after))
         (sym (append_assoc (flat_map line ps) (none_line n (length ps)) (line_feed ∷ [])))
-        (found_some ps (none_line n (length ps) ++ line_feed ∷ []) a b looks most_looks before after works h rises most bound)
+        (found_some _ _ _ _ _ works h rises most bound)
 
     pub nothing_waits : (ps : List (List Turn)) (a b : Output W) → StoppedIn took refused a ps b → b.pending.items ≡ []
     nothing_waits [] a b h = absurd h
@@ -135,18 +125,19 @@ module _ {W : Type 0} (state : W → TargetState) where
     nothing_waits (p ∷ ps) a b (inr h) = nothing_waits ps h.0 b h.1.1
 
   -- the solutions, and what stands after them
-  pub solved : (r : Result (Unit {0}) DeviceFault) (n count : ℕ) (solutions : List (List Turn)) (piece : List ℕ) (looks most_looks before after : ℕ) (a b c : Output W)
+  pub solved : (r : Result (Unit {0}) DeviceFault) (n : ℕ) {count : ℕ} (solutions : List (List Turn)) (piece : List ℕ) (looks most_looks before after : ℕ) (a b c : Output W)
       → count ≡ length solutions → piece ≡ none_line n count ++ line_feed ∷ []
       → Writes (flat_map solution_line solutions) looks most_looks (output_state state a before) (output_state state b after)
       → Delivers state r piece b c
       → WritesOrRefuses r (solve_text n solutions) looks most_looks (output_state state a before) (output_state state c after)
-  solved (Ok u) n count solutions piece looks most_looks before after a b c e f p d =
-      writes_as (flat_map solution_line solutions ++ piece) (solve_text n solutions) (looks + 0) (most_looks + 0) looks most_looks
-      (output_state state a before) (output_state state c after)
-      (ap (λ t. flat_map solution_line solutions ++ t) (f ∙ ap (λ k. none_line n k ++ line_feed ∷ []) e) ∙ sym (append_assoc (flat_map solution_line solutions) (none_line n (length solutions)) (line_feed ∷ []))) (omega arith) (omega arith)
-      (writes_more (flat_map solution_line solutions) piece looks most_looks 0 0 (output_state state a before) (output_state state b after) (output_state state c after) p (d p.works after))
-  solved (Err x) n count solutions piece looks most_looks before after a b c e f p d =
-      refuses_as (flat_map solution_line solutions ++ piece) (solve_text n solutions) (looks + 0) (most_looks + 0) looks most_looks
-      (output_state state a before) (output_state state c after)
-      (ap (λ t. flat_map solution_line solutions ++ t) (f ∙ ap (λ k. none_line n k ++ line_feed ∷ []) e) ∙ sym (append_assoc (flat_map solution_line solutions) (none_line n (length solutions)) (line_feed ∷ []))) (omega arith) (omega arith)
-      (refuses_more (flat_map solution_line solutions) piece looks most_looks 0 0 (output_state state a before) (output_state state b after) (output_state state c after) p (d p.works after))
+  solved r n solutions piece looks most_looks before after a b c e f p d = by_answer _ d
+    where
+      whole : flat_map solution_line solutions ++ piece ≡ solve_text n solutions
+      whole =
+          ap (λ t. flat_map solution_line solutions ++ t) (f ∙ ap (λ k. none_line n k ++ line_feed ∷ []) e)
+          ∙ sym (append_assoc (flat_map solution_line solutions) (none_line n (length solutions)) (line_feed ∷ []))
+
+      by_answer : (r : Result (Unit {0}) DeviceFault) → Delivers state r piece b c
+          → WritesOrRefuses r (solve_text n solutions) looks most_looks (output_state state a before) (output_state state c after)
+      by_answer (Ok u) d = writes_as whole (omega arith) (omega arith) (writes_more p (d p.works after))
+      by_answer (Err x) d = refuses_as whole (omega arith) (omega arith) (refuses_more p (d p.works after))

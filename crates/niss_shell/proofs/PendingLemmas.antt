@@ -1,12 +1,10 @@
 -- Answers that wait, and what is written after them.
-use Rattle.std.proofs.Common.{◌≡◌, ℕ, ◌+◌, false, Result, Ok, Err, List, [], ◌++◌, sym, ap, ◌∙◌, subst, append-nil, arith}
+use Rattle.std.proofs.Common.{◌≡◌, ℕ, false, Result, Ok, Err, List, [], ◌++◌, sym, ap, ◌∙◌, subst, append-nil, arith}
 use Rattle.std.specs.Prelude.{OnOk, OnErr}
 use Rattle.niss_shell.specs.Device.{TargetState, has_fault, Appended, WriteRefused}
-use Rattle.niss_shell.specs.Lines.{ended_lines, written_text}
-use Rattle.niss_shell.specs.Output.{LineAnswers, looks_for, most_looks_for, line_with_bytes}
-use Rattle.niss_shell.specs.Engine.{AnswerState, pending_state, Progress, Writes, Refuses, WritesOrRefuses, AllAnswered, TakesBytes, TakesEnd}
-use Rattle.niss_shell.specs.declared.device.DeviceFault.{DeviceFault}
-use Rattle.niss_shell.specs.declared.stop.Stop.TheVariants.{CannotWrite}
+use Rattle.niss_shell.specs.Output.{LineAnswers}
+use Rattle.niss_shell.specs.Engine.{AnswerState, pending_state, Writes, Refuses, RefusesAnswers, WritesOrRefuses, AllAnswered}
+use Rattle.niss_shell.specs.Names.{DeviceFault}
 use Rattle.niss_shell.proofs.DeviceLemmas.{appended_nothing}
 use Rattle.niss_shell.proofs.StateLemmas.{writes_more, writes_as, refuses_more, refuses_as}
 
@@ -28,9 +26,9 @@ all_sent (Err x) pending piece rest a b looks e f whole same refused works = rec
 }
 
 -- a text waits after what waited
-pub waits : (text pending rest : List ℕ) (a : TargetState) (looks : ℕ) → rest ≡ pending ++ text → has_fault a ≡ false
+pub waits : {text pending rest : List ℕ} (a : TargetState) {looks : ℕ} → rest ≡ pending ++ text → has_fault a ≡ false
     → Writes text 0 0 (pending_state a pending looks) (pending_state a rest looks)
-waits text pending rest a looks e works = record {
+waits a e works = record {
   works = works;
   written = record { sent = []; whole = e; appended = appended_nothing a };
   looked = omega arith;
@@ -41,38 +39,18 @@ waits text pending rest a looks e works = record {
 
 pub then_sent : {T : Type 0} (r : Result T DeviceFault) (text : List ℕ) (looks most_looks : ℕ) (a b c : AnswerState)
     → Writes text looks most_looks a b → WritesOrRefuses r [] 0 0 b c → WritesOrRefuses r text looks most_looks a c
-then_sent (Ok u) text looks most_looks a b c p q =
-    writes_as (text ++ []) text (looks + 0) (most_looks + 0) looks most_looks a c (append-nil text) (omega arith) (omega arith)
-    (writes_more text [] looks most_looks 0 0 a b c p q)
-then_sent (Err x) text looks most_looks a b c p q =
-    refuses_as (text ++ []) text (looks + 0) (most_looks + 0) looks most_looks a c (append-nil text) (omega arith) (omega arith)
-    (refuses_more text [] looks most_looks 0 0 a b c p q)
+then_sent (Ok u) text looks most_looks a b c p q = writes_as (append-nil text) (omega arith) (omega arith) (writes_more p q)
+then_sent (Err x) text looks most_looks a b c p q = refuses_as (append-nil text) (omega arith) (omega arith) (refuses_more p q)
 
--- what waits is written after lines that were taken
+-- what waits is written after lines that were taken, or a write of it is refused
 
-lines_sent : (f : LineAnswers) (n : ℕ) (lines : List (List ℕ)) (u : Unit {0}) (a b c : AnswerState)
-    → AllAnswered f n lines a b → WritesOrRefuses {T = Unit {0}} (Ok u) [] 0 0 b c → AllAnswered f n lines a c
-lines_sent f n lines u a b c x q = record {
+pub lines_sent : {f : LineAnswers} {n : ℕ} {lines : List (List ℕ)} {a b c : AnswerState}
+    → AllAnswered f n lines a b → Writes [] 0 0 b c → AllAnswered f n lines a c
+lines_sent x q = record {
   faultless = x.faultless;
-  writes = then_sent {T = Unit {0}} (Ok u) (written_text f.answer_of lines) (looks_for f lines) (most_looks_for f lines) a b c x.writes q;
+  writes = writes_as (append-nil _) (omega arith) (omega arith) (writes_more x.writes q);
 }
 
-pub takes_sent : (f : LineAnswers) (front bytes : List ℕ) (n : ℕ) (q : Progress) (u v : Unit {0}) (a b c : AnswerState)
-    → TakesBytes f front bytes n q (Ok u) a b → Writes [] 0 0 b c → TakesBytes f front bytes n q (Ok v) a c
-takes_sent f front bytes n q u v a b c x w = (lines_sent f n (ended_lines front bytes) u a b c x.0 w, x.1)
-
-pub takes_unsent : (f : LineAnswers) (front bytes : List ℕ) (n : ℕ) (q : Progress) (u : Unit {0}) (e : DeviceFault) (a b c : AnswerState)
-    → TakesBytes f front bytes n q (Ok u) a b → Refuses [] 0 0 b c → TakesBytes f front bytes n q (Err CannotWrite) a c
-takes_unsent f front bytes n q u e a b c x w =
-    let lines = ended_lines front bytes in
-    then_sent {T = Unit {0}} (Err e) (written_text f.answer_of lines) (looks_for f lines) (most_looks_for f lines) a b c x.0.writes w
-
-pub end_sent : (f : LineAnswers) (front : List ℕ) (n : ℕ) (u v : Unit {0}) (a b c : AnswerState)
-    → TakesEnd f front n (Ok u) a b → Writes [] 0 0 b c → TakesEnd f front n (Ok v) a c
-end_sent f front n u v a b c x w = lines_sent f n (line_with_bytes front) u a b c x w
-
-pub end_unsent : (f : LineAnswers) (front : List ℕ) (n : ℕ) (u : Unit {0}) (e : DeviceFault) (a b c : AnswerState)
-    → TakesEnd f front n (Ok u) a b → Refuses [] 0 0 b c → TakesEnd f front n (Err CannotWrite) a c
-end_unsent f front n u e a b c x w =
-    let lines = line_with_bytes front in
-    then_sent {T = Unit {0}} (Err e) (written_text f.answer_of lines) (looks_for f lines) (most_looks_for f lines) a b c x.writes w
+pub lines_unsent : {f : LineAnswers} {n : ℕ} {lines : List (List ℕ)} {a b c : AnswerState}
+    → AllAnswered f n lines a b → Refuses [] 0 0 b c → RefusesAnswers f lines a c
+lines_unsent x q = refuses_as (append-nil _) (omega arith) (omega arith) (refuses_more x.writes q)

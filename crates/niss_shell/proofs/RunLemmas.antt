@@ -3,20 +3,15 @@ use Rattle.std.proofs.Common.{◌≡◌, ◌≢◌, ℕ, ◌+◌, ◌≤◌, ◌
 use Rattle.std.specs.Prelude.{OnOk, OnErr, IfSome, nat_lt, nat_le, flat_map}
 use Rattle.std.proofs.lemmas.Grind.{common_steps}
 use Rattle.rand_pcg.specs.Lcg.{Lcg}
-use Rattle.niss_shell.specs.Device.{SourceState, TargetState, has_fault, Appended, StaysSilent, WriteRefused}
+use Rattle.niss_shell.specs.Device.{SourceState, TargetState, has_fault, Appended, WriteRefused}
 use Rattle.niss_shell.specs.Scrambles.{generator_of, scramble_text}
 use Rattle.niss_shell.specs.Words.{limit, Request, OnLines, ListSteps, DrawScrambles, request_of, reads_source, has_step, joined}
-use Rattle.niss_shell.specs.Output.{Answer, Ending, More, End, Fail, ending, stop_at_end, line_answers, answer_lines, unsearched, step_line, stop_of, out_of, error_text, status_of}
+use Rattle.niss_shell.specs.Output.{Answer, Ending, More, End, Fail, ending, stop_at_end, line_answers, answer_lines, answer_request, unsearched, step_line, stop_of, out_of, error_text, status_of}
 use Rattle.niss_cube.specs.Steps.{steps}
-use Rattle.niss_shell.specs.Engine.{AnswerState, pending_state, AnswersSource, Answers, Writes, Refuses, EndsUnflushed, RunsUnflushed, flushed_stop, FlushesLast}
+use Rattle.niss_shell.specs.Engine.{AnswerState, pending_state, AnswersSource, Answers, Writes, Refuses, EndsUnflushed, RunsUnflushed, flushed_stop, Flushes, FlushesLast}
 use Rattle.niss_shell.specs.Job.{IsInput}
 use Rattle.niss_shell.specs.Run.{Devices, devices, OutputRefused, EndsByFault, Ends, ReportsError, Looked, Runs}
-use Rattle.niss_shell.specs.declared.device.DeviceFault.{DeviceFault}
-use Rattle.niss_shell.specs.declared.command.UsageFault.{UsageFault}
-use Rattle.niss_shell.specs.declared.command.LineCommand.{LineCommand}
-use Rattle.niss_shell.specs.declared.stop.LineFault.{LineFault}
-use Rattle.niss_shell.specs.declared.stop.Stop.{Stop}
-use Rattle.niss_shell.specs.declared.stop.Stop.TheVariants.{Done, Line, Usage, InputTooLong, CannotRead, CannotWrite, OutOfMemory}
+use Rattle.niss_shell.specs.Names.{DeviceFault, UsageFault, LineCommand, LineFault, Stop, Done, Usage, InputTooLong, CannotWrite, OutOfMemory}
 use Rattle.niss_shell.proofs.DeviceLemmas.{appended_then, appended_after_failure, gave_nothing, fault_of_write, no_write_fault, no_flush_fault}
 use Rattle.niss_shell.proofs.StateLemmas.{writes_nothing, all_sent}
 use Rattle.niss_shell.proofs.AnswerLemmas.{short_test, long_test, choose_false, choose_true}
@@ -30,9 +25,9 @@ by_words bytes None command (w ∷ ws) P is h p = absurd (omega arith)
 
 -- the error writer
 
-pub reported : (text piece : List ℕ) (r : Result (Unit {0}) DeviceFault) (a b : TargetState)
+pub reported : (text : List ℕ) {piece : List ℕ} (r : Result (Unit {0}) DeviceFault) (a b : TargetState)
     → piece ≡ text → OnOk r (Appended a b piece) → OnErr r (WriteRefused piece a b) → b.flush_failed ≡ a.flush_failed → ReportsError text a b
-reported text piece (Ok u) a b e whole refused unflushed = record {
+reported text (Ok u) a b e whole refused unflushed = record {
   part = text;
   rest = [];
   beginning = append-nil text;
@@ -40,7 +35,7 @@ reported text piece (Ok u) a b e whole refused unflushed = record {
   written = subst (λ t. Appended a b t) e whole;
   unflushed = unflushed;
 }
-reported text piece (Err x) a b e whole refused unflushed = record {
+reported text (Err x) a b e whole refused unflushed = record {
   part = refused.part;
   rest = refused.cut.0;
   beginning = refused.cut.1 ∙ e;
@@ -66,68 +61,62 @@ no_stop_of_memory None input m = either_stop (nat_lt limit (length input)) Input
 
 ends_of_answers : (a : Answer) (asked : Result Request UsageFault) (stop : Stop) (source source_now : SourceState) (h i : AnswerState)
     → a.stop ≢ OutOfMemory → Answers a stop h i → EndsUnflushed stop a asked source source_now h i
-ends_of_answers a asked Done source source_now h i n w = w
-ends_of_answers a asked (Line at fault) source source_now h i n w = w
-ends_of_answers a asked Usage source source_now h i n w = w
-ends_of_answers a asked InputTooLong source source_now h i n w = w
-ends_of_answers a asked CannotRead source source_now h i n w = w
-ends_of_answers a asked CannotWrite source source_now h i n w = w
 ends_of_answers a asked OutOfMemory source source_now h i n w = absurd (n (sym w.0))
+ends_of_answers a asked CannotWrite source source_now h i n w = w
+ends_of_answers a asked _ source source_now h i n w = w
 
--- the input comes from the source
-pub runs_source : (command : LineCommand) (ws : List (List ℕ)) (stop : Stop) (a b : SourceState) (h i : AnswerState)
-    → length ws ≡ 0 → AnswersSource (line_answers command) stop a b h i → RunsUnflushed (Ok (OnLines command ws)) stop a b h i
-runs_source command [] stop a b h i e x = record {
+-- The input comes from the source. What the run is of, by its command and its states, may be known by equations.
+pub runs_source : {command given : LineCommand} {ws : List (List ℕ)} {stop : Stop} {a b : SourceState} {h k i j : AnswerState}
+    → given ≡ command → k ≡ h → j ≡ i → length ws ≡ 0 → AnswersSource (line_answers given) stop a b k j
+    → RunsUnflushed (Ok (OnLines command ws)) stop a b h i
+runs_source {given = given} {ws = []} {b = b} e f g none x = rw (← e, ← f, ← g) (record {
   input = x.input;
   gave = x.gave;
-  ends = ends_of_answers (answer_lines (line_answers command) x.input (ending b)) (Ok (OnLines command [])) stop a b h i (no_stop_of_memory _ x.input (ending b)) x.answers;
+  ends = ends_of_answers (answer_lines (line_answers given) x.input (ending b)) _ _ _ b _ _ (no_stop_of_memory _ x.input (ending b)) x.answers;
   read_whole = λ d r. x.read_whole d;
+})
+runs_source {ws = w ∷ ws} e f g none x = absurd (omega arith)
+
+-- nothing is read
+unread_run : (asked : Result Request UsageFault) (stop : Stop) (a : SourceState) (h i : AnswerState) → reads_source asked ≡ false
+    → EndsUnflushed stop (answer_request asked [] (ending a)) asked a a h i → RunsUnflushed asked stop a a h i
+unread_run asked stop a h i unread ends = record {
+  input = [];
+  gave = gave_nothing a;
+  ends = ends;
+  read_whole = λ d r. absurd (cc (r, unread));
 }
-runs_source command (w ∷ ws) stop a b h i e x = absurd (omega arith)
 
 -- the input comes from the words
 
-pub runs_text : (command : LineCommand) (ws : List (List ℕ)) (text : List ℕ) (stop : Stop) (a : SourceState) (h i : AnswerState)
-    → 0 < length ws → text ≡ joined ws → length (joined ws) ≤ limit → Answers (answer_lines (line_answers command) text End) stop h i
-    → RunsUnflushed (Ok (OnLines command ws)) stop a a h i
-runs_text command [] text stop a h i n e fits w = absurd (omega arith)
-runs_text command (v ∷ ws) text stop a h i n e fits w = record {
-  input = [];
-  gave = gave_nothing a;
-  ends =
-      subst (λ x. EndsUnflushed stop x (Ok (OnLines command (v ∷ ws))) a a h i)
-      (ap (λ t. answer_lines (line_answers command) t End) e ∙ sym (choose_false (nat_lt limit (length (joined (v ∷ ws)))) (unsearched [] InputTooLong) (answer_lines (line_answers command) (joined (v ∷ ws)) End) (short_test (length (joined (v ∷ ws))) fits)))
-      (ends_of_answers (answer_lines (line_answers command) text End) (Ok (OnLines command (v ∷ ws))) stop a a h i (no_stop_of_memory _ text End) w);
-  read_whole = λ d r. absurd (cc r);
-}
+pub runs_text : {command given : LineCommand} {ws : List (List ℕ)} {text : List ℕ} {stop : Stop} {a : SourceState} {h k i j : AnswerState}
+    → given ≡ command → k ≡ h → j ≡ i → 0 < length ws → text ≡ joined ws → length (joined ws) ≤ limit
+    → Answers (answer_lines (line_answers given) text End) stop k j → RunsUnflushed (Ok (OnLines command ws)) stop a a h i
+runs_text {ws = []} e f g some whole fits x = absurd (omega arith)
+runs_text {given = given} {ws = v ∷ ws} {text = text} {stop = stop} {a = a} {k = k} {j = j} e f g some whole fits x =
+    rw (← e, ← f, ← g) (unread_run (Ok (OnLines given (v ∷ ws))) stop a k j refl
+    (subst (λ y. EndsUnflushed stop y (Ok (OnLines given (v ∷ ws))) a a k j)
+    (ap (λ t. answer_lines (line_answers given) t End) whole ∙ sym (choose_false _ _ _ (short_test fits)))
+    (ends_of_answers (answer_lines (line_answers given) text End) (Ok (OnLines given (v ∷ ws))) _ a a k j (no_stop_of_memory _ text End) x)))
 
 pub runs_too_long : (command : LineCommand) (ws : List (List ℕ)) (a : SourceState) (h : AnswerState)
     → 0 < length ws → has_fault h.target ≡ false → limit < length (joined ws)
     → RunsUnflushed (Ok (OnLines command ws)) InputTooLong a a h h
 runs_too_long command [] a h n works long = absurd (omega arith)
-runs_too_long command (v ∷ ws) a h n works long = record {
-  input = [];
-  gave = gave_nothing a;
-  ends =
-      subst (λ x. EndsUnflushed InputTooLong x (Ok (OnLines command (v ∷ ws))) a a h h)
-      (sym (choose_true (nat_lt limit (length (joined (v ∷ ws)))) (unsearched [] InputTooLong) (answer_lines (line_answers command) (joined (v ∷ ws)) End) (long_test (length (joined (v ∷ ws))) long)))
-      (refl, writes_nothing h works);
-  read_whole = λ d r. absurd (cc r);
-}
+runs_too_long command (v ∷ ws) a h n works long =
+    unread_run (Ok (OnLines command (v ∷ ws))) InputTooLong a h h refl
+    (subst (λ x. EndsUnflushed InputTooLong x (Ok (OnLines command (v ∷ ws))) a a h h)
+    (sym (choose_true _ _ _ (long_test long))) (refl, writes_nothing _ works))
 
-fits_test : (n : ℕ) → n ≤ limit → nat_le n limit ≡ true
-fits_test n h = grind (arith, common_steps)
+fits_test : {n : ℕ} → n ≤ limit → nat_le n limit ≡ true
+fits_test h = grind (arith, common_steps)
 
 pub runs_memory : (command : LineCommand) (ws : List (List ℕ)) (a : SourceState) (h : AnswerState)
     → 0 < length ws → has_fault h.target ≡ false → length (joined ws) ≤ limit
     → RunsUnflushed (Ok (OnLines command ws)) OutOfMemory a a h h
 runs_memory command [] a h n works fits = absurd (omega arith)
-runs_memory command (v ∷ ws) a h n works fits = record {
-  input = [];
-  gave = gave_nothing a;
-  ends = (fits_test (length (joined (v ∷ ws))) fits, refl, writes_nothing h works);
-  read_whole = λ d r. absurd (cc r);
-}
+runs_memory command (v ∷ ws) a h n works fits =
+    unread_run (Ok (OnLines command (v ∷ ws))) OutOfMemory a h h refl (fits_test fits, refl, writes_nothing _ works)
 
 pub runs_memory_source : (command : LineCommand) (ws : List (List ℕ)) (a : SourceState) (h : AnswerState)
     → length ws ≡ 0 → has_fault h.target ≡ false → has_step command ≡ true
@@ -135,67 +124,27 @@ pub runs_memory_source : (command : LineCommand) (ws : List (List ℕ)) (a : Sou
 runs_memory_source command [] a h n works asks = record {
   input = [];
   gave = gave_nothing a;
-  ends = (asks, refl, writes_nothing h works);
+  ends = (asks, refl, writes_nothing _ works);
   read_whole = λ d r. absurd (cc d);
 }
 runs_memory_source command (v ∷ ws) a h n works asks = absurd (omega arith)
 
-pub runs_usage : (asked : Result Request UsageFault) (fault : UsageFault) (a : SourceState) (h : AnswerState)
+-- other requests
+
+pub runs_usage : {asked : Result Request UsageFault} {fault : UsageFault} (a : SourceState) (h : AnswerState)
     → asked ≡ Err fault → has_fault h.target ≡ false → RunsUnflushed asked Usage a a h h
-runs_usage asked fault a h e works = subst (λ x. RunsUnflushed x Usage a a h h) (sym e) (record {
-  input = [];
-  gave = gave_nothing a;
-  ends = (refl, writes_nothing h works);
-  read_whole = λ d r. absurd (cc r);
-})
+runs_usage {fault = fault} a h e works = rw e (unread_run (Err fault) Usage a h h refl (refl, writes_nothing _ works))
 
--- the same of a job, whose work has the command, and whose states are known by equations
-
-pub from_source : (command given : LineCommand) (ws : List (List ℕ)) (stop : Stop) (a b : SourceState) (h k i j : AnswerState)
-    → given ≡ command → k ≡ h → j ≡ i → length ws ≡ 0 → AnswersSource (line_answers given) stop a b k j
-    → RunsUnflushed (Ok (OnLines command ws)) stop a b h i
-from_source command given ws stop a b h k i j e f g none x =
-    runs_source command ws stop a b h i none
-    (subst (λ v. AnswersSource (line_answers v) stop a b h i) e
-    (subst (λ s. AnswersSource (line_answers given) stop a b s i) f
-    (subst (λ s. AnswersSource (line_answers given) stop a b k s) g x)))
-
-pub from_text : (command given : LineCommand) (ws : List (List ℕ)) (text piece : List ℕ) (stop : Stop) (a : SourceState) (h k i j : AnswerState)
-    → given ≡ command → k ≡ h → j ≡ i → piece ≡ text → 0 < length ws → text ≡ joined ws → length (joined ws) ≤ limit
-    → Answers (answer_lines (line_answers given) piece End) stop k j
-    → RunsUnflushed (Ok (OnLines command ws)) stop a a h i
-from_text command given ws text piece stop a h k i j e f g same some whole fits x =
-    runs_text command ws text stop a h i some whole fits
-    (subst (λ v. Answers (answer_lines (line_answers v) text End) stop h i) e
-    (subst (λ t. Answers (answer_lines (line_answers given) t End) stop h i) same
-    (subst (λ s. Answers (answer_lines (line_answers given) piece End) stop s i) f
-    (subst (λ s. Answers (answer_lines (line_answers given) piece End) stop k s) g x))))
-
--- the names of the steps
-
-pub runs_steps : (asked : Result Request UsageFault) (stop : Stop) (a : SourceState) (h i : AnswerState)
+pub runs_steps : {asked : Result Request UsageFault} (stop : Stop) (a : SourceState) (h i : AnswerState)
     → asked ≡ Ok ListSteps → Answers (unsearched (flat_map step_line steps) Done) stop h i → RunsUnflushed asked stop a a h i
-runs_steps asked stop a h i e w = subst (λ x. RunsUnflushed x stop a a h i) (sym e) (record {
-  input = [];
-  gave = gave_nothing a;
-  ends = ends_of_answers (unsearched (flat_map step_line steps) Done) (Ok ListSteps) stop a a h i (λ n. cc n) w;
-  read_whole = λ d r. absurd (cc r);
-})
+runs_steps stop a h i e w = rw e (unread_run (Ok ListSteps) stop a h i refl (ends_of_answers _ _ _ _ _ _ _ (λ n. cc n) w))
 
--- scrambles
-
-pub runs_scrambles : (asked : Result Request UsageFault) (state stream turns count : ℕ) (rng : Lcg) (stop : Stop) (a : SourceState) (h i : AnswerState)
+pub runs_scrambles : {asked : Result Request UsageFault} (state stream turns count : ℕ) {rng : Lcg} (stop : Stop) (a : SourceState) (h i : AnswerState)
     → asked ≡ Ok (DrawScrambles state stream turns count) → rng ≡ generator_of state stream
     → Answers (unsearched (scramble_text turns count rng) Done) stop h i → RunsUnflushed asked stop a a h i
-runs_scrambles asked state stream turns count rng stop a h i e r w = subst (λ x. RunsUnflushed x stop a a h i) (sym e) (record {
-  input = [];
-  gave = gave_nothing a;
-  ends =
-      let text = scramble_text turns count (generator_of state stream) in
-      ends_of_answers (unsearched text Done) (Ok (DrawScrambles state stream turns count)) stop a a h i (λ n. cc n)
-      (subst (λ x. Answers (unsearched (scramble_text turns count x) Done) stop h i) r w);
-  read_whole = λ d r. absurd (cc r);
-})
+runs_scrambles state stream turns count stop a h i e f w =
+    rw e (unread_run (Ok (DrawScrambles state stream turns count)) stop a h i refl
+    (ends_of_answers _ _ _ _ _ _ _ (λ n. cc n) (subst (λ x. Answers (unsearched (scramble_text turns count x) Done) stop h i) f w)))
 
 -- the last flush
 
@@ -203,33 +152,16 @@ fault_after : (i j : TargetState) (f : Bool) → has_fault i ≡ false → j.wri
 fault_after i j f works same e =
     ap (λ v. v || j.flush_failed) (same ∙ no_write_fault i works) ∙ e ∙ ap (λ v. v || f) (no_flush_fault i works)
 
--- a flush that was refused or wasn't
-record FlushesAs (old new : TargetState) (refused : Bool) : Type 0 where
-  bytes : Appended old new []
-  silent : StaysSilent old new
-  write_failed : new.write_failed ≡ old.write_failed
-  flush_failed : new.flush_failed ≡ (old.flush_failed || refused)
-  flushed : new.is_flushed ≡ not refused
-
-flushes_as : (stop stop_now : Stop) (old new : TargetState) (flush : FlushesLast stop stop_now old new) → FlushesAs old new flush.refused
-flushes_as stop stop_now old new flush = record {
-  bytes = flush.bytes;
-  silent = flush.silent;
-  write_failed = flush.write_failed;
-  flush_failed = flush.flush_failed;
-  flushed = flush.flushed;
-}
-
 ends_done : (a : Answer) (asked : Result Request UsageFault) (d e : Devices) (h i : AnswerState) (f : Bool)
     → h.target ≡ d.output → h.pending ≡ [] → i.pending ≡ [] → Answers a Done h i → (reads_source asked ≡ true → e.source.has_ended ≡ true)
-    → FlushesAs i.target e.output f
+    → Flushes f i.target e.output
     → Ends (flushed_stop Done f) a asked d e
 ends_done a asked d e h i true at none none_now w whole flush = record {
-  refused = fault_after i.target e.output true w.1.works flush.write_failed flush.flush_failed;
+  refused = fault_after i.target e.output _ w.1.works flush.write_failed flush.flush_failed;
   text = a.output;
   rest = [];
   beginning = append-nil a.output;
-  written = appended_then d.output i.target e.output a.output w.1.works (subst (λ t. Appended t i.target a.output) at (all_sent a.output h i none none_now w.1.written)) flush.bytes;
+  written = appended_then d.output i.target e.output a.output w.1.works (subst (λ t. Appended t i.target a.output) at (all_sent _ _ _ none none_now w.1.written)) flush.bytes;
   cut = λ bad. absurd (cc (bad, flush.write_failed ∙ no_write_fault i.target w.1.works));
   whole = λ good. refl;
   last = λ good. record { good = sym w.0; read_whole = whole };
@@ -237,24 +169,24 @@ ends_done a asked d e h i true at none none_now w whole flush = record {
 }
 ends_done a asked d e h i false at none none_now w whole flush = record {
   ends = record { good = sym w.0; read_whole = whole };
-  works = fault_after i.target e.output false w.1.works flush.write_failed flush.flush_failed;
-  written = appended_then d.output i.target e.output a.output w.1.works (subst (λ t. Appended t i.target a.output) at (all_sent a.output h i none none_now w.1.written)) flush.bytes;
+  works = fault_after i.target e.output _ w.1.works flush.write_failed flush.flush_failed;
+  written = appended_then d.output i.target e.output a.output w.1.works (subst (λ t. Appended t i.target a.output) at (all_sent _ _ _ none none_now w.1.written)) flush.bytes;
   flushed = flush.flushed;
 }
 
-ends_by_fault : (a : Answer) (d e : Devices) (h i : AnswerState) (stop : Stop) (f : Bool)
-    → h.target ≡ d.output → h.pending ≡ [] → i.pending ≡ [] → (stop ≡ a.stop) × Writes a.output a.looks a.most_looks h i → FlushesAs i.target e.output f
+ends_by_fault : (a : Answer) (d e : Devices) {h : AnswerState} (i : AnswerState) {stop : Stop} {f : Bool}
+    → h.target ≡ d.output → h.pending ≡ [] → i.pending ≡ [] → (stop ≡ a.stop) × Writes a.output a.looks a.most_looks h i → Flushes f i.target e.output
     → EndsByFault stop a d e
-ends_by_fault a d e h i stop f at none none_now w flush = record {
+ends_by_fault a d e i at none none_now w flush = record {
   fault = sym w.0;
-  written = appended_then d.output i.target e.output a.output w.1.works (subst (λ t. Appended t i.target a.output) at (all_sent a.output h i none none_now w.1.written)) flush.bytes;
+  written = appended_then d.output i.target e.output a.output w.1.works (subst (λ t. Appended t i.target a.output) at (all_sent _ _ _ none none_now w.1.written)) flush.bytes;
   unrefused = flush.write_failed ∙ no_write_fault i.target w.1.works;
 }
 
-ends_refused : (a : Answer) (asked : Result Request UsageFault) (d e : Devices) (h i : AnswerState) (f : Bool)
-    → h.target ≡ d.output → h.pending ≡ [] → Refuses a.output a.looks a.most_looks h i → FlushesAs i.target e.output f
+ends_refused : (a : Answer) {asked : Result Request UsageFault} (d e : Devices) (h i : AnswerState) {f : Bool}
+    → h.target ≡ d.output → h.pending ≡ [] → Refuses a.output a.looks a.most_looks h i → Flushes f i.target e.output
     → OutputRefused a asked d e
-ends_refused a asked d e h i f at none w flush =
+ends_refused a d e h i at none w flush =
     let r : WriteRefused a.output h.target i.target = subst (λ p. WriteRefused (p ++ a.output) h.target i.target) none w.refused in
     let bad : e.output.write_failed ≡ true = flush.write_failed ∙ r.refused in
     record {
@@ -270,35 +202,27 @@ ends_refused a asked d e h i f at none w flush =
       last_flush = λ good. absurd (cc (good, bad));
     }
 
-ends_flushed : (a : Answer) (asked : Result Request UsageFault) (stop : Stop) (d e : Devices) (h i : AnswerState) (f : Bool)
+ends_flushed : (a : Answer) (asked : Result Request UsageFault) (stop : Stop) (d e : Devices) (h i : AnswerState) {f : Bool}
     → h.target ≡ d.output → h.pending ≡ [] → i.pending ≡ [] → EndsUnflushed stop a asked d.source e.source h i → (stop ≡ Done → reads_source asked ≡ true → e.source.has_ended ≡ true)
-    → FlushesAs i.target e.output f
+    → Flushes f i.target e.output
     → Ends (flushed_stop stop f) a asked d e
-ends_flushed a asked Done d e h i f at none none_now w whole flush = ends_done a asked d e h i f at none none_now w (whole refl) flush
-ends_flushed a asked (Line n fault) d e h i f at none none_now w whole flush = ends_by_fault a d e h i (Line n fault) f at none none_now w flush
-ends_flushed a asked Usage d e h i f at none none_now w whole flush = ends_by_fault a d e h i Usage f at none none_now w flush
-ends_flushed a asked InputTooLong d e h i f at none none_now w whole flush = ends_by_fault a d e h i InputTooLong f at none none_now w flush
-ends_flushed a asked CannotRead d e h i f at none none_now w whole flush = ends_by_fault a d e h i CannotRead f at none none_now w flush
-ends_flushed a asked CannotWrite d e h i f at none none_now w whole flush = ends_refused a asked d e h i f at none w flush
-ends_flushed a asked OutOfMemory d e h i f at none none_now w whole flush = record {
+ends_flushed a asked Done d e h i at none none_now w whole flush = ends_done _ _ _ _ _ _ _ at none none_now w (whole refl) flush
+ends_flushed a asked CannotWrite d e h i at none none_now w whole flush = ends_refused _ _ _ _ _ at none w flush
+ends_flushed a asked OutOfMemory d e h i at none none_now w whole flush = record {
   asks = w.0;
   unread = w.1;
   nothing = appended_then d.output i.target e.output [] w.2.works (subst (λ t. Appended t i.target []) at (all_sent [] h i none none_now w.2.written)) flush.bytes;
   unrefused = flush.write_failed ∙ no_write_fault i.target w.2.works;
 }
+ends_flushed a asked stop d e h i at none none_now w whole flush = ends_by_fault _ _ _ _ at none none_now w flush
 
 -- the looks
 
 -- where no write was refused
 exact_looks : (stop : Stop) (failed : Bool) (due looks looks_now : ℕ) → stop ≢ OutOfMemory → failed ≡ false → looks_now ≡ looks + due → Looked stop failed due looks looks_now
-exact_looks Done false due looks looks_now n e p = p
-exact_looks (Line at fault) false due looks looks_now n e p = p
-exact_looks Usage false due looks looks_now n e p = p
-exact_looks InputTooLong false due looks looks_now n e p = p
-exact_looks CannotRead false due looks looks_now n e p = p
-exact_looks CannotWrite false due looks looks_now n e p = p
-exact_looks OutOfMemory false due looks looks_now n e p = absurd (n refl)
 exact_looks stop true due looks looks_now n e p = absurd (cc e)
+exact_looks OutOfMemory false due looks looks_now n e p = absurd (n refl)
+exact_looks _ false due looks looks_now n e p = p
 
 refused_looks : (failed : Bool) (due looks looks_now : ℕ) → failed ≡ true → looks ≤ looks_now → looks_now ≤ looks + due → Looked CannotWrite failed due looks looks_now
 refused_looks true due looks looks_now e p q = (p, q)
@@ -308,74 +232,58 @@ done_flushed : (f : Bool) → flushed_stop Done f ≢ OutOfMemory
 done_flushed true e = cc e
 done_flushed false e = cc e
 
-looked_flushed : (a : Answer) (asked : Result Request UsageFault) (stop : Stop) (source source_now : SourceState) (h i : AnswerState) (j : TargetState) (f : Bool)
-    → EndsUnflushed stop a asked source source_now h i → FlushesAs i.target j f
+looked_flushed : (a : Answer) (asked : Result Request UsageFault) (stop : Stop) (source source_now : SourceState) (h i : AnswerState) (j : TargetState) {f : Bool}
+    → EndsUnflushed stop a asked source source_now h i → Flushes f i.target j
     → Looked (flushed_stop stop f) j.write_failed a.looks h.looks i.looks
-looked_flushed a asked Done source source_now h i j f w flush =
-    exact_looks (flushed_stop Done f) j.write_failed a.looks h.looks i.looks (done_flushed f) (flush.write_failed ∙ no_write_fault i.target w.1.works) w.1.looked
-looked_flushed a asked (Line n fault) source source_now h i j f w flush =
-    exact_looks (Line n fault) j.write_failed a.looks h.looks i.looks (λ e. cc e) (flush.write_failed ∙ no_write_fault i.target w.1.works) w.1.looked
-looked_flushed a asked Usage source source_now h i j f w flush =
-    exact_looks Usage j.write_failed a.looks h.looks i.looks (λ e. cc e) (flush.write_failed ∙ no_write_fault i.target w.1.works) w.1.looked
-looked_flushed a asked InputTooLong source source_now h i j f w flush =
-    exact_looks InputTooLong j.write_failed a.looks h.looks i.looks (λ e. cc e) (flush.write_failed ∙ no_write_fault i.target w.1.works) w.1.looked
-looked_flushed a asked CannotRead source source_now h i j f w flush =
-    exact_looks CannotRead j.write_failed a.looks h.looks i.looks (λ e. cc e) (flush.write_failed ∙ no_write_fault i.target w.1.works) w.1.looked
-looked_flushed a asked CannotWrite source source_now h i j f w flush =
-    refused_looks j.write_failed a.looks h.looks i.looks (flush.write_failed ∙ w.refused.refused) w.rises w.looked
-looked_flushed a asked OutOfMemory source source_now h i j f w flush = w.2.looked ∙ add-zero h.looks
+looked_flushed a asked Done source source_now h i j w flush =
+    exact_looks _ _ _ _ _ (done_flushed _) (flush.write_failed ∙ no_write_fault i.target w.1.works) w.1.looked
+looked_flushed a asked CannotWrite source source_now h i j w flush =
+    refused_looks _ _ _ _ (flush.write_failed ∙ w.refused.refused) w.rises w.looked
+looked_flushed a asked OutOfMemory source source_now h i j w flush = w.2.looked ∙ add-zero h.looks
+looked_flushed a asked stop source source_now h i j w flush =
+    exact_looks stop j.write_failed a.looks h.looks i.looks (λ e. cc e) (flush.write_failed ∙ no_write_fault i.target w.1.works) w.1.looked
 
 bounded_looks : (a : Answer) (asked : Result Request UsageFault) (stop : Stop) (source source_now : SourceState) (h i : AnswerState)
     → EndsUnflushed stop a asked source source_now h i → i.looks ≤ h.looks + a.most_looks
-bounded_looks a asked Done source source_now h i w = w.1.bounded
-bounded_looks a asked (Line n fault) source source_now h i w = w.1.bounded
-bounded_looks a asked Usage source source_now h i w = w.1.bounded
-bounded_looks a asked InputTooLong source source_now h i w = w.1.bounded
-bounded_looks a asked CannotRead source source_now h i w = w.1.bounded
 bounded_looks a asked CannotWrite source source_now h i w = w.bounded
 bounded_looks a asked OutOfMemory source source_now h i w = omega (arith, w.2.bounded)
+bounded_looks a asked _ source source_now h i w = w.1.bounded
 
 flushes_worked : (a : Answer) (asked : Result Request UsageFault) (stop : Stop) (source source_now : SourceState) (h i : AnswerState)
     → has_fault h.target ≡ false → EndsUnflushed stop a asked source source_now h i → i.target.flush_failed ≡ false
-flushes_worked a asked Done source source_now h i works w = no_flush_fault i.target w.1.works
-flushes_worked a asked (Line at fault) source source_now h i works w = no_flush_fault i.target w.1.works
-flushes_worked a asked Usage source source_now h i works w = no_flush_fault i.target w.1.works
-flushes_worked a asked InputTooLong source source_now h i works w = no_flush_fault i.target w.1.works
-flushes_worked a asked CannotRead source source_now h i works w = no_flush_fault i.target w.1.works
 flushes_worked a asked CannotWrite source source_now h i works w = w.refused.flushes_work (no_flush_fault h.target works)
 flushes_worked a asked OutOfMemory source source_now h i works w = no_flush_fault i.target w.2.works
+flushes_worked a asked _ source source_now h i works w = no_flush_fault i.target w.1.works
 
 not_flushed : (c f r : Bool) → c ≡ not r → f ≡ r → f ≡ not c
 not_flushed c f true e h = h ∙ sym (ap not e)
 not_flushed c f false e h = h ∙ sym (ap not e)
 
 -- no flush before the last one was refused
-pub one_flush : (asked : Result Request UsageFault) (stop stop_now : Stop) (a b : SourceState) (h i : AnswerState) (j : TargetState)
+pub one_flush : {asked : Result Request UsageFault} {stop stop_now : Stop} {a b : SourceState} {h i : AnswerState} {j : TargetState}
     → has_fault h.target ≡ false → RunsUnflushed asked stop a b h i → FlushesLast stop stop_now i.target j → j.flush_failed ≡ not j.is_flushed
-one_flush asked stop stop_now a b h i j works x flush = not_flushed j.is_flushed j.flush_failed flush.refused flush.flushed
-    (flush.flush_failed ∙ ap (λ v. v || flush.refused) (flushes_worked _ asked stop a b h i works x.ends))
+one_flush works x flush = not_flushed _ _ _ flush.flush.flushed
+    (flush.flush.flush_failed ∙ ap (λ v. v || flush.refused) (flushes_worked _ _ _ _ _ _ _ works x.ends))
 
-pub runs_flushed : (words : List (List ℕ)) (status : ℕ) (stop stop_now : Stop) (a b : SourceState) (h i j : TargetState) (p q : List ℕ) (k l : TargetState) (looks looks_now : ℕ)
+pub runs_flushed : (words : List (List ℕ)) {status : ℕ} (stop stop_now : Stop) (a b : SourceState) (h : TargetState) {i : TargetState} (j : TargetState) {p q : List ℕ} (k l : TargetState) (looks looks_now : ℕ)
     → p ≡ [] → q ≡ [] → RunsUnflushed (request_of words) stop a b (pending_state h p looks) (pending_state i q looks_now) → FlushesLast stop stop_now i j
     → ReportsError (error_text stop_now) k l → status ≡ status_of stop_now
     → Runs words (devices a h k) (devices b j l) looks looks_now status
-runs_flushed words status stop stop_now a b h i j p q k l looks looks_now none none_now x flush reports answers =
-    let how = flushes_as stop stop_now i j flush in
+runs_flushed words stop stop_now a b h j k l looks looks_now none none_now x flush reports answers =
     record {
       input = x.input;
       gave = x.gave;
       stop = stop_now;
       ends = subst (λ v. Ends v (out_of words x.input b) (request_of words) (devices a h k) (devices b j l)) (sym flush.stop_is)
-          (ends_flushed (out_of words x.input b) (request_of words) stop (devices a h k) (devices b j l) (pending_state h p looks) (pending_state i q looks_now) flush.refused
-          refl none none_now x.ends x.read_whole how);
+          (ends_flushed _ _ _ _ _ _ _ refl none none_now x.ends x.read_whole flush.flush);
       looked = subst (λ v. Looked v j.write_failed (out_of words x.input b).looks looks looks_now) (sym flush.stop_is)
-          (looked_flushed (out_of words x.input b) (request_of words) stop a b (pending_state h p looks) (pending_state i q looks_now) j flush.refused x.ends how);
-      within_bound = bounded_looks (out_of words x.input b) (request_of words) stop a b (pending_state h p looks) (pending_state i q looks_now) x.ends;
+          (looked_flushed _ _ _ _ _ _ _ _ x.ends flush.flush);
+      within_bound = bounded_looks _ _ _ _ _ _ _ x.ends;
       reports = reports;
       answers = answers;
     }
 
 -- the target that the output lent
-pub lent_back : (words : List (List ℕ)) (status : ℕ) (a b : SourceState) (h i j k l : TargetState) (looks looks_now : ℕ)
+pub lent_back : (words : List (List ℕ)) (status : ℕ) (a b : SourceState) (h : TargetState) {i j : TargetState} (k l : TargetState) (looks looks_now : ℕ)
     → i ≡ j → Runs words (devices a h k) (devices b i l) looks looks_now status → Runs words (devices a h k) (devices b j l) looks looks_now status
-lent_back words status a b h i j k l looks looks_now e x = subst (λ t. Runs words (devices a h k) (devices b t l) looks looks_now status) e x
+lent_back words status a b h k l looks looks_now e x = subst (λ t. Runs words (devices a h k) (devices b t l) looks looks_now status) e x

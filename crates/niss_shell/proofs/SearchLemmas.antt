@@ -1,35 +1,29 @@
 -- What a search keeps of its sink, and how the text of a line ends it.
 use Rattle.std.proofs.Common.{◌≡◌, ℕ, Bool, true, false, Result, Ok, Err, List, [], ◌∷◌, inl, inr, sym, ap, ◌∙◌, subst}
 use Rattle.std.specs.Prelude.{IsTrue}
-use Rattle.niss_moves.specs.declared.turn.Turn.{Turn}
+use Rattle.niss_shell.specs.Names.{Turn, Step, LineCommand, Report, NoStart, Stop, CannotWrite}
 use Rattle.niss_search.specs.Delivery.{WentThrough, StoppedIn}
 use Rattle.niss_shell.specs.Engine.{AnswerState, Writes, Refuses, AnswersLine, AnswersMoves}
 use Rattle.niss_cube.specs.Steps.{turns_of, may_start}
-use Rattle.niss_cube.specs.declared.step.Step.{Step}
 use Rattle.niss_moves.specs.Line.{Moves}
 use Rattle.niss_search.specs.Cubes.{near_looks_of}
 use Rattle.niss_search.specs.Solutions.{look_bound}
 use Rattle.niss_shell.specs.Output.{where_it_starts, search_text, home}
-use Rattle.niss_shell.specs.declared.command.LineCommand.{LineCommand}
 use Rattle.niss_shell.specs.Words.{search_command}
-use Rattle.niss_shell.specs.declared.command.Report.{Report}
-use Rattle.niss_shell.specs.declared.stop.LineFault.TheVariants.{NoStart}
-use Rattle.niss_shell.specs.declared.stop.Stop.{Stop}
-use Rattle.niss_shell.specs.declared.stop.Stop.TheVariants.{CannotWrite}
 
 -- What every path keeps, a walk through a list of paths keeps.
 
-pub walk_keeps : {K N : Type 0} (name : K → N) (took : K → List Turn → K → Type 0) → ((a : K) (p : List Turn) (b : K) → took a p b → name b ≡ name a)
+pub walk_keeps : {K N : Type 0} (name : K → N) {took : K → List Turn → K → Type 0} → ((a : K) (p : List Turn) (b : K) → took a p b → name b ≡ name a)
     → (ps : List (List Turn)) (a b : K) → WentThrough took a ps b → name b ≡ name a
-walk_keeps name took keeps [] a b h = ap name (sym h)
-walk_keeps name took keeps (p ∷ ps) a b h = walk_keeps name took keeps ps h.0 b h.1.1 ∙ keeps a p h.0 h.1.0
+walk_keeps name keeps [] a b h = ap name (sym h)
+walk_keeps name keeps (p ∷ ps) a b h = walk_keeps _ keeps ps h.0 b h.1.1 ∙ keeps a p h.0 h.1.0
 
-pub stop_keeps : {K N : Type 0} (name : K → N) (took refused : K → List Turn → K → Type 0) → ((a : K) (p : List Turn) (b : K) → took a p b → name b ≡ name a)
+pub stop_keeps : {K N : Type 0} {name : K → N} {took refused : K → List Turn → K → Type 0} → ((a : K) (p : List Turn) (b : K) → took a p b → name b ≡ name a)
     → ((a : K) (p : List Turn) (b : K) → refused a p b → name b ≡ name a)
     → (ps : List (List Turn)) (a b : K) → StoppedIn took refused a ps b → name b ≡ name a
-stop_keeps name took refused keeps last [] a b h = absurd h
-stop_keeps name took refused keeps last (p ∷ ps) a b (inl h) = last a p b h
-stop_keeps name took refused keeps last (p ∷ ps) a b (inr h) = stop_keeps name took refused keeps last ps h.0 b h.1.1 ∙ keeps a p h.0 h.1.0
+stop_keeps keeps last [] a b h = absurd h
+stop_keeps keeps last (p ∷ ps) a b (inl h) = last a p b h
+stop_keeps keeps last (p ∷ ps) a b (inr h) = stop_keeps keeps last ps h.0 b h.1.1 ∙ keeps a p h.0 h.1.0
 
 -- a line on whose cube the step may start, or may not
 
@@ -60,19 +54,16 @@ module _ (command : LineCommand) (line given : Moves) (report asked : Report) (s
       (subst (λ k. AnswersMoves (search_command k step limit slack) line n r old new) (sym reports)
       (subst (λ m. AnswersMoves (search_command asked step limit slack) m n r old new) same x))
 
-  pub all_reported : (u : Unit {0}) → IsTrue (may_start step (home given))
+  pub all_reported : {u : Unit {0}} → IsTrue (may_start step (home given))
       → Writes (search_text asked step limit slack (home given)) (near_looks_of step (home given) limit slack) (look_bound (turns_of step) limit) old new
       → AnswersMoves command line n (Ok u) old new
-  all_reported u e p = answered (Ok u) (starts step (may_start step (home given)) (search_text asked step limit slack (home given))
-      (near_looks_of step (home given) limit slack) (look_bound (turns_of step) limit) n u old new e p)
+  all_reported e p = answered _ (starts _ _ _ _ _ _ _ _ _ e p)
 
-  pub refusal_reported : (stop : Stop) → IsTrue (may_start step (home given)) → stop ≡ CannotWrite
+  pub refusal_reported : {stop : Stop} → IsTrue (may_start step (home given)) → stop ≡ CannotWrite
       → Refuses (search_text asked step limit slack (home given)) (near_looks_of step (home given) limit slack) (look_bound (turns_of step) limit) old new
       → AnswersMoves command line n (Err stop) old new
-  refusal_reported stop e f p = answered (Err stop) (starts_refused step (may_start step (home given)) (search_text asked step limit slack (home given))
-      (near_looks_of step (home given) limit slack) (look_bound (turns_of step) limit) n stop old new e f p)
+  refusal_reported e f p = answered _ (starts_refused _ _ _ _ _ _ _ _ _ e f p)
 
   pub not_started : (named : Step) (r : Result (Unit {0}) Stop) → may_start step (home given) ≡ false → named ≡ step
       → ((l m : ℕ) → AnswersLine (Err (NoStart named)) l m n r old new) → AnswersMoves command line n r old new
-  not_started named r e f h = answered r (starts_not step named (may_start step (home given)) (search_text asked step limit slack (home given))
-      (near_looks_of step (home given) limit slack) (look_bound (turns_of step) limit) n r old new e f h)
+  not_started named r e f h = answered _ (starts_not _ _ _ _ _ _ _ _ _ _ e f h)

@@ -1,15 +1,15 @@
 -- How what is written and looked at adds up.
-use Rattle.std.proofs.Common.{◌≡◌, ℕ, ◌+◌, ◌*◌, ◌≤◌, false, None, Some, List, [], ◌++◌, length, sym, ap, ◌∙◌, subst, append_assoc, append-nil, length-append, mul-add, arith}
-use Rattle.std.specs.Prelude.{sum_by}
+use Rattle.std.proofs.Common.{◌≡◌, ℕ, ◌+◌, ◌*◌, ◌≤◌, false, List, [], ◌++◌, length, sym, ap, ◌∙◌, subst, append_assoc, append-nil, length-append, mul-add, arith}
+use Rattle.std.specs.Prelude.{sum_by, flat_map}
+use Rattle.std.proofs.lemmas.Grind.{flat_map-append}
 use Rattle.std.proofs.lemmas.List.Sums.{sum_by-append}
 use Rattle.niss_shell.specs.Device.{TargetState, has_fault, Appended, IsCut, WriteRefused}
-use Rattle.niss_shell.specs.Lines.{answered_lines, first_fault}
-use Rattle.niss_shell.specs.Output.{LineAnswers, looks_for, most_looks_for}
+use Rattle.niss_shell.specs.Lines.{text_of}
+use Rattle.niss_shell.specs.Output.{LineAnswers}
 use Rattle.niss_shell.specs.Engine.{AnswerState, TakesIn, Writes, Refuses}
-use Rattle.niss_shell.specs.declared.stop.LineFault.{LineFault}
 use Rattle.niss_shell.proofs.DeviceLemmas.{appended_nothing, appended_more, no_flush_fault}
-use Rattle.niss_shell.proofs.LinesLemmas.{answered_lines-append, answered_lines-stays, answered_lines-front}
 
+-- Nothing was written, and nothing looked at.
 pub writes_nothing : (a : AnswerState) → has_fault a.target ≡ false → Writes [] 0 0 a a
 writes_nothing a works = record {
   works = works;
@@ -31,58 +31,57 @@ taken_more x y a b c works p q = record {
 }
 
 -- where nothing waits, a text that was taken was sent
-
 pub all_sent : (text : List ℕ) (a b : AnswerState) → a.pending ≡ [] → b.pending ≡ [] → TakesIn text a b → Appended a.target b.target text
 all_sent text a b e f p =
     subst (λ t. Appended a.target b.target t)
     (sym (append-nil p.sent) ∙ ap (λ v. p.sent ++ v) (sym f) ∙ p.whole ∙ ap (λ v. v ++ text) e) p.appended
 
-pub writes_more : (x y : List ℕ) (l m : ℕ) (k n : ℕ) (a b c : AnswerState) → Writes x l m a b → Writes y k n b c → Writes (x ++ y) (l + k) (m + n) a c
-writes_more x y l m k n a b c p q = record {
+pub writes_more : {x y : List ℕ} {l m k n : ℕ} {a b c : AnswerState} → Writes x l m a b → Writes y k n b c → Writes (x ++ y) (l + k) (m + n) a c
+writes_more p q = record {
   works = q.works;
-  written = taken_more x y a b c p.works p.written q.written;
+  written = taken_more _ _ _ _ _ p.works p.written q.written;
   looked = omega (arith, p.looked, q.looked);
   bounded = omega (arith, p.bounded, q.bounded);
 }
 
-cut_more : (part xs ys : List ℕ) → IsCut part ys → IsCut (xs ++ part) (xs ++ ys)
-cut_more part xs ys p = (p.0, append_assoc xs part p.0 ∙ ap (λ v. xs ++ v) p.1, p.2)
+cut_more : (part xs : List ℕ) {ys : List ℕ} → IsCut part ys → IsCut (xs ++ part) (xs ++ ys)
+cut_more part xs p = (p.0, append_assoc xs part p.0 ∙ ap (λ v. xs ++ v) p.1, p.2)
 
-cut_front : (part xs ys : List ℕ) → IsCut part xs → IsCut part (xs ++ ys)
-cut_front part xs ys p = (p.0 ++ ys, sym (append_assoc part p.0 ys) ∙ ap (λ v. v ++ ys) p.1, omega (arith, p.2, length-append p.0 ys))
+cut_front : (part : List ℕ) {xs : List ℕ} (ys : List ℕ) → IsCut part xs → IsCut part (xs ++ ys)
+cut_front part ys p = (p.0 ++ ys, sym (append_assoc part p.0 ys) ∙ ap (λ v. v ++ ys) p.1, omega (arith, p.2, length-append p.0 ys))
 
-pub refused_more : (xs ys : List ℕ) (a b c : TargetState)
+refused_more : (xs : List ℕ) {ys : List ℕ} (a b c : TargetState)
     → has_fault b ≡ false → Appended a b xs → WriteRefused ys b c → WriteRefused (xs ++ ys) a c
-refused_more xs ys a b c works p q = record {
+refused_more xs a b c works p q = record {
   refused = q.refused;
   part = xs ++ q.part;
-  cut = cut_more q.part xs ys q.cut;
+  cut = cut_more _ _ q.cut;
   appended = appended_more a b c xs q.part works p q.appended;
   flushes_work = λ e. q.flushes_work (no_flush_fault b works);
 }
 
-pub refused_front : (xs ys : List ℕ) (a c : TargetState) → WriteRefused xs a c → WriteRefused (xs ++ ys) a c
-refused_front xs ys a c q = record {
+refused_front : {xs : List ℕ} (ys : List ℕ) {a c : TargetState} → WriteRefused xs a c → WriteRefused (xs ++ ys) a c
+refused_front ys q = record {
   refused = q.refused;
   part = q.part;
-  cut = cut_front q.part xs ys q.cut;
+  cut = cut_front _ _ q.cut;
   appended = q.appended;
   flushes_work = q.flushes_work;
 }
 
-pub refuses_more : (x y : List ℕ) (l m : ℕ) (k n : ℕ) (a b c : AnswerState) → Writes x l m a b → Refuses y k n b c → Refuses (x ++ y) (l + k) (m + n) a c
-refuses_more x y l m k n a b c p q = record {
+pub refuses_more : {x y : List ℕ} {l m k n : ℕ} {a b c : AnswerState} → Writes x l m a b → Refuses y k n b c → Refuses (x ++ y) (l + k) (m + n) a c
+refuses_more {x = x} {y = y} {a = a} {b = b} {c = c} p q = record {
   refused = subst (λ t. WriteRefused t a.target c.target)
       (sym (append_assoc p.written.sent b.pending y) ∙ ap (λ v. v ++ y) p.written.whole ∙ append_assoc a.pending x y)
-      (refused_more p.written.sent (b.pending ++ y) a.target b.target c.target p.works p.written.appended q.refused);
+      (refused_more _ _ _ _ p.works p.written.appended q.refused);
   rises = omega (arith, p.looked, q.rises);
   looked = omega (arith, p.looked, q.looked);
   bounded = omega (arith, p.bounded, q.bounded);
 }
 
-pub refuses_front : (x y : List ℕ) (l m : ℕ) (k n : ℕ) (a c : AnswerState) → l ≤ k → m ≤ n → Refuses x l m a c → Refuses (x ++ y) k n a c
-refuses_front x y l m k n a c p q r = record {
-  refused = subst (λ t. WriteRefused t a.target c.target) (append_assoc a.pending x y) (refused_front (a.pending ++ x) y a.target c.target r.refused);
+pub refuses_front : {x : List ℕ} (y : List ℕ) {l m k n : ℕ} {a c : AnswerState} → l ≤ k → m ≤ n → Refuses x l m a c → Refuses (x ++ y) k n a c
+refuses_front {x = x} y {a = a} {c = c} p q r = record {
+  refused = subst (λ t. WriteRefused t a.target c.target) (append_assoc a.pending x y) (refused_front _ r.refused);
   rises = r.rises;
   looked = omega (arith, r.looked, p);
   bounded = omega (arith, r.bounded, q);
@@ -90,60 +89,48 @@ refuses_front x y l m k n a c p q r = record {
 
 -- the same where the text and the numbers are known by equations
 
-pub writes_as : (x y : List ℕ) (l m k n : ℕ) (a b : AnswerState) → x ≡ y → l ≡ k → m ≡ n → Writes x l m a b → Writes y k n a b
-writes_as x y l m k n a b e f g p = record {
+pub writes_as : {x y : List ℕ} {l m k n : ℕ} {a b : AnswerState} → x ≡ y → l ≡ k → m ≡ n → Writes x l m a b → Writes y k n a b
+writes_as {a = a} {b = b} e f g p = record {
   works = p.works;
   written = subst (λ t. TakesIn t a b) e p.written;
-  looked = p.looked ∙ ap (λ v. a.looks + v) f;
+  looked = omega (arith, p.looked, f);
   bounded = omega (arith, p.bounded, g);
 }
 
-pub refuses_as : (x y : List ℕ) (l m k n : ℕ) (a b : AnswerState) → x ≡ y → l ≡ k → m ≡ n → Refuses x l m a b → Refuses y k n a b
-refuses_as x y l m k n a b e f g p = record {
+pub refuses_as : {x y : List ℕ} {l m k n : ℕ} {a b : AnswerState} → x ≡ y → l ≡ k → m ≡ n → Refuses x l m a b → Refuses y k n a b
+refuses_as {a = a} {b = b} e f g p = record {
   refused = subst (λ t. WriteRefused (a.pending ++ t) a.target b.target) e p.refused;
   rises = p.rises;
   looked = omega (arith, p.looked, f);
   bounded = omega (arith, p.bounded, g);
 }
 
--- the looks for lines that come in two parts
+-- lines that are answered, and more lines
 
-pub looks_for-append : (f : LineAnswers) (n : ℕ) (xs ys : List (List ℕ)) → first_fault f.answer_of n xs ≡ None
-    → looks_for f (xs ++ ys) ≡ looks_for f xs + looks_for f ys
-looks_for-append f n xs ys none =
-    ap (sum_by f.looks_of) (answered_lines-append f.answer_of n xs ys none)
-    ∙ sum_by-append f.looks_of (answered_lines f.answer_of xs) (answered_lines f.answer_of ys)
+abbrev text_at : LineAnswers → List ℕ → List ℕ
+text_at f line = text_of (f.answer_of line)
 
-times_sum : (k a b : ℕ) → k * (a + b) ≡ k * a + k * b
-times_sum k a b = mul-add k a b
+abbrev pub WritesLines : LineAnswers → List (List ℕ) → AnswerState → AnswerState → Type 0
+WritesLines f lines old new = Writes (flat_map (text_at f) lines) (sum_by f.looks_of lines) (f.most_looks * length lines) old new
 
-pub most_looks_for-append : (f : LineAnswers) (n : ℕ) (xs ys : List (List ℕ)) → first_fault f.answer_of n xs ≡ None
-    → most_looks_for f (xs ++ ys) ≡ most_looks_for f xs + most_looks_for f ys
-most_looks_for-append f n xs ys none =
-    ap (λ v. f.most_looks * length v) (answered_lines-append f.answer_of n xs ys none)
-    ∙ ap (λ v. f.most_looks * v) (length-append (answered_lines f.answer_of xs) (answered_lines f.answer_of ys))
-    ∙ times_sum f.most_looks (length (answered_lines f.answer_of xs)) (length (answered_lines f.answer_of ys))
+abbrev pub RefusesLines : LineAnswers → List (List ℕ) → AnswerState → AnswerState → Type 0
+RefusesLines f lines old new = Refuses (flat_map (text_at f) lines) (sum_by f.looks_of lines) (f.most_looks * length lines) old new
 
-pub looks_for-stays : (f : LineAnswers) (n : ℕ) (xs ys : List (List ℕ)) (e : ℕ × LineFault) → first_fault f.answer_of n xs ≡ Some e
-    → looks_for f (xs ++ ys) ≡ looks_for f xs
-looks_for-stays f n xs ys e some = ap (sum_by f.looks_of) (answered_lines-stays f.answer_of n xs ys e some)
+module _ (f : LineAnswers) (xs ys : List (List ℕ)) where
+  most_more : f.most_looks * length (xs ++ ys) ≡ f.most_looks * length xs + f.most_looks * length ys
+  most_more = ap (λ n. f.most_looks * n) (length-append xs ys) ∙ mul-add f.most_looks (length xs) (length ys)
 
-pub most_looks_for-stays : (f : LineAnswers) (n : ℕ) (xs ys : List (List ℕ)) (e : ℕ × LineFault) → first_fault f.answer_of n xs ≡ Some e
-    → most_looks_for f (xs ++ ys) ≡ most_looks_for f xs
-most_looks_for-stays f n xs ys e some = ap (λ v. f.most_looks * length v) (answered_lines-stays f.answer_of n xs ys e some)
+  pub lines_written : {a b c : AnswerState} → WritesLines f xs a b → WritesLines f ys b c → WritesLines f (xs ++ ys) a c
+  lines_written p q =
+      writes_as (sym (flat_map-append (text_at f) xs ys)) (sym (sum_by-append f.looks_of xs ys)) (sym most_more) (writes_more p q)
 
-pub looks_for-front : (f : LineAnswers) (xs ys : List (List ℕ)) → looks_for f xs ≤ looks_for f (xs ++ ys)
-looks_for-front f xs ys =
-    let p = answered_lines-front f.answer_of xs ys in
-    let e : looks_for f (xs ++ ys) ≡ looks_for f xs + sum_by f.looks_of p.0 =
-    ap (sum_by f.looks_of) (sym p.1) ∙ sum_by-append f.looks_of (answered_lines f.answer_of xs) p.0 in
-    omega (arith, e)
+  pub lines_refused : {a b c : AnswerState} → WritesLines f xs a b → RefusesLines f ys b c → RefusesLines f (xs ++ ys) a c
+  lines_refused p q =
+      refuses_as (sym (flat_map-append (text_at f) xs ys)) (sym (sum_by-append f.looks_of xs ys)) (sym most_more) (refuses_more p q)
 
-pub most_looks_for-front : (f : LineAnswers) (xs ys : List (List ℕ)) → most_looks_for f xs ≤ most_looks_for f (xs ++ ys)
-most_looks_for-front f xs ys =
-    let p = answered_lines-front f.answer_of xs ys in
-    let e : most_looks_for f (xs ++ ys) ≡ most_looks_for f xs + f.most_looks * length p.0 =
-    ap (λ v. f.most_looks * length v) (sym p.1)
-    ∙ ap (λ v. f.most_looks * v) (length-append (answered_lines f.answer_of xs) p.0)
-    ∙ times_sum f.most_looks (length (answered_lines f.answer_of xs)) (length p.0) in
-    omega (arith, e)
+  -- a write that was refused before more lines
+  pub lines_cut : {a c : AnswerState} → RefusesLines f xs a c → RefusesLines f (xs ++ ys) a c
+  lines_cut {a = a} {c = c} p =
+      let looks : sum_by f.looks_of (xs ++ ys) ≡ sum_by f.looks_of xs + sum_by f.looks_of ys = sum_by-append f.looks_of xs ys in
+      subst (λ t. Refuses t (sum_by f.looks_of (xs ++ ys)) (f.most_looks * length (xs ++ ys)) a c) (sym (flat_map-append (text_at f) xs ys))
+      (refuses_front _ (omega (arith, looks)) (omega (arith, most_more)) p)

@@ -1,52 +1,114 @@
--- How what the lines of a run take joins.
-use Rattle.std.proofs.Common.{◌≡◌, ℕ, ◌+◌, ◌≤◌, take, drop, Result, Ok, Err, List, length, refl, ap, ◌∙◌, subst}
+-- What is taken of an input: bytes inside a line, a line feed, a block piece by piece, and what stands at its end.
+use Rattle.std.proofs.Common.{◌≡◌, ◌≢◌, ℕ, ◌+◌, ◌<◌, ◌≤◌, false, take, drop, get_or, Result, Ok, Err, List, [], ◌∷◌, ◌++◌, length, refl, ap, ◌∙◌, subst}
+use Rattle.std.specs.Prelude.{OnOk}
+use Rattle.std.proofs.lemmas.Bool.{ne_eqb}
 use Rattle.std.proofs.lemmas.List.{take_all}
-use Rattle.niss_moves.specs.Reader.{IsFed}
-use Rattle.niss_shell.specs.Output.{line_answers}
-use Rattle.niss_shell.specs.Engine.{AnswerState, TakesBytes, TakesEnd}
+use Rattle.niss_moves.specs.Reader.{Reader, IsFed}
+use Rattle.niss_moves.specs.WholeMoves.{HasNoLineFeed}
+use Rattle.niss_shell.specs.Device.{has_fault}
+use Rattle.niss_shell.specs.Output.{LineAnswers, line_answers}
+use Rattle.niss_shell.specs.Engine.{AnswerState, Progress, Writes, Refuses, AnswersBytes, TakesNext, TakesLast}
 use Rattle.niss_shell.specs.Job.{command_of}
-use Rattle.niss_shell.specs.Taking.{Keeps, Takes, Ends, answers_of, progress_of}
-use Rattle.niss_shell.specs.declared.lines.Lines.{Lines}
-use Rattle.niss_shell.specs.declared.stop.Stop.{Stop}
-use Rattle.niss_shell.proofs.EngineLemmas.{takes_piece, takes_stopped}
+use Rattle.niss_shell.specs.Taking.{Keeps, answers_of}
+use Rattle.niss_shell.specs.Names.{Lines, Stop, CannotWrite}
+use Rattle.niss_shell.proofs.EngineLemmas.{takes_none, takes_inside, takes_end_of_line, nothing_fed, first_piece, takes_piece, takes_stopped}
+use Rattle.niss_shell.proofs.AnswerLemmas.{takes_no_line, takes_last_line}
+use Rattle.niss_shell.proofs.PendingLemmas.{lines_sent, lines_unsent}
+
+-- one piece
+
+pub none_taken : {f : LineAnswers} {p : Progress} {out : AnswerState} → has_fault out.target ≡ false → TakesNext f [] p p (Ok tt) out out
+none_taken works = record { takes = λ front at. takes_none _ front _ _ _ tt at refl works }
+
+pub inside_taken : {f : LineAnswers} {bytes : List ℕ} {p q : Progress} {out : AnswerState} → HasNoLineFeed bytes
+    → ((front : List ℕ) → IsFed p.reader front → IsFed q.reader (front ++ bytes)) → q.line ≡ p.line → has_fault out.target ≡ false
+    → TakesNext f bytes p q (Ok tt) out out
+inside_taken inside fed line works = record { takes = λ front at. takes_inside _ front _ _ _ _ tt inside (fed front at) line works }
+
+-- where no moves were taken first
+pub still_fed : {r s : Reader} (bytes : List ℕ) (k : ℕ) → k ≤ 0 → ((front : List ℕ) → IsFed r front → IsFed s (front ++ take k bytes))
+    → (front : List ℕ) → IsFed r front → IsFed s front
+still_fed bytes k none fed front at = nothing_fed _ front bytes k none (fed front at)
+
+pub line_feed_taken : {f : LineAnswers} (bytes : List ℕ) {p q : Progress} {r : Result (Unit {0}) Stop} {old new : AnswerState}
+    → 0 < length bytes → get_or bytes 0 0 ≡ 10
+    → ((front : List ℕ) → IsFed p.reader front → AnswersBytes f front p.line r old new)
+    → OnOk r (IsFed q.reader []) → OnOk r (q.line ≡ p.line + 1) → TakesNext f (take 1 bytes) p q r old new
+line_feed_taken bytes some feed answers reader line = record {
+  takes = λ front at. first_piece _ front bytes _ _ _ _ _ some (takes_end_of_line _ front _ _ _ _ _ feed (answers front at) reader line);
+}
+
+pub byte_taken : {f : LineAnswers} (bytes : List ℕ) {p q : Progress} {out : AnswerState}
+    → 0 < length bytes → get_or bytes 0 0 ≢ 10
+    → ((front : List ℕ) → IsFed p.reader front → IsFed q.reader (front ++ get_or bytes 0 0 ∷ []))
+    → q.line ≡ p.line → has_fault out.target ≡ false → TakesNext f (take 1 bytes) p q (Ok tt) out out
+byte_taken bytes {p = p} {q = q} {out = out} some other fed line works = record {
+  takes = λ front at. first_piece _ front bytes p.line q (Ok tt) out out some
+      (takes_inside _ front _ p.line q out tt (ne_eqb _ _ other, tt) (fed front at) line works);
+}
+
+-- a block, piece by piece
+
+pub block_more : {f : LineAnswers} (bytes : List ℕ) {rest : List ℕ} (n k : ℕ) {p q s : Progress} {r : Result (Unit {0}) Stop} {h i j : AnswerState}
+    → rest ≡ drop n bytes → TakesNext f (take n bytes) p q (Ok tt) h i → TakesNext f (take k rest) q s r i j
+    → TakesNext f (take (n + k) bytes) p s r h j
+block_more bytes n k e x y = record { takes = λ front at. takes_piece _ front bytes n k _ _ _ _ _ e (x.takes front at) y.takes }
+
+-- a block in which the run was stopped
+pub block_stopped : {f : LineAnswers} (bytes : List ℕ) {rest : List ℕ} (n k : ℕ) {p q s : Progress} {stop : Stop} {h i j : AnswerState}
+    → rest ≡ drop n bytes → TakesNext f (take n bytes) p q (Ok tt) h i → TakesNext f (take k rest) q s (Err stop) i j
+    → TakesNext f bytes p s (Err stop) h j
+block_stopped bytes n k {p = p} {s = s} {stop = stop} {h = h} {j = j} e x y = record {
+  takes = λ front at. takes_stopped _ front bytes (n + k) p.line s stop h j
+      (takes_piece _ front bytes n k p.line s (Err stop) h j e (x.takes front at) y.takes);
+}
+
+-- all bytes of a block
+pub block_whole : {f : LineAnswers} (bytes : List ℕ) (n : ℕ) {p q : Progress} {r : Result (Unit {0}) Stop} {h i : AnswerState}
+    → length bytes ≤ n → TakesNext f (take n bytes) p q r h i → TakesNext f bytes p q r h i
+block_whole {f = f} bytes n {p = p} {q = q} {r = r} {h = h} {i = i} fits x = subst (λ v. TakesNext f v p q r h i) (take_all n bytes fits) x
+
+pub block_sent : {f : LineAnswers} {bytes : List ℕ} {p q : Progress} {h i j : AnswerState}
+    → TakesNext f bytes p q (Ok tt) h i → Writes [] 0 0 i j → TakesNext f bytes p q (Ok tt) h j
+block_sent x w = record { takes = λ front at. let y = x.takes front at in (lines_sent y.0 w, y.1) }
+
+pub block_unsent : {f : LineAnswers} {bytes : List ℕ} {p q : Progress} {h i j : AnswerState}
+    → TakesNext f bytes p q (Ok tt) h i → Refuses [] 0 0 i j → TakesNext f bytes p q (Err CannotWrite) h j
+block_unsent x w = record { takes = λ front at. lines_unsent (x.takes front at).0 w }
+
+-- the end of an input
+
+pub no_last : {f : LineAnswers} {p : Progress} {out : AnswerState} → p.reader.fed ≡ 0 → has_fault out.target ≡ false → TakesLast f p (Ok tt) out out
+no_last none works = record { takes = λ front at. takes_no_line _ front _ _ at none works }
+
+pub last_line : {f : LineAnswers} {p : Progress} {r : Result (Unit {0}) Stop} {old new : AnswerState}
+    → p.reader.fed ≢ 0 → ((front : List ℕ) → IsFed p.reader front → AnswersBytes f front p.line r old new) → TakesLast f p r old new
+last_line some answers = record { takes = λ front at. takes_last_line _ _ _ _ _ at some (answers front at) }
+
+pub last_sent : {f : LineAnswers} {p : Progress} {h i j : AnswerState}
+    → TakesLast f p (Ok tt) h i → Writes [] 0 0 i j → TakesLast f p (Ok tt) h j
+last_sent x w = record { takes = λ front at. lines_sent (x.takes front at) w }
+
+pub last_unsent : {f : LineAnswers} {p : Progress} {h i j : AnswerState}
+    → TakesLast f p (Ok tt) h i → Refuses [] 0 0 i j → TakesLast f p (Err CannotWrite) h j
+last_unsent x w = record { takes = λ front at. lines_unsent (x.takes front at) w }
+
+-- what lines take that keep their work
 
 module _ {A : Type 0} where
-  pub keeps_same : (a : Lines A) → Keeps a a
-  keeps_same a = record { work = refl; looks = refl }
+  pub keeps_same : {a : Lines A} → Keeps a a
+  keeps_same = record { work = refl; looks = refl }
 
-  pub keeps_more : (a b c : Lines A) → Keeps a b → Keeps b c → Keeps a c
-  keeps_more a b c p q = record { work = q.work ∙ p.work; looks = q.looks ∙ p.looks }
+  pub keeps_more : {a b c : Lines A} → Keeps a b → Keeps b c → Keeps a c
+  keeps_more p q = record { work = q.work ∙ p.work; looks = q.looks ∙ p.looks }
 
-  pub same_answers : (a b : Lines A) → Keeps a b → answers_of b ≡ answers_of a
-  same_answers a b p = ap (λ w. line_answers (command_of w.now)) p.work
+  same_answers : {a b : Lines A} → Keeps a b → answers_of b ≡ answers_of a
+  same_answers p = ap (λ w. line_answers (command_of w.now)) p.work
 
-  -- what lines take that keep their work
-  pub takes_kept : (bytes : List ℕ) (r : Result (Unit {0}) Stop) (a b c : Lines A) (i j : AnswerState) → Keeps a b → Takes bytes r b c i j
-      → (front : List ℕ) → IsFed b.reader front → TakesBytes (answers_of a) front bytes b.line (progress_of c) r i j
-  takes_kept bytes r a b c i j p y front fed =
-      subst (λ f. TakesBytes f front bytes b.line (progress_of c) r i j) (same_answers a b p) (y front fed)
+  pub kept : {a b : Lines A} {bytes : List ℕ} {p q : Progress} {r : Result (Unit {0}) Stop} {i j : AnswerState}
+      → Keeps a b → TakesNext (answers_of b) bytes p q r i j → TakesNext (answers_of a) bytes p q r i j
+  kept {bytes = bytes} {p = p} {q = q} {r = r} {i = i} {j = j} same x = subst (λ f. TakesNext f bytes p q r i j) (same_answers same) x
 
-  pub ends_kept : (r : Result (Unit {0}) Stop) (a b : Lines A) (i j : AnswerState) → Keeps a b → Ends r b i j
-      → (front : List ℕ) → IsFed b.reader front → TakesEnd (answers_of a) front b.line r i j
-  ends_kept r a b i j p y front fed = subst (λ f. TakesEnd f front b.line r i j) (same_answers a b p) (y front fed)
-
-  -- one piece of a block more
-  pub block_more : (bytes rest : List ℕ) (n k : ℕ) (r : Result (Unit {0}) Stop) (a b c : Lines A) (h i j : AnswerState)
-      → rest ≡ drop n bytes → Keeps a b → Takes (take n bytes) (Ok tt) a b h i → Takes (take k rest) r b c i j
-      → Takes (take (n + k) bytes) r a c h j
-  block_more bytes rest n k r a b c h i j e p x y = λ front at.
-      takes_piece (answers_of a) front bytes rest n k a.line (progress_of b) (progress_of c) tt r h i j e (x front at)
-      (takes_kept (take k rest) r a b c i j p y)
-
-  -- a block in which the run was stopped
-  pub block_stopped : (bytes rest : List ℕ) (n k : ℕ) (stop : Stop) (a b c : Lines A) (h i j : AnswerState)
-      → rest ≡ drop n bytes → Keeps a b → Takes (take n bytes) (Ok tt) a b h i → Takes (take k rest) (Err stop) b c i j
-      → Takes bytes (Err stop) a c h j
-  block_stopped bytes rest n k stop a b c h i j e p x y = λ front at.
-      takes_stopped (answers_of a) front bytes (n + k) a.line (progress_of c) stop h j
-      (block_more bytes rest n k (Err stop) a b c h i j e p x y front at)
-
-  -- all bytes of a block
-  pub block_whole : (bytes : List ℕ) (n : ℕ) (a b : Lines A) (h i : AnswerState)
-      → length bytes ≤ n → Takes (take n bytes) (Ok tt) a b h i → Takes bytes (Ok tt) a b h i
-  block_whole bytes n a b h i e x = subst (λ v. Takes v (Ok tt) a b h i) (take_all n bytes e) x
+  pub last_kept : {a b : Lines A} {p : Progress} {r : Result (Unit {0}) Stop} {i j : AnswerState}
+      → Keeps a b → TakesLast (answers_of b) p r i j → TakesLast (answers_of a) p r i j
+  last_kept {p = p} {r = r} {i = i} {j = j} same x = subst (λ f. TakesLast f p r i j) (same_answers same) x

@@ -6,13 +6,7 @@ use Rattle.niss_moves.specs.Line.{Moves}
 use Rattle.niss_moves.specs.Reader.{Reader, IsFed}
 use Rattle.niss_shell.specs.Words.{Request, reads_source, takes_memory}
 use Rattle.niss_shell.specs.Output.{Answer, LineAnswers, answer_to_moves, looks_at_moves, most_line_looks, looks_for, most_looks_for, answer_lines, answer_request, line_with_bytes, ending}
-use Rattle.niss_shell.specs.declared.command.LineCommand.{LineCommand}
-use Rattle.niss_shell.specs.declared.command.UsageFault.{UsageFault}
-use Rattle.niss_shell.specs.declared.device.DeviceFault.{DeviceFault}
-use Rattle.niss_shell.specs.declared.stop.LineFault.{LineFault}
-use Rattle.niss_shell.specs.declared.stop.Stop.{Stop}
-use Rattle.niss_shell.specs.declared.stop.Stop.TheVariants.{Done, Line, Usage, InputTooLong, CannotRead, CannotWrite, OutOfMemory}
-use Rattle.niss_shell.specs.declared.output.Output.{Output}
+use Rattle.niss_shell.specs.Names.{LineCommand, UsageFault, DeviceFault, LineFault, Stop, Done, Line, CannotWrite, OutOfMemory, Output}
 
 -- What answers to lines change: the target that they are written to, the answers that wait to be written to it, and the
 -- count of the looks.
@@ -78,8 +72,14 @@ abbrev pub WritesAnswers : LineAnswers → List (List ℕ) → AnswerState → A
 WritesAnswers f lines old new =
     Writes (written_text f.answer_of lines) (looks_for f lines) (most_looks_for f lines) old new
 
+-- a write of them was refused
+abbrev pub RefusesAnswers : LineAnswers → List (List ℕ) → AnswerState → AnswerState → Type 0
+RefusesAnswers f lines old new =
+    Refuses (written_text f.answer_of lines) (looks_for f lines) (most_looks_for f lines) old new
+
 -- None of the lines has a fault, and all answers are written.
-pub record AllAnswered (f : LineAnswers) (n : ℕ) (lines : List (List ℕ)) (old new : AnswerState) : Type 0 where
+pub record AllAnswered (f : LineAnswers) (n : ℕ) (lines : List (List ℕ))
+    (old new : AnswerState) : Type 0 where
   pub faultless : first_fault f.answer_of n lines ≡ None
   pub writes : WritesAnswers f lines old new
 
@@ -91,14 +91,9 @@ pub record FaultCame (f : LineAnswers) (n : ℕ) (lines : List (List ℕ))
 
 -- how the lines stop a run
 abbrev pub StopsWithin : LineAnswers → ℕ → List (List ℕ) → Stop → AnswerState → AnswerState → Type 0
-StopsWithin f n lines CannotWrite old new =
-    Refuses (written_text f.answer_of lines) (looks_for f lines) (most_looks_for f lines) old new
+StopsWithin f n lines CannotWrite old new = RefusesAnswers f lines old new
 StopsWithin f n lines (Line at fault) old new = FaultCame f n lines at fault old new
-StopsWithin f n lines Done old new = ⊥
-StopsWithin f n lines Usage old new = ⊥
-StopsWithin f n lines InputTooLong old new = ⊥
-StopsWithin f n lines CannotRead old new = ⊥
-StopsWithin f n lines OutOfMemory old new = ⊥
+StopsWithin f n lines stop old new = ⊥
 
 -- The line that is being read, and its number.
 pub record Progress : Type 0 where
@@ -132,24 +127,39 @@ abbrev pub TakesEnd : LineAnswers → List ℕ → ℕ → Result (Unit {0}) Sto
 TakesEnd f front n (Ok u) old new = AllAnswered f n (line_with_bytes front) old new
 TakesEnd f front n (Err stop) old new = StopsWithin f n (line_with_bytes front) stop old new
 
+-- The next bytes were taken, whatever stood before them in their line.
+pub record TakesNext (f : LineAnswers) (bytes : List ℕ) (before after : Progress)
+    (result : Result (Unit {0}) Stop) (old new : AnswerState) : Type 0 where
+  pub takes : (front : List ℕ) → IsFed before.reader front →
+      TakesBytes f front bytes before.line after result old new
+
+-- The end of the input was taken, whatever stood before it in its line.
+pub record TakesLast (f : LineAnswers) (before : Progress)
+    (result : Result (Unit {0}) Stop) (old new : AnswerState) : Type 0 where
+  pub takes : (front : List ℕ) → IsFed before.reader front → TakesEnd f front before.line result old new
+
 -- One line was answered, which takes so many looks, and at most so many.
 abbrev pub AnswersLine :
     Result (List ℕ) LineFault → ℕ → ℕ → ℕ → Result (Unit {0}) Stop → AnswerState → AnswerState → Type 0
 AnswersLine (Ok text) looks most_looks n (Ok u) old new = Writes text looks most_looks old new
-AnswersLine (Ok text) looks most_looks n (Err stop) old new = (stop ≡ CannotWrite) × Refuses text looks most_looks old new
+AnswersLine (Ok text) looks most_looks n (Err stop) old new =
+    (stop ≡ CannotWrite) × Refuses text looks most_looks old new
 AnswersLine (Err fault) looks most_looks n (Ok u) old new = ⊥
 AnswersLine (Err fault) looks most_looks n (Err stop) old new =
     ((stop ≡ Line n fault) × Writes [] 0 0 old new) ⊎ ((stop ≡ CannotWrite) × Refuses [] 0 0 old new)
 
 -- the same of the moves of a line, by a command
-abbrev pub AnswersMoves : LineCommand → Moves → ℕ → Result (Unit {0}) Stop → AnswerState → AnswerState → Type 0
+abbrev pub AnswersMoves :
+    LineCommand → Moves → ℕ → Result (Unit {0}) Stop → AnswerState → AnswerState → Type 0
 AnswersMoves command line n result old new =
-    AnswersLine (answer_to_moves command line) (looks_at_moves command line) (most_line_looks command) n result old new
+    AnswersLine (answer_to_moves command line) (looks_at_moves command line) (most_line_looks command) n result
+    old new
 
 -- the same of a line by its bytes
 abbrev pub AnswersBytes :
     LineAnswers → List ℕ → ℕ → Result (Unit {0}) Stop → AnswerState → AnswerState → Type 0
-AnswersBytes f bytes n result old new = AnswersLine (f.answer_of bytes) (f.looks_of bytes) f.most_looks n result old new
+AnswersBytes f bytes n result old new =
+    AnswersLine (f.answer_of bytes) (f.looks_of bytes) f.most_looks n result old new
 
 -- The looks before line n leave room for those of the rest of a run: at most 2 ^ 64 before the first line, and less
 -- than 2 ^ 93 at each.
@@ -189,13 +199,15 @@ pub record RunsUnflushed (asked : Result Request UsageFault) (stop : Stop)
     (source source_now : SourceState) (old new : AnswerState) : Type 0 where
   pub input : List ℕ
   pub gave : Gave source source_now input
-  pub ends : EndsUnflushed stop (answer_request asked input (ending source_now)) asked source source_now old new
+  pub ends : EndsUnflushed stop (answer_request asked input (ending source_now)) asked
+      source source_now old new
   pub read_whole : stop ≡ Done → reads_source asked ≡ true → source_now.has_ended ≡ true
 
 -- A run may stop so before anything was read or written.
 abbrev pub EndsAtOnce : Result Request UsageFault → Stop → Type 0
 EndsAtOnce asked stop =
-    (source : SourceState) (old : AnswerState) → has_fault old.target ≡ false → RunsUnflushed asked stop source source old old
+    (source : SourceState) (old : AnswerState) → has_fault old.target ≡ false →
+    RunsUnflushed asked stop source source old old
 
 abbrev pub stop_unless : Result (Unit {0}) Stop → Stop → Stop
 stop_unless (Ok u) otherwise = otherwise
@@ -204,21 +216,19 @@ stop_unless (Err stop) otherwise = stop
 -- a refused last flush ends a good run, and changes nothing otherwise
 abbrev pub flushed_stop : Stop → Bool → Stop
 flushed_stop Done true = CannotWrite
-flushed_stop Done false = Done
-flushed_stop Usage refused = Usage
-flushed_stop InputTooLong refused = InputTooLong
-flushed_stop CannotRead refused = CannotRead
-flushed_stop CannotWrite refused = CannotWrite
-flushed_stop OutOfMemory refused = OutOfMemory
-flushed_stop (Line n fault) refused = Line n fault
+flushed_stop stop refused = stop
 
--- The last flush, which may be refused.
-pub record FlushesLast (stop stop_now : Stop) (old new : TargetState) : Type 0 where
-  pub refused : Bool
-  pub stop_is : stop_now ≡ flushed_stop stop refused
+-- A flush that was refused or wasn't.
+pub record Flushes (refused : Bool) (old new : TargetState) : Type 0 where
   pub flush_failed : new.flush_failed ≡ (old.flush_failed || refused)
   pub write_failed : new.write_failed ≡ old.write_failed
   pub bytes : Appended old new []
   pub silent : StaysSilent old new
   pub tried : new.flush_tried ≡ true
   pub flushed : new.is_flushed ≡ not refused
+
+-- The last flush, which may be refused.
+pub record FlushesLast (stop stop_now : Stop) (old new : TargetState) : Type 0 where
+  pub refused : Bool
+  pub stop_is : stop_now ≡ flushed_stop stop refused
+  pub flush : Flushes refused old new

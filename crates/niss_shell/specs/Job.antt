@@ -1,9 +1,7 @@
 -- What a command on lines has for its run.
 use Rattle.std.specs.Prelude.{◌≡◌, ℕ, ◌<◌, ◌≤◌, Option, Some, None, List, length}
 use Rattle.niss_shell.specs.Words.{limit, joined, search_command}
-use Rattle.niss_shell.specs.declared.command.LineCommand.{LineCommand}
-use Rattle.niss_shell.specs.declared.command.LineCommand.TheVariants.{Rewrite}
-use Rattle.niss_shell.specs.declared.job.Work.{Work}
+use Rattle.niss_shell.specs.Names.{LineCommand, Rewrite, Work}
 use Rattle.niss_shell.specs.declared.job.Work.TheVariants as work
 
 -- the command of the work on lines
@@ -14,4 +12,5 @@ command_of (work.Search search) = search_command search.report search.tables sea
 -- The words are the input, joined, or there are none.
 abbrev pub IsInput : {T : Type 0} → (T → List ℕ) → Option T → List (List ℕ) → Type 0
 IsInput bytes None words = length words ≡ 0
-IsInput bytes (Some text) words = (0 < length words) × (bytes text ≡ joined words) × (length (joined words) ≤ limit)
+IsInput bytes (Some text) words =
+    (0 < length words) × (bytes text ≡ joined words) × (length (joined words) ≤ limit)

@@ -1,3 +1,4 @@
+pub mod Names
 pub mod Device
 pub mod Lines
 pub mod LinesLaws

@@ -1,5 +1,5 @@
 -- The lines of a text, and what is written for lines up to the first that has a fault.
-use Rattle.std.specs.Prelude.{ℕ, ◌+◌, ◌==◌, if◌then◌else◌, Option, Some, None, Result, Ok, Err, List, [], ◌∷◌, ◌++◌}
+use Rattle.std.specs.Prelude.{ℕ, ◌+◌, ◌==◌, if◌then◌else◌, Option, Some, None, Result, Ok, Err, List, [], ◌∷◌, ◌++◌, flat_map}
 
 abbrev pub line_feed : ℕ
 line_feed = 10
@@ -19,16 +19,6 @@ last_part front [] = front
 last_part front (b ∷ bs) =
     if b == line_feed then last_part [] bs else last_part (front ++ b ∷ []) bs
 
--- what is written for a line and after it: the line's answer and the rest, or nothing from a fault on
-abbrev pub text_before : {E : Type 0} → Result (List ℕ) E → List ℕ → List ℕ
-text_before (Ok text) rest = text ++ rest
-text_before (Err e) rest = []
-
--- the answers to these lines, up to the first that has a fault
-unfoldable pub written_text : {E : Type 0} → (List ℕ → Result (List ℕ) E) → List (List ℕ) → List ℕ
-written_text answer_of [] = []
-written_text answer_of (line ∷ lines) = text_before (answer_of line) (written_text answer_of lines)
-
 -- what is answered of a line and the lines after it: the line and those, or none from a fault on
 abbrev pub lines_before : {E : Type 0} → Result (List ℕ) E → List ℕ → List (List ℕ) → List (List ℕ)
 lines_before (Ok text) line rest = line ∷ rest
@@ -38,6 +28,15 @@ lines_before (Err e) line rest = []
 unfoldable pub answered_lines : {E : Type 0} → (List ℕ → Result (List ℕ) E) → List (List ℕ) → List (List ℕ)
 answered_lines answer_of [] = []
 answered_lines answer_of (line ∷ lines) = lines_before (answer_of line) line (answered_lines answer_of lines)
+
+-- what is written for an answer: a fault has no text
+abbrev pub text_of : {E : Type 0} → Result (List ℕ) E → List ℕ
+text_of (Ok text) = text
+text_of (Err e) = []
+
+-- the answers to these lines, up to the first that has a fault
+abbrev pub written_text : {E : Type 0} → (List ℕ → Result (List ℕ) E) → List (List ℕ) → List ℕ
+written_text answer_of lines = flat_map (λ line. text_of (answer_of line)) (answered_lines answer_of lines)
 
 -- the first fault from line n on: that of line n, or else the first of the rest
 abbrev pub fault_before : {E : Type 0} → Result (List ℕ) E → ℕ → Option (ℕ × E) → Option (ℕ × E)

@@ -17,21 +17,7 @@ use Rattle.niss_search.specs.Cubes.{least_length_of, near_solutions_of, near_loo
 use Rattle.niss_search.specs.Solutions.{look_bound}
 use Rattle.niss_shell.specs.Scrambles.{generator_of, scramble_text}
 use Rattle.niss_shell.specs.Words.{limit, Request, OnLines, ListSteps, DrawScrambles, request_of, joined}
-use Rattle.niss_shell.specs.declared.command.UsageFault.{UsageFault}
-use Rattle.niss_shell.specs.declared.command.LineCommand.{LineCommand}
-use Rattle.niss_shell.specs.declared.command.LineCommand.TheVariants.{Rewrite, Search}
-use Rattle.niss_shell.specs.declared.command.Report.{Report}
-use Rattle.niss_shell.specs.declared.command.Report.TheVariants.{Solutions, Counts}
-use Rattle.niss_shell.specs.declared.command.Rewriting.{Rewriting}
-use Rattle.niss_shell.specs.declared.command.Rewriting.TheVariants.{Invert, Unniss, Cleanup, Print}
-use Rattle.niss_cube.specs.declared.step.Step.{Step}
-use Rattle.niss_moves.specs.declared.token.Token.{Token}
-use Rattle.niss_moves.specs.declared.turn.Turn.{Turn}
-use Rattle.niss_moves.specs.declared.fault.ReadFault.{ReadFault}
-use Rattle.niss_shell.specs.declared.stop.LineFault.{LineFault}
-use Rattle.niss_shell.specs.declared.stop.LineFault.TheVariants.{Unread, NoStart}
-use Rattle.niss_shell.specs.declared.stop.Stop.{Stop}
-use Rattle.niss_shell.specs.declared.stop.Stop.TheVariants.{Done, Line, Usage, InputTooLong, CannotRead, CannotWrite, OutOfMemory}
+use Rattle.niss_shell.specs.Names.{UsageFault, LineCommand, Rewrite, Search, Report, Solutions, Counts, Rewriting, Invert, Unniss, Cleanup, Print, LineFault, Unread, NoStart, Stop, Done, Line, Usage, InputTooLong, CannotRead, CannotWrite, OutOfMemory, Step, Token, Turn, ReadFault}
 
 -- the name of the step that must hold before this one
 abbrev pub start_text : Step → List ℕ
@@ -42,7 +28,8 @@ line_fault_text n (Unread fault) =
     codes "nissy: line " ++ decimal n ++ codes ", column " ++ decimal (fault_column fault) ++ codes ": "
     ++ fault_text fault ++ line_feed ∷ []
 line_fault_text n (NoStart step) =
-    codes "nissy: line " ++ decimal n ++ codes ": " ++ start_text step ++ codes " does not hold" ++ line_feed ∷ []
+    codes "nissy: line " ++ decimal n ++ codes ": " ++ start_text step ++ codes " does not hold"
+    ++ line_feed ∷ []
 
 -- what is written on the error writer
 abbrev pub error_text : Stop → List ℕ
@@ -106,14 +93,15 @@ length_text (Some k) = decimal k
 
 abbrev pub count_text : Option ℕ → ℕ → ℕ → List ℕ
 count_text least solutions looks =
-    codes "length " ++ length_text least ++ codes " solutions " ++ decimal solutions ++ codes " nodes " ++ decimal looks
-    ++ line_feed ∷ []
+    codes "length " ++ length_text least ++ codes " solutions " ++ decimal solutions
+    ++ codes " nodes " ++ decimal looks ++ line_feed ∷ []
 
 -- what is written of the search for a step, of at most n turns, and of at most `slack` more than the least, from a cube
 abbrev pub search_text : Report → Step → (n slack : ℕ) → (Place → Place) → List ℕ
 search_text Solutions step n slack e = solve_text n (near_solutions_of step e n slack)
 search_text Counts step n slack e =
-    count_text (least_length_of step e n) (length (near_solutions_of step e n slack)) (near_looks_of step e n slack)
+    count_text (least_length_of step e n) (length (near_solutions_of step e n slack))
+    (near_looks_of step e n slack)
 
 -- what a search writes where the step may start on the cube, and else the fault
 abbrev pub where_it_starts : Step → Bool → List ℕ → Result (List ℕ) LineFault
@@ -124,7 +112,8 @@ where_it_starts step false text = Err (NoStart step)
 abbrev pub answer_to_moves : LineCommand → Moves → Result (List ℕ) LineFault
 answer_to_moves (Rewrite rewriting) line = Ok (line_text rewriting line ++ line_feed ∷ [])
 answer_to_moves (Search query) line =
-    where_it_starts query.step (may_start query.step (home line)) (search_text query.report query.step query.limit query.slack (home line))
+    where_it_starts query.step (may_start query.step (home line))
+    (search_text query.report query.step query.limit query.slack (home line))
 
 -- what a command answers to a line that was read so
 abbrev pub answer_to : LineCommand → Result Moves ReadFault → Result (List ℕ) LineFault
@@ -244,7 +233,8 @@ step_line step = name_of step ++ line_feed ∷ []
 
 abbrev pub answer_request : Result Request UsageFault → List ℕ → Ending → Answer
 answer_request (Err fault) input ended = unsearched [] Usage
-answer_request (Ok (OnLines command words)) input ended = answer_on_lines (line_answers command) words input ended
+answer_request (Ok (OnLines command words)) input ended =
+    answer_on_lines (line_answers command) words input ended
 answer_request (Ok ListSteps) input ended = unsearched (flat_map step_line steps) Done
 answer_request (Ok (DrawScrambles state stream turns count)) input ended =
     unsearched (scramble_text turns count (generator_of state stream)) Done

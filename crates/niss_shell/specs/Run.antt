@@ -3,9 +3,7 @@ use Rattle.std.specs.Prelude.{◌≡◌, ℕ, ◌+◌, ◌<◌, ◌≤◌, Bool,
 use Rattle.niss_shell.specs.Device.{SourceState, TargetState, has_fault, Gave, Appended}
 use Rattle.niss_shell.specs.Words.{Request, request_of, reads_source, takes_memory}
 use Rattle.niss_shell.specs.Output.{Answer, out_of, error_text, status_of}
-use Rattle.niss_shell.specs.declared.command.UsageFault.{UsageFault}
-use Rattle.niss_shell.specs.declared.stop.Stop.{Stop}
-use Rattle.niss_shell.specs.declared.stop.Stop.TheVariants.{Done, CannotWrite, OutOfMemory}
+use Rattle.niss_shell.specs.Names.{UsageFault, Stop, Done, CannotWrite, OutOfMemory}
 
 -- the source, the output and the error writer
 pub record Devices : Type 0 where
@@ -18,7 +16,8 @@ devices source output error = record { source = source; output = output; error =
 
 -- Nothing ended the run before its end: it has no fault, and where the input comes from the source, that was read to its
 -- end.
-pub record ReachesEnd (due : Answer) (asked : Result Request UsageFault) (source_now : SourceState) : Type 0 where
+pub record ReachesEnd (due : Answer) (asked : Result Request UsageFault)
+    (source_now : SourceState) : Type 0 where
   pub good : due.stop ≡ Done
   pub read_whole : reads_source asked ≡ true → source_now.has_ended ≡ true
 

@@ -3,7 +3,7 @@ use Rattle.std.specs.Prelude.{ℕ, ◌*◌, None, List, [], ◌∷◌, ◌++◌,
 use Rattle.std.specs.List.{range_with_len}
 use Rattle.niss_moves.specs.Text.{with_words}
 use Rattle.niss_moves.specs.CleanText.{turn_words}
-use Rattle.niss_moves.specs.declared.turn.Turn.{Turn}
+use Rattle.niss_shell.specs.Names.{Turn}
 use Rattle.niss_search.specs.Draw.{next_words, after_words, draw}
 use Rattle.rand_pcg.specs.Lcg.{Lcg, started, increment_of}
 use Rattle.rand_pcg.specs.Pcg.{multiplier_64}

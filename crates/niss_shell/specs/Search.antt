@@ -6,15 +6,16 @@ use Rattle.niss_search.specs.Cubes.{near_looks_of}
 use Rattle.niss_search.specs.Solutions.{look_bound}
 use Rattle.niss_shell.specs.Device.{TargetState, has_fault}
 use Rattle.niss_shell.specs.Engine.{WritesOrRefuses, output_state}
-use Rattle.niss_shell.specs.declared.device.DeviceFault.{DeviceFault}
-use Rattle.niss_shell.specs.declared.output.Output.{Output}
+use Rattle.niss_shell.specs.Names.{DeviceFault, Output}
 use Rattle.niss_shell.specs.declared.search.Search.{Search}
 
 -- An output that worked took the text, after what waited, with the looks of this search from a cube.
-abbrev pub Reported : {W T A : Type 0} → (W → TargetState) → Result T DeviceFault → List ℕ → Search A → (Place → Place)
+abbrev pub Reported :
+    {W T A : Type 0} → (W → TargetState) → Result T DeviceFault → List ℕ → Search A → (Place → Place)
     → Output W → Output W → ℕ → ℕ → Type 0
 Reported state result text search e old new looks looks_now =
     has_fault (state old.target.now) ≡ false →
     WritesOrRefuses result text
-    (near_looks_of search.tables e search.limit search.slack) (look_bound (turns_of search.tables) search.limit)
+    (near_looks_of search.tables e search.limit search.slack)
+    (look_bound (turns_of search.tables) search.limit)
     (output_state state old looks) (output_state state new looks_now)

@@ -3,17 +3,17 @@ use Rattle.std.specs.Prelude.{◌≡◌, ℕ, ◌≤◌, Ok, List, IsTrue}
 use Rattle.niss_moves.specs.Line.{Moves}
 use Rattle.niss_moves.specs.Reader.{read_line}
 use Rattle.niss_cube.specs.Steps.{turns_of, may_start}
-use Rattle.niss_cube.specs.declared.step.Step.{Step}
+use Rattle.niss_shell.specs.Names.{Step, Solutions}
 use Rattle.niss_search.specs.Cubes.{solutions_of, all_looks_of}
 use Rattle.niss_search.specs.Solutions.{look_bound}
 use Rattle.niss_shell.specs.Output.{home, solve_text, answer, line_looks}
 use Rattle.niss_shell.specs.Words.{search_command}
-use Rattle.niss_shell.specs.declared.command.Report.TheVariants.{Solutions}
 
 -- The answer to the line is all solutions of least length within n, in turn order, or that there are none; and the
 -- looks of all deepenings are within the bound.
 pub record SolvesLine (step : Step) (n : ℕ) (bytes : List ℕ) (line : Moves) : Type 0 where
-  pub text : answer (search_command Solutions step n 0) bytes ≡ Ok (solve_text n (solutions_of step (home line) n))
+  pub text : answer (search_command Solutions step n 0) bytes
+      ≡ Ok (solve_text n (solutions_of step (home line) n))
   pub looks : line_looks (search_command Solutions step n 0) bytes ≡ all_looks_of step (home line) n
   pub within : all_looks_of step (home line) n ≤ look_bound (turns_of step) n
 

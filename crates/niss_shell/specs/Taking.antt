@@ -4,10 +4,8 @@ use Rattle.niss_moves.specs.Reader.{IsFed}
 use Rattle.niss_shell.specs.Device.{TargetState}
 use Rattle.niss_shell.specs.Job.{command_of}
 use Rattle.niss_shell.specs.Output.{LineAnswers, line_answers}
-use Rattle.niss_shell.specs.Engine.{AnswerState, Progress, TakesBytes, TakesEnd, AnswersBytes, output_state}
-use Rattle.niss_shell.specs.declared.lines.Lines.{Lines}
-use Rattle.niss_shell.specs.declared.output.Output.{Output}
-use Rattle.niss_shell.specs.declared.stop.Stop.{Stop}
+use Rattle.niss_shell.specs.Engine.{AnswerState, Progress, TakesNext, TakesLast, AnswersBytes, output_state}
+use Rattle.niss_shell.specs.Names.{Lines, Output, Stop}
 
 -- what lines change of their output, by what a contract sees of its target
 abbrev pub lines_state : {A W : Type 0} → (W → TargetState) → Output W → Lines A → AnswerState
@@ -25,18 +23,18 @@ pub record Keeps {A : Type 0} (old new : Lines A) : Type 0 where
   pub looks : new.looks.ghost_name ≡ old.looks.ghost_name
 
 -- The line that is being read was answered, whatever its bytes are.
-abbrev pub AnswersOpenLine : {A : Type 0} → Result (Unit {0}) Stop → Lines A → AnswerState → AnswerState → Type 0
+abbrev pub AnswersOpenLine :
+    {A : Type 0} → Result (Unit {0}) Stop → Lines A → AnswerState → AnswerState → Type 0
 AnswersOpenLine result lines old new =
-    (bytes : List ℕ) → IsFed lines.reader bytes → AnswersBytes (answers_of lines) bytes lines.line result old new
+    (bytes : List ℕ) → IsFed lines.reader bytes →
+    AnswersBytes (answers_of lines) bytes lines.line result old new
 
 -- The next bytes were taken.
 abbrev pub Takes :
     {A : Type 0} → List ℕ → Result (Unit {0}) Stop → Lines A → Lines A → AnswerState → AnswerState → Type 0
 Takes bytes result lines lines_now old new =
-    (front : List ℕ) → IsFed lines.reader front →
-    TakesBytes (answers_of lines) front bytes lines.line (progress_of lines_now) result old new
+    TakesNext (answers_of lines) bytes (progress_of lines) (progress_of lines_now) result old new
 
 -- The end of the input was taken.
 abbrev pub Ends : {A : Type 0} → Result (Unit {0}) Stop → Lines A → AnswerState → AnswerState → Type 0
-Ends result lines old new =
-    (front : List ℕ) → IsFed lines.reader front → TakesEnd (answers_of lines) front lines.line result old new
+Ends result lines old new = TakesLast (answers_of lines) (progress_of lines) result old new

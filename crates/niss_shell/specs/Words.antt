@@ -4,16 +4,8 @@ use Rattle.std.specs.Char.{is_ascii_digit}
 use Rattle.std.specs.List.{list_all}
 use Rattle.std.specs.Str.Parse.{digits_value}
 use Rattle.niss_cube.specs.Steps.{name_of, steps}
-use Rattle.niss_cube.specs.declared.step.Step.{Step}
+use Rattle.niss_shell.specs.Names.{Step, UsageFault, NoCommand, UnknownCommand, WrongCount, BadNumber, UnknownStep, LineCommand, Rewrite, Search, Report, Solutions, Counts, Invert, Unniss, Cleanup, Print, Command}
 use Rattle.niss_shell.specs.Lines.{line_feed, space}
-use Rattle.niss_shell.specs.declared.command.UsageFault.{UsageFault}
-use Rattle.niss_shell.specs.declared.command.UsageFault.TheVariants.{NoCommand, UnknownCommand, WrongCount, BadNumber, UnknownStep}
-use Rattle.niss_shell.specs.declared.command.LineCommand.{LineCommand}
-use Rattle.niss_shell.specs.declared.command.LineCommand.TheVariants.{Rewrite, Search}
-use Rattle.niss_shell.specs.declared.command.Report.{Report}
-use Rattle.niss_shell.specs.declared.command.Report.TheVariants.{Solutions, Counts}
-use Rattle.niss_shell.specs.declared.command.Rewriting.TheVariants.{Invert, Unniss, Cleanup, Print}
-use Rattle.niss_shell.specs.declared.command.Command.{Command}
 use Rattle.niss_shell.specs.declared.command.Command.TheVariants as command
 
 -- the most bytes of input
@@ -51,7 +43,8 @@ most_limit = 20
 
 -- a search for a step, with the greatest number of turns, and how many turns more than the least a solution may have
 abbrev pub search_command : Report → Step → (n slack : ℕ) → LineCommand
-search_command report step n slack = Search (record { report = report; step = step; limit = n; slack = slack })
+search_command report step n slack =
+    Search (record { report = report; step = step; limit = n; slack = slack })
 
 -- the same where the step and the number are known
 abbrev pub search_for : Report → Option Step → Option ℕ → List (List ℕ) → Result Request UsageFault
@@ -63,7 +56,8 @@ search_for report (Some step) (Some n) rest = Ok (OnLines (search_command report
 abbrev pub search_words : Report → List (List ℕ) → Result Request UsageFault
 search_words report [] = Err WrongCount
 search_words report (step ∷ []) = Err WrongCount
-search_words report (step ∷ most ∷ rest) = search_for report (step_named step) (number_of most_limit most) rest
+search_words report (step ∷ most ∷ rest) =
+    search_for report (step_named step) (number_of most_limit most) rest
 
 -- a search with a slack, where the step and the numbers are known
 abbrev pub near_for : Option Step → Option ℕ → Option ℕ → List (List ℕ) → Result Request UsageFault
@@ -92,20 +86,21 @@ most_state = 2 ^ 64 - 1
 
 -- scrambles, where each of the numbers is one
 abbrev pub scramble_with : Option ℕ → Option ℕ → Option ℕ → Option ℕ → Result Request UsageFault
-scramble_with (Some state) (Some stream) (Some turns) (Some count) = Ok (DrawScrambles state stream turns count)
+scramble_with (Some state) (Some stream) (Some turns) (Some count) =
+    Ok (DrawScrambles state stream turns count)
 scramble_with _ _ _ _ = Err BadNumber
 
 -- the same from its four words
 abbrev pub scramble_words : List (List ℕ) → Result Request UsageFault
 scramble_words (state ∷ stream ∷ turns ∷ count ∷ []) =
-    scramble_with (number_of most_state state) (number_of most_state stream) (number_of most_turns turns) (number_of most_scrambles count)
+    scramble_with (number_of most_state state) (number_of most_state stream)
+    (number_of most_turns turns) (number_of most_scrambles count)
 scramble_words _ = Err WrongCount
 
 -- The numbers of a request are in their ranges.
 abbrev pub IsInRange : Request → Type 0
-IsInRange (OnLines command words) = Unit {0}
-IsInRange ListSteps = Unit {0}
 IsInRange (DrawScrambles state stream turns count) = (turns ≤ most_turns) × (count ≤ most_scrambles)
+IsInRange request = Unit {0}
 
 abbrev pub request_named : List ℕ → List (List ℕ) → Result Request UsageFault
 request_named name rest =
@@ -131,9 +126,12 @@ requested (command.Invert rest) = OnLines (Rewrite Invert) (map string_bytes res
 requested (command.Unniss rest) = OnLines (Rewrite Unniss) (map string_bytes rest.now)
 requested (command.Cleanup rest) = OnLines (Rewrite Cleanup) (map string_bytes rest.now)
 requested (command.Print rest) = OnLines (Rewrite Print) (map string_bytes rest.now)
-requested (command.Solve step n rest) = OnLines (search_command Solutions step n 0) (map string_bytes rest.now)
-requested (command.Count step n rest) = OnLines (search_command Counts step n 0) (map string_bytes rest.now)
-requested (command.Near step n slack rest) = OnLines (search_command Solutions step n slack) (map string_bytes rest.now)
+requested (command.Solve step n rest) =
+    OnLines (search_command Solutions step n 0) (map string_bytes rest.now)
+requested (command.Count step n rest) =
+    OnLines (search_command Counts step n 0) (map string_bytes rest.now)
+requested (command.Near step n slack rest) =
+    OnLines (search_command Solutions step n slack) (map string_bytes rest.now)
 requested command.Steps = ListSteps
 requested (command.Scramble state stream turns count) = DrawScrambles state stream turns count
 
@@ -157,8 +155,7 @@ name_of_command (command.Scramble state stream turns count) = codes "scramble"
 -- A command on lines is asked for.
 abbrev pub takes_lines : Request → Bool
 takes_lines (OnLines command words) = true
-takes_lines ListSteps = false
-takes_lines (DrawScrambles state stream turns count) = false
+takes_lines request = false
 
 abbrev pub spaced_word : List ℕ → List ℕ
 spaced_word word = space ∷ word
@@ -170,11 +167,8 @@ joined (word ∷ words) = word ++ flat_map spaced_word words ++ line_feed ∷ []
 
 -- The input comes from the source.
 abbrev pub reads_source : Result Request UsageFault → Bool
-reads_source (Err fault) = false
 reads_source (Ok (OnLines command [])) = true
-reads_source (Ok (OnLines command (word ∷ words))) = false
-reads_source (Ok ListSteps) = false
-reads_source (Ok (DrawScrambles state stream turns count)) = false
+reads_source asked = false
 
 -- The command searches, and has tables of its step.
 abbrev pub has_step : LineCommand → Bool
@@ -183,8 +177,6 @@ has_step (Search query) = true
 
 -- The request asks for memory: for the tables of a step, and for the input, where words of at most the limit give it.
 abbrev pub takes_memory : Result Request UsageFault → Bool
-takes_memory (Err fault) = false
 takes_memory (Ok (OnLines command [])) = has_step command
 takes_memory (Ok (OnLines command (word ∷ words))) = nat_le (length (joined (word ∷ words))) limit
-takes_memory (Ok ListSteps) = false
-takes_memory (Ok (DrawScrambles state stream turns count)) = false
+takes_memory asked = false

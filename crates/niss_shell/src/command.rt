@@ -1,6 +1,5 @@
 ghost use Rattle.std.specs.Prelude.{◌≡◌, Ok, Err, Some, false, IfSome, IfOk, MatchOption, MatchResult};
 ghost use Rattle.std.specs.Prelude.{map, codes, slice_get, string_bytes};
-ghost use Rattle.niss_shell.specs.declared.command.LineCommand.TheVariants.{Search};
 ghost use Rattle.niss_shell.specs.Words.{OnLines, ListSteps, search_command, number_of, most_state, most_turns};
 ghost use Rattle.niss_shell.specs.Words.{most_scrambles, search_words, near_words, scramble_with, scramble_words};
 ghost use Rattle.niss_shell.specs.Words.{without_words, request_of, requested, name_of_command, name_of_report, takes_lines, IsInRange};
@@ -58,25 +57,23 @@ pub struct Query {
     pub slack: Limit,
 }
 
-impl Query {
-    /// The search of these parts.
-    fn new(report: Report, step: Step, limit: Limit, slack: Limit) -> Query
-        ensures { Search result ≡ search_command report step limit slack }
-    {
-        Query {
-            report,
-            step,
-            limit,
-            slack,
-        }
-    }
-}
-
 /// A command on each line of the input.
 #[derive(Clone, Copy)]
 pub enum LineCommand {
     Rewrite(Rewriting),
     Search(Query),
+}
+
+/// The search of these parts.
+fn search_for(report: Report, step: Step, limit: Limit, slack: Limit) -> LineCommand
+    ensures { result ≡ search_command report step limit slack }
+{
+    LineCommand::Search(Query {
+        report,
+        step,
+        limit,
+        slack,
+    })
 }
 
 /// What is done with each line, and the words that give the lines; without words they are read.
@@ -126,16 +123,16 @@ impl<'a> Command<'a> {
             Command::Cleanup(words) => (LineCommand::Rewrite(Rewriting::Cleanup), words),
             Command::Print(words) => (LineCommand::Rewrite(Rewriting::Print), words),
             Command::Solve(step, limit, words) => {
-                let query = Query::new(Report::Solutions, step, limit, Limit::ZERO);
-                (LineCommand::Search(query), words)
+                let search = search_for(Report::Solutions, step, limit, Limit::ZERO);
+                (search, words)
             }
             Command::Count(step, limit, words) => {
-                let query = Query::new(Report::Counts, step, limit, Limit::ZERO);
-                (LineCommand::Search(query), words)
+                let search = search_for(Report::Counts, step, limit, Limit::ZERO);
+                (search, words)
             }
             Command::Near(step, limit, slack, words) => {
-                let query = Query::new(Report::Solutions, step, limit, slack);
-                (LineCommand::Search(query), words)
+                let search = search_for(Report::Solutions, step, limit, slack);
+                (search, words)
             }
             Command::Steps | Command::Scramble { .. } => return None,
         };

@@ -4,7 +4,7 @@ ghost use Rattle.niss_shell.specs.Device.{has_fault};
 ghost use Rattle.niss_shell.specs.Words.{limit, joined, spaced_word, has_step, reads_source, OnLines};
 ghost use Rattle.niss_shell.specs.Engine.{RunsUnflushed, EndsAtOnce, output_state, stop_unless};
 ghost use Rattle.niss_shell.specs.Job.{IsInput, command_of};
-ghost use Rattle.niss_shell.specs.declared.stop.Stop.TheVariants.{Done};
+ghost use Rattle.niss_shell.specs.Names.{Done};
 
 use crate::command::{LineCommand, LineRequest, Query, Rewriting};
 use crate::device::{Source, Target};
@@ -165,6 +165,8 @@ impl<A: Allocator> Job<A> {
 }
 
 /// Does a command on the lines of the words, or of the source where there are none.
+///
+/// It is a function of its own so that the job's drop, which is long, is proved apart from `answer_command`.
 pub fn answer_lines<A: Allocator + Copy, R: Source, W: Target>(
     alloc: A,
     request: LineRequest<'_>,

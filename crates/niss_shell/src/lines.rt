@@ -34,7 +34,7 @@ pub struct Lines<'a, A: Allocator> {
 }
 
 impl<'a, A: Allocator> Lines<'a, A> {
-    ghost use Rattle.niss_shell.specs.declared.stop.Stop.TheVariants.{Done};
+    ghost use Rattle.niss_shell.specs.Names.{Done};
     ghost use Rattle.niss_moves.specs.Reader.{moves_of};
     ghost use Rattle.niss_shell.specs.Engine.{AnswersLine, AnswersMoves, AnswersSource, Answers, HasRoom};
     ghost use Rattle.niss_shell.specs.Engine.{piece_of, only_stop, stop_unless};
@@ -239,9 +239,8 @@ impl<'a, A: Allocator> Lines<'a, A> {
         let mut block = [0u8; BLOCK];
         let mut count = 0usize;
         loop {
-            let given = match source.read(&mut block) {
-                Ok(given) => given,
-                Err(_) => return Err(Stop::CannotRead),
+            let Ok(given) = source.read(&mut block) else {
+                return Err(Stop::CannotRead);
             };
             if given == 0 {
                 return self.take_end(output);

@@ -3,7 +3,7 @@ ghost use Rattle.std.specs.Prelude.{◌≡◌, [], OnOk, OnErr};
 ghost use Rattle.niss_shell.specs.Device.{Appended, WriteRefused, has_fault};
 ghost use Rattle.niss_shell.specs.Engine.{Delivers, TakesLine, RefusesLine, FlushesLast, stop_unless};
 ghost use Rattle.niss_shell.specs.Output.{solution_line};
-ghost use Rattle.niss_shell.specs.declared.stop.Stop.TheVariants.{Done};
+ghost use Rattle.niss_shell.specs.Names.{Done};
 
 use crate::device::{DeviceFault, Target};
 use crate::search_text::put_solution;

@@ -4,7 +4,7 @@ ghost use Rattle.niss_shell.specs.Device.{has_fault};
 ghost use Rattle.niss_shell.specs.Engine.{Answers, output_state, stop_unless};
 ghost use Rattle.niss_shell.specs.Output.{unsearched};
 ghost use Rattle.niss_shell.specs.Scrambles.{turns_line, scramble_text};
-ghost use Rattle.niss_shell.specs.declared.stop.Stop.TheVariants.{Done};
+ghost use Rattle.niss_shell.specs.Names.{Done};
 
 use crate::device::Target;
 use crate::output::Output;

@@ -3,7 +3,7 @@ ghost use Rattle.niss_shell.specs.Device.{has_fault};
 ghost use Rattle.niss_shell.specs.Words.{request_of, reads_source};
 ghost use Rattle.niss_shell.specs.Output.{error_text, step_line, unsearched};
 ghost use Rattle.niss_cube.specs.Steps.{steps};
-ghost use Rattle.niss_shell.specs.declared.stop.Stop.TheVariants.{Done};
+ghost use Rattle.niss_shell.specs.Names.{Done};
 ghost use Rattle.niss_shell.specs.Engine.{Answers, RunsUnflushed, output_state, stop_unless};
 ghost use Rattle.niss_shell.specs.Run.{Runs, ReportsError, devices};
 

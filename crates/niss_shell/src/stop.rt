@@ -2,7 +2,7 @@ ghost use Rattle.std.specs.Prelude.{◌≡◌, decimal, codes, ◌+◌, ◌∷�
 ghost use Rattle.niss_shell.specs.Output.{error_text, status_of, start_text, line_fault_text};
 ghost use Rattle.niss_shell.specs.Lines.{line_feed};
 ghost use Rattle.niss_moves.specs.FaultText.{fault_column, fault_text};
-ghost use Rattle.niss_shell.specs.declared.stop.Stop.TheVariants.{CannotWrite, OutOfMemory};
+ghost use Rattle.niss_shell.specs.Names.{CannotWrite, OutOfMemory};
 
 use crate::device::DeviceFault;
 use crate::text::{put_number, put_text};

@@ -7,7 +7,7 @@ use Rattle.niss_shell.proofs.command.parse_near.Goals as goal
 
 pub returns-in_default-from_name-clause-command : goal.returns-in_default-from_name-clause-command
 returns-in_default-from_name-clause-command c =
-    let unknown : step_named (string_bytes c.name-item.result) ≡ None = step_unknown _ (λ step e. c.in_default-from_name.ensures.unknown step (e ∙ sym c.as_bytes.ensures.value)) in
+    let unknown : step_named (string_bytes c.name-item.result) ≡ None = step_unknown (λ step e. c.in_default-from_name.ensures.unknown step (e ∙ sym c.as_bytes.ensures.value)) in
     grind (arith, common_steps, unknown)
 
 pub returns-in_default-limit_of-clause-command : goal.returns-in_default-limit_of-clause-command

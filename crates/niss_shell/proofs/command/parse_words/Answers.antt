@@ -1,16 +1,15 @@
 use Rattle.std.proofs.Common.{sym, ◌∙◌}
-use Rattle.std.specs.Prelude.{codes, string_bytes}
 use Rattle.niss_shell.proofs.WordsLemmas.{named_request, first_word}
 use Rattle.niss_shell.proofs.command.parse_words.Goals as goal
 
 pub returns-in-invert-clause-command : goal.returns-in-invert-clause-command
 returns-in-invert-clause-command c =
-    named_request string_bytes c.args.words.now c.in-Some.rest.now c.in-Some.name.now (codes "invert") c.in-Some.ensures.cases.0 (sym c.as_str.ensures.value ∙ c.in-invert.is)
+    named_request _ _ c.in-Some.ensures.cases.0 (sym c.as_str.ensures.value ∙ c.in-invert.is)
 
 pub returns-in-unniss-clause-command : goal.returns-in-unniss-clause-command
 returns-in-unniss-clause-command c =
-    named_request string_bytes c.args.words.now c.in-Some.rest.now c.in-Some.name.now (codes "unniss") c.in-Some.ensures.cases.0 (sym c.as_str.ensures.value ∙ c.in-unniss.is)
+    named_request _ _ c.in-Some.ensures.cases.0 (sym c.as_str.ensures.value ∙ c.in-unniss.is)
 
 pub returns-in-unniss-clause-named : goal.returns-in-unniss-clause-named
 returns-in-unniss-clause-named c =
-    first_word string_bytes c.args.words.now c.in-Some.rest.now c.in-Some.name.now (codes "unniss") c.in-Some.ensures.cases.0 (sym c.as_str.ensures.value ∙ c.in-unniss.is)
+    first_word _ c.in-Some.ensures.cases.0 (sym c.as_str.ensures.value ∙ c.in-unniss.is)

@@ -3,7 +3,7 @@ use Rattle.std.specs.Prelude.{string_bytes}
 use Rattle.std.proofs.lemmas.Result.{err_from_is_err_and}
 use Rattle.niss_shell.specs.Words.{OnLines}
 use Rattle.niss_shell.specs.Engine.{RunsUnflushed, output_state, stop_unless}
-use Rattle.niss_shell.specs.declared.stop.Stop.TheVariants.{Done}
+use Rattle.niss_shell.specs.Names.{Done}
 use Rattle.niss_shell.proofs.RunLemmas.{by_words}
 use Rattle.niss_shell.proofs.job.answer_lines.Goals as goal
 
@@ -21,7 +21,7 @@ returns-clause-runs g c =
 
 pub returns-clause-unread : goal.returns-clause-unread
 returns-clause-unread g c = λ given.
-    by_words (λ t. t.items) c.in_ok-new.field-0.text c.args.request.command (map string_bytes c.args.request.words.now) _ c.in_ok-new.ensures.input given c.answer.ensures.unread
+    by_words _ _ c.args.request.command _ _ c.in_ok-new.ensures.input given c.answer.ensures.unread
 
 pub answer-requires-clause-reads : goal.answer-requires-clause-reads
 answer-requires-clause-reads g c = c.requires.reads

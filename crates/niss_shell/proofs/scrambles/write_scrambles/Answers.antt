@@ -9,37 +9,32 @@ use Rattle.niss_shell.proofs.scrambles.write_scrambles.Goals as goal
 
 pub loop-init : goal.loop-init
 loop-init g c = record {
-  generator = no_scramble c.args.turns c.args.rng;
+  generator = no_scramble _ _;
   same_target = refl;
-  written = λ looks. none_written c.args.turns c.args.rng (output_state g.W.Target.state c.args.output.now looks) c.requires.works;
+  written = λ looks. none_written c.args.turns c.args.rng c.requires.works;
 }
 
 pub loop-preserved : goal.loop-preserved
 loop-preserved g c = record {
-  generator = c.draw_line.ensures.words ∙ ap (after_words c.args.turns) c.loop.invariant.generator ∙ after_scramble c.args.turns c.loop.counter c.args.rng;
+  generator = c.draw_line.ensures.words ∙ ap (after_words c.args.turns) c.loop.invariant.generator ∙ after_scramble _ _ _;
   same_target = c.in_ok-put.ensures.same_target ∙ c.loop.invariant.same_target;
-  written = λ looks. written_more c.args.turns c.loop.counter c.args.rng c.draw_line.new.line.items
-      (output_state g.W.Target.state c.args.output.now looks) (output_state g.W.Target.state c.loop.output looks) (output_state g.W.Target.state c.put.new.self looks)
-      (c.draw_line.ensures.line ∙ line_of_next c.args.turns c.loop.counter c.args.rng c.loop.rng c.loop.invariant.generator)
+  written = λ looks. written_more _ _ _ _ _ _ _ (c.draw_line.ensures.line ∙ line_of_next _ _ _ c.loop.invariant.generator)
       (c.loop.invariant.written looks) (c.in_ok-put.ensures.taken (c.loop.invariant.written looks).works looks);
 }
 
 pub returns-in_err-put-clause-answers : goal.returns-in_err-put-clause-answers
 returns-in_err-put-clause-answers g c =
     let p = err_from_is_err_and c.from_residual.result c.from_residual.ensures.1 in
-    rw (p.1, p.2) (λ looks. refused_line c.args.turns c.loop.counter c.args.count c.args.rng c.draw_line.new.line.items
-    (output_state g.W.Target.state c.args.output.now looks) (output_state g.W.Target.state c.loop.output looks) (output_state g.W.Target.state c.put.new.self looks)
-    c.loop-test.true
-    (c.draw_line.ensures.line ∙ line_of_next c.args.turns c.loop.counter c.args.rng c.loop.rng c.loop.invariant.generator)
+    rw (p.1, p.2) (λ looks. refused_line _ _ _ _ c.loop-test.true
+    (c.draw_line.ensures.line ∙ line_of_next _ _ _ c.loop.invariant.generator)
     (c.loop.invariant.written looks) (c.in_err-put.ensures.taken (c.loop.invariant.written looks).works looks))
 
 pub returns-in_err-send-clause-answers : goal.returns-in_err-send-clause-answers
 returns-in_err-send-clause-answers g c =
     let p = err_from_is_err_and c.from_residual-in_err-send.result c.from_residual-in_err-send.ensures.1 in
     let all : c.loop.counter ≡ c.args.count = omega (arith, c.loop-test.false, c.loop.auto.counter-end) in
-    rw (p.1, p.2) (λ looks. then_sent {T = Unit {0}} (Err (record {})) (scramble_text c.args.turns c.args.count c.args.rng) 0 0
-    (output_state g.W.Target.state c.args.output.now looks) (output_state g.W.Target.state c.loop.output looks) (output_state g.W.Target.state c.send.new.self looks)
-    (all_written c.args.turns c.loop.counter c.args.count c.args.rng _ _ all (c.loop.invariant.written looks))
+    rw (p.1, p.2) (λ looks. then_sent {T = Unit {0}} (Err (record {})) _ _ _ _ _ (output_state g.W.Target.state c.send.new.self looks)
+    (all_written _ _ _ _ all (c.loop.invariant.written looks))
     (c.in_err-send.ensures.sent (c.loop.invariant.written looks).works looks))
 
 pub returns-clause-answers : goal.returns-clause-answers
@@ -48,6 +43,6 @@ returns-clause-answers g c = λ looks.
       refl,
       then_sent {T = Unit {0}} (Ok tt) (scramble_text c.args.turns c.args.count c.args.rng) 0 0
           (output_state g.W.Target.state c.args.output.now looks) (output_state g.W.Target.state c.loop.output looks) (output_state g.W.Target.state c.send.new.self looks)
-          (all_written c.args.turns c.loop.counter c.args.count c.args.rng _ _ all (c.loop.invariant.written looks))
+          (all_written _ _ _ _ all (c.loop.invariant.written looks))
           (c.in_ok-send.ensures.sent (c.loop.invariant.written looks).works looks),
     )

@@ -1,8 +1,7 @@
 use Rattle.std.proofs.Common.{◌∙◌}
-use Rattle.niss_shell.specs.Output.{error_text}
 use Rattle.niss_shell.proofs.RunLemmas.{reported}
 use Rattle.niss_shell.proofs.shell.report.Goals as goal
 
 pub returns : goal.returns
-returns g c = reported (error_text c.args.stop) c.as_slice.result.now c.write_all.result (g.E.Target.state c.args.err.now) (g.E.Target.state c.write_all.new.out)
+returns g c = reported _ _ _ _
     (c.as_slice.ensures.value ∙ c.text-text.ensures) c.write_all.ensures.whole c.write_all.ensures.refused c.write_all.ensures.unflushed

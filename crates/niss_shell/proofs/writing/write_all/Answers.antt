@@ -11,8 +11,8 @@ split_again gone rest left piece n e l = append_assoc gone (take n rest) left �
 
 pub loop-rest-preserved : goal.loop-rest-preserved
 loop-rest-preserved g c =
-    let some = is_empty_answer-some c.in-Ok.count c.loop-rest.rest.now c.in-Ok.count-test.1 in
-    let same : has_fault (g.W.Target.state c.write.new.self) ≡ has_fault (g.W.Target.state c.loop-rest.out) = same_fault (g.W.Target.state c.loop-rest.out) (g.W.Target.state c.write.new.self) _ c.in-Ok.ensures.write_failed c.in-Ok.ensures.flush_failed some in
+    let some = is_empty_answer-some _ _ c.in-Ok.count-test.1 in
+    let same : has_fault (g.W.Target.state c.write.new.self) ≡ has_fault (g.W.Target.state c.loop-rest.out) = same_fault (g.W.Target.state c.loop-rest.out) (g.W.Target.state c.write.new.self) c.in-Ok.ensures.write_failed c.in-Ok.ensures.flush_failed some in
     record {
       written = (
         c.loop-rest.invariant.written.0 ++ take c.in-Ok.count c.loop-rest.rest.now,

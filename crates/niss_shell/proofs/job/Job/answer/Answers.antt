@@ -1,15 +1,13 @@
 use Rattle.std.proofs.Common.{◌≡◌, refl, sym, ap, ◌∙◌, subst}
 use Rattle.niss_shell.specs.Job.{IsInput, command_of}
 use Rattle.niss_shell.specs.Engine.{output_state}
-use Rattle.niss_shell.proofs.RunLemmas.{from_source, from_text}
+use Rattle.niss_shell.proofs.RunLemmas.{runs_source, runs_text}
 use Rattle.niss_shell.proofs.job.Job.answer.Goals as goal
 
 pub returns-in-None-clause-runs : goal.returns-in-None-clause-runs
 returns-in-None-clause-runs g c = λ words input.
     let back : c.looks-1.given.0 ≡ c.read.new.self.looks.now = c.looks-1.given.1 (sym (c.read.ensures.keeps.looks ∙ c.new-lines.ensures.same_meter)) in
-    from_source (command_of c.args.self.now.work) (command_of c.new-lines.result.work.now) words _
-    (g.R.Source.state c.args.source.now) (g.R.Source.state c.read.new.source) _ _ _ _
-    (ap command_of c.new-lines.ensures.work) (ap (output_state g.W.Target.state c.args.output.now) c.new-lines.ensures.looks)
+    runs_source (ap command_of c.new-lines.ensures.work) (ap (output_state g.W.Target.state c.args.output.now) c.new-lines.ensures.looks)
     (ap (output_state g.W.Target.state c.read.new.output) (sym back))
     (subst (λ t. IsInput (λ v. v.items) t words) c.in-None.is input) c.read.ensures.answers
 
@@ -17,11 +15,9 @@ pub returns-in-Some-clause-runs : goal.returns-in-Some-clause-runs
 returns-in-Some-clause-runs g c = λ words input.
     let back : c.looks-in-Some-1.given.0 ≡ c.take_text.new.self.looks.now = c.looks-in-Some-1.given.1 (sym (c.take_text.ensures.keeps.looks ∙ c.new-lines.ensures.same_meter)) in
     let joins = subst (λ t. IsInput (λ v. v.items) t words) c.in-Some.is input in
-    from_text (command_of c.args.self.now.work) (command_of c.new-lines.result.work.now) words c.in-Some.text.items c.as_slice.result.now _
-    (g.R.Source.state c.args.source.now) _ _ _ _
-    (ap command_of c.new-lines.ensures.work) (ap (output_state g.W.Target.state c.args.output.now) c.new-lines.ensures.looks)
+    runs_text (ap command_of c.new-lines.ensures.work) (ap (output_state g.W.Target.state c.args.output.now) c.new-lines.ensures.looks)
     (ap (output_state g.W.Target.state c.take_text.new.output) (sym back))
-    c.as_slice.ensures.value joins.0 joins.1 joins.2 c.take_text.ensures.answers
+    joins.0 (c.as_slice.ensures.value ∙ joins.1) joins.2 c.take_text.ensures.answers
 
 pub returns-in-Some-clause-unread : goal.returns-in-Some-clause-unread
 returns-in-Some-clause-unread g c = rw c.in-Some.is refl

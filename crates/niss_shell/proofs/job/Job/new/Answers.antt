@@ -15,21 +15,20 @@ some_words words h = simp length-map h
 pub returns-in_err-work-clause-refused : goal.returns-in_err-work-clause-refused
 returns-in_err-work-clause-refused g c =
     let p = err_from_is_err_and c.from_residual.result c.from_residual.ensures.1 in
-    rw (p.1, p.2) (λ source old works. runs_memory_source c.args.command (map string_bytes c.args.words.now) source old
-    (no_words c.args.words.now (grind (arith, common_steps))) works c.in_err-work.ensures.asks)
+    rw (p.1, p.2) (λ source old works. runs_memory_source _ _ _ _ (no_words _ (grind (arith, common_steps))) works c.in_err-work.ensures.asks)
 
 pub returns-in_default-clause-refused : goal.returns-in_default-clause-refused
-returns-in_default-clause-refused g c = λ source old works. runs_too_long c.args.command (map string_bytes c.args.words.now) source old
-    (some_words c.args.words.now (grind (arith, common_steps))) works c.in_default.ensures
+returns-in_default-clause-refused g c = λ source old works. runs_too_long _ _ _ _
+    (some_words _ (grind (arith, common_steps))) works c.in_default.ensures
 
 pub returns-in_err-text-clause-refused : goal.returns-in_err-text-clause-refused
 returns-in_err-text-clause-refused g c =
     let p = err_from_is_err_and c.from_residual-in_err-text.result c.from_residual-in_err-text.ensures.1 in
-    rw (p.1, p.2) (λ source old works. runs_memory c.args.command (map string_bytes c.args.words.now) source old
-    (some_words c.args.words.now (grind (arith, common_steps))) works (rw (← c.in-Some.ensures.0) c.in-Some.ensures.1))
+    rw (p.1, p.2) (λ source old works. runs_memory _ _ _ _
+    (some_words _ (grind (arith, common_steps))) works (rw (← c.in-Some.ensures.0) c.in-Some.ensures.1))
 
 pub returns-in_err-work-2-clause-refused : goal.returns-in_err-work-2-clause-refused
 returns-in_err-work-2-clause-refused g c =
     let p = err_from_is_err_and c.from_residual-in_err-work-2.result c.from_residual-in_err-work-2.ensures.1 in
-    rw (p.1, p.2) (λ source old works. runs_memory c.args.command (map string_bytes c.args.words.now) source old
-    (some_words c.args.words.now (grind (arith, common_steps))) works (rw (← c.in-Some.ensures.0) c.in-Some.ensures.1))
+    rw (p.1, p.2) (λ source old works. runs_memory _ _ _ _
+    (some_words _ (grind (arith, common_steps))) works (rw (← c.in-Some.ensures.0) c.in-Some.ensures.1))

@@ -2,9 +2,7 @@ use Rattle.std.proofs.Common.{refl, ap}
 use Rattle.std.proofs.lemmas.Result.{err_from_is_err_and}
 use Rattle.niss_shell.specs.Output.{home}
 use Rattle.niss_shell.specs.Job.{command_of}
-use Rattle.niss_shell.specs.Engine.{output_state}
-use Rattle.niss_shell.specs.Taking.{lines_state}
-use Rattle.niss_shell.specs.declared.command.Report.TheVariants.{Solutions, Counts}
+use Rattle.niss_shell.specs.Names.{Solutions, Counts}
 use Rattle.niss_shell.proofs.SearchLemmas.{all_reported, refusal_reported, not_started}
 use Rattle.niss_shell.proofs.lines.Lines.answer.Goals as goal
 
@@ -18,37 +16,32 @@ returns-in_ok-put-in-Rewrite-clause-works g c = (c.in_ok-put-in-Rewrite.ensures.
 
 pub returns-in_default-clause-answers : goal.returns-in_default-clause-answers
 returns-in_default-clause-answers g c =
-    not_started (command_of c.args.self.now.work.now) _ c.moves-in-Search.result.now c.in-Search.search.report c.in-Search.search.report c.in-Search.search.tables c.in-Search.search.limit c.in-Search.search.slack c.args.self.now.line
-    (lines_state g.W.Target.state c.args.output.now c.args.self.now) (lines_state g.W.Target.state c.refuse.new.output c.refuse.new.self)
+    not_started _ _ _ c.in-Search.search.report _ _ c.in-Search.search.limit c.in-Search.search.slack _ _ _
     (ap command_of c.in-Search.is) refl c.moves-in-Search.ensures c.step.result c.refuse.result
     c.in_default.ensures c.step.ensures c.refuse.ensures.refused
 
 pub returns-in_err-solve-in-Solutions-clause-answers : goal.returns-in_err-solve-in-Solutions-clause-answers
 returns-in_err-solve-in-Solutions-clause-answers g c =
     let p = err_from_is_err_and c.from_residual-in_err-solve-in-Solutions.result c.from_residual-in_err-solve-in-Solutions.ensures.1 in
-    rw p.1 (refusal_reported (command_of c.args.self.now.work.now) _ c.moves-in-Search.result.now c.in-Search.search.report Solutions c.in-Search.search.tables c.in-Search.search.limit c.in-Search.search.slack c.args.self.now.line
-    (lines_state g.W.Target.state c.args.output.now c.args.self.now) (output_state g.W.Target.state c.solve.new.output c.solve.new.looks)
-    (ap command_of c.in-Search.is) c.in-Solutions.is c.moves-in-Search.ensures p.0
+    rw p.1 (refusal_reported _ _ c.moves-in-Search.result.now c.in-Search.search.report Solutions _ _ c.in-Search.search.slack _ _ _
+    (ap command_of c.in-Search.is) c.in-Solutions.is c.moves-in-Search.ensures
     c.in-Some.ensures.starts p.2 (c.in_err-solve-in-Solutions.ensures.reported (home c.moves-in-Search.result.now) c.in-Some.ensures c.requires.works))
 
 pub returns-in_ok-solve-in-Solutions-clause-answers : goal.returns-in_ok-solve-in-Solutions-clause-answers
 returns-in_ok-solve-in-Solutions-clause-answers g c =
-    all_reported (command_of c.args.self.now.work.now) _ c.moves-in-Search.result.now c.in-Search.search.report Solutions c.in-Search.search.tables c.in-Search.search.limit c.in-Search.search.slack c.args.self.now.line
-    (lines_state g.W.Target.state c.args.output.now c.args.self.now) (output_state g.W.Target.state c.solve.new.output c.solve.new.looks)
-    (ap command_of c.in-Search.is) c.in-Solutions.is c.moves-in-Search.ensures tt
+    all_reported _ _ c.moves-in-Search.result.now c.in-Search.search.report Solutions _ _ c.in-Search.search.slack _ _ _
+    (ap command_of c.in-Search.is) c.in-Solutions.is c.moves-in-Search.ensures
     c.in-Some.ensures.starts (c.in_ok-solve-in-Solutions.ensures.reported (home c.moves-in-Search.result.now) c.in-Some.ensures c.requires.works)
 
 pub returns-in_err-count-in-Counts-clause-answers : goal.returns-in_err-count-in-Counts-clause-answers
 returns-in_err-count-in-Counts-clause-answers g c =
     let p = err_from_is_err_and c.from_residual-in_err-count-in-Counts.result c.from_residual-in_err-count-in-Counts.ensures.1 in
-    rw p.1 (refusal_reported (command_of c.args.self.now.work.now) _ c.moves-in-Search.result.now c.in-Search.search.report Counts c.in-Search.search.tables c.in-Search.search.limit c.in-Search.search.slack c.args.self.now.line
-    (lines_state g.W.Target.state c.args.output.now c.args.self.now) (output_state g.W.Target.state c.count.new.output c.count.new.looks)
-    (ap command_of c.in-Search.is) c.in-Counts.is c.moves-in-Search.ensures p.0
+    rw p.1 (refusal_reported _ _ c.moves-in-Search.result.now c.in-Search.search.report Counts _ _ c.in-Search.search.slack _ _ _
+    (ap command_of c.in-Search.is) c.in-Counts.is c.moves-in-Search.ensures
     c.in-Some.ensures.starts p.2 (c.in_err-count-in-Counts.ensures.reported (home c.moves-in-Search.result.now) c.in-Some.ensures c.requires.works))
 
 pub returns-in_ok-count-in-Counts-clause-answers : goal.returns-in_ok-count-in-Counts-clause-answers
 returns-in_ok-count-in-Counts-clause-answers g c =
-    all_reported (command_of c.args.self.now.work.now) _ c.moves-in-Search.result.now c.in-Search.search.report Counts c.in-Search.search.tables c.in-Search.search.limit c.in-Search.search.slack c.args.self.now.line
-    (lines_state g.W.Target.state c.args.output.now c.args.self.now) (output_state g.W.Target.state c.count.new.output c.count.new.looks)
-    (ap command_of c.in-Search.is) c.in-Counts.is c.moves-in-Search.ensures tt
+    all_reported _ _ c.moves-in-Search.result.now c.in-Search.search.report Counts _ _ c.in-Search.search.slack _ _ _
+    (ap command_of c.in-Search.is) c.in-Counts.is c.moves-in-Search.ensures
     c.in-Some.ensures.starts (c.in_ok-count-in-Counts.ensures.reported (home c.moves-in-Search.result.now) c.in-Some.ensures c.requires.works)

@@ -1,18 +1,16 @@
-use Rattle.std.proofs.Common.{◌≡◌, take, length, ◌-◌, ◌∙◌, Ok, Err, refl, arith}
+use Rattle.std.proofs.Common.{◌≡◌, take, length, ◌-◌, ◌∙◌, refl, arith}
 use Rattle.niss_shell.specs.Words.{limit}
 use Rattle.std.proofs.lemmas.Result.{err_from_is_err_and}
 use Rattle.niss_shell.proofs.AnswerLemmas.{length_taken, at_start, at_more, at_failure, at_end, at_limit, at_stop, gave_nothing_of}
 use Rattle.niss_shell.proofs.DeviceLemmas.{is_empty_answer-some, is_empty_answer-none}
-use Rattle.niss_shell.proofs.TakingLemmas.{keeps_same, keeps_more, takes_kept, ends_kept}
-use Rattle.niss_shell.specs.Taking.{answers_of, lines_state, progress_of}
+use Rattle.niss_shell.proofs.TakingLemmas.{keeps_same, keeps_more, kept, last_kept}
 use Rattle.niss_shell.proofs.lines.Lines.read.Goals as goal
 
 pub loop-given-init : goal.loop-given-init
 loop-given-init g c = record {
-  keeps = keeps_same c.args.self.now;
+  keeps = keeps_same;
   same_target = refl;
-  at = at_start (answers_of c.args.self.now) (progress_of c.args.self.now) (g.S.Source.state c.args.source.now) (lines_state g.W.Target.state c.args.output.now c.args.self.now)
-      c.requires.reader c.requires.line c.requires.works;
+  at = at_start _ _ _ c.requires.reader c.requires.line c.requires.works;
   reads = c.requires.reads;
   goes_on = c.requires.goes_on;
   works = c.requires.works;
@@ -24,67 +22,54 @@ loop-given-init g c = record {
   block = omega arith;
 }
 
-pub returns-in-Err-clause-answers : goal.returns-in-Err-clause-answers
-returns-in-Err-clause-answers g c = at_failure (answers_of c.args.self.now) c.loop-given.count (progress_of c.loop-given.self)
-    (g.S.Source.state c.args.source.now) (g.S.Source.state c.loop-given.source) (g.S.Source.state c.read.new.self)
-    (lines_state g.W.Target.state c.args.output.now c.args.self.now) (lines_state g.W.Target.state c.loop-given.output c.loop-given.self)
-    c.loop-given.invariant.at c.loop-given.invariant.room c.loop-given.invariant.reads c.in-Err.ensures.bytes c.in-Err.ensures.failed
+pub returns-in_default-clause-answers : goal.returns-in_default-clause-answers
+returns-in_default-clause-answers g c =
+    at_failure c.loop-given.invariant.at c.loop-given.invariant.room c.loop-given.invariant.reads c.in_default.ensures.bytes c.in_default.ensures.failed
 
 pub returns-then-given-eq0-clause-answers : goal.returns-then-given-eq0-clause-answers
-returns-then-given-eq0-clause-answers g c = at_end (answers_of c.args.self.now) c.loop-given.count (progress_of c.loop-given.self)
-    (g.S.Source.state c.args.source.now) (g.S.Source.state c.loop-given.source) (g.S.Source.state c.read.new.self)
-    (lines_state g.W.Target.state c.args.output.now c.args.self.now) (lines_state g.W.Target.state c.loop-given.output c.loop-given.self) (lines_state g.W.Target.state c.take_end.new.output c.take_end.new.self)
-    c.take_end.result _
-    c.loop-given.invariant.at c.loop-given.invariant.room c.loop-given.invariant.reads
-    (gave_nothing_of (g.S.Source.state c.loop-given.source) (g.S.Source.state c.read.new.self) c.in-Ok.given c.read.new.buf c.if-given-eq0.true c.in-Ok.ensures.bytes)
+returns-then-given-eq0-clause-answers g c =
+    at_end c.loop-given.invariant.at c.loop-given.invariant.room c.loop-given.invariant.reads
+    (gave_nothing_of (g.S.Source.state c.loop-given.source) (g.S.Source.state c.read.new.self) c.read.new.buf c.if-given-eq0.true c.in-Ok.ensures.bytes)
     c.in-Ok.ensures.failed
-    (c.in-Ok.ensures.ended ∙ is_empty_answer-none c.in-Ok.given c.read.new.buf c.if-given-eq0.true (rw c.read.auto.buf c.loop-given.invariant.block))
-    (ends_kept c.take_end.result c.args.self.now c.loop-given.self (lines_state g.W.Target.state c.loop-given.output c.loop-given.self) (lines_state g.W.Target.state c.take_end.new.output c.take_end.new.self) c.loop-given.invariant.keeps c.take_end.ensures.ends) refl
+    (c.in-Ok.ensures.ended ∙ is_empty_answer-none _ _ c.if-given-eq0.true (rw c.read.auto.buf c.loop-given.invariant.block))
+    (last_kept c.loop-given.invariant.keeps c.take_end.ensures.ends)
 
 pub returns-in_err-take_block-clause-answers : goal.returns-in_err-take_block-clause-answers
 returns-in_err-take_block-clause-answers g c =
     let p = err_from_is_err_and c.from_residual.result c.from_residual.ensures.1 in
-    rw (p.1, p.2) (at_limit (answers_of c.args.self.now) c.loop-given.count c.in-Ok.given (limit - c.loop-given.count) c.read.new.buf (progress_of c.loop-given.self) (progress_of c.take_block.new.self)
-    (g.S.Source.state c.args.source.now) (g.S.Source.state c.loop-given.source) (g.S.Source.state c.read.new.self)
-    (lines_state g.W.Target.state c.args.output.now c.args.self.now) (lines_state g.W.Target.state c.loop-given.output c.loop-given.self) (lines_state g.W.Target.state c.take_block.new.output c.take_block.new.self)
-    (Err _) _
-    c.loop-given.invariant.at (omega (arith, c.loop-given.invariant.room)) c.if-given-room.true c.in-Ok.ensures.bound c.loop-given.invariant.reads c.in-Ok.ensures.bytes c.in-Ok.ensures.failed
-    (c.in-Ok.ensures.ended ∙ is_empty_answer-some c.in-Ok.given c.read.new.buf c.if-given-eq0.false)
-    (takes_kept (take (limit - c.loop-given.count) c.read.new.buf) (Err _) c.args.self.now c.loop-given.self c.take_block.new.self (lines_state g.W.Target.state c.loop-given.output c.loop-given.self) (lines_state g.W.Target.state c.take_block.new.output c.take_block.new.self) c.loop-given.invariant.keeps c.in_err-take_block.ensures.takes) refl)
+    rw (p.1, p.2) (at_limit c.in-Ok.given (limit - c.loop-given.count) c.read.new.buf
+    c.loop-given.invariant.at (omega (arith, c.loop-given.invariant.room)) c.if-given-room.true c.in-Ok.ensures.bound
+    c.loop-given.invariant.reads c.in-Ok.ensures.bytes c.in-Ok.ensures.failed
+    (c.in-Ok.ensures.ended ∙ is_empty_answer-some _ _ c.if-given-eq0.false)
+    (kept c.loop-given.invariant.keeps c.in_err-take_block.ensures.takes))
 
 pub returns-then-given-room-clause-answers : goal.returns-then-given-room-clause-answers
-returns-then-given-room-clause-answers g c = at_limit (answers_of c.args.self.now) c.loop-given.count c.in-Ok.given (limit - c.loop-given.count) c.read.new.buf (progress_of c.loop-given.self) (progress_of c.take_block.new.self)
-    (g.S.Source.state c.args.source.now) (g.S.Source.state c.loop-given.source) (g.S.Source.state c.read.new.self)
-    (lines_state g.W.Target.state c.args.output.now c.args.self.now) (lines_state g.W.Target.state c.loop-given.output c.loop-given.self) (lines_state g.W.Target.state c.take_block.new.output c.take_block.new.self)
-    (Ok tt) _
-    c.loop-given.invariant.at (omega (arith, c.loop-given.invariant.room)) c.if-given-room.true c.in-Ok.ensures.bound c.loop-given.invariant.reads c.in-Ok.ensures.bytes c.in-Ok.ensures.failed
-    (c.in-Ok.ensures.ended ∙ is_empty_answer-some c.in-Ok.given c.read.new.buf c.if-given-eq0.false)
-    (takes_kept (take (limit - c.loop-given.count) c.read.new.buf) (Ok tt) c.args.self.now c.loop-given.self c.take_block.new.self (lines_state g.W.Target.state c.loop-given.output c.loop-given.self) (lines_state g.W.Target.state c.take_block.new.output c.take_block.new.self) c.loop-given.invariant.keeps c.in_ok-take_block.ensures.takes) refl
+returns-then-given-room-clause-answers g c =
+    at_limit c.in-Ok.given (limit - c.loop-given.count) c.read.new.buf
+    c.loop-given.invariant.at (omega (arith, c.loop-given.invariant.room)) c.if-given-room.true c.in-Ok.ensures.bound
+    c.loop-given.invariant.reads c.in-Ok.ensures.bytes c.in-Ok.ensures.failed
+    (c.in-Ok.ensures.ended ∙ is_empty_answer-some _ _ c.if-given-eq0.false)
+    (kept c.loop-given.invariant.keeps c.in_ok-take_block.ensures.takes)
 
 pub returns-in_err-take_block-2-clause-answers : goal.returns-in_err-take_block-2-clause-answers
 returns-in_err-take_block-2-clause-answers g c =
     let p = err_from_is_err_and c.from_residual-in_err-take_block-2.result c.from_residual-in_err-take_block-2.ensures.1 in
-    rw (p.1, p.2) (at_stop (answers_of c.args.self.now) c.loop-given.count c.in-Ok.given c.read.new.buf (progress_of c.loop-given.self) (progress_of c.take_block-in-loop-given.new.self)
-    (g.S.Source.state c.args.source.now) (g.S.Source.state c.loop-given.source) (g.S.Source.state c.read.new.self)
-    (lines_state g.W.Target.state c.args.output.now c.args.self.now) (lines_state g.W.Target.state c.loop-given.output c.loop-given.self) (lines_state g.W.Target.state c.take_block-in-loop-given.new.output c.take_block-in-loop-given.new.self)
-    _
-    c.loop-given.invariant.at (omega (arith, c.loop-given.invariant.room, c.if-given-room.false)) c.in-Ok.ensures.bound c.loop-given.invariant.reads c.in-Ok.ensures.bytes c.in-Ok.ensures.failed
-    (c.in-Ok.ensures.ended ∙ is_empty_answer-some c.in-Ok.given c.read.new.buf c.if-given-eq0.false)
-    (takes_kept (take c.in-Ok.given c.read.new.buf) (Err _) c.args.self.now c.loop-given.self c.take_block-in-loop-given.new.self (lines_state g.W.Target.state c.loop-given.output c.loop-given.self) (lines_state g.W.Target.state c.take_block-in-loop-given.new.output c.take_block-in-loop-given.new.self) c.loop-given.invariant.keeps c.in_err-take_block-2.ensures.takes))
+    rw (p.1, p.2) (at_stop c.in-Ok.given c.read.new.buf
+    c.loop-given.invariant.at (omega (arith, c.loop-given.invariant.room, c.if-given-room.false)) c.in-Ok.ensures.bound
+    c.loop-given.invariant.reads c.in-Ok.ensures.bytes c.in-Ok.ensures.failed
+    (c.in-Ok.ensures.ended ∙ is_empty_answer-some _ _ c.if-given-eq0.false)
+    (kept c.loop-given.invariant.keeps c.in_err-take_block-2.ensures.takes))
 
 pub loop-given-preserved : goal.loop-given-preserved
 loop-given-preserved g c =
-    let e : length (take c.in-Ok.given c.read.new.buf) ≡ c.in-Ok.given = length_taken c.in-Ok.given c.read.new.buf c.in-Ok.ensures.bound in
+    let e : length (take c.in-Ok.given c.read.new.buf) ≡ c.in-Ok.given = length_taken _ c.in-Ok.ensures.bound in
     record {
-      keeps = keeps_more c.args.self.now c.loop-given.self c.take_block-in-loop-given.new.self c.loop-given.invariant.keeps c.in_ok-take_block-2.ensures.keeps;
+      keeps = keeps_more c.loop-given.invariant.keeps c.in_ok-take_block-2.ensures.keeps;
       same_target = c.in_ok-take_block-2.ensures.same_target ∙ c.loop-given.invariant.same_target;
-      at = at_more (answers_of c.args.self.now) c.loop-given.count c.in-Ok.given c.read.new.buf (progress_of c.loop-given.self) (progress_of c.take_block-in-loop-given.new.self)
-          (g.S.Source.state c.args.source.now) (g.S.Source.state c.loop-given.source) (g.S.Source.state c.read.new.self)
-          (lines_state g.W.Target.state c.args.output.now c.args.self.now) (lines_state g.W.Target.state c.loop-given.output c.loop-given.self) (lines_state g.W.Target.state c.take_block-in-loop-given.new.output c.take_block-in-loop-given.new.self)
-          c.loop-given.invariant.at c.loop-given.invariant.reads c.in-Ok.ensures.bytes c.in-Ok.ensures.bound
-          (takes_kept (take c.in-Ok.given c.read.new.buf) (Ok tt) c.args.self.now c.loop-given.self c.take_block-in-loop-given.new.self (lines_state g.W.Target.state c.loop-given.output c.loop-given.self) (lines_state g.W.Target.state c.take_block-in-loop-given.new.output c.take_block-in-loop-given.new.self) c.loop-given.invariant.keeps c.in_ok-take_block-2.ensures.takes);
+      at = at_more c.in-Ok.given c.read.new.buf c.loop-given.invariant.at c.loop-given.invariant.reads c.in-Ok.ensures.bytes c.in-Ok.ensures.bound
+          (kept c.loop-given.invariant.keeps c.in_ok-take_block-2.ensures.takes);
       reads = c.in-Ok.ensures.failed;
-      goes_on = c.in-Ok.ensures.ended ∙ is_empty_answer-some c.in-Ok.given c.read.new.buf c.if-given-eq0.false;
+      goes_on = c.in-Ok.ensures.ended ∙ is_empty_answer-some _ _ c.if-given-eq0.false;
       works = c.in_ok-take_block-2.ensures.works;
       empty = c.take_block-in-loop-given.ensures.empty;
       room = omega (arith, c.loop-given.invariant.room, c.if-given-room.false);

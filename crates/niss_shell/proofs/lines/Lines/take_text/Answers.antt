@@ -1,19 +1,13 @@
-use Rattle.std.proofs.Common.{refl}
 use Rattle.std.proofs.lemmas.Result.{err_from_is_err_and}
 use Rattle.niss_shell.proofs.AnswerLemmas.{text_stopped, text_done}
-use Rattle.niss_shell.proofs.TakingLemmas.{ends_kept}
-use Rattle.niss_shell.specs.Taking.{answers_of, lines_state, progress_of}
+use Rattle.niss_shell.proofs.TakingLemmas.{last_kept}
 use Rattle.niss_shell.proofs.lines.Lines.take_text.Goals as goal
 
 pub returns-in_err-take_block-clause-answers : goal.returns-in_err-take_block-clause-answers
 returns-in_err-take_block-clause-answers g c =
     let p = err_from_is_err_and c.from_residual.result c.from_residual.ensures.1 in
-    rw (p.1, p.2) (text_stopped (answers_of c.args.self.now) c.args.text.now (progress_of c.args.self.now) (progress_of c.take_block.new.self) _
-    (lines_state g.W.Target.state c.args.output.now c.args.self.now) (lines_state g.W.Target.state c.take_block.new.output c.take_block.new.self)
-    c.requires.fits c.requires.reader c.requires.line c.in_err-take_block.ensures.takes)
+    rw (p.1, p.2) (text_stopped c.requires.fits c.requires.reader c.requires.line c.in_err-take_block.ensures.takes)
 
 pub returns-clause-answers : goal.returns-clause-answers
-returns-clause-answers g c = text_done (answers_of c.args.self.now) c.args.text.now (progress_of c.args.self.now) (progress_of c.take_block.new.self) c.take_end.result _
-    (lines_state g.W.Target.state c.args.output.now c.args.self.now) (lines_state g.W.Target.state c.take_block.new.output c.take_block.new.self) (lines_state g.W.Target.state c.take_end.new.output c.take_end.new.self)
-    c.requires.fits c.requires.reader c.requires.line c.in_ok-take_block.ensures.takes
-    (ends_kept c.take_end.result c.args.self.now c.take_block.new.self (lines_state g.W.Target.state c.take_block.new.output c.take_block.new.self) (lines_state g.W.Target.state c.take_end.new.output c.take_end.new.self) c.in_ok-take_block.ensures.keeps c.take_end.ensures.ends) refl
+returns-clause-answers g c = text_done c.requires.fits c.requires.reader c.requires.line c.in_ok-take_block.ensures.takes
+    (last_kept c.in_ok-take_block.ensures.keeps c.take_end.ensures.ends)

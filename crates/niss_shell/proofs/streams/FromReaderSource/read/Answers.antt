@@ -5,8 +5,6 @@ use Rattle.niss_shell.proofs.streams.FromReaderSource.read.Goals as goal
 
 pub returns-clause-bytes : goal.returns-clause-bytes
 returns-clause-bytes g c =
-    gave_answer c.read-answer.result c.judge.result c.args.self.now.failed c.judge.new.self.failed
-    (g.R.Read.remaining c.args.self.now.reader) (g.R.Read.remaining c.judge.new.self.reader) c.read-answer.new.buf
-    c.requires.works c.judge.ensures.failed c.judge.ensures.answer
+    gave_answer _ _ _ _ _ _ _ c.requires.works c.judge.ensures.failed c.judge.ensures.answer
     (subst (λ r. ReadConsumes (g.R.Read.remaining c.args.self.now.reader) (g.R.Read.remaining r) c.read-answer.result c.read-answer.new.buf)
     (sym c.judge.ensures.reader) c.read-answer.ensures.bytes)
