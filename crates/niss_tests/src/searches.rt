@@ -134,7 +134,7 @@ const fn nothing(moves: &'static str, limit: u8, looks: u128) -> Row {
 }
 
 #[test]
-fn edge_orientation(rt: HostRuntime) {
+fn shortest_edge_orientations_are_found(rt: HostRuntime) {
     check_rows(
         &rt,
         rt.alloc(),
@@ -160,7 +160,7 @@ fn edge_orientation(rt: HostRuntime) {
 }
 
 #[test]
-fn domino_reduction(rt: HostRuntime) {
+fn shortest_domino_reductions_are_found(rt: HostRuntime) {
     check_rows(
         &rt,
         rt.alloc(),
