@@ -6,7 +6,7 @@ use std::alloc::{AllocError, Global};
 use std::process::Abort;
 
 /// What is written of wrong words.
-pub const USAGE: &[u8] = b"usage: nissy COMMAND [ARGUMENTS]\n";
+const USAGE: &[u8] = b"usage: nissy COMMAND [ARGUMENTS]\n";
 
 /// What `steps` writes.
 pub const STEPS: &[u8] =

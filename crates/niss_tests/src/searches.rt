@@ -23,7 +23,7 @@ pub fn tables_of(rt: &impl Abort, alloc: Global, step: Step) -> Tables {
 }
 
 /// The position of the solved cube after some moves, on which the step of the tables may start.
-pub fn position_after(rt: &impl Abort, tables: &Tables, moves: &str) -> Position
+fn position_after(rt: &impl Abort, tables: &Tables, moves: &str) -> Position
     ensures { IsPosition tables.now result }
 {
     let cube = cube_after(rt, moves);
