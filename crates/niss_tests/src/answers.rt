@@ -1,10 +1,11 @@
 //! Commands that answer each line: what a run writes, reports and answers.
-use crate::runs::{Faulty, Good, check_answers, check_faults, check_good, check_usage};
-use std::alloc::{AllocError, Global};
+use crate::runs::Run::{self, Fault, Good};
+use crate::runs::{FEW, check_answers, check_runs, check_usage, repeated};
+use std::alloc::Global;
 use std::process::Abort;
 
 #[test]
-fn usage(rt: HostRuntime) {
+fn wrong_words_are_refused(rt: HostRuntime) {
     let wrong: &[&[&str]] = &[
         &[],
         &["turn", "R"],
@@ -16,75 +17,71 @@ fn usage(rt: HostRuntime) {
     check_usage(&rt, rt.alloc(), wrong);
 }
 
+const INVERTED: &[Run] = &[
+    Good(&["invert", "R U' F2"], b"", b"F2 U R'\n"),
+    Good(&["invert", ""], b"", b"\n"),
+    Good(&["invert", "R2'", "U"], b"", b"U' R2\n"),
+    Good(&["invert"], b"", b""),
+    Good(&["invert"], b"R\nU", b"R'\nU'\n"),
+    Good(&["invert"], b"R\nU\n\n", b"R'\nU'\n\n"),
+    Good(&["invert", "(R)"], b"", b"R\n"),
+    Good(&["invert", "R (U F') D"], b"", b"U F' D' R'\n"),
+    Good(&["invert"], b"R\xe2\x80\x99\n", b"R\n"),
+    Fault(
+        &["invert", "R '"],
+        b"",
+        b"",
+        b"nissy: line 1, column 3: not a move\n",
+    ),
+    Fault(
+        &["invert"],
+        b"R\xe2\x80U\n",
+        b"",
+        b"nissy: line 1, column 2: not a move\n",
+    ),
+    Fault(
+        &["invert"],
+        b"R\nq\nU",
+        b"R'\n",
+        b"nissy: line 2, column 1: not a move\n",
+    ),
+];
+
 #[test]
-fn invert(rt: HostRuntime) {
-    let runs: &[Good] = &[
-        (&["invert", "R U' F2"], b"", "F2 U R'\n"),
-        (&["invert", ""], b"", "\n"),
-        (&["invert", "R2'", "U"], b"", "U' R2\n"),
-        (&["invert"], b"", ""),
-        (&["invert"], b"R\nU", "R'\nU'\n"),
-        (&["invert"], b"R\nU\n\n", "R'\nU'\n\n"),
-        (&["invert", "(R)"], b"", "R\n"),
-        (&["invert", "R (U F') D"], b"", "U F' D' R'\n"),
-        (&["invert"], b"R\xe2\x80\x99\n", "R\n"),
-    ];
-    check_good(&rt, rt.alloc(), runs);
-    let faults: &[Faulty] = &[
-        (
-            &["invert", "R '"],
-            b"",
-            "",
-            "nissy: line 1, column 3: not a move\n",
-        ),
-        (
-            &["invert"],
-            b"R\xe2\x80U\n",
-            "",
-            "nissy: line 1, column 2: not a move\n",
-        ),
-        (
-            &["invert"],
-            b"R\nq\nU",
-            "R'\n",
-            "nissy: line 2, column 1: not a move\n",
-        ),
-    ];
-    check_faults(&rt, rt.alloc(), faults);
+fn lines_are_inverted(rt: HostRuntime) {
+    check_runs(&rt, rt.alloc(), INVERTED);
+}
+
+const JOINED: &[Run] = &[
+    Good(&["unniss", "R (U F') D"], b"", b"R D F U'\n"),
+    Good(&["unniss", "r2' Mx'"], b"", b"Rw2 M x'\n"),
+    Fault(
+        &["unniss", "(R (U))"],
+        b"",
+        b"",
+        b"nissy: line 1, column 4: bracket inside a bracket\n",
+    ),
+    Fault(
+        &["unniss", "R )"],
+        b"",
+        b"",
+        b"nissy: line 1, column 3: bracket closed that was not opened\n",
+    ),
+    Fault(
+        &["unniss"],
+        b"R\n(U",
+        b"R\n",
+        b"nissy: line 2, column 1: bracket not closed\n",
+    ),
+];
+
+#[test]
+fn brackets_are_joined(rt: HostRuntime) {
+    check_runs(&rt, rt.alloc(), JOINED);
 }
 
 #[test]
-fn unniss(rt: HostRuntime) {
-    let runs: &[Good] = &[
-        (&["unniss", "R (U F') D"], b"", "R D F U'\n"),
-        (&["unniss", "r2' Mx'"], b"", "Rw2 M x'\n"),
-    ];
-    check_good(&rt, rt.alloc(), runs);
-    let faults: &[Faulty] = &[
-        (
-            &["unniss", "(R (U))"],
-            b"",
-            "",
-            "nissy: line 1, column 4: bracket inside a bracket\n",
-        ),
-        (
-            &["unniss", "R )"],
-            b"",
-            "",
-            "nissy: line 1, column 3: bracket closed that was not opened\n",
-        ),
-        (
-            &["unniss"],
-            b"R\n(U",
-            "R\n",
-            "nissy: line 2, column 1: bracket not closed\n",
-        ),
-    ];
-    check_faults(&rt, rt.alloc(), faults);
-}
-
-#[test]
-fn cleanup(rt: HostRuntime) {
+fn lines_are_cleaned(rt: HostRuntime) {
     let answers: &[(&str, &str)] = &[
         ("Rw U", "L F x\n"),
         ("r U", "L F x\n"),
@@ -107,7 +104,7 @@ fn cleanup(rt: HostRuntime) {
 const SUPERFLIP: &str = "U R2 F B R B2 R U2 L B2 R U' D' R2 F R' L B2 U2 F2";
 
 #[test]
-fn print(rt: HostRuntime) {
+fn facelets_are_printed(rt: HostRuntime) {
     let answers: &[(&str, &str)] = &[
         (
             "R",
@@ -146,43 +143,23 @@ fn print(rt: HostRuntime) {
     check_answers(&rt, rt.alloc(), "print", answers);
 }
 
-/// This many turns `U`.
-fn turns(alloc: Global, count: u32) -> Result<String, AllocError> {
-    let mut moves = String::new(alloc);
-    for _ in 0..count {
-        moves.push('U')?;
-    }
-    Ok(moves)
-}
-
-const TOO_MANY: &str = "nissy: line 1, column 257: more than 256 moves\n";
-
-/// The inverse of the line of most turns.
-fn inverses(alloc: Global) -> Result<String, AllocError> {
-    let mut inverses = String::from_str(alloc, "U'")?;
-    for _ in 1..256u32 {
-        inverses.push_str(" U'")?;
-    }
-    inverses.push('\n')?;
-    Ok(inverses)
-}
-
 #[test]
-fn most_moves(rt: HostRuntime) {
-    let most = turns(rt.alloc(), 256).expect(&rt, "memory for moves");
-    let inverses = inverses(rt.alloc()).expect(&rt, "memory for moves");
+fn most_moves_are_taken(rt: HostRuntime) {
+    let most = repeated(rt.alloc(), "U", 256, "").expect(&rt, "memory for moves");
+    let inverses = repeated(rt.alloc(), "U' ", 255, "U'\n").expect(&rt, "memory for moves");
     check_answers(&rt, rt.alloc(), "invert", &[(&most, &inverses)]);
     check_answers(&rt, rt.alloc(), "cleanup", &[(&most, "\n")]);
 }
 
 /// Checks that this line, of a move too many, is refused.
 fn check_too_many(rt: &impl Abort, alloc: Global, command: &str, line: &str) {
-    check_faults(rt, alloc, &[(&[command, line], b"", "", TOO_MANY)]);
+    let fault = b"nissy: line 1, column 257: more than 256 moves\n";
+    Fault(&[command, line], b"", b"", fault).check(rt, alloc, FEW);
 }
 
 #[test]
-fn a_move_too_many(rt: HostRuntime) {
-    let more = turns(rt.alloc(), 257).expect(&rt, "memory for moves");
+fn a_move_too_many_is_refused(rt: HostRuntime) {
+    let more = repeated(rt.alloc(), "U", 257, "").expect(&rt, "memory for moves");
     check_too_many(&rt, rt.alloc(), "invert", &more);
     check_too_many(&rt, rt.alloc(), "cleanup", &more);
 }

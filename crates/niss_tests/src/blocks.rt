@@ -1,97 +1,74 @@
 //! Input that is read in blocks: the same answers wherever a block ends.
 use crate::devices::{Devices, FAULTLESS};
-use crate::runs::{Outcome, check_count, check_devices, check_each_write};
-use std::alloc::{AllocError, Global};
+use crate::runs::Run::{self, Fault, Good};
+use crate::runs::{check_count, check_each_write, repeated};
+use std::alloc::Global;
 use std::process::Abort;
 
 /// How many bytes a read asks for.
-const BLOCK: usize = 4096;
+pub const BLOCK: usize = 4096;
 
-/// Some text, again and again, and what stands after it.
-pub fn repeated(
-    alloc: Global,
-    text: &[u8],
-    count: usize,
-    end: &[u8],
-) -> Result<Vec<u8>, AllocError> {
-    let mut all = Vec::new(alloc);
-    for _ in 0..count {
-        all.extend_from_slice(text)?;
-    }
-    all.extend_from_slice(end)?;
-    Ok(all)
-}
-
-/// Runs `invert` over this input, of which a read gives at most so many bytes, and answers how often it read.
-fn check_read(
-    rt: &impl Abort,
-    alloc: Global,
-    input: &[u8],
-    most_read: usize,
-    outcome: Outcome<'_>,
-) -> usize {
+/// Makes a run whose reads give at most so many bytes, and answers how often it read.
+fn reads_of(rt: &impl Abort, alloc: Global, run: Run<'_>, most_read: usize) -> usize {
     let devices = Devices {
-        input,
         most_read,
         most_written: 1000,
         ..FAULTLESS
     };
-    check_devices(rt, alloc, &["invert"], devices, outcome).reads
+    run.check(rt, alloc, devices).reads
 }
 
 /// Runs `invert` over many lines, of which a read gives at most so many bytes: it takes so many reads.
 fn check_many_lines(rt: &impl Abort, alloc: Global, most_read: usize, wanted: usize) {
-    let input = repeated(alloc, b"R U'\n", 3000, b"").expect(rt, "memory for input");
-    let output = repeated(alloc, b"U R'\n", 3000, b"").expect(rt, "memory for output");
-    let outcome = Outcome::good(output.as_slice());
-    let reads = check_read(rt, alloc, input.as_slice(), most_read, outcome);
+    let input = repeated(alloc, "R U'\n", 3000, "").expect(rt, "memory for input");
+    let output = repeated(alloc, "U R'\n", 3000, "").expect(rt, "memory for output");
+    let run = Good(&["invert"], input.as_bytes(), output.as_bytes());
+    let reads = reads_of(rt, alloc, run, most_read);
     check_count(rt, "reads", reads, wanted);
 }
 
 #[test]
-fn many_lines(rt: HostRuntime) {
+fn reads_of_many_lines_are_counted(rt: HostRuntime) {
     check_many_lines(&rt, rt.alloc(), 1, 15_001);
     check_many_lines(&rt, rt.alloc(), 7, 2_144);
     check_many_lines(&rt, rt.alloc(), BLOCK, 5);
 }
 
 #[test]
-fn fault_after_the_first_block(rt: HostRuntime) {
-    let input = repeated(rt.alloc(), b" ", BLOCK, b"q\n").expect(&rt, "memory for input");
-    let outcome = Outcome {
-        output: b"",
-        error: b"nissy: line 1, column 4097: not a move\n",
-        status: 1,
-    };
-    check_read(&rt, rt.alloc(), input.as_slice(), BLOCK, outcome);
+fn a_fault_after_the_first_block_has_its_column(rt: HostRuntime) {
+    let input = repeated(rt.alloc(), " ", BLOCK, "q\n").expect(&rt, "memory for input");
+    let error = b"nissy: line 1, column 4097: not a move\n";
+    let run = Fault(&["invert"], input.as_bytes(), b"", error);
+    reads_of(&rt, rt.alloc(), run, BLOCK);
 }
 
 /// Runs `invert` over blanks and this text, so many bytes of which stand in the first block.
-fn check_cut(rt: &impl Abort, alloc: Global, taken: usize, text: &[u8], output: &[u8]) {
-    let input = repeated(alloc, b" ", BLOCK.saturating_sub(taken), text);
+fn check_cut(rt: &impl Abort, alloc: Global, taken: usize, text: &str, output: &[u8]) {
+    let input = repeated(alloc, " ", BLOCK.saturating_sub(taken), text);
     let input = input.expect(rt, "memory for input");
-    check_read(rt, alloc, input.as_slice(), BLOCK, Outcome::good(output));
+    let run = Good(&["invert"], input.as_bytes(), output);
+    reads_of(rt, alloc, run, BLOCK);
 }
 
 /// How many bytes of a text stand in the first block, the text, and what is answered.
-const CUTS: [(usize, &[u8], &[u8]); 8] = [
+const CUTS: [(usize, &str, &[u8]); 8] = [
     // a line feed ends the block, and the line
-    (4, b"R U\nF'\n", b"U' R'\nF\n"),
-    (4, b"R U\n", b"U' R'\n"),
+    (4, "R U\nF'\n", b"U' R'\nF\n"),
+    (4, "R U\n", b"U' R'\n"),
     // the input ends with the block
-    (3, b"R U", b"U' R'\n"),
+    (3, "R U", b"U' R'\n"),
     // a move and its suffix
-    (1, b"R2\n", b"R2\n"),
+    (1, "R2\n", b"R2\n"),
     // a carriage return and the line feed after it
-    (2, b"R\r\nU\r\n", b"R'\nU'\n"),
+    (2, "R\r\nU\r\n", b"R'\nU'\n"),
     // the three bytes of a right single quotation mark
-    (1, b"R\xe2\x80\x99 U\n", b"U' R\n"),
-    (2, b"R\xe2\x80\x99 U\n", b"U' R\n"),
-    (3, b"R\xe2\x80\x99 U\n", b"U' R\n"),
+    (1, "R\u{2019} U\n", b"U' R\n"),
+    (2, "R\u{2019} U\n", b"U' R\n"),
+    (3, "R\u{2019} U\n", b"U' R\n"),
 ];
 
 #[test]
-fn cut_by_the_end_of_a_block(rt: HostRuntime) {
+fn lines_are_cut_by_the_end_of_a_block(rt: HostRuntime) {
     for (taken, text, output) in &CUTS {
         check_cut(&rt, rt.alloc(), *taken, text, output);
     }
@@ -100,12 +77,11 @@ fn cut_by_the_end_of_a_block(rt: HostRuntime) {
 /// Runs `invert` over three lines, of which a read gives at most so many bytes: the answers go out in so many writes.
 fn check_writes(rt: &impl Abort, alloc: Global, most_read: usize, wanted: usize) {
     let devices = Devices {
-        input: b"R\nU\nF\n",
         most_read,
         ..FAULTLESS
     };
-    let outcome = Outcome::good(b"R'\nU'\nF'\n");
-    let calls = check_devices(rt, alloc, &["invert"], devices, outcome);
+    let run = Good(&["invert"], b"R\nU\nF\n", b"R'\nU'\nF'\n");
+    let calls = run.check(rt, alloc, devices);
     check_count(rt, "writes", calls.writes, wanted);
 }
 
@@ -121,9 +97,10 @@ fn answers_go_out_before_the_next_read(rt: HostRuntime) {
 #[test]
 fn each_write_of_waiting_answers_fails(rt: HostRuntime) {
     let devices = Devices {
-        input: b"R\nU\nq\n",
         most_read: BLOCK,
         ..FAULTLESS
     };
-    check_each_write(&rt, rt.alloc(), &["invert"], devices, b"R'\nU'\n");
+    let fault = b"nissy: line 3, column 1: not a move\n";
+    let run = Fault(&["invert"], b"R\nU\nq\n", b"R'\nU'\n", fault);
+    check_each_write(&rt, rt.alloc(), run, devices);
 }

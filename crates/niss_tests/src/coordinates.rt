@@ -90,7 +90,7 @@ fn check_numbers<A: Allocator>(rt: &impl Abort, tables: &TurnTables<A>) {
 pub fn check_tables<A: Allocator>(rt: &impl Abort, built: &Result<TurnTables<A>, OutOfMemory>) {
     match built {
         Ok(tables) => check_numbers(rt, tables),
-        Err(_) => assert!(rt; false),
+        Err(_) => panic!(rt; "no memory for tables"),
     }
 }
 
@@ -108,6 +108,6 @@ fn the_table_of_one_coordinate_turns_the_solved_cube(rt: HostRuntime) {
             let right = turn(Face::R, Power::Quarter);
             assert!(rt; table.next(Axis::Ud, 0, right) == 1494);
         }
-        Err(_) => assert!(rt; false),
+        Err(_) => panic!(rt; "no memory for tables"),
     }
 }

@@ -1,41 +1,127 @@
 //! Devices in memory, which fail where a test says, and a source that never ends.
-ghost use Rattle.std.specs.Prelude.{◌≡◌, Bool, true, false, Option, Some, None, ◌||◌};
-ghost use Rattle.niss_shell.specs.Device.{SourceState, TargetState, has_fault};
+ghost use Rattle.std.specs.Prelude.{◌≡◌, ◌≤◌, ◌++◌, Bool, true, false, Option, Some, None, ◌||◌, IfOk, is_err, length};
+ghost use Rattle.niss_shell.specs.Device.{SourceState, TargetState, found_end, has_fault, moved_bytes};
 
+use linked_list_allocator::LocalHeap;
 use niss_shell::{DeviceFault, Source, Target};
 use std::alloc::Global;
+use std::io;
 
-/// A source of bytes in memory, which gives at most `most` in a read, and whose read number `fails_at`, from 1, fails.
+/// How many bytes the devices of a run move at most in a call, and which of their calls fails, by its number from 1.
+#[derive(Clone, Copy)]
+pub struct Devices<'a> {
+    pub most_read: usize,
+    pub failed_read: usize,
+    pub most_written: usize,
+    pub failed_write: usize,
+    pub flush_fails: bool,
+    pub most_reported: usize,
+    pub failed_report: usize,
+    /// The error of a failed call, where the run is given them as streams of `std::io`.
+    pub stream_error: Option<io::ErrorKind>,
+    /// What the run takes its memory of, where that isn't ample.
+    pub heap: Option<&'a LocalHeap>,
+}
+
+/// Reads of a byte, all is taken, and no call fails.
+pub const FAULTLESS: Devices<'static> = Devices {
+    most_read: 1,
+    failed_read: 0,
+    most_written: usize::MAX,
+    failed_write: 0,
+    flush_fails: false,
+    most_reported: usize::MAX,
+    failed_report: 0,
+    stream_error: None,
+    heap: None,
+};
+
+impl Devices<'_> {
+    /// The source of this input.
+    pub fn source<'b>(self, input: &'b [u8]) -> Bytes<'b>
+        ensures works { result.failed ≡ false }
+        ensures goes_on { result.ended ≡ false }
+    {
+        Bytes {
+            rest: input,
+            most: self.most_read,
+            fails_at: self.failed_read,
+            error: self.stream_error.unwrap_or(io::ErrorKind::Other),
+            reads: 0,
+            least_asked: usize::MAX,
+            most_asked: 0,
+            failed: false,
+            ended: false,
+        }
+    }
+
+    /// What the output goes to.
+    pub fn target(self, alloc: Global) -> Held
+        ensures write_works { result.write_failed ≡ false }
+        ensures flush_works { result.flush_failed ≡ false }
+    {
+        Held {
+            bytes: Vec::new(alloc),
+            most: self.most_written,
+            fails_at: self.failed_write,
+            flush_fails: self.flush_fails,
+            error: self.stream_error.unwrap_or(io::ErrorKind::Other),
+            writes: 0,
+            flushes: 0,
+            write_failed: false,
+            flush_failed: false,
+            flush_tried: false,
+            flushed: false,
+        }
+    }
+
+    /// What the text of a fault goes to.
+    pub fn error_target(self, alloc: Global) -> Held {
+        let reporting = Devices {
+            most_written: self.most_reported,
+            failed_write: self.failed_report,
+            ..self
+        };
+        reporting.target(alloc)
+    }
+}
+
+/// A source of bytes in memory, which notes the least and the most that a read asked for. After a read that failed it goes
+/// on as if that hadn't been.
 #[derive(Drop)]
 pub struct Bytes<'a> {
     rest: &'a [u8],
     most: usize,
     fails_at: usize,
+    error: io::ErrorKind,
     pub reads: usize,
+    pub least_asked: usize,
+    pub most_asked: usize,
     failed: bool,
     ended: bool,
 }
 
-impl<'a> Bytes<'a> {
-    pub fn new(rest: &'a [u8], most: usize) -> Bytes<'a>
-        ensures works { result.failed ≡ false }
-        ensures goes_on { result.ended ≡ false }
+impl Bytes<'_> {
+    fn give(&mut self, buf: &mut [u8]) -> Result<usize, DeviceFault>
+        ensures bound { IfOk result (λ count. count ≤ length buf.new) }
+        ensures bytes { self.old.rest.now ≡ moved_bytes result buf.new ++ self.new.rest.now }
+        ensures failed { self.new.failed ≡ is_err result }
+        ensures ended { self.new.ended ≡ found_end result buf.new }
     {
-        Bytes::failing_at(rest, most, 0)
-    }
-
-    pub fn failing_at(rest: &'a [u8], most: usize, fails_at: usize) -> Bytes<'a>
-        ensures works { result.failed ≡ false }
-        ensures goes_on { result.ended ≡ false }
-    {
-        Bytes {
-            rest,
-            most,
-            fails_at,
-            reads: 0,
-            failed: false,
-            ended: false,
+        self.reads = self.reads.saturating_add(1);
+        self.least_asked = self.least_asked.min(buf.len());
+        self.most_asked = self.most_asked.max(buf.len());
+        self.ended = false;
+        self.failed = self.reads == self.fails_at;
+        if self.failed {
+            return Err(DeviceFault);
         }
+        let all = self.rest;
+        let count = all.len().min(buf.len()).min(self.most.max(1));
+        self.ended = count == 0 && !buf.is_empty();
+        buf[..count].copy_from_slice(&all[..count]);
+        self.rest = &all[count..];
+        Ok(count)
     }
 }
 
@@ -43,19 +129,7 @@ impl Source for Bytes<'_> {
     ghost state = { λ s. record { left = Some s.rest.now; has_failed = s.failed; has_ended = s.ended } };
 
     fn read(&mut self, buf: &mut [u8]) -> Result<usize, DeviceFault> {
-        self.reads = self.reads.saturating_add(1);
-        if self.reads == self.fails_at {
-            self.failed = true;
-            return Err(DeviceFault);
-        }
-        let all = self.rest;
-        let count = all.len().min(buf.len()).min(self.most.max(1));
-        if count == 0 && !buf.is_empty() {
-            self.ended = true;
-        }
-        buf[..count].copy_from_slice(&all[..count]);
-        self.rest = &all[count..];
-        Ok(count)
+        self.give(buf)
     }
 
     fn failed(&self) -> bool {
@@ -64,6 +138,15 @@ impl Source for Bytes<'_> {
 
     fn ended(&self) -> bool {
         self.ended
+    }
+}
+
+impl io::Read for Bytes<'_> {
+    fn read(&mut self, buf: &mut [u8]) -> io::Result<usize> {
+        match self.give(buf) {
+            Ok(count) => Ok(count),
+            Err(DeviceFault) => Err(io::Error::from(self.error)),
+        }
     }
 }
 
@@ -90,95 +173,21 @@ impl Source for Endless {
     }
 }
 
-/// What the devices of a run have to give, how few bytes they move at once, and which of their calls fails, by its number
-/// from 1.
-#[derive(Clone, Copy)]
-pub struct Devices<'a> {
-    pub input: &'a [u8],
-    pub most_read: usize,
-    pub failed_read: usize,
-    pub most_written: usize,
-    pub failed_write: usize,
-    pub flush_fails: bool,
-}
-
-/// No input, and no call that fails.
-pub const FAULTLESS: Devices<'static> = Devices {
-    input: b"",
-    most_read: 1,
-    failed_read: 0,
-    most_written: usize::MAX,
-    failed_write: 0,
-    flush_fails: false,
-};
-
-impl<'a> Devices<'a> {
-    pub fn source(self) -> Bytes<'a>
-        ensures works { result.failed ≡ false }
-        ensures goes_on { result.ended ≡ false }
-    {
-        Bytes::failing_at(self.input, self.most_read, self.failed_read)
-    }
-
-    pub fn target(self, alloc: Global) -> Held
-        ensures write_works { result.write_failed ≡ false }
-        ensures flush_works { result.flush_failed ≡ false }
-    {
-        let mut held = Held::failing_at(alloc, self.most_written, self.failed_write);
-        held.flush_fails = self.flush_fails;
-        held
-    }
-}
-
-/// A target in memory, which takes at most `most` bytes in a write, and whose write number `fails_at`, from 1, fails.
+/// A target in memory. After a write that failed it takes what later ones bring.
 #[derive(Drop)]
 pub struct Held {
     pub bytes: Vec<u8>,
     most: usize,
     fails_at: usize,
     flush_fails: bool,
+    error: io::ErrorKind,
     pub writes: usize,
     pub flushes: usize,
     write_failed: bool,
     flush_failed: bool,
-    flush_tried: bool,
+    /// Whether a flush came after the last write.
+    pub flush_tried: bool,
     flushed: bool,
-}
-
-impl Held {
-    pub fn new(alloc: Global, most: usize) -> Held
-        ensures write_works { result.write_failed ≡ false }
-        ensures flush_works { result.flush_failed ≡ false }
-    {
-        Held::failing_at(alloc, most, 0)
-    }
-
-    pub fn failing_at(alloc: Global, most: usize, fails_at: usize) -> Held
-        ensures write_works { result.write_failed ≡ false }
-        ensures flush_works { result.flush_failed ≡ false }
-    {
-        Held {
-            bytes: Vec::new(alloc),
-            most,
-            fails_at,
-            flush_fails: false,
-            writes: 0,
-            flushes: 0,
-            write_failed: false,
-            flush_failed: false,
-            flush_tried: false,
-            flushed: false,
-        }
-    }
-
-    pub fn failing_at_flush(alloc: Global) -> Held
-        ensures write_works { result.write_failed ≡ false }
-        ensures flush_works { result.flush_failed ≡ false }
-    {
-        let mut held = Held::new(alloc, usize::MAX);
-        held.flush_fails = true;
-        held
-    }
 }
 
 impl Target for Held {
@@ -225,5 +234,21 @@ impl Target for Held {
 
     fn failed(&self) -> bool {
         self.write_failed || self.flush_failed
+    }
+}
+
+impl io::Write for Held {
+    fn write(&mut self, buf: &[u8]) -> io::Result<usize> {
+        match Target::write(self, buf) {
+            Ok(count) => Ok(count),
+            Err(DeviceFault) => Err(io::Error::from(self.error)),
+        }
+    }
+
+    fn flush(&mut self) -> io::Result<()> {
+        match Target::flush(self) {
+            Ok(()) => Ok(()),
+            Err(DeviceFault) => Err(io::Error::from(self.error)),
+        }
     }
 }

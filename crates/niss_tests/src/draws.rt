@@ -18,7 +18,7 @@ fn next_text(rng: &mut Lcg64Xsh32, count: usize) -> LineText
 }
 
 #[test]
-fn words_of_the_reference(rt: HostRuntime) -> Result<(), Fail> {
+fn words_are_those_of_the_reference(rt: HostRuntime) -> Result<(), Fail> {
     // the demo of PCG's C code begins with these words
     let words = [
         0xa15c_02b7u32,
@@ -36,14 +36,14 @@ fn words_of_the_reference(rt: HostRuntime) -> Result<(), Fail> {
 }
 
 #[test]
-fn six_turns(rt: HostRuntime) -> Result<(), Fail> {
+fn six_turns_are_drawn(rt: HostRuntime) -> Result<(), Fail> {
     let text = next_text(&mut Lcg64Xsh32::new(42, 54), 6);
     assert!(rt; text.as_slice() == b"L' D' F' R2 F' L'".as_slice());
     Ok(())
 }
 
 #[test]
-fn three_turns_twice(rt: HostRuntime) -> Result<(), Fail> {
+fn a_second_sequence_has_no_turn_before_it(rt: HostRuntime) -> Result<(), Fail> {
     // the second sequence begins with no turn before it
     let mut rng = Lcg64Xsh32::new(42, 54);
     for turns in ["L' D' F'", "L F' L'"] {
@@ -54,7 +54,7 @@ fn three_turns_twice(rt: HostRuntime) -> Result<(), Fail> {
 }
 
 #[test]
-fn no_turns(rt: HostRuntime) -> Result<(), Fail> {
+fn no_turns_draw_no_word(rt: HostRuntime) -> Result<(), Fail> {
     let mut rng = Lcg64Xsh32::new(42, 54);
     assert!(rt; random_turns(&mut rng, 0).is_empty());
     assert!(rt; rng == Lcg64Xsh32::new(42, 54));
@@ -71,7 +71,7 @@ fn check_allowed(rt: &impl Abort, turns: &[Turn]) {
 }
 
 #[test]
-fn most_turns(rt: HostRuntime) -> Result<(), Fail> {
+fn most_turns_draw_a_word_each(rt: HostRuntime) -> Result<(), Fail> {
     let mut rng = Lcg64Xsh32::new(42, 54);
     let turns = random_turns(&mut rng, 256);
     assert!(rt; turns.len() == 256);

@@ -47,8 +47,6 @@ mod searches;
 #[cfg(test)]
 mod solving;
 #[cfg(test)]
-mod std_blocks;
-#[cfg(test)]
 mod std_streams;
 #[cfg(test)]
 mod steps;

@@ -1,8 +1,9 @@
 //! Heaps of the size that some growths ask for, or a little less, and a heap while a search goes on.
 use crate::coordinates::check_tables;
-use crate::devices::Bytes;
+use crate::devices::{Devices, FAULTLESS};
 use crate::path_sinks::HeapWatch;
-use crate::runs::{OUT_OF_MEMORY, Outcome, TOO_LONG, words_of};
+use crate::runs::Run::{self, Failure, Good};
+use crate::runs::{OUT_OF_MEMORY, TOO_LONG, repeated};
 use crate::steps::cube_after;
 use linked_list_allocator::LocalHeap;
 use niss_cube::{OutOfMemory, Step, TurnTables};
@@ -11,61 +12,47 @@ use std::alloc::{AllocError, Global};
 use std::process::Abort;
 use std::test::Fail;
 
-/// One word of this many spaces, after a command.
-fn spaces(alloc: Global, count: usize) -> Result<Vec<String>, AllocError> {
-    let mut word = String::new(alloc);
-    for _ in 0..count {
-        word.push(' ')?;
-    }
-    let mut words = words_of(alloc, &["invert"])?;
-    words.push(word)?;
-    Ok(words)
-}
-
-/// Runs the words over a source that they leave unread, with a heap of this size.
-fn check_heap(
-    rt: &impl Abort,
-    alloc: Global,
-    words: &[String],
-    size: usize,
-    outcome: Outcome<'_>,
-) -> Result<(), AllocError> {
+/// Makes a run that leaves its source unread, with a heap of this size.
+fn check_heap(rt: &impl Abort, alloc: Global, size: usize, run: Run<'_>) -> Result<(), AllocError> {
     let heap = LocalHeap::new(alloc, size)?;
-    let mut input = Bytes::new(b"R", 1);
-    outcome.check_input(rt, alloc, &heap, words, &mut input);
-    assert!(rt; input.reads == 0, "a heap of {size}");
+    let devices = Devices {
+        heap: Some(&heap),
+        ..FAULTLESS
+    };
+    let calls = run.check(rt, alloc, devices);
+    assert!(rt; calls.reads == 0, "a heap of {size}");
     Ok(())
 }
 
 /// Runs words that ask for one growth, of 1001 bytes.
-fn check_heaps(rt: &impl Abort, alloc: Global, words: &[String]) -> Result<(), AllocError> {
+fn check_heaps(rt: &impl Abort, alloc: Global, word: &str) -> Result<(), AllocError> {
+    let words = ["invert", word];
     for size in [16, 992] {
-        check_heap(rt, alloc, words, size, Outcome::failure(b"", OUT_OF_MEMORY))?;
+        check_heap(rt, alloc, size, Failure(&words, b"R", b"", OUT_OF_MEMORY))?;
     }
-    check_heap(rt, alloc, words, 4096, Outcome::good(b"\n"))
+    check_heap(rt, alloc, 4096, Good(&words, b"R", b"\n"))
 }
 
 #[test]
-fn growth_refused(rt: HostRuntime) -> Result<(), Fail> {
-    let words = spaces(rt.alloc(), 1000)?;
-    check_heaps(&rt, rt.alloc(), &words)?;
+fn a_refused_growth_ends_the_run(rt: HostRuntime) -> Result<(), Fail> {
+    let spaces = repeated(rt.alloc(), " ", 1000, "")?;
+    check_heaps(&rt, rt.alloc(), &spaces)?;
     Ok(())
 }
 
 #[test]
-fn words_above_the_limit(rt: HostRuntime) -> Result<(), Fail> {
+fn words_above_the_limit_are_refused(rt: HostRuntime) -> Result<(), Fail> {
     // no growth is asked for where the words are too many
-    let words = spaces(rt.alloc(), 16_777_216)?;
-    check_heap(&rt, rt.alloc(), &words, 16, Outcome::failure(b"", TOO_LONG))?;
+    let spaces = repeated(rt.alloc(), " ", 16_777_216, "")?;
+    let run = Failure(&["invert", &spaces], b"R", b"", TOO_LONG);
+    check_heap(&rt, rt.alloc(), 16, run)?;
     Ok(())
 }
 
 #[test]
-fn words_at_the_limit(rt: HostRuntime) -> Result<(), Fail> {
-    let words = spaces(rt.alloc(), 16_777_215)?;
-    let mut input = Bytes::new(b"", 1);
-    let outcome = Outcome::good(b"\n");
-    outcome.check_input(&rt, rt.alloc(), rt.alloc(), &words, &mut input);
+fn words_at_the_limit_are_taken(rt: HostRuntime) -> Result<(), Fail> {
+    let spaces = repeated(rt.alloc(), " ", 16_777_215, "")?;
+    Good(&["invert", &spaces], b"", b"\n").check(&rt, rt.alloc(), FAULTLESS);
     Ok(())
 }
 
@@ -95,7 +82,7 @@ fn check_refused(rt: &impl Abort, alloc: Global, size: usize) -> Result<(), Allo
 }
 
 #[test]
-fn tables_refused(rt: HostRuntime) -> Result<(), Fail> {
+fn a_table_without_room_is_refused(rt: HostRuntime) -> Result<(), Fail> {
     // the three growths ask for 73728, 78732 and 17820 bytes, and each takes a multiple of 16
     for size in [73_712, 152_448, 170_272] {
         check_refused(&rt, rt.alloc(), size)?;
@@ -104,7 +91,7 @@ fn tables_refused(rt: HostRuntime) -> Result<(), Fail> {
 }
 
 #[test]
-fn tables_fill_a_heap(rt: HostRuntime) -> Result<(), Fail> {
+fn tables_fill_a_heap_once_more_when_dropped(rt: HostRuntime) -> Result<(), Fail> {
     let heap = LocalHeap::new(rt.alloc(), 170_288)?;
     check_room_for_one(&rt, &heap);
     Ok(())

@@ -1,11 +1,11 @@
 //! Each growth refused in turn: in rooms that grow until one has room for all. Rooms differ by less than the smallest
 //! growth, so each growth is refused in one of them, whatever sizes the growths have.
-use crate::devices::{Bytes, Held};
-use crate::runs::{OUT_OF_MEMORY, Outcome, Run, STEPS, Targets, words_of};
+use crate::devices::{Devices, FAULTLESS};
+use crate::runs::Run::{self, Fault, Good};
+use crate::runs::{OUT_OF_MEMORY, Outcome, STEPS, run_over, words_of};
 use linked_list_allocator::LocalHeap;
 use niss_cube::{Cube, OutOfMemory, Step};
 use niss_search::{Meter, Tables};
-use niss_shell::run_in;
 use std::alloc::{AllocError, Allocator, Global};
 use std::process::Abort;
 use std::test::Fail;
@@ -34,44 +34,49 @@ fn filler(heap: &LocalHeap, room: usize) -> Result<Vec<u8, &LocalHeap>, AllocErr
     Vec::with_capacity(heap, AMPLE.saturating_sub(room))
 }
 
+/// Devices of a run that takes its memory of this heap.
+fn in_heap(heap: &LocalHeap) -> Devices<'_> {
+    Devices {
+        heap: Some(heap),
+        ..FAULTLESS
+    }
+}
+
 /// Words, the heap that their run takes memory of, and what it writes where there is room.
 #[derive(Clone, Copy)]
 struct GrowingRun<'a> {
     words: &'a [String],
     heap: &'a LocalHeap,
-    output: &'a str,
+    output: &'a [u8],
 }
 
-impl GrowingRun<'_> {
+impl<'a> GrowingRun<'a> {
     /// Runs the words in the room that the heap has, and answers whether that was enough. Where it wasn't, nothing is read,
     /// written or looked at.
     fn run(self, rt: &impl Abort, alloc: Global) -> bool {
-        let mut input = Bytes::new(INPUT, 1);
-        let mut targets = Targets::new(alloc, Held::new(alloc, 1000));
-        let mut looks = Meter::new();
-        let status = run_in(
-            self.heap,
-            self.words,
-            &mut input,
-            &mut targets.out,
-            &mut targets.err,
-            &mut looks,
-        );
-        let is_untouched = input.reads == 0 && targets.out.writes == 0 && looks.count() == 0;
+        let ran = run_over(alloc, self.words, INPUT, in_heap(self.heap));
+        let status = ran.status;
+        let is_untouched = ran.input.reads == 0 && ran.out.writes == 0 && ran.looks == 0;
         assert!(rt; status == 0 || is_untouched);
-        self.compare(rt, status, &targets);
-        drop(targets);
+        self.outcome(status).compare(rt, status, &ran.out, &ran.err);
+        drop(ran);
         status == 0
     }
 
-    /// Compares what a run answered and wrote with what it has to.
-    fn compare(self, rt: &impl Abort, status: u8, targets: &Targets) {
-        let outcome = match status {
-            0 => Outcome::good(self.output.as_bytes()),
-            _ => Outcome::failure(b"", OUT_OF_MEMORY),
-        };
-        outcome.compare(rt, status, &targets.out, &targets.err);
-        assert!(rt; targets.out.flushes == 1);
+    /// What a run with this status has to write and to answer.
+    fn outcome(self, status: u8) -> Outcome<'a> {
+        match status {
+            0 => Outcome {
+                output: self.output,
+                error: b"",
+                status,
+            },
+            _ => Outcome {
+                output: b"",
+                error: OUT_OF_MEMORY,
+                status: 3,
+            },
+        }
     }
 
     /// Runs the words where the heap has this room, and answers whether that was enough. Good or not, nothing of the run is
@@ -107,7 +112,7 @@ fn check_run(
     rt: &impl Abort,
     alloc: Global,
     words: &[&str],
-    output: &str,
+    output: &[u8],
     more: u16,
 ) -> Result<(), AllocError> {
     let words = words_of(alloc, words)?;
@@ -122,11 +127,11 @@ fn check_run(
 }
 
 #[test]
-fn each_growth_of_a_run(rt: HostRuntime) -> Result<(), Fail> {
-    let solved = "F (1)\nF' (1)\n\n";
-    let counted = "length 2 solutions 2 nodes 28\n";
-    let runs: [(&[&str], &str, u16); 5] = [
-        (&["invert", "R U' F2"], "F2 U R'\n", FOR_WORDS),
+fn each_growth_of_a_run_is_refused(rt: HostRuntime) -> Result<(), Fail> {
+    let solved: &[u8] = b"F (1)\nF' (1)\n\n";
+    let counted: &[u8] = b"length 2 solutions 2 nodes 28\n";
+    let runs: [(&[&str], &[u8], u16); 5] = [
+        (&["invert", "R U' F2"], b"F2 U R'\n", FOR_WORDS),
         (&["solve", "eofb", "7", "F"], solved, FOR_EDGES),
         (&["solve", "eofb", "7"], solved, FOR_EDGES),
         (&["near", "eofb", "7", "0", "F"], solved, FOR_EDGES),
@@ -143,63 +148,47 @@ fn each_growth_of_a_run(rt: HostRuntime) -> Result<(), Fail> {
 }
 
 /// What asks for no memory: lines from the source, scrambles, and the list of steps.
-const WITHOUT_GROWTH: &[(&[&str], &str)] = &[
-    (&["invert"], "U'\nR'\n"),
-    (&["unniss"], "U\nR\n"),
-    (&["cleanup"], "U\nR\n"),
-    (
+const WITHOUT_GROWTH: &[Run] = &[
+    Good(&["invert"], b"U\nR", b"U'\nR'\n"),
+    Good(&["unniss"], b"U\nR", b"U\nR\n"),
+    Good(&["cleanup"], b"U\nR", b"U\nR\n"),
+    Good(
         &["print"],
-        "UUUUUUUUUBBBRRRRRRRRRFFFFFFDDDDDDDDDFFFLLLLLLLLLBBBBBB\nUUFUUFUUFRRRRRRRRRFFDFFDFFDDDBDDBDDBLLLLLLLLLUBBUBBUBB\n",
+        b"U\nR",
+        b"UUUUUUUUUBBBRRRRRRRRRFFFFFFDDDDDDDDDFFFLLLLLLLLLBBBBBB\nUUFUUFUUFRRRRRRRRRFFDFFDFFDDDBDDBDDBLLLLLLLLLUBBUBBUBB\n",
     ),
-    (&["steps"], STEPS),
-    (&["scramble", "42", "54", "6", "1"], "L' D' F' R2 F' L'\n"),
-    (&["scramble", "42", "54", "3", "2"], "L' D' F'\nL F' L'\n"),
+    Good(&["steps"], b"U\nR", STEPS),
+    Good(
+        &["scramble", "42", "54", "6", "1"],
+        b"U\nR",
+        b"L' D' F' R2 F' L'\n",
+    ),
+    Good(
+        &["scramble", "42", "54", "3", "2"],
+        b"U\nR",
+        b"L' D' F'\nL F' L'\n",
+    ),
+    Fault(
+        &["unniss"],
+        b"R\n(U",
+        b"R\n",
+        b"nissy: line 2, column 1: bracket not closed\n",
+    ),
 ];
 
-/// Runs words with memory of this heap.
-fn check_in(
-    rt: &impl Abort,
-    alloc: Global,
-    heap: &LocalHeap,
-    run: Run<'_>,
-) -> Result<(), AllocError> {
-    let words = words_of(alloc, run.words)?;
-    let mut input = Bytes::new(run.input, 1);
-    let outcome = Outcome {
-        output: run.output.as_bytes(),
-        error: run.error.as_bytes(),
-        status: run.status,
-    };
-    outcome.check_input(rt, alloc, heap, &words, &mut input);
-    drop(words);
-    Ok(())
-}
-
 /// Makes the runs that ask for no memory with a full heap.
-fn check_without_growth(
-    rt: &impl Abort,
-    alloc: Global,
-    heap: &LocalHeap,
-) -> Result<(), AllocError> {
-    for (words, output) in WITHOUT_GROWTH {
-        check_in(rt, alloc, heap, Run::good(words, b"U\nR", output))?;
+fn check_without_growth(rt: &impl Abort, alloc: Global, heap: &LocalHeap) {
+    for run in WITHOUT_GROWTH {
+        run.check(rt, alloc, in_heap(heap));
     }
-    let fault = Run {
-        words: &["unniss"],
-        input: b"R\n(U",
-        output: "R\n",
-        error: "nissy: line 2, column 1: bracket not closed\n",
-        status: 1,
-    };
-    check_in(rt, alloc, heap, fault)
 }
 
 #[test]
-fn no_growth(rt: HostRuntime) -> Result<(), Fail> {
+fn runs_without_growth_work_with_a_full_heap(rt: HostRuntime) -> Result<(), Fail> {
     let heap = LocalHeap::new(rt.alloc(), AMPLE)?;
     let filled = filler(&heap, 0)?;
     assert!(rt; heap.free() == 0);
-    check_without_growth(&rt, rt.alloc(), &heap)?;
+    check_without_growth(&rt, rt.alloc(), &heap);
     drop(filled);
     Ok(())
 }
@@ -277,7 +266,7 @@ fn check_step(rt: &impl Abort, alloc: Global, step: Step, more: u16) -> Result<(
 }
 
 #[test]
-fn each_growth_of_a_step(rt: HostRuntime) -> Result<(), Fail> {
+fn each_growth_of_a_step_is_refused(rt: HostRuntime) -> Result<(), Fail> {
     for step in Step::all() {
         let more = match step.start_name() {
             None => FOR_EDGES,

@@ -1,17 +1,16 @@
-//! What a run has to write and to answer, and the check of it.
-ghost use Rattle.std.specs.Prelude.{◌≡◌, Bool, true, false};
+//! Runs of the engine over devices in memory, and the check of what they write and answer.
 
-use crate::devices::{Bytes, Devices, Held};
-use niss_shell::{Meter, Source, run, run_in};
-use std::alloc::{AllocError, Allocator, Global};
+use crate::devices::{Bytes, Devices, FAULTLESS, Held};
+use niss_shell::{FromReader, Meter, ToWriter, run, run_in};
+use std::alloc::{AllocError, Global};
 use std::process::Abort;
 
 /// What is written of wrong words.
-pub const USAGE: &str = "usage: nissy COMMAND [ARGUMENTS]\n";
+const USAGE: &[u8] = b"usage: nissy COMMAND [ARGUMENTS]\n";
 
 /// What `steps` writes.
-pub const STEPS: &str =
-    "eofb\neorl\neoud\ndrud-eofb\ndrrl-eofb\ndrud-eorl\ndrfb-eorl\ndrrl-eoud\ndrfb-eoud\neo\ndr-eofb\ndr-eorl\ndr-eoud\n";
+pub const STEPS: &[u8] =
+    b"eofb\neorl\neoud\ndrud-eofb\ndrrl-eofb\ndrud-eorl\ndrfb-eorl\ndrrl-eoud\ndrfb-eoud\neo\ndr-eofb\ndr-eorl\ndr-eoud\n";
 
 /// What is written of an input above the limit.
 pub const TOO_LONG: &[u8] = b"nissy: input longer than 16777216 bytes\n";
@@ -30,6 +29,16 @@ pub fn words_of(alloc: Global, texts: &[&str]) -> Result<Vec<String>, AllocError
     Ok(words)
 }
 
+/// Some text, again and again, and what stands after it.
+pub fn repeated(alloc: Global, text: &str, count: usize, end: &str) -> Result<String, AllocError> {
+    let mut all = String::new(alloc);
+    for _ in 0..count {
+        all.push_str(text)?;
+    }
+    all.push_str(end)?;
+    Ok(all)
+}
+
 /// Checks the bytes that a run wrote.
 pub fn check_bytes(rt: &impl Abort, written: &[u8], wanted: &[u8]) {
     assert_eq!(rt; written, wanted);
@@ -40,25 +49,6 @@ pub fn check_count(rt: &impl Abort, what: &str, found: usize, wanted: usize) {
     assert_eq!(rt; found, wanted, "{what}");
 }
 
-/// What a run writes to.
-#[derive(Drop)]
-pub struct Targets {
-    pub out: Held,
-    pub err: Held,
-}
-
-impl Targets {
-    /// This output, and an error writer that takes all.
-    pub fn new(alloc: Global, out: Held) -> Targets
-        ensures { result.out ≡ out }
-    {
-        Targets {
-            out,
-            err: Held::new(alloc, 1000),
-        }
-    }
-}
-
 /// What a run has to write and to answer.
 #[derive(Clone, Copy)]
 pub struct Outcome<'a> {
@@ -67,236 +57,192 @@ pub struct Outcome<'a> {
     pub status: u8,
 }
 
-impl<'a> Outcome<'a> {
-    ghost use Rattle.std.specs.Prelude.{◌≡◌, Bool, true, false};
-
-    /// Of a good run.
-    pub fn good(output: &'a [u8]) -> Outcome<'a> {
-        Outcome {
-            output,
-            error: b"",
-            status: 0,
-        }
-    }
-
-    /// Of a run that ends with status 3, after this output.
-    pub fn failure(output: &'a [u8], error: &'a [u8]) -> Outcome<'a> {
-        Outcome {
-            output,
-            error,
-            status: 3,
-        }
-    }
-
-    /// Compares it with what a run answered and what its targets hold.
+impl Outcome<'_> {
+    /// Compares it with what a run answered and what its targets hold. However a run ends, its last call of the output is
+    /// its one flush.
     pub fn compare(self, rt: &impl Abort, status: u8, out: &Held, err: &Held) {
         check_bytes(rt, out.bytes.as_slice(), self.output);
         check_bytes(rt, err.bytes.as_slice(), self.error);
-        check_count(rt, "flushes of the error writer", err.flushes, 0);
         check_count(rt, "status", usize::from(status), usize::from(self.status));
-    }
-
-    /// Runs the words over this source and these targets, with memory of `heap`.
-    pub fn check<A: Allocator + Copy, R: Source>(
-        self,
-        rt: &impl Abort,
-        heap: A,
-        words: &[String],
-        input: &mut R,
-        targets: &mut Targets,
-    )
-        requires reads { (R.state input.old).has_failed ≡ false }
-        requires goes_on { (R.state input.old).has_ended ≡ false }
-        requires write_works { targets.old.out.write_failed ≡ false }
-        requires flush_works { targets.old.out.flush_failed ≡ false }
-    {
-        let flushes = targets.out.flushes;
-        let status = run_in(
-            heap,
-            words,
-            input,
-            &mut targets.out,
-            &mut targets.err,
-            &mut Meter::new(),
-        );
-        self.compare(rt, status, &targets.out, &targets.err);
-        check_count(
-            rt,
-            "flushes",
-            targets.out.flushes,
-            flushes.saturating_add(1),
-        );
-    }
-
-    /// Runs the words over this source and over targets that take all.
-    pub fn check_input<A: Allocator + Copy, R: Source>(
-        self,
-        rt: &impl Abort,
-        alloc: Global,
-        heap: A,
-        words: &[String],
-        input: &mut R,
-    )
-        requires reads { (R.state input.old).has_failed ≡ false }
-        requires goes_on { (R.state input.old).has_ended ≡ false }
-    {
-        let mut targets = Targets::new(alloc, Held::new(alloc, 1000));
-        self.check(rt, heap, words, input, &mut targets);
+        check_count(rt, "flushes", out.flushes, 1);
+        assert!(rt; out.flush_tried, "a write after the flush");
+        check_count(rt, "flushes of the error writer", err.flushes, 0);
     }
 }
 
-/// How often a run called its devices.
+/// What a run answered, the devices that it left, and how many positions it looked at.
+#[derive(Drop)]
+pub struct Ran<'a> {
+    pub status: u8,
+    pub input: Bytes<'a>,
+    pub out: Held,
+    pub err: Held,
+    pub looks: u128,
+}
+
+/// Runs words over such devices.
+pub fn run_over<'a>(
+    alloc: Global,
+    words: &[String],
+    input: &'a [u8],
+    devices: Devices<'_>,
+) -> Ran<'a> {
+    let mut input = devices.source(input);
+    let mut out = devices.target(alloc);
+    let mut err = devices.error_target(alloc);
+    let mut looks = Meter::new();
+    let status = match (devices.heap, devices.stream_error) {
+        (Some(heap), _) => run_in(heap, words, &mut input, &mut out, &mut err, &mut looks),
+        (None, None) => run(alloc, words, &mut input, &mut out, &mut err, &mut looks),
+        (None, Some(_)) => run(
+            alloc,
+            words,
+            &mut FromReader::new(&mut input),
+            &mut ToWriter::new(&mut out),
+            &mut ToWriter::new(&mut err),
+            &mut looks,
+        ),
+    };
+    Ran {
+        status,
+        input,
+        out,
+        err,
+        looks: looks.count(),
+    }
+}
+
+/// How often a run called its devices, for how many bytes a read asked, and how many positions it looked at.
 #[derive(Clone, Copy)]
 pub struct Calls {
     pub reads: usize,
+    pub least_asked: usize,
+    pub most_asked: usize,
     pub writes: usize,
-    pub flushes: usize,
+    pub error_writes: usize,
+    pub looks: u128,
 }
 
-/// Runs these words over such devices, which are to have this outcome.
-pub fn check_devices(
-    rt: &impl Abort,
-    alloc: Global,
-    words: &[&str],
-    devices: Devices<'_>,
-    outcome: Outcome<'_>,
-) -> Calls {
-    let words = words_of(alloc, words).expect(rt, "memory for words");
-    let mut input = devices.source();
-    let mut targets = Targets::new(alloc, devices.target(alloc));
-    outcome.check(rt, alloc, &words, &mut input, &mut targets);
-    Calls {
-        reads: input.reads,
-        writes: targets.out.writes,
-        flushes: targets.out.flushes,
-    }
-}
-
-/// Runs these words over this input, and has each write of a byte of the output fail in turn.
-pub fn check_each_write(
-    rt: &impl Abort,
-    alloc: Global,
-    words: &[&str],
-    devices: Devices<'_>,
-    output: &[u8],
-) {
-    for before in 0..output.len() {
-        let failing = Devices {
-            most_written: 1,
-            failed_write: before + 1,
-            ..devices
-        };
-        let outcome = Outcome::failure(&output[..before], CANNOT_WRITE);
-        let calls = check_devices(rt, alloc, words, failing, outcome);
-        check_count(rt, "writes", calls.writes, before + 1);
-    }
-}
-
-/// A run, and what it has to write and to answer.
+/// A run by how it ends: its words, its input, what it writes and the text of its fault. A table of runs is a constant,
+/// which a test passes on at little cost.
 #[derive(Clone, Copy)]
-pub struct Run<'a> {
-    pub words: &'a [&'a str],
-    pub input: &'a [u8],
-    pub output: &'a str,
-    pub error: &'a str,
-    pub status: u8,
+pub enum Run<'a> {
+    Good(&'a [&'a str], &'a [u8], &'a [u8]),
+    /// It ends at a line's fault.
+    Fault(&'a [&'a str], &'a [u8], &'a [u8], &'a [u8]),
+    /// Its words are refused.
+    Usage(&'a [&'a str]),
+    /// It ends at the limit of input, or where memory or a device fails.
+    Failure(&'a [&'a str], &'a [u8], &'a [u8], &'a [u8]),
 }
 
 impl<'a> Run<'a> {
-    /// A good run.
-    pub fn good(words: &'a [&'a str], input: &'a [u8], output: &'a str) -> Run<'a> {
-        Run {
-            words,
-            input,
+    /// Its words, its input and its outcome.
+    pub fn parts(self) -> (&'a [&'a str], &'a [u8], Outcome<'a>) {
+        let (words, input, output, error, status) = match self {
+            Run::Good(words, input, output) => (words, input, output, b"".as_slice(), 0),
+            Run::Fault(words, input, output, error) => (words, input, output, error, 1),
+            Run::Usage(words) => (words, b"".as_slice(), b"".as_slice(), USAGE, 2),
+            Run::Failure(words, input, output, error) => (words, input, output, error, 3),
+        };
+        let outcome = Outcome {
             output,
-            error: "",
-            status: 0,
-        }
-    }
-
-    /// A run that writes nothing.
-    pub fn fault(words: &'a [&'a str], error: &'a str, status: u8) -> Run<'a> {
-        Run {
-            words,
-            input: b"",
-            output: "",
             error,
             status,
-        }
+        };
+        (words, input, outcome)
     }
 
-    /// Runs it over a source that gives few bytes in a read, and targets that take few in a write, and answers the looks
-    /// at positions.
-    pub fn looks(self, rt: &impl Abort, alloc: Global) -> u128 {
-        let words = words_of(alloc, self.words).expect(rt, "memory for words");
-        // a read asks for more: so lines and moves are cut at every third byte
-        let mut input = Bytes::new(self.input, 3);
-        let mut out = Held::new(alloc, 5);
-        let mut err = Held::new(alloc, 1);
-        let mut looks = Meter::new();
-        let status = run(alloc, &words, &mut input, &mut out, &mut err, &mut looks);
-        let outcome = Outcome {
-            output: self.output.as_bytes(),
-            error: self.error.as_bytes(),
-            status: self.status,
+    /// Makes it over such devices, and checks what it writes and answers.
+    pub fn check(self, rt: &impl Abort, alloc: Global, devices: Devices<'_>) -> Calls {
+        let (words, input, outcome) = self.parts();
+        let words = words_of(alloc, words).expect(rt, "memory for words");
+        let ran = run_over(alloc, &words, input, devices);
+        outcome.compare(rt, ran.status, &ran.out, &ran.err);
+        let calls = Calls {
+            reads: ran.input.reads,
+            least_asked: ran.input.least_asked,
+            most_asked: ran.input.most_asked,
+            writes: ran.out.writes,
+            error_writes: ran.err.writes,
+            looks: ran.looks,
         };
-        outcome.compare(rt, status, &out, &err);
-        check_count(rt, "flushes", out.flushes, 1);
-        looks.count()
+        drop(ran);
+        calls
     }
 }
+
+/// Has each read of three lines fail in turn, which are read byte by byte: two reads give a line. These are the outputs
+/// after no line, after one and after two.
+pub fn check_each_read<'a>(
+    rt: &impl Abort,
+    alloc: Global,
+    words: &'a [&'a str],
+    outputs: &'a [&'a [u8]; 3],
+    devices: Devices<'_>,
+) {
+    for before in 0..6usize {
+        let failing = Devices {
+            most_read: 1,
+            failed_read: before + 1,
+            ..devices
+        };
+        let run = Run::Failure(words, b"R\nU\nF", outputs[before / 2], CANNOT_READ);
+        let calls = run.check(rt, alloc, failing);
+        check_count(rt, "reads", calls.reads, before + 1);
+    }
+}
+
+/// Has each write of a byte of the output fail in turn, and none at last.
+pub fn check_each_write(rt: &impl Abort, alloc: Global, run: Run<'_>, devices: Devices<'_>) {
+    let (words, input, outcome) = run.parts();
+    let bytewise = Devices {
+        most_written: 1,
+        ..devices
+    };
+    for before in 0..outcome.output.len() {
+        let failing = Devices {
+            failed_write: before + 1,
+            ..bytewise
+        };
+        let cut = Run::Failure(words, input, &outcome.output[..before], CANNOT_WRITE);
+        let calls = cut.check(rt, alloc, failing);
+        check_count(rt, "writes", calls.writes, before + 1);
+    }
+    let calls = run.check(rt, alloc, bytewise);
+    check_count(rt, "writes", calls.writes, outcome.output.len());
+}
+
+/// Few bytes in each call: so lines and moves are cut at every third byte.
+pub const FEW: Devices<'static> = Devices {
+    most_read: 3,
+    most_written: 5,
+    most_reported: 1,
+    ..FAULTLESS
+};
 
 /// Checks each of these runs.
-pub fn check_all(rt: &impl Abort, alloc: Global, runs: &[Run<'_>]) -> Result<(), AllocError> {
+pub fn check_runs(rt: &impl Abort, alloc: Global, runs: &[Run<'_>]) {
     for run in runs {
-        run.looks(rt, alloc);
-    }
-    Ok(())
-}
-
-/// The words and the input of a good run, and what it writes. A table of such rows is a constant, which a test passes on
-/// at little cost.
-pub type Good<'a> = (&'a [&'a str], &'a [u8], &'a str);
-
-/// The words and the input of a run that a line's fault ends, what it writes, and the fault.
-pub type Faulty<'a> = (&'a [&'a str], &'a [u8], &'a str, &'a str);
-
-/// Checks each of these good runs.
-pub fn check_good(rt: &impl Abort, alloc: Global, runs: &[Good<'_>]) {
-    for (words, input, output) in runs {
-        Run::good(words, input, output).looks(rt, alloc);
+        run.check(rt, alloc, FEW);
     }
 }
 
 /// Checks this run, and how many positions it looks at.
 pub fn check_looks(rt: &impl Abort, alloc: Global, run: Run<'_>, looks: u128) {
-    assert_eq!(rt; run.looks(rt, alloc), looks);
+    assert_eq!(rt; run.check(rt, alloc, FEW).looks, looks);
 }
 
 /// Checks what a command answers to each of these lines, given as a word.
 pub fn check_answers(rt: &impl Abort, alloc: Global, command: &str, answers: &[(&str, &str)]) {
     for (line, answer) in answers {
-        Run::good(&[command, line], b"", answer).looks(rt, alloc);
-    }
-}
-
-/// Checks each of these runs that a line's fault ends.
-pub fn check_faults(rt: &impl Abort, alloc: Global, runs: &[Faulty<'_>]) {
-    for (words, input, output, error) in runs {
-        let run = Run {
-            words,
-            input,
-            output,
-            error,
-            status: 1,
-        };
-        run.looks(rt, alloc);
+        Run::Good(&[command, line], b"", answer.as_bytes()).check(rt, alloc, FEW);
     }
 }
 
 /// Checks that each of these lists of words is refused.
 pub fn check_usage(rt: &impl Abort, alloc: Global, wrong: &[&[&str]]) {
     for words in wrong {
-        Run::fault(words, USAGE, 2).looks(rt, alloc);
+        Run::Usage(words).check(rt, alloc, FEW);
     }
 }

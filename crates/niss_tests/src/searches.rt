@@ -23,7 +23,7 @@ pub fn tables_of(rt: &impl Abort, alloc: Global, step: Step) -> Tables {
 }
 
 /// The position of the solved cube after some moves, on which the step of the tables may start.
-pub fn position_after(rt: &impl Abort, tables: &Tables, moves: &str) -> Position
+fn position_after(rt: &impl Abort, tables: &Tables, moves: &str) -> Position
     ensures { IsPosition tables.now result }
 {
     let cube = cube_after(rt, moves);
@@ -134,7 +134,7 @@ const fn nothing(moves: &'static str, limit: u8, looks: u128) -> Row {
 }
 
 #[test]
-fn edge_orientation(rt: HostRuntime) {
+fn shortest_edge_orientations_are_found(rt: HostRuntime) {
     check_rows(
         &rt,
         rt.alloc(),
@@ -160,7 +160,7 @@ fn edge_orientation(rt: HostRuntime) {
 }
 
 #[test]
-fn domino_reduction(rt: HostRuntime) {
+fn shortest_domino_reductions_are_found(rt: HostRuntime) {
     check_rows(
         &rt,
         rt.alloc(),

@@ -1,307 +1,185 @@
-//! Runs over readers and writers of `std::io`.
-use crate::devices::Held;
-use crate::runs::{CANNOT_READ, CANNOT_WRITE, Outcome, USAGE, check_bytes, check_count, words_of};
-use crate::std_blocks::KINDS;
-use niss_shell::{FromReader, Meter, Target, ToWriter, run};
+//! Runs over readers and writers of `std::io`, which move few bytes or whole blocks, and fail with each kind of error.
+use crate::blocks::BLOCK;
+use crate::devices::{Devices, FAULTLESS};
+use crate::runs::Run::{self, Failure, Fault, Good, Usage};
+use crate::runs::{
+    CANNOT_READ, CANNOT_WRITE, check_bytes, check_count, check_each_read, check_each_write,
+    repeated, words_of,
+};
+use niss_shell::{FromReader, Meter, ToWriter, run};
 use std::alloc::Global;
 use std::io;
-use std::io::{Cursor, Read};
+use std::io::Cursor;
 use std::process::Abort;
 
-/// A reader of a byte a call, whose call number `fails_at`, from 1, fails with `kind`. It gives the rest to later calls.
-#[derive(Drop)]
-struct FailingReader<'a> {
-    rest: Cursor<&'a [u8]>,
-    calls: usize,
-    fails_at: usize,
-    kind: io::ErrorKind,
-}
+/// Kinds of error that a stream may answer with: none of them is tried again.
+const KINDS: [io::ErrorKind; 5] = [
+    io::ErrorKind::Interrupted,
+    io::ErrorKind::WouldBlock,
+    io::ErrorKind::BrokenPipe,
+    io::ErrorKind::PermissionDenied,
+    io::ErrorKind::Other,
+];
 
-impl<'a> FailingReader<'a> {
-    fn new(bytes: &'a [u8], fails_at: usize, kind: io::ErrorKind) -> FailingReader<'a> {
-        FailingReader {
-            rest: Cursor::new(bytes),
-            calls: 0,
-            fails_at,
-            kind,
-        }
+/// Streams that fail with this kind of error.
+const fn streams(kind: io::ErrorKind) -> Devices<'static> {
+    Devices {
+        stream_error: Some(kind),
+        ..FAULTLESS
     }
 }
 
-impl io::Read for FailingReader<'_> {
-    fn read(&mut self, buf: &mut [u8]) -> io::Result<usize> {
-        self.calls = self.calls.saturating_add(1);
-        if self.calls == self.fails_at {
-            return Err(io::Error::from(self.kind));
-        }
-        let count = buf.len().min(1);
-        self.rest.read(&mut buf[..count])
-    }
-}
-
-/// A writer of a byte a call, whose call number `fails_at`, from 1, fails with `kind`. It takes what later calls bring.
-#[derive(Drop)]
-struct FailingWriter {
-    calls: usize,
-    flushes: usize,
-    fails_at: usize,
-    kind: io::ErrorKind,
-}
-
-impl FailingWriter {
-    fn new(fails_at: usize, kind: io::ErrorKind) -> FailingWriter {
-        FailingWriter {
-            calls: 0,
-            flushes: 0,
-            fails_at,
-            kind,
-        }
-    }
-}
-
-impl io::Write for FailingWriter {
-    fn write(&mut self, buf: &[u8]) -> io::Result<usize> {
-        self.calls = self.calls.saturating_add(1);
-        if self.calls == self.fails_at {
-            return Err(io::Error::from(self.kind));
-        }
-        Ok(buf.len().min(1))
-    }
-
-    fn flush(&mut self) -> io::Result<()> {
-        self.flushes = self.flushes.saturating_add(1);
-        Ok(())
-    }
-}
-
-/// A writer that takes none of the bytes.
-#[derive(Drop)]
-struct FullWriter {
-    calls: usize,
-}
-
-impl io::Write for FullWriter {
-    fn write(&mut self, buf: &[u8]) -> io::Result<usize> {
-        let _ = buf;
-        self.calls = self.calls.saturating_add(1);
-        Ok(0)
-    }
-
-    fn flush(&mut self) -> io::Result<()> {
-        Ok(())
-    }
-}
-
-/// A writer that takes all and refuses each flush.
-#[derive(Drop)]
-struct UnflushedWriter;
-
-impl io::Write for UnflushedWriter {
-    fn write(&mut self, buf: &[u8]) -> io::Result<usize> {
-        Ok(buf.len())
-    }
-
-    fn flush(&mut self) -> io::Result<()> {
-        Err(io::Error::from(io::ErrorKind::BrokenPipe))
-    }
-}
-
-/// A writer that counts its bytes, its flushes, and the bytes that came before the first flush.
-#[derive(Drop)]
-struct CountingWriter {
-    bytes: usize,
-    flushes: usize,
-    bytes_before_flush: usize,
-}
-
-impl io::Write for CountingWriter {
-    fn write(&mut self, buf: &[u8]) -> io::Result<usize> {
-        self.bytes = self.bytes.saturating_add(buf.len());
-        Ok(buf.len())
-    }
-
-    fn flush(&mut self) -> io::Result<()> {
-        if self.flushes == 0 {
-            self.bytes_before_flush = self.bytes;
-        }
-        self.flushes = self.flushes.saturating_add(1);
-        Ok(())
-    }
-}
-
-/// Runs the words over this reader and this writer.
-pub fn run_over<R: io::Read + Drop, W: io::Write + Drop, E: Target>(
-    alloc: Global,
-    words: &[String],
-    reader: R,
-    writer: W,
-    err: &mut E,
-) -> u8 {
-    run(
-        alloc,
-        words,
-        &mut FromReader::new(reader),
-        &mut ToWriter::new(writer),
-        err,
-        &mut Meter::new(),
-    )
-}
+/// Streams of which no call fails.
+const STREAMS: Devices<'static> = Devices {
+    stream_error: Some(io::ErrorKind::Other),
+    ..FAULTLESS
+};
 
 #[test]
-fn all_works(rt: HostRuntime) {
+fn a_cursor_and_lists_are_streams(rt: HostRuntime) {
     let words = words_of(rt.alloc(), &["invert"]).expect(&rt, "memory for words");
     let mut output = Vec::new(rt.alloc());
     let mut error = Vec::new(rt.alloc());
-    let reader = Cursor::new(b"R U\n".as_slice());
-    let mut err = ToWriter::new(&mut error);
-    let status = run_over(rt.alloc(), &words, reader, &mut output, &mut err);
+    let status = run(
+        rt.alloc(),
+        &words,
+        &mut FromReader::new(Cursor::new(b"R U\n".as_slice())),
+        &mut ToWriter::new(&mut output),
+        &mut ToWriter::new(&mut error),
+        &mut Meter::new(),
+    );
     check_count(&rt, "status", usize::from(status), 0);
     check_bytes(&rt, output.as_slice(), b"U' R'\n");
     check_bytes(&rt, error.as_slice(), b"");
 }
 
-/// Runs `invert` over this reader.
-pub fn check_reader<R: io::Read + Drop>(
-    rt: &impl Abort,
-    alloc: Global,
-    reader: R,
-    outcome: Outcome<'_>,
-) {
-    let words = words_of(alloc, &["invert"]).expect(rt, "memory for words");
-    outcome.check_input(rt, alloc, alloc, &words, &mut FromReader::new(reader));
-}
-
-/// Has each read of three lines fail once with this kind of error, which are read byte by byte.
-fn check_each_read(rt: &impl Abort, alloc: Global, kind: io::ErrorKind) {
-    let outputs: [&[u8]; 6] = [b"", b"", b"R'\n", b"R'\n", b"R'\nU'\n", b"R'\nU'\n"];
-    for before in 0..6usize {
-        let mut reader = FailingReader::new(b"R\nU\nF", before + 1, kind);
-        let outcome = Outcome::failure(outputs[before], CANNOT_READ);
-        check_reader(rt, alloc, &mut reader, outcome);
-        check_count(rt, "reads", reader.calls, before + 1);
-    }
-}
-
 #[test]
 fn each_read_fails_once(rt: HostRuntime) {
-    check_each_read(&rt, rt.alloc(), io::ErrorKind::Interrupted);
-    check_each_read(&rt, rt.alloc(), io::ErrorKind::BrokenPipe);
+    let outputs: &[&[u8]; 3] = &[b"", b"R'\n", b"R'\nU'\n"];
+    for kind in KINDS {
+        check_each_read(&rt, rt.alloc(), &["invert"], outputs, streams(kind));
+    }
 }
 
 /// A read that gives few bytes is followed by one more, up to the one that gives none.
 #[test]
 fn short_reads_are_counted(rt: HostRuntime) {
-    let mut reader = FailingReader::new(b"R\nU\nF", 0, io::ErrorKind::Other);
-    let outcome = Outcome::good(b"R'\nU'\nF'\n");
-    check_reader(&rt, rt.alloc(), &mut reader, outcome);
-    check_count(&rt, "reads", reader.calls, 6);
+    let run = Good(&["invert"], b"R\nU\nF", b"R'\nU'\nF'\n");
+    let calls = run.check(&rt, rt.alloc(), STREAMS);
+    check_count(&rt, "reads", calls.reads, 6);
 }
 
-/// Words and their input, and what a run has to answer and to report.
-#[derive(Clone, Copy)]
-struct WriterRun<'a> {
-    words: &'a [&'a str],
-    input: &'a [u8],
-    status: u8,
-    error: &'a [u8],
+/// A reader that fills so many blocks is read to its end, by reads that each ask for a whole block.
+fn check_blocks(rt: &impl Abort, alloc: Global, blocks: usize, output: &[u8]) {
+    let spaces = repeated(alloc, " ", blocks.saturating_mul(BLOCK), "");
+    let spaces = spaces.expect(rt, "memory for blocks");
+    let devices = Devices {
+        most_read: usize::MAX,
+        ..STREAMS
+    };
+    let calls = Good(&["invert"], spaces.as_bytes(), output).check(rt, alloc, devices);
+    check_count(rt, "reads", calls.reads, blocks.saturating_add(1));
+    check_count(rt, "least that a read asks for", calls.least_asked, BLOCK);
+    check_count(rt, "most that a read asks for", calls.most_asked, BLOCK);
 }
 
-impl WriterRun<'_> {
-    /// Runs it over this writer.
-    fn check<W: io::Write + Drop>(self, rt: &impl Abort, alloc: Global, writer: W) {
-        let words = words_of(alloc, self.words).expect(rt, "memory for words");
-        let mut err = Held::new(alloc, 1000);
-        let reader = Cursor::new(self.input);
-        let status = run_over(alloc, &words, reader, writer, &mut err);
-        check_bytes(rt, err.bytes.as_slice(), self.error);
-        check_count(rt, "status", usize::from(status), usize::from(self.status));
+#[test]
+fn reads_ask_for_whole_blocks(rt: HostRuntime) {
+    check_blocks(&rt, rt.alloc(), 0, b"");
+    check_blocks(&rt, rt.alloc(), 1, b"\n");
+    check_blocks(&rt, rt.alloc(), 2, b"\n");
+    check_blocks(&rt, rt.alloc(), 3, b"\n");
+}
+
+/// A read of a whole block that fails with this kind of error is not tried again.
+fn check_failed_blocks(rt: &impl Abort, alloc: Global, kind: io::ErrorKind) {
+    let spaces = repeated(alloc, " ", 4 * BLOCK, "").expect(rt, "memory for blocks");
+    for failed_read in 1..4usize {
+        let devices = Devices {
+            most_read: usize::MAX,
+            failed_read,
+            ..streams(kind)
+        };
+        let run = Failure(&["invert"], spaces.as_bytes(), b"", CANNOT_READ);
+        let calls = run.check(rt, alloc, devices);
+        check_count(rt, "reads", calls.reads, failed_read);
     }
 }
 
-const FAILING: WriterRun<'static> = WriterRun {
-    words: &["invert", "R U' F2"],
-    input: b"",
-    status: 3,
-    error: CANNOT_WRITE,
-};
-
-/// Has each write of eight bytes fail once with this kind of error: none follows it, and one flush.
-fn check_each_write(rt: &impl Abort, alloc: Global, kind: io::ErrorKind) {
-    for before in 0..8usize {
-        let mut writer = FailingWriter::new(before + 1, kind);
-        FAILING.check(rt, alloc, &mut writer);
-        check_count(rt, "writes", writer.calls, before + 1);
-        check_count(rt, "flushes", writer.flushes, 1);
+#[test]
+fn each_read_of_a_block_fails_once(rt: HostRuntime) {
+    for kind in KINDS {
+        check_failed_blocks(&rt, rt.alloc(), kind);
     }
 }
 
+const INVERT: Run<'static> = Good(&["invert", "R U' F2"], b"", b"F2 U R'\n");
+
+/// No write follows one that failed.
 #[test]
 fn each_write_fails_once(rt: HostRuntime) {
     for kind in KINDS {
-        check_each_write(&rt, rt.alloc(), kind);
+        check_each_write(&rt, rt.alloc(), INVERT, streams(kind));
     }
 }
 
 #[test]
-fn no_bytes_taken(rt: HostRuntime) {
-    let mut writer = FullWriter { calls: 0 };
-    FAILING.check(&rt, rt.alloc(), &mut writer);
-    check_count(&rt, "writes", writer.calls, 1);
+fn no_bytes_are_taken(rt: HostRuntime) {
+    let devices = Devices {
+        most_written: 0,
+        ..STREAMS
+    };
+    let run = Failure(&["invert", "R U' F2"], b"", b"", CANNOT_WRITE);
+    let calls = run.check(&rt, rt.alloc(), devices);
+    check_count(&rt, "writes", calls.writes, 1);
 }
+
+/// Runs with one flush, after the last byte: a good one, one that a line's fault ends, and one that writes nothing.
+const FLUSHED: [Run<'static>; 3] = [
+    Good(&["invert"], b"R\nU\nF2\n", b"R'\nU'\nF2\n"),
+    Fault(
+        &["invert"],
+        b"R\nU\nR '\n",
+        b"R'\nU'\n",
+        b"nissy: line 3, column 3: not a move\n",
+    ),
+    Usage(&[""]),
+];
 
 #[test]
-fn last_flush_fails(rt: HostRuntime) {
-    let wanted = WriterRun {
-        words: &["invert"],
-        input: b"R U\n",
-        status: 3,
-        error: CANNOT_WRITE,
-    };
-    wanted.check(&rt, rt.alloc(), UnflushedWriter);
-}
-
-impl WriterRun<'_> {
-    /// Runs it over a writer that is to have so many bytes and then one flush.
-    fn check_flush(self, rt: &impl Abort, alloc: Global, bytes: usize) {
-        let mut writer = CountingWriter {
-            bytes: 0,
-            flushes: 0,
-            bytes_before_flush: 0,
-        };
-        self.check(rt, alloc, &mut writer);
-        check_count(rt, "bytes", writer.bytes, bytes);
-        check_count(rt, "flushes", writer.flushes, 1);
-        check_count(
-            rt,
-            "bytes before the flush",
-            writer.bytes_before_flush,
-            bytes,
-        );
+fn the_flush_comes_last(rt: HostRuntime) {
+    for run in FLUSHED {
+        run.check(&rt, rt.alloc(), STREAMS);
     }
 }
 
-/// One flush, after the last byte: of a good run, of one that a line's fault ends, and of one that writes nothing.
+/// Runs `unniss` over 700 empty lines and one that gives 256 words, of which the writer takes all at once, and flushes
+/// with this error, where there is one.
+fn check_long_piece(rt: &impl Abort, alloc: Global, flush_error: Option<io::ErrorKind>) {
+    let long = repeated(alloc, "Rw' ", 255, "Rw'\n").expect(rt, "memory for a line");
+    let lines = repeated(alloc, "\n", 700, &long).expect(rt, "memory for lines");
+    let devices = Devices {
+        most_read: usize::MAX,
+        flush_fails: flush_error.is_some(),
+        ..streams(flush_error.unwrap_or(io::ErrorKind::Other))
+    };
+    let (input, output) = (lines.as_bytes(), lines.as_bytes());
+    let run = match flush_error {
+        None => Good(&["unniss"], input, output),
+        Some(_) => Failure(&["unniss"], input, output, CANNOT_WRITE),
+    };
+    check_count(rt, "writes", run.check(rt, alloc, devices).writes, 1);
+}
+
 #[test]
-fn one_flush(rt: HostRuntime) {
-    let good = WriterRun {
-        words: &["invert"],
-        input: b"R\nU\nF2\n",
-        status: 0,
-        error: b"",
-    };
-    good.check_flush(&rt, rt.alloc(), 9);
-    let fault = WriterRun {
-        words: &["invert"],
-        input: b"R\nU\nR '\n",
-        status: 1,
-        error: b"nissy: line 3, column 3: not a move\n",
-    };
-    fault.check_flush(&rt, rt.alloc(), 6);
-    let usage = WriterRun {
-        words: &[""],
-        input: b"",
-        status: 2,
-        error: USAGE.as_bytes(),
-    };
-    usage.check_flush(&rt, rt.alloc(), 0);
+fn long_pieces_are_taken_whole(rt: HostRuntime) {
+    check_long_piece(&rt, rt.alloc(), None);
+}
+
+/// A flush that fails with any kind of error is reported and not tried again.
+#[test]
+fn each_flush_fails_once(rt: HostRuntime) {
+    for kind in KINDS {
+        check_long_piece(&rt, rt.alloc(), Some(kind));
+    }
 }

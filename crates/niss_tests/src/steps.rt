@@ -51,6 +51,7 @@ fn check_row(rt: &impl Abort, index: usize, row: &Row) {
 }
 
 fn check_rows(rt: &impl Abort, rows: &[Row]) {
+    assert!(rt; Step::all().len() == rows.len());
     for (index, row) in rows.iter().enumerate() {
         check_row(rt, index, row);
     }

@@ -4,16 +4,19 @@ use niss_shell::{UsageFault, parse_words};
 use std::alloc::Global;
 use std::process::Abort;
 
-/// Checks that the words have this fault.
-fn check_fault(rt: &impl Abort, alloc: Global, texts: &[&str], fault: UsageFault) {
+type Row = (&'static [&'static str], UsageFault);
+
+/// Checks that the words of a row have its fault.
+fn check_fault(rt: &impl Abort, alloc: Global, index: usize, row: &Row) {
+    let (texts, fault) = *row;
     let words = words_of(alloc, texts).expect(rt, "memory for words");
-    let Err(found) = parse_words(words.as_slice()) else {
-        panic!(rt; "no fault")
+    let Err(found) = parse_words(&words) else {
+        panic!(rt; "row {index} has no fault")
     };
-    assert_eq!(rt; found, fault);
+    assert!(rt; found == fault, "row {index}");
 }
 
-const FAULTS: [(&[&str], UsageFault); 26] = [
+const FAULTS: &[Row] = &[
     (&[], UsageFault::NoCommand),
     (&[""], UsageFault::UnknownCommand),
     (&["Invert", "R"], UsageFault::UnknownCommand),
@@ -48,8 +51,8 @@ const FAULTS: [(&[&str], UsageFault); 26] = [
 ];
 
 #[test]
-fn each_fault_of_words(rt: HostRuntime) {
-    for (texts, fault) in &FAULTS {
-        check_fault(&rt, rt.alloc(), texts, *fault);
+fn each_fault_of_words_is_named(rt: HostRuntime) {
+    for (index, row) in FAULTS.iter().enumerate() {
+        check_fault(&rt, rt.alloc(), index, row);
     }
 }
