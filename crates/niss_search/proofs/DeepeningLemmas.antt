@@ -8,10 +8,8 @@ use Rattle.std.proofs.lemmas.List.{append-nil}
 use Rattle.std.proofs.lemmas.List.Sums.{sum_by-append, sum_by-cons, sum_by-le-sum_by}
 use Rattle.std.proofs.lemmas.List.Concat.{length-flat_map}
 use Rattle.niss_moves.specs.Places.{Place}
-use Rattle.niss_moves.specs.declared.turn.Turn.{Turn}
-use Rattle.niss_cube.specs.declared.step.Step.{Step}
+use Rattle.niss_search.specs.Names.{Turn, Step, Coordinates}
 use Rattle.niss_cube.specs.Steps.{turns_of}
-use Rattle.niss_search.specs.declared.tables.position.Coordinates.{Coordinates}
 use Rattle.niss_search.specs.Solutions.{look_bound, from_to, up_to, last_length, solution_lengths, least_length, solutions, reaching}
 use Rattle.niss_search.specs.Looks.{looks, all_looks}
 use Rattle.niss_search.specs.declared.outcome.Outcome.{Outcome}

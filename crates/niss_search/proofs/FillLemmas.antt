@@ -8,7 +8,7 @@ use Rattle.std.proofs.lemmas.List.FromFn.{length-range_with_len}
 use Rattle.std.proofs.lemmas.List.{get_or_past, length-replicate, get_or-replicate, set-get_or}
 use Rattle.std.proofs.Math.Nat.{mul-le-mul}
 use Rattle.niss_moves.specs.Turn.{inverse_turn}
-use Rattle.niss_moves.specs.declared.turn.Turn.{Turn}
+use Rattle.niss_search.specs.Names.{Turn}
 use Rattle.niss_cube.specs.Steps.{turns_of}
 use Rattle.niss_search.specs.Entries.{count_for}
 use Rattle.niss_search.specs.Filling.{entry_after, entry_distance, byte_at, Alternative, EntriesTurn, IsFilled, IsFilling, IsExtended}

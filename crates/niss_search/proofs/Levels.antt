@@ -3,15 +3,13 @@ use Rattle.std.proofs.Common.{◌≡◌, ℕ, zero, suc, ◌+◌, ◌≤◌, ◌
 use Rattle.std.specs.List.{range_with_len, list_any}
 use Rattle.std.proofs.lemmas.List.Sums.{sum_by_push}
 use Rattle.std.proofs.lemmas.Bool.Decides.{leb_tells}
-use Rattle.niss_moves.specs.declared.turn.Turn.{Turn}
-use Rattle.niss_cube.specs.declared.step.Step.{Step}
+use Rattle.niss_search.specs.Names.{Turn, Step, Coordinates}
 use Rattle.niss_cube.specs.Steps.{turns_of}
 use Rattle.niss_moves.specs.Canonical.{all_canonical}
 use Rattle.niss_search.specs.Solutions.{up_to, least_length, solutions, reaching}
 use Rattle.niss_search.specs.Looks.{looks, all_looks}
 use Rattle.niss_search.specs.Descent.{found_below, looks_below}
 use Rattle.niss_search.specs.Deepening.{reaches_at, far_at}
-use Rattle.niss_search.specs.declared.tables.position.Coordinates.{Coordinates}
 use Rattle.niss_search.specs.Positions.{position_after, is_reached_at, distance_at}
 use Rattle.niss_search.proofs.ListLemmas.{filter-none, filter-some, range_with_len-more}
 use Rattle.niss_search.proofs.DepthFirst.{found_all, visits_all}

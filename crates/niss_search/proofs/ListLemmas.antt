@@ -181,13 +181,6 @@ get_or-same [] i d e l = absurd (omega arith)
 get_or-same (x ∷ xs) zero d e l = refl
 get_or-same (x ∷ xs) (suc i) d e l = get_or-same xs i d e (omega arith)
 
-pub list_any-append : {X : Type 0} (p : X → Bool) (xs ys : List X) → list_any p (xs ++ ys) ≡ (list_any p xs || list_any p ys)
-list_any-append p [] ys = refl
-list_any-append p (x ∷ xs) ys = by_test (p x) (list_any p xs) (list_any p ys) (list_any-append p xs ys) where
-  by_test : (a b c : Bool) → list_any p (xs ++ ys) ≡ (b || c) → (a || list_any p (xs ++ ys)) ≡ ((a || b) || c)
-  by_test true b c e = refl
-  by_test false b c e = e
-
 -- one more item taken and filtered
 pub filter-more : {X : Type 0} (p : X → Bool) (xs : List X) (i : ℕ) (d : X) → i < length xs → filter p (take (i + 1) xs) ≡ filter p (take i xs) ++ filter p (get_or xs i d ∷ [])
 filter-more p xs i d l = ap (filter p) (take_more xs i d l) ∙ filter-append p (take i xs) (get_or xs i d ∷ [])

@@ -1,16 +1,11 @@
 -- The pruning table of a goal while it is filled, level by level. (For the functions of the tables.)
-use Rattle.std.specs.Prelude.{◌≡◌, ℕ, ◌+◌, ◌*◌, ◌/◌, ◌%◌, ◌<◌, ◌≤◌, ◌⊎◌, List, [], ◌∷◌, length, slice_index, min, Contains, count_by, sum_by, nat_le, ⊤, if◌then◌else◌}
+use Rattle.std.specs.Prelude.{◌≡◌, ℕ, ◌+◌, ◌*◌, ◌/◌, ◌%◌, ◌<◌, ◌≤◌, ◌⊎◌, List, [], ◌∷◌, length, slice_index, min, Contains, count_by, nat_le, ⊤, if◌then◌else◌}
 use Rattle.niss_moves.specs.Turn.{inverse_turn}
-use Rattle.niss_moves.specs.declared.turn.Turn.{Turn}
+use Rattle.niss_search.specs.Names.{Turn, Goal, Edges, Domino, Step, Coordinates, Flip, TwistAndSlice}
 use Rattle.niss_cube.specs.NumberAfter.{number_after}
 use Rattle.niss_cube.specs.declared.cube.coordinate.Coordinate.TheVariants as coordinate
 use Rattle.niss_cube.specs.Steps.{turns_of}
 use Rattle.niss_cube.specs.StepLaws.{InversesOfSteps}
-use Rattle.niss_cube.specs.declared.step.Goal.{Goal}
-use Rattle.niss_cube.specs.declared.step.Goal.TheVariants.{Edges, Domino}
-use Rattle.niss_cube.specs.declared.step.Step.{Step}
-use Rattle.niss_search.specs.declared.tables.position.Coordinates.{Coordinates}
-use Rattle.niss_search.specs.declared.tables.position.Coordinates.TheVariants.{Flip, TwistAndSlice}
 use Rattle.niss_search.specs.Positions.{coordinates_after, distance_at}
 use Rattle.niss_search.specs.Moves.{turn_at}
 use Rattle.niss_search.specs.Entries.{values_for, count_for}
@@ -63,9 +58,6 @@ entry_distance alt i = distance_at alt.step (entry_at alt.goal i ∷ [])
 unfoldable pub goal_ticks : Alternative → ℕ
 goal_ticks alt =
     length (turns_of alt.step) * count_by (λ c. nat_le (distance_at alt.step (c ∷ [])) 19) (values_for alt.goal)
-
-unfoldable pub ticks_of_goals : Step → List Goal → ℕ
-ticks_of_goals step goals = sum_by (λ g. goal_ticks record { step = step; goal = g }) goals
 
 -- What the fill needs of the entries: a turn leads from entry to entry, its inverse leads back, and the step has it.
 pub record EntriesTurn : Type 0 where

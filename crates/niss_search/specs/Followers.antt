@@ -1,13 +1,10 @@
 -- The turns of a step that may stand after a turn, with their columns, and the first of them after which a state is near. (For the
 -- search's own functions.)
 use Rattle.std.specs.Prelude.{◌≡◌, ℕ, ◌+◌, ◌<◌, ◌≤◌, Bool, List, map, filter, take, get_or, length, All}
-use Rattle.niss_moves.specs.declared.turn.Turn.{Turn}
+use Rattle.niss_search.specs.Names.{Turn, Step, Follower, Coordinates}
 use Rattle.niss_cube.specs.Steps.{turns_of}
-use Rattle.niss_cube.specs.declared.step.Step.{Step}
-use Rattle.niss_search.specs.declared.tables.followers.Follower.{Follower}
 use Rattle.niss_search.specs.Moves.{turn_at}
 use Rattle.niss_search.specs.Positions.{position_after, distance_at}
-use Rattle.niss_search.specs.declared.tables.position.Coordinates.{Coordinates}
 
 -- The turn stands in its column.
 abbrev pub IsFollower : Step → Follower → Type 0

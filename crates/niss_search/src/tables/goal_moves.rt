@@ -1,13 +1,11 @@
 //! How the turns of a step move the coordinates of one of its goals.
 ghost use Rattle.std.specs.Prelude.{◌≡◌, ◌*◌, ◌<◌, ◌≤◌, length, IfOk};
 ghost use Rattle.niss_cube.specs.Steps.{turns_of};
-ghost use Rattle.niss_cube.specs.declared.step.Goal.TheVariants.{Edges, Domino};
+ghost use Rattle.niss_search.specs.Names.{Edges, Domino, Coordinates, Flip, TwistAndSlice};
 ghost use Rattle.niss_search.specs.Entries.{count_for};
 ghost use Rattle.niss_search.specs.Filling.{Alternative, IsEntry, AreStarts, ArePlaces, row_length, entry_number, entry_at};
 ghost use Rattle.niss_search.specs.Moves.{turn_at};
-ghost use Rattle.niss_search.specs.Positions.{coordinates_after, AreInRange};
-ghost use Rattle.niss_search.specs.declared.tables.position.Coordinates.{Coordinates};
-ghost use Rattle.niss_search.specs.declared.tables.position.Coordinates.TheVariants.{Flip, TwistAndSlice};
+ghost use Rattle.niss_search.specs.Positions.{coordinates_after};
 ghost use Rattle.niss_cube.specs.declared.cube.coordinate.Coordinate.TheVariants as coordinate;
 
 use super::entries::pair_number;
@@ -61,8 +59,7 @@ pub trait GoalMoves {
 
     /// The coordinates of a state.
     fn coordinates_of(&self, state: Self::State) -> Coordinates
-        ensures value { result ≡ coordinates self.now state }
-        ensures in_range { AreInRange result };
+        ensures { result ≡ coordinates self.now state };
 
     /// The number of its entry in the pruning table.
     fn entry(&self, state: Self::State) -> usize

@@ -1,10 +1,8 @@
 use Rattle.std.proofs.Common.{arith, ◌<◌, ◌≤◌, take, get_or, [], ◌∷◌, subst, All}
 use Rattle.std.proofs.lemmas.List.{take_more, take_all}
 use Rattle.std.proofs.lemmas.List.Elements.{All-append}
-use Rattle.niss_moves.specs.declared.turn.Face.TheVariants.{U}
-use Rattle.niss_moves.specs.declared.turn.Power.TheVariants.{Quarter}
+use Rattle.niss_search.specs.Names.{U, Quarter, Follower}
 use Rattle.niss_search.specs.Followers.{distance_after}
-use Rattle.niss_search.specs.declared.tables.followers.Follower.{Follower}
 use Rattle.niss_search.proofs.ListLemmas.{All-one, get_or-same}
 use Rattle.niss_search.proofs.descent.next_near.Goals as goal
 

@@ -2,8 +2,7 @@ use Rattle.std.proofs.Common.{arith, ◌≡◌, ◌+◌, ◌-◌, ◌<◌, ◌�
 use Rattle.std.proofs.lemmas.List.Elements.{All-drop}
 use Rattle.std.proofs.lemmas.List.{length-drop, take_rest}
 use Rattle.niss_moves.specs.Canonical.{may_follow, last_turn}
-use Rattle.niss_moves.specs.declared.turn.Face.TheVariants.{U}
-use Rattle.niss_moves.specs.declared.turn.Power.TheVariants.{Quarter}
+use Rattle.niss_search.specs.Names.{U, Quarter, Follower}
 use Rattle.niss_cube.specs.Steps.{turns_of}
 use Rattle.niss_search.specs.Delivery.{at_limit}
 use Rattle.niss_search.specs.Descending.{state_of}
@@ -11,7 +10,6 @@ use Rattle.niss_search.specs.Descent.{looks_beyond}
 use Rattle.niss_search.specs.Followers.{IsFollower}
 use Rattle.niss_search.specs.Path.{Path}
 use Rattle.niss_search.specs.Positions.{distance_at, position_after}
-use Rattle.niss_search.specs.declared.tables.followers.Follower.{Follower}
 use Rattle.niss_search.proofs.DescentLemmas.{found_below-end, looks_below-end, looks_below-one, found_below-listed, looks_beyond-listed, whole-more, turns_in, Descends-take, looks-rest, count-within, GoesThrough-far, looks-next, GoesThrough-next, StopsIn-next}
 use Rattle.niss_search.proofs.descent.Descent.+descent.Goals as goal
 

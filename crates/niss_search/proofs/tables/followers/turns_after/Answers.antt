@@ -2,11 +2,8 @@ use Rattle.std.proofs.Common.{arith, ◌≡◌, ◌∙◌, ap, sym, refl, map, f
 use Rattle.std.proofs.lemmas.List.{map-append, append-nil}
 use Rattle.std.proofs.lemmas.List.Elements.{All-append}
 use Rattle.niss_moves.specs.Canonical.{may_follow}
-use Rattle.niss_moves.specs.declared.turn.Turn.{Turn}
-use Rattle.niss_moves.specs.declared.turn.Face.TheVariants.{U}
-use Rattle.niss_moves.specs.declared.turn.Power.TheVariants.{Quarter}
+use Rattle.niss_search.specs.Names.{Turn, U, Quarter, Follower}
 use Rattle.niss_search.specs.Followers.{IsFollower}
-use Rattle.niss_search.specs.declared.tables.followers.Follower.{Follower}
 use Rattle.niss_search.proofs.Bounds.{turns_of-length}
 use Rattle.niss_search.proofs.ListLemmas.{filter-more, All-one}
 use Rattle.niss_search.proofs.tables.followers.turns_after.Goals as goal

@@ -1,7 +1,5 @@
 use Rattle.std.proofs.Common.{arith, ◌≡◌, ◌<◌, ◌∙◌, ap, get_or, length, List, below_more, length-set, get_or-set_other, get_or-set_same, refl}
-use Rattle.niss_moves.specs.declared.turn.Turn.{Turn}
-use Rattle.niss_moves.specs.declared.turn.Face.TheVariants.{U}
-use Rattle.niss_moves.specs.declared.turn.Power.TheVariants.{Quarter}
+use Rattle.niss_search.specs.Names.{Turn, U, Quarter}
 use Rattle.niss_cube.specs.NumberAfter.{number_after}
 use Rattle.niss_search.specs.Moves.{turn_at}
 use Rattle.niss_search.proofs.Bounds.{turns_of-length}
