@@ -1,5 +1,5 @@
 -- The pruning table of a goal while it is filled, level by level. (For the functions of the tables.)
-use Rattle.std.specs.Prelude.{◌≡◌, ℕ, ◌+◌, ◌*◌, ◌/◌, ◌%◌, ◌<◌, ◌≤◌, ◌⊎◌, List, [], ◌∷◌, length, slice_index, min, Contains, count_by, nat_le, ⊤, if◌then◌else◌}
+use Rattle.std.specs.Prelude.{◌≡◌, ◌≢◌, ℕ, ◌+◌, ◌*◌, ◌/◌, ◌%◌, ◌<◌, ◌≤◌, List, [], ◌∷◌, length, slice_index, min, Contains, count_by, nat_le, ⊤, if◌then◌else◌}
 use Rattle.niss_moves.specs.Turn.{inverse_turn}
 use Rattle.niss_search.specs.Names.{Turn, Goal, Edges, Domino, Step, Coordinates, Flip, TwistAndSlice}
 use Rattle.niss_cube.specs.NumberAfter.{number_after}
@@ -75,11 +75,15 @@ pub record IsFilled (alt : Alternative) (level : ℕ) (xs : List ℕ) : Type 0 w
   pub size : length xs ≡ count_for alt.goal
   pub bytes : (i : ℕ) → i < count_for alt.goal → slice_index xs i ≡ byte_at level (entry_distance alt i)
 
--- the same, where some entries of the next level are there too
+-- the same, where some entries of the next level may have been met: one that was has its distance
+pub record MayBeAt (level distance byte : ℕ) : Type 0 where
+  pub near : distance ≤ level → byte ≡ distance
+  pub met : byte ≢ 21 → byte ≡ distance
+  pub next : byte ≢ 21 → byte ≤ level + 1
+
 pub record IsFilling (alt : Alternative) (level : ℕ) (xs : List ℕ) : Type 0 where
   pub size : length xs ≡ count_for alt.goal
-  pub near : (i : ℕ) → i < count_for alt.goal → entry_distance alt i ≤ level → slice_index xs i ≡ entry_distance alt i
-  pub far : (i : ℕ) → i < count_for alt.goal → level < entry_distance alt i → (slice_index xs i ≡ 21) ⊎ ((slice_index xs i ≡ level + 1) × (entry_distance alt i ≡ level + 1))
+  pub bytes : (i : ℕ) → i < count_for alt.goal → MayBeAt level (entry_distance alt i) (slice_index xs i)
 
 -- the entries after each turn from entry i have been met
 abbrev pub IsExtended : Alternative → List ℕ → ℕ → Type 0
