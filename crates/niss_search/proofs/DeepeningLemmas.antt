@@ -22,8 +22,8 @@ use Rattle.niss_search.specs.Deepening.{Delivers, reaches_at, far_at, least_leng
 use Rattle.niss_search.proofs.Bounds.{least-within, all_looks-bound}
 use Rattle.niss_search.proofs.DescentLemmas.{WentThrough-append, StoppedIn-after, StoppedIn-before, StoppedIn-some, WentThrough-none, length-found_below}
 use Rattle.niss_search.proofs.Transfer.{solutions-cube, all_looks-cube}
-use Rattle.niss_search.proofs.Levels.{NoneBelow, NoneBelow-more, least_length-at, solutions-none, all_looks-none, levels-more, found_below-level, looks_below-level}
-use Rattle.niss_search.proofs.ListLemmas.{range_with_len-more, range_with_len-append}
+use Rattle.niss_search.proofs.Levels.{NoneBelow, NoneBelow-more, least_length-at, solutions-none, all_looks-none, found_below-level, looks_below-level}
+use Rattle.niss_search.proofs.ListLemmas.{sum_by-range_more, range_with_len-more, range_with_len-append}
 
 pub range-push : (a d : ℕ) → a ≤ d → range_with_len a (d + 1 - a) ≡ range_with_len a (d - a) ++ d ∷ []
 range-push a d h =
@@ -166,7 +166,7 @@ module _ (step : Step) (x : List Coordinates) (n d : ℕ) (none : NoneBelow (tur
   looks-here : (m m0 : ℕ) → m ≡ m0 + looks_at step x (range_with_len 0 d) → 0 < length (reaching_at step x (d ∷ [])) → m + looks_at step x (d ∷ []) ≡ m0 + all_looks_at step x n 0
   looks-here m m0 looked some =
       let looks_to = looks (turns_of step) (far_at step x) in
-      omega (arith, looked, levels-more looks_to d, sum_by-cons looks_to d [], all_looks-least (turns_of step) (reaches_at step x) n d (least-here some) (far_at step x))
+      omega (arith, looked, sum_by-range_more looks_to d, sum_by-cons looks_to d [], all_looks-least (turns_of step) (reaches_at step x) n d (least-here some) (far_at step x))
 
   module _ {K : Type 0} (took refused : K → List Turn → K → Type 0) (m m0 m1 : ℕ) (looked : m ≡ m0 + looks_at step x (range_with_len 0 d)) (s s1 : K) where
     module _ (c : ℕ) (went : GoesThrough took refused (reaching_at step x (d ∷ [])) (looks_at step x (d ∷ [])) (descent_state m 0 s) (descent_state m1 c s1)) where

@@ -40,11 +40,6 @@ unfolding row_length
 row_length-some (Edges a) = lit< tt
 row_length-some (Domino o a) = lit< tt
 
-pub row-from : (g : Goal) (i : ℕ) → i / row_length g * row_length g ≤ i
-unfolding row_length
-row-from (Edges a) i = omega arith
-row-from (Domino o a) i = omega arith
-
 pub row-to : (g : Goal) (i : ℕ) → i < i / row_length g * row_length g + row_length g
 unfolding row_length
 row-to (Edges a) i = omega arith

@@ -3,7 +3,7 @@ use Rattle.std.proofs.Common.{◌≡◌, ℕ, zero, suc, ◌+◌, ◌*◌, ◌�
 use Rattle.std.proofs.lemmas.Bool.{leb-true}
 use Rattle.std.specs.List.{range_with_len}
 use Rattle.std.proofs.lemmas.Bool.Decides.{leb_tells, eqb_tells, nat_tests}
-use Rattle.std.proofs.lemmas.List.Sums.{sum_by-cons, sum_by_push, count_by-le-length}
+use Rattle.std.proofs.lemmas.List.Sums.{sum_by-cons, count_by-le-length}
 use Rattle.std.proofs.lemmas.List.FromFn.{length-range_with_len}
 use Rattle.std.proofs.lemmas.List.{get_or_past, length-replicate, get_or-replicate, set-get_or}
 use Rattle.std.proofs.Math.Nat.{mul-le-mul}
@@ -12,7 +12,7 @@ use Rattle.niss_search.specs.Names.{Turn}
 use Rattle.niss_cube.specs.Steps.{turns_of}
 use Rattle.niss_search.specs.Entries.{count_for}
 use Rattle.niss_search.specs.Filling.{entry_after, entry_distance, byte_at, Alternative, EntriesTurn, MayBeAt, IsFilled, IsFilling, IsExtended}
-use Rattle.niss_search.proofs.ListLemmas.{sum_by-same, sum_by-none, range_with_len-more}
+use Rattle.niss_search.proofs.ListLemmas.{sum_by-same, sum_by-none, sum_by-range_more}
 use Rattle.niss_search.proofs.EntryLemmas.{count_for-some, entry_distance-zero, entry_distance-turn, entry_distance-back, entry_distance-nearer}
 
 -- what a byte may be when a level begins, and that it is the distance once it is met, or once the level is done
@@ -93,9 +93,7 @@ module _ (law : EntriesTurn) (alt : Alternative) (level : ℕ) (small : level < 
 
 -- counts by level
 pub count-more : (p : ℕ → Bool) (n : ℕ) → count_by p (range_with_len 0 (n + 1)) ≡ count_by p (range_with_len 0 n) + cond (p n) 1 0
-count-more p n =
-    let e : 0 + n ≡ n = omega arith in
-    rw (add-one n, range_with_len-more 0 n, e) (sum_by_push (λ x. cond (p x) 1 0) (range_with_len 0 n) n)
+count-more p n = sum_by-range_more (λ x. cond (p x) 1 0) n
 
 -- places that don't pass add nothing to a count
 pub count-skip : (p : ℕ → Bool) (a b : ℕ) → a ≤ b → ((k : ℕ) → a ≤ k → k < b → p k ≡ false) → count_by p (range_with_len 0 b) ≡ count_by p (range_with_len 0 a)

@@ -5,7 +5,8 @@ use Rattle.niss_search.specs.Delivery.{at_limit}
 use Rattle.niss_search.specs.Deepening.{far_at, reaches_at}
 use Rattle.niss_search.specs.Looks.{looks}
 use Rattle.niss_search.proofs.Bounds.{looks-small, looks-sum-small, turns_of-length}
-use Rattle.niss_search.proofs.Levels.{levels-more, least_length-none}
+use Rattle.niss_search.proofs.ListLemmas.{sum_by-range_more}
+use Rattle.niss_search.proofs.Levels.{least_length-none}
 use Rattle.niss_search.proofs.DeepeningLemmas.{least_length-found, solutions-found, solutions-stopped, none-here, sink-same, nothing-found}
 use Rattle.niss_search.proofs.deepening.Root.find_least.Goals as goal
 
@@ -53,7 +54,7 @@ loop-length-preserved g c =
       end = inv.end;
       small = inv.small;
       none = none-here step x c.args.path.now.limit d inv.none (omega arith) took refused c.loop-length.meter c.args.meter.now c.deepen.new.meter inv.looked c.loop-length.sink c.deepen.new.sink c.in_ok-solutions.solutions went (omega arith);
-      looked = omega (arith, inv.looked, went.looked, levels-more (looks (turns_of step) (far_at step x)) d);
+      looked = omega (arith, inv.looked, went.looked, sum_by-range_more (looks (turns_of step) (far_at step x)) d);
     }
 
 pub returns-clause-length : goal.returns-clause-length
