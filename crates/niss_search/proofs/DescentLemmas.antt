@@ -264,10 +264,9 @@ module _ {K : Type 0} (took refused : K → List Turn → K → Type 0) (f : Tur
   }
 
 -- how the turns of a position go on, where those done went through and those that may follow are left
-module _ {K : Type 0} (took refused : K → List Turn → K → Type 0) (step : Step) (x : List Coordinates) (p : List Turn) (left : ℕ)
+module _ {K : Type 0} {took refused : K → List Turn → K → Type 0} (step : Step) (x : List Coordinates) (p : List Turn) (left : ℕ)
     (done : List Turn) (rest : List Follower) (whole : done ++ turns_in rest ≡ filter (may_follow (last_turn p)) (turns_of step))
-    (old : DescentState K) (m c : ℕ) (s : K)
-    (went : GoesThrough took refused (flat_map (found_after step x p left) done) (sum_by (looks_after step x p left) done) old (descent_state m c s)) where
+    {old : DescentState K} {m c : ℕ} {s : K} (went : GoesThrough took refused (flat_map (found_after step x p left) done) (sum_by (looks_after step x p left) done) old (descent_state m c s)) where
   abbrev f : Turn → List (List Turn)
   f = found_after step x p left
 
@@ -287,15 +286,15 @@ module _ {K : Type 0} (took refused : K → List Turn → K → Type 0) (step : 
   pub count-within : c + old.meter ≤ old.count + m
   count-within = omega (arith, went.counted, went.looked, length-flat_map-le f g done (length-found_after step x p left))
 
-  pub GoesThrough-far : (n : ℕ) → AreFar step x left rest m n
+  pub GoesThrough-far : {n : ℕ} → AreFar step x left rest m n
       → GoesThrough took refused (flat_map (found_after step x p left) (filter (may_follow (last_turn p)) (turns_of step))) (sum_by (looks_after step x p left) (filter (may_follow (last_turn p)) (turns_of step))) old (descent_state n c s)
-  GoesThrough-far n are =
+  GoesThrough-far {n} are =
       let all = GoesThrough-append took refused f g done (turns_in rest) old (descent_state m c s) (descent_state (m + length rest) c s) went
       (GoesThrough-none took refused f g (turns_in rest) (length rest) m c s (found_after-far step x p left rest may are.far) (looks_after-far step x p left rest may are.far)) in
       subst (λ k. GoesThrough took refused (flat_map f listed) (sum_by g listed) old (descent_state k c s)) (sym are.looked)
       (subst (λ ts. GoesThrough took refused (flat_map f ts) (sum_by g ts) old (descent_state (m + length rest) c s)) whole all)
 
-  module _ (n i : ℕ) (next : IsNextNear step x left rest m n i) (d : Follower) where
+  module _ {n i : ℕ} (next : IsNextNear step x left rest m n i) (d : Follower) where
     abbrev far : List Turn
     far = turns_in (take i rest)
 
@@ -319,18 +318,18 @@ module _ {K : Type 0} (took refused : K → List Turn → K → Type 0) (step : 
     looks-next =
         omega (arith, passed.looked, next.looked, ap (sum_by g) whole_next, sum_by-append g (done ++ far) (t ∷ turns_in (drop (i + 1) rest)), sum_by-cons g t (turns_in (drop (i + 1) rest)), looks_after-may step x p left t follows, looks_below-one step (position_after x t) (p ++ t ∷ []) left)
 
-    pub GoesThrough-next : (new : DescentState K)
+    pub GoesThrough-next : {new : DescentState K}
         → GoesThrough took refused (found_below step (position_after x (get_or rest i d).turn) (p ++ (get_or rest i d).turn ∷ []) left) (looks_beyond step (position_after x (get_or rest i d).turn) (p ++ (get_or rest i d).turn ∷ []) left) (descent_state n c s) new
         → GoesThrough took refused (flat_map (found_after step x p left) ((done ++ turns_in (take i rest)) ++ (get_or rest i d).turn ∷ [])) (sum_by (looks_after step x p left) ((done ++ turns_in (take i rest)) ++ (get_or rest i d).turn ∷ [])) old new
-    GoesThrough-next new h =
+    GoesThrough-next {new} h =
         GoesThrough-more took refused f g (done ++ far) t old (descent_state (m + i) c s) new passed
         (rw (found_after-may step x p left t follows, looks_after-may step x p left t follows, looks_below-one step (position_after x t) (p ++ t ∷ []) left)
         (Descends-look took refused {F = Unit {0}} (Ok tt) (found_below step (position_after x t) (p ++ t ∷ []) left) (looks_beyond step (position_after x t) (p ++ t ∷ []) left) (m + i) n c s new next.looked h))
 
-    pub StopsIn-next : (new : DescentState K)
+    pub StopsIn-next : {new : DescentState K}
         → StopsIn took refused (found_below step (position_after x (get_or rest i d).turn) (p ++ (get_or rest i d).turn ∷ []) left) (looks_beyond step (position_after x (get_or rest i d).turn) (p ++ (get_or rest i d).turn ∷ []) left) (descent_state n c s) new
         → StopsIn took refused (flat_map (found_after step x p left) (filter (may_follow (last_turn p)) (turns_of step))) (sum_by (looks_after step x p left) (filter (may_follow (last_turn p)) (turns_of step))) old new
-    StopsIn-next new h =
+    StopsIn-next {new} h =
         subst (λ ts. StopsIn took refused (flat_map f ts) (sum_by g ts) old new) whole_next
         (StopsIn-among took refused f g (done ++ far) t (turns_in (drop (i + 1) rest)) old (descent_state (m + i) c s) new passed
         (rw (found_after-may step x p left t follows, looks_after-may step x p left t follows, looks_below-one step (position_after x t) (p ++ t ∷ []) left)
