@@ -9,7 +9,7 @@ use Rattle.std.proofs.lemmas.List.Sums.{sum_by-cons, sum_by-append, sum_by-le}
 use Rattle.std.proofs.lemmas.List.Elements.{All-contains_itself}
 use Rattle.std.proofs.lemmas.List.Concat.{length-flat_map}
 use Rattle.std.proofs.lemmas.Grind.{flat_map-append}
-use Rattle.std.proofs.Math.Nat.{mul-le-mul, mul_comm, mul-add}
+use Rattle.std.proofs.Math.Nat.{mul-le-mul, mul-le-mul_right, mul_comm, mul-add}
 use Rattle.niss_search.specs.Names.{Axis, Goal, Edges, Domino, Step, Coordinates, Flip, TwistAndSlice}
 use Rattle.niss_cube.specs.Steps.{start_of, goals_of, turns_of}
 use Rattle.niss_cube.specs.StepLaws.{DominoKeepsStart}
@@ -88,10 +88,8 @@ pub goal_ticks-at-most : (alt : Alternative) → goal_ticks alt ≤ count_for al
 goal_ticks-at-most alt =
     let near : ℕ → Bool = λ i. nat_le (entry_distance alt i) 19 in
     let count = count_by near (range_with_len 0 (count_for alt.goal)) in
-    let within = mul-le-mul (count-range-le near (count_for alt.goal)) (turns-le (length (turns_of alt.step))) in
-    omega (arith, ticks-numbered alt, within, mul_comm (length (turns_of alt.step)) count) where
-      turns-le : (n : ℕ) → n ≤ n
-      turns-le n = omega arith
+    let within = mul-le-mul_right (length (turns_of alt.step)) (count-range-le near (count_for alt.goal)) in
+    omega (arith, ticks-numbered alt, within, mul_comm (length (turns_of alt.step)) count)
 
 -- the turns that the fill of a step's tables tries are those of its goals
 ticks-of-goals : (s : Step) → fill_ticks s ≡ sum_by (λ g. goal_ticks record { step = s; goal = g }) (goals_of s)
@@ -124,9 +122,8 @@ ticks_of_three s g h i e = let sum = ticks-of-goals s in omega (arith, rw e at s
 -- and a bound for each goal
 pub goal_ticks_bound : (alt : Alternative) → goal_ticks alt ≤ 2 ^ 32
 goal_ticks_bound alt =
-    omega (arith, goal_ticks-at-most alt, mul-le-mul (below (count_for alt.goal) (count_for-bound alt.goal)) (turns_of-length alt.step)) where
-      below : (n : ℕ) → n < 1082566 → n ≤ 1082566
-      below n h = omega arith
+    let few : count_for alt.goal ≤ 1082566 = omega (arith, count_for-bound alt.goal) in
+    omega (arith, goal_ticks-at-most alt, mul-le-mul few (turns_of-length alt.step))
 
 pub ticks-at-most : (s : Step) → fill_ticks s ≤ entry_count s * length (turns_of s)
 unfolding entry_count

@@ -43,12 +43,15 @@ pub record Alternative : Type 0 where
 -- the turn.
 abbrev pub AreStarts : Alternative → (start : ℕ) → (starts : List ℕ) → Type 0
 AreStarts alt start starts =
-    (k place : ℕ) → k < length (turns_of alt.step) → place < row_length alt.goal → slice_index starts k + place_after alt.goal place (turn_at alt.step k) ≡ entry_after alt.goal (start + place) (turn_at alt.step k)
+    (k place : ℕ) → k < length (turns_of alt.step) → place < row_length alt.goal →
+    slice_index starts k + place_after alt.goal place (turn_at alt.step k)
+    ≡ entry_after alt.goal (start + place) (turn_at alt.step k)
 
 -- the places after the turns, in turn order
 abbrev pub ArePlaces : Alternative → (place : ℕ) → (places : List ℕ) → Type 0
 ArePlaces alt place places =
-    (k : ℕ) → k < length (turns_of alt.step) → slice_index places k ≡ place_after alt.goal place (turn_at alt.step k)
+    (k : ℕ) → k < length (turns_of alt.step) →
+    slice_index places k ≡ place_after alt.goal place (turn_at alt.step k)
 
 -- the distance of an entry: how far the step is, if this were its one goal
 unfoldable pub entry_distance : Alternative → ℕ → ℕ
@@ -62,8 +65,10 @@ goal_ticks alt =
 -- What the fill needs of the entries: a turn leads from entry to entry, its inverse leads back, and the step has it.
 pub record EntriesTurn : Type 0 where
   pub below : (g : Goal) (i : ℕ) (t : Turn) → i < count_for g → entry_after g i t < count_for g
-  pub leads : (g : Goal) (i : ℕ) (t : Turn) → i < count_for g → entry_at g (entry_after g i t) ≡ coordinates_after (entry_at g i) t
-  pub back : (g : Goal) (i : ℕ) (t : Turn) → i < count_for g → entry_after g (entry_after g i t) (inverse_turn t) ≡ i
+  pub leads : (g : Goal) (i : ℕ) (t : Turn) → i < count_for g →
+      entry_at g (entry_after g i t) ≡ coordinates_after (entry_at g i) t
+  pub back : (g : Goal) (i : ℕ) (t : Turn) → i < count_for g →
+      entry_after g (entry_after g i t) (inverse_turn t) ≡ i
   pub inverses : InversesOfSteps
 
 -- the byte of an entry at a distance, once the table is filled to a level

@@ -1,4 +1,5 @@
--- The numbers of a coordinate after the turns of a step, which have their columns in turn order. (For the functions of the tables.)
+-- The numbers of a coordinate after the turns of a step, which have their columns in turn order. (For the functions of
+-- the tables.)
 use Rattle.std.specs.Prelude.{◌≡◌, ℕ, ◌<◌, List, [], length, get_or, slice_index}
 use Rattle.niss_search.specs.Names.{Axis, U, Quarter, Turn, Step, Coordinate}
 use Rattle.niss_cube.specs.Coordinates.{count_of}
@@ -17,7 +18,8 @@ pub record Moves : Type 0 where
 
 -- The row of a number: the numbers after the turns of the step.
 pub record IsMoveRow (moves : Moves) (number : ℕ) (row : List ℕ) : Type 0 where
-  pub after : (k : ℕ) → k < length (turns_of moves.step) → slice_index row k ≡ number_after moves.coordinate moves.axis number (turn_at moves.step k)
+  pub after : (k : ℕ) → k < length (turns_of moves.step) →
+      slice_index row k ≡ number_after moves.coordinate moves.axis number (turn_at moves.step k)
   pub below : (k : ℕ) → k < length (turns_of moves.step) → slice_index row k < count_of moves.coordinate
 
 pub record AreMoveRows (moves : Moves) (rows : List (List ℕ)) : Type 0 where
