@@ -18,12 +18,10 @@ use Rattle.niss_search.proofs.PositionLemmas.{position_of-is}
 use Rattle.niss_search.proofs.LookLemmas.{distance_at-goal, distance_at-turn, distance_at-most, distance_at-nearer}
 
 pub count_for-some : (g : Goal) → 0 < count_for g
-unfolding count_for
 count_for-some (Edges a) = lit< tt
 count_for-some (Domino o a) = lit< tt
 
 pub count_for-bound : (g : Goal) → count_for g < 1082566
-unfolding count_for
 count_for-bound (Edges a) = lit< tt
 count_for-bound (Domino o a) = lit< tt
 
@@ -36,19 +34,16 @@ low a b h = omega arith
 
 -- the row in which an entry stands
 pub row_length-some : (g : Goal) → 0 < row_length g
-unfolding row_length
 row_length-some (Edges a) = lit< tt
 row_length-some (Domino o a) = lit< tt
 
 pub row-to : (g : Goal) (i : ℕ) → i < i / row_length g * row_length g + row_length g
-unfolding row_length
 row-to (Edges a) i = omega arith
 row-to (Domino o a) i = omega arith
 
 module _ (coordinates : AreCoordinates) where
   -- the entry number is one to one: the coordinates of a goal are found back from it
   entry_at-back : (g : Goal) (e : Place → Place) → IsCube e → IsEntry g (coordinates_of g e)
-  unfolding count_for
   entry_at-back (Edges a) e h = ((coordinates Flip a).below e h, refl)
   entry_at-back (Domino o a) e h =
       let b = (coordinates Slice a).below e h in
@@ -64,20 +59,17 @@ module _ (coordinates : AreCoordinates) where
         by_goals (g ∷ gs) = (entry_at-back g e h.cube, by_goals gs)
 
   after-below : (g : Goal) (i : ℕ) (t : Turn) → i < count_for g → entry_number (coordinates_after (entry_at g i) t) < count_for g
-  unfolding count_for
   after-below (Edges a) i t h = (coordinates Flip a).after_below i t h
   after-below (Domino o a) i t h =
       omega (arith, (coordinates Twist a).after_below (i / 495) t (omega arith), (coordinates Slice a).after_below (i % 495) t (omega arith))
 
   after-leads : (g : Goal) (i : ℕ) (t : Turn) → i < count_for g → entry_at g (entry_number (coordinates_after (entry_at g i) t)) ≡ coordinates_after (entry_at g i) t
-  unfolding count_for
   after-leads (Edges a) i t h = refl
   after-leads (Domino o a) i t h =
       let b = (coordinates Slice a).after_below (i % 495) t (omega arith) in
       rw (high _ _ b, low _ _ b) refl
 
   after-back : (g : Goal) (i : ℕ) (t : Turn) → i < count_for g → entry_number (coordinates_after (coordinates_after (entry_at g i) t) (inverse_turn t)) ≡ i
-  unfolding count_for
   after-back (Edges a) i t h = (coordinates Flip a).back_again i t h
   after-back (Domino o a) i t h =
       rw ((coordinates Twist a).back_again (i / 495) t (omega arith), (coordinates Slice a).back_again (i % 495) t (omega arith)) (omega arith)
@@ -150,7 +142,7 @@ module _ (law : EntriesTurn) (alt : Alternative) where
 
 -- a turn leads the entries of a row into one row again
 pub row-edges : (step : Step) (axis : Axis) (row : ℕ) → row * row_length (Edges axis) < count_for (Edges axis) → AreStarts record { step = step; goal = Edges axis } (row * row_length (Edges axis)) (replicate 18 0)
-unfolding row_length count_for entry_after
+unfolding entry_after
 row-edges step axis row h k place l r =
     let first : row * 2048 + place ≡ place = omega arith in
     let none : 0 + place_after (Edges axis) place (turn_at step k) ≡ place_after (Edges axis) place (turn_at step k) = omega arith in
@@ -161,7 +153,7 @@ row-edges step axis row h k place l r =
       zero-at (suc n) (suc k) = zero-at n k
 
 pub row-domino : (step : Step) (edges axis : Axis) (row : ℕ) (starts : List ℕ) → ((k : ℕ) → k < length (turns_of step) → slice_index starts k ≡ number_after Twist axis row (turn_at step k) * 495) → AreStarts record { step = step; goal = Domino edges axis } (row * row_length (Domino edges axis)) starts
-unfolding row_length entry_after
+unfolding entry_after
 row-domino step edges axis row starts led k place l r = rw (led k l, high row place r, low row place r) refl
 
 -- the entry after a turn, by its row and its place there

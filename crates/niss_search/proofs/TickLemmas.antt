@@ -60,7 +60,6 @@ unfolding flips_below
 flips-numbered axis n k e = ap (λ i. map (Flip axis) (range_with_len 0 i)) (sym e)
 
 values-numbered : (g : Goal) (k : ℕ) → k ≡ count_for g → values_for g ≡ map (entry_at g) (range_with_len 0 k)
-unfolding count_for
 values-numbered (Edges a) k e = flips-numbered a 2048 k e
 values-numbered (Domino o a) k e = pairs-numbered a 495 2187 k e
 
@@ -136,14 +135,12 @@ ticks-at-most s = omega (arith, ticks-of-goals s, by_goals (goals_of s), mul_com
 
 -- the bounds of one goal: 18 turns from each flip, or 14 from each pair of a twist and a slice
 edge-goal : (s : Step) (a : Axis) → goal_ticks record { step = s; goal = Edges a } ≤ 36864
-unfolding count_for
 edge-goal s a =
     let flips : count_for (Edges a) ≤ 2048 = lit≤ tt in
     omega (arith, goal_ticks-at-most record { step = s; goal = Edges a }, mul-le-mul flips (turns_of-length s))
 
 module _ (begins : DominoKeepsStart) (s : Step) where
   domino-goal : (o a : Axis) → Contains (goals_of s) (Domino o a) → goal_ticks record { step = s; goal = Domino o a } ≤ 15155910
-  unfolding count_for
   domino-goal o a m =
       let pairs : count_for (Domino o a) ≤ 1082565 = lit≤ tt in
       omega (arith, goal_ticks-at-most record { step = s; goal = Domino o a }, mul-le-mul pairs (turns_of-oriented s o (begins s o a m)))

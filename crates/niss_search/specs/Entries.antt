@@ -20,7 +20,7 @@ values_for (Edges axis) = flips_below axis 2048
 values_for (Domino edges axis) = pairs_below axis 2187 495
 
 -- how many they are
-unfoldable pub count_for : Goal → ℕ
+abbrev pub count_for : Goal → ℕ
 count_for (Edges axis) = 2048
 count_for (Domino edges axis) = 2187 * 495
 

@@ -25,7 +25,7 @@ unfoldable pub entry_after : Goal → ℕ → Turn → ℕ
 entry_after goal i t = entry_number (coordinates_after (entry_at goal i) t)
 
 -- how many entries stand in a row of the table: those of one twist, or all
-unfoldable pub row_length : Goal → ℕ
+abbrev pub row_length : Goal → ℕ
 row_length (Edges axis) = 2048
 row_length (Domino edges axis) = 495
 

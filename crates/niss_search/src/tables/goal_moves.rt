@@ -114,12 +114,10 @@ impl<A: Allocator> GoalMoves for EdgeMoves<A> {
         self.flips.turns()
     }
 
-    #[tactic(auto, unfolding(crate::specs::Entries::count_for))]
     fn entries(&self) -> usize {
         Coordinate::Flip.count()
     }
 
-    #[tactic(auto, unfolding(crate::specs::Filling::row_length))]
     fn row_length(&self) -> usize {
         Coordinate::Flip.count()
     }
@@ -128,13 +126,11 @@ impl<A: Allocator> GoalMoves for EdgeMoves<A> {
         [0; MOST_TURNS]
     }
 
-    #[tactic(auto, unfolding(crate::specs::Filling::row_length))]
     #[inline(always)]
     fn places(&self, place: usize) -> &Row {
         self.flips.row(place as u16)
     }
 
-    #[tactic(auto, unfolding(crate::specs::Entries::count_for))]
     fn state_at(&self, entry: usize) -> FlipState {
         FlipState { flip: entry as u16 }
     }
@@ -146,7 +142,6 @@ impl<A: Allocator> GoalMoves for EdgeMoves<A> {
         }
     }
 
-    #[tactic(auto, unfolding(crate::specs::Entries::count_for))]
     #[inline(always)]
     fn entry(&self, state: FlipState) -> usize {
         state.flip as usize
@@ -234,17 +229,14 @@ impl<A: Allocator> GoalMoves for DominoMoves<A> {
         self.twists.turns()
     }
 
-    #[tactic(auto, unfolding(crate::specs::Entries::count_for))]
     fn entries(&self) -> usize {
         Coordinate::Twist.count() * Coordinate::Slice.count()
     }
 
-    #[tactic(auto, unfolding(crate::specs::Filling::row_length))]
     fn row_length(&self) -> usize {
         Coordinate::Slice.count()
     }
 
-    #[tactic(auto, unfolding(crate::specs::Filling::row_length, crate::specs::Entries::count_for))]
     fn starts(&self, row: usize) -> Starts {
         let twists = self.twists.row(row as u16);
         let mut starts = [0; MOST_TURNS];
@@ -254,13 +246,11 @@ impl<A: Allocator> GoalMoves for DominoMoves<A> {
         starts
     }
 
-    #[tactic(auto, unfolding(crate::specs::Filling::row_length))]
     #[inline(always)]
     fn places(&self, place: usize) -> &Row {
         self.slices.row(place as u16)
     }
 
-    #[tactic(auto, unfolding(crate::specs::Entries::count_for))]
     fn state_at(&self, entry: usize) -> PairState {
         PairState {
             twist: (entry / Coordinate::Slice.count()) as u16,
@@ -276,7 +266,6 @@ impl<A: Allocator> GoalMoves for DominoMoves<A> {
         }
     }
 
-    #[tactic(auto, unfolding(crate::specs::Entries::count_for))]
     #[inline(always)]
     fn entry(&self, state: PairState) -> usize {
         pair_number(state.twist, state.slice)
