@@ -1,5 +1,5 @@
 -- Drawing turn by turn.
-use Rattle.std.proofs.Common.{◌≡◌, ℕ, zero, suc, ◌-◌, ◌*◌, ◌/◌, ◌^◌, ◌≤◌, ◌<◌, Bool, true, false, ◌&&◌, cond, List, [], ◌∷◌, ◌++◌, length, get_or, filter, Option, Some, None, refl, ap, ◌∙◌, arith, lit<}
+use Rattle.std.proofs.Common.{◌≡◌, ℕ, suc, ◌-◌, ◌*◌, ◌/◌, ◌^◌, ◌≤◌, ◌<◌, Bool, true, false, ◌&&◌, List, [], ◌∷◌, ◌++◌, length, filter, Option, Some, None, refl, ap, ◌∙◌, arith, lit<}
 use Rattle.std.specs.List.{last_or, slice_get}
 use Rattle.std.proofs.lemmas.List.Elements.{filter_passes}
 use Rattle.std.proofs.Math.Nat.{mul-le-mul_right}

@@ -1,5 +1,5 @@
 -- The entries of a pruning table by number, and how the turns lead from one to another.
-use Rattle.std.proofs.Common.{◌≡◌, ℕ, zero, suc, ◌+◌, ◌-◌, ◌*◌, ◌/◌, ◌%◌, ◌≤◌, ◌<◌, leb, ◌==◌, ◌&&◌, Bool, true, false, ◌||◌, List, [], ◌∷◌, map, Contains, refl, sym, ap, ◌∙◌, subst, arith, lit<, inl, inr, ◌⊎◌, length, get_or, slice_index, replicate, All, take, drop, ◌++◌}
+use Rattle.std.proofs.Common.{◌≡◌, ℕ, zero, suc, ◌+◌, ◌-◌, ◌*◌, ◌/◌, ◌%◌, ◌≤◌, ◌<◌, leb, ◌==◌, ◌&&◌, Bool, true, false, ◌||◌, List, [], ◌∷◌, map, Contains, refl, sym, ap, ◌∙◌, subst, arith, lit<, inl, inr, ◌⊎◌, length, get_or, slice_index, replicate}
 use Rattle.std.proofs.lemmas.Bool.Decides.{eqb_tells, leb_tells}
 use Rattle.niss_moves.specs.Places.{Place}
 use Rattle.niss_search.specs.Names.{Axis, Turn, Goal, Edges, Domino, Step, Coordinates}

@@ -1,5 +1,5 @@
 -- The search by levels: what the least level with a solution says of the whole.
-use Rattle.std.proofs.Common.{◌≡◌, ℕ, zero, suc, ◌+◌, ◌≤◌, ◌<◌, Bool, true, false, cond, List, [], length, find, sum_by, Some, None, refl, arith, add-one, leb, inl, inr, ◌⊎◌, below_more}
+use Rattle.std.proofs.Common.{◌≡◌, ℕ, zero, suc, ◌+◌, ◌≤◌, ◌<◌, Bool, true, false, cond, List, [], length, find, sum_by, Some, None, refl, arith, leb, inl, inr, ◌⊎◌, below_more}
 use Rattle.std.specs.List.{range_with_len, list_any}
 use Rattle.std.proofs.lemmas.Bool.Decides.{leb_tells}
 use Rattle.niss_search.specs.Names.{Turn, Step, Coordinates}

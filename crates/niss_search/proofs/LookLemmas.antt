@@ -1,5 +1,5 @@
 -- The distance of a position: 0 exactly at the goal, never more than one beyond that after a turn, and nearer after some.
-use Rattle.std.proofs.Common.{◌≡◌, ℕ, suc, ◌+◌, ◌≤◌, ◌<◌, leb, Bool, true, false, ◌||◌, List, [], ◌∷◌, ◌++◌, fold, Contains, refl, sym, ap, ◌∙◌, arith, inl, inr, ◌⊎◌, min}
+use Rattle.std.proofs.Common.{◌≡◌, ℕ, suc, ◌+◌, ◌≤◌, ◌<◌, leb, Bool, true, false, ◌||◌, List, [], ◌∷◌, fold, Contains, refl, sym, ap, ◌∙◌, arith, inl, inr, ◌⊎◌}
 use Rattle.std.specs.List.{list_any}
 use Rattle.niss_search.specs.Names.{Turn, Step, Coordinates}
 use Rattle.niss_cube.specs.Steps.{turns_of}

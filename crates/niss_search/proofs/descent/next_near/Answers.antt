@@ -1,4 +1,4 @@
-use Rattle.std.proofs.Common.{arith, ◌<◌, ◌≤◌, take, get_or, [], ◌∷◌, subst, All}
+use Rattle.std.proofs.Common.{arith, ◌<◌, ◌≤◌, subst, All}
 use Rattle.std.proofs.lemmas.List.{get_or_default, take_all}
 use Rattle.std.proofs.lemmas.List.Elements.{All-more}
 use Rattle.niss_search.specs.Names.{U, Quarter, Follower}

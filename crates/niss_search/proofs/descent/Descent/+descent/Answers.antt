@@ -5,7 +5,6 @@ use Rattle.niss_moves.specs.Canonical.{may_follow, last_turn}
 use Rattle.niss_search.specs.Names.{U, Quarter, Follower}
 use Rattle.niss_cube.specs.Steps.{turns_of}
 use Rattle.niss_search.specs.Delivery.{at_limit}
-use Rattle.niss_search.specs.Descending.{state_of}
 use Rattle.niss_search.specs.Descent.{looks_beyond}
 use Rattle.niss_search.specs.Followers.{IsFollower}
 use Rattle.niss_search.specs.Path.{Path}
