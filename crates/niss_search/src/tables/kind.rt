@@ -68,7 +68,6 @@ impl<A: Allocator + Copy> Kind<A> {
 }
 
 /// The tables of an edge orientation. The turn table is given back before the fill, here and below.
-#[tactic(auto, using(crate::proofs::TickLemmas::ticks_of_one))]
 fn edges<A: Allocator + Copy>(
     alloc: A,
     step: Step,
@@ -126,7 +125,6 @@ fn edge_table<A: Allocator + Copy>(
 }
 
 /// The tables of a domino reduction, by the axis of its edges and its own.
-#[tactic(auto, using(crate::proofs::TickLemmas::ticks_of_one))]
 fn domino<A: Allocator + Copy>(
     alloc: A,
     step: Step,
