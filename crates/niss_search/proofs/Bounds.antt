@@ -1,11 +1,12 @@
 -- The looks are within the bound, and the bound is small.
-use Rattle.std.proofs.Common.{◌≡◌, ℕ, zero, suc, ◌+◌, ◌-◌, ◌*◌, ◌^◌, ◌≤◌, ◌<◌, Bool, true, false, cond, List, [], ◌∷◌, ◌++◌, length, map, filter, sum_by, count_by, refl, ap, subst, arith, find, unwrap_or, Option, None, Some}
+use Rattle.std.proofs.Common.{◌≡◌, ℕ, zero, suc, ◌+◌, ◌-◌, ◌*◌, ◌^◌, ◌≤◌, ◌<◌, Bool, true, false, cond, List, [], ◌∷◌, ◌++◌, length, get_or, filter, sum_by, count_by, refl, ap, subst, arith, find, unwrap_or, Option, None, Some}
 use Rattle.std.specs.Prelude.{flat_map}
 use Rattle.std.specs.List.{range_with_len, list_any}
-use Rattle.std.proofs.lemmas.List.Sums.{sum_by-cons, sum_by-le-sum_by, count_by-le-length}
+use Rattle.std.proofs.lemmas.List.Sums.{sum_by-cons, sum_by-le, sum_by-le-sum_by, length-filter, count_by-le-length}
+use Rattle.std.proofs.lemmas.List.{length-map}
 use Rattle.std.proofs.lemmas.List.Concat.{length-flat_map}
 use Rattle.std.proofs.Math.Nat.{pow-suc}
-use Rattle.niss_moves.specs.declared.turn.Turn.{Turn}
+use Rattle.niss_search.specs.Names.{Turn}
 use Rattle.niss_moves.specs.Canonical.{may_follow, last_turn, all_canonical, canonical_extensions}
 use Rattle.niss_search.specs.Solutions.{look_bound, least_length, last_length, solution_lengths, solutions, reaching, up_to, count_of_length}
 use Rattle.niss_search.specs.Looks.{is_looked_at, looks, all_looks}
@@ -25,30 +26,18 @@ range-le f m a (suc n) h =
     omega (arith, sum_by-cons f a (range_with_len (a + 1) n), h a (omega arith), range-le f m (a + 1) n (λ j l. h j (omega arith)))
 
 length-filter-le : {X : Type 0} (m : X → Bool) (xs : List X) → length (filter m xs) ≤ length xs
-length-filter-le m [] = omega arith
-length-filter-le m (x ∷ xs) = by_test (m x) (length-filter-le m xs) where
-  by_test : (b : Bool) → length (filter m xs) ≤ length xs → length (cond b (x ∷ filter m xs) (filter m xs)) ≤ length (x ∷ xs)
-  by_test true h = omega arith
-  by_test false h = omega arith
-
-length-map : {X Y : Type 0} (f : X → Y) (xs : List X) → length (map f xs) ≡ length xs
-length-map f [] = refl
-length-map f (x ∷ xs) = ap suc (length-map f xs)
-
-sum-le : {X : Type 0} (f : X → ℕ) (m : ℕ) (xs : List X) → ((x : X) → f x ≤ m) → sum_by f xs ≤ length xs * m
-sum-le f m [] h = omega arith
-sum-le f m (x ∷ xs) h = omega (arith, sum_by-cons f x xs, h x, sum-le f m xs h)
+length-filter-le m xs = omega (arith, length-filter m xs, count_by-le-length m xs)
 
 length-extensions : (turns s : List Turn) → length turns ≤ 18 → length (canonical_extensions turns s) ≤ 18
 length-extensions turns s h =
-    omega (arith, length-map (λ t. s ++ t ∷ []) (filter (may_follow (last_turn s)) turns), length-filter-le (may_follow (last_turn s)) turns)
+    omega (arith, length-map (filter (may_follow (last_turn s)) turns) (λ t. s ++ t ∷ []), length-filter-le (may_follow (last_turn s)) turns)
 
 count-le : (turns : List Turn) (k : ℕ) → length turns ≤ 18 → count_of_length turns k ≤ 18 ^ k
 unfolding all_canonical
 count-le turns zero h = omega arith
 count-le turns (suc k) h =
     let one = λ (s : List Turn). length-extensions turns s h in
-    omega (arith, length-flat_map (canonical_extensions turns) (all_canonical turns k), sum-le (λ s. length (canonical_extensions turns s)) 18 (all_canonical turns k) one, count-le turns k h, pow-suc 18 k)
+    omega (arith, length-flat_map (canonical_extensions turns) (all_canonical turns k), sum_by-le (λ s. length (canonical_extensions turns s)) 18 (all_canonical turns k) (λ i d l. one (get_or (all_canonical turns k) i d)), count-le turns k h, pow-suc 18 k)
 
 pow-le : (k m : ℕ) → 18 ^ k ≤ 18 ^ (m + k)
 pow-le k zero =

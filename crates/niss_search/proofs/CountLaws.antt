@@ -2,9 +2,7 @@
 use Rattle.std.proofs.Common.{◌≡◌, ℕ, zero, suc, ◌+◌, ◌*◌, ◌≤◌, Bool, true, false, cond, List, [], ◌∷◌, ◌++◌, length, filter, sum_by, refl, sym, ap, ◌∙◌, arith, subst}
 use Rattle.std.proofs.lemmas.List.Sums.{sum_by-cons, sum_by-le-sum_by}
 use Rattle.std.proofs.lemmas.List.Concat.{length-flat_map}
-use Rattle.niss_moves.specs.declared.turn.Turn.{Turn}
-use Rattle.niss_moves.specs.declared.turn.Face.{Face}
-use Rattle.niss_moves.specs.declared.turn.Face.TheVariants.{U, D, R, L, F, B}
+use Rattle.niss_search.specs.Names.{Turn, Face, U, D, R, L, F, B}
 use Rattle.niss_moves.specs.Turn.{goes_first}
 use Rattle.niss_moves.specs.Canonical.{may_follow, face_may_follow, turn_order, last_turn, canonical_extensions}
 use Rattle.niss_search.specs.Solutions.{count_of_length, look_bound, up_to}

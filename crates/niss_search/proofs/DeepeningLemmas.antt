@@ -8,10 +8,8 @@ use Rattle.std.proofs.lemmas.List.{append-nil}
 use Rattle.std.proofs.lemmas.List.Sums.{sum_by-append, sum_by-cons, sum_by-le-sum_by}
 use Rattle.std.proofs.lemmas.List.Concat.{length-flat_map}
 use Rattle.niss_moves.specs.Places.{Place}
-use Rattle.niss_moves.specs.declared.turn.Turn.{Turn}
-use Rattle.niss_cube.specs.declared.step.Step.{Step}
+use Rattle.niss_search.specs.Names.{Turn, Step, Coordinates}
 use Rattle.niss_cube.specs.Steps.{turns_of}
-use Rattle.niss_search.specs.declared.tables.position.Coordinates.{Coordinates}
 use Rattle.niss_search.specs.Solutions.{look_bound, from_to, up_to, last_length, solution_lengths, least_length, solutions, reaching}
 use Rattle.niss_search.specs.Looks.{looks, all_looks}
 use Rattle.niss_search.specs.declared.outcome.Outcome.{Outcome}
@@ -24,8 +22,8 @@ use Rattle.niss_search.specs.Deepening.{Delivers, reaches_at, far_at, least_leng
 use Rattle.niss_search.proofs.Bounds.{least-within, all_looks-bound}
 use Rattle.niss_search.proofs.DescentLemmas.{WentThrough-append, StoppedIn-after, StoppedIn-before, StoppedIn-some, WentThrough-none, length-found_below}
 use Rattle.niss_search.proofs.Transfer.{solutions-cube, all_looks-cube}
-use Rattle.niss_search.proofs.Levels.{NoneBelow, NoneBelow-more, least_length-at, solutions-none, all_looks-none, levels-more, found_below-level, looks_below-level}
-use Rattle.niss_search.proofs.ListLemmas.{range_with_len-more, range_with_len-append}
+use Rattle.niss_search.proofs.Levels.{NoneBelow, NoneBelow-more, least_length-at, solutions-none, all_looks-none, found_below-level, looks_below-level}
+use Rattle.niss_search.proofs.ListLemmas.{sum_by-range_more, range_with_len-more, range_with_len-append}
 
 pub range-push : (a d : ℕ) → a ≤ d → range_with_len a (d + 1 - a) ≡ range_with_len a (d - a) ++ d ∷ []
 range-push a d h =
@@ -99,23 +97,24 @@ module _ (turns : List Turn) (reaches : List Turn → Bool) (n d : ℕ) (e : lea
       let same : min n (d + 0) ≡ d = omega (arith, least-within turns reaches n d e) in
       rw e (ap (λ k. sum_by (looks turns far) (up_to k)) same)
 
-module _ {K : Type 0} (took refused : K → List Turn → K → Type 0) (ps qs : List (List Turn)) (l k m0 m1 m2 c : ℕ) (s0 s1 s2 : K) where
-  pub GoesThrough-append : (d : ℕ) → GoesThrough took refused ps l (descent_state m0 0 s0) (descent_state m1 c s1) → GoesThrough took refused qs k (descent_state m1 0 s1) (descent_state m2 d s2) → GoesThrough took refused (ps ++ qs) (l + k) (descent_state m0 0 s0) (descent_state m2 (c + d) s2)
-  GoesThrough-append d h g = record {
-    delivered = WentThrough-append took refused s0 s1 s2 ps qs h.delivered g.delivered;
-    counted = omega (arith, h.counted, g.counted, length-append ps qs);
-    looked = omega (arith, h.looked, g.looked);
-  }
+module _ {K : Type 0} {took refused : K → List Turn → K → Type 0} {ps : List (List Turn)} {l m0 m1 : ℕ} {s0 s1 : K} where
+  module _ {qs : List (List Turn)} {k m2 c : ℕ} {s2 : K} (went : GoesThrough took refused ps l (descent_state m0 0 s0) (descent_state m1 c s1)) where
+    pub GoesThrough-append : {d : ℕ} → GoesThrough took refused qs k (descent_state m1 0 s1) (descent_state m2 d s2) → GoesThrough took refused (ps ++ qs) (l + k) (descent_state m0 0 s0) (descent_state m2 (c + d) s2)
+    GoesThrough-append g = record {
+      delivered = WentThrough-append took refused s0 s1 s2 ps qs went.delivered g.delivered;
+      counted = omega (arith, went.counted, g.counted, length-append ps qs);
+      looked = omega (arith, went.looked, g.looked);
+    }
 
-  pub StopsIn-after : GoesThrough took refused ps l (descent_state m0 0 s0) (descent_state m1 c s1) → StopsIn took refused qs k (descent_state m1 0 s1) (descent_state m2 0 s2) → StopsIn took refused (ps ++ qs) (l + k) (descent_state m0 0 s0) (descent_state m2 0 s2)
-  StopsIn-after h g = record {
-    stopped = StoppedIn-after took refused s0 s1 s2 ps qs h.delivered g.stopped;
-    rises = omega (arith, h.looked, g.rises);
-    looked = omega (arith, h.looked, g.looked);
-  }
+    pub StopsIn-after : StopsIn took refused qs k (descent_state m1 0 s1) (descent_state m2 0 s2) → StopsIn took refused (ps ++ qs) (l + k) (descent_state m0 0 s0) (descent_state m2 0 s2)
+    StopsIn-after g = record {
+      stopped = StoppedIn-after took refused s0 s1 s2 ps qs went.delivered g.stopped;
+      rises = omega (arith, went.looked, g.rises);
+      looked = omega (arith, went.looked, g.looked);
+    }
 
-  pub StopsIn-before : StopsIn took refused ps l (descent_state m0 0 s0) (descent_state m1 0 s1) → StopsIn took refused (ps ++ qs) (l + k) (descent_state m0 0 s0) (descent_state m1 0 s1)
-  StopsIn-before h = record {
+  pub StopsIn-before : (qs : List (List Turn)) (k : ℕ) → StopsIn took refused ps l (descent_state m0 0 s0) (descent_state m1 0 s1) → StopsIn took refused (ps ++ qs) (l + k) (descent_state m0 0 s0) (descent_state m1 0 s1)
+  StopsIn-before qs k h = record {
     stopped = StoppedIn-before took refused s0 s1 ps qs h.stopped;
     rises = h.rises;
     looked = omega (arith, h.looked);
@@ -168,10 +167,10 @@ module _ (step : Step) (x : List Coordinates) (n d : ℕ) (none : NoneBelow (tur
   looks-here : (m m0 : ℕ) → m ≡ m0 + looks_at step x (range_with_len 0 d) → 0 < length (reaching_at step x (d ∷ [])) → m + looks_at step x (d ∷ []) ≡ m0 + all_looks_at step x n 0
   looks-here m m0 looked some =
       let looks_to = looks (turns_of step) (far_at step x) in
-      omega (arith, looked, levels-more looks_to d, sum_by-cons looks_to d [], all_looks-least (turns_of step) (reaches_at step x) n d (least-here some) (far_at step x))
+      omega (arith, looked, sum_by-range_more looks_to d, sum_by-cons looks_to d [], all_looks-least (turns_of step) (reaches_at step x) n d (least-here some) (far_at step x))
 
-  module _ {K : Type 0} (took refused : K → List Turn → K → Type 0) (m m0 m1 : ℕ) (looked : m ≡ m0 + looks_at step x (range_with_len 0 d)) (s s1 : K) where
-    module _ (c : ℕ) (went : GoesThrough took refused (reaching_at step x (d ∷ [])) (looks_at step x (d ∷ [])) (descent_state m 0 s) (descent_state m1 c s1)) where
+  module _ {K : Type 0} {took refused : K → List Turn → K → Type 0} {m m1 : ℕ} (m0 : ℕ) (looked : m ≡ m0 + looks_at step x (range_with_len 0 d)) {s s1 : K} where
+    module _ {c : ℕ} (went : GoesThrough took refused (reaching_at step x (d ∷ [])) (looks_at step x (d ∷ [])) (descent_state m 0 s) (descent_state m1 c s1)) where
       pub least_length-found : 0 < c → least_length_at step x n ≡ Some d
       least_length-found some = least-here (omega (arith, went.counted, some))
 
@@ -233,10 +232,10 @@ module _ (step : Step) (x : List Coordinates) (a d last : ℕ) (begun : a ≤ d)
       let looks_to = looks (turns_of step) (far_at step x) in
       omega (arith, looks-push, ap (looks_at step x) rest, sum_by-append looks_to (range_with_len a (d + 1 - a)) (from_to (d + 1) last))
 
-  module _ {K : Type 0} (took refused : K → List Turn → K → Type 0) (m0 m1 m2 c : ℕ) (s0 s1 s2 : K) (went : GoesThrough took refused (reaching_at step x (range_with_len a (d - a))) (looks_at step x (range_with_len a (d - a))) (descent_state m0 0 s0) (descent_state m1 c s1)) where
-    pub goes-on : (e : ℕ) → GoesThrough took refused (reaching_at step x (d ∷ [])) (looks_at step x (d ∷ [])) (descent_state m1 0 s1) (descent_state m2 e s2) → GoesThrough took refused (reaching_at step x (range_with_len a (d + 1 - a))) (looks_at step x (range_with_len a (d + 1 - a))) (descent_state m0 0 s0) (descent_state m2 (c + e) s2)
-    goes-on e h =
-        rw (reaching-push, looks-push) (GoesThrough-append took refused _ _ _ _ m0 m1 m2 c s0 s1 s2 e went h)
+  module _ {K : Type 0} {took refused : K → List Turn → K → Type 0} {m0 m1 m2 c : ℕ} {s0 s1 s2 : K} (went : GoesThrough took refused (reaching_at step x (range_with_len a (d - a))) (looks_at step x (range_with_len a (d - a))) (descent_state m0 0 s0) (descent_state m1 c s1)) where
+    pub goes-on : {e : ℕ} → GoesThrough took refused (reaching_at step x (d ∷ [])) (looks_at step x (d ∷ [])) (descent_state m1 0 s1) (descent_state m2 e s2) → GoesThrough took refused (reaching_at step x (range_with_len a (d + 1 - a))) (looks_at step x (range_with_len a (d + 1 - a))) (descent_state m0 0 s0) (descent_state m2 (c + e) s2)
+    goes-on h =
+        rw (reaching-push, looks-push) (GoesThrough-append went h)
 
     pub stops-then : StopsIn took refused (reaching_at step x (d ∷ [])) (looks_at step x (d ∷ [])) (descent_state m1 0 s1) (descent_state m2 0 s2) → StopsIn took refused (reaching_at step x (from_to a last)) (looks_at step x (from_to a last)) (descent_state m0 0 s0) (descent_state m2 0 s2)
     stops-then h =
@@ -247,20 +246,20 @@ module _ (step : Step) (x : List Coordinates) (a d last : ℕ) (begun : a ≤ d)
         ∙ ap (λ ps. ps ++ reaching_at step x (from_to (d + 1) last)) reaching-push in
         let looked : looks_at step x (from_to a last) ≡ looks_at step x (range_with_len a (d - a)) + looks_at step x (d ∷ []) + looks_at step x (from_to (d + 1) last) =
         omega (arith, looks-push, ap (looks_at step x) rest, sum_by-append looks_to (range_with_len a (d + 1 - a)) (from_to (d + 1) last)) in
-        rw (found, looked) (StopsIn-before took refused _ (reaching_at step x (from_to (d + 1) last)) _ (looks_at step x (from_to (d + 1) last)) m0 m2 m2 c s0 s2 s2 (StopsIn-after took refused _ _ _ _ m0 m1 m2 c s0 s1 s2 went h))
+        rw (found, looked) (StopsIn-before (reaching_at step x (from_to (d + 1) last)) (looks_at step x (from_to (d + 1) last)) (StopsIn-after went h))
 
 -- what the longer solutions add
-module _ (step : Step) (x : List Coordinates) (n slack : ℕ) {K : Type 0} (took refused : K → List Turn → K → Type 0) (m0 m1 m2 : ℕ) (s0 s1 s2 : K) where
+module _ (step : Step) (x : List Coordinates) (n slack : ℕ) {K : Type 0} {took refused : K → List Turn → K → Type 0} {m0 m1 : ℕ} {s0 s1 : K} where
   -- a search that was refused at its least length
   pub refused-at-least : StopsIn took refused (solutions_at step x n 0) (all_looks_at step x n 0) (descent_state m0 0 s0) (descent_state m1 0 s1) → StopsIn took refused (solutions_at step x n slack) (all_looks_at step x n slack) (descent_state m0 0 s0) (descent_state m1 0 s1)
   refused-at-least h =
       let lengths = longer_lengths (least_length_at step x n) n slack in
       rw (solutions-longer (turns_of step) (reaches_at step x) n slack, all_looks-longer (turns_of step) (reaches_at step x) n slack (far_at step x))
-      (StopsIn-before took refused (solutions_at step x n 0) (reaching_at step x lengths) (all_looks_at step x n 0) (looks_at step x lengths) m0 m1 m1 0 s0 s1 s1 h)
+      (StopsIn-before (reaching_at step x lengths) (looks_at step x lengths) h)
 
   -- a search that found nothing
-  pub none-longer : (c : ℕ) → least_length_at step x n ≡ None → GoesThrough took refused (solutions_at step x n 0) (all_looks_at step x n 0) (descent_state m0 0 s0) (descent_state m1 c s1) → GoesThrough took refused (solutions_at step x n slack) (all_looks_at step x n slack) (descent_state m0 0 s0) (descent_state m1 c s1)
-  none-longer c e h =
+  pub none-longer : {c : ℕ} → least_length_at step x n ≡ None → GoesThrough took refused (solutions_at step x n 0) (all_looks_at step x n 0) (descent_state m0 0 s0) (descent_state m1 c s1) → GoesThrough took refused (solutions_at step x n slack) (all_looks_at step x n slack) (descent_state m0 0 s0) (descent_state m1 c s1)
+  none-longer e h =
       rw (solutions-longer (turns_of step) (reaches_at step x) n slack, all_looks-longer (turns_of step) (reaches_at step x) n slack (far_at step x), e)
       record {
         delivered = rw (append-nil (solutions_at step x n 0)) h.delivered;
@@ -268,16 +267,16 @@ module _ (step : Step) (x : List Coordinates) (n slack : ℕ) {K : Type 0} (took
         looked = omega (arith, h.looked);
       }
 
-  module _ (d c : ℕ) (e : least_length_at step x n ≡ Some d) (went : GoesThrough took refused (solutions_at step x n 0) (all_looks_at step x n 0) (descent_state m0 0 s0) (descent_state m1 c s1)) where
-    pub and-longer : (b : ℕ) → GoesThrough took refused (reaching_at step x (longer_lengths (Some d) n slack)) (looks_at step x (longer_lengths (Some d) n slack)) (descent_state m1 0 s1) (descent_state m2 b s2) → GoesThrough took refused (solutions_at step x n slack) (all_looks_at step x n slack) (descent_state m0 0 s0) (descent_state m2 (c + b) s2)
-    and-longer b h =
+  module _ {d c m2 : ℕ} {s2 : K} (e : least_length_at step x n ≡ Some d) (went : GoesThrough took refused (solutions_at step x n 0) (all_looks_at step x n 0) (descent_state m0 0 s0) (descent_state m1 c s1)) where
+    pub and-longer : {b : ℕ} → GoesThrough took refused (reaching_at step x (longer_lengths (Some d) n slack)) (looks_at step x (longer_lengths (Some d) n slack)) (descent_state m1 0 s1) (descent_state m2 b s2) → GoesThrough took refused (solutions_at step x n slack) (all_looks_at step x n slack) (descent_state m0 0 s0) (descent_state m2 (c + b) s2)
+    and-longer h =
         rw (solutions-longer (turns_of step) (reaches_at step x) n slack, all_looks-longer (turns_of step) (reaches_at step x) n slack (far_at step x), e)
-        (GoesThrough-append took refused _ _ _ _ m0 m1 m2 c s0 s1 s2 b went h)
+        (GoesThrough-append went h)
 
     pub refused-longer : StopsIn took refused (reaching_at step x (longer_lengths (Some d) n slack)) (looks_at step x (longer_lengths (Some d) n slack)) (descent_state m1 0 s1) (descent_state m2 0 s2) → StopsIn took refused (solutions_at step x n slack) (all_looks_at step x n slack) (descent_state m0 0 s0) (descent_state m2 0 s2)
     refused-longer h =
         rw (solutions-longer (turns_of step) (reaches_at step x) n slack, all_looks-longer (turns_of step) (reaches_at step x) n slack (far_at step x), e)
-        (StopsIn-after took refused _ _ _ _ m0 m1 m2 c s0 s1 s2 went h)
+        (StopsIn-after went h)
 
 -- What a search says of a cube, by what it answers.
 pub record Searched {K F : Type 0} (took refused : K → Path → K → Type 0) (step : Step) (e : Place → Place) (n slack m m1 : ℕ) (s s1 : K) (r : Result Outcome F) : Type 0 where

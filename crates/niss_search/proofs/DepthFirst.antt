@@ -7,7 +7,7 @@ use Rattle.std.proofs.lemmas.Bool.{le-leb, lt-leb, leb-true, leb-false}
 use Rattle.std.proofs.lemmas.List.{take_at}
 use Rattle.std.proofs.lemmas.List.Sums.{sum_by-cons}
 use Rattle.std.proofs.lemmas.Grind.{fold-append}
-use Rattle.niss_moves.specs.declared.turn.Turn.{Turn}
+use Rattle.niss_search.specs.Names.{Turn}
 use Rattle.niss_moves.specs.Canonical.{may_follow, last_turn, all_canonical, canonical_extensions}
 use Rattle.niss_search.specs.Solutions.{reaching}
 use Rattle.niss_search.specs.Looks.{is_looked_at, looks}

@@ -1,23 +1,19 @@
 -- What one deepening finds and looks at, case by case, and how a sink goes through joined lists.
-use Rattle.std.proofs.Common.{All, Contains, map, append_assoc, add-one, ◌≡◌, ℕ, zero, suc, ◌+◌, ◌-◌, ◌<◌, ◌≤◌, Bool, true, false, cond, leb, List, [], ◌∷◌, ◌++◌, length, take, drop, get_or, sum_by, filter, refl, sym, ap, ◌∙◌, subst, arith, inl, inr, length-append}
+use Rattle.std.proofs.Common.{All, Contains, map, append_assoc, ◌≡◌, ℕ, zero, suc, ◌+◌, ◌-◌, ◌<◌, ◌≤◌, Bool, true, false, cond, leb, List, [], ◌∷◌, ◌++◌, length, take, drop, get_or, sum_by, filter, refl, sym, ap, ◌∙◌, subst, arith, inl, inr, length-append}
 use Rattle.std.specs.Prelude.{flat_map, if◌then◌else◌, Result, Ok, Err, OnOk, OnErr}
 use Rattle.std.proofs.lemmas.Bool.{le-leb, lt-leb}
 use Rattle.std.proofs.lemmas.List.Sums.{sum_by-le-sum_by, sum_by-append, sum_by-cons}
 use Rattle.std.proofs.lemmas.List.Concat.{length-flat_map}
-use Rattle.std.proofs.lemmas.List.{take-append-drop, append-nil, length-map, map-append, length-take-le}
-use Rattle.std.proofs.lemmas.List.Elements.{Contains-get_or, Contains-append_right, All-take}
+use Rattle.std.proofs.lemmas.List.{take-append-drop, drop_more, append-nil, length-map, map-append, length-take-le}
+use Rattle.std.proofs.lemmas.List.Elements.{Contains-get_or, Contains-append_right, All-contains, All-head, All-tail, All-take, filter_passes}
 use Rattle.std.proofs.Math.ListN.{get_or-map}
 use Rattle.std.proofs.lemmas.Grind.{flat_map-append}
-use Rattle.std.proofs.Math.Seq.{drop-cons}
-use Rattle.niss_moves.specs.declared.turn.Turn.{Turn}
+use Rattle.niss_search.specs.Names.{Turn, Step, Coordinates, Follower}
 use Rattle.niss_moves.specs.Canonical.{may_follow, last_turn}
-use Rattle.niss_cube.specs.declared.step.Step.{Step}
 use Rattle.niss_cube.specs.Steps.{turns_of}
-use Rattle.niss_search.specs.declared.tables.position.Coordinates.{Coordinates}
 use Rattle.niss_search.specs.Positions.{position_after, distance_at}
 use Rattle.niss_search.specs.Delivery.{WentThrough, StoppedIn}
-use Rattle.niss_search.proofs.ListLemmas.{flat_map-filter, sum_by-filter, sum_by-one, passes-filter, All-first, All-later}
-use Rattle.niss_search.specs.declared.tables.followers.Follower.{Follower}
+use Rattle.niss_search.proofs.ListLemmas.{flat_map-filter, sum_by-filter, sum_by-one}
 use Rattle.niss_search.specs.Followers.{AreFar, IsNextNear}
 use Rattle.niss_search.specs.Descent.{found, visits, found_below, looks_below, looks_beyond, DescentState, descent_state, GoesThrough, StopsIn, Descends}
 
@@ -51,23 +47,19 @@ module _ (step : Step) (x : List Coordinates) (p : List Turn) where
   looks_below-end zero e = refl
   looks_below-end (suc k) e = absurd (omega arith)
 
-  found_below-suc : (k : ℕ) → distance_at step x ≤ suc k → found_below step x p (suc k) ≡ flat_map (found_after step x p k) (turns_of step)
+  found_below-each : (left : ℕ) → 0 < left → distance_at step x ≤ left → found_below step x p left ≡ flat_map (found_after step x p (left - 1)) (turns_of step)
   unfolding found found_below found_after
-  found_below-suc k h = rw (le-leb (distance_at step x) (suc k) h)
+  found_below-each zero e h = absurd (omega arith)
+  found_below-each (suc k) e h =
+      let same : suc k - 1 ≡ k = omega arith in
+      rw (same, le-leb (distance_at step x) (suc k) h)
 
-  looks_below-suc : (k : ℕ) → distance_at step x ≤ suc k → looks_below step x p (suc k) ≡ 1 + sum_by (looks_after step x p k) (turns_of step)
+  looks_below-each : (left : ℕ) → 0 < left → distance_at step x ≤ left → looks_below step x p left ≡ 1 + sum_by (looks_after step x p (left - 1)) (turns_of step)
   unfolding visits looks_below looks_after
-  looks_below-suc k h = rw (le-leb (distance_at step x) (suc k) h)
-
-  pub found_below-each : (left : ℕ) → 0 < left → distance_at step x ≤ left → found_below step x p left ≡ flat_map (found_after step x p (left - 1)) (turns_of step)
-  found_below-each left e h =
-      let q : left ≡ suc (left - 1) = omega arith in
-      ap (found_below step x p) q ∙ found_below-suc (left - 1) (omega arith)
-
-  pub looks_below-each : (left : ℕ) → 0 < left → distance_at step x ≤ left → looks_below step x p left ≡ 1 + sum_by (looks_after step x p (left - 1)) (turns_of step)
-  looks_below-each left e h =
-      let q : left ≡ suc (left - 1) = omega arith in
-      ap (looks_below step x p) q ∙ looks_below-suc (left - 1) (omega arith)
+  looks_below-each zero e h = absurd (omega arith)
+  looks_below-each (suc k) e h =
+      let same : suc k - 1 ≡ k = omega arith in
+      rw (same, le-leb (distance_at step x) (suc k) h)
 
   pub looks_below-some : (left : ℕ) → 1 ≤ looks_below step x p left
   unfolding visits looks_below
@@ -189,10 +181,8 @@ module _ {K : Type 0} (took refused : K → List Turn → K → Type 0) where
 
 -- lists of turns that may follow, put side by side
 
-module _ {X : Type 0} where
-  pub split-at : (xs : List X) (i : ℕ) (d : X) → i < length xs → xs ≡ take i xs ++ get_or xs i d ∷ drop (i + 1) xs
-  split-at xs i d here =
-      sym (take-append-drop i xs) ∙ ap (λ ys. take i xs ++ ys) (drop-cons xs i d here) ∙ ap (λ n. take i xs ++ get_or xs i d ∷ drop n xs) (sym (add-one i))
+split-at : (xs : List Follower) (i : ℕ) (d : Follower) → i < length xs → xs ≡ take i xs ++ get_or xs i d ∷ drop (i + 1) xs
+split-at xs i d here = sym (take-append-drop i xs) ∙ ap (λ ys. take i xs ++ ys) (drop_more xs i d here)
 
 abbrev pub turns_in : List Follower → List Turn
 turns_in fs = map (λ f. f.turn) fs
@@ -217,7 +207,7 @@ rest-follows may turns done rest whole = λ k d l.
     let here : k < length (turns_in rest) = omega (arith, length-map rest (λ (h : Follower). h.turn)) in
     let turn : get_or (turns_in rest) k d.turn ≡ f.turn = get_or-map (λ (h : Follower). h.turn) rest k d in
     let among : Contains (turns_in rest) f.turn = rw (sym turn) (Contains-get_or (turns_in rest) k d.turn here) in
-    passes-filter may turns f.turn (subst (λ ts. Contains ts f.turn) whole (Contains-append_right done (turns_in rest) f.turn among))
+    All-contains (λ t. may t ≡ true) (filter may turns) f.turn (filter_passes may turns) (subst (λ ts. Contains ts f.turn) whole (Contains-append_right done (turns_in rest) f.turn among))
 
 module _ (step : Step) (x : List Coordinates) (p : List Turn) (left : ℕ) where
   abbrev pub Follows : Follower → Type 0
@@ -229,19 +219,19 @@ module _ (step : Step) (x : List Coordinates) (p : List Turn) (left : ℕ) where
   pub found_after-far : (fs : List Follower) → All Follows fs → All Far fs → flat_map (found_after step x p left) (turns_in fs) ≡ []
   found_after-far [] a b = refl
   found_after-far (f ∷ fs) a b =
-      rw (found_after-may step x p left f.turn (All-first Follows f fs a), found_below-far step (position_after x f.turn) (p ++ f.turn ∷ []) left (All-first Far f fs b))
-      (found_after-far fs (All-later Follows f fs a) (All-later Far f fs b))
+      rw (found_after-may step x p left f.turn (All-head Follows f fs a), found_below-far step (position_after x f.turn) (p ++ f.turn ∷ []) left (All-head Far f fs b))
+      (found_after-far fs (All-tail Follows f fs a) (All-tail Far f fs b))
 
   pub looks_after-far : (fs : List Follower) → All Follows fs → All Far fs → sum_by (looks_after step x p left) (turns_in fs) ≡ length fs
   looks_after-far [] a b = refl
   looks_after-far (f ∷ fs) a b =
-      omega (arith, sum_by-cons (looks_after step x p left) f.turn (turns_in fs), looks_after-may step x p left f.turn (All-first Follows f fs a), looks_below-far step (position_after x f.turn) (p ++ f.turn ∷ []) left (All-first Far f fs b), looks_after-far fs (All-later Follows f fs a) (All-later Far f fs b))
+      omega (arith, sum_by-cons (looks_after step x p left) f.turn (turns_in fs), looks_after-may step x p left f.turn (All-head Follows f fs a), looks_below-far step (position_after x f.turn) (p ++ f.turn ∷ []) left (All-head Far f fs b), looks_after-far fs (All-tail Follows f fs a) (All-tail Far f fs b))
 
   -- a look after each
   pub looks_after-some : (fs : List Follower) → All Follows fs → length fs ≤ sum_by (looks_after step x p left) (turns_in fs)
   looks_after-some [] a = omega arith
   looks_after-some (f ∷ fs) a =
-      omega (arith, sum_by-cons (looks_after step x p left) f.turn (turns_in fs), looks_after-may step x p left f.turn (All-first Follows f fs a), looks_below-some step (position_after x f.turn) (p ++ f.turn ∷ []) left, looks_after-some fs (All-later Follows f fs a))
+      omega (arith, sum_by-cons (looks_after step x p left) f.turn (turns_in fs), looks_after-may step x p left f.turn (All-head Follows f fs a), looks_below-some step (position_after x f.turn) (p ++ f.turn ∷ []) left, looks_after-some fs (All-tail Follows f fs a))
 
 module _ {K : Type 0} (took refused : K → List Turn → K → Type 0) (f : Turn → List (List Turn)) (g : Turn → ℕ) where
   -- turns after which nothing is found
@@ -274,10 +264,9 @@ module _ {K : Type 0} (took refused : K → List Turn → K → Type 0) (f : Tur
   }
 
 -- how the turns of a position go on, where those done went through and those that may follow are left
-module _ {K : Type 0} (took refused : K → List Turn → K → Type 0) (step : Step) (x : List Coordinates) (p : List Turn) (left : ℕ)
+module _ {K : Type 0} {took refused : K → List Turn → K → Type 0} (step : Step) (x : List Coordinates) (p : List Turn) (left : ℕ)
     (done : List Turn) (rest : List Follower) (whole : done ++ turns_in rest ≡ filter (may_follow (last_turn p)) (turns_of step))
-    (old : DescentState K) (m c : ℕ) (s : K)
-    (went : GoesThrough took refused (flat_map (found_after step x p left) done) (sum_by (looks_after step x p left) done) old (descent_state m c s)) where
+    {old : DescentState K} {m c : ℕ} {s : K} (went : GoesThrough took refused (flat_map (found_after step x p left) done) (sum_by (looks_after step x p left) done) old (descent_state m c s)) where
   abbrev f : Turn → List (List Turn)
   f = found_after step x p left
 
@@ -297,15 +286,15 @@ module _ {K : Type 0} (took refused : K → List Turn → K → Type 0) (step : 
   pub count-within : c + old.meter ≤ old.count + m
   count-within = omega (arith, went.counted, went.looked, length-flat_map-le f g done (length-found_after step x p left))
 
-  pub GoesThrough-far : (n : ℕ) → AreFar step x left rest m n
+  pub GoesThrough-far : {n : ℕ} → AreFar step x left rest m n
       → GoesThrough took refused (flat_map (found_after step x p left) (filter (may_follow (last_turn p)) (turns_of step))) (sum_by (looks_after step x p left) (filter (may_follow (last_turn p)) (turns_of step))) old (descent_state n c s)
-  GoesThrough-far n are =
+  GoesThrough-far {n} are =
       let all = GoesThrough-append took refused f g done (turns_in rest) old (descent_state m c s) (descent_state (m + length rest) c s) went
       (GoesThrough-none took refused f g (turns_in rest) (length rest) m c s (found_after-far step x p left rest may are.far) (looks_after-far step x p left rest may are.far)) in
       subst (λ k. GoesThrough took refused (flat_map f listed) (sum_by g listed) old (descent_state k c s)) (sym are.looked)
       (subst (λ ts. GoesThrough took refused (flat_map f ts) (sum_by g ts) old (descent_state (m + length rest) c s)) whole all)
 
-  module _ (n i : ℕ) (next : IsNextNear step x left rest m n i) (d : Follower) where
+  module _ {n i : ℕ} (next : IsNextNear step x left rest m n i) (d : Follower) where
     abbrev far : List Turn
     far = turns_in (take i rest)
 
@@ -329,18 +318,18 @@ module _ {K : Type 0} (took refused : K → List Turn → K → Type 0) (step : 
     looks-next =
         omega (arith, passed.looked, next.looked, ap (sum_by g) whole_next, sum_by-append g (done ++ far) (t ∷ turns_in (drop (i + 1) rest)), sum_by-cons g t (turns_in (drop (i + 1) rest)), looks_after-may step x p left t follows, looks_below-one step (position_after x t) (p ++ t ∷ []) left)
 
-    pub GoesThrough-next : (new : DescentState K)
+    pub GoesThrough-next : {new : DescentState K}
         → GoesThrough took refused (found_below step (position_after x (get_or rest i d).turn) (p ++ (get_or rest i d).turn ∷ []) left) (looks_beyond step (position_after x (get_or rest i d).turn) (p ++ (get_or rest i d).turn ∷ []) left) (descent_state n c s) new
         → GoesThrough took refused (flat_map (found_after step x p left) ((done ++ turns_in (take i rest)) ++ (get_or rest i d).turn ∷ [])) (sum_by (looks_after step x p left) ((done ++ turns_in (take i rest)) ++ (get_or rest i d).turn ∷ [])) old new
-    GoesThrough-next new h =
+    GoesThrough-next {new} h =
         GoesThrough-more took refused f g (done ++ far) t old (descent_state (m + i) c s) new passed
         (rw (found_after-may step x p left t follows, looks_after-may step x p left t follows, looks_below-one step (position_after x t) (p ++ t ∷ []) left)
         (Descends-look took refused {F = Unit {0}} (Ok tt) (found_below step (position_after x t) (p ++ t ∷ []) left) (looks_beyond step (position_after x t) (p ++ t ∷ []) left) (m + i) n c s new next.looked h))
 
-    pub StopsIn-next : (new : DescentState K)
+    pub StopsIn-next : {new : DescentState K}
         → StopsIn took refused (found_below step (position_after x (get_or rest i d).turn) (p ++ (get_or rest i d).turn ∷ []) left) (looks_beyond step (position_after x (get_or rest i d).turn) (p ++ (get_or rest i d).turn ∷ []) left) (descent_state n c s) new
         → StopsIn took refused (flat_map (found_after step x p left) (filter (may_follow (last_turn p)) (turns_of step))) (sum_by (looks_after step x p left) (filter (may_follow (last_turn p)) (turns_of step))) old new
-    StopsIn-next new h =
+    StopsIn-next {new} h =
         subst (λ ts. StopsIn took refused (flat_map f ts) (sum_by g ts) old new) whole_next
         (StopsIn-among took refused f g (done ++ far) t (turns_in (drop (i + 1) rest)) old (descent_state (m + i) c s) new passed
         (rw (found_after-may step x p left t follows, looks_after-may step x p left t follows, looks_below-one step (position_after x t) (p ++ t ∷ []) left)

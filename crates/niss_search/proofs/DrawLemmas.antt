@@ -1,12 +1,10 @@
 -- Drawing turn by turn.
-use Rattle.std.proofs.Common.{◌≡◌, ℕ, zero, suc, ◌-◌, ◌*◌, ◌/◌, ◌^◌, ◌≤◌, ◌<◌, Bool, true, false, ◌&&◌, cond, List, [], ◌∷◌, ◌++◌, length, get_or, filter, Option, Some, None, refl, ap, ◌∙◌, arith, lit<}
+use Rattle.std.proofs.Common.{◌≡◌, ℕ, suc, ◌-◌, ◌*◌, ◌/◌, ◌^◌, ◌≤◌, ◌<◌, Bool, true, false, ◌&&◌, List, [], ◌∷◌, ◌++◌, length, filter, Option, Some, None, refl, ap, ◌∙◌, arith, lit<}
 use Rattle.std.specs.List.{last_or, slice_get}
+use Rattle.std.proofs.lemmas.List.Elements.{filter_passes}
 use Rattle.std.proofs.Math.Nat.{mul-le-mul_right}
 use Rattle.niss_moves.specs.Canonical.{may_follow, face_may_follow, turn_order, last_turn, is_canonical_after}
-use Rattle.niss_moves.specs.declared.turn.Face.{Face}
-use Rattle.niss_moves.specs.declared.turn.Face.TheVariants.{U, D, R, L, F, B}
-use Rattle.niss_moves.specs.declared.turn.Power.TheVariants.{Quarter}
-use Rattle.niss_moves.specs.declared.turn.Turn.{Turn}
+use Rattle.niss_search.specs.Names.{Face, U, D, R, L, F, B, Quarter, Turn}
 use Rattle.rand_pcg.specs.Lcg.{Lcg, state_after}
 use Rattle.rand_pcg.specs.Pcg.{pcg32}
 use Rattle.niss_search.specs.Draw.{choices, choice, next_words, after_words, draw}
@@ -32,18 +30,10 @@ choice-index last w h =
     let some = choices-some last in
     omega arith
 
-filter-passes : {X : Type 0} (p : X → Bool) (xs : List X) (i : ℕ) (d : X) → i < length (filter p xs) → p (get_or (filter p xs) i d) ≡ true
-filter-passes p [] i d h = absurd (omega arith)
-filter-passes p (x ∷ xs) i d h = by_test (p x) refl (filter-passes p xs) i h where
-  by_test : (b : Bool) → p x ≡ b → ((i : ℕ) (d' : _) → i < length (filter p xs) → p (get_or (filter p xs) i d') ≡ true) → (i : ℕ) → i < length (cond b (x ∷ filter p xs) (filter p xs)) → p (get_or (cond b (x ∷ filter p xs) (filter p xs)) i d) ≡ true
-  by_test true e rest zero l = e
-  by_test true e rest (suc j) l = rest j d (omega arith)
-  by_test false e rest j l = rest j d l
-
 -- the turn that a word picks may follow
 pub choice-follows : (last : Option Turn) (w : ℕ) → w < 2 ^ 32 → may_follow last (choice last w) ≡ true
 choice-follows last w h =
-    filter-passes (may_follow last) turn_order (w * length (choices last) / 2 ^ 32) record { face = U; power = Quarter } (choice-index last w h)
+    filter_passes (may_follow last) turn_order _ record { face = U; power = Quarter } (choice-index last w h)
 
 -- one word more
 pub draw-more : (n m : ℕ) (last : Option Turn) (g : Lcg) → n ≡ suc m → draw last (next_words n g) ≡ choice last (pcg32 g).0 ∷ draw (Some (choice last (pcg32 g).0)) (next_words m (pcg32 g).1)

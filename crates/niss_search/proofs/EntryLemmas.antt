@@ -1,35 +1,27 @@
 -- The entries of a pruning table by number, and how the turns lead from one to another.
-use Rattle.std.proofs.Common.{◌≡◌, ℕ, zero, suc, ◌+◌, ◌-◌, ◌*◌, ◌/◌, ◌%◌, ◌≤◌, ◌<◌, leb, ◌==◌, ◌&&◌, Bool, true, false, ◌||◌, List, [], ◌∷◌, map, Contains, refl, sym, ap, ◌∙◌, subst, arith, lit<, inl, inr, ◌⊎◌, length, get_or, slice_index, replicate, All, take, drop, ◌++◌}
+use Rattle.std.proofs.Common.{◌≡◌, ℕ, zero, suc, ◌+◌, ◌-◌, ◌*◌, ◌/◌, ◌%◌, ◌≤◌, ◌<◌, leb, ◌==◌, ◌&&◌, Bool, true, false, ◌||◌, List, [], ◌∷◌, map, Contains, refl, sym, ap, ◌∙◌, subst, arith, lit<, inl, inr, ◌⊎◌, length, get_or, slice_index, replicate}
 use Rattle.std.proofs.lemmas.Bool.Decides.{eqb_tells, leb_tells}
 use Rattle.niss_moves.specs.Places.{Place}
-use Rattle.niss_moves.specs.declared.axis.Axis.{Axis}
+use Rattle.niss_search.specs.Names.{Axis, Turn, Goal, Edges, Domino, Step, Coordinates}
 use Rattle.niss_moves.specs.Turn.{inverse_turn}
-use Rattle.niss_moves.specs.declared.turn.Turn.{Turn}
-use Rattle.niss_cube.specs.AfterTurn.{AreCoordinates}
+use Rattle.niss_cube.specs.AfterTurn.{IsCube, AreCoordinates}
 use Rattle.niss_cube.specs.declared.cube.coordinate.Coordinate.TheVariants.{Flip, Twist, Slice}
 use Rattle.niss_cube.specs.NumberAfter.{number_after}
 use Rattle.niss_cube.specs.Steps.{goals_of, turns_of}
 use Rattle.niss_cube.specs.StepLaws.{InversesOfSteps}
-use Rattle.niss_cube.specs.declared.step.Goal.{Goal}
-use Rattle.niss_cube.specs.declared.step.Goal.TheVariants.{Edges, Domino}
-use Rattle.niss_cube.specs.declared.step.Step.{Step}
-use Rattle.niss_search.specs.declared.tables.position.Coordinates.{Coordinates}
-use Rattle.niss_search.specs.Positions.{coordinates_of, coordinates_after, are_zero, AreInRange, position_after, is_reached_at, distance_at}
+use Rattle.niss_search.specs.Positions.{coordinates_of, coordinates_after, are_zero, position_after, is_reached_at, distance_at}
 use Rattle.niss_search.specs.Cubes.{HasPosition}
 use Rattle.niss_search.specs.Entries.{count_for}
 use Rattle.niss_search.specs.Moves.{turn_at}
 use Rattle.niss_search.specs.Filling.{row_length, place_after, AreStarts, ArePlaces, entry_number, entry_at, entry_after, entry_distance, byte_at, Alternative, EntriesTurn, IsFilled, IsEntry, AreEntries}
-use Rattle.niss_search.proofs.ListLemmas.{All-first, All-later}
 use Rattle.niss_search.proofs.PositionLemmas.{position_of-is}
 use Rattle.niss_search.proofs.LookLemmas.{distance_at-goal, distance_at-turn, distance_at-most, distance_at-nearer}
 
 pub count_for-some : (g : Goal) → 0 < count_for g
-unfolding count_for
 count_for-some (Edges a) = lit< tt
 count_for-some (Domino o a) = lit< tt
 
 pub count_for-bound : (g : Goal) → count_for g < 1082566
-unfolding count_for
 count_for-bound (Edges a) = lit< tt
 count_for-bound (Domino o a) = lit< tt
 
@@ -42,42 +34,42 @@ low a b h = omega arith
 
 -- the row in which an entry stands
 pub row_length-some : (g : Goal) → 0 < row_length g
-unfolding row_length
 row_length-some (Edges a) = lit< tt
 row_length-some (Domino o a) = lit< tt
 
-pub row-from : (g : Goal) (i : ℕ) → i / row_length g * row_length g ≤ i
-unfolding row_length
-row-from (Edges a) i = omega arith
-row-from (Domino o a) i = omega arith
-
 pub row-to : (g : Goal) (i : ℕ) → i < i / row_length g * row_length g + row_length g
-unfolding row_length
 row-to (Edges a) i = omega arith
 row-to (Domino o a) i = omega arith
 
--- the entry number is one to one: the coordinates of a goal are found back from it
-pub entry_at-back : (g : Goal) (e : Place → Place) → AreInRange (coordinates_of g e) → IsEntry g (coordinates_of g e)
-unfolding count_for
-entry_at-back (Edges a) e h = (h, refl)
-entry_at-back (Domino o a) e h = (omega arith, rw (high _ _ h.1, low _ _ h.1) refl)
-
 module _ (coordinates : AreCoordinates) where
+  -- the entry number is one to one: the coordinates of a goal are found back from it
+  entry_at-back : (g : Goal) (e : Place → Place) → IsCube e → IsEntry g (coordinates_of g e)
+  entry_at-back (Edges a) e h = ((coordinates Flip a).below e h, refl)
+  entry_at-back (Domino o a) e h =
+      let b = (coordinates Slice a).below e h in
+      (omega (arith, (coordinates Twist a).below e h, b), rw (high _ _ b, low _ _ b) refl)
+
+  -- so the position of a cube is one of entries, one for each goal
+  pub position-is-entries : (s : Step) (x : List Coordinates) (e : Place → Place) → HasPosition s e x → AreEntries (goals_of s) x
+  unfolding AreEntries
+  position-is-entries s x e h =
+      subst (AreEntries (goals_of s)) (sym (position_of-is s e) ∙ h.here) (by_goals (goals_of s)) where
+        by_goals : (gs : List Goal) → AreEntries gs (map (λ g. coordinates_of g e) gs)
+        by_goals [] = tt
+        by_goals (g ∷ gs) = (entry_at-back g e h.cube, by_goals gs)
+
   after-below : (g : Goal) (i : ℕ) (t : Turn) → i < count_for g → entry_number (coordinates_after (entry_at g i) t) < count_for g
-  unfolding count_for
   after-below (Edges a) i t h = (coordinates Flip a).after_below i t h
   after-below (Domino o a) i t h =
       omega (arith, (coordinates Twist a).after_below (i / 495) t (omega arith), (coordinates Slice a).after_below (i % 495) t (omega arith))
 
   after-leads : (g : Goal) (i : ℕ) (t : Turn) → i < count_for g → entry_at g (entry_number (coordinates_after (entry_at g i) t)) ≡ coordinates_after (entry_at g i) t
-  unfolding count_for
   after-leads (Edges a) i t h = refl
   after-leads (Domino o a) i t h =
       let b = (coordinates Slice a).after_below (i % 495) t (omega arith) in
       rw (high _ _ b, low _ _ b) refl
 
   after-back : (g : Goal) (i : ℕ) (t : Turn) → i < count_for g → entry_number (coordinates_after (coordinates_after (entry_at g i) t) (inverse_turn t)) ≡ i
-  unfolding count_for
   after-back (Edges a) i t h = (coordinates Flip a).back_again i t h
   after-back (Domino o a) i t h =
       rw ((coordinates Twist a).back_again (i / 495) t (omega arith), (coordinates Slice a).back_again (i % 495) t (omega arith)) (omega arith)
@@ -150,7 +142,7 @@ module _ (law : EntriesTurn) (alt : Alternative) where
 
 -- a turn leads the entries of a row into one row again
 pub row-edges : (step : Step) (axis : Axis) (row : ℕ) → row * row_length (Edges axis) < count_for (Edges axis) → AreStarts record { step = step; goal = Edges axis } (row * row_length (Edges axis)) (replicate 18 0)
-unfolding row_length count_for entry_after
+unfolding entry_after
 row-edges step axis row h k place l r =
     let first : row * 2048 + place ≡ place = omega arith in
     let none : 0 + place_after (Edges axis) place (turn_at step k) ≡ place_after (Edges axis) place (turn_at step k) = omega arith in
@@ -161,7 +153,7 @@ row-edges step axis row h k place l r =
       zero-at (suc n) (suc k) = zero-at n k
 
 pub row-domino : (step : Step) (edges axis : Axis) (row : ℕ) (starts : List ℕ) → ((k : ℕ) → k < length (turns_of step) → slice_index starts k ≡ number_after Twist axis row (turn_at step k) * 495) → AreStarts record { step = step; goal = Domino edges axis } (row * row_length (Domino edges axis)) starts
-unfolding row_length entry_after
+unfolding entry_after
 row-domino step edges axis row starts led k place l r = rw (led k l, high row place r, low row place r) refl
 
 -- the entry after a turn, by its row and its place there
@@ -172,38 +164,6 @@ row-entry alt start entry starts places s p from to k l =
     ap (λ n. slice_index starts k + n) (p k l)
     ∙ s k (entry - start) l inside
     ∙ ap (λ i. entry_after alt.goal i (turn_at alt.step k)) back
-
--- the position of a cube is one of entries, one for each goal
-pub position-entries : (gs : List Goal) (e : Place → Place) → All AreInRange (map (λ g. coordinates_of g e) gs) → AreEntries gs (map (λ g. coordinates_of g e) gs)
-unfolding AreEntries
-position-entries [] e h = tt
-position-entries (g ∷ gs) e h =
-    (entry_at-back g e (All-first AreInRange (coordinates_of g e) (map (λ h. coordinates_of h e) gs) h), position-entries gs e (All-later AreInRange (coordinates_of g e) (map (λ h. coordinates_of h e) gs) h))
-
-pub position-is-entries : (s : Step) (x : List Coordinates) (e : Place → Place) → HasPosition s e x → All AreInRange x → AreEntries (goals_of s) x
-position-is-entries s x e h r =
-    let same : map (λ g. coordinates_of g e) (goals_of s) ≡ x = sym (position_of-is s e) ∙ h.here in
-    rw (sym same) (position-entries (goals_of s) e (rw (sym same) at r))
-
--- and those of two lists of goals are those of the one, and then of the other
-pub entries-first : (gs hs : List Goal) (xs : List Coordinates) → AreEntries (gs ++ hs) xs → AreEntries gs (take (length gs) xs)
-unfolding AreEntries
-entries-first [] hs xs h = tt
-entries-first (g ∷ gs) hs [] h = absurd h
-entries-first (g ∷ gs) hs (c ∷ cs) h = (h.0, entries-first gs hs cs h.1)
-
-pub entries-rest : (gs hs : List Goal) (xs : List Coordinates) → AreEntries (gs ++ hs) xs → AreEntries hs (drop (length gs) xs)
-unfolding AreEntries
-entries-rest [] hs xs h = h
-entries-rest (g ∷ gs) hs [] h = absurd h
-entries-rest (g ∷ gs) hs (c ∷ cs) h = entries-rest gs hs cs h.1
-
-pub entries-length : (gs : List Goal) (xs : List Coordinates) → AreEntries gs xs → length xs ≡ length gs
-unfolding AreEntries
-entries-length [] [] h = refl
-entries-length [] (c ∷ cs) h = absurd h
-entries-length (g ∷ gs) [] h = absurd h
-entries-length (g ∷ gs) (c ∷ cs) h = ap suc (entries-length gs cs h.1)
 
 -- of one goal
 pub entries-one : (g : Goal) (xs : List Coordinates) (d : Coordinates) → AreEntries (g ∷ []) xs → (xs ≡ get_or xs 0 d ∷ []) × IsEntry g (get_or xs 0 d)

@@ -1,179 +1,99 @@
 -- How a pruning table fills, level by level.
 use Rattle.std.proofs.Common.{◌≡◌, ℕ, zero, suc, ◌+◌, ◌*◌, ◌≤◌, ◌<◌, ◌≢◌, leb, nat_le, nat_lt, ◌==◌, eqb, Bool, true, false, cond, List, [], ◌∷◌, length, set, slice_index, Contains, count_by, refl, sym, ap, ◌∙◌, subst, arith, inl, inr, ◌⊎◌, add-one, length-set, get_or-set_other, get_or-set_same, replicate, min}
-use Rattle.std.proofs.lemmas.Bool.{le-leb, lt-leb}
+use Rattle.std.proofs.lemmas.Bool.{leb-true}
 use Rattle.std.specs.List.{range_with_len}
 use Rattle.std.proofs.lemmas.Bool.Decides.{leb_tells, eqb_tells, nat_tests}
-use Rattle.std.proofs.lemmas.List.Sums.{sum_by-cons, sum_by_push, count_by-le-length}
+use Rattle.std.proofs.lemmas.List.Sums.{sum_by-cons, count_by-le-length}
 use Rattle.std.proofs.lemmas.List.FromFn.{length-range_with_len}
-use Rattle.std.proofs.lemmas.List.{get_or_past, length-replicate, get_or-replicate, set-get_or}
+use Rattle.std.proofs.lemmas.List.{length-replicate, get_or-replicate}
 use Rattle.std.proofs.Math.Nat.{mul-le-mul}
 use Rattle.niss_moves.specs.Turn.{inverse_turn}
-use Rattle.niss_moves.specs.declared.turn.Turn.{Turn}
+use Rattle.niss_search.specs.Names.{Turn}
 use Rattle.niss_cube.specs.Steps.{turns_of}
 use Rattle.niss_search.specs.Entries.{count_for}
-use Rattle.niss_search.specs.Filling.{entry_after, entry_distance, byte_at, Alternative, EntriesTurn, IsFilled, IsFilling, IsExtended}
-use Rattle.niss_search.proofs.ListLemmas.{sum_by-same, sum_by-none, range_with_len-more}
+use Rattle.niss_search.specs.Filling.{entry_after, entry_distance, byte_at, Alternative, EntriesTurn, MayBeAt, IsFilled, IsFilling, IsExtended}
+use Rattle.niss_search.proofs.ListLemmas.{sum_by-same, sum_by-none, sum_by-range_more}
 use Rattle.niss_search.proofs.EntryLemmas.{count_for-some, entry_distance-zero, entry_distance-turn, entry_distance-back, entry_distance-nearer}
 
-byte_at-near : (level d : ℕ) → d ≤ level → byte_at level d ≡ d
-byte_at-near level d h = rw (le-leb d level h) refl
+-- what a byte may be when a level begins, and that it is the distance once it is met, or once the level is done
+may-begin : (level d : ℕ) → level < 20 → MayBeAt level d (byte_at level d)
+may-begin level d small = elim (leb_tells d level) [
+  | inl e ↦ rw e.0 record { near = λ n. refl; met = λ m. refl; next = λ m. omega (arith, e.1) }
+  | inr e ↦ rw e.0 record { near = λ n. absurd (omega arith); met = λ m. absurd (m refl); next = λ m. absurd (m refl) }
+]
 
-byte_at-far : (level d : ℕ) → level < d → byte_at level d ≡ 21
-byte_at-far level d h = rw (lt-leb d level h) refl
+may-meet : (level d byte : ℕ) → level < 20 → MayBeAt level d byte → d ≤ level + 1 → min byte (level + 1) ≡ d
+may-meet level d byte small h near = elim (leb_tells d level) [
+  | inl e ↦ omega (arith, h.near e.1)
+  | inr e ↦ elim (eqb_tells byte 21) [ inl q ↦ omega arith | inr q ↦ omega (arith, h.met q.1) ]
+]
 
-module _ (law : EntriesTurn) (alt : Alternative) (level : ℕ) (small : level < 20) where
-  -- an entry that was not met gets the next level
-  module _ (xs : List ℕ) (f : IsFilling alt level xs) (x : ℕ) (t : Turn) (here : entry_distance alt x ≡ level) (in_range : x < count_for alt.goal) (m : Contains (turns_of alt.step) t) where
-    met-le : entry_distance alt (entry_after alt.goal x t) ≤ level + 1
-    met-le = omega (arith, entry_distance-back law alt x t in_range m)
+may-end : (level d byte : ℕ) → MayBeAt level d byte → (d ≡ level + 1 → byte < 21) → byte ≡ byte_at (level + 1) d
+may-end level d byte h met = elim (leb_tells d (level + 1)) [
+  | inl e ↦ rw e.0 (elim (leb_tells d level) [
+    | inl n ↦ h.near n.1
+    | inr n ↦ h.met (λ q. absurd (omega (arith, met (omega arith))))
+  ])
+  | inr e ↦ rw e.0 (elim (eqb_tells byte 21) [ inl q ↦ q.1 | inr q ↦ absurd (omega (arith, h.met q.1, h.next q.1)) ])
+]
 
-    pub set-filling : slice_index xs (entry_after alt.goal x t) ≡ 21 → IsFilling alt level (set xs (entry_after alt.goal x t) (level + 1))
-    set-filling unmet = record {
-      size = length-set xs (entry_after alt.goal x t) (level + 1) ∙ f.size;
-      near = λ i l n. near-at i l n (eqb_tells i (entry_after alt.goal x t));
-      far = λ i l n. far-at i l n (eqb_tells i (entry_after alt.goal x t));
-    } where
-      next-range : entry_after alt.goal x t < length xs
-      next-range = omega (arith, f.size, law.below alt.goal x t in_range)
+-- what holds of the byte that is set and of each other as it was holds of each
+set-each : (P : ℕ → ℕ → Type 0) (xs : List ℕ) (j v : ℕ) → j < length xs → P j v → ((k : ℕ) → P k (slice_index xs k)) → (k : ℕ) → P k (slice_index (set xs j v) k)
+set-each P xs j v inside here others k = elim (eqb_tells k j) [
+  | inl e ↦ rw (e.1, get_or-set_same xs j v 0 inside) here
+  | inr e ↦ rw (get_or-set_other xs j k v 0 e.1) (others k)
+]
 
-      near-at : (i : ℕ) → i < count_for alt.goal → entry_distance alt i ≤ level → ((eqb i (entry_after alt.goal x t) ≡ true) × (i ≡ entry_after alt.goal x t)) ⊎ ((eqb i (entry_after alt.goal x t) ≡ false) × (i ≢ entry_after alt.goal x t)) → slice_index (set xs (entry_after alt.goal x t) (level + 1)) i ≡ entry_distance alt i
-      near-at i l n (inl e) =
-          let was = f.near i l n in
-          let same = ap (slice_index xs) e.1 in
-          absurd (omega arith)
-      near-at i l n (inr e) = get_or-set_other xs (entry_after alt.goal x t) i (level + 1) 0 e.1 ∙ f.near i l n
+pub filling-start : (alt : Alternative) (level : ℕ) (xs : List ℕ) → level < 20 → IsFilled alt level xs → IsFilling alt level xs
+filling-start alt level xs small f =
+    record { size = f.size; bytes = λ i l. rw (f.bytes i l) (may-begin level (entry_distance alt i) small) }
 
-      far-at : (i : ℕ) → i < count_for alt.goal → level < entry_distance alt i → ((eqb i (entry_after alt.goal x t) ≡ true) × (i ≡ entry_after alt.goal x t)) ⊎ ((eqb i (entry_after alt.goal x t) ≡ false) × (i ≢ entry_after alt.goal x t)) → (slice_index (set xs (entry_after alt.goal x t) (level + 1)) i ≡ 21) ⊎ ((slice_index (set xs (entry_after alt.goal x t) (level + 1)) i ≡ level + 1) × (entry_distance alt i ≡ level + 1))
-      far-at i l n (inl e) =
-          let same = ap (entry_distance alt) e.1 in
-          let q : entry_distance alt i ≡ level + 1 = omega (arith, met-le) in
-          inr (ap (slice_index (set xs (entry_after alt.goal x t) (level + 1))) e.1 ∙ get_or-set_same xs (entry_after alt.goal x t) (level + 1) 0 next-range, q)
-      far-at i l n (inr e) =
-          let other = get_or-set_other xs (entry_after alt.goal x t) i (level + 1) 0 e.1 in
-          elim (f.far i l n) [
-            | inl a ↦ inl (other ∙ a)
-            | inr b ↦ inr (other ∙ b.0, b.1)
-          ]
+module _ (law : EntriesTurn) (alt : Alternative) (level : ℕ) (small : level < 20) (xs : List ℕ) (f : IsFilling alt level xs) where
+  -- the entry to which a turn leads from the level becomes the lesser of its byte and the next level
+  module _ (i : ℕ) (t : Turn) (here : entry_distance alt i ≡ level) (in_range : i < count_for alt.goal) (m : Contains (turns_of alt.step) t) where
+    abbrev met : ℕ
+    met = min (slice_index xs (entry_after alt.goal i t)) (level + 1)
 
-    pub set-met : slice_index (set xs (entry_after alt.goal x t) (level + 1)) (entry_after alt.goal x t) < 21
-    set-met =
-        let next-range : entry_after alt.goal x t < length xs = omega (arith, f.size, law.below alt.goal x t in_range) in
-        omega (arith, get_or-set_same xs (entry_after alt.goal x t) (level + 1) 0 next-range)
-
-  pub set-kept : (xs : List ℕ) (j i : ℕ) → slice_index xs i < 21 → slice_index (set xs j (level + 1)) i < 21
-  set-kept xs j i h = by_place (eqb_tells i j) (leb_tells (length xs) j) where
-    by_place : ((eqb i j ≡ true) × (i ≡ j)) ⊎ ((eqb i j ≡ false) × (i ≢ j)) → ((leb (length xs) j ≡ true) × (length xs ≤ j)) ⊎ ((leb (length xs) j ≡ false) × (j < length xs)) → slice_index (set xs j (level + 1)) i < 21
-    by_place (inr e) w = omega (arith, get_or-set_other xs j i (level + 1) 0 e.1)
-    by_place (inl e) (inr w) =
-        let same = ap (slice_index (set xs j (level + 1))) e.1 in
-        omega (arith, get_or-set_same xs j (level + 1) 0 w.1)
-    by_place (inl e) (inl w) =
-        omega (arith, get_or_past (set xs j (level + 1)) i 0 (omega (arith, length-set xs j (level + 1))))
-
-  pub filling-met : (xs : List ℕ) → IsFilling alt level xs → (i : ℕ) → i < count_for alt.goal → slice_index xs i ≢ 21 → slice_index xs i < 21
-  filling-met xs f i l n = by_side (leb_tells (entry_distance alt i) level) where
-    by_far : (slice_index xs i ≡ 21) ⊎ ((slice_index xs i ≡ level + 1) × (entry_distance alt i ≡ level + 1)) → slice_index xs i < 21
-    by_far (inl a) = absurd (n a)
-    by_far (inr b) = omega arith
-
-    by_side : ((leb (entry_distance alt i) level ≡ true) × (entry_distance alt i ≤ level)) ⊎ ((leb (entry_distance alt i) level ≡ false) × (level < entry_distance alt i)) → slice_index xs i < 21
-    by_side (inl e) = omega (arith, f.near i l e.1)
-    by_side (inr e) = by_far (f.far i l e.1)
-
-  met-small : (xs : List ℕ) → IsFilling alt level xs → (i : ℕ) → i < count_for alt.goal → slice_index xs i < 21 → slice_index xs i ≤ level + 1
-  met-small xs f i l n = by_side (leb_tells (entry_distance alt i) level) where
-    by_far : (slice_index xs i ≡ 21) ⊎ ((slice_index xs i ≡ level + 1) × (entry_distance alt i ≡ level + 1)) → slice_index xs i ≤ level + 1
-    by_far (inl a) = absurd (omega arith)
-    by_far (inr b) = omega arith
-
-    by_side : ((leb (entry_distance alt i) level ≡ true) × (entry_distance alt i ≤ level)) ⊎ ((leb (entry_distance alt i) level ≡ false) × (level < entry_distance alt i)) → slice_index xs i ≤ level + 1
-    by_side (inl e) = omega (arith, f.near i l e.1)
-    by_side (inr e) = by_far (f.far i l e.1)
-
-  -- what the lesser of an entry's byte and the next level does to the table
-  module _ (xs : List ℕ) (f : IsFilling alt level xs) (i : ℕ) (t : Turn) (here : entry_distance alt i ≡ level) (in_range : i < count_for alt.goal) (m : Contains (turns_of alt.step) t) where
     -- the table after it
     abbrev after : List ℕ
-    after = set xs (entry_after alt.goal i t) (min (slice_index xs (entry_after alt.goal i t)) (level + 1))
+    after = set xs (entry_after alt.goal i t) met
 
-    unmet-or-kept : ((slice_index xs (entry_after alt.goal i t) ≡ 21) × (after ≡ set xs (entry_after alt.goal i t) (level + 1))) ⊎ ((slice_index xs (entry_after alt.goal i t) < 21) × (after ≡ xs))
-    unmet-or-kept = by_byte (eqb_tells (slice_index xs (entry_after alt.goal i t)) 21) where
-      by_byte : ((eqb (slice_index xs (entry_after alt.goal i t)) 21 ≡ true) × (slice_index xs (entry_after alt.goal i t) ≡ 21)) ⊎ ((eqb (slice_index xs (entry_after alt.goal i t)) 21 ≡ false) × (slice_index xs (entry_after alt.goal i t) ≢ 21)) → ((slice_index xs (entry_after alt.goal i t) ≡ 21) × (after ≡ set xs (entry_after alt.goal i t) (level + 1))) ⊎ ((slice_index xs (entry_after alt.goal i t) < 21) × (after ≡ xs))
-      by_byte (inl e) =
-          let least : min (slice_index xs (entry_after alt.goal i t)) (level + 1) ≡ level + 1 = omega (arith, e.1) in
-          inl (e.1, ap (set xs (entry_after alt.goal i t)) least)
-      by_byte (inr e) =
-          let met = filling-met xs f (entry_after alt.goal i t) (law.below alt.goal i t in_range) e.1 in
-          let small = met-small xs f (entry_after alt.goal i t) (law.below alt.goal i t in_range) met in
-          let least : min (slice_index xs (entry_after alt.goal i t)) (level + 1) ≡ slice_index xs (entry_after alt.goal i t) = omega (arith, small) in
-          inr (met, ap (set xs (entry_after alt.goal i t)) least ∙ set-get_or xs (entry_after alt.goal i t) 0)
+    inside : entry_after alt.goal i t < length xs
+    inside = omega (arith, f.size, law.below alt.goal i t in_range)
 
     pub least-filling : IsFilling alt level after
-    least-filling = by_case unmet-or-kept where
-      by_case : ((slice_index xs (entry_after alt.goal i t) ≡ 21) × (after ≡ set xs (entry_after alt.goal i t) (level + 1))) ⊎ ((slice_index xs (entry_after alt.goal i t) < 21) × (after ≡ xs)) → IsFilling alt level after
-      by_case (inl e) = subst (IsFilling alt level) (sym e.1) (set-filling xs f i t here in_range m e.0)
-      by_case (inr e) = subst (IsFilling alt level) (sym e.1) f
+    least-filling = record {
+      size = length-set xs (entry_after alt.goal i t) met ∙ f.size;
+      bytes = set-each (λ k byte. k < count_for alt.goal → MayBeAt level (entry_distance alt k) byte) xs (entry_after alt.goal i t) met inside
+          (λ l. may-be (omega (arith, entry_distance-back law alt i t in_range m)) l)
+          f.bytes;
+    } where
+      may-be : entry_distance alt (entry_after alt.goal i t) ≤ level + 1 → entry_after alt.goal i t < count_for alt.goal → MayBeAt level (entry_distance alt (entry_after alt.goal i t)) met
+      may-be h l =
+          rw (may-meet level _ _ small (f.bytes _ l) h) record { near = λ n. refl; met = λ m. refl; next = λ m. h }
 
     pub least-met : slice_index after (entry_after alt.goal i t) < 21
-    least-met = by_case unmet-or-kept where
-      by_case : ((slice_index xs (entry_after alt.goal i t) ≡ 21) × (after ≡ set xs (entry_after alt.goal i t) (level + 1))) ⊎ ((slice_index xs (entry_after alt.goal i t) < 21) × (after ≡ xs)) → slice_index after (entry_after alt.goal i t) < 21
-      by_case (inl e) = subst (λ (ys : List ℕ). slice_index ys (entry_after alt.goal i t) < 21) (sym e.1) (set-met xs f i t here in_range m)
-      by_case (inr e) = subst (λ (ys : List ℕ). slice_index ys (entry_after alt.goal i t) < 21) (sym e.1) e.0
+    least-met = omega (arith, get_or-set_same xs (entry_after alt.goal i t) met 0 inside)
 
     pub least-kept : (j : ℕ) → slice_index xs j < 21 → slice_index after j < 21
-    least-kept j h = by_case unmet-or-kept where
-      by_case : ((slice_index xs (entry_after alt.goal i t) ≡ 21) × (after ≡ set xs (entry_after alt.goal i t) (level + 1))) ⊎ ((slice_index xs (entry_after alt.goal i t) < 21) × (after ≡ xs)) → slice_index after j < 21
-      by_case (inl e) = subst (λ (ys : List ℕ). slice_index ys j < 21) (sym e.1) (set-kept xs (entry_after alt.goal i t) j h)
-      by_case (inr e) = subst (λ (ys : List ℕ). slice_index ys j < 21) (sym e.1) h
+    least-kept = set-each (λ k byte. slice_index xs k < 21 → byte < 21) xs (entry_after alt.goal i t) met inside (λ h. omega arith) (λ k h. h)
 
   -- after each entry of the level was extended, the next level is whole
-  pub filled-next : (xs : List ℕ) → IsFilling alt level xs → ((j : ℕ) → j < count_for alt.goal → entry_distance alt j ≡ level → IsExtended alt xs j) → IsFilled alt (level + 1) xs
-  filled-next xs f extended = record {
-    size = f.size;
-    bytes = λ i l. by_side i l (leb_tells (entry_distance alt i) (level + 1)) (leb_tells (entry_distance alt i) level);
-  } where
-    far-at : (i : ℕ) → level + 1 < entry_distance alt i → (slice_index xs i ≡ 21) ⊎ ((slice_index xs i ≡ level + 1) × (entry_distance alt i ≡ level + 1)) → slice_index xs i ≡ 21
-    far-at i n (inl a) = a
-    far-at i n (inr b) = absurd (omega arith)
-
-    met-near : (i : ℕ) → slice_index xs i < 21 → (slice_index xs i ≡ 21) ⊎ ((slice_index xs i ≡ level + 1) × (entry_distance alt i ≡ level + 1)) → slice_index xs i ≡ entry_distance alt i
-    met-near i h (inl a) = absurd (omega arith)
-    met-near i h (inr b) = omega arith
-
-    next-at : (i : ℕ) → i < count_for alt.goal → entry_distance alt i ≡ level + 1 → slice_index xs i ≡ entry_distance alt i
-    next-at i l n =
-        let nearer = entry_distance-nearer law alt i level l (omega arith) small in
-        let t = nearer.0 in
-        let m = nearer.1.0 in
-        let j = entry_after alt.goal i t in
-        let at : entry_distance alt j ≡ level = omega (arith, nearer.1.1, entry_distance-turn law alt i t l m) in
-        let met = extended j (law.below alt.goal i t l) at (inverse_turn t) (law.inverses alt.step t m) in
-        let met_here : slice_index xs i < 21 = subst (λ (y : ℕ). slice_index xs y < 21) (law.back alt.goal i t l) met in
-        met-near i met_here (f.far i l (omega arith))
-
-    by_side : (i : ℕ) → i < count_for alt.goal → ((leb (entry_distance alt i) (level + 1) ≡ true) × (entry_distance alt i ≤ level + 1)) ⊎ ((leb (entry_distance alt i) (level + 1) ≡ false) × (level + 1 < entry_distance alt i)) → ((leb (entry_distance alt i) level ≡ true) × (entry_distance alt i ≤ level)) ⊎ ((leb (entry_distance alt i) level ≡ false) × (level < entry_distance alt i)) → slice_index xs i ≡ byte_at (level + 1) (entry_distance alt i)
-    by_side i l (inl a) (inl b) = f.near i l b.1 ∙ sym (byte_at-near (level + 1) (entry_distance alt i) a.1)
-    by_side i l (inl a) (inr b) =
-        next-at i l (omega arith) ∙ sym (byte_at-near (level + 1) (entry_distance alt i) a.1)
-    by_side i l (inr a) b =
-        far-at i a.1 (f.far i l (omega arith)) ∙ sym (byte_at-far (level + 1) (entry_distance alt i) a.1)
-
-  -- an entry whose byte is the level is at it, and no other is
-  pub filling-at : (xs : List ℕ) → IsFilling alt level xs → (i : ℕ) → i < count_for alt.goal → slice_index xs i ≡ level → entry_distance alt i ≡ level
-  filling-at xs f i l e = by_side (leb_tells (entry_distance alt i) level) where
-    by_far : level < entry_distance alt i → (slice_index xs i ≡ 21) ⊎ ((slice_index xs i ≡ level + 1) × (entry_distance alt i ≡ level + 1)) → entry_distance alt i ≡ level
-    by_far n (inl a) = absurd (omega arith)
-    by_far n (inr b) = absurd (omega arith)
-
-    by_side : ((leb (entry_distance alt i) level ≡ true) × (entry_distance alt i ≤ level)) ⊎ ((leb (entry_distance alt i) level ≡ false) × (level < entry_distance alt i)) → entry_distance alt i ≡ level
-    by_side (inl n) = omega (arith, f.near i l n.1)
-    by_side (inr n) = by_far n.1 (f.far i l n.1)
+  pub filled-next : ((j : ℕ) → j < count_for alt.goal → entry_distance alt j ≡ level → IsExtended alt xs j) → IsFilled alt (level + 1) xs
+  filled-next extended =
+      record { size = f.size; bytes = λ i l. may-end level (entry_distance alt i) (slice_index xs i) (f.bytes i l) (met i l) } where
+        met : (i : ℕ) → i < count_for alt.goal → entry_distance alt i ≡ level + 1 → slice_index xs i < 21
+        met i l n =
+            let nearer = entry_distance-nearer law alt i level l (omega arith) small in
+            let t = nearer.0 in
+            let m = nearer.1.0 in
+            let j = entry_after alt.goal i t in
+            let at : entry_distance alt j ≡ level = omega (arith, nearer.1.1, entry_distance-turn law alt i t l m) in
+            subst (λ (y : ℕ). slice_index xs y < 21) (law.back alt.goal i t l) (extended j (law.below alt.goal i t l) at (inverse_turn t) (law.inverses alt.step t m))
 
 -- counts by level
 pub count-more : (p : ℕ → Bool) (n : ℕ) → count_by p (range_with_len 0 (n + 1)) ≡ count_by p (range_with_len 0 n) + cond (p n) 1 0
-count-more p n =
-    let e : 0 + n ≡ n = omega arith in
-    rw (add-one n, range_with_len-more 0 n, e) (sum_by_push (λ x. cond (p x) 1 0) (range_with_len 0 n) n)
+count-more p n = sum_by-range_more (λ x. cond (p x) 1 0) n
 
 -- places that don't pass add nothing to a count
 pub count-skip : (p : ℕ → Bool) (a b : ℕ) → a ≤ b → ((k : ℕ) → a ≤ k → k < b → p k ≡ false) → count_by p (range_with_len 0 b) ≡ count_by p (range_with_len 0 a)
@@ -228,15 +148,11 @@ filled-start alt n e = record {
   some : 0 < length {A = ℕ} (replicate n 21)
   some = omega (arith, length-replicate {A = ℕ} n 21, count_for-some alt.goal)
 
-  at-zero : (d : ℕ) → leb d 0 ≡ true → byte_at 0 d ≡ 0
-  at-zero zero h = refl
-  at-zero (suc d) h = absurd (cc (h, lt-leb (suc d) 0 (omega arith)))
-
   byte : (i : ℕ) → i < count_for alt.goal → ((eqb i 0 ≡ true) × (i ≡ 0)) ⊎ ((eqb i 0 ≡ false) × (i ≢ 0)) → slice_index (set (replicate n 21) 0 0) i ≡ byte_at 0 (entry_distance alt i)
   byte i l (inl q) =
-      ap (slice_index (set (replicate n 21) 0 0)) q.1
-      ∙ get_or-set_same (replicate n 21) 0 0 0 some
-      ∙ sym (at-zero (entry_distance alt i) (entry_distance-zero alt i ∙ q.0))
+      let here : leb (entry_distance alt i) 0 ≡ true = entry_distance-zero alt i ∙ q.0 in
+      let zero : entry_distance alt i ≡ 0 = omega (arith, leb-true _ 0 here) in
+      rw zero (ap (slice_index (set (replicate n 21) 0 0)) q.1 ∙ get_or-set_same (replicate n 21) 0 0 0 some)
   byte i l (inr q) =
       let away : leb (entry_distance alt i) 0 ≡ false = entry_distance-zero alt i ∙ q.0 in
-      get_or-set_other (replicate n 21) 0 i 0 0 q.1 ∙ get_or-replicate n i 21 0 (omega arith) ∙ rw away refl
+      rw away (get_or-set_other (replicate n 21) 0 i 0 0 q.1 ∙ get_or-replicate n i 21 0 (omega arith))

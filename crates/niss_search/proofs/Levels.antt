@@ -1,19 +1,16 @@
 -- The search by levels: what the least level with a solution says of the whole.
-use Rattle.std.proofs.Common.{◌≡◌, ℕ, zero, suc, ◌+◌, ◌≤◌, ◌<◌, Bool, true, false, cond, List, [], length, find, sum_by, Some, None, refl, arith, add-one, leb, inl, inr, ◌⊎◌, below_more}
+use Rattle.std.proofs.Common.{◌≡◌, ℕ, zero, suc, ◌+◌, ◌≤◌, ◌<◌, Bool, true, false, cond, List, [], length, find, sum_by, Some, None, refl, arith, leb, inl, inr, ◌⊎◌, below_more}
 use Rattle.std.specs.List.{range_with_len, list_any}
-use Rattle.std.proofs.lemmas.List.Sums.{sum_by_push}
 use Rattle.std.proofs.lemmas.Bool.Decides.{leb_tells}
-use Rattle.niss_moves.specs.declared.turn.Turn.{Turn}
-use Rattle.niss_cube.specs.declared.step.Step.{Step}
+use Rattle.niss_search.specs.Names.{Turn, Step, Coordinates}
 use Rattle.niss_cube.specs.Steps.{turns_of}
 use Rattle.niss_moves.specs.Canonical.{all_canonical}
 use Rattle.niss_search.specs.Solutions.{up_to, least_length, solutions, reaching}
 use Rattle.niss_search.specs.Looks.{looks, all_looks}
 use Rattle.niss_search.specs.Descent.{found_below, looks_below}
 use Rattle.niss_search.specs.Deepening.{reaches_at, far_at}
-use Rattle.niss_search.specs.declared.tables.position.Coordinates.{Coordinates}
 use Rattle.niss_search.specs.Positions.{position_after, is_reached_at, distance_at}
-use Rattle.niss_search.proofs.ListLemmas.{filter-none, filter-some, range_with_len-more}
+use Rattle.niss_search.proofs.ListLemmas.{filter-none, filter-some}
 use Rattle.niss_search.proofs.DepthFirst.{found_all, visits_all}
 use Rattle.niss_search.proofs.LookLemmas.{distance_at-goal, distance_at-turn}
 
@@ -66,9 +63,3 @@ module _ (turns : List Turn) (reaches : List Turn → Bool) where
     pub all_looks-none : (far : List Turn → ℕ) (slack : ℕ) → all_looks turns reaches far n slack ≡ sum_by (looks turns far) (up_to n)
     unfolding all_looks
     all_looks-none far slack = rw least_length-none
-
--- a level more in a sum over levels
-pub levels-more : (f : ℕ → ℕ) (d : ℕ) → sum_by f (range_with_len 0 (d + 1)) ≡ sum_by f (range_with_len 0 d) + f d
-levels-more f d =
-    let e : 0 + d ≡ d = omega arith in
-    rw (add-one d, range_with_len-more 0 d, e) (sum_by_push f (range_with_len 0 d) d)

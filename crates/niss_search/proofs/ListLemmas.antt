@@ -1,10 +1,9 @@
 -- Lists joined, filtered and summed.
-use Rattle.std.proofs.Common.{◌≡◌, ℕ, zero, suc, ◌+◌, ◌<◌, Bool, true, false, ◌||◌, cond, List, [], ◌∷◌, ◌++◌, length, map, filter, sum_by, Contains, All, get_or, take, refl, sym, ap, ◌∙◌, arith, add-one, add-zero, find}
+use Rattle.std.proofs.Common.{◌≡◌, ℕ, zero, suc, ◌+◌, ◌<◌, Bool, true, false, ◌||◌, cond, List, [], ◌∷◌, ◌++◌, length, map, filter, sum_by, Contains, refl, sym, ap, ◌∙◌, arith, add-one, add-zero, find}
 use Rattle.std.specs.Prelude.{flat_map}
 use Rattle.std.specs.List.{range_with_len, list_any}
-use Rattle.std.proofs.lemmas.List.Sums.{sum_by-cons, sum_by-append}
+use Rattle.std.proofs.lemmas.List.Sums.{sum_by-cons, sum_by-append, sum_by_push}
 use Rattle.std.proofs.lemmas.List.Elements.{filter-append, Contains-append_right, Contains-get_or}
-use Rattle.std.proofs.lemmas.List.{take_more}
 use Rattle.std.proofs.lemmas.Grind.{flat_map-append}
 
 module _ {X : Type 0} where
@@ -72,16 +71,6 @@ module _ {X : Type 0} where
   sum_by-same f g (x ∷ xs) h =
       omega (arith, sum_by-cons f x xs, sum_by-cons g x xs, h x (Contains-first x xs), sum_by-same f g xs (λ y m. h y (Contains-later x xs y m)))
 
-  pub filter-same : (p q : X → Bool) (xs : List X) → ((x : X) → Contains xs x → p x ≡ q x) → filter p xs ≡ filter q xs
-  filter-same p q [] h = refl
-  filter-same p q (x ∷ xs) h =
-      rw (h x (Contains-first x xs), filter-same p q xs (λ y m. h y (Contains-later x xs y m)))
-
-  pub list_any-same : (p q : X → Bool) (xs : List X) → ((x : X) → Contains xs x → p x ≡ q x) → list_any p xs ≡ list_any q xs
-  list_any-same p q [] h = refl
-  list_any-same p q (x ∷ xs) h =
-      rw (h x (Contains-first x xs), list_any-same p q xs (λ y m. h y (Contains-later x xs y m)))
-
   pub find-same : (p q : X → Bool) (xs : List X) → ((x : X) → p x ≡ q x) → find p xs ≡ find q xs
   find-same p q [] h = refl
   find-same p q (x ∷ xs) h = rw (h x, find-same p q xs h)
@@ -125,6 +114,12 @@ range_with_len-more a (suc n) =
     let next : a + 1 + n ≡ a + suc n = omega arith in
     ap (λ (l : List ℕ). a ∷ l) (range_with_len-more (a + 1) n ∙ ap (λ k. range_with_len (a + 1) n ++ k ∷ []) next)
 
+-- one number more in a sum over a range
+pub sum_by-range_more : (f : ℕ → ℕ) (n : ℕ) → sum_by f (range_with_len 0 (n + 1)) ≡ sum_by f (range_with_len 0 n) + f n
+sum_by-range_more f n =
+    let e : 0 + n ≡ n = omega arith in
+    rw (add-one n, range_with_len-more 0 n, e) (sum_by_push f (range_with_len 0 n) n)
+
 pub range_with_len-append : (a m n : ℕ) → range_with_len a (m + n) ≡ range_with_len a m ++ range_with_len (a + m) n
 range_with_len-append a zero n =
     let e : zero + n ≡ n = omega arith in
@@ -150,50 +145,3 @@ module _ {X : Type 0} where
     by_test : (b : Bool) → m x ≡ b → sum_by f (filter m xs) ≡ sum_by f xs → sum_by f (cond b (x ∷ filter m xs) (filter m xs)) ≡ sum_by f (x ∷ xs)
     by_test true e rest = omega (arith, sum_by-cons f x (filter m xs), sum_by-cons f x xs)
     by_test false e rest = omega (arith, sum_by-cons f x xs, h x e)
-
-  -- what passed the test is of the list
-  pub Contains-filter : (m : X → Bool) (xs : List X) (x : X) → Contains (filter m xs) x → Contains xs x
-  Contains-filter m [] x h = h
-  Contains-filter m (y ∷ ys) x h = by_test (m y) (Contains-filter m ys x) h where
-    by_test : (b : Bool) → (Contains (filter m ys) x → Contains ys x) → Contains (cond b (y ∷ filter m ys) (filter m ys)) x → Contains (y ∷ ys) x
-    by_test true rest (zero, l, e) = (0, omega arith, e)
-    by_test true rest (suc k, l, e) = Contains-later y ys x (rest (k, omega arith, e))
-    by_test false rest k = Contains-later y ys x (rest k)
-
-  pub passes-filter : (m : X → Bool) (xs : List X) (x : X) → Contains (filter m xs) x → m x ≡ true
-  passes-filter m [] x h = absurd (omega (arith, h.1))
-  passes-filter m (y ∷ ys) x h = by_test (m y) refl (passes-filter m ys x) h where
-    by_test : (b : Bool) → m y ≡ b → (Contains (filter m ys) x → m x ≡ true) → Contains (cond b (y ∷ filter m ys) (filter m ys)) x → m x ≡ true
-    by_test true e rest (zero, l, q) = ap m (sym q) ∙ e
-    by_test true e rest (suc k, l, q) = rest (k, omega arith, q)
-    by_test false e rest k = rest k
-
--- what holds of all holds of the first and of the others
-pub All-first : {X : Type 0} (P : X → Type 0) (x : X) (xs : List X) → All P (x ∷ xs) → P x
-All-first P x xs h = h 0 x (omega arith)
-
-pub All-later : {X : Type 0} (P : X → Type 0) (x : X) (xs : List X) → All P (x ∷ xs) → All P xs
-All-later P x xs h = λ k d l. h (suc k) d (omega arith)
-
--- an item that is there is read whatever the default
-pub get_or-same : {X : Type 0} (xs : List X) (i : ℕ) (d e : X) → i < length xs → get_or xs i d ≡ get_or xs i e
-get_or-same [] i d e l = absurd (omega arith)
-get_or-same (x ∷ xs) zero d e l = refl
-get_or-same (x ∷ xs) (suc i) d e l = get_or-same xs i d e (omega arith)
-
-pub list_any-append : {X : Type 0} (p : X → Bool) (xs ys : List X) → list_any p (xs ++ ys) ≡ (list_any p xs || list_any p ys)
-list_any-append p [] ys = refl
-list_any-append p (x ∷ xs) ys = by_test (p x) (list_any p xs) (list_any p ys) (list_any-append p xs ys) where
-  by_test : (a b c : Bool) → list_any p (xs ++ ys) ≡ (b || c) → (a || list_any p (xs ++ ys)) ≡ ((a || b) || c)
-  by_test true b c e = refl
-  by_test false b c e = e
-
--- one more item taken and filtered
-pub filter-more : {X : Type 0} (p : X → Bool) (xs : List X) (i : ℕ) (d : X) → i < length xs → filter p (take (i + 1) xs) ≡ filter p (take i xs) ++ filter p (get_or xs i d ∷ [])
-filter-more p xs i d l = ap (filter p) (take_more xs i d l) ∙ filter-append p (take i xs) (get_or xs i d ∷ [])
-
-pub All-one : {X : Type 0} (P : X → Type 0) (x : X) → P x → All P (x ∷ [])
-All-one {X = X} P x h = λ k d l. one k d l where
-  one : (k : ℕ) (d : X) → k < 1 → P (get_or (x ∷ []) k d)
-  one zero d l = h
-  one (suc k) d l = absurd (omega arith)

@@ -1,15 +1,12 @@
 -- The distance of a position: 0 exactly at the goal, never more than one beyond that after a turn, and nearer after some.
-use Rattle.std.proofs.Common.{◌≡◌, ℕ, suc, ◌+◌, ◌≤◌, ◌<◌, leb, Bool, true, false, ◌||◌, List, [], ◌∷◌, ◌++◌, fold, Contains, refl, sym, ap, ◌∙◌, arith, inl, inr, ◌⊎◌, min}
+use Rattle.std.proofs.Common.{◌≡◌, ℕ, suc, ◌+◌, ◌≤◌, ◌<◌, leb, Bool, true, false, ◌||◌, List, [], ◌∷◌, fold, Contains, refl, sym, ap, ◌∙◌, arith, inl, inr, ◌⊎◌}
 use Rattle.std.specs.List.{list_any}
-use Rattle.niss_moves.specs.declared.turn.Turn.{Turn}
-use Rattle.niss_cube.specs.declared.step.Step.{Step}
+use Rattle.niss_search.specs.Names.{Turn, Step, Coordinates}
 use Rattle.niss_cube.specs.Steps.{turns_of}
 use Rattle.niss_search.specs.Distance.{distance}
-use Rattle.niss_search.specs.declared.tables.position.Coordinates.{Coordinates}
 use Rattle.niss_search.specs.Positions.{coordinates_after, are_zero, position_after, is_reached_at, distance_at}
-use Rattle.std.proofs.lemmas.List.{map-append}
 use Rattle.niss_search.specs.Laws.{DistanceIsLeast}
-use Rattle.niss_search.proofs.ListLemmas.{Contains-first, Contains-later, list_any-append}
+use Rattle.niss_search.proofs.ListLemmas.{Contains-first, Contains-later}
 use Rattle.niss_search.proofs.DistanceLemmas.{reached_in, reached_in-suc, distance-either, distance-le, distance-most, distance-reached, distance-zero, distance-turn}
 
 pub distance_at-goal : (step : Step) (x : List Coordinates) → leb (distance_at step x) 0 ≡ is_reached_at x
@@ -48,25 +45,17 @@ distance_at-nearer step x k e l = by_reached (distance-reached turns reaches) wh
       (found.0, (found.1.0, distance-le turns (λ s. reaches (found.0 ∷ s)) k (omega arith) found.1.1))
   by_reached (inr r) = absurd (omega arith)
 
-pub position_after-append : (x y : List Coordinates) (t : Turn) → position_after (x ++ y) t ≡ position_after x t ++ position_after y t
-unfolding position_after
-position_after-append x y t = map-append (λ c. coordinates_after c t) x y
-
-fold-append : (x y : List Coordinates) (s : List Turn) → fold position_after (x ++ y) s ≡ fold position_after x s ++ fold position_after y s
-fold-append x y [] = refl
-fold-append x y (t ∷ s) =
-    ap (λ z. fold position_after z s) (position_after-append x y t) ∙ fold-append (position_after x t) (position_after y t) s
-
--- the distance by some coordinates and others is the lesser of those by each
-pub distance_at-either : (step : Step) (x y : List Coordinates) → distance_at step (x ++ y) ≡ min (distance_at step x) (distance_at step y)
-unfolding distance_at is_reached_at
-distance_at-either step x y =
-    ap (distance (turns_of step)) (λ i s. either s i)
-    ∙ distance-either (turns_of step) (λ s. is_reached_at (fold position_after x s)) (λ s. is_reached_at (fold position_after y s)) where
-      either : (s : List Turn) → is_reached_at (fold position_after (x ++ y) s) ≡ (is_reached_at (fold position_after x s) || is_reached_at (fold position_after y s))
-      either s =
-          ap is_reached_at (fold-append x y s) ∙ list_any-append are_zero (fold position_after x s) (fold position_after y s)
+either : (s : List Turn) (c : Coordinates) (x : List Coordinates) → is_reached_at (fold position_after (c ∷ x) s) ≡ (is_reached_at (fold position_after (c ∷ []) s) || is_reached_at (fold position_after x s))
+unfolding position_after is_reached_at
+either [] c x = by_test (are_zero c) where
+  by_test : (b : Bool) → (b || list_any are_zero x) ≡ ((b || false) || list_any are_zero x)
+  by_test true = refl
+  by_test false = refl
+either (t ∷ s) c x = either s (coordinates_after c t) (position_after x t)
 
 -- the distance of a position is the least of those of its coordinates
 pub distance_at-least : DistanceIsLeast
-distance_at-least step c x = distance_at-either step (c ∷ []) x
+unfolding distance_at
+distance_at-least step c x =
+    ap (distance (turns_of step)) (λ i s. either s c x i)
+    ∙ distance-either (turns_of step) (λ s. is_reached_at (fold position_after (c ∷ []) s)) (λ s. is_reached_at (fold position_after x s))

@@ -4,18 +4,13 @@ use Rattle.std.specs.List.{list_any}
 use Rattle.std.specs.Option.{option_map_or}
 use Rattle.niss_moves.specs.Places.{Place, SameMap}
 use Rattle.niss_moves.specs.Effects.{turned}
-use Rattle.niss_moves.specs.declared.axis.Axis.{Axis}
-use Rattle.niss_moves.specs.declared.turn.Turn.{Turn}
+use Rattle.niss_search.specs.Names.{Axis, Turn, Goal, Edges, Domino, Step, Flip}
 use Rattle.niss_cube.specs.AfterTurn.{IsCube, TurnedIsCube, AreCoordinates}
 use Rattle.niss_cube.specs.Coordinates.{flip_of, twist_of, slice_of}
 use Rattle.niss_cube.specs.Steps.{goals_of, may_start, reached, holds}
 use Rattle.niss_cube.specs.StepLaws.{StartIsKept, StepsSeePlaces, DominoKeepsStart}
 use Rattle.niss_cube.specs.declared.cube.coordinate.Coordinate.TheVariants as coordinate
 use Rattle.niss_cube.proofs.CallerLemmas.{alike_is_cube, zero_test}
-use Rattle.niss_cube.specs.declared.step.Goal.{Goal}
-use Rattle.niss_cube.specs.declared.step.Goal.TheVariants.{Edges, Domino}
-use Rattle.niss_cube.specs.declared.step.Step.{Step}
-use Rattle.niss_search.specs.declared.tables.position.Coordinates.TheVariants.{Flip}
 use Rattle.niss_search.specs.Positions.{coordinates_of, coordinates_after, are_zero, position_of, position_after, is_reached_at}
 use Rattle.niss_search.specs.Laws.{PositionsFollowCubes}
 use Rattle.niss_search.proofs.ListLemmas.{Contains-first, Contains-later}

@@ -9,19 +9,14 @@ use Rattle.std.proofs.lemmas.List.Sums.{sum_by-cons, sum_by-append, sum_by-le}
 use Rattle.std.proofs.lemmas.List.Elements.{All-contains_itself}
 use Rattle.std.proofs.lemmas.List.Concat.{length-flat_map}
 use Rattle.std.proofs.lemmas.Grind.{flat_map-append}
-use Rattle.std.proofs.Math.Nat.{mul-le-mul, mul_comm, mul-add}
-use Rattle.niss_moves.specs.declared.axis.Axis.{Axis}
+use Rattle.std.proofs.Math.Nat.{mul-le-mul, mul-le-mul_right, mul_comm, mul-add}
+use Rattle.niss_search.specs.Names.{Axis, Goal, Edges, Domino, Step, Coordinates, Flip, TwistAndSlice}
 use Rattle.niss_cube.specs.Steps.{start_of, goals_of, turns_of}
 use Rattle.niss_cube.specs.StepLaws.{DominoKeepsStart}
-use Rattle.niss_cube.specs.declared.step.Goal.{Goal}
-use Rattle.niss_cube.specs.declared.step.Goal.TheVariants.{Edges, Domino}
-use Rattle.niss_cube.specs.declared.step.Step.{Step}
 use Rattle.niss_search.specs.Laws.{EntriesAreCounted, EdgeFillIsSmall, FillIsSmall}
-use Rattle.niss_search.specs.declared.tables.position.Coordinates.{Coordinates}
-use Rattle.niss_search.specs.declared.tables.position.Coordinates.TheVariants.{Flip, TwistAndSlice}
 use Rattle.niss_search.specs.Positions.{distance_at}
 use Rattle.niss_search.specs.Entries.{flips_below, pairs_below, values_for, count_for, entries_of, entry_count, fill_ticks}
-use Rattle.niss_search.specs.Filling.{entry_at, entry_distance, Alternative, goal_ticks, ticks_of_goals}
+use Rattle.niss_search.specs.Filling.{entry_at, entry_distance, Alternative, goal_ticks}
 use Rattle.niss_search.proofs.ListLemmas.{range_with_len-append, range_with_len-more, sum_by-same}
 use Rattle.niss_search.proofs.EntryLemmas.{count_for-bound}
 use Rattle.niss_search.proofs.FillLemmas.{count-range-le}
@@ -65,7 +60,6 @@ unfolding flips_below
 flips-numbered axis n k e = ap (λ i. map (Flip axis) (range_with_len 0 i)) (sym e)
 
 values-numbered : (g : Goal) (k : ℕ) → k ≡ count_for g → values_for g ≡ map (entry_at g) (range_with_len 0 k)
-unfolding count_for
 values-numbered (Edges a) k e = flips-numbered a 2048 k e
 values-numbered (Domino o a) k e = pairs-numbered a 495 2187 k e
 
@@ -93,14 +87,12 @@ pub goal_ticks-at-most : (alt : Alternative) → goal_ticks alt ≤ count_for al
 goal_ticks-at-most alt =
     let near : ℕ → Bool = λ i. nat_le (entry_distance alt i) 19 in
     let count = count_by near (range_with_len 0 (count_for alt.goal)) in
-    let within = mul-le-mul (count-range-le near (count_for alt.goal)) (turns-le (length (turns_of alt.step))) in
-    omega (arith, ticks-numbered alt, within, mul_comm (length (turns_of alt.step)) count) where
-      turns-le : (n : ℕ) → n ≤ n
-      turns-le n = omega arith
+    let within = mul-le-mul_right (length (turns_of alt.step)) (count-range-le near (count_for alt.goal)) in
+    omega (arith, ticks-numbered alt, within, mul_comm (length (turns_of alt.step)) count)
 
 -- the turns that the fill of a step's tables tries are those of its goals
-pub ticks-of-goals : (s : Step) → fill_ticks s ≡ ticks_of_goals s (goals_of s)
-unfolding fill_ticks goal_ticks entries_of ticks_of_goals
+ticks-of-goals : (s : Step) → fill_ticks s ≡ sum_by (λ g. goal_ticks record { step = s; goal = g }) (goals_of s)
+unfolding fill_ticks goal_ticks entries_of
 ticks-of-goals s = by_goals (goals_of s) where
   turns : ℕ
   turns = length (turns_of s)
@@ -116,30 +108,24 @@ ticks-of-goals s = by_goals (goals_of s) where
       ∙ ap (λ n. turns * count_by near (values_for g) + n) (by_goals gs)
       ∙ sym (sum_by-cons (λ g. turns * count_by near (values_for g)) g gs)
 
--- those of one goal, and of the goals of two lists
-pub ticks-of-one : (alt : Alternative) → ticks_of_goals alt.step (alt.goal ∷ []) ≡ goal_ticks alt
-unfolding ticks_of_goals
-ticks-of-one alt = omega (arith, sum_by-cons (λ g. goal_ticks record { step = alt.step; goal = g }) alt.goal [])
+-- of one goal, of two and of three
+pub ticks_of_one : (s : Step) (g : Goal) → goals_of s ≡ g ∷ [] → fill_ticks s ≡ goal_ticks record { step = s; goal = g }
+ticks_of_one s g e = let sum = ticks-of-goals s in omega (arith, rw e at sum)
 
-pub ticks-of-both : (s : Step) (gs hs : List Goal) → ticks_of_goals s (gs ++ hs) ≡ ticks_of_goals s gs + ticks_of_goals s hs
-unfolding ticks_of_goals
-ticks-of-both s gs hs = sum_by-append (λ g. goal_ticks record { step = s; goal = g }) gs hs
+pub ticks_of_two : (s : Step) (g h : Goal) → goals_of s ≡ g ∷ h ∷ [] → fill_ticks s ≡ goal_ticks record { step = s; goal = g } + goal_ticks record { step = s; goal = h }
+ticks_of_two s g h e = let sum = ticks-of-goals s in omega (arith, rw e at sum)
+
+pub ticks_of_three : (s : Step) (g h i : Goal) → goals_of s ≡ g ∷ h ∷ i ∷ [] → fill_ticks s ≡ goal_ticks record { step = s; goal = g } + goal_ticks record { step = s; goal = h } + goal_ticks record { step = s; goal = i }
+ticks_of_three s g h i e = let sum = ticks-of-goals s in omega (arith, rw e at sum)
 
 -- and a bound for each goal
-goal_ticks-bound : (alt : Alternative) → goal_ticks alt ≤ 2 ^ 32
-goal_ticks-bound alt =
-    omega (arith, goal_ticks-at-most alt, mul-le-mul (below (count_for alt.goal) (count_for-bound alt.goal)) (turns_of-length alt.step)) where
-      below : (n : ℕ) → n < 1082566 → n ≤ 1082566
-      below n h = omega arith
-
-pub ticks-bound : (s : Step) (gs : List Goal) → ticks_of_goals s gs ≤ length gs * 2 ^ 32
-unfolding ticks_of_goals
-ticks-bound s [] = omega arith
-ticks-bound s (g ∷ gs) =
-    omega (arith, sum_by-cons (λ g. goal_ticks record { step = s; goal = g }) g gs, goal_ticks-bound record { step = s; goal = g }, ticks-bound s gs)
+pub goal_ticks_bound : (alt : Alternative) → goal_ticks alt ≤ 2 ^ 32
+goal_ticks_bound alt =
+    let few : count_for alt.goal ≤ 1082566 = omega (arith, count_for-bound alt.goal) in
+    omega (arith, goal_ticks-at-most alt, mul-le-mul few (turns_of-length alt.step))
 
 pub ticks-at-most : (s : Step) → fill_ticks s ≤ entry_count s * length (turns_of s)
-unfolding entry_count ticks_of_goals
+unfolding entry_count
 ticks-at-most s = omega (arith, ticks-of-goals s, by_goals (goals_of s), mul_comm (length (turns_of s)) (sum_by count_for (goals_of s))) where
   by_goals : (gs : List Goal) → sum_by (λ g. goal_ticks record { step = s; goal = g }) gs ≤ length (turns_of s) * sum_by count_for gs
   by_goals [] = omega arith
@@ -149,14 +135,12 @@ ticks-at-most s = omega (arith, ticks-of-goals s, by_goals (goals_of s), mul_com
 
 -- the bounds of one goal: 18 turns from each flip, or 14 from each pair of a twist and a slice
 edge-goal : (s : Step) (a : Axis) → goal_ticks record { step = s; goal = Edges a } ≤ 36864
-unfolding count_for
 edge-goal s a =
     let flips : count_for (Edges a) ≤ 2048 = lit≤ tt in
     omega (arith, goal_ticks-at-most record { step = s; goal = Edges a }, mul-le-mul flips (turns_of-length s))
 
 module _ (begins : DominoKeepsStart) (s : Step) where
   domino-goal : (o a : Axis) → Contains (goals_of s) (Domino o a) → goal_ticks record { step = s; goal = Domino o a } ≤ 15155910
-  unfolding count_for
   domino-goal o a m =
       let pairs : count_for (Domino o a) ≤ 1082565 = lit≤ tt in
       omega (arith, goal_ticks-at-most record { step = s; goal = Domino o a }, mul-le-mul pairs (turns_of-oriented s o (begins s o a m)))
@@ -170,7 +154,6 @@ module _ (begins : DominoKeepsStart) (s : Step) where
   each-edge-goal e (Domino o a) m = absurd (cc (e, begins s o a m))
 
   by-goals : (most : ℕ) → ((g : Goal) → Contains (goals_of s) g → goal_ticks record { step = s; goal = g } ≤ most) → fill_ticks s ≤ length (goals_of s) * most
-  unfolding ticks_of_goals
   by-goals most each =
       let ticks : Goal → ℕ = λ g. goal_ticks record { step = s; goal = g } in
       let all : All (λ g. ticks g ≤ most) (goals_of s) = λ k d l. each _ (All-contains_itself (goals_of s) k d l) in

@@ -7,13 +7,11 @@ use Rattle.std.proofs.lemmas.List.Sums.{sum_by-cons}
 use Rattle.niss_moves.specs.Places.{Place}
 use Rattle.niss_moves.specs.Effects.{turned, effect_of_turns}
 use Rattle.niss_moves.specs.Canonical.{may_follow, last_turn, all_canonical, canonical_extensions}
-use Rattle.niss_moves.specs.declared.turn.Turn.{Turn}
+use Rattle.niss_search.specs.Names.{Turn, Step, Coordinates}
 use Rattle.niss_cube.specs.Steps.{turns_of, reached}
-use Rattle.niss_cube.specs.declared.step.Step.{Step}
 use Rattle.niss_search.specs.Solutions.{least_length, last_length, solution_lengths, solutions, reaching, up_to}
 use Rattle.niss_search.specs.Distance.{all_sequences, distance}
 use Rattle.niss_search.specs.Looks.{is_looked_at, looks, all_looks}
-use Rattle.niss_search.specs.declared.tables.position.Coordinates.{Coordinates}
 use Rattle.niss_search.specs.Positions.{position_after, distance_at}
 use Rattle.niss_search.specs.Cubes.{HasPosition, distance_of, reaches, least_length_of, near_solutions_of, near_looks_of}
 use Rattle.niss_search.specs.Deepening.{reaches_at, least_length_at, solutions_at, all_looks_at}

@@ -1,11 +1,9 @@
 -- What a search finds by its position alone, and what its deepenings do. (For the search's own functions.)
 use Rattle.std.specs.Prelude.{ℕ, Bool, Result, Ok, Err, Option, List, fold, flat_map, sum_by}
-use Rattle.niss_moves.specs.declared.turn.Turn.{Turn}
-use Rattle.niss_cube.specs.declared.step.Step.{Step}
+use Rattle.niss_search.specs.Names.{Turn, Step, Coordinates}
 use Rattle.niss_cube.specs.Steps.{turns_of}
 use Rattle.niss_search.specs.Solutions.{reaching, least_length, solutions}
 use Rattle.niss_search.specs.Looks.{looks, all_looks}
-use Rattle.niss_search.specs.declared.tables.position.Coordinates.{Coordinates}
 use Rattle.niss_search.specs.Positions.{position_after, is_reached_at, distance_at}
 use Rattle.niss_search.specs.Path.{Path}
 use Rattle.niss_search.specs.Delivery.{at_limit}

@@ -1,6 +1,6 @@
 -- How a sink goes through a list of paths.
 use Rattle.std.specs.Prelude.{◌≡◌, ◌⊎◌, ℕ, List, [], ◌∷◌}
-use Rattle.niss_moves.specs.declared.turn.Turn.{Turn}
+use Rattle.niss_search.specs.Names.{Turn}
 use Rattle.niss_search.specs.Path.{Path}
 
 module _ {K : Type 0} where

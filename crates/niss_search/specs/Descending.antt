@@ -1,6 +1,6 @@
 -- What the functions of a descent keep and do. (For the search's own functions.)
 use Rattle.std.specs.Prelude.{◌≡◌, ℕ, Result, List}
-use Rattle.niss_moves.specs.declared.turn.Turn.{Turn}
+use Rattle.niss_search.specs.Names.{Turn}
 use Rattle.niss_search.specs.Delivery.{at_limit}
 use Rattle.niss_search.specs.Descent.{DescentState, Descends, descent_state}
 use Rattle.niss_search.specs.Path.{Path}

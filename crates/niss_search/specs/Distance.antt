@@ -1,7 +1,7 @@
 -- How far a step is.
 use Rattle.std.specs.Prelude.{ℕ, zero, suc, Bool, List, [], ◌∷◌, map, flat_map, find, unwrap_or}
 use Rattle.std.specs.List.{list_any}
-use Rattle.niss_moves.specs.declared.turn.Turn.{Turn}
+use Rattle.niss_search.specs.Names.{Turn}
 use Rattle.niss_search.specs.Solutions.{up_to}
 
 -- all sequences of length k, canonical or not

@@ -1,13 +1,8 @@
 -- The entries of a step's pruning table: one for each value of the coordinates that decide whether its goal holds.
 use Rattle.std.specs.Prelude.{ℕ, ◌*◌, nat_le, List, map, flat_map, length, sum_by, count_by, [], ◌∷◌}
 use Rattle.std.specs.List.{range_with_len}
-use Rattle.niss_moves.specs.declared.axis.Axis.{Axis}
+use Rattle.niss_search.specs.Names.{Axis, Goal, Edges, Domino, Step, Coordinates, Flip, TwistAndSlice}
 use Rattle.niss_cube.specs.Steps.{goals_of, turns_of}
-use Rattle.niss_cube.specs.declared.step.Goal.{Goal}
-use Rattle.niss_cube.specs.declared.step.Goal.TheVariants.{Edges, Domino}
-use Rattle.niss_cube.specs.declared.step.Step.{Step}
-use Rattle.niss_search.specs.declared.tables.position.Coordinates.{Coordinates}
-use Rattle.niss_search.specs.declared.tables.position.Coordinates.TheVariants.{Flip, TwistAndSlice}
 use Rattle.niss_search.specs.Positions.{distance_at}
 
 -- the flips below a count, on an axis
@@ -25,7 +20,7 @@ values_for (Edges axis) = flips_below axis 2048
 values_for (Domino edges axis) = pairs_below axis 2187 495
 
 -- how many they are
-unfoldable pub count_for : Goal → ℕ
+abbrev pub count_for : Goal → ℕ
 count_for (Edges axis) = 2048
 count_for (Domino edges axis) = 2187 * 495
 

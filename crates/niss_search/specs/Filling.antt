@@ -1,16 +1,11 @@
 -- The pruning table of a goal while it is filled, level by level. (For the functions of the tables.)
-use Rattle.std.specs.Prelude.{◌≡◌, ℕ, ◌+◌, ◌*◌, ◌/◌, ◌%◌, ◌<◌, ◌≤◌, ◌⊎◌, List, [], ◌∷◌, length, slice_index, min, Contains, count_by, sum_by, nat_le, ⊤, if◌then◌else◌}
+use Rattle.std.specs.Prelude.{◌≡◌, ◌≢◌, ℕ, ◌+◌, ◌*◌, ◌/◌, ◌%◌, ◌<◌, ◌≤◌, List, [], ◌∷◌, length, slice_index, min, Contains, count_by, nat_le, ⊤, if◌then◌else◌}
 use Rattle.niss_moves.specs.Turn.{inverse_turn}
-use Rattle.niss_moves.specs.declared.turn.Turn.{Turn}
+use Rattle.niss_search.specs.Names.{Turn, Goal, Edges, Domino, Step, Coordinates, Flip, TwistAndSlice}
 use Rattle.niss_cube.specs.NumberAfter.{number_after}
 use Rattle.niss_cube.specs.declared.cube.coordinate.Coordinate.TheVariants as coordinate
 use Rattle.niss_cube.specs.Steps.{turns_of}
 use Rattle.niss_cube.specs.StepLaws.{InversesOfSteps}
-use Rattle.niss_cube.specs.declared.step.Goal.{Goal}
-use Rattle.niss_cube.specs.declared.step.Goal.TheVariants.{Edges, Domino}
-use Rattle.niss_cube.specs.declared.step.Step.{Step}
-use Rattle.niss_search.specs.declared.tables.position.Coordinates.{Coordinates}
-use Rattle.niss_search.specs.declared.tables.position.Coordinates.TheVariants.{Flip, TwistAndSlice}
 use Rattle.niss_search.specs.Positions.{coordinates_after, distance_at}
 use Rattle.niss_search.specs.Moves.{turn_at}
 use Rattle.niss_search.specs.Entries.{values_for, count_for}
@@ -30,7 +25,7 @@ unfoldable pub entry_after : Goal → ℕ → Turn → ℕ
 entry_after goal i t = entry_number (coordinates_after (entry_at goal i) t)
 
 -- how many entries stand in a row of the table: those of one twist, or all
-unfoldable pub row_length : Goal → ℕ
+abbrev pub row_length : Goal → ℕ
 row_length (Edges axis) = 2048
 row_length (Domino edges axis) = 495
 
@@ -48,12 +43,15 @@ pub record Alternative : Type 0 where
 -- the turn.
 abbrev pub AreStarts : Alternative → (start : ℕ) → (starts : List ℕ) → Type 0
 AreStarts alt start starts =
-    (k place : ℕ) → k < length (turns_of alt.step) → place < row_length alt.goal → slice_index starts k + place_after alt.goal place (turn_at alt.step k) ≡ entry_after alt.goal (start + place) (turn_at alt.step k)
+    (k place : ℕ) → k < length (turns_of alt.step) → place < row_length alt.goal →
+    slice_index starts k + place_after alt.goal place (turn_at alt.step k)
+    ≡ entry_after alt.goal (start + place) (turn_at alt.step k)
 
 -- the places after the turns, in turn order
 abbrev pub ArePlaces : Alternative → (place : ℕ) → (places : List ℕ) → Type 0
 ArePlaces alt place places =
-    (k : ℕ) → k < length (turns_of alt.step) → slice_index places k ≡ place_after alt.goal place (turn_at alt.step k)
+    (k : ℕ) → k < length (turns_of alt.step) →
+    slice_index places k ≡ place_after alt.goal place (turn_at alt.step k)
 
 -- the distance of an entry: how far the step is, if this were its one goal
 unfoldable pub entry_distance : Alternative → ℕ → ℕ
@@ -64,14 +62,13 @@ unfoldable pub goal_ticks : Alternative → ℕ
 goal_ticks alt =
     length (turns_of alt.step) * count_by (λ c. nat_le (distance_at alt.step (c ∷ [])) 19) (values_for alt.goal)
 
-unfoldable pub ticks_of_goals : Step → List Goal → ℕ
-ticks_of_goals step goals = sum_by (λ g. goal_ticks record { step = step; goal = g }) goals
-
 -- What the fill needs of the entries: a turn leads from entry to entry, its inverse leads back, and the step has it.
 pub record EntriesTurn : Type 0 where
   pub below : (g : Goal) (i : ℕ) (t : Turn) → i < count_for g → entry_after g i t < count_for g
-  pub leads : (g : Goal) (i : ℕ) (t : Turn) → i < count_for g → entry_at g (entry_after g i t) ≡ coordinates_after (entry_at g i) t
-  pub back : (g : Goal) (i : ℕ) (t : Turn) → i < count_for g → entry_after g (entry_after g i t) (inverse_turn t) ≡ i
+  pub leads : (g : Goal) (i : ℕ) (t : Turn) → i < count_for g →
+      entry_at g (entry_after g i t) ≡ coordinates_after (entry_at g i) t
+  pub back : (g : Goal) (i : ℕ) (t : Turn) → i < count_for g →
+      entry_after g (entry_after g i t) (inverse_turn t) ≡ i
   pub inverses : InversesOfSteps
 
 -- the byte of an entry at a distance, once the table is filled to a level
@@ -83,11 +80,15 @@ pub record IsFilled (alt : Alternative) (level : ℕ) (xs : List ℕ) : Type 0 w
   pub size : length xs ≡ count_for alt.goal
   pub bytes : (i : ℕ) → i < count_for alt.goal → slice_index xs i ≡ byte_at level (entry_distance alt i)
 
--- the same, where some entries of the next level are there too
+-- the same, where some entries of the next level may have been met: one that was has its distance
+pub record MayBeAt (level distance byte : ℕ) : Type 0 where
+  pub near : distance ≤ level → byte ≡ distance
+  pub met : byte ≢ 21 → byte ≡ distance
+  pub next : byte ≢ 21 → byte ≤ level + 1
+
 pub record IsFilling (alt : Alternative) (level : ℕ) (xs : List ℕ) : Type 0 where
   pub size : length xs ≡ count_for alt.goal
-  pub near : (i : ℕ) → i < count_for alt.goal → entry_distance alt i ≤ level → slice_index xs i ≡ entry_distance alt i
-  pub far : (i : ℕ) → i < count_for alt.goal → level < entry_distance alt i → (slice_index xs i ≡ 21) ⊎ ((slice_index xs i ≡ level + 1) × (entry_distance alt i ≡ level + 1))
+  pub bytes : (i : ℕ) → i < count_for alt.goal → MayBeAt level (entry_distance alt i) (slice_index xs i)
 
 -- the entries after each turn from entry i have been met
 abbrev pub IsExtended : Alternative → List ℕ → ℕ → Type 0

@@ -1,3 +1,4 @@
+pub mod Names
 pub mod Path
 pub mod Solutions
 pub mod Distance

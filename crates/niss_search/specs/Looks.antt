@@ -1,6 +1,6 @@
 -- How often a search looks, by what a look answers after a sequence (`far`).
 use Rattle.std.specs.Prelude.{ℕ, ◌-◌, nat_le, Bool, true, List, [], ◌∷◌, length, take, sum_by, count_by}
-use Rattle.niss_moves.specs.declared.turn.Turn.{Turn}
+use Rattle.niss_search.specs.Names.{Turn}
 use Rattle.niss_moves.specs.Canonical.{all_canonical}
 use Rattle.niss_search.specs.Solutions.{up_to, least_length, last_length}
 

@@ -1,14 +1,10 @@
--- The numbers of a coordinate after the turns of a step, which have their columns in turn order. (For the functions of the tables.)
+-- The numbers of a coordinate after the turns of a step, which have their columns in turn order. (For the functions of
+-- the tables.)
 use Rattle.std.specs.Prelude.{◌≡◌, ℕ, ◌<◌, List, [], length, get_or, slice_index}
-use Rattle.niss_moves.specs.declared.axis.Axis.{Axis}
-use Rattle.niss_moves.specs.declared.turn.Face.TheVariants.{U}
-use Rattle.niss_moves.specs.declared.turn.Power.TheVariants.{Quarter}
-use Rattle.niss_moves.specs.declared.turn.Turn.{Turn}
+use Rattle.niss_search.specs.Names.{Axis, U, Quarter, Turn, Step, Coordinate}
 use Rattle.niss_cube.specs.Coordinates.{count_of}
 use Rattle.niss_cube.specs.NumberAfter.{number_after}
 use Rattle.niss_cube.specs.Steps.{turns_of}
-use Rattle.niss_cube.specs.declared.step.Step.{Step}
-use Rattle.niss_cube.specs.declared.cube.coordinate.Coordinate.{Coordinate}
 
 -- the turn of a column
 abbrev pub turn_at : Step → ℕ → Turn
@@ -22,7 +18,8 @@ pub record Moves : Type 0 where
 
 -- The row of a number: the numbers after the turns of the step.
 pub record IsMoveRow (moves : Moves) (number : ℕ) (row : List ℕ) : Type 0 where
-  pub after : (k : ℕ) → k < length (turns_of moves.step) → slice_index row k ≡ number_after moves.coordinate moves.axis number (turn_at moves.step k)
+  pub after : (k : ℕ) → k < length (turns_of moves.step) →
+      slice_index row k ≡ number_after moves.coordinate moves.axis number (turn_at moves.step k)
   pub below : (k : ℕ) → k < length (turns_of moves.step) → slice_index row k < count_of moves.coordinate
 
 pub record AreMoveRows (moves : Moves) (rows : List (List ℕ)) : Type 0 where

@@ -1,18 +1,13 @@
 -- What a step looks at in a cube, and how that follows the turns.
-use Rattle.std.specs.Prelude.{ℕ, Bool, ◌<◌, ◌==◌, ◌&&◌, List, map, fold}
+use Rattle.std.specs.Prelude.{ℕ, Bool, ◌==◌, ◌&&◌, List, map, fold}
 use Rattle.std.specs.List.{list_any}
 use Rattle.niss_moves.specs.Places.{Place}
-use Rattle.niss_moves.specs.declared.turn.Turn.{Turn}
+use Rattle.niss_search.specs.Names.{Turn, Goal, Edges, Domino, Step, Coordinates, Flip, TwistAndSlice}
 use Rattle.niss_cube.specs.Coordinates.{flip_of, twist_of, slice_of}
 use Rattle.niss_cube.specs.NumberAfter.{number_after}
 use Rattle.niss_cube.specs.Steps.{goals_of, turns_of}
 use Rattle.niss_cube.specs.declared.cube.coordinate.Coordinate.TheVariants as coordinate
-use Rattle.niss_cube.specs.declared.step.Goal.{Goal}
-use Rattle.niss_cube.specs.declared.step.Goal.TheVariants.{Edges, Domino}
-use Rattle.niss_cube.specs.declared.step.Step.{Step}
 use Rattle.niss_search.specs.Distance.{distance}
-use Rattle.niss_search.specs.declared.tables.position.Coordinates.{Coordinates}
-use Rattle.niss_search.specs.declared.tables.position.Coordinates.TheVariants.{Flip, TwistAndSlice}
 
 -- the coordinates of a map of the places that decide whether a goal holds, where the step may start
 abbrev pub coordinates_of : Goal → (Place → Place) → Coordinates
@@ -29,11 +24,6 @@ coordinates_after (TwistAndSlice axis twist slice) t =
 abbrev pub are_zero : Coordinates → Bool
 are_zero (Flip axis flip) = flip == 0
 are_zero (TwistAndSlice axis twist slice) = twist == 0 && slice == 0
-
--- Each is below the number of its values.
-abbrev pub AreInRange : Coordinates → Type 0
-AreInRange (Flip axis flip) = flip < 2048
-AreInRange (TwistAndSlice axis twist slice) = (twist < 2187) × (slice < 495)
 
 -- the position of a map of the places: the coordinates of each goal of the step
 unfoldable pub position_of : Step → (Place → Place) → List Coordinates

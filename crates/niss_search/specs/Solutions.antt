@@ -1,7 +1,7 @@
 -- Solutions and counts, by the turns of a step and by which sequences reach it.
 use Rattle.std.specs.Prelude.{ℕ, ◌+◌, ◌-◌, min, Bool, List, [], length, Option, None, Some, filter, find, flat_map, sum_by}
 use Rattle.std.specs.List.{list_any, range_with_len}
-use Rattle.niss_moves.specs.declared.turn.Turn.{Turn}
+use Rattle.niss_search.specs.Names.{Turn}
 use Rattle.niss_moves.specs.Canonical.{all_canonical}
 
 -- the numbers from m to n

@@ -2,9 +2,7 @@
 ghost use Rattle.std.specs.Prelude.{◌≡◌, ◌<◌, ◌≤◌, ◌*◌, ◌/◌, ◌^◌, None, Some, length};
 ghost use Rattle.std.specs.List.{slice_index_or};
 ghost use Rattle.niss_moves.specs.Canonical.{IsCanonical};
-ghost use Rattle.niss_moves.specs.declared.turn.Power.{Power};
-ghost use Rattle.niss_moves.specs.declared.turn.Power.TheVariants.{Quarter};
-ghost use Rattle.niss_moves.specs.declared.turn.Face.TheVariants.{U};
+ghost use Rattle.niss_search.specs.Names.{Power, Quarter, U};
 ghost use Rattle.niss_search.specs.Draw.{choices, choice, next_words, after_words, draw};
 
 use niss_moves::{Face, Faces, Power, Turn, turn_order};

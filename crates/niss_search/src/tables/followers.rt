@@ -1,7 +1,7 @@
 //! The turns of a step that may follow a turn.
 ghost use Rattle.std.specs.Prelude.{◌≡◌, ◌<◌, length, Contains, None};
 ghost use Rattle.niss_moves.specs.Canonical.{may_follow, face_may_follow};
-ghost use Rattle.niss_moves.specs.declared.turn.Face.TheVariants.{U, D, R, L, F, B};
+ghost use Rattle.niss_search.specs.Names.{U, D, R, L, F, B};
 ghost use Rattle.niss_cube.specs.Steps.{turns_of};
 ghost use Rattle.niss_search.specs.Followers.{AreFollowers};
 ghost use Rattle.niss_search.specs.Moves.{turn_at};

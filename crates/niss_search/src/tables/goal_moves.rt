@@ -1,13 +1,11 @@
 //! How the turns of a step move the coordinates of one of its goals.
 ghost use Rattle.std.specs.Prelude.{◌≡◌, ◌*◌, ◌<◌, ◌≤◌, length, IfOk};
 ghost use Rattle.niss_cube.specs.Steps.{turns_of};
-ghost use Rattle.niss_cube.specs.declared.step.Goal.TheVariants.{Edges, Domino};
+ghost use Rattle.niss_search.specs.Names.{Edges, Domino, Coordinates, Flip, TwistAndSlice};
 ghost use Rattle.niss_search.specs.Entries.{count_for};
 ghost use Rattle.niss_search.specs.Filling.{Alternative, IsEntry, AreStarts, ArePlaces, row_length, entry_number, entry_at};
 ghost use Rattle.niss_search.specs.Moves.{turn_at};
-ghost use Rattle.niss_search.specs.Positions.{coordinates_after, AreInRange};
-ghost use Rattle.niss_search.specs.declared.tables.position.Coordinates.{Coordinates};
-ghost use Rattle.niss_search.specs.declared.tables.position.Coordinates.TheVariants.{Flip, TwistAndSlice};
+ghost use Rattle.niss_search.specs.Positions.{coordinates_after};
 ghost use Rattle.niss_cube.specs.declared.cube.coordinate.Coordinate.TheVariants as coordinate;
 
 use super::entries::pair_number;
@@ -61,8 +59,7 @@ pub trait GoalMoves {
 
     /// The coordinates of a state.
     fn coordinates_of(&self, state: Self::State) -> Coordinates
-        ensures value { result ≡ coordinates self.now state }
-        ensures in_range { AreInRange result };
+        ensures { result ≡ coordinates self.now state };
 
     /// The number of its entry in the pruning table.
     fn entry(&self, state: Self::State) -> usize
@@ -117,12 +114,10 @@ impl<A: Allocator> GoalMoves for EdgeMoves<A> {
         self.flips.turns()
     }
 
-    #[tactic(auto, unfolding(crate::specs::Entries::count_for))]
     fn entries(&self) -> usize {
         Coordinate::Flip.count()
     }
 
-    #[tactic(auto, unfolding(crate::specs::Filling::row_length))]
     fn row_length(&self) -> usize {
         Coordinate::Flip.count()
     }
@@ -131,13 +126,11 @@ impl<A: Allocator> GoalMoves for EdgeMoves<A> {
         [0; MOST_TURNS]
     }
 
-    #[tactic(auto, unfolding(crate::specs::Filling::row_length))]
     #[inline(always)]
     fn places(&self, place: usize) -> &Row {
         self.flips.row(place as u16)
     }
 
-    #[tactic(auto, unfolding(crate::specs::Entries::count_for))]
     fn state_at(&self, entry: usize) -> FlipState {
         FlipState { flip: entry as u16 }
     }
@@ -149,7 +142,6 @@ impl<A: Allocator> GoalMoves for EdgeMoves<A> {
         }
     }
 
-    #[tactic(auto, unfolding(crate::specs::Entries::count_for))]
     #[inline(always)]
     fn entry(&self, state: FlipState) -> usize {
         state.flip as usize
@@ -237,17 +229,14 @@ impl<A: Allocator> GoalMoves for DominoMoves<A> {
         self.twists.turns()
     }
 
-    #[tactic(auto, unfolding(crate::specs::Entries::count_for))]
     fn entries(&self) -> usize {
         Coordinate::Twist.count() * Coordinate::Slice.count()
     }
 
-    #[tactic(auto, unfolding(crate::specs::Filling::row_length))]
     fn row_length(&self) -> usize {
         Coordinate::Slice.count()
     }
 
-    #[tactic(auto, unfolding(crate::specs::Filling::row_length, crate::specs::Entries::count_for))]
     fn starts(&self, row: usize) -> Starts {
         let twists = self.twists.row(row as u16);
         let mut starts = [0; MOST_TURNS];
@@ -257,13 +246,11 @@ impl<A: Allocator> GoalMoves for DominoMoves<A> {
         starts
     }
 
-    #[tactic(auto, unfolding(crate::specs::Filling::row_length))]
     #[inline(always)]
     fn places(&self, place: usize) -> &Row {
         self.slices.row(place as u16)
     }
 
-    #[tactic(auto, unfolding(crate::specs::Entries::count_for))]
     fn state_at(&self, entry: usize) -> PairState {
         PairState {
             twist: (entry / Coordinate::Slice.count()) as u16,
@@ -279,7 +266,6 @@ impl<A: Allocator> GoalMoves for DominoMoves<A> {
         }
     }
 
-    #[tactic(auto, unfolding(crate::specs::Entries::count_for))]
     #[inline(always)]
     fn entry(&self, state: PairState) -> usize {
         pair_number(state.twist, state.slice)

@@ -1,41 +1,39 @@
 //! The tables of a step, by what it looks at.
-ghost use Rattle.std.specs.Prelude.{◌≡◌, ◌+◌, ◌≤◌, ◌^◌, ◌∷◌, [], map, IfOk, OnOk, OnErr};
+ghost use Rattle.std.specs.Prelude.{◌≡◌, ◌+◌, ◌≤◌, ◌^◌, ◌∷◌, [], IfOk, OnOk, OnErr};
 ghost use Rattle.niss_cube.specs.Steps.{goals_of};
 ghost use Rattle.niss_cube.specs.declared.cube.coordinate.Coordinate.TheVariants as coordinate;
 ghost use Rattle.niss_cube.specs.declared.step.Goal.TheVariants as goals;
 ghost use Rattle.niss_search.specs.Entries.{fill_ticks};
-ghost use Rattle.niss_search.specs.Filling.{IsFilled};
-ghost use Rattle.niss_search.specs.Kinds.{AreReady};
 ghost use Rattle.niss_search.specs.KindOfStep.{IsOfStep, edge_alternative, domino_alternative};
 
 use super::goal_moves::{DominoMoves, DominoTurns, EdgeMoves};
 use super::meter::Meter;
-use super::pruning_table::PruningTable;
+use super::pruning_table::{EmptyTable, PruningTable};
 use super::search_tables::SearchTables;
-use super::state_space::{Either, StateSpace};
+use super::state_space::Either;
 use niss_cube::{Axis, Coordinate, Goal, OutOfMemory, Step, TurnTable};
 use std::alloc::Allocator;
 
-/// The pruning table of an edge orientation.
-type EdgeTable<A> = PruningTable<EdgeMoves<A>, A>;
+/// The space of an edge orientation.
+type EdgeSpace<A> = PruningTable<EdgeMoves<A>, A>;
 
-/// Those of an edge orientation on each axis.
-type EdgeTables<A> = Either<EdgeTable<A>, Either<EdgeTable<A>, EdgeTable<A>>>;
+/// That of an edge orientation on any of three axes.
+type AnyEdgeSpace<A> = Either<EdgeMoves<A>, A, Either<EdgeMoves<A>, A, EdgeSpace<A>>>;
 
-/// The pruning table of a domino reduction.
-type DominoTable<A> = PruningTable<DominoMoves<A>, A>;
+/// The space of a domino reduction.
+type DominoSpace<A> = PruningTable<DominoMoves<A>, A>;
 
-/// Those of two domino reductions.
-type DominoTables<A> = Either<DominoTable<A>, DominoTable<A>>;
+/// That of either of two domino reductions.
+type EitherDominoSpace<A> = Either<DominoMoves<A>, A, DominoSpace<A>>;
 
 /// The tables of a step, by what it looks at: the flip on an axis, or on each of the three; or twist and slice on an axis, or
 /// on either of two.
 #[derive(Drop)]
 pub enum Kind<A: Allocator> {
-    Edges(SearchTables<EdgeTable<A>>),
-    AnyEdges(SearchTables<EdgeTables<A>>),
-    Domino(SearchTables<DominoTable<A>>),
-    EitherDomino(SearchTables<DominoTables<A>>),
+    Edges(SearchTables<EdgeSpace<A>>),
+    AnyEdges(SearchTables<AnyEdgeSpace<A>>),
+    Domino(SearchTables<DominoSpace<A>>),
+    EitherDomino(SearchTables<EitherDominoSpace<A>>),
 }
 
 impl<A: Allocator + Copy> Kind<A> {
@@ -47,17 +45,12 @@ impl<A: Allocator + Copy> Kind<A> {
         ensures refused { OnErr result (meter.new ≡ meter.old) }
     {
         match *step.goals() {
-            [Goal::Edges(axis)] => {
-                let space = edges(alloc, step, axis)?;
-                Ok(Kind::Edges(SearchTables::fill(step, space, meter)))
-            }
-            [Goal::Edges(first), Goal::Edges(second), Goal::Edges(third)] => {
-                let space = any_edges(alloc, step, [first, second, third])?;
-                Ok(Kind::AnyEdges(SearchTables::fill(step, space, meter)))
-            }
+            [Goal::Edges(axis)] => Ok(Kind::Edges(edges(alloc, step, axis, meter)?)),
+            [Goal::Edges(first), Goal::Edges(second), Goal::Edges(third)] => Ok(Kind::AnyEdges(
+                any_edges(alloc, step, first, second, third, meter)?,
+            )),
             [Goal::Domino { edges, axis }] => {
-                let space = domino(alloc, step, edges, axis)?;
-                Ok(Kind::Domino(SearchTables::fill(step, space, meter)))
+                Ok(Kind::Domino(domino(alloc, step, (edges, axis), meter)?))
             }
             [
                 Goal::Domino { edges, axis },
@@ -66,39 +59,55 @@ impl<A: Allocator + Copy> Kind<A> {
                     axis: other_axis,
                 },
             ] => {
-                let space = either_domino(alloc, step, (edges, axis), (other_edges, other_axis))?;
-                Ok(Kind::EitherDomino(SearchTables::fill(step, space, meter)))
+                let (first, second) = ((edges, axis), (other_edges, other_axis));
+                Ok(Kind::EitherDomino(either_domino(alloc, step, first, second, meter)?))
             }
             _ => unreachable!(),
         }
     }
 }
 
-/// The space of an edge orientation, still to be filled. The turn table is given back here, before that.
-fn edges<A: Allocator + Copy>(alloc: A, step: Step, axis: Axis) -> Result<EdgeTable<A>, OutOfMemory>
-    requires { goals_of step ≡ goals.Edges axis ∷ [] }
-    ensures { let of = ⟦<EdgeTable<A> as StateSpace>⟧ in
-        IfOk result (λ s. AreReady step (of.step s) (of.goals s) (of.is_filled s 0)) }
+/// The tables of an edge orientation. The turn table is given back before the fill, here and below.
+fn edges<A: Allocator + Copy>(
+    alloc: A,
+    step: Step,
+    axis: Axis,
+    meter: &mut Meter,
+) -> Result<SearchTables<EdgeSpace<A>>, OutOfMemory>
+    requires goals { goals_of step ≡ goals.Edges axis ∷ [] }
+    requires meter { meter.old ≤ 2 ^ 127 }
+    ensures step { IfOk result (λ tables. tables.step ≡ step) }
+    ensures ticks { OnOk result (meter.new ≡ meter.old + fill_ticks step) }
+    ensures refused { OnErr result (meter.new ≡ meter.old) }
 {
     let flips = TurnTable::build_in(alloc, Coordinate::Flip)?;
-    edge_table(alloc, step, axis, &flips)
+    let table = edge_table(alloc, step, axis, &flips)?;
+    drop(flips);
+    Ok(SearchTables::of(step, table.fill(meter)))
 }
 
-/// The space of an edge orientation on any of three axes, still to be filled.
+/// The tables of an edge orientation on any of three axes.
 fn any_edges<A: Allocator + Copy>(
     alloc: A,
     step: Step,
-    axes: [Axis; 3],
-) -> Result<EdgeTables<A>, OutOfMemory>
-    requires { goals_of step ≡ map goals.Edges axes }
-    ensures { let of = ⟦<EdgeTables<A> as StateSpace>⟧ in
-        IfOk result (λ s. AreReady step (of.step s) (of.goals s) (of.is_filled s 0)) }
+    first: Axis,
+    second: Axis,
+    third: Axis,
+    meter: &mut Meter,
+) -> Result<SearchTables<AnyEdgeSpace<A>>, OutOfMemory>
+    requires goals { goals_of step ≡ goals.Edges first ∷ goals.Edges second ∷ goals.Edges third ∷ [] }
+    requires meter { meter.old ≤ 2 ^ 127 }
+    ensures step { IfOk result (λ tables. tables.step ≡ step) }
+    ensures ticks { OnOk result (meter.new ≡ meter.old + fill_ticks step) }
+    ensures refused { OnErr result (meter.new ≡ meter.old) }
 {
     let flips = TurnTable::build_in(alloc, Coordinate::Flip)?;
-    let first = edge_table(alloc, step, axes[0], &flips)?;
-    let second = edge_table(alloc, step, axes[1], &flips)?;
-    let third = edge_table(alloc, step, axes[2], &flips)?;
-    Ok(Either::of(first, Either::of(second, third)))
+    let first = edge_table(alloc, step, first, &flips)?;
+    let second = edge_table(alloc, step, second, &flips)?;
+    let third = edge_table(alloc, step, third, &flips)?;
+    drop(flips);
+    let others = Either::of(second.fill(meter), third.fill(meter));
+    Ok(SearchTables::of(step, Either::of(first.fill(meter), others)))
 }
 
 /// The pruning table of an edge orientation, still to be filled.
@@ -107,59 +116,64 @@ fn edge_table<A: Allocator + Copy>(
     step: Step,
     axis: Axis,
     flips: &TurnTable<A>,
-) -> Result<EdgeTable<A>, OutOfMemory>
+) -> Result<EmptyTable<EdgeMoves<A>, A>, OutOfMemory>
     requires { flips.now ≡ coordinate.Flip }
-    ensures { IfOk result (λ t. (edge_alternative t ≡ record { step = step; goal = goals.Edges axis })
-        × IsFilled record { step = step; goal = goals.Edges axis } 0 t.distances.items) }
+    ensures { IfOk result (λ t. edge_alternative t ≡ record { step = step; goal = goals.Edges axis }) }
 {
     let moves = EdgeMoves::build_in(alloc, step, axis, flips)?;
-    PruningTable::new_in(alloc, moves)
+    EmptyTable::new_in(alloc, moves)
 }
 
-/// The space of a domino reduction, still to be filled.
+/// The tables of a domino reduction, by the axis of its edges and its own.
 fn domino<A: Allocator + Copy>(
     alloc: A,
     step: Step,
-    edges: Axis,
-    axis: Axis,
-) -> Result<DominoTable<A>, OutOfMemory>
-    requires { goals_of step ≡ goals.Domino edges axis ∷ [] }
-    ensures { let of = ⟦<DominoTable<A> as StateSpace>⟧ in
-        IfOk result (λ s. AreReady step (of.step s) (of.goals s) (of.is_filled s 0)) }
+    axes: (Axis, Axis),
+    meter: &mut Meter,
+) -> Result<SearchTables<DominoSpace<A>>, OutOfMemory>
+    requires goals { goals_of step ≡ goals.Domino axes.0 axes.1 ∷ [] }
+    requires meter { meter.old ≤ 2 ^ 127 }
+    ensures step { IfOk result (λ tables. tables.step ≡ step) }
+    ensures ticks { OnOk result (meter.new ≡ meter.old + fill_ticks step) }
+    ensures refused { OnErr result (meter.new ≡ meter.old) }
 {
     let turns = DominoTurns::build_in(alloc)?;
-    domino_table(alloc, step, edges, axis, &turns)
+    let table = domino_table(alloc, step, axes, &turns)?;
+    drop(turns);
+    Ok(SearchTables::of(step, table.fill(meter)))
 }
 
-/// The space of either of two domino reductions, still to be filled.
+/// The tables of either of two domino reductions.
 fn either_domino<A: Allocator + Copy>(
     alloc: A,
     step: Step,
     first: (Axis, Axis),
     second: (Axis, Axis),
-) -> Result<DominoTables<A>, OutOfMemory>
-    requires { goals_of step ≡ goals.Domino first.0 first.1 ∷ goals.Domino second.0 second.1 ∷ [] }
-    ensures { let of = ⟦<DominoTables<A> as StateSpace>⟧ in
-        IfOk result (λ s. AreReady step (of.step s) (of.goals s) (of.is_filled s 0)) }
+    meter: &mut Meter,
+) -> Result<SearchTables<EitherDominoSpace<A>>, OutOfMemory>
+    requires goals { goals_of step ≡ goals.Domino first.0 first.1 ∷ goals.Domino second.0 second.1 ∷ [] }
+    requires meter { meter.old ≤ 2 ^ 127 }
+    ensures step { IfOk result (λ tables. tables.step ≡ step) }
+    ensures ticks { OnOk result (meter.new ≡ meter.old + fill_ticks step) }
+    ensures refused { OnErr result (meter.new ≡ meter.old) }
 {
     let turns = DominoTurns::build_in(alloc)?;
-    let first = domino_table(alloc, step, first.0, first.1, &turns)?;
-    let second = domino_table(alloc, step, second.0, second.1, &turns)?;
-    Ok(Either::of(first, second))
+    let first = domino_table(alloc, step, first, &turns)?;
+    let second = domino_table(alloc, step, second, &turns)?;
+    drop(turns);
+    Ok(SearchTables::of(step, Either::of(first.fill(meter), second.fill(meter))))
 }
 
 /// The pruning table of a domino reduction, still to be filled.
 fn domino_table<A: Allocator + Copy>(
     alloc: A,
     step: Step,
-    edges: Axis,
-    axis: Axis,
+    axes: (Axis, Axis),
     turns: &DominoTurns<A>,
-) -> Result<DominoTable<A>, OutOfMemory>
+) -> Result<EmptyTable<DominoMoves<A>, A>, OutOfMemory>
     ensures { IfOk result (λ t.
-        (domino_alternative t ≡ record { step = step; goal = goals.Domino edges axis })
-        × IsFilled record { step = step; goal = goals.Domino edges axis } 0 t.distances.items) }
+        domino_alternative t ≡ record { step = step; goal = goals.Domino axes.0 axes.1 }) }
 {
-    let moves = DominoMoves::build_in(alloc, step, edges, axis, turns)?;
-    PruningTable::new_in(alloc, moves)
+    let moves = DominoMoves::build_in(alloc, step, axes.0, axes.1, turns)?;
+    EmptyTable::new_in(alloc, moves)
 }

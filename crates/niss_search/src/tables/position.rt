@@ -1,7 +1,7 @@
 //! What a step looks at in a cube.
 ghost use Rattle.std.specs.Prelude.{◌≡◌, ◌≤◌};
 ghost use Rattle.niss_cube.specs.Map.{map_of};
-ghost use Rattle.niss_search.specs.Positions.{coordinates_of, AreInRange};
+ghost use Rattle.niss_search.specs.Positions.{coordinates_of};
 ghost use Rattle.niss_search.specs.Filling.{entry_number};
 
 use super::entries::pair_number;
@@ -21,8 +21,7 @@ pub enum Coordinates {
 impl Coordinates {
     /// Those of a cube.
     fn of(goal: Goal, cube: &Cube) -> Coordinates
-        ensures value { result ≡ coordinates_of goal (map_of cube.now) }
-        ensures in_range { AreInRange result }
+        ensures { result ≡ coordinates_of goal (map_of cube.now) }
     {
         match goal {
             Goal::Edges(axis) => Coordinates::Flip {
@@ -67,19 +66,16 @@ pub struct Position {
 }
 
 impl Model for Position {
-    ghost use Rattle.std.specs.Prelude.{List, All};
-    ghost use Rattle.niss_search.specs.declared.tables.position.Coordinates.{Coordinates};
-    ghost use Rattle.niss_search.specs.Positions.{AreInRange};
+    ghost use Rattle.std.specs.Prelude.{List};
+    ghost use Rattle.niss_search.specs.Names.{Coordinates};
 
     ghost Value = { List Coordinates };
 
     ghost view = { λ p. p.coordinates.items };
-
-    ghost invariant = { λ p. All AreInRange p.coordinates.items };
 }
 
 impl Position {
-    ghost use Rattle.std.specs.Prelude.{All, map, length};
+    ghost use Rattle.std.specs.Prelude.{map, length};
 
     /// The position of a cube, by the goals of the step.
     pub(super) fn of(goals: &[Goal], cube: &Cube) -> Position
@@ -95,7 +91,6 @@ impl Position {
 
     /// The position that has the coordinates, a goal after the other.
     pub(super) fn from_coordinates(coordinates: ArrayVec<Coordinates, 3>) -> Position
-        requires { All AreInRange coordinates.items }
         ensures { result ≡ coordinates.items }
     {
         Position { coordinates }
@@ -103,9 +98,7 @@ impl Position {
 
     /// The coordinates, a goal after the other.
     pub(super) fn coordinates(&self) -> &[Coordinates]
-        ensures value { result.now ≡ self.now }
-        ensures few { length result.now ≤ 3 }
-        ensures in_range { All AreInRange result.now }
+        ensures { result.now ≡ self.now }
     {
         self.coordinates.as_slice()
     }

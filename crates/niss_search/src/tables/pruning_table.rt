@@ -1,8 +1,8 @@
 //! The pruning table of a goal.
-ghost use Rattle.std.specs.Prelude.{◌≡◌, ℕ, ◌+◌, ◌<◌, ◌^◌, ◌∷◌, [], length, IfOk};
+ghost use Rattle.std.specs.Prelude.{◌≡◌, ◌+◌, ◌<◌, ◌≤◌, ◌^◌, ◌∷◌, [], IfOk};
 ghost use Rattle.niss_cube.specs.Steps.{turns_of};
 ghost use Rattle.niss_search.specs.Entries.{count_for};
-ghost use Rattle.niss_search.specs.Filling.{goal_ticks, IsFilled, IsEntry, AreEntries};
+ghost use Rattle.niss_search.specs.Filling.{goal_ticks, IsEntry, AreEntries};
 ghost use Rattle.niss_search.specs.Positions.{distance_at};
 
 use super::entries::{FAR, GOAL_ENTRY};
@@ -14,45 +14,94 @@ use super::state_space::StateSpace;
 use arrayvec::ArrayVec;
 use niss_cube::OutOfMemory;
 use std::alloc::Allocator;
+use std::marker::Model;
 
-/// The pruning table of one goal of a step: a byte for each entry, its distance once the table is filled.
+/// A pruning table that is still to be filled, with all its memory: the distance is known at the goal alone.
 #[derive(Drop)]
-pub struct PruningTable<M, A: Allocator> {
+pub struct EmptyTable<M: GoalMoves, A: Allocator> {
     moves: M,
     distances: Vec<u8, A>,
 }
 
-impl<M: GoalMoves + Drop, A: Allocator> PruningTable<M, A> {
-    /// A table that is not filled yet, with all its memory: the distance is known at the goal alone.
-    pub fn new_in(alloc: A, moves: M) -> Result<PruningTable<M, A>, OutOfMemory>
-        ensures moves { IfOk result (λ t. t.moves ≡ moves) }
-        ensures filled { IfOk result (λ t. IsFilled (M.alternative moves) 0 t.distances.items) }
+impl<M: GoalMoves, A: Allocator> Model for EmptyTable<M, A> {
+    ghost use Rattle.niss_search.specs.Filling.{IsFilled};
+
+    ghost Value = { M };
+
+    ghost view = { λ t. t.moves };
+
+    ghost invariant = { λ t. IsFilled (M.alternative t.moves) 0 t.distances.items };
+}
+
+impl<M: GoalMoves + Drop, A: Allocator> EmptyTable<M, A> {
+    /// That of one goal of a step.
+    pub fn new_in(alloc: A, moves: M) -> Result<EmptyTable<M, A>, OutOfMemory>
+        ensures { IfOk result (λ t. t ≡ moves) }
     {
         let Ok(mut distances) = Vec::from_elem(alloc, FAR, moves.entries()) else {
             return Err(OutOfMemory);
         };
         distances[GOAL_ENTRY] = 0;
-        Ok(PruningTable { moves, distances })
+        Ok(EmptyTable { moves, distances })
+    }
+}
+
+impl<M: GoalMoves, A: Allocator> EmptyTable<M, A> {
+    /// Fills it. The meter rises by one for each turn that is tried.
+    #[tactic(auto, using(crate::proofs::TickLemmas::goal_ticks_bound))]
+    pub fn fill(self, meter: &mut Meter) -> PruningTable<M, A>
+        requires { meter.old + 2 ^ 32 < 2 ^ 128 }
+        ensures moves { result ≡ self }
+        ensures ticks { meter.new ≡ meter.old + goal_ticks (M.alternative self) }
+        ensures few { meter.new ≤ meter.old + 2 ^ 32 }
+    {
+        let mut distances = self.distances;
+        fill_table(&self.moves, &mut distances, meter);
+        PruningTable {
+            moves: self.moves,
+            distances,
+        }
+    }
+}
+
+/// The pruning table of one goal of a step: a byte for each entry, its distance.
+#[derive(Drop)]
+pub struct PruningTable<M: GoalMoves, A: Allocator> {
+    moves: M,
+    distances: Vec<u8, A>,
+}
+
+impl<M: GoalMoves, A: Allocator> Model for PruningTable<M, A> {
+    ghost use Rattle.niss_search.specs.Filling.{IsFilled};
+
+    ghost Value = { M };
+
+    ghost view = { λ t. t.moves };
+
+    ghost invariant = { λ t. IsFilled (M.alternative t.moves) 20 t.distances.items };
+}
+
+impl<M: GoalMoves, A: Allocator> PruningTable<M, A> {
+    /// The state of the coordinates of its goal.
+    pub(super) fn state_of(&self, coordinates: Coordinates) -> M::State
+        requires { IsEntry (M.alternative self.now).goal coordinates }
+        ensures { M.coordinates self.now result ≡ coordinates }
+    {
+        self.moves.state_at(coordinates.entry_number())
     }
 }
 
 impl<M: GoalMoves, A: Allocator> StateSpace for PruningTable<M, A> {
     type State = M::State;
 
-    ghost step = { λ t. (M.alternative t.moves).step };
+    ghost step = { λ t. (M.alternative t).step };
 
-    ghost goals = { λ t. (M.alternative t.moves).goal ∷ [] };
+    ghost goals = { λ t. (M.alternative t).goal ∷ [] };
 
-    ghost seen = { λ t x. M.coordinates t.moves x ∷ [] };
-
-    ghost is_filled = { λ t level. IsFilled (M.alternative t.moves) level t.distances.items };
-
-    fn goal_count(&self) -> usize {
-        1
-    }
+    ghost seen = { λ t x. M.coordinates t x ∷ [] };
 
     fn state(&self, position: &[Coordinates]) -> M::State {
-        self.moves.state_at(position[0].entry_number())
+        self.state_of(position[0])
     }
 
     fn put_coordinates(&self, state: M::State, list: &mut ArrayVec<Coordinates, 3>) {
@@ -68,9 +117,5 @@ impl<M: GoalMoves, A: Allocator> StateSpace for PruningTable<M, A> {
     #[inline(always)]
     fn distance(&self, state: M::State) -> u8 {
         self.distances[self.moves.entry(state)]
-    }
-
-    fn fill(&mut self, meter: &mut Meter) {
-        fill_table(&self.moves, &mut self.distances, meter);
     }
 }

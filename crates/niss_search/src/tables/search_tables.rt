@@ -3,9 +3,8 @@ ghost use Rattle.std.specs.Prelude.{◌≡◌, ◌+◌, ◌<◌, ◌≤◌, ◌^
 ghost use Rattle.niss_moves.specs.Canonical.{may_follow};
 ghost use Rattle.niss_cube.specs.Steps.{turns_of};
 ghost use Rattle.niss_search.specs.Cubes.{IsPosition};
-ghost use Rattle.niss_search.specs.Entries.{fill_ticks};
 ghost use Rattle.niss_search.specs.Followers.{IsFollower, AreFollowers};
-ghost use Rattle.niss_search.specs.Kinds.{AreReady};
+ghost use Rattle.niss_search.specs.Kinds.{IsSpaceOf};
 ghost use Rattle.niss_search.specs.Positions.{position_after, distance_at};
 
 use super::followers::{Follower, Followers};
@@ -13,10 +12,11 @@ use super::meter::Meter;
 use super::position::Position;
 use super::state_space::StateSpace;
 use arrayvec::ArrayVec;
+use niss_cube::laws::are_coordinates;
 use niss_cube::{Step, Turn};
 use std::marker::Model;
 
-/// The turns of a step that may follow each other, and the space of its states with its pruning tables filled.
+/// The turns of a step that may follow each other, and the space of its states.
 #[derive(Drop)]
 pub struct SearchTables<S: StateSpace> {
     followers: Followers,
@@ -24,26 +24,21 @@ pub struct SearchTables<S: StateSpace> {
 }
 
 impl<S: StateSpace> Model for SearchTables<S> {
-    ghost use Rattle.niss_search.specs.Kinds.{StepSpace, AreReady};
+    ghost use Rattle.niss_search.specs.Kinds.{StepSpace, IsSpaceOf};
 
     ghost Value = { StepSpace S };
 
     ghost view = { λ t. record { step = t.followers; space = t.space } };
 
-    ghost invariant = { λ t. AreReady t.followers (S.step t.space) (S.goals t.space)
-        (S.is_filled t.space 20) };
+    ghost invariant = { λ t. IsSpaceOf t.followers (S.step t.space) (S.goals t.space) };
 }
 
 impl<S: StateSpace> SearchTables<S> {
-    /// Those of a step, whose space is still to be filled.
-    pub fn fill(step: Step, space: S, meter: &mut Meter) -> SearchTables<S>
-        requires space { AreReady step (S.step space) (S.goals space) (S.is_filled space 0) }
-        requires meter { meter.old ≤ 2 ^ 127 }
-        ensures step { result.step ≡ step }
-        ensures ticks { meter.new ≡ meter.old + fill_ticks step }
+    /// Those of a step, by the space of all its goals.
+    pub fn of(step: Step, space: S) -> SearchTables<S>
+        requires { IsSpaceOf step (S.step space) (S.goals space) }
+        ensures { result.step ≡ step }
     {
-        let mut space = space;
-        space.fill(meter);
         SearchTables {
             followers: Followers::of(step),
             space,
@@ -62,6 +57,7 @@ impl<S: StateSpace> SearchTables<S> {
         requires position { IsPosition self.now.step position.now }
         ensures { S.seen self.now.space result ≡ position.now }
     {
+        are_coordinates();
         self.space.state(position.coordinates())
     }
 

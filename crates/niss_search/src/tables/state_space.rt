@@ -1,16 +1,17 @@
 //! What a search goes through: the states of a step, and how far each is from it.
-ghost use Rattle.std.specs.Prelude.{◌≡◌, ℕ, List, ◌+◌, ◌*◌, ◌<◌, ◌≤◌, ◌^◌, ◌++◌, length, All};
+ghost use Rattle.std.specs.Prelude.{◌≡◌, List, ◌+◌, ◌<◌, ◌≤◌, ◌++◌, ◌∷◌, length};
 ghost use Rattle.niss_cube.specs.Steps.{turns_of};
-ghost use Rattle.niss_cube.specs.declared.step.Goal.{Goal};
-ghost use Rattle.niss_cube.specs.declared.step.Step.{Step as TheStep};
-ghost use Rattle.niss_search.specs.Filling.{AreEntries, ticks_of_goals};
+ghost use Rattle.niss_search.specs.Names.{Goal, Step as TheStep, Coordinates};
+ghost use Rattle.niss_search.specs.Filling.{AreEntries};
 ghost use Rattle.niss_search.specs.Moves.{turn_at};
-ghost use Rattle.niss_search.specs.Positions.{position_after, distance_at, AreInRange};
-ghost use Rattle.niss_search.specs.declared.tables.position.Coordinates.{Coordinates};
+ghost use Rattle.niss_search.specs.Positions.{position_after, distance_at};
 
-use super::meter::Meter;
+use super::goal_moves::GoalMoves;
 use super::position::Coordinates;
+use super::pruning_table::PruningTable;
 use arrayvec::ArrayVec;
+use std::alloc::Allocator;
+use std::marker::Model;
 
 /// The states of a step by some of its goals, each with its own numbers, where the step's turns lead them, and how far they
 /// are from the step. One goal costs a look no more than its own table.
@@ -27,110 +28,89 @@ pub trait StateSpace {
     /// What is seen of a cube in a state: the coordinates of each goal.
     ghost seen: { Self → Self.State → List Coordinates };
 
-    /// The pruning tables are filled to a level.
-    ghost is_filled: { Self → ℕ → Type 0 };
-
-    /// How many goals.
-    fn goal_count(&self) -> usize
-        requires { length (goals self.now) ≤ 3 }
-        ensures { result ≡ length (goals self.now) };
-
     /// The state of a position.
     fn state(&self, position: &[Coordinates]) -> Self::State
-        requires entries { AreEntries (goals self.now) position.now }
-        requires few { length position.now ≤ 3 }
+        requires { AreEntries (goals self.now) position.now }
         ensures { seen self.now result ≡ position.now };
 
     /// Appends the coordinates of a state, those of a goal after the other.
     fn put_coordinates(&self, state: Self::State, list: &mut ArrayVec<Coordinates, 3>)
-        requires room { length list.old.items + length (goals self.now) ≤ 3 }
-        requires in_range { All AreInRange list.old.items }
-        ensures value { list.new.items ≡ list.old.items ++ seen self.now state }
-        ensures one_for_each { length list.new.items ≡ length list.old.items + length (goals self.now) }
-        ensures in_range { All AreInRange list.new.items };
+        requires { length list.old.items + length (goals self.now) ≤ 3 }
+        ensures { list.new.items ≡ list.old.items ++ seen self.now state };
 
     /// The state after the turn of a column.
     fn after(&self, state: Self::State, column: usize) -> Self::State
-        requires filled { is_filled self.now 20 }
-        requires of_step { column < length (turns_of (step self.now)) }
+        requires { column < length (turns_of (step self.now)) }
         ensures { seen self.now result
             ≡ position_after (seen self.now state) (turn_at (step self.now) column) };
 
     /// The distance to the nearest of the goals.
     fn distance(&self, state: Self::State) -> u8
-        requires { is_filled self.now 20 }
         ensures { result ≡ distance_at (step self.now) (seen self.now state) };
-
-    /// Fills the pruning tables, of which the goals alone are known. The meter rises by one for each turn that is tried.
-    fn fill(&mut self, meter: &mut Meter)
-        requires filled { is_filled self.old 0 }
-        requires meter { meter.old + length (goals self.old) * 2 ^ 32 < 2 ^ 128 }
-        ensures step { step self.new ≡ step self.old }
-        ensures goals { goals self.new ≡ goals self.old }
-        ensures filled { is_filled self.new 20 }
-        ensures ticks { meter.new ≡ meter.old + ticks_of_goals (step self.old) (goals self.old) };
 }
 
-/// Two spaces of one step: it is reached where it is by either.
+/// The space of one goal more: the step is reached where it is by that goal, or by those of the other space.
 #[derive(Drop)]
-pub struct Either<S, T> {
-    first: S,
-    second: T,
+pub struct Either<M: GoalMoves, A: Allocator, S: StateSpace> {
+    first: PruningTable<M, A>,
+    others: S,
 }
 
-impl<S, T> Either<S, T> {
-    /// The two.
-    pub fn of(first: S, second: T) -> Either<S, T>
-        ensures first { result.first ≡ first }
-        ensures second { result.second ≡ second }
+impl<M: GoalMoves, A: Allocator, S: StateSpace> Model for Either<M, A, S> {
+    ghost use Rattle.std.specs.Prelude.{◌≡◌};
+
+    ghost Value = { M × S };
+
+    ghost view = { λ s. (s.first, s.others) };
+
+    ghost invariant = { λ s. S.step s.others ≡ (M.alternative s.first).step };
+}
+
+impl<M: GoalMoves, A: Allocator, S: StateSpace> Either<M, A, S> {
+    /// The two, of one step.
+    pub fn of(first: PruningTable<M, A>, others: S) -> Either<M, A, S>
+        requires { S.step others ≡ (M.alternative first).step }
+        ensures { result ≡ (first, others) }
     {
-        Either { first, second }
+        Either { first, others }
     }
 }
 
-impl<S: StateSpace, T: StateSpace> StateSpace for Either<S, T> {
-    type State = (S::State, T::State);
+impl<M: GoalMoves, A: Allocator, S: StateSpace> StateSpace for Either<M, A, S> {
+    type State = (M::State, S::State);
 
-    ghost step = { λ s. S.step s.first };
+    ghost step = { λ s. (M.alternative s.0).step };
 
-    ghost goals = { λ s. S.goals s.first ++ T.goals s.second };
+    ghost goals = { λ s. (M.alternative s.0).goal ∷ S.goals s.1 };
 
-    ghost seen = { λ s x. S.seen s.first x.0 ++ T.seen s.second x.1 };
+    ghost seen = { λ s x. M.coordinates s.0 x.0 ∷ S.seen s.1 x.1 };
 
-    ghost is_filled = { λ s level. (T.step s.second ≡ S.step s.first)
-        × S.is_filled s.first level × T.is_filled s.second level };
-
-    fn goal_count(&self) -> usize {
-        self.first.goal_count() + self.second.goal_count()
+    #[tactic(auto, unfolding(crate::specs::Filling::AreEntries))]
+    fn state(&self, position: &[Coordinates]) -> (M::State, S::State) {
+        let Some((first, others)) = position.split_first() else {
+            unreachable!()
+        };
+        (self.first.state_of(*first), self.others.state(others))
     }
 
-    fn state(&self, position: &[Coordinates]) -> (S::State, T::State) {
-        let (first, second) = position.split_at(self.first.goal_count());
-        (self.first.state(first), self.second.state(second))
-    }
-
-    fn put_coordinates(&self, state: (S::State, T::State), list: &mut ArrayVec<Coordinates, 3>) {
+    fn put_coordinates(&self, state: (M::State, S::State), list: &mut ArrayVec<Coordinates, 3>) {
         self.first.put_coordinates(state.0, list);
-        self.second.put_coordinates(state.1, list);
+        self.others.put_coordinates(state.1, list);
     }
 
+    #[tactic(auto, unfolding(crate::specs::Positions::position_after))]
     #[inline(always)]
-    fn after(&self, state: (S::State, T::State), column: usize) -> (S::State, T::State) {
+    fn after(&self, state: (M::State, S::State), column: usize) -> (M::State, S::State) {
         (
             self.first.after(state.0, column),
-            self.second.after(state.1, column),
+            self.others.after(state.1, column),
         )
     }
 
     #[inline(always)]
-    fn distance(&self, state: (S::State, T::State)) -> u8 {
+    fn distance(&self, state: (M::State, S::State)) -> u8 {
         self.first
             .distance(state.0)
-            .min(self.second.distance(state.1))
-    }
-
-    fn fill(&mut self, meter: &mut Meter) {
-        self.first.fill(meter);
-        self.second.fill(meter);
+            .min(self.others.distance(state.1))
     }
 }

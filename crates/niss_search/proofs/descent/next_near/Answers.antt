@@ -1,11 +1,8 @@
-use Rattle.std.proofs.Common.{arith, ◌<◌, ◌≤◌, take, get_or, [], ◌∷◌, subst, All}
-use Rattle.std.proofs.lemmas.List.{take_more, take_all}
-use Rattle.std.proofs.lemmas.List.Elements.{All-append}
-use Rattle.niss_moves.specs.declared.turn.Face.TheVariants.{U}
-use Rattle.niss_moves.specs.declared.turn.Power.TheVariants.{Quarter}
+use Rattle.std.proofs.Common.{arith, ◌<◌, ◌≤◌, subst, All}
+use Rattle.std.proofs.lemmas.List.{get_or_default, take_all}
+use Rattle.std.proofs.lemmas.List.Elements.{All-more}
+use Rattle.niss_search.specs.Names.{U, Quarter, Follower}
 use Rattle.niss_search.specs.Followers.{distance_after}
-use Rattle.niss_search.specs.declared.tables.followers.Follower.{Follower}
-use Rattle.niss_search.proofs.ListLemmas.{All-one, get_or-same}
 use Rattle.niss_search.proofs.descent.next_near.Goals as goal
 
 -- what a list answers past its end
@@ -24,7 +21,7 @@ returns-then-look-left-clause-near g c =
     record {
       inside = c.loop-index-test.true;
       far = inv.far;
-      near = λ d. subst (λ (f : Follower). distance_after step (g.S.StateSpace.seen c.args.tables.now.space c.args.state) f ≤ c.args.left) (get_or-same fs c.loop-index.index first d c.loop-index-test.true) (omega (arith, value, c.if-look-left.true));
+      near = λ d. subst (λ (f : Follower). distance_after step (g.S.StateSpace.seen c.args.tables.now.space c.args.state) f ≤ c.args.left) (get_or_default fs c.loop-index.index first d c.loop-index-test.true) (omega (arith, value, c.if-look-left.true));
       looked = omega (arith, inv.ticks, c.look.ensures.tick);
     }
 
@@ -37,7 +34,7 @@ loop-index-preserved g c =
     let value = rw c.after.ensures at c.look.ensures.value in
     let Far : Follower → Type 0 = λ f. c.args.left < distance_after step x f in
     record {
-      far = rw (take_more fs c.loop-index.index first c.loop-index-test.true) (All-append Far (take c.loop-index.index fs) (get_or fs c.loop-index.index first ∷ []) inv.far (All-one Far (get_or fs c.loop-index.index first) (omega (arith, value, c.if-look-left.false))));
+      far = All-more Far fs c.loop-index.index first c.loop-index-test.true inv.far (omega (arith, value, c.if-look-left.false));
       ticks = omega (arith, inv.ticks, c.look.ensures.tick);
     }
 

@@ -2,7 +2,6 @@ use Rattle.std.proofs.Common.{arith, ◌≡◌, ◌+◌, ◌-◌, min, sym, ◌�
 use Rattle.std.proofs.lemmas.Result.{err_from_is_err_and}
 use Rattle.niss_cube.specs.Steps.{turns_of}
 use Rattle.niss_search.specs.Deepening.{reaches_at, far_at}
-use Rattle.niss_search.specs.Delivery.{at_limit}
 use Rattle.niss_search.proofs.Bounds.{least-within, solutions-small, reaching-small, all_looks-bound, bound-small, turns_of-length}
 use Rattle.niss_search.proofs.DeepeningLemmas.{all_looks-longer, refused-at-least, none-longer, and-longer, refused-longer}
 use Rattle.niss_search.proofs.deepening.Root.find.Goals as goal
@@ -12,14 +11,14 @@ returns-in_err-shortest-clause-delivers g c =
     let n = c.args.path.now.limit in
     let p = err_from_is_err_and c.from_residual.result c.from_residual.ensures.1 in
     let stops = rw c.in_err-shortest.was at c.find_least.ensures.delivers in
-    rw p.1 (refused-at-least c.args.self.now.tables.now c.args.self.now.position.now n c.args.slack (at_limit g.K.Sink.took n) (at_limit g.K.Sink.refused n) c.args.meter.now c.find_least.new.meter c.find_least.new.meter c.args.sink.now c.find_least.new.sink c.find_least.new.sink stops)
+    rw p.1 (refused-at-least c.args.self.now.tables.now c.args.self.now.position.now n c.args.slack stops)
 
 pub returns-in_default-clause-delivers : goal.returns-in_default-clause-delivers
 returns-in_default-clause-delivers g c =
     let n = c.args.path.now.limit in
     let length = rw c.in_ok-shortest.was at c.find_least.ensures.length in
     let went = rw c.in_ok-shortest.was at c.find_least.ensures.delivers in
-    none-longer c.args.self.now.tables.now c.args.self.now.position.now n c.args.slack (at_limit g.K.Sink.took n) (at_limit g.K.Sink.refused n) c.args.meter.now c.find_least.new.meter c.find_least.new.meter c.args.sink.now c.find_least.new.sink c.find_least.new.sink c.in_ok-shortest.shortest.solutions (sym length ∙ c.in_default.is) went
+    none-longer c.args.self.now.tables.now c.args.self.now.position.now n c.args.slack (sym length ∙ c.in_default.is) went
 
 pub overflow_add-least : goal.overflow_add-least
 overflow_add-least g c =
@@ -51,7 +50,7 @@ returns-in_err-longer-clause-delivers g c =
     let went = rw c.in_ok-shortest.was at c.find_least.ensures.delivers in
     let last : c.min-last.result ≡ min n (c.in-Some.least + c.args.slack) = omega arith in
     let stops = rw (c.in_err-longer.was, c.find_least.ensures.path, last) at c.find_longer.ensures.delivers in
-    rw p.1 (refused-longer c.args.self.now.tables.now c.args.self.now.position.now n c.args.slack (at_limit g.K.Sink.took n) (at_limit g.K.Sink.refused n) c.args.meter.now c.find_least.new.meter c.find_longer.new.meter c.args.sink.now c.find_least.new.sink c.find_longer.new.sink c.in-Some.least c.in_ok-shortest.shortest.solutions (sym length ∙ c.in-Some.is) went stops)
+    rw p.1 (refused-longer c.args.self.now.tables.now c.args.self.now.position.now n c.args.slack (sym length ∙ c.in-Some.is) went stops)
 
 pub overflow_add-result : goal.overflow_add-result
 overflow_add-result g c =
@@ -73,4 +72,4 @@ returns-clause-delivers g c =
     let went = rw c.in_ok-shortest.was at c.find_least.ensures.delivers in
     let last : c.min-last.result ≡ min n (c.in-Some.least + c.args.slack) = omega arith in
     let then = rw (c.in_ok-longer.was, c.find_least.ensures.path, last) at c.find_longer.ensures.delivers in
-    and-longer c.args.self.now.tables.now c.args.self.now.position.now n c.args.slack (at_limit g.K.Sink.took n) (at_limit g.K.Sink.refused n) c.args.meter.now c.find_least.new.meter c.find_longer.new.meter c.args.sink.now c.find_least.new.sink c.find_longer.new.sink c.in-Some.least c.in_ok-shortest.shortest.solutions (sym length ∙ c.in-Some.is) went c.in_ok-longer.longer then
+    and-longer c.args.self.now.tables.now c.args.self.now.position.now n c.args.slack (sym length ∙ c.in-Some.is) went then

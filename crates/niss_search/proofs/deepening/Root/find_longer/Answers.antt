@@ -1,7 +1,6 @@
 use Rattle.std.proofs.Common.{arith, ◌+◌, ◌-◌, ◌∙◌, [], ◌∷◌}
 use Rattle.std.specs.List.{range_with_len}
 use Rattle.std.proofs.lemmas.Result.{err_from_is_err_and}
-use Rattle.niss_search.specs.Delivery.{at_limit}
 use Rattle.niss_search.proofs.DeepeningLemmas.{looks-so-far, reaching-le, goes-on, stops-then}
 use Rattle.niss_search.proofs.deepening.Root.find_longer.Goals as goal
 
@@ -16,7 +15,7 @@ returns-in_err-solutions-clause-delivers g c =
     let inv = c.loop-length.invariant in
     let p = err_from_is_err_and c.from_residual.result c.from_residual.ensures.1 in
     let stops = rw (inv.path, c.in_err-solutions.was) at c.deepen.ensures.delivers in
-    rw p.1 (stops-then c.args.self.now.tables.now c.args.self.now.position.now (c.args.least + 1) c.loop-length.length c.args.last (omega arith) (omega arith) (at_limit g.K.Sink.took c.args.path.now.limit) (at_limit g.K.Sink.refused c.args.path.now.limit) c.args.meter.now c.loop-length.meter c.deepen.new.meter c.loop-length.solutions c.args.sink.now c.loop-length.sink c.deepen.new.sink inv.went stops)
+    rw p.1 (stops-then c.args.self.now.tables.now c.args.self.now.position.now (c.args.least + 1) c.loop-length.length c.args.last (omega arith) (omega arith) inv.went stops)
 
 pub overflow_add-solutions : goal.overflow_add-solutions
 overflow_add-solutions g c =
@@ -36,5 +35,5 @@ loop-length-preserved g c =
     record {
       path = c.deepen.ensures.path ∙ inv.path;
       end = inv.end;
-      went = goes-on c.args.self.now.tables.now c.args.self.now.position.now (c.args.least + 1) c.loop-length.length c.loop-length.length (omega arith) (omega arith) (at_limit g.K.Sink.took c.args.path.now.limit) (at_limit g.K.Sink.refused c.args.path.now.limit) c.args.meter.now c.loop-length.meter c.deepen.new.meter c.loop-length.solutions c.args.sink.now c.loop-length.sink c.deepen.new.sink inv.went c.in_ok-solutions.field-0 went;
+      went = goes-on c.args.self.now.tables.now c.args.self.now.position.now (c.args.least + 1) c.loop-length.length c.loop-length.length (omega arith) (omega arith) inv.went went;
     }

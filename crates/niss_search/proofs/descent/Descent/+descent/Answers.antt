@@ -2,16 +2,13 @@ use Rattle.std.proofs.Common.{arith, ◌≡◌, ◌+◌, ◌-◌, ◌<◌, ◌�
 use Rattle.std.proofs.lemmas.List.Elements.{All-drop}
 use Rattle.std.proofs.lemmas.List.{length-drop, take_rest}
 use Rattle.niss_moves.specs.Canonical.{may_follow, last_turn}
-use Rattle.niss_moves.specs.declared.turn.Face.TheVariants.{U}
-use Rattle.niss_moves.specs.declared.turn.Power.TheVariants.{Quarter}
+use Rattle.niss_search.specs.Names.{U, Quarter, Follower}
 use Rattle.niss_cube.specs.Steps.{turns_of}
 use Rattle.niss_search.specs.Delivery.{at_limit}
-use Rattle.niss_search.specs.Descending.{state_of}
 use Rattle.niss_search.specs.Descent.{looks_beyond}
 use Rattle.niss_search.specs.Followers.{IsFollower}
 use Rattle.niss_search.specs.Path.{Path}
 use Rattle.niss_search.specs.Positions.{distance_at, position_after}
-use Rattle.niss_search.specs.declared.tables.followers.Follower.{Follower}
 use Rattle.niss_search.proofs.DescentLemmas.{found_below-end, looks_below-end, looks_below-one, found_below-listed, looks_beyond-listed, whole-more, turns_in, Descends-take, looks-rest, count-within, GoesThrough-far, looks-next, GoesThrough-next, StopsIn-next}
 use Rattle.niss_search.proofs.descent.Descent.+descent.Goals as goal
 
@@ -47,29 +44,23 @@ pub extend-next_near-requires-clause-meter : goal.extend-next_near-requires-clau
 extend-next_near-requires-clause-meter g t c =
     let step = c.args.tables.now.step in
     let x = g.S.StateSpace.seen c.args.tables.now.space c.args.state in
-    let path = c.args.self.now.path.now in
+    let p = c.args.self.now.path.now.turns in
     let inv = c.loop-index.invariant in
-    let took = at_limit g.K.Sink.took path.limit in
-    let refused = at_limit g.K.Sink.refused path.limit in
-    let all = looks_beyond-listed step x path.turns c.args.left inv.some_left inv.near (filter (may_follow (last_turn path.turns)) (turns_of step)) refl in
-    omega (arith, all, c.requires.meter, looks-rest took refused step x path.turns (c.args.left - 1) inv.done c.loop-index.rest.now inv.whole (state_of c.args.meter c.args.self.now) c.loop-index.meter c.loop-index.self.count c.loop-index.self.sink.now inv.went)
+    let all = looks_beyond-listed step x p c.args.left inv.some_left inv.near (filter (may_follow (last_turn p)) (turns_of step)) refl in
+    omega (arith, all, c.requires.meter, looks-rest step x p (c.args.left - 1) inv.done c.loop-index.rest.now inv.whole inv.went)
 
 pub extend-follow-counted-requires : goal.extend-follow-counted-requires
 extend-follow-counted-requires g t c κs within =
     let step = c.args.tables.now.step in
     let x = g.S.StateSpace.seen c.args.tables.now.space c.args.state in
-    let path = c.args.self.now.path.now in
-    let p = path.turns in
+    let p = c.args.self.now.path.now.turns in
     let inv = c.loop-index.invariant in
-    let took = at_limit g.K.Sink.took path.limit in
-    let refused = at_limit g.K.Sink.refused path.limit in
-    let old = state_of c.args.meter c.args.self.now in
     let rest = c.loop-index.rest.now in
     let next = c.in-Some.ensures.near in
     let turn = (get_or rest c.in-Some.index first).turn in
     let all = looks_beyond-listed step x p c.args.left inv.some_left inv.near (filter (may_follow (last_turn p)) (turns_of step)) refl in
-    let looks = looks-next took refused step x p (c.args.left - 1) inv.done rest inv.whole old c.loop-index.meter c.loop-index.self.count c.loop-index.self.sink.now inv.went c.next_near.new.meter c.in-Some.index next first in
-    let count = count-within took refused step x p (c.args.left - 1) inv.done rest inv.whole old c.loop-index.meter c.loop-index.self.count c.loop-index.self.sink.now inv.went in
+    let looks = looks-next step x p (c.args.left - 1) inv.done rest inv.whole inv.went next first in
+    let count = count-within step x p (c.args.left - 1) inv.done rest inv.whole inv.went in
     let same = sym inv.keeps.path in
     let Room : Path → Type 0 = λ q. length q.turns + 1 + (c.args.left - 1) ≤ q.limit in
     let Metered : Path → Type 0 = λ q. c.next_near.new.meter + looks_beyond step (position_after x turn) (q.turns ++ turn ∷ []) (c.args.left - 1) < 2 ^ 128 in
@@ -79,18 +70,12 @@ pub extend-returns-in-Err-clause-finds : goal.extend-returns-in-Err-clause-finds
 extend-returns-in-Err-clause-finds g t c =
     let step = c.args.tables.now.step in
     let x = g.S.StateSpace.seen c.args.tables.now.space c.args.state in
-    let path = c.args.self.now.path.now in
-    let p = path.turns in
+    let p = c.args.self.now.path.now.turns in
     let inv = c.loop-index.invariant in
-    let took = at_limit g.K.Sink.took path.limit in
-    let refused = at_limit g.K.Sink.refused path.limit in
-    let old = state_of c.args.meter c.args.self.now in
-    let new = state_of c.follow-counted.result.0 c.follow-counted.new.self in
-    let rest = c.loop-index.rest.now in
     let listed = filter (may_follow (last_turn p)) (turns_of step) in
     let stopped = rw (inv.keeps.path, c.after-after.ensures, c.in-Err.is) at c.follow-counted.ensures.finds in
     rw (found_below-listed step x p c.args.left inv.some_left inv.near listed refl, looks_beyond-listed step x p c.args.left inv.some_left inv.near listed refl)
-    (StopsIn-next took refused step x p (c.args.left - 1) inv.done rest inv.whole old c.loop-index.meter c.loop-index.self.count c.loop-index.self.sink.now inv.went c.next_near.new.meter c.in-Some.index c.in-Some.ensures.near first new stopped)
+    (StopsIn-next step x p (c.args.left - 1) inv.done c.loop-index.rest.now inv.whole inv.went c.in-Some.ensures.near first stopped)
 
 pub extend-overflow_add-rest : goal.extend-overflow_add-rest
 extend-overflow_add-rest g t c = omega (arith, c.in-Some.ensures.near.inside, c.loop-index.invariant.few)
@@ -102,21 +87,16 @@ pub extend-loop-index-preserved : goal.extend-loop-index-preserved
 extend-loop-index-preserved g t c =
     let step = c.args.tables.now.step in
     let x = g.S.StateSpace.seen c.args.tables.now.space c.args.state in
-    let path = c.args.self.now.path.now in
-    let p = path.turns in
+    let p = c.args.self.now.path.now.turns in
     let inv = c.loop-index.invariant in
-    let took = at_limit g.K.Sink.took path.limit in
-    let refused = at_limit g.K.Sink.refused path.limit in
-    let old = state_of c.args.meter c.args.self.now in
-    let new = state_of c.follow-counted.result.0 c.follow-counted.new.self in
     let rest = c.loop-index.rest.now in
     let i = c.in-Some.index in
-    let listed = filter (may_follow (last_turn p)) (turns_of step) in
+    let next = c.in-Some.ensures.near in
     let kept = c.follow-counted.ensures.keeps in
     let went = rw (inv.keeps.path, c.after-after.ensures, c.in_default-below.is) at c.follow-counted.ensures.finds in
     rw (take_rest rest (i + 1)) record {
       done = (inv.done ++ turns_in (take i rest)) ++ (get_or rest i first).turn ∷ [];
-      whole = whole-more inv.done listed rest i first c.in-Some.ensures.near.inside inv.whole;
+      whole = whole-more inv.done (filter (may_follow (last_turn p)) (turns_of step)) rest i first next.inside inv.whole;
       columns = All-drop (IsFollower step) (i + 1) rest inv.columns;
       few = omega (arith, inv.few, length-drop (i + 1) rest);
       keeps = record {
@@ -126,18 +106,15 @@ extend-loop-index-preserved g t c =
       };
       some_left = inv.some_left;
       near = inv.near;
-      went = GoesThrough-next took refused step x p (c.args.left - 1) inv.done rest inv.whole old c.loop-index.meter c.loop-index.self.count c.loop-index.self.sink.now inv.went c.next_near.new.meter i c.in-Some.ensures.near first new went;
+      went = GoesThrough-next step x p (c.args.left - 1) inv.done rest inv.whole inv.went next first went;
     }
 
 pub extend-returns-clause-finds : goal.extend-returns-clause-finds
 extend-returns-clause-finds g t c =
     let step = c.args.tables.now.step in
     let x = g.S.StateSpace.seen c.args.tables.now.space c.args.state in
-    let path = c.args.self.now.path.now in
-    let p = path.turns in
+    let p = c.args.self.now.path.now.turns in
     let inv = c.loop-index.invariant in
-    let took = at_limit g.K.Sink.took path.limit in
-    let refused = at_limit g.K.Sink.refused path.limit in
     let listed = filter (may_follow (last_turn p)) (turns_of step) in
     rw (found_below-listed step x p c.args.left inv.some_left inv.near listed refl, looks_beyond-listed step x p c.args.left inv.some_left inv.near listed refl)
-    (GoesThrough-far took refused step x p (c.args.left - 1) inv.done c.loop-index.rest.now inv.whole (state_of c.args.meter c.args.self.now) c.loop-index.meter c.loop-index.self.count c.loop-index.self.sink.now inv.went c.next_near.new.meter c.in_default.ensures.far)
+    (GoesThrough-far step x p (c.args.left - 1) inv.done c.loop-index.rest.now inv.whole inv.went c.in_default.ensures.far)

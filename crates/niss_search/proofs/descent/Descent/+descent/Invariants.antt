@@ -2,7 +2,7 @@ use Rattle.std.proofs.Common.{◌≡◌, ◌+◌, ◌-◌, ◌*◌, ◌<◌, ◌
 use Rattle.std.specs.Prelude.{flat_map}
 use Rattle.niss_search.specs.Followers.{IsFollower}
 use Rattle.niss_cube.specs.Steps.{turns_of}
-use Rattle.niss_moves.specs.declared.turn.Turn.{Turn}
+use Rattle.niss_search.specs.Names.{Turn}
 use Rattle.niss_search.specs.Delivery.{at_limit}
 use Rattle.niss_search.specs.Descending.{Keeps, state_of}
 use Rattle.niss_search.specs.Descent.{GoesThrough}

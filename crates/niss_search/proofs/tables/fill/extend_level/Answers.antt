@@ -8,12 +8,12 @@ use Rattle.niss_search.specs.Entries.{count_for}
 use Rattle.niss_search.specs.Filling.{Alternative, entry_distance, IsFilling, IsExtended}
 use Rattle.niss_search.proofs.Bounds.{turns_of-length}
 use Rattle.niss_search.proofs.EntryLemmas.{count_for-some}
-use Rattle.niss_search.proofs.FillLemmas.{filled-next, filling-at, count-more, count-skip, count-range-le, ticks-le}
+use Rattle.niss_search.proofs.FillLemmas.{filling-start, filled-next, count-more, count-skip, count-range-le, ticks-le}
 use Rattle.niss_search.proofs.tables.fill.extend_level.Goals as goal
 
 -- an entry whose byte isn't the level isn't at it
 away : (alt : Alternative) (level : ℕ) (xs : List ℕ) → IsFilling alt level xs → (k : ℕ) → k < count_for alt.goal → slice_index xs k ≢ level → entry_distance alt k ≢ level
-away alt level xs f k l n e = n (f.near k l (omega arith) ∙ e)
+away alt level xs f k l n e = n ((f.bytes k l).near (omega arith) ∙ e)
 
 -- the entries skipped up to b add no ticks
 skipped : (alt : Alternative) (level : ℕ) (xs : List ℕ) → IsFilling alt level xs → (a b : ℕ) → a ≤ b → b ≤ count_for alt.goal → ((k : ℕ) → a ≤ k → k < b → slice_index xs k ≢ level) → count_by (λ x. entry_distance alt x == level) (range_with_len 0 b) ≡ count_by (λ x. entry_distance alt x == level) (range_with_len 0 a)
@@ -22,6 +22,16 @@ skipped alt level xs f a b l r none =
 
 pub of-row-requires : goal.of-row-requires
 of-row-requires g c = count_for-some (g.M.GoalMoves.alternative c.args.moves.now).goal
+
+pub loop-entry-init : goal.loop-entry-init
+loop-entry-init g c = record {
+  moves = c.of-row.ensures.moves;
+  row = omega (arith, c.of-row.ensures.from);
+  filling = filling-start _ _ _ (omega (arith, c.number-number.ensures)) c.requires.filled;
+  within = omega arith;
+  extended = λ j l. absurd (omega arith);
+  ticks = omega arith;
+}
 
 pub extend-requires-clause-meter : goal.extend-requires-clause-meter
 extend-requires-clause-meter g c =
@@ -47,7 +57,8 @@ loop-entry-preserved g c =
     let least = rw c.number-number.ensures.value at c.in-Some.ensures.least in
     let small : level < 20 = omega (arith, c.number-number.ensures) in
     let in_range : entry < count_for alt.goal = omega (arith, inv.filling.size, found) in
-    let at = filling-at c.entries_turn.ensures alt level small xs inv.filling entry in_range (found.2 ∙ c.number-number.ensures.value) in
+    let byte = found.2 ∙ c.number-number.ensures.value in
+    let at : entry_distance alt entry ≡ level = sym ((inv.filling.bytes entry in_range).met (λ e. absurd (omega arith))) ∙ byte in
     let turns = length (turns_of alt.step) in
     let p = λ (x : ℕ). entry_distance alt x == level in
     let one : cond {A = ℕ} (p entry) 1 0 ≡ 1 = ap (λ b. cond {A = ℕ} b 1 0) (eq-eqb _ _ at) in

@@ -1,14 +1,10 @@
-use Rattle.std.proofs.Common.{arith, ◌≡◌, ◌∙◌, ap, sym, refl, map, filter, take, get_or, length, List, [], ◌∷◌, ◌++◌, true, false, cond}
-use Rattle.std.proofs.lemmas.List.{map-append, append-nil}
-use Rattle.std.proofs.lemmas.List.Elements.{All-append}
+use Rattle.std.proofs.Common.{arith, ◌≡◌, ◌∙◌, ap, sym, refl, map, filter, take, get_or, length, List, [], ◌∷◌, ◌++◌, Bool, true, false, cond}
+use Rattle.std.proofs.lemmas.List.{map_push, append-nil}
+use Rattle.std.proofs.lemmas.List.Elements.{All-push, filter_more}
 use Rattle.niss_moves.specs.Canonical.{may_follow}
-use Rattle.niss_moves.specs.declared.turn.Turn.{Turn}
-use Rattle.niss_moves.specs.declared.turn.Face.TheVariants.{U}
-use Rattle.niss_moves.specs.declared.turn.Power.TheVariants.{Quarter}
+use Rattle.niss_search.specs.Names.{Turn, U, Quarter, Follower}
 use Rattle.niss_search.specs.Followers.{IsFollower}
-use Rattle.niss_search.specs.declared.tables.followers.Follower.{Follower}
 use Rattle.niss_search.proofs.Bounds.{turns_of-length}
-use Rattle.niss_search.proofs.ListLemmas.{filter-more, All-one}
 use Rattle.niss_search.proofs.tables.followers.turns_after.Goals as goal
 use Rattle.niss_search.proofs.tables.followers.turns_after.Goals.{then-allowed, else-allowed}
 
@@ -30,29 +26,28 @@ loop-column-preserved c =
     let d : Turn = record { face = U; power = Quarter } in
     let t = get_or turns i d in
     let may = may_follow c.args.last in
-    let more = filter-more may turns i d c.loop-column-test.true in
+    let more = filter_more may turns i d c.loop-column-test.true in
     let rule : c.allowed.result ≡ may t = c.allowed.ensures.rule in
+    let kept : Bool → List Turn = λ b. filter may (take i turns) ++ cond b (t ∷ []) [] in
     elim c.if-allowed.branch [
       | then-allowed w ↦
           let new : Follower = record { turn = t; column = i } in
           let yes : may t ≡ true = sym rule ∙ w.if-allowed.true in
-          let one : filter may (t ∷ []) ≡ t ∷ [] = ap (λ b. cond b (t ∷ []) []) yes in
           rw w.list-is (rw w.push.ensures.items record {
             items = inv.items;
             few = inv.few;
             end = refl;
-            kept = map-append (λ (f : Follower). f.turn) c.loop-column.list.items (new ∷ []) ∙ ap (λ (ts : List Turn). ts ++ t ∷ []) inv.kept ∙ sym (more ∙ ap (λ (ts : List Turn). filter may (take i turns) ++ ts) one);
-            columns = All-append (IsFollower c.args.step) c.loop-column.list.items (new ∷ []) inv.columns (All-one (IsFollower c.args.step) new (omega (arith, c.loop-column-test.true, ap (length {A = Turn}) inv.items), ap (λ (ts : List Turn). get_or ts i d) (sym inv.items)));
+            kept = map_push (λ (f : Follower). f.turn) c.loop-column.list.items new ∙ ap (λ (ts : List Turn). ts ++ t ∷ []) inv.kept ∙ sym (more ∙ ap kept yes);
+            columns = All-push (IsFollower c.args.step) c.loop-column.list.items new inv.columns (omega (arith, c.loop-column-test.true, ap (length {A = Turn}) inv.items), ap (λ (ts : List Turn). get_or ts i d) (sym inv.items));
             long = omega (arith, inv.long, ap (length {A = Follower}) w.push.ensures.items, w.push.ensures.len);
           })
       | else-allowed w ↦
           let no : may t ≡ false = sym rule ∙ w.if-allowed.false in
-          let none : filter may (t ∷ []) ≡ [] = ap (λ b. cond b (t ∷ []) []) no in
           rw w.list-is record {
             items = inv.items;
             few = inv.few;
             end = refl;
-            kept = inv.kept ∙ sym (more ∙ ap (λ (ts : List Turn). filter may (take i turns) ++ ts) none ∙ append-nil (filter may (take i turns)));
+            kept = inv.kept ∙ sym (more ∙ ap kept no ∙ append-nil (filter may (take i turns)));
             columns = inv.columns;
             long = omega (arith, inv.long);
           }

@@ -1,11 +1,9 @@
 use Rattle.std.proofs.Common.{arith, ◌≡◌, ◌<◌, ◌∙◌, ap, get_or, length, List, below_more, length-set, get_or-set_other, get_or-set_same, refl}
-use Rattle.niss_moves.specs.declared.turn.Turn.{Turn}
-use Rattle.niss_moves.specs.declared.turn.Face.TheVariants.{U}
-use Rattle.niss_moves.specs.declared.turn.Power.TheVariants.{Quarter}
+use Rattle.niss_search.specs.Names.{Turn, U, Quarter}
 use Rattle.niss_cube.specs.NumberAfter.{number_after}
 use Rattle.niss_search.specs.Moves.{turn_at}
 use Rattle.niss_search.proofs.Bounds.{turns_of-length}
-use Rattle.niss_search.proofs.ListLemmas.{get_or-same}
+use Rattle.std.proofs.lemmas.List.{get_or_default}
 use Rattle.niss_search.proofs.tables.move_table.row_of.Goals as goal
 
 pub loop-column-init : goal.loop-column-init
@@ -26,7 +24,7 @@ loop-column-preserved g c =
     let d : Turn = record { face = U; power = Quarter } in
     let within : column < length row = omega (arith, c.loop-column-test.true, inv.few, inv.size) in
     let read : c.next.result ≡ number_after c.args.turn_table.now c.args.axis c.args.number (turn_at c.args.step column) =
-    c.next.ensures.value ∙ ap (number_after c.args.turn_table.now c.args.axis c.args.number) (get_or-same c.turns-turns.result.now column _ d c.loop-column-test.true ∙ ap (λ (ts : List Turn). get_or ts column d) inv.items) in
+    c.next.ensures.value ∙ ap (number_after c.args.turn_table.now c.args.axis c.args.number) (get_or_default c.turns-turns.result.now column _ d c.loop-column-test.true ∙ ap (λ (ts : List Turn). get_or ts column d) inv.items) in
     record {
       items = inv.items;
       few = inv.few;

@@ -5,9 +5,9 @@ use Rattle.niss_search.proofs.tables.pruning_table.PruningTableStateSpace.distan
 
 pub returns : goal.returns
 returns g c =
-    let alt = g.M.GoalMoves.alternative c.args.self.now.moves in
-    let xs = c.args.self.now.distances.items in
-    let seen = g.M.GoalMoves.coordinates c.args.self.now.moves c.args.state in
-    get_or_read xs _ _ (omega (arith, c.entry.ensures.number, c.entry.ensures.entry.0, c.requires.size)) c.index.ensures 0
+    let moves = c.self.inside.moves in
+    let xs = c.self.inside.distances.items in
+    rw (← c.self.view_is)
+    (get_or_read xs _ _ (omega (arith, c.entry.ensures.number, c.entry.ensures.entry.0, c.self.invariant.size)) c.index.ensures 0
     ∙ ap (slice_index xs) c.entry.ensures.number
-    ∙ table-answer alt xs c.requires seen c.entry.ensures.entry
+    ∙ table-answer (g.M.GoalMoves.alternative moves) xs c.self.invariant (g.M.GoalMoves.coordinates moves c.args.state) c.entry.ensures.entry)

@@ -1,7 +1,7 @@
-use Rattle.std.proofs.Common.{refl}
-use Rattle.niss_search.proofs.LookLemmas.{distance_at-either}
+use Rattle.std.proofs.Common.{sym}
+use Rattle.niss_search.proofs.LookLemmas.{distance_at-least}
 use Rattle.niss_search.proofs.tables.state_space.EitherStateSpace.distance.Goals as goal
 
 pub returns : goal.returns
 returns g c =
-    rw (c.min.ensures, c.distance.ensures, c.distance-2.ensures, c.requires.0, distance_at-either (g.S.StateSpace.step c.args.self.now.first) (g.S.StateSpace.seen c.args.self.now.first c.args.state.0) (g.T.StateSpace.seen c.args.self.now.second c.args.state.1)) refl
+    rw (← c.self.view_is, c.min.ensures, c.distance.ensures, c.distance-2.ensures, c.self.invariant) (sym (distance_at-least _ _ _))

@@ -1,0 +1,15 @@
+-- The types that the crate speaks of and their values, so that other files take them by one line.
+pub use Rattle.niss_moves.specs.declared.axis.Axis.{Axis}
+pub use Rattle.niss_moves.specs.declared.axis.Axis.TheVariants.{Fb}
+pub use Rattle.niss_moves.specs.declared.turn.Face.{Face}
+pub use Rattle.niss_moves.specs.declared.turn.Face.TheVariants.{U, D, R, L, F, B}
+pub use Rattle.niss_moves.specs.declared.turn.Power.{Power}
+pub use Rattle.niss_moves.specs.declared.turn.Power.TheVariants.{Quarter}
+pub use Rattle.niss_moves.specs.declared.turn.Turn.{Turn}
+pub use Rattle.niss_cube.specs.declared.cube.coordinate.Coordinate.{Coordinate}
+pub use Rattle.niss_cube.specs.declared.step.Goal.{Goal}
+pub use Rattle.niss_cube.specs.declared.step.Goal.TheVariants.{Edges, Domino}
+pub use Rattle.niss_cube.specs.declared.step.Step.{Step}
+pub use Rattle.niss_search.specs.declared.tables.position.Coordinates.{Coordinates}
+pub use Rattle.niss_search.specs.declared.tables.position.Coordinates.TheVariants.{Flip, TwistAndSlice}
+pub use Rattle.niss_search.specs.declared.tables.followers.Follower.{Follower}
