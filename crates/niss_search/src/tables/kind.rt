@@ -46,9 +46,10 @@ impl<A: Allocator + Copy> Kind<A> {
     {
         match *step.goals() {
             [Goal::Edges(axis)] => Ok(Kind::Edges(edges(alloc, step, axis, meter)?)),
-            [Goal::Edges(first), Goal::Edges(second), Goal::Edges(third)] => Ok(Kind::AnyEdges(
-                any_edges(alloc, step, first, second, third, meter)?,
-            )),
+            [Goal::Edges(first), Goal::Edges(second), Goal::Edges(third)] => {
+                let axes = (first, second, third);
+                Ok(Kind::AnyEdges(any_edges(alloc, step, axes, meter)?))
+            }
             [Goal::Domino { edges, axis }] => {
                 Ok(Kind::Domino(domino(alloc, step, (edges, axis), meter)?))
             }
@@ -90,21 +91,19 @@ fn edges<A: Allocator + Copy>(
 fn any_edges<A: Allocator + Copy>(
     alloc: A,
     step: Step,
-    first: Axis,
-    second: Axis,
-    third: Axis,
+    axes: (Axis, Axis, Axis),
     meter: &mut Meter,
 ) -> Result<SearchTables<AnyEdgeSpace<A>>, OutOfMemory>
-    requires goals { goals_of step ≡ goals.Edges first ∷ goals.Edges second ∷ goals.Edges third ∷ [] }
+    requires goals { goals_of step ≡ goals.Edges axes.0 ∷ goals.Edges axes.1 ∷ goals.Edges axes.2 ∷ [] }
     requires meter { meter.old ≤ 2 ^ 127 }
     ensures step { IfOk result (λ tables. tables.step ≡ step) }
     ensures ticks { OnOk result (meter.new ≡ meter.old + fill_ticks step) }
     ensures refused { OnErr result (meter.new ≡ meter.old) }
 {
     let flips = TurnTable::build_in(alloc, Coordinate::Flip)?;
-    let first = edge_table(alloc, step, first, &flips)?;
-    let second = edge_table(alloc, step, second, &flips)?;
-    let third = edge_table(alloc, step, third, &flips)?;
+    let first = edge_table(alloc, step, axes.0, &flips)?;
+    let second = edge_table(alloc, step, axes.1, &flips)?;
+    let third = edge_table(alloc, step, axes.2, &flips)?;
     drop(flips);
     let others = Either::of(second.fill(meter), third.fill(meter));
     Ok(SearchTables::of(step, Either::of(first.fill(meter), others)))
