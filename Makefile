@@ -20,7 +20,7 @@ INSTALLED := \
 all: build/nissy
 
 build/nissy: $(SOURCES)
-	@echo "Proving and building. The first time this takes about ten minutes on two cores; later, seconds."
+	@echo "Proving and building. The first time this takes five to ten minutes on two cores; later, seconds."
 	cd crates/nissy && rt run -- invert "" > /dev/null
 	mkdir -p build
 	cp crates/nissy/out/nissy build/nissy
