@@ -1,5 +1,5 @@
 -- A turn that is none of a step's brings each cube on which the step may start to one on which it may not.
-use Rattle.std.proofs.Common.{◌≡◌, refl, ap, ◌∙◌, sym, Bool, true, not, ◌||◌, List, Option, None, Some}
+use Rattle.std.proofs.Common.{◌≡◌, refl, ap, ◌∙◌, sym, Bool, true, not, ◌||◌, Option, None, Some}
 use Rattle.std.specs.Prelude.{Contains, IsTrue}
 use Rattle.std.proofs.lemmas.Map.Views.{Contains-from_any}
 use Rattle.niss_moves.specs.Effects.{turned}
