@@ -11,7 +11,8 @@ use Rattle.niss_cube.specs.Renamings.{face_by, renamed_by}
 use Rattle.niss_cube.proofs.CubieLists.{CubieLists, Valid, map_lists}
 use Rattle.niss_cube.proofs.CubieKinds.{map_place}
 use Rattle.niss_cube.proofs.Each.{at_place}
-use Rattle.niss_cube.proofs.RenamedCubies.{rotated, rotated_back, renamed_by-is, all_renamings, at_renaming, keeps_kinds, renamed_cubies, renamed_cubies-valid, renamed_lists-map}
+use Rattle.niss_cube.proofs.RenamedCubies.{rotated, rotated_back, renamed_by-is, all_renamings, at_renaming}
+use Rattle.niss_cube.proofs.RenamedCubies.{keeps_kinds, renamed_cubies, renamed_cubies-valid, renamed_lists-map}
 use Rattle.niss_cube.proofs.Logic.{and_left, and_right}
 use Rattle.niss_moves.proofs.CallerLemmas.{same_place_is, every_turn, every_face, every_power, at_turn}
 

@@ -17,7 +17,8 @@ use Rattle.niss_cube.proofs.FiniteTests.{at_below}
 use Rattle.niss_cube.proofs.ShownCubies.{turns_shown, slice_shown}
 use Rattle.niss_cube.proofs.CoordinateValues.{slice-below, slice_occupied, slice_occupied-filled}
 use Rattle.niss_cube.proofs.TurnedCubies.{turned_lists}
-use Rattle.niss_cube.proofs.Orientations.{AreOriented, base_2, base_3, orientations_of_number-are, orientations_of_number-number, oriented-below, oriented-same}
+use Rattle.niss_cube.proofs.Orientations.{AreOriented, base_2, base_3, orientations_of_number-are}
+use Rattle.niss_cube.proofs.Orientations.{orientations_of_number-number, oriented-below, oriented-same}
 use Rattle.niss_cube.proofs.SliceCodes.{ArePlaced, of_number-placed, of_number-rank, turned-occupied, occupied-same}
 
 edges_home-are : ArePlaced edges_home

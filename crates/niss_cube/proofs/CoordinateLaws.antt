@@ -17,7 +17,8 @@ use Rattle.niss_cube.proofs.Each.{at_place}
 use Rattle.niss_cube.proofs.CubieKinds.{map_place}
 use Rattle.niss_cube.proofs.SetPlaces.{kept_same}
 use Rattle.niss_cube.proofs.TurnedCubies.{turned_lists, turned-valid, turned-map}
-use Rattle.niss_cube.proofs.Codes.{code, number_of-code, code-below, cubies_with, cubies_with-valid, cubies_with-code, number_after-is, code-turned, unrenamed}
+use Rattle.niss_cube.proofs.Codes.{code, number_of-code, code-below, cubies_with, cubies_with-valid}
+use Rattle.niss_cube.proofs.Codes.{cubies_with-code, number_after-is, code-turned, unrenamed}
 use Rattle.niss_cube.proofs.KeptSets.{cubies_for, renaming, sets_are_places, zero-kept}
 use Rattle.niss_moves.proofs.CallerLemmas.{same_place_is, every_turn, every_face, every_power, at_turn}
 

@@ -1,6 +1,6 @@
 -- Corners and edges as two kinds of cubies: what holds of both, and where the map of cubies brings their facelets.
-use Rattle.std.proofs.Common.{◌≡◌, ℕ, ◌+◌, ◌-◌, ◌%◌, ◌<◌, refl, sym, ◌∙◌, ap, List, length, get_or, Bool, true, false, ◌&&◌, ◌||◌, not, arith, inl, inr}
-use Rattle.std.specs.Prelude.{◌==◌, ◌⊎◌, nat_lt, sum}
+use Rattle.std.proofs.Common.{refl, sym, ◌∙◌, ap, arith, inl, inr}
+use Rattle.std.specs.Prelude.{◌≡◌, ℕ, ◌+◌, ◌-◌, ◌%◌, ◌<◌, List, length, get_or, Bool, true, false, ◌&&◌, ◌||◌, not, ◌==◌, ◌⊎◌, nat_lt, sum}
 use Rattle.std.specs.List.{list_all, list_any}
 use Rattle.std.proofs.lemmas.Bool.{eqb-true, ltb-true}
 use Rattle.niss_moves.specs.Places.{Place, same_place, is_place, is_corner, is_edge, SameMap}

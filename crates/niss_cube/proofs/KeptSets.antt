@@ -1,6 +1,7 @@
 -- How a coordinate on an axis is renamed, and that it is 0 exactly where its set of places is kept.
-use Rattle.std.proofs.Common.{◌≡◌, ℕ, ◌+◌, ◌-◌, ◌%◌, ◌<◌, refl, sym, ◌∙◌, ap, List, [], ◌∷◌, get_or, Option, None, Some, Bool, true, false, ◌&&◌, not, arith, inl, inr}
-use Rattle.std.specs.Prelude.{◌==◌, ◌↔◌, nat_le}
+use Rattle.std.proofs.Common.{refl, sym, ◌∙◌, ap, arith, inl, inr}
+use Rattle.std.specs.Prelude.{◌≡◌, ℕ, ◌+◌, ◌-◌, ◌%◌, ◌<◌, List, [], ◌∷◌, get_or}
+use Rattle.std.specs.Prelude.{Option, None, Some, Bool, true, false, ◌&&◌, not, ◌==◌, ◌↔◌, nat_le}
 use Rattle.std.specs.List.{list_all}
 use Rattle.std.proofs.lemmas.Bool.{eqb-true, false_from_ne_true}
 use Rattle.std.proofs.lemmas.Bool.Decides.{eqb_tells}
@@ -14,7 +15,8 @@ use Rattle.niss_cube.specs.Coordinates.{rank, number_of, renaming_for, renamed_f
 use Rattle.niss_cube.specs.Cubies.{flips_home, twists_home}
 use Rattle.niss_cube.specs.Sets.{Kept, SetsArePlaces, is_kept, flip_set, twist_set, slice_set, set_of}
 use Rattle.niss_cube.proofs.CubieLists.{CubieLists, Valid, map_lists}
-use Rattle.niss_cube.proofs.CubieKinds.{Kind, Corners, Edges, count, facelets, at, is_of, home_at, turn_at, place_of, stand, stands, stands-at, low, some_facelet, kind_place, Located, located, shown_at, map_place}
+use Rattle.niss_cube.proofs.CubieKinds.{Kind, Corners, Edges, count, facelets, at, is_of, home_at, turn_at, place_of}
+use Rattle.niss_cube.proofs.CubieKinds.{stand, stands, stands-at, low, some_facelet, kind_place, Located, located, shown_at, map_place}
 use Rattle.niss_cube.proofs.Each.{at_place}
 use Rattle.niss_cube.proofs.FiniteTests.{all_below, at_below}
 use Rattle.niss_cube.proofs.Sums.{one_if, below_permuted, below_all_same, one_if-at_most, eqb-itself}

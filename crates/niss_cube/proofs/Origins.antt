@@ -7,7 +7,8 @@ use Rattle.niss_moves.specs.Places.{Place, same_place, is_place, is_corner, is_e
 use Rattle.niss_moves.specs.Facelets.{places}
 use Rattle.niss_moves.specs.Letters.{letter_of, letter_at}
 use Rattle.niss_cube.proofs.CubieLists.{CubieLists, Valid, map_lists}
-use Rattle.niss_cube.proofs.CubieKinds.{Kind, count, facelets, at, home_at, turn_at, stand, kind_place, facelet_kind, origin, centre_stays, one_to_one}
+use Rattle.niss_cube.proofs.CubieKinds.{Kind, count, facelets, at, home_at, turn_at}
+use Rattle.niss_cube.proofs.CubieKinds.{stand, kind_place, facelet_kind, origin, centre_stays, one_to_one}
 use Rattle.niss_cube.proofs.Each.{listed}
 use Rattle.niss_cube.proofs.Logic.{and_left, and_right}
 use Rattle.niss_moves.proofs.CallerLemmas.{same_place_is, same_place_of, all_places}

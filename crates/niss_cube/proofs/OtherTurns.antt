@@ -1,7 +1,6 @@
 -- A turn that is none of a step's brings each cube on which the step may start to one on which it may not.
-use Rattle.std.proofs.Common.{◌≡◌, refl, ap, ◌∙◌, sym, Bool, true, not, ◌||◌, List, Option, None, Some}
+use Rattle.std.proofs.Common.{◌≡◌, refl, ap, ◌∙◌, sym, Bool, true, not, ◌||◌, Option, None, Some}
 use Rattle.std.specs.Prelude.{Contains, IsTrue}
-use Rattle.std.specs.List.{list_any}
 use Rattle.std.proofs.lemmas.Map.Views.{Contains-from_any}
 use Rattle.niss_moves.specs.Effects.{turned}
 use Rattle.niss_cube.specs.Names.{Axis, Ud, Rl, Fb, Turn, Cube, Flip}
@@ -14,12 +13,9 @@ use Rattle.niss_cube.proofs.KeptSets.{sets_are_places}
 use Rattle.niss_cube.proofs.KeptTests.{implied, kept-tested}
 use Rattle.niss_cube.proofs.Permutations.{cubes_permute_places, kept_is_equal}
 use Rattle.niss_cube.proofs.StepMaps.{starts}
-use Rattle.niss_cube.proofs.StepTurns.{turns_from, same_turn, same_turn-is}
+use Rattle.niss_cube.proofs.StepTurns.{turns_from, same_turn-is, is_among}
 
 -- a turn that keeps the flip set of an axis is one of those from it, and each turn is one of those from anywhere
-
-abbrev is_among : List Turn → Turn → Bool
-is_among ts t = list_any (same_turn t) ts
 
 abbrev kept_by_its_turns : Axis → Turn → Bool
 kept_by_its_turns a t = not (is_kept (flip_set a) (turned t)) || is_among (turns_from (Some a)) t

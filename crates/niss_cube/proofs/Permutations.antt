@@ -12,7 +12,8 @@ use Rattle.niss_cube.specs.Sets.{Kept}
 use Rattle.niss_cube.specs.Permutations.{PermutesPlaces, CubesPermutePlaces, KeptIsEqual}
 use Rattle.niss_cube.proofs.CoordinateLaws.{lists_of}
 use Rattle.niss_cube.proofs.CubieLists.{CubieLists, Valid, map_lists}
-use Rattle.niss_cube.proofs.CubieKinds.{Kind, facelets, at, home_at, turn_at, Stand, stand, low, rewound, kind_of, kind_place, facelet_kind, Located, located, origin, centre_stays, map_place, one_to_one}
+use Rattle.niss_cube.proofs.CubieKinds.{Kind, facelets, at, home_at, turn_at, Stand, stand, low, rewound, kind_of, kind_place}
+use Rattle.niss_cube.proofs.CubieKinds.{facelet_kind, Located, located, origin, centre_stays, map_place, one_to_one}
 use Rattle.niss_cube.proofs.Each.{at_place}
 use Rattle.niss_cube.proofs.FiniteTests.{all_below, at_below}
 use Rattle.niss_cube.proofs.Sums.{below, below_same, below_permuted, eqb-other, one_if, one_of, below_all_same, one_if-at_most}

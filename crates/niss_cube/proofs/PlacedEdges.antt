@@ -1,5 +1,6 @@
 -- The steps of the loop that places the edges of a slice.
-use Rattle.std.proofs.Common.{◌≡◌, ℕ, suc, ◌+◌, ◌-◌, ◌<◌, refl, sym, ◌∙◌, ap, subst, List, ◌∷◌, ◌++◌, length, get_or, set, take, drop, reverse, Bool, true, false, arith}
+use Rattle.std.proofs.Common.{refl, sym, ◌∙◌, ap, subst, arith}
+use Rattle.std.specs.Prelude.{◌≡◌, ℕ, suc, ◌+◌, ◌-◌, ◌<◌, List, ◌∷◌, ◌++◌, length, get_or, set, take, drop, reverse, Bool, true, false}
 use Rattle.std.proofs.lemmas.List.{length-set, get_or-reverse}
 use Rattle.std.proofs.Math.Seq.{drop-cons, drop-length}
 use Rattle.niss_cube.specs.NumberedCubies.{edges_at}

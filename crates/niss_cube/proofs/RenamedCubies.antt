@@ -9,7 +9,8 @@ use Rattle.niss_cube.specs.Names.{Rl, Ud, Fb, Renaming, XCounter, XQuarter, YQua
 use Rattle.niss_cube.specs.declared.renaming.RenamingTable.{RenamingTable}
 use Rattle.niss_cube.specs.Renamings.{spun, renaming_table, renamed_by, renamed_home, renamed_orientation}
 use Rattle.niss_cube.proofs.CubieLists.{CubieLists, Valid, map_lists, tabulated, tabulated-length, tabulated-at}
-use Rattle.niss_cube.proofs.CubieKinds.{Kind, Corners, Edges, count, facelets, at, home_at, turn_at, homes, turns, place_of, Stand, stand, standing-valid, stands, low, kind_of, Located, located, map_at, centre_stays}
+use Rattle.niss_cube.proofs.CubieKinds.{Kind, Corners, Edges, count, facelets, at, home_at, turn_at, homes, turns, place_of, Stand}
+use Rattle.niss_cube.proofs.CubieKinds.{stand, standing-valid, stands, low, kind_of, Located, located, map_at, centre_stays}
 use Rattle.niss_cube.proofs.Each.{at_place}
 use Rattle.niss_cube.proofs.FiniteTests.{all_below, at_below}
 use Rattle.niss_cube.proofs.Once.{place_in-is}

@@ -1,6 +1,6 @@
 -- The flips and twists that a cube's map shows are those of its cubies.
-use Rattle.std.proofs.Common.{◌≡◌, ℕ, zero, suc, ◌<◌, refl, sym, ◌∙◌, ap, List, [], ◌∷◌, length, get_or, map, drop, Bool, true, false, ◌&&◌, arith, inl, inr}
-use Rattle.std.specs.Prelude.{◌==◌, nat_le}
+use Rattle.std.proofs.Common.{refl, sym, ◌∙◌, ap, arith, inl, inr}
+use Rattle.std.specs.Prelude.{◌≡◌, ℕ, zero, suc, ◌<◌, List, [], ◌∷◌, length, get_or, map, drop, Bool, true, false, ◌&&◌, ◌==◌, nat_le}
 use Rattle.std.specs.List.{list_any, range_with_len}
 use Rattle.std.proofs.lemmas.Bool.{eqb-true, eq-eqb}
 use Rattle.std.proofs.lemmas.Bool.Decides.{eqb_tells}
@@ -13,7 +13,8 @@ use Rattle.niss_moves.specs.Facelets.{facelet}
 use Rattle.niss_cube.specs.CubieFacelets.{index_in, row_at, edge_facelets}
 use Rattle.niss_cube.specs.Coordinates.{firsts, brings, orientations, occupied}
 use Rattle.niss_cube.proofs.CubieLists.{CubieLists, Valid, map_lists}
-use Rattle.niss_cube.proofs.CubieKinds.{Kind, Corners, Edges, count, facelets, rows, at, home_at, turn_at, turns, place_of, stand, stands, stands-at, unturned, some_facelet, same_facelet, shown_at}
+use Rattle.niss_cube.proofs.CubieKinds.{Kind, Corners, Edges, count, facelets, rows, at, home_at, turn_at, turns, place_of}
+use Rattle.niss_cube.proofs.CubieKinds.{stand, stands, stands-at, unturned, some_facelet, same_facelet, shown_at}
 use Rattle.niss_cube.proofs.FiniteTests.{all_below, at_below}
 use Rattle.niss_cube.proofs.Sums.{eqb-itself, eqb-other}
 use Rattle.niss_cube.proofs.Logic.{and_left, and_right, and_both, same_truth}

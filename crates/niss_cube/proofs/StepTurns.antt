@@ -69,8 +69,11 @@ same_turn-is t u h =
     let p : t.power ≡ u.power = same_power_is t.power u.power (and_right (same_face t.face u.face) _ h) in
     λ i. record { face = f i; power = p i }
 
+abbrev pub is_among : List Turn → Turn → Bool
+is_among ts t = list_any (same_turn t) ts
+
 abbrev has_inverse : List Turn → Turn → Bool
-has_inverse ts t = list_any (same_turn (inverse_turn t)) ts
+has_inverse ts t = is_among ts (inverse_turn t)
 
 all_have_inverses : (start : Option Axis) → list_all (has_inverse (turns_from start)) (turns_from start) ≡ true
 all_have_inverses None = refl

@@ -1,6 +1,6 @@
 -- Cubies that are brought to their places by the table of a turn are cubies, with the turned map.
-use Rattle.std.proofs.Common.{◌≡◌, ℕ, zero, suc, ◌+◌, ◌%◌, ◌<◌, refl, sym, ◌∙◌, ap, subst, length, get_or, Bool, true, false, ◌&&◌, ◌||◌, arith, inl, inr}
-use Rattle.std.specs.Prelude.{◌==◌, nat_lt, sum}
+use Rattle.std.proofs.Common.{refl, sym, ◌∙◌, ap, subst, arith, inl, inr}
+use Rattle.std.specs.Prelude.{◌≡◌, ℕ, zero, suc, ◌+◌, ◌%◌, ◌<◌, length, get_or, Bool, true, false, ◌&&◌, ◌||◌, ◌==◌, nat_lt, sum}
 use Rattle.std.specs.List.{list_all}
 use Rattle.std.proofs.lemmas.Bool.{eqb-true, ltb-true}
 use Rattle.niss_moves.specs.Places.{Place, same_place, is_place, is_corner, is_edge, SameMap}
@@ -10,7 +10,8 @@ use Rattle.niss_cube.specs.Names.{Turn}
 use Rattle.niss_cube.specs.CubieTurns.{turn_table}
 use Rattle.niss_cube.specs.declared.cubie_turns.CubieTurn.{CubieTurn}
 use Rattle.niss_cube.proofs.CubieLists.{CubieLists, Valid, map_lists, tabulated, tabulated-length, tabulated-at, brought, brought_turned}
-use Rattle.niss_cube.proofs.CubieKinds.{Kind, Corners, Edges, count, facelets, at, home_at, turn_at, homes, turns, place_of, Stand, stand, standing-valid, stands, low, kind_of, Located, located, map_at, centre_stays}
+use Rattle.niss_cube.proofs.CubieKinds.{Kind, Corners, Edges, count, facelets, at, home_at, turn_at, homes, turns, place_of, Stand}
+use Rattle.niss_cube.proofs.CubieKinds.{stand, standing-valid, stands, low, kind_of, Located, located, map_at, centre_stays}
 use Rattle.niss_cube.proofs.Each.{at_place}
 use Rattle.niss_cube.proofs.FiniteTests.{all_below, at_below}
 use Rattle.niss_cube.proofs.Once.{place_in-is}

@@ -1,9 +1,11 @@
 -- The coordinates of a map of the sticker places, in the order of the cubies.
-use Rattle.std.specs.Prelude.{ℕ, zero, suc, ◌+◌, ◌*◌, Option, None, Some, Bool, true, false, List, [], ◌∷◌, map, take, drop, fold, reverse, length}
+use Rattle.std.specs.Prelude.{ℕ, zero, suc, ◌+◌, ◌*◌, Option, None, Some, Bool, true, false}
+use Rattle.std.specs.Prelude.{List, [], ◌∷◌, map, take, drop, fold, reverse, length}
 use Rattle.std.specs.List.{list_any}
 use Rattle.niss_moves.specs.Places.{Place, same_place}
 use Rattle.niss_moves.specs.Rotations.{renamed_turn}
-use Rattle.niss_cube.specs.Names.{Axis, Ud, Rl, Fb, Face, Turn, Coordinate, Flip, Twist, Slice, Renaming, XCounter, XQuarter, YQuarter, ZCounter}
+use Rattle.niss_cube.specs.Names.{Axis, Ud, Rl, Fb, Face, Turn, Coordinate, Flip, Twist, Slice}
+use Rattle.niss_cube.specs.Names.{Renaming, XCounter, XQuarter, YQuarter, ZCounter}
 use Rattle.niss_cube.specs.CubieFacelets.{index_in, corner_facelets, edge_facelets}
 use Rattle.niss_cube.specs.Renamings.{renamed_if, face_if}
 

@@ -1,7 +1,9 @@
 -- The turns of the faces by their tables.
 use Rattle.niss_cube.specs.Names.{Face, U, D, R, L, F, B, Power, Quarter, Half, Counter}
 use Rattle.niss_cube.specs.declared.cubie_turns.CubieTurn.{CubieTurn}
-use Rattle.niss_cube.specs.declared.cubie_turns.TheConstants.{UP, DOWN, RIGHT, LEFT, FRONT, BACK, UP_HALF, DOWN_HALF, RIGHT_HALF, LEFT_HALF, FRONT_HALF, BACK_HALF, UP_COUNTER, DOWN_COUNTER, RIGHT_COUNTER, LEFT_COUNTER, FRONT_COUNTER, BACK_COUNTER}
+use Rattle.niss_cube.specs.declared.cubie_turns.TheConstants.{UP, UP_HALF, UP_COUNTER, DOWN, DOWN_HALF, DOWN_COUNTER}
+use Rattle.niss_cube.specs.declared.cubie_turns.TheConstants.{RIGHT, RIGHT_HALF, RIGHT_COUNTER, LEFT, LEFT_HALF, LEFT_COUNTER}
+use Rattle.niss_cube.specs.declared.cubie_turns.TheConstants.{FRONT, FRONT_HALF, FRONT_COUNTER, BACK, BACK_HALF, BACK_COUNTER}
 
 abbrev pub quarter_table : Face → CubieTurn
 quarter_table U = UP

@@ -13,6 +13,7 @@ pub use Rattle.niss_cube.specs.declared.cube.coordinate.Coordinate.TheVariants.{
 pub use Rattle.niss_cube.specs.declared.renaming.Renaming.{Renaming}
 pub use Rattle.niss_cube.specs.declared.renaming.Renaming.TheVariants.{XCounter, XQuarter, YQuarter, ZCounter}
 pub use Rattle.niss_cube.specs.declared.step.Step.{Step}
-pub use Rattle.niss_cube.specs.declared.step.Step.TheVariants.{Eofb, Eorl, Eoud, DrudEofb, DrrlEofb, DrudEorl, DrfbEorl, DrrlEoud, DrfbEoud, Eo, DrEofb, DrEorl, DrEoud}
+pub use Rattle.niss_cube.specs.declared.step.Step.TheVariants.{Eofb, Eorl, Eoud, DrudEofb, DrrlEofb, DrudEorl, DrfbEorl, DrrlEoud, DrfbEoud}
+pub use Rattle.niss_cube.specs.declared.step.Step.TheVariants.{Eo, DrEofb, DrEorl, DrEoud}
 pub use Rattle.niss_cube.specs.declared.step.Goal.{Goal}
 pub use Rattle.niss_cube.specs.declared.step.Goal.TheVariants.{Edges, Domino}

@@ -5,7 +5,9 @@ use Rattle.std.specs.Option.{option_map, option_map_or}
 use Rattle.niss_moves.specs.Places.{Place}
 use Rattle.niss_moves.specs.Turn.{same_face}
 use Rattle.niss_moves.specs.Canonical.{face_order, powers}
-use Rattle.niss_cube.specs.Names.{Axis, Ud, Rl, Fb, Face, U, D, R, L, F, B, Power, Half, Turn, Goal, Edges, Domino, Step, Eofb, Eorl, Eoud, DrudEofb, DrrlEofb, DrudEorl, DrfbEorl, DrrlEoud, DrfbEoud, Eo, DrEofb, DrEorl, DrEoud}
+use Rattle.niss_cube.specs.Names.{Axis, Ud, Rl, Fb, Face, U, D, R, L, F, B, Power, Half, Turn, Goal, Edges, Domino}
+use Rattle.niss_cube.specs.Names.{Step, Eofb, Eorl, Eoud, DrudEofb, DrrlEofb, DrudEorl, DrfbEorl, DrrlEoud, DrfbEoud}
+use Rattle.niss_cube.specs.Names.{Eo, DrEofb, DrEorl, DrEoud}
 use Rattle.niss_cube.specs.Sets.{flip_set, twist_set, slice_set, is_kept, Kept}
 
 -- all steps, in the order in which they are listed

@@ -88,8 +88,8 @@ impl Cube {
         ensures { SameMap (map_of result) (renamed_by renaming (map_of self.now)) }
     {
         let table = renaming.table();
-        let (corners, twists) = table.corners.renamed(3, &self.corners, &self.twists);
-        let (edges, flips) = table.edges.renamed(2, &self.edges, &self.flips);
+        let (corners, twists) = table.corners.renamed(&self.corners, &self.twists);
+        let (edges, flips) = table.edges.renamed(&self.edges, &self.flips);
         Cube {
             corners,
             twists,

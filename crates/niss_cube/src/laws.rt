@@ -4,7 +4,8 @@
 ghost use Rattle.niss_cube.specs.AfterTurn.{TurnedIsCube, AreCoordinates};
 ghost use Rattle.niss_cube.specs.Sets.{KeptIsTested, SetsArePlaces};
 ghost use Rattle.niss_cube.specs.Permutations.{CubesPermutePlaces, KeptIsEqual};
-ghost use Rattle.niss_cube.specs.StepLaws.{StartIsKept, OtherTurnsLeaveStart, StepsSeePlaces, InversesOfSteps, StepTurnsInOrder, StepTurnsAreCounted, DominoKeepsStart};
+ghost use Rattle.niss_cube.specs.StepLaws.{StartIsKept, OtherTurnsLeaveStart, StepsSeePlaces, InversesOfSteps};
+ghost use Rattle.niss_cube.specs.StepLaws.{StepTurnsInOrder, StepTurnsAreCounted, DominoKeepsStart};
 
 /// A turned cube is a cube.
 pub fn turned_is_cube()

@@ -6,7 +6,7 @@ use niss_moves::{Face, Power, Rotation};
 
 /// The places of one kind of cubies under a rotation of the whole cube that renames them.
 #[derive(Clone, Copy)]
-pub struct RenamedPlaces<const PLACES: usize> {
+pub struct RenamedPlaces<const PLACES: usize, const FACELETS: u8> {
     /// The original place of each renamed one.
     pub from: [u8; PLACES],
     /// The renamed place of each original one.
@@ -15,34 +15,33 @@ pub struct RenamedPlaces<const PLACES: usize> {
     pub inward: [u8; PLACES],
 }
 
-impl<const PLACES: usize> RenamedPlaces<PLACES> {
+impl<const PLACES: usize, const FACELETS: u8> RenamedPlaces<PLACES, FACELETS> {
     /// The renamed cubies by place: which stand there, and how they are twisted or flipped.
     pub fn renamed(
         &self,
-        facelets: u8,
         homes: &[u8; PLACES],
         orientations: &[u8; PLACES],
     ) -> ([u8; PLACES], [u8; PLACES])
         requires from_range { EachIndex self.now.from (λ k. slice_index self.now.from k < PLACES) }
-        requires in_range { EachIndex self.now.inward (λ k. slice_index self.now.inward k < facelets) }
-        requires facelets { facelets ≤ 3 }
+        requires in_range { EachIndex self.now.inward (λ k. slice_index self.now.inward k < FACELETS) }
+        requires facelets { FACELETS ≤ 3 }
         requires home_range { EachIndex homes.now (λ k. slice_index homes.now k < PLACES) }
         requires orientation_range { EachIndex orientations.now (λ k.
-            slice_index orientations.now k < facelets) }
+            slice_index orientations.now k < FACELETS) }
         ensures homes { EachIndex result.0 (λ k. slice_index result.0 k
             ≡ renamed_home self.now.from self.now.to homes.now k) }
         ensures orientations { EachIndex result.1 (λ k. slice_index result.1 k
-            ≡ renamed_orientation facelets self.now.from self.now.inward homes.now orientations.now k) }
+            ≡ renamed_orientation FACELETS self.now.from self.now.inward homes.now orientations.now k) }
     {
         let (mut new_homes, mut new_orientations) = ([0; PLACES], [0; PLACES]);
         for place in 0..PLACES {
             let old_place = self.from[place] as usize;
             let home = homes[old_place] as usize;
             // The original first facelet of the place, seen from the renamed one.
-            let outward = facelets - self.inward[old_place];
+            let outward = FACELETS - self.inward[old_place];
             new_homes[place] = self.to[home];
             new_orientations[place] = (self.inward[home] + orientations[old_place] + outward)
-                % facelets;
+                % FACELETS;
         }
         (new_homes, new_orientations)
     }
@@ -51,8 +50,8 @@ impl<const PLACES: usize> RenamedPlaces<PLACES> {
 /// A rotation of the whole cube that renames the places, by tables.
 #[derive(Clone, Copy)]
 pub struct RenamingTable {
-    pub corners: RenamedPlaces<8>,
-    pub edges: RenamedPlaces<12>,
+    pub corners: RenamedPlaces<8, 3>,
+    pub edges: RenamedPlaces<12, 2>,
 }
 
 /// The original place of each renamed corner place, by `x`.

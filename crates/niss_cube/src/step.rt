@@ -3,7 +3,8 @@ ghost use Rattle.std.specs.Prelude.{◌≡◌, ◌↔◌, IsTrue, ◌≢◌, IfS
 ghost use Rattle.std.specs.List.{Any};
 ghost use Rattle.std.specs.Option.{option_copied};
 ghost use Rattle.niss_cube.specs.Map.{map_of};
-ghost use Rattle.niss_cube.specs.Steps.{steps, name_of, start_of, start_name_of, goals_of, turns_of, holds, may_start, reached, KeepsGoal, KeepsStart};
+ghost use Rattle.niss_cube.specs.Steps.{steps, name_of, start_of, start_name_of, goals_of};
+ghost use Rattle.niss_cube.specs.Steps.{turns_of, holds, may_start, reached, KeepsGoal, KeepsStart};
 ghost use Rattle.niss_cube.specs.declared.step.Step.{Step};
 
 use crate::cube::Cube;

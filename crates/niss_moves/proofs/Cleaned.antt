@@ -1,6 +1,6 @@
 -- Cleaning in one pass.
-use Rattle.std.proofs.Common.{◌≡◌, Bool, true, false, refl, ap, sym, ◌∙◌, subst, subst₂, List, [], ◌∷◌, ◌++◌, append_assoc, append-nil, inl, inr, Option, None, Some}
-use Rattle.std.specs.Prelude.{IfSome}
+use Rattle.std.proofs.Common.{refl, ap, sym, ◌∙◌, subst, subst₂, append_assoc, append-nil, inl, inr}
+use Rattle.std.specs.Prelude.{◌≡◌, Bool, true, false, List, [], ◌∷◌, ◌++◌, Option, None, Some, IfSome}
 use Rattle.niss_moves.specs.Turn.{same_face}
 use Rattle.niss_moves.specs.Canonical.{face_may_follow, last_turn, IsCanonical}
 use Rattle.niss_moves.proofs.AllCanonical.{last_turn-push}
@@ -11,7 +11,8 @@ use denote.Enum.Bare.{sameb}
 use Rattle.niss_moves.specs.contracts.turn.Face.{the_type}
 use Rattle.niss_moves.proofs.Finite.{and_both}
 use Rattle.niss_moves.proofs.Rotations.{same_face_is}
-use Rattle.niss_moves.proofs.CanonicalLists.{canonical_pair, canonical_front, canonical_join, canonical_same, snoc_assoc, last_of, same_may_not_follow, are_exchanged, exchanged, exchange, pass_follows, skip_middle}
+use Rattle.niss_moves.proofs.CanonicalLists.{canonical_pair, canonical_front, canonical_join, canonical_same, snoc_assoc, last_of}
+use Rattle.niss_moves.proofs.CanonicalLists.{same_may_not_follow, are_exchanged, exchanged, exchange, pass_follows, skip_middle}
 
 -- what a turn at the end leaves
 pub list_with_turn-last : (a : List Turn) (x t : Turn) → list_with_turn (a ++ x ∷ []) t ≡ a ++ pair_of_turns x t

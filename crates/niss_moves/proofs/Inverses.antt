@@ -5,7 +5,8 @@ use Rattle.niss_moves.specs.Places.{Place, same_place, is_place}
 use Rattle.niss_moves.specs.Effects.{effect, moved_by, inverse, inverse_token, inverse_power, HasMeaning}
 use Rattle.niss_moves.specs.Names.{Power, Quarter, Token}
 use Rattle.niss_moves.specs.declared.token.Token.TheVariants as token
-use Rattle.niss_moves.proofs.Finite.{every_place, at_place, every_token, at_token, every_vector, every_coord, every_power, every_face, every_slice, every_axis, same_place_is, implies, by_implies}
+use Rattle.niss_moves.proofs.Finite.{every_place, at_place, every_token, at_token, every_vector, every_coord, every_power}
+use Rattle.niss_moves.proofs.Finite.{every_face, every_slice, every_axis, same_place_is, implies, by_implies}
 use Rattle.niss_moves.specs.Faces.{expanded, token_of_basic}
 use Rattle.niss_moves.specs.EffectLaws.{PlacesStay}
 

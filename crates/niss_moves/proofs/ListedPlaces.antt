@@ -10,7 +10,8 @@ use Rattle.std.proofs.lemmas.Map.Views.{Contains-from_any}
 use Rattle.niss_moves.specs.Places.{is_place, same_place, Place, SameMap}
 use Rattle.niss_moves.specs.Facelets.{places}
 use Rattle.niss_moves.specs.EffectLaws.{PlacesAreListed, PlacesDiffer, SameLetters}
-use Rattle.niss_moves.proofs.Finite.{every_coord, every_vector, every_place, at_place, same_place_is, same_place_of, same_place_self, implies, by_implies, and_left, and_right}
+use Rattle.niss_moves.proofs.Finite.{every_coord, every_vector, every_place, at_place, same_place_is}
+use Rattle.niss_moves.proofs.Finite.{same_place_of, same_place_self, implies, by_implies, and_left, and_right}
 use Rattle.std.specs.Prelude.{if◌then◌else◌}
 use Rattle.niss_moves.specs.Letters.{letter_at, letter_of, letters}
 

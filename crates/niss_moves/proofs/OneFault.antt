@@ -1,7 +1,10 @@
 -- A line has one fault.
-use Rattle.std.proofs.Common.{◌≡◌, ℕ, ◌+◌, ◌-◌, ◌<◌, Bool, true, false, refl, ap, sym, ◌∙◌, subst, subst₂, List, [], ◌∷◌, ◌++◌, length, take, drop, Option, None, Some, Result, Ok, Err, arith, inl, inr, suc, ◌==◌, ◌||◌, not}
+use Rattle.std.proofs.Common.{refl, ap, sym, ◌∙◌, subst, subst₂, arith, inl, inr}
+use Rattle.std.specs.Prelude.{◌≡◌, ℕ, ◌+◌, ◌-◌, ◌<◌, Bool, true, false, List, [], ◌∷◌, ◌++◌, length, take, drop}
+use Rattle.std.specs.Prelude.{Option, None, Some, Result, Ok, Err, suc, ◌==◌, ◌||◌, not}
 use Rattle.std.proofs.lemmas.List.{take-append-drop, take_more, take_all, length-take-le}
-use Rattle.niss_moves.specs.Faults.{has_no_bracket, Cut, Whole, LacksOne, LacksTwo, cut_ending, cut_length, bracket_ending, Continues, CanContinue, BeginsBase, StopsAt, Stops, Lacks, Faults}
+use Rattle.niss_moves.specs.Faults.{has_no_bracket, Cut, Whole, LacksOne, LacksTwo, cut_ending, cut_length, bracket_ending}
+use Rattle.niss_moves.specs.Faults.{Continues, CanContinue, BeginsBase, StopsAt, Stops, Lacks, Faults}
 use Rattle.niss_moves.specs.Machine.{symbol_of, State, start, step, step_within, and_then, run, ended, ended_at, ended_in}
 use Rattle.niss_moves.specs.Names.{Token, Base, Symbol, LastMove, ReadFault, NotAMove, Nested, Unopened, Unclosed, TooLong}
 use Rattle.niss_moves.specs.declared.partial_line.LastMove.TheVariants as last

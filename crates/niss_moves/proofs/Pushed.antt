@@ -1,5 +1,6 @@
 -- Face turns pushed after a rotation, basic move by basic move.
-use Rattle.std.proofs.Common.{◌≡◌, ℕ, refl, ap, sym, ◌∙◌, List, [], ◌∷◌, ◌++◌, map, append_assoc, subst, ◌+◌, ◌<◌, length, take, drop, get_or, true, None}
+use Rattle.std.proofs.Common.{refl, ap, sym, ◌∙◌, append_assoc, subst}
+use Rattle.std.specs.Prelude.{◌≡◌, ℕ, List, [], ◌∷◌, ◌++◌, map, ◌+◌, ◌<◌, length, take, drop, get_or, true, None}
 use Rattle.std.proofs.lemmas.List.{take_more, at_drop_more}
 use Rattle.niss_moves.specs.Places.{Place, same_place}
 use Rattle.niss_moves.specs.Facelets.{centre}

@@ -1,9 +1,11 @@
 -- What the reader's answers mean.
-use Rattle.std.proofs.Common.{◌≡◌, ℕ, ◌+◌, ◌-◌, ◌<◌, ◌≤◌, ◌↔◌, refl, ap, sym, ◌∙◌, subst, List, [], ◌∷◌, ◌++◌, length, append_assoc, append-nil, Option, None, Some, Result, Ok, Err, IsOk, IfErr, arith, inl, inr, length-append}
+use Rattle.std.proofs.Common.{refl, ap, sym, ◌∙◌, subst, append_assoc, append-nil, arith, inl, inr, length-append}
+use Rattle.std.specs.Prelude.{◌≡◌, ℕ, ◌+◌, ◌-◌, ◌<◌, ◌≤◌, ◌↔◌, List, [], ◌∷◌, ◌++◌, length, Option, None, Some, Result, Ok, Err, IsOk, IfErr}
 use Rattle.std.specs.Result.{result_err}
 use Rattle.niss_moves.specs.Line.{Moves, Spells, IsLine}
 use Rattle.niss_moves.specs.Faults.{Whole, cut_length, cut_ending, bracket_ending, CanContinue, Stops, Faults}
-use Rattle.niss_moves.specs.Machine.{State, start, settled, step, step_within, symbol_of, and_then, run, ended, ended_at, ended_in, answer_after, state_of, state_or, HasRoom, HasRoomUnless, IsStep}
+use Rattle.niss_moves.specs.Machine.{State, start, settled, step, step_within, symbol_of, and_then, run, ended, ended_at}
+use Rattle.niss_moves.specs.Machine.{ended_in, answer_after, state_of, state_or, HasRoom, HasRoomUnless, IsStep}
 use Rattle.niss_moves.specs.Reader.{Reader, IsFed, line_with, read_line}
 use Rattle.niss_moves.specs.Names.{Token, LastMove, ReadFault}
 use Rattle.niss_moves.specs.declared.partial_line.PartialLine.{PartialLine}

@@ -1,8 +1,12 @@
 -- What the steps of a line do to its state: they keep the moves within their bound.
-use Rattle.std.proofs.Common.{◌≡◌, ℕ, ◌+◌, ◌-◌, ◌<◌, ◌≤◌, Bool, true, false, cond, nat_lt, eqb, refl, subst, List, [], ◌∷◌, length, Option, None, Some, Result, Ok, Err, arith, ap, sym, ◌∙◌, MatchResult}
+use Rattle.std.proofs.Common.{refl, subst, arith, ap, sym, ◌∙◌}
+use Rattle.std.specs.Prelude.{◌≡◌, ℕ, ◌+◌, ◌-◌, ◌<◌, ◌≤◌, Bool, true, false, cond, nat_lt, eqb}
+use Rattle.std.specs.Prelude.{List, [], ◌∷◌, length, Option, None, Some, Result, Ok, Err, MatchResult}
 use Rattle.std.proofs.lemmas.Bool.{ltb-true}
 use Rattle.niss_moves.specs.Notation.{token_of}
-use Rattle.niss_moves.specs.Machine.{symbol_of, State, outside, inside, settled, settled_by, opened, closed, begun, count, with_last, fed_to, step_by, step_at, step, step_within, HasRoom, state_of, IsStep}
+use Rattle.niss_moves.specs.Machine.{symbol_of, State, outside, inside, settled, settled_by}
+use Rattle.niss_moves.specs.Machine.{opened, closed, begun, count, with_last, fed_to, step_by, step_at}
+use Rattle.niss_moves.specs.Machine.{step, step_within, HasRoom, state_of, IsStep}
 use Rattle.niss_moves.specs.Names.{Quarter, Half, Counter, Token, Base, Symbol, LastMove, ReadFault, NotAMove, TooLong}
 use Rattle.niss_moves.specs.declared.partial_line.PartialLine.{PartialLine}
 use Rattle.niss_moves.specs.declared.base.Base.TheVariants as base

@@ -2,10 +2,12 @@
 use Rattle.std.proofs.Common.{◌≡◌, Bool, true, ◌&&◌, refl, ap, sym, ◌∙◌, List, [], ◌∷◌, ◌++◌, Option, None, Some}
 use Rattle.niss_moves.specs.Places.{Place, Vector, same_vector, same_place}
 use Rattle.niss_moves.specs.Effects.{effect, effect_of_turns, moved_by, turned, quarters, times}
-use Rattle.niss_moves.specs.Rotations.{face_before, face_before_power, face_before_top, face_before_vertical, renamed_turn, to_top, about_vertical, spelling}
+use Rattle.niss_moves.specs.Rotations.{face_before, face_before_power, face_before_top}
+use Rattle.niss_moves.specs.Rotations.{face_before_vertical, renamed_turn, to_top, about_vertical, spelling}
 use Rattle.niss_moves.specs.Turn.{same_face}
 use Rattle.niss_moves.specs.Helpers.{is_beside, rotation_by}
-use Rattle.niss_moves.proofs.Finite.{every_coord, every_vector, at_vector, same_vector_is, every_place, at_place, same_place_is, every_face, at_face, every_power, at_power, every_axis, at_axis, every_optional_power, at_optional_power}
+use Rattle.niss_moves.proofs.Finite.{every_coord, every_vector, at_vector, same_vector_is, every_place, at_place, same_place_is}
+use Rattle.niss_moves.proofs.Finite.{every_face, at_face, every_power, at_power, every_axis, at_axis, every_optional_power, at_optional_power}
 use Rattle.std.proofs.lemmas.Bool.{and_parts}
 use Rattle.niss_moves.proofs.Inverses.{effect-append}
 use Rattle.niss_moves.specs.Names.{Face, U, D, R, L, F, B, Power, Quarter, Half, Counter, Turn, Axis, Ud, Rl, Fb, Rotation}

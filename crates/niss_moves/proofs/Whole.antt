@@ -1,10 +1,13 @@
 -- Whole lines: what is read of them, and which fault.
-use Rattle.std.proofs.Common.{◌≡◌, ℕ, ◌+◌, ◌-◌, ◌<◌, ◌≤◌, Bool, true, false, refl, ap, sym, ◌∙◌, subst, subst₂, List, [], ◌∷◌, ◌++◌, length, flat_map, append_assoc, append-nil, Option, None, Some, Result, Ok, Err, arith, length-append, take, drop, get_or, inl, inr, ◌==◌, ◌||◌, not}
+use Rattle.std.proofs.Common.{refl, ap, sym, ◌∙◌, subst, subst₂, append_assoc, append-nil, arith, length-append, inl, inr}
+use Rattle.std.specs.Prelude.{◌≡◌, ℕ, ◌+◌, ◌-◌, ◌<◌, ◌≤◌, Bool, true, false, List, [], ◌∷◌, ◌++◌, length, flat_map}
+use Rattle.std.specs.Prelude.{Option, None, Some, Result, Ok, Err, take, drop, get_or, ◌==◌, ◌||◌, not}
 use Rattle.std.proofs.lemmas.List.{take-append-le, take-append-drop}
 use Rattle.std.proofs.Math.Path.{subst₃}
 use Rattle.std.proofs.Math.Seq.{take-append_seam, take-append-add, get_or-append_seam}
 use Rattle.niss_moves.specs.Line.{Gap, Spelled, piece_bytes, Piece, item_bytes, Spells, IsLine}
-use Rattle.niss_moves.specs.Faults.{has_no_bracket, Cut, Whole, LacksOne, LacksTwo, cut_ending, cut_length, bracket_ending, Continues, CanContinue, StopsAt, EndsEarly, OpensAt, Stops, Lacks}
+use Rattle.niss_moves.specs.Faults.{has_no_bracket, Cut, Whole, LacksOne, LacksTwo, cut_ending, cut_length, bracket_ending}
+use Rattle.niss_moves.specs.Faults.{Continues, CanContinue, StopsAt, EndsEarly, OpensAt, Stops, Lacks}
 use Rattle.niss_moves.specs.Machine.{State, start, settled, step, and_then, run}
 use Rattle.niss_moves.specs.Notation.{base_bytes, Plain, Suffix, Prime, TwoPrime, suffix_bytes, Space}
 use Rattle.niss_moves.specs.Names.{Token, Base, LastMove, ReadFault, NotAMove, Nested, Unopened, Unclosed, TooLong}
@@ -12,7 +15,8 @@ use Rattle.niss_moves.specs.declared.base.Base.TheVariants as base
 use Rattle.niss_moves.proofs.Finite.{every_face, at_face, every_slice, at_slice, every_axis, at_axis, and_both, and_left, and_right}
 use Rattle.niss_moves.specs.declared.partial_line.LastMove.TheVariants as last
 use Rattle.niss_moves.proofs.Completes.{IsReady, run-append, completes}
-use Rattle.niss_moves.proofs.Sound.{last_bytes, WholeItems, Closed, Opened, front_close, Reads, reads_start, settled_front, cut_of, is_open, Refusal, Outcome, step_means}
+use Rattle.niss_moves.proofs.Sound.{last_bytes, WholeItems, Closed, Opened, front_close, Reads, reads_start}
+use Rattle.niss_moves.proofs.Sound.{settled_front, cut_of, is_open, Refusal, Outcome, step_means}
 
 -- the state after more bytes
 reads_run : (more bytes : List ℕ) (s t : State) → Reads s bytes → run s more ≡ Ok t → Reads t (bytes ++ more)

@@ -1,12 +1,14 @@
 -- What a move that is read at once does.
-use Rattle.std.proofs.Common.{◌≡◌, ℕ, ◌+◌, ◌<◌, refl, ap, sym, ◌∙◌, subst, List, [], ◌∷◌, ◌++◌, length, take, take-add, drop, get_or, append_assoc, Result, Ok, Option, None, arith, length-append, inl, inr, ap₂}
+use Rattle.std.proofs.Common.{refl, ap, sym, ◌∙◌, subst, take-add, append_assoc, arith, length-append, inl, inr, ap₂}
 use mir.Val.{bool_byte}
 use Rattle.std.proofs.lemmas.List.{take_more}
-use Rattle.std.specs.Prelude.{◌==◌, ◌*◌, nat_lt, not, Bool, true, false}
+use Rattle.std.specs.Prelude.{◌≡◌, ℕ, ◌+◌, ◌<◌, List, [], ◌∷◌, ◌++◌, length, take, drop, get_or}
+use Rattle.std.specs.Prelude.{Result, Ok, Option, None, ◌==◌, ◌*◌, nat_lt, not, Bool, true, false}
 use Rattle.niss_moves.specs.Letters.{face_letter}
 use Rattle.niss_moves.proofs.Finite.{not_true, every_face, at_face, every_slice, at_slice, every_axis, at_axis}
 use Rattle.std.proofs.lemmas.Bool.{lt-ltb, eqb-true}
-use Rattle.niss_moves.specs.Notation.{token_of, lower_letter, slice_letter, rotation_letter, base_bytes, Plain, Typographic, Suffix, Nothing, Two, Prime, TwoPrime, suffix_bytes, Blank, Space, Tab, Return, blank_byte}
+use Rattle.niss_moves.specs.Notation.{token_of, lower_letter, slice_letter, rotation_letter, base_bytes, Plain, Typographic}
+use Rattle.niss_moves.specs.Notation.{Suffix, Nothing, Two, Prime, TwoPrime, suffix_bytes, Blank, Space, Tab, Return, blank_byte}
 use Rattle.niss_moves.specs.Machine.{State, state_of, HasRoom, added, settled, settled_by, count, run, and_then, ended, answer_after}
 use Rattle.niss_moves.specs.Reader.{IsFed, line_with, read_line}
 use Rattle.niss_moves.specs.WholeMoves.{IsSuffix, IsMove, BeginsApostrophe, HasNoLineFeed}

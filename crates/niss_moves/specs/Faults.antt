@@ -1,6 +1,7 @@
 -- The fault of a line: the leftmost byte that can't go on there (of a U+2019 that it cuts, the first byte), or what the end
 -- lacks.
-use Rattle.std.specs.Prelude.{◌≡◌, ℕ, ◌+◌, ◌-◌, ◌<◌, ◌≤◌, Bool, true, false, List, [], ◌∷◌, ◌++◌, length, take, slice_index, ◌⊎◌, ◌==◌, ◌||◌, ◌&&◌, not, IsTrue}
+use Rattle.std.specs.Prelude.{◌≡◌, ℕ, ◌+◌, ◌-◌, ◌<◌, ◌≤◌, Bool, true, false}
+use Rattle.std.specs.Prelude.{List, [], ◌∷◌, ◌++◌, length, take, slice_index, ◌⊎◌, ◌==◌, ◌||◌, ◌&&◌, not, IsTrue}
 use Rattle.niss_moves.specs.Line.{IsLine}
 use Rattle.niss_moves.specs.Notation.{base_bytes}
 use Rattle.niss_moves.specs.Names.{Base, ReadFault, NotAMove, Nested, Unopened, Unclosed, TooLong}

@@ -1,6 +1,7 @@
 -- Moves that are read at once.
 use Rattle.std.specs.Prelude.{ℕ, ◌≡◌, ◌==◌, ◌<◌, ◌⊎◌, false, List, [], ◌∷◌, ◌++◌, take}
-use Rattle.niss_moves.specs.Notation.{token_of, base_bytes, Apostrophe, apostrophe_bytes, Suffix, suffix_bytes, suffix_power, Blank, blank_byte}
+use Rattle.niss_moves.specs.Notation.{token_of, base_bytes, Apostrophe, apostrophe_bytes}
+use Rattle.niss_moves.specs.Notation.{Suffix, suffix_bytes, suffix_power, Blank, blank_byte}
 use Rattle.niss_moves.specs.Names.{Power, Token, Base}
 
 -- The first n bytes are an apostrophe, or n is 0.

@@ -1,5 +1,6 @@
 //! What holds of all moves and sequences. Each law is the contract of a function that does nothing.
-ghost use Rattle.niss_moves.specs.EffectLaws.{PlacesStay, PlacesAreListed, PlacesDiffer, PlacesAre54, InverseUndoes, InverseIsUndone, EffectsCompose, TurnsAreMoves, OneMeaning, SameLetters};
+ghost use Rattle.niss_moves.specs.EffectLaws.{PlacesStay, PlacesAreListed, PlacesDiffer, PlacesAre54, InverseUndoes};
+ghost use Rattle.niss_moves.specs.EffectLaws.{InverseIsUndone, EffectsCompose, TurnsAreMoves, OneMeaning, SameLetters};
 
 /// A move brings places to places.
 #[tactic(auto, using(crate::proofs::Inverses::places_stay))]

@@ -39,7 +39,8 @@ impl PartialLine {
     ghost use Rattle.std.specs.Prelude.{◌≡◌, ◌+◌, ◌-◌, ◌<◌, ◌≤◌, Ok, OnErr, length, take};
     ghost use Rattle.niss_moves.specs.WholeMoves.{HasNoLineFeed};
     ghost use Rattle.niss_moves.specs.declared.fault.ReadFault.TheVariants.{NotAMove};
-    ghost use Rattle.niss_moves.specs.Machine.{start, apostrophe_power, added, settled, opened, closed, begun, widened, doubled, primed, cut, step_at, step_by, step, run, ended, moves_if, state_of, IsStep, HasRoom};
+    ghost use Rattle.niss_moves.specs.Machine.{start, apostrophe_power, added, settled, opened, closed, begun, widened, doubled, primed, cut};
+    ghost use Rattle.niss_moves.specs.Machine.{step_at, step_by, step, run, ended, moves_if, state_of, IsStep, HasRoom};
 
     /// The line before its first byte.
     pub fn new() -> PartialLine

@@ -4,6 +4,7 @@ ghost use Rattle.niss_moves.specs.Rotations.{face_before_power};
 ghost use Rattle.niss_moves.specs.Helpers.{is_beside, rotation_by};
 
 use crate::axis::Axis;
+use crate::turn::Power::{Counter, Half, Quarter};
 use crate::turn::{Face, Power};
 
 /// One of the 24 rotations of the whole cube (WCA Regulations, article 12). Each value is another rotation. It is spelled
@@ -40,23 +41,15 @@ static BEFORE: [[[Face; 6]; 3]; 3] = [
     ],
 ];
 
-const NONE: Option<Power> = None;
-
-const QUARTER: Option<Power> = Some(Power::Quarter);
-
-const HALF: Option<Power> = Some(Power::Half);
-
-const COUNTER: Option<Power> = Some(Power::Counter);
-
 /// By the faces that come to the top and to the front: the turn about the vertical axis. A face that comes to the top, and
 /// its opposite, can't come to the front.
 static VERTICAL: [[Option<Power>; 6]; 6] = [
-    [NONE, NONE, QUARTER, COUNTER, NONE, HALF],
-    [NONE, NONE, QUARTER, COUNTER, HALF, NONE],
-    [COUNTER, QUARTER, NONE, NONE, NONE, HALF],
-    [QUARTER, COUNTER, NONE, NONE, NONE, HALF],
-    [HALF, NONE, QUARTER, COUNTER, NONE, NONE],
-    [NONE, HALF, QUARTER, COUNTER, NONE, NONE],
+    [None, None, Some(Quarter), Some(Counter), None, Some(Half)],
+    [None, None, Some(Quarter), Some(Counter), Some(Half), None],
+    [Some(Counter), Some(Quarter), None, None, None, Some(Half)],
+    [Some(Quarter), Some(Counter), None, None, None, Some(Half)],
+    [Some(Half), None, Some(Quarter), Some(Counter), None, None],
+    [None, Some(Half), Some(Quarter), Some(Counter), None, None],
 ];
 
 impl Axis {

@@ -5,6 +5,22 @@ use niss_cube::{Axis, Coordinate, Cube, Face, OutOfMemory, Power, TurnTable, Tur
 use std::alloc::Allocator;
 use std::process::Abort;
 
+const COORDINATES: [Coordinate; 3] = [Coordinate::Flip, Coordinate::Twist, Coordinate::Slice];
+
+fn check_equals(rt: &impl Abort, coordinate: Coordinate) {
+    for other in COORDINATES {
+        assert!(rt; (coordinate == other) == (coordinate.count() == other.count()));
+    }
+}
+
+// Each has another count.
+#[test]
+fn coordinates_are_equal_to_themselves_alone(rt: HostRuntime) {
+    for coordinate in COORDINATES {
+        check_equals(&rt, coordinate);
+    }
+}
+
 #[test]
 fn a_solved_cube_has_coordinates_0(rt: HostRuntime) {
     let cube = Cube::solved();
