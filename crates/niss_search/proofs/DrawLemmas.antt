@@ -4,7 +4,7 @@ use Rattle.std.specs.List.{last_or, slice_get}
 use Rattle.std.proofs.lemmas.List.Elements.{filter_passes}
 use Rattle.std.proofs.Math.Nat.{mul-le-mul_right}
 use Rattle.niss_moves.specs.Canonical.{may_follow, face_may_follow, turn_order, last_turn, is_canonical_after}
-use Rattle.niss_search.specs.Names.{Face, U, D, R, L, F, B, Quarter, Turn}
+use Rattle.niss_search.specs.Names.{Face, U, D, R, L, F, B, Turn, no_turn}
 use Rattle.rand_pcg.specs.Lcg.{Lcg, state_after}
 use Rattle.rand_pcg.specs.Pcg.{pcg32}
 use Rattle.niss_search.specs.Draw.{choices, choice, next_words, after_words, draw}
@@ -33,7 +33,7 @@ choice-index last w h =
 -- the turn that a word picks may follow
 pub choice-follows : (last : Option Turn) (w : ℕ) → w < 2 ^ 32 → may_follow last (choice last w) ≡ true
 choice-follows last w h =
-    filter_passes (may_follow last) turn_order _ record { face = U; power = Quarter } (choice-index last w h)
+    filter_passes (may_follow last) turn_order _ no_turn (choice-index last w h)
 
 -- one word more
 pub draw-more : (n m : ℕ) (last : Option Turn) (g : Lcg) → n ≡ suc m → draw last (next_words n g) ≡ choice last (pcg32 g).0 ∷ draw (Some (choice last (pcg32 g).0)) (next_words m (pcg32 g).1)

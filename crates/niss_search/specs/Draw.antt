@@ -2,7 +2,7 @@
 use Rattle.std.specs.Prelude.{ℕ, zero, suc, ◌*◌, ◌/◌, ◌^◌, List, [], ◌∷◌, length, filter, Option, Some}
 use Rattle.std.specs.List.{slice_index_or}
 use Rattle.niss_moves.specs.Canonical.{may_follow, turn_order}
-use Rattle.niss_search.specs.Names.{U, Quarter, Turn}
+use Rattle.niss_search.specs.Names.{Turn, no_turn}
 use Rattle.rand_pcg.specs.Lcg.{Lcg, advance}
 use Rattle.rand_pcg.specs.Pcg.{multiplier_64, pcg32}
 
@@ -13,7 +13,7 @@ choices last = filter (may_follow last) turn_order
 -- The one that the word w picks: of k choices that with the index w * k / 2^32. (There always is one.)
 abbrev pub choice : Option Turn → ℕ → Turn
 choice last w =
-    slice_index_or (choices last) (w * length (choices last) / 2 ^ 32) record { face = U; power = Quarter }
+    slice_index_or (choices last) (w * length (choices last) / 2 ^ 32) no_turn
 
 -- the turns that words pick, each after the one before it
 unfoldable pub draw : Option Turn → List ℕ → List Turn

@@ -1,14 +1,14 @@
 -- The numbers of a coordinate after the turns of a step, which have their columns in turn order. (For the functions of
 -- the tables.)
 use Rattle.std.specs.Prelude.{◌≡◌, ℕ, ◌<◌, List, [], length, get_or, slice_index}
-use Rattle.niss_search.specs.Names.{Axis, U, Quarter, Turn, Step, Coordinate}
+use Rattle.niss_search.specs.Names.{Axis, Turn, no_turn, Step, Coordinate}
 use Rattle.niss_cube.specs.Coordinates.{count_of}
 use Rattle.niss_cube.specs.NumberAfter.{number_after}
 use Rattle.niss_cube.specs.Steps.{turns_of}
 
 -- the turn of a column
 abbrev pub turn_at : Step → ℕ → Turn
-turn_at step column = get_or (turns_of step) column (record { face = U; power = Quarter })
+turn_at step column = get_or (turns_of step) column no_turn
 
 -- What a contract sees of a move table.
 pub record Moves : Type 0 where

@@ -13,3 +13,11 @@ pub use Rattle.niss_cube.specs.declared.step.Step.{Step}
 pub use Rattle.niss_search.specs.declared.tables.position.Coordinates.{Coordinates}
 pub use Rattle.niss_search.specs.declared.tables.position.Coordinates.TheVariants.{Flip, TwistAndSlice}
 pub use Rattle.niss_search.specs.declared.tables.followers.Follower.{Follower}
+
+-- what a list of turns answers past its end
+abbrev pub no_turn : Turn
+no_turn = record { face = U; power = Quarter }
+
+-- and a list of followers
+abbrev pub no_follower : Follower
+no_follower = record { turn = no_turn; column = 0 }

@@ -1,5 +1,6 @@
 //! Laws over the definitions, each as a contract.
-ghost use Rattle.niss_search.specs.Laws.{CountRecurrence, PartHasNoMore, LooksWithinBound, NoSlackIsLeast, StepBoundIsLess, BoundIsSmall, EntriesAreCounted, EdgeFillIsSmall, FillIsSmall, DistanceIsLeast, PositionsFollowCubes};
+ghost use Rattle.niss_search.specs.Laws.{CountRecurrence, PartHasNoMore, LooksWithinBound, NoSlackIsLeast, StepBoundIsLess, BoundIsSmall};
+ghost use Rattle.niss_search.specs.Laws.{EntriesAreCounted, EdgeFillIsSmall, FillIsSmall, DistanceIsLeast, PositionsFollowCubes};
 ghost use Rattle.niss_search.specs.Filling.{EntriesTurn};
 
 use niss_cube::laws::{

@@ -2,7 +2,7 @@
 ghost use Rattle.std.specs.Prelude.{◌≡◌, ◌<◌, ◌≤◌, ◌*◌, ◌/◌, ◌^◌, None, Some, length};
 ghost use Rattle.std.specs.List.{slice_index_or};
 ghost use Rattle.niss_moves.specs.Canonical.{IsCanonical};
-ghost use Rattle.niss_search.specs.Names.{Power, Quarter, U};
+ghost use Rattle.niss_search.specs.Names.{Power, no_turn};
 ghost use Rattle.niss_search.specs.Draw.{choices, choice, next_words, after_words, draw};
 
 use niss_moves::{Face, Faces, Power, Turn, turn_order};
@@ -66,7 +66,7 @@ fn picked(turns: &[Turn], word: u32) -> Turn
     requires some { 0 < length turns.now }
     requires few { length turns.now ≤ 18 }
     ensures { result
-        ≡ slice_index_or turns.now (word * length turns.now / 2 ^ 32) record { face = U; power = Quarter } }
+        ≡ slice_index_or turns.now (word * length turns.now / 2 ^ 32) no_turn }
 {
     let index = u64::from(word) * turns.len() as u64 / (1 << 32);
     turns[index as usize]

@@ -1,6 +1,5 @@
 //! The tables of a step, by what it looks at.
-ghost use Rattle.std.specs.Prelude.{◌≡◌, ◌+◌, ◌≤◌, ◌^◌, ◌∷◌, [], IfOk, OnOk, OnErr};
-ghost use Rattle.niss_cube.specs.Steps.{goals_of};
+ghost use Rattle.std.specs.Prelude.{◌≡◌, ◌+◌, ◌≤◌, ◌^◌, IfOk, OnOk, OnErr};
 ghost use Rattle.niss_cube.specs.declared.cube.coordinate.Coordinate.TheVariants as coordinate;
 ghost use Rattle.niss_cube.specs.declared.step.Goal.TheVariants as goals;
 ghost use Rattle.niss_search.specs.Entries.{fill_ticks};
@@ -37,7 +36,7 @@ pub enum Kind<A: Allocator> {
 }
 
 impl<A: Allocator + Copy> Kind<A> {
-    /// Builds the tables of a step: it takes all memory, then fills them.
+    /// Builds the tables of a step: it takes all memory, gives back the turn tables, then fills.
     pub(super) fn build_in(alloc: A, step: Step, meter: &mut Meter) -> Result<Kind<A>, OutOfMemory>
         requires { meter.old ≤ 2 ^ 127 }
         ensures step { IfOk result (λ kind. IsOfStep kind step) }
@@ -45,13 +44,27 @@ impl<A: Allocator + Copy> Kind<A> {
         ensures refused { OnErr result (meter.new ≡ meter.old) }
     {
         match *step.goals() {
-            [Goal::Edges(axis)] => Ok(Kind::Edges(edges(alloc, step, axis, meter)?)),
+            [Goal::Edges(axis)] => {
+                let flips = TurnTable::build_in(alloc, Coordinate::Flip)?;
+                let table = edge_table(alloc, step, axis, &flips)?;
+                drop(flips);
+                Ok(Kind::Edges(SearchTables::of(step, table.fill(meter))))
+            }
             [Goal::Edges(first), Goal::Edges(second), Goal::Edges(third)] => {
-                let axes = (first, second, third);
-                Ok(Kind::AnyEdges(any_edges(alloc, step, axes, meter)?))
+                let flips = TurnTable::build_in(alloc, Coordinate::Flip)?;
+                let first = edge_table(alloc, step, first, &flips)?;
+                let second = edge_table(alloc, step, second, &flips)?;
+                let third = edge_table(alloc, step, third, &flips)?;
+                drop(flips);
+                let others = Either::of(second.fill(meter), third.fill(meter));
+                let space = Either::of(first.fill(meter), others);
+                Ok(Kind::AnyEdges(SearchTables::of(step, space)))
             }
             [Goal::Domino { edges, axis }] => {
-                Ok(Kind::Domino(domino(alloc, step, (edges, axis), meter)?))
+                let turns = DominoTurns::build_in(alloc)?;
+                let table = domino_table(alloc, step, edges, axis, &turns)?;
+                drop(turns);
+                Ok(Kind::Domino(SearchTables::of(step, table.fill(meter))))
             }
             [
                 Goal::Domino { edges, axis },
@@ -60,53 +73,16 @@ impl<A: Allocator + Copy> Kind<A> {
                     axis: other_axis,
                 },
             ] => {
-                let (first, second) = ((edges, axis), (other_edges, other_axis));
-                Ok(Kind::EitherDomino(either_domino(alloc, step, first, second, meter)?))
+                let turns = DominoTurns::build_in(alloc)?;
+                let first = domino_table(alloc, step, edges, axis, &turns)?;
+                let second = domino_table(alloc, step, other_edges, other_axis, &turns)?;
+                drop(turns);
+                let space = Either::of(first.fill(meter), second.fill(meter));
+                Ok(Kind::EitherDomino(SearchTables::of(step, space)))
             }
             _ => unreachable!(),
         }
     }
-}
-
-/// The tables of an edge orientation. The turn table is given back before the fill, here and below.
-fn edges<A: Allocator + Copy>(
-    alloc: A,
-    step: Step,
-    axis: Axis,
-    meter: &mut Meter,
-) -> Result<SearchTables<EdgeSpace<A>>, OutOfMemory>
-    requires goals { goals_of step ≡ goals.Edges axis ∷ [] }
-    requires meter { meter.old ≤ 2 ^ 127 }
-    ensures step { IfOk result (λ tables. tables.step ≡ step) }
-    ensures ticks { OnOk result (meter.new ≡ meter.old + fill_ticks step) }
-    ensures refused { OnErr result (meter.new ≡ meter.old) }
-{
-    let flips = TurnTable::build_in(alloc, Coordinate::Flip)?;
-    let table = edge_table(alloc, step, axis, &flips)?;
-    drop(flips);
-    Ok(SearchTables::of(step, table.fill(meter)))
-}
-
-/// The tables of an edge orientation on any of three axes.
-fn any_edges<A: Allocator + Copy>(
-    alloc: A,
-    step: Step,
-    axes: (Axis, Axis, Axis),
-    meter: &mut Meter,
-) -> Result<SearchTables<AnyEdgeSpace<A>>, OutOfMemory>
-    requires goals { goals_of step ≡ goals.Edges axes.0 ∷ goals.Edges axes.1 ∷ goals.Edges axes.2 ∷ [] }
-    requires meter { meter.old ≤ 2 ^ 127 }
-    ensures step { IfOk result (λ tables. tables.step ≡ step) }
-    ensures ticks { OnOk result (meter.new ≡ meter.old + fill_ticks step) }
-    ensures refused { OnErr result (meter.new ≡ meter.old) }
-{
-    let flips = TurnTable::build_in(alloc, Coordinate::Flip)?;
-    let first = edge_table(alloc, step, axes.0, &flips)?;
-    let second = edge_table(alloc, step, axes.1, &flips)?;
-    let third = edge_table(alloc, step, axes.2, &flips)?;
-    drop(flips);
-    let others = Either::of(second.fill(meter), third.fill(meter));
-    Ok(SearchTables::of(step, Either::of(first.fill(meter), others)))
 }
 
 /// The pruning table of an edge orientation, still to be filled.
@@ -123,56 +99,16 @@ fn edge_table<A: Allocator + Copy>(
     EmptyTable::new_in(alloc, moves)
 }
 
-/// The tables of a domino reduction, by the axis of its edges and its own.
-fn domino<A: Allocator + Copy>(
-    alloc: A,
-    step: Step,
-    axes: (Axis, Axis),
-    meter: &mut Meter,
-) -> Result<SearchTables<DominoSpace<A>>, OutOfMemory>
-    requires goals { goals_of step ≡ goals.Domino axes.0 axes.1 ∷ [] }
-    requires meter { meter.old ≤ 2 ^ 127 }
-    ensures step { IfOk result (λ tables. tables.step ≡ step) }
-    ensures ticks { OnOk result (meter.new ≡ meter.old + fill_ticks step) }
-    ensures refused { OnErr result (meter.new ≡ meter.old) }
-{
-    let turns = DominoTurns::build_in(alloc)?;
-    let table = domino_table(alloc, step, axes, &turns)?;
-    drop(turns);
-    Ok(SearchTables::of(step, table.fill(meter)))
-}
-
-/// The tables of either of two domino reductions.
-fn either_domino<A: Allocator + Copy>(
-    alloc: A,
-    step: Step,
-    first: (Axis, Axis),
-    second: (Axis, Axis),
-    meter: &mut Meter,
-) -> Result<SearchTables<EitherDominoSpace<A>>, OutOfMemory>
-    requires goals { goals_of step ≡ goals.Domino first.0 first.1 ∷ goals.Domino second.0 second.1 ∷ [] }
-    requires meter { meter.old ≤ 2 ^ 127 }
-    ensures step { IfOk result (λ tables. tables.step ≡ step) }
-    ensures ticks { OnOk result (meter.new ≡ meter.old + fill_ticks step) }
-    ensures refused { OnErr result (meter.new ≡ meter.old) }
-{
-    let turns = DominoTurns::build_in(alloc)?;
-    let first = domino_table(alloc, step, first, &turns)?;
-    let second = domino_table(alloc, step, second, &turns)?;
-    drop(turns);
-    Ok(SearchTables::of(step, Either::of(first.fill(meter), second.fill(meter))))
-}
-
-/// The pruning table of a domino reduction, still to be filled.
+/// The pruning table of a domino reduction, by the axis of its edges and its own, still to be filled.
 fn domino_table<A: Allocator + Copy>(
     alloc: A,
     step: Step,
-    axes: (Axis, Axis),
+    edges: Axis,
+    axis: Axis,
     turns: &DominoTurns<A>,
 ) -> Result<EmptyTable<DominoMoves<A>, A>, OutOfMemory>
-    ensures { IfOk result (λ t.
-        domino_alternative t ≡ record { step = step; goal = goals.Domino axes.0 axes.1 }) }
+    ensures { IfOk result (λ t. domino_alternative t ≡ record { step = step; goal = goals.Domino edges axis }) }
 {
-    let moves = DominoMoves::build_in(alloc, step, axes.0, axes.1, turns)?;
+    let moves = DominoMoves::build_in(alloc, step, edges, axis, turns)?;
     EmptyTable::new_in(alloc, moves)
 }

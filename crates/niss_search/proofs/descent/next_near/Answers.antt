@@ -1,13 +1,9 @@
 use Rattle.std.proofs.Common.{arith, ◌<◌, ◌≤◌, subst, All}
 use Rattle.std.proofs.lemmas.List.{get_or_default, take_all}
 use Rattle.std.proofs.lemmas.List.Elements.{All-more}
-use Rattle.niss_search.specs.Names.{U, Quarter, Follower}
+use Rattle.niss_search.specs.Names.{Follower, no_follower}
 use Rattle.niss_search.specs.Followers.{distance_after}
 use Rattle.niss_search.proofs.descent.next_near.Goals as goal
-
--- what a list answers past its end
-abbrev first : Follower
-first = record { turn = record { face = U; power = Quarter }; column = 0 }
 
 pub loop-index-init : goal.loop-index-init
 loop-index-init g c = record { far = λ k d l. absurd (omega arith); ticks = omega arith }
@@ -21,7 +17,7 @@ returns-then-look-left-clause-near g c =
     record {
       inside = c.loop-index-test.true;
       far = inv.far;
-      near = λ d. subst (λ (f : Follower). distance_after step (g.S.StateSpace.seen c.args.tables.now.space c.args.state) f ≤ c.args.left) (get_or_default fs c.loop-index.index first d c.loop-index-test.true) (omega (arith, value, c.if-look-left.true));
+      near = λ d. subst (λ (f : Follower). distance_after step (g.S.StateSpace.seen c.args.tables.now.space c.args.state) f ≤ c.args.left) (get_or_default fs c.loop-index.index no_follower d c.loop-index-test.true) (omega (arith, value, c.if-look-left.true));
       looked = omega (arith, inv.ticks, c.look.ensures.tick);
     }
 
@@ -34,7 +30,7 @@ loop-index-preserved g c =
     let value = rw c.after.ensures at c.look.ensures.value in
     let Far : Follower → Type 0 = λ f. c.args.left < distance_after step x f in
     record {
-      far = All-more Far fs c.loop-index.index first c.loop-index-test.true inv.far (omega (arith, value, c.if-look-left.false));
+      far = All-more Far fs c.loop-index.index no_follower c.loop-index-test.true inv.far (omega (arith, value, c.if-look-left.false));
       ticks = omega (arith, inv.ticks, c.look.ensures.tick);
     }
 

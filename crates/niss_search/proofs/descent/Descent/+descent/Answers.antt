@@ -2,7 +2,7 @@ use Rattle.std.proofs.Common.{arith, ◌≡◌, ◌+◌, ◌-◌, ◌<◌, ◌�
 use Rattle.std.proofs.lemmas.List.Elements.{All-drop}
 use Rattle.std.proofs.lemmas.List.{length-drop, take_rest}
 use Rattle.niss_moves.specs.Canonical.{may_follow, last_turn}
-use Rattle.niss_search.specs.Names.{U, Quarter, Follower}
+use Rattle.niss_search.specs.Names.{no_follower}
 use Rattle.niss_cube.specs.Steps.{turns_of}
 use Rattle.niss_search.specs.Delivery.{at_limit}
 use Rattle.niss_search.specs.Descent.{looks_beyond}
@@ -11,10 +11,6 @@ use Rattle.niss_search.specs.Path.{Path}
 use Rattle.niss_search.specs.Positions.{distance_at, position_after}
 use Rattle.niss_search.proofs.DescentLemmas.{found_below-end, looks_below-end, looks_below-one, found_below-listed, looks_beyond-listed, whole-more, turns_in, Descends-take, looks-rest, count-within, GoesThrough-far, looks-next, GoesThrough-next, StopsIn-next}
 use Rattle.niss_search.proofs.descent.Descent.+descent.Goals as goal
-
--- what a list answers past its end
-abbrev first : Follower
-first = record { turn = record { face = U; power = Quarter }; column = 0 }
 
 pub extend-returns-then-left-eq0-clause-finds : goal.extend-returns-then-left-eq0-clause-finds
 extend-returns-then-left-eq0-clause-finds g t c =
@@ -57,14 +53,14 @@ extend-follow-counted-requires g t c κs within =
     let inv = c.loop-index.invariant in
     let rest = c.loop-index.rest.now in
     let next = c.in-Some.ensures.near in
-    let turn = (get_or rest c.in-Some.index first).turn in
+    let turn = (get_or rest c.in-Some.index no_follower).turn in
     let all = looks_beyond-listed step x p c.args.left inv.some_left inv.near (filter (may_follow (last_turn p)) (turns_of step)) refl in
-    let looks = looks-next step x p (c.args.left - 1) inv.done rest inv.whole inv.went next first in
+    let looks = looks-next step x p (c.args.left - 1) inv.done rest inv.whole inv.went next no_follower in
     let count = count-within step x p (c.args.left - 1) inv.done rest inv.whole inv.went in
     let same = sym inv.keeps.path in
     let Room : Path → Type 0 = λ q. length q.turns + 1 + (c.args.left - 1) ≤ q.limit in
     let Metered : Path → Type 0 = λ q. c.next_near.new.meter + looks_beyond step (position_after x turn) (q.turns ++ turn ∷ []) (c.args.left - 1) < 2 ^ 128 in
-    (omega arith, (within.0, (within.1.0, (within.1.1.0, (within.1.1.1, (rw c.after-after.ensures (next.near first), (subst Room same (omega (arith, c.requires.room, inv.some_left)), (rw c.after-after.ensures (subst Metered same (omega (arith, all, looks, c.requires.meter))), omega (arith, count, next.looked, c.requires.count)))))))))
+    (omega arith, (within.0, (within.1.0, (within.1.1.0, (within.1.1.1, (rw c.after-after.ensures (next.near no_follower), (subst Room same (omega (arith, c.requires.room, inv.some_left)), (rw c.after-after.ensures (subst Metered same (omega (arith, all, looks, c.requires.meter))), omega (arith, count, next.looked, c.requires.count)))))))))
 
 pub extend-returns-in-Err-clause-finds : goal.extend-returns-in-Err-clause-finds
 extend-returns-in-Err-clause-finds g t c =
@@ -75,7 +71,7 @@ extend-returns-in-Err-clause-finds g t c =
     let listed = filter (may_follow (last_turn p)) (turns_of step) in
     let stopped = rw (inv.keeps.path, c.after-after.ensures, c.in-Err.is) at c.follow-counted.ensures.finds in
     rw (found_below-listed step x p c.args.left inv.some_left inv.near listed refl, looks_beyond-listed step x p c.args.left inv.some_left inv.near listed refl)
-    (StopsIn-next step x p (c.args.left - 1) inv.done c.loop-index.rest.now inv.whole inv.went c.in-Some.ensures.near first stopped)
+    (StopsIn-next step x p (c.args.left - 1) inv.done c.loop-index.rest.now inv.whole inv.went c.in-Some.ensures.near no_follower stopped)
 
 pub extend-overflow_add-rest : goal.extend-overflow_add-rest
 extend-overflow_add-rest g t c = omega (arith, c.in-Some.ensures.near.inside, c.loop-index.invariant.few)
@@ -95,8 +91,8 @@ extend-loop-index-preserved g t c =
     let kept = c.follow-counted.ensures.keeps in
     let went = rw (inv.keeps.path, c.after-after.ensures, c.in_default-below.is) at c.follow-counted.ensures.finds in
     rw (take_rest rest (i + 1)) record {
-      done = (inv.done ++ turns_in (take i rest)) ++ (get_or rest i first).turn ∷ [];
-      whole = whole-more inv.done (filter (may_follow (last_turn p)) (turns_of step)) rest i first next.inside inv.whole;
+      done = (inv.done ++ turns_in (take i rest)) ++ (get_or rest i no_follower).turn ∷ [];
+      whole = whole-more inv.done (filter (may_follow (last_turn p)) (turns_of step)) rest i no_follower next.inside inv.whole;
       columns = All-drop (IsFollower step) (i + 1) rest inv.columns;
       few = omega (arith, inv.few, length-drop (i + 1) rest);
       keeps = record {
@@ -106,7 +102,7 @@ extend-loop-index-preserved g t c =
       };
       some_left = inv.some_left;
       near = inv.near;
-      went = GoesThrough-next step x p (c.args.left - 1) inv.done rest inv.whole inv.went next first went;
+      went = GoesThrough-next step x p (c.args.left - 1) inv.done rest inv.whole inv.went next no_follower went;
     }
 
 pub extend-returns-clause-finds : goal.extend-returns-clause-finds

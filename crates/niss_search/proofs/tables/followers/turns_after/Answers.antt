@@ -2,7 +2,7 @@ use Rattle.std.proofs.Common.{arith, ◌≡◌, ◌∙◌, ap, sym, refl, map, f
 use Rattle.std.proofs.lemmas.List.{map_push, append-nil}
 use Rattle.std.proofs.lemmas.List.Elements.{All-push, filter_more}
 use Rattle.niss_moves.specs.Canonical.{may_follow}
-use Rattle.niss_search.specs.Names.{Turn, U, Quarter, Follower}
+use Rattle.niss_search.specs.Names.{Turn, no_turn, Follower}
 use Rattle.niss_search.specs.Followers.{IsFollower}
 use Rattle.niss_search.proofs.Bounds.{turns_of-length}
 use Rattle.niss_search.proofs.tables.followers.turns_after.Goals as goal
@@ -23,10 +23,9 @@ loop-column-preserved c =
     let inv = c.loop-column.invariant in
     let turns = c.turns-turns.result.now in
     let i = c.loop-column.column in
-    let d : Turn = record { face = U; power = Quarter } in
-    let t = get_or turns i d in
+    let t = get_or turns i no_turn in
     let may = may_follow c.args.last in
-    let more = filter_more may turns i d c.loop-column-test.true in
+    let more = filter_more may turns i no_turn c.loop-column-test.true in
     let rule : c.allowed.result ≡ may t = c.allowed.ensures.rule in
     let kept : Bool → List Turn = λ b. filter may (take i turns) ++ cond b (t ∷ []) [] in
     elim c.if-allowed.branch [
@@ -38,7 +37,7 @@ loop-column-preserved c =
             few = inv.few;
             end = refl;
             kept = map_push (λ (f : Follower). f.turn) c.loop-column.list.items new ∙ ap (λ (ts : List Turn). ts ++ t ∷ []) inv.kept ∙ sym (more ∙ ap kept yes);
-            columns = All-push (IsFollower c.args.step) c.loop-column.list.items new inv.columns (omega (arith, c.loop-column-test.true, ap (length {A = Turn}) inv.items), ap (λ (ts : List Turn). get_or ts i d) (sym inv.items));
+            columns = All-push (IsFollower c.args.step) c.loop-column.list.items new inv.columns (omega (arith, c.loop-column-test.true, ap (length {A = Turn}) inv.items), ap (λ (ts : List Turn). get_or ts i no_turn) (sym inv.items));
             long = omega (arith, inv.long, ap (length {A = Follower}) w.push.ensures.items, w.push.ensures.len);
           })
       | else-allowed w ↦

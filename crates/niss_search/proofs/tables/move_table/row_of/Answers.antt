@@ -1,5 +1,5 @@
 use Rattle.std.proofs.Common.{arith, ◌≡◌, ◌<◌, ◌∙◌, ap, get_or, length, List, below_more, length-set, get_or-set_other, get_or-set_same, refl}
-use Rattle.niss_search.specs.Names.{Turn, U, Quarter}
+use Rattle.niss_search.specs.Names.{Turn, no_turn}
 use Rattle.niss_cube.specs.NumberAfter.{number_after}
 use Rattle.niss_search.specs.Moves.{turn_at}
 use Rattle.niss_search.proofs.Bounds.{turns_of-length}
@@ -21,10 +21,9 @@ loop-column-preserved g c =
     let inv = c.loop-column.invariant in
     let row = c.loop-column.row in
     let column = c.loop-column.column in
-    let d : Turn = record { face = U; power = Quarter } in
     let within : column < length row = omega (arith, c.loop-column-test.true, inv.few, inv.size) in
     let read : c.next.result ≡ number_after c.args.turn_table.now c.args.axis c.args.number (turn_at c.args.step column) =
-    c.next.ensures.value ∙ ap (number_after c.args.turn_table.now c.args.axis c.args.number) (get_or_default c.turns-turns.result.now column _ d c.loop-column-test.true ∙ ap (λ (ts : List Turn). get_or ts column d) inv.items) in
+    c.next.ensures.value ∙ ap (number_after c.args.turn_table.now c.args.axis c.args.number) (get_or_default c.turns-turns.result.now column _ no_turn c.loop-column-test.true ∙ ap (λ (ts : List Turn). get_or ts column no_turn) inv.items) in
     record {
       items = inv.items;
       few = inv.few;

@@ -1,7 +1,7 @@
 use Rattle.std.proofs.Common.{arith, ◌≡◌, ◌+◌, ◌<◌, sym, ap, ◌∙◌, subst, below_more, slice_index, min, length}
 use Rattle.std.proofs.lemmas.List.Elements.{Contains-get_or}
 use Rattle.std.proofs.lemmas.List.{get_or_read}
-use Rattle.niss_search.specs.Names.{Turn, U, Quarter}
+use Rattle.niss_search.specs.Names.{Turn, no_turn}
 use Rattle.niss_cube.specs.Steps.{turns_of}
 use Rattle.niss_search.specs.Filling.{entry_after}
 use Rattle.niss_search.specs.Moves.{turn_at}
@@ -25,10 +25,9 @@ loop-column-preserved g c =
     let xs = c.loop-column.distances in
     let entry = c.args.entry in
     let level = c.args.level.now in
-    let d : Turn = record { face = U; power = Quarter } in
     let t = turn_at alt.step c.loop-column.column in
     let column : c.loop-column.column < length (turns_of alt.step) = omega (arith, inv.end, c.loop-column-test.true) in
-    let m = Contains-get_or (turns_of alt.step) c.loop-column.column d column in
+    let m = Contains-get_or (turns_of alt.step) c.loop-column.column no_turn column in
     let law = c.entries_turn.ensures in
     let small = c.meet.ensures.in_range in
     let j = row-entry alt c.args.self.now.start entry c.args.self.now.starts c.places-places.result.now c.args.self.now.are_starts c.places-places.ensures c.requires.from c.requires.to c.loop-column.column column in
@@ -47,7 +46,6 @@ pub returns-clause-extended : goal.returns-clause-extended
 returns-clause-extended g c = λ t m.
     let inv = c.loop-column.invariant in
     let alt = g.M.GoalMoves.alternative c.args.self.now.moves.now in
-    let d : Turn = record { face = U; power = Quarter } in
-    let same : turn_at alt.step m.0 ≡ t = sym (get_or_read (turns_of alt.step) m.0 t m.1 (sym m.2) d) in
+    let same : turn_at alt.step m.0 ≡ t = sym (get_or_read (turns_of alt.step) m.0 t m.1 (sym m.2) no_turn) in
     let inside : m.0 < c.loop-column.column = omega (arith, m.1, inv.end) in
     subst (λ (u : Turn). slice_index c.loop-column.distances (entry_after alt.goal c.args.entry u) < 21) same (inv.extended m.0 inside)
