@@ -260,22 +260,26 @@ not_flushed c f true e h = h ∙ sym (ap not e)
 not_flushed c f false e h = h ∙ sym (ap not e)
 
 -- no flush before the last one was refused
-pub one_flush : {asked : Result Request UsageFault} {stop stop_now : Stop} {a b : SourceState} {h i : AnswerState} {j : TargetState}
+one_flush : {asked : Result Request UsageFault} {stop stop_now : Stop} {a b : SourceState} {h i : AnswerState} {j : TargetState}
     → has_fault h.target ≡ false → RunsUnflushed asked stop a b h i → FlushesLast stop stop_now i.target j → j.flush_failed ≡ not j.is_flushed
 one_flush works x flush = not_flushed _ _ _ flush.flush.flushed
     (flush.flush.flush_failed ∙ ap (λ v. v || flush.refused) (flushes_worked _ _ _ _ _ _ _ works x.ends))
 
 pub runs_flushed : (words : List (List ℕ)) {status : ℕ} (stop stop_now : Stop) (a b : SourceState) (h : TargetState) {i : TargetState} (j : TargetState) {p q : List ℕ} (k l : TargetState) (looks looks_now : ℕ)
-    → p ≡ [] → q ≡ [] → RunsUnflushed (request_of words) stop a b (pending_state h p looks) (pending_state i q looks_now) → FlushesLast stop stop_now i j
+    → has_fault h ≡ false → p ≡ [] → q ≡ [] → RunsUnflushed (request_of words) stop a b (pending_state h p looks) (pending_state i q looks_now)
+    → (reads_source (request_of words) ≡ false → b ≡ a) → FlushesLast stop stop_now i j
     → ReportsError (error_text stop_now) k l → status ≡ status_of stop_now
     → Runs words (devices a h k) (devices b j l) looks looks_now status
-runs_flushed words stop stop_now a b h j k l looks looks_now none none_now x flush reports answers =
+runs_flushed words stop stop_now a b h j k l looks looks_now works none none_now x unread flush reports answers =
     record {
       input = x.input;
       gave = x.gave;
+      unread = unread;
       stop = stop_now;
       ends = subst (λ v. Ends v (out_of words x.input b) (request_of words) (devices a h k) (devices b j l)) (sym flush.stop_is)
           (ends_flushed _ _ _ _ _ _ _ refl none none_now x.ends x.read_whole flush.flush);
+      tried = flush.flush.tried;
+      one_flush = one_flush works x flush;
       looked = subst (λ v. Looked v j.write_failed (out_of words x.input b).looks looks looks_now) (sym flush.stop_is)
           (looked_flushed _ _ _ _ _ _ _ _ x.ends flush.flush);
       within_bound = bounded_looks _ _ _ _ _ _ _ x.ends;
