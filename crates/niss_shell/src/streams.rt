@@ -1,6 +1,6 @@
-ghost use Rattle.std.specs.Prelude.{◌≡◌, Bool, true, false, ◌||◌, Option, Ok, List, ℕ, is_ok, is_err, if◌then◌else◌, IsErr, MatchResult};
+ghost use Rattle.std.specs.Prelude.{◌≡◌, true, false, ◌||◌, Option, Ok, is_ok, is_err, if◌then◌else◌, IsErr, MatchResult};
 ghost use Rattle.std.specs.Io.KnownBytes.{IsAtEnd, Keeps, ReadConsumes, WriteAppends};
-ghost use Rattle.niss_shell.specs.Device.{SourceState, TargetState, Reads, TakesPiece, Flushes, has_fault, found_end, is_refused};
+ghost use Rattle.niss_shell.specs.Device.{Reads, TakesPiece, Flushes, has_fault, found_end, is_refused};
 
 use crate::device::{DeviceFault, Source, Target};
 use std::io;
