@@ -4,14 +4,14 @@ use Rattle.std.specs.Prelude.{nat_lt}
 use Rattle.std.proofs.lemmas.Grind.{common_steps}
 use Rattle.std.proofs.lemmas.List.{take_all}
 use Rattle.std.proofs.Math.Seq.{take-append-add}
-use Rattle.niss_shell.specs.Device.{SourceState, has_fault, Gave}
+use Rattle.niss_shell.specs.Device.{SourceState, has_fault, Gave, Reads}
 use Rattle.niss_shell.specs.Lines.{ended_lines, last_part, first_fault}
 use Rattle.niss_moves.specs.Reader.{Reader, IsFed}
 use Rattle.niss_shell.specs.Words.{limit}
 use Rattle.niss_shell.specs.Output.{Ending, More, End, Fail, ending, ending_of, LineAnswers, answer_lines, line_with_bytes, last_line, complete_lines, stop_of}
 use Rattle.niss_shell.specs.Engine.{AnswerState, Progress, stop_unless, WritesAnswers, RefusesAnswers, AllAnswered, StopsWithin, TakesBytes, TakesEnd, TakesNext, TakesLast, AnswersBytes, IsAt, Answers, AnswersSource}
-use Rattle.niss_shell.specs.Names.{Stop, Done, Line, InputTooLong, CannotRead, CannotWrite}
-use Rattle.niss_shell.proofs.DeviceLemmas.{gave_nothing, gave_more}
+use Rattle.niss_shell.specs.Names.{DeviceFault, Stop, Done, Line, InputTooLong, CannotRead, CannotWrite}
+use Rattle.niss_shell.proofs.DeviceLemmas.{gave_nothing, gave_more, is_empty_answer-some, is_empty_answer-none}
 use Rattle.niss_shell.proofs.EngineLemmas.{answered_line, stopped_line, answered_none, answered_more, stopped_more, stopped_front, takes_none, takes_more}
 
 -- the last line
@@ -143,28 +143,27 @@ at_start p source out reader line works = record {
   count_is = refl;
 }
 
-pub at_more : {f : LineAnswers} {count : ℕ} (n : ℕ) (block : List ℕ) {p q : Progress} {a b c : SourceState} {h i j : AnswerState}
-    → IsAt f count p a b h i → b.has_failed ≡ false → Gave b c (take n block) → n ≤ length block → TakesNext f (take n block) p q (Ok tt) i j
+pub at_more : {f : LineAnswers} {count n : ℕ} {block : List ℕ} {p q : Progress} {a b c : SourceState} {h i j : AnswerState}
+    → IsAt f count p a b h i → b.has_failed ≡ false → Reads (Ok n) block b c → TakesNext f (take n block) p q (Ok tt) i j
     → IsAt f (count + n) q a c h j
-at_more n block {a = a} {b = b} {c = c} x good gave fits next = record {
+at_more {n = n} {block = block} {a = a} {b = b} {c = c} x good read next = record {
   input = x.input ++ take n block;
-  gave = gave_more a b c _ _ good x.gave gave;
+  gave = gave_more a b c _ _ good x.gave read.bytes;
   takes = takes_more _ [] x.input (take n block) 1 _ _ tt (Ok tt) _ _ _ x.takes (next.takes (last_part [] x.input) x.takes.1.reader);
   count_is = let e : length (x.input ++ take n block) ≡ length x.input + length (take n block) = length-append x.input (take n block) in
-      let k : length (take n block) ≡ n = length_taken _ fits in omega (arith, e, k, x.count_is);
+      let k : length (take n block) ≡ n = length_taken _ read.bound in omega (arith, e, k, x.count_is);
 }
 
 -- a read that gave nothing
 gave_no_more : (a b c : SourceState) (x : List ℕ) → b.has_failed ≡ false → Gave a b x → Gave b c [] → Gave a c x
 gave_no_more a b c x good p q = subst (λ xs. Gave a c xs) (append-nil x) (gave_more a b c _ [] good p q)
 
-pub at_failure : {f : LineAnswers} {count : ℕ} {p : Progress} {a b c : SourceState} {h i : AnswerState}
-    → IsAt f count p a b h i → count ≤ limit → b.has_failed ≡ false → Gave b c [] → c.has_failed ≡ true
-    → AnswersSource f CannotRead a c h i
-at_failure {f = f} {a = a} {b = b} {c = c} {h = h} {i = i} x room good gave failed = record {
+pub at_failure : {f : LineAnswers} {count : ℕ} {block : List ℕ} {fault : DeviceFault} {p : Progress} {a b c : SourceState} {h i : AnswerState}
+    → IsAt f count p a b h i → count ≤ limit → b.has_failed ≡ false → Reads (Err fault) block b c → AnswersSource f CannotRead a c h i
+at_failure {f = f} {a = a} {b = b} {c = c} {h = h} {i = i} x room good read = record {
   input = x.input;
-  gave = gave_no_more a b c _ good x.gave gave;
-  answers = subst (λ v. Answers (answer_lines f x.input (ending_of v c.has_ended)) CannotRead h i) (sym failed)
+  gave = gave_no_more a b c _ good x.gave read.bytes;
+  answers = subst (λ v. Answers (answer_lines f x.input (ending_of v c.has_ended)) CannotRead h i) (sym read.failed)
       (answers_cannot_read _ (omega (arith, x.count_is, room)) x.takes);
   read_whole = λ e. absurd (cc e);
 }
@@ -172,16 +171,18 @@ at_failure {f = f} {a = a} {b = b} {c = c} {h = h} {i = i} x room good gave fail
 ending_is : (c : SourceState) (f : Bool) {e : Bool} → c.has_failed ≡ f → c.has_ended ≡ e → ending c ≡ ending_of f e
 ending_is c f p q = ap (λ v. ending_of v c.has_ended) p ∙ ap (λ v. ending_of f v) q
 
-pub at_end : {f : LineAnswers} {count : ℕ} {p : Progress} {a b c : SourceState} {h i j : AnswerState} {r : Result (Unit {0}) Stop}
-    → IsAt f count p a b h i → count ≤ limit → b.has_failed ≡ false → Gave b c [] → c.has_failed ≡ false → c.has_ended ≡ true
+pub at_end : {f : LineAnswers} {count n : ℕ} {block : List ℕ} {p : Progress} {a b c : SourceState} {h i j : AnswerState} {r : Result (Unit {0}) Stop}
+    → IsAt f count p a b h i → count ≤ limit → b.has_failed ≡ false → Reads (Ok n) block b c → n ≡ 0 → 0 < length block
     → TakesLast f p r i j → AnswersSource f (stop_unless r Done) a c h j
-at_end {f = f} {a = a} {b = b} {c = c} {h = h} {j = j} {r = r} x room good gave failed ended last = record {
-  input = x.input;
-  gave = gave_no_more a b c _ good x.gave gave;
-  answers = subst (λ m. Answers (answer_lines f x.input m) (stop_unless r Done) h j) (sym (ending_is c _ failed ended))
-      (input_ends _ _ _ _ _ _ _ (omega (arith, x.count_is, room)) x.takes (last.takes (last_part [] x.input) x.takes.1.reader));
-  read_whole = λ d. ended;
-}
+at_end {f = f} {block = block} {a = a} {b = b} {c = c} {h = h} {j = j} {r = r} x room good read none asked last =
+    let ended : c.has_ended ≡ true = read.ended ∙ is_empty_answer-none _ _ none asked in
+    record {
+      input = x.input;
+      gave = gave_no_more a b c _ good x.gave (subst (λ k. Gave b c (take k block)) none read.bytes);
+      answers = subst (λ m. Answers (answer_lines f x.input m) (stop_unless r Done) h j) (sym (ending_is c _ read.failed ended))
+          (input_ends _ _ _ _ _ _ _ (omega (arith, x.count_is, room)) x.takes (last.takes (last_part [] x.input) x.takes.1.reader));
+      read_whole = λ d. ended;
+    }
 
 -- the stated part of a block that goes past the limit
 cut_block : (input block : List ℕ) {count : ℕ} (n room : ℕ) → count ≡ length input → room + count ≡ limit → room ≤ n → n ≤ length block
@@ -205,38 +206,35 @@ not_done : (f : LineAnswers) (bytes : List ℕ) (q : Progress) (h j : AnswerStat
 not_done f bytes q h j (Ok u) x e = cc e
 not_done f bytes q h j (Err stop) x e = stop_is_not_done _ _ q _ _ x e
 
-pub at_limit : {f : LineAnswers} {count : ℕ} (n room : ℕ) (block : List ℕ) {p q : Progress} {a b c : SourceState} {h i j : AnswerState} {r : Result (Unit {0}) Stop}
-    → IsAt f count p a b h i → room + count ≡ limit → room < n → n ≤ length block → b.has_failed ≡ false → Gave b c (take n block) → c.has_failed ≡ false → c.has_ended ≡ false
+pub at_limit : {f : LineAnswers} {count n : ℕ} (room : ℕ) {block : List ℕ} {p q : Progress} {a b c : SourceState} {h i j : AnswerState} {r : Result (Unit {0}) Stop}
+    → IsAt f count p a b h i → room + count ≡ limit → room < n → b.has_failed ≡ false → Reads (Ok n) block b c
     → TakesNext f (take room block) p q r i j → AnswersSource f (stop_unless r InputTooLong) a c h j
-at_limit {f = f} n room block {a = a} {b = b} {c = c} {h = h} {j = j} {r = r} x sum long fits good gave failed ended next =
+at_limit {f = f} {n = n} room {block = block} {a = a} {b = b} {c = c} {h = h} {j = j} {r = r} x sum long good read next =
     let y = takes_more _ [] x.input (take room block) 1 _ _ tt r _ _ _ x.takes (next.takes (last_part [] x.input) x.takes.1.reader) in
     let l : length (x.input ++ take n block) ≡ length x.input + length (take n block) = length-append x.input (take n block) in
-    let k : length (take n block) ≡ n = length_taken _ fits in
+    let k : length (take n block) ≡ n = length_taken _ read.bound in
     record {
       input = x.input ++ take n block;
-      gave = gave_more a b c _ _ good x.gave gave;
-      answers = subst (λ m. Answers (answer_lines f (x.input ++ take n block) m) (stop_unless r InputTooLong) h j) (sym (ending_is c _ failed ended))
-          (too_long_answers _ _ _ _ _ _ (omega (arith, l, k, x.count_is, sum, long)) (cut_block _ _ _ _ x.count_is sum (omega (arith, long)) fits) y);
+      gave = gave_more a b c _ _ good x.gave read.bytes;
+      answers = subst (λ m. Answers (answer_lines f (x.input ++ take n block) m) (stop_unless r InputTooLong) h j) (sym (ending_is c _ read.failed (read.ended ∙ is_empty_answer-some _ _ (λ e. omega (arith, e, long)))))
+          (too_long_answers _ _ _ _ _ _ (omega (arith, l, k, x.count_is, sum, long)) (cut_block _ _ _ _ x.count_is sum (omega (arith, long)) read.bound) y);
       read_whole = λ d. absurd (not_done _ _ _ _ _ _ y d);
     }
 
-pub at_stop : {f : LineAnswers} {count : ℕ} (n : ℕ) (block : List ℕ) {p q : Progress} {a b c : SourceState} {h i j : AnswerState} {stop : Stop}
-    → IsAt f count p a b h i → n + count ≤ limit → n ≤ length block → b.has_failed ≡ false → Gave b c (take n block) → c.has_failed ≡ false → c.has_ended ≡ false
+pub at_stop : {f : LineAnswers} {count n : ℕ} {block : List ℕ} {p q : Progress} {a b c : SourceState} {h i j : AnswerState} {stop : Stop}
+    → IsAt f count p a b h i → n + count ≤ limit → b.has_failed ≡ false → Reads (Ok n) block b c → n ≢ 0
     → TakesNext f (take n block) p q (Err stop) i j → AnswersSource f stop a c h j
-at_stop {f = f} n block {q = q} {a = a} {b = b} {c = c} {h = h} {j = j} {stop = stop} x room fits good gave failed ended next =
+at_stop {f = f} {n = n} {block = block} {q = q} {a = a} {b = b} {c = c} {h = h} {j = j} {stop = stop} x room good read some next =
     let y = takes_more _ [] x.input (take n block) 1 _ q tt (Err stop) _ _ j x.takes (next.takes (last_part [] x.input) x.takes.1.reader) in
     let l : length (x.input ++ take n block) ≡ length x.input + length (take n block) = length-append x.input (take n block) in
-    let k : length (take n block) ≡ n = length_taken _ fits in
+    let k : length (take n block) ≡ n = length_taken _ read.bound in
     record {
       input = x.input ++ take n block;
-      gave = gave_more a b c _ _ good x.gave gave;
-      answers = subst (λ m. Answers (answer_lines f (x.input ++ take n block) m) stop h j) (sym (ending_is c _ failed ended))
+      gave = gave_more a b c _ _ good x.gave read.bytes;
+      answers = subst (λ m. Answers (answer_lines f (x.input ++ take n block) m) stop h j) (sym (ending_is c _ read.failed (read.ended ∙ is_empty_answer-some _ _ some)))
           (answers_stopped _ _ q _ _ _ (whole_input _ (omega (arith, l, k, x.count_is, room))) y);
       read_whole = λ d. absurd (stop_is_not_done _ _ q _ _ y d);
     }
-
-pub gave_nothing_of : (a b : SourceState) {n : ℕ} (block : List ℕ) → n ≡ 0 → Gave a b (take n block) → Gave a b []
-gave_nothing_of a b block e x = subst (λ k. Gave a b (take k block)) e x
 
 -- a whole text at once
 

@@ -3,12 +3,12 @@ use Rattle.std.proofs.Common.{◌≡◌, ◌≢◌, ℕ, ◌+◌, ◌≤◌, ◌
 use Rattle.std.specs.Prelude.{OnOk, OnErr, IfSome, nat_lt, nat_le, flat_map}
 use Rattle.std.proofs.lemmas.Grind.{common_steps}
 use Rattle.rand_pcg.specs.Lcg.{Lcg}
-use Rattle.niss_shell.specs.Device.{SourceState, TargetState, has_fault, Appended, WriteRefused}
+use Rattle.niss_shell.specs.Device.{SourceState, TargetState, has_fault, Appended, Flushes, WriteRefused}
 use Rattle.niss_shell.specs.Scrambles.{generator_of, scramble_text}
 use Rattle.niss_shell.specs.Words.{limit, Request, OnLines, ListSteps, DrawScrambles, request_of, reads_source, has_step, joined}
 use Rattle.niss_shell.specs.Output.{Answer, Ending, More, End, Fail, ending, stop_at_end, line_answers, answer_lines, answer_request, unsearched, step_line, stop_of, out_of, error_text, status_of}
 use Rattle.niss_cube.specs.Steps.{steps}
-use Rattle.niss_shell.specs.Engine.{AnswerState, pending_state, AnswersSource, Answers, Writes, Refuses, EndsUnflushed, RunsUnflushed, flushed_stop, Flushes, FlushesLast}
+use Rattle.niss_shell.specs.Engine.{AnswerState, pending_state, AnswersSource, Answers, Writes, Refuses, EndsUnflushed, RunsUnflushed, flushed_stop, FlushesLast}
 use Rattle.niss_shell.specs.Job.{IsInput}
 use Rattle.niss_shell.specs.Run.{Devices, devices, OutputRefused, EndsByFault, Ends, ReportsError, Looked, Runs}
 use Rattle.niss_shell.specs.Names.{DeviceFault, UsageFault, LineCommand, LineFault, Stop, Done, Usage, InputTooLong, CannotWrite, OutOfMemory}
@@ -260,22 +260,26 @@ not_flushed c f true e h = h ∙ sym (ap not e)
 not_flushed c f false e h = h ∙ sym (ap not e)
 
 -- no flush before the last one was refused
-pub one_flush : {asked : Result Request UsageFault} {stop stop_now : Stop} {a b : SourceState} {h i : AnswerState} {j : TargetState}
+one_flush : {asked : Result Request UsageFault} {stop stop_now : Stop} {a b : SourceState} {h i : AnswerState} {j : TargetState}
     → has_fault h.target ≡ false → RunsUnflushed asked stop a b h i → FlushesLast stop stop_now i.target j → j.flush_failed ≡ not j.is_flushed
 one_flush works x flush = not_flushed _ _ _ flush.flush.flushed
     (flush.flush.flush_failed ∙ ap (λ v. v || flush.refused) (flushes_worked _ _ _ _ _ _ _ works x.ends))
 
 pub runs_flushed : (words : List (List ℕ)) {status : ℕ} (stop stop_now : Stop) (a b : SourceState) (h : TargetState) {i : TargetState} (j : TargetState) {p q : List ℕ} (k l : TargetState) (looks looks_now : ℕ)
-    → p ≡ [] → q ≡ [] → RunsUnflushed (request_of words) stop a b (pending_state h p looks) (pending_state i q looks_now) → FlushesLast stop stop_now i j
+    → has_fault h ≡ false → p ≡ [] → q ≡ [] → RunsUnflushed (request_of words) stop a b (pending_state h p looks) (pending_state i q looks_now)
+    → (reads_source (request_of words) ≡ false → b ≡ a) → FlushesLast stop stop_now i j
     → ReportsError (error_text stop_now) k l → status ≡ status_of stop_now
     → Runs words (devices a h k) (devices b j l) looks looks_now status
-runs_flushed words stop stop_now a b h j k l looks looks_now none none_now x flush reports answers =
+runs_flushed words stop stop_now a b h j k l looks looks_now works none none_now x unread flush reports answers =
     record {
       input = x.input;
       gave = x.gave;
+      unread = unread;
       stop = stop_now;
       ends = subst (λ v. Ends v (out_of words x.input b) (request_of words) (devices a h k) (devices b j l)) (sym flush.stop_is)
           (ends_flushed _ _ _ _ _ _ _ refl none none_now x.ends x.read_whole flush.flush);
+      tried = flush.flush.tried;
+      one_flush = one_flush works x flush;
       looked = subst (λ v. Looked v j.write_failed (out_of words x.input b).looks looks looks_now) (sym flush.stop_is)
           (looked_flushed _ _ _ _ _ _ _ _ x.ends flush.flush);
       within_bound = bounded_looks _ _ _ _ _ _ _ x.ends;

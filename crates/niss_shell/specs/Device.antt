@@ -1,5 +1,6 @@
 -- What a contract sees of a source and of a target of bytes, and what calls do to them.
-use Rattle.std.specs.Prelude.{◌≡◌, ℕ, zero, suc, ◌<◌, ◌||◌, Bool, true, false, Option, Some, None, Result, Ok, Err, List, [], ◌∷◌, ◌++◌, take, length}
+use Rattle.std.specs.Prelude.{◌≡◌, ℕ, zero, suc, ◌<◌, ◌≤◌, ◌||◌, not, Bool, true, false, Option, Some, None, Result, Ok, Err, is_err, IfOk, List, [], ◌∷◌, ◌++◌, take, length}
+use Rattle.niss_shell.specs.Names.{DeviceFault}
 
 -- The bytes that a source will give, where they are known; whether a read failed; whether a read found the end.
 pub record SourceState : Type 0 where
@@ -71,6 +72,33 @@ found_end (Err e) buf = false
 abbrev pub is_refused : {E : Type 0} → Result ℕ E → List ℕ → Bool
 is_refused (Ok count) piece = is_empty_answer count piece
 is_refused (Err e) piece = true
+
+-- A read with this answer gave the next bytes, with which `buf` begins, and none where it failed.
+pub record Reads (result : Result ℕ DeviceFault) (buf : List ℕ) (old new : SourceState) : Type 0 where
+  pub bound : IfOk result (λ count. count ≤ length buf)
+  pub bytes : Gave old new (moved_bytes result buf)
+  pub failed : new.has_failed ≡ is_err result
+  pub ended : new.has_ended ≡ found_end result buf
+
+-- A write with this answer took first bytes of `piece`, and none where it failed.
+pub record TakesPiece (result : Result ℕ DeviceFault) (piece : List ℕ) (old new : TargetState) : Type 0 where
+  pub bound : IfOk result (λ count. count ≤ length piece)
+  pub bytes : Appended old new (moved_bytes result piece)
+  pub silent : StaysSilent old new
+  pub write_failed : new.write_failed ≡ (old.write_failed || is_refused result piece)
+  pub flush_failed : new.flush_failed ≡ old.flush_failed
+  -- no flush came after these bytes
+  pub untried : 0 < length (moved_bytes result piece) → new.flush_tried ≡ false
+  pub unflushed : 0 < length (moved_bytes result piece) → new.is_flushed ≡ false
+
+-- A flush, which was refused or wasn't, moved no bytes.
+pub record Flushes (refused : Bool) (old new : TargetState) : Type 0 where
+  pub bytes : Appended old new []
+  pub silent : StaysSilent old new
+  pub write_failed : new.write_failed ≡ old.write_failed
+  pub flush_failed : new.flush_failed ≡ (old.flush_failed || refused)
+  pub tried : new.flush_tried ≡ true
+  pub flushed : new.is_flushed ≡ not refused
 
 -- a beginning of the bytes, and not all of them
 abbrev pub IsCut : List ℕ → List ℕ → Type 0

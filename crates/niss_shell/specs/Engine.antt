@@ -1,6 +1,6 @@
 -- What the engine's steps do. `front` are the bytes of the line that is being read.
-use Rattle.std.specs.Prelude.{◌≡◌, ◌⊎◌, ℕ, ◌+◌, ◌*◌, ◌^◌, ◌≤◌, ◌||◌, not, Bool, true, false, Some, None, Result, Ok, Err, List, [], ◌++◌, length}
-use Rattle.niss_shell.specs.Device.{SourceState, TargetState, has_fault, Gave, Appended, StaysSilent, WriteRefused}
+use Rattle.std.specs.Prelude.{◌≡◌, ◌⊎◌, ℕ, ◌+◌, ◌*◌, ◌^◌, ◌≤◌, Bool, true, false, Some, None, Result, Ok, Err, List, [], ◌++◌, length}
+use Rattle.niss_shell.specs.Device.{SourceState, TargetState, has_fault, Gave, Appended, Flushes, WriteRefused}
 use Rattle.niss_shell.specs.Lines.{ended_lines, last_part, written_text, first_fault}
 use Rattle.niss_moves.specs.Line.{Moves}
 use Rattle.niss_moves.specs.Reader.{Reader, IsFed}
@@ -217,15 +217,6 @@ stop_unless (Err stop) otherwise = stop
 abbrev pub flushed_stop : Stop → Bool → Stop
 flushed_stop Done true = CannotWrite
 flushed_stop stop refused = stop
-
--- A flush that was refused or wasn't.
-pub record Flushes (refused : Bool) (old new : TargetState) : Type 0 where
-  pub flush_failed : new.flush_failed ≡ (old.flush_failed || refused)
-  pub write_failed : new.write_failed ≡ old.write_failed
-  pub bytes : Appended old new []
-  pub silent : StaysSilent old new
-  pub tried : new.flush_tried ≡ true
-  pub flushed : new.is_flushed ≡ not refused
 
 -- The last flush, which may be refused.
 pub record FlushesLast (stop stop_now : Stop) (old new : TargetState) : Type 0 where

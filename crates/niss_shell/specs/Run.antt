@@ -1,5 +1,5 @@
 -- What a run does to its three devices.
-use Rattle.std.specs.Prelude.{◌≡◌, ℕ, ◌+◌, ◌<◌, ◌≤◌, Bool, true, false, Result, List, [], ◌++◌, length}
+use Rattle.std.specs.Prelude.{◌≡◌, ℕ, ◌+◌, ◌<◌, ◌≤◌, not, Bool, true, false, Result, List, [], ◌++◌, length}
 use Rattle.niss_shell.specs.Device.{SourceState, TargetState, has_fault, Gave, Appended}
 use Rattle.niss_shell.specs.Words.{Request, request_of, reads_source, takes_memory}
 use Rattle.niss_shell.specs.Output.{Answer, out_of, error_text, status_of}
@@ -83,9 +83,16 @@ pub record Runs (words : List (List ℕ)) (old new : Devices) (looks looks_now :
   -- the bytes that the source gave
   pub input : List ℕ
   pub gave : Gave old.source new.source input
+  -- nothing is read but by a command that takes its input from the source
+  pub unread : reads_source (request_of words) ≡ false → new.source ≡ old.source
   -- how the run ended, and what was written
   pub stop : Stop
   pub ends : Ends stop (out_of words input new.source) (request_of words) old new
+  -- however it ended, a flush of the output was tried after its last byte
+  pub tried : new.output.flush_tried ≡ true
+  -- No flush but that last one was refused. So none came earlier, since an earlier one may be refused and the last one
+  -- not.
+  pub one_flush : new.output.flush_failed ≡ not new.output.is_flushed
   -- the looks at positions
   pub looked : Looked stop new.output.write_failed (out_of words input new.source).looks looks looks_now
   pub within_bound : looks_now ≤ looks + (out_of words input new.source).most_looks

@@ -122,18 +122,18 @@ impl<'a> Command<'a> {
             Command::Unniss(words) => (LineCommand::Rewrite(Rewriting::Unniss), words),
             Command::Cleanup(words) => (LineCommand::Rewrite(Rewriting::Cleanup), words),
             Command::Print(words) => (LineCommand::Rewrite(Rewriting::Print), words),
-            Command::Solve(step, limit, words) => {
-                let search = search_for(Report::Solutions, step, limit, Limit::ZERO);
-                (search, words)
-            }
-            Command::Count(step, limit, words) => {
-                let search = search_for(Report::Counts, step, limit, Limit::ZERO);
-                (search, words)
-            }
-            Command::Near(step, limit, slack, words) => {
-                let search = search_for(Report::Solutions, step, limit, slack);
-                (search, words)
-            }
+            Command::Solve(step, limit, words) => (
+                search_for(Report::Solutions, step, limit, Limit::ZERO),
+                words,
+            ),
+            Command::Count(step, limit, words) => (
+                search_for(Report::Counts, step, limit, Limit::ZERO),
+                words,
+            ),
+            Command::Near(step, limit, slack, words) => (
+                search_for(Report::Solutions, step, limit, slack),
+                words,
+            ),
             Command::Steps | Command::Scramble { .. } => return None,
         };
         Some(LineRequest { command, words })

@@ -1,5 +1,5 @@
-ghost use Rattle.std.specs.Prelude.{◌≡◌, ◌<◌, ◌≤◌, Bool, true, false, ◌||◌, List, [], length, is_ok, is_err, IfOk};
-ghost use Rattle.niss_shell.specs.Device.{SourceState, TargetState, Gave, Appended, StaysSilent, has_fault, moved_bytes, found_end, is_refused};
+ghost use Rattle.std.specs.Prelude.{◌≡◌, false, is_err};
+ghost use Rattle.niss_shell.specs.Device.{SourceState, TargetState, Reads, TakesPiece, Flushes, has_fault};
 
 /// A read, a write or a flush failed. It carries nothing.
 #[derive(Clone, Copy, Debug, PartialEq, Eq)]
@@ -15,10 +15,7 @@ pub trait Source {
     fn read(&mut self, buf: &mut [u8]) -> Result<usize, DeviceFault>
         requires works { (state self.old).has_failed ≡ false }
         requires goes_on { (state self.old).has_ended ≡ false }
-        ensures bound { IfOk result (λ count. count ≤ length buf.new) }
-        ensures bytes { Gave (state self.old) (state self.new) (moved_bytes result buf.new) }
-        ensures failed { (state self.new).has_failed ≡ is_err result }
-        ensures ended { (state self.new).has_ended ≡ found_end result buf.new };
+        ensures { Reads result buf.new (state self.old) (state self.new) };
 
     /// Whether a read failed.
     fn failed(&self) -> bool
@@ -37,26 +34,11 @@ pub trait Target {
     /// Takes some first bytes of the piece, and answers how many. To take none of a piece that isn't empty is a failure,
     /// as an `Err` is.
     fn write(&mut self, piece: &[u8]) -> Result<usize, DeviceFault>
-        ensures bound { IfOk result (λ count. count ≤ length piece.now) }
-        ensures bytes { Appended (state self.old) (state self.new) (moved_bytes result piece.now) }
-        ensures silent { StaysSilent (state self.old) (state self.new) }
-        ensures write_failed { (state self.new).write_failed
-            ≡ ((state self.old).write_failed || is_refused result piece.now) }
-        ensures flush_failed { (state self.new).flush_failed ≡ (state self.old).flush_failed }
-        ensures untried { 0 < length (moved_bytes result piece.now) →
-            (state self.new).flush_tried ≡ false }
-        ensures unflushed { 0 < length (moved_bytes result piece.now) →
-            (state self.new).is_flushed ≡ false };
+        ensures { TakesPiece result piece.now (state self.old) (state self.new) };
 
     /// Passes on what was taken.
     fn flush(&mut self) -> Result<(), DeviceFault>
-        ensures bytes { Appended (state self.old) (state self.new) [] }
-        ensures silent { StaysSilent (state self.old) (state self.new) }
-        ensures write_failed { (state self.new).write_failed ≡ (state self.old).write_failed }
-        ensures flush_failed { (state self.new).flush_failed
-            ≡ ((state self.old).flush_failed || is_err result) }
-        ensures tried { (state self.new).flush_tried ≡ true }
-        ensures flushed { (state self.new).is_flushed ≡ is_ok result };
+        ensures { Flushes (is_err result) (state self.old) (state self.new) };
 
     /// Whether a write or a flush failed.
     fn failed(&self) -> bool

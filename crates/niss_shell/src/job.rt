@@ -1,5 +1,6 @@
 //! A command on lines with all that its run takes memory for, taken before the first byte is read or written.
-ghost use Rattle.std.specs.Prelude.{◌≡◌, ◌<◌, ◌≤◌, ◌^◌, ◌++◌, true, false, Ok, List, [], ℕ, map, flat_map, string_bytes, length, OnOk, OnErr, IfOk, IfErr, IfSome, MatchOption};
+ghost use Rattle.std.specs.Prelude.{◌≡◌, ◌<◌, ◌≤◌, ◌^◌, ◌++◌, true, false, Ok, List, [], ℕ, map, flat_map, string_bytes, length};
+ghost use Rattle.std.specs.Prelude.{OnOk, OnErr, IfOk, IfErr, IfSome, MatchOption};
 ghost use Rattle.niss_shell.specs.Device.{has_fault};
 ghost use Rattle.niss_shell.specs.Words.{limit, joined, spaced_word, has_step, reads_source, OnLines};
 ghost use Rattle.niss_shell.specs.Engine.{RunsUnflushed, EndsAtOnce, output_state, stop_unless};

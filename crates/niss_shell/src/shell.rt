@@ -1,4 +1,4 @@
-ghost use Rattle.std.specs.Prelude.{◌≡◌, ◌≤◌, ◌^◌, not, false, true, [], ℕ, map, flat_map, string_bytes};
+ghost use Rattle.std.specs.Prelude.{◌≡◌, ◌≤◌, ◌^◌, false, [], ℕ, map, flat_map, string_bytes};
 ghost use Rattle.niss_shell.specs.Device.{has_fault};
 ghost use Rattle.niss_shell.specs.Words.{request_of, reads_source};
 ghost use Rattle.niss_shell.specs.Output.{error_text, step_line, unsearched};
@@ -102,14 +102,6 @@ pub fn run_in<A: Allocator + Copy, R: Source, W: Target, E: Target>(
     ensures runs { Runs (map string_bytes words.now)
         (devices (R.state input.old) (W.state out.old) (E.state err.old))
         (devices (R.state input.new) (W.state out.new) (E.state err.new)) looks.old looks.new result }
-    // Nothing is read but by a command that takes its input from the source.
-    ensures unread { reads_source (request_of (map string_bytes words.now)) ≡ false →
-        R.state input.new ≡ R.state input.old }
-    // However a run ends, a flush of the output is tried after its last byte.
-    ensures tried { (W.state out.new).flush_tried ≡ true }
-    // No flush but that last one is refused. So none comes earlier, since an earlier one may be refused and the last
-    // one not.
-    ensures one_flush { (W.state out.new).flush_failed ≡ not (W.state out.new).is_flushed }
 {
     let mut output = Output::new(out);
     let answered = answer_command(alloc, words, input, &mut output, looks);
@@ -139,14 +131,6 @@ pub fn run<R: Source, W: Target, E: Target>(
     ensures runs { Runs (map string_bytes words.now)
         (devices (R.state input.old) (W.state out.old) (E.state err.old))
         (devices (R.state input.new) (W.state out.new) (E.state err.new)) looks.old looks.new result }
-    // Nothing is read but by a command that takes its input from the source.
-    ensures unread { reads_source (request_of (map string_bytes words.now)) ≡ false →
-        R.state input.new ≡ R.state input.old }
-    // However a run ends, a flush of the output is tried after its last byte.
-    ensures tried { (W.state out.new).flush_tried ≡ true }
-    // No flush but that last one is refused. So none comes earlier, since an earlier one may be refused and the last
-    // one not.
-    ensures one_flush { (W.state out.new).flush_failed ≡ not (W.state out.new).is_flushed }
 {
     run_in(alloc, words, input, out, err, looks)
 }

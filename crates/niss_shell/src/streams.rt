@@ -1,6 +1,6 @@
-ghost use Rattle.std.specs.Prelude.{◌≡◌, ◌<◌, ◌≤◌, [], Bool, true, false, ◌||◌, Option, Ok, List, ℕ, length, is_ok, is_err, if◌then◌else◌, IfOk, IsErr, MatchResult};
+ghost use Rattle.std.specs.Prelude.{◌≡◌, true, false, ◌||◌, Option, Ok, is_ok, is_err, if◌then◌else◌, IsErr, MatchResult};
 ghost use Rattle.std.specs.Io.KnownBytes.{IsAtEnd, Keeps, ReadConsumes, WriteAppends};
-ghost use Rattle.niss_shell.specs.Device.{SourceState, TargetState, Gave, Appended, StaysSilent, has_fault, moved_bytes, found_end, is_refused};
+ghost use Rattle.niss_shell.specs.Device.{Reads, TakesPiece, Flushes, has_fault, found_end, is_refused};
 
 use crate::device::{DeviceFault, Source, Target};
 use std::io;
@@ -60,12 +60,8 @@ impl<R: io::Read> Source for FromReader<R> {
     fn read(&mut self, buf: &mut [u8]) -> Result<usize, DeviceFault>
         requires works { (⟦<FromReader<R> as Source>⟧.state self.old).has_failed ≡ false }
         requires goes_on { (⟦<FromReader<R> as Source>⟧.state self.old).has_ended ≡ false }
-        ensures bound { IfOk result (λ count. count ≤ length buf.new) }
-        ensures bytes { Gave (⟦<FromReader<R> as Source>⟧.state self.old)
-            (⟦<FromReader<R> as Source>⟧.state self.new) (moved_bytes result buf.new) }
-        ensures failed { (⟦<FromReader<R> as Source>⟧.state self.new).has_failed ≡ is_err result }
-        ensures ended { (⟦<FromReader<R> as Source>⟧.state self.new).has_ended
-            ≡ found_end result buf.new }
+        ensures reads { Reads result buf.new (⟦<FromReader<R> as Source>⟧.state self.old)
+            (⟦<FromReader<R> as Source>⟧.state self.new) }
         // What it finds as the end is the reader's end, and no failed read.
         ensures whole { found_end result buf.new ≡ true →
             IsAtEnd (⟦<FromReader<R> as Source>⟧.state self.new).left }
@@ -172,19 +168,8 @@ impl<W: io::Write> Target for ToWriter<W> {
     } };
 
     fn write(&mut self, piece: &[u8]) -> Result<usize, DeviceFault>
-        ensures bound { IfOk result (λ count. count ≤ length piece.now) }
-        ensures bytes { Appended (⟦<ToWriter<W> as Target>⟧.state self.old)
-            (⟦<ToWriter<W> as Target>⟧.state self.new) (moved_bytes result piece.now) }
-        ensures silent { StaysSilent (⟦<ToWriter<W> as Target>⟧.state self.old)
+        ensures takes { TakesPiece result piece.now (⟦<ToWriter<W> as Target>⟧.state self.old)
             (⟦<ToWriter<W> as Target>⟧.state self.new) }
-        ensures write_failed { (⟦<ToWriter<W> as Target>⟧.state self.new).write_failed
-            ≡ ((⟦<ToWriter<W> as Target>⟧.state self.old).write_failed || is_refused result piece.now) }
-        ensures flush_failed { (⟦<ToWriter<W> as Target>⟧.state self.new).flush_failed
-            ≡ (⟦<ToWriter<W> as Target>⟧.state self.old).flush_failed }
-        ensures untried { 0 < length (moved_bytes result piece.now) →
-            (⟦<ToWriter<W> as Target>⟧.state self.new).flush_tried ≡ false }
-        ensures unflushed { 0 < length (moved_bytes result piece.now) →
-            (⟦<ToWriter<W> as Target>⟧.state self.new).is_flushed ≡ false }
         // Whatever failed before, the writer takes what is answered and nothing else.
         ensures writer { WriteAppends (W.contents self.old.writer) (W.contents self.new.writer)
             result piece.now }
@@ -194,16 +179,8 @@ impl<W: io::Write> Target for ToWriter<W> {
     }
 
     fn flush(&mut self) -> Result<(), DeviceFault>
-        ensures bytes { Appended (⟦<ToWriter<W> as Target>⟧.state self.old)
-            (⟦<ToWriter<W> as Target>⟧.state self.new) [] }
-        ensures silent { StaysSilent (⟦<ToWriter<W> as Target>⟧.state self.old)
+        ensures flushes { Flushes (is_err result) (⟦<ToWriter<W> as Target>⟧.state self.old)
             (⟦<ToWriter<W> as Target>⟧.state self.new) }
-        ensures write_failed { (⟦<ToWriter<W> as Target>⟧.state self.new).write_failed
-            ≡ (⟦<ToWriter<W> as Target>⟧.state self.old).write_failed }
-        ensures flush_failed { (⟦<ToWriter<W> as Target>⟧.state self.new).flush_failed
-            ≡ ((⟦<ToWriter<W> as Target>⟧.state self.old).flush_failed || is_err result) }
-        ensures tried { (⟦<ToWriter<W> as Target>⟧.state self.new).flush_tried ≡ true }
-        ensures flushed { (⟦<ToWriter<W> as Target>⟧.state self.new).is_flushed ≡ is_ok result }
         // Whatever failed before, a flush writes nothing.
         ensures writer { Keeps (W.contents self.old.writer) (W.contents self.new.writer) }
     {

@@ -1,25 +1,20 @@
-use Rattle.std.proofs.Common.{◌≡◌, map, not, false, sym, ap, ◌∙◌, subst}
+use Rattle.std.proofs.Common.{◌≡◌, map, false, sym, ap, ◌∙◌, subst}
 use Rattle.std.specs.Prelude.{string_bytes}
 use Rattle.niss_shell.specs.Device.{has_fault}
 use Rattle.niss_shell.specs.Run.{Runs, devices}
-use Rattle.niss_shell.proofs.RunLemmas.{runs_flushed, lent_back, one_flush}
+use Rattle.niss_shell.proofs.RunLemmas.{runs_flushed, lent_back}
 use Rattle.niss_shell.proofs.shell.run_in.Goals as goal
 
-pub returns-clause-runs : goal.returns-clause-runs
-returns-clause-runs g c =
+pub returns : goal.returns
+returns g c =
     let back : c.out-1.given.0 ≡ c.finish-stop.new.self.target.now =
     c.out-1.given.1 (sym (c.finish-stop.ensures.same_target ∙ c.answer_command-answered.ensures.same_target ∙ c.new-output.ensures.same_target)) in
-    lent_back _ _ _ _ _ _ _ _ _ (ap g.W.Target.state (sym back))
-    (subst (λ t. Runs (map string_bytes c.args.words.now) (devices (g.R.Source.state c.args.input.now) (g.W.Target.state t) (g.E.Target.state c.args.err.now))
-    (devices (g.R.Source.state c.answer_command-answered.new.source) (g.W.Target.state c.finish-stop.new.self.target.now) (g.E.Target.state c.report.new.err))
-    c.args.looks.now c.answer_command-answered.new.looks c.status.result) c.new-output.ensures.unchanged
-    (runs_flushed _ _ _ _ _ _ _ _ _ _ _ c.new-output.ensures.empty c.answer_command-answered.ensures.empty
-    c.answer_command-answered.ensures.runs c.finish-stop.ensures.flushes c.report.ensures c.status.ensures))
-
-pub returns-clause-one_flush : goal.returns-clause-one_flush
-returns-clause-one_flush g c =
-    let back : c.out-1.given.0 ≡ c.finish-stop.new.self.target.now =
-    c.out-1.given.1 (sym (c.finish-stop.ensures.same_target ∙ c.answer_command-answered.ensures.same_target ∙ c.new-output.ensures.same_target)) in
-    subst (λ t. (g.W.Target.state t).flush_failed ≡ not (g.W.Target.state t).is_flushed) (sym back)
-    (one_flush
-    (subst (λ t. has_fault (g.W.Target.state t) ≡ false) (sym c.new-output.ensures.unchanged) c.requires.works) c.answer_command-answered.ensures.runs c.finish-stop.ensures.flushes)
+    record {
+      runs = lent_back _ _ _ _ _ _ _ _ _ (ap g.W.Target.state (sym back))
+          (subst (λ t. Runs (map string_bytes c.args.words.now) (devices (g.R.Source.state c.args.input.now) (g.W.Target.state t) (g.E.Target.state c.args.err.now))
+          (devices (g.R.Source.state c.answer_command-answered.new.source) (g.W.Target.state c.finish-stop.new.self.target.now) (g.E.Target.state c.report.new.err))
+          c.args.looks.now c.answer_command-answered.new.looks c.status.result) c.new-output.ensures.unchanged
+          (runs_flushed _ _ _ _ _ _ _ _ _ _ _ (subst (λ t. has_fault (g.W.Target.state t) ≡ false) (sym c.new-output.ensures.unchanged) c.requires.works)
+          c.new-output.ensures.empty c.answer_command-answered.ensures.empty c.answer_command-answered.ensures.runs c.answer_command-answered.ensures.unread
+          c.finish-stop.ensures.flushes c.report.ensures c.status.ensures));
+    }

@@ -1,8 +1,8 @@
 use Rattle.std.proofs.Common.{◌≡◌, take, length, ◌-◌, ◌∙◌, refl, arith}
 use Rattle.niss_shell.specs.Words.{limit}
 use Rattle.std.proofs.lemmas.Result.{err_from_is_err_and}
-use Rattle.niss_shell.proofs.AnswerLemmas.{length_taken, at_start, at_more, at_failure, at_end, at_limit, at_stop, gave_nothing_of}
-use Rattle.niss_shell.proofs.DeviceLemmas.{is_empty_answer-some, is_empty_answer-none}
+use Rattle.niss_shell.proofs.AnswerLemmas.{length_taken, at_start, at_more, at_failure, at_end, at_limit, at_stop}
+use Rattle.niss_shell.proofs.DeviceLemmas.{is_empty_answer-some}
 use Rattle.niss_shell.proofs.TakingLemmas.{keeps_same, keeps_more, kept, last_kept}
 use Rattle.niss_shell.proofs.lines.Lines.read.Goals as goal
 
@@ -24,40 +24,31 @@ loop-given-init g c = record {
 
 pub returns-in_default-clause-answers : goal.returns-in_default-clause-answers
 returns-in_default-clause-answers g c =
-    at_failure c.loop-given.invariant.at c.loop-given.invariant.room c.loop-given.invariant.reads c.in_default.ensures.bytes c.in_default.ensures.failed
+    at_failure c.loop-given.invariant.at c.loop-given.invariant.room c.loop-given.invariant.reads c.in_default.ensures
 
 pub returns-then-given-eq0-clause-answers : goal.returns-then-given-eq0-clause-answers
 returns-then-given-eq0-clause-answers g c =
-    at_end c.loop-given.invariant.at c.loop-given.invariant.room c.loop-given.invariant.reads
-    (gave_nothing_of (g.S.Source.state c.loop-given.source) (g.S.Source.state c.read.new.self) c.read.new.buf c.if-given-eq0.true c.in-Ok.ensures.bytes)
-    c.in-Ok.ensures.failed
-    (c.in-Ok.ensures.ended ∙ is_empty_answer-none _ _ c.if-given-eq0.true (rw c.read.auto.buf c.loop-given.invariant.block))
-    (last_kept c.loop-given.invariant.keeps c.take_end.ensures.ends)
+    at_end c.loop-given.invariant.at c.loop-given.invariant.room c.loop-given.invariant.reads c.in-Ok.ensures
+    c.if-given-eq0.true (rw c.read.auto.buf c.loop-given.invariant.block) (last_kept c.loop-given.invariant.keeps c.take_end.ensures.ends)
 
 pub returns-in_err-take_block-clause-answers : goal.returns-in_err-take_block-clause-answers
 returns-in_err-take_block-clause-answers g c =
     let p = err_from_is_err_and c.from_residual.result c.from_residual.ensures.1 in
-    rw (p.1, p.2) (at_limit c.in-Ok.given (limit - c.loop-given.count) c.read.new.buf
-    c.loop-given.invariant.at (omega (arith, c.loop-given.invariant.room)) c.if-given-room.true c.in-Ok.ensures.bound
-    c.loop-given.invariant.reads c.in-Ok.ensures.bytes c.in-Ok.ensures.failed
-    (c.in-Ok.ensures.ended ∙ is_empty_answer-some _ _ c.if-given-eq0.false)
+    rw (p.1, p.2) (at_limit (limit - c.loop-given.count)
+    c.loop-given.invariant.at (omega (arith, c.loop-given.invariant.room)) c.if-given-room.true c.loop-given.invariant.reads c.in-Ok.ensures
     (kept c.loop-given.invariant.keeps c.in_err-take_block.ensures.takes))
 
 pub returns-then-given-room-clause-answers : goal.returns-then-given-room-clause-answers
 returns-then-given-room-clause-answers g c =
-    at_limit c.in-Ok.given (limit - c.loop-given.count) c.read.new.buf
-    c.loop-given.invariant.at (omega (arith, c.loop-given.invariant.room)) c.if-given-room.true c.in-Ok.ensures.bound
-    c.loop-given.invariant.reads c.in-Ok.ensures.bytes c.in-Ok.ensures.failed
-    (c.in-Ok.ensures.ended ∙ is_empty_answer-some _ _ c.if-given-eq0.false)
+    at_limit (limit - c.loop-given.count)
+    c.loop-given.invariant.at (omega (arith, c.loop-given.invariant.room)) c.if-given-room.true c.loop-given.invariant.reads c.in-Ok.ensures
     (kept c.loop-given.invariant.keeps c.in_ok-take_block.ensures.takes)
 
 pub returns-in_err-take_block-2-clause-answers : goal.returns-in_err-take_block-2-clause-answers
 returns-in_err-take_block-2-clause-answers g c =
     let p = err_from_is_err_and c.from_residual-in_err-take_block-2.result c.from_residual-in_err-take_block-2.ensures.1 in
-    rw (p.1, p.2) (at_stop c.in-Ok.given c.read.new.buf
-    c.loop-given.invariant.at (omega (arith, c.loop-given.invariant.room, c.if-given-room.false)) c.in-Ok.ensures.bound
-    c.loop-given.invariant.reads c.in-Ok.ensures.bytes c.in-Ok.ensures.failed
-    (c.in-Ok.ensures.ended ∙ is_empty_answer-some _ _ c.if-given-eq0.false)
+    rw (p.1, p.2) (at_stop c.loop-given.invariant.at
+    (omega (arith, c.loop-given.invariant.room, c.if-given-room.false)) c.loop-given.invariant.reads c.in-Ok.ensures c.if-given-eq0.false
     (kept c.loop-given.invariant.keeps c.in_err-take_block-2.ensures.takes))
 
 pub loop-given-preserved : goal.loop-given-preserved
@@ -66,8 +57,7 @@ loop-given-preserved g c =
     record {
       keeps = keeps_more c.loop-given.invariant.keeps c.in_ok-take_block-2.ensures.keeps;
       same_target = c.in_ok-take_block-2.ensures.same_target ∙ c.loop-given.invariant.same_target;
-      at = at_more c.in-Ok.given c.read.new.buf c.loop-given.invariant.at c.loop-given.invariant.reads c.in-Ok.ensures.bytes c.in-Ok.ensures.bound
-          (kept c.loop-given.invariant.keeps c.in_ok-take_block-2.ensures.takes);
+      at = at_more c.loop-given.invariant.at c.loop-given.invariant.reads c.in-Ok.ensures (kept c.loop-given.invariant.keeps c.in_ok-take_block-2.ensures.takes);
       reads = c.in-Ok.ensures.failed;
       goes_on = c.in-Ok.ensures.ended ∙ is_empty_answer-some _ _ c.if-given-eq0.false;
       works = c.in_ok-take_block-2.ensures.works;
