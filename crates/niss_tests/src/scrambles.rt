@@ -36,7 +36,7 @@ const SCRAMBLES: &[Run] = &[
 ];
 
 #[test]
-fn seeds_give_scrambles(rt: HostRuntime) {
+fn scrambles_of_a_seed_are_written(rt: HostRuntime) {
     check_runs(&rt, rt.alloc(), SCRAMBLES);
 }
 

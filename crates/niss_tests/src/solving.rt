@@ -175,7 +175,7 @@ fn steps_are_listed(rt: HostRuntime) {
 }
 
 #[test]
-fn wrong_words_are_refused(rt: HostRuntime) {
+fn wrong_words_of_searches_are_refused(rt: HostRuntime) {
     let wrong: &[&[&str]] = &[
         &["solve"],
         &["solve", "eofb"],
