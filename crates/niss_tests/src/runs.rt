@@ -213,6 +213,22 @@ pub fn check_each_write(rt: &impl Abort, alloc: Global, run: Run<'_>, devices: D
     check_count(rt, "writes", calls.writes, outcome.output.len());
 }
 
+/// Makes a run whose first write takes no byte: no other follows it.
+pub fn check_nothing_taken(
+    rt: &impl Abort,
+    alloc: Global,
+    words: &[&str],
+    input: &[u8],
+    devices: Devices<'_>,
+) {
+    let full = Devices {
+        most_written: 0,
+        ..devices
+    };
+    let calls = Run::Failure(words, input, b"", CANNOT_WRITE).check(rt, alloc, full);
+    check_count(rt, "writes", calls.writes, 1);
+}
+
 /// Few bytes in each call: so lines and moves are cut at every third byte.
 pub const FEW: Devices<'static> = Devices {
     most_read: 3,

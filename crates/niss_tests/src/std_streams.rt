@@ -4,7 +4,7 @@ use crate::devices::{Devices, FAULTLESS};
 use crate::runs::Run::{self, Failure, Fault, Good, Usage};
 use crate::runs::{
     CANNOT_READ, CANNOT_WRITE, check_bytes, check_count, check_each_read, check_each_write,
-    repeated, words_of,
+    check_nothing_taken, repeated, words_of,
 };
 use niss_shell::{FromReader, Meter, ToWriter, run};
 use std::alloc::Global;
@@ -21,19 +21,13 @@ const KINDS: [io::ErrorKind; 5] = [
     io::ErrorKind::Other,
 ];
 
-/// Streams that fail with this kind of error.
-const fn streams(kind: io::ErrorKind) -> Devices<'static> {
+/// Streams of which no call fails; where one is to fail, it does with this kind of error.
+fn streams(kind: io::ErrorKind) -> Devices<'static> {
     Devices {
         stream_error: Some(kind),
         ..FAULTLESS
     }
 }
-
-/// Streams of which no call fails.
-const STREAMS: Devices<'static> = Devices {
-    stream_error: Some(io::ErrorKind::Other),
-    ..FAULTLESS
-};
 
 #[test]
 fn a_cursor_and_lists_are_streams(rt: HostRuntime) {
@@ -65,7 +59,7 @@ fn each_read_fails_once(rt: HostRuntime) {
 #[test]
 fn short_reads_are_counted(rt: HostRuntime) {
     let run = Good(&["invert"], b"R\nU\nF", b"R'\nU'\nF'\n");
-    let calls = run.check(&rt, rt.alloc(), STREAMS);
+    let calls = run.check(&rt, rt.alloc(), streams(io::ErrorKind::Other));
     check_count(&rt, "reads", calls.reads, 6);
 }
 
@@ -75,7 +69,7 @@ fn check_blocks(rt: &impl Abort, alloc: Global, blocks: usize, output: &[u8]) {
     let spaces = spaces.expect(rt, "memory for blocks");
     let devices = Devices {
         most_read: usize::MAX,
-        ..STREAMS
+        ..streams(io::ErrorKind::Other)
     };
     let calls = Good(&["invert"], spaces.as_bytes(), output).check(rt, alloc, devices);
     check_count(rt, "reads", calls.reads, blocks.saturating_add(1));
@@ -124,14 +118,9 @@ fn each_write_fails_once(rt: HostRuntime) {
 }
 
 #[test]
-fn no_bytes_are_taken(rt: HostRuntime) {
-    let devices = Devices {
-        most_written: 0,
-        ..STREAMS
-    };
-    let run = Failure(&["invert", "R U' F2"], b"", b"", CANNOT_WRITE);
-    let calls = run.check(&rt, rt.alloc(), devices);
-    check_count(&rt, "writes", calls.writes, 1);
+fn no_bytes_are_taken_by_a_stream(rt: HostRuntime) {
+    let devices = streams(io::ErrorKind::Other);
+    check_nothing_taken(&rt, rt.alloc(), &["invert", "R U' F2"], b"", devices);
 }
 
 /// Runs with one flush, after the last byte: a good one, one that a line's fault ends, and one that writes nothing.
@@ -149,7 +138,7 @@ const FLUSHED: [Run<'static>; 3] = [
 #[test]
 fn the_flush_comes_last(rt: HostRuntime) {
     for run in FLUSHED {
-        run.check(&rt, rt.alloc(), STREAMS);
+        run.check(&rt, rt.alloc(), streams(io::ErrorKind::Other));
     }
 }
 
