@@ -160,7 +160,7 @@ impl<'a> Writes<'a> {
     {
         let written = self.written(rt, alloc, before);
         let failing = Devices {
-            failed_write: before + 1,
+            failed_write: Some(before + 1),
             ..self.devices()
         };
         let cut = Failure(self.words, self.input, written.as_slice(), CANNOT_WRITE);
@@ -239,7 +239,7 @@ fn check_cut_fault(rt: &impl Abort, alloc: Global, fault: &[u8], taken: usize)
 {
     let devices = Devices {
         most_reported: 1,
-        failed_report: taken + 1,
+        failed_report: Some(taken + 1),
         ..FAULTLESS
     };
     Fault(&["invert", "R '"], b"", b"", &fault[..taken]).check(rt, alloc, devices);

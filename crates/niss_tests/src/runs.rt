@@ -184,7 +184,7 @@ pub fn check_each_read<'a>(
     for before in 0..6usize {
         let failing = Devices {
             most_read: 1,
-            failed_read: before + 1,
+            failed_read: Some(before + 1),
             ..devices
         };
         let run = Run::Failure(words, b"R\nU\nF", outputs[before / 2], CANNOT_READ);
@@ -202,7 +202,7 @@ pub fn check_each_write(rt: &impl Abort, alloc: Global, run: Run<'_>, devices: D
     };
     for before in 0..outcome.output.len() {
         let failing = Devices {
-            failed_write: before + 1,
+            failed_write: Some(before + 1),
             ..bytewise
         };
         let cut = Run::Failure(words, input, &outcome.output[..before], CANNOT_WRITE);

@@ -72,7 +72,7 @@ fn most_scrambles_are_written(rt: HostRuntime) {
 fn nothing_is_read_and_no_memory_taken(rt: HostRuntime) -> Result<(), Fail> {
     let heap = LocalHeap::new(rt.alloc(), 16)?;
     let devices = Devices {
-        failed_read: 1,
+        failed_read: Some(1),
         heap: Some(&heap),
         ..FAULTLESS
     };

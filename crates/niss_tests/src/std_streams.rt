@@ -91,7 +91,7 @@ fn check_failed_blocks(rt: &impl Abort, alloc: Global, kind: io::ErrorKind) {
     for failed_read in 1..4usize {
         let devices = Devices {
             most_read: usize::MAX,
-            failed_read,
+            failed_read: Some(failed_read),
             ..streams(kind)
         };
         let run = Failure(&["invert"], spaces.as_bytes(), b"", CANNOT_READ);
