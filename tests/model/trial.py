@@ -10,9 +10,17 @@ import model
 from solving import TooMuch
 
 TIMEOUT = 120
+# the most positions that the model's search may look at in one deepening
+LOOKS = 60_000
 SHOWN = 15
 SHRUNK = 3
 SHRINKING = 8
+
+
+def seed_and_scale(arguments):
+    """The seed of what is drawn and how much is drawn, 1 where the arguments don't say."""
+    seed, scale = (arguments + ["1", "1"])[:2]
+    return int(seed), float(scale)
 
 
 def short(value, most=300):
