@@ -2,6 +2,7 @@
 ghost use Rattle.std.specs.Prelude.{◌<◌, length};
 
 use crate::devices::{Devices, FAULTLESS};
+use crate::runs::Given::{self, Input, Words};
 use crate::runs::Run::{Failure, Fault, Good};
 use crate::runs::{
     CANNOT_WRITE, STEPS, check_count, check_each_read, check_each_write, check_nothing_taken,
@@ -24,29 +25,21 @@ fn each_read_fails(rt: HostRuntime) {
 /// A run, how many bytes a read of it gives at most, and what goes out in each write.
 #[derive(Clone, Copy)]
 struct Writes<'a> {
-    words: &'a [&'a str],
-    input: &'a [u8],
+    given: Given<'a>,
     most_read: usize,
     pieces: &'a [&'a [u8]],
 }
 
-/// What is left of a row on a run without input.
-const NO_INPUT: Writes = Writes {
-    words: &[],
-    input: b"",
-    most_read: 1,
-    pieces: &[],
-};
-
 /// Each solution goes out by itself as it is found, and so does what stands after the last one.
 const WRITES: &[Writes] = &[
     Writes {
-        words: &["invert", "R U' F2"],
+        given: Words(&["invert", "R U' F2"]),
+        most_read: 1,
         pieces: &[b"F2 U R'\n"],
-        ..NO_INPUT
     },
     Writes {
-        words: &["solve", "eofb", "5", "F B"],
+        given: Words(&["solve", "eofb", "5", "F B"]),
+        most_read: 1,
         pieces: &[
             b"F B (2)\n",
             b"F B' (2)\n",
@@ -54,20 +47,20 @@ const WRITES: &[Writes] = &[
             b"F' B' (2)\n",
             b"\n",
         ],
-        ..NO_INPUT
     },
     Writes {
-        words: &["solve", "eofb", "0", "F"],
+        given: Words(&["solve", "eofb", "0", "F"]),
+        most_read: 1,
         pieces: &[b"no solution within 0 moves\n\n"],
-        ..NO_INPUT
     },
     Writes {
-        words: &["count", "eofb", "7", "F"],
+        given: Words(&["count", "eofb", "7", "F"]),
+        most_read: 1,
         pieces: &[b"length 1 solutions 2 nodes 20\n"],
-        ..NO_INPUT
     },
     Writes {
-        words: &["near", "drud-eofb", "1", "1", ""],
+        given: Words(&["near", "drud-eofb", "1", "1", ""]),
+        most_read: 1,
         pieces: &[
             b"(0)\n",
             b"U (1)\n",
@@ -82,17 +75,15 @@ const WRITES: &[Writes] = &[
             b"B2 (1)\n",
             b"\n",
         ],
-        ..NO_INPUT
     },
     Writes {
-        words: &["steps"],
+        given: Words(&["steps"]),
+        most_read: 1,
         pieces: &[STEPS],
-        ..NO_INPUT
     },
     // of two lines read one after the other, what stands after the first answer goes out before the next read
     Writes {
-        words: &["solve", "eofb", "7"],
-        input: b"F\nF B\n",
+        given: Input(&["solve", "eofb", "7"], b"F\nF B\n"),
         most_read: 1,
         pieces: &[
             b"F (1)\n",
@@ -107,8 +98,7 @@ const WRITES: &[Writes] = &[
     },
     // of two lines in one read, it goes out with the next solution
     Writes {
-        words: &["solve", "eofb", "7"],
-        input: b"F\nF B\n",
+        given: Input(&["solve", "eofb", "7"], b"F\nF B\n"),
         most_read: 6,
         pieces: &[
             b"F (1)\n",
@@ -122,7 +112,7 @@ const WRITES: &[Writes] = &[
     },
 ];
 
-impl<'a> Writes<'a> {
+impl Writes<'_> {
     fn devices(self) -> Devices<'static> {
         Devices {
             most_read: self.most_read,
@@ -149,7 +139,7 @@ impl<'a> Writes<'a> {
     /// Makes the run, and counts its writes.
     fn check(self, rt: &impl Abort, alloc: Global) {
         let output = self.output(rt, alloc);
-        let run = Good(self.words, self.input, output.as_slice());
+        let run = Good(self.given, output.as_slice());
         let calls = run.check(rt, alloc, self.devices());
         check_count(rt, "writes", calls.writes, self.pieces.len());
     }
@@ -163,7 +153,7 @@ impl<'a> Writes<'a> {
             failed_write: Some(before + 1),
             ..self.devices()
         };
-        let cut = Failure(self.words, self.input, written.as_slice(), CANNOT_WRITE);
+        let cut = Failure(self.given, written.as_slice(), CANNOT_WRITE);
         let calls = cut.check(rt, alloc, failing);
         check_count(rt, "writes", calls.writes, before + 1);
     }
@@ -171,14 +161,14 @@ impl<'a> Writes<'a> {
     /// Has each write of a byte of the run fail in turn.
     fn check_failed_bytes(self, rt: &impl Abort, alloc: Global) {
         let output = self.output(rt, alloc);
-        let run = Good(self.words, self.input, output.as_slice());
+        let run = Good(self.given, output.as_slice());
         check_each_write(rt, alloc, run, self.devices());
     }
 
     /// Makes the run where all is taken, and the flush after it fails.
     fn check_failed_flush(self, rt: &impl Abort, alloc: Global) {
         let output = self.output(rt, alloc);
-        let run = Failure(self.words, self.input, output.as_slice(), CANNOT_WRITE);
+        let run = Failure(self.given, output.as_slice(), CANNOT_WRITE);
         run.check(rt, alloc, UNFLUSHED);
     }
 }
@@ -209,7 +199,7 @@ fn each_write_of_a_byte_fails(rt: HostRuntime) {
 #[test]
 fn no_bytes_are_taken(rt: HostRuntime) {
     for row in WRITES {
-        check_nothing_taken(&rt, rt.alloc(), row.words, row.input, FAULTLESS);
+        check_nothing_taken(&rt, rt.alloc(), row.given, FAULTLESS);
     }
 }
 
@@ -230,7 +220,7 @@ const NOT_A_MOVE: &[u8] = b"nissy: line 1, column 3: not a move\n";
 
 #[test]
 fn flush_fails_after_a_fault(rt: HostRuntime) {
-    Fault(&["invert", "R '"], b"", b"", NOT_A_MOVE).check(&rt, rt.alloc(), UNFLUSHED);
+    Fault(Words(&["invert", "R '"]), b"", NOT_A_MOVE).check(&rt, rt.alloc(), UNFLUSHED);
 }
 
 /// Makes a run with this fault, over an error writer that takes so many bytes of it.
@@ -242,7 +232,7 @@ fn check_cut_fault(rt: &impl Abort, alloc: Global, fault: &[u8], taken: usize)
         failed_report: Some(taken + 1),
         ..FAULTLESS
     };
-    Fault(&["invert", "R '"], b"", b"", &fault[..taken]).check(rt, alloc, devices);
+    Fault(Words(&["invert", "R '"]), b"", &fault[..taken]).check(rt, alloc, devices);
 }
 
 #[test]
@@ -255,7 +245,7 @@ fn each_write_of_a_fault_fails(rt: HostRuntime) {
 /// A fault goes out whole in one write, so that what others write beside it doesn't cut it.
 #[test]
 fn a_fault_is_one_write(rt: HostRuntime) {
-    let run = Fault(&["invert", "R '"], b"", b"", NOT_A_MOVE);
+    let run = Fault(Words(&["invert", "R '"]), b"", NOT_A_MOVE);
     let calls = run.check(&rt, rt.alloc(), FAULTLESS);
     check_count(&rt, "writes of the fault", calls.error_writes, 1);
 }
