@@ -6,42 +6,24 @@
 #
 # The program is build/nissy where none is named. The last line is `N passed, M failed`, and the status is 1 where M isn't 0.
 set -u
+# shellcheck source=tests/shared
+. "$(dirname "$0")/shared"
+program=$(program_of "$@") || exit 2
 cd "$(dirname "$0")/.." || exit 2
 top=$PWD
-program=${1:-$top/build/nissy}
-case $program in
-    /*) ;;
-    *) program=$OLDPWD/$program ;;
-esac
-room=$(mktemp -d)
-trap 'rm -rf "$room"' EXIT
-passed=0 failed=0
-
-# expect WHAT COMMAND..: the command succeeds
-expect() {
-    local what=$1
-    shift
-    if "$@" > "$room/said" 2>&1; then
-        passed=$((passed + 1))
-    else
-        failed=$((failed + 1))
-        echo "not so: $what"
-        cat "$room/said"
-    fi
-}
 
 # The Makefile's program is the one that was handed over, so that nothing is built. The folder has blanks in its name.
 packed="$room/a package of its own"
 usr=$packed/usr
 install_at() { make --no-print-directory -o build/nissy "$1" DESTDIR="$packed" PREFIX=/usr; }
-fails() { ! "$@"; }
+refuses() { ! "$@"; }
 with_program() {
     mkdir -p "$room/source/build" "$room/source/crates" && cp -R Makefile docs completions "$room/source" &&
         cp "$program" "$room/source/build/nissy"
 }
-expect "the files are there" with_program
+holds "the files are there" with_program
 cd "$room/source" || exit 2
-expect "make install succeeds" install_at install
+holds "make install succeeds" install_at install
 
 # The mode and the place of each file, and where it comes from.
 wanted="755 bin/nissy build/nissy
@@ -55,26 +37,27 @@ stands() { (cd "$usr" && find . -type f -printf '%m %P\n' | LC_ALL=C sort -k 2);
 are_copies() {
     while read -r _ place source; do cmp "$usr/$place" "$source" || return; done <<< "$wanted"
 }
-expect "each file stands in its place with its mode, and no other" test "$(stands)" = "$(cut -d ' ' -f 1,2 <<< "$wanted")"
-expect "each file is a copy of its source" are_copies
-expect "make install names each file" test "$(install_at install | LC_ALL=C sort)" = "$(find "$usr" -type f | LC_ALL=C sort)"
-expect "the installed program runs" test "$("$usr/bin/nissy" invert "R U' F2")" = "F2 U R'"
+holds "each file stands in its place with its mode, and no other" test "$(stands)" = "$(cut -d ' ' -f 1,2 <<< "$wanted")"
+holds "each file is a copy of its source" are_copies
+holds "make install names each file" test "$(install_at install | LC_ALL=C sort)" = "$(find "$usr" -type f | LC_ALL=C sort)"
+holds "the installed program runs" test "$("$usr/bin/nissy" invert "R U' F2")" = "F2 U R'"
 mv docs/MANUAL.md docs/elsewhere
-expect "make install fails where a file is missing" fails install_at install
+holds "make install fails where a file is missing" refuses install_at install
 mv docs/elsewhere docs/MANUAL.md
 
 share=$usr/share
 steps=$("$program" steps)
 commands="invert unniss cleanup print solve count near scramble steps"
+holds "the program lists its steps" test -n "$steps"
 completed() { # the words that bash offers after these
     bash -c '. "$0"; COMP_WORDS=("$@" ""); COMP_CWORD=$#; _nissy; printf "%s\n" "${COMPREPLY[@]}"' \
         "$share/bash-completion/completions/nissy" "$@"
 }
-expect "bash completes the commands" test "$(completed nissy | xargs)" = "$commands"
+holds "bash completes the commands" test "$(completed nissy | xargs)" = "$commands"
 for command in solve count near; do
-    expect "bash completes the steps of $command" test "$(completed nissy "$command")" = "$steps"
+    holds "bash completes the steps of $command" test "$(completed nissy "$command")" = "$steps"
 done
-expect "bash offers nothing where moves stand" test -z "$(completed nissy invert)$(completed nissy solve eofb 20)"
+holds "bash offers nothing where moves stand" test -z "$(completed nissy invert)$(completed nissy solve eofb 20)"
 named_in() { tr -cs 'a-z-' '\n' < "$1" | grep -Fx -e "$2" > /dev/null; }
 all_named() { # each step and command is named in the file
     local name
@@ -83,41 +66,40 @@ all_named() { # each step and command is named in the file
     done
 }
 for page in zsh/site-functions/_nissy fish/vendor_completions.d/nissy.fish doc/nissy/MANUAL.md; do
-    expect "$page names each step and command" all_named "$share/$page"
+    holds "$page names each step and command" all_named "$share/$page"
 done
 sed 's/\\-/-/g' "$share/man/man1/nissy.1" > "$room/page"
-expect "the manual page names each step and command" all_named "$room/page"
+holds "the manual page names each step and command" all_named "$room/page"
 
 if command -v zsh > /dev/null; then
-    expect "zsh reads its completion" zsh -n "$share/zsh/site-functions/_nissy"
+    holds "zsh reads its completion" zsh -n "$share/zsh/site-functions/_nissy"
 else
     echo "skipped: zsh isn't installed"
 fi
 if command -v fish > /dev/null; then
     # shellcheck disable=SC2016 # fish itself is to read $argv
-    expect "fish completes the steps" test "$(HOME=$room fish --no-config -c 'source $argv[1]; complete -C "nissy count "' \
+    holds "fish completes the steps" test "$(HOME=$room fish --no-config -c 'source $argv[1]; complete -C "nissy count "' \
         "$share/fish/vendor_completions.d/nissy.fish" | LC_ALL=C sort)" = "$(echo "$steps" | LC_ALL=C sort)"
 else
     echo "skipped: fish isn't installed"
 fi
 if command -v mandoc > /dev/null; then
-    expect "the manual page is clean" test -z "$(mandoc -T lint -W style "$share/man/man1/nissy.1")"
+    holds "the manual page is clean" mandoc -T lint -W style "$share/man/man1/nissy.1"
 else
     echo "skipped: mandoc isn't installed"
 fi
 
-expect "make uninstall succeeds" install_at uninstall
-expect "nothing is left" test -z "$(find "$packed" -type f)"
-expect "no folder of its own is left" test ! -e "$share/doc/nissy"
+holds "make uninstall succeeds" install_at uninstall
+holds "nothing is left" test -z "$(find "$packed" -type f)"
+holds "no folder of its own is left" test ! -e "$share/doc/nissy"
 with_others() { # installs among files that aren't its own
     install_at install && touch "$usr/bin/other" "$share/doc/other" "$share/doc/nissy/other"
 }
-expect "make install succeeds again" with_others
-expect "make uninstall succeeds beside other files" install_at uninstall
-expect "the other files are left" test "$(find "$packed" -type f | wc -l)" -eq 3
-expect "make uninstall succeeds where nothing is installed" install_at uninstall
+holds "make install succeeds again" with_others
+holds "make uninstall succeeds beside other files" install_at uninstall
+holds "the other files are left" test "$(find "$packed" -type f | wc -l)" -eq 3
+holds "make uninstall succeeds where nothing is installed" install_at uninstall
 builds_first() { make -n -B install | grep -F 'rt run'; }
 cd "$top" || exit 2
-expect "make install proves and builds first" builds_first
-echo "$passed passed, $failed failed"
-[ "$failed" -eq 0 ]
+holds "make install proves and builds first" builds_first
+ended

@@ -6,17 +6,14 @@
 # shellcheck disable=SC2013,SC2016 # names hold no blanks; backquotes are text
 set -u
 cd "$(dirname "$0")/.." || exit 2
-passed=0 failed=0
-shown=$(mktemp)
-trap 'rm -f "$shown"' EXIT
+. tests/shared
 
-holds() { # WHAT COMMAND..
-    local what=$1
-    shift
-    if "$@"; then passed=$((passed + 1)); else
-        failed=$((failed + 1))
-        echo "not so: $what"
-    fi
+# each PAGE KIND NAMES COMMAND..: the page has names of this kind, and for each the command succeeds
+each() {
+    local page=$1 kind=$2 names=$3 name
+    shift 3
+    [ -n "$names" ] || fails "$page names $kind"
+    for name in $names; do holds "$page: $name is $kind" "$@" "$name"; done
 }
 
 # The names of a page's headings in links: small letters, digits, - and _, with - for a blank.
@@ -33,46 +30,59 @@ stands_in_a_crate() { # src/x.rt, or niss_tests/src/x.rt
     compgen -G "crates/*/$1" > /dev/null || [ -e "crates/$1" ] || [ -e "$1" ]
 }
 
-edit_or_row() {
-    compgen -G "crates/*/must-fail/$1.edit" > /dev/null || compgen -G "tests/wrong-bodies/*/$1.edit" > /dev/null ||
-        grep -qrE "fn $1\(" crates/niss_tests/src
-}
-
 # Each row of a table belongs to one that begins with a head and a line of dashes.
 tables_are_whole() {
-    awk '/^\|/ { rows++; if (rows == 2 && !/^\|[-|]*\|$/) torn = 1; next } { if (rows == 1) torn = 1; rows = 0 } END { exit torn }' "$1"
+    awk '/^\|/ { rows++; if (rows == 2 && !/^\|[-|]*\|$/) torn = 1; next } { if (rows == 1) torn = 1; rows = 0 }
+        END { exit torn || rows == 1 }' "$1"
 }
+
+links_of() { grep -oE '\]\([^) ]+\)' "$1" | sed 's/^](//; s/)$//' | grep -v '^http'; }
 
 for page in *.md docs/*.md bench/*.md; do
     holds "$page: its tables are whole" tables_are_whole "$page"
-    for target in $(grep -oE '\]\([^) ]+\)' "$page" | sed 's/^](//; s/)$//' | grep -v '^http'); do
+    for target in $(links_of "$page"); do
         holds "$page: the link to $target leads somewhere" leads_somewhere "$page" "$target"
     done
 done
+holds "README.md has links" test -n "$(links_of README.md)"
+holds "README.md has at most 90 lines" test "$(grep -c '' README.md)" -le 90
+
+# each file and name of code that these pages give in backquotes is one of the repository
+find crates tests tools Makefile -name out -prune -o -type f -print -exec cat {} + | grep -oE '[A-Za-z_0-9]+' | sort -u > "$room/words"
+is_there() {
+    case $1 in
+        */*) stands_in_a_crate "$1" ;;
+        *) grep -qx "$1" "$room/words" ;;
+    esac
+}
+quoted() { grep -oE "$1" "$2" | grep -oE '`[^`]+`' | tr -d '\`' | tr -s : '\n' | sort -u; }
 for page in docs/ARCHITECTURE.md docs/PROMISES.md docs/DECISIONS.md; do
-    for name in $(grep -oE '`[a-z_]*/?(src|specs|proofs)/[A-Za-z_/]+\.(rt|antt)`' "$page" | tr -d '\`' | sort -u); do
-        holds "$page: $name is there" stands_in_a_crate "$name"
-    done
+    each "$page" "a file or a word of the repository" \
+        "$(quoted '`([A-Za-z_0-9:]+|[a-z_]*/?(src|specs|proofs)/[A-Za-z_/]+\.(rt|antt))`' "$page")" is_there
 done
-# each name of code that these pages give in backquotes is a word of the repository
-find crates tests tools Makefile -name out -prune -o -type f -print -exec cat {} + | grep -oE '[A-Za-z_0-9]+' | sort -u > "$shown"
-for page in docs/ARCHITECTURE.md docs/PROMISES.md docs/DECISIONS.md; do
-    for name in $(grep -oE '`[A-Za-z_0-9:]+`' "$page" | tr -d '\`' | tr -s : '\n' | sort -u); do
-        holds "$page: $name is a name of the repository" grep -qx "$name" "$shown"
-    done
-done
+
 # after the word of what it is, docs/PROMISES.md names clauses and laws, and the records and fields of definitions
-named_after() { grep -oE "$1"' (`[a-z_A-Z]+`(, | and )?)+' docs/PROMISES.md | grep -oE '`[A-Za-z_]+`' | tr -d '\`' | sort -u; }
+named_after() { quoted "$1"' (`[a-z_A-Z]+`(, | and )?)+' docs/PROMISES.md; }
 stands_in_code() { grep -rqE --include='*.rt' --include='*.antt' --exclude-dir=out "$1" crates/niss_*; }
-for name in $(named_after 'clauses?'); do holds "docs/PROMISES.md: $name is a clause" stands_in_code "ensures $name \{"; done
-for name in $(named_after 'laws?'); do holds "docs/PROMISES.md: $name is a law" stands_in_code "pub fn $name\(\)"; done
-for name in $(named_after 'records?'); do holds "docs/PROMISES.md: $name is a record" stands_in_code "record $name "; done
-for name in $(named_after 'fields?'); do holds "docs/PROMISES.md: $name is a field" stands_in_code "pub $name :"; done
-# in the table of wrong programs each row names edits after the word, and rows of niss_tests
-for name in $(sed -n '/^## Wrong programs/,/^## Only tested/p' docs/PROMISES.md | grep '^|.*| .*edit' |
-    sed 's/.* | //' | grep -oE '`[a-z0-9_]+`' | tr -d '\`' | grep -vx 'niss_[a-z]*' | sort -u); do
-    holds "docs/PROMISES.md: the edit or row $name is there" edit_or_row "$name"
+is_clause() { stands_in_code "ensures $1 \{"; }
+is_law() { stands_in_code "pub fn $1\(\)"; }
+is_record() { stands_in_code "record $1 "; }
+is_field() { stands_in_code "pub $1 :"; }
+for kind in clause law record field; do
+    each docs/PROMISES.md "a $kind" "$(named_after "${kind}s?")" "is_$kind"
 done
+
+# in the table of wrong programs each row names edits after the word, and rows of niss_tests
+edits_and_rows() {
+    sed -n '/^## Wrong programs/,/^## Only tested/p' docs/PROMISES.md | grep '^|.*| .*edit' | sed 's/.* | //' |
+        grep -oE '`[a-z0-9_]+`' | tr -d '\`' | grep -vx 'niss_[a-z]*' | sort -u
+}
+is_edit_or_row() {
+    compgen -G "crates/*/must-fail/$1.edit" > /dev/null || compgen -G "tests/wrong-bodies/*/$1.edit" > /dev/null ||
+        grep -qrE "fn $1\(" crates/niss_tests/src
+}
+each docs/PROMISES.md "an edit or a row" "$(edits_and_rows)" is_edit_or_row
+
 # each line of an example on a crate's first page is one of a program or test that is proved
 statements() { sed -e 's|//.*||' -e 's/^ *//' -e 's/ *$//'; }
 example_lines() {
@@ -81,12 +91,11 @@ example_lines() {
         /^```/ { inside = inside == "" ? $0 : ""; next }
         inside == "```" && NF && !/^use / { print }' "$1" | statements
 }
-cat crates/eo_axes/src/main.rt crates/nissy/src/main.rt crates/niss_tests/src/examples.rt | statements > "$shown"
-for page in crates/*/src/lib.rt; do
+cat crates/eo_axes/src/main.rt crates/nissy/src/main.rt crates/niss_tests/src/examples.rt | statements > "$room/lines"
+for page in crates/niss_{moves,cube,search,shell}/src/lib.rt; do
+    holds "$page has an example" test -n "$(example_lines "$page")"
     while IFS= read -r line; do
-        holds "$page: this line of an example is one of a program: $line" grep -qFx -- "$line" "$shown"
+        holds "$page: this line of an example is one of a program: $line" grep -qFx -- "$line" "$room/lines"
     done < <(example_lines "$page")
 done
-holds "README.md has at most 90 lines" test "$(grep -c '' README.md)" -le 90
-echo "$passed passed, $failed failed"
-[ "$failed" -eq 0 ]
+ended

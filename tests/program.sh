@@ -4,47 +4,30 @@
 #     tests/program.sh [PROGRAM]
 #
 # The program is build/nissy where none is named. The last line is `N passed, M failed`, and the status is 1 where M isn't 0.
-nissy=$(realpath "${1:-$(dirname "$0")/../build/nissy}")
-work=$(mktemp -d) || exit 1
-trap 'rm -rf "$work"' EXIT
-passed=0
-failed=0
-
-# A case: its name, the status, the output, the error text, and a command of the shell that calls the program.
-case_of() {
-    local name=$1 status=$2 output=$3 error=$4 found
-    shift 4
-    (cd "$work" && "$@") >"$work/output" 2>"$work/error"
-    found=$?
-    if [[ $found == "$status" ]] && printf "$output" | cmp -s - "$work/output" && printf "$error" | cmp -s - "$work/error"; then
-        passed=$((passed + 1))
-    else
-        failed=$((failed + 1))
-        echo "failed: $name: status $found"
-        sed 's/^/  output: /' "$work/output"
-        sed 's/^/  error: /' "$work/error"
-    fi
-}
+set -u
+# shellcheck source=tests/shared
+. "$(dirname "$0")/shared"
+nissy=$(program_of "$@") || exit 2
 
 usage='usage: nissy COMMAND [ARGUMENTS]\n'
 
 lines() { printf "R U' F2\n\nRw (U)\n" | "$nissy" invert; }
 last_line() { printf 'R' | "$nissy" invert; }
 no_lines() { "$nissy" invert </dev/null; }
-case_of 'lines on standard input' 0 "F2 U R'\n\nU Rw'\n" '' lines
-case_of 'a last line without a line feed' 0 "R'\n" '' last_line
-case_of 'no input' 0 '' '' no_lines
+answers 'lines on standard input' 0 "F2 U R'\n\nU Rw'\n" '' lines
+answers 'a last line without a line feed' 0 "R'\n" '' last_line
+answers 'no input' 0 '' '' no_lines
 
 three_words() { "$nissy" invert R "U'" F2 </dev/null; }
 five_words() { "$nissy" count eofb 5 F B </dev/null; }
 empty_word() { "$nissy" invert '' </dev/null; }
 four_numbers() { "$nissy" scramble 42 54 3 2 </dev/null; }
 words_alone() { printf 'q\n' | { "$nissy" invert R && cat; }; }
-case_of 'several words are one line' 0 "F2 U R'\n" '' three_words
-case_of 'words after the numbers' 0 'length 2 solutions 4 nodes 75\n' '' five_words
-case_of 'an empty word' 0 '\n' '' empty_word
-case_of 'four numbers' 0 "L' D' F'\nL F' L'\n" '' four_numbers
-case_of 'words leave the input alone' 0 "R'\nq\n" '' words_alone
+answers 'several words are one line' 0 "F2 U R'\n" '' three_words
+answers 'words after the numbers' 0 'length 2 solutions 4 nodes 75\n' '' five_words
+answers 'an empty word' 0 '\n' '' empty_word
+answers 'four numbers' 0 "L' D' F'\nL F' L'\n" '' four_numbers
+answers 'words leave the input alone' 0 "R'\nq\n" '' words_alone
 
 long_word() { "$nissy" invert "$(printf '%100000s' R)" </dev/null; }
 # shellcheck disable=SC2046 # each word is to be an argument of its own
@@ -52,11 +35,11 @@ many_words() { "$nissy" cleanup $(yes "U D'" | head -n 64) </dev/null; }
 own_blanks() { "$nissy" invert ' R' 'q ' </dev/null; }
 no_option() { "$nissy" invert -- R </dev/null; }
 no_help() { "$nissy" invert R --help </dev/null; }
-case_of 'a long word' 0 "R'\n" '' long_word
-case_of 'many words' 0 '\n' '' many_words
-case_of 'blanks of a word are its own' 1 '' 'nissy: line 1, column 4: not a move\n' own_blanks
-case_of 'two dashes are read as moves' 1 '' 'nissy: line 1, column 1: not a move\n' no_option
-case_of 'an option is read as moves' 1 '' 'nissy: line 1, column 3: not a move\n' no_help
+answers 'a long word' 0 "R'\n" '' long_word
+answers 'many words' 0 '\n' '' many_words
+answers 'blanks of a word are its own' 1 '' 'nissy: line 1, column 4: not a move\n' own_blanks
+answers 'two dashes are read as moves' 1 '' 'nissy: line 1, column 1: not a move\n' no_option
+answers 'an option is read as moves' 1 '' 'nissy: line 1, column 3: not a move\n' no_help
 
 # Gives lines one by one, each after the answer to the one before.
 line_by_line() {
@@ -71,27 +54,27 @@ line_by_line() {
     exec {give}>&-
     wait "$process"
 }
-case_of 'each answer comes before the next line' 0 "R'\n\nF2 U'\n" '' line_by_line
+answers 'each answer comes before the next line' 0 "R'\n\nF2 U'\n" '' line_by_line
 
 wrong_line() { "$nissy" invert "R '" </dev/null; }
 wrong_second_line() { printf 'R\n(U' | "$nissy" unniss; }
 wrong_start() { "$nissy" solve drud-eofb 5 F </dev/null; }
 found_first() { printf 'R\nF\nq\nF' | "$nissy" solve eofb 2; }
-case_of 'a wrong line' 1 '' 'nissy: line 1, column 3: not a move\n' wrong_line
-case_of 'a wrong second line' 1 'R\n' 'nissy: line 2, column 1: bracket not closed\n' wrong_second_line
-case_of 'a step that may not start' 1 '' 'nissy: line 1: eofb does not hold\n' wrong_start
-case_of 'answers before a wrong line' 1 "(0)\n\nF (1)\nF' (1)\n\n" 'nissy: line 3, column 1: not a move\n' found_first
+answers 'a wrong line' 1 '' 'nissy: line 1, column 3: not a move\n' wrong_line
+answers 'a wrong second line' 1 'R\n' 'nissy: line 2, column 1: bracket not closed\n' wrong_second_line
+answers 'a step that may not start' 1 '' 'nissy: line 1: eofb does not hold\n' wrong_start
+answers 'answers before a wrong line' 1 "(0)\n\nF (1)\nF' (1)\n\n" 'nissy: line 3, column 1: not a move\n' found_first
 
 no_words() { "$nissy" </dev/null; }
 wrong_command() { "$nissy" Invert R </dev/null; }
 wrong_number() { "$nissy" solve eofb 21 F </dev/null; }
 wrong_step() { "$nissy" solve htr 3 F </dev/null; }
 no_text() { "$nissy" $'\xff' </dev/null; }
-case_of 'no words' 2 '' "$usage" no_words
-case_of 'a wrong command' 2 '' "$usage" wrong_command
-case_of 'a wrong number' 2 '' "$usage" wrong_number
-case_of 'a wrong step' 2 '' "$usage" wrong_step
-case_of 'a word that is no text' 2 '' "$usage" no_text
+answers 'no words' 2 '' "$usage" no_words
+answers 'a wrong command' 2 '' "$usage" wrong_command
+answers 'a wrong number' 2 '' "$usage" wrong_number
+answers 'a wrong step' 2 '' "$usage" wrong_step
+answers 'a word that is no text' 2 '' "$usage" no_text
 
 full_output() { "$nissy" solve eofb 5 F B </dev/null >/dev/full; }
 closed_output() { "$nissy" invert R </dev/null >&-; }
@@ -99,12 +82,11 @@ full_after_a_fault() { printf 'q' | "$nissy" invert >/dev/full; }
 closed_error() { "$nissy" invert "R '" </dev/null 2>&-; }
 full_error() { "$nissy" invert "R '" </dev/null 2>/dev/full; }
 folder_as_input() { "$nissy" invert </; }
-case_of 'a full output' 3 '' 'nissy: cannot write\n' full_output
-case_of 'a closed output' 3 '' 'nissy: cannot write\n' closed_output
-case_of 'a fault of a line on a full output' 1 '' 'nissy: line 1, column 1: not a move\n' full_after_a_fault
-case_of 'a closed error stream' 1 '' '' closed_error
-case_of 'a full error stream' 1 '' '' full_error
-case_of 'a folder as input' 3 '' 'nissy: cannot read\n' folder_as_input
+answers 'a full output' 3 '' 'nissy: cannot write\n' full_output
+answers 'a closed output' 3 '' 'nissy: cannot write\n' closed_output
+answers 'a fault of a line on a full output' 1 '' 'nissy: line 1, column 1: not a move\n' full_after_a_fault
+answers 'a closed error stream' 1 '' '' closed_error
+answers 'a full error stream' 1 '' '' full_error
+answers 'a folder as input' 3 '' 'nissy: cannot read\n' folder_as_input
 
-echo "$passed passed, $failed failed"
-[[ $failed == 0 ]]
+ended

@@ -11,20 +11,17 @@
 # tool is missing; what is skipped is named. The examples of the manual page are run too. The last line is
 # `N passed, M failed`, and the status is 1 where M isn't 0.
 set -u
+# shellcheck source=tests/shared
+. "$(dirname "$0")/shared"
 top=$(cd "$(dirname "$0")/.." && pwd)
-[ $# -gt 0 ] || set -- "$top/build/nissy"
-if [ ! -x "$1" ]; then
+program=$(program_of "$@")
+if [ ! -x "$program" ]; then
     echo "usage: tests/recipes.sh [PROGRAM [PAGE..]]" >&2
     exit 2
 fi
-program=$(cd "$(dirname "$1")" && pwd)/$(basename "$1")
-shift
-[ $# -gt 0 ] || set -- "$top/README.md" "$top/docs/COOKBOOK.md" "$top/docs/MANUAL.md" "$top/docs/nissy.1"
-work=$(mktemp -d)
-trap 'rm -rf "$work"' EXIT
-mkdir "$work/bin"
-ln -s "$program" "$work/bin/nissy"
-passed=0 failed=0
+[ $# -gt 1 ] || set -- "$program" "$top/README.md" "$top/docs/COOKBOOK.md" "$top/docs/MANUAL.md" "$top/docs/nissy.1"
+mkdir "$room/bin"
+ln -s "$program" "$room/bin/nissy"
 
 # The examples of a manual page as blocks of a page.
 blocks_of_roff() {
@@ -65,9 +62,9 @@ missing() { [ -n "$1" ] && ! command -v "$1" > /dev/null; }
 
 # Runs the cases of one kind of shell by one shell, in one go; what each prints goes to its file got.
 run_cases() {
-    local shell=$1 script=$work/script room
+    local shell=$1 script=$room/script folder
     shift
-    room=$(mktemp -d "$work/room.XXXX")
+    folder=$(mktemp -d "$room/folder.XXXX")
     : > "$script"
     for place; do
         case $shell in
@@ -76,8 +73,8 @@ run_cases() {
         esac
         echo "nothing: the shell ended before it" > "$place/got"
     done
-    (cd "$room" && HOME=$room PATH=$work/bin:$PATH timeout 300 "$shell" "$script" < /dev/null > "$work/stray" 2>&1)
-    [ ! -s "$work/stray" ] || cat "$work/stray"
+    (cd "$folder" && HOME=$folder PATH=$room/bin:$PATH timeout 300 "$shell" "$script" < /dev/null > "$room/stray" 2>&1)
+    [ ! -s "$room/stray" ] || cat "$room/stray"
     for place; do
         cmp -s "$place/got" "$place/wanted" || { echo "$shell" >> "$place/wrong"; cp "$place/got" "$place/got.$shell"; }
     done
@@ -85,11 +82,12 @@ run_cases() {
 
 try_page() {
     local page=$1 folder place shell kind shells
-    folder=$(mktemp -d "$work/page.XXXX")
+    folder=$(mktemp -d "$room/page.XXXX")
     case $page in
         *.1) blocks_of_roff "$page" > "$folder.md"; cut_page "$folder.md" "$folder" ;;
         *) cut_page "$page" "$folder" ;;
     esac
+    [ -e "$folder/001/shell" ] || fails "${page#"$top"/} has an example"
     for place in "$folder"/*/; do
         [ -e "$place/shell" ] || continue
         shell=$(cat "$place/shell") needs=$(cat "$place/needs")
@@ -117,19 +115,17 @@ try_page() {
     for place in "$folder"/*/; do
         [ -e "$place/shell" ] || continue
         if [ ! -e "$place/wrong" ]; then
-            passed=$((passed + 1))
+            passes
             continue
         fi
-        failed=$((failed + 1))
         shell=$(head -n 1 "$place/wrong")
-        echo "${page#"$top"/}:$(cat "$place/line"): in $(xargs < "$place/wrong") it prints otherwise ('<' the page, '>' the program)"
+        fails "${page#"$top"/}:$(cat "$place/line"): in $(xargs < "$place/wrong") it prints this ('<' the page, '>' the program)"
         sed 's/^/    /' "$place/command"
         diff "$place/wanted" "$place/got.$shell"
     done
 }
 
-for page; do
+for page in "${@:2}"; do
     try_page "$page"
 done
-echo "$passed passed, $failed failed"
-[ "$failed" -eq 0 ]
+ended

@@ -4,21 +4,17 @@
 # status is 1 where M isn't 0.
 set -u
 cd "$(dirname "$0")/.." || exit 2
-room=$(mktemp -d)
-trap 'rm -rf "$room"' EXIT
-passed=0 failed=0
+. tests/shared
+
+spoils_a_function() { # EDIT CRATE
+    local function files copy
+    function=$(sed -n "s/^refused: $2:://p" "$1")
+    [ -n "$function" ] && grep -rqE "fn ${function##*::}\b" "crates/$2/src" || return
+    copy=$(mktemp -d -p "$room")
+    files=$(tools/apply-edit --files "$1") && (cd "crates/$2" && xargs cp --parents -t "$copy" <<< "$files") && tools/apply-edit "$1" "$copy"
+}
 
 for edit in tests/wrong-bodies/*/*.edit; do
-    name=$(basename "$(dirname "$edit")")
-    crate=crates/$name
-    function=$(sed -n "s/^refused: $name:://p" "$edit")
-    tools/apply-edit --files "$edit" | (cd "$crate" && xargs cp --parents -t "$room")
-    if [ -n "$function" ] && grep -rqE "fn ${function##*::}\b" "$crate/src" && tools/apply-edit "$edit" "$room"; then
-        passed=$((passed + 1))
-    else
-        failed=$((failed + 1))
-        echo "not so: $edit can be made, and spoils a function"
-    fi
+    holds "$edit can be made, and spoils a function" spoils_a_function "$edit" "$(basename "$(dirname "$edit")")"
 done
-echo "$passed passed, $failed failed"
-[ "$failed" -eq 0 ]
+ended

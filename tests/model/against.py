@@ -10,11 +10,10 @@ kinds of runs, and the status is 1 where M isn't 0.
 import sys
 
 import solving
-from drawing import DAMAGES, FACES, LETTERS, NUMBERS, REWRITES, VOCABULARY, Drawing
+from drawing import DAMAGES, FACES, LETTERS, NUMBERS, VOCABULARY, Drawing
+from model import REWRITES
 from notation import word_of
-from trial import Trial
-
-LOOKS = 60_000
+from trial import LOOKS, Trial, seed_and_scale
 
 
 def rewriting(trial, draw, count):
@@ -215,8 +214,7 @@ def main():
     """Runs all kinds and reports."""
     if len(sys.argv) < 2:
         sys.exit(__doc__)
-    seed = int(sys.argv[2]) if len(sys.argv) > 2 else 1
-    scale = float(sys.argv[3]) if len(sys.argv) > 3 else 1.0
+    seed, scale = seed_and_scale(sys.argv[2:])
     trial = Trial(sys.argv[1])
     print("drawn runs, seed %d, scale %g" % (seed, scale))
     all_kinds(trial, Drawing(seed), scale)

@@ -8,7 +8,6 @@ from notation import read, to_faces, word_of, words_of
 LETTERS = "U D R L F B Uw Dw Rw Lw Fw Bw u d r l f b M E S x y z".split()
 FACES = "U D R L F B".split()
 SUFFIXES = ["", "", "2", "'", "2'", "\u2019", "2\u2019"]
-REWRITES = ["invert", "unniss", "cleanup", "print"]
 DAMAGES = [bytes([byte]) for byte in b"UwxM2'()Q \t\r\n3,.;-#/[]{}\0\x7f\x80\x99\xe2\xff\xc3"] + [
     b"\xe2\x80", b"\xe2\x99", b"\xe2\x80\x98", b"\xe2\x80\x99", b"''", b"2'", b"'2", b"22", b"3", b"w", b"w'", b"((", b"))",
     b"()", b"#R", b"//R", b"[R,U]"]

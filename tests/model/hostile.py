@@ -16,9 +16,7 @@ import hostile_memory
 import hostile_streams
 import solving
 from drawing import Drawing
-from trial import Trial
-
-LOOKS = 60_000
+from trial import LOOKS, Trial, seed_and_scale
 
 
 def devices(trial):
@@ -66,8 +64,7 @@ def main():
     """The parts that are named, or all."""
     if len(sys.argv) < 2:
         sys.exit(__doc__)
-    seed = int(sys.argv[2]) if len(sys.argv) > 2 else 1
-    scale = float(sys.argv[3]) if len(sys.argv) > 3 else 1.0
+    seed, scale = seed_and_scale(sys.argv[2:])
     solving.Bounds.looks = LOOKS
     trial = Trial(sys.argv[1])
     parts = parts_of(trial, Drawing(seed), scale)

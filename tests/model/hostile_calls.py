@@ -61,6 +61,7 @@ def refused_reads(trial, words, data, errors):
             got = Traced(trial, words, data, "read:error=%s:when=%d" % (error, nth)).answer
             trial.check("a read refused", words + [error, str(nth)], data, got, model.run(words, data[:given], True))
         given += max(size, 0)
+    trial.check("reads counted", words, data, (given,), (len(data),))
 
 
 def refused_writes(trial, words, data, errors):
@@ -89,7 +90,9 @@ def short_writes(trial, words, data, write, sent):
 def refused_faults(trial, words):
     """Each write of the text of a fault refused: output and status stay, the text is a beginning."""
     whole = model.run(words)
-    for nth, _ in Traced(trial, words, b"").on_stream("write", 2):
+    writes = Traced(trial, words, b"").on_stream("write", 2)
+    trial.check("writes of faults counted", words, b"", (sum(size for _, size in writes),), (len(whole[1]),))
+    for nth, _ in writes:
         for how in ("error=EIO", "error=EPIPE", "error=EINTR", "retval=0"):
             output, fault, status = Traced(trial, words, b"", "write:%s:when=%d" % (how, nth)).answer
             got = output, whole[1].startswith(fault), status

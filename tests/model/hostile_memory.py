@@ -6,6 +6,7 @@ import subprocess
 
 import model
 from model import NO_MEMORY
+from streams import run_with
 from trial import TIMEOUT
 
 SOURCE = os.path.join(os.path.dirname(os.path.abspath(__file__)), "refuse.c")
@@ -54,22 +55,27 @@ def allocations(trial):
                 trial.check("an allocation refused", words + [refused], data, got, (b"", NO_MEMORY, 3, 0))
 
 
-def is_before_main(done):
-    """Whether the system ended the program, or its loader refused, before it began."""
-    return not done.stdout and (done.returncode < 0 or done.returncode == 127 and b"loading shared libraries" in done.stderr)
+def run_within(trial, kilobytes, words, data=b"", environment=None):
+    """What the program answers in so much address space."""
+    def cut():
+        resource.setrlimit(resource.RLIMIT_AS, (kilobytes * 1024, kilobytes * 1024))
+    return run_with(trial, words, data, before=cut, env=environment)
+
+
+def is_loaded(trial, kilobytes, words):
+    """Whether the program begins in so much address space where these words take their room, here as variables."""
+    environment = dict(os.environ, **{"WORD%d" % at: word for at, word in enumerate(words)})
+    try:
+        return run_within(trial, kilobytes, ["steps"], environment=environment)[2] == 0
+    except (OSError, subprocess.SubprocessError):
+        return False
 
 
 def address_space(trial):
     """Less and less address space: the whole answer, or out of memory with nothing written."""
     for words, data in LIMITED:
         for kilobytes in list(range(200, 8000, 400)) + [10_000, 20_000, 60_000]:
-            def cut():
-                resource.setrlimit(resource.RLIMIT_AS, (kilobytes * 1024, kilobytes * 1024))
-            try:
-                done = subprocess.run([trial.program] + words, input=data, capture_output=True, timeout=TIMEOUT,
-                                      preexec_fn=cut, check=False)
-            except (OSError, subprocess.SubprocessError):
-                continue
-            got = done.stdout, done.stderr, done.returncode
-            is_refused = got == (b"", NO_MEMORY, 3) or is_before_main(done)
-            trial.check("address space limited", words + [str(kilobytes)], data, got, got if is_refused else model.run(words, data))
+            if is_loaded(trial, kilobytes, words):
+                got = run_within(trial, kilobytes, words, data)
+                expected = got if got == (b"", NO_MEMORY, 3) else model.run(words, data)
+                trial.check("address space limited", words + [str(kilobytes)], data, got, expected)

@@ -19,7 +19,7 @@ def small_pipe():
 
 
 def started(trial, words, **streams):
-    """The program, started with some streams given; the others are pipes, standard input is empty."""
+    """The program, started with some streams and settings given; the other streams are pipes, standard input is empty."""
     chosen = {"stdin": subprocess.DEVNULL, "stdout": subprocess.PIPE, "stderr": subprocess.PIPE}
     chosen.update((name, stream) for name, stream in streams.items() if stream is not None)
     return subprocess.Popen([trial.program] + words, bufsize=0, **chosen)

@@ -1,4 +1,5 @@
 //! Steps with alternatives: an edge orientation on any axis, and a domino reduction on either of two.
+use crate::runs::Given::Words;
 use crate::runs::Run::{self, Fault, Good};
 use crate::runs::check_runs;
 use crate::searches::count_after_fill;
@@ -8,39 +9,32 @@ use niss_search::Meter;
 const EDGES: &[Run] = &[
     // two alternatives hold, and the empty sequence is one solution
     Good(
-        &["count", "eo", "3", "F"],
-        b"",
+        Words(&["count", "eo", "3", "F"]),
         b"length 0 solutions 1 nodes 1\n",
     ),
     Good(
-        &["solve", "eo", "3", "F", "R", "U"],
-        b"",
+        Words(&["solve", "eo", "3", "F", "R", "U"]),
         b"U (1)\nU' (1)\n\n",
     ),
     Good(
-        &["count", "eo", "3", "F", "R", "U"],
-        b"",
+        Words(&["count", "eo", "3", "F", "R", "U"]),
         b"length 1 solutions 2 nodes 20\n",
     ),
     Good(
-        &["solve", "eo", "0", "F R U"],
-        b"",
+        Words(&["solve", "eo", "0", "F R U"]),
         b"no solution within 0 moves\n\n",
     ),
     // four turns on the axis of U and D, five on each of the others
     Good(
-        &["count", "eo", "20", "F R U B L D F"],
-        b"",
+        Words(&["count", "eo", "20", "F R U B L D F"]),
         b"length 4 solutions 8 nodes 176\n",
     ),
     Good(
-        &["count", "eorl", "20", "F R U B L D F"],
-        b"",
+        Words(&["count", "eorl", "20", "F R U B L D F"]),
         b"length 5 solutions 32 nodes 627\n",
     ),
     Good(
-        &["count", "eofb", "20", "F R U B L D F"],
-        b"",
+        Words(&["count", "eofb", "20", "F R U B L D F"]),
         b"length 5 solutions 28 nodes 582\n",
     ),
 ];
@@ -51,39 +45,36 @@ fn edges_on_any_axis(rt: HostRuntime) {
 }
 
 const DOMINOES: &[Run] = &[
-    Good(&["solve", "dr-eofb", "5", "R"], b"", b"(0)\n\n"),
+    Good(Words(&["solve", "dr-eofb", "5", "R"]), b"(0)\n\n"),
     // one turn for the second axis, where the first needs two
     Good(
-        &["solve", "dr-eofb", "5", "R", "U"],
-        b"",
+        Words(&["solve", "dr-eofb", "5", "R", "U"]),
         b"U (1)\nU' (1)\n\n",
     ),
     Good(
-        &["count", "dr-eofb", "3", ""],
-        b"",
+        Words(&["count", "dr-eofb", "3", ""]),
         b"length 0 solutions 1 nodes 1\n",
     ),
     Good(
-        &["count", "dr-eofb", "0", "R U"],
-        b"",
+        Words(&["count", "dr-eofb", "0", "R U"]),
         b"length none solutions 0 nodes 1\n",
     ),
     Good(
-        &["solve", "dr-eofb", "7", "R U F2 L D R"],
-        b"",
+        Words(&["solve", "dr-eofb", "7", "R U F2 L D R"]),
         b"R' D' L' F2 U (5)\nR' D' L' F2 U' (5)\n\n",
     ),
     Good(
-        &["count", "dr-eofb", "20", "R U F2 L D R"],
-        b"",
+        Words(&["count", "dr-eofb", "20", "R U F2 L D R"]),
         b"length 5 solutions 2 nodes 60\n",
     ),
     Good(
-        &["solve", "dr-eorl", "7", "U F R2"],
-        b"",
+        Words(&["solve", "dr-eorl", "7", "U F R2"]),
         b"R2 F (2)\nR2 F' (2)\n\n",
     ),
-    Good(&["solve", "dr-eoud", "7", "F R"], b"", b"R (1)\nR' (1)\n\n"),
+    Good(
+        Words(&["solve", "dr-eoud", "7", "F R"]),
+        b"R (1)\nR' (1)\n\n",
+    ),
 ];
 
 #[test]
@@ -93,20 +84,17 @@ fn dominoes_on_either_axis(rt: HostRuntime) {
 
 const WITHOUT_EDGES: &[Run] = &[
     Fault(
-        &["solve", "dr-eoud", "3", "U"],
-        b"",
+        Words(&["solve", "dr-eoud", "3", "U"]),
         b"",
         b"nissy: line 1: eoud does not hold\n",
     ),
     Fault(
-        &["solve", "dr-eofb", "3", "F"],
-        b"",
+        Words(&["solve", "dr-eofb", "3", "F"]),
         b"",
         b"nissy: line 1: eofb does not hold\n",
     ),
     Fault(
-        &["count", "dr-eorl", "3", "R"],
-        b"",
+        Words(&["count", "dr-eorl", "3", "R"]),
         b"",
         b"nissy: line 1: eorl does not hold\n",
     ),

@@ -1,4 +1,5 @@
 //! Commands that answer each line: what a run writes, reports and answers.
+use crate::runs::Given::{Input, Words};
 use crate::runs::Run::{self, Fault, Good};
 use crate::runs::{FEW, check_answers, check_runs, check_usage, repeated};
 use std::alloc::Global;
@@ -18,30 +19,27 @@ fn wrong_words_are_refused(rt: HostRuntime) {
 }
 
 const INVERTED: &[Run] = &[
-    Good(&["invert", "R U' F2"], b"", b"F2 U R'\n"),
-    Good(&["invert", ""], b"", b"\n"),
-    Good(&["invert", "R2'", "U"], b"", b"U' R2\n"),
-    Good(&["invert"], b"", b""),
-    Good(&["invert"], b"R\nU", b"R'\nU'\n"),
-    Good(&["invert"], b"R\nU\n\n", b"R'\nU'\n\n"),
-    Good(&["invert", "(R)"], b"", b"R\n"),
-    Good(&["invert", "R (U F') D"], b"", b"U F' D' R'\n"),
-    Good(&["invert"], b"R\xe2\x80\x99\n", b"R\n"),
+    Good(Words(&["invert", "R U' F2"]), b"F2 U R'\n"),
+    Good(Words(&["invert", ""]), b"\n"),
+    Good(Words(&["invert", "R2'", "U"]), b"U' R2\n"),
+    Good(Words(&["invert"]), b""),
+    Good(Input(&["invert"], b"R\nU"), b"R'\nU'\n"),
+    Good(Input(&["invert"], b"R\nU\n\n"), b"R'\nU'\n\n"),
+    Good(Words(&["invert", "(R)"]), b"R\n"),
+    Good(Words(&["invert", "R (U F') D"]), b"U F' D' R'\n"),
+    Good(Input(&["invert"], b"R\xe2\x80\x99\n"), b"R\n"),
     Fault(
-        &["invert", "R '"],
-        b"",
+        Words(&["invert", "R '"]),
         b"",
         b"nissy: line 1, column 3: not a move\n",
     ),
     Fault(
-        &["invert"],
-        b"R\xe2\x80U\n",
+        Input(&["invert"], b"R\xe2\x80U\n"),
         b"",
         b"nissy: line 1, column 2: not a move\n",
     ),
     Fault(
-        &["invert"],
-        b"R\nq\nU",
+        Input(&["invert"], b"R\nq\nU"),
         b"R'\n",
         b"nissy: line 2, column 1: not a move\n",
     ),
@@ -53,23 +51,20 @@ fn lines_are_inverted(rt: HostRuntime) {
 }
 
 const JOINED: &[Run] = &[
-    Good(&["unniss", "R (U F') D"], b"", b"R D F U'\n"),
-    Good(&["unniss", "r2' Mx'"], b"", b"Rw2 M x'\n"),
+    Good(Words(&["unniss", "R (U F') D"]), b"R D F U'\n"),
+    Good(Words(&["unniss", "r2' Mx'"]), b"Rw2 M x'\n"),
     Fault(
-        &["unniss", "(R (U))"],
-        b"",
+        Words(&["unniss", "(R (U))"]),
         b"",
         b"nissy: line 1, column 4: bracket inside a bracket\n",
     ),
     Fault(
-        &["unniss", "R )"],
-        b"",
+        Words(&["unniss", "R )"]),
         b"",
         b"nissy: line 1, column 3: bracket closed that was not opened\n",
     ),
     Fault(
-        &["unniss"],
-        b"R\n(U",
+        Input(&["unniss"], b"R\n(U"),
         b"R\n",
         b"nissy: line 2, column 1: bracket not closed\n",
     ),
@@ -154,7 +149,7 @@ fn most_moves_are_taken(rt: HostRuntime) {
 /// Checks that this line, of a move too many, is refused.
 fn check_too_many(rt: &impl Abort, alloc: Global, command: &str, line: &str) {
     let fault = b"nissy: line 1, column 257: more than 256 moves\n";
-    Fault(&[command, line], b"", b"", fault).check(rt, alloc, FEW);
+    Fault(Words(&[command, line]), b"", fault).check(rt, alloc, FEW);
 }
 
 #[test]

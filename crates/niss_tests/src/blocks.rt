@@ -1,5 +1,6 @@
 //! Input that is read in blocks: the same answers wherever a block ends.
 use crate::devices::{Devices, FAULTLESS};
+use crate::runs::Given::Input;
 use crate::runs::Run::{self, Fault, Good};
 use crate::runs::{check_count, check_each_write, repeated};
 use std::alloc::Global;
@@ -22,7 +23,7 @@ fn reads_of(rt: &impl Abort, alloc: Global, run: Run<'_>, most_read: usize) -> u
 fn check_many_lines(rt: &impl Abort, alloc: Global, most_read: usize, wanted: usize) {
     let input = repeated(alloc, "R U'\n", 3000, "").expect(rt, "memory for input");
     let output = repeated(alloc, "U R'\n", 3000, "").expect(rt, "memory for output");
-    let run = Good(&["invert"], input.as_bytes(), output.as_bytes());
+    let run = Good(Input(&["invert"], input.as_bytes()), output.as_bytes());
     let reads = reads_of(rt, alloc, run, most_read);
     check_count(rt, "reads", reads, wanted);
 }
@@ -38,7 +39,7 @@ fn reads_of_many_lines_are_counted(rt: HostRuntime) {
 fn a_fault_after_the_first_block_has_its_column(rt: HostRuntime) {
     let input = repeated(rt.alloc(), " ", BLOCK, "q\n").expect(&rt, "memory for input");
     let error = b"nissy: line 1, column 4097: not a move\n";
-    let run = Fault(&["invert"], input.as_bytes(), b"", error);
+    let run = Fault(Input(&["invert"], input.as_bytes()), b"", error);
     reads_of(&rt, rt.alloc(), run, BLOCK);
 }
 
@@ -46,7 +47,7 @@ fn a_fault_after_the_first_block_has_its_column(rt: HostRuntime) {
 fn check_cut(rt: &impl Abort, alloc: Global, taken: usize, text: &str, output: &[u8]) {
     let input = repeated(alloc, " ", BLOCK.saturating_sub(taken), text);
     let input = input.expect(rt, "memory for input");
-    let run = Good(&["invert"], input.as_bytes(), output);
+    let run = Good(Input(&["invert"], input.as_bytes()), output);
     reads_of(rt, alloc, run, BLOCK);
 }
 
@@ -80,7 +81,7 @@ fn check_writes(rt: &impl Abort, alloc: Global, most_read: usize, wanted: usize)
         most_read,
         ..FAULTLESS
     };
-    let run = Good(&["invert"], b"R\nU\nF\n", b"R'\nU'\nF'\n");
+    let run = Good(Input(&["invert"], b"R\nU\nF\n"), b"R'\nU'\nF'\n");
     let calls = run.check(rt, alloc, devices);
     check_count(rt, "writes", calls.writes, wanted);
 }
@@ -101,6 +102,6 @@ fn each_write_of_waiting_answers_fails(rt: HostRuntime) {
         ..FAULTLESS
     };
     let fault = b"nissy: line 3, column 1: not a move\n";
-    let run = Fault(&["invert"], b"R\nU\nq\n", b"R'\nU'\n", fault);
+    let run = Fault(Input(&["invert"], b"R\nU\nq\n"), b"R'\nU'\n", fault);
     check_each_write(&rt, rt.alloc(), run, devices);
 }

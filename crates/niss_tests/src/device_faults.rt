@@ -2,8 +2,11 @@
 ghost use Rattle.std.specs.Prelude.{◌<◌, length};
 
 use crate::devices::{Devices, FAULTLESS};
+use crate::runs::Given::{self, Input, Words};
 use crate::runs::Run::{Failure, Fault, Good};
-use crate::runs::{CANNOT_WRITE, STEPS, check_count, check_each_read, check_each_write};
+use crate::runs::{
+    CANNOT_WRITE, STEPS, check_count, check_each_read, check_each_write, check_nothing_taken,
+};
 use std::alloc::Global;
 use std::process::Abort;
 
@@ -19,41 +22,46 @@ fn each_read_fails(rt: HostRuntime) {
     check_each_read(&rt, rt.alloc(), &near, solved, FAULTLESS);
 }
 
-/// The words of a run, its input, how much of it a read gives, and what goes out in each write.
-type Writes<'a> = (&'a [&'a str], &'a [u8], usize, &'a [&'a [u8]]);
+/// A run, how many bytes a read of it gives at most, and what goes out in each write.
+#[derive(Clone, Copy)]
+struct Writes<'a> {
+    given: Given<'a>,
+    most_read: usize,
+    pieces: &'a [&'a [u8]],
+}
 
 /// Each solution goes out by itself as it is found, and so does what stands after the last one.
 const WRITES: &[Writes] = &[
-    (&["invert", "R U' F2"], b"", 1, &[b"F2 U R'\n"]),
-    (
-        &["solve", "eofb", "5", "F B"],
-        b"",
-        1,
-        &[
+    Writes {
+        given: Words(&["invert", "R U' F2"]),
+        most_read: 1,
+        pieces: &[b"F2 U R'\n"],
+    },
+    Writes {
+        given: Words(&["solve", "eofb", "5", "F B"]),
+        most_read: 1,
+        pieces: &[
             b"F B (2)\n",
             b"F B' (2)\n",
             b"F' B (2)\n",
             b"F' B' (2)\n",
             b"\n",
         ],
-    ),
-    (
-        &["solve", "eofb", "0", "F"],
-        b"",
-        1,
-        &[b"no solution within 0 moves\n\n"],
-    ),
-    (
-        &["count", "eofb", "7", "F"],
-        b"",
-        1,
-        &[b"length 1 solutions 2 nodes 20\n"],
-    ),
-    (
-        &["near", "drud-eofb", "1", "1", ""],
-        b"",
-        1,
-        &[
+    },
+    Writes {
+        given: Words(&["solve", "eofb", "0", "F"]),
+        most_read: 1,
+        pieces: &[b"no solution within 0 moves\n\n"],
+    },
+    Writes {
+        given: Words(&["count", "eofb", "7", "F"]),
+        most_read: 1,
+        pieces: &[b"length 1 solutions 2 nodes 20\n"],
+    },
+    Writes {
+        given: Words(&["near", "drud-eofb", "1", "1", ""]),
+        most_read: 1,
+        pieces: &[
             b"(0)\n",
             b"U (1)\n",
             b"U2 (1)\n",
@@ -67,14 +75,17 @@ const WRITES: &[Writes] = &[
             b"B2 (1)\n",
             b"\n",
         ],
-    ),
-    (&["steps"], b"", 1, &[STEPS]),
+    },
+    Writes {
+        given: Words(&["steps"]),
+        most_read: 1,
+        pieces: &[STEPS],
+    },
     // of two lines read one after the other, what stands after the first answer goes out before the next read
-    (
-        &["solve", "eofb", "7"],
-        b"F\nF B\n",
-        1,
-        &[
+    Writes {
+        given: Input(&["solve", "eofb", "7"], b"F\nF B\n"),
+        most_read: 1,
+        pieces: &[
             b"F (1)\n",
             b"F' (1)\n",
             b"\n",
@@ -84,13 +95,12 @@ const WRITES: &[Writes] = &[
             b"F' B' (2)\n",
             b"\n",
         ],
-    ),
+    },
     // of two lines in one read, it goes out with the next solution
-    (
-        &["solve", "eofb", "7"],
-        b"F\nF B\n",
-        6,
-        &[
+    Writes {
+        given: Input(&["solve", "eofb", "7"], b"F\nF B\n"),
+        most_read: 6,
+        pieces: &[
             b"F (1)\n",
             b"F' (1)\n",
             b"\nF B (2)\n",
@@ -99,90 +109,104 @@ const WRITES: &[Writes] = &[
             b"F' B' (2)\n",
             b"\n",
         ],
-    ),
+    },
 ];
 
-/// What the first so many writes bring.
-fn written_by(rt: &impl Abort, alloc: Global, pieces: &[&[u8]], writes: usize) -> Vec<u8> {
-    let mut written = Vec::new(alloc);
-    for piece in pieces.iter().take(writes) {
-        written
-            .extend_from_slice(piece)
-            .expect(rt, "memory for pieces");
+impl Writes<'_> {
+    fn devices(self) -> Devices<'static> {
+        Devices {
+            most_read: self.most_read,
+            ..FAULTLESS
+        }
     }
-    written
-}
 
-/// Makes a run, and counts its writes.
-fn check_writes(rt: &impl Abort, alloc: Global, row: Writes<'_>) {
-    let (words, input, most_read, pieces) = row;
-    let output = written_by(rt, alloc, pieces, pieces.len());
-    let devices = Devices {
-        most_read,
-        ..FAULTLESS
-    };
-    let calls = Good(words, input, output.as_slice()).check(rt, alloc, devices);
-    check_count(rt, "writes", calls.writes, pieces.len());
+    /// What the first so many writes bring.
+    fn written(self, rt: &impl Abort, alloc: Global, writes: usize) -> Vec<u8> {
+        let mut written = Vec::new(alloc);
+        for piece in self.pieces.iter().take(writes) {
+            written
+                .extend_from_slice(piece)
+                .expect(rt, "memory for pieces");
+        }
+        written
+    }
+
+    /// What all writes bring.
+    fn output(self, rt: &impl Abort, alloc: Global) -> Vec<u8> {
+        self.written(rt, alloc, self.pieces.len())
+    }
+
+    /// Makes the run, and counts its writes.
+    fn check(self, rt: &impl Abort, alloc: Global) {
+        let output = self.output(rt, alloc);
+        let run = Good(self.given, output.as_slice());
+        let calls = run.check(rt, alloc, self.devices());
+        check_count(rt, "writes", calls.writes, self.pieces.len());
+    }
+
+    /// Makes the run where the write after so many others fails.
+    fn check_failed_write(self, rt: &impl Abort, alloc: Global, before: usize)
+        requires a_write { before < length self.pieces.now }
+    {
+        let written = self.written(rt, alloc, before);
+        let failing = Devices {
+            failed_write: Some(before + 1),
+            ..self.devices()
+        };
+        let cut = Failure(self.given, written.as_slice(), CANNOT_WRITE);
+        let calls = cut.check(rt, alloc, failing);
+        check_count(rt, "writes", calls.writes, before + 1);
+    }
+
+    /// Has each write of a byte of the run fail in turn.
+    fn check_failed_bytes(self, rt: &impl Abort, alloc: Global) {
+        let output = self.output(rt, alloc);
+        let run = Good(self.given, output.as_slice());
+        check_each_write(rt, alloc, run, self.devices());
+    }
+
+    /// Makes the run where all is taken, and the flush after it fails.
+    fn check_failed_flush(self, rt: &impl Abort, alloc: Global) {
+        let output = self.output(rt, alloc);
+        let run = Failure(self.given, output.as_slice(), CANNOT_WRITE);
+        run.check(rt, alloc, UNFLUSHED);
+    }
 }
 
 #[test]
 fn each_solution_is_a_write(rt: HostRuntime) {
     for row in WRITES {
-        check_writes(&rt, rt.alloc(), *row);
+        row.check(&rt, rt.alloc());
     }
-}
-
-/// Makes a run whose write after so many others fails.
-fn check_failed_write(rt: &impl Abort, alloc: Global, row: Writes<'_>, before: usize) {
-    let (words, input, most_read, pieces) = row;
-    let written = written_by(rt, alloc, pieces, before);
-    let failed_write = before.saturating_add(1);
-    let devices = Devices {
-        most_read,
-        failed_write,
-        ..FAULTLESS
-    };
-    let cut = Failure(words, input, written.as_slice(), CANNOT_WRITE);
-    let calls = cut.check(rt, alloc, devices);
-    check_count(rt, "writes", calls.writes, failed_write);
 }
 
 #[test]
 fn each_write_fails(rt: HostRuntime) {
     for row in WRITES {
-        for before in 0..row.3.len() {
-            check_failed_write(&rt, rt.alloc(), *row, before);
+        for before in 0..row.pieces.len() {
+            row.check_failed_write(&rt, rt.alloc(), before);
         }
     }
-}
-
-/// Has each write of a byte of a run fail in turn.
-fn check_failed_bytes(rt: &impl Abort, alloc: Global, row: Writes<'_>) {
-    let (words, input, most_read, pieces) = row;
-    let output = written_by(rt, alloc, pieces, pieces.len());
-    let devices = Devices {
-        most_read,
-        ..FAULTLESS
-    };
-    check_each_write(rt, alloc, Good(words, input, output.as_slice()), devices);
 }
 
 #[test]
 fn each_write_of_a_byte_fails(rt: HostRuntime) {
     for row in WRITES {
-        check_failed_bytes(&rt, rt.alloc(), *row);
+        row.check_failed_bytes(&rt, rt.alloc());
     }
 }
 
 #[test]
 fn no_bytes_are_taken(rt: HostRuntime) {
-    let devices = Devices {
-        most_written: 0,
-        ..FAULTLESS
-    };
-    for (words, input, _, _) in WRITES {
-        let calls = Failure(words, input, b"", CANNOT_WRITE).check(&rt, rt.alloc(), devices);
-        check_count(&rt, "writes", calls.writes, 1);
+    for row in WRITES {
+        check_nothing_taken(&rt, rt.alloc(), row.given, FAULTLESS);
+    }
+}
+
+#[test]
+fn last_flush_fails(rt: HostRuntime) {
+    for row in WRITES {
+        row.check_failed_flush(&rt, rt.alloc());
     }
 }
 
@@ -192,24 +216,11 @@ const UNFLUSHED: Devices<'static> = Devices {
     ..FAULTLESS
 };
 
-fn check_failed_flush(rt: &impl Abort, alloc: Global, row: Writes<'_>) {
-    let (words, input, _, pieces) = row;
-    let output = written_by(rt, alloc, pieces, pieces.len());
-    Failure(words, input, output.as_slice(), CANNOT_WRITE).check(rt, alloc, UNFLUSHED);
-}
-
-#[test]
-fn last_flush_fails(rt: HostRuntime) {
-    for row in WRITES {
-        check_failed_flush(&rt, rt.alloc(), *row);
-    }
-}
-
 const NOT_A_MOVE: &[u8] = b"nissy: line 1, column 3: not a move\n";
 
 #[test]
 fn flush_fails_after_a_fault(rt: HostRuntime) {
-    Fault(&["invert", "R '"], b"", b"", NOT_A_MOVE).check(&rt, rt.alloc(), UNFLUSHED);
+    Fault(Words(&["invert", "R '"]), b"", NOT_A_MOVE).check(&rt, rt.alloc(), UNFLUSHED);
 }
 
 /// Makes a run with this fault, over an error writer that takes so many bytes of it.
@@ -218,10 +229,10 @@ fn check_cut_fault(rt: &impl Abort, alloc: Global, fault: &[u8], taken: usize)
 {
     let devices = Devices {
         most_reported: 1,
-        failed_report: taken + 1,
+        failed_report: Some(taken + 1),
         ..FAULTLESS
     };
-    Fault(&["invert", "R '"], b"", b"", &fault[..taken]).check(rt, alloc, devices);
+    Fault(Words(&["invert", "R '"]), b"", &fault[..taken]).check(rt, alloc, devices);
 }
 
 #[test]
@@ -234,7 +245,7 @@ fn each_write_of_a_fault_fails(rt: HostRuntime) {
 /// A fault goes out whole in one write, so that what others write beside it doesn't cut it.
 #[test]
 fn a_fault_is_one_write(rt: HostRuntime) {
-    let run = Fault(&["invert", "R '"], b"", b"", NOT_A_MOVE);
+    let run = Fault(Words(&["invert", "R '"]), b"", NOT_A_MOVE);
     let calls = run.check(&rt, rt.alloc(), FAULTLESS);
     check_count(&rt, "writes of the fault", calls.error_writes, 1);
 }

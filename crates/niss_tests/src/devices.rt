@@ -11,12 +11,12 @@ use std::io;
 #[derive(Clone, Copy)]
 pub struct Devices<'a> {
     pub most_read: usize,
-    pub failed_read: usize,
+    pub failed_read: Option<usize>,
     pub most_written: usize,
-    pub failed_write: usize,
+    pub failed_write: Option<usize>,
     pub flush_fails: bool,
     pub most_reported: usize,
-    pub failed_report: usize,
+    pub failed_report: Option<usize>,
     /// The error of a failed call, where the run is given them as streams of `std::io`.
     pub stream_error: Option<io::ErrorKind>,
     /// What the run takes its memory of, where that isn't ample.
@@ -26,12 +26,12 @@ pub struct Devices<'a> {
 /// Reads of a byte, all is taken, and no call fails.
 pub const FAULTLESS: Devices<'static> = Devices {
     most_read: 1,
-    failed_read: 0,
+    failed_read: None,
     most_written: usize::MAX,
-    failed_write: 0,
+    failed_write: None,
     flush_fails: false,
     most_reported: usize::MAX,
-    failed_report: 0,
+    failed_report: None,
     stream_error: None,
     heap: None,
 };
@@ -92,7 +92,7 @@ impl Devices<'_> {
 pub struct Bytes<'a> {
     rest: &'a [u8],
     most: usize,
-    fails_at: usize,
+    fails_at: Option<usize>,
     error: io::ErrorKind,
     pub reads: usize,
     pub least_asked: usize,
@@ -112,7 +112,7 @@ impl Bytes<'_> {
         self.least_asked = self.least_asked.min(buf.len());
         self.most_asked = self.most_asked.max(buf.len());
         self.ended = false;
-        self.failed = self.reads == self.fails_at;
+        self.failed = self.fails_at == Some(self.reads);
         if self.failed {
             return Err(DeviceFault);
         }
@@ -178,7 +178,7 @@ impl Source for Endless {
 pub struct Held {
     pub bytes: Vec<u8>,
     most: usize,
-    fails_at: usize,
+    fails_at: Option<usize>,
     flush_fails: bool,
     error: io::ErrorKind,
     pub writes: usize,
@@ -203,7 +203,7 @@ impl Target for Held {
         self.writes = self.writes.saturating_add(1);
         self.flush_tried = false;
         self.flushed = false;
-        if self.writes == self.fails_at {
+        if self.fails_at == Some(self.writes) {
             self.write_failed = true;
             return Err(DeviceFault);
         }

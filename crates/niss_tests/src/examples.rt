@@ -77,7 +77,7 @@ fn lines_give_cubes_and_numbers(rt: HostRuntime) {
 }
 
 #[test]
-fn seeds_give_scrambles(rt: HostRuntime) {
+fn a_seed_gives_its_turns(rt: HostRuntime) {
     let mut rng = Lcg64Xsh32::new(42, 54);
     let scramble = random_turns(&mut rng, 6);
     let mut text = LineText::new();

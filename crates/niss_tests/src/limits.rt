@@ -1,5 +1,6 @@
 //! Inputs at the limit of input and above it.
 use crate::devices::{Devices, Endless, FAULTLESS};
+use crate::runs::Given::Input;
 use crate::runs::Run::{Failure, Good};
 use crate::runs::{Outcome, TOO_LONG, words_of};
 use niss_shell::{Meter, run};
@@ -14,9 +15,9 @@ fn input_ends_at_the_limit(rt: HostRuntime) -> Result<(), Fail> {
         ..FAULTLESS
     };
     let most = vec![in rt.alloc(); b' '; LIMIT]?;
-    Good(&["invert"], &most, b"\n").check(&rt, rt.alloc(), blocks);
+    Good(Input(&["invert"], &most), b"\n").check(&rt, rt.alloc(), blocks);
     let more = vec![in rt.alloc(); b' '; LIMIT + 1]?;
-    Failure(&["invert"], &more, b"", TOO_LONG).check(&rt, rt.alloc(), blocks);
+    Failure(Input(&["invert"], &more), b"", TOO_LONG).check(&rt, rt.alloc(), blocks);
     Ok(())
 }
 

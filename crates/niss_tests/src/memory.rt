@@ -2,6 +2,7 @@
 use crate::coordinates::check_tables;
 use crate::devices::{Devices, FAULTLESS};
 use crate::path_sinks::HeapWatch;
+use crate::runs::Given::{Input, Words};
 use crate::runs::Run::{self, Failure, Good};
 use crate::runs::{OUT_OF_MEMORY, TOO_LONG, repeated};
 use crate::steps::cube_after;
@@ -28,9 +29,14 @@ fn check_heap(rt: &impl Abort, alloc: Global, size: usize, run: Run<'_>) -> Resu
 fn check_heaps(rt: &impl Abort, alloc: Global, word: &str) -> Result<(), AllocError> {
     let words = ["invert", word];
     for size in [16, 992] {
-        check_heap(rt, alloc, size, Failure(&words, b"R", b"", OUT_OF_MEMORY))?;
+        check_heap(
+            rt,
+            alloc,
+            size,
+            Failure(Input(&words, b"R"), b"", OUT_OF_MEMORY),
+        )?;
     }
-    check_heap(rt, alloc, 4096, Good(&words, b"R", b"\n"))
+    check_heap(rt, alloc, 4096, Good(Input(&words, b"R"), b"\n"))
 }
 
 #[test]
@@ -44,7 +50,7 @@ fn a_refused_growth_ends_the_run(rt: HostRuntime) -> Result<(), Fail> {
 fn words_above_the_limit_are_refused(rt: HostRuntime) -> Result<(), Fail> {
     // no growth is asked for where the words are too many
     let spaces = repeated(rt.alloc(), " ", 16_777_216, "")?;
-    let run = Failure(&["invert", &spaces], b"R", b"", TOO_LONG);
+    let run = Failure(Input(&["invert", &spaces], b"R"), b"", TOO_LONG);
     check_heap(&rt, rt.alloc(), 16, run)?;
     Ok(())
 }
@@ -52,7 +58,7 @@ fn words_above_the_limit_are_refused(rt: HostRuntime) -> Result<(), Fail> {
 #[test]
 fn words_at_the_limit_are_taken(rt: HostRuntime) -> Result<(), Fail> {
     let spaces = repeated(rt.alloc(), " ", 16_777_215, "")?;
-    Good(&["invert", &spaces], b"", b"\n").check(&rt, rt.alloc(), FAULTLESS);
+    Good(Words(&["invert", &spaces]), b"\n").check(&rt, rt.alloc(), FAULTLESS);
     Ok(())
 }
 

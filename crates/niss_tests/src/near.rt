@@ -1,4 +1,5 @@
 //! Solutions a little longer than the least.
+use crate::runs::Given::{Input, Words};
 use crate::runs::Run::{self, Fault, Good};
 use crate::runs::{check_looks, check_runs, check_usage};
 
@@ -59,33 +60,41 @@ U' B2 (2)
 ";
 
 const NEAR: &[Run] = &[
-    Good(&["near", "eofb", "7", "0", "F"], b"", b"F (1)\nF' (1)\n\n"),
-    Good(&["near", "eofb", "1", "5", "F"], b"", b"F (1)\nF' (1)\n\n"),
-    Good(&["near", "eofb", "2", "1", "F"], b"", AFTER_F),
-    Good(&["near", "eofb", "2", "20", "F"], b"", AFTER_F),
-    Good(&["near", "eofb", "20", "1", "F"], b"", AFTER_F),
     Good(
-        &["near", "drud-eofb", "1", "1", ""],
-        b"",
+        Words(&["near", "eofb", "7", "0", "F"]),
+        b"F (1)\nF' (1)\n\n",
+    ),
+    Good(
+        Words(&["near", "eofb", "1", "5", "F"]),
+        b"F (1)\nF' (1)\n\n",
+    ),
+    Good(Words(&["near", "eofb", "2", "1", "F"]), AFTER_F),
+    Good(Words(&["near", "eofb", "2", "20", "F"]), AFTER_F),
+    Good(Words(&["near", "eofb", "20", "1", "F"]), AFTER_F),
+    Good(
+        Words(&["near", "drud-eofb", "1", "1", ""]),
         b"(0)\nU (1)\nU2 (1)\nU' (1)\nD (1)\nD2 (1)\nD' (1)\nR2 (1)\nL2 (1)\nF2 (1)\nB2 (1)\n\n",
     ),
     Good(
-        &["near", "eofb", "0", "3", "F"],
-        b"",
+        Words(&["near", "eofb", "0", "3", "F"]),
         b"no solution within 0 moves\n\n",
     ),
-    Good(&["near", "dr-eofb", "2", "1", "R", "U"], b"", EITHER_DOMINO),
-    Good(&["near", "eofb", "007", "00"], b"F\n", b"F (1)\nF' (1)\n\n"),
-    Good(&["near", "eofb", "5", "0"], b"", b""),
+    Good(
+        Words(&["near", "dr-eofb", "2", "1", "R", "U"]),
+        EITHER_DOMINO,
+    ),
+    Good(
+        Input(&["near", "eofb", "007", "00"], b"F\n"),
+        b"F (1)\nF' (1)\n\n",
+    ),
+    Good(Words(&["near", "eofb", "5", "0"]), b""),
     Fault(
-        &["near", "eofb", "1", "0"],
-        b"F\nR\nq\nF",
+        Input(&["near", "eofb", "1", "0"], b"F\nR\nq\nF"),
         b"F (1)\nF' (1)\n\n(0)\n\n",
         b"nissy: line 3, column 1: not a move\n",
     ),
     Fault(
-        &["near", "dr-eoud", "3", "1", "U"],
-        b"",
+        Words(&["near", "dr-eoud", "3", "1", "U"]),
         b"",
         b"nissy: line 1: eoud does not hold\n",
     ),
@@ -99,9 +108,12 @@ fn longer_solutions_follow_the_shortest(rt: HostRuntime) {
 /// The looks of all deepenings to the last length: 1, 19 and 76.
 #[test]
 fn looks_of_each_length_are_counted(rt: HostRuntime) {
-    let near = Good(&["near", "eofb", "2", "1", "F"], b"", AFTER_F);
+    let near = Good(Words(&["near", "eofb", "2", "1", "F"]), AFTER_F);
     check_looks(&rt, rt.alloc(), near, 96);
-    let least = Good(&["near", "eofb", "2", "0", "F"], b"", b"F (1)\nF' (1)\n\n");
+    let least = Good(
+        Words(&["near", "eofb", "2", "0", "F"]),
+        b"F (1)\nF' (1)\n\n",
+    );
     check_looks(&rt, rt.alloc(), least, 20);
 }
 

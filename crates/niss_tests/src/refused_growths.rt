@@ -1,6 +1,7 @@
 //! Each growth refused in turn: in rooms that grow until one has room for all. Rooms differ by less than the smallest
 //! growth, so each growth is refused in one of them, whatever sizes the growths have.
 use crate::devices::{Devices, FAULTLESS};
+use crate::runs::Given::Input;
 use crate::runs::Run::{self, Fault, Good};
 use crate::runs::{OUT_OF_MEMORY, Outcome, STEPS, run_over, words_of};
 use linked_list_allocator::LocalHeap;
@@ -149,28 +150,24 @@ fn each_growth_of_a_run_is_refused(rt: HostRuntime) -> Result<(), Fail> {
 
 /// What asks for no memory: lines from the source, scrambles, and the list of steps.
 const WITHOUT_GROWTH: &[Run] = &[
-    Good(&["invert"], b"U\nR", b"U'\nR'\n"),
-    Good(&["unniss"], b"U\nR", b"U\nR\n"),
-    Good(&["cleanup"], b"U\nR", b"U\nR\n"),
+    Good(Input(&["invert"], b"U\nR"), b"U'\nR'\n"),
+    Good(Input(&["unniss"], b"U\nR"), b"U\nR\n"),
+    Good(Input(&["cleanup"], b"U\nR"), b"U\nR\n"),
     Good(
-        &["print"],
-        b"U\nR",
+        Input(&["print"], b"U\nR"),
         b"UUUUUUUUUBBBRRRRRRRRRFFFFFFDDDDDDDDDFFFLLLLLLLLLBBBBBB\nUUFUUFUUFRRRRRRRRRFFDFFDFFDDDBDDBDDBLLLLLLLLLUBBUBBUBB\n",
     ),
-    Good(&["steps"], b"U\nR", STEPS),
+    Good(Input(&["steps"], b"U\nR"), STEPS),
     Good(
-        &["scramble", "42", "54", "6", "1"],
-        b"U\nR",
+        Input(&["scramble", "42", "54", "6", "1"], b"U\nR"),
         b"L' D' F' R2 F' L'\n",
     ),
     Good(
-        &["scramble", "42", "54", "3", "2"],
-        b"U\nR",
+        Input(&["scramble", "42", "54", "3", "2"], b"U\nR"),
         b"L' D' F'\nL F' L'\n",
     ),
     Fault(
-        &["unniss"],
-        b"R\n(U",
+        Input(&["unniss"], b"R\n(U"),
         b"R\n",
         b"nissy: line 2, column 1: bracket not closed\n",
     ),

@@ -123,39 +123,56 @@ pub struct Calls {
     pub looks: u128,
 }
 
-/// A run by how it ends: its words, its input, what it writes and the text of its fault. A table of runs is a constant,
-/// which a test passes on at little cost.
+/// What a run is given: its words, and its input, where that isn't empty.
+#[derive(Clone, Copy)]
+pub enum Given<'a> {
+    Words(&'a [&'a str]),
+    Input(&'a [&'a str], &'a [u8]),
+}
+
+impl<'a> Given<'a> {
+    fn parts(self) -> (&'a [&'a str], &'a [u8]) {
+        match self {
+            Given::Words(words) => (words, b"".as_slice()),
+            Given::Input(words, input) => (words, input),
+        }
+    }
+}
+
+/// A run by how it ends: what it is given, what it writes and the text of its fault. A table of runs is a constant, which a
+/// test passes on at little cost.
 #[derive(Clone, Copy)]
 pub enum Run<'a> {
-    Good(&'a [&'a str], &'a [u8], &'a [u8]),
+    Good(Given<'a>, &'a [u8]),
     /// It ends at a line's fault.
-    Fault(&'a [&'a str], &'a [u8], &'a [u8], &'a [u8]),
+    Fault(Given<'a>, &'a [u8], &'a [u8]),
     /// Its words are refused.
     Usage(&'a [&'a str]),
     /// It ends at the limit of input, or where memory or a device fails.
-    Failure(&'a [&'a str], &'a [u8], &'a [u8], &'a [u8]),
+    Failure(Given<'a>, &'a [u8], &'a [u8]),
 }
 
 impl<'a> Run<'a> {
-    /// Its words, its input and its outcome.
-    pub fn parts(self) -> (&'a [&'a str], &'a [u8], Outcome<'a>) {
-        let (words, input, output, error, status) = match self {
-            Run::Good(words, input, output) => (words, input, output, b"".as_slice(), 0),
-            Run::Fault(words, input, output, error) => (words, input, output, error, 1),
-            Run::Usage(words) => (words, b"".as_slice(), b"".as_slice(), USAGE, 2),
-            Run::Failure(words, input, output, error) => (words, input, output, error, 3),
+    /// What it is given, and its outcome.
+    pub fn parts(self) -> (Given<'a>, Outcome<'a>) {
+        let (given, output, error, status) = match self {
+            Run::Good(given, output) => (given, output, b"".as_slice(), 0),
+            Run::Fault(given, output, error) => (given, output, error, 1),
+            Run::Usage(words) => (Given::Words(words), b"".as_slice(), USAGE, 2),
+            Run::Failure(given, output, error) => (given, output, error, 3),
         };
         let outcome = Outcome {
             output,
             error,
             status,
         };
-        (words, input, outcome)
+        (given, outcome)
     }
 
     /// Makes it over such devices, and checks what it writes and answers.
     pub fn check(self, rt: &impl Abort, alloc: Global, devices: Devices<'_>) -> Calls {
-        let (words, input, outcome) = self.parts();
+        let (given, outcome) = self.parts();
+        let (words, input) = given.parts();
         let words = words_of(alloc, words).expect(rt, "memory for words");
         let ran = run_over(alloc, &words, input, devices);
         outcome.compare(rt, ran.status, &ran.out, &ran.err);
@@ -184,10 +201,11 @@ pub fn check_each_read<'a>(
     for before in 0..6usize {
         let failing = Devices {
             most_read: 1,
-            failed_read: before + 1,
+            failed_read: Some(before + 1),
             ..devices
         };
-        let run = Run::Failure(words, b"R\nU\nF", outputs[before / 2], CANNOT_READ);
+        let given = Given::Input(words, b"R\nU\nF");
+        let run = Run::Failure(given, outputs[before / 2], CANNOT_READ);
         let calls = run.check(rt, alloc, failing);
         check_count(rt, "reads", calls.reads, before + 1);
     }
@@ -195,22 +213,32 @@ pub fn check_each_read<'a>(
 
 /// Has each write of a byte of the output fail in turn, and none at last.
 pub fn check_each_write(rt: &impl Abort, alloc: Global, run: Run<'_>, devices: Devices<'_>) {
-    let (words, input, outcome) = run.parts();
+    let (given, outcome) = run.parts();
     let bytewise = Devices {
         most_written: 1,
         ..devices
     };
     for before in 0..outcome.output.len() {
         let failing = Devices {
-            failed_write: before + 1,
+            failed_write: Some(before + 1),
             ..bytewise
         };
-        let cut = Run::Failure(words, input, &outcome.output[..before], CANNOT_WRITE);
+        let cut = Run::Failure(given, &outcome.output[..before], CANNOT_WRITE);
         let calls = cut.check(rt, alloc, failing);
         check_count(rt, "writes", calls.writes, before + 1);
     }
     let calls = run.check(rt, alloc, bytewise);
     check_count(rt, "writes", calls.writes, outcome.output.len());
+}
+
+/// Makes a run whose first write takes no byte: no other follows it.
+pub fn check_nothing_taken(rt: &impl Abort, alloc: Global, given: Given<'_>, devices: Devices<'_>) {
+    let full = Devices {
+        most_written: 0,
+        ..devices
+    };
+    let calls = Run::Failure(given, b"", CANNOT_WRITE).check(rt, alloc, full);
+    check_count(rt, "writes", calls.writes, 1);
 }
 
 /// Few bytes in each call: so lines and moves are cut at every third byte.
@@ -236,8 +264,18 @@ pub fn check_looks(rt: &impl Abort, alloc: Global, run: Run<'_>, looks: u128) {
 /// Checks what a command answers to each of these lines, given as a word.
 pub fn check_answers(rt: &impl Abort, alloc: Global, command: &str, answers: &[(&str, &str)]) {
     for (line, answer) in answers {
-        Run::Good(&[command, line], b"", answer.as_bytes()).check(rt, alloc, FEW);
+        check_answer(rt, alloc, command, line, answer);
     }
+}
+
+fn check_answer<'a>(
+    rt: &impl Abort,
+    alloc: Global,
+    command: &'a str,
+    line: &'a str,
+    answer: &'a str,
+) {
+    Run::Good(Given::Words(&[command, line]), answer.as_bytes()).check(rt, alloc, FEW);
 }
 
 /// Checks that each of these lists of words is refused.

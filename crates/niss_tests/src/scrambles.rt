@@ -1,5 +1,6 @@
 //! Rows of the command that writes scrambles.
 use crate::devices::{Devices, FAULTLESS};
+use crate::runs::Given::{Input, Words};
 use crate::runs::Run::{self, Good};
 use crate::runs::{check_count, check_each_write, check_runs, check_usage};
 use linked_list_allocator::LocalHeap;
@@ -9,34 +10,30 @@ const GREATEST: &str = "18446744073709551615";
 
 const SCRAMBLES: &[Run] = &[
     Good(
-        &["scramble", "42", "54", "6", "1"],
-        b"",
+        Words(&["scramble", "42", "54", "6", "1"]),
         b"L' D' F' R2 F' L'\n",
     ),
     Good(
-        &["scramble", "42", "54", "3", "2"],
-        b"",
+        Words(&["scramble", "42", "54", "3", "2"]),
         b"L' D' F'\nL F' L'\n",
     ),
-    Good(&["scramble", "42", "54", "0", "1"], b"", b"\n"),
-    Good(&["scramble", "42", "54", "0", "3"], b"", b"\n\n\n"),
-    Good(&["scramble", "42", "54", "6", "0"], b"", b""),
+    Good(Words(&["scramble", "42", "54", "0", "1"]), b"\n"),
+    Good(Words(&["scramble", "42", "54", "0", "3"]), b"\n\n\n"),
+    Good(Words(&["scramble", "42", "54", "6", "0"]), b""),
     Good(
-        &["scramble", "042", "0000000000000000000054", "03", "0001"],
-        b"",
+        Words(&["scramble", "042", "0000000000000000000054", "03", "0001"]),
         b"L' D' F'\n",
     ),
-    Good(&["scramble", GREATEST, GREATEST, "256", "0"], b"", b""),
+    Good(Words(&["scramble", GREATEST, GREATEST, "256", "0"]), b""),
     // by a program of our own in another language, after PCG's C code
     Good(
-        &["scramble", GREATEST, GREATEST, "12", "2"],
-        b"",
+        Words(&["scramble", GREATEST, GREATEST, "12", "2"]),
         b"U' L2 F2 D' L D' B2 R D2 R2 F' U2\nL F' U2 L2 D' B2 L2 U D2 B D2 B\n",
     ),
 ];
 
 #[test]
-fn seeds_give_scrambles(rt: HostRuntime) {
+fn scrambles_of_a_seed_are_written(rt: HostRuntime) {
     check_runs(&rt, rt.alloc(), SCRAMBLES);
 }
 
@@ -65,18 +62,21 @@ fn wrong_words_of_scramble_are_refused(rt: HostRuntime) {
 fn most_scrambles_are_written(rt: HostRuntime) {
     let words = ["scramble", "1", "2", "0", "10000"];
     let lines = vec![in rt.alloc(); b'\n'; 10_000].expect(&rt, "memory for lines");
-    Good(&words, b"", lines.as_slice()).check(&rt, rt.alloc(), FAULTLESS);
+    Good(Words(&words), lines.as_slice()).check(&rt, rt.alloc(), FAULTLESS);
 }
 
 #[test]
 fn nothing_is_read_and_no_memory_taken(rt: HostRuntime) -> Result<(), Fail> {
     let heap = LocalHeap::new(rt.alloc(), 16)?;
     let devices = Devices {
-        failed_read: 1,
+        failed_read: Some(1),
         heap: Some(&heap),
         ..FAULTLESS
     };
-    let run = Good(&["scramble", "42", "54", "3", "1"], b"R", b"L' D' F'\n");
+    let run = Good(
+        Input(&["scramble", "42", "54", "3", "1"], b"R"),
+        b"L' D' F'\n",
+    );
     let calls = run.check(&rt, rt.alloc(), devices);
     check_count(&rt, "reads", calls.reads, 0);
     Ok(())
@@ -85,6 +85,6 @@ fn nothing_is_read_and_no_memory_taken(rt: HostRuntime) -> Result<(), Fail> {
 #[test]
 fn each_write_of_scrambles_fails(rt: HostRuntime) {
     let words = ["scramble", "42", "54", "3", "2"];
-    let run = Good(&words, b"", b"L' D' F'\nL F' L'\n");
+    let run = Good(Words(&words), b"L' D' F'\nL F' L'\n");
     check_each_write(&rt, rt.alloc(), run, FAULTLESS);
 }

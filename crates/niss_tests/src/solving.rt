@@ -1,42 +1,41 @@
 //! Rows of the commands that search, and of the command that lists the steps.
+use crate::runs::Given::{Input, Words};
 use crate::runs::Run::{self, Fault, Good};
 use crate::runs::{STEPS, check_looks, check_runs, check_usage};
 
 const SOLVED: &[Run] = &[
-    Good(&["solve", "eofb", "7", "F"], b"", b"F (1)\nF' (1)\n\n"),
+    Good(Words(&["solve", "eofb", "7", "F"]), b"F (1)\nF' (1)\n\n"),
     Good(
-        &["solve", "eofb", "0", "F"],
-        b"",
+        Words(&["solve", "eofb", "0", "F"]),
         b"no solution within 0 moves\n\n",
     ),
     Good(
-        &["solve", "eofb", "5", "F B"],
-        b"",
+        Words(&["solve", "eofb", "5", "F B"]),
         b"F B (2)\nF B' (2)\nF' B (2)\nF' B' (2)\n\n",
     ),
     Good(
-        &["solve", "drud-eofb", "5", "R", "U"],
-        b"",
+        Words(&["solve", "drud-eofb", "5", "R", "U"]),
         b"U' R (2)\nU' R' (2)\n\n",
     ),
-    Good(&["solve", "drrl-eofb", "5", "R"], b"", b"(0)\n\n"),
-    Good(&["solve", "drfb-eorl", "3", "U"], b"", b"U (1)\nU' (1)\n\n"),
-    Good(&["solve", "eofb", "3"], b"", b""),
-    Good(&["solve", "eofb", "3", ""], b"", b"(0)\n\n"),
-    Good(&["solve", "eofb", "007", "F"], b"", b"F (1)\nF' (1)\n\n"),
+    Good(Words(&["solve", "drrl-eofb", "5", "R"]), b"(0)\n\n"),
     Good(
-        &[
+        Words(&["solve", "drfb-eorl", "3", "U"]),
+        b"U (1)\nU' (1)\n\n",
+    ),
+    Good(Words(&["solve", "eofb", "3"]), b""),
+    Good(Words(&["solve", "eofb", "3", ""]), b"(0)\n\n"),
+    Good(Words(&["solve", "eofb", "007", "F"]), b"F (1)\nF' (1)\n\n"),
+    Good(
+        Words(&[
             "solve",
             "eofb",
             "000000000000000000000000000000000000001",
             "F",
-        ],
-        b"",
+        ]),
         b"F (1)\nF' (1)\n\n",
     ),
     Fault(
-        &["solve", "eofb", "2"],
-        b"R\nF\nq\nF",
+        Input(&["solve", "eofb", "2"], b"R\nF\nq\nF"),
         b"(0)\n\nF (1)\nF' (1)\n\n",
         b"nissy: line 3, column 1: not a move\n",
     ),
@@ -48,10 +47,10 @@ fn shortest_solutions_are_written(rt: HostRuntime) {
 }
 
 const AFTER_ROTATIONS: &[Run] = &[
-    Good(&["solve", "eofb", "3", "x U"], b"", b"F (1)\nF' (1)\n\n"),
-    Good(&["solve", "eofb", "3", "x F"], b"", b"(0)\n\n"),
-    Good(&["solve", "eofb", "3", "Fw"], b"", b"B (1)\nB' (1)\n\n"),
-    Good(&["solve", "eofb", "3", "(F)"], b"", b"F (1)\nF' (1)\n\n"),
+    Good(Words(&["solve", "eofb", "3", "x U"]), b"F (1)\nF' (1)\n\n"),
+    Good(Words(&["solve", "eofb", "3", "x F"]), b"(0)\n\n"),
+    Good(Words(&["solve", "eofb", "3", "Fw"]), b"B (1)\nB' (1)\n\n"),
+    Good(Words(&["solve", "eofb", "3", "(F)"]), b"F (1)\nF' (1)\n\n"),
 ];
 
 #[test]
@@ -61,20 +60,17 @@ fn axes_follow_the_centres(rt: HostRuntime) {
 
 const NOT_STARTED: &[Run] = &[
     Fault(
-        &["solve", "drud-eofb", "5", "F"],
-        b"",
+        Words(&["solve", "drud-eofb", "5", "F"]),
         b"",
         b"nissy: line 1: eofb does not hold\n",
     ),
     Fault(
-        &["count", "drud-eorl", "5"],
-        b"U\nR\nU",
+        Input(&["count", "drud-eorl", "5"], b"U\nR\nU"),
         b"length 0 solutions 1 nodes 1\n",
         b"nissy: line 2: eorl does not hold\n",
     ),
     Fault(
-        &["solve", "drrl-eoud", "20"],
-        b"U\n(U)\n",
+        Input(&["solve", "drrl-eoud", "20"], b"U\n(U)\n"),
         b"",
         b"nissy: line 1: eoud does not hold\n",
     ),
@@ -87,43 +83,35 @@ fn a_step_must_be_allowed_to_start(rt: HostRuntime) {
 
 const COUNTS: &[Run] = &[
     Good(
-        &["count", "eofb", "5", "F B"],
-        b"",
+        Words(&["count", "eofb", "5", "F B"]),
         b"length 2 solutions 4 nodes 75\n",
     ),
     Good(
-        &["count", "eofb", "1", "F B"],
-        b"",
+        Words(&["count", "eofb", "1", "F B"]),
         b"length none solutions 0 nodes 2\n",
     ),
     Good(
-        &["count", "eofb", "20", ""],
-        b"",
+        Words(&["count", "eofb", "20", ""]),
         b"length 0 solutions 1 nodes 1\n",
     ),
     Good(
-        &["count", "eofb", "0", "F"],
-        b"",
+        Words(&["count", "eofb", "0", "F"]),
         b"length none solutions 0 nodes 1\n",
     ),
     Good(
-        &["count", "eofb", "7", "F"],
-        b"",
+        Words(&["count", "eofb", "7", "F"]),
         b"length 1 solutions 2 nodes 20\n",
     ),
     Good(
-        &["count", "drud-eofb", "5", "R"],
-        b"",
+        Words(&["count", "drud-eofb", "5", "R"]),
         b"length 1 solutions 2 nodes 16\n",
     ),
     Good(
-        &["count", "drud-eofb", "5", "R U"],
-        b"",
+        Words(&["count", "drud-eofb", "5", "R U"]),
         b"length 2 solutions 2 nodes 28\n",
     ),
     Good(
-        &["count", "drrl-eofb", "5", "R"],
-        b"",
+        Words(&["count", "drrl-eofb", "5", "R"]),
         b"length 0 solutions 1 nodes 1\n",
     ),
 ];
@@ -137,29 +125,26 @@ fn solutions_and_looks_are_counted(rt: HostRuntime) {
 const LOOKS: [(Run, u128); 4] = [
     (
         Good(
-            &["solve", "eofb", "5", "F B"],
-            b"",
+            Words(&["solve", "eofb", "5", "F B"]),
             b"F B (2)\nF B' (2)\nF' B (2)\nF' B' (2)\n\n",
         ),
         75,
     ),
     (
         Good(
-            &["count", "eofb", "5", "F B"],
-            b"",
+            Words(&["count", "eofb", "5", "F B"]),
             b"length 2 solutions 4 nodes 75\n",
         ),
         75,
     ),
     (
         Good(
-            &["count", "eofb", "7"],
-            b"F\nR",
+            Input(&["count", "eofb", "7"], b"F\nR"),
             b"length 1 solutions 2 nodes 20\nlength 0 solutions 1 nodes 1\n",
         ),
         21,
     ),
-    (Good(&["invert", "R"], b"", b"R'\n"), 0),
+    (Good(Words(&["invert", "R"]), b"R'\n"), 0),
 ];
 
 #[test]
@@ -171,11 +156,11 @@ fn looks_are_reported(rt: HostRuntime) {
 
 #[test]
 fn steps_are_listed(rt: HostRuntime) {
-    check_runs(&rt, rt.alloc(), &[Good(&["steps"], b"R", STEPS)]);
+    check_runs(&rt, rt.alloc(), &[Good(Input(&["steps"], b"R"), STEPS)]);
 }
 
 #[test]
-fn wrong_words_are_refused(rt: HostRuntime) {
+fn wrong_words_of_searches_are_refused(rt: HostRuntime) {
     let wrong: &[&[&str]] = &[
         &["solve"],
         &["solve", "eofb"],

@@ -1,10 +1,11 @@
 //! Runs over readers and writers of `std::io`, which move few bytes or whole blocks, and fail with each kind of error.
 use crate::blocks::BLOCK;
 use crate::devices::{Devices, FAULTLESS};
+use crate::runs::Given::{Input, Words};
 use crate::runs::Run::{self, Failure, Fault, Good, Usage};
 use crate::runs::{
     CANNOT_READ, CANNOT_WRITE, check_bytes, check_count, check_each_read, check_each_write,
-    repeated, words_of,
+    check_nothing_taken, repeated, words_of,
 };
 use niss_shell::{FromReader, Meter, ToWriter, run};
 use std::alloc::Global;
@@ -21,19 +22,13 @@ const KINDS: [io::ErrorKind; 5] = [
     io::ErrorKind::Other,
 ];
 
-/// Streams that fail with this kind of error.
-const fn streams(kind: io::ErrorKind) -> Devices<'static> {
+/// Streams of which no call fails; where one is to fail, it does with this kind of error.
+fn streams(kind: io::ErrorKind) -> Devices<'static> {
     Devices {
         stream_error: Some(kind),
         ..FAULTLESS
     }
 }
-
-/// Streams of which no call fails.
-const STREAMS: Devices<'static> = Devices {
-    stream_error: Some(io::ErrorKind::Other),
-    ..FAULTLESS
-};
 
 #[test]
 fn a_cursor_and_lists_are_streams(rt: HostRuntime) {
@@ -64,8 +59,8 @@ fn each_read_fails_once(rt: HostRuntime) {
 /// A read that gives few bytes is followed by one more, up to the one that gives none.
 #[test]
 fn short_reads_are_counted(rt: HostRuntime) {
-    let run = Good(&["invert"], b"R\nU\nF", b"R'\nU'\nF'\n");
-    let calls = run.check(&rt, rt.alloc(), STREAMS);
+    let run = Good(Input(&["invert"], b"R\nU\nF"), b"R'\nU'\nF'\n");
+    let calls = run.check(&rt, rt.alloc(), streams(io::ErrorKind::Other));
     check_count(&rt, "reads", calls.reads, 6);
 }
 
@@ -75,9 +70,9 @@ fn check_blocks(rt: &impl Abort, alloc: Global, blocks: usize, output: &[u8]) {
     let spaces = spaces.expect(rt, "memory for blocks");
     let devices = Devices {
         most_read: usize::MAX,
-        ..STREAMS
+        ..streams(io::ErrorKind::Other)
     };
-    let calls = Good(&["invert"], spaces.as_bytes(), output).check(rt, alloc, devices);
+    let calls = Good(Input(&["invert"], spaces.as_bytes()), output).check(rt, alloc, devices);
     check_count(rt, "reads", calls.reads, blocks.saturating_add(1));
     check_count(rt, "least that a read asks for", calls.least_asked, BLOCK);
     check_count(rt, "most that a read asks for", calls.most_asked, BLOCK);
@@ -97,10 +92,10 @@ fn check_failed_blocks(rt: &impl Abort, alloc: Global, kind: io::ErrorKind) {
     for failed_read in 1..4usize {
         let devices = Devices {
             most_read: usize::MAX,
-            failed_read,
+            failed_read: Some(failed_read),
             ..streams(kind)
         };
-        let run = Failure(&["invert"], spaces.as_bytes(), b"", CANNOT_READ);
+        let run = Failure(Input(&["invert"], spaces.as_bytes()), b"", CANNOT_READ);
         let calls = run.check(rt, alloc, devices);
         check_count(rt, "reads", calls.reads, failed_read);
     }
@@ -113,7 +108,7 @@ fn each_read_of_a_block_fails_once(rt: HostRuntime) {
     }
 }
 
-const INVERT: Run<'static> = Good(&["invert", "R U' F2"], b"", b"F2 U R'\n");
+const INVERT: Run<'static> = Good(Words(&["invert", "R U' F2"]), b"F2 U R'\n");
 
 /// No write follows one that failed.
 #[test]
@@ -124,22 +119,16 @@ fn each_write_fails_once(rt: HostRuntime) {
 }
 
 #[test]
-fn no_bytes_are_taken(rt: HostRuntime) {
-    let devices = Devices {
-        most_written: 0,
-        ..STREAMS
-    };
-    let run = Failure(&["invert", "R U' F2"], b"", b"", CANNOT_WRITE);
-    let calls = run.check(&rt, rt.alloc(), devices);
-    check_count(&rt, "writes", calls.writes, 1);
+fn no_bytes_are_taken_by_a_stream(rt: HostRuntime) {
+    let devices = streams(io::ErrorKind::Other);
+    check_nothing_taken(&rt, rt.alloc(), Words(&["invert", "R U' F2"]), devices);
 }
 
 /// Runs with one flush, after the last byte: a good one, one that a line's fault ends, and one that writes nothing.
 const FLUSHED: [Run<'static>; 3] = [
-    Good(&["invert"], b"R\nU\nF2\n", b"R'\nU'\nF2\n"),
+    Good(Input(&["invert"], b"R\nU\nF2\n"), b"R'\nU'\nF2\n"),
     Fault(
-        &["invert"],
-        b"R\nU\nR '\n",
+        Input(&["invert"], b"R\nU\nR '\n"),
         b"R'\nU'\n",
         b"nissy: line 3, column 3: not a move\n",
     ),
@@ -149,7 +138,7 @@ const FLUSHED: [Run<'static>; 3] = [
 #[test]
 fn the_flush_comes_last(rt: HostRuntime) {
     for run in FLUSHED {
-        run.check(&rt, rt.alloc(), STREAMS);
+        run.check(&rt, rt.alloc(), streams(io::ErrorKind::Other));
     }
 }
 
@@ -165,8 +154,8 @@ fn check_long_piece(rt: &impl Abort, alloc: Global, flush_error: Option<io::Erro
     };
     let (input, output) = (lines.as_bytes(), lines.as_bytes());
     let run = match flush_error {
-        None => Good(&["unniss"], input, output),
-        Some(_) => Failure(&["unniss"], input, output, CANNOT_WRITE),
+        None => Good(Input(&["unniss"], input), output),
+        Some(_) => Failure(Input(&["unniss"], input), output, CANNOT_WRITE),
     };
     check_count(rt, "writes", run.check(rt, alloc, devices).writes, 1);
 }

@@ -1,5 +1,6 @@
 //! Runs whose memory is ample: each step has its tables, and words of each length are joined.
 use crate::devices::FAULTLESS;
+use crate::runs::Given::Input;
 use crate::runs::Run::Good;
 use crate::runs::{check_count, repeated};
 use niss_cube::Step;
@@ -8,7 +9,7 @@ use std::process::Abort;
 
 /// Checks that a run with these words answers so, and reads nothing.
 fn check_unread(rt: &impl Abort, alloc: Global, words: &[&str], output: &[u8]) {
-    let calls = Good(words, b"R", output).check(rt, alloc, FAULTLESS);
+    let calls = Good(Input(words, b"R"), output).check(rt, alloc, FAULTLESS);
     check_count(rt, "reads", calls.reads, 0);
 }
 
