@@ -177,15 +177,12 @@ impl PartialLine {
     }
 
     /// The line that ends here.
-    pub fn finish(self) -> Result<Niss, ReadFault>
+    pub fn finish(mut self) -> Result<Niss, ReadFault>
         requires { HasRoom (state_of self) }
         ensures { result ≡ ended (Ok (state_of self)) }
     {
-        let mut line = self;
-        match line.end() {
-            Ok(()) => Ok(line.niss),
-            Err(fault) => Err(fault),
-        }
+        self.end()?;
+        Ok(self.niss)
     }
 
     /// The moves of the line, once it is ended.
