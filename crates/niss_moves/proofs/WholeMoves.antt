@@ -1,5 +1,5 @@
 -- What a move that is read at once does.
-use Rattle.std.proofs.Common.{◌≡◌, ℕ, ◌+◌, ◌<◌, refl, ap, sym, ◌∙◌, subst, List, [], ◌∷◌, ◌++◌, length, take, take-add, drop, get_or, append_assoc, Result, Ok, Option, None, arith, length-append, inl, inr, ap₂}
+use Rattle.std.proofs.Common.{◌≡◌, ℕ, ◌+◌, ◌<◌, refl, ap, sym, ◌∙◌, subst, List, [], ◌∷◌, ◌++◌, length, take, take-add, drop, get_or, append_assoc, Result, Ok, Option, Some, None, arith, length-append, inl, inr, ap₂}
 use mir.Val.{bool_byte}
 use Rattle.std.proofs.lemmas.List.{take_more}
 use Rattle.std.specs.Prelude.{◌==◌, ◌*◌, nat_lt, not, Bool, true, false}
@@ -7,7 +7,7 @@ use Rattle.niss_moves.specs.Letters.{face_letter}
 use Rattle.niss_moves.proofs.Finite.{not_true, every_face, at_face, every_slice, at_slice, every_axis, at_axis}
 use Rattle.std.proofs.lemmas.Bool.{lt-ltb, eqb-true}
 use Rattle.niss_moves.specs.Notation.{token_of, lower_letter, slice_letter, rotation_letter, base_bytes, Plain, Typographic, Suffix, Nothing, Two, Prime, TwoPrime, suffix_bytes, Blank, Space, Tab, Return, blank_byte}
-use Rattle.niss_moves.specs.Machine.{State, state_of, HasRoom, added, settled, settled_by, count, run, and_then, ended, answer_after}
+use Rattle.niss_moves.specs.Machine.{State, state_of, HasRoom, added, settled, with_last, count, run, and_then, ended, answer_after}
 use Rattle.niss_moves.specs.Reader.{IsFed, line_with, read_line}
 use Rattle.niss_moves.specs.WholeMoves.{IsSuffix, IsMove, BeginsApostrophe, HasNoLineFeed}
 use Rattle.niss_moves.specs.Names.{Power, Quarter, Half, Counter, Token, Base, ReadFault}
@@ -65,8 +65,7 @@ fed_moves fault p q front xs none k r h =
     }
 
 settled_finished : (s : State) → s.last ≡ last.Finished → settled s ≡ s
-settled_finished s e =
-    ap (λ t. record s { normal = (settled_by t s).normal; bracketed = (settled_by t s).bracketed; last = last.Finished }) e ∙ (λ i. record s { last = sym e i })
+settled_finished s e = ap (λ t. settled (with_last t s)) e ∙ ap (λ t. with_last t s) (sym e)
 
 move_run : (s : State) (bytes : List ℕ) (t : Token) → s.last ≡ last.Finished → count s < 256 → IsMove bytes t → run s bytes ≡ Ok (at_fed s t (s.fed + length bytes))
 move_run s bytes t e room h =
@@ -118,7 +117,7 @@ taken_none p e room =
     record { runs = ap (λ n. Ok (record (state_of p) { fed = n })) sum; uncounted = refl; finished = e; room = room; inside = tt }
 
 taken_more : (old mid new : PartialLine) (a b : List ℕ) (t : Token) → HasTaken old mid a → length mid.niss.normal + length mid.niss.bracketed < 256
-    → IsMove b t → state_of new ≡ added (state_of mid) t → HasTaken old new (a ++ b)
+    → IsMove b t → state_of new ≡ added (state_of mid) (Some t) → HasTaken old new (a ++ b)
 taken_more old mid new a b t h few is pushed =
     record {
       runs =
@@ -136,12 +135,12 @@ taken_more old mid new a b t h few is pushed =
 
 -- a move of a piece of the bytes
 pub taken_next : (old mid new : PartialLine) (bytes rest : List ℕ) (i k : ℕ) (t : Token) → rest ≡ drop i bytes → HasTaken old mid (take i bytes)
-    → length mid.niss.normal + length mid.niss.bracketed < 256 → IsMove (take k rest) t → state_of new ≡ added (state_of mid) t
+    → length mid.niss.normal + length mid.niss.bracketed < 256 → IsMove (take k rest) t → state_of new ≡ added (state_of mid) (Some t)
     → HasTaken old new (take (i + k) bytes)
 taken_next old mid new bytes rest i k t e h few is pushed =
     subst (λ (xs : List ℕ). HasTaken old new xs) (ap (λ (xs : List ℕ). take i bytes ++ take k xs) e ∙ sym (take-add i k bytes)) (taken_more old mid new (take i bytes) (take k rest) t h few is pushed)
 
-pub one_more : (mid new : PartialLine) (t : Token) → state_of new ≡ added (state_of mid) t
+pub one_more : (mid new : PartialLine) (t : Token) → state_of new ≡ added (state_of mid) (Some t)
     → length new.niss.normal + length new.niss.bracketed ≡ length mid.niss.normal + length mid.niss.bracketed + 1
 one_more mid new t e =
     ap (λ (s : State). length s.normal + length s.bracketed) e ∙ count_more mid.bracket mid.niss.normal mid.niss.bracketed (t ∷ [])

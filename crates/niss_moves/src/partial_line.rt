@@ -18,10 +18,28 @@ pub enum LastMove {
     Bare(Base),
     /// A base and `2`, which may get an apostrophe.
     Doubled(Base),
-    /// The first byte of U+2019 after a base, and after a `2` or not.
-    FirstByte(Base, bool),
-    /// Its first two bytes.
-    SecondByte(Base, bool),
+    /// A move that ends in the first byte of U+2019.
+    FirstByte(Token),
+    /// A move that ends in its first two bytes.
+    SecondByte(Token),
+}
+
+impl LastMove {
+    ghost use Rattle.std.specs.Prelude.{◌≡◌};
+    ghost use Rattle.niss_moves.specs.Machine.{last_token};
+
+    /// The move, if no more of it follows.
+    fn token(self) -> Option<Token>
+        ensures { result ≡ last_token self }
+    {
+        match self {
+            LastMove::Finished => None,
+            LastMove::Bare(base) => Some(base.token(Power::Quarter)),
+            LastMove::Doubled(base) => Some(base.token(Power::Half)),
+            // asked for at the third byte alone: whatever else follows the first two is a fault
+            LastMove::FirstByte(token) | LastMove::SecondByte(token) => Some(token),
+        }
+    }
 }
 
 /// What is read so far: the whole moves, the column of the open bracket, the last move as far as it goes, and how many bytes
@@ -36,10 +54,10 @@ pub struct PartialLine {
 }
 
 impl PartialLine {
-    ghost use Rattle.std.specs.Prelude.{◌≡◌, ◌+◌, ◌-◌, ◌<◌, ◌≤◌, Ok, OnErr, length, take};
+    ghost use Rattle.std.specs.Prelude.{◌≡◌, ◌+◌, ◌-◌, ◌<◌, ◌≤◌, Some, Ok, OnErr, length, take};
     ghost use Rattle.niss_moves.specs.WholeMoves.{HasNoLineFeed};
     ghost use Rattle.niss_moves.specs.declared.fault.ReadFault.TheVariants.{NotAMove};
-    ghost use Rattle.niss_moves.specs.Machine.{start, apostrophe_power, added, settled, opened, closed, begun, widened, doubled, primed, cut, step_at, step_by, step, run, ended, moves_if, state_of, IsStep, HasRoom};
+    ghost use Rattle.niss_moves.specs.Machine.{start, added, settled, opened, closed, begun, widened, doubled, primed, cut, step_at, step_by, step, run, ended, moves_if, state_of, IsStep, HasRoom};
 
     /// The line before its first byte.
     pub fn new() -> PartialLine
@@ -95,14 +113,14 @@ impl PartialLine {
         ensures { IsStep (λ s. step_at 256 s.last s byte) self.old result self.new }
     {
         match self.last {
-            LastMove::FirstByte(base, two) => {
+            LastMove::FirstByte(token) => {
                 if byte != 0x80 {
                     return Err(ReadFault::NotAMove { column: self.fed });
                 }
-                self.last = LastMove::SecondByte(base, two);
+                self.last = LastMove::SecondByte(token);
                 Ok(())
             }
-            LastMove::SecondByte(_, _) => {
+            LastMove::SecondByte(_) => {
                 if byte != 0x99 {
                     return Err(self.cut_fault());
                 }
@@ -165,8 +183,8 @@ impl PartialLine {
         ensures refused { OnErr result (self.new ≡ self.old) }
     {
         match self.last {
-            LastMove::FirstByte(_, _) => return Err(ReadFault::NotAMove { column: self.fed }),
-            LastMove::SecondByte(_, _) => return Err(self.cut_fault()),
+            LastMove::FirstByte(_) => return Err(ReadFault::NotAMove { column: self.fed }),
+            LastMove::SecondByte(_) => return Err(self.cut_fault()),
             _ => {}
         }
         if let Some(column) = self.bracket {
@@ -300,18 +318,11 @@ impl PartialLine {
         ensures { IsStep (λ s. cut s.last s) self.old result self.new }
     {
         self.last = match self.last {
-            LastMove::Bare(base) => LastMove::FirstByte(base, false),
-            LastMove::Doubled(base) => LastMove::FirstByte(base, true),
+            LastMove::Bare(base) => LastMove::FirstByte(base.token(Power::Counter)),
+            LastMove::Doubled(base) => LastMove::FirstByte(base.token(Power::Half)),
             _ => return Err(self.not_a_move()),
         };
         Ok(())
-    }
-
-    /// The power of a move that ends in an apostrophe, after a `2` or not.
-    fn apostrophe_power(two: bool) -> Power
-        ensures { result ≡ apostrophe_power two }
-    {
-        if two { Power::Half } else { Power::Counter }
     }
 
     /// Makes the last move whole.
@@ -320,21 +331,15 @@ impl PartialLine {
         requires { HasRoom (state_of self.old) }
         ensures { state_of self.new ≡ settled (state_of self.old) }
     {
-        match self.last {
-            LastMove::Finished => {}
-            LastMove::Bare(base) => self.push(base.token(Power::Quarter)),
-            LastMove::Doubled(base) => self.push(base.token(Power::Half)),
-            // never reached: whatever follows the first byte, but for the second, is a fault
-            LastMove::FirstByte(base, two) => self.push(base.token(Self::apostrophe_power(two))),
-            // reached by the third byte alone
-            LastMove::SecondByte(base, two) => self.push(base.token(Self::apostrophe_power(two))),
+        if let Some(token) = self.last.token() {
+            self.push(token);
         }
     }
 
     /// Appends a whole move.
     fn push(&mut self, token: Token)
         requires { length self.old.niss.normal + length self.old.niss.bracketed < 256 }
-        ensures { state_of self.new ≡ added (state_of self.old) token }
+        ensures { state_of self.new ≡ added (state_of self.old) (Some token) }
     {
         if self.bracket.is_some() {
             self.niss.push_bracketed(token);
