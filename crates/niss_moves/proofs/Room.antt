@@ -2,9 +2,8 @@
 use Rattle.std.proofs.Common.{◌≡◌, ℕ, ◌+◌, ◌-◌, ◌<◌, ◌≤◌, Bool, true, false, cond, nat_lt, eqb, refl, subst, List, [], ◌∷◌, length, Option, None, Some, Result, Ok, Err, arith, MatchResult}
 use Rattle.std.proofs.lemmas.Bool.{ltb-true}
 use Rattle.niss_moves.specs.Notation.{token_of}
-use Rattle.niss_moves.specs.Machine.{symbol_of, State, outside, inside, settled, opened, closed, begun, count, with_last, fed_to, step_by, step_at, step, step_within, HasRoom, state_of, IsStep}
+use Rattle.niss_moves.specs.Machine.{symbol_of, State, outside, inside, settled, opened, closed, begun, count, with_last, fed_to, step_by, step_at, step, step_within, HasRoom, IsStep}
 use Rattle.niss_moves.specs.Names.{Quarter, Half, Counter, Token, Base, Symbol, LastMove, ReadFault, NotAMove, TooLong}
-use Rattle.niss_moves.specs.declared.partial_line.PartialLine.{PartialLine}
 use Rattle.niss_moves.specs.declared.base.Base.TheVariants as base
 use Rattle.niss_moves.specs.declared.partial_line.LastMove.TheVariants as last
 use Rattle.niss_moves.specs.declared.symbol.Symbol.TheVariants as symbol
@@ -67,16 +66,16 @@ room_step s byte h = room_fed (s.fed + 1) _ (by_last s.normal s.bracketed s.brac
     by_last n b o (last.SecondByte t) k h = chosen (eqb byte 0x99) (settled (state n b o (last.SecondByte t) k)) (NotAMove (k - 1)) h
     by_last n b o t k h = room_symbol (symbol_of byte) n b o t k h
 
-pub room_kept : (p q : PartialLine) (byte : ℕ) → HasRoom (state_of p) → step (state_of p) byte ≡ Ok (state_of q) → HasRoom (state_of q)
-room_kept p q byte h e = subst Roomy e (room_step (state_of p) byte h)
+pub room_kept : (p q : State) (byte : ℕ) → HasRoom p → step p byte ≡ Ok q → HasRoom q
+room_kept p q byte h e = subst Roomy e (room_step p byte h)
 
-pub step_whole : (byte : ℕ) (x : Symbol) (p q : PartialLine) (r : Result (Unit {0}) ReadFault) → x ≡ symbol_of byte → IsReady p.last → IsStep (step_by 256 x) p r q → IsStep (λ s. step_at 256 s.last s byte) p r q
+pub step_whole : (byte : ℕ) (x : Symbol) (p q : State) (r : Result (Unit {0}) ReadFault) → x ≡ symbol_of byte → IsReady p.last → IsStep (step_by 256 x) p r q → IsStep (λ s. step_at 256 s.last s byte) p r q
 step_whole byte x p q r e ready h = by_last p.last ready
   where
     whole : IsStep (step_by 256 (symbol_of byte)) p r q
     whole = subst (λ (y : Symbol). IsStep (step_by 256 y) p r q) e h
 
-    by_last : (t : LastMove) → IsReady t → MatchResult r (λ _. step_at 256 t (state_of p) byte ≡ Ok (state_of q)) (λ f. step_at 256 t (state_of p) byte ≡ Err f)
+    by_last : (t : LastMove) → IsReady t → MatchResult r (λ _. step_at 256 t p byte ≡ Ok q) (λ f. step_at 256 t p byte ≡ Err f)
     by_last (last.FirstByte t) k = absurd k
     by_last (last.SecondByte t) k = absurd k
     by_last _ k = whole

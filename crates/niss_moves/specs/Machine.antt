@@ -6,7 +6,6 @@ use Rattle.niss_moves.specs.Letters.{face_letter}
 use Rattle.niss_moves.specs.Notation.{token_of, lower_letter, slice_letter, rotation_letter, blank_byte, Space, Tab, Return}
 use Rattle.niss_moves.specs.Line.{Moves}
 use Rattle.niss_moves.specs.Names.{U, D, R, L, F, B, Quarter, Half, Counter, Ud, Rl, Fb, M, E, S, Token, Base, Symbol, LastMove, ReadFault, NotAMove, Nested, Unopened, Unclosed, TooLong}
-use Rattle.niss_moves.specs.declared.partial_line.PartialLine.{PartialLine}
 use Rattle.niss_moves.specs.declared.base.Base.TheVariants as base
 use Rattle.niss_moves.specs.declared.symbol.Symbol.TheVariants as symbol
 use Rattle.niss_moves.specs.declared.partial_line.LastMove.TheVariants as last
@@ -166,22 +165,9 @@ step s byte = step_within 256 s byte
 abbrev pub run : State → List ℕ → Result State ReadFault
 run s bytes = run_within 256 s bytes
 
--- what is read so far
-abbrev pub state_of : PartialLine → State
-state_of p =
-    record {
-      normal = p.niss.normal;
-      bracketed = p.niss.bracketed;
-      bracket = p.bracket;
-      last = p.last;
-      fed = p.fed;
-    }
-
 -- A step answers a fault, or leaves the next state.
-abbrev pub IsStep : (State → Result State ReadFault) → PartialLine → Result (Unit {0}) ReadFault
-    → PartialLine → Type 0
-IsStep next old result new =
-    MatchResult result (λ _. next (state_of old) ≡ Ok (state_of new)) (λ f. next (state_of old) ≡ Err f)
+abbrev pub IsStep : (State → Result State ReadFault) → State → Result (Unit {0}) ReadFault → State → Type 0
+IsStep next old result new = MatchResult result (λ _. next old ≡ Ok new) (λ f. next old ≡ Err f)
 
 abbrev pub HasRoom : State → Type 0
 HasRoom s = count (settled s) ≤ 256
@@ -195,8 +181,12 @@ abbrev pub HasRoomUnless : Option ReadFault → State → Type 0
 HasRoomUnless None s = HasRoom s
 HasRoomUnless (Some f) s = Unit {0}
 
+-- the moves that are read, without the last one where it isn't whole
+abbrev pub whole_moves : State → Moves
+whole_moves s = record { normal = s.normal; bracketed = s.bracketed }
+
 abbrev pub ended_in : Option ℕ → State → Result Moves ReadFault
-ended_in None s = Ok (record { normal = (settled s).normal; bracketed = (settled s).bracketed })
+ended_in None s = Ok (whole_moves (settled s))
 ended_in (Some c) s = Err (Unclosed c)
 
 abbrev pub ended_at : LastMove → State → Result Moves ReadFault
