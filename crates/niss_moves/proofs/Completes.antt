@@ -26,8 +26,8 @@ run-append limit s (x ∷ a) b =
 
 -- no U+2019 is cut
 abbrev pub IsReady : LastMove → Type 0
-IsReady (last.FirstByte b two) = ⊥
-IsReady (last.SecondByte b two) = ⊥
+IsReady (last.FirstByte t) = ⊥
+IsReady (last.SecondByte t) = ⊥
 IsReady _ = Unit {0}
 
 -- a state by its parts
@@ -46,8 +46,8 @@ step_ready limit s byte h = ap (fed_to (s.fed + 1)) (at s.last h)
     at last.Finished h = refl
     at (last.Bare b) h = refl
     at (last.Doubled b) h = refl
-    at (last.FirstByte b two) h = absurd h
-    at (last.SecondByte b two) h = absurd h
+    at (last.FirstByte t) h = absurd h
+    at (last.SecondByte t) h = absurd h
 
 -- a base is read
 begun_ready : (limit : ℕ) → (s : State) (byte : ℕ) (b : Base) → IsReady s.last → count (settled s) < limit → symbol_of byte ≡ symbol.Base b → step_within limit s byte ≡ Ok (counted (with_last (last.Bare b) (settled s)))
@@ -82,7 +82,7 @@ run_base limit s (base.Rotation a) h room =
 
 -- the state after a move, with so many bytes fed
 abbrev pub at_fed : State → Token → ℕ → State
-at_fed s t n = record (added s t) { fed = n }
+at_fed s t n = record (added s (Some t)) { fed = n }
 
 -- what was read from a state on: a move as it is spelled
 pub record RanMove (limit : ℕ) (s : State) (bytes : List ℕ) (t : Token) : Type 0 where
@@ -96,12 +96,12 @@ run_suffix : (limit : ℕ) → (s : State) (b : Base) (n : ℕ) (x : Suffix) →
 unfolding step_within symbol_of based
 run_suffix limit s b n Nothing = (based s b n, refl, tt, omega arith, refl)
 run_suffix limit s b n Two = (counted (with_last (last.Doubled b) (based s b n)), refl, tt, refl, refl)
-run_suffix limit s b n (Prime Plain) = (counted (added (based s b n) (token_of b Counter)), refl, tt, refl, refl)
+run_suffix limit s b n (Prime Plain) = (counted (added (based s b n) (Some (token_of b Counter))), refl, tt, refl, refl)
 run_suffix limit s b n (Prime Typographic) =
-    (counted (counted (counted (added (based s b n) (token_of b Counter)))), refl, tt, omega arith, refl)
-run_suffix limit s b n (TwoPrime Plain) = (counted (counted (added (based s b n) (token_of b Half))), refl, tt, omega arith, refl)
+    (counted (counted (counted (added (based s b n) (Some (token_of b Counter))))), refl, tt, omega arith, refl)
+run_suffix limit s b n (TwoPrime Plain) = (counted (counted (added (based s b n) (Some (token_of b Half)))), refl, tt, omega arith, refl)
 run_suffix limit s b n (TwoPrime Typographic) =
-    (counted (counted (counted (counted (added (based s b n) (token_of b Half))))), refl, tt, omega arith, refl)
+    (counted (counted (counted (counted (added (based s b n) (Some (token_of b Half)))))), refl, tt, omega arith, refl)
 
 ran_move : (limit : ℕ) → (s : State) (b : Base) (x : Suffix) → IsReady s.last → count (settled s) < limit → RanMove limit s (base_bytes b ++ suffix_bytes x) (token_of b (suffix_power x))
 ran_move limit s b x h room =

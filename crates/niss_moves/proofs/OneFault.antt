@@ -41,8 +41,8 @@ ready_ending n b _ _ k true end e r h = absurd (cc)
 cut_ending_is : (n b : List Token) (o : Option ℕ) (t : LastMove) (k : ℕ) (c : Cut) (q : Bool) (end : State) → and_then (run (state n b o t k) (cut_ending c)) (λ u. run u (bracket_ending q)) ≡ Ok end → IsReady end.last → end.bracket ≡ None → (cut_of t ≡ c) × (is_open o ≡ q)
 unfolding step_within symbol_of state
 cut_ending_is n b o t k Whole q end e r h = ready_ending n b o t k q end e r h
-cut_ending_is n b o (last.SecondByte x two) k LacksOne q end e r h = (refl, done_ending _ _ o _ q end e h)
-cut_ending_is n b o (last.FirstByte x two) k LacksTwo q end e r h = (refl, done_ending _ _ o _ q end e h)
+cut_ending_is n b o (last.SecondByte t) k LacksOne q end e r h = (refl, done_ending _ _ o _ q end e h)
+cut_ending_is n b o (last.FirstByte t) k LacksTwo q end e r h = (refl, done_ending _ _ o _ q end e h)
 cut_ending_is n b o _ k _ q end e r h = absurd (cc)
 
 pub one_ending : (bytes : List ℕ) (s : State) (c : Cut) (q : Bool) → run start bytes ≡ Ok s → Continues bytes c q → (cut_of s.last ≡ c) × (is_open s.bracket ≡ q)
@@ -156,8 +156,8 @@ one_opening (x ∷ a) b (y ∷ c) d e p q =
     let t : a ++ 40 ∷ b ≡ c ++ 40 ∷ d = cc in ap suc (one_opening a b c d t p q)
 
 pub ended_whole : (s : State) (t : LastMove) → cut_of t ≡ Whole → ended_at t s ≡ ended_in s.bracket s
-ended_whole s (last.FirstByte b two) e = absurd (cc)
-ended_whole s (last.SecondByte b two) e = absurd (cc)
+ended_whole s (last.FirstByte t) e = absurd (cc)
+ended_whole s (last.SecondByte t) e = absurd (cc)
 ended_whole s _ e = refl
 
 lacks_ended : (bytes : List ℕ) (f : ReadFault) → Lacks bytes f → ended (run start bytes) ≡ Err f
@@ -168,21 +168,21 @@ lacks_ended bytes (NotAMove column) h =
     ap ended w.1 ∙ by_last w.0 w.0.last one.0 (reads_all bytes w.0 w.1)
   where
     by_last : (s : State) (t : LastMove) → cut_of t ≡ h.1 → Reads s bytes → ended_at t s ≡ Err (NotAMove column)
-    by_last s (last.FirstByte b two) e r =
+    by_last s (last.FirstByte t) e r =
         let l = ap cut_length e in ap (λ n. Err (NotAMove n)) (omega (arith, h.4, r.fed))
-    by_last s (last.SecondByte b two) e r =
+    by_last s (last.SecondByte t) e r =
         let l = ap cut_length e in ap (λ n. Err (NotAMove n)) (omega (arith, h.4, r.fed))
     by_last s _ e r = absurd (let l = ap cut_length e in omega (arith, h.2))
 lacks_ended bytes (Unclosed column) h =
     let whole = h.0.before (length bytes) (omega arith) in
     let w = continued_ok bytes (subst CanContinue (take_all (length bytes) bytes (omega arith)) whole) in
     let one = one_ending bytes w.0 Whole true w.1 h.0.ends_so in
-    ap ended w.1 ∙ ended_whole w.0 w.0.last one.0 ∙ by_bracket w.0 w.0.bracket refl one.1 (reads_all bytes w.0 w.1)
+    ap ended w.1 ∙ ended_whole w.0 w.0.last one.0 ∙ by_bracket w.0 w.0.bracket refl one.1 one.0 (reads_all bytes w.0 w.1)
   where
-    by_bracket : (s : State) (o : Option ℕ) → s.bracket ≡ o → is_open o ≡ true → Reads s bytes → ended_in o s ≡ Err (Unclosed column)
-    by_bracket s None b e r = absurd (cc)
-    by_bracket s (Some c) b e r =
-        let x = opens_at bytes s c r b in
+    by_bracket : (s : State) (o : Option ℕ) → s.bracket ≡ o → is_open o ≡ true → cut_of s.last ≡ Whole → Reads s bytes → ended_in o s ≡ Err (Unclosed column)
+    by_bracket s None b e k r = absurd (cc)
+    by_bracket s (Some c) b e k r =
+        let x = opens_at bytes s c k r b in
         let y = h.1 in
         let l = one_opening x.0 x.1 y.0 y.1 (sym x.2 ∙ y.2) x.3 y.3 in
         ap (λ n. Err (Unclosed n)) (omega (arith, x.4, y.4))

@@ -1,17 +1,14 @@
 -- What the reader's answers mean.
-use Rattle.std.proofs.Common.{refl, ap, sym, ◌∙◌, subst, append_assoc, append-nil, arith, inl, inr, length-append}
-use Rattle.std.specs.Prelude.{◌≡◌, ℕ, ◌+◌, ◌-◌, ◌<◌, ◌≤◌, ◌↔◌, List, [], ◌∷◌, ◌++◌, length, Option, None, Some, Result, Ok, Err, IsOk, IfErr}
+use Rattle.std.proofs.Common.{◌≡◌, ℕ, ◌+◌, ◌-◌, ◌<◌, ◌≤◌, ◌↔◌, refl, ap, sym, ◌∙◌, subst, List, [], ◌∷◌, ◌++◌, length, append_assoc, append-nil, Option, None, Some, Result, Ok, Err, IsOk, IfErr, arith, inl, inr, length-append}
 use Rattle.std.specs.Result.{result_err}
 use Rattle.niss_moves.specs.Line.{Moves, Spells, IsLine}
 use Rattle.niss_moves.specs.Faults.{Whole, cut_length, cut_ending, bracket_ending, CanContinue, Stops, Faults}
-use Rattle.niss_moves.specs.Machine.{State, start, settled, step, step_within, symbol_of, and_then, run, ended, ended_at}
-use Rattle.niss_moves.specs.Machine.{ended_in, answer_after, state_of, state_or, HasRoom, HasRoomUnless, IsStep}
+use Rattle.niss_moves.specs.Machine.{State, start, settled, step, step_within, symbol_of, and_then, run, ended, ended_at, ended_in, answer_after, state_or, HasRoom, HasRoomUnless, IsStep}
 use Rattle.niss_moves.specs.Reader.{Reader, IsFed, line_with, read_line}
 use Rattle.niss_moves.specs.Names.{Token, LastMove, ReadFault}
-use Rattle.niss_moves.specs.declared.partial_line.PartialLine.{PartialLine}
 use Rattle.niss_moves.specs.declared.partial_line.LastMove.TheVariants as last
 use Rattle.niss_moves.proofs.Completes.{IsReady, state, and_then-assoc, run-append, completes}
-use Rattle.niss_moves.proofs.Sound.{ready_whole, last_bytes, cut_of, is_open, long_enough}
+use Rattle.niss_moves.proofs.Sound.{IsLast, ready_whole, cut_of, is_open, long_enough}
 use Rattle.niss_moves.proofs.Whole.{reads_all, run_stops, ends_whole, lacks_bracket, lacks_apostrophe}
 use Rattle.niss_moves.proofs.OneFault.{ended_whole, fault_ended}
 use Rattle.niss_moves.proofs.Room.{room_kept}
@@ -20,10 +17,6 @@ use Rattle.niss_moves.proofs.Room.{room_kept}
 abbrev pub answer : Result State ReadFault → Result (Unit {0}) ReadFault
 answer (Ok s) = Ok tt
 answer (Err f) = Err f
-
--- the state of a line, or its fault
-abbrev pub outcome_of : Option ReadFault → PartialLine → Result State ReadFault
-outcome_of fault p = state_or fault (state_of p)
 
 -- the end of a line
 abbrev Final : List ℕ → Result Moves ReadFault → Type 0
@@ -39,12 +32,13 @@ final bytes (Ok s) e = by_last s.last refl
     by_bracket (Some c) w o = inr (lacks_bracket bytes s c (sym e) w o)
 
     by_last : (t : LastMove) → s.last ≡ t → Final bytes (ended_at t s)
-    by_last (last.FirstByte b two) t =
+    by_last (last.FirstByte x) t =
         let h = reads_all bytes s (sym e) in
         inr (lacks_apostrophe bytes s s.fed (sym e) (subst (λ (x : LastMove). 0 < cut_length (cut_of x)) (sym t) (omega arith)) (λ r. subst (λ (x : LastMove). IsReady x) t r) (subst (λ (x : LastMove). s.fed + cut_length (cut_of x) ≡ length bytes + 1) (sym t) (omega (arith, h.fed))))
-    by_last (last.SecondByte b two) t =
+    by_last (last.SecondByte x) t =
         let h = reads_all bytes s (sym e) in
-        let long = long_enough h.front [] two b bytes (h.bytes_are ∙ ap (λ t. h.front ++ last_bytes t) t) in
+        let cut = subst (λ (x : LastMove). IsLast x h.rest) t h.is_last in
+        let long = long_enough _ _ _ h.bytes_are cut.long in
         inr (lacks_apostrophe bytes s (s.fed - 1) (sym e) (subst (λ (x : LastMove). 0 < cut_length (cut_of x)) (sym t) (omega arith)) (λ r. subst (λ (x : LastMove). IsReady x) t r) (subst (λ (x : LastMove). s.fed - 1 + cut_length (cut_of x) ≡ length bytes + 1) (sym t) (omega (arith, h.fed))))
     by_last _ t = by_bracket s.bracket (ap cut_of t) refl
 
@@ -151,44 +145,44 @@ reader_line r = ap ended (same (state_or r.fault r.so_far))
 pub line_end : (r : Reader) (bytes : List ℕ) → IsFed r bytes → read_line bytes ≡ ended (state_or r.fault r.so_far)
 line_end r bytes h = ap read_line (sym (append-nil bytes)) ∙ sym (h.line []) ∙ reader_line r
 
-pub reported_line : (fault : Option ReadFault) (p : PartialLine) (bytes : List ℕ) (f : ReadFault) → fault ≡ Some f → IsFed (record { fed = p.fed; fault = fault; so_far = state_of p }) bytes → Err f ≡ read_line bytes
-reported_line fault p bytes f e h = sym (line_end _ bytes h ∙ ap (λ o. ended (state_or o (state_of p))) e)
+pub reported_line : (fault : Option ReadFault) (p : State) (bytes : List ℕ) (f : ReadFault) → fault ≡ Some f → IsFed (record { fed = p.fed; fault = fault; so_far = p }) bytes → Err f ≡ read_line bytes
+reported_line fault p bytes f e h = sym (line_end _ bytes h ∙ ap (λ o. ended (state_or o p)) e)
 
-pub ended_line : (fault : Option ReadFault) (p : PartialLine) (bytes : List ℕ) → fault ≡ None → IsFed (record { fed = p.fed; fault = fault; so_far = state_of p }) bytes → ended_at p.last (state_of p) ≡ read_line bytes
-ended_line fault p bytes e h = sym (line_end _ bytes h ∙ ap (λ o. ended (state_or o (state_of p))) e)
+pub ended_line : (fault : Option ReadFault) (p : State) (bytes : List ℕ) → fault ≡ None → IsFed (record { fed = p.fed; fault = fault; so_far = p }) bytes → ended_at p.last p ≡ read_line bytes
+ended_line fault p bytes e h = sym (line_end _ bytes h ∙ ap (λ o. ended (state_or o p)) e)
 
 -- the same for the line of what was fed
-pub reported_end : (fault : Option ReadFault) (p : PartialLine) (f : ReadFault) → fault ≡ Some f → Err f ≡ line_with (record { fed = p.fed; fault = fault; so_far = state_of p }) []
-reported_end fault p f e = sym (reader_line _ ∙ ap (λ o. ended (state_or o (state_of p))) e)
+pub reported_end : (fault : Option ReadFault) (p : State) (f : ReadFault) → fault ≡ Some f → Err f ≡ line_with (record { fed = p.fed; fault = fault; so_far = p }) []
+reported_end fault p f e = sym (reader_line _ ∙ ap (λ o. ended (state_or o p)) e)
 
-pub ended_end : (fault : Option ReadFault) (p : PartialLine) → fault ≡ None → ended (Ok (state_of p)) ≡ line_with (record { fed = p.fed; fault = fault; so_far = state_of p }) []
-ended_end fault p e = sym (reader_line _ ∙ ap (λ o. ended (state_or o (state_of p))) e)
+pub ended_end : (fault : Option ReadFault) (p : State) → fault ≡ None → ended (Ok p) ≡ line_with (record { fed = p.fed; fault = fault; so_far = p }) []
+ended_end fault p e = sym (reader_line _ ∙ ap (λ o. ended (state_or o p)) e)
 
 -- a byte fed to a reader
-pub record IsFedOn (fault : Option ReadFault) (p : PartialLine) (byte : ℕ) (next : Option ReadFault) (q : PartialLine) (result : Result (Unit {0}) ReadFault) : Type 0 where
+pub record IsFedOn (fault : Option ReadFault) (p : State) (byte : ℕ) (next : Option ReadFault) (q : State) (result : Result (Unit {0}) ReadFault) : Type 0 where
   pub fed : q.fed ≡ p.fed + 1
-  pub outcome : outcome_of next q ≡ and_then (outcome_of fault p) (λ s. step s byte)
-  pub answered : result ≡ answer (outcome_of next q)
-  pub room : HasRoomUnless next (state_of q)
+  pub outcome : state_or next q ≡ and_then (state_or fault p) (λ s. step s byte)
+  pub answered : result ≡ answer (state_or next q)
+  pub room : HasRoomUnless next q
 
-at_ok : (p q : PartialLine) (byte : ℕ) (r : Result (Unit {0}) ReadFault) → HasRoom (state_of p) → IsStep (λ s. step s byte) p r q → q.fed ≡ p.fed + 1 → IsFedOn None p byte (result_err r) q r
+at_ok : (p q : State) (byte : ℕ) (r : Result (Unit {0}) ReadFault) → HasRoom p → IsStep (λ s. step s byte) p r q → q.fed ≡ p.fed + 1 → IsFedOn None p byte (result_err r) q r
 at_ok p q byte (Ok u) h e k = record { fed = k; outcome = sym e; answered = refl; room = room_kept p q byte h e }
 at_ok p q byte (Err f) h e k = record { fed = k; outcome = sym e; answered = refl; room = tt }
 
-pub fed_on : (fault next : Option ReadFault) (p q t : PartialLine) (byte : ℕ) (result r : Result (Unit {0}) ReadFault) → fault ≡ None → HasRoomUnless fault (state_of p) → IsStep (λ s. step s byte) p r t → t.fed ≡ p.fed + 1 → result ≡ r → next ≡ result_err result → q ≡ t → IsFedOn fault p byte next q result
+pub fed_on : (fault next : Option ReadFault) (p q t : State) (byte : ℕ) (result r : Result (Unit {0}) ReadFault) → fault ≡ None → HasRoomUnless fault p → IsStep (λ s. step s byte) p r t → t.fed ≡ p.fed + 1 → result ≡ r → next ≡ result_err result → q ≡ t → IsFedOn fault p byte next q result
 fed_on fault next p q t byte result r none room h counts er en eq =
-    let here = subst (λ (o : Option ReadFault). HasRoomUnless o (state_of p)) none room in
+    let here = subst (λ (o : Option ReadFault). HasRoomUnless o p) none room in
     rw (none, en, er, eq) (at_ok p t byte r here h counts)
 
-pub fed_again : (fault next : Option ReadFault) (p q t : PartialLine) (byte : ℕ) (result : Result (Unit {0}) ReadFault) (f : ReadFault) → fault ≡ Some f → t.fed ≡ p.fed + 1 → result ≡ Err f → next ≡ result_err result → q ≡ t → IsFedOn fault p byte next q result
+pub fed_again : (fault next : Option ReadFault) (p q t : State) (byte : ℕ) (result : Result (Unit {0}) ReadFault) (f : ReadFault) → fault ≡ Some f → t.fed ≡ p.fed + 1 → result ≡ Err f → next ≡ result_err result → q ≡ t → IsFedOn fault p byte next q result
 fed_again fault next p q t byte result f some counts er en eq =
     rw (some, en, er, eq) (record { fed = counts; outcome = refl; answered = refl; room = tt })
 
-fed_outcome : (fault next : Option ReadFault) (p q : PartialLine) (byte : ℕ) (result : Result (Unit {0}) ReadFault) (bytes : List ℕ) → IsFedOn fault p byte next q result → IsFed (record { fed = p.fed; fault = fault; so_far = state_of p }) bytes → IsOutcome (outcome_of next q) (bytes ++ byte ∷ [])
+fed_outcome : (fault next : Option ReadFault) (p q : State) (byte : ℕ) (result : Result (Unit {0}) ReadFault) (bytes : List ℕ) → IsFedOn fault p byte next q result → IsFed (record { fed = p.fed; fault = fault; so_far = p }) bytes → IsOutcome (state_or next q) (bytes ++ byte ∷ [])
 unfolding line_with
-fed_outcome fault next p q byte result bytes h k = outcome_of_more (outcome_of fault p) (outcome_of next q) bytes byte h.outcome k.line
+fed_outcome fault next p q byte result bytes h k = outcome_of_more (state_or fault p) (state_or next q) bytes byte h.outcome k.line
 
-pub is_fed_on : (fault next : Option ReadFault) (p q : PartialLine) (byte : ℕ) (result : Result (Unit {0}) ReadFault) (bytes : List ℕ) → IsFedOn fault p byte next q result → IsFed (record { fed = p.fed; fault = fault; so_far = state_of p }) bytes → IsFed (record { fed = q.fed; fault = next; so_far = state_of q }) (bytes ++ byte ∷ [])
+pub is_fed_on : (fault next : Option ReadFault) (p q : State) (byte : ℕ) (result : Result (Unit {0}) ReadFault) (bytes : List ℕ) → IsFedOn fault p byte next q result → IsFed (record { fed = p.fed; fault = fault; so_far = p }) bytes → IsFed (record { fed = q.fed; fault = next; so_far = q }) (bytes ++ byte ∷ [])
 unfolding line_with
 is_fed_on fault next p q byte result bytes h k =
     record {
@@ -196,14 +190,14 @@ is_fed_on fault next p q byte result bytes h k =
       line = fed_outcome fault next p q byte result bytes h k;
     }
 
-pub fed_taken : (fault next : Option ReadFault) (p q : PartialLine) (byte : ℕ) (result : Result (Unit {0}) ReadFault) (bytes : List ℕ) → IsFedOn fault p byte next q result → IsFed (record { fed = p.fed; fault = fault; so_far = state_of p }) bytes → IsOk result ↔ CanContinue (bytes ++ byte ∷ [])
+pub fed_taken : (fault next : Option ReadFault) (p q : State) (byte : ℕ) (result : Result (Unit {0}) ReadFault) (bytes : List ℕ) → IsFedOn fault p byte next q result → IsFed (record { fed = p.fed; fault = fault; so_far = p }) bytes → IsOk result ↔ CanContinue (bytes ++ byte ∷ [])
 fed_taken fault next p q byte result bytes h k =
-    subst (λ (x : Result (Unit {0}) ReadFault). IsOk x ↔ CanContinue (bytes ++ byte ∷ [])) (sym h.answered) (taken_iff (outcome_of next q) (bytes ++ byte ∷ []) (fed_outcome fault next p q byte result bytes h k))
+    subst (λ (x : Result (Unit {0}) ReadFault). IsOk x ↔ CanContinue (bytes ++ byte ∷ [])) (sym h.answered) (taken_iff (state_or next q) (bytes ++ byte ∷ []) (fed_outcome fault next p q byte result bytes h k))
 
-pub fed_stops : (fault next : Option ReadFault) (p q : PartialLine) (byte : ℕ) (result : Result (Unit {0}) ReadFault) (bytes : List ℕ) → IsFedOn fault p byte next q result → IsFed (record { fed = p.fed; fault = fault; so_far = state_of p }) bytes → IfErr result (λ f. Stops (bytes ++ byte ∷ []) f)
+pub fed_stops : (fault next : Option ReadFault) (p q : State) (byte : ℕ) (result : Result (Unit {0}) ReadFault) (bytes : List ℕ) → IsFedOn fault p byte next q result → IsFed (record { fed = p.fed; fault = fault; so_far = p }) bytes → IfErr result (λ f. Stops (bytes ++ byte ∷ []) f)
 fed_stops fault next p q byte result bytes h k =
-    subst (λ (x : Result (Unit {0}) ReadFault). IfErr x (λ f. Stops (bytes ++ byte ∷ []) f)) (sym h.answered) (refused_stops (outcome_of next q) (bytes ++ byte ∷ []) (fed_outcome fault next p q byte result bytes h k))
+    subst (λ (x : Result (Unit {0}) ReadFault). IfErr x (λ f. Stops (bytes ++ byte ∷ []) f)) (sym h.answered) (refused_stops (state_or next q) (bytes ++ byte ∷ []) (fed_outcome fault next p q byte result bytes h k))
 
-pub new_fed : (p : PartialLine) → state_of p ≡ start → IsFed (record { fed = p.fed; fault = None; so_far = state_of p }) []
+pub new_fed : (p : State) → p ≡ start → IsFed (record { fed = p.fed; fault = None; so_far = p }) []
 unfolding line_with read_line
 new_fed p e = record { fed = ap (λ (s : State). s.fed) e; line = λ more. ap (λ s. answer_after (Ok s) more) e }

@@ -1,14 +1,9 @@
 -- What the steps of a line do to its state: they keep the moves within their bound.
-use Rattle.std.proofs.Common.{refl, subst, arith, ap, sym, ◌∙◌}
-use Rattle.std.specs.Prelude.{◌≡◌, ℕ, ◌+◌, ◌-◌, ◌<◌, ◌≤◌, Bool, true, false, cond, nat_lt, eqb}
-use Rattle.std.specs.Prelude.{List, [], ◌∷◌, length, Option, None, Some, Result, Ok, Err, MatchResult}
+use Rattle.std.proofs.Common.{◌≡◌, ℕ, ◌+◌, ◌-◌, ◌<◌, ◌≤◌, Bool, true, false, cond, nat_lt, eqb, refl, subst, List, [], ◌∷◌, length, Option, None, Some, Result, Ok, Err, arith, MatchResult}
 use Rattle.std.proofs.lemmas.Bool.{ltb-true}
 use Rattle.niss_moves.specs.Notation.{token_of}
-use Rattle.niss_moves.specs.Machine.{symbol_of, State, outside, inside, settled, settled_by}
-use Rattle.niss_moves.specs.Machine.{opened, closed, begun, count, with_last, fed_to, step_by, step_at}
-use Rattle.niss_moves.specs.Machine.{step, step_within, HasRoom, state_of, IsStep}
+use Rattle.niss_moves.specs.Machine.{symbol_of, State, outside, inside, settled, opened, closed, begun, count, with_last, fed_to, step_by, step_at, step, step_within, HasRoom, IsStep}
 use Rattle.niss_moves.specs.Names.{Quarter, Half, Counter, Token, Base, Symbol, LastMove, ReadFault, NotAMove, TooLong}
-use Rattle.niss_moves.specs.declared.partial_line.PartialLine.{PartialLine}
 use Rattle.niss_moves.specs.declared.base.Base.TheVariants as base
 use Rattle.niss_moves.specs.declared.partial_line.LastMove.TheVariants as last
 use Rattle.niss_moves.specs.declared.symbol.Symbol.TheVariants as symbol
@@ -56,11 +51,7 @@ room_symbol _ n b o _ k h = tt
 -- how many bytes were fed is nothing to it
 room_fed : (n : ℕ) (r : Result State ReadFault) → Roomy r → Roomy (fed_to n r)
 room_fed n (Err f) h = tt
-room_fed n (Ok s) h = by_last s.last h
-  where
-    by_last : (t : LastMove) → length (settled_by t s).normal + length (settled_by t s).bracketed ≤ 256 → length (settled_by t (record s { fed = n })).normal + length (settled_by t (record s { fed = n })).bracketed ≤ 256
-    by_last last.Finished h = h
-    by_last _ h = h
+room_fed n (Ok s) h = h
 
 room_step : (s : State) (byte : ℕ) → HasRoom s → Roomy (step s byte)
 unfolding step_within state
@@ -71,33 +62,25 @@ room_step s byte h = room_fed (s.fed + 1) _ (by_last s.normal s.bracketed s.brac
     chosen false t f h = tt
 
     by_last : (n b : List Token) (o : Option ℕ) (t : LastMove) (k : ℕ) → HasRoom (state n b o t k) → Roomy (step_at 256 t (state n b o t k) byte)
-    by_last n b o (last.FirstByte f two) k h = chosen (eqb byte 0x80) (with_last (last.SecondByte f two) (state n b o (last.FirstByte f two) k)) (NotAMove k) h
-    by_last n b o (last.SecondByte f two) k h = chosen (eqb byte 0x99) (settled (state n b o (last.SecondByte f two) k)) (NotAMove (k - 1)) h
+    by_last n b o (last.FirstByte t) k h = chosen (eqb byte 0x80) (with_last (last.SecondByte t) (state n b o (last.FirstByte t) k)) (NotAMove k) h
+    by_last n b o (last.SecondByte t) k h = chosen (eqb byte 0x99) (settled (state n b o (last.SecondByte t) k)) (NotAMove (k - 1)) h
     by_last n b o t k h = room_symbol (symbol_of byte) n b o t k h
 
-pub room_kept : (p q : PartialLine) (byte : ℕ) → HasRoom (state_of p) → step (state_of p) byte ≡ Ok (state_of q) → HasRoom (state_of q)
-room_kept p q byte h e = subst Roomy e (room_step (state_of p) byte h)
+pub room_kept : (p q : State) (byte : ℕ) → HasRoom p → step p byte ≡ Ok q → HasRoom q
+room_kept p q byte h e = subst Roomy e (room_step p byte h)
 
--- The fields of a line as far as it is read, and its state.
-
--- the last move made whole, by what it is
-pub settled_at : (t : LastMove) (s n : State) → s.last ≡ t
-    → n ≡ record s { normal = (settled_by t s).normal; bracketed = (settled_by t s).bracketed; last = last.Finished } → n ≡ settled s
-settled_at t s n e h =
-    h ∙ ap (λ (t : LastMove). record s { normal = (settled_by t s).normal; bracketed = (settled_by t s).bracketed; last = last.Finished }) (sym e)
-
-pub step_whole : (byte : ℕ) (x : Symbol) (p q : PartialLine) (r : Result (Unit {0}) ReadFault) → x ≡ symbol_of byte → IsReady p.last → IsStep (step_by 256 x) p r q → IsStep (λ s. step_at 256 s.last s byte) p r q
+pub step_whole : (byte : ℕ) (x : Symbol) (p q : State) (r : Result (Unit {0}) ReadFault) → x ≡ symbol_of byte → IsReady p.last → IsStep (step_by 256 x) p r q → IsStep (λ s. step_at 256 s.last s byte) p r q
 step_whole byte x p q r e ready h = by_last p.last ready
   where
     whole : IsStep (step_by 256 (symbol_of byte)) p r q
     whole = subst (λ (y : Symbol). IsStep (step_by 256 y) p r q) e h
 
-    by_last : (t : LastMove) → IsReady t → MatchResult r (λ _. step_at 256 t (state_of p) byte ≡ Ok (state_of q)) (λ f. step_at 256 t (state_of p) byte ≡ Err f)
-    by_last (last.FirstByte b two) k = absurd k
-    by_last (last.SecondByte b two) k = absurd k
+    by_last : (t : LastMove) → IsReady t → MatchResult r (λ _. step_at 256 t p byte ≡ Ok q) (λ f. step_at 256 t p byte ≡ Err f)
+    by_last (last.FirstByte t) k = absurd k
+    by_last (last.SecondByte t) k = absurd k
     by_last _ k = whole
 
-pub is_ready : (t : LastMove) → ((b : Base) (two : Bool) → t ≡ last.FirstByte b two → ⊥) → ((b : Base) (two : Bool) → t ≡ last.SecondByte b two → ⊥) → IsReady t
-is_ready (last.FirstByte b two) f g = f b two refl
-is_ready (last.SecondByte b two) f g = g b two refl
+pub is_ready : (t : LastMove) → ((x : Token) → t ≡ last.FirstByte x → ⊥) → ((x : Token) → t ≡ last.SecondByte x → ⊥) → IsReady t
+is_ready (last.FirstByte x) f g = f x refl
+is_ready (last.SecondByte x) f g = g x refl
 is_ready _ f g = tt

@@ -1,22 +1,17 @@
 -- Whole lines: what is read of them, and which fault.
-use Rattle.std.proofs.Common.{refl, ap, sym, ◌∙◌, subst, subst₂, append_assoc, append-nil, arith, length-append, inl, inr}
-use Rattle.std.specs.Prelude.{◌≡◌, ℕ, ◌+◌, ◌-◌, ◌<◌, ◌≤◌, Bool, true, false, List, [], ◌∷◌, ◌++◌, length, flat_map}
-use Rattle.std.specs.Prelude.{Option, None, Some, Result, Ok, Err, take, drop, get_or, ◌==◌, ◌||◌, not}
+use Rattle.std.proofs.Common.{◌≡◌, ℕ, ◌+◌, ◌-◌, ◌<◌, ◌≤◌, Bool, true, refl, ap, sym, ◌∙◌, subst, subst₂, List, [], ◌∷◌, ◌++◌, length, flat_map, append_assoc, append-nil, Option, None, Some, Result, Ok, Err, arith, length-append, take, drop, get_or, inl, inr, ◌==◌, ◌||◌, not}
 use Rattle.std.proofs.lemmas.List.{take-append-le, take-append-drop}
 use Rattle.std.proofs.Math.Path.{subst₃}
 use Rattle.std.proofs.Math.Seq.{take-append_seam, take-append-add, get_or-append_seam}
 use Rattle.niss_moves.specs.Line.{Gap, Spelled, piece_bytes, Piece, item_bytes, Spells, IsLine}
-use Rattle.niss_moves.specs.Faults.{has_no_bracket, Cut, Whole, LacksOne, LacksTwo, cut_ending, cut_length, bracket_ending}
-use Rattle.niss_moves.specs.Faults.{Continues, CanContinue, StopsAt, EndsEarly, OpensAt, Stops, Lacks}
+use Rattle.niss_moves.specs.Faults.{has_no_bracket, Cut, Whole, LacksOne, LacksTwo, cut_ending, cut_length, bracket_ending, Continues, CanContinue, StopsAt, EndsEarly, OpensAt, Stops, Lacks}
 use Rattle.niss_moves.specs.Machine.{State, start, settled, step, and_then, run}
 use Rattle.niss_moves.specs.Notation.{base_bytes, Plain, Suffix, Prime, TwoPrime, suffix_bytes, Space}
-use Rattle.niss_moves.specs.Names.{Token, Base, LastMove, ReadFault, NotAMove, Nested, Unopened, Unclosed, TooLong}
+use Rattle.niss_moves.specs.Names.{Token, Base, ReadFault, NotAMove, Nested, Unopened, Unclosed, TooLong}
 use Rattle.niss_moves.specs.declared.base.Base.TheVariants as base
 use Rattle.niss_moves.proofs.Finite.{every_face, at_face, every_slice, at_slice, every_axis, at_axis, and_both, and_left, and_right}
-use Rattle.niss_moves.specs.declared.partial_line.LastMove.TheVariants as last
 use Rattle.niss_moves.proofs.Completes.{IsReady, run-append, completes}
-use Rattle.niss_moves.proofs.Sound.{last_bytes, WholeItems, Closed, Opened, front_close, Reads, reads_start}
-use Rattle.niss_moves.proofs.Sound.{settled_front, cut_of, is_open, Refusal, Outcome, step_means}
+use Rattle.niss_moves.proofs.Sound.{WholeItems, Closed, Opened, front_close, Reads, reads_start, settled_front, whole_front, cut_of, is_open, Refusal, Outcome, step_means}
 
 -- the state after more bytes
 reads_run : (more bytes : List ℕ) (s t : State) → Reads s bytes → run s more ≡ Ok t → Reads t (bytes ++ more)
@@ -147,7 +142,7 @@ run_stops bytes f e =
 pub ends_whole : (bytes : List ℕ) (s : State) → run start bytes ≡ Ok s → cut_of s.last ≡ Whole → s.bracket ≡ None → Spells bytes (settled s).normal (settled s).bracketed
 ends_whole bytes s e c o =
     let h = reads_all bytes s e in
-    front_spells _ _ _ (subst₂ (λ (x : List ℕ) (o : Option ℕ). WholeItems o x (settled s).normal (settled s).bracketed) (ap (λ c. bytes ++ cut_ending c) c ∙ append-nil bytes) o (settled_front s bytes h))
+    front_spells _ _ _ (subst (λ (o : Option ℕ). WholeItems o bytes (settled s).normal (settled s).bracketed) o (whole_front s bytes c h))
 
 pub line_ends : (bytes : List ℕ) (s : State) → run start bytes ≡ Ok s → IsLine bytes → IsReady s.last × (s.bracket ≡ None)
 line_ends bytes s e h =
@@ -191,29 +186,19 @@ no_bracket_pieces (Gap _ ∷ ps) = no_bracket_pieces ps
 no_bracket_pieces (Spelled b s ∷ ps) =
     no_bracket_append (base_bytes b ++ suffix_bytes s) _ (no_bracket_append (base_bytes b) _ (no_bracket_base b) (no_bracket_suffix s)) (no_bracket_pieces ps)
 
-no_bracket_last : (t : LastMove) → has_no_bracket (last_bytes t) ≡ true
-no_bracket_last last.Finished = refl
-no_bracket_last (last.Bare b) = no_bracket_base b
-no_bracket_last (last.Doubled b) = no_bracket_append (base_bytes b) _ (no_bracket_base b) refl
-no_bracket_last (last.FirstByte b true) = no_bracket_append (base_bytes b ++ 50 ∷ []) _ (no_bracket_append (base_bytes b) _ (no_bracket_base b) refl) refl
-no_bracket_last (last.FirstByte b false) = no_bracket_append (base_bytes b ++ []) _ (no_bracket_append (base_bytes b) _ (no_bracket_base b) refl) refl
-no_bracket_last (last.SecondByte b true) = no_bracket_append (base_bytes b ++ 50 ∷ []) _ (no_bracket_append (base_bytes b) _ (no_bracket_base b) refl) refl
-no_bracket_last (last.SecondByte b false) = no_bracket_append (base_bytes b ++ []) _ (no_bracket_append (base_bytes b) _ (no_bracket_base b) refl) refl
+opens_front : (o : Option ℕ) (bytes : List ℕ) (n b : List Token) (c : ℕ) → WholeItems o bytes n b → o ≡ Some c → OpensAt bytes c
+opens_front o bytes n b c (Closed items) e = absurd (cc)
+opens_front o bytes n b c (Opened items ps) e =
+    (flat_map item_bytes items, flat_map piece_bytes ps, refl, no_bracket_pieces ps, (let k : c ≡ length (flat_map item_bytes items) + 1 = cc in k))
 
-opens_front : (o : Option ℕ) (front rest : List ℕ) (n b : List Token) (c : ℕ) → WholeItems o front n b → o ≡ Some c → has_no_bracket rest ≡ true → OpensAt (front ++ rest) c
-opens_front o front rest n b c (Closed items) e h = absurd (cc)
-opens_front o front rest n b c (Opened items ps) e h =
-    (flat_map item_bytes items, flat_map piece_bytes ps ++ rest, append_assoc (flat_map item_bytes items) (40 ∷ flat_map piece_bytes ps) rest, no_bracket_append (flat_map piece_bytes ps) _ (no_bracket_pieces ps) h, (let k : c ≡ length (flat_map item_bytes items) + 1 = cc in k))
-
-pub opens_at : (bytes : List ℕ) (s : State) (c : ℕ) → Reads s bytes → s.bracket ≡ Some c → OpensAt bytes c
-opens_at bytes s c h o =
-    subst (λ (x : List ℕ). OpensAt x c) (sym h.bytes_are) (opens_front s.bracket h.front (last_bytes s.last) s.normal s.bracketed c h.is_front o (no_bracket_last s.last))
+pub opens_at : (bytes : List ℕ) (s : State) (c : ℕ) → cut_of s.last ≡ Whole → Reads s bytes → s.bracket ≡ Some c → OpensAt bytes c
+opens_at bytes s c w h o = opens_front s.bracket bytes _ _ c (whole_front s bytes w h) o
 
 -- the faults of the end
 pub lacks_bracket : (bytes : List ℕ) (s : State) (c : ℕ) → run start bytes ≡ Ok s → cut_of s.last ≡ Whole → s.bracket ≡ Some c → Lacks bytes (Unclosed c)
 lacks_bracket bytes s c e w o =
     let h = ends_early bytes s e (λ r. let q : Some c ≡ None = sym o ∙ r.1 in cc) in
-    (subst₂ (λ (x : Cut) (y : Bool). EndsEarly bytes x y) w (ap is_open o) h, opens_at bytes s c (reads_all bytes s e) o)
+    (subst₂ (λ (x : Cut) (y : Bool). EndsEarly bytes x y) w (ap is_open o) h, opens_at bytes s c w (reads_all bytes s e) o)
 
 pub lacks_apostrophe : (bytes : List ℕ) (s : State) (column : ℕ) → run start bytes ≡ Ok s → 0 < cut_length (cut_of s.last) → (IsReady s.last → ⊥) → column + cut_length (cut_of s.last) ≡ length bytes + 1 → Lacks bytes (NotAMove column)
 lacks_apostrophe bytes s column e w n c =

@@ -1,23 +1,20 @@
 -- What a move that is read at once does.
-use Rattle.std.proofs.Common.{refl, ap, sym, ◌∙◌, subst, take-add, append_assoc, arith, length-append, inl, inr, ap₂}
+use Rattle.std.proofs.Common.{◌≡◌, ℕ, ◌+◌, ◌<◌, refl, ap, sym, ◌∙◌, subst, List, [], ◌∷◌, ◌++◌, length, take, take-add, drop, get_or, append_assoc, Result, Ok, Option, Some, None, arith, length-append, inl, inr, ap₂}
 use mir.Val.{bool_byte}
 use Rattle.std.proofs.lemmas.List.{take_more}
-use Rattle.std.specs.Prelude.{◌≡◌, ℕ, ◌+◌, ◌<◌, List, [], ◌∷◌, ◌++◌, length, take, drop, get_or}
-use Rattle.std.specs.Prelude.{Result, Ok, Option, None, ◌==◌, ◌*◌, nat_lt, not, Bool, true, false}
+use Rattle.std.specs.Prelude.{◌==◌, ◌*◌, nat_lt, not, Bool, true, false}
 use Rattle.niss_moves.specs.Letters.{face_letter}
 use Rattle.niss_moves.proofs.Finite.{not_true, every_face, at_face, every_slice, at_slice, every_axis, at_axis}
 use Rattle.std.proofs.lemmas.Bool.{lt-ltb, eqb-true}
-use Rattle.niss_moves.specs.Notation.{token_of, lower_letter, slice_letter, rotation_letter, base_bytes, Plain, Typographic}
-use Rattle.niss_moves.specs.Notation.{Suffix, Nothing, Two, Prime, TwoPrime, suffix_bytes, Blank, Space, Tab, Return, blank_byte}
-use Rattle.niss_moves.specs.Machine.{State, state_of, HasRoom, added, settled, settled_by, count, run, and_then, ended, answer_after}
+use Rattle.niss_moves.specs.Notation.{token_of, lower_letter, slice_letter, rotation_letter, base_bytes, Plain, Typographic, Suffix, Nothing, Two, Prime, TwoPrime, suffix_bytes, Blank, Space, Tab, Return, blank_byte}
+use Rattle.niss_moves.specs.Machine.{State, state_or, HasRoom, added, settled, with_last, count, run, and_then, ended, answer_after}
 use Rattle.niss_moves.specs.Reader.{IsFed, line_with, read_line}
 use Rattle.niss_moves.specs.WholeMoves.{IsSuffix, IsMove, BeginsApostrophe, HasNoLineFeed}
 use Rattle.niss_moves.specs.Names.{Power, Quarter, Half, Counter, Token, Base, ReadFault}
-use Rattle.niss_moves.specs.declared.partial_line.PartialLine.{PartialLine}
 use Rattle.niss_moves.specs.declared.base.Base.TheVariants as base
 use Rattle.niss_moves.specs.declared.partial_line.LastMove.TheVariants as last
 use Rattle.niss_moves.proofs.Completes.{IsReady, count_more, and_then-assoc, run-append, at_fed, run_move}
-use Rattle.niss_moves.proofs.ReaderAnswers.{outcome_of, IsOutcome}
+use Rattle.niss_moves.proofs.ReaderAnswers.{IsOutcome}
 
 -- the first bytes
 pub take_one : (bytes : List ℕ) (x : ℕ) → 0 < length bytes → get_or bytes 0 0 ≡ x → take 1 bytes ≡ x ∷ []
@@ -58,17 +55,16 @@ pub outcome_of_run : (r next : Result State ReadFault) (bytes xs : List ℕ) →
 outcome_of_run r next bytes xs e h more =
     ap (λ r. answer_after r more) e ∙ ap ended (sym (and_then-assoc r (λ s. run s xs) (λ s. run s more) (λ s. run s (xs ++ more)) (λ t. run-append 256 t xs more))) ∙ h (xs ++ more) ∙ ap read_line (sym (append_assoc bytes xs more))
 
-pub fed_moves : (fault : Option ReadFault) (p q : PartialLine) (front xs : List ℕ) → fault ≡ None → q.fed ≡ p.fed + length xs → run (state_of p) xs ≡ Ok (state_of q) → IsFed (record { fed = p.fed; fault = fault; so_far = state_of p }) front → IsFed (record { fed = q.fed; fault = fault; so_far = state_of q }) (front ++ xs)
+pub fed_moves : (fault : Option ReadFault) (p q : State) (front xs : List ℕ) → fault ≡ None → q.fed ≡ p.fed + length xs → run p xs ≡ Ok q → IsFed (record { fed = p.fed; fault = fault; so_far = p }) front → IsFed (record { fed = q.fed; fault = fault; so_far = q }) (front ++ xs)
 unfolding line_with
 fed_moves fault p q front xs none k r h =
     record {
       fed = let e = h.fed in omega (arith, e, k, length-append front xs);
-      line = outcome_of_run (outcome_of fault p) (outcome_of fault q) front xs (subst (λ (o : Option ReadFault). outcome_of o q ≡ and_then (outcome_of o p) (λ s. run s xs)) (sym none) (sym r)) h.line;
+      line = outcome_of_run (state_or fault p) (state_or fault q) front xs (subst (λ (o : Option ReadFault). state_or o q ≡ and_then (state_or o p) (λ s. run s xs)) (sym none) (sym r)) h.line;
     }
 
 settled_finished : (s : State) → s.last ≡ last.Finished → settled s ≡ s
-settled_finished s e =
-    ap (λ t. record s { normal = (settled_by t s).normal; bracketed = (settled_by t s).bracketed; last = last.Finished }) e ∙ (λ i. record s { last = sym e i })
+settled_finished s e = ap (λ t. settled (with_last t s)) e ∙ ap (λ t. with_last t s) (sym e)
 
 move_run : (s : State) (bytes : List ℕ) (t : Token) → s.last ≡ last.Finished → count s < 256 → IsMove bytes t → run s bytes ≡ Ok (at_fed s t (s.fed + length bytes))
 move_run s bytes t e room h =
@@ -107,43 +103,42 @@ no_line_feed bytes t h =
     subst HasNoLineFeed (sym h.bytes_are) (no_feed_more (base_bytes h.base ++ suffix_bytes h.suffix) _ (no_feed_more (base_bytes h.base) _ (no_feed_base h.base) (no_feed_suffix h.suffix)) (no_feed_blank h.blank))
 
 -- A line took these bytes as whole moves, and counts them later.
-pub record HasTaken (old new : PartialLine) (bytes : List ℕ) : Type 0 where
-  pub runs : run (state_of old) bytes ≡ Ok (record (state_of new) { fed = old.fed + length bytes })
+pub record HasTaken (old new : State) (bytes : List ℕ) : Type 0 where
+  pub runs : run old bytes ≡ Ok (record new { fed = old.fed + length bytes })
   pub uncounted : new.fed ≡ old.fed
   pub finished : new.last ≡ last.Finished
-  pub room : HasRoom (state_of new)
+  pub room : HasRoom new
   pub inside : HasNoLineFeed bytes
 
-pub taken_none : (p : PartialLine) → p.last ≡ last.Finished → HasRoom (state_of p) → HasTaken p p []
+pub taken_none : (p : State) → p.last ≡ last.Finished → HasRoom p → HasTaken p p []
 taken_none p e room =
     let sum : p.fed ≡ p.fed + 0 = omega arith in
-    record { runs = ap (λ n. Ok (record (state_of p) { fed = n })) sum; uncounted = refl; finished = e; room = room; inside = tt }
+    record { runs = ap (λ n. Ok (record p { fed = n })) sum; uncounted = refl; finished = e; room = room; inside = tt }
 
-taken_more : (old mid new : PartialLine) (a b : List ℕ) (t : Token) → HasTaken old mid a → length mid.niss.normal + length mid.niss.bracketed < 256
-    → IsMove b t → state_of new ≡ added (state_of mid) t → HasTaken old new (a ++ b)
+taken_more : (old mid new : State) (a b : List ℕ) (t : Token) → HasTaken old mid a → count mid < 256
+    → IsMove b t → new ≡ added mid (Some t) → HasTaken old new (a ++ b)
 taken_more old mid new a b t h few is pushed =
     record {
       runs =
-          let here = record (state_of mid) { fed = old.fed + length a } in
+          let here = record mid { fed = old.fed + length a } in
           let sum : old.fed + length a + length b ≡ old.fed + length (a ++ b) = omega (arith, length-append a b) in
-          run-append 256 (state_of old) a b ∙ ap (λ r. and_then r (λ s. run s b)) h.runs ∙ move_run here b t h.finished few is
+          run-append 256 old a b ∙ ap (λ r. and_then r (λ s. run s b)) h.runs ∙ move_run here b t h.finished few is
           ∙ (λ i. Ok (record (sym pushed i) { fed = sum i }));
       uncounted = ap (λ (s : State). s.fed) pushed ∙ h.uncounted;
       finished = ap (λ (s : State). s.last) pushed;
       room =
-          let more = count_more mid.bracket mid.niss.normal mid.niss.bracketed (t ∷ []) in
+          let more = count_more mid.bracket mid.normal mid.bracketed (t ∷ []) in
           subst (λ (s : State). HasRoom s) (sym pushed) (omega (arith, more, few));
       inside = no_feed_more a b h.inside (no_line_feed b t is);
     }
 
 -- a move of a piece of the bytes
-pub taken_next : (old mid new : PartialLine) (bytes rest : List ℕ) (i k : ℕ) (t : Token) → rest ≡ drop i bytes → HasTaken old mid (take i bytes)
-    → length mid.niss.normal + length mid.niss.bracketed < 256 → IsMove (take k rest) t → state_of new ≡ added (state_of mid) t
+pub taken_next : (old mid new : State) (bytes rest : List ℕ) (i k : ℕ) (t : Token) → rest ≡ drop i bytes → HasTaken old mid (take i bytes)
+    → count mid < 256 → IsMove (take k rest) t → new ≡ added mid (Some t)
     → HasTaken old new (take (i + k) bytes)
 taken_next old mid new bytes rest i k t e h few is pushed =
     subst (λ (xs : List ℕ). HasTaken old new xs) (ap (λ (xs : List ℕ). take i bytes ++ take k xs) e ∙ sym (take-add i k bytes)) (taken_more old mid new (take i bytes) (take k rest) t h few is pushed)
 
-pub one_more : (mid new : PartialLine) (t : Token) → state_of new ≡ added (state_of mid) t
-    → length new.niss.normal + length new.niss.bracketed ≡ length mid.niss.normal + length mid.niss.bracketed + 1
-one_more mid new t e =
-    ap (λ (s : State). length s.normal + length s.bracketed) e ∙ count_more mid.bracket mid.niss.normal mid.niss.bracketed (t ∷ [])
+pub one_more : (mid new : State) (t : Token) → new ≡ added mid (Some t)
+    → count new ≡ count mid + 1
+one_more mid new t e = ap count e ∙ count_more mid.bracket mid.normal mid.bracketed (t ∷ [])

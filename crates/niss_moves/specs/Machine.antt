@@ -1,13 +1,11 @@
 -- The steps by which a line is read, byte by byte. What a line is and which fault it has is said by Line and Faults, and
 -- a caller needs no more: `read_line` is made of these steps, and `IsFed` of what a reader holds.
-use Rattle.std.specs.Prelude.{ℕ, ◌+◌, ◌-◌, ◌≤◌, Bool, true, false, if◌then◌else◌, ◌==◌, nat_lt}
-use Rattle.std.specs.Prelude.{List, [], ◌∷◌, ◌++◌, length, map, Option, None, Some, Result, Ok, Err, MatchResult, ◌≡◌}
+use Rattle.std.specs.Prelude.{ℕ, ◌+◌, ◌-◌, ◌≤◌, if◌then◌else◌, ◌==◌, nat_lt, List, [], ◌∷◌, ◌++◌, length, map, Option, None, Some, Result, Ok, Err, MatchResult, ◌≡◌}
+use Rattle.std.specs.Option.{option_map_or}
 use Rattle.niss_moves.specs.Letters.{face_letter}
 use Rattle.niss_moves.specs.Notation.{token_of, lower_letter, slice_letter, rotation_letter, blank_byte, Space, Tab, Return}
 use Rattle.niss_moves.specs.Line.{Moves}
-use Rattle.niss_moves.specs.Names.{U, D, R, L, F, B, Power, Quarter, Half, Counter, Ud, Rl, Fb, M, E, S, Token}
-use Rattle.niss_moves.specs.Names.{Base, Symbol, LastMove, ReadFault, NotAMove, Nested, Unopened, Unclosed, TooLong}
-use Rattle.niss_moves.specs.declared.partial_line.PartialLine.{PartialLine}
+use Rattle.niss_moves.specs.Names.{U, D, R, L, F, B, Quarter, Half, Counter, Ud, Rl, Fb, M, E, S, Token, Base, Symbol, LastMove, ReadFault, NotAMove, Nested, Unopened, Unclosed, TooLong}
 use Rattle.niss_moves.specs.declared.base.Base.TheVariants as base
 use Rattle.niss_moves.specs.declared.symbol.Symbol.TheVariants as symbol
 use Rattle.niss_moves.specs.declared.partial_line.LastMove.TheVariants as last
@@ -60,34 +58,26 @@ abbrev pub inside : Option ℕ → List Token → List Token → List Token
 inside None ts more = ts
 inside (Some c) ts more = ts ++ more
 
-abbrev pub added : State → Token → State
-added s t =
+-- the state with one more whole move, if there is one
+abbrev pub added : State → Option Token → State
+added s more =
     record s {
-      normal = outside s.bracket s.normal (t ∷ []);
-      bracketed = inside s.bracket s.bracketed (t ∷ []);
+      normal = option_map_or (λ t. outside s.bracket s.normal (t ∷ [])) more s.normal;
+      bracketed = option_map_or (λ t. inside s.bracket s.bracketed (t ∷ [])) more s.bracketed;
       last = last.Finished;
     }
 
--- the power of a move that ends in an apostrophe, after a `2` or not
-abbrev pub apostrophe_power : Bool → Power
-apostrophe_power true = Half
-apostrophe_power false = Counter
+-- the last move, if no more of it follows; no line asks for it after the first byte of U+2019 alone
+abbrev pub last_token : LastMove → Option Token
+last_token last.Finished = None
+last_token (last.Bare b) = Some (token_of b Quarter)
+last_token (last.Doubled b) = Some (token_of b Half)
+last_token (last.FirstByte t) = Some t
+last_token (last.SecondByte t) = Some t
 
--- the state with its last move made whole; no line comes here with the first byte of U+2019 alone
-abbrev pub settled_by : LastMove → State → State
-settled_by last.Finished s = s
-settled_by (last.Bare b) s = added s (token_of b Quarter)
-settled_by (last.Doubled b) s = added s (token_of b Half)
-settled_by (last.FirstByte b two) s = added s (token_of b (apostrophe_power two))
-settled_by (last.SecondByte b two) s = added s (token_of b (apostrophe_power two))
-
+-- the state with its last move made whole
 abbrev pub settled : State → State
-settled s =
-    record s {
-      normal = (settled_by s.last s).normal;
-      bracketed = (settled_by s.last s).bracketed;
-      last = last.Finished;
-    }
+settled s = added s (last_token s.last)
 
 abbrev pub count : State → ℕ
 count s = length s.normal + length s.bracketed
@@ -115,13 +105,13 @@ doubled (last.Bare b) s = Ok (with_last (last.Doubled b) s)
 doubled _ s = refused s
 
 abbrev pub primed : LastMove → State → Result State ReadFault
-primed (last.Bare b) s = Ok (added s (token_of b Counter))
-primed (last.Doubled b) s = Ok (added s (token_of b Half))
+primed (last.Bare b) s = Ok (added s (Some (token_of b Counter)))
+primed (last.Doubled b) s = Ok (added s (Some (token_of b Half)))
 primed _ s = refused s
 
 abbrev pub cut : LastMove → State → Result State ReadFault
-cut (last.Bare b) s = Ok (with_last (last.FirstByte b false) s)
-cut (last.Doubled b) s = Ok (with_last (last.FirstByte b true) s)
+cut (last.Bare b) s = Ok (with_last (last.FirstByte (token_of b Counter)) s)
+cut (last.Doubled b) s = Ok (with_last (last.FirstByte (token_of b Half)) s)
 cut _ s = refused s
 
 -- a move begins, where fewer than so many stand before it
@@ -145,9 +135,9 @@ step_by limit symbol.Other s = refused s
 
 -- the next byte
 abbrev pub step_at : ℕ → LastMove → State → ℕ → Result State ReadFault
-step_at limit (last.FirstByte b two) s byte =
-    if byte == 0x80 then Ok (with_last (last.SecondByte b two) s) else Err (NotAMove s.fed)
-step_at limit (last.SecondByte b two) s byte =
+step_at limit (last.FirstByte t) s byte =
+    if byte == 0x80 then Ok (with_last (last.SecondByte t) s) else Err (NotAMove s.fed)
+step_at limit (last.SecondByte t) s byte =
     if byte == 0x99 then Ok (settled s) else Err (NotAMove (s.fed - 1))
 step_at limit _ s byte = step_by limit (symbol_of byte) s
 
@@ -175,22 +165,9 @@ step s byte = step_within 256 s byte
 abbrev pub run : State → List ℕ → Result State ReadFault
 run s bytes = run_within 256 s bytes
 
--- what is read so far
-abbrev pub state_of : PartialLine → State
-state_of p =
-    record {
-      normal = p.niss.normal;
-      bracketed = p.niss.bracketed;
-      bracket = p.bracket;
-      last = p.last;
-      fed = p.fed;
-    }
-
 -- A step answers a fault, or leaves the next state.
-abbrev pub IsStep : (State → Result State ReadFault) → PartialLine → Result (Unit {0}) ReadFault
-    → PartialLine → Type 0
-IsStep next old result new =
-    MatchResult result (λ _. next (state_of old) ≡ Ok (state_of new)) (λ f. next (state_of old) ≡ Err f)
+abbrev pub IsStep : (State → Result State ReadFault) → State → Result (Unit {0}) ReadFault → State → Type 0
+IsStep next old result new = MatchResult result (λ _. next old ≡ Ok new) (λ f. next old ≡ Err f)
 
 abbrev pub HasRoom : State → Type 0
 HasRoom s = count (settled s) ≤ 256
@@ -204,13 +181,17 @@ abbrev pub HasRoomUnless : Option ReadFault → State → Type 0
 HasRoomUnless None s = HasRoom s
 HasRoomUnless (Some f) s = Unit {0}
 
+-- the moves that are read, without the last one where it isn't whole
+abbrev pub whole_moves : State → Moves
+whole_moves s = record { normal = s.normal; bracketed = s.bracketed }
+
 abbrev pub ended_in : Option ℕ → State → Result Moves ReadFault
-ended_in None s = Ok (record { normal = (settled s).normal; bracketed = (settled s).bracketed })
+ended_in None s = Ok (whole_moves (settled s))
 ended_in (Some c) s = Err (Unclosed c)
 
 abbrev pub ended_at : LastMove → State → Result Moves ReadFault
-ended_at (last.FirstByte b two) s = Err (NotAMove s.fed)
-ended_at (last.SecondByte b two) s = Err (NotAMove (s.fed - 1))
+ended_at (last.FirstByte t) s = Err (NotAMove s.fed)
+ended_at (last.SecondByte t) s = Err (NotAMove (s.fed - 1))
 ended_at _ s = ended_in s.bracket s
 
 -- what the end of the line makes of it

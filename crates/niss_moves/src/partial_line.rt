@@ -1,6 +1,4 @@
 //! A line as far as it is read. Its steps are those of the module Machine of `specs/`.
-ghost use Rattle.std.specs.Prelude.{◌≤◌};
-
 use crate::base::Base;
 use crate::fault::ReadFault;
 use crate::niss::Niss;
@@ -8,6 +6,7 @@ use crate::symbol::{Symbol, symbol_of};
 use crate::token::Token;
 use crate::turn::Power;
 use crate::whole_move::whole_move;
+use std::marker::Model;
 
 /// The last move of what is read, as far as it goes.
 #[derive(Clone, Copy)]
@@ -18,33 +17,60 @@ pub enum LastMove {
     Bare(Base),
     /// A base and `2`, which may get an apostrophe.
     Doubled(Base),
-    /// The first byte of U+2019 after a base, and after a `2` or not.
-    FirstByte(Base, bool),
-    /// Its first two bytes.
-    SecondByte(Base, bool),
+    /// A move that ends in the first byte of U+2019.
+    FirstByte(Token),
+    /// A move that ends in its first two bytes.
+    SecondByte(Token),
+}
+
+impl LastMove {
+    ghost use Rattle.std.specs.Prelude.{◌≡◌};
+    ghost use Rattle.niss_moves.specs.Machine.{last_token};
+
+    /// The move, if no more of it follows.
+    fn token(self) -> Option<Token>
+        ensures { result ≡ last_token self }
+    {
+        match self {
+            LastMove::Finished => None,
+            LastMove::Bare(base) => Some(base.token(Power::Quarter)),
+            LastMove::Doubled(base) => Some(base.token(Power::Half)),
+            // asked for at the third byte alone: whatever else follows the first two is a fault
+            LastMove::FirstByte(token) | LastMove::SecondByte(token) => Some(token),
+        }
+    }
 }
 
 /// What is read so far: the whole moves, the column of the open bracket, the last move as far as it goes, and how many bytes
-/// were fed.
+/// were fed. A contract sees it as the record `State` of these.
 #[derive(Drop)]
 pub struct PartialLine {
     niss: Niss,
     bracket: Option<u32>,
     last: LastMove,
     fed: u32,
-    ghost fits: { fed ≤ 16777216 },
+}
+
+impl Model for PartialLine {
+    ghost use Rattle.std.specs.Prelude.{◌≤◌};
+    ghost use Rattle.niss_moves.specs.Machine.{State};
+
+    ghost Value = { State };
+
+    ghost view = { λ p. record { normal = p.niss.normal; bracketed = p.niss.bracketed; bracket = p.bracket; last = p.last; fed = p.fed } };
+
+    ghost invariant = { λ p. p.fed ≤ 16777216 };
 }
 
 impl PartialLine {
-    ghost use Rattle.std.specs.Prelude.{◌≡◌, ◌+◌, ◌-◌, ◌<◌, ◌≤◌, Ok, OnErr, length, take};
+    ghost use Rattle.std.specs.Prelude.{◌≡◌, ◌+◌, ◌-◌, ◌<◌, ◌≤◌, Some, Ok, OnErr, length, take};
     ghost use Rattle.niss_moves.specs.WholeMoves.{HasNoLineFeed};
     ghost use Rattle.niss_moves.specs.declared.fault.ReadFault.TheVariants.{NotAMove};
-    ghost use Rattle.niss_moves.specs.Machine.{start, apostrophe_power, added, settled, opened, closed, begun, widened, doubled, primed, cut};
-    ghost use Rattle.niss_moves.specs.Machine.{step_at, step_by, step, run, ended, moves_if, state_of, IsStep, HasRoom};
+    ghost use Rattle.niss_moves.specs.Machine.{start, count, added, settled, opened, closed, begun, widened, doubled, primed, cut, step_at, step_by, step, run, whole_moves, ended, moves_if, IsStep, HasRoom};
 
     /// The line before its first byte.
     pub fn new() -> PartialLine
-        ensures { state_of result ≡ start }
+        ensures { result ≡ start }
     {
         PartialLine {
             niss: Niss::new(),
@@ -71,7 +97,7 @@ impl PartialLine {
     /// Takes one more byte.
     #[tactic(auto, unfolding(crate::specs::Machine::step_within))]
     pub fn step(&mut self, byte: u8) -> Result<(), ReadFault>
-        requires room { HasRoom (state_of self.old) }
+        requires room { HasRoom self.old }
         requires fits { self.old.fed < 16777216 }
         ensures steps { IsStep (λ s. step s byte) self.old result self.new }
         ensures fed { self.new.fed ≡ self.old.fed + 1 }
@@ -92,18 +118,18 @@ impl PartialLine {
 
     /// Takes one more byte, and doesn't count it.
     fn take(&mut self, byte: u8) -> Result<(), ReadFault>
-        requires { HasRoom (state_of self.old) }
+        requires { HasRoom self.old }
         ensures { IsStep (λ s. step_at 256 s.last s byte) self.old result self.new }
     {
         match self.last {
-            LastMove::FirstByte(base, two) => {
+            LastMove::FirstByte(token) => {
                 if byte != 0x80 {
                     return Err(ReadFault::NotAMove { column: self.fed });
                 }
-                self.last = LastMove::SecondByte(base, two);
+                self.last = LastMove::SecondByte(token);
                 Ok(())
             }
-            LastMove::SecondByte(_, _) => {
+            LastMove::SecondByte(_) => {
                 if byte != 0x99 {
                     return Err(self.cut_fault());
                 }
@@ -133,12 +159,12 @@ impl PartialLine {
 
     /// Takes the moves in front of the bytes that can be read at once, and answers how many bytes they have.
     pub fn take_moves(&mut self, bytes: &[u8]) -> usize
-        requires room { HasRoom (state_of self.old) }
+        requires room { HasRoom self.old }
         requires fits { self.old.fed + length bytes.now ≤ 16777216 }
         ensures taken { result ≤ length bytes.now }
-        ensures runs { run (state_of self.old) (take result bytes.now) ≡ Ok (state_of self.new) }
+        ensures runs { run self.old (take result bytes.now) ≡ Ok self.new }
         ensures fed { self.new.fed ≡ self.old.fed + result }
-        ensures room { HasRoom (state_of self.new) }
+        ensures room { HasRoom self.new }
         ensures inside { HasNoLineFeed (take result bytes.now) }
     {
         let LastMove::Finished = self.last else {
@@ -158,16 +184,16 @@ impl PartialLine {
 
     /// Ends the line: it is whole then, or has a fault.
     pub fn end(&mut self) -> Result<(), ReadFault>
-        requires { HasRoom (state_of self.old) }
-        ensures value { moves_if result self.new.niss ≡ ended (Ok (state_of self.old)) }
-        ensures again { ended (Ok (state_of self.new)) ≡ ended (Ok (state_of self.old)) }
-        ensures room { HasRoom (state_of self.new) }
+        requires { HasRoom self.old }
+        ensures value { moves_if result (whole_moves self.new) ≡ ended (Ok self.old) }
+        ensures again { ended (Ok self.new) ≡ ended (Ok self.old) }
+        ensures room { HasRoom self.new }
         ensures fed { self.new.fed ≡ self.old.fed }
         ensures refused { OnErr result (self.new ≡ self.old) }
     {
         match self.last {
-            LastMove::FirstByte(_, _) => return Err(ReadFault::NotAMove { column: self.fed }),
-            LastMove::SecondByte(_, _) => return Err(self.cut_fault()),
+            LastMove::FirstByte(_) => return Err(ReadFault::NotAMove { column: self.fed }),
+            LastMove::SecondByte(_) => return Err(self.cut_fault()),
             _ => {}
         }
         if let Some(column) = self.bracket {
@@ -178,27 +204,24 @@ impl PartialLine {
     }
 
     /// The line that ends here.
-    pub fn finish(self) -> Result<Niss, ReadFault>
-        requires { HasRoom (state_of self) }
-        ensures { result ≡ ended (Ok (state_of self)) }
+    pub fn finish(mut self) -> Result<Niss, ReadFault>
+        requires { HasRoom self }
+        ensures { result ≡ ended (Ok self) }
     {
-        let mut line = self;
-        match line.end() {
-            Ok(()) => Ok(line.niss),
-            Err(fault) => Err(fault),
-        }
+        self.end()?;
+        Ok(self.niss)
     }
 
     /// The moves of the line, once it is ended.
     pub fn moves(&self) -> &Niss
-        ensures { result.now ≡ self.now.niss }
+        ensures { result.now ≡ whole_moves self.now }
     {
         &self.niss
     }
 
     /// Goes back before the first byte.
     pub fn clear(&mut self)
-        ensures { state_of self.new ≡ start }
+        ensures { self.new ≡ start }
     {
         self.niss.clear();
         self.bracket = None;
@@ -208,7 +231,7 @@ impl PartialLine {
 
     /// Takes the next byte where no U+2019 is cut.
     fn step_by(&mut self, symbol: Symbol) -> Result<(), ReadFault>
-        requires { HasRoom (state_of self.old) }
+        requires { HasRoom self.old }
         ensures { IsStep (step_by 256 symbol) self.old result self.new }
     {
         match symbol {
@@ -228,7 +251,7 @@ impl PartialLine {
     }
 
     fn open_bracket(&mut self) -> Result<(), ReadFault>
-        requires { HasRoom (state_of self.old) }
+        requires { HasRoom self.old }
         ensures { IsStep (λ s. opened s.bracket s) self.old result self.new }
     {
         let column = self.column();
@@ -241,7 +264,7 @@ impl PartialLine {
     }
 
     fn close_bracket(&mut self) -> Result<(), ReadFault>
-        requires { HasRoom (state_of self.old) }
+        requires { HasRoom self.old }
         ensures { IsStep (λ s. closed s.bracket s) self.old result self.new }
     {
         if self.bracket.is_none() {
@@ -254,7 +277,7 @@ impl PartialLine {
     }
 
     fn begin_move(&mut self, base: Base) -> Result<(), ReadFault>
-        requires { HasRoom (state_of self.old) }
+        requires { HasRoom self.old }
         ensures { IsStep (begun 256 base) self.old result self.new }
     {
         self.settle();
@@ -288,7 +311,7 @@ impl PartialLine {
 
     /// Takes the apostrophe that ends a move.
     fn finish_move(&mut self) -> Result<(), ReadFault>
-        requires { HasRoom (state_of self.old) }
+        requires { HasRoom self.old }
         ensures { IsStep (λ s. primed s.last s) self.old result self.new }
     {
         match self.last {
@@ -304,41 +327,28 @@ impl PartialLine {
         ensures { IsStep (λ s. cut s.last s) self.old result self.new }
     {
         self.last = match self.last {
-            LastMove::Bare(base) => LastMove::FirstByte(base, false),
-            LastMove::Doubled(base) => LastMove::FirstByte(base, true),
+            LastMove::Bare(base) => LastMove::FirstByte(base.token(Power::Counter)),
+            LastMove::Doubled(base) => LastMove::FirstByte(base.token(Power::Half)),
             _ => return Err(self.not_a_move()),
         };
         Ok(())
     }
 
-    /// The power of a move that ends in an apostrophe, after a `2` or not.
-    fn apostrophe_power(two: bool) -> Power
-        ensures { result ≡ apostrophe_power two }
-    {
-        if two { Power::Half } else { Power::Counter }
-    }
-
     /// Makes the last move whole.
     #[inline(always)]
     fn settle(&mut self)
-        requires { HasRoom (state_of self.old) }
-        ensures { state_of self.new ≡ settled (state_of self.old) }
+        requires { HasRoom self.old }
+        ensures { self.new ≡ settled self.old }
     {
-        match self.last {
-            LastMove::Finished => {}
-            LastMove::Bare(base) => self.push(base.token(Power::Quarter)),
-            LastMove::Doubled(base) => self.push(base.token(Power::Half)),
-            // never reached: whatever follows the first byte, but for the second, is a fault
-            LastMove::FirstByte(base, two) => self.push(base.token(Self::apostrophe_power(two))),
-            // reached by the third byte alone
-            LastMove::SecondByte(base, two) => self.push(base.token(Self::apostrophe_power(two))),
+        if let Some(token) = self.last.token() {
+            self.push(token);
         }
     }
 
     /// Appends a whole move.
     fn push(&mut self, token: Token)
-        requires { length self.old.niss.normal + length self.old.niss.bracketed < 256 }
-        ensures { state_of self.new ≡ added (state_of self.old) token }
+        requires { count self.old < 256 }
+        ensures { self.new ≡ added self.old (Some token) }
     {
         if self.bracket.is_some() {
             self.niss.push_bracketed(token);
