@@ -36,7 +36,7 @@ impl Coordinate {
             face,
             power: Power::Quarter,
         };
-        self.number_after(cube, turn)
+        self.standard_number_after(cube, turn)
     }
 
     /// A row with the numbers after the quarter turns, the others still to be written.
