@@ -5,7 +5,7 @@ use Rattle.std.proofs.lemmas.List.{get_or-map}
 use Rattle.niss_moves.specs.Places.{Place, same_place}
 use Rattle.niss_moves.specs.Facelets.{places, facelet}
 use Rattle.niss_moves.specs.Effects.{effect, moved_by, inverse_token}
-use Rattle.niss_moves.specs.Rotations.{to_top, about_vertical, spelling}
+use Rattle.niss_moves.specs.Rotations.{to_top, about_vertical, rotation_if, spelling}
 use Rattle.niss_moves.specs.Letters.{letter_at, letter_of, letters}
 use Rattle.niss_moves.specs.declared.rotation.Rotation.{Rotation}
 use Rattle.niss_cube.specs.Names.{Token, U}
@@ -45,5 +45,5 @@ moved_text m e text sources moved h l small are each =
     ∙ sym (letter_of-moved m e places (place_at i)))
 
 -- the text of a rotation is that of its two parts
-pub letters-spelling : (r : Rotation) (e : Place → Place) → letters (λ q. effect (about_vertical r.vertical) (effect (to_top r.top) (e q))) ≡ letters (λ q. effect (spelling r) (e q))
-letters-spelling r e = λ i. letters (λ q. sym (effect-append (to_top r.top) (about_vertical r.vertical) (e q)) i)
+pub letters-spelling : (r : Rotation) (e : Place → Place) → letters (λ q. effect (rotation_if (about_vertical r.vertical)) (effect (rotation_if (to_top r.top)) (e q))) ≡ letters (λ q. effect (spelling r) (e q))
+letters-spelling r e = λ i. letters (λ q. sym (effect-append (rotation_if (to_top r.top)) (rotation_if (about_vertical r.vertical)) (e q)) i)

@@ -1,4 +1,4 @@
--- The rows of the tables, and what is looked up in them.
+-- The rows of the tables, as they are written.
 use Rattle.std.proofs.Common.{refl, sym, ◌∙◌, ap, subst, arith, inl, inr}
 use Rattle.std.specs.Prelude.{◌≡◌, ℕ, ◌+◌, ◌<◌, List, [], ◌∷◌, length, get_or, set, Bool, true, ◌&&◌, slice_index}
 use Rattle.std.proofs.lemmas.List.{get_or-set_same, get_or-set_other, length-set}
@@ -7,13 +7,12 @@ use Rattle.std.specs.List.{list_all}
 use Rattle.niss_moves.specs.Places.{Place, same_place, is_place}
 use Rattle.niss_moves.specs.Facelets.{places}
 use Rattle.niss_moves.specs.Effects.{turned}
-use Rattle.niss_cube.specs.Names.{Face, U, D, R, L, F, B, Power, Quarter, Half, Counter, Turn, Cube, Coordinate, Axis}
+use Rattle.niss_cube.specs.Names.{Face, U, D, R, L, F, B, Power, Quarter, Half, Counter, Turn, Cube, Coordinate}
 use Rattle.niss_cube.specs.Map.{map_of}
-use Rattle.niss_cube.specs.Coordinates.{count_of, face_for, number_of, standard_axis, turn_for}
+use Rattle.niss_cube.specs.Coordinates.{count_of, number_of, standard_axis}
 use Rattle.niss_cube.specs.NumberAfter.{number_after}
 use Rattle.niss_cube.specs.AfterTurn.{IsCoordinate, IsCube}
-use Rattle.niss_cube.specs.TableRows.{AreRows, AreRowsAt, AreQuarters, IsQuarter, entry_at, face_index, power_index}
-use Rattle.niss_cube.proofs.Codes.{number_after-standard}
+use Rattle.niss_cube.specs.TableRows.{AreRowsAt, AreQuarters, IsQuarter, entry_at, face_index, power_index}
 use Rattle.niss_cube.proofs.CoordinateLaws.{are_coordinates, cube-itself, lists_of, turned_is_cube}
 use Rattle.niss_cube.proofs.CubieKinds.{map_place}
 use Rattle.niss_cube.proofs.Each.{at_place}
@@ -135,9 +134,3 @@ pub quarter-row : (k : Coordinate) (n : ℕ) (row : List (List ℕ)) (c : Cube) 
 quarter-row k n row c e r t s =
     let P : Power → Type 0 = λ p. entry_at row (turn t.face p) ≡ after_of k n (turn t.face p) in
     subst P (sym s) (r t.face ∙ (law k).follows (map_of c) (turn t.face Quarter) (c, λ q p. refl) ∙ ap (λ j. after_of k j (turn t.face Quarter)) e)
-
--- what is looked up in rows, at the turn of the renamed cube
-pub looked_up : (k : Coordinate) (rows : List (List (List ℕ))) → AreRows k rows → (a : Axis) (i : ℕ) (t : Turn) (result : ℕ) (f : Face) → i < count_of k → f ≡ face_for k a t.face →
-    result ≡ entry_at (get_or rows i []) (turn f t.power) → result ≡ number_after k a i t
-looked_up k rows right a i t result f l face e =
-    e ∙ ap (λ g. entry_at (get_or rows i []) (turn g t.power)) face ∙ right.entries i (turn_for k a t) tt l ∙ number_after-standard k a i t

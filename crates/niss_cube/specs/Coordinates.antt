@@ -22,14 +22,15 @@ renaming_for Slice Ud = None
 renaming_for Slice Rl = Some ZCounter
 renaming_for Slice Fb = Some XQuarter
 
--- the map of the cube from which the coordinate is read,
+-- the map of the cube from which a coordinate on an axis is read
 abbrev pub renamed_for : Coordinate → Axis → (Place → Place) → Place → Place
 renamed_for k a = renamed_if (renaming_for k a)
 
--- and a turn of the cube as one of that cube
+-- a face of the cube as one of the cube from which a coordinate on an axis is read
 abbrev pub face_for : Coordinate → Axis → Face → Face
 face_for k a = face_if (renaming_for k a)
 
+-- a turn of the cube as one of the cube from which a coordinate on an axis is read
 abbrev pub turn_for : Coordinate → Axis → Turn → Turn
 turn_for k a t = renamed_turn (face_for k a) t
 
@@ -77,19 +78,19 @@ rank (false ∷ os) (suc k) = choose (length os) k + rank os (suc k)
 unfoldable pub slice_of : Axis → (Place → Place) → ℕ
 slice_of a e = rank (reverse (occupied (renamed_for Slice a e))) 4
 
--- The same, each coordinate as one value: its number on an axis,
+-- the number of a coordinate on an axis
 abbrev pub number_of : Coordinate → Axis → (Place → Place) → ℕ
 number_of Flip = flip_of
 number_of Twist = twist_of
 number_of Slice = slice_of
 
--- how many numbers it has,
+-- how many numbers a coordinate has
 abbrev pub count_of : Coordinate → ℕ
 count_of Flip = 2048
 count_of Twist = 2187
 count_of Slice = 495
 
--- and the axis for which the cube isn't renamed
+-- the axis for which the cube isn't renamed before a coordinate is read
 abbrev pub standard_axis : Coordinate → Axis
 standard_axis Flip = Fb
 standard_axis Twist = Ud

@@ -36,15 +36,14 @@ Kept set e = (q : Place) → IsTrue (set q) → IsTrue (set (e q))
 unfoldable pub is_kept : (Place → Bool) → (Place → Place) → Bool
 is_kept set e = list_all (λ q. not (set q) || set (e q)) places
 
--- The test says where a set is kept, for each set of the 54 places.
-abbrev pub KeptIsTested : Type 0
-KeptIsTested =
-    (set : Place → Bool) (e : Place → Place) → ((q : Place) → IsTrue (set q) → IsPlace q) →
-    IsTrue (is_kept set e) ↔ Kept set e
-
 -- The set has sticker places only.
 abbrev pub ArePlaces : (Place → Bool) → Type 0
 ArePlaces set = (q : Place) → IsTrue (set q) → IsPlace q
+
+-- The test says where a set is kept, for each set of the 54 places.
+abbrev pub KeptIsTested : Type 0
+KeptIsTested =
+    (set : Place → Bool) (e : Place → Place) → ArePlaces set → IsTrue (is_kept set e) ↔ Kept set e
 
 -- the set of a coordinate: the places that are kept where it is 0
 abbrev pub set_of : Coordinate → Axis → Place → Bool

@@ -96,12 +96,12 @@ holds (Edges axis) e = is_kept (flip_set axis) e
 holds (Domino edges axis) e =
     is_kept (flip_set edges) e && is_kept (twist_set axis) e && is_kept (slice_set axis) e
 
--- The same by the sets themselves: which of them a map keeps where a goal holds,
+-- The goal holds for a map, by the sets themselves: it keeps each set of the goal.
 abbrev pub KeepsGoal : Goal → (Place → Place) → Type 0
 KeepsGoal (Edges axis) e = Kept (flip_set axis) e
 KeepsGoal (Domino edges axis) e = Kept (flip_set edges) e × Kept (twist_set axis) e × Kept (slice_set axis) e
 
--- and which where the edges are oriented on the axis of a start, if there is one.
+-- A map keeps the start, by the set itself: the edges are oriented on its axis, if there is one.
 abbrev pub KeepsStart : Option Axis → (Place → Place) → Type 0
 KeepsStart None e = Unit {0}
 KeepsStart (Some axis) e = Kept (flip_set axis) e

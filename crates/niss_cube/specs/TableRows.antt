@@ -35,10 +35,10 @@ IsAnyTurn t = Unit {0}
 abbrev pub IsQuarter : Turn → Type 0
 IsQuarter t = t.power ≡ Quarter
 
--- each row is right at each turn,
+-- There is a row for each number, right at each turn.
 abbrev pub AreRows : Coordinate → List (List (List ℕ)) → Type 0
 AreRows k rows = AreRowsAt k IsAnyTurn (count_of k) rows
 
--- and at the quarter turns
+-- There is a row for each number, right at the quarter turns.
 abbrev pub AreQuarters : Coordinate → List (List (List ℕ)) → Type 0
 AreQuarters k rows = AreRowsAt k IsQuarter (count_of k) rows

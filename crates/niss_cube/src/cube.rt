@@ -34,19 +34,16 @@ pub struct Cube {
 }
 
 impl Cube {
-    ghost use Rattle.std.specs.Prelude.{◌≡◌, IsTrue};
-    ghost use Rattle.niss_moves.specs.Effects.{turned, effect_of_turns};
+    ghost use Rattle.std.specs.Prelude.{◌≡◌, ◌↔◌, ℕ, slice_index};
     ghost use Rattle.niss_moves.specs.Places.{SameMap};
-    ghost use Rattle.niss_cube.specs.Map.{map_of};
-    ghost use Rattle.niss_cube.specs.SameCubies.{same_cubies};
-    ghost use Rattle.std.specs.Prelude.{◌↔◌};
-    ghost use Rattle.niss_cube.specs.Sets.{Kept, flip_set, twist_set, slice_set};
-    ghost use Rattle.niss_cube.specs.Renamings.{renamed_by};
-    ghost use Rattle.std.specs.Prelude.{ℕ, slice_index};
     ghost use Rattle.niss_moves.specs.Facelets.{places};
     ghost use Rattle.niss_moves.specs.Letters.{letter_of, letters};
-    ghost use Rattle.niss_moves.specs.Effects.{effect};
+    ghost use Rattle.niss_moves.specs.Effects.{effect, effect_of_turns, turned};
     ghost use Rattle.niss_moves.specs.Rotations.{spelling};
+    ghost use Rattle.niss_cube.specs.Map.{map_of};
+    ghost use Rattle.niss_cube.specs.SameCubies.{same_cubies};
+    ghost use Rattle.niss_cube.specs.Sets.{Kept, flip_set, twist_set, slice_set};
+    ghost use Rattle.niss_cube.specs.Renamings.{renamed_by};
     ghost use Rattle.niss_cube.specs.CubieFacelets.{facelet_at, corner_facelets, edge_facelets};
     ghost use Rattle.niss_cube.specs.Coordinates.{flip_of, twist_of, slice_of};
 

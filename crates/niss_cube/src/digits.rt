@@ -4,7 +4,7 @@ ghost use Rattle.niss_cube.specs.Coordinates.{number};
 ghost use Rattle.niss_cube.specs.NumberedCubies.{orientations_of_number};
 
 /// The digits as a number, the first digit the highest.
-pub fn number_of(base: u16, digits: &[u8]) -> u16
+pub fn number_from_digits(base: u16, digits: &[u8]) -> u16
     requires some { 0 < base }
     requires fits { number base digits.now < 2 ^ 16 }
     ensures { result ≡ number base digits.now }

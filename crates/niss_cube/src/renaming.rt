@@ -2,7 +2,7 @@
 ghost use Rattle.niss_cube.specs.Renamings.{face_by, renaming_table, renamed_home, renamed_orientation};
 ghost use Rattle.std.specs.Prelude.{◌≡◌, ◌<◌, ◌≤◌, EachIndex, slice_index};
 
-use niss_moves::{Face, Power, Rotation};
+use niss_moves::{Axis, Face, Power};
 
 /// The places of one kind of cubies under a rotation of the whole cube that renames them.
 #[derive(Clone, Copy)]
@@ -151,12 +151,11 @@ impl Renaming {
     pub fn face(self, face: Face) -> Face
         ensures { result ≡ face_by self face }
     {
-        let (top, vertical) = match self {
-            Renaming::XCounter => (Face::F, None),
-            Renaming::XQuarter => (Face::B, None),
-            Renaming::YQuarter => (Face::U, Some(Power::Counter)),
-            Renaming::ZCounter => (Face::L, None),
-        };
-        Rotation { top, vertical }.face_before(face)
+        match self {
+            Renaming::XCounter => Axis::Rl.face_before(Power::Quarter, face),
+            Renaming::XQuarter => Axis::Rl.face_before(Power::Counter, face),
+            Renaming::YQuarter => Axis::Ud.face_before(Power::Counter, face),
+            Renaming::ZCounter => Axis::Fb.face_before(Power::Quarter, face),
+        }
     }
 }

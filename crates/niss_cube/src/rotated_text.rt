@@ -3,7 +3,7 @@ ghost use Rattle.std.specs.Prelude.{◌≡◌};
 ghost use Rattle.niss_moves.specs.Places.{Place};
 ghost use Rattle.niss_moves.specs.Effects.{effect, moved_by};
 ghost use Rattle.niss_moves.specs.Letters.{letters};
-ghost use Rattle.niss_moves.specs.Rotations.{to_top, about_vertical};
+ghost use Rattle.niss_moves.specs.Rotations.{to_top, about_vertical, rotation_if};
 ghost use Rattle.niss_moves.specs.declared.token.Token.TheVariants as token;
 
 use crate::place_positions::positions_after;
@@ -25,22 +25,18 @@ fn rotate(text: &[u8; 54], axis: Axis, power: Power) -> [u8; 54]
 /// The text after the rotation that brings the face to the top.
 pub fn bring_to_top(text: &[u8; 54], face: Face) -> [u8; 54]
     ensures { (e : Place → Place) → text.now ≡ letters e →
-        result ≡ letters (λ q. effect (to_top face) (e q)) }
+        result ≡ letters (λ q. effect (rotation_if (to_top face)) (e q)) }
 {
-    match face {
-        Face::U => *text,
-        Face::F => rotate(text, Axis::Rl, Power::Quarter),
-        Face::D => rotate(text, Axis::Rl, Power::Half),
-        Face::B => rotate(text, Axis::Rl, Power::Counter),
-        Face::L => rotate(text, Axis::Fb, Power::Quarter),
-        Face::R => rotate(text, Axis::Fb, Power::Counter),
+    match face.to_top() {
+        None => *text,
+        Some((axis, power)) => rotate(text, axis, power),
     }
 }
 
 /// The text after a rotation about the vertical axis.
 pub fn turn_about_vertical(text: &[u8; 54], power: Option<Power>) -> [u8; 54]
     ensures { (e : Place → Place) → text.now ≡ letters e →
-        result ≡ letters (λ q. effect (about_vertical power) (e q)) }
+        result ≡ letters (λ q. effect (rotation_if (about_vertical power)) (e q)) }
 {
     match power {
         None => *text,

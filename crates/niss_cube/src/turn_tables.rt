@@ -36,7 +36,7 @@ impl Coordinate {
             face,
             power: Power::Quarter,
         };
-        self.number_after(cube, turn)
+        self.standard_number_after(cube, turn)
     }
 
     /// A row with the numbers after the quarter turns, the others still to be written.
@@ -72,9 +72,13 @@ impl Coordinate {
         ensures { (p : Power) → slice_index result (power_index p)
             ≡ number_after self (standard_axis self) number (record { face = face; power = p }) }
     {
-        let once = entry(rows, number, face, Power::Quarter);
-        let twice = entry(rows, once, face, Power::Quarter);
-        [once, twice, entry(rows, twice, face, Power::Quarter)]
+        let quarter = Turn {
+            face,
+            power: Power::Quarter,
+        };
+        let once = entry(rows, number, quarter);
+        let twice = entry(rows, once, quarter);
+        [once, twice, entry(rows, twice, quarter)]
     }
 
     /// The row of a number, by the quarters of the rows.
@@ -107,12 +111,11 @@ impl Coordinate {
 
 /// The entry of a number at a turn.
 #[inline(always)]
-fn entry(rows: &[Row], number: u16, face: Face, power: Power) -> u16
+fn entry(rows: &[Row], number: u16, turn: Turn) -> u16
     requires { number < length rows.now }
-    ensures { result
-        ≡ entry_at (get_or rows.now number []) (record { face = face; power = power }) }
+    ensures { result ≡ entry_at (get_or rows.now number []) turn }
 {
-    rows[number as usize][face as usize][power as usize]
+    rows[number as usize][turn.face as usize][turn.power as usize]
 }
 
 /// The allocator refused memory. Nothing is kept then.
@@ -163,8 +166,8 @@ impl<A: Allocator> TurnTable<A> {
         ensures of_each { (e : Place → Place) → IsCube e → number_of self.now axis e ≡ number →
             result ≡ number_of self.now axis (λ q. turned turn (e q)) }
     {
-        let face = self.coordinate.standard_turn(axis, turn).face;
-        entry(&self.rows, number, face, turn.power)
+        let standard = self.coordinate.standard_turn(axis, turn);
+        entry(&self.rows, number, standard)
     }
 }
 

@@ -6,6 +6,7 @@ use Rattle.niss_moves.specs.Effects.{effect, effect_of_turns, inverse, turned, H
 use Rattle.niss_moves.specs.Rotations.{face_before, face_before_power, spelling, IsRotationOf}
 use Rattle.niss_moves.specs.Helpers.{rotation_by}
 use Rattle.niss_moves.specs.Canonical.{face_order}
+use Rattle.niss_moves.specs.Line.{joined_moves}
 use Rattle.niss_moves.specs.Faces.{BasicMove, FaceTurn, WholeRotation, expanded, faces}
 use Rattle.niss_moves.specs.RewritingLaws.{CentresComeHome, FacesAreHome, LineIsHome, FacesAndRotation, CleanedEffect}
 use Rattle.niss_moves.specs.Names.{Face, U, D, R, L, F, B, Power, Turn, Axis, Token, Rotation}
@@ -122,10 +123,10 @@ inverse_undoes_line m n b s q h e =
     ap (effect m) (one_meaning s (n ++ inverse b) n b h (meaning n b) q) ∙ undone_by m (n ++ inverse b) q e
 
 pub line_is_home : LineIsHome
-line_is_home n b s home h centres q =
-    let same = one_meaning s (n ++ inverse b) n b h (meaning n b) in
+line_is_home line s home h centres q =
+    let same = one_meaning s (joined_moves line) line.normal line.bracketed h (meaning line.normal line.bracketed) in
     ap (effect (spelling home)) (same q)
-    ∙ faces_are_home (n ++ inverse b) home (λ f. ap (effect (spelling home)) (sym (same (centre f))) ∙ centres f) q
+    ∙ faces_are_home (joined_moves line) home (λ f. ap (effect (spelling home)) (sym (same (centre f))) ∙ centres f) q
 
 pub faces_and_rotation : FacesAndRotation
 faces_and_rotation s r h q =

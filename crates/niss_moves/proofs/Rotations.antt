@@ -1,9 +1,10 @@
 -- The 24 rotations, computed.
 use Rattle.std.proofs.Common.{◌≡◌, Bool, true, ◌&&◌, refl, ap, sym, ◌∙◌, List, [], ◌∷◌, ◌++◌, Option, None, Some}
 use Rattle.niss_moves.specs.Places.{Place, Vector, same_vector, same_place}
+use Rattle.niss_moves.specs.Facelets.{centre}
 use Rattle.niss_moves.specs.Effects.{effect, effect_of_turns, moved_by, turned, quarters, times}
-use Rattle.niss_moves.specs.Rotations.{face_before, face_before_power, face_before_top}
-use Rattle.niss_moves.specs.Rotations.{face_before_vertical, renamed_turn, to_top, about_vertical, spelling}
+use Rattle.niss_moves.specs.Rotations.{face_before, face_before_power, face_before_if}
+use Rattle.niss_moves.specs.Rotations.{renamed_turn, to_top, about_vertical, rotation_if, spelling}
 use Rattle.niss_moves.specs.Turn.{same_face}
 use Rattle.niss_moves.specs.Helpers.{is_beside, rotation_by}
 use Rattle.niss_moves.proofs.Finite.{every_coord, every_vector, at_vector, same_vector_is, every_place, at_place, same_place_is}
@@ -43,20 +44,12 @@ same_face_is B B e = refl
 same_face_is _ _ e = cc
 
 -- A rotation brings the cell and the direction of a place where it brings any vector.
-abbrev pub vector_to_top : Face → Vector → Vector
-vector_to_top U v = v
-vector_to_top F v = quarters Rl 1 v
-vector_to_top D v = quarters Rl 2 v
-vector_to_top B v = quarters Rl 3 v
-vector_to_top L v = quarters Fb 1 v
-vector_to_top R v = quarters Fb 3 v
-
-abbrev pub vector_about : Option Power → Vector → Vector
-vector_about None v = v
-vector_about (Some p) v = quarters Ud (times p) v
+abbrev pub vector_if : Option (Axis × Power) → Vector → Vector
+vector_if None v = v
+vector_if (Some r) v = quarters r.0 (times r.1) v
 
 abbrev pub rotated_vector : Rotation → Vector → Vector
-rotated_vector r v = vector_about r.vertical (vector_to_top r.top v)
+rotated_vector r v = vector_if (about_vertical r.vertical) (vector_if (to_top r.top) v)
 
 abbrev pub on_place : (Vector → Vector) → Place → Place
 on_place g q = record { cell = g q.cell; direction = g q.direction }
@@ -126,21 +119,25 @@ renames_power a Half t q = renames_half a t q
 renames_power a Counter t q =
     renames_quarter a t (moved_by (token.Rotation a Half) q) ∙ ap (moved_by (token.Rotation a Quarter)) (renames_half a (renamed_turn (face_before_power a Quarter) t) q)
 
-turn_after_top : (f : Face) (t : Turn) (q : Place) → turned t (effect (to_top f) q) ≡ effect (to_top f) (turned (renamed_turn (face_before_top f) t) q)
-turn_after_top U t q = refl
-turn_after_top F t q = renames_power Rl Quarter t q
-turn_after_top D t q = renames_power Rl Half t q
-turn_after_top B t q = renames_power Rl Counter t q
-turn_after_top L t q = renames_power Fb Quarter t q
-turn_after_top R t q = renames_power Fb Counter t q
-
-turn_after_vertical : (o : Option Power) (t : Turn) (q : Place) → turned t (effect (about_vertical o) q) ≡ effect (about_vertical o) (turned (renamed_turn (face_before_vertical o) t) q)
-turn_after_vertical None t q = refl
-turn_after_vertical (Some p) t q = renames_power Ud p t q
+turn_after_if : (o : Option (Axis × Power)) (t : Turn) (q : Place) → turned t (effect (rotation_if o) q) ≡ effect (rotation_if o) (turned (renamed_turn (face_before_if o) t) q)
+turn_after_if None t q = refl
+turn_after_if (Some r) t q = renames_power r.0 r.1 t q
 
 pub turn_after : (r : Rotation) (t : Turn) (q : Place) → turned t (effect (spelling r) q) ≡ effect (spelling r) (turned (renamed_turn (face_before r) t) q)
 turn_after r t q =
-    ap (turned t) (effect-append (to_top r.top) (about_vertical r.vertical) q) ∙ turn_after_vertical r.vertical t (effect (to_top r.top) q) ∙ ap (effect (about_vertical r.vertical)) (turn_after_top r.top (renamed_turn (face_before_vertical r.vertical) t) q) ∙ sym (effect-append (to_top r.top) (about_vertical r.vertical) (turned (renamed_turn (face_before r) t) q))
+    let up = to_top r.top in
+    let about = about_vertical r.vertical in
+    ap (turned t) (effect-append (rotation_if up) (rotation_if about) q) ∙ turn_after_if about t (effect (rotation_if up) q)
+    ∙ ap (effect (rotation_if about)) (turn_after_if up (renamed_turn (face_before_if about) t) q)
+    ∙ sym (effect-append (rotation_if up) (rotation_if about) (turned (renamed_turn (face_before r) t) q))
+
+-- The centre of the face that a rotation brings to the place of another comes to the centre of that one.
+centres_test : every_rotation (λ r. every_face (λ f. same_place (effect (spelling r) (centre (face_before r f))) (centre f))) ≡ true
+unfolding every_rotation every_optional_power every_power every_face
+centres_test = refl
+
+pub brings_centre : (r : Rotation) (f g : Face) → g ≡ face_before r f → effect (spelling r) (centre g) ≡ centre f
+brings_centre r f g e = rw e (same_place_is _ _ (at_face _ (at_rotation _ centres_test r) f))
 
 pub effect_of_turns-append : (s t : List Turn) (q : Place) → effect_of_turns (s ++ t) q ≡ effect_of_turns t (effect_of_turns s q)
 effect_of_turns-append [] t q = refl

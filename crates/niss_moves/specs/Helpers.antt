@@ -3,7 +3,7 @@ use Rattle.std.specs.Prelude.{ℕ, Bool, true, false, not, ◌&&◌, List, [], �
 use Rattle.niss_moves.specs.Turn.{opposite, same_face}
 use Rattle.niss_moves.specs.Cleaning.{sum_of_turns}
 use Rattle.niss_moves.specs.Names.{Face, U, R, F, B, Power, Quarter, Half, Counter, Turn, Rotation}
-use Rattle.niss_moves.specs.Rotations.{face_before_top}
+use Rattle.niss_moves.specs.Rotations.{to_top, face_before_if}
 use Rattle.niss_moves.specs.declared.faces.MoveTurns.{MoveTurns}
 use Rattle.niss_moves.specs.declared.faces.MoveTurns.TheVariants.{NoTurn, One, Two}
 
@@ -29,9 +29,9 @@ is_empty (w ∷ ws) = false
 -- the rotation about the vertical axis that brings a face to the front, once another one is at the top
 abbrev pub vertical_of : Face → Face → Option Power
 vertical_of top front =
-    if same_face front (face_before_top top F) then None
-    else (if same_face front (face_before_top top R) then Some Quarter
-    else (if same_face front (face_before_top top B) then Some Half else Some Counter))
+    if same_face front (face_before_if (to_top top) F) then None
+    else (if same_face front (face_before_if (to_top top) R) then Some Quarter
+    else (if same_face front (face_before_if (to_top top) B) then Some Half else Some Counter))
 
 -- the rotation that brings these two faces to the top and to the front
 abbrev pub rotation_by : Face → Face → Rotation

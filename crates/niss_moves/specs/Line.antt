@@ -1,5 +1,6 @@
 -- Which bytes spell a line of moves.
 use Rattle.std.specs.Prelude.{◌≡◌, ℕ, ◌+◌, ◌≤◌, List, [], ◌∷◌, ◌++◌, flat_map, length}
+use Rattle.niss_moves.specs.Effects.{inverse}
 use Rattle.niss_moves.specs.Notation.{token_of, base_bytes, Suffix, suffix_bytes, suffix_power, Blank, blank_byte}
 use Rattle.niss_moves.specs.Names.{Token, Base}
 
@@ -52,3 +53,7 @@ pub record IsLine (bytes : List ℕ) : Type 0 where
 pub record Moves : Type 0 where
   pub normal : List Token
   pub bracketed : List Token
+
+-- the one sequence of a line: its normal moves, and then the inverse of its bracketed ones
+abbrev pub joined_moves : Moves → List Token
+joined_moves line = line.normal ++ inverse line.bracketed

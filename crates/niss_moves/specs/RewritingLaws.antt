@@ -3,12 +3,13 @@ use Rattle.std.specs.Prelude.{◌≡◌, ℕ, ◌+◌, ◌<◌, ◌⊎◌, Bool,
 use Rattle.std.specs.Prelude.{List, [], ◌∷◌, ◌++◌, map, length, count_by, All, AllPairs, Contains, IsTrue, ◌↔◌}
 use Rattle.niss_moves.specs.Places.{Place}
 use Rattle.niss_moves.specs.Facelets.{centre}
-use Rattle.niss_moves.specs.Effects.{effect, effect_of_turns, moved_by, turned, inverse, HasMeaning}
+use Rattle.niss_moves.specs.Effects.{effect, effect_of_turns, moved_by, turned, HasMeaning}
 use Rattle.niss_moves.specs.Turn.{opposite, same_face, goes_first}
 use Rattle.niss_moves.specs.Rotations.{spelling, face_before, face_before_power, renamed_turn, IsRotationOf}
 use Rattle.niss_moves.specs.Faces.{expanded, token_of_basic, faces}
 use Rattle.niss_moves.specs.Canonical.{may_follow, last_turn, IsCanonical, all_canonical}
 use Rattle.niss_moves.specs.Cleaning.{IsRewriting, Cleans}
+use Rattle.niss_moves.specs.Line.{Moves, joined_moves}
 use Rattle.niss_moves.specs.Names.{Face, Power, Turn, Axis, Token, Rotation}
 use Rattle.niss_moves.specs.declared.token.Token.TheVariants as token
 
@@ -48,13 +49,12 @@ FacesAreHome =
     (q : Place) → effect (spelling home) (effect s q) ≡ effect_of_turns (faces s) q
 
 -- The same for a line of normal and bracketed moves: with the centres brought home, each sequence that has the meaning of
--- the line has the effect of the face turns of the normal moves and then the inverse of the bracketed ones.
+-- the line has the effect of the face turns of its joined moves.
 abbrev pub LineIsHome : Type 0
 LineIsHome =
-    (normal bracketed s : List Token) (home : Rotation) → HasMeaning s normal bracketed →
+    (line : Moves) (s : List Token) (home : Rotation) → HasMeaning s line.normal line.bracketed →
     ((f : Face) → effect (spelling home) (effect s (centre f)) ≡ centre f) →
-    (q : Place) →
-    effect (spelling home) (effect s q) ≡ effect_of_turns (faces (normal ++ inverse bracketed)) q
+    (q : Place) → effect (spelling home) (effect s q) ≡ effect_of_turns (faces (joined_moves line)) q
 
 -- A sequence has the effect of its face turns and then the rotation that is left.
 abbrev pub FacesAndRotation : Type 0

@@ -5,21 +5,28 @@ use Rattle.niss_moves.specs.Facelets.{centre}
 use Rattle.niss_moves.specs.Names.{Face, U, D, R, L, F, B, Power, Quarter, Half, Counter, Turn, Axis, Ud, Rl, Fb, Token, Rotation}
 use Rattle.niss_moves.specs.declared.token.Token.TheVariants as token
 
+-- the rotation about an axis that brings a face to the top, where it isn't there
+abbrev pub to_top : Face → Option (Axis × Power)
+to_top U = None
+to_top F = Some (Rl, Quarter)
+to_top D = Some (Rl, Half)
+to_top B = Some (Rl, Counter)
+to_top L = Some (Fb, Quarter)
+to_top R = Some (Fb, Counter)
+
+-- a rotation about the vertical axis, if there is one
+abbrev pub about_vertical : Option Power → Option (Axis × Power)
+about_vertical None = None
+about_vertical (Some p) = Some (Ud, p)
+
+-- the move of a rotation about an axis, if there is one
+abbrev pub rotation_if : Option (Axis × Power) → List Token
+rotation_if None = []
+rotation_if (Some r) = token.Rotation r.0 r.1 ∷ []
+
 -- The one spelling of each of the 24 rotations: what brings a face to the top, then a turn about the vertical axis.
-abbrev pub to_top : Face → List Token
-to_top U = []
-to_top F = token.Rotation Rl Quarter ∷ []
-to_top D = token.Rotation Rl Half ∷ []
-to_top B = token.Rotation Rl Counter ∷ []
-to_top L = token.Rotation Fb Quarter ∷ []
-to_top R = token.Rotation Fb Counter ∷ []
-
-abbrev pub about_vertical : Option Power → List Token
-about_vertical None = []
-about_vertical (Some p) = token.Rotation Ud p ∷ []
-
 abbrev pub spelling : Rotation → List Token
-spelling r = to_top r.top ++ about_vertical r.vertical
+spelling r = rotation_if (to_top r.top) ++ rotation_if (about_vertical r.vertical)
 
 -- The rotation moves the six centres as the sequence does.
 abbrev pub IsRotationOf : List Token → Rotation → Type 0
@@ -54,22 +61,14 @@ face_before_power axis Half f = face_before_quarter axis (face_before_quarter ax
 face_before_power axis Counter f =
     face_before_quarter axis (face_before_quarter axis (face_before_quarter axis f))
 
--- the same for what brings a face to the top, and for the turn about the vertical axis
-abbrev pub face_before_top : Face → Face → Face
-face_before_top U f = f
-face_before_top F f = face_before_power Rl Quarter f
-face_before_top D f = face_before_power Rl Half f
-face_before_top B f = face_before_power Rl Counter f
-face_before_top L f = face_before_power Fb Quarter f
-face_before_top R f = face_before_power Fb Counter f
-
-abbrev pub face_before_vertical : Option Power → Face → Face
-face_before_vertical None f = f
-face_before_vertical (Some p) f = face_before_power Ud p f
+-- the same for a rotation about an axis, if there is one
+abbrev pub face_before_if : Option (Axis × Power) → Face → Face
+face_before_if None f = f
+face_before_if (Some r) f = face_before_power r.0 r.1 f
 
 -- the same for the 24 rotations
 abbrev pub face_before : Rotation → Face → Face
-face_before r f = face_before_top r.top (face_before_vertical r.vertical f)
+face_before r f = face_before_if (to_top r.top) (face_before_if (about_vertical r.vertical) f)
 
 -- a turn of the same power of a renamed face
 abbrev pub renamed_turn : (Face → Face) → Turn → Turn

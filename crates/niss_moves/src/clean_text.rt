@@ -13,7 +13,7 @@ use crate::gathering::{Word, Words};
 use crate::niss::Niss;
 use crate::rotation::Rotation;
 use crate::text::{LineText, put_gap, put_word};
-use crate::turn::{Face, Power, Turn};
+use crate::turn::Turn;
 
 /// Appends the words of the face turns, with one space before each word, but not at the beginning of the text or after
 /// `(`. A turn takes at most three bytes.
@@ -40,13 +40,8 @@ pub fn put_rotation(rotation: Rotation, text: &mut LineText)
     ensures items { text.new.items ≡ with_words text.old.items (rotation_words rotation) }
     ensures len { array_vec_len text.new ≤ array_vec_len text.old + 6 }
 {
-    match rotation.top {
-        Face::U => {}
-        Face::F => put_word(Word::of_rotation(Axis::Rl, Power::Quarter), text),
-        Face::D => put_word(Word::of_rotation(Axis::Rl, Power::Half), text),
-        Face::B => put_word(Word::of_rotation(Axis::Rl, Power::Counter), text),
-        Face::L => put_word(Word::of_rotation(Axis::Fb, Power::Quarter), text),
-        Face::R => put_word(Word::of_rotation(Axis::Fb, Power::Counter), text),
+    if let Some((axis, power)) = rotation.top.to_top() {
+        put_word(Word::of_rotation(axis, power), text);
     }
     if let Some(power) = rotation.vertical {
         put_word(Word::of_rotation(Axis::Ud, power), text);

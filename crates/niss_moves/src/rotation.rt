@@ -52,9 +52,27 @@ static VERTICAL: [[Option<Power>; 6]; 6] = [
     [None, Some(Half), Some(Quarter), Some(Counter), None, None],
 ];
 
+impl Face {
+    ghost use Rattle.niss_moves.specs.Rotations.{to_top};
+
+    /// The rotation about an axis that brings this face to the top. `U` is there.
+    pub fn to_top(self) -> Option<(Axis, Power)>
+        ensures { result ≡ to_top self }
+    {
+        match self {
+            Face::U => None,
+            Face::F => Some((Axis::Rl, Power::Quarter)),
+            Face::D => Some((Axis::Rl, Power::Half)),
+            Face::B => Some((Axis::Rl, Power::Counter)),
+            Face::L => Some((Axis::Fb, Power::Quarter)),
+            Face::R => Some((Axis::Fb, Power::Counter)),
+        }
+    }
+}
+
 impl Axis {
-    /// The face that a rotation about this axis brings to the place of `face`.
-    pub(crate) fn face_before(self, power: Power, face: Face) -> Face
+    /// The face that a rotation about this axis brings to the place of `face`: a quarter about `Rl` brings F to that of U.
+    pub fn face_before(self, power: Power, face: Face) -> Face
         ensures { result ≡ face_before_power self power face }
     {
         BEFORE[self as usize][power as usize][face as usize]
@@ -95,13 +113,9 @@ impl Rotation {
             None => face,
             Some(power) => Axis::Ud.face_before(power, face),
         };
-        match self.top {
-            Face::U => beside,
-            Face::F => Axis::Rl.face_before(Power::Quarter, beside),
-            Face::D => Axis::Rl.face_before(Power::Half, beside),
-            Face::B => Axis::Rl.face_before(Power::Counter, beside),
-            Face::L => Axis::Fb.face_before(Power::Quarter, beside),
-            Face::R => Axis::Fb.face_before(Power::Counter, beside),
+        match self.top.to_top() {
+            None => beside,
+            Some((axis, power)) => axis.face_before(power, beside),
         }
     }
 

@@ -3,6 +3,7 @@ ghost use Rattle.std.specs.Prelude.{◌≡◌, ◌+◌, ◌≤◌, List, ◌++�
 ghost use Rattle.arrayvec.specs.ArrayVec.{array_vec_len};
 ghost use Rattle.niss_moves.specs.Places.{Place};
 ghost use Rattle.niss_moves.specs.Effects.{effect, inverse, HasMeaning};
+ghost use Rattle.niss_moves.specs.Line.{joined_moves};
 ghost use Rattle.niss_moves.specs.declared.token.Token.{Token};
 
 use crate::niss::Niss;
@@ -11,7 +12,7 @@ use arrayvec::ArrayVec;
 
 /// The normal moves of a line, and then the inverse of its bracketed ones.
 pub fn unniss(niss: &Niss) -> ArrayVec<Token, 256>
-    ensures moves { result.items ≡ niss.now.normal ++ inverse niss.now.bracketed }
+    ensures moves { result.items ≡ joined_moves niss.now }
     ensures meaning { HasMeaning result.items niss.now.normal niss.now.bracketed }
 {
     let mut moves = ArrayVec::new();
@@ -22,7 +23,7 @@ pub fn unniss(niss: &Niss) -> ArrayVec<Token, 256>
 
 /// The inverse of the list that `unniss` gives.
 pub fn invert(niss: &Niss) -> ArrayVec<Token, 256>
-    ensures moves { result.items ≡ inverse (niss.now.normal ++ inverse niss.now.bracketed) }
+    ensures moves { result.items ≡ inverse (joined_moves niss.now) }
     ensures effect { (s : List Token) (q : Place) →
         HasMeaning s niss.now.normal niss.now.bracketed → effect result.items (effect s q) ≡ q }
 {

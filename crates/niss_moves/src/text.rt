@@ -2,6 +2,7 @@
 ghost use Rattle.std.specs.Prelude.{◌≡◌, ◌+◌, ◌*◌, ◌≤◌, ◌<◌, [], ◌∷◌, ◌++◌, ℕ, List, length, map, take, if◌then◌else◌};
 ghost use Rattle.arrayvec.specs.ArrayVec.{array_vec_len};
 ghost use Rattle.niss_moves.specs.Effects.{inverse};
+ghost use Rattle.niss_moves.specs.Line.{joined_moves};
 ghost use Rattle.niss_moves.specs.Text.{word, with_word, with_words, gap};
 
 use crate::gathering::{Word, Words};
@@ -54,8 +55,7 @@ fn put_inverse(tokens: &[Token], text: &mut LineText)
 /// free bytes.
 pub fn put_unniss(niss: &Niss, text: &mut LineText)
     requires { array_vec_len text.old + 1024 ≤ 2048 }
-    ensures items { text.new.items
-        ≡ with_words text.old.items (map word (niss.now.normal ++ inverse niss.now.bracketed)) }
+    ensures items { text.new.items ≡ with_words text.old.items (map word (joined_moves niss.now)) }
     ensures len { array_vec_len text.new ≤ array_vec_len text.old + 1024 }
 {
     put_tokens(niss.normal(), text);
@@ -67,7 +67,7 @@ pub fn put_unniss(niss: &Niss, text: &mut LineText)
 pub fn put_inverted(niss: &Niss, text: &mut LineText)
     requires { array_vec_len text.old + 1024 ≤ 2048 }
     ensures items { text.new.items
-        ≡ with_words text.old.items (map word (inverse (niss.now.normal ++ inverse niss.now.bracketed))) }
+        ≡ with_words text.old.items (map word (inverse (joined_moves niss.now))) }
     ensures len { array_vec_len text.new ≤ array_vec_len text.old + 1024 }
 {
     put_tokens(niss.inverse(), text);

@@ -9,7 +9,7 @@ use Rattle.niss_moves.specs.Effects.{effect, effect_of_turns, inverse}
 use Rattle.niss_moves.specs.Faces.{faces}
 use Rattle.niss_moves.specs.FaultText.{fault_column, fault_text}
 use Rattle.niss_moves.specs.Letters.{letters}
-use Rattle.niss_moves.specs.Line.{Moves}
+use Rattle.niss_moves.specs.Line.{Moves, joined_moves}
 use Rattle.niss_moves.specs.Places.{Place}
 use Rattle.niss_moves.specs.Reader.{read_line}
 use Rattle.niss_moves.specs.Text.{word, with_words}
@@ -50,24 +50,20 @@ status_of CannotRead = 3
 status_of CannotWrite = 3
 status_of OutOfMemory = 3
 
--- the list that a line stands for: its normal moves, and then the inverse of its bracketed ones
-abbrev pub moves_of : Moves → List Token
-moves_of line = line.normal ++ inverse line.bracketed
-
 -- the words with single spaces
 abbrev pub tokens_text : List Token → List ℕ
 tokens_text tokens = with_words [] (map word tokens)
 
 -- what is written for a line without a search, up to the line feed
 abbrev pub line_text : Rewriting → Moves → List ℕ
-line_text Invert line = tokens_text (inverse (moves_of line))
-line_text Unniss line = tokens_text (moves_of line)
+line_text Invert line = tokens_text (inverse (joined_moves line))
+line_text Unniss line = tokens_text (joined_moves line)
 line_text Cleanup line = with_clean_line [] line
-line_text Print line = letters (effect (moves_of line))
+line_text Print line = letters (effect (joined_moves line))
 
 -- the cube of a line, by where it has each sticker: the effect of its face turns, with its rotations pushed to the end
 abbrev pub home : Moves → Place → Place
-home line q = effect_of_turns (faces (moves_of line)) q
+home line q = effect_of_turns (faces (joined_moves line)) q
 
 -- the turns with single spaces, and a space after them where there are any
 abbrev pub turns_text : List Turn → List ℕ

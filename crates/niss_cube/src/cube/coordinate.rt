@@ -9,7 +9,7 @@ ghost use Rattle.niss_cube.specs.NumberAfter.{number_after};
 
 use super::{CORNERS_HOME, Cube, EDGES_HOME};
 use crate::cubie_turns::{turn_edges, turn_flips, turn_twists};
-use crate::digits::{number_of, write_orientations};
+use crate::digits::{number_from_digits, write_orientations};
 use crate::renaming::Renaming;
 use crate::slice_places::{edges_with_slice, slice_number};
 use niss_moves::{Axis, Face, Turn};
@@ -88,8 +88,8 @@ impl Coordinate {
         ensures { result ≡ number_of self (standard_axis self) (map_of cube.now) }
     {
         match self {
-            Coordinate::Flip => number_of(2, &cube.flips[..11]),
-            Coordinate::Twist => number_of(3, &cube.twists[..7]),
+            Coordinate::Flip => number_from_digits(2, &cube.flips[..11]),
+            Coordinate::Twist => number_from_digits(3, &cube.twists[..7]),
             Coordinate::Slice => slice_number(&cube.edges),
         }
     }
@@ -114,12 +114,12 @@ impl Coordinate {
     }
 
     /// The number on the standard axis after a turn, for which the cubies that it depends on are turned alone.
-    pub(crate) fn number_after(self, cube: &Cube, turn: Turn) -> u16
+    pub(crate) fn standard_number_after(self, cube: &Cube, turn: Turn) -> u16
         ensures { result ≡ number_of self (standard_axis self) (λ q. turned turn (map_of cube.now q)) }
     {
         match self {
-            Coordinate::Flip => number_of(2, &turn_flips(&cube.flips, turn)[..11]),
-            Coordinate::Twist => number_of(3, &turn_twists(&cube.twists, turn)[..7]),
+            Coordinate::Flip => number_from_digits(2, &turn_flips(&cube.flips, turn)[..11]),
+            Coordinate::Twist => number_from_digits(3, &turn_twists(&cube.twists, turn)[..7]),
             Coordinate::Slice => slice_number(&turn_edges(&cube.edges, turn)),
         }
     }

@@ -1,12 +1,12 @@
 use Rattle.std.proofs.Common.{◌∙◌}
 use Rattle.niss_moves.specs.Effects.{effect}
-use Rattle.niss_moves.specs.Rotations.{to_top}
+use Rattle.niss_moves.specs.Rotations.{to_top, rotation_if}
 use Rattle.niss_cube.specs.Map.{map_of}
 use Rattle.niss_cube.proofs.RotatedLetters.{letters-spelling}
 use Rattle.niss_cube.proofs.cube.Cube.facelets.Goals as goal
 
 pub returns : goal.returns
 returns c =
-    c.turn_about_vertical.ensures (λ q. effect (to_top c.args.rotation.top) (map_of c.args.self.now q))
+    c.turn_about_vertical.ensures (λ q. effect (rotation_if (to_top c.args.rotation.top)) (map_of c.args.self.now q))
     (c.bring_to_top-upright.ensures (map_of c.args.self.now) c.letters.ensures)
     ∙ letters-spelling c.args.rotation (map_of c.args.self.now)

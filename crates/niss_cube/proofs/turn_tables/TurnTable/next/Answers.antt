@@ -1,17 +1,16 @@
 use Rattle.std.proofs.Common.{ℕ, ◌<◌, sym, ◌∙◌, ap, subst}
-use Rattle.niss_cube.specs.Names.{Turn}
 use Rattle.niss_cube.specs.Coordinates.{count_of}
 use Rattle.niss_cube.specs.TableRows.{AreRows}
 use Rattle.niss_cube.specs.NumberAfter.{number_after}
 use Rattle.niss_cube.proofs.CoordinateLaws.{are_coordinates}
-use Rattle.niss_cube.proofs.TableSteps.{looked_up}
 use Rattle.niss_cube.proofs.turn_tables.TurnTable.next.Goals as goal
 
 pub returns-clause-value : goal.returns-clause-value
 returns-clause-value g c =
     let rows : AreRows c.args.self.now c.self.inside.rows.items = rw c.self.view_is at c.self.invariant in
-    looked_up c.args.self.now c.self.inside.rows.items rows c.args.axis c.args.number c.args.turn c.entry.result c.standard_turn-face.result.face
-    c.requires (ap (λ (t : Turn). t.face) (rw c.self.view_is at c.standard_turn-face.ensures.value)) (rw c.deref.ensures.value at c.entry.ensures)
+    (rw c.deref.ensures.value at c.entry.ensures)
+    ∙ rows.entries c.args.number c.standard_turn-standard.result tt c.requires
+    ∙ (rw c.self.view_is at c.standard_turn-standard.ensures.same_number) c.args.number
 
 pub returns-clause-in_range : goal.returns-clause-in_range
 returns-clause-in_range g c =

@@ -5,21 +5,21 @@ use Rattle.niss_cube.proofs.Codes.{code-below}
 use Rattle.niss_cube.proofs.CoordinateLaws.{lists_of, standard-code}
 use Rattle.niss_cube.proofs.cube.coordinate.Coordinate.standard_number.Goals as goal
 
-pub number_of-requires-clause-fits : goal.number_of-requires-clause-fits
-number_of-requires-clause-fits c =
+pub number_from_digits-requires-clause-fits : goal.number_from_digits-requires-clause-fits
+number_from_digits-requires-clause-fits c =
     let l : number 2 (take 11 c.args.cube.now.flips) < 2048 = code-below Flip (lists_of c.args.cube.now) c.args.cube.now.are_cubies in
     omega arith
 
-pub number_of-requires-in-Twist-clause-fits : goal.number_of-requires-in-Twist-clause-fits
-number_of-requires-in-Twist-clause-fits c =
+pub number_from_digits-requires-in-Twist-clause-fits : goal.number_from_digits-requires-in-Twist-clause-fits
+number_from_digits-requires-in-Twist-clause-fits c =
     let l : number 3 (take 7 c.args.cube.now.twists) < 2187 = code-below Twist (lists_of c.args.cube.now) c.args.cube.now.are_cubies in
     omega arith
 
 pub returns-in-Flip : goal.returns-in-Flip
-returns-in-Flip c = rw c.in-Flip.is (c.number_of.ensures ∙ sym (standard-code Flip (lists_of c.args.cube.now) c.args.cube.now.are_cubies))
+returns-in-Flip c = rw c.in-Flip.is (c.number_from_digits.ensures ∙ sym (standard-code Flip (lists_of c.args.cube.now) c.args.cube.now.are_cubies))
 
 pub returns-in-Twist : goal.returns-in-Twist
-returns-in-Twist c = rw c.in-Twist.is (c.number_of-in-Twist.ensures ∙ sym (standard-code Twist (lists_of c.args.cube.now) c.args.cube.now.are_cubies))
+returns-in-Twist c = rw c.in-Twist.is (c.number_from_digits-in-Twist.ensures ∙ sym (standard-code Twist (lists_of c.args.cube.now) c.args.cube.now.are_cubies))
 
 pub returns-in-Slice : goal.returns-in-Slice
 returns-in-Slice c = rw c.in-Slice.is (c.slice_number.ensures ∙ sym (standard-code Slice (lists_of c.args.cube.now) c.args.cube.now.are_cubies))
