@@ -4,9 +4,9 @@ ghost use Rattle.niss_cube.specs.Steps.{goals_of};
 ghost use Rattle.niss_cube.specs.declared.cube.coordinate.Coordinate.TheVariants as coordinate;
 ghost use Rattle.niss_cube.specs.declared.step.Goal.TheVariants as goals;
 ghost use Rattle.niss_search.specs.Entries.{fill_ticks};
-ghost use Rattle.niss_search.specs.KindOfStep.{IsOfStep, edge_alternative, domino_alternative};
+ghost use Rattle.niss_search.specs.KindOfStep.{IsOfStep};
 
-use super::goal_moves::{DominoMoves, DominoTurns, EdgeMoves};
+use super::goal_moves::{DominoMoves, DominoTurns, EdgeMoves, GoalMoves};
 use super::meter::Meter;
 use super::pruning_table::{EmptyTable, PruningTable};
 use super::search_tables::SearchTables;
@@ -117,7 +117,8 @@ fn edge_table<A: Allocator + Copy>(
     flips: &TurnTable<A>,
 ) -> Result<EmptyTable<EdgeMoves<A>, A>, OutOfMemory>
     requires { flips.now ≡ coordinate.Flip }
-    ensures { IfOk result (λ t. edge_alternative t ≡ record { step = step; goal = goals.Edges axis }) }
+    ensures { IfOk result (λ t.
+        ⟦<EdgeMoves<A> as GoalMoves>⟧.alternative t ≡ record { step = step; goal = goals.Edges axis }) }
 {
     let moves = EdgeMoves::build_in(alloc, step, axis, flips)?;
     EmptyTable::new_in(alloc, moves)
@@ -171,7 +172,8 @@ fn domino_table<A: Allocator + Copy>(
     turns: &DominoTurns<A>,
 ) -> Result<EmptyTable<DominoMoves<A>, A>, OutOfMemory>
     ensures { IfOk result (λ t.
-        domino_alternative t ≡ record { step = step; goal = goals.Domino axes.0 axes.1 }) }
+        ⟦<DominoMoves<A> as GoalMoves>⟧.alternative t
+        ≡ record { step = step; goal = goals.Domino axes.0 axes.1 }) }
 {
     let moves = DominoMoves::build_in(alloc, step, axes.0, axes.1, turns)?;
     EmptyTable::new_in(alloc, moves)
