@@ -1,6 +1,5 @@
 //! Laws of rotations, canonical sequences and cleaning: each is the contract of a function that does nothing.
-ghost use Rattle.niss_moves.specs.RewritingLaws.{OneSpelling, ExpandsAlike, RenamesAboutAxis, RenamesByRotation, CentresComeHome, FacesAreHome, LineIsHome, FacesAndRotation, CleanedEffect, CanonicalMembers, CanonicalInOrder, CanonicalGrows, CleaningEnds, OneCleanList, CanonicalStays, RewritingLowers};
-ghost use Rattle.niss_moves.specs.CleanedLine.{CleanTurnsAreClean, RotationIsLeft};
+ghost use Rattle.niss_moves.specs.RewritingLaws.{OneSpelling, ExpandsAlike, RenamesAboutAxis, RenamesByRotation, CentresComeHome, FacesAreHome, LineIsHome, FacesAndRotation, CleanedEffect, CanonicalMembers, CanonicalInOrder, CanonicalGrows, CleaningEnds, OneCleanList, CanonicalStays, RewritingLowers, CleanTurnsAreClean, RotationIsLeft};
 
 /// Two rotations that move the six centres alike are one. So each of the 24 has one spelling.
 #[tactic(auto, using(crate::proofs::OneSpelling::one_spelling))]
