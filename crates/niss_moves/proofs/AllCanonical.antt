@@ -3,8 +3,8 @@ use Rattle.std.proofs.Common.{inl, inr, refl, ap, sym, ◌∙◌, subst, length-
 use Rattle.std.specs.List.{All, Contains, filter, slice_get, AllPairs, flat_map}
 use Rattle.std.proofs.lemmas.List.Elements.{Contains-push, All-push, All-contains, All-append, All-weaker, All-contains_itself, All-map}
 use Rattle.std.proofs.lemmas.List.{get_or_append_left}
-use Rattle.niss_moves.specs.Canonical.{may_follow, IsCanonical, last_turn, canonical_extensions, all_canonical}
-use Rattle.niss_moves.specs.RewritingLaws.{CanonicalMembers, CanonicalGrows, DiffersFirst, CanonicalInOrder}
+use Rattle.niss_moves.specs.Canonical.{may_follow, IsCanonical, last_turn, canonical_extensions, all_canonical, DiffersFirst}
+use Rattle.niss_moves.specs.RewritingLaws.{CanonicalMembers, CanonicalGrows, CanonicalInOrder}
 use Rattle.niss_moves.specs.Names.{Turn}
 use Rattle.niss_moves.proofs.MadeLists.{none, here, first_or_later, in_map, from_map, in_filter}
 use Rattle.niss_moves.proofs.MadeLists.{from_filter, in_flat_map, from_flat_map, later}

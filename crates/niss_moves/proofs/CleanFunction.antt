@@ -6,9 +6,9 @@ use Rattle.std.specs.List.{count_by}
 use Rattle.std.proofs.Math.Nat.{mul-le-mul_left, mul_comm}
 use Rattle.std.proofs.lemmas.List.Sums.{count_by-le-length}
 use Rattle.niss_moves.specs.Canonical.{face_may_follow, IsCanonical}
-use Rattle.niss_moves.specs.Cleaning.{rewritten_pair, IsRewriting, Cleans, Clean, Rewrite}
-use Rattle.niss_moves.specs.RewritingLaws.{are_disordered, disorder, CleaningEnds, OneCleanList, CanonicalStays}
-use Rattle.niss_moves.specs.CleanedLine.{after_first, rewritten_once, rewritten_within, most_rewritings, clean_turns, CleanTurnsAreClean}
+use Rattle.niss_moves.specs.Cleaning.{rewritten_pair, IsRewriting, Cleans, Clean, Rewrite, are_disordered, disorder}
+use Rattle.niss_moves.specs.RewritingLaws.{CleaningEnds, OneCleanList, CanonicalStays, CleanTurnsAreClean}
+use Rattle.niss_moves.specs.CleanedLine.{after_first, rewritten_once, rewritten_within, most_rewritings, clean_turns}
 use Rattle.niss_moves.specs.Names.{Turn}
 use Rattle.niss_moves.proofs.Finite.{and_both, and_left, and_right}
 use Rattle.niss_moves.proofs.Disorder.{rewriting_lowers}

@@ -5,8 +5,8 @@ use Rattle.std.specs.List.{count_by}
 use Rattle.std.proofs.lemmas.List.Sums.{sum_by-cons}
 use Rattle.niss_moves.specs.Turn.{same_face}
 use Rattle.niss_moves.specs.Canonical.{face_may_follow}
-use Rattle.niss_moves.specs.Cleaning.{turn_by, sum_of_powers, rewritten_pair}
-use Rattle.niss_moves.specs.RewritingLaws.{are_disordered, disorder, RewritingLowers}
+use Rattle.niss_moves.specs.Cleaning.{turn_by, sum_of_powers, rewritten_pair, are_disordered, disorder}
+use Rattle.niss_moves.specs.RewritingLaws.{RewritingLowers}
 use Rattle.niss_moves.specs.Names.{Face, Power, Turn}
 use Rattle.niss_moves.proofs.CanonicalLists.{exchanged, exchange}
 use Rattle.niss_moves.proofs.Cleaned.{same_rewritten, other_rewritten}

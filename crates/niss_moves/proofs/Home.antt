@@ -8,7 +8,7 @@ use Rattle.niss_moves.specs.Helpers.{rotation_by}
 use Rattle.niss_moves.specs.Canonical.{face_order}
 use Rattle.niss_moves.specs.Line.{joined_moves}
 use Rattle.niss_moves.specs.Faces.{BasicMove, FaceTurn, WholeRotation, expanded, faces}
-use Rattle.niss_moves.specs.RewritingLaws.{CentresComeHome, FacesAreHome, LineIsHome, FacesAndRotation, CleanedEffect}
+use Rattle.niss_moves.specs.RewritingLaws.{CentresComeHome, FacesAreHome, LineIsHome, FacesAndRotation, CleanedEffect, RotationIsLeft}
 use Rattle.niss_moves.specs.Names.{Face, U, D, R, L, F, B, Power, Turn, Axis, Token, Rotation}
 use Rattle.niss_moves.proofs.Inverses.{inverse_after, effect_of_expanded, meaning, undone_by}
 use Rattle.niss_moves.proofs.Rotations.{turn, rotation, IsNext, next_rotation, is_next, effect_of_turns-append, every_rotation, at_rotation}
@@ -18,7 +18,7 @@ use Rattle.niss_moves.specs.EffectLaws.{TurnsAreMoves, OneMeaning}
 use Rattle.niss_moves.proofs.CleanEffect.{cleans_effect}
 use Rattle.std.specs.List.{Contains, find, list_any}
 use Rattle.std.specs.Prelude.{unwrap_or}
-use Rattle.niss_moves.specs.CleanedLine.{rotations, moves_centres_as, rotation_left, RotationIsLeft}
+use Rattle.niss_moves.specs.CleanedLine.{rotations, moves_centres_as, rotation_left}
 use Rattle.std.proofs.lemmas.Bool.{cases_Bool, cond-true, cond-false}
 use Rattle.std.proofs.lemmas.Map.Views.{Contains-from_any}
 use Rattle.niss_moves.proofs.Finite.{every_face, at_face, all_faces, every_power, every_optional_power, same_place_is, same_place_of}

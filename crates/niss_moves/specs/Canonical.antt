@@ -1,5 +1,5 @@
 -- Canonical sequences of face turns, and all of them of one length.
-use Rattle.std.specs.Prelude.{ℕ, zero, suc, Bool, true, not, ◌&&◌, ◌||◌, ◌-◌}
+use Rattle.std.specs.Prelude.{◌≡◌, ℕ, zero, suc, Bool, true, not, ◌&&◌, ◌||◌, ◌-◌}
 use Rattle.std.specs.Prelude.{List, [], ◌∷◌, ◌++◌, map, filter, flat_map, length, slice_get, Option, None, Some, IsTrue}
 use Rattle.niss_moves.specs.Turn.{opposite, same_face, goes_first}
 use Rattle.niss_moves.specs.Names.{Face, U, D, R, L, F, B, Power, Quarter, Half, Counter, Turn}
@@ -48,3 +48,14 @@ canonical_extensions turns s = map (λ t. s ++ t ∷ []) (filter (may_follow (la
 unfoldable pub all_canonical : List Turn → ℕ → List (List Turn)
 all_canonical turns zero = [] ∷ []
 all_canonical turns (suc k) = flat_map (canonical_extensions turns) (all_canonical turns k)
+
+-- Where two sequences first differ, the turn of the first one comes before the turn of the second.
+pub record DiffersFirst (comes_before : Turn → Turn → Bool) (first second : List Turn) : Type 0 where
+  pub front : List Turn
+  pub left : Turn
+  pub right : Turn
+  pub after_left : List Turn
+  pub after_right : List Turn
+  pub first_is : first ≡ front ++ left ∷ after_left
+  pub second_is : second ≡ front ++ right ∷ after_right
+  pub order : IsTrue (comes_before left right)

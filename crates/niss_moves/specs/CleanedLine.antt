@@ -6,11 +6,10 @@ use Rattle.std.specs.Option.{option_map_or}
 use Rattle.niss_moves.specs.Places.{same_place}
 use Rattle.niss_moves.specs.Facelets.{centre}
 use Rattle.niss_moves.specs.Effects.{effect}
-use Rattle.niss_moves.specs.Rotations.{spelling, IsRotationOf}
+use Rattle.niss_moves.specs.Rotations.{spelling}
 use Rattle.niss_moves.specs.Faces.{faces}
 use Rattle.niss_moves.specs.Canonical.{face_may_follow, face_order}
-use Rattle.niss_moves.specs.Cleaning.{rewritten_pair, Cleans}
-use Rattle.niss_moves.specs.RewritingLaws.{disorder}
+use Rattle.niss_moves.specs.Cleaning.{rewritten_pair, disorder}
 use Rattle.niss_moves.specs.Line.{Moves}
 use Rattle.niss_moves.specs.CleanText.{cleaned_words, with_bracket}
 use Rattle.niss_moves.specs.Text.{with_words}
@@ -66,10 +65,3 @@ clean_words s = cleaned_words (clean_turns (faces s)) (rotation_left s)
 abbrev pub with_clean_line : List ℕ → Moves → List ℕ
 with_clean_line text line =
     with_bracket (with_words text (clean_words line.normal)) (clean_words line.bracketed)
-
--- Law: these functions are cleaning, and the rotation that is left.
-abbrev pub CleanTurnsAreClean : Type 0
-CleanTurnsAreClean = (s : List Turn) → Cleans s (clean_turns s)
-
-abbrev pub RotationIsLeft : Type 0
-RotationIsLeft = (s : List Token) → IsRotationOf s (rotation_left s)

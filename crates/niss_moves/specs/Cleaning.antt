@@ -1,8 +1,8 @@
 -- Cleaning a list of face turns: the leftmost neighbours that break the order are merged or change places, as long as
 -- there are any.
-use Rattle.std.specs.Prelude.{◌≡◌, ℕ, zero, suc, ◌+◌, ◌%◌, false, List, [], ◌∷◌, ◌++◌, if◌then◌else◌, Option, None, Some}
+use Rattle.std.specs.Prelude.{◌≡◌, ℕ, zero, suc, ◌+◌, ◌%◌, Bool, false, ◌&&◌, List, [], ◌∷◌, ◌++◌, count_by, if◌then◌else◌, Option, None, Some}
 use Rattle.niss_moves.specs.Effects.{times}
-use Rattle.niss_moves.specs.Turn.{same_face}
+use Rattle.niss_moves.specs.Turn.{opposite, same_face, goes_first}
 use Rattle.niss_moves.specs.Canonical.{face_may_follow, IsCanonical}
 use Rattle.niss_moves.specs.Names.{Face, Power, Quarter, Half, Counter, Turn}
 
@@ -45,3 +45,12 @@ pub record IsRewriting (old new : List Turn) : Type 0 where
 pub data Cleans : List Turn → List Turn → Type 0 where
   Clean : {s : List Turn} → IsCanonical s → Cleans s s
   Rewrite : {s t c : List Turn} → IsRewriting s t → Cleans t c → Cleans s c
+
+-- two turns of opposite faces of which the second goes first
+abbrev pub are_disordered : Turn → Turn → Bool
+are_disordered t u = same_face (opposite t.face) u.face && goes_first u.face
+
+-- how many pairs of turns of opposite faces, neighbours or not, stand in the wrong order
+abbrev pub disorder : List Turn → ℕ
+disorder [] = 0
+disorder (t ∷ ts) = count_by (are_disordered t) ts + disorder ts

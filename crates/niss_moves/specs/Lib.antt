@@ -8,7 +8,6 @@ pub mod Rotations
 pub mod Faces
 pub mod Canonical
 pub mod Cleaning
-pub mod RewritingLaws
 pub mod Notation
 pub mod Line
 pub mod Faults
@@ -19,6 +18,7 @@ pub mod ReadingLaws
 pub mod EffectLaws
 pub mod CleanText
 pub mod CleanedLine
+pub mod RewritingLaws
 pub mod Helpers
 pub mod WholeMoves
 pub mod FaultText

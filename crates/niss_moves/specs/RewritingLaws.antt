@@ -1,14 +1,14 @@
 -- Laws of rotations, canonical sequences and cleaning, each proved as the contract of a function.
-use Rattle.std.specs.Prelude.{◌≡◌, ℕ, ◌+◌, ◌<◌, ◌⊎◌, Bool, ◌&&◌}
-use Rattle.std.specs.Prelude.{List, [], ◌∷◌, ◌++◌, map, length, count_by, All, AllPairs, Contains, IsTrue, ◌↔◌}
+use Rattle.std.specs.Prelude.{◌≡◌, ℕ, ◌<◌, ◌⊎◌, Bool}
+use Rattle.std.specs.Prelude.{List, [], ◌∷◌, ◌++◌, map, length, All, AllPairs, Contains, IsTrue, ◌↔◌}
 use Rattle.niss_moves.specs.Places.{Place}
 use Rattle.niss_moves.specs.Facelets.{centre}
 use Rattle.niss_moves.specs.Effects.{effect, effect_of_turns, moved_by, turned, HasMeaning}
-use Rattle.niss_moves.specs.Turn.{opposite, same_face, goes_first}
 use Rattle.niss_moves.specs.Rotations.{spelling, face_before, face_before_power, renamed_turn, IsRotationOf}
 use Rattle.niss_moves.specs.Faces.{expanded, token_of_basic, faces}
-use Rattle.niss_moves.specs.Canonical.{may_follow, last_turn, IsCanonical, all_canonical}
-use Rattle.niss_moves.specs.Cleaning.{IsRewriting, Cleans}
+use Rattle.niss_moves.specs.Canonical.{may_follow, last_turn, IsCanonical, all_canonical, DiffersFirst}
+use Rattle.niss_moves.specs.Cleaning.{IsRewriting, Cleans, disorder}
+use Rattle.niss_moves.specs.CleanedLine.{clean_turns, rotation_left}
 use Rattle.niss_moves.specs.Line.{Moves, joined_moves}
 use Rattle.niss_moves.specs.Names.{Face, Power, Turn, Axis, Token, Rotation}
 use Rattle.niss_moves.specs.declared.token.Token.TheVariants as token
@@ -68,17 +68,6 @@ CanonicalMembers =
     (turns : List Turn) (k : ℕ) (s : List Turn) →
     Contains (all_canonical turns k) s ↔ ((length s ≡ k) × IsCanonical s × All (Contains turns) s)
 
--- Where two sequences first differ, the turn of the first one comes before the turn of the second.
-pub record DiffersFirst (comes_before : Turn → Turn → Bool) (first second : List Turn) : Type 0 where
-  pub front : List Turn
-  pub left : Turn
-  pub right : Turn
-  pub after_left : List Turn
-  pub after_right : List Turn
-  pub first_is : first ≡ front ++ left ∷ after_left
-  pub second_is : second ≡ front ++ right ∷ after_right
-  pub order : IsTrue (comes_before left right)
-
 -- If the turns are in some order, `all_canonical turns k` is in that order at the first turn where two members differ.
 -- So with turns that differ, each sequence is there once.
 abbrev pub CanonicalInOrder : Type 0
@@ -111,17 +100,15 @@ CleanedEffect =
 abbrev pub CanonicalStays : Type 0
 CanonicalStays = (s c : List Turn) → IsCanonical s → Cleans s c → c ≡ s
 
--- two turns of opposite faces of which the second goes first
-abbrev pub are_disordered : Turn → Turn → Bool
-are_disordered t u = same_face (opposite t.face) u.face && goes_first u.face
-
--- how many pairs of turns of opposite faces, neighbours or not, stand in the wrong order
-abbrev pub disorder : List Turn → ℕ
-disorder [] = 0
-disorder (t ∷ ts) = count_by (are_disordered t) ts + disorder ts
-
 -- Each rewriting shortens the list, or keeps its length and leaves fewer pairs in the wrong order.
 abbrev pub RewritingLowers : Type 0
 RewritingLowers =
     (s t : List Turn) → IsRewriting s t →
     (length t < length s) ⊎ ((length t ≡ length s) × (disorder t < disorder s))
+
+-- The functions `clean_turns` and `rotation_left` are cleaning and the rotation that is left.
+abbrev pub CleanTurnsAreClean : Type 0
+CleanTurnsAreClean = (s : List Turn) → Cleans s (clean_turns s)
+
+abbrev pub RotationIsLeft : Type 0
+RotationIsLeft = (s : List Token) → IsRotationOf s (rotation_left s)

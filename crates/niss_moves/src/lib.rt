@@ -54,7 +54,7 @@ mod turn;
 mod whole_move;
 
 pub use axis::Axis;
-pub use canonical::{allowed, turn_order};
+pub use canonical::{allowed, turn_order, turns_after};
 pub use clean_text::{put_faces, put_niss_clean, put_rotation};
 pub use cleaning::cleanup;
 pub use faces::{Faces, to_faces};

@@ -3,7 +3,7 @@ ghost use Rattle.niss_moves.specs.RewritingLaws.{OneSpelling, ExpandsAlike, Rena
 ghost use Rattle.niss_moves.specs.RewritingLaws.{CentresComeHome, FacesAreHome, LineIsHome, FacesAndRotation};
 ghost use Rattle.niss_moves.specs.RewritingLaws.{CleanedEffect, CanonicalMembers, CanonicalInOrder, CanonicalGrows};
 ghost use Rattle.niss_moves.specs.RewritingLaws.{CleaningEnds, OneCleanList, CanonicalStays, RewritingLowers};
-ghost use Rattle.niss_moves.specs.CleanedLine.{CleanTurnsAreClean, RotationIsLeft};
+ghost use Rattle.niss_moves.specs.RewritingLaws.{CleanTurnsAreClean, RotationIsLeft};
 
 /// Two rotations that move the six centres alike are one. So each of the 24 has one spelling.
 #[tactic(auto, using(crate::proofs::OneSpelling::one_spelling))]

@@ -15,5 +15,5 @@ pub mod Followers
 pub mod Draw
 pub mod Filling
 pub mod Moves
-pub mod Kinds
+pub mod StepSpace
 pub mod KindOfStep

@@ -4,7 +4,7 @@ ghost use Rattle.std.specs.Prelude.{◌≤◌, length};
 use crate::runs::{check_bytes, check_count};
 use niss_moves::{
     Face, Faces, LineText, Power, Token, Turn, allowed, invert, put_faces, put_niss_clean,
-    put_tokens, read, turn_order, unniss,
+    put_tokens, read, turn_order, turns_after, unniss,
 };
 
 fn quarter(face: Face) -> Turn {
@@ -30,6 +30,13 @@ fn writes_the_turns_in_order(rt: HostRuntime) {
     put_faces(turn_order(), &mut text);
     let wanted = b"U U2 U' D D2 D' R R2 R' L L2 L' F F2 F' B B2 B'";
     check_bytes(&rt, text.as_slice(), wanted);
+}
+
+#[test]
+fn writes_the_turns_that_may_follow(rt: HostRuntime) {
+    let mut text = LineText::new();
+    put_faces(turns_after(Some(quarter(Face::D))), &mut text);
+    check_bytes(&rt, text.as_slice(), b"R R2 R' L L2 L' F F2 F' B B2 B'");
 }
 
 fn words(moves: &[Token]) -> LineText {

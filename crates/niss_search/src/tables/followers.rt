@@ -40,21 +40,6 @@ fn turns_after(step: Step, last: Option<Turn>) -> FollowerList
     list
 }
 
-/// The column of a turn of a step.
-fn column_of(step: Step, turn: Turn) -> usize
-    requires { Contains (turns_of step) turn }
-    ensures in_range { result < length (turns_of step) }
-    ensures value { turn_at step result ≡ turn }
-{
-    let turns = step.turns();
-    for column in 0..turns.len() {
-        if turns[column] == turn {
-            return column;
-        }
-    }
-    unreachable!()
-}
-
 /// The turns of a step that may stand directly after a turn of the face.
 fn turns_after_face(step: Step, face: Face) -> FollowerList
     ensures { AreFollowers step (λ t. face_may_follow face t.face) result.items }
@@ -117,7 +102,8 @@ impl Followers {
         ensures in_range { result < length (turns_of self.now) }
         ensures value { turn_at self.now result ≡ turn }
     {
-        column_of(self.step, turn)
+        let turns = self.step.turns();
+        turns.iter().position(|other| *other == turn).unwrap()
     }
 
     /// The step's turns that may stand directly after the last one, in turn order.

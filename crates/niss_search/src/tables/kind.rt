@@ -3,9 +3,9 @@ ghost use Rattle.std.specs.Prelude.{◌≡◌, ◌+◌, ◌≤◌, ◌^◌, IfOk
 ghost use Rattle.niss_cube.specs.declared.cube.coordinate.Coordinate.TheVariants as coordinate;
 ghost use Rattle.niss_cube.specs.declared.step.Goal.TheVariants as goals;
 ghost use Rattle.niss_search.specs.Entries.{fill_ticks};
-ghost use Rattle.niss_search.specs.KindOfStep.{IsOfStep, edge_alternative, domino_alternative};
+ghost use Rattle.niss_search.specs.KindOfStep.{IsOfStep};
 
-use super::goal_moves::{DominoMoves, DominoTurns, EdgeMoves};
+use super::goal_moves::{DominoMoves, DominoTurns, EdgeMoves, GoalMoves};
 use super::meter::Meter;
 use super::pruning_table::{EmptyTable, PruningTable};
 use super::search_tables::SearchTables;
@@ -93,7 +93,8 @@ fn edge_table<A: Allocator + Copy>(
     flips: &TurnTable<A>,
 ) -> Result<EmptyTable<EdgeMoves<A>, A>, OutOfMemory>
     requires { flips.now ≡ coordinate.Flip }
-    ensures { IfOk result (λ t. edge_alternative t ≡ record { step = step; goal = goals.Edges axis }) }
+    ensures { IfOk result (λ t.
+        ⟦<EdgeMoves<A> as GoalMoves>⟧.alternative t ≡ record { step = step; goal = goals.Edges axis }) }
 {
     let moves = EdgeMoves::build_in(alloc, step, axis, flips)?;
     EmptyTable::new_in(alloc, moves)
@@ -107,7 +108,9 @@ fn domino_table<A: Allocator + Copy>(
     axis: Axis,
     turns: &DominoTurns<A>,
 ) -> Result<EmptyTable<DominoMoves<A>, A>, OutOfMemory>
-    ensures { IfOk result (λ t. domino_alternative t ≡ record { step = step; goal = goals.Domino edges axis }) }
+    ensures { IfOk result (λ t.
+        ⟦<DominoMoves<A> as GoalMoves>⟧.alternative t
+        ≡ record { step = step; goal = goals.Domino edges axis }) }
 {
     let moves = DominoMoves::build_in(alloc, step, edges, axis, turns)?;
     EmptyTable::new_in(alloc, moves)

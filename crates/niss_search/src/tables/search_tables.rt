@@ -4,7 +4,7 @@ ghost use Rattle.niss_moves.specs.Canonical.{may_follow};
 ghost use Rattle.niss_cube.specs.Steps.{turns_of};
 ghost use Rattle.niss_search.specs.Cubes.{IsPosition};
 ghost use Rattle.niss_search.specs.Followers.{IsFollower, AreFollowers};
-ghost use Rattle.niss_search.specs.Kinds.{IsSpaceOf};
+ghost use Rattle.niss_search.specs.StepSpace.{IsSpaceOf};
 ghost use Rattle.niss_search.specs.Positions.{position_after, distance_at};
 
 use super::followers::{Follower, Followers};
@@ -24,7 +24,7 @@ pub struct SearchTables<S: StateSpace> {
 }
 
 impl<S: StateSpace> Model for SearchTables<S> {
-    ghost use Rattle.niss_search.specs.Kinds.{StepSpace, IsSpaceOf};
+    ghost use Rattle.niss_search.specs.StepSpace.{StepSpace, IsSpaceOf};
 
     ghost Value = { StepSpace S };
 
