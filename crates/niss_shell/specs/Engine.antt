@@ -22,6 +22,14 @@ pending_state target pending looks = record { target = target; pending = pending
 abbrev pub output_state : {W : Type 0} → (W → TargetState) → Output W → ℕ → AnswerState
 output_state state output looks = pending_state (state output.target.now) output.pending.items looks
 
+-- A run may begin: the source can be read, the target works, no answer waits, and the meter has room for the looks of a run.
+pub record MayBegin (source : SourceState) (state : AnswerState) : Type 0 where
+  pub reads : source.has_failed ≡ false
+  pub goes_on : source.has_ended ≡ false
+  pub works : has_fault state.target ≡ false
+  pub empty : state.pending ≡ []
+  pub room : state.looks ≤ 2 ^ 64
+
 -- A text was taken after what waited: some of these bytes went out, and the others wait now.
 pub record TakesIn (text : List ℕ) (old new : AnswerState) : Type 0 where
   pub sent : List ℕ

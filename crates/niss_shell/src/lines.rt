@@ -36,7 +36,7 @@ pub struct Lines<'a, A: Allocator> {
 impl<'a, A: Allocator> Lines<'a, A> {
     ghost use Rattle.niss_shell.specs.Names.{Done};
     ghost use Rattle.niss_moves.specs.Reader.{moves_of};
-    ghost use Rattle.niss_shell.specs.Engine.{AnswersLine, AnswersMoves, AnswersSource, Answers, HasRoom};
+    ghost use Rattle.niss_shell.specs.Engine.{MayBegin, AnswersLine, AnswersMoves, AnswersSource, Answers, HasRoom};
     ghost use Rattle.niss_shell.specs.Engine.{piece_of, only_stop, stop_unless};
     ghost use Rattle.niss_shell.specs.Output.{answer_lines, End};
     ghost use Rattle.niss_shell.specs.Job.{command_of};
@@ -221,14 +221,10 @@ impl<'a, A: Allocator> Lines<'a, A> {
         source: &mut S,
         output: &mut Output<W>,
     ) -> Result<(), Stop>
-        requires reads { (S.state source.old).has_failed ≡ false }
-        requires goes_on { (S.state source.old).has_ended ≡ false }
-        requires works { has_fault (W.state output.old.target.now) ≡ false }
-        requires empty { output.old.pending.items ≡ [] }
+        requires begins { MayBegin (S.state source.old) (lines_state W.state output.old self.old) }
         requires reader { IsFed self.old.reader [] }
         requires fed { self.old.reader.fed ≡ 0 }
         requires line { self.old.line ≡ 1 }
-        requires meter { self.old.looks.now ≤ 2 ^ 64 }
         ensures keeps { Keeps self.old self.new }
         ensures same_target { output.new.target.ghost_name ≡ output.old.target.ghost_name }
         ensures answers { AnswersSource (answers_of self.old) (stop_unless result Done)

@@ -4,7 +4,7 @@ ghost use Rattle.niss_shell.specs.Words.{request_of, reads_source};
 ghost use Rattle.niss_shell.specs.Output.{error_text, step_line, unsearched};
 ghost use Rattle.niss_cube.specs.Steps.{steps};
 ghost use Rattle.niss_shell.specs.Names.{Done};
-ghost use Rattle.niss_shell.specs.Engine.{Answers, RunsUnflushed, output_state, stop_unless};
+ghost use Rattle.niss_shell.specs.Engine.{MayBegin, Answers, RunsUnflushed, output_state, stop_unless};
 ghost use Rattle.niss_shell.specs.Run.{Runs, ReportsError, devices};
 
 use crate::command::{Command, parse_words};
@@ -46,11 +46,7 @@ fn answer_command<A: Allocator + Copy, R: Source, W: Target>(
     output: &mut Output<W>,
     looks: &mut Meter,
 ) -> Result<(), Stop>
-    requires reads { (R.state source.old).has_failed ≡ false }
-    requires goes_on { (R.state source.old).has_ended ≡ false }
-    requires works { has_fault (W.state output.old.target.now) ≡ false }
-    requires empty { output.old.pending.items ≡ [] }
-    requires meter { looks.old ≤ 2 ^ 64 }
+    requires { MayBegin (R.state source.old) (output_state W.state output.old looks.old) }
     ensures same_target { output.new.target.ghost_name ≡ output.old.target.ghost_name }
     ensures runs { RunsUnflushed (request_of (map string_bytes words.now)) (stop_unless result Done)
         (R.state source.old) (R.state source.new)
