@@ -1,9 +1,7 @@
 -- What is written of the search from a cube.
 use Rattle.std.specs.Prelude.{◌≡◌, ℕ, false, Result, List}
 use Rattle.niss_moves.specs.Places.{Place}
-use Rattle.niss_cube.specs.Steps.{turns_of}
 use Rattle.niss_search.specs.Cubes.{near_looks_of}
-use Rattle.niss_search.specs.Solutions.{look_bound}
 use Rattle.niss_shell.specs.Device.{TargetState, has_fault}
 use Rattle.niss_shell.specs.Engine.{WritesOrRefuses, output_state}
 use Rattle.niss_shell.specs.Names.{DeviceFault, Output}
@@ -15,7 +13,5 @@ abbrev pub Reported :
     → Output W → Output W → ℕ → ℕ → Type 0
 Reported state result text search e old new looks looks_now =
     has_fault (state old.target.now) ≡ false →
-    WritesOrRefuses result text
-    (near_looks_of search.tables e search.limit search.slack)
-    (look_bound (turns_of search.tables) search.limit)
+    WritesOrRefuses result text (near_looks_of search.tables e search.limit search.slack)
     (output_state state old looks) (output_state state new looks_now)

@@ -65,8 +65,7 @@ impl<'a, A: Allocator> Lines<'a, A> {
         requires works { has_fault (W.state output.old.target.now) ≡ false }
         ensures keeps { Keeps self.old self.new }
         ensures same_target { output.new.target.ghost_name ≡ output.old.target.ghost_name }
-        ensures refused { (looks most_looks : ℕ) →
-            AnswersLine (Err fault) looks most_looks self.old.line result
+        ensures refused { (looks : ℕ) → AnswersLine (Err fault) looks self.old.line result
             (lines_state W.state output.old self.old) (lines_state W.state output.new self.new) }
         ensures stops { OnOk result ⊥ }
         ensures empty { OnErr result (output.new.pending.items ≡ []) }

@@ -18,6 +18,7 @@ use crate::writing::write_all;
 use niss_cube::Step;
 use niss_moves::LineText;
 use niss_search::Meter;
+use niss_search::laws::counts_and_bounds;
 use rand_pcg::Lcg64Xsh32;
 use std::alloc::{Allocator, Global};
 
@@ -107,6 +108,8 @@ pub fn run_in<A: Allocator + Copy, R: Source, W: Target, E: Target>(
     // one not.
     ensures one_flush { (W.state out.new).flush_failed ≡ not (W.state out.new).is_flushed }
 {
+    // no search looks more often than its bound says
+    counts_and_bounds();
     let mut output = Output::new(out);
     let answered = answer_command(alloc, words, input, &mut output, looks);
     let stop = output.finish(answered);

@@ -13,7 +13,7 @@ returns-clause-runs g c =
     (subst (λ t. Runs (map string_bytes c.args.words.now) (devices (g.R.Source.state c.args.input.now) (g.W.Target.state t) (g.E.Target.state c.args.err.now))
     (devices (g.R.Source.state c.answer_command-answered.new.source) (g.W.Target.state c.finish-stop.new.self.target.now) (g.E.Target.state c.report.new.err))
     c.args.looks.now c.answer_command-answered.new.looks c.status.result) c.new-output.ensures.unchanged
-    (runs_flushed _ _ _ _ _ _ _ _ _ _ _ c.new-output.ensures.empty c.answer_command-answered.ensures.empty
+    (runs_flushed c.counts_and_bounds.ensures.within _ _ _ _ _ _ _ _ _ _ _ c.new-output.ensures.empty c.answer_command-answered.ensures.empty
     c.answer_command-answered.ensures.runs c.finish-stop.ensures.flushes c.report.ensures c.status.ensures))
 
 pub returns-clause-one_flush : goal.returns-clause-one_flush
