@@ -1,7 +1,7 @@
 -- What a search keeps of its sink, and how the text of a line ends it.
 use Rattle.std.proofs.Common.{◌≡◌, ℕ, Bool, true, false, Result, Ok, Err, List, [], ◌∷◌, inl, inr, sym, ap, ◌∙◌, subst}
 use Rattle.std.specs.Prelude.{IsTrue}
-use Rattle.niss_shell.specs.Names.{Turn, Step, LineCommand, Report, NoStart, Stop, CannotWrite}
+use Rattle.niss_shell.specs.Names.{Turn, Step, LineCommand, Search, Query, Report, NoStart, Stop, CannotWrite}
 use Rattle.niss_search.specs.Delivery.{WentThrough, StoppedIn}
 use Rattle.niss_shell.specs.Engine.{AnswerState, Writes, Refuses, AnswersLine, AnswersMoves}
 use Rattle.niss_cube.specs.Steps.{may_start}
@@ -45,21 +45,25 @@ starts_not step given false text looks n r old new e f h =
 
 -- the same of the command on the line
 
-module _ (command : LineCommand) (line given : Moves) (report asked : Report) (step : Step) (limit slack : ℕ) (n : ℕ) (old new : AnswerState)
-    (searches : command ≡ search_command report step limit slack) (reports : report ≡ asked) (same : given ≡ line) where
-  answered : (r : Result (Unit {0}) Stop) → AnswersMoves (search_command asked step limit slack) given n r old new → AnswersMoves command line n r old new
+module _ (command : LineCommand) (line given : Moves) (asked : Report) (query : Query) (step : Step) (n : ℕ) (old new : AnswerState)
+    (searches : command ≡ Search query) (of_step : step ≡ query.step) (reports : query.report ≡ asked) (same : given ≡ line) where
+  searched : search_command asked step query.limit query.slack ≡ command
+  searched =
+      ap (λ r. search_command r step query.limit query.slack) (sym reports)
+      ∙ ap (λ s. search_command query.report s query.limit query.slack) of_step ∙ sym searches
+
+  answered : (r : Result (Unit {0}) Stop) → AnswersMoves (search_command asked step query.limit query.slack) given n r old new → AnswersMoves command line n r old new
   answered r x =
-      subst (λ k. AnswersMoves k line n r old new) (sym searches)
-      (subst (λ k. AnswersMoves (search_command k step limit slack) line n r old new) (sym reports)
-      (subst (λ m. AnswersMoves (search_command asked step limit slack) m n r old new) same x))
+      subst (λ k. AnswersMoves k line n r old new) searched
+      (subst (λ m. AnswersMoves (search_command asked step query.limit query.slack) m n r old new) same x)
 
   pub all_reported : {u : Unit {0}} → IsTrue (may_start step (home given))
-      → Writes (search_text asked step limit slack (home given)) (near_looks_of step (home given) limit slack) old new
+      → Writes (search_text asked step query.limit query.slack (home given)) (near_looks_of step (home given) query.limit query.slack) old new
       → AnswersMoves command line n (Ok u) old new
   all_reported e p = answered _ (starts _ _ _ _ _ _ _ _ e p)
 
   pub refusal_reported : {stop : Stop} → IsTrue (may_start step (home given)) → stop ≡ CannotWrite
-      → Refuses (search_text asked step limit slack (home given)) (near_looks_of step (home given) limit slack) old new
+      → Refuses (search_text asked step query.limit query.slack (home given)) (near_looks_of step (home given) query.limit query.slack) old new
       → AnswersMoves command line n (Err stop) old new
   refusal_reported e f p = answered _ (starts_refused _ _ _ _ _ _ _ _ e f p)
 

@@ -5,7 +5,7 @@ ghost use Rattle.niss_shell.specs.Engine.{MayBegin, RunsUnflushed, EndsAtOnce, o
 ghost use Rattle.niss_shell.specs.Job.{IsInput, command_of};
 ghost use Rattle.niss_shell.specs.Names.{Done};
 
-use crate::command::{LineCommand, LineRequest, Query, Rewriting};
+use crate::command::{LineCommand, LineRequest, Rewriting};
 use crate::device::{Source, Target};
 use crate::lines::{LIMIT, Lines};
 use crate::output::Output;
@@ -86,22 +86,10 @@ impl<A: Allocator> Work<A> {
     {
         match command {
             LineCommand::Rewrite(rewriting) => Ok(Work::Rewrite(rewriting)),
-            LineCommand::Search(
-                Query {
-                    report,
-                    step,
-                    limit,
-                    slack,
-                },
-            ) => {
+            LineCommand::Search(query) => {
                 // what fills the tables is no look at a line
-                let tables = Tables::build_in(alloc, step, &mut Meter::new())?;
-                Ok(Work::Search(Search {
-                    report,
-                    tables,
-                    limit,
-                    slack,
-                }))
+                let tables = Tables::build_in(alloc, query.step, &mut Meter::new())?;
+                Ok(Work::Search(Search { query, tables }))
             }
         }
     }

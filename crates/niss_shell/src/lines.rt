@@ -104,11 +104,11 @@ impl<'a, A: Allocator> Lines<'a, A> {
             Work::Search(search) => {
                 counts_and_bounds();
                 // this call shows that the limit is at most 20, which bounds the looks
-                let _at_most_20 = search.limit.get();
+                let _at_most_20 = search.query.limit.get();
                 let Some(position) = start_position(&search.tables, self.reader.moves()) else {
                     return self.refuse(LineFault::NoStart(search.tables.step()), output);
                 };
-                match search.report {
+                match search.query.report {
                     Report::Solutions => Ok(search.solve(&position, output, self.looks)?),
                     Report::Counts => Ok(search.count(&position, output, self.looks)?),
                 }
