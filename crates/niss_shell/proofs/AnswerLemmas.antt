@@ -35,13 +35,13 @@ last_taken : (f : LineAnswers) {front : List ℕ} (n : ℕ) (result : Result (Un
 last_taken f n (Ok u) old new answers e =
     subst (λ ls. AllAnswered f n ls old new) (sym e) (answered_line _ _ refl answers)
 last_taken f n (Err stop) old new answers e =
-    subst (λ ls. StopsWithin f n ls stop old new) (sym e) (stopped_line _ _ _ _ _ _ _ refl answers)
+    subst (λ ls. StopsWithin f n ls stop old new) (sym e) (stopped_line f _ _ _ _ _ _ refl answers)
 
 pub takes_last_line : (f : LineAnswers) {front : List ℕ} (n : ℕ) {r : Reader} (result : Result (Unit {0}) Stop) (old new : AnswerState)
     → IsFed r front → r.fed ≢ 0 → AnswersBytes f front n result old new
     → TakesEnd f front n result old new
 takes_last_line f n result old new at some answers =
-    last_taken _ _ _ _ _ answers (one_line _ (λ z. some (at.fed ∙ z)))
+    last_taken f _ _ _ _ answers (one_line _ (λ z. some (at.fed ∙ z)))
 
 -- a run that was stopped by one of these lines, which are all that count
 stopped_answers : (f : LineAnswers) (input : List ℕ) (m : Ending) {lines : List (List ℕ)} (stop : Stop) (a b : AnswerState)

@@ -18,51 +18,51 @@ use Rattle.niss_shell.proofs.LinesLemmas.{ended_lines-append, last_part-append, 
 -- one line that is answered
 
 one_line : (f : LineAnswers) (front text : List ℕ) (old new : AnswerState) → f.answer_of front ≡ Ok text
-    → Writes text (f.looks_of front) f.most_looks old new → WritesAnswers f (front ∷ []) old new
+    → Writes text (f.looks_of front) old new → WritesAnswers f (front ∷ []) old new
 unfolding answered_lines
 one_line f front text old new e p =
     subst (λ r. WritesLines f (lines_before r front []) old new) (sym e)
-    (writes_as (sym (ap (λ r. text_of r ++ []) e ∙ append-nil text)) (omega arith) (omega arith) p)
+    (writes_as (sym (ap (λ r. text_of r ++ []) e ∙ append-nil text)) (omega arith) p)
 
 one_refused : (f : LineAnswers) (front text : List ℕ) (old new : AnswerState) → f.answer_of front ≡ Ok text
-    → Refuses text (f.looks_of front) f.most_looks old new → RefusesAnswers f (front ∷ []) old new
+    → Refuses text (f.looks_of front) old new → RefusesAnswers f (front ∷ []) old new
 unfolding answered_lines
 one_refused f front text old new e p =
     subst (λ r. RefusesLines f (lines_before r front []) old new) (sym e)
-    (refuses_as (sym (ap (λ r. text_of r ++ []) e ∙ append-nil text)) (omega arith) (omega arith) p)
+    (refuses_as (sym (ap (λ r. text_of r ++ []) e ∙ append-nil text)) (omega arith) p)
 
 -- one that has a fault
 no_line : (f : LineAnswers) (front : List ℕ) (fault : LineFault) (old new : AnswerState) → f.answer_of front ≡ Err fault
-    → Writes [] 0 0 old new → WritesAnswers f (front ∷ []) old new
+    → Writes [] 0 old new → WritesAnswers f (front ∷ []) old new
 unfolding answered_lines
 no_line f front fault old new e p =
-    subst (λ r. WritesLines f (lines_before r front []) old new) (sym e) (writes_as refl refl (omega arith) p)
+    subst (λ r. WritesLines f (lines_before r front []) old new) (sym e) (writes_as refl refl p)
 
 no_refused : (f : LineAnswers) (front : List ℕ) {fault : LineFault} (old new : AnswerState) → f.answer_of front ≡ Err fault
-    → Refuses [] 0 0 old new → RefusesAnswers f (front ∷ []) old new
+    → Refuses [] 0 old new → RefusesAnswers f (front ∷ []) old new
 unfolding answered_lines
 no_refused f front old new e p =
-    subst (λ r. RefusesLines f (lines_before r front []) old new) (sym e) (refuses_as refl refl (omega arith) p)
+    subst (λ r. RefusesLines f (lines_before r front []) old new) (sym e) (refuses_as refl refl p)
 
 pub answered_line : {f : LineAnswers} (n : ℕ) {front : List ℕ} (r : Result (List ℕ) LineFault) {u : Unit {0}} {old new : AnswerState}
-    → f.answer_of front ≡ r → AnswersLine r (f.looks_of front) f.most_looks n (Ok u) old new → AllAnswered f n (front ∷ []) old new
+    → f.answer_of front ≡ r → AnswersLine r (f.looks_of front) n (Ok u) old new → AllAnswered f n (front ∷ []) old new
 unfolding first_fault
-answered_line n (Ok text) e p = record {
+answered_line {f = f} n (Ok text) e p = record {
   faultless = ap (λ r. fault_before r n None) e;
-  writes = one_line _ _ _ _ _ e p;
+  writes = one_line f _ _ _ _ e p;
 }
 answered_line n (Err fault) e p = absurd p
 
 pub stopped_line : (f : LineAnswers) (n : ℕ) (front : List ℕ) (r : Result (List ℕ) LineFault) (stop : Stop) (old new : AnswerState)
-    → f.answer_of front ≡ r → AnswersLine r (f.looks_of front) f.most_looks n (Err stop) old new → StopsWithin f n (front ∷ []) stop old new
+    → f.answer_of front ≡ r → AnswersLine r (f.looks_of front) n (Err stop) old new → StopsWithin f n (front ∷ []) stop old new
 unfolding first_fault
 stopped_line f n front (Ok text) stop old new e p =
-    subst (λ s. StopsWithin f n (front ∷ []) s old new) (sym p.0) (one_refused _ _ _ _ _ e p.1)
+    subst (λ s. StopsWithin f n (front ∷ []) s old new) (sym p.0) (one_refused f _ _ _ _ e p.1)
 stopped_line f n front (Err fault) stop old new e (inl p) =
     subst (λ s. StopsWithin f n (front ∷ []) s old new) (sym p.0)
-    (record { first = ap (λ r. fault_before r n None) e; writes = no_line _ _ _ _ _ e p.1 })
+    (record { first = ap (λ r. fault_before r n None) e; writes = no_line f _ _ _ _ e p.1 })
 stopped_line f n front (Err fault) stop old new e (inr p) =
-    subst (λ s. StopsWithin f n (front ∷ []) s old new) (sym p.0) (no_refused _ _ _ _ e p.1)
+    subst (λ s. StopsWithin f n (front ∷ []) s old new) (sym p.0) (no_refused f _ _ _ e p.1)
 
 -- a line feed
 takes_line_feed : (f : LineAnswers) (front : List ℕ) (n : ℕ) (q : Progress) (result : Result (Unit {0}) Stop) (old new : AnswerState)
@@ -75,7 +75,7 @@ takes_line_feed f front n q (Ok u) old new answers reader line = (
   record { reader = reader; line = line },
 )
 takes_line_feed f front n q (Err stop) old new answers reader line =
-    stopped_line _ _ _ _ _ _ _ refl answers
+    stopped_line f _ _ _ _ _ _ refl answers
 
 pub takes_end_of_line : (f : LineAnswers) (front : List ℕ) {byte : ℕ} (n : ℕ) (q : Progress) (result : Result (Unit {0}) Stop) (old new : AnswerState)
     → byte ≡ 10
@@ -88,7 +88,7 @@ takes_end_of_line f front n q result old new e answers reader line =
 
 pub answered_none : {f : LineAnswers} {n : ℕ} {out : AnswerState} → has_fault out.target ≡ false → AllAnswered f n [] out out
 unfolding first_fault answered_lines
-answered_none works = record { faultless = refl; writes = writes_as refl refl (omega arith) (writes_nothing _ works) }
+answered_none works = record { faultless = refl; writes = writes_as refl refl (writes_nothing _ works) }
 
 -- bytes inside a line
 inside_ended : (front xs : List ℕ) → HasNoLineFeed xs → ended_lines front xs ≡ []

@@ -17,14 +17,14 @@ use Rattle.niss_shell.proofs.StateLemmas.{writes_nothing, writes_more, writes_as
 pub line_taken : {W : Type 0} (state : W → TargetState) (r : Result (Unit {0}) DeviceFault) {text line : List ℕ} (old new : Output W) (N : Type 0)
     → text ≡ line → N → new.pending.items ≡ [] → Delivers state r text old new → OnOk r (N × TakesLine state line old new)
 line_taken state (Ok u) old new N e n none d =
-    (n, (none, λ works looks. subst (λ t. Writes t 0 0 (output_state state old looks) (output_state state new looks)) e (d works looks)))
+    (n, (none, λ works looks. subst (λ t. Writes t 0 (output_state state old looks) (output_state state new looks)) e (d works looks)))
 line_taken state (Err x) old new N e n none d = tt
 
 pub line_refused : {W : Type 0} (state : W → TargetState) (r : Result (Unit {0}) DeviceFault) {text line : List ℕ} (old new : Output W) (N : Type 0)
     → text ≡ line → N → new.pending.items ≡ [] → Delivers state r text old new → OnErr r (N × RefusesLine state line old new)
 line_refused state (Ok u) old new N e n none d = tt
 line_refused state (Err x) old new N e n none d =
-    (n, (none, λ works looks. subst (λ t. Refuses t 0 0 (output_state state old looks) (output_state state new looks)) e (d works looks)))
+    (n, (none, λ works looks. subst (λ t. Refuses t 0 (output_state state old looks) (output_state state new looks)) e (d works looks)))
 
 -- a text that was tested to be empty
 pub no_bytes : {empty : Bool} (bytes : List ℕ) → empty ≡ (length bytes == 0) → empty ≡ true → bytes ≡ []
@@ -33,11 +33,11 @@ no_bytes bytes e k = nil_from_length bytes (eqb-true (length bytes) 0 (sym e ∙
 -- a line that was put where nothing waited, and written
 pub line_sent : {W : Type 0} (state : W → TargetState) (r : Result (Unit {0}) DeviceFault) (line : List ℕ) {text : List ℕ} (old new : Output W)
     → text ≡ line → old.pending.items ≡ []
-    → (has_fault (state old.target.now) ≡ false → (looks : ℕ) → WritesOrRefuses r [] 0 0
+    → (has_fault (state old.target.now) ≡ false → (looks : ℕ) → WritesOrRefuses r [] 0
     (pending_state (state old.target.now) text looks) (output_state state new looks))
     → Delivers state r line old new
 line_sent state r line old new e none then = λ works looks.
-    then_sent _ _ _ _ _ _ _ (waits _ (e ∙ ap (λ p. p ++ line) (sym none)) works) (then works looks)
+    then_sent _ _ _ _ _ _ (waits _ (e ∙ ap (λ p. p ++ line) (sym none)) works) (then works looks)
 
 -- what is written of a search, by what it found
 pub same_count : {least : Option ℕ} (found : Option ℕ) (count solutions nodes : ℕ) {looks : ℕ} → least ≡ found → count ≡ solutions → nodes ≡ looks
@@ -48,76 +48,74 @@ same_count found count solutions nodes e f h =
 -- the same text with the looks that were made before it
 
 module _ {W : Type 0} (state : W → TargetState) where
-  looked_writes : {text : List ℕ} {looks most_looks before after : ℕ} (now : ℕ) (old new : Output W)
-      → after ≡ before + looks → after ≤ before + most_looks
-      → Writes text 0 0 (output_state state old now) (output_state state new now)
-      → Writes text looks most_looks (output_state state old before) (output_state state new after)
-  looked_writes now old new exact bound w = record {
+  looked_writes : {text : List ℕ} {looks before after : ℕ} (now : ℕ) (old new : Output W)
+      → after ≡ before + looks
+      → Writes text 0 (output_state state old now) (output_state state new now)
+      → Writes text looks (output_state state old before) (output_state state new after)
+  looked_writes now old new exact w = record {
     works = w.works;
     written = record { sent = w.written.sent; whole = w.written.whole; appended = w.written.appended };
     looked = exact;
-    bounded = bound;
   }
 
-  looked_refuses : {text : List ℕ} {looks most_looks before after : ℕ} (now : ℕ) (old new : Output W)
-      → before ≤ after → after ≤ before + looks → after ≤ before + most_looks
-      → Refuses text 0 0 (output_state state old now) (output_state state new now)
-      → Refuses text looks most_looks (output_state state old before) (output_state state new after)
-  looked_refuses now old new rises most bound w =
-      record { refused = w.refused; rises = rises; looked = most; bounded = bound }
+  looked_refuses : {text : List ℕ} {looks before after : ℕ} (now : ℕ) (old new : Output W)
+      → before ≤ after → after ≤ before + looks
+      → Refuses text 0 (output_state state old now) (output_state state new now)
+      → Refuses text looks (output_state state old before) (output_state state new after)
+  looked_refuses now old new rises most w = record { refused = w.refused; rises = rises; looked = most }
 
-  pub reported_after : (r : Result (Unit {0}) DeviceFault) {piece text : List ℕ} (looks most_looks before after : ℕ) (old new : Output W)
-      → piece ≡ text → after ≡ before + looks → after ≤ before + most_looks → Delivers state r piece old new
+  pub reported_after : (r : Result (Unit {0}) DeviceFault) {piece text : List ℕ} (looks before after : ℕ) (old new : Output W)
+      → piece ≡ text → after ≡ before + looks → Delivers state r piece old new
       → has_fault (state old.target.now) ≡ false
-      → WritesOrRefuses r text looks most_looks (output_state state old before) (output_state state new after)
-  reported_after (Ok u) looks most_looks before after old new e exact bound d works =
-      subst (λ t. Writes t looks most_looks (output_state state old before) (output_state state new after)) e
-      (looked_writes _ old new exact bound (d works after))
-  reported_after (Err x) looks most_looks before after old new e exact bound d works =
-      subst (λ t. Refuses t looks most_looks (output_state state old before) (output_state state new after)) e
-      (looked_refuses _ old new (omega (arith, exact)) (omega (arith, exact)) bound (d works after))
+      → WritesOrRefuses r text looks (output_state state old before) (output_state state new after)
+  reported_after (Ok u) looks before after old new e exact d works =
+      subst (λ t. Writes t looks (output_state state old before) (output_state state new after)) e
+      (looked_writes _ old new exact (d works after))
+  reported_after (Err x) looks before after old new e exact d works =
+      subst (λ t. Refuses t looks (output_state state old before) (output_state state new after)) e
+      (looked_refuses _ old new (omega (arith, exact)) (omega (arith, exact)) (d works after))
 
   -- the lines of the paths are taken one after the other
   module _ (line : List Turn → List ℕ) (took refused : Output W → List Turn → Output W → Type 0)
       (wrote : (a : Output W) (p : List Turn) (b : Output W) → took a p b → TakesLine state (line p) a b)
       (cut : (a : Output W) (p : List Turn) (b : Output W) → refused a p b → RefusesLine state (line p) a b) where
     walk_writes : (ps : List (List Turn)) (a b : Output W) (looks : ℕ) → has_fault (state a.target.now) ≡ false → WentThrough took a ps b
-        → Writes (flat_map line ps) 0 0 (output_state state a looks) (output_state state b looks)
+        → Writes (flat_map line ps) 0 (output_state state a looks) (output_state state b looks)
     walk_writes [] a b looks works h =
-        subst (λ k. Writes [] 0 0 (output_state state a looks) (output_state state k looks)) h (writes_nothing _ works)
+        subst (λ k. Writes [] 0 (output_state state a looks) (output_state state k looks)) h (writes_nothing _ works)
     walk_writes (p ∷ ps) a b looks works h =
         let one = (wrote a p h.0 h.1.0).1 works looks in
         writes_more one (walk_writes ps h.0 b looks one.works h.1.1)
 
     stop_writes : (ps : List (List Turn)) (a b : Output W) (looks : ℕ) → has_fault (state a.target.now) ≡ false → StoppedIn took refused a ps b
-        → Refuses (flat_map line ps) 0 0 (output_state state a looks) (output_state state b looks)
+        → Refuses (flat_map line ps) 0 (output_state state a looks) (output_state state b looks)
     stop_writes [] a b looks works h = absurd h
     stop_writes (p ∷ ps) a b looks works (inl h) =
-        refuses_front _ (omega arith) (omega arith) ((cut a p b h).1 works looks)
+        refuses_front _ (omega arith) ((cut a p b h).1 works looks)
     stop_writes (p ∷ ps) a b looks works (inr h) =
         let one = (wrote a p h.0 h.1.0).1 works looks in
         refuses_more one (stop_writes ps h.0 b looks one.works h.1.1)
 
-    pub found_all : (ps : List (List Turn)) (a b : Output W) {looks most_looks before : ℕ} (after : ℕ) → has_fault (state a.target.now) ≡ false
-        → WentThrough took a ps b → after ≡ before + looks → after ≤ before + most_looks
-        → Writes (flat_map line ps) looks most_looks (output_state state a before) (output_state state b after)
-    found_all ps a b after works h exact bound =
-        looked_writes after a b exact bound (walk_writes _ _ _ _ works h)
+    pub found_all : (ps : List (List Turn)) (a b : Output W) {looks before : ℕ} (after : ℕ) → has_fault (state a.target.now) ≡ false
+        → WentThrough took a ps b → after ≡ before + looks
+        → Writes (flat_map line ps) looks (output_state state a before) (output_state state b after)
+    found_all ps a b after works h exact =
+        looked_writes after a b exact (walk_writes _ _ _ _ works h)
 
-    pub found_some : (ps : List (List Turn)) (rest : List ℕ) (a b : Output W) {looks most_looks before : ℕ} (after : ℕ) → has_fault (state a.target.now) ≡ false
-        → StoppedIn took refused a ps b → before ≤ after → after ≤ before + looks → after ≤ before + most_looks
-        → Refuses (flat_map line ps ++ rest) looks most_looks (output_state state a before) (output_state state b after)
-    found_some ps rest a b after works h rises most bound =
-        refuses_front _ (omega arith) (omega arith)
-        (looked_refuses after a b rises most bound (stop_writes _ _ _ _ works h))
+    pub found_some : (ps : List (List Turn)) (rest : List ℕ) (a b : Output W) {looks before : ℕ} (after : ℕ) → has_fault (state a.target.now) ≡ false
+        → StoppedIn took refused a ps b → before ≤ after → after ≤ before + looks
+        → Refuses (flat_map line ps ++ rest) looks (output_state state a before) (output_state state b after)
+    found_some ps rest a b after works h rises most =
+        refuses_front _ (omega arith)
+        (looked_refuses after a b rises most (stop_writes _ _ _ _ works h))
 
-    pub unsolved : (n : ℕ) (ps : List (List Turn)) (a b : Output W) (looks most_looks before after : ℕ) → has_fault (state a.target.now) ≡ false
-        → StoppedIn took refused a ps b → before ≤ after → after ≤ before + looks → after ≤ before + most_looks
-        → Refuses (flat_map line ps ++ none_line n (length ps) ++ line_feed ∷ []) looks most_looks (output_state state a before) (output_state state b after)
-    unsolved n ps a b looks most_looks before after works h rises most bound =
-        subst (λ t. Refuses t looks most_looks (output_state state a before) (output_state state b after))
+    pub unsolved : (n : ℕ) (ps : List (List Turn)) (a b : Output W) (looks before after : ℕ) → has_fault (state a.target.now) ≡ false
+        → StoppedIn took refused a ps b → before ≤ after → after ≤ before + looks
+        → Refuses (flat_map line ps ++ none_line n (length ps) ++ line_feed ∷ []) looks (output_state state a before) (output_state state b after)
+    unsolved n ps a b looks before after works h rises most =
+        subst (λ t. Refuses t looks (output_state state a before) (output_state state b after))
         (sym (append_assoc (flat_map line ps) (none_line n (length ps)) (line_feed ∷ [])))
-        (found_some _ _ _ _ _ works h rises most bound)
+        (found_some _ _ _ _ _ works h rises most)
 
     pub nothing_waits : (ps : List (List Turn)) (a b : Output W) → StoppedIn took refused a ps b → b.pending.items ≡ []
     nothing_waits [] a b h = absurd h
@@ -125,12 +123,12 @@ module _ {W : Type 0} (state : W → TargetState) where
     nothing_waits (p ∷ ps) a b (inr h) = nothing_waits ps h.0 b h.1.1
 
   -- the solutions, and what stands after them
-  pub solved : (r : Result (Unit {0}) DeviceFault) (n : ℕ) {count : ℕ} (solutions : List (List Turn)) (piece : List ℕ) (looks most_looks before after : ℕ) (a b c : Output W)
+  pub solved : (r : Result (Unit {0}) DeviceFault) (n : ℕ) {count : ℕ} (solutions : List (List Turn)) (piece : List ℕ) (looks before after : ℕ) (a b c : Output W)
       → count ≡ length solutions → piece ≡ none_line n count ++ line_feed ∷ []
-      → Writes (flat_map solution_line solutions) looks most_looks (output_state state a before) (output_state state b after)
+      → Writes (flat_map solution_line solutions) looks (output_state state a before) (output_state state b after)
       → Delivers state r piece b c
-      → WritesOrRefuses r (solve_text n solutions) looks most_looks (output_state state a before) (output_state state c after)
-  solved r n solutions piece looks most_looks before after a b c e f p d = by_answer _ d
+      → WritesOrRefuses r (solve_text n solutions) looks (output_state state a before) (output_state state c after)
+  solved r n solutions piece looks before after a b c e f p d = by_answer _ d
     where
       whole : flat_map solution_line solutions ++ piece ≡ solve_text n solutions
       whole =
@@ -138,6 +136,6 @@ module _ {W : Type 0} (state : W → TargetState) where
           ∙ sym (append_assoc (flat_map solution_line solutions) (none_line n (length solutions)) (line_feed ∷ []))
 
       by_answer : (r : Result (Unit {0}) DeviceFault) → Delivers state r piece b c
-          → WritesOrRefuses r (solve_text n solutions) looks most_looks (output_state state a before) (output_state state c after)
-      by_answer (Ok u) d = writes_as whole (omega arith) (omega arith) (writes_more p (d p.works after))
-      by_answer (Err x) d = refuses_as whole (omega arith) (omega arith) (refuses_more p (d p.works after))
+          → WritesOrRefuses r (solve_text n solutions) looks (output_state state a before) (output_state state c after)
+      by_answer (Ok u) d = writes_as whole (omega arith) (writes_more p (d p.works after))
+      by_answer (Err x) d = refuses_as whole (omega arith) (refuses_more p (d p.works after))

@@ -11,46 +11,43 @@ use Rattle.niss_shell.proofs.StateLemmas.{writes_more, writes_as, refuses_more, 
 -- what waits is written, or a write of it is refused
 pub all_sent : (r : Result (Unit {0}) DeviceFault) (pending piece rest : List ℕ) (a b : TargetState) (looks : ℕ)
     → piece ≡ pending → rest ≡ [] → OnOk r (Appended a b piece) → OnOk r (has_fault b ≡ has_fault a) → OnErr r (WriteRefused piece a b)
-    → has_fault a ≡ false → WritesOrRefuses r [] 0 0 (pending_state a pending looks) (pending_state b rest looks)
+    → has_fault a ≡ false → WritesOrRefuses r [] 0 (pending_state a pending looks) (pending_state b rest looks)
 all_sent (Ok u) pending piece rest a b looks e f whole same refused works = record {
   works = same ∙ works;
   written = record { sent = pending; whole = ap (λ v. pending ++ v) f; appended = subst (λ t. Appended a b t) e whole };
   looked = omega arith;
-  bounded = omega arith;
 }
 all_sent (Err x) pending piece rest a b looks e f whole same refused works = record {
   refused = subst (λ t. WriteRefused t a b) (e ∙ sym (append-nil pending)) refused;
   rises = omega arith;
   looked = omega arith;
-  bounded = omega arith;
 }
 
 -- a text waits after what waited
 pub waits : {text pending rest : List ℕ} (a : TargetState) {looks : ℕ} → rest ≡ pending ++ text → has_fault a ≡ false
-    → Writes text 0 0 (pending_state a pending looks) (pending_state a rest looks)
+    → Writes text 0 (pending_state a pending looks) (pending_state a rest looks)
 waits a e works = record {
   works = works;
   written = record { sent = []; whole = e; appended = appended_nothing a };
   looked = omega arith;
-  bounded = omega arith;
 }
 
 -- what waits is written after a text
 
-pub then_sent : {T : Type 0} (r : Result T DeviceFault) (text : List ℕ) (looks most_looks : ℕ) (a b c : AnswerState)
-    → Writes text looks most_looks a b → WritesOrRefuses r [] 0 0 b c → WritesOrRefuses r text looks most_looks a c
-then_sent (Ok u) text looks most_looks a b c p q = writes_as (append-nil text) (omega arith) (omega arith) (writes_more p q)
-then_sent (Err x) text looks most_looks a b c p q = refuses_as (append-nil text) (omega arith) (omega arith) (refuses_more p q)
+pub then_sent : {T : Type 0} (r : Result T DeviceFault) (text : List ℕ) (looks : ℕ) (a b c : AnswerState)
+    → Writes text looks a b → WritesOrRefuses r [] 0 b c → WritesOrRefuses r text looks a c
+then_sent (Ok u) text looks a b c p q = writes_as (append-nil text) (omega arith) (writes_more p q)
+then_sent (Err x) text looks a b c p q = refuses_as (append-nil text) (omega arith) (refuses_more p q)
 
 -- what waits is written after lines that were taken, or a write of it is refused
 
 pub lines_sent : {f : LineAnswers} {n : ℕ} {lines : List (List ℕ)} {a b c : AnswerState}
-    → AllAnswered f n lines a b → Writes [] 0 0 b c → AllAnswered f n lines a c
+    → AllAnswered f n lines a b → Writes [] 0 b c → AllAnswered f n lines a c
 lines_sent x q = record {
   faultless = x.faultless;
-  writes = writes_as (append-nil _) (omega arith) (omega arith) (writes_more x.writes q);
+  writes = writes_as (append-nil _) (omega arith) (writes_more x.writes q);
 }
 
 pub lines_unsent : {f : LineAnswers} {n : ℕ} {lines : List (List ℕ)} {a b c : AnswerState}
-    → AllAnswered f n lines a b → Refuses [] 0 0 b c → RefusesAnswers f lines a c
-lines_unsent x q = refuses_as (append-nil _) (omega arith) (omega arith) (refuses_more x.writes q)
+    → AllAnswered f n lines a b → Refuses [] 0 b c → RefusesAnswers f lines a c
+lines_unsent x q = refuses_as (append-nil _) (omega arith) (refuses_more x.writes q)

@@ -1,17 +1,23 @@
 -- From what was read and written to what a run says of it.
-use Rattle.std.proofs.Common.{◌≡◌, ◌≢◌, ℕ, ◌+◌, ◌≤◌, ◌<◌, Bool, true, false, ◌||◌, not, if◌then◌else◌, Option, Some, None, Result, Ok, Err, List, [], ◌∷◌, ◌++◌, length, refl, sym, ap, ◌∙◌, subst, append-nil, add-zero, arith}
-use Rattle.std.specs.Prelude.{OnOk, OnErr, IfSome, nat_lt, nat_le, flat_map}
+use Rattle.std.proofs.Common.{◌≡◌, ◌≢◌, ℕ, get_or, ◌+◌, ◌≤◌, ◌<◌, Bool, true, false, ◌||◌, not, if◌then◌else◌, Option, Some, None, Result, Ok, Err, List, [], ◌∷◌, ◌++◌, length, refl, sym, ap, ◌∙◌, subst, append-nil, add-zero, arith}
+use Rattle.std.specs.Prelude.{OnOk, OnErr, IfSome, nat_lt, nat_le, flat_map, sum_by}
+use Rattle.std.proofs.Math.Nat.{mul_comm}
+use Rattle.std.proofs.lemmas.List.Sums.{sum_by-le}
 use Rattle.std.proofs.lemmas.Grind.{common_steps}
 use Rattle.rand_pcg.specs.Lcg.{Lcg}
 use Rattle.niss_shell.specs.Device.{SourceState, TargetState, has_fault, Appended, Flushes, WriteRefused}
 use Rattle.niss_shell.specs.Scrambles.{generator_of, scramble_text}
 use Rattle.niss_shell.specs.Words.{limit, Request, OnLines, ListSteps, DrawScrambles, request_of, reads_source, has_step, joined}
-use Rattle.niss_shell.specs.Output.{Answer, Ending, More, End, Fail, ending, stop_at_end, line_answers, answer_lines, answer_request, unsearched, step_line, stop_of, out_of, error_text, status_of}
-use Rattle.niss_cube.specs.Steps.{steps}
+use Rattle.niss_shell.specs.Output.{Answer, Ending, More, End, Fail, ending, stop_at_end, answer, line_looks, looks_at, most_line_looks, complete_lines, line_answers, answer_lines, answer_request, unsearched, step_line, stop_of, out_of, error_text, status_of}
+use Rattle.niss_cube.specs.Steps.{steps, turns_of}
+use Rattle.niss_moves.specs.Line.{Moves}
+use Rattle.niss_moves.specs.Reader.{read_line}
+use Rattle.niss_shell.specs.Lines.{answered_lines}
 use Rattle.niss_shell.specs.Engine.{AnswerState, pending_state, AnswersSource, Answers, Writes, Refuses, EndsUnflushed, RunsUnflushed, flushed_stop, FlushesLast}
 use Rattle.niss_shell.specs.Job.{IsInput}
 use Rattle.niss_shell.specs.Run.{Devices, devices, OutputRefused, EndsByFault, Ends, ReportsError, Looked, Runs}
-use Rattle.niss_shell.specs.Names.{DeviceFault, UsageFault, LineCommand, LineFault, Stop, Done, Usage, InputTooLong, CannotWrite, OutOfMemory}
+use Rattle.niss_shell.specs.Names.{DeviceFault, UsageFault, LineCommand, Rewrite, Search, LineFault, ReadFault, Stop, Done, Usage, InputTooLong, CannotWrite, OutOfMemory}
+use Rattle.niss_search.specs.Laws.{LooksWithinBound}
 use Rattle.niss_shell.proofs.DeviceLemmas.{appended_then, appended_after_failure, gave_nothing, fault_of_write, no_write_fault, no_flush_fault}
 use Rattle.niss_shell.proofs.StateLemmas.{writes_nothing, all_sent}
 use Rattle.niss_shell.proofs.AnswerLemmas.{short_test, long_test, choose_false, choose_true}
@@ -46,9 +52,9 @@ reported text (Err x) a b e whole refused unflushed = record {
 
 -- no answer is that memory was refused
 
-either_stop : (c : Bool) (x y : Stop) → x ≢ OutOfMemory → y ≢ OutOfMemory → (if c then x else y) ≢ OutOfMemory
-either_stop true x y p q = p
-either_stop false x y p q = q
+either : {A : Type 0} (P : A → Type 0) (c : Bool) (x y : A) → P x → P y → P (if c then x else y)
+either P true x y p q = p
+either P false x y p q = q
 
 end_stop : (m : Ending) → stop_at_end m ≢ OutOfMemory
 end_stop Fail = λ e. cc e
@@ -57,7 +63,7 @@ end_stop More = λ e. cc e
 
 no_stop_of_memory : (o : Option (ℕ × LineFault)) (input : List ℕ) (m : Ending) → stop_of o input m ≢ OutOfMemory
 no_stop_of_memory (Some fault) input m = λ e. cc e
-no_stop_of_memory None input m = either_stop (nat_lt limit (length input)) InputTooLong (stop_at_end m) (λ e. cc e) (end_stop m)
+no_stop_of_memory None input m = either (λ stop. stop ≢ OutOfMemory) (nat_lt limit (length input)) InputTooLong (stop_at_end m) (λ e. cc e) (end_stop m)
 
 ends_of_answers : (a : Answer) (asked : Result Request UsageFault) (stop : Stop) (source source_now : SourceState) (h i : AnswerState)
     → a.stop ≢ OutOfMemory → Answers a stop h i → EndsUnflushed stop a asked source source_now h i
@@ -175,7 +181,7 @@ ends_done a asked d e h i false at none none_now w whole flush = record {
 }
 
 ends_by_fault : (a : Answer) (d e : Devices) {h : AnswerState} (i : AnswerState) {stop : Stop} {f : Bool}
-    → h.target ≡ d.output → h.pending ≡ [] → i.pending ≡ [] → (stop ≡ a.stop) × Writes a.output a.looks a.most_looks h i → Flushes f i.target e.output
+    → h.target ≡ d.output → h.pending ≡ [] → i.pending ≡ [] → (stop ≡ a.stop) × Writes a.output a.looks h i → Flushes f i.target e.output
     → EndsByFault stop a d e
 ends_by_fault a d e i at none none_now w flush = record {
   fault = sym w.0;
@@ -184,7 +190,7 @@ ends_by_fault a d e i at none none_now w flush = record {
 }
 
 ends_refused : (a : Answer) {asked : Result Request UsageFault} (d e : Devices) (h i : AnswerState) {f : Bool}
-    → h.target ≡ d.output → h.pending ≡ [] → Refuses a.output a.looks a.most_looks h i → Flushes f i.target e.output
+    → h.target ≡ d.output → h.pending ≡ [] → Refuses a.output a.looks h i → Flushes f i.target e.output
     → OutputRefused a asked d e
 ends_refused a d e h i at none w flush =
     let r : WriteRefused a.output h.target i.target = subst (λ p. WriteRefused (p ++ a.output) h.target i.target) none w.refused in
@@ -243,11 +249,34 @@ looked_flushed a asked OutOfMemory source source_now h i j w flush = w.2.looked 
 looked_flushed a asked stop source source_now h i j w flush =
     exact_looks stop j.write_failed a.looks h.looks i.looks (λ e. cc e) (flush.write_failed ∙ no_write_fault i.target w.1.works) w.1.looked
 
+-- what is due takes no more looks than it may
+
+abbrev IsWithin : Answer → Type 0
+IsWithin due = due.looks ≤ due.most_looks
+
+module _ (law : LooksWithinBound) where
+  line_within : (command : LineCommand) (read : Result Moves ReadFault) → looks_at command read ≤ most_line_looks command
+  line_within (Rewrite rewriting) (Ok line) = omega arith
+  line_within (Search query) (Ok line) = law (turns_of query.step) _ _ query.limit query.slack
+  line_within command (Err fault) = omega arith
+
+  lines_within : (command : LineCommand) (input : List ℕ) (m : Ending) → IsWithin (answer_lines (line_answers command) input m)
+  lines_within command input m =
+      let lines = answered_lines (answer command) (complete_lines input m) in
+      subst (λ n. sum_by (line_looks command) lines ≤ n) (mul_comm (length lines) (most_line_looks command))
+      (sum_by-le _ _ lines (λ k d lt. line_within command (read_line (get_or lines k d))))
+
+  answer_within : (asked : Result Request UsageFault) (input : List ℕ) (m : Ending) → IsWithin (answer_request asked input m)
+  answer_within (Ok (OnLines command [])) input m = lines_within command input m
+  answer_within (Ok (OnLines command (word ∷ words))) input m =
+      either IsWithin (nat_lt limit (length (joined (word ∷ words)))) _ _ (omega arith) (lines_within command (joined (word ∷ words)) End)
+  answer_within _ input m = omega arith
+
 bounded_looks : (a : Answer) (asked : Result Request UsageFault) (stop : Stop) (source source_now : SourceState) (h i : AnswerState)
-    → EndsUnflushed stop a asked source source_now h i → i.looks ≤ h.looks + a.most_looks
-bounded_looks a asked CannotWrite source source_now h i w = w.bounded
-bounded_looks a asked OutOfMemory source source_now h i w = omega (arith, w.2.bounded)
-bounded_looks a asked _ source source_now h i w = w.1.bounded
+    → IsWithin a → EndsUnflushed stop a asked source source_now h i → i.looks ≤ h.looks + a.most_looks
+bounded_looks a asked CannotWrite source source_now h i within w = omega (arith, w.looked, within)
+bounded_looks a asked OutOfMemory source source_now h i within w = omega (arith, w.2.looked)
+bounded_looks a asked _ source source_now h i within w = omega (arith, w.1.looked, within)
 
 flushes_worked : (a : Answer) (asked : Result Request UsageFault) (stop : Stop) (source source_now : SourceState) (h i : AnswerState)
     → has_fault h.target ≡ false → EndsUnflushed stop a asked source source_now h i → i.target.flush_failed ≡ false
@@ -265,12 +294,12 @@ one_flush : {asked : Result Request UsageFault} {stop stop_now : Stop} {a b : So
 one_flush works x flush = not_flushed _ _ _ flush.flush.flushed
     (flush.flush.flush_failed ∙ ap (λ v. v || flush.refused) (flushes_worked _ _ _ _ _ _ _ works x.ends))
 
-pub runs_flushed : (words : List (List ℕ)) {status : ℕ} (stop stop_now : Stop) (a b : SourceState) (h : TargetState) {i : TargetState} (j : TargetState) {p q : List ℕ} (k l : TargetState) (looks looks_now : ℕ)
+pub runs_flushed : LooksWithinBound → (words : List (List ℕ)) {status : ℕ} (stop stop_now : Stop) (a b : SourceState) (h : TargetState) {i : TargetState} (j : TargetState) {p q : List ℕ} (k l : TargetState) (looks looks_now : ℕ)
     → has_fault h ≡ false → p ≡ [] → q ≡ [] → RunsUnflushed (request_of words) stop a b (pending_state h p looks) (pending_state i q looks_now)
     → (reads_source (request_of words) ≡ false → b ≡ a) → FlushesLast stop stop_now i j
     → ReportsError (error_text stop_now) k l → status ≡ status_of stop_now
     → Runs words (devices a h k) (devices b j l) looks looks_now status
-runs_flushed words stop stop_now a b h j k l looks looks_now works none none_now x unread flush reports answers =
+runs_flushed law words stop stop_now a b h j k l looks looks_now works none none_now x unread flush reports answers =
     record {
       input = x.input;
       gave = x.gave;
@@ -282,7 +311,7 @@ runs_flushed words stop stop_now a b h j k l looks looks_now works none none_now
       one_flush = one_flush works x flush;
       looked = subst (λ v. Looked v j.write_failed (out_of words x.input b).looks looks looks_now) (sym flush.stop_is)
           (looked_flushed _ _ _ _ _ _ _ _ x.ends flush.flush);
-      within_bound = bounded_looks _ _ _ _ _ _ _ x.ends;
+      within_bound = bounded_looks _ _ _ _ _ _ _ (answer_within law (request_of words) x.input (ending b)) x.ends;
       reports = reports;
       answers = answers;
     }

@@ -51,24 +51,24 @@ text_front turns i count g h =
 
 -- what an output takes of it
 
-pub none_written : (turns : ℕ) (g : Lcg) {a : AnswerState} → has_fault a.target ≡ false → Writes (scramble_text turns 0 g) 0 0 a a
+pub none_written : (turns : ℕ) (g : Lcg) {a : AnswerState} → has_fault a.target ≡ false → Writes (scramble_text turns 0 g) 0 a a
 none_written turns g works = writes_nothing _ works
 
 pub written_more : (turns i : ℕ) (g : Lcg) (line : List ℕ) (a b c : AnswerState)
-    → line ≡ turns_line (scramble turns g i) → Writes (scramble_text turns i g) 0 0 a b → Writes line 0 0 b c
-    → Writes (scramble_text turns (i + 1) g) 0 0 a c
+    → line ≡ turns_line (scramble turns g i) → Writes (scramble_text turns i g) 0 a b → Writes line 0 b c
+    → Writes (scramble_text turns (i + 1) g) 0 a c
 written_more turns i g line a b c e p q =
-    writes_as (ap (λ l. scramble_text turns i g ++ l) e ∙ sym (text_more _ _ _)) refl refl (writes_more p q)
+    writes_as (ap (λ l. scramble_text turns i g ++ l) e ∙ sym (text_more _ _ _)) refl (writes_more p q)
 
 pub all_written : (turns : ℕ) {i count : ℕ} (g : Lcg) (a b : AnswerState) → i ≡ count
-    → Writes (scramble_text turns i g) 0 0 a b → Writes (scramble_text turns count g) 0 0 a b
-all_written turns g a b e w = subst (λ n. Writes (scramble_text turns n g) 0 0 a b) e w
+    → Writes (scramble_text turns i g) 0 a b → Writes (scramble_text turns count g) 0 a b
+all_written turns g a b e w = subst (λ n. Writes (scramble_text turns n g) 0 a b) e w
 
 pub refused_line : (turns i count : ℕ) (g : Lcg) {line : List ℕ} {a b c : AnswerState}
-    → i < count → line ≡ turns_line (scramble turns g i) → Writes (scramble_text turns i g) 0 0 a b → Refuses line 0 0 b c
-    → Refuses (scramble_text turns count g) 0 0 a c
+    → i < count → line ≡ turns_line (scramble turns g i) → Writes (scramble_text turns i g) 0 a b → Refuses line 0 b c
+    → Refuses (scramble_text turns count g) 0 a c
 refused_line turns i count g h e p q =
     let rest = flat_map turns_line (drop (i + 1) (scrambles turns count g)) in
     refuses_as
-    (ap (λ l. (scramble_text turns i g ++ l) ++ rest) e ∙ ap (λ t. t ++ rest) (sym (text_more turns i g)) ∙ text_front turns (i + 1) count g (omega arith)) refl refl
-    (refuses_front _ (omega arith) (omega arith) (refuses_more p q))
+    (ap (λ l. (scramble_text turns i g ++ l) ++ rest) e ∙ ap (λ t. t ++ rest) (sym (text_more turns i g)) ∙ text_front turns (i + 1) count g (omega arith)) refl
+    (refuses_front _ (omega arith) (refuses_more p q))

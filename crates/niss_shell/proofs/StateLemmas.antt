@@ -1,5 +1,5 @@
 -- How what is written and looked at adds up.
-use Rattle.std.proofs.Common.{◌≡◌, ℕ, ◌+◌, ◌*◌, ◌≤◌, false, List, [], ◌++◌, length, sym, ap, ◌∙◌, subst, append_assoc, append-nil, length-append, mul-add, arith}
+use Rattle.std.proofs.Common.{◌≡◌, ℕ, ◌+◌, ◌≤◌, false, List, [], ◌++◌, sym, ap, ◌∙◌, subst, append_assoc, append-nil, length-append, arith}
 use Rattle.std.specs.Prelude.{sum_by, flat_map}
 use Rattle.std.proofs.lemmas.Grind.{flat_map-append}
 use Rattle.std.proofs.lemmas.List.Sums.{sum_by-append}
@@ -10,12 +10,11 @@ use Rattle.niss_shell.specs.Engine.{AnswerState, TakesIn, Writes, Refuses}
 use Rattle.niss_shell.proofs.DeviceLemmas.{appended_nothing, appended_more, no_flush_fault}
 
 -- Nothing was written, and nothing looked at.
-pub writes_nothing : (a : AnswerState) → has_fault a.target ≡ false → Writes [] 0 0 a a
+pub writes_nothing : (a : AnswerState) → has_fault a.target ≡ false → Writes [] 0 a a
 writes_nothing a works = record {
   works = works;
   written = record { sent = []; whole = sym (append-nil a.pending); appended = appended_nothing a.target };
   looked = omega arith;
-  bounded = omega arith;
 }
 
 -- what was sent, and what was sent after it
@@ -36,12 +35,11 @@ all_sent text a b e f p =
     subst (λ t. Appended a.target b.target t)
     (sym (append-nil p.sent) ∙ ap (λ v. p.sent ++ v) (sym f) ∙ p.whole ∙ ap (λ v. v ++ text) e) p.appended
 
-pub writes_more : {x y : List ℕ} {l m k n : ℕ} {a b c : AnswerState} → Writes x l m a b → Writes y k n b c → Writes (x ++ y) (l + k) (m + n) a c
+pub writes_more : {x y : List ℕ} {l k : ℕ} {a b c : AnswerState} → Writes x l a b → Writes y k b c → Writes (x ++ y) (l + k) a c
 writes_more p q = record {
   works = q.works;
   written = taken_more _ _ _ _ _ p.works p.written q.written;
   looked = omega (arith, p.looked, q.looked);
-  bounded = omega (arith, p.bounded, q.bounded);
 }
 
 cut_more : (part xs : List ℕ) {ys : List ℕ} → IsCut part ys → IsCut (xs ++ part) (xs ++ ys)
@@ -69,40 +67,36 @@ refused_front ys q = record {
   flushes_work = q.flushes_work;
 }
 
-pub refuses_more : {x y : List ℕ} {l m k n : ℕ} {a b c : AnswerState} → Writes x l m a b → Refuses y k n b c → Refuses (x ++ y) (l + k) (m + n) a c
+pub refuses_more : {x y : List ℕ} {l k : ℕ} {a b c : AnswerState} → Writes x l a b → Refuses y k b c → Refuses (x ++ y) (l + k) a c
 refuses_more {x = x} {y = y} {a = a} {b = b} {c = c} p q = record {
   refused = subst (λ t. WriteRefused t a.target c.target)
       (sym (append_assoc p.written.sent b.pending y) ∙ ap (λ v. v ++ y) p.written.whole ∙ append_assoc a.pending x y)
       (refused_more _ _ _ _ p.works p.written.appended q.refused);
   rises = omega (arith, p.looked, q.rises);
   looked = omega (arith, p.looked, q.looked);
-  bounded = omega (arith, p.bounded, q.bounded);
 }
 
-pub refuses_front : {x : List ℕ} (y : List ℕ) {l m k n : ℕ} {a c : AnswerState} → l ≤ k → m ≤ n → Refuses x l m a c → Refuses (x ++ y) k n a c
-refuses_front {x = x} y {a = a} {c = c} p q r = record {
+pub refuses_front : {x : List ℕ} (y : List ℕ) {l k : ℕ} {a c : AnswerState} → l ≤ k → Refuses x l a c → Refuses (x ++ y) k a c
+refuses_front {x = x} y {a = a} {c = c} p r = record {
   refused = subst (λ t. WriteRefused t a.target c.target) (append_assoc a.pending x y) (refused_front _ r.refused);
   rises = r.rises;
   looked = omega (arith, r.looked, p);
-  bounded = omega (arith, r.bounded, q);
 }
 
 -- the same where the text and the numbers are known by equations
 
-pub writes_as : {x y : List ℕ} {l m k n : ℕ} {a b : AnswerState} → x ≡ y → l ≡ k → m ≡ n → Writes x l m a b → Writes y k n a b
-writes_as {a = a} {b = b} e f g p = record {
+pub writes_as : {x y : List ℕ} {l k : ℕ} {a b : AnswerState} → x ≡ y → l ≡ k → Writes x l a b → Writes y k a b
+writes_as {a = a} {b = b} e f p = record {
   works = p.works;
   written = subst (λ t. TakesIn t a b) e p.written;
   looked = omega (arith, p.looked, f);
-  bounded = omega (arith, p.bounded, g);
 }
 
-pub refuses_as : {x y : List ℕ} {l m k n : ℕ} {a b : AnswerState} → x ≡ y → l ≡ k → m ≡ n → Refuses x l m a b → Refuses y k n a b
-refuses_as {a = a} {b = b} e f g p = record {
+pub refuses_as : {x y : List ℕ} {l k : ℕ} {a b : AnswerState} → x ≡ y → l ≡ k → Refuses x l a b → Refuses y k a b
+refuses_as {a = a} {b = b} e f p = record {
   refused = subst (λ t. WriteRefused (a.pending ++ t) a.target b.target) e p.refused;
   rises = p.rises;
   looked = omega (arith, p.looked, f);
-  bounded = omega (arith, p.bounded, g);
 }
 
 -- lines that are answered, and more lines
@@ -111,26 +105,23 @@ abbrev text_at : LineAnswers → List ℕ → List ℕ
 text_at f line = text_of (f.answer_of line)
 
 abbrev pub WritesLines : LineAnswers → List (List ℕ) → AnswerState → AnswerState → Type 0
-WritesLines f lines old new = Writes (flat_map (text_at f) lines) (sum_by f.looks_of lines) (f.most_looks * length lines) old new
+WritesLines f lines old new = Writes (flat_map (text_at f) lines) (sum_by f.looks_of lines) old new
 
 abbrev pub RefusesLines : LineAnswers → List (List ℕ) → AnswerState → AnswerState → Type 0
-RefusesLines f lines old new = Refuses (flat_map (text_at f) lines) (sum_by f.looks_of lines) (f.most_looks * length lines) old new
+RefusesLines f lines old new = Refuses (flat_map (text_at f) lines) (sum_by f.looks_of lines) old new
 
 module _ (f : LineAnswers) (xs ys : List (List ℕ)) where
-  most_more : f.most_looks * length (xs ++ ys) ≡ f.most_looks * length xs + f.most_looks * length ys
-  most_more = ap (λ n. f.most_looks * n) (length-append xs ys) ∙ mul-add f.most_looks (length xs) (length ys)
-
   pub lines_written : {a b c : AnswerState} → WritesLines f xs a b → WritesLines f ys b c → WritesLines f (xs ++ ys) a c
   lines_written p q =
-      writes_as (sym (flat_map-append (text_at f) xs ys)) (sym (sum_by-append f.looks_of xs ys)) (sym most_more) (writes_more p q)
+      writes_as (sym (flat_map-append (text_at f) xs ys)) (sym (sum_by-append f.looks_of xs ys)) (writes_more p q)
 
   pub lines_refused : {a b c : AnswerState} → WritesLines f xs a b → RefusesLines f ys b c → RefusesLines f (xs ++ ys) a c
   lines_refused p q =
-      refuses_as (sym (flat_map-append (text_at f) xs ys)) (sym (sum_by-append f.looks_of xs ys)) (sym most_more) (refuses_more p q)
+      refuses_as (sym (flat_map-append (text_at f) xs ys)) (sym (sum_by-append f.looks_of xs ys)) (refuses_more p q)
 
   -- a write that was refused before more lines
   pub lines_cut : {a c : AnswerState} → RefusesLines f xs a c → RefusesLines f (xs ++ ys) a c
   lines_cut {a = a} {c = c} p =
       let looks : sum_by f.looks_of (xs ++ ys) ≡ sum_by f.looks_of xs + sum_by f.looks_of ys = sum_by-append f.looks_of xs ys in
-      subst (λ t. Refuses t (sum_by f.looks_of (xs ++ ys)) (f.most_looks * length (xs ++ ys)) a c) (sym (flat_map-append (text_at f) xs ys))
-      (refuses_front _ (omega (arith, looks)) (omega (arith, most_more)) p)
+      subst (λ t. Refuses t (sum_by f.looks_of (xs ++ ys)) a c) (sym (flat_map-append (text_at f) xs ys))
+      (refuses_front _ (omega (arith, looks)) p)

@@ -69,11 +69,11 @@ pub block_whole : {f : LineAnswers} (bytes : List ℕ) (n : ℕ) {p q : Progress
 block_whole {f = f} bytes n {p = p} {q = q} {r = r} {h = h} {i = i} fits x = subst (λ v. TakesNext f v p q r h i) (take_all n bytes fits) x
 
 pub block_sent : {f : LineAnswers} {bytes : List ℕ} {p q : Progress} {h i j : AnswerState}
-    → TakesNext f bytes p q (Ok tt) h i → Writes [] 0 0 i j → TakesNext f bytes p q (Ok tt) h j
+    → TakesNext f bytes p q (Ok tt) h i → Writes [] 0 i j → TakesNext f bytes p q (Ok tt) h j
 block_sent x w = record { takes = λ front at. let y = x.takes front at in (lines_sent y.0 w, y.1) }
 
 pub block_unsent : {f : LineAnswers} {bytes : List ℕ} {p q : Progress} {h i j : AnswerState}
-    → TakesNext f bytes p q (Ok tt) h i → Refuses [] 0 0 i j → TakesNext f bytes p q (Err CannotWrite) h j
+    → TakesNext f bytes p q (Ok tt) h i → Refuses [] 0 i j → TakesNext f bytes p q (Err CannotWrite) h j
 block_unsent x w = record { takes = λ front at. lines_unsent (x.takes front at).0 w }
 
 -- the end of an input
@@ -86,11 +86,11 @@ pub last_line : {f : LineAnswers} {p : Progress} {r : Result (Unit {0}) Stop} {o
 last_line some answers = record { takes = λ front at. takes_last_line _ _ _ _ _ at some (answers front at) }
 
 pub last_sent : {f : LineAnswers} {p : Progress} {h i j : AnswerState}
-    → TakesLast f p (Ok tt) h i → Writes [] 0 0 i j → TakesLast f p (Ok tt) h j
+    → TakesLast f p (Ok tt) h i → Writes [] 0 i j → TakesLast f p (Ok tt) h j
 last_sent x w = record { takes = λ front at. lines_sent (x.takes front at) w }
 
 pub last_unsent : {f : LineAnswers} {p : Progress} {h i j : AnswerState}
-    → TakesLast f p (Ok tt) h i → Refuses [] 0 0 i j → TakesLast f p (Err CannotWrite) h j
+    → TakesLast f p (Ok tt) h i → Refuses [] 0 i j → TakesLast f p (Err CannotWrite) h j
 last_unsent x w = record { takes = λ front at. lines_unsent (x.takes front at) w }
 
 -- what lines take that keep their work

@@ -5,7 +5,7 @@ use Rattle.niss_shell.specs.Lines.{ended_lines, last_part, written_text, first_f
 use Rattle.niss_moves.specs.Line.{Moves}
 use Rattle.niss_moves.specs.Reader.{Reader, IsFed}
 use Rattle.niss_shell.specs.Words.{Request, reads_source, takes_memory}
-use Rattle.niss_shell.specs.Output.{Answer, LineAnswers, answer_to_moves, looks_at_moves, most_line_looks, looks_for, most_looks_for, answer_lines, answer_request, line_with_bytes, ending}
+use Rattle.niss_shell.specs.Output.{Answer, LineAnswers, answer_to_moves, looks_at_moves, looks_for, answer_lines, answer_request, line_with_bytes, ending}
 use Rattle.niss_shell.specs.Names.{LineCommand, UsageFault, DeviceFault, LineFault, Stop, Done, Line, CannotWrite, OutOfMemory, Output}
 
 -- What answers to lines change: the target that they are written to, the answers that wait to be written to it, and the
@@ -22,60 +22,64 @@ pending_state target pending looks = record { target = target; pending = pending
 abbrev pub output_state : {W : Type 0} → (W → TargetState) → Output W → ℕ → AnswerState
 output_state state output looks = pending_state (state output.target.now) output.pending.items looks
 
+-- A run may begin: the source can be read, the target works, no answer waits, and the meter has room for the looks of a run.
+pub record MayBegin (source : SourceState) (state : AnswerState) : Type 0 where
+  pub reads : source.has_failed ≡ false
+  pub goes_on : source.has_ended ≡ false
+  pub works : has_fault state.target ≡ false
+  pub empty : state.pending ≡ []
+  pub room : state.looks ≤ 2 ^ 64
+
 -- A text was taken after what waited: some of these bytes went out, and the others wait now.
 pub record TakesIn (text : List ℕ) (old new : AnswerState) : Type 0 where
   pub sent : List ℕ
   pub whole : sent ++ new.pending ≡ old.pending ++ text
   pub appended : Appended old.target new.target sent
 
--- A text was written or waits, with so many looks, of which there may be so many at most.
-pub record Writes (text : List ℕ) (looks most_looks : ℕ) (old new : AnswerState) : Type 0 where
+-- A text was written or waits, with so many looks.
+pub record Writes (text : List ℕ) (looks : ℕ) (old new : AnswerState) : Type 0 where
   pub works : has_fault new.target ≡ false
   pub written : TakesIn text old new
   pub looked : new.looks ≡ old.looks + looks
-  pub bounded : new.looks ≤ old.looks + most_looks
 
 -- A write was refused before all of the text was written, with no more looks than the text takes.
-pub record Refuses (text : List ℕ) (looks most_looks : ℕ) (old new : AnswerState) : Type 0 where
+pub record Refuses (text : List ℕ) (looks : ℕ) (old new : AnswerState) : Type 0 where
   pub refused : WriteRefused (old.pending ++ text) old.target new.target
   pub rises : old.looks ≤ new.looks
   pub looked : new.looks ≤ old.looks + looks
-  pub bounded : new.looks ≤ old.looks + most_looks
 
 -- The text was written, or a write of it was refused.
 abbrev pub WritesOrRefuses :
-    {T : Type 0} → Result T DeviceFault → List ℕ → ℕ → ℕ → AnswerState → AnswerState → Type 0
-WritesOrRefuses (Ok x) text looks most_looks old new = Writes text looks most_looks old new
-WritesOrRefuses (Err e) text looks most_looks old new = Refuses text looks most_looks old new
+    {T : Type 0} → Result T DeviceFault → List ℕ → ℕ → AnswerState → AnswerState → Type 0
+WritesOrRefuses (Ok x) text looks old new = Writes text looks old new
+WritesOrRefuses (Err e) text looks old new = Refuses text looks old new
 
 -- An output that worked took a text: it was written or waits, or a write of what waited and of it was refused.
 abbrev pub Delivers :
     {W T : Type 0} → (W → TargetState) → Result T DeviceFault → List ℕ → Output W → Output W → Type 0
 Delivers state result text old new =
     has_fault (state old.target.now) ≡ false → (looks : ℕ) →
-    WritesOrRefuses result text 0 0 (output_state state old looks) (output_state state new looks)
+    WritesOrRefuses result text 0 (output_state state old looks) (output_state state new looks)
 
 -- An output took a text, and nothing waits. One that worked took it whole, or refused a write of what waited and of the
 -- text.
 abbrev pub TakesLine : {W : Type 0} → (W → TargetState) → List ℕ → Output W → Output W → Type 0
 TakesLine state text old new =
     (new.pending.items ≡ []) × (has_fault (state old.target.now) ≡ false → (looks : ℕ) →
-    Writes text 0 0 (output_state state old looks) (output_state state new looks))
+    Writes text 0 (output_state state old looks) (output_state state new looks))
 
 abbrev pub RefusesLine : {W : Type 0} → (W → TargetState) → List ℕ → Output W → Output W → Type 0
 RefusesLine state text old new =
     (new.pending.items ≡ []) × (has_fault (state old.target.now) ≡ false → (looks : ℕ) →
-    Refuses text 0 0 (output_state state old looks) (output_state state new looks))
+    Refuses text 0 (output_state state old looks) (output_state state new looks))
 
 -- the answers to these lines, up to the first fault, were written
 abbrev pub WritesAnswers : LineAnswers → List (List ℕ) → AnswerState → AnswerState → Type 0
-WritesAnswers f lines old new =
-    Writes (written_text f.answer_of lines) (looks_for f lines) (most_looks_for f lines) old new
+WritesAnswers f lines old new = Writes (written_text f.answer_of lines) (looks_for f lines) old new
 
 -- a write of them was refused
 abbrev pub RefusesAnswers : LineAnswers → List (List ℕ) → AnswerState → AnswerState → Type 0
-RefusesAnswers f lines old new =
-    Refuses (written_text f.answer_of lines) (looks_for f lines) (most_looks_for f lines) old new
+RefusesAnswers f lines old new = Refuses (written_text f.answer_of lines) (looks_for f lines) old new
 
 -- None of the lines has a fault, and all answers are written.
 pub record AllAnswered (f : LineAnswers) (n : ℕ) (lines : List (List ℕ))
@@ -138,28 +142,26 @@ pub record TakesLast (f : LineAnswers) (before : Progress)
     (result : Result (Unit {0}) Stop) (old new : AnswerState) : Type 0 where
   pub takes : (front : List ℕ) → IsFed before.reader front → TakesEnd f front before.line result old new
 
--- One line was answered, which takes so many looks, and at most so many.
+-- One line was answered, which takes so many looks.
 abbrev pub AnswersLine :
-    Result (List ℕ) LineFault → ℕ → ℕ → ℕ → Result (Unit {0}) Stop → AnswerState → AnswerState → Type 0
-AnswersLine (Ok text) looks most_looks n (Ok u) old new = Writes text looks most_looks old new
-AnswersLine (Ok text) looks most_looks n (Err stop) old new =
-    (stop ≡ CannotWrite) × Refuses text looks most_looks old new
-AnswersLine (Err fault) looks most_looks n (Ok u) old new = ⊥
-AnswersLine (Err fault) looks most_looks n (Err stop) old new =
-    ((stop ≡ Line n fault) × Writes [] 0 0 old new) ⊎ ((stop ≡ CannotWrite) × Refuses [] 0 0 old new)
+    Result (List ℕ) LineFault → ℕ → ℕ → Result (Unit {0}) Stop → AnswerState → AnswerState → Type 0
+AnswersLine (Ok text) looks n (Ok u) old new = Writes text looks old new
+AnswersLine (Ok text) looks n (Err stop) old new = (stop ≡ CannotWrite) × Refuses text looks old new
+AnswersLine (Err fault) looks n (Ok u) old new = ⊥
+AnswersLine (Err fault) looks n (Err stop) old new =
+    ((stop ≡ Line n fault) × Writes [] 0 old new) ⊎ ((stop ≡ CannotWrite) × Refuses [] 0 old new)
 
 -- the same of the moves of a line, by a command
 abbrev pub AnswersMoves :
     LineCommand → Moves → ℕ → Result (Unit {0}) Stop → AnswerState → AnswerState → Type 0
 AnswersMoves command line n result old new =
-    AnswersLine (answer_to_moves command line) (looks_at_moves command line) (most_line_looks command) n result
-    old new
+    AnswersLine (answer_to_moves command line) (looks_at_moves command line) n result old new
 
 -- the same of a line by its bytes
 abbrev pub AnswersBytes :
     LineAnswers → List ℕ → ℕ → Result (Unit {0}) Stop → AnswerState → AnswerState → Type 0
 AnswersBytes f bytes n result old new =
-    AnswersLine (f.answer_of bytes) (f.looks_of bytes) f.most_looks n result old new
+    AnswersLine (f.answer_of bytes) (f.looks_of bytes) n result old new
 
 -- The looks before line n leave room for those of the rest of a run: at most 2 ^ 64 before the first line, and less
 -- than 2 ^ 93 at each.
@@ -176,8 +178,8 @@ pub record IsAt (f : LineAnswers) (count : ℕ) (progress : Progress)
 
 -- what a run does before its last flush, where a write may be refused
 abbrev pub Answers : Answer → Stop → AnswerState → AnswerState → Type 0
-Answers a CannotWrite old new = Refuses a.output a.looks a.most_looks old new
-Answers a stop old new = (stop ≡ a.stop) × Writes a.output a.looks a.most_looks old new
+Answers a CannotWrite old new = Refuses a.output a.looks old new
+Answers a stop old new = (stop ≡ a.stop) × Writes a.output a.looks old new
 
 -- The source was read as far as needed, and its lines answered.
 pub record AnswersSource (f : LineAnswers) (stop : Stop)
@@ -191,7 +193,7 @@ pub record AnswersSource (f : LineAnswers) (stop : Stop)
 abbrev pub EndsUnflushed :
     Stop → Answer → Result Request UsageFault → SourceState → SourceState → AnswerState → AnswerState → Type 0
 EndsUnflushed OutOfMemory a asked source source_now old new =
-    (takes_memory asked ≡ true) × (source_now ≡ source) × Writes [] 0 0 old new
+    (takes_memory asked ≡ true) × (source_now ≡ source) × Writes [] 0 old new
 EndsUnflushed stop a asked source source_now old new = Answers a stop old new
 
 -- What a run does before its last flush.

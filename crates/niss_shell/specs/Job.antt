@@ -1,13 +1,13 @@
 -- What a command on lines has for its run.
 use Rattle.std.specs.Prelude.{◌≡◌, ℕ, ◌<◌, ◌≤◌, Option, Some, None, List, length}
-use Rattle.niss_shell.specs.Words.{limit, joined, search_command}
-use Rattle.niss_shell.specs.Names.{LineCommand, Rewrite, Work}
+use Rattle.niss_shell.specs.Words.{limit, joined}
+use Rattle.niss_shell.specs.Names.{LineCommand, Rewrite, Search, Work}
 use Rattle.niss_shell.specs.declared.job.Work.TheVariants as work
 
 -- the command of the work on lines
 abbrev pub command_of : {A : Type 0} → Work A → LineCommand
 command_of (work.Rewrite rewriting) = Rewrite rewriting
-command_of (work.Search search) = search_command search.report search.tables search.limit search.slack
+command_of (work.Search search) = Search search.query
 
 -- The words are the input, joined, or there are none.
 abbrev pub IsInput : {T : Type 0} → (T → List ℕ) → Option T → List (List ℕ) → Type 0

@@ -5,6 +5,7 @@ pub use Rattle.niss_shell.specs.declared.command.Rewriting.{Rewriting}
 pub use Rattle.niss_shell.specs.declared.command.Rewriting.TheVariants.{Invert, Unniss, Cleanup, Print}
 pub use Rattle.niss_shell.specs.declared.command.Report.{Report}
 pub use Rattle.niss_shell.specs.declared.command.Report.TheVariants.{Solutions, Counts}
+pub use Rattle.niss_shell.specs.declared.command.Query.{Query}
 pub use Rattle.niss_shell.specs.declared.command.LineCommand.{LineCommand}
 pub use Rattle.niss_shell.specs.declared.command.LineCommand.TheVariants.{Rewrite, Search}
 pub use Rattle.niss_shell.specs.declared.command.Command.{Command}

@@ -46,33 +46,27 @@ abbrev pub search_command : Report → Step → (n slack : ℕ) → LineCommand
 search_command report step n slack =
     Search (record { report = report; step = step; limit = n; slack = slack })
 
--- the same where the step and the number are known
-abbrev pub search_for : Report → Option Step → Option ℕ → List (List ℕ) → Result Request UsageFault
-search_for report None most rest = Err UnknownStep
-search_for report (Some step) None rest = Err BadNumber
-search_for report (Some step) (Some n) rest = Ok (OnLines (search_command report step n 0) rest)
+-- the request for it, where the step and both numbers are known
+abbrev pub search_request :
+    Report → Option Step → (most slack : Option ℕ) → List (List ℕ) → Result Request UsageFault
+search_request report None most slack rest = Err UnknownStep
+search_request report (Some step) (Some n) (Some w) rest = Ok (OnLines (search_command report step n w) rest)
+search_request report (Some step) _ _ rest = Err BadNumber
 
--- the same from its words: the step, the number, and the words that are the input
+-- a search without slack from its words: the step, the greatest number, and the words that are the input
 abbrev pub search_words : Report → List (List ℕ) → Result Request UsageFault
 search_words report [] = Err WrongCount
 search_words report (step ∷ []) = Err WrongCount
 search_words report (step ∷ most ∷ rest) =
-    search_for report (step_named step) (number_of most_limit most) rest
+    search_request report (step_named step) (number_of most_limit most) (Some 0) rest
 
--- a search with a slack, where the step and the numbers are known
-abbrev pub near_for : Option Step → Option ℕ → Option ℕ → List (List ℕ) → Result Request UsageFault
-near_for None most slack rest = Err UnknownStep
-near_for (Some step) None slack rest = Err BadNumber
-near_for (Some step) (Some n) None rest = Err BadNumber
-near_for (Some step) (Some n) (Some w) rest = Ok (OnLines (search_command Solutions step n w) rest)
-
--- the same from its words: the step, the greatest number, the slack, and the words that are the input
+-- a search with a slack from its words: the step, the greatest number, the slack, and the words that are the input
 abbrev pub near_words : List (List ℕ) → Result Request UsageFault
 near_words [] = Err WrongCount
 near_words (step ∷ []) = Err WrongCount
 near_words (step ∷ most ∷ []) = Err WrongCount
 near_words (step ∷ most ∷ slack ∷ rest) =
-    near_for (step_named step) (number_of most_limit most) (number_of most_limit slack) rest
+    search_request Solutions (step_named step) (number_of most_limit most) (number_of most_limit slack) rest
 
 -- the most turns of a scramble, the most scrambles, and the greatest state and stream of a generator
 abbrev pub most_turns : ℕ

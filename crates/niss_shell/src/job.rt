@@ -1,13 +1,12 @@
 //! A command on lines with all that its run takes memory for, taken before the first byte is read or written.
-ghost use Rattle.std.specs.Prelude.{◌≡◌, ◌<◌, ◌≤◌, ◌^◌, ◌++◌, true, false, Ok, List, [], ℕ, map, flat_map, string_bytes, length};
+ghost use Rattle.std.specs.Prelude.{◌≡◌, ◌<◌, ◌≤◌, ◌++◌, true, false, Ok, List, [], ℕ, map, flat_map, string_bytes, length};
 ghost use Rattle.std.specs.Prelude.{OnOk, OnErr, IfOk, IfErr, IfSome, MatchOption};
-ghost use Rattle.niss_shell.specs.Device.{has_fault};
 ghost use Rattle.niss_shell.specs.Words.{limit, joined, spaced_word, has_step, reads_source, OnLines};
-ghost use Rattle.niss_shell.specs.Engine.{RunsUnflushed, EndsAtOnce, output_state, stop_unless};
+ghost use Rattle.niss_shell.specs.Engine.{MayBegin, RunsUnflushed, EndsAtOnce, output_state, stop_unless};
 ghost use Rattle.niss_shell.specs.Job.{IsInput, command_of};
 ghost use Rattle.niss_shell.specs.Names.{Done};
 
-use crate::command::{LineCommand, LineRequest, Query, Rewriting};
+use crate::command::{LineCommand, LineRequest, Rewriting};
 use crate::device::{Source, Target};
 use crate::lines::{LIMIT, Lines};
 use crate::output::Output;
@@ -88,22 +87,10 @@ impl<A: Allocator> Work<A> {
     {
         match command {
             LineCommand::Rewrite(rewriting) => Ok(Work::Rewrite(rewriting)),
-            LineCommand::Search(
-                Query {
-                    report,
-                    step,
-                    limit,
-                    slack,
-                },
-            ) => {
+            LineCommand::Search(query) => {
                 // what fills the tables is no look at a line
-                let tables = Tables::build_in(alloc, step, &mut Meter::new())?;
-                Ok(Work::Search(Search {
-                    report,
-                    tables,
-                    limit,
-                    slack,
-                }))
+                let tables = Tables::build_in(alloc, query.step, &mut Meter::new())?;
+                Ok(Work::Search(Search { query, tables }))
             }
         }
     }
@@ -143,11 +130,7 @@ impl<A: Allocator> Job<A> {
         output: &mut Output<W>,
         looks: &mut Meter,
     ) -> Result<(), Stop>
-        requires reads { (R.state source.old).has_failed ≡ false }
-        requires goes_on { (R.state source.old).has_ended ≡ false }
-        requires works { has_fault (W.state output.old.target.now) ≡ false }
-        requires empty { output.old.pending.items ≡ [] }
-        requires meter { looks.old ≤ 2 ^ 64 }
+        requires begins { MayBegin (R.state source.old) (output_state W.state output.old looks.old) }
         requires fits { IfSome self.now.text (λ text. length text.items ≤ limit) }
         ensures same_target { output.new.target.ghost_name ≡ output.old.target.ghost_name }
         ensures runs { (words : List (List ℕ)) → IsInput (λ text. text.items) self.now.text words →
@@ -175,11 +158,7 @@ pub fn answer_lines<A: Allocator + Copy, R: Source, W: Target>(
     output: &mut Output<W>,
     looks: &mut Meter,
 ) -> Result<(), Stop>
-    requires reads { (R.state source.old).has_failed ≡ false }
-    requires goes_on { (R.state source.old).has_ended ≡ false }
-    requires works { has_fault (W.state output.old.target.now) ≡ false }
-    requires empty { output.old.pending.items ≡ [] }
-    requires meter { looks.old ≤ 2 ^ 64 }
+    requires { MayBegin (R.state source.old) (output_state W.state output.old looks.old) }
     ensures same_target { output.new.target.ghost_name ≡ output.old.target.ghost_name }
     ensures runs { RunsUnflushed
         (Ok (OnLines request.entry.command (map string_bytes request.entry.words.now)))

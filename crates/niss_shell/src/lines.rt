@@ -36,7 +36,7 @@ pub struct Lines<'a, A: Allocator> {
 impl<'a, A: Allocator> Lines<'a, A> {
     ghost use Rattle.niss_shell.specs.Names.{Done};
     ghost use Rattle.niss_moves.specs.Reader.{moves_of};
-    ghost use Rattle.niss_shell.specs.Engine.{AnswersLine, AnswersMoves, AnswersSource, Answers, HasRoom};
+    ghost use Rattle.niss_shell.specs.Engine.{MayBegin, AnswersLine, AnswersMoves, AnswersSource, Answers, HasRoom};
     ghost use Rattle.niss_shell.specs.Engine.{piece_of, only_stop, stop_unless};
     ghost use Rattle.niss_shell.specs.Output.{answer_lines, End};
     ghost use Rattle.niss_shell.specs.Job.{command_of};
@@ -65,8 +65,7 @@ impl<'a, A: Allocator> Lines<'a, A> {
         requires works { has_fault (W.state output.old.target.now) ≡ false }
         ensures keeps { Keeps self.old self.new }
         ensures same_target { output.new.target.ghost_name ≡ output.old.target.ghost_name }
-        ensures refused { (looks most_looks : ℕ) →
-            AnswersLine (Err fault) looks most_looks self.old.line result
+        ensures refused { (looks : ℕ) → AnswersLine (Err fault) looks self.old.line result
             (lines_state W.state output.old self.old) (lines_state W.state output.new self.new) }
         ensures stops { OnOk result ⊥ }
         ensures empty { OnErr result (output.new.pending.items ≡ []) }
@@ -105,11 +104,11 @@ impl<'a, A: Allocator> Lines<'a, A> {
             Work::Search(search) => {
                 counts_and_bounds();
                 // this call shows that the limit is at most 20, which bounds the looks
-                let _at_most_20 = search.limit.get();
+                let _at_most_20 = search.query.limit.get();
                 let Some(position) = start_position(&search.tables, self.reader.moves()) else {
                     return self.refuse(LineFault::NoStart(search.tables.step()), output);
                 };
-                match search.report {
+                match search.query.report {
                     Report::Solutions => Ok(search.solve(&position, output, self.looks)?),
                     Report::Counts => Ok(search.count(&position, output, self.looks)?),
                 }
@@ -221,14 +220,10 @@ impl<'a, A: Allocator> Lines<'a, A> {
         source: &mut S,
         output: &mut Output<W>,
     ) -> Result<(), Stop>
-        requires reads { (S.state source.old).has_failed ≡ false }
-        requires goes_on { (S.state source.old).has_ended ≡ false }
-        requires works { has_fault (W.state output.old.target.now) ≡ false }
-        requires empty { output.old.pending.items ≡ [] }
+        requires begins { MayBegin (S.state source.old) (lines_state W.state output.old self.old) }
         requires reader { IsFed self.old.reader [] }
         requires fed { self.old.reader.fed ≡ 0 }
         requires line { self.old.line ≡ 1 }
-        requires meter { self.old.looks.now ≤ 2 ^ 64 }
         ensures keeps { Keeps self.old self.new }
         ensures same_target { output.new.target.ghost_name ≡ output.old.target.ghost_name }
         ensures answers { AnswersSource (answers_of self.old) (stop_unless result Done)

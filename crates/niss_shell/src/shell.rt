@@ -4,7 +4,7 @@ ghost use Rattle.niss_shell.specs.Words.{request_of, reads_source};
 ghost use Rattle.niss_shell.specs.Output.{error_text, step_line, unsearched};
 ghost use Rattle.niss_cube.specs.Steps.{steps};
 ghost use Rattle.niss_shell.specs.Names.{Done};
-ghost use Rattle.niss_shell.specs.Engine.{Answers, RunsUnflushed, output_state, stop_unless};
+ghost use Rattle.niss_shell.specs.Engine.{MayBegin, Answers, RunsUnflushed, output_state, stop_unless};
 ghost use Rattle.niss_shell.specs.Run.{Runs, ReportsError, devices};
 
 use crate::command::{Command, parse_words};
@@ -18,6 +18,7 @@ use crate::writing::write_all;
 use niss_cube::Step;
 use niss_moves::LineText;
 use niss_search::Meter;
+use niss_search::laws::counts_and_bounds;
 use rand_pcg::Lcg64Xsh32;
 use std::alloc::{Allocator, Global};
 
@@ -46,11 +47,7 @@ fn answer_command<A: Allocator + Copy, R: Source, W: Target>(
     output: &mut Output<W>,
     looks: &mut Meter,
 ) -> Result<(), Stop>
-    requires reads { (R.state source.old).has_failed ≡ false }
-    requires goes_on { (R.state source.old).has_ended ≡ false }
-    requires works { has_fault (W.state output.old.target.now) ≡ false }
-    requires empty { output.old.pending.items ≡ [] }
-    requires meter { looks.old ≤ 2 ^ 64 }
+    requires { MayBegin (R.state source.old) (output_state W.state output.old looks.old) }
     ensures same_target { output.new.target.ghost_name ≡ output.old.target.ghost_name }
     ensures runs { RunsUnflushed (request_of (map string_bytes words.now)) (stop_unless result Done)
         (R.state source.old) (R.state source.new)
@@ -103,6 +100,8 @@ pub fn run_in<A: Allocator + Copy, R: Source, W: Target, E: Target>(
         (devices (R.state input.old) (W.state out.old) (E.state err.old))
         (devices (R.state input.new) (W.state out.new) (E.state err.new)) looks.old looks.new result }
 {
+    // no search looks more often than its bound says
+    counts_and_bounds();
     let mut output = Output::new(out);
     let answered = answer_command(alloc, words, input, &mut output, looks);
     let stop = output.finish(answered);

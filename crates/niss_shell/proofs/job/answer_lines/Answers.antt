@@ -22,9 +22,3 @@ returns-clause-runs g c =
 pub returns-clause-unread : goal.returns-clause-unread
 returns-clause-unread g c = λ given.
     by_words _ _ c.args.request.command _ _ c.in_ok-new.ensures.input given c.answer.ensures.unread
-
-pub answer-requires-clause-reads : goal.answer-requires-clause-reads
-answer-requires-clause-reads g c = c.requires.reads
-
-pub answer-requires-clause-goes_on : goal.answer-requires-clause-goes_on
-answer-requires-clause-goes_on g c = c.requires.goes_on

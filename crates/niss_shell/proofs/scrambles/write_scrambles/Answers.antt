@@ -33,7 +33,7 @@ pub returns-in_err-send-clause-answers : goal.returns-in_err-send-clause-answers
 returns-in_err-send-clause-answers g c =
     let p = err_from_is_err_and c.from_residual-in_err-send.result c.from_residual-in_err-send.ensures.1 in
     let all : c.loop.counter ≡ c.args.count = omega (arith, c.loop-test.false, c.loop.auto.counter-end) in
-    rw (p.1, p.2) (λ looks. then_sent {T = Unit {0}} (Err (record {})) _ _ _ _ _ (output_state g.W.Target.state c.send.new.self looks)
+    rw (p.1, p.2) (λ looks. then_sent {T = Unit {0}} (Err (record {})) _ _ _ _ (output_state g.W.Target.state c.send.new.self looks)
     (all_written _ _ _ _ all (c.loop.invariant.written looks))
     (c.in_err-send.ensures.sent (c.loop.invariant.written looks).works looks))
 
@@ -41,7 +41,7 @@ pub returns-clause-answers : goal.returns-clause-answers
 returns-clause-answers g c = λ looks.
     let all : c.loop.counter ≡ c.args.count = omega (arith, c.loop-test.false, c.loop.auto.counter-end) in (
       refl,
-      then_sent {T = Unit {0}} (Ok tt) (scramble_text c.args.turns c.args.count c.args.rng) 0 0
+      then_sent {T = Unit {0}} (Ok tt) (scramble_text c.args.turns c.args.count c.args.rng) 0
           (output_state g.W.Target.state c.args.output.now looks) (output_state g.W.Target.state c.loop.output looks) (output_state g.W.Target.state c.send.new.self looks)
           (all_written _ _ _ _ all (c.loop.invariant.written looks))
           (c.in_ok-send.ensures.sent (c.loop.invariant.written looks).works looks),

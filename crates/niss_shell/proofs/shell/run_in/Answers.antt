@@ -14,7 +14,7 @@ returns g c =
           (subst (λ t. Runs (map string_bytes c.args.words.now) (devices (g.R.Source.state c.args.input.now) (g.W.Target.state t) (g.E.Target.state c.args.err.now))
           (devices (g.R.Source.state c.answer_command-answered.new.source) (g.W.Target.state c.finish-stop.new.self.target.now) (g.E.Target.state c.report.new.err))
           c.args.looks.now c.answer_command-answered.new.looks c.status.result) c.new-output.ensures.unchanged
-          (runs_flushed _ _ _ _ _ _ _ _ _ _ _ (subst (λ t. has_fault (g.W.Target.state t) ≡ false) (sym c.new-output.ensures.unchanged) c.requires.works)
+          (runs_flushed c.counts_and_bounds.ensures.within _ _ _ _ _ _ _ _ _ _ _ (subst (λ t. has_fault (g.W.Target.state t) ≡ false) (sym c.new-output.ensures.unchanged) c.requires.works)
           c.new-output.ensures.empty c.answer_command-answered.ensures.empty c.answer_command-answered.ensures.runs c.answer_command-answered.ensures.unread
           c.finish-stop.ensures.flushes c.report.ensures c.status.ensures));
     }

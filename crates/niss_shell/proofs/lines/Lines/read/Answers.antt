@@ -10,15 +10,15 @@ pub loop-given-init : goal.loop-given-init
 loop-given-init g c = record {
   keeps = keeps_same;
   same_target = refl;
-  at = at_start _ _ _ c.requires.reader c.requires.line c.requires.works;
-  reads = c.requires.reads;
-  goes_on = c.requires.goes_on;
-  works = c.requires.works;
-  empty = c.requires.empty;
+  at = at_start _ _ _ c.requires.reader c.requires.line c.requires.begins.works;
+  reads = c.requires.begins.reads;
+  goes_on = c.requires.begins.goes_on;
+  works = c.requires.begins.works;
+  empty = c.requires.begins.empty;
   room = omega arith;
   column = omega (arith, c.requires.fed);
   lines = omega (arith, c.requires.line);
-  meter = omega (arith, c.requires.line, c.requires.meter);
+  meter = omega (arith, c.requires.line, c.requires.begins.room);
   block = omega arith;
 }
 

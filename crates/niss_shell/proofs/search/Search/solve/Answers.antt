@@ -17,10 +17,10 @@ returns-in_err-outcome-clause-empty g c =
 
 pub returns-in_err-outcome-clause-reported : goal.returns-in_err-outcome-clause-reported
 returns-in_err-outcome-clause-reported g c =
-    let limit_is : c.new-path.result.limit ≡ c.args.self.now.limit = ap (λ p. p.limit) c.new-path.ensures in
+    let limit_is : c.new-path.result.limit ≡ c.args.self.now.query.limit = ap (λ p. p.limit) c.new-path.ensures in
     let p = err_from_is_err_and c.from_residual.result c.from_residual.ensures.1 in
-    rw (p.1, ← limit_is) (λ e at works. unsolved g.W.Target.state _ _ _ (λ a p b h. h.1) (λ a p b h. h.1) _ _ _ _ _ _ _ _ works
-    (c.in_err-outcome.ensures.err e at) c.in_err-outcome.ensures.rises (c.in_err-outcome.ensures.looks_at_most e at) c.in_err-outcome.ensures.bound)
+    rw (p.1, ← limit_is) (λ e at works. unsolved g.W.Target.state _ _ _ (λ a p b h. h.1) (λ a p b h. h.1) _ _ _ _ _ _ _ works
+    (c.in_err-outcome.ensures.err e at) c.in_err-outcome.ensures.rises (c.in_err-outcome.ensures.looks_at_most e at))
 
 pub returns-clause-same_target : goal.returns-clause-same_target
 returns-clause-same_target g c = c.put.ensures.same_target ∙ walk_keeps _ (λ a p b h. h.0)
@@ -28,11 +28,11 @@ returns-clause-same_target g c = c.put.ensures.same_target ∙ walk_keeps _ (λ 
 
 pub returns-clause-reported : goal.returns-clause-reported
 returns-clause-reported g c =
-    let limit_is : c.new-path.result.limit ≡ c.args.self.now.limit = ap (λ p. p.limit) c.new-path.ensures in
-    rw (← limit_is) (λ e at works. solved g.W.Target.state _ _ _ _ _ _ _ _ c.args.output.now c.search.new.sink c.put.new.self
+    let limit_is : c.new-path.result.limit ≡ c.args.self.now.query.limit = ap (λ p. p.limit) c.new-path.ensures in
+    rw (← limit_is) (λ e at works. solved g.W.Target.state _ _ _ _ _ _ _ c.args.output.now c.search.new.sink c.put.new.self
     (c.in_ok-outcome.ensures.solutions e at) (rw limit_is c.put_end.ensures)
     (found_all g.W.Target.state _ _ (λ a p b. ⊥) (λ a p b h. h.1) (λ a p b h. absurd h) _ _ _ _ works
-    (c.in_ok-outcome.ensures.ok e at) (c.in_ok-outcome.ensures.looks e at) c.in_ok-outcome.ensures.bound)
+    (c.in_ok-outcome.ensures.ok e at) (c.in_ok-outcome.ensures.looks e at))
     c.put.ensures.taken)
 
 pub search-requires-clause-meter : goal.search-requires-clause-meter
@@ -40,8 +40,8 @@ search-requires-clause-meter g c = c.requires.meter
 
 pub returns-in_err-outcome-clause-bound : goal.returns-in_err-outcome-clause-bound
 returns-in_err-outcome-clause-bound g c =
-    let limit_is : c.new-path.result.limit ≡ c.args.self.now.limit = ap (λ p. p.limit) c.new-path.ensures in rw (← limit_is) c.in_err-outcome.ensures.bound
+    let limit_is : c.new-path.result.limit ≡ c.args.self.now.query.limit = ap (λ p. p.limit) c.new-path.ensures in rw (← limit_is) c.in_err-outcome.ensures.bound
 
 pub returns-clause-bound : goal.returns-clause-bound
 returns-clause-bound g c =
-    let limit_is : c.new-path.result.limit ≡ c.args.self.now.limit = ap (λ p. p.limit) c.new-path.ensures in rw (← limit_is) c.in_ok-outcome.ensures.bound
+    let limit_is : c.new-path.result.limit ≡ c.args.self.now.query.limit = ap (λ p. p.limit) c.new-path.ensures in rw (← limit_is) c.in_ok-outcome.ensures.bound
