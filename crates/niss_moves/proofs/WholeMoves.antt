@@ -2,11 +2,13 @@
 use Rattle.std.proofs.Common.{◌≡◌, ℕ, ◌+◌, ◌<◌, refl, ap, sym, ◌∙◌, subst, List, [], ◌∷◌, ◌++◌, length, take, take-add, drop, get_or, append_assoc, Result, Ok, Option, Some, None, arith, length-append, inl, inr, ap₂}
 use mir.Val.{bool_byte}
 use Rattle.std.proofs.lemmas.List.{take_more}
-use Rattle.std.specs.Prelude.{◌==◌, ◌*◌, nat_lt, not, Bool, true, false}
-use Rattle.niss_moves.specs.Letters.{face_letter}
-use Rattle.niss_moves.proofs.Finite.{not_true, every_face, at_face, every_slice, at_slice, every_axis, at_axis}
+use Rattle.std.proofs.lemmas.List.Elements.{All-nil, All-append}
+use Rattle.std.proofs.lemmas.List.Sums.{AllPass-from_list_all}
+use Rattle.std.specs.List.{list_all}
+use Rattle.std.specs.Prelude.{◌≢◌, ◌==◌, ◌*◌, nat_lt, not, Bool, true, false}
+use Rattle.niss_moves.proofs.Finite.{every_face, at_face, every_slice, at_slice, every_axis, at_axis}
 use Rattle.std.proofs.lemmas.Bool.{lt-ltb, eqb-true}
-use Rattle.niss_moves.specs.Notation.{token_of, lower_letter, slice_letter, rotation_letter, base_bytes, Plain, Typographic, Suffix, Nothing, Two, Prime, TwoPrime, suffix_bytes, Blank, Space, Tab, Return, blank_byte}
+use Rattle.niss_moves.specs.Notation.{token_of, base_bytes, Plain, Suffix, Nothing, Two, Prime, TwoPrime, suffix_bytes, Blank, Space, blank_byte}
 use Rattle.niss_moves.specs.Machine.{State, state_or, HasRoom, added, settled, with_last, count, run, and_then, ended, answer_after}
 use Rattle.niss_moves.specs.Reader.{IsFed, line_with, read_line}
 use Rattle.niss_moves.specs.WholeMoves.{IsSuffix, IsMove, BeginsApostrophe, HasNoLineFeed}
@@ -73,34 +75,34 @@ move_run s bytes t e room h =
     ∙ (λ i. Ok (at_fed (here i) (sym h.token_is i) (s.fed + length (sym h.bytes_are i))))
 
 -- no line feed stands in a move
-no_feed_base : (b : Base) → HasNoLineFeed (base_bytes b)
+abbrev has_no_feed : List ℕ → Bool
+has_no_feed bytes = list_all (λ b. not (b == 10)) bytes
+
+no_feed : (bytes : List ℕ) → has_no_feed bytes ≡ true → HasNoLineFeed bytes
+no_feed bytes h k d lt e = cc (AllPass-from_list_all (λ b. not (b == 10)) bytes h k d lt)
+
+no_feed_base : (b : Base) → has_no_feed (base_bytes b) ≡ true
 unfolding every_face every_slice every_axis
-no_feed_base (base.Face f) = (not_true _ (at_face (λ f. not (face_letter f == 10)) refl f), tt)
-no_feed_base (base.Wide f) = (not_true _ (at_face (λ f. not (face_letter f == 10)) refl f), (refl, tt))
-no_feed_base (base.LowerCase f) = (not_true _ (at_face (λ f. not (lower_letter f == 10)) refl f), tt)
-no_feed_base (base.Slice l) = (not_true _ (at_slice (λ l. not (slice_letter l == 10)) refl l), tt)
-no_feed_base (base.Rotation a) = (not_true _ (at_axis (λ a. not (rotation_letter a == 10)) refl a), tt)
+no_feed_base (base.Face f) = at_face (λ f. has_no_feed (base_bytes (base.Face f))) refl f
+no_feed_base (base.Wide f) = at_face (λ f. has_no_feed (base_bytes (base.Wide f))) refl f
+no_feed_base (base.LowerCase f) = at_face (λ f. has_no_feed (base_bytes (base.LowerCase f))) refl f
+no_feed_base (base.Slice l) = at_slice (λ l. has_no_feed (base_bytes (base.Slice l))) refl l
+no_feed_base (base.Rotation a) = at_axis (λ a. has_no_feed (base_bytes (base.Rotation a))) refl a
 
-no_feed_suffix : (x : Suffix) → HasNoLineFeed (suffix_bytes x)
-no_feed_suffix Nothing = tt
-no_feed_suffix Two = (refl, tt)
-no_feed_suffix (Prime Plain) = (refl, tt)
-no_feed_suffix (Prime Typographic) = (refl, (refl, (refl, tt)))
-no_feed_suffix (TwoPrime Plain) = (refl, (refl, tt))
-no_feed_suffix (TwoPrime Typographic) = (refl, (refl, (refl, (refl, tt))))
+no_feed_suffix : (x : Suffix) → has_no_feed (suffix_bytes x) ≡ true
+no_feed_suffix (Prime Plain) = refl
+no_feed_suffix (TwoPrime Plain) = refl
+no_feed_suffix _ = refl
 
-no_feed_blank : (k : Blank) → HasNoLineFeed (blank_byte k ∷ [])
-no_feed_blank Space = (refl, tt)
-no_feed_blank Tab = (refl, tt)
-no_feed_blank Return = (refl, tt)
-
-no_feed_more : (a b : List ℕ) → HasNoLineFeed a → HasNoLineFeed b → HasNoLineFeed (a ++ b)
-no_feed_more [] b h k = k
-no_feed_more (x ∷ a) b h k = (h.0, no_feed_more a b h.1 k)
+no_feed_blank : (k : Blank) → has_no_feed (blank_byte k ∷ []) ≡ true
+no_feed_blank Space = refl
+no_feed_blank _ = refl
 
 no_line_feed : (bytes : List ℕ) (t : Token) → IsMove bytes t → HasNoLineFeed bytes
 no_line_feed bytes t h =
-    subst HasNoLineFeed (sym h.bytes_are) (no_feed_more (base_bytes h.base ++ suffix_bytes h.suffix) _ (no_feed_more (base_bytes h.base) _ (no_feed_base h.base) (no_feed_suffix h.suffix)) (no_feed_blank h.blank))
+    let P : ℕ → Type 0 = λ b. b ≢ 10 in
+    let front = All-append P (base_bytes h.base) _ (no_feed (base_bytes h.base) (no_feed_base h.base)) (no_feed (suffix_bytes h.suffix) (no_feed_suffix h.suffix)) in
+    subst HasNoLineFeed (sym h.bytes_are) (All-append P (base_bytes h.base ++ suffix_bytes h.suffix) _ front (no_feed (blank_byte h.blank ∷ []) (no_feed_blank h.blank)))
 
 -- A line took these bytes as whole moves, and counts them later.
 pub record HasTaken (old new : State) (bytes : List ℕ) : Type 0 where
@@ -113,7 +115,7 @@ pub record HasTaken (old new : State) (bytes : List ℕ) : Type 0 where
 pub taken_none : (p : State) → p.last ≡ last.Finished → HasRoom p → HasTaken p p []
 taken_none p e room =
     let sum : p.fed ≡ p.fed + 0 = omega arith in
-    record { runs = ap (λ n. Ok (record p { fed = n })) sum; uncounted = refl; finished = e; room = room; inside = tt }
+    record { runs = ap (λ n. Ok (record p { fed = n })) sum; uncounted = refl; finished = e; room = room; inside = All-nil (λ b. b ≢ 10) }
 
 taken_more : (old mid new : State) (a b : List ℕ) (t : Token) → HasTaken old mid a → count mid < 256
     → IsMove b t → new ≡ added mid (Some t) → HasTaken old new (a ++ b)
@@ -129,7 +131,7 @@ taken_more old mid new a b t h few is pushed =
       room =
           let more = count_more mid.bracket mid.normal mid.bracketed (t ∷ []) in
           subst (λ (s : State). HasRoom s) (sym pushed) (omega (arith, more, few));
-      inside = no_feed_more a b h.inside (no_line_feed b t is);
+      inside = All-append (λ b. b ≢ 10) a b h.inside (no_line_feed b t is);
     }
 
 -- a move of a piece of the bytes

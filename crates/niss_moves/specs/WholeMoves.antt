@@ -1,5 +1,5 @@
 -- Moves that are read at once.
-use Rattle.std.specs.Prelude.{ℕ, ◌≡◌, ◌==◌, ◌<◌, ◌⊎◌, false, List, [], ◌∷◌, ◌++◌, take}
+use Rattle.std.specs.Prelude.{ℕ, ◌≡◌, ◌≢◌, ◌<◌, ◌⊎◌, List, [], ◌∷◌, ◌++◌, take, All}
 use Rattle.niss_moves.specs.Notation.{token_of, base_bytes, Apostrophe, apostrophe_bytes}
 use Rattle.niss_moves.specs.Notation.{Suffix, suffix_bytes, suffix_power, Blank, blank_byte}
 use Rattle.niss_moves.specs.Names.{Power, Token, Base}
@@ -24,5 +24,4 @@ pub record IsMove (bytes : List ℕ) (token : Token) : Type 0 where
 
 -- no byte is a line feed
 abbrev pub HasNoLineFeed : List ℕ → Type 0
-HasNoLineFeed [] = Unit {0}
-HasNoLineFeed (b ∷ bs) = ((b == 10) ≡ false) × HasNoLineFeed bs
+HasNoLineFeed bytes = All (λ b. b ≢ 10) bytes

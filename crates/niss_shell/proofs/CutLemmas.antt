@@ -4,7 +4,8 @@ use Rattle.std.specs.Prelude.{All, flat_map}
 use Rattle.std.proofs.lemmas.Bool.{ne_eqb, eqb-true}
 use Rattle.std.proofs.lemmas.List.Elements.{All-nil, All-cons, All-head, All-tail, All-push}
 use Rattle.niss_shell.specs.Lines.{ended_lines, last_part}
-use Rattle.niss_shell.specs.LinesLaws.{HasNoLineFeed, line_to_feed, IsCutInto, TextIsCut, OneCut}
+use Rattle.niss_moves.specs.WholeMoves.{HasNoLineFeed}
+use Rattle.niss_shell.specs.LinesLaws.{line_to_feed, IsCutInto, TextIsCut, OneCut}
 
 no_feed_after : {b : ℕ} → (b == 10) ≡ false → b ≢ 10
 no_feed_after e h = cc (e, ap (λ n. n == 10) h)
@@ -38,7 +39,7 @@ pub text_is_cut : TextIsCut
 text_is_cut text = cut_after [] text (All-nil (λ n. n ≢ 10))
 
 -- bytes that are no line feed only move to the front
-ended_after : (front part bs : List ℕ) → HasNoLineFeed part → ended_lines front (part ++ bs) ≡ ended_lines (front ++ part) bs
+pub ended_after : (front part bs : List ℕ) → HasNoLineFeed part → ended_lines front (part ++ bs) ≡ ended_lines (front ++ part) bs
 unfolding ended_lines
 ended_after front [] bs h = ap (λ v. ended_lines v bs) (sym (append-nil front))
 ended_after front (b ∷ part) bs h =
@@ -46,7 +47,7 @@ ended_after front (b ∷ part) bs h =
     ∙ ended_after (front ++ b ∷ []) part bs (All-tail (λ n. n ≢ 10) b part h)
     ∙ ap (λ v. ended_lines v bs) (append_assoc front (b ∷ []) part)
 
-last_after : (front part bs : List ℕ) → HasNoLineFeed part → last_part front (part ++ bs) ≡ last_part (front ++ part) bs
+pub last_after : (front part bs : List ℕ) → HasNoLineFeed part → last_part front (part ++ bs) ≡ last_part (front ++ part) bs
 unfolding last_part
 last_after front [] bs h = ap (λ v. last_part v bs) (sym (append-nil front))
 last_after front (b ∷ part) bs h =

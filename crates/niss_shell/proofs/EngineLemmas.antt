@@ -1,9 +1,10 @@
 -- How the engine's steps join.
-use Rattle.std.proofs.Common.{◌≡◌, ℕ, ◌+◌, ◌<◌, ◌≤◌, take, drop, get_or, false, if◌then◌else◌, None, Result, Ok, Err, List, [], ◌∷◌, ◌++◌, length, inl, inr, refl, sym, ap, ◌∙◌, subst, append-nil, append_assoc, length-append, arith}
+use Rattle.std.proofs.Common.{◌≡◌, ◌≢◌, ℕ, ◌+◌, ◌<◌, ◌≤◌, take, drop, get_or, false, None, Result, Ok, Err, List, [], ◌∷◌, ◌++◌, length, inl, inr, refl, sym, ap, ◌∙◌, subst, append-nil, length-append, arith}
 use Rattle.std.specs.Prelude.{OnOk}
 use Rattle.std.specs.List.{between}
 use Rattle.std.proofs.lemmas.Slice.{between_to_end}
 use Rattle.std.proofs.lemmas.List.{take_more, take-append-drop, length-drop}
+use Rattle.std.proofs.lemmas.List.Elements.{All-nil}
 use Rattle.niss_shell.specs.Device.{has_fault}
 use Rattle.niss_shell.specs.Lines.{ended_lines, last_part, text_of, answered_lines, lines_before, first_fault, fault_before}
 use Rattle.std.proofs.Math.Seq.{take-add}
@@ -12,6 +13,7 @@ use Rattle.niss_moves.specs.Reader.{Reader, IsFed}
 use Rattle.niss_shell.specs.Output.{LineAnswers}
 use Rattle.niss_shell.specs.Engine.{AnswerState, Progress, Writes, WritesAnswers, Refuses, RefusesAnswers, AllAnswered, StopsWithin, TakesBytes, AnswersLine, AnswersBytes}
 use Rattle.niss_shell.specs.Names.{LineFault, Stop, Line, CannotWrite}
+use Rattle.niss_shell.proofs.CutLemmas.{ended_after, last_after}
 use Rattle.niss_shell.proofs.StateLemmas.{writes_nothing, writes_as, refuses_as, WritesLines, RefusesLines, lines_written, lines_refused, lines_cut}
 use Rattle.niss_shell.proofs.LinesLemmas.{ended_lines-append, last_part-append, first_fault-append, first_fault-stays, answered_lines-append, answered_lines-stays, answered_lines-front}
 
@@ -93,13 +95,11 @@ answered_none works = record { faultless = refl; writes = writes_as refl refl (w
 -- bytes inside a line
 inside_ended : (front xs : List ℕ) → HasNoLineFeed xs → ended_lines front xs ≡ []
 unfolding ended_lines
-inside_ended front [] h = refl
-inside_ended front (b ∷ xs) h = ap (λ c. if c then front ∷ ended_lines [] xs else ended_lines (front ++ b ∷ []) xs) h.0 ∙ inside_ended (front ++ b ∷ []) xs h.1
+inside_ended front xs h = ap (λ v. ended_lines front v) (sym (append-nil xs)) ∙ ended_after front xs [] h
 
 inside_last : (front xs : List ℕ) → HasNoLineFeed xs → last_part front xs ≡ front ++ xs
 unfolding last_part
-inside_last front [] h = sym (append-nil front)
-inside_last front (b ∷ xs) h = ap (λ c. if c then last_part [] xs else last_part (front ++ b ∷ []) xs) h.0 ∙ inside_last (front ++ b ∷ []) xs h.1 ∙ append_assoc front (b ∷ []) xs
+inside_last front xs h = ap (λ v. last_part front v) (sym (append-nil xs)) ∙ last_after front xs [] h
 
 pub takes_inside : (f : LineAnswers) (front xs : List ℕ) (n : ℕ) (q : Progress) (out : AnswerState) (u : Unit {0})
     → HasNoLineFeed xs → IsFed q.reader (front ++ xs) → q.line ≡ n → has_fault out.target ≡ false
@@ -115,7 +115,7 @@ takes_inside f front xs n q out u h reader line works = (
 pub takes_none : (f : LineAnswers) (front : List ℕ) (n : ℕ) (p : Progress) (out : AnswerState) (u : Unit {0})
     → IsFed p.reader front → p.line ≡ n → has_fault out.target ≡ false → TakesBytes f front [] n p (Ok u) out out
 takes_none f front n p out u at line works =
-    takes_inside f front [] n p out u tt (subst (λ v. IsFed p.reader v) (sym (append-nil front)) at) line works
+    takes_inside f front [] n p out u (All-nil (λ b. b ≢ 10)) (subst (λ v. IsFed p.reader v) (sym (append-nil front)) at) line works
 
 -- lines, and more lines
 

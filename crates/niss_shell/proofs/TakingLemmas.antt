@@ -1,8 +1,8 @@
 -- What is taken of an input: bytes inside a line, a line feed, a block piece by piece, and what stands at its end.
 use Rattle.std.proofs.Common.{◌≡◌, ◌≢◌, ℕ, ◌+◌, ◌<◌, ◌≤◌, false, take, drop, get_or, Result, Ok, Err, List, [], ◌∷◌, ◌++◌, length, refl, ap, ◌∙◌, subst}
 use Rattle.std.specs.Prelude.{OnOk}
-use Rattle.std.proofs.lemmas.Bool.{ne_eqb}
 use Rattle.std.proofs.lemmas.List.{take_all}
+use Rattle.std.proofs.lemmas.List.Elements.{All-nil, All-cons}
 use Rattle.niss_moves.specs.Reader.{Reader, IsFed}
 use Rattle.niss_moves.specs.WholeMoves.{HasNoLineFeed}
 use Rattle.niss_shell.specs.Device.{has_fault}
@@ -44,7 +44,7 @@ pub byte_taken : {f : LineAnswers} (bytes : List ℕ) {p q : Progress} {out : An
     → q.line ≡ p.line → has_fault out.target ≡ false → TakesNext f (take 1 bytes) p q (Ok tt) out out
 byte_taken bytes {p = p} {q = q} {out = out} some other fed line works = record {
   takes = λ front at. first_piece _ front bytes p.line q (Ok tt) out out some
-      (takes_inside _ front _ p.line q out tt (ne_eqb _ _ other, tt) (fed front at) line works);
+      (takes_inside _ front _ p.line q out tt (All-cons (λ b. b ≢ 10) _ [] other (All-nil (λ b. b ≢ 10))) (fed front at) line works);
 }
 
 -- a block, piece by piece

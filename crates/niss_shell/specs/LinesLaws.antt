@@ -1,10 +1,7 @@
 -- What holds of the lines of all texts, each proved as the contract of a function.
-use Rattle.std.specs.Prelude.{◌≡◌, ◌≢◌, ℕ, List, [], ◌∷◌, ◌++◌, All, flat_map}
+use Rattle.std.specs.Prelude.{◌≡◌, ℕ, List, [], ◌∷◌, ◌++◌, All, flat_map}
+use Rattle.niss_moves.specs.WholeMoves.{HasNoLineFeed}
 use Rattle.niss_shell.specs.Lines.{line_feed, ended_lines, last_part}
-
--- None of the bytes is a line feed.
-abbrev pub HasNoLineFeed : List ℕ → Type 0
-HasNoLineFeed bytes = All (λ b. b ≢ line_feed) bytes
 
 -- a line, and the line feed that ends it
 abbrev pub line_to_feed : List ℕ → List ℕ
