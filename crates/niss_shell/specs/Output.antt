@@ -16,7 +16,7 @@ use Rattle.niss_moves.specs.Text.{word, with_words}
 use Rattle.niss_search.specs.Cubes.{least_length_of, near_solutions_of, near_looks_of}
 use Rattle.niss_search.specs.Solutions.{look_bound}
 use Rattle.niss_shell.specs.Scrambles.{generator_of, scramble_text}
-use Rattle.niss_shell.specs.Words.{limit, Request, OnLines, ListSteps, DrawScrambles, request_of, joined}
+use Rattle.niss_shell.specs.Words.{most_bytes, Request, OnLines, ListSteps, DrawScrambles, request_of, joined}
 use Rattle.niss_shell.specs.Names.{UsageFault, LineCommand, Rewrite, Search, Report, Solutions, Counts, Rewriting, Invert, Unniss, Cleanup, Print, LineFault, Unread, NoStart, Stop, Done, Line, Usage, InputTooLong, CannotRead, CannotWrite, OutOfMemory, Step, Token, Turn, ReadFault}
 
 -- the name of the step that must hold before this one
@@ -51,8 +51,8 @@ status_of CannotWrite = 3
 status_of OutOfMemory = 3
 
 -- the list that a line stands for: its normal moves, and then the inverse of its bracketed ones
-abbrev pub moves_of : Moves → List Token
-moves_of line = line.normal ++ inverse line.bracketed
+abbrev pub unnissed : Moves → List Token
+unnissed line = line.normal ++ inverse line.bracketed
 
 -- the words with single spaces
 abbrev pub tokens_text : List Token → List ℕ
@@ -60,14 +60,14 @@ tokens_text tokens = with_words [] (map word tokens)
 
 -- what is written for a line without a search, up to the line feed
 abbrev pub line_text : Rewriting → Moves → List ℕ
-line_text Invert line = tokens_text (inverse (moves_of line))
-line_text Unniss line = tokens_text (moves_of line)
+line_text Invert line = tokens_text (inverse (unnissed line))
+line_text Unniss line = tokens_text (unnissed line)
 line_text Cleanup line = with_clean_line [] line
-line_text Print line = letters (effect (moves_of line))
+line_text Print line = letters (effect (unnissed line))
 
 -- the cube of a line, by where it has each sticker: the effect of its face turns, with its rotations pushed to the end
 abbrev pub home : Moves → Place → Place
-home line q = effect_of_turns (faces (moves_of line)) q
+home line q = effect_of_turns (faces (unnissed line)) q
 
 -- the turns with single spaces, and a space after them where there are any
 abbrev pub turns_text : List Turn → List ℕ
@@ -194,12 +194,12 @@ line_with_bytes (b ∷ bytes) = (b ∷ bytes) ∷ []
 
 -- a last line without a line feed counts where it has a byte, at the end of an input that isn't too long
 abbrev pub last_line : Ending → List ℕ → List (List ℕ)
-last_line End input = if nat_lt limit (length input) then [] else line_with_bytes (last_part [] input)
+last_line End input = if nat_lt most_bytes (length input) then [] else line_with_bytes (last_part [] input)
 last_line More input = []
 last_line Fail input = []
 
 abbrev pub complete_lines : List ℕ → Ending → List (List ℕ)
-complete_lines input ended = ended_lines [] (take limit input) ++ last_line ended input
+complete_lines input ended = ended_lines [] (take most_bytes input) ++ last_line ended input
 
 abbrev pub stop_at_end : Ending → Stop
 stop_at_end Fail = CannotRead
@@ -208,7 +208,7 @@ stop_at_end More = Done
 
 abbrev pub stop_of : Option (ℕ × LineFault) → List ℕ → Ending → Stop
 stop_of (Some fault) input ended = Line fault.0 fault.1
-stop_of None input ended = if nat_lt limit (length input) then InputTooLong else stop_at_end ended
+stop_of None input ended = if nat_lt most_bytes (length input) then InputTooLong else stop_at_end ended
 
 -- the answers to the complete lines of an input, up to the first fault
 abbrev pub answer_lines : LineAnswers → List ℕ → Ending → Answer
@@ -223,7 +223,7 @@ answer_lines answers input ended = record {
 abbrev pub answer_on_lines : LineAnswers → List (List ℕ) → List ℕ → Ending → Answer
 answer_on_lines answers [] input ended = answer_lines answers input ended
 answer_on_lines answers (word ∷ words) input ended =
-    if nat_lt limit (length (joined (word ∷ words)))
+    if nat_lt most_bytes (length (joined (word ∷ words)))
     then unsearched [] InputTooLong
     else answer_lines answers (joined (word ∷ words)) End
 

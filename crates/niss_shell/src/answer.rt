@@ -3,7 +3,7 @@ ghost use Rattle.std.specs.Prelude.{◌≡◌, ◌∷◌, ◌++◌, []};
 ghost use Rattle.niss_shell.specs.Lines.{line_feed};
 ghost use Rattle.niss_moves.specs.Effects.{effect};
 ghost use Rattle.niss_moves.specs.Letters.{letters};
-ghost use Rattle.niss_shell.specs.Output.{line_text, moves_of};
+ghost use Rattle.niss_shell.specs.Output.{line_text, unnissed};
 
 use crate::command::Rewriting;
 use crate::text::put_text;
@@ -12,7 +12,7 @@ use niss_moves::{LineText, Niss, put_inverted, put_niss_clean, put_unniss};
 
 /// The facelet text of a line.
 fn facelets_of(line: &Niss) -> [u8; 54]
-    ensures { result ≡ letters (effect (moves_of line.now)) }
+    ensures { result ≡ letters (effect (unnissed line.now)) }
 {
     facelets_after(line.normal(), line.inverse())
 }

@@ -1,5 +1,5 @@
 use Rattle.std.proofs.Common.{◌≡◌, take, length, ◌-◌, ◌∙◌, refl, arith}
-use Rattle.niss_shell.specs.Words.{limit}
+use Rattle.niss_shell.specs.Words.{most_bytes}
 use Rattle.std.proofs.lemmas.Result.{err_from_is_err_and}
 use Rattle.niss_shell.proofs.AnswerLemmas.{length_taken, at_start, at_more, at_failure, at_end, at_limit, at_stop, gave_nothing_of}
 use Rattle.niss_shell.proofs.DeviceLemmas.{is_empty_answer-some, is_empty_answer-none}
@@ -37,7 +37,7 @@ returns-then-given-eq0-clause-answers g c =
 pub returns-in_err-take_block-clause-answers : goal.returns-in_err-take_block-clause-answers
 returns-in_err-take_block-clause-answers g c =
     let p = err_from_is_err_and c.from_residual.result c.from_residual.ensures.1 in
-    rw (p.1, p.2) (at_limit c.in-Ok.given (limit - c.loop-given.count) c.read.new.buf
+    rw (p.1, p.2) (at_limit c.in-Ok.given (most_bytes - c.loop-given.count) c.read.new.buf
     c.loop-given.invariant.at (omega (arith, c.loop-given.invariant.room)) c.if-given-room.true c.in-Ok.ensures.bound
     c.loop-given.invariant.reads c.in-Ok.ensures.bytes c.in-Ok.ensures.failed
     (c.in-Ok.ensures.ended ∙ is_empty_answer-some _ _ c.if-given-eq0.false)
@@ -45,7 +45,7 @@ returns-in_err-take_block-clause-answers g c =
 
 pub returns-then-given-room-clause-answers : goal.returns-then-given-room-clause-answers
 returns-then-given-room-clause-answers g c =
-    at_limit c.in-Ok.given (limit - c.loop-given.count) c.read.new.buf
+    at_limit c.in-Ok.given (most_bytes - c.loop-given.count) c.read.new.buf
     c.loop-given.invariant.at (omega (arith, c.loop-given.invariant.room)) c.if-given-room.true c.in-Ok.ensures.bound
     c.loop-given.invariant.reads c.in-Ok.ensures.bytes c.in-Ok.ensures.failed
     (c.in-Ok.ensures.ended ∙ is_empty_answer-some _ _ c.if-given-eq0.false)
