@@ -7,7 +7,7 @@ use Rattle.std.proofs.Math.Seq.{take-append-add}
 use Rattle.niss_shell.specs.Device.{SourceState, has_fault, Gave, Reads}
 use Rattle.niss_shell.specs.Lines.{ended_lines, last_part, first_fault}
 use Rattle.niss_moves.specs.Reader.{Reader, IsFed}
-use Rattle.niss_shell.specs.Words.{limit}
+use Rattle.niss_shell.specs.Words.{most_bytes}
 use Rattle.niss_shell.specs.Output.{Ending, More, End, Fail, ending, ending_of, LineAnswers, answer_lines, line_with_bytes, last_line, complete_lines, stop_of}
 use Rattle.niss_shell.specs.Engine.{AnswerState, Progress, stop_unless, WritesAnswers, RefusesAnswers, AllAnswered, StopsWithin, TakesBytes, TakesEnd, TakesNext, TakesLast, AnswersBytes, IsAt, Answers, AnswersSource}
 use Rattle.niss_shell.specs.Names.{DeviceFault, Stop, Done, Line, InputTooLong, CannotRead, CannotWrite}
@@ -54,9 +54,9 @@ stopped_answers f input m (Line at fault) a b e x = (
 stopped_answers f input m _ a b e x = absurd x
 
 answers_stopped : (f : LineAnswers) (input : List ℕ) {whole : List ℕ} (q : Progress) (stop : Stop) (a b : AnswerState)
-    → take limit input ≡ whole → TakesBytes f [] whole 1 q (Err stop) a b → Answers (answer_lines f input More) stop a b
+    → take most_bytes input ≡ whole → TakesBytes f [] whole 1 q (Err stop) a b → Answers (answer_lines f input More) stop a b
 answers_stopped f input _ stop a b e x =
-    stopped_answers _ _ More _ _ _ (append-nil (ended_lines [] (take limit input)) ∙ ap (λ xs. ended_lines [] xs) e) x
+    stopped_answers _ _ More _ _ _ (append-nil (ended_lines [] (take most_bytes input)) ∙ ap (λ xs. ended_lines [] xs) e) x
 
 -- what is written where no line has a fault
 faultless_answers : (f : LineAnswers) (input : List ℕ) (m : Ending) {lines : List (List ℕ)} {stop : Stop} (a b : AnswerState)
@@ -69,10 +69,10 @@ faultless_answers f input m a b e s x = (
 
 -- the tests of the length of the input
 
-pub short_test : {n : ℕ} → n ≤ limit → nat_lt limit n ≡ false
+pub short_test : {n : ℕ} → n ≤ most_bytes → nat_lt most_bytes n ≡ false
 short_test h = grind (arith, common_steps)
 
-pub long_test : {n : ℕ} → limit < n → nat_lt limit n ≡ true
+pub long_test : {n : ℕ} → most_bytes < n → nat_lt most_bytes n ≡ true
 long_test h = grind (arith, common_steps)
 
 pub choose_false : {A : Type 0} (c : Bool) (x y : A) → c ≡ false → (if c then x else y) ≡ y
@@ -83,30 +83,30 @@ pub choose_true : {A : Type 0} (c : Bool) (x y : A) → c ≡ true → (if c the
 choose_true true x y e = refl
 choose_true false x y e = absurd (cc e)
 
-whole_input : (input : List ℕ) → length input ≤ limit → take limit input ≡ input
-whole_input input h = take_all limit input h
+whole_input : (input : List ℕ) → length input ≤ most_bytes → take most_bytes input ≡ input
+whole_input input h = take_all most_bytes input h
 
 answers_cannot_read : {f : LineAnswers} (input : List ℕ) {q : Progress} {a b : AnswerState}
-    → length input ≤ limit → TakesBytes f [] input 1 q (Ok tt) a b → Answers (answer_lines f input Fail) CannotRead a b
+    → length input ≤ most_bytes → TakesBytes f [] input 1 q (Ok tt) a b → Answers (answer_lines f input Fail) CannotRead a b
 answers_cannot_read input h x =
-    faultless_answers _ _ Fail _ _ (append-nil (ended_lines [] (take limit input)) ∙ ap (λ xs. ended_lines [] xs) (whole_input _ h))
+    faultless_answers _ _ Fail _ _ (append-nil (ended_lines [] (take most_bytes input)) ∙ ap (λ xs. ended_lines [] xs) (whole_input _ h))
     (sym (choose_false _ _ _ (short_test h)))
     x.0
 
 answers_too_long : {f : LineAnswers} (input : List ℕ) {whole : List ℕ} {q : Progress} {a b : AnswerState}
-    → limit < length input → take limit input ≡ whole → TakesBytes f [] whole 1 q (Ok tt) a b → Answers (answer_lines f input More) InputTooLong a b
+    → most_bytes < length input → take most_bytes input ≡ whole → TakesBytes f [] whole 1 q (Ok tt) a b → Answers (answer_lines f input More) InputTooLong a b
 answers_too_long input h e x =
-    faultless_answers _ _ More _ _ (append-nil (ended_lines [] (take limit input)) ∙ ap (λ xs. ended_lines [] xs) e)
+    faultless_answers _ _ More _ _ (append-nil (ended_lines [] (take most_bytes input)) ∙ ap (λ xs. ended_lines [] xs) e)
     (sym (choose_true _ _ _ (long_test h)))
     x.0
 
-all_lines : (input : List ℕ) → length input ≤ limit → complete_lines input End ≡ ended_lines [] input ++ line_with_bytes (last_part [] input)
+all_lines : (input : List ℕ) → length input ≤ most_bytes → complete_lines input End ≡ ended_lines [] input ++ line_with_bytes (last_part [] input)
 all_lines input h =
     ap (λ xs. ended_lines [] xs ++ last_line End input) (whole_input _ h)
     ∙ ap (λ ls. ended_lines [] input ++ ls) (choose_false _ [] (line_with_bytes (last_part [] input)) (short_test h))
 
 answers_done : {f : LineAnswers} {input : List ℕ} {q : Progress} {a b c : AnswerState}
-    → length input ≤ limit → TakesBytes f [] input 1 q (Ok tt) a b → AllAnswered f q.line (line_with_bytes (last_part [] input)) b c
+    → length input ≤ most_bytes → TakesBytes f [] input 1 q (Ok tt) a b → AllAnswered f q.line (line_with_bytes (last_part [] input)) b c
     → Answers (answer_lines f input End) Done a c
 answers_done h x y =
     faultless_answers _ _ End _ _ (all_lines _ h) (sym (choose_false _ _ _ (short_test h)))
@@ -114,14 +114,14 @@ answers_done h x y =
 
 -- a run that was stopped by the last line
 answers_last_stopped : {f : LineAnswers} {input : List ℕ} {q : Progress} (stop : Stop) (a : AnswerState) {b : AnswerState} (c : AnswerState)
-    → length input ≤ limit → TakesBytes f [] input 1 q (Ok tt) a b → StopsWithin f q.line (line_with_bytes (last_part [] input)) stop b c
+    → length input ≤ most_bytes → TakesBytes f [] input 1 q (Ok tt) a b → StopsWithin f q.line (line_with_bytes (last_part [] input)) stop b c
     → Answers (answer_lines f input End) stop a c
 answers_last_stopped stop a c h x y =
     stopped_answers _ _ End _ a _ (all_lines _ h) (stopped_more x.0 _ _ _ _ x.1.line y)
 
 -- the end of an input of which all bytes were taken
 input_ends : (f : LineAnswers) (input : List ℕ) (q : Progress) (a b c : AnswerState) (r : Result (Unit {0}) Stop)
-    → length input ≤ limit → TakesBytes f [] input 1 q (Ok tt) a b → TakesEnd f (last_part [] input) q.line r b c
+    → length input ≤ most_bytes → TakesBytes f [] input 1 q (Ok tt) a b → TakesEnd f (last_part [] input) q.line r b c
     → Answers (answer_lines f input End) (stop_unless r Done) a c
 input_ends f input q a b c (Ok u) fits x last = answers_done fits x last
 input_ends f input q a b c (Err stop) fits x last = answers_last_stopped _ _ _ fits x last
@@ -159,7 +159,7 @@ gave_no_more : (a b c : SourceState) (x : List ℕ) → b.has_failed ≡ false �
 gave_no_more a b c x good p q = subst (λ xs. Gave a c xs) (append-nil x) (gave_more a b c _ [] good p q)
 
 pub at_failure : {f : LineAnswers} {count : ℕ} {block : List ℕ} {fault : DeviceFault} {p : Progress} {a b c : SourceState} {h i : AnswerState}
-    → IsAt f count p a b h i → count ≤ limit → b.has_failed ≡ false → Reads (Err fault) block b c → AnswersSource f CannotRead a c h i
+    → IsAt f count p a b h i → count ≤ most_bytes → b.has_failed ≡ false → Reads (Err fault) block b c → AnswersSource f CannotRead a c h i
 at_failure {f = f} {a = a} {b = b} {c = c} {h = h} {i = i} x room good read = record {
   input = x.input;
   gave = gave_no_more a b c _ good x.gave read.bytes;
@@ -172,7 +172,7 @@ ending_is : (c : SourceState) (f : Bool) {e : Bool} → c.has_failed ≡ f → c
 ending_is c f p q = ap (λ v. ending_of v c.has_ended) p ∙ ap (λ v. ending_of f v) q
 
 pub at_end : {f : LineAnswers} {count n : ℕ} {block : List ℕ} {p : Progress} {a b c : SourceState} {h i j : AnswerState} {r : Result (Unit {0}) Stop}
-    → IsAt f count p a b h i → count ≤ limit → b.has_failed ≡ false → Reads (Ok n) block b c → n ≡ 0 → 0 < length block
+    → IsAt f count p a b h i → count ≤ most_bytes → b.has_failed ≡ false → Reads (Ok n) block b c → n ≡ 0 → 0 < length block
     → TakesLast f p r i j → AnswersSource f (stop_unless r Done) a c h j
 at_end {f = f} {block = block} {a = a} {b = b} {c = c} {h = h} {j = j} {r = r} x room good read none asked last =
     let ended : c.has_ended ≡ true = read.ended ∙ is_empty_answer-none _ _ none asked in
@@ -184,15 +184,15 @@ at_end {f = f} {block = block} {a = a} {b = b} {c = c} {h = h} {j = j} {r = r} x
       read_whole = λ d. ended;
     }
 
--- the stated part of a block that goes past the limit
-cut_block : (input block : List ℕ) {count : ℕ} (n room : ℕ) → count ≡ length input → room + count ≡ limit → room ≤ n → n ≤ length block
-    → take limit (input ++ take n block) ≡ input ++ take room block
+-- the stated part of a block that goes past the most bytes
+cut_block : (input block : List ℕ) {count : ℕ} (n room : ℕ) → count ≡ length input → room + count ≡ most_bytes → room ≤ n → n ≤ length block
+    → take most_bytes (input ++ take n block) ≡ input ++ take room block
 cut_block input block n room e f g h =
-    let k : limit ≡ length input + room = omega (arith, e, f) in
+    let k : most_bytes ≡ length input + room = omega (arith, e, f) in
     ap (λ v. take v (input ++ take n block)) k ∙ take-append-add input (take n block) room ∙ ap (λ v. input ++ v) (taken_twice _ g)
 
 too_long_answers : (f : LineAnswers) (input : List ℕ) {whole : List ℕ} (q : Progress) (h j : AnswerState) (r : Result (Unit {0}) Stop)
-    → limit < length input → take limit input ≡ whole → TakesBytes f [] whole 1 q r h j
+    → most_bytes < length input → take most_bytes input ≡ whole → TakesBytes f [] whole 1 q r h j
     → Answers (answer_lines f input More) (stop_unless r InputTooLong) h j
 too_long_answers f input q h j (Ok u) long e x = answers_too_long _ long e x
 too_long_answers f input q h j (Err stop) long e x = answers_stopped _ _ q _ _ _ e x
@@ -207,7 +207,7 @@ not_done f bytes q h j (Ok u) x e = cc e
 not_done f bytes q h j (Err stop) x e = stop_is_not_done _ _ q _ _ x e
 
 pub at_limit : {f : LineAnswers} {count n : ℕ} (room : ℕ) {block : List ℕ} {p q : Progress} {a b c : SourceState} {h i j : AnswerState} {r : Result (Unit {0}) Stop}
-    → IsAt f count p a b h i → room + count ≡ limit → room < n → b.has_failed ≡ false → Reads (Ok n) block b c
+    → IsAt f count p a b h i → room + count ≡ most_bytes → room < n → b.has_failed ≡ false → Reads (Ok n) block b c
     → TakesNext f (take room block) p q r i j → AnswersSource f (stop_unless r InputTooLong) a c h j
 at_limit {f = f} {n = n} room {block = block} {a = a} {b = b} {c = c} {h = h} {j = j} {r = r} x sum long good read next =
     let y = takes_more _ [] x.input (take room block) 1 _ _ tt r _ _ _ x.takes (next.takes (last_part [] x.input) x.takes.1.reader) in
@@ -222,7 +222,7 @@ at_limit {f = f} {n = n} room {block = block} {a = a} {b = b} {c = c} {h = h} {j
     }
 
 pub at_stop : {f : LineAnswers} {count n : ℕ} {block : List ℕ} {p q : Progress} {a b c : SourceState} {h i j : AnswerState} {stop : Stop}
-    → IsAt f count p a b h i → n + count ≤ limit → b.has_failed ≡ false → Reads (Ok n) block b c → n ≢ 0
+    → IsAt f count p a b h i → n + count ≤ most_bytes → b.has_failed ≡ false → Reads (Ok n) block b c → n ≢ 0
     → TakesNext f (take n block) p q (Err stop) i j → AnswersSource f stop a c h j
 at_stop {f = f} {n = n} {block = block} {q = q} {a = a} {b = b} {c = c} {h = h} {j = j} {stop = stop} x room good read some next =
     let y = takes_more _ [] x.input (take n block) 1 _ q tt (Err stop) _ _ j x.takes (next.takes (last_part [] x.input) x.takes.1.reader) in
@@ -243,13 +243,13 @@ text_taken : (f : LineAnswers) (text : List ℕ) {p q : Progress} (r : Result (U
 text_taken f text {q = q} r {h = h} {i = i} reader line next = subst (λ n. TakesBytes f [] text n q r h i) line (next.takes [] reader)
 
 pub text_stopped : {f : LineAnswers} {text : List ℕ} {p q : Progress} {stop : Stop} {h j : AnswerState}
-    → length text ≤ limit → IsFed p.reader [] → p.line ≡ 1 → TakesNext f text p q (Err stop) h j → Answers (answer_lines f text End) stop h j
+    → length text ≤ most_bytes → IsFed p.reader [] → p.line ≡ 1 → TakesNext f text p q (Err stop) h j → Answers (answer_lines f text End) stop h j
 text_stopped {f = f} {text = text} {stop = stop} {h = h} {j = j} fits reader line next =
     stopped_answers f _ End _ h j (all_lines _ fits)
     (stopped_front _ _ (ended_lines [] text) (line_with_bytes (last_part [] text)) _ h j (text_taken f text (Err stop) reader line next))
 
 pub text_done : {f : LineAnswers} {text : List ℕ} {p q : Progress} {r : Result (Unit {0}) Stop} {h i j : AnswerState}
-    → length text ≤ limit → IsFed p.reader [] → p.line ≡ 1 → TakesNext f text p q (Ok tt) h i → TakesLast f q r i j
+    → length text ≤ most_bytes → IsFed p.reader [] → p.line ≡ 1 → TakesNext f text p q (Ok tt) h i → TakesLast f q r i j
     → Answers (answer_lines f text End) (stop_unless r Done) h j
 text_done {f = f} {text = text} {q = q} {r = r} {h = h} {i = i} {j = j} fits reader line next last =
     let x = text_taken f text {q = q} (Ok tt) {h = h} {i = i} reader line next in

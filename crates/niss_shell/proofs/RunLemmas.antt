@@ -7,7 +7,7 @@ use Rattle.std.proofs.lemmas.Grind.{common_steps}
 use Rattle.rand_pcg.specs.Lcg.{Lcg}
 use Rattle.niss_shell.specs.Device.{SourceState, TargetState, has_fault, Appended, Flushes, WriteRefused}
 use Rattle.niss_shell.specs.Scrambles.{generator_of, scramble_text}
-use Rattle.niss_shell.specs.Words.{limit, Request, OnLines, ListSteps, DrawScrambles, request_of, reads_source, has_step, joined}
+use Rattle.niss_shell.specs.Words.{most_bytes, Request, OnLines, ListSteps, DrawScrambles, request_of, reads_source, has_step, joined}
 use Rattle.niss_shell.specs.Output.{Answer, Ending, More, End, Fail, ending, stop_at_end, answer, line_looks, looks_at, most_line_looks, complete_lines, line_answers, answer_lines, answer_request, unsearched, step_line, stop_of, out_of, error_text, status_of}
 use Rattle.niss_cube.specs.Steps.{steps, turns_of}
 use Rattle.niss_moves.specs.Line.{Moves}
@@ -63,7 +63,7 @@ end_stop More = λ e. cc e
 
 no_stop_of_memory : (o : Option (ℕ × LineFault)) (input : List ℕ) (m : Ending) → stop_of o input m ≢ OutOfMemory
 no_stop_of_memory (Some fault) input m = λ e. cc e
-no_stop_of_memory None input m = either (λ stop. stop ≢ OutOfMemory) (nat_lt limit (length input)) InputTooLong (stop_at_end m) (λ e. cc e) (end_stop m)
+no_stop_of_memory None input m = either (λ stop. stop ≢ OutOfMemory) (nat_lt most_bytes (length input)) InputTooLong (stop_at_end m) (λ e. cc e) (end_stop m)
 
 ends_of_answers : (a : Answer) (asked : Result Request UsageFault) (stop : Stop) (source source_now : SourceState) (h i : AnswerState)
     → a.stop ≢ OutOfMemory → Answers a stop h i → EndsUnflushed stop a asked source source_now h i
@@ -96,7 +96,7 @@ unread_run asked stop a h i unread ends = record {
 -- the input comes from the words
 
 pub runs_text : {command given : LineCommand} {ws : List (List ℕ)} {text : List ℕ} {stop : Stop} {a : SourceState} {h k i j : AnswerState}
-    → given ≡ command → k ≡ h → j ≡ i → 0 < length ws → text ≡ joined ws → length (joined ws) ≤ limit
+    → given ≡ command → k ≡ h → j ≡ i → 0 < length ws → text ≡ joined ws → length (joined ws) ≤ most_bytes
     → Answers (answer_lines (line_answers given) text End) stop k j → RunsUnflushed (Ok (OnLines command ws)) stop a a h i
 runs_text {ws = []} e f g some whole fits x = absurd (omega arith)
 runs_text {given = given} {ws = v ∷ ws} {text = text} {stop = stop} {a = a} {k = k} {j = j} e f g some whole fits x =
@@ -106,7 +106,7 @@ runs_text {given = given} {ws = v ∷ ws} {text = text} {stop = stop} {a = a} {k
     (ends_of_answers (answer_lines (line_answers given) text End) (Ok (OnLines given (v ∷ ws))) _ a a k j (no_stop_of_memory _ text End) x)))
 
 pub runs_too_long : (command : LineCommand) (ws : List (List ℕ)) (a : SourceState) (h : AnswerState)
-    → 0 < length ws → has_fault h.target ≡ false → limit < length (joined ws)
+    → 0 < length ws → has_fault h.target ≡ false → most_bytes < length (joined ws)
     → RunsUnflushed (Ok (OnLines command ws)) InputTooLong a a h h
 runs_too_long command [] a h n works long = absurd (omega arith)
 runs_too_long command (v ∷ ws) a h n works long =
@@ -114,11 +114,11 @@ runs_too_long command (v ∷ ws) a h n works long =
     (subst (λ x. EndsUnflushed InputTooLong x (Ok (OnLines command (v ∷ ws))) a a h h)
     (sym (choose_true _ _ _ (long_test long))) (refl, writes_nothing _ works))
 
-fits_test : {n : ℕ} → n ≤ limit → nat_le n limit ≡ true
+fits_test : {n : ℕ} → n ≤ most_bytes → nat_le n most_bytes ≡ true
 fits_test h = grind (arith, common_steps)
 
 pub runs_memory : (command : LineCommand) (ws : List (List ℕ)) (a : SourceState) (h : AnswerState)
-    → 0 < length ws → has_fault h.target ≡ false → length (joined ws) ≤ limit
+    → 0 < length ws → has_fault h.target ≡ false → length (joined ws) ≤ most_bytes
     → RunsUnflushed (Ok (OnLines command ws)) OutOfMemory a a h h
 runs_memory command [] a h n works fits = absurd (omega arith)
 runs_memory command (v ∷ ws) a h n works fits =
@@ -269,7 +269,7 @@ module _ (law : LooksWithinBound) where
   answer_within : (asked : Result Request UsageFault) (input : List ℕ) (m : Ending) → IsWithin (answer_request asked input m)
   answer_within (Ok (OnLines command [])) input m = lines_within command input m
   answer_within (Ok (OnLines command (word ∷ words))) input m =
-      either IsWithin (nat_lt limit (length (joined (word ∷ words)))) _ _ (omega arith) (lines_within command (joined (word ∷ words)) End)
+      either IsWithin (nat_lt most_bytes (length (joined (word ∷ words)))) _ _ (omega arith) (lines_within command (joined (word ∷ words)) End)
   answer_within _ input m = omega arith
 
 bounded_looks : (a : Answer) (asked : Result Request UsageFault) (stop : Stop) (source source_now : SourceState) (h i : AnswerState)

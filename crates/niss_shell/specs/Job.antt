@@ -1,6 +1,6 @@
 -- What a command on lines has for its run.
 use Rattle.std.specs.Prelude.{◌≡◌, ℕ, ◌<◌, ◌≤◌, Option, Some, None, List, length}
-use Rattle.niss_shell.specs.Words.{limit, joined}
+use Rattle.niss_shell.specs.Words.{most_bytes, joined}
 use Rattle.niss_shell.specs.Names.{LineCommand, Rewrite, Search, Work}
 use Rattle.niss_shell.specs.declared.job.Work.TheVariants as work
 
@@ -13,4 +13,4 @@ command_of (work.Search search) = Search search.query
 abbrev pub IsInput : {T : Type 0} → (T → List ℕ) → Option T → List (List ℕ) → Type 0
 IsInput bytes None words = length words ≡ 0
 IsInput bytes (Some text) words =
-    (0 < length words) × (bytes text ≡ joined words) × (length (joined words) ≤ limit)
+    (0 < length words) × (bytes text ≡ joined words) × (length (joined words) ≤ most_bytes)

@@ -16,7 +16,7 @@ use Rattle.niss_moves.specs.Text.{word, with_words}
 use Rattle.niss_search.specs.Cubes.{least_length_of, near_solutions_of, near_looks_of}
 use Rattle.niss_search.specs.Solutions.{look_bound}
 use Rattle.niss_shell.specs.Scrambles.{generator_of, scramble_text}
-use Rattle.niss_shell.specs.Words.{limit, Request, OnLines, ListSteps, DrawScrambles, request_of, joined}
+use Rattle.niss_shell.specs.Words.{most_bytes, Request, OnLines, ListSteps, DrawScrambles, request_of, joined}
 use Rattle.niss_shell.specs.Names.{UsageFault, LineCommand, Rewrite, Search, Report, Solutions, Counts, Rewriting, Invert, Unniss, Cleanup, Print, LineFault, Unread, NoStart, Stop, Done, Line, Usage, InputTooLong, CannotRead, CannotWrite, OutOfMemory, Step, Token, Turn, ReadFault}
 
 -- the name of the step that must hold before this one
@@ -190,12 +190,12 @@ line_with_bytes (b ∷ bytes) = (b ∷ bytes) ∷ []
 
 -- a last line without a line feed counts where it has a byte, at the end of an input that isn't too long
 abbrev pub last_line : Ending → List ℕ → List (List ℕ)
-last_line End input = if nat_lt limit (length input) then [] else line_with_bytes (last_part [] input)
+last_line End input = if nat_lt most_bytes (length input) then [] else line_with_bytes (last_part [] input)
 last_line More input = []
 last_line Fail input = []
 
 abbrev pub complete_lines : List ℕ → Ending → List (List ℕ)
-complete_lines input ended = ended_lines [] (take limit input) ++ last_line ended input
+complete_lines input ended = ended_lines [] (take most_bytes input) ++ last_line ended input
 
 abbrev pub stop_at_end : Ending → Stop
 stop_at_end Fail = CannotRead
@@ -204,7 +204,7 @@ stop_at_end More = Done
 
 abbrev pub stop_of : Option (ℕ × LineFault) → List ℕ → Ending → Stop
 stop_of (Some fault) input ended = Line fault.0 fault.1
-stop_of None input ended = if nat_lt limit (length input) then InputTooLong else stop_at_end ended
+stop_of None input ended = if nat_lt most_bytes (length input) then InputTooLong else stop_at_end ended
 
 -- the answers to the complete lines of an input, up to the first fault
 abbrev pub answer_lines : LineAnswers → List ℕ → Ending → Answer
@@ -219,7 +219,7 @@ answer_lines answers input ended = record {
 abbrev pub answer_on_lines : LineAnswers → List (List ℕ) → List ℕ → Ending → Answer
 answer_on_lines answers [] input ended = answer_lines answers input ended
 answer_on_lines answers (word ∷ words) input ended =
-    if nat_lt limit (length (joined (word ∷ words)))
+    if nat_lt most_bytes (length (joined (word ∷ words)))
     then unsearched [] InputTooLong
     else answer_lines answers (joined (word ∷ words)) End
 

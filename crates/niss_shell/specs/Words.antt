@@ -9,8 +9,8 @@ use Rattle.niss_shell.specs.Lines.{line_feed, space}
 use Rattle.niss_shell.specs.declared.command.Command.TheVariants as command
 
 -- the most bytes of input
-abbrev pub limit : ℕ
-limit = 16777216
+abbrev pub most_bytes : ℕ
+most_bytes = 16777216
 
 -- the number that a word of one or more decimal digits spells, where it is at most `most`
 abbrev pub number_of : ℕ → List ℕ → Option ℕ
@@ -169,8 +169,8 @@ abbrev pub has_step : LineCommand → Bool
 has_step (Rewrite rewriting) = false
 has_step (Search query) = true
 
--- The request asks for memory: for the tables of a step, and for the input, where words of at most the limit give it.
+-- The request asks for memory: for the tables of a step, and for the input, where words of at most so many bytes give it.
 abbrev pub takes_memory : Result Request UsageFault → Bool
 takes_memory (Ok (OnLines command [])) = has_step command
-takes_memory (Ok (OnLines command (word ∷ words))) = nat_le (length (joined (word ∷ words))) limit
+takes_memory (Ok (OnLines command (word ∷ words))) = nat_le (length (joined (word ∷ words))) most_bytes
 takes_memory asked = false

@@ -1,6 +1,6 @@
 ghost use Rattle.std.specs.Prelude.{◌≡◌, Ok, Err, Some, false, IfSome, IfOk, MatchOption, MatchResult};
 ghost use Rattle.std.specs.Prelude.{map, codes, slice_get, string_bytes};
-ghost use Rattle.niss_shell.specs.Words.{OnLines, ListSteps, search_command, number_of, most_state, most_turns};
+ghost use Rattle.niss_shell.specs.Words.{OnLines, ListSteps, search_command, step_named, number_of, most_state, most_turns};
 ghost use Rattle.niss_shell.specs.Words.{most_scrambles, search_words, near_words, scramble_with, scramble_words};
 ghost use Rattle.niss_shell.specs.Words.{without_words, request_of, requested, name_of_command, name_of_report, takes_lines, IsInRange};
 
@@ -140,6 +140,14 @@ impl<'a> Command<'a> {
     }
 }
 
+/// The step that the word names.
+#[tactic(auto, using(crate::proofs::NumberLemmas::step_unknown))]
+fn step_of(word: &str) -> Option<Step>
+    ensures { result ≡ step_named word.now }
+{
+    Step::from_name(word.as_bytes())
+}
+
 /// The command that searches each line for a report, by its step, its limit and the words that are the input.
 fn parse_search(report: Report, words: &[String]) -> Result<Command<'_>, UsageFault>
     ensures command { MatchResult result
@@ -151,12 +159,8 @@ fn parse_search(report: Report, words: &[String]) -> Result<Command<'_>, UsageFa
     let [step, most, rest @ ..] = words else {
         return Err(UsageFault::WrongCount);
     };
-    let Some(step) = Step::from_name(step.as_bytes()) else {
-        return Err(UsageFault::UnknownStep);
-    };
-    let Some(limit) = limit_of(most.as_str()) else {
-        return Err(UsageFault::BadNumber);
-    };
+    let step = step_of(step.as_str()).ok_or(UsageFault::UnknownStep)?;
+    let limit = limit_of(most.as_str()).ok_or(UsageFault::BadNumber)?;
     match report {
         Report::Solutions => Ok(Command::Solve(step, limit, rest)),
         Report::Counts => Ok(Command::Count(step, limit, rest)),
@@ -174,15 +178,9 @@ fn parse_near(words: &[String]) -> Result<Command<'_>, UsageFault>
     let [name, most, slack, rest @ ..] = words else {
         return Err(UsageFault::WrongCount);
     };
-    let Some(step) = Step::from_name(name.as_bytes()) else {
-        return Err(UsageFault::UnknownStep);
-    };
-    let Some(limit) = limit_of(most.as_str()) else {
-        return Err(UsageFault::BadNumber);
-    };
-    let Some(slack) = limit_of(slack.as_str()) else {
-        return Err(UsageFault::BadNumber);
-    };
+    let step = step_of(name.as_str()).ok_or(UsageFault::UnknownStep)?;
+    let limit = limit_of(most.as_str()).ok_or(UsageFault::BadNumber)?;
+    let slack = limit_of(slack.as_str()).ok_or(UsageFault::BadNumber)?;
     Ok(Command::Near(step, limit, slack, rest))
 }
 

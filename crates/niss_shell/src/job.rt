@@ -1,14 +1,14 @@
 //! A command on lines with all that its run takes memory for, taken before the first byte is read or written.
 ghost use Rattle.std.specs.Prelude.{◌≡◌, ◌<◌, ◌≤◌, ◌++◌, true, false, Ok, List, [], ℕ, map, flat_map, string_bytes, length};
 ghost use Rattle.std.specs.Prelude.{OnOk, OnErr, IfOk, IfErr, IfSome, MatchOption};
-ghost use Rattle.niss_shell.specs.Words.{limit, joined, spaced_word, has_step, reads_source, OnLines};
+ghost use Rattle.niss_shell.specs.Words.{most_bytes, joined, spaced_word, has_step, reads_source, OnLines};
 ghost use Rattle.niss_shell.specs.Engine.{MayBegin, RunsUnflushed, EndsAtOnce, output_state, stop_unless};
 ghost use Rattle.niss_shell.specs.Job.{IsInput, command_of};
 ghost use Rattle.niss_shell.specs.Names.{Done};
 
 use crate::command::{LineCommand, LineRequest, Rewriting};
 use crate::device::{Source, Target};
-use crate::lines::{LIMIT, Lines};
+use crate::lines::{Lines, MOST_BYTES};
 use crate::output::Output;
 use crate::search::Search;
 use crate::stop::Stop;
@@ -34,13 +34,13 @@ pub struct Job<A: Allocator> {
 fn joined_length(words: &[String]) -> Option<usize>
     requires { 0 < length words.now }
     ensures { MatchOption result
-        (limit < length (joined (map string_bytes words.now)))
-        (λ n. (n ≡ length (joined (map string_bytes words.now))) × (n ≤ limit)) }
+        (most_bytes < length (joined (map string_bytes words.now)))
+        (λ n. (n ≡ length (joined (map string_bytes words.now))) × (n ≤ most_bytes)) }
 {
     let mut total = 0usize;
     for word in words {
         let length = word.as_bytes().len();
-        if length >= LIMIT - total {
+        if length >= MOST_BYTES - total {
             return None;
         }
         total += length + 1;
@@ -131,7 +131,7 @@ impl<A: Allocator> Job<A> {
         looks: &mut Meter,
     ) -> Result<(), Stop>
         requires begins { MayBegin (R.state source.old) (output_state W.state output.old looks.old) }
-        requires fits { IfSome self.now.text (λ text. length text.items ≤ limit) }
+        requires fits { IfSome self.now.text (λ text. length text.items ≤ most_bytes) }
         ensures same_target { output.new.target.ghost_name ≡ output.old.target.ghost_name }
         ensures runs { (words : List (List ℕ)) → IsInput (λ text. text.items) self.now.text words →
             RunsUnflushed (Ok (OnLines (command_of self.now.work) words)) (stop_unless result Done)

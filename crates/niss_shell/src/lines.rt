@@ -2,7 +2,7 @@
 ghost use Rattle.std.specs.Prelude.{◌≡◌, ◌+◌, ◌^◌, ◌<◌, ◌≤◌, false, Err, ℕ, [], length, take, OnOk, OnErr, IfOk};
 ghost use Rattle.niss_shell.specs.Device.{has_fault};
 ghost use Rattle.niss_moves.specs.Reader.{IsFed};
-ghost use Rattle.niss_shell.specs.Words.{limit};
+ghost use Rattle.niss_shell.specs.Words.{most_bytes};
 
 use crate::answer::rewrite;
 use crate::command::Report;
@@ -17,7 +17,7 @@ use niss_search::laws::counts_and_bounds;
 use std::alloc::Allocator;
 
 /// The most bytes of input.
-pub const LIMIT: usize = 16_777_216;
+pub const MOST_BYTES: usize = 16_777_216;
 
 /// How many bytes a read asks for.
 const BLOCK: usize = 4096;
@@ -119,7 +119,7 @@ impl<'a, A: Allocator> Lines<'a, A> {
     /// Takes the answer to the line after what waits, and begins the next one.
     fn end_line<W: Target>(&mut self, output: &mut Output<W>) -> Result<(), Stop>
         requires works { has_fault (W.state output.old.target.now) ≡ false }
-        requires lines { self.old.line ≤ limit + 1 }
+        requires lines { self.old.line ≤ most_bytes + 1 }
         requires meter { HasRoom self.old.line self.old.looks.now }
         ensures keeps { Keeps self.old self.new }
         ensures same_target { output.new.target.ghost_name ≡ output.old.target.ghost_name }
@@ -145,8 +145,8 @@ impl<'a, A: Allocator> Lines<'a, A> {
     fn take_piece<W: Target>(&mut self, bytes: &[u8], output: &mut Output<W>) -> Result<usize, Stop>
         requires some { 0 < length bytes.now }
         requires works { has_fault (W.state output.old.target.now) ≡ false }
-        requires column { self.old.reader.fed + length bytes.now ≤ limit }
-        requires lines { self.old.line ≤ limit }
+        requires column { self.old.reader.fed + length bytes.now ≤ most_bytes }
+        requires lines { self.old.line ≤ most_bytes }
         requires meter { HasRoom self.old.line self.old.looks.now }
         ensures keeps { Keeps self.old self.new }
         ensures same_target { output.new.target.ghost_name ≡ output.old.target.ghost_name }
@@ -175,8 +175,8 @@ impl<'a, A: Allocator> Lines<'a, A> {
     /// Takes the next bytes of the input, and writes the answers to the lines that they end.
     fn take_block<W: Target>(&mut self, bytes: &[u8], output: &mut Output<W>) -> Result<(), Stop>
         requires works { has_fault (W.state output.old.target.now) ≡ false }
-        requires column { self.old.reader.fed + length bytes.now ≤ limit }
-        requires lines { self.old.line + length bytes.now ≤ limit + 1 }
+        requires column { self.old.reader.fed + length bytes.now ≤ most_bytes }
+        requires lines { self.old.line + length bytes.now ≤ most_bytes + 1 }
         requires meter { HasRoom self.old.line self.old.looks.now }
         ensures keeps { Keeps self.old self.new }
         ensures same_target { output.new.target.ghost_name ≡ output.old.target.ghost_name }
@@ -199,7 +199,7 @@ impl<'a, A: Allocator> Lines<'a, A> {
     fn take_end<W: Target>(&mut self, output: &mut Output<W>) -> Result<(), Stop>
         requires works { has_fault (W.state output.old.target.now) ≡ false }
         requires empty { output.old.pending.items ≡ [] }
-        requires lines { self.old.line ≤ limit + 1 }
+        requires lines { self.old.line ≤ most_bytes + 1 }
         requires meter { HasRoom self.old.line self.old.looks.now }
         ensures keeps { Keeps self.old self.new }
         ensures same_target { output.new.target.ghost_name ≡ output.old.target.ghost_name }
@@ -240,7 +240,7 @@ impl<'a, A: Allocator> Lines<'a, A> {
             if given == 0 {
                 return self.take_end(output);
             }
-            let room = LIMIT - count;
+            let room = MOST_BYTES - count;
             if given > room {
                 self.take_block(&block[..room], output)?;
                 return Err(Stop::InputTooLong);
@@ -252,7 +252,7 @@ impl<'a, A: Allocator> Lines<'a, A> {
 
     /// Writes the answer to each line of a text, from the first line on.
     pub fn take_text<W: Target>(&mut self, text: &[u8], output: &mut Output<W>) -> Result<(), Stop>
-        requires fits { length text.now ≤ limit }
+        requires fits { length text.now ≤ most_bytes }
         requires works { has_fault (W.state output.old.target.now) ≡ false }
         requires reader { IsFed self.old.reader [] }
         requires fed { self.old.reader.fed ≡ 0 }

@@ -13,11 +13,11 @@ pub fn write_all<W: Target>(out: &mut W, piece: &[u8]) -> Result<(), DeviceFault
 {
     let mut rest = piece;
     while !rest.is_empty() {
-        match out.write(rest) {
-            Ok(0) => return Err(DeviceFault),
-            Ok(count) => rest = &rest[count..],
-            Err(fault) => return Err(fault),
+        let count = out.write(rest)?;
+        if count == 0 {
+            return Err(DeviceFault);
         }
+        rest = &rest[count..];
     }
     Ok(())
 }

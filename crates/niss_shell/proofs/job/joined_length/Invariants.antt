@@ -1,11 +1,11 @@
 use Rattle.std.proofs.Common.{◌≡◌, ◌≤◌, length, map, take}
 use Rattle.std.specs.Prelude.{flat_map, string_bytes}
-use Rattle.niss_shell.specs.Words.{limit}
+use Rattle.niss_shell.specs.Words.{most_bytes}
 use Rattle.niss_shell.specs.Words.{spaced_word}
 use Rattle.niss_shell.proofs.job.joined_length.Given as goal
 
 abbrev pub invariant-loop-word : goal.invariant-loop-word
 invariant-loop-word l = record {
   total : l.total ≡ length (flat_map spaced_word (map string_bytes (take l.word-index l.words)));
-  fits : l.total ≤ limit;
+  fits : l.total ≤ most_bytes;
 }

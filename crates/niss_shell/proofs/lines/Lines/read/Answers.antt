@@ -1,5 +1,5 @@
 use Rattle.std.proofs.Common.{◌≡◌, take, length, ◌-◌, ◌∙◌, refl, arith}
-use Rattle.niss_shell.specs.Words.{limit}
+use Rattle.niss_shell.specs.Words.{most_bytes}
 use Rattle.std.proofs.lemmas.Result.{err_from_is_err_and}
 use Rattle.niss_shell.proofs.AnswerLemmas.{length_taken, at_start, at_more, at_failure, at_end, at_limit, at_stop}
 use Rattle.niss_shell.proofs.DeviceLemmas.{is_empty_answer-some}
@@ -34,13 +34,13 @@ returns-then-given-eq0-clause-answers g c =
 pub returns-in_err-take_block-clause-answers : goal.returns-in_err-take_block-clause-answers
 returns-in_err-take_block-clause-answers g c =
     let p = err_from_is_err_and c.from_residual.result c.from_residual.ensures.1 in
-    rw (p.1, p.2) (at_limit (limit - c.loop-given.count)
+    rw (p.1, p.2) (at_limit (most_bytes - c.loop-given.count)
     c.loop-given.invariant.at (omega (arith, c.loop-given.invariant.room)) c.if-given-room.true c.loop-given.invariant.reads c.in-Ok.ensures
     (kept c.loop-given.invariant.keeps c.in_err-take_block.ensures.takes))
 
 pub returns-then-given-room-clause-answers : goal.returns-then-given-room-clause-answers
 returns-then-given-room-clause-answers g c =
-    at_limit (limit - c.loop-given.count)
+    at_limit (most_bytes - c.loop-given.count)
     c.loop-given.invariant.at (omega (arith, c.loop-given.invariant.room)) c.if-given-room.true c.loop-given.invariant.reads c.in-Ok.ensures
     (kept c.loop-given.invariant.keeps c.in_ok-take_block.ensures.takes)
 

@@ -1,6 +1,6 @@
 use Rattle.std.proofs.Common.{◌≡◌, ◌+◌, ◌-◌, ◌≤◌, ◌<◌, length, false, []}
 use Rattle.niss_shell.specs.Device.{has_fault}
-use Rattle.niss_shell.specs.Words.{limit}
+use Rattle.niss_shell.specs.Words.{most_bytes}
 use Rattle.niss_shell.specs.Engine.{IsAt, HasRoom}
 use Rattle.niss_shell.specs.Taking.{Keeps, answers_of, lines_state, progress_of}
 use Rattle.niss_shell.proofs.lines.Lines.read.Given as goal
@@ -15,7 +15,7 @@ invariant-loop-given g l = record {
   goes_on : (g.S.Source.state l.source).has_ended ≡ false;
   works : has_fault (g.W.Target.state l.output.target.now) ≡ false;
   empty : l.output.pending.items ≡ [];
-  room : l.count ≤ limit;
+  room : l.count ≤ most_bytes;
   column : l.self.reader.fed ≤ l.count;
   lines : l.self.line ≤ l.count + 1;
   meter : HasRoom l.self.line l.self.looks.now;
@@ -23,4 +23,4 @@ invariant-loop-given g l = record {
 }
 
 abbrev pub decreases-loop-given : goal.decreases-loop-given
-decreases-loop-given g l = limit - l.count
+decreases-loop-given g l = most_bytes - l.count
