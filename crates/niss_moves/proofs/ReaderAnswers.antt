@@ -145,59 +145,63 @@ reader_line r = ap ended (same (state_or r.fault r.so_far))
 pub line_end : (r : Reader) (bytes : List ℕ) → IsFed r bytes → read_line bytes ≡ ended (state_or r.fault r.so_far)
 line_end r bytes h = ap read_line (sym (append-nil bytes)) ∙ sym (h.line []) ∙ reader_line r
 
-pub reported_line : (fault : Option ReadFault) (p : State) (bytes : List ℕ) (f : ReadFault) → fault ≡ Some f → IsFed (record { fed = p.fed; fault = fault; so_far = p }) bytes → Err f ≡ read_line bytes
-reported_line fault p bytes f e h = sym (line_end _ bytes h ∙ ap (λ o. ended (state_or o p)) e)
+pub reported_line : (r : Reader) (bytes : List ℕ) (f : ReadFault) → r.fault ≡ Some f → IsFed r bytes → Err f ≡ read_line bytes
+reported_line r bytes f e h = sym (line_end r bytes h ∙ ap (λ o. ended (state_or o r.so_far)) e)
 
-pub ended_line : (fault : Option ReadFault) (p : State) (bytes : List ℕ) → fault ≡ None → IsFed (record { fed = p.fed; fault = fault; so_far = p }) bytes → ended_at p.last p ≡ read_line bytes
-ended_line fault p bytes e h = sym (line_end _ bytes h ∙ ap (λ o. ended (state_or o p)) e)
+pub ended_line : (r : Reader) (bytes : List ℕ) → r.fault ≡ None → IsFed r bytes → ended (Ok r.so_far) ≡ read_line bytes
+ended_line r bytes e h = sym (line_end r bytes h ∙ ap (λ o. ended (state_or o r.so_far)) e)
 
 -- the same for the line of what was fed
-pub reported_end : (fault : Option ReadFault) (p : State) (f : ReadFault) → fault ≡ Some f → Err f ≡ line_with (record { fed = p.fed; fault = fault; so_far = p }) []
-reported_end fault p f e = sym (reader_line _ ∙ ap (λ o. ended (state_or o p)) e)
+pub reported_end : (r : Reader) (f : ReadFault) → r.fault ≡ Some f → Err f ≡ line_with r []
+reported_end r f e = sym (reader_line r ∙ ap (λ o. ended (state_or o r.so_far)) e)
 
-pub ended_end : (fault : Option ReadFault) (p : State) → fault ≡ None → ended (Ok p) ≡ line_with (record { fed = p.fed; fault = fault; so_far = p }) []
-ended_end fault p e = sym (reader_line _ ∙ ap (λ o. ended (state_or o p)) e)
+pub ended_end : (r : Reader) → r.fault ≡ None → ended (Ok r.so_far) ≡ line_with r []
+ended_end r e = sym (reader_line r ∙ ap (λ o. ended (state_or o r.so_far)) e)
 
 -- a byte fed to a reader
-pub record IsFedOn (fault : Option ReadFault) (p : State) (byte : ℕ) (next : Option ReadFault) (q : State) (result : Result (Unit {0}) ReadFault) : Type 0 where
-  pub fed : q.fed ≡ p.fed + 1
-  pub outcome : state_or next q ≡ and_then (state_or fault p) (λ s. step s byte)
-  pub answered : result ≡ answer (state_or next q)
-  pub room : HasRoomUnless next q
+pub record IsFedOn (old : Reader) (byte : ℕ) (new : Reader) (result : Result (Unit {0}) ReadFault) : Type 0 where
+  pub fed : new.fed ≡ old.fed + 1
+  pub outcome : state_or new.fault new.so_far ≡ and_then (state_or old.fault old.so_far) (λ s. step s byte)
+  pub answered : result ≡ answer (state_or new.fault new.so_far)
+  pub room : HasRoomUnless new.fault new.so_far
 
-at_ok : (p q : State) (byte : ℕ) (r : Result (Unit {0}) ReadFault) → HasRoom p → IsStep (λ s. step s byte) p r q → q.fed ≡ p.fed + 1 → IsFedOn None p byte (result_err r) q r
+-- a reader, by the line that it reads
+abbrev pub reader : Option ReadFault → State → Reader
+reader fault line = record { fed = line.fed; fault = fault; so_far = line }
+
+at_ok : (p q : State) (byte : ℕ) (r : Result (Unit {0}) ReadFault) → HasRoom p → IsStep (λ s. step s byte) p r q → q.fed ≡ p.fed + 1 → IsFedOn (reader None p) byte (reader (result_err r) q) r
 at_ok p q byte (Ok u) h e k = record { fed = k; outcome = sym e; answered = refl; room = room_kept p q byte h e }
 at_ok p q byte (Err f) h e k = record { fed = k; outcome = sym e; answered = refl; room = tt }
 
-pub fed_on : (fault next : Option ReadFault) (p q t : State) (byte : ℕ) (result r : Result (Unit {0}) ReadFault) → fault ≡ None → HasRoomUnless fault p → IsStep (λ s. step s byte) p r t → t.fed ≡ p.fed + 1 → result ≡ r → next ≡ result_err result → q ≡ t → IsFedOn fault p byte next q result
+pub fed_on : (fault next : Option ReadFault) (p q t : State) (byte : ℕ) (result r : Result (Unit {0}) ReadFault) → fault ≡ None → HasRoomUnless fault p → IsStep (λ s. step s byte) p r t → t.fed ≡ p.fed + 1 → result ≡ r → next ≡ result_err result → q ≡ t → IsFedOn (reader fault p) byte (reader next q) result
 fed_on fault next p q t byte result r none room h counts er en eq =
     let here = subst (λ (o : Option ReadFault). HasRoomUnless o p) none room in
     rw (none, en, er, eq) (at_ok p t byte r here h counts)
 
-pub fed_again : (fault next : Option ReadFault) (p q t : State) (byte : ℕ) (result : Result (Unit {0}) ReadFault) (f : ReadFault) → fault ≡ Some f → t.fed ≡ p.fed + 1 → result ≡ Err f → next ≡ result_err result → q ≡ t → IsFedOn fault p byte next q result
+pub fed_again : (fault next : Option ReadFault) (p q t : State) (byte : ℕ) (result : Result (Unit {0}) ReadFault) (f : ReadFault) → fault ≡ Some f → t.fed ≡ p.fed + 1 → result ≡ Err f → next ≡ result_err result → q ≡ t → IsFedOn (reader fault p) byte (reader next q) result
 fed_again fault next p q t byte result f some counts er en eq =
     rw (some, en, er, eq) (record { fed = counts; outcome = refl; answered = refl; room = tt })
 
-fed_outcome : (fault next : Option ReadFault) (p q : State) (byte : ℕ) (result : Result (Unit {0}) ReadFault) (bytes : List ℕ) → IsFedOn fault p byte next q result → IsFed (record { fed = p.fed; fault = fault; so_far = p }) bytes → IsOutcome (state_or next q) (bytes ++ byte ∷ [])
+fed_outcome : (old new : Reader) (byte : ℕ) (result : Result (Unit {0}) ReadFault) (bytes : List ℕ) → IsFedOn old byte new result → IsFed old bytes → IsOutcome (state_or new.fault new.so_far) (bytes ++ byte ∷ [])
 unfolding line_with
-fed_outcome fault next p q byte result bytes h k = outcome_of_more (state_or fault p) (state_or next q) bytes byte h.outcome k.line
+fed_outcome old new byte result bytes h k = outcome_of_more (state_or old.fault old.so_far) (state_or new.fault new.so_far) bytes byte h.outcome k.line
 
-pub is_fed_on : (fault next : Option ReadFault) (p q : State) (byte : ℕ) (result : Result (Unit {0}) ReadFault) (bytes : List ℕ) → IsFedOn fault p byte next q result → IsFed (record { fed = p.fed; fault = fault; so_far = p }) bytes → IsFed (record { fed = q.fed; fault = next; so_far = q }) (bytes ++ byte ∷ [])
+pub is_fed_on : (old new : Reader) (byte : ℕ) (result : Result (Unit {0}) ReadFault) (bytes : List ℕ) → IsFedOn old byte new result → IsFed old bytes → IsFed new (bytes ++ byte ∷ [])
 unfolding line_with
-is_fed_on fault next p q byte result bytes h k =
+is_fed_on old new byte result bytes h k =
     record {
       fed = let e = k.fed in omega (arith, h.fed, length-append bytes (byte ∷ []));
-      line = fed_outcome fault next p q byte result bytes h k;
+      line = fed_outcome old new byte result bytes h k;
     }
 
-pub fed_taken : (fault next : Option ReadFault) (p q : State) (byte : ℕ) (result : Result (Unit {0}) ReadFault) (bytes : List ℕ) → IsFedOn fault p byte next q result → IsFed (record { fed = p.fed; fault = fault; so_far = p }) bytes → IsOk result ↔ CanContinue (bytes ++ byte ∷ [])
-fed_taken fault next p q byte result bytes h k =
-    subst (λ (x : Result (Unit {0}) ReadFault). IsOk x ↔ CanContinue (bytes ++ byte ∷ [])) (sym h.answered) (taken_iff (state_or next q) (bytes ++ byte ∷ []) (fed_outcome fault next p q byte result bytes h k))
+pub fed_taken : (old new : Reader) (byte : ℕ) (result : Result (Unit {0}) ReadFault) (bytes : List ℕ) → IsFedOn old byte new result → IsFed old bytes → IsOk result ↔ CanContinue (bytes ++ byte ∷ [])
+fed_taken old new byte result bytes h k =
+    subst (λ (x : Result (Unit {0}) ReadFault). IsOk x ↔ CanContinue (bytes ++ byte ∷ [])) (sym h.answered) (taken_iff (state_or new.fault new.so_far) (bytes ++ byte ∷ []) (fed_outcome old new byte result bytes h k))
 
-pub fed_stops : (fault next : Option ReadFault) (p q : State) (byte : ℕ) (result : Result (Unit {0}) ReadFault) (bytes : List ℕ) → IsFedOn fault p byte next q result → IsFed (record { fed = p.fed; fault = fault; so_far = p }) bytes → IfErr result (λ f. Stops (bytes ++ byte ∷ []) f)
-fed_stops fault next p q byte result bytes h k =
-    subst (λ (x : Result (Unit {0}) ReadFault). IfErr x (λ f. Stops (bytes ++ byte ∷ []) f)) (sym h.answered) (refused_stops (state_or next q) (bytes ++ byte ∷ []) (fed_outcome fault next p q byte result bytes h k))
+pub fed_stops : (old new : Reader) (byte : ℕ) (result : Result (Unit {0}) ReadFault) (bytes : List ℕ) → IsFedOn old byte new result → IsFed old bytes → IfErr result (λ f. Stops (bytes ++ byte ∷ []) f)
+fed_stops old new byte result bytes h k =
+    subst (λ (x : Result (Unit {0}) ReadFault). IfErr x (λ f. Stops (bytes ++ byte ∷ []) f)) (sym h.answered) (refused_stops (state_or new.fault new.so_far) (bytes ++ byte ∷ []) (fed_outcome old new byte result bytes h k))
 
-pub new_fed : (p : State) → p ≡ start → IsFed (record { fed = p.fed; fault = None; so_far = p }) []
+pub new_fed : (s : State) → s ≡ start → IsFed (reader None s) []
 unfolding line_with read_line
-new_fed p e = record { fed = ap (λ (s : State). s.fed) e; line = λ more. ap (λ s. answer_after (Ok s) more) e }
+new_fed s e = record { fed = ap (λ (s : State). s.fed) e; line = λ more. ap (λ s. answer_after (Ok s) more) e }

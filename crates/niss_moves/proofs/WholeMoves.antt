@@ -16,7 +16,7 @@ use Rattle.niss_moves.specs.Names.{Power, Quarter, Half, Counter, Token, Base, R
 use Rattle.niss_moves.specs.declared.base.Base.TheVariants as base
 use Rattle.niss_moves.specs.declared.partial_line.LastMove.TheVariants as last
 use Rattle.niss_moves.proofs.Completes.{IsReady, count_more, and_then-assoc, run-append, at_fed, run_move}
-use Rattle.niss_moves.proofs.ReaderAnswers.{IsOutcome}
+use Rattle.niss_moves.proofs.ReaderAnswers.{IsOutcome, reader}
 
 -- the first bytes
 pub take_one : (bytes : List ℕ) (x : ℕ) → 0 < length bytes → get_or bytes 0 0 ≡ x → take 1 bytes ≡ x ∷ []
@@ -57,7 +57,7 @@ pub outcome_of_run : (r next : Result State ReadFault) (bytes xs : List ℕ) →
 outcome_of_run r next bytes xs e h more =
     ap (λ r. answer_after r more) e ∙ ap ended (sym (and_then-assoc r (λ s. run s xs) (λ s. run s more) (λ s. run s (xs ++ more)) (λ t. run-append 256 t xs more))) ∙ h (xs ++ more) ∙ ap read_line (sym (append_assoc bytes xs more))
 
-pub fed_moves : (fault : Option ReadFault) (p q : State) (front xs : List ℕ) → fault ≡ None → q.fed ≡ p.fed + length xs → run p xs ≡ Ok q → IsFed (record { fed = p.fed; fault = fault; so_far = p }) front → IsFed (record { fed = q.fed; fault = fault; so_far = q }) (front ++ xs)
+pub fed_moves : (fault : Option ReadFault) (p q : State) (front xs : List ℕ) → fault ≡ None → q.fed ≡ p.fed + length xs → run p xs ≡ Ok q → IsFed (reader fault p) front → IsFed (reader fault q) (front ++ xs)
 unfolding line_with
 fed_moves fault p q front xs none k r h =
     record {

@@ -1,11 +1,11 @@
 use Rattle.std.proofs.Common.{ap, sym, subst}
 use Rattle.niss_moves.specs.Reader.{Reader, IsFed}
-use Rattle.niss_moves.proofs.ReaderAnswers.{IsFedOn, fed_on, fed_again, is_fed_on, fed_taken, fed_stops}
+use Rattle.niss_moves.proofs.ReaderAnswers.{IsFedOn, reader, fed_on, fed_again, is_fed_on, fed_taken, fed_stops}
 use Rattle.niss_moves.proofs.reader.LineReader.feed.Goals as goal
 use Rattle.niss_moves.proofs.reader.LineReader.feed.Goals.{in-Some, in-None}
 
 -- what the fields are after the byte
-on : (c : goal.After-self-1) → IsFedOn c.self.inside.fault c.self.inside.line c.args.byte c.err-self-inside.result c.match-self.self-inside.line c.match-self.taken
+on : (c : goal.After-self-1) → IsFedOn (reader c.self.inside.fault c.self.inside.line) c.args.byte (reader c.err-self-inside.result c.match-self.self-inside.line) c.match-self.taken
 on c =
     elim c.match-self.branch [
       | in-Some w ↦ fed_again _ _ _ _ w.skip.new.self _ _ w.in-Some.fault w.in-Some.is w.skip.ensures w.taken-is c.err-self-inside.ensures.value (ap (λ r. r.line) w.self-inside-is)
@@ -17,12 +17,12 @@ invariant_of-self c = (on c).room
 
 pub returns-clause-bytes : goal.returns-clause-bytes
 returns-clause-bytes c bytes h =
-    is_fed_on _ _ _ _ _ _ bytes (on c) (subst (λ (r : Reader). IsFed r bytes) (sym c.self.view_is) h)
+    is_fed_on _ _ _ _ bytes (on c) (subst (λ (r : Reader). IsFed r bytes) (sym c.self.view_is) h)
 
 pub returns-clause-taken : goal.returns-clause-taken
 returns-clause-taken c bytes h =
-    fed_taken _ _ _ _ _ _ bytes (on c) (subst (λ (r : Reader). IsFed r bytes) (sym c.self.view_is) h)
+    fed_taken _ _ _ _ bytes (on c) (subst (λ (r : Reader). IsFed r bytes) (sym c.self.view_is) h)
 
 pub returns-clause-fault : goal.returns-clause-fault
 returns-clause-fault c bytes h =
-    fed_stops _ _ _ _ _ _ bytes (on c) (subst (λ (r : Reader). IsFed r bytes) (sym c.self.view_is) h)
+    fed_stops _ _ _ _ bytes (on c) (subst (λ (r : Reader). IsFed r bytes) (sym c.self.view_is) h)

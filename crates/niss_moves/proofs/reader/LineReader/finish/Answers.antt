@@ -4,13 +4,13 @@ use Rattle.niss_moves.proofs.ReaderAnswers.{reported_line, ended_line, reported_
 use Rattle.niss_moves.proofs.reader.LineReader.finish.Goals as goal
 
 pub returns-in-Some-clause-value : goal.returns-in-Some-clause-value
-returns-in-Some-clause-value c bytes h = reported_line _ c.self.inside.line bytes _ c.in-Some.is (subst (λ (r : Reader). IsFed r bytes) (sym c.self.view_is) h)
+returns-in-Some-clause-value c bytes h = reported_line _ bytes _ c.in-Some.is (subst (λ (r : Reader). IsFed r bytes) (sym c.self.view_is) h)
 
 pub returns-in-None-clause-value : goal.returns-in-None-clause-value
-returns-in-None-clause-value c bytes h = c.finish.ensures ∙ ended_line _ c.self.inside.line bytes c.in-None.is (subst (λ (r : Reader). IsFed r bytes) (sym c.self.view_is) h)
+returns-in-None-clause-value c bytes h = c.finish.ensures ∙ ended_line _ bytes c.in-None.is (subst (λ (r : Reader). IsFed r bytes) (sym c.self.view_is) h)
 
 pub returns-in-Some-clause-ends : goal.returns-in-Some-clause-ends
-returns-in-Some-clause-ends c = reported_end _ c.self.inside.line _ c.in-Some.is ∙ ap (λ (r : Reader). line_with r []) c.self.view_is
+returns-in-Some-clause-ends c = reported_end _ _ c.in-Some.is ∙ ap (λ (r : Reader). line_with r []) c.self.view_is
 
 pub returns-in-None-clause-ends : goal.returns-in-None-clause-ends
-returns-in-None-clause-ends c = c.finish.ensures ∙ ended_end _ c.self.inside.line c.in-None.is ∙ ap (λ (r : Reader). line_with r []) c.self.view_is
+returns-in-None-clause-ends c = c.finish.ensures ∙ ended_end _ c.in-None.is ∙ ap (λ (r : Reader). line_with r []) c.self.view_is
