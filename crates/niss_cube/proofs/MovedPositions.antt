@@ -1,18 +1,19 @@
 -- The table of positions after moves holds the places to which the moves bring the stickers, by computation.
-use Rattle.std.proofs.Common.{◌≡◌, ℕ, ◌+◌, ◌<◌, refl, sym, subst, List, [], get_or, Bool, true, ◌&&◌}
+use Rattle.std.proofs.Common.{◌≡◌, ℕ, ◌<◌, refl, sym, subst, List, [], get_or, Bool, true, ◌&&◌}
 use Rattle.std.specs.Prelude.{nat_lt}
 use Rattle.std.proofs.lemmas.Bool.{ltb-true}
 use Rattle.niss_moves.specs.Places.{same_place}
 use Rattle.niss_moves.specs.Effects.{moved_by}
+use Rattle.niss_moves.specs.Indices.{token_index}
 use Rattle.niss_cube.specs.Names.{Token}
-use Rattle.niss_cube.specs.PlacePositions.{place_at, first_number, number_in_kind}
+use Rattle.niss_cube.specs.PlacePositions.{place_at}
 use Rattle.niss_cube.specs.declared.place_positions.TheConstants.{POSITIONS_AFTER}
 use Rattle.niss_cube.proofs.FiniteTests.{all_below, at_below}
 use Rattle.niss_cube.proofs.Logic.{and_left, and_right}
 use Rattle.niss_moves.proofs.CallerLemmas.{same_place_is, every_token, every_face, every_power, every_slice, every_axis, at_token}
 
 abbrev row_of : Token → List ℕ
-row_of m = get_or POSITIONS_AFTER (first_number m + number_in_kind m) []
+row_of m = get_or POSITIONS_AFTER (token_index m) []
 
 abbrev entry_test : Token → ℕ → Bool
 entry_test m i =
@@ -29,7 +30,7 @@ entry_holds : (m : Token) (i : ℕ) → i < 54 → entry_test m i ≡ true
 entry_holds m i l = at_below 54 (entry_test m) (at_token _ rows_hold m) i l
 
 -- the row that stands at the number of a move
-module _ (m : Token) (n : ℕ) (e : n ≡ first_number m + number_in_kind m) where
+module _ (m : Token) (n : ℕ) (e : n ≡ token_index m) where
   pub after-below : (i : ℕ) → i < 54 → get_or (get_or POSITIONS_AFTER n []) i 0 < 54
   after-below i l =
       let P : ℕ → Type 0 = λ n. get_or (get_or POSITIONS_AFTER n []) i 0 < 54 in

@@ -7,12 +7,13 @@ use Rattle.std.specs.List.{list_all}
 use Rattle.niss_moves.specs.Places.{Place, same_place, is_place}
 use Rattle.niss_moves.specs.Facelets.{places}
 use Rattle.niss_moves.specs.Effects.{turned}
+use Rattle.niss_moves.specs.Indices.{face_index, power_index}
 use Rattle.niss_cube.specs.Names.{Face, U, D, R, L, F, B, Power, Quarter, Half, Counter, Turn, Cube, Coordinate}
 use Rattle.niss_cube.specs.Map.{map_of}
 use Rattle.niss_cube.specs.Coordinates.{count_of, number_of, standard_axis}
 use Rattle.niss_cube.specs.NumberAfter.{number_after}
 use Rattle.niss_cube.specs.AfterTurn.{IsCoordinate, IsCube}
-use Rattle.niss_cube.specs.TableRows.{AreRowsAt, AreQuarters, IsQuarter, entry_at, face_index, power_index}
+use Rattle.niss_cube.specs.TableRows.{AreRowsAt, AreQuarters, IsQuarter, entry_at}
 use Rattle.niss_cube.proofs.CoordinateLaws.{are_coordinates, cube-itself, lists_of, turned_is_cube}
 use Rattle.niss_cube.proofs.CubieKinds.{map_place}
 use Rattle.niss_cube.proofs.Each.{at_place}

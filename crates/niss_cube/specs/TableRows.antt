@@ -1,21 +1,9 @@
 -- Tables of the number of a coordinate after each turn.
 use Rattle.std.specs.Prelude.{◌≡◌, ℕ, ◌<◌, List, [], length, slice_index, get_or}
-use Rattle.niss_cube.specs.Names.{Face, U, D, R, L, F, B, Power, Quarter, Half, Counter, Turn, Coordinate}
+use Rattle.niss_moves.specs.Indices.{face_index, power_index}
+use Rattle.niss_cube.specs.Names.{Quarter, Turn, Coordinate}
 use Rattle.niss_cube.specs.Coordinates.{count_of, standard_axis}
 use Rattle.niss_cube.specs.NumberAfter.{number_after}
-
-abbrev pub face_index : Face → ℕ
-face_index U = 0
-face_index D = 1
-face_index R = 2
-face_index L = 3
-face_index F = 4
-face_index B = 5
-
-abbrev pub power_index : Power → ℕ
-power_index Quarter = 0
-power_index Half = 1
-power_index Counter = 2
 
 -- the entry of a row at a turn
 abbrev pub entry_at : List (List ℕ) → Turn → ℕ

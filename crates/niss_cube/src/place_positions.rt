@@ -1,12 +1,12 @@
 //! The places to which moves bring the stickers, by their positions in the facelet text.
 ghost use Rattle.std.specs.Prelude.{◌≡◌, ℕ, ◌+◌, ◌<◌, slice_index};
 ghost use Rattle.niss_moves.specs.Effects.{moved_by};
-ghost use Rattle.niss_cube.specs.PlacePositions.{place_at, first_number, number_in_kind};
+ghost use Rattle.niss_cube.specs.PlacePositions.{place_at};
 
 use niss_moves::Token;
 
-/// For each move (of faces, wide, of slices, of the whole cube) and each position of the facelet text: the position to which
-/// the move brings the sticker that stands there.
+/// For each move, by its number, and each position of the facelet text: the position to which the move brings the sticker
+/// that stands there.
 static POSITIONS_AFTER: [[u8; 54]; 54] = [
     // U
     [
@@ -334,38 +334,11 @@ static POSITIONS_AFTER: [[u8; 54]; 54] = [
     ],
 ];
 
-/// The number of the first move of this kind in the table.
-fn first_number(token: Token) -> usize
-    ensures { result ≡ first_number token }
-{
-    match token {
-        Token::Face(_) => 0,
-        Token::Wide(_, _) => 18,
-        Token::Slice(_, _) => 36,
-        Token::Rotation(_, _) => 45,
-    }
-}
-
-/// The number of a move among those of its kind. It stands by itself: arms that do the same need no branch, and one on a
-/// kind that is drawn at random is mispredicted.
-fn number_in_kind(token: Token) -> usize
-    ensures value { result ≡ number_in_kind token }
-    ensures in_range { result + first_number token < 54 }
-{
-    let (index, power) = match token {
-        Token::Face(turn) => (turn.face as usize, turn.power),
-        Token::Wide(face, power) => (face as usize, power),
-        Token::Slice(slice, power) => (slice as usize, power),
-        Token::Rotation(axis, power) => (axis as usize, power),
-    };
-    3 * index + power as usize
-}
-
 /// For each position of the facelet text: the position to which the move brings the sticker that stands there.
 pub fn positions_after(token: Token) -> &'static [u8; 54]
     ensures in_range { (k : ℕ) → k < 54 → slice_index result.now k < 54 }
     ensures moves { (k : ℕ) → k < 54 →
         place_at (slice_index result.now k) ≡ moved_by token (place_at k) }
 {
-    &POSITIONS_AFTER[first_number(token) + number_in_kind(token)]
+    &POSITIONS_AFTER[token.index()]
 }

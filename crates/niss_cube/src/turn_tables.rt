@@ -1,6 +1,7 @@
 //! Tables of the coordinates after a turn.
 ghost use Rattle.std.specs.Prelude.{◌≡◌, ◌<◌, length, get_or, slice_index, [], IfOk};
 ghost use Rattle.niss_moves.specs.Effects.{turned};
+ghost use Rattle.niss_moves.specs.Indices.{power_index};
 ghost use Rattle.niss_moves.specs.Places.{Place};
 ghost use Rattle.niss_moves.specs.declared.turn.Turn.{Turn};
 ghost use Rattle.niss_moves.specs.declared.turn.Face.{Face};
@@ -10,7 +11,7 @@ ghost use Rattle.niss_cube.specs.Map.{map_of};
 ghost use Rattle.niss_cube.specs.Coordinates.{count_of, number_of, standard_axis};
 ghost use Rattle.niss_cube.specs.NumberAfter.{number_after};
 ghost use Rattle.niss_cube.specs.AfterTurn.{IsCube};
-ghost use Rattle.niss_cube.specs.TableRows.{AreRows, AreQuarters, entry_at, power_index};
+ghost use Rattle.niss_cube.specs.TableRows.{AreRows, AreQuarters, entry_at};
 ghost use Rattle.niss_cube.specs.declared.cube.coordinate.Coordinate as kinds;
 ghost use Rattle.niss_cube.specs.declared.cube.coordinate.Coordinate.TheVariants.{Flip, Twist, Slice};
 

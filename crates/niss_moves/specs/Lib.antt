@@ -4,6 +4,7 @@ pub mod Facelets
 pub mod Effects
 pub mod Letters
 pub mod Turn
+pub mod Indices
 pub mod Rotations
 pub mod Faces
 pub mod Canonical

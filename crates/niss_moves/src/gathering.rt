@@ -23,7 +23,7 @@ impl Word {
         ensures some { 0 < result.len }
         ensures len { result.len ≤ 3 }
     {
-        WORDS[turn.face as usize][turn.power as usize]
+        Word::of_token(Token::Face(turn))
     }
 
     /// The word of a rotation about an axis.
@@ -32,22 +32,16 @@ impl Word {
         ensures some { 0 < result.len }
         ensures len { result.len ≤ 3 }
     {
-        WORDS[ROTATIONS + axis as usize][power as usize]
+        Word::of_token(Token::Rotation(axis, power))
     }
 
-    /// The word of a move. One table has them all, since a jump by the kind of a move is mispredicted.
+    /// The word of a move.
     pub fn of_token(token: Token) -> Word
         ensures bytes { take result.len result.bytes ≡ 32 ∷ word token }
         ensures some { 0 < result.len }
         ensures len { result.len ≤ 4 }
     {
-        let (first_row, letter, power) = match token {
-            Token::Face(turn) => (0, turn.face as usize, turn.power),
-            Token::Wide(face, power) => (WIDE_TURNS, face as usize, power),
-            Token::Slice(slice, power) => (SLICES, slice as usize, power),
-            Token::Rotation(axis, power) => (ROTATIONS, axis as usize, power),
-        };
-        WORDS[first_row + letter][power as usize]
+        WORDS[token.index()]
     }
 }
 
@@ -55,37 +49,27 @@ impl Word {
 macro_rules! words_of {
     ($($face:literal)*; $($letter:literal)*) => {
         [
-            $([
+            $(
                 Word { bytes: [b' ', $face, 0, 0], len: 2 },
                 Word { bytes: [b' ', $face, b'2', 0], len: 3 },
                 Word { bytes: [b' ', $face, b'\'', 0], len: 3 },
-            ],)*
-            $([
+            )*
+            $(
                 Word { bytes: [b' ', $face, b'w', 0], len: 3 },
                 Word { bytes: [b' ', $face, b'w', b'2'], len: 4 },
                 Word { bytes: [b' ', $face, b'w', b'\''], len: 4 },
-            ],)*
-            $([
+            )*
+            $(
                 Word { bytes: [b' ', $letter, 0, 0], len: 2 },
                 Word { bytes: [b' ', $letter, b'2', 0], len: 3 },
                 Word { bytes: [b' ', $letter, b'\'', 0], len: 3 },
-            ],)*
+            )*
         ]
     };
 }
 
-/// In the order of `Face`, `Face`, `Slice` and `Axis`.
-static WORDS: [[Word; 3]; 18] =
-    words_of!(b'U' b'D' b'R' b'L' b'F' b'B'; b'M' b'E' b'S' b'y' b'x' b'z');
-
-/// The first row of the wide turns.
-const WIDE_TURNS: usize = 6;
-
-/// The first row of the slices.
-const SLICES: usize = 12;
-
-/// The first row of the rotations.
-const ROTATIONS: usize = 15;
+/// By the numbers of the moves.
+static WORDS: [Word; 54] = words_of!(b'U' b'D' b'R' b'L' b'F' b'B'; b'M' b'E' b'S' b'y' b'x' b'z');
 
 /// Words that are to be appended to a text. They are gathered here since a piece of fixed length is copied fastest.
 #[derive(Drop)]

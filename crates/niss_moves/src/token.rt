@@ -36,6 +36,25 @@ impl Default for Token {
 }
 
 impl Token {
+    ghost use Rattle.std.specs.Prelude.{◌≡◌, ◌<◌};
+    ghost use Rattle.niss_moves.specs.Indices.{token_index};
+
+    /// Its number among the 54 moves, by which tables are looked up: face turns, wide turns, slices and rotations, those of
+    /// one kind in the order of `Face`, `Slice` or `Axis`, each with its three powers.
+    pub fn index(self) -> usize
+        ensures value { result ≡ token_index self }
+        ensures in_range { result < 54 }
+    {
+        // the arms differ in a number alone: a jump by the kind of a move is mispredicted
+        let (first, letter, power) = match self {
+            Token::Face(turn) => (0, turn.face as usize, turn.power),
+            Token::Wide(face, power) => (6, face as usize, power),
+            Token::Slice(slice, power) => (12, slice as usize, power),
+            Token::Rotation(axis, power) => (15, axis as usize, power),
+        };
+        3 * (first + letter) + power as usize
+    }
+
     /// The move that undoes this one.
     pub fn inverse(self) -> Token
         ensures { result ≡ inverse_token self }
