@@ -23,7 +23,7 @@ pub struct Follower {
 type FollowerList = ArrayVec<Follower, MOST_TURNS>;
 
 /// The turns of a step that may stand directly after the last one, in turn order.
-fn turns_after(step: Step, last: Option<Turn>) -> FollowerList
+fn followers_after(step: Step, last: Option<Turn>) -> FollowerList
     ensures { AreFollowers step (may_follow last) result.items }
 {
     let turns = step.turns();
@@ -41,14 +41,14 @@ fn turns_after(step: Step, last: Option<Turn>) -> FollowerList
 }
 
 /// The turns of a step that may stand directly after a turn of the face.
-fn turns_after_face(step: Step, face: Face) -> FollowerList
+fn followers_after_face(step: Step, face: Face) -> FollowerList
     ensures { AreFollowers step (λ t. face_may_follow face t.face) result.items }
 {
     let last = Turn {
         face,
         power: Power::Quarter,
     };
-    turns_after(step, Some(last))
+    followers_after(step, Some(last))
 }
 
 /// A step with its turns, listed once by the face of the turn before them, so that a search need not test each turn.
@@ -86,13 +86,13 @@ impl Followers {
     {
         Followers {
             step,
-            first: turns_after(step, None),
-            after_up: turns_after_face(step, Face::U),
-            after_down: turns_after_face(step, Face::D),
-            after_right: turns_after_face(step, Face::R),
-            after_left: turns_after_face(step, Face::L),
-            after_front: turns_after_face(step, Face::F),
-            after_back: turns_after_face(step, Face::B),
+            first: followers_after(step, None),
+            after_up: followers_after_face(step, Face::U),
+            after_down: followers_after_face(step, Face::D),
+            after_right: followers_after_face(step, Face::R),
+            after_left: followers_after_face(step, Face::L),
+            after_front: followers_after_face(step, Face::F),
+            after_back: followers_after_face(step, Face::B),
         }
     }
 

@@ -2,7 +2,7 @@ use Rattle.std.proofs.Common.{◌≡◌, ◌≤◌, length, take, filter, map, A
 use Rattle.niss_moves.specs.Canonical.{may_follow}
 use Rattle.niss_cube.specs.Steps.{turns_of}
 use Rattle.niss_search.specs.Followers.{IsFollower}
-use Rattle.niss_search.proofs.tables.followers.turns_after.Given as goal
+use Rattle.niss_search.proofs.tables.followers.followers_after.Given as goal
 
 abbrev pub invariant-loop-column : goal.invariant-loop-column
 invariant-loop-column l = record {

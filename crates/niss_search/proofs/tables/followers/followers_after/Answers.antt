@@ -5,8 +5,8 @@ use Rattle.niss_moves.specs.Canonical.{may_follow}
 use Rattle.niss_search.specs.Names.{Turn, no_turn, Follower}
 use Rattle.niss_search.specs.Followers.{IsFollower}
 use Rattle.niss_search.proofs.Bounds.{turns_of-length}
-use Rattle.niss_search.proofs.tables.followers.turns_after.Goals as goal
-use Rattle.niss_search.proofs.tables.followers.turns_after.Goals.{then-allowed, else-allowed}
+use Rattle.niss_search.proofs.tables.followers.followers_after.Goals as goal
+use Rattle.niss_search.proofs.tables.followers.followers_after.Goals.{then-allowed, else-allowed}
 
 pub loop-column-init : goal.loop-column-init
 loop-column-init c = record {
