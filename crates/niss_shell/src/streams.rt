@@ -1,3 +1,4 @@
+//! Devices over the readers and writers of `std::io`.
 ghost use Rattle.std.specs.Prelude.{◌≡◌, ◌<◌, ◌≤◌, [], Bool, true, false, ◌||◌, Option, Ok, List, ℕ, length, is_ok, is_err, if◌then◌else◌, IfOk, IsErr, MatchResult};
 ghost use Rattle.std.specs.Io.KnownBytes.{IsAtEnd, Keeps, ReadConsumes, WriteAppends};
 ghost use Rattle.niss_shell.specs.Device.{SourceState, TargetState, Gave, Appended, StaysSilent, has_fault, moved_bytes, found_end, is_refused};
