@@ -1,5 +1,5 @@
 -- What is written of the search from a cube.
-use Rattle.std.specs.Prelude.{◌≡◌, ℕ, false, Result, List}
+use Rattle.std.specs.Prelude.{◌≡◌, ℕ, false, Result}
 use Rattle.niss_moves.specs.Places.{Place}
 use Rattle.niss_search.specs.Cubes.{near_looks_of}
 use Rattle.niss_shell.specs.Device.{TargetState, has_fault}

@@ -1,3 +1,4 @@
+//! The commands, and how the words of a command line name them.
 ghost use Rattle.std.specs.Prelude.{◌≡◌, Ok, Err, Some, false, IfSome, IfOk, MatchOption, MatchResult};
 ghost use Rattle.std.specs.Prelude.{map, codes, slice_get, string_bytes};
 ghost use Rattle.niss_shell.specs.Words.{OnLines, ListSteps, search_command, step_named, number_of, most_state, most_turns};

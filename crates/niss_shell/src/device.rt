@@ -1,3 +1,4 @@
+//! What a run reads from and writes to.
 ghost use Rattle.std.specs.Prelude.{◌≡◌, false, is_err};
 ghost use Rattle.niss_shell.specs.Device.{SourceState, TargetState, Reads, TakesPiece, Flushes, has_fault};
 

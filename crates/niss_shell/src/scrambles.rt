@@ -1,3 +1,4 @@
+//! The scrambles that a run writes.
 ghost use Rattle.std.specs.Prelude.{◌≡◌, ◌≤◌, ℕ, [], false, None};
 ghost use Rattle.niss_search.specs.Draw.{next_words, after_words, draw};
 ghost use Rattle.niss_shell.specs.Device.{has_fault};

@@ -1,3 +1,4 @@
+//! A run, from the words of a command line to the exit status.
 ghost use Rattle.std.specs.Prelude.{◌≡◌, ◌≤◌, ◌^◌, false, [], ℕ, map, flat_map, string_bytes};
 ghost use Rattle.niss_shell.specs.Device.{has_fault};
 ghost use Rattle.niss_shell.specs.Words.{request_of, reads_source};

@@ -1,3 +1,4 @@
+//! How a run ends: what it then writes to the error writer, and its exit status.
 ghost use Rattle.std.specs.Prelude.{◌≡◌, decimal, codes, ◌+◌, ◌∷◌, [], ◌++◌, ◌≤◌, length};
 ghost use Rattle.niss_shell.specs.Output.{error_text, status_of, start_text, line_fault_text};
 ghost use Rattle.niss_shell.specs.Lines.{line_feed};

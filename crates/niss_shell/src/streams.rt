@@ -1,3 +1,4 @@
+//! Devices over the readers and writers of `std::io`.
 ghost use Rattle.std.specs.Prelude.{◌≡◌, true, false, ◌||◌, Option, Ok, is_ok, is_err, if◌then◌else◌, IsErr, MatchResult};
 ghost use Rattle.std.specs.Io.KnownBytes.{IsAtEnd, Keeps, ReadConsumes, WriteAppends};
 ghost use Rattle.niss_shell.specs.Device.{Reads, TakesPiece, Flushes, has_fault, found_end, is_refused};

@@ -1,3 +1,4 @@
+//! How bytes and numbers are appended to a text.
 ghost use Rattle.std.specs.Prelude.{◌≡◌, ◌+◌, ◌≤◌, ◌++◌, decimal, length};
 
 use niss_moves::LineText;

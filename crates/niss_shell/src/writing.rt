@@ -1,3 +1,4 @@
+//! How a piece is written whole.
 ghost use Rattle.std.specs.Prelude.{◌≡◌, OnOk, OnErr};
 ghost use Rattle.niss_shell.specs.Device.{Appended, WriteRefused, has_fault};
 
