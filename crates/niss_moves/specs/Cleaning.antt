@@ -1,6 +1,7 @@
 -- Cleaning a list of face turns: the leftmost neighbours that break the order are merged or change places, as long as
 -- there are any.
-use Rattle.std.specs.Prelude.{◌≡◌, ℕ, zero, suc, ◌+◌, ◌%◌, Bool, false, ◌&&◌, List, [], ◌∷◌, ◌++◌, count_by, if◌then◌else◌, Option, None, Some}
+use Rattle.std.specs.Prelude.{◌≡◌, ℕ, zero, suc, ◌+◌, ◌%◌, Bool, false, ◌&&◌}
+use Rattle.std.specs.Prelude.{List, [], ◌∷◌, ◌++◌, count_by, if◌then◌else◌, Option, None, Some}
 use Rattle.niss_moves.specs.Effects.{times}
 use Rattle.niss_moves.specs.Turn.{opposite, same_face, goes_first}
 use Rattle.niss_moves.specs.Canonical.{face_may_follow, IsCanonical}

@@ -1,11 +1,13 @@
 -- The steps by which a line is read, byte by byte. What a line is and which fault it has is said by Line and Faults, and
 -- a caller needs no more: `read_line` is made of these steps, and `IsFed` of what a reader holds.
-use Rattle.std.specs.Prelude.{ℕ, ◌+◌, ◌-◌, ◌≤◌, if◌then◌else◌, ◌==◌, nat_lt, List, [], ◌∷◌, ◌++◌, length, map, Option, None, Some, Result, Ok, Err, MatchResult, ◌≡◌}
+use Rattle.std.specs.Prelude.{ℕ, ◌+◌, ◌-◌, ◌≤◌, if◌then◌else◌, ◌==◌, nat_lt}
+use Rattle.std.specs.Prelude.{List, [], ◌∷◌, ◌++◌, length, map, Option, None, Some, Result, Ok, Err, MatchResult, ◌≡◌}
 use Rattle.std.specs.Option.{option_map_or}
 use Rattle.niss_moves.specs.Letters.{face_letter}
 use Rattle.niss_moves.specs.Notation.{token_of, lower_letter, slice_letter, rotation_letter, blank_byte, Space, Tab, Return}
 use Rattle.niss_moves.specs.Line.{Moves}
-use Rattle.niss_moves.specs.Names.{U, D, R, L, F, B, Quarter, Half, Counter, Ud, Rl, Fb, M, E, S, Token, Base, Symbol, LastMove, ReadFault, NotAMove, Nested, Unopened, Unclosed, TooLong}
+use Rattle.niss_moves.specs.Names.{U, D, R, L, F, B, Quarter, Half, Counter, Ud, Rl, Fb, M, E, S, Token, Base}
+use Rattle.niss_moves.specs.Names.{Symbol, LastMove, ReadFault, NotAMove, Nested, Unopened, Unclosed, TooLong}
 use Rattle.niss_moves.specs.declared.base.Base.TheVariants as base
 use Rattle.niss_moves.specs.declared.symbol.Symbol.TheVariants as symbol
 use Rattle.niss_moves.specs.declared.partial_line.LastMove.TheVariants as last

@@ -66,7 +66,8 @@ impl PartialLine {
     ghost use Rattle.std.specs.Prelude.{◌≡◌, ◌+◌, ◌-◌, ◌<◌, ◌≤◌, Some, Ok, OnErr, length, take};
     ghost use Rattle.niss_moves.specs.WholeMoves.{HasNoLineFeed};
     ghost use Rattle.niss_moves.specs.declared.fault.ReadFault.TheVariants.{NotAMove};
-    ghost use Rattle.niss_moves.specs.Machine.{start, count, added, settled, opened, closed, begun, widened, doubled, primed, cut, step_at, step_by, step, run, whole_moves, ended, moves_if, IsStep, HasRoom};
+    ghost use Rattle.niss_moves.specs.Machine.{start, count, added, settled, opened, closed, begun, widened, doubled, primed};
+    ghost use Rattle.niss_moves.specs.Machine.{cut, step_at, step_by, step, run, whole_moves, ended, moves_if, IsStep, HasRoom};
 
     /// The line before its first byte.
     pub fn new() -> PartialLine

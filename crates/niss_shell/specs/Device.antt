@@ -1,5 +1,6 @@
 -- What a contract sees of a source and of a target of bytes, and what calls do to them.
-use Rattle.std.specs.Prelude.{◌≡◌, ℕ, zero, suc, ◌<◌, ◌≤◌, ◌||◌, not, Bool, true, false, Option, Some, None, Result, Ok, Err, is_err, IfOk, List, [], ◌∷◌, ◌++◌, take, length}
+use Rattle.std.specs.Prelude.{◌≡◌, ℕ, zero, suc, ◌<◌, ◌≤◌, ◌||◌, not, Bool, true, false}
+use Rattle.std.specs.Prelude.{Option, Some, None, Result, Ok, Err, is_err, IfOk, List, [], ◌∷◌, ◌++◌, take, length}
 use Rattle.niss_shell.specs.Names.{DeviceFault}
 
 -- The bytes that a source will give, where they are known; whether a read failed; whether a read found the end.

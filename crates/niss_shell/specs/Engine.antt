@@ -5,7 +5,8 @@ use Rattle.niss_shell.specs.Lines.{ended_lines, last_part, written_text, first_f
 use Rattle.niss_moves.specs.Line.{Moves}
 use Rattle.niss_moves.specs.Reader.{Reader, IsFed}
 use Rattle.niss_shell.specs.Words.{Request, reads_source, takes_memory}
-use Rattle.niss_shell.specs.Output.{Answer, LineAnswers, answer_to_moves, looks_at_moves, looks_for, answer_lines, answer_request, line_with_bytes, ending}
+use Rattle.niss_shell.specs.Output.{Answer, LineAnswers, answer_to_moves, looks_at_moves}
+use Rattle.niss_shell.specs.Output.{looks_for, answer_lines, answer_request, line_with_bytes, ending}
 use Rattle.niss_shell.specs.Names.{LineCommand, UsageFault, DeviceFault, LineFault, Stop, Done, Line, CannotWrite, OutOfMemory, Output}
 
 -- What answers to lines change: the target that they are written to, the answers that wait to be written to it, and the

@@ -1,5 +1,6 @@
 -- What a run is to write and to answer.
-use Rattle.std.specs.Prelude.{ℕ, zero, suc, ◌*◌, nat_lt, Bool, true, false, if◌then◌else◌, codes, decimal, Option, Some, None, Result, Ok, Err, List, [], ◌∷◌, ◌++◌, map, flat_map, take, length, sum_by, unwrap_or}
+use Rattle.std.specs.Prelude.{ℕ, zero, suc, ◌*◌, nat_lt, Bool, true, false, if◌then◌else◌, codes, decimal}
+use Rattle.std.specs.Prelude.{Option, Some, None, Result, Ok, Err, List, [], ◌∷◌, ◌++◌, map, flat_map, take, length, sum_by, unwrap_or}
 use Rattle.niss_shell.specs.Device.{SourceState}
 use Rattle.niss_shell.specs.Lines.{line_feed, space, ended_lines, last_part, written_text, answered_lines, first_fault}
 use Rattle.niss_cube.specs.Steps.{name_of, start_name_of, steps, turns_of, may_start}
@@ -17,7 +18,9 @@ use Rattle.niss_search.specs.Cubes.{least_length_of, near_solutions_of, near_loo
 use Rattle.niss_search.specs.Solutions.{look_bound}
 use Rattle.niss_shell.specs.Scrambles.{generator_of, scramble_text}
 use Rattle.niss_shell.specs.Words.{most_bytes, Request, OnLines, ListSteps, DrawScrambles, request_of, joined}
-use Rattle.niss_shell.specs.Names.{UsageFault, LineCommand, Rewrite, Search, Report, Solutions, Counts, Rewriting, Invert, Unniss, Cleanup, Print, LineFault, Unread, NoStart, Stop, Done, Line, Usage, InputTooLong, CannotRead, CannotWrite, OutOfMemory, Step, Token, Turn, ReadFault}
+use Rattle.niss_shell.specs.Names.{UsageFault, LineCommand, Rewrite, Search, Report, Solutions, Counts, Rewriting}
+use Rattle.niss_shell.specs.Names.{Invert, Unniss, Cleanup, Print, LineFault, Unread, NoStart, Stop, Done, Line}
+use Rattle.niss_shell.specs.Names.{Usage, InputTooLong, CannotRead, CannotWrite, OutOfMemory, Step, Token, Turn, ReadFault}
 
 -- the name of the step that must hold before this one
 abbrev pub start_text : Step → List ℕ

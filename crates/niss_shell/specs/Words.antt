@@ -1,10 +1,12 @@
 -- The words of a command line.
-use Rattle.std.specs.Prelude.{ℕ, ◌-◌, ◌^◌, ◌≤◌, nat_le, nat_lt, if◌then◌else◌, bytes_eq, codes, Bool, true, false, ◌&&◌, Option, Some, None, find, Result, Ok, Err, List, [], ◌∷◌, ◌++◌, length, map, flat_map, string_bytes}
+use Rattle.std.specs.Prelude.{ℕ, ◌-◌, ◌^◌, ◌≤◌, nat_le, nat_lt, if◌then◌else◌, bytes_eq, codes, Bool, true, false, ◌&&◌}
+use Rattle.std.specs.Prelude.{Option, Some, None, find, Result, Ok, Err, List, [], ◌∷◌, ◌++◌, length, map, flat_map, string_bytes}
 use Rattle.std.specs.Char.{is_ascii_digit}
 use Rattle.std.specs.List.{list_all}
 use Rattle.std.specs.Str.Parse.{digits_value}
 use Rattle.niss_cube.specs.Steps.{name_of, steps}
-use Rattle.niss_shell.specs.Names.{Step, UsageFault, NoCommand, UnknownCommand, WrongCount, BadNumber, UnknownStep, LineCommand, Rewrite, Search, Report, Solutions, Counts, Invert, Unniss, Cleanup, Print, Command}
+use Rattle.niss_shell.specs.Names.{Step, UsageFault, NoCommand, UnknownCommand, WrongCount, BadNumber, UnknownStep}
+use Rattle.niss_shell.specs.Names.{LineCommand, Rewrite, Search, Report, Solutions, Counts, Invert, Unniss, Cleanup, Print, Command}
 use Rattle.niss_shell.specs.Lines.{line_feed, space}
 use Rattle.niss_shell.specs.declared.command.Command.TheVariants as command
 
