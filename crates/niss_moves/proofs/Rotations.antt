@@ -11,7 +11,7 @@ use Rattle.niss_moves.proofs.Finite.{every_coord, every_vector, at_vector, same_
 use Rattle.niss_moves.proofs.Finite.{every_face, at_face, every_power, at_power, every_axis, at_axis, every_optional_power, at_optional_power}
 use Rattle.std.proofs.lemmas.Bool.{and_parts}
 use Rattle.niss_moves.proofs.Inverses.{effect-append}
-use Rattle.niss_moves.specs.Names.{Face, U, D, R, L, F, B, Power, Quarter, Half, Counter, Turn, Axis, Ud, Rl, Fb, Rotation}
+use Rattle.niss_moves.specs.Names.{Face, U, D, R, L, F, B, Power, Quarter, Half, Counter, Turn, Axis, Rotation}
 use Rattle.niss_moves.specs.declared.token.Token.TheVariants as token
 
 abbrev pub turn : Face → Power → Turn
