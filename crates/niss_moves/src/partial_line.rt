@@ -112,7 +112,7 @@ impl PartialLine {
     /// Counts a byte that follows a fault.
     pub fn skip(&mut self)
         requires { self.old.fed < 16777216 }
-        ensures { self.new.fed ≡ self.old.fed + 1 }
+        ensures { self.new ≡ record self.old { fed = self.old.fed + 1 } }
     {
         self.fed += 1;
     }

@@ -119,7 +119,7 @@ impl LineReader {
         }
     }
 
-    /// The moves that were read, all of them once the line was ended.
+    /// The moves that were read, all of them once the line was ended. After a fault of `feed` nothing is said of them.
     pub fn moves(&self) -> &Niss
         ensures { result.now ≡ moves_of self.now }
     {

@@ -53,11 +53,15 @@ static VERTICAL: [[Option<Power>; 6]; 6] = [
 ];
 
 impl Face {
-    ghost use Rattle.niss_moves.specs.Rotations.{to_top};
+    ghost use Rattle.niss_moves.specs.Facelets.{centre};
+    ghost use Rattle.niss_moves.specs.Effects.{effect};
+    ghost use Rattle.niss_moves.specs.Rotations.{to_top, rotation_if};
+    ghost use Rattle.niss_moves.specs.declared.turn.Face.TheVariants.{U};
 
     /// The rotation about an axis that brings this face to the top. `U` is there.
     pub fn to_top(self) -> Option<(Axis, Power)>
-        ensures { result ≡ to_top self }
+        ensures value { result ≡ to_top self }
+        ensures brings { effect (rotation_if result) (centre self) ≡ centre U }
     {
         match self {
             Face::U => None,
@@ -71,9 +75,14 @@ impl Face {
 }
 
 impl Axis {
+    ghost use Rattle.niss_moves.specs.Facelets.{centre};
+    ghost use Rattle.niss_moves.specs.Effects.{moved_by};
+    ghost use Rattle.niss_moves.specs.declared.token.Token.TheVariants as token;
+
     /// The face that a rotation about this axis brings to the place of `face`: a quarter about `Rl` brings F to that of U.
     pub fn face_before(self, power: Power, face: Face) -> Face
-        ensures { result ≡ face_before_power self power face }
+        ensures renames { result ≡ face_before_power self power face }
+        ensures brings { moved_by (token.Rotation self power) (centre result) ≡ centre face }
     {
         BEFORE[self as usize][power as usize][face as usize]
     }

@@ -8,7 +8,7 @@ use Rattle.niss_moves.proofs.reader.LineReader.feed.Goals.{in-Some, in-None}
 on : (c : goal.After-self-1) → IsFedOn (reader c.self.inside.fault c.self.inside.line) c.args.byte (reader c.err-self-inside.result c.match-self.self-inside.line) c.match-self.taken
 on c =
     elim c.match-self.branch [
-      | in-Some w ↦ fed_again _ _ _ _ w.skip.new.self _ _ w.in-Some.fault w.in-Some.is w.skip.ensures w.taken-is c.err-self-inside.ensures.value (ap (λ r. r.line) w.self-inside-is)
+      | in-Some w ↦ fed_again _ _ _ _ w.skip.new.self _ _ w.in-Some.fault w.in-Some.is (ap (λ s. s.fed) w.skip.ensures) w.taken-is c.err-self-inside.ensures.value (ap (λ r. r.line) w.self-inside-is)
       | in-None w ↦ fed_on _ _ _ _ w.step-taken.new.self _ _ w.step-taken.result w.in-None.is c.self.invariant w.step-taken.ensures.steps w.step-taken.ensures.fed w.taken-is c.err-self-inside.ensures.value (ap (λ r. r.line) w.self-inside-is)
     ]
 
