@@ -117,16 +117,18 @@ fn check_search(rt: &impl Abort, heap: &LocalHeap, tables: &Tables<&LocalHeap>, 
     assert!(rt; sink.is_same, "{moves}");
 }
 
-/// A search keeps nothing in the memory of its tables, of whatever kind these are.
+/// A search keeps nothing in the memory of its tables, of whatever kind these are, and they take no more than is said: here the
+/// bytes of the turn tables, and of the moves and the entries of each goal.
 #[test]
 fn searches_hold_no_memory(rt: HostRuntime) -> Result<(), Fail> {
-    for (step, moves) in [
-        (Step::Eofb, "F"),
-        (Step::Eo, "F R U"),
-        (Step::DrudEofb, "R"),
-        (Step::DrEofb, "R U"),
+    for (step, moves, size) in [
+        (Step::Eofb, "F", 149_504),
+        (Step::Eo, "F R U", 301_056),
+        (Step::DrudEofb, "R", 1_275_696),
+        (Step::DrEofb, "R U", 2_454_832),
     ] {
-        let heap = LocalHeap::new(rt.alloc(), 1 << 22)?;
+        // each growth takes a multiple of 16
+        let heap = LocalHeap::new(rt.alloc(), size)?;
         let tables = Tables::build_in(&heap, step, &mut Meter::new()).expect(&rt, "tables");
         check_search(&rt, &heap, &tables, moves);
         drop(tables);
