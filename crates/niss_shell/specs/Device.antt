@@ -10,7 +10,7 @@ pub record SourceState : Type 0 where
   pub has_ended : Bool
 
 -- The bytes that a target holds, where they are known; whether a write failed; whether a flush failed; whether a flush
--- came after the last byte, good or refused; whether the last one that came so was good.
+-- came after the last write, good or refused; whether the last one that came so was good.
 pub record TargetState : Type 0 where
   pub held : Option (List ℕ)
   pub write_failed : Bool
@@ -88,9 +88,9 @@ pub record TakesPiece (result : Result ℕ DeviceFault) (piece : List ℕ) (old 
   pub silent : StaysSilent old new
   pub write_failed : new.write_failed ≡ (old.write_failed || is_refused result piece)
   pub flush_failed : new.flush_failed ≡ old.flush_failed
-  -- no flush came after these bytes
-  pub untried : 0 < length (moved_bytes result piece) → new.flush_tried ≡ false
-  pub unflushed : 0 < length (moved_bytes result piece) → new.is_flushed ≡ false
+  -- no flush came after it
+  pub untried : new.flush_tried ≡ false
+  pub unflushed : new.is_flushed ≡ false
 
 -- A flush, which was refused or wasn't, moved no bytes.
 pub record Flushes (refused : Bool) (old new : TargetState) : Type 0 where

@@ -29,7 +29,7 @@ pub trait Source {
 
 /// Something that bytes are written to.
 pub trait Target {
-    // the bytes held, where they are known, its flags, and which flush came after the last byte
+    // the bytes held, where they are known, its flags, and which flush came after the last write
     ghost state: { Self → TargetState };
 
     /// Takes some first bytes of the piece, and answers how many. To take none of a piece that isn't empty is a failure,
