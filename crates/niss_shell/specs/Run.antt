@@ -88,7 +88,7 @@ pub record Runs (words : List (List ℕ)) (old new : Devices) (looks looks_now :
   -- how the run ended, and what was written
   pub stop : Stop
   pub ends : Ends stop (out_of words input new.source) (request_of words) old new
-  -- however it ended, a flush of the output was tried after its last byte
+  -- however it ended, a flush of the output was tried after its last write
   pub tried : new.output.flush_tried ≡ true
   -- No flush but that last one was refused. So none came earlier, since an earlier one may be refused and the last one
   -- not.

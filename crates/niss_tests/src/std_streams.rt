@@ -124,7 +124,7 @@ fn no_bytes_are_taken_by_a_stream(rt: HostRuntime) {
     check_nothing_taken(&rt, rt.alloc(), Words(&["invert", "R U' F2"]), devices);
 }
 
-/// Runs with one flush, after the last byte: a good one, one that a line's fault ends, and one that writes nothing.
+/// Runs with one flush, after the last write: a good one, one that a line's fault ends, and one that writes nothing.
 const FLUSHED: [Run<'static>; 3] = [
     Good(Input(&["invert"], b"R\nU\nF2\n"), b"R'\nU'\nF2\n"),
     Fault(

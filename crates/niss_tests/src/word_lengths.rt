@@ -1,4 +1,4 @@
-//! Runs whose memory is ample: each step has its tables, and words of each length are joined.
+//! Runs whose memory is ample: each step and each number has its tables, and words of each length are joined.
 use crate::devices::FAULTLESS;
 use crate::runs::Given::Input;
 use crate::runs::Run::Good;
@@ -21,6 +21,34 @@ fn each_step_has_its_tables(rt: HostRuntime) {
             &rt,
             rt.alloc(),
             &["solve", step.name(), "0", ""],
+            b"(0)\n\n",
+        );
+    }
+}
+
+/// The numbers that a search takes, as words.
+const NUMBERS: [&str; 21] = [
+    "0", "1", "2", "3", "4", "5", "6", "7", "8", "9", "10", "11", "12", "13", "14", "15", "16",
+    "17", "18", "19", "20",
+];
+
+/// With each limit and each slack the tables are there.
+#[test]
+fn each_number_has_its_tables(rt: HostRuntime) {
+    for number in NUMBERS {
+        let counted = b"length 0 solutions 1 nodes 1\n";
+        check_unread(&rt, rt.alloc(), &["solve", "eofb", number, ""], b"(0)\n\n");
+        check_unread(&rt, rt.alloc(), &["count", "eofb", number, ""], counted);
+        check_unread(
+            &rt,
+            rt.alloc(),
+            &["near", "eofb", "0", number, ""],
+            b"(0)\n\n",
+        );
+        check_unread(
+            &rt,
+            rt.alloc(),
+            &["near", "eofb", number, "0", ""],
             b"(0)\n\n",
         );
     }
