@@ -1,7 +1,6 @@
 //! Coordinates of cubes, and the tables that turn them.
-use crate::cubes::{after, quarter, turn};
-use crate::steps::cube_after;
-use niss_cube::{Axis, Coordinate, Cube, Face, OutOfMemory, Power, TurnTable, TurnTables};
+use crate::cubes::{cube_after, quarter};
+use niss_cube::{Axis, Coordinate, Cube, Face, OutOfMemory, TurnTable, TurnTables};
 use std::alloc::Allocator;
 use std::process::Abort;
 
@@ -32,47 +31,29 @@ fn a_solved_cube_has_coordinates_0(rt: HostRuntime) {
 
 #[test]
 fn a_quarter_turn_flips_edges(rt: HostRuntime) {
-    for (face, axis) in [
-        (Face::F, Axis::Fb),
-        (Face::R, Axis::Rl),
-        (Face::U, Axis::Ud),
-    ] {
-        assert!(rt; quarter(face).flip(axis) == 550);
+    for (moves, axis) in [("F", Axis::Fb), ("R", Axis::Rl), ("U", Axis::Ud)] {
+        assert!(rt; cube_after(&rt, moves).flip(axis) == 550);
     }
 }
 
 #[test]
 fn a_quarter_turn_twists_corners(rt: HostRuntime) {
-    for (face, axis) in [
-        (Face::R, Axis::Ud),
-        (Face::R, Axis::Fb),
-        (Face::D, Axis::Rl),
-    ] {
-        assert!(rt; quarter(face).twist(axis) == 1494);
+    for (moves, axis) in [("R", Axis::Ud), ("R", Axis::Fb), ("D", Axis::Rl)] {
+        assert!(rt; cube_after(&rt, moves).twist(axis) == 1494);
     }
 }
 
 #[test]
 fn a_quarter_turn_takes_edges_out_of_a_slice(rt: HostRuntime) {
-    for (face, axis) in [
-        (Face::F, Axis::Ud),
-        (Face::F, Axis::Rl),
-        (Face::D, Axis::Fb),
-    ] {
-        assert!(rt; quarter(face).slice(axis) == 33);
+    for (moves, axis) in [("F", Axis::Ud), ("F", Axis::Rl), ("D", Axis::Fb)] {
+        assert!(rt; cube_after(&rt, moves).slice(axis) == 33);
     }
 }
 
-// R U R2 B' L' brings the edges FR, FL, BL, BR to the places UF, UL, UB, UR.
+// These turns bring the edges FR, FL, BL, BR to the places UF, UL, UB, UR.
 #[test]
 fn the_largest_slice_number_is_494(rt: HostRuntime) {
-    let cube = after(&[
-        turn(Face::R, Power::Quarter),
-        turn(Face::U, Power::Quarter),
-        turn(Face::R, Power::Half),
-        turn(Face::B, Power::Counter),
-        turn(Face::L, Power::Counter),
-    ]);
+    let cube = cube_after(&rt, "R U R2 B' L'");
     assert!(rt; cube.slice(Axis::Ud) == 494);
 }
 
@@ -92,8 +73,8 @@ fn a_turned_cube_has_its_numbers_on_each_axis(rt: HostRuntime) {
 
 /// Turns the numbers of the solved cube.
 fn check_numbers<A: Allocator>(rt: &impl Abort, tables: &TurnTables<A>) {
-    let front = turn(Face::F, Power::Quarter);
-    let right = turn(Face::R, Power::Quarter);
+    let front = quarter(Face::F);
+    let right = quarter(Face::R);
     let numbers = [
         tables.next_flip(Axis::Fb, 0, front),
         tables.next_twist(Axis::Ud, 0, right),
@@ -121,7 +102,7 @@ fn tables_turn_the_solved_cube(rt: HostRuntime) {
 fn the_table_of_one_coordinate_turns_the_solved_cube(rt: HostRuntime) {
     match TurnTable::build_in(rt.alloc(), Coordinate::Twist) {
         Ok(table) => {
-            let right = turn(Face::R, Power::Quarter);
+            let right = quarter(Face::R);
             assert!(rt; table.next(Axis::Ud, 0, right) == 1494);
         }
         Err(_) => panic!(rt; "no memory for tables"),

@@ -1,45 +1,23 @@
 //! Cubes: their facelets, and the round of a sequence.
 use niss_cube::{Cube, Face, Power, Rotation, Turn};
+use niss_moves::{read, to_faces};
 use std::process::Abort;
 
-pub fn turn(face: Face, power: Power) -> Turn {
-    Turn { face, power }
+pub fn quarter(face: Face) -> Turn {
+    Turn {
+        face,
+        power: Power::Quarter,
+    }
 }
 
-pub fn after(turns: &[Turn]) -> Cube {
+/// The solved cube after face turns.
+pub fn cube_after(rt: &impl Abort, moves: &str) -> Cube {
+    assert!(rt; moves.len() <= 256, "{moves}");
+    let line = read(moves.as_bytes()).expect(rt, "face turns");
+    let (turns, _) = to_faces(line.normal());
     let mut cube = Cube::solved();
-    cube.apply(turns);
+    cube.apply(turns.as_slice());
     cube
-}
-
-pub fn quarter(face: Face) -> Cube {
-    after(&[turn(face, Power::Quarter)])
-}
-
-// The cube with every edge flipped and all else home: U R2 F B R B2 R U2 L B2 R U' D' R2 F R' L B2 U2 F2.
-fn superflip() -> Cube {
-    after(&[
-        turn(Face::U, Power::Quarter),
-        turn(Face::R, Power::Half),
-        turn(Face::F, Power::Quarter),
-        turn(Face::B, Power::Quarter),
-        turn(Face::R, Power::Quarter),
-        turn(Face::B, Power::Half),
-        turn(Face::R, Power::Quarter),
-        turn(Face::U, Power::Half),
-        turn(Face::L, Power::Quarter),
-        turn(Face::B, Power::Half),
-        turn(Face::R, Power::Quarter),
-        turn(Face::U, Power::Counter),
-        turn(Face::D, Power::Counter),
-        turn(Face::R, Power::Half),
-        turn(Face::F, Power::Quarter),
-        turn(Face::R, Power::Counter),
-        turn(Face::L, Power::Quarter),
-        turn(Face::B, Power::Half),
-        turn(Face::U, Power::Half),
-        turn(Face::F, Power::Half),
-    ])
 }
 
 fn check_facelets(rt: &impl Abort, cube: &Cube, rotation: Rotation, facelets: &[u8; 54]) {
@@ -51,19 +29,14 @@ fn facelets_are_those_of_the_cube(rt: HostRuntime) {
     let solved = b"UUUUUUUUURRRRRRRRRFFFFFFFFFDDDDDDDDDLLLLLLLLLBBBBBBBBB";
     check_facelets(&rt, &Cube::solved(), Rotation::IDENTITY, solved);
     let right = b"UUFUUFUUFRRRRRRRRRFFDFFDFFDDDBDDBDDBLLLLLLLLLUBBUBBUBB";
-    check_facelets(&rt, &quarter(Face::R), Rotation::IDENTITY, right);
-    let checkerboard = after(&[
-        turn(Face::R, Power::Half),
-        turn(Face::L, Power::Half),
-        turn(Face::U, Power::Half),
-        turn(Face::D, Power::Half),
-        turn(Face::F, Power::Half),
-        turn(Face::B, Power::Half),
-    ]);
+    check_facelets(&rt, &cube_after(&rt, "R"), Rotation::IDENTITY, right);
+    let checkerboard = cube_after(&rt, "R2 L2 U2 D2 F2 B2");
     let checkered = b"UDUDUDUDURLRLRLRLRFBFBFBFBFDUDUDUDUDLRLRLRLRLBFBFBFBFB";
     check_facelets(&rt, &checkerboard, Rotation::IDENTITY, checkered);
+    // every edge is flipped, and all else home
+    let superflip = cube_after(&rt, "U R2 F B R B2 R U2 L B2 R U' D' R2 F R' L B2 U2 F2");
     let flipped = b"UBULURUFURURFRBRDRFUFLFRFDFDFDLDRDBDLULBLFLDLBUBRBLBDB";
-    check_facelets(&rt, &superflip(), Rotation::IDENTITY, flipped);
+    check_facelets(&rt, &superflip, Rotation::IDENTITY, flipped);
 }
 
 #[test]
@@ -79,14 +52,14 @@ fn facelets_are_rotated_as_a_whole(rt: HostRuntime) {
         top: Face::B,
         vertical: None,
     };
-    let middle = after(&[turn(Face::R, Power::Quarter), turn(Face::L, Power::Counter)]);
+    let middle = cube_after(&rt, "R L'");
     let sliced = b"UBUUBUUBURRRRRRRRRFUFFUFFUFDFDDFDDFDLLLLLLLLLBDBBDBBDB";
     check_facelets(&rt, &middle, x_counter, sliced);
 }
 
 #[test]
 fn right_and_up_return_after_105_times(rt: HostRuntime) {
-    let turns = [turn(Face::R, Power::Quarter), turn(Face::U, Power::Quarter)];
+    let turns = [quarter(Face::R), quarter(Face::U)];
     let mut cube = Cube::solved();
     for _ in 0..104 {
         cube.apply(&turns);

@@ -5,6 +5,8 @@
 #[cfg(test)]
 mod alternatives;
 #[cfg(test)]
+mod ample_memory;
+#[cfg(test)]
 mod answers;
 #[cfg(test)]
 mod blocks;
@@ -52,5 +54,3 @@ mod std_streams;
 mod steps;
 #[cfg(test)]
 mod usage;
-#[cfg(test)]
-mod word_lengths;

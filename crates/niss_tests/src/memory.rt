@@ -1,11 +1,11 @@
 //! Heaps of the size that some growths ask for, or a little less, and a heap while a search goes on.
 use crate::coordinates::check_tables;
+use crate::cubes::cube_after;
 use crate::devices::{Devices, FAULTLESS};
 use crate::path_sinks::HeapWatch;
 use crate::runs::Given::{Input, Words};
 use crate::runs::Run::{self, Failure, Good};
 use crate::runs::{OUT_OF_MEMORY, TOO_LONG, repeated};
-use crate::steps::cube_after;
 use linked_list_allocator::LocalHeap;
 use niss_cube::{OutOfMemory, Step, TurnTables};
 use niss_search::{Limit, Meter, Tables, TurnPath, search};
@@ -117,17 +117,27 @@ fn check_search(rt: &impl Abort, heap: &LocalHeap, tables: &Tables<&LocalHeap>, 
     assert!(rt; sink.is_same, "{moves}");
 }
 
-/// A search keeps nothing in the memory of its tables, of whatever kind these are, and they take no more than is said: here the
-/// bytes of the turn tables, and of the moves and the entries of each goal.
+/// The bytes of a table of the flips after each turn. Each growth takes a multiple of 16.
+const FLIPS: usize = 73_728;
+
+/// The bytes of such a table of the twists, and of one of the slices.
+const TWISTS_AND_SLICES: usize = 78_736 + 17_824;
+
+/// The bytes for an edge orientation: its moves take as much as those of its coordinate, and each position one for its distance.
+const EDGES: usize = FLIPS + 2048;
+
+/// The bytes for a domino reduction, in the same way.
+const DOMINO: usize = TWISTS_AND_SLICES + 1_082_576;
+
+/// A search keeps nothing in the memory of its tables, of whatever kind these are, and they take no more than is said.
 #[test]
 fn searches_hold_no_memory(rt: HostRuntime) -> Result<(), Fail> {
     for (step, moves, size) in [
-        (Step::Eofb, "F", 149_504),
-        (Step::Eo, "F R U", 301_056),
-        (Step::DrudEofb, "R", 1_275_696),
-        (Step::DrEofb, "R U", 2_454_832),
+        (Step::Eofb, "F", FLIPS + EDGES),
+        (Step::Eo, "F R U", FLIPS + 3 * EDGES),
+        (Step::DrudEofb, "R", TWISTS_AND_SLICES + DOMINO),
+        (Step::DrEofb, "R U", TWISTS_AND_SLICES + 2 * DOMINO),
     ] {
-        // each growth takes a multiple of 16
         let heap = LocalHeap::new(rt.alloc(), size)?;
         let tables = Tables::build_in(&heap, step, &mut Meter::new()).expect(&rt, "tables");
         check_search(&rt, &heap, &tables, moves);

@@ -1,18 +1,12 @@
 //! Lines rewritten: brackets joined, inverses, cleaned lines, and which turns may stand side by side.
 ghost use Rattle.std.specs.Prelude.{◌≤◌, length};
 
+use crate::cubes::quarter;
 use crate::runs::{check_bytes, check_count};
 use niss_moves::{
-    Axis, Face, Faces, LineText, Power, Slice, Token, Turn, allowed, invert, put_faces,
-    put_niss_clean, put_tokens, read, turn_order, turns_after, unniss,
+    Axis, Face, Faces, LineText, Power, Slice, Token, allowed, invert, put_faces, put_niss_clean,
+    put_tokens, read, turn_order, turns_after, unniss,
 };
-
-fn quarter(face: Face) -> Turn {
-    Turn {
-        face,
-        power: Power::Quarter,
-    }
-}
 
 #[test]
 fn allows_up_down_and_not_down_up(rt: HostRuntime) {

@@ -1,8 +1,8 @@
 //! Searches: what is handed out, how often positions are looked at, and what a refusal leaves.
 ghost use Rattle.niss_search.specs.Cubes.{IsPosition};
 
+use crate::cubes::cube_after;
 use crate::path_sinks::{Comparison, Refused};
-use crate::steps::cube_after;
 use niss_cube::Step;
 use niss_search::{Limit, Meter, Outcome, Position, Tables, TurnPath, next_at, search};
 use std::alloc::Global;

@@ -22,12 +22,17 @@ const KINDS: [io::ErrorKind; 5] = [
     io::ErrorKind::Other,
 ];
 
-/// Streams of which no call fails; where one is to fail, it does with this kind of error.
+/// Streams of which a call that is to fail does so with this kind of error.
 fn streams(kind: io::ErrorKind) -> Devices<'static> {
     Devices {
         stream_error: Some(kind),
         ..FAULTLESS
     }
+}
+
+/// Streams of which no call fails, so that no kind of error is seen.
+fn good_streams() -> Devices<'static> {
+    streams(io::ErrorKind::Other)
 }
 
 #[test]
@@ -60,7 +65,7 @@ fn each_read_fails_once(rt: HostRuntime) {
 #[test]
 fn short_reads_are_counted(rt: HostRuntime) {
     let run = Good(Input(&["invert"], b"R\nU\nF"), b"R'\nU'\nF'\n");
-    let calls = run.check(&rt, rt.alloc(), streams(io::ErrorKind::Other));
+    let calls = run.check(&rt, rt.alloc(), good_streams());
     check_count(&rt, "reads", calls.reads, 6);
 }
 
@@ -70,7 +75,7 @@ fn check_blocks(rt: &impl Abort, alloc: Global, blocks: usize, output: &[u8]) {
     let spaces = spaces.expect(rt, "memory for blocks");
     let devices = Devices {
         most_read: usize::MAX,
-        ..streams(io::ErrorKind::Other)
+        ..good_streams()
     };
     let calls = Good(Input(&["invert"], spaces.as_bytes()), output).check(rt, alloc, devices);
     check_count(rt, "reads", calls.reads, blocks.saturating_add(1));
@@ -120,8 +125,8 @@ fn each_write_fails_once(rt: HostRuntime) {
 
 #[test]
 fn no_bytes_are_taken_by_a_stream(rt: HostRuntime) {
-    let devices = streams(io::ErrorKind::Other);
-    check_nothing_taken(&rt, rt.alloc(), Words(&["invert", "R U' F2"]), devices);
+    let words = Words(&["invert", "R U' F2"]);
+    check_nothing_taken(&rt, rt.alloc(), words, good_streams());
 }
 
 /// Runs with one flush, after the last write: a good one, one that a line's fault ends, and one that writes nothing.
@@ -138,7 +143,7 @@ const FLUSHED: [Run<'static>; 3] = [
 #[test]
 fn the_flush_comes_last(rt: HostRuntime) {
     for run in FLUSHED {
-        run.check(&rt, rt.alloc(), streams(io::ErrorKind::Other));
+        run.check(&rt, rt.alloc(), good_streams());
     }
 }
 

@@ -1,6 +1,7 @@
 //! Steps: their names and turns, and on which cubes they may start and are reached.
-use niss_cube::{Cube, Step};
-use niss_moves::{LineText, put_faces, read, to_faces};
+use crate::cubes::cube_after;
+use niss_cube::Step;
+use niss_moves::{LineText, put_faces};
 use std::process::Abort;
 
 const ALL_TURNS: &str = "U U2 U' D D2 D' R R2 R' L L2 L' F F2 F' B B2 B'";
@@ -101,16 +102,6 @@ fn other_names_are_of_no_step(rt: HostRuntime) {
     ] {
         assert!(rt; Step::from_name(name.as_bytes()).is_none(), "{name}");
     }
-}
-
-// The solved cube after face turns.
-pub fn cube_after(rt: &impl Abort, moves: &str) -> Cube {
-    assert!(rt; moves.len() <= 256, "{moves}");
-    let line = read(moves.as_bytes()).expect(rt, "face turns");
-    let (turns, _) = to_faces(line.normal());
-    let mut cube = Cube::solved();
-    cube.apply(turns.as_slice());
-    cube
 }
 
 // Checks on which steps the cube may start, and which it has reached.

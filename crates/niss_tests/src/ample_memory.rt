@@ -13,16 +13,17 @@ fn check_unread(rt: &impl Abort, alloc: Global, words: &[&str], output: &[u8]) {
     check_count(rt, "reads", calls.reads, 0);
 }
 
+/// What a search answers where the step is reached at once.
+const REACHED: &[u8] = b"(0)\n\n";
+
+/// What it counts then.
+const COUNTED: &[u8] = b"length 0 solutions 1 nodes 1\n";
+
 /// The solved cube has reached each step, which needs its tables to say so.
 #[test]
 fn each_step_has_its_tables(rt: HostRuntime) {
     for step in Step::all() {
-        check_unread(
-            &rt,
-            rt.alloc(),
-            &["solve", step.name(), "0", ""],
-            b"(0)\n\n",
-        );
+        check_unread(&rt, rt.alloc(), &["solve", step.name(), "0", ""], REACHED);
     }
 }
 
@@ -36,21 +37,10 @@ const NUMBERS: [&str; 21] = [
 #[test]
 fn each_number_has_its_tables(rt: HostRuntime) {
     for number in NUMBERS {
-        let counted = b"length 0 solutions 1 nodes 1\n";
-        check_unread(&rt, rt.alloc(), &["solve", "eofb", number, ""], b"(0)\n\n");
-        check_unread(&rt, rt.alloc(), &["count", "eofb", number, ""], counted);
-        check_unread(
-            &rt,
-            rt.alloc(),
-            &["near", "eofb", "0", number, ""],
-            b"(0)\n\n",
-        );
-        check_unread(
-            &rt,
-            rt.alloc(),
-            &["near", "eofb", number, "0", ""],
-            b"(0)\n\n",
-        );
+        check_unread(&rt, rt.alloc(), &["solve", "eofb", number, ""], REACHED);
+        check_unread(&rt, rt.alloc(), &["count", "eofb", number, ""], COUNTED);
+        check_unread(&rt, rt.alloc(), &["near", "eofb", "0", number, ""], REACHED);
+        check_unread(&rt, rt.alloc(), &["near", "eofb", number, "0", ""], REACHED);
     }
 }
 
