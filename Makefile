@@ -2,7 +2,9 @@
 PREFIX ?= /usr/local
 DESTDIR ?=
 
-SOURCES := HANDLES crates.txt $(shell find crates \( -name out -o -name must-fail \) -prune -o -type f \( -name '*.rt' -o -name '*.antt' \) -print)
+# What the program is made of, without the crates that only test it or show the libraries' use.
+SOURCES := HANDLES crates.txt $(shell find crates \( -name out -o -name must-fail -o -name niss_tests -o -name eo_axes \) -prune \
+	-o -type f \( -name '*.rt' -o -name '*.antt' \) -print)
 
 # Where a distribution looks for each file. A package is built with `make install DESTDIR=FOLDER PREFIX=/usr`: the files go below
 # FOLDER, and PREFIX says where they will stand. `make uninstall` takes the same two.
@@ -37,7 +39,7 @@ install: build/nissy
 
 uninstall:
 	@set -e; for pair in $(INSTALLED); do rm -f "$(DESTDIR)$(PREFIX)/$${pair#*:}"; done
-	-@rmdir "$(DESTDIR)$(PREFIX)/share/doc/nissy" 2> /dev/null || true
+	@rmdir "$(DESTDIR)$(PREFIX)/share/doc/nissy" 2> /dev/null || true
 
 bench: build/nissy
 	bench/run

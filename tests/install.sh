@@ -58,18 +58,26 @@ for command in solve count near; do
     holds "bash completes the steps of $command" test "$(completed nissy "$command")" = "$steps"
 done
 holds "bash offers nothing where moves stand" test -z "$(completed nissy invert)$(completed nissy solve eofb 20)"
-named_in() { tr -cs 'a-z-' '\n' < "$1" | grep -Fx -e "$2" > /dev/null; }
-all_named() { # each step and command is named in the file
+listed_in() { # PAGE: the commands that it offers or explains
+    case $1 in
+        */_nissy) sed -n "s/^ *'\([a-z]*\):.*/\1/p" "$1" ;;
+        *.fish) sed -n 's/.*use_subcommand -a \([a-z]*\) .*/\1/p' "$1" ;;
+        *.md) sed -n '/^## Commands/,/^## Steps/s/^| `\([a-z]*\).*/\1/p' "$1" ;;
+        *.1) sed -n '/^\.SS Commands/,/^\.SS Steps/s/^\.BI\{0,1\} \([a-z][a-z]*\).*/\1/p' "$1" ;;
+    esac
+}
+in_order() { tr ' ' '\n' | LC_ALL=C sort; }
+named_in() { sed 's/\\-/-/g' "$1" | tr -cs 'a-z-' '\n' | grep -Fx -e "$2" > /dev/null; }
+all_named() { # each step is named in the file
     local name
-    for name in $steps $commands; do
+    for name in $steps; do
         named_in "$1" "$name" || { echo "$name isn't named"; return 1; }
     done
 }
-for page in zsh/site-functions/_nissy fish/vendor_completions.d/nissy.fish doc/nissy/MANUAL.md; do
-    holds "$page names each step and command" all_named "$share/$page"
+for page in zsh/site-functions/_nissy fish/vendor_completions.d/nissy.fish doc/nissy/MANUAL.md man/man1/nissy.1; do
+    holds "$page lists the commands" test "$(listed_in "$share/$page" | in_order)" = "$(in_order <<< "$commands")"
+    holds "$page names each step" all_named "$share/$page"
 done
-sed 's/\\-/-/g' "$share/man/man1/nissy.1" > "$room/page"
-holds "the manual page names each step and command" all_named "$room/page"
 
 if command -v zsh > /dev/null; then
     holds "zsh reads its completion" zsh -n "$share/zsh/site-functions/_nissy"

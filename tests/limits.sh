@@ -25,9 +25,11 @@ answers "a reader that has gone" 3 "" "nissy: cannot write\n" gone_reader
 within() { prlimit --as=$(($1 * 1024)) "$nissy" "${@:2}" < /dev/null; }
 succeeds() { "$@" > /dev/null 2>&1; }
 
-# Under less and less memory a step is either solved or refused, with nothing written.
+# Under less and less memory a step is either solved as ever or refused, with nothing written.
+"$nissy" solve drud-eofb 5 R U > "$room/solved"
+is_solved() { within "$1" solve drud-eofb 5 R U 2>&1 | cmp -s - "$room/solved"; }
 kilobytes=8000
-while [ "$kilobytes" -gt 2000 ] && succeeds within "$kilobytes" solve drud-eofb 5 R U; do
+while [ "$kilobytes" -gt 2000 ] && is_solved "$kilobytes"; do
     kilobytes=$((kilobytes - 400))
 done
 if [ "$kilobytes" -gt 2000 ] && succeeds within "$kilobytes" steps; then

@@ -61,6 +61,13 @@ for page in docs/ARCHITECTURE.md docs/PROMISES.md docs/DECISIONS.md; do
         "$(quoted '`([A-Za-z_0-9:]+|[a-z_]*/?(src|specs|proofs)/[A-Za-z_/]+\.(rt|antt))`' "$page")" is_there
 done
 
+says_nothing() { ! "$@" 2>&1 | grep .; }
+holds "docs/ARCHITECTURE.md maps each file of the libraries" says_nothing tools/map
+paths_in() { grep -oE '\b(crates|tests|tools|docs|bench|completions)/[A-Za-z0-9_./-]+' "$1" | sed 's/\.$//' | grep -v NAME | sort -u; }
+for page in README.md CONTRIBUTING.md; do
+    each "$page" "a file or folder" "$(paths_in "$page")" test -e
+done
+
 # after the word of what it is, docs/PROMISES.md names clauses and laws, and the records and fields of definitions
 named_after() { quoted "$1"' (`[a-z_A-Z]+`(, | and )?)+' docs/PROMISES.md; }
 stands_in_code() { grep -rqE --include='*.rt' --include='*.antt' --exclude-dir=out "$1" crates/niss_*; }
@@ -71,6 +78,29 @@ is_field() { stands_in_code "pub $1 :"; }
 for kind in clause law record field; do
     each docs/PROMISES.md "a $kind" "$(named_after "${kind}s?")" "is_$kind"
 done
+
+# where a row gives clauses of functions, as '`f` and `T::g`, clauses `c`, `d`' or 'clause `c` of `f`', each function has each of them
+awk '/^ *(pub )?(pub\(.*\) )?(const )?fn / { sub(/.*fn /, ""); sub(/[^a-z0-9_].*/, ""); name = $0 }
+    /^ *ensures [a-z_]+ \{/ { print name "-" $2 }' crates/niss_*/src/*.rt crates/niss_*/src/*/*.rt | sort -u > "$room/clauses"
+clauses_of_functions() { # each as FUNCTION-CLAUSE
+    sed -n 's/^|.* | \(.*\) |$/\1/p' docs/PROMISES.md | tr ';' '\n' | sed 's/`==` of `[A-Za-z]*`/`eq`/' | awk '
+        function names(text, into,    parts, count, at) {
+            count = split(text, parts, "`")
+            for (at = 2; at <= count; at += 2) { sub(/.*::/, "", parts[at]); into[at / 2] = parts[at] }
+            return int(count / 2)
+        }
+        match($0, /clauses? `[a-z_]+`((, | and )`[a-z_]+`)* of `[^`]+`((, | and )`[^`]+`)*/) ||
+        match($0, /(`[^`]+`(, | and ))+clauses? `[a-z_]+`((, | and )`[a-z_]+`)*/) {
+            claim = substr($0, RSTART, RLENGTH)
+            if (!match(claim, / of /)) match(claim, /clause/)
+            before = names(substr(claim, 1, RSTART - 1), first)
+            after = names(substr(claim, RSTART), second)
+            for (i = 1; i <= before; i++) for (j = 1; j <= after; j++)
+                print claim ~ /^clause/ ? second[j] "-" first[i] : first[i] "-" second[j]
+        }'
+}
+is_clause_of_function() { grep -qx -- "$1" "$room/clauses"; }
+each docs/PROMISES.md "a clause of its function" "$(clauses_of_functions)" is_clause_of_function
 
 # in the table of wrong programs each row names edits after the word, and rows of niss_tests
 edits_and_rows() {

@@ -99,10 +99,10 @@ def refused_faults(trial, words):
             trial.check("a text of faults refused", words + [how, str(nth)], b"", got, (whole[0], True, whole[2]))
 
 
-def judge(trial, kind, traced, how):
-    """The whole answer, or out of memory with nothing read and nothing written."""
+def judge(trial, kind, traced, how, is_memory):
+    """The whole answer, or where memory is refused out of memory with nothing read and nothing written."""
     expected = model.run(traced.words, traced.data)
-    if traced.answer == (b"", NO_MEMORY, 3) and not traced.on_stream("read", 0):
+    if is_memory and traced.answer == (b"", NO_MEMORY, 3) and not traced.on_stream("read", 0):
         expected = traced.answer
     trial.check(kind, traced.words + [how], traced.data, traced.answer, expected)
 
@@ -115,7 +115,7 @@ def refused_others(trial, words, data):
             continue
         for error in ["ENOMEM"] if name in ("mmap", "mremap", "munmap", "mprotect") else ["EPERM", "EINTR", "ENOSYS"]:
             for how in ("%s:error=%s:when=%d" % (name, error, nth), "%s:error=%s:when=%d+" % (name, error, nth)):
-                judge(trial, "another call refused", Traced(trial, words, data, how), how)
+                judge(trial, "another call refused", Traced(trial, words, data, how), how, error == "ENOMEM")
 
 
 def refused_growths(trial, words, data):
@@ -126,9 +126,9 @@ def refused_growths(trial, words, data):
         if at >= own and name in GROWING and arguments != "NULL":
             from_here = ["brk:retval=%s:when=%d+" % (old_break, seen["brk"] + 1)]
             from_here += ["%s:error=ENOMEM:when=%d+" % (call, seen[call] + 1) for call in ("mmap", "mremap")]
-            judge(trial, "every growth from one on refused", Traced(trial, words, data, *from_here), str(at))
+            judge(trial, "every growth from one on refused", Traced(trial, words, data, *from_here), str(at), True)
             once = "brk:retval=%s:when=%d" % (old_break, nth) if name == "brk" else "%s:error=ENOMEM:when=%d" % (name, nth)
-            judge(trial, "one growth refused", Traced(trial, words, data, once), once)
+            judge(trial, "one growth refused", Traced(trial, words, data, once), once, True)
         if name in seen:
             seen[name] = nth
         if name == "brk":
@@ -147,6 +147,8 @@ def calls(trial, draw):
     if not is_there(trial):
         print("skipped: no strace traces here, so no system call is refused")
         return
+    trial.awaits("a read refused", "a write refused", "a short write", "a text of faults refused", "another call refused",
+                 "one growth refused", "every growth from one on refused")
     for words, data, errors in (
             (["invert"], b"R\nU\nF", ["EIO", "EINTR", "EAGAIN", "EISDIR"]), (["print"], lines(draw, 700, 6)[:9000] + b"\n", ["EIO", "EINTR"]),
             (["solve", "eofb", "2"], b"F\nB\n(U)\nF", ["EIO"]), (["unniss"], b"R\nq\n", ["EIO"])):

@@ -15,6 +15,8 @@ ALLOCATING = [(["invert"], b"R U\nF2\n"), (["unniss"], b"R\n(U"), (["cleanup"], 
               (["solve", "eofb", "7", "F"], b""), (["solve", "eo", "7"], b"F\nR\n"), (["count", "drud-eofb", "5", "R", "U"], b""),
               (["count", "dr-eofb", "5"], b"R U\n"), (["near", "dr-eoud", "2", "1", "R"], b""), (["near", "eofb", "2", "1"], b"F\n"),
               (["solve", "drfb-eorl", "3"], b"U\nR\n"), (["solve", "htr", "3", "F"], b"")]
+# kilobytes in which no memory may be refused
+AMPLE = 60_000
 LIMITED = [(["solve", "eofb", "7"], b"F\n"), (["count", "drud-eofb", "5"], b"R U\n"), (["near", "dr-eofb", "3", "1"], b"\n"),
            (["invert", "R" + " " * 100_000], b""), (["invert"], b"R\n"), (["scramble", "1", "2", "256", "20"], b"")]
 
@@ -46,6 +48,7 @@ def allocations(trial):
     if library is None:
         print("skipped: no cc makes a library here, so no allocation is refused")
         return
+    trial.awaits("an allocation refused")
     for words, data in ALLOCATING:
         *got, _, made = allocating(trial, library, words, data, "0")
         trial.check("allocations counted", words, data, (tuple(got), made >= 0), (model.run(words, data), True))
@@ -73,9 +76,11 @@ def is_loaded(trial, kilobytes, words):
 
 def address_space(trial):
     """Less and less address space: the whole answer, or out of memory with nothing written."""
+    trial.awaits("address space limited")
     for words, data in LIMITED:
-        for kilobytes in list(range(200, 8000, 400)) + [10_000, 20_000, 60_000]:
+        for kilobytes in list(range(200, 8000, 400)) + [10_000, 20_000, AMPLE]:
             if is_loaded(trial, kilobytes, words):
                 got = run_within(trial, kilobytes, words, data)
-                expected = got if got == (b"", NO_MEMORY, 3) else model.run(words, data)
+                is_refused = kilobytes < AMPLE and got == (b"", NO_MEMORY, 3)
+                expected = got if is_refused else model.run(words, data)
                 trial.check("address space limited", words + [str(kilobytes)], data, got, expected)

@@ -221,8 +221,7 @@ def searches(draw, count):
         moves = [draw.choice(keeping) for _ in range(8)] + [draw.choice(step.turns) for _ in range(draw.randrange(0, 4))]
         effect = effect_of(moves)
         limit, slack = draw.choice([(0, 0), (1, 0), (2, 0), (2, 1), (2, 2), (1, 3)])
-        if not step.may_start(effect):
-            continue
+        assert step.may_start(effect), (name, moves)
         least, found, looks = step.search(step.position(effect), limit, slack)
         got = least, [tuple(step.turns[index] for index in path) for path in found], looks
         assert got == BySequences(name, effect, limit).search(slack), (name, moves, limit, slack)

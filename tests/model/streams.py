@@ -5,10 +5,9 @@ import select
 import subprocess
 import time
 
-from trial import TIMEOUT
+from trial import HANGS, TIMEOUT
 
 SET_PIPE_SIZE = 1031
-HANGS = b"(hangs)"
 
 
 def small_pipe():

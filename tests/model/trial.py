@@ -10,6 +10,8 @@ import model
 from solving import TooMuch
 
 TIMEOUT = 120
+# what stands for the standard error of a program that doesn't end
+HANGS = b"(hangs)"
 # the most positions that the model's search may look at in one deepening
 LOOKS = 60_000
 SHOWN = 15
@@ -31,13 +33,13 @@ def short(value, most=300):
     return text if len(text) <= most else text[:most] + "..."
 
 
-def apart(mine, wanted, name):
+def apart(mine, wanted):
     """Two values as they are shown, texts from shortly before the place where they part."""
     if not (isinstance(mine, bytes) and isinstance(wanted, bytes)):
-        return short(mine), name, short(wanted)
+        return short(mine), short(wanted)
     at = max(0, len(os.path.commonprefix([mine, wanted])) - 60)
     before = "(%d bytes) .. " % at if at else ""
-    return before + short(mine[at:]), name, before + short(wanted[at:])
+    return before + short(mine[at:]), before + short(wanted[at:])
 
 
 class Trial:
@@ -68,7 +70,7 @@ class Trial:
             else:
                 done = subprocess.run([self.program] + words, input=data, capture_output=True, timeout=TIMEOUT, check=False)
         except subprocess.TimeoutExpired:
-            return b"", b"(hangs)", -1000
+            return b"", HANGS, -1000
         return done.stdout, done.stderr, done.returncode
 
     def is_searchable(self, words, line):
@@ -85,7 +87,7 @@ class Trial:
         try:
             expected = model.run(words, data)
         except TooMuch:
-            self.counts[kind] += 0
+            self.awaits(kind)
             self.skipped += 1
             return
         self.counts[kind] += 1
@@ -96,6 +98,11 @@ class Trial:
             words, data = self.shrunk(words, data)
             got, expected = self.run(words, data), model.run(words, data)
         self.differs(kind, words, data, got, expected)
+
+    def awaits(self, *kinds):
+        """Kinds of which some run must come: one that has none is left out wholly, and fails."""
+        for kind in kinds:
+            self.counts[kind] += 0
 
     def check(self, kind, words, data, got, expected):
         """What was seen of one run against what was to be seen."""
@@ -111,7 +118,7 @@ class Trial:
         print("not so: %s\n  nissy with the words %s\n  and the input %s" % (kind, short(words), short(data)))
         for name, mine, wanted in zip(("output", "standard error", "status"), got, expected):
             if mine != wanted:
-                print("  %s of the program: %s\n  %s of the model:   %s" % ((name,) + apart(mine, wanted, name)))
+                print("  {0} of the program: {1}\n  {0} of the model:   {2}".format(name, *apart(mine, wanted)))
         sys.stdout.flush()
 
     def is_different(self, words, data):
