@@ -19,6 +19,7 @@ pub mod Endings
 pub mod OneFault
 pub mod ReaderAnswers
 pub mod ReadBack
+pub mod OneAxis
 pub mod Inverses
 pub mod CleanWords
 pub mod Home
