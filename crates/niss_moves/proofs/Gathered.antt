@@ -1,13 +1,17 @@
 -- Words gathered after a text.
-use Rattle.std.proofs.Common.{ap, sym, ◌∙◌, append_assoc, append-nil}
-use Rattle.std.specs.Prelude.{◌≡◌, ℕ, ◌+◌, ◌≤◌, Bool, true, false, cond, List, [], ◌∷◌, ◌++◌, length, take, drop}
+use Rattle.std.proofs.Common.{refl, arith, ap, ap₂, sym, ◌∙◌, append_assoc, append-nil}
+use Rattle.std.specs.Prelude.{◌≡◌, ℕ, ◌+◌, ◌≤◌, ◌<◌, if◌then◌else◌, map, Bool, true, false, cond, List, [], ◌∷◌, ◌++◌, length, take, drop}
 use Rattle.std.proofs.Math.Seq.{take-append-add}
-use Rattle.std.proofs.lemmas.List.{take-append-le, length-take-le}
+use Rattle.std.proofs.lemmas.List.{take-append-le, length-take-le, drop-append-le}
 use Rattle.std.specs.List.{between}
 use Rattle.std.proofs.lemmas.Slice.{between_is, between_from_start}
 use borrow.Rule.Slice.PartMut.{put_mid, post_of}
 use Rattle.niss_moves.specs.Text.{word, gap, with_word, with_words}
-use Rattle.niss_moves.specs.Names.{Token}
+use Rattle.niss_moves.specs.Helpers.{with_gathered}
+use Rattle.niss_moves.specs.CleanText.{turn_words}
+use Rattle.niss_moves.specs.Names.{Turn, Token}
+use Rattle.niss_moves.specs.declared.token.Token.TheVariants as token
+use Rattle.niss_moves.specs.declared.gathering.Words.{Words}
 use Rattle.niss_moves.proofs.ReadBack.{gap_word}
 
 -- the first bytes of a list into which a piece was copied
@@ -19,34 +23,82 @@ copied a k n xs ys h l =
 gap_after_word : (old new : List ℕ) (t : Token) → new ≡ old ++ (32 ∷ word t) → gap new ≡ 32 ∷ []
 gap_after_word old new t e = ap gap (e ∙ sym (append_assoc old (32 ∷ []) (word t))) ∙ gap_word (old ++ 32 ∷ []) t
 
--- A text and what is gathered after it, with these words after it, is the first text with all of them.
-pub record Gathers (first : List ℕ) (all : List (List ℕ)) (text : List ℕ) (rest : List (List ℕ)) : Type 0 where
-  pub gap : gap text ≡ 32 ∷ []
-  pub items : with_words text rest ≡ with_words first all
+-- the words of moves side by side, each after a space
+abbrev pub spaced : List Token → List ℕ
+spaced [] = []
+spaced (t ∷ ts) = (32 ∷ word t) ++ spaced ts
 
--- nothing gathered after a first word
-pub gathers_none : (old text : List ℕ) (n : ℕ) (bytes : List ℕ) (t : Token) (ws : List (List ℕ)) → text ≡ with_word old (word t) → n ≡ 0
-    → Gathers text ws (text ++ take n bytes) ws
-gathers_none old text n bytes t ws e none =
-    let empty : text ++ take n bytes ≡ text = ap (λ k. text ++ take k bytes) none ∙ append-nil text in
-    record { gap = ap gap (empty ∙ e) ∙ gap_word (old ++ gap old) t; items = ap (λ x. with_words x ws) empty }
+after_word : (text : List ℕ) (ts : List Token) → gap text ≡ 32 ∷ [] → text ++ spaced ts ≡ with_words text (map word ts)
+after_word text [] g = append-nil text
+after_word text (t ∷ ts) g =
+    let one : text ++ (32 ∷ word t) ≡ with_word text (word t) = sym (append_assoc text (32 ∷ []) (word t)) ∙ ap (λ x. (text ++ x) ++ word t) (sym g) in
+    sym (append_assoc text (32 ∷ word t) (spaced ts)) ∙ after_word (text ++ (32 ∷ word t)) ts (gap_after_word text _ t refl)
+    ∙ ap (λ x. with_words x (map word ts)) one
+
+-- all words after a text, none of them written
+all_gathered : (text : List ℕ) (no_gap : Bool) (ts : List Token) → gap text ≡ (if no_gap then [] else 32 ∷ []) → with_gathered text no_gap (spaced ts) ≡ with_words text (map word ts)
+all_gathered text false ts g = after_word text ts g
+all_gathered text true [] g = append-nil text
+all_gathered text true (t ∷ ts) g =
+    let one : text ++ word t ≡ with_word text (word t) = ap (λ x. x ++ word t) (sym (append-nil text)) ∙ ap (λ x. (text ++ x) ++ word t) (sym g) in
+    sym (append_assoc text (word t) (spaced ts)) ∙ after_word (text ++ word t) ts (gap_word text t) ∙ ap (λ x. with_words x (map word ts)) one
+
+-- nothing gathered
+nothing_gathered : (text : List ℕ) (no_gap : Bool) → with_gathered text no_gap [] ≡ text
+nothing_gathered text true = append-nil text
+nothing_gathered text false = append-nil text
+
+-- a word more, after words that say the same as those before
+pub one_more : (text old all held taken w rest : List ℕ) (now before new : Bool) → new ≡ now → all ≡ taken ++ w
+    → ((r : List ℕ) → with_gathered text now (taken ++ r) ≡ with_gathered old before (held ++ r))
+    → with_gathered text new (all ++ rest) ≡ with_gathered old before ((held ++ w) ++ rest)
+one_more text old all held taken w rest now before new g e same =
+    ap₂ (λ (b : Bool) (x : List ℕ). with_gathered text b (x ++ rest)) g e ∙ ap (with_gathered text now) (append_assoc taken w rest)
+    ∙ same (w ++ rest) ∙ ap (with_gathered old before) (sym (append_assoc held w rest))
+
+-- what was gathered is written
+pub written : (text new bytes rest : List ℕ) (n : ℕ) (no_gap : Bool) → 0 < n → n ≤ length bytes → new ≡ text ++ between (cond no_gap 1 0) n bytes
+    → with_gathered new false rest ≡ with_gathered text no_gap (take n bytes ++ rest)
+written text new bytes rest n true some fits e =
+    let long : 1 ≤ length (take n bytes) = (let l = length-take-le n bytes fits in omega (arith, l, some)) in
+    ap (λ x. x ++ rest) (e ∙ ap (λ x. text ++ x) (between_is bytes 1 n)) ∙ append_assoc text (drop 1 (take n bytes)) rest
+    ∙ ap (λ x. text ++ x) (sym (drop-append-le 1 (take n bytes) rest long))
+written text new bytes rest n false some fits e =
+    ap (λ x. x ++ rest) (e ∙ ap (λ x. text ++ x) (between_from_start bytes n)) ∙ append_assoc text (take n bytes) rest
+
+-- A text and what is gathered after it, with the words of these moves after that, is the first text with the words of all.
+pub record Gathers (text : List ℕ) (words : Words) (rest : List Token) (first : List ℕ) (all : List Token) : Type 0 where
+  pub items : with_gathered text words.no_gap (take words.len words.bytes ++ spaced rest) ≡ with_words first (map word all)
+
+-- nothing yet
+pub gathers_none : (text : List ℕ) (words : Words) (all : List Token) → words.len ≡ 0 → gap text ≡ (if words.no_gap then [] else 32 ∷ []) → Gathers text words all text all
+gathers_none text words all none g =
+    record { items = ap (λ n. with_gathered text words.no_gap (take n words.bytes ++ spaced all)) none ∙ all_gathered text words.no_gap all g }
 
 -- one word more
-pub gathers_more : (first old new : List ℕ) (all rest : List (List ℕ)) (t : Token) (ws : List (List ℕ)) → rest ≡ word t ∷ ws → new ≡ old ++ (32 ∷ word t)
-    → Gathers first all old rest → Gathers first all new ws
-gathers_more first old new all rest t ws r e h =
+pub gathers_more : {text new first : List ℕ} {words next : Words} {rest all : List Token} (bytes : List ℕ) (t : Token) (ts : List Token) → rest ≡ t ∷ ts → bytes ≡ 32 ∷ word t
+    → ((r : List ℕ) → with_gathered new next.no_gap (take next.len next.bytes ++ r) ≡ with_gathered text words.no_gap ((take words.len words.bytes ++ bytes) ++ r))
+    → Gathers text words rest first all → Gathers new next ts first all
+gathers_more {text} {new} {first} {words} bytes t ts e is pushed h =
+    let held = take words.len words.bytes in
+    let to : List ℕ → List ℕ = with_gathered text words.no_gap in
     record {
-      gap = gap_after_word old new t e;
       items =
-          ap (λ x. with_words x ws) (e ∙ sym (append_assoc old (32 ∷ []) (word t)) ∙ ap (λ g. (old ++ g) ++ word t) (sym h.gap))
-          ∙ ap (with_words old) (sym r) ∙ h.items;
+          pushed (spaced ts) ∙ ap (λ b. to ((held ++ b) ++ spaced ts)) is ∙ ap to (append_assoc held (32 ∷ word t) (spaced ts))
+          ∙ ap (λ x. to (held ++ spaced x)) (sym e) ∙ h.items;
     }
 
--- all words written
-pub gathers_all : (old first last new : List ℕ) (all rest : List (List ℕ)) (t : Token) → first ≡ with_word old (word t) → rest ≡ [] → new ≡ last
-    → Gathers first all last rest → new ≡ with_words old (word t ∷ all)
-gathers_all old first last new all rest t f r e h =
-    e ∙ ap (with_words last) (sym r) ∙ h.items ∙ ap (λ x. with_words x all) f
+-- all written
+pub gathers_all : {text new first : List ℕ} {words : Words} {rest all : List Token} (no_gap : Bool) → rest ≡ []
+    → ((r : List ℕ) → with_gathered new no_gap r ≡ with_gathered text words.no_gap (take words.len words.bytes ++ r))
+    → Gathers text words rest first all → new ≡ with_words first (map word all)
+gathers_all {text} {new} {first} {words} no_gap e wrote h =
+    sym (nothing_gathered new no_gap) ∙ wrote [] ∙ ap (λ x. with_gathered text words.no_gap (take words.len words.bytes ++ spaced x)) (sym e) ∙ h.items
+
+-- the words of face turns
+pub words_of_turns : (ts : List Turn) → map word (map token.Face ts) ≡ turn_words ts
+words_of_turns [] = refl
+words_of_turns (t ∷ ts) = ap (λ ws. word (token.Face t) ∷ ws) (words_of_turns ts)
 
 -- a word of which the space is left out where none is due
 pub word_put : (old new bytes w : List ℕ) (n : ℕ) (alone : Bool) → take n bytes ≡ 32 ∷ w → gap old ≡ cond alone [] (32 ∷ [])

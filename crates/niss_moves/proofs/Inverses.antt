@@ -1,25 +1,26 @@
 -- Single moves, computed over all places; a sequence and its inverse.
 use Rattle.std.proofs.Common.{◌≡◌, true, refl, ap, sym, ◌∙◌, List, [], ◌∷◌, ◌++◌, length, map, reverse}
 use Rattle.std.proofs.lemmas.List.{reverse-append, map-append, reverse-reverse}
-use Rattle.niss_moves.specs.Places.{Place, same_place, is_place}
-use Rattle.niss_moves.specs.Effects.{effect, moved_by, inverse, inverse_token, inverse_power, HasMeaning}
+use Rattle.niss_moves.specs.Places.{Place, is_place}
+use Rattle.niss_moves.specs.Effects.{effect, moved_by, move_of, inverse, inverse_token, inverse_power, HasMeaning}
 use Rattle.niss_moves.specs.Names.{Power, Quarter, Token}
 use Rattle.niss_moves.specs.declared.token.Token.TheVariants as token
 use Rattle.niss_moves.proofs.Finite.{every_place, at_place, every_token, at_token, every_vector, every_coord, every_power}
-use Rattle.niss_moves.proofs.Finite.{every_face, every_slice, every_axis, same_place_is, implies, by_implies}
+use Rattle.niss_moves.proofs.Finite.{every_face, every_slice, every_axis, implies, by_implies}
 use Rattle.niss_moves.specs.Faces.{expanded, token_of_basic}
+use Rattle.niss_moves.proofs.OneAxis.{turn_alike, same_made, effect_made}
 use Rattle.niss_moves.specs.EffectLaws.{PlacesStay}
 
 pub effect-append : (s t : List Token) (q : Place) → effect (s ++ t) q ≡ effect t (effect s q)
 effect-append [] t q = refl
 effect-append (x ∷ s) t q = effect-append s t (moved_by x q)
 
-undoes_test : every_token (λ t. every_place (λ q. same_place (moved_by (inverse_token t) (moved_by t q)) q)) ≡ true
-unfolding every_place every_vector every_coord every_power every_face every_axis every_slice every_token
+undoes_test : every_token (λ t. turn_alike (move_of t).axis (move_of t ∷ move_of (inverse_token t) ∷ []) []) ≡ true
+unfolding every_coord every_power every_face every_axis every_slice every_token
 undoes_test = refl
 
 undoes : (t : Token) (q : Place) → moved_by (inverse_token t) (moved_by t q) ≡ q
-undoes t q = same_place_is _ _ (at_place _ (at_token _ undoes_test t) q)
+undoes t q = same_made _ (move_of t ∷ move_of (inverse_token t) ∷ []) [] (at_token _ undoes_test t) q
 
 twice_power : (p : Power) → inverse_power (inverse_power p) ≡ p
 twice_power Quarter = refl
@@ -86,12 +87,13 @@ inverse_last s front t u e i =
     ap inverse e ∙ inverse-append front (t ∷ []) ∙ ap (λ x. x ∷ inverse front) (sym i)
 
 -- Each move has the effect of the basic moves that it is expanded to.
-expansions_test : every_token (λ t. every_place (λ q. same_place (effect (map token_of_basic (expanded t)) q) (moved_by t q))) ≡ true
-unfolding every_place every_vector every_coord every_power every_face every_axis every_token every_slice
+expansions_test : every_token (λ t. turn_alike (move_of t).axis (map move_of (map token_of_basic (expanded t))) (move_of t ∷ [])) ≡ true
+unfolding every_coord every_power every_face every_axis every_token every_slice
 expansions_test = refl
 
 pub effect_of_expanded : (t : Token) (q : Place) → effect (map token_of_basic (expanded t)) q ≡ moved_by t q
-effect_of_expanded t q = same_place_is _ _ (at_place _ (at_token _ expansions_test t) q)
+effect_of_expanded t q =
+    effect_made (map token_of_basic (expanded t)) q ∙ same_made _ (map move_of (map token_of_basic (expanded t))) (move_of t ∷ []) (at_token _ expansions_test t) q
 
 -- A move brings places to places.
 stays_test : every_token (λ t. every_place (λ q. implies (is_place q) (is_place (moved_by t q)))) ≡ true

@@ -9,14 +9,17 @@ pub mod Disorder
 pub mod AllCanonical
 pub mod CallerLemmas
 pub mod SymbolTable
+pub mod WordTable
 pub mod Symbols
 pub mod Completes
 pub mod Sound
 pub mod Whole
 pub mod Room
+pub mod Endings
 pub mod OneFault
 pub mod ReaderAnswers
 pub mod ReadBack
+pub mod OneAxis
 pub mod Inverses
 pub mod CleanWords
 pub mod Home

@@ -3,54 +3,18 @@ use Rattle.std.proofs.Common.{refl, ap, sym, ◌∙◌, subst, subst₂, arith, 
 use Rattle.std.specs.Prelude.{◌≡◌, ℕ, ◌+◌, ◌-◌, ◌<◌, Bool, true, false, List, [], ◌∷◌, ◌++◌, length, take, drop}
 use Rattle.std.specs.Prelude.{Option, None, Some, Result, Ok, Err, suc, ◌==◌, ◌||◌, not}
 use Rattle.std.proofs.lemmas.List.{take-append-drop, take_more, take_all, length-take-le}
-use Rattle.niss_moves.specs.Faults.{has_no_bracket, Cut, Whole, LacksOne, LacksTwo, cut_ending, cut_length, bracket_ending}
+use Rattle.niss_moves.specs.Faults.{has_no_bracket, Cut, Whole, LacksOne, LacksTwo, cut_length}
 use Rattle.niss_moves.specs.Faults.{Continues, CanContinue, BeginsBase, StopsAt, Stops, Lacks, Faults}
-use Rattle.niss_moves.specs.Machine.{symbol_of, State, start, step, step_within, and_then, run, ended, ended_at, ended_in}
-use Rattle.niss_moves.specs.Names.{Token, Base, Symbol, LastMove, ReadFault, NotAMove, Nested, Unopened, Unclosed, TooLong}
+use Rattle.niss_moves.specs.Machine.{symbol_of, State, start, step, and_then, run, ended, ended_at, ended_in}
+use Rattle.niss_moves.specs.Names.{Base, Symbol, LastMove, ReadFault, NotAMove, Nested, Unopened, Unclosed, TooLong}
 use Rattle.niss_moves.specs.declared.partial_line.LastMove.TheVariants as last
 use Rattle.niss_moves.specs.declared.symbol.Symbol.TheVariants as symbol
 use Rattle.niss_moves.proofs.Finite.{and_right}
-use Rattle.niss_moves.proofs.Completes.{IsReady, state, run-append, completes}
-use Rattle.niss_moves.proofs.Sound.{Reads, ready_whole, cut_of, is_open, Refusal, Outcome, step_means}
+use Rattle.niss_moves.proofs.Completes.{run-append}
+use Rattle.niss_moves.proofs.Sound.{Reads, cut_of, is_open, Refusal, Outcome, step_means}
 use Rattle.niss_moves.proofs.Symbols.{first_symbol, symbol_of_open, symbol_of_close}
 use Rattle.niss_moves.proofs.Whole.{reads_all, can_continue, continued_ok, opens_at}
-
--- with no cut apostrophe the ending is a bracket or nothing
-done_ending : (n b : List Token) (o : Option ℕ) (k : ℕ) (q : Bool) (end : State) → run (state n b o last.Finished k) (bracket_ending q) ≡ Ok end → end.bracket ≡ None → is_open o ≡ q
-unfolding step_within symbol_of state
-done_ending n b None k false end e h = refl
-done_ending n b (Some c) k false end e h = absurd (let x : Some c ≡ None = ap (λ r. bracket_of r) e ∙ h in cc)
-  where
-    bracket_of : Result State ReadFault → Option ℕ
-    bracket_of (Ok s) = s.bracket
-    bracket_of (Err f) = None
-done_ending n b None k true end e h = absurd (cc)
-done_ending n b (Some c) k true end e h = refl
-
-ready_ending : (n b : List Token) (o : Option ℕ) (t : LastMove) (k : ℕ) (q : Bool) (end : State) → run (state n b o t k) (bracket_ending q) ≡ Ok end → IsReady end.last → end.bracket ≡ None → (cut_of t ≡ Whole) × (is_open o ≡ q)
-unfolding step_within symbol_of state
-ready_ending n b o t k false end e r h =
-    let x : state n b o t k ≡ end = cc in
-    (ready_whole t (subst (λ (s : State). IsReady s.last) (sym x) r), ap (λ (s : State). is_open s.bracket) x ∙ ap is_open h)
-ready_ending n b (Some c) last.Finished k true end e r h = (refl, refl)
-ready_ending n b (Some c) (last.Bare x) k true end e r h = (refl, refl)
-ready_ending n b (Some c) (last.Doubled x) k true end e r h = (refl, refl)
-ready_ending n b None last.Finished k true end e r h = absurd (cc)
-ready_ending n b _ _ k true end e r h = absurd (cc)
-
-cut_ending_is : (n b : List Token) (o : Option ℕ) (t : LastMove) (k : ℕ) (c : Cut) (q : Bool) (end : State) → and_then (run (state n b o t k) (cut_ending c)) (λ u. run u (bracket_ending q)) ≡ Ok end → IsReady end.last → end.bracket ≡ None → (cut_of t ≡ c) × (is_open o ≡ q)
-unfolding step_within symbol_of state
-cut_ending_is n b o t k Whole q end e r h = ready_ending n b o t k q end e r h
-cut_ending_is n b o (last.SecondByte t) k LacksOne q end e r h = (refl, done_ending _ _ o _ q end e h)
-cut_ending_is n b o (last.FirstByte t) k LacksTwo q end e r h = (refl, done_ending _ _ o _ q end e h)
-cut_ending_is n b o _ k _ q end e r h = absurd (cc)
-
-pub one_ending : (bytes : List ℕ) (s : State) (c : Cut) (q : Bool) → run start bytes ≡ Ok s → Continues bytes c q → (cut_of s.last ≡ c) × (is_open s.bracket ≡ q)
-unfolding state
-one_ending bytes s c q e line =
-    let d = completes 256 _ _ _ line.spells line.fits in
-    let x : and_then (run s (cut_ending c)) (λ u. run u (bracket_ending q)) ≡ Ok d.end = sym (run-append 256 start (bytes ++ cut_ending c) (bracket_ending q) ∙ ap (λ r. and_then r (λ u. run u (bracket_ending q))) (run-append 256 start bytes (cut_ending c) ∙ ap (λ r. and_then r (λ t. run t (cut_ending c))) e)) ∙ d.ran in
-    cut_ending_is s.normal s.bracketed s.bracket s.last s.fed c q d.end x d.ready d.bracket
+use Rattle.niss_moves.proofs.Endings.{one_ending}
 
 -- what a stop says of the run
 pub record Stopped (bytes : List ℕ) (column : ℕ) (c : Cut) (q : Bool) (byte : ℕ) : Type 0 where

@@ -1,15 +1,16 @@
 -- The 24 rotations, computed.
-use Rattle.std.proofs.Common.{◌≡◌, Bool, true, ◌&&◌, refl, ap, sym, ◌∙◌, List, [], ◌∷◌, ◌++◌, Option, None, Some}
-use Rattle.niss_moves.specs.Places.{Place, Vector, same_vector, same_place}
+use Rattle.std.proofs.Common.{◌≡◌, Bool, true, false, not, ◌&&◌, if◌then◌else◌, refl, ap, sym, ◌∙◌, List, [], ◌∷◌, ◌++◌, Option, None, Some}
+use Rattle.niss_moves.specs.Places.{Place, Vector, along, same_vector, same_place}
 use Rattle.niss_moves.specs.Facelets.{centre}
-use Rattle.niss_moves.specs.Effects.{effect, effect_of_turns, moved_by, turned, quarters, times}
+use Rattle.niss_moves.specs.Effects.{effect, effect_of_turns, Move, moved, moved_by, turned, quarter, quarters, times}
 use Rattle.niss_moves.specs.Rotations.{face_before, face_before_power, face_before_if}
 use Rattle.niss_moves.specs.Rotations.{renamed_turn, to_top, about_vertical, rotation_if, spelling}
 use Rattle.niss_moves.specs.Turn.{same_face}
 use Rattle.niss_moves.specs.Helpers.{is_beside, rotation_by}
-use Rattle.niss_moves.proofs.Finite.{every_coord, every_vector, at_vector, same_vector_is, every_place, at_place, same_place_is}
+use Rattle.niss_moves.proofs.Finite.{every_coord, every_vector, at_vector, same_vector_is, same_place_is}
 use Rattle.niss_moves.proofs.Finite.{every_face, at_face, every_power, at_power, every_axis, at_axis, every_optional_power, at_optional_power}
 use Rattle.std.proofs.lemmas.Bool.{and_parts}
+use Rattle.niss_moves.proofs.OneAxis.{spun, move_of_turn}
 use Rattle.niss_moves.proofs.Inverses.{effect-append}
 use Rattle.niss_moves.specs.Names.{Face, U, D, R, L, F, B, Power, Quarter, Half, Counter, Turn, Axis, Rotation}
 use Rattle.niss_moves.specs.declared.token.Token.TheVariants as token
@@ -102,12 +103,35 @@ is_next r a p =
     }
 
 -- A quarter rotation and then a turn is the renamed turn and then the rotation; so is any rotation.
-renames_test : every_axis (λ a. every_turn (λ t. every_place (λ q. same_place (turned t (moved_by (token.Rotation a Quarter) q)) (moved_by (token.Rotation a Quarter) (turned (renamed_turn (face_before_power a Quarter) t) q))))) ≡ true
-unfolding every_place every_vector every_coord every_power every_face every_axis every_turn
+abbrev same_bool : Bool → Bool → Bool
+same_bool true b = b
+same_bool false b = not b
+
+-- the renamed move turns the layers that come to where the move turns some, as that turns them
+abbrev Conjugates : Axis → Move → Move → Vector → Bool
+Conjugates a m n v =
+    same_bool (m.turns (along m.axis (quarter a v))) (n.turns (along n.axis v)) && same_vector (quarters m.axis m.quarters (quarter a v)) (quarter a (quarters n.axis n.quarters v))
+
+renames_test : every_axis (λ a. every_turn (λ t. every_vector (λ v. Conjugates a (move_of_turn t) (move_of_turn (renamed_turn (face_before_power a Quarter) t)) v))) ≡ true
+unfolding every_vector every_coord every_power every_face every_axis every_turn
 renames_test = refl
 
+conjugated : (a : Axis) (m n : Move) → every_vector (Conjugates a m n) ≡ true → (q : Place) → moved m (moved_by (token.Rotation a Quarter) q) ≡ moved_by (token.Rotation a Quarter) (moved n q)
+conjugated a m n e q = by_case (m.turns (along m.axis (quarter a q.cell))) (n.turns (along n.axis q.cell)) (at q.cell).0
+  where
+    at : (v : Vector) → (same_bool (m.turns (along m.axis (quarter a v))) (n.turns (along n.axis v)) ≡ true) × (same_vector (quarters m.axis m.quarters (quarter a v)) (quarter a (quarters n.axis n.quarters v)) ≡ true)
+    at v = and_parts (same_bool (m.turns (along m.axis (quarter a v))) (n.turns (along n.axis v))) _ (at_vector _ e v)
+
+    turned_so : (v : Vector) → quarters m.axis m.quarters (quarter a v) ≡ quarter a (quarters n.axis n.quarters v)
+    turned_so v = same_vector_is _ _ (at v).1
+
+    by_case : (b c : Bool) → same_bool b c ≡ true → (if b then spun m.axis m.quarters (spun a 1 q) else spun a 1 q) ≡ spun a 1 (if c then spun n.axis n.quarters q else q)
+    by_case true true h = λ i. record { cell = turned_so q.cell i; direction = turned_so q.direction i }
+    by_case false false h = refl
+    by_case _ _ h = absurd (cc)
+
 renames_quarter : (a : Axis) (t : Turn) (q : Place) → turned t (moved_by (token.Rotation a Quarter) q) ≡ moved_by (token.Rotation a Quarter) (turned (renamed_turn (face_before_power a Quarter) t) q)
-renames_quarter a t q = same_place_is _ _ (at_place _ (at_turn _ (at_axis _ renames_test a) t) q)
+renames_quarter a t q = conjugated a (move_of_turn t) (move_of_turn (renamed_turn (face_before_power a Quarter) t)) (at_turn _ (at_axis _ renames_test a) t) q
 
 renames_half : (a : Axis) (t : Turn) (q : Place) → turned t (moved_by (token.Rotation a Half) q) ≡ moved_by (token.Rotation a Half) (turned (renamed_turn (face_before_power a Half) t) q)
 renames_half a t q =

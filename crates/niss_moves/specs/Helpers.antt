@@ -1,5 +1,5 @@
 -- What private functions of the code work out. No public contract names these.
-use Rattle.std.specs.Prelude.{ℕ, Bool, true, false, not, ◌&&◌, List, [], ◌∷◌, slice_index_or, if◌then◌else◌, Option, None, Some}
+use Rattle.std.specs.Prelude.{ℕ, Bool, true, false, not, ◌&&◌, List, [], ◌∷◌, ◌++◌, drop, slice_index_or, if◌then◌else◌, Option, None, Some}
 use Rattle.niss_moves.specs.Turn.{opposite, same_face}
 use Rattle.niss_moves.specs.Cleaning.{sum_of_turns}
 use Rattle.niss_moves.specs.Names.{Face, U, R, F, B, Power, Quarter, Half, Counter, Turn, Rotation}
@@ -46,3 +46,8 @@ abbrev pub turns_in : MoveTurns → List Turn
 turns_in NoTurn = []
 turns_in (One t) = t ∷ []
 turns_in (Two t u) = t ∷ u ∷ []
+
+-- a text with words after it that were gathered; where no gap is due, the space before the first of them is left out
+abbrev pub with_gathered : List ℕ → Bool → List ℕ → List ℕ
+with_gathered text true words = text ++ drop 1 words
+with_gathered text false words = text ++ words

@@ -22,12 +22,8 @@ pub fn put_faces(turns: &[Turn], text: &mut LineText)
     ensures items { text.new.items ≡ with_words text.old.items (turn_words turns.now) }
     ensures len { array_vec_len text.new ≤ array_vec_len text.old + 3 * length turns.now }
 {
-    let Some((first, rest)) = turns.split_first() else {
-        return;
-    };
-    put_word(Word::of_turn(*first), text);
-    let mut words = Words::new();
-    for turn in rest {
+    let mut words = Words::after(text);
+    for turn in turns {
         words.push(Word::of_turn(*turn), text);
     }
     words.write(text);

@@ -1,11 +1,12 @@
-//! Words side by side, each after a space.
-ghost use Rattle.std.specs.Prelude.{◌≡◌, ◌+◌, ◌≤◌, ◌<◌, ◌∷◌, ◌++◌, take};
+//! Words side by side, each after a space, but the first of a text or a bracket.
+ghost use Rattle.std.specs.Prelude.{◌≡◌, ℕ, ◌+◌, ◌≤◌, ◌<◌, List, [], ◌∷◌, ◌++◌, take, if◌then◌else◌};
 ghost use Rattle.arrayvec.specs.ArrayVec.{array_vec_len};
-ghost use Rattle.niss_moves.specs.Text.{word};
+ghost use Rattle.niss_moves.specs.Text.{word, gap};
+ghost use Rattle.niss_moves.specs.Helpers.{with_gathered};
 ghost use Rattle.niss_moves.specs.declared.token.Token.TheVariants as token;
 
 use crate::axis::Axis;
-use crate::text::LineText;
+use crate::text::{LineText, has_no_gap};
 use crate::token::Token;
 use crate::turn::{Power, Turn};
 
@@ -76,28 +77,39 @@ static WORDS: [Word; 54] = words_of!(b'U' b'D' b'R' b'L' b'F' b'B'; b'M' b'E' b'
 pub struct Words {
     bytes: [u8; 64],
     len: usize,
+    /// Whether no space stands before the first word.
+    no_gap: bool,
     ghost fits: { len ≤ 64 },
 }
 
 impl Words {
-    pub fn new() -> Words
-        ensures { result.len ≡ 0 }
+    /// No words yet, to be appended to this text.
+    pub fn after(text: &LineText) -> Words
+        ensures none { result.len ≡ 0 }
+        ensures gap { gap text.now.items ≡ (if result.no_gap then [] else 32 ∷ []) }
     {
         Words {
             bytes: [0; 64],
             len: 0,
+            no_gap: has_no_gap(text),
         }
     }
 
     /// Appends the words to the text.
     pub fn write(&mut self, text: &mut LineText)
         requires { array_vec_len text.old + self.old.len ≤ 2048 }
-        ensures items { text.new.items ≡ text.old.items ++ take self.old.len self.old.bytes }
-        ensures len { array_vec_len text.new ≡ array_vec_len text.old + self.old.len }
-        ensures empty { self.new.len ≡ 0 }
+        ensures items { (rest : List ℕ) → with_gathered text.new.items self.new.no_gap rest
+            ≡ with_gathered text.old.items self.old.no_gap (take self.old.len self.old.bytes ++ rest) }
+        ensures len { array_vec_len text.new ≤ array_vec_len text.old + self.old.len }
+        ensures none { self.new.len ≡ 0 }
     {
-        text.try_extend_from_slice(&self.bytes[..self.len]).unwrap();
+        if self.len == 0 {
+            return;
+        }
+        text.try_extend_from_slice(&self.bytes[self.no_gap as usize..self.len])
+            .unwrap();
         self.len = 0;
+        self.no_gap = false;
     }
 
     #[tactic(auto, using(crate::proofs::Gathered::copied))]
@@ -107,6 +119,7 @@ impl Words {
         ensures items { take self.new.len self.new.bytes
             ≡ take self.old.len self.old.bytes ++ take word.len word.bytes }
         ensures len { self.new.len ≡ self.old.len + word.len }
+        ensures gap { self.new.no_gap ≡ self.old.no_gap }
     {
         self.bytes[self.len..self.len + 4].copy_from_slice(&word.bytes);
         self.len += word.len;
@@ -116,10 +129,12 @@ impl Words {
     pub fn push(&mut self, word: Word, text: &mut LineText)
         requires room { array_vec_len text.old + self.old.len + word.len ≤ 2048 }
         requires word { word.len ≤ 4 }
-        ensures items { text.new.items ++ take self.new.len self.new.bytes
-            ≡ (text.old.items ++ take self.old.len self.old.bytes) ++ take word.len word.bytes }
+        ensures items { (rest : List ℕ) →
+            with_gathered text.new.items self.new.no_gap (take self.new.len self.new.bytes ++ rest)
+            ≡ with_gathered text.old.items self.old.no_gap
+            (take self.old.len self.old.bytes ++ take word.len word.bytes ++ rest) }
         ensures len { array_vec_len text.new + self.new.len
-            ≡ array_vec_len text.old + self.old.len + word.len }
+            ≤ array_vec_len text.old + self.old.len + word.len }
     {
         if self.len > 60 {
             self.write(text);

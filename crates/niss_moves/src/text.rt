@@ -21,12 +21,8 @@ pub fn put_tokens(tokens: &[Token], text: &mut LineText)
     ensures items { text.new.items ≡ with_words text.old.items (map word tokens.now) }
     ensures len { array_vec_len text.new ≤ array_vec_len text.old + 4 * length tokens.now }
 {
-    let Some((first, rest)) = tokens.split_first() else {
-        return;
-    };
-    put_word(Word::of_token(*first), text);
-    let mut words = Words::new();
-    for token in rest {
+    let mut words = Words::after(text);
+    for token in tokens {
         words.push(Word::of_token(*token), text);
     }
     words.write(text);
@@ -38,12 +34,8 @@ fn put_inverse(tokens: &[Token], text: &mut LineText)
     ensures items { text.new.items ≡ with_words text.old.items (map word (inverse tokens.now)) }
     ensures len { array_vec_len text.new ≤ array_vec_len text.old + 4 * length tokens.now }
 {
-    let Some((last, front)) = tokens.split_last() else {
-        return;
-    };
-    put_word(Word::of_token(last.inverse()), text);
-    let mut words = Words::new();
-    let mut rest = front;
+    let mut words = Words::after(text);
+    let mut rest = tokens;
     while let Some((last, front)) = rest.split_last() {
         words.push(Word::of_token(last.inverse()), text);
         rest = front;
@@ -89,7 +81,7 @@ pub(crate) fn put_word(word: Word, text: &mut LineText)
 }
 
 /// Whether no space stands before a word that comes next.
-fn has_no_gap(text: &LineText) -> bool
+pub(crate) fn has_no_gap(text: &LineText) -> bool
     ensures { gap text.now.items ≡ (if result then [] else 32 ∷ []) }
 {
     match text.last() {
