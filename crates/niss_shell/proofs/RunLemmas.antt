@@ -8,15 +8,15 @@ use Rattle.rand_pcg.specs.Lcg.{Lcg}
 use Rattle.niss_shell.specs.Device.{SourceState, TargetState, has_fault, Appended, Flushes, WriteRefused}
 use Rattle.niss_shell.specs.Scrambles.{generator_of, scramble_text}
 use Rattle.niss_shell.specs.Words.{most_bytes, Request, OnLines, ListSteps, DrawScrambles, request_of, reads_source, has_step, joined}
-use Rattle.niss_shell.specs.Output.{Answer, Ending, More, End, Fail, ending, stop_at_end, answer, line_looks, looks_at, most_line_looks, complete_lines, line_answers, answer_lines, answer_request, unsearched, step_line, stop_of, out_of, error_text, status_of}
+use Rattle.niss_shell.specs.Output.{Answer, Ending, More, End, Fail, ending, outcome_at_end, answer, line_looks, looks_at, most_line_looks, complete_lines, line_answers, answer_lines, answer_request, unsearched, step_line, outcome_of, out_of, error_text, status_of}
 use Rattle.niss_cube.specs.Steps.{steps, turns_of}
 use Rattle.niss_moves.specs.Line.{Moves}
 use Rattle.niss_moves.specs.Reader.{read_line}
 use Rattle.niss_shell.specs.Lines.{answered_lines}
-use Rattle.niss_shell.specs.Engine.{AnswerState, pending_state, AnswersSource, Answers, Writes, Refuses, EndsUnflushed, RunsUnflushed, flushed_stop, FlushesLast}
+use Rattle.niss_shell.specs.Engine.{AnswerState, pending_state, AnswersSource, Answers, Writes, Refuses, EndsUnflushed, RunsUnflushed, flushed_outcome, FlushesLast}
 use Rattle.niss_shell.specs.Job.{IsInput}
 use Rattle.niss_shell.specs.Run.{Devices, devices, OutputRefused, EndsByFault, Ends, ReportsError, Looked, Runs}
-use Rattle.niss_shell.specs.Names.{DeviceFault, UsageFault, LineCommand, Rewrite, Search, LineFault, ReadFault, Stop, Done, Usage, InputTooLong, CannotWrite, OutOfMemory}
+use Rattle.niss_shell.specs.Names.{DeviceFault, UsageFault, LineCommand, Rewrite, Search, LineFault, ReadFault, Stop, Usage, InputTooLong, CannotWrite, OutOfMemory}
 use Rattle.niss_search.specs.Laws.{LooksWithinBound}
 use Rattle.niss_shell.proofs.DeviceLemmas.{appended_then, appended_after_failure, gave_nothing, fault_of_write, no_write_fault, no_flush_fault}
 use Rattle.niss_shell.proofs.StateLemmas.{writes_nothing, all_sent}
@@ -56,37 +56,38 @@ either : {A : Type 0} (P : A → Type 0) (c : Bool) (x y : A) → P x → P y �
 either P true x y p q = p
 either P false x y p q = q
 
-end_stop : (m : Ending) → stop_at_end m ≢ OutOfMemory
-end_stop Fail = λ e. cc e
-end_stop End = λ e. cc e
-end_stop More = λ e. cc e
+end_is_not_memory : (m : Ending) → outcome_at_end m ≢ Err OutOfMemory
+end_is_not_memory Fail = λ e. cc e
+end_is_not_memory End = λ e. cc e
+end_is_not_memory More = λ e. cc e
 
-no_stop_of_memory : (o : Option (ℕ × LineFault)) (input : List ℕ) (m : Ending) → stop_of o input m ≢ OutOfMemory
-no_stop_of_memory (Some fault) input m = λ e. cc e
-no_stop_of_memory None input m = either (λ stop. stop ≢ OutOfMemory) (nat_lt most_bytes (length input)) InputTooLong (stop_at_end m) (λ e. cc e) (end_stop m)
+is_not_memory : (o : Option (ℕ × LineFault)) (input : List ℕ) (m : Ending) → outcome_of o input m ≢ Err OutOfMemory
+is_not_memory (Some fault) input m = λ e. cc e
+is_not_memory None input m =
+    either (λ outcome. outcome ≢ Err OutOfMemory) (nat_lt most_bytes (length input)) (Err InputTooLong) (outcome_at_end m) (λ e. cc e) (end_is_not_memory m)
 
-ends_of_answers : (a : Answer) (asked : Result Request UsageFault) (stop : Stop) (source source_now : SourceState) (h i : AnswerState)
-    → a.stop ≢ OutOfMemory → Answers a stop h i → EndsUnflushed stop a asked source source_now h i
-ends_of_answers a asked OutOfMemory source source_now h i n w = absurd (n (sym w.0))
-ends_of_answers a asked CannotWrite source source_now h i n w = w
+ends_of_answers : (a : Answer) (asked : Result Request UsageFault) (outcome : Result (Unit {0}) Stop) (source source_now : SourceState) (h i : AnswerState)
+    → a.outcome ≢ Err OutOfMemory → Answers a outcome h i → EndsUnflushed outcome a asked source source_now h i
+ends_of_answers a asked (Err OutOfMemory) source source_now h i n w = absurd (n (sym w.0))
+ends_of_answers a asked (Err CannotWrite) source source_now h i n w = w
 ends_of_answers a asked _ source source_now h i n w = w
 
 -- The input comes from the source. What the run is of, by its command and its states, may be known by equations.
-pub runs_source : {command given : LineCommand} {ws : List (List ℕ)} {stop : Stop} {a b : SourceState} {h k i j : AnswerState}
-    → given ≡ command → k ≡ h → j ≡ i → length ws ≡ 0 → AnswersSource (line_answers given) stop a b k j
-    → RunsUnflushed (Ok (OnLines command ws)) stop a b h i
+pub runs_source : {command given : LineCommand} {ws : List (List ℕ)} {outcome : Result (Unit {0}) Stop} {a b : SourceState} {h k i j : AnswerState}
+    → given ≡ command → k ≡ h → j ≡ i → length ws ≡ 0 → AnswersSource (line_answers given) outcome a b k j
+    → RunsUnflushed (Ok (OnLines command ws)) outcome a b h i
 runs_source {given = given} {ws = []} {b = b} e f g none x = rw (← e, ← f, ← g) (record {
   input = x.input;
   gave = x.gave;
-  ends = ends_of_answers (answer_lines (line_answers given) x.input (ending b)) _ _ _ b _ _ (no_stop_of_memory _ x.input (ending b)) x.answers;
+  ends = ends_of_answers (answer_lines (line_answers given) x.input (ending b)) _ _ _ b _ _ (is_not_memory _ x.input (ending b)) x.answers;
   read_whole = λ d r. x.read_whole d;
 })
 runs_source {ws = w ∷ ws} e f g none x = absurd (omega arith)
 
 -- nothing is read
-unread_run : (asked : Result Request UsageFault) (stop : Stop) (a : SourceState) (h i : AnswerState) → reads_source asked ≡ false
-    → EndsUnflushed stop (answer_request asked [] (ending a)) asked a a h i → RunsUnflushed asked stop a a h i
-unread_run asked stop a h i unread ends = record {
+unread_run : (asked : Result Request UsageFault) (outcome : Result (Unit {0}) Stop) (a : SourceState) (h i : AnswerState) → reads_source asked ≡ false
+    → EndsUnflushed outcome (answer_request asked [] (ending a)) asked a a h i → RunsUnflushed asked outcome a a h i
+unread_run asked outcome a h i unread ends = record {
   input = [];
   gave = gave_nothing a;
   ends = ends;
@@ -95,23 +96,23 @@ unread_run asked stop a h i unread ends = record {
 
 -- the input comes from the words
 
-pub runs_text : {command given : LineCommand} {ws : List (List ℕ)} {text : List ℕ} {stop : Stop} {a : SourceState} {h k i j : AnswerState}
+pub runs_text : {command given : LineCommand} {ws : List (List ℕ)} {text : List ℕ} {outcome : Result (Unit {0}) Stop} {a : SourceState} {h k i j : AnswerState}
     → given ≡ command → k ≡ h → j ≡ i → 0 < length ws → text ≡ joined ws → length (joined ws) ≤ most_bytes
-    → Answers (answer_lines (line_answers given) text End) stop k j → RunsUnflushed (Ok (OnLines command ws)) stop a a h i
+    → Answers (answer_lines (line_answers given) text End) outcome k j → RunsUnflushed (Ok (OnLines command ws)) outcome a a h i
 runs_text {ws = []} e f g some whole fits x = absurd (omega arith)
-runs_text {given = given} {ws = v ∷ ws} {text = text} {stop = stop} {a = a} {k = k} {j = j} e f g some whole fits x =
-    rw (← e, ← f, ← g) (unread_run (Ok (OnLines given (v ∷ ws))) stop a k j refl
-    (subst (λ y. EndsUnflushed stop y (Ok (OnLines given (v ∷ ws))) a a k j)
+runs_text {given = given} {ws = v ∷ ws} {text = text} {outcome = outcome} {a = a} {k = k} {j = j} e f g some whole fits x =
+    rw (← e, ← f, ← g) (unread_run (Ok (OnLines given (v ∷ ws))) outcome a k j refl
+    (subst (λ y. EndsUnflushed outcome y (Ok (OnLines given (v ∷ ws))) a a k j)
     (ap (λ t. answer_lines (line_answers given) t End) whole ∙ sym (choose_false _ _ _ (short_test fits)))
-    (ends_of_answers (answer_lines (line_answers given) text End) (Ok (OnLines given (v ∷ ws))) _ a a k j (no_stop_of_memory _ text End) x)))
+    (ends_of_answers (answer_lines (line_answers given) text End) (Ok (OnLines given (v ∷ ws))) _ a a k j (is_not_memory _ text End) x)))
 
 pub runs_too_long : (command : LineCommand) (ws : List (List ℕ)) (a : SourceState) (h : AnswerState)
     → 0 < length ws → has_fault h.target ≡ false → most_bytes < length (joined ws)
-    → RunsUnflushed (Ok (OnLines command ws)) InputTooLong a a h h
+    → RunsUnflushed (Ok (OnLines command ws)) (Err InputTooLong) a a h h
 runs_too_long command [] a h n works long = absurd (omega arith)
 runs_too_long command (v ∷ ws) a h n works long =
-    unread_run (Ok (OnLines command (v ∷ ws))) InputTooLong a h h refl
-    (subst (λ x. EndsUnflushed InputTooLong x (Ok (OnLines command (v ∷ ws))) a a h h)
+    unread_run (Ok (OnLines command (v ∷ ws))) (Err InputTooLong) a h h refl
+    (subst (λ x. EndsUnflushed (Err InputTooLong) x (Ok (OnLines command (v ∷ ws))) a a h h)
     (sym (choose_true _ _ _ (long_test long))) (refl, writes_nothing _ works))
 
 fits_test : {n : ℕ} → n ≤ most_bytes → nat_le n most_bytes ≡ true
@@ -119,14 +120,14 @@ fits_test h = grind (arith, common_steps)
 
 pub runs_memory : (command : LineCommand) (ws : List (List ℕ)) (a : SourceState) (h : AnswerState)
     → 0 < length ws → has_fault h.target ≡ false → length (joined ws) ≤ most_bytes
-    → RunsUnflushed (Ok (OnLines command ws)) OutOfMemory a a h h
+    → RunsUnflushed (Ok (OnLines command ws)) (Err OutOfMemory) a a h h
 runs_memory command [] a h n works fits = absurd (omega arith)
 runs_memory command (v ∷ ws) a h n works fits =
-    unread_run (Ok (OnLines command (v ∷ ws))) OutOfMemory a h h refl (fits_test fits, refl, writes_nothing _ works)
+    unread_run (Ok (OnLines command (v ∷ ws))) (Err OutOfMemory) a h h refl (fits_test fits, refl, writes_nothing _ works)
 
 pub runs_memory_source : (command : LineCommand) (ws : List (List ℕ)) (a : SourceState) (h : AnswerState)
     → length ws ≡ 0 → has_fault h.target ≡ false → has_step command ≡ true
-    → RunsUnflushed (Ok (OnLines command ws)) OutOfMemory a a h h
+    → RunsUnflushed (Ok (OnLines command ws)) (Err OutOfMemory) a a h h
 runs_memory_source command [] a h n works asks = record {
   input = [];
   gave = gave_nothing a;
@@ -138,19 +139,19 @@ runs_memory_source command (v ∷ ws) a h n works asks = absurd (omega arith)
 -- other requests
 
 pub runs_usage : {asked : Result Request UsageFault} {fault : UsageFault} (a : SourceState) (h : AnswerState)
-    → asked ≡ Err fault → has_fault h.target ≡ false → RunsUnflushed asked Usage a a h h
-runs_usage {fault = fault} a h e works = rw e (unread_run (Err fault) Usage a h h refl (refl, writes_nothing _ works))
+    → asked ≡ Err fault → has_fault h.target ≡ false → RunsUnflushed asked (Err Usage) a a h h
+runs_usage {fault = fault} a h e works = rw e (unread_run (Err fault) (Err Usage) a h h refl (refl, writes_nothing _ works))
 
-pub runs_steps : {asked : Result Request UsageFault} (stop : Stop) (a : SourceState) (h i : AnswerState)
-    → asked ≡ Ok ListSteps → Answers (unsearched (flat_map step_line steps) Done) stop h i → RunsUnflushed asked stop a a h i
-runs_steps stop a h i e w = rw e (unread_run (Ok ListSteps) stop a h i refl (ends_of_answers _ _ _ _ _ _ _ (λ n. cc n) w))
+pub runs_steps : {asked : Result Request UsageFault} (outcome : Result (Unit {0}) Stop) (a : SourceState) (h i : AnswerState)
+    → asked ≡ Ok ListSteps → Answers (unsearched (flat_map step_line steps) (Ok tt)) outcome h i → RunsUnflushed asked outcome a a h i
+runs_steps outcome a h i e w = rw e (unread_run (Ok ListSteps) outcome a h i refl (ends_of_answers _ _ _ _ _ _ _ (λ n. cc n) w))
 
-pub runs_scrambles : {asked : Result Request UsageFault} (state stream turns count : ℕ) {rng : Lcg} (stop : Stop) (a : SourceState) (h i : AnswerState)
+pub runs_scrambles : {asked : Result Request UsageFault} (state stream turns count : ℕ) {rng : Lcg} (outcome : Result (Unit {0}) Stop) (a : SourceState) (h i : AnswerState)
     → asked ≡ Ok (DrawScrambles state stream turns count) → rng ≡ generator_of state stream
-    → Answers (unsearched (scramble_text turns count rng) Done) stop h i → RunsUnflushed asked stop a a h i
-runs_scrambles state stream turns count stop a h i e f w =
-    rw e (unread_run (Ok (DrawScrambles state stream turns count)) stop a h i refl
-    (ends_of_answers _ _ _ _ _ _ _ (λ n. cc n) (subst (λ x. Answers (unsearched (scramble_text turns count x) Done) stop h i) f w)))
+    → Answers (unsearched (scramble_text turns count rng) (Ok tt)) outcome h i → RunsUnflushed asked outcome a a h i
+runs_scrambles state stream turns count outcome a h i e f w =
+    rw e (unread_run (Ok (DrawScrambles state stream turns count)) outcome a h i refl
+    (ends_of_answers _ _ _ _ _ _ _ (λ n. cc n) (subst (λ x. Answers (unsearched (scramble_text turns count x) (Ok tt)) outcome h i) f w)))
 
 -- the last flush
 
@@ -159,9 +160,9 @@ fault_after i j f works same e =
     ap (λ v. v || j.flush_failed) (same ∙ no_write_fault i works) ∙ e ∙ ap (λ v. v || f) (no_flush_fault i works)
 
 ends_done : (a : Answer) (asked : Result Request UsageFault) (d e : Devices) (h i : AnswerState) (f : Bool)
-    → h.target ≡ d.output → h.pending ≡ [] → i.pending ≡ [] → Answers a Done h i → (reads_source asked ≡ true → e.source.has_ended ≡ true)
+    → h.target ≡ d.output → h.pending ≡ [] → i.pending ≡ [] → Answers a (Ok tt) h i → (reads_source asked ≡ true → e.source.has_ended ≡ true)
     → Flushes f i.target e.output
-    → Ends (flushed_stop Done f) a asked d e
+    → Ends (flushed_outcome (Ok tt) f) a asked d e
 ends_done a asked d e h i true at none none_now w whole flush = record {
   refused = fault_after i.target e.output _ w.1.works flush.write_failed flush.flush_failed;
   text = a.output;
@@ -181,7 +182,7 @@ ends_done a asked d e h i false at none none_now w whole flush = record {
 }
 
 ends_by_fault : (a : Answer) (d e : Devices) {h : AnswerState} (i : AnswerState) {stop : Stop} {f : Bool}
-    → h.target ≡ d.output → h.pending ≡ [] → i.pending ≡ [] → (stop ≡ a.stop) × Writes a.output a.looks h i → Flushes f i.target e.output
+    → h.target ≡ d.output → h.pending ≡ [] → i.pending ≡ [] → (Err stop ≡ a.outcome) × Writes a.output a.looks h i → Flushes f i.target e.output
     → EndsByFault stop a d e
 ends_by_fault a d e i at none none_now w flush = record {
   fault = sym w.0;
@@ -208,46 +209,47 @@ ends_refused a d e h i at none w flush =
       last_flush = λ good. absurd (cc (good, bad));
     }
 
-ends_flushed : (a : Answer) (asked : Result Request UsageFault) (stop : Stop) (d e : Devices) (h i : AnswerState) {f : Bool}
-    → h.target ≡ d.output → h.pending ≡ [] → i.pending ≡ [] → EndsUnflushed stop a asked d.source e.source h i → (stop ≡ Done → reads_source asked ≡ true → e.source.has_ended ≡ true)
+ends_flushed : (a : Answer) (asked : Result Request UsageFault) (outcome : Result (Unit {0}) Stop) (d e : Devices) (h i : AnswerState) {f : Bool}
+    → h.target ≡ d.output → h.pending ≡ [] → i.pending ≡ [] → EndsUnflushed outcome a asked d.source e.source h i → (outcome ≡ Ok tt → reads_source asked ≡ true → e.source.has_ended ≡ true)
     → Flushes f i.target e.output
-    → Ends (flushed_stop stop f) a asked d e
-ends_flushed a asked Done d e h i at none none_now w whole flush = ends_done _ _ _ _ _ _ _ at none none_now w (whole refl) flush
-ends_flushed a asked CannotWrite d e h i at none none_now w whole flush = ends_refused _ _ _ _ _ at none w flush
-ends_flushed a asked OutOfMemory d e h i at none none_now w whole flush = record {
+    → Ends (flushed_outcome outcome f) a asked d e
+ends_flushed a asked (Ok u) d e h i at none none_now w whole flush = ends_done _ _ _ _ _ _ _ at none none_now w (whole refl) flush
+ends_flushed a asked (Err CannotWrite) d e h i at none none_now w whole flush = ends_refused _ _ _ _ _ at none w flush
+ends_flushed a asked (Err OutOfMemory) d e h i at none none_now w whole flush = record {
   asks = w.0;
   unread = w.1;
   nothing = appended_then d.output i.target e.output [] w.2.works (subst (λ t. Appended t i.target []) at (all_sent [] h i none none_now w.2.written)) flush.bytes;
   unrefused = flush.write_failed ∙ no_write_fault i.target w.2.works;
 }
-ends_flushed a asked stop d e h i at none none_now w whole flush = ends_by_fault _ _ _ _ at none none_now w flush
+ends_flushed a asked (Err stop) d e h i at none none_now w whole flush = ends_by_fault _ _ _ _ at none none_now w flush
 
 -- the looks
 
 -- where no write was refused
-exact_looks : (stop : Stop) (failed : Bool) (due looks looks_now : ℕ) → stop ≢ OutOfMemory → failed ≡ false → looks_now ≡ looks + due → Looked stop failed due looks looks_now
-exact_looks stop true due looks looks_now n e p = absurd (cc e)
-exact_looks OutOfMemory false due looks looks_now n e p = absurd (n refl)
+exact_looks : (outcome : Result (Unit {0}) Stop) (failed : Bool) (due looks looks_now : ℕ)
+    → outcome ≢ Err OutOfMemory → failed ≡ false → looks_now ≡ looks + due → Looked outcome failed due looks looks_now
+exact_looks outcome true due looks looks_now n e p = absurd (cc e)
+exact_looks (Err OutOfMemory) false due looks looks_now n e p = absurd (n refl)
 exact_looks _ false due looks looks_now n e p = p
 
-refused_looks : (failed : Bool) (due looks looks_now : ℕ) → failed ≡ true → looks ≤ looks_now → looks_now ≤ looks + due → Looked CannotWrite failed due looks looks_now
+refused_looks : (failed : Bool) (due looks looks_now : ℕ) → failed ≡ true → looks ≤ looks_now → looks_now ≤ looks + due → Looked (Err CannotWrite) failed due looks looks_now
 refused_looks true due looks looks_now e p q = (p, q)
 refused_looks false due looks looks_now e p q = absurd (cc e)
 
-done_flushed : (f : Bool) → flushed_stop Done f ≢ OutOfMemory
-done_flushed true e = cc e
-done_flushed false e = cc e
+good_flushed : (f : Bool) → flushed_outcome (Ok tt) f ≢ Err OutOfMemory
+good_flushed true e = cc e
+good_flushed false e = cc e
 
-looked_flushed : (a : Answer) (asked : Result Request UsageFault) (stop : Stop) (source source_now : SourceState) (h i : AnswerState) (j : TargetState) {f : Bool}
-    → EndsUnflushed stop a asked source source_now h i → Flushes f i.target j
-    → Looked (flushed_stop stop f) j.write_failed a.looks h.looks i.looks
-looked_flushed a asked Done source source_now h i j w flush =
-    exact_looks _ _ _ _ _ (done_flushed _) (flush.write_failed ∙ no_write_fault i.target w.1.works) w.1.looked
-looked_flushed a asked CannotWrite source source_now h i j w flush =
+looked_flushed : (a : Answer) (asked : Result Request UsageFault) (outcome : Result (Unit {0}) Stop) (source source_now : SourceState) (h i : AnswerState) (j : TargetState) {f : Bool}
+    → EndsUnflushed outcome a asked source source_now h i → Flushes f i.target j
+    → Looked (flushed_outcome outcome f) j.write_failed a.looks h.looks i.looks
+looked_flushed a asked (Ok u) source source_now h i j w flush =
+    exact_looks _ _ _ _ _ (good_flushed _) (flush.write_failed ∙ no_write_fault i.target w.1.works) w.1.looked
+looked_flushed a asked (Err CannotWrite) source source_now h i j w flush =
     refused_looks _ _ _ _ (flush.write_failed ∙ w.refused.refused) w.rises w.looked
-looked_flushed a asked OutOfMemory source source_now h i j w flush = w.2.looked ∙ add-zero h.looks
-looked_flushed a asked stop source source_now h i j w flush =
-    exact_looks stop j.write_failed a.looks h.looks i.looks (λ e. cc e) (flush.write_failed ∙ no_write_fault i.target w.1.works) w.1.looked
+looked_flushed a asked (Err OutOfMemory) source source_now h i j w flush = w.2.looked ∙ add-zero h.looks
+looked_flushed a asked (Err stop) source source_now h i j w flush =
+    exact_looks (Err stop) j.write_failed a.looks h.looks i.looks (λ e. cc e) (flush.write_failed ∙ no_write_fault i.target w.1.works) w.1.looked
 
 -- what is due takes no more looks than it may
 
@@ -272,16 +274,16 @@ module _ (law : LooksWithinBound) where
       either IsWithin (nat_lt most_bytes (length (joined (word ∷ words)))) _ _ (omega arith) (lines_within command (joined (word ∷ words)) End)
   answer_within _ input m = omega arith
 
-bounded_looks : (a : Answer) (asked : Result Request UsageFault) (stop : Stop) (source source_now : SourceState) (h i : AnswerState)
-    → IsWithin a → EndsUnflushed stop a asked source source_now h i → i.looks ≤ h.looks + a.most_looks
-bounded_looks a asked CannotWrite source source_now h i within w = omega (arith, w.looked, within)
-bounded_looks a asked OutOfMemory source source_now h i within w = omega (arith, w.2.looked)
+bounded_looks : (a : Answer) (asked : Result Request UsageFault) (outcome : Result (Unit {0}) Stop) (source source_now : SourceState) (h i : AnswerState)
+    → IsWithin a → EndsUnflushed outcome a asked source source_now h i → i.looks ≤ h.looks + a.most_looks
+bounded_looks a asked (Err CannotWrite) source source_now h i within w = omega (arith, w.looked, within)
+bounded_looks a asked (Err OutOfMemory) source source_now h i within w = omega (arith, w.2.looked)
 bounded_looks a asked _ source source_now h i within w = omega (arith, w.1.looked, within)
 
-flushes_worked : (a : Answer) (asked : Result Request UsageFault) (stop : Stop) (source source_now : SourceState) (h i : AnswerState)
-    → has_fault h.target ≡ false → EndsUnflushed stop a asked source source_now h i → i.target.flush_failed ≡ false
-flushes_worked a asked CannotWrite source source_now h i works w = w.refused.flushes_work (no_flush_fault h.target works)
-flushes_worked a asked OutOfMemory source source_now h i works w = no_flush_fault i.target w.2.works
+flushes_worked : (a : Answer) (asked : Result Request UsageFault) (outcome : Result (Unit {0}) Stop) (source source_now : SourceState) (h i : AnswerState)
+    → has_fault h.target ≡ false → EndsUnflushed outcome a asked source source_now h i → i.target.flush_failed ≡ false
+flushes_worked a asked (Err CannotWrite) source source_now h i works w = w.refused.flushes_work (no_flush_fault h.target works)
+flushes_worked a asked (Err OutOfMemory) source source_now h i works w = no_flush_fault i.target w.2.works
 flushes_worked a asked _ source source_now h i works w = no_flush_fault i.target w.1.works
 
 not_flushed : (c f r : Bool) → c ≡ not r → f ≡ r → f ≡ not c
@@ -289,27 +291,27 @@ not_flushed c f true e h = h ∙ sym (ap not e)
 not_flushed c f false e h = h ∙ sym (ap not e)
 
 -- no flush before the last one was refused
-one_flush : {asked : Result Request UsageFault} {stop stop_now : Stop} {a b : SourceState} {h i : AnswerState} {j : TargetState}
-    → has_fault h.target ≡ false → RunsUnflushed asked stop a b h i → FlushesLast stop stop_now i.target j → j.flush_failed ≡ not j.is_flushed
+one_flush : {asked : Result Request UsageFault} {outcome outcome_now : Result (Unit {0}) Stop} {a b : SourceState} {h i : AnswerState} {j : TargetState}
+    → has_fault h.target ≡ false → RunsUnflushed asked outcome a b h i → FlushesLast outcome outcome_now i.target j → j.flush_failed ≡ not j.is_flushed
 one_flush works x flush = not_flushed _ _ _ flush.flush.flushed
     (flush.flush.flush_failed ∙ ap (λ v. v || flush.refused) (flushes_worked _ _ _ _ _ _ _ works x.ends))
 
-pub runs_flushed : LooksWithinBound → (words : List (List ℕ)) {status : ℕ} (stop stop_now : Stop) (a b : SourceState) (h : TargetState) {i : TargetState} (j : TargetState) {p q : List ℕ} (k l : TargetState) (looks looks_now : ℕ)
-    → has_fault h ≡ false → p ≡ [] → q ≡ [] → RunsUnflushed (request_of words) stop a b (pending_state h p looks) (pending_state i q looks_now)
-    → (reads_source (request_of words) ≡ false → b ≡ a) → FlushesLast stop stop_now i j
-    → ReportsError (error_text stop_now) k l → status ≡ status_of stop_now
+pub runs_flushed : LooksWithinBound → (words : List (List ℕ)) {status : ℕ} (outcome outcome_now : Result (Unit {0}) Stop) (a b : SourceState) (h : TargetState) {i : TargetState} (j : TargetState) {p q : List ℕ} (k l : TargetState) (looks looks_now : ℕ)
+    → has_fault h ≡ false → p ≡ [] → q ≡ [] → RunsUnflushed (request_of words) outcome a b (pending_state h p looks) (pending_state i q looks_now)
+    → (reads_source (request_of words) ≡ false → b ≡ a) → FlushesLast outcome outcome_now i j
+    → ReportsError (error_text outcome_now) k l → status ≡ status_of outcome_now
     → Runs words (devices a h k) (devices b j l) looks looks_now status
-runs_flushed law words stop stop_now a b h j k l looks looks_now works none none_now x unread flush reports answers =
+runs_flushed law words outcome outcome_now a b h j k l looks looks_now works none none_now x unread flush reports answers =
     record {
       input = x.input;
       gave = x.gave;
       unread = unread;
-      stop = stop_now;
-      ends = subst (λ v. Ends v (out_of words x.input b) (request_of words) (devices a h k) (devices b j l)) (sym flush.stop_is)
+      outcome = outcome_now;
+      ends = subst (λ v. Ends v (out_of words x.input b) (request_of words) (devices a h k) (devices b j l)) (sym flush.outcome_is)
           (ends_flushed _ _ _ _ _ _ _ refl none none_now x.ends x.read_whole flush.flush);
       tried = flush.flush.tried;
       one_flush = one_flush works x flush;
-      looked = subst (λ v. Looked v j.write_failed (out_of words x.input b).looks looks looks_now) (sym flush.stop_is)
+      looked = subst (λ v. Looked v j.write_failed (out_of words x.input b).looks looks looks_now) (sym flush.outcome_is)
           (looked_flushed _ _ _ _ _ _ _ _ x.ends flush.flush);
       within_bound = bounded_looks _ _ _ _ _ _ _ (answer_within law (request_of words) x.input (ending b)) x.ends;
       reports = reports;

@@ -7,7 +7,7 @@ use Rattle.niss_moves.specs.Reader.{Reader, IsFed}
 use Rattle.niss_shell.specs.Words.{Request, reads_source, takes_memory}
 use Rattle.niss_shell.specs.Output.{Answer, LineAnswers, answer_to_moves, looks_at_moves}
 use Rattle.niss_shell.specs.Output.{looks_for, answer_lines, answer_request, line_with_bytes, ending}
-use Rattle.niss_shell.specs.Names.{LineCommand, UsageFault, DeviceFault, LineFault, Stop, Done, Line, CannotWrite, OutOfMemory, Output}
+use Rattle.niss_shell.specs.Names.{LineCommand, UsageFault, DeviceFault, LineFault, Stop, Line, CannotWrite, OutOfMemory, Output}
 
 -- What answers to lines change: the target that they are written to, the answers that wait to be written to it, and the
 -- count of the looks.
@@ -178,51 +178,48 @@ pub record IsAt (f : LineAnswers) (count : ℕ) (progress : Progress)
   pub count_is : count ≡ length input
 
 -- what a run does before its last flush, where a write may be refused
-abbrev pub Answers : Answer → Stop → AnswerState → AnswerState → Type 0
-Answers a CannotWrite old new = Refuses a.output a.looks old new
-Answers a stop old new = (stop ≡ a.stop) × Writes a.output a.looks old new
+abbrev pub Answers : Answer → Result (Unit {0}) Stop → AnswerState → AnswerState → Type 0
+Answers a (Err CannotWrite) old new = Refuses a.output a.looks old new
+Answers a outcome old new = (outcome ≡ a.outcome) × Writes a.output a.looks old new
 
 -- The source was read as far as needed, and its lines answered.
-pub record AnswersSource (f : LineAnswers) (stop : Stop)
+pub record AnswersSource (f : LineAnswers) (outcome : Result (Unit {0}) Stop)
     (source source_now : SourceState) (old new : AnswerState) : Type 0 where
   pub input : List ℕ
   pub gave : Gave source source_now input
-  pub answers : Answers (answer_lines f input (ending source_now)) stop old new
-  pub read_whole : stop ≡ Done → source_now.has_ended ≡ true
+  pub answers : Answers (answer_lines f input (ending source_now)) outcome old new
+  pub read_whole : outcome ≡ Ok tt → source_now.has_ended ≡ true
 
 -- how a run ends before its last flush
 abbrev pub EndsUnflushed :
-    Stop → Answer → Result Request UsageFault → SourceState → SourceState → AnswerState → AnswerState → Type 0
-EndsUnflushed OutOfMemory a asked source source_now old new =
+    Result (Unit {0}) Stop → Answer → Result Request UsageFault →
+    SourceState → SourceState → AnswerState → AnswerState → Type 0
+EndsUnflushed (Err OutOfMemory) a asked source source_now old new =
     (takes_memory asked ≡ true) × (source_now ≡ source) × Writes [] 0 old new
-EndsUnflushed stop a asked source source_now old new = Answers a stop old new
+EndsUnflushed outcome a asked source source_now old new = Answers a outcome old new
 
 -- What a run does before its last flush.
-pub record RunsUnflushed (asked : Result Request UsageFault) (stop : Stop)
+pub record RunsUnflushed (asked : Result Request UsageFault) (outcome : Result (Unit {0}) Stop)
     (source source_now : SourceState) (old new : AnswerState) : Type 0 where
   pub input : List ℕ
   pub gave : Gave source source_now input
-  pub ends : EndsUnflushed stop (answer_request asked input (ending source_now)) asked
+  pub ends : EndsUnflushed outcome (answer_request asked input (ending source_now)) asked
       source source_now old new
-  pub read_whole : stop ≡ Done → reads_source asked ≡ true → source_now.has_ended ≡ true
+  pub read_whole : outcome ≡ Ok tt → reads_source asked ≡ true → source_now.has_ended ≡ true
 
 -- A run may stop so before anything was read or written.
 abbrev pub EndsAtOnce : Result Request UsageFault → Stop → Type 0
 EndsAtOnce asked stop =
     (source : SourceState) (old : AnswerState) → has_fault old.target ≡ false →
-    RunsUnflushed asked stop source source old old
-
-abbrev pub stop_unless : Result (Unit {0}) Stop → Stop → Stop
-stop_unless (Ok u) otherwise = otherwise
-stop_unless (Err stop) otherwise = stop
+    RunsUnflushed asked (Err stop) source source old old
 
 -- a refused last flush ends a good run, and changes nothing otherwise
-abbrev pub flushed_stop : Stop → Bool → Stop
-flushed_stop Done true = CannotWrite
-flushed_stop stop refused = stop
+abbrev pub flushed_outcome : Result (Unit {0}) Stop → Bool → Result (Unit {0}) Stop
+flushed_outcome (Ok u) true = Err CannotWrite
+flushed_outcome outcome refused = outcome
 
 -- The last flush, which may be refused.
-pub record FlushesLast (stop stop_now : Stop) (old new : TargetState) : Type 0 where
+pub record FlushesLast (outcome outcome_now : Result (Unit {0}) Stop) (old new : TargetState) : Type 0 where
   pub refused : Bool
-  pub stop_is : stop_now ≡ flushed_stop stop refused
+  pub outcome_is : outcome_now ≡ flushed_outcome outcome refused
   pub flush : Flushes refused old new

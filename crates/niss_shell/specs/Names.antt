@@ -13,7 +13,7 @@ pub use Rattle.niss_shell.specs.declared.device.DeviceFault.{DeviceFault}
 pub use Rattle.niss_shell.specs.declared.stop.LineFault.{LineFault}
 pub use Rattle.niss_shell.specs.declared.stop.LineFault.TheVariants.{Unread, NoStart}
 pub use Rattle.niss_shell.specs.declared.stop.Stop.{Stop}
-pub use Rattle.niss_shell.specs.declared.stop.Stop.TheVariants.{Done, Line, Usage, InputTooLong, CannotRead, CannotWrite, OutOfMemory}
+pub use Rattle.niss_shell.specs.declared.stop.Stop.TheVariants.{Line, Usage, InputTooLong, CannotRead, CannotWrite, OutOfMemory}
 pub use Rattle.niss_shell.specs.declared.output.Output.{Output}
 pub use Rattle.niss_shell.specs.declared.job.Work.{Work}
 pub use Rattle.niss_shell.specs.declared.lines.Lines.{Lines}

@@ -19,7 +19,7 @@ use Rattle.niss_search.specs.Solutions.{look_bound}
 use Rattle.niss_shell.specs.Scrambles.{generator_of, scramble_text}
 use Rattle.niss_shell.specs.Words.{most_bytes, Request, OnLines, ListSteps, DrawScrambles, request_of, joined}
 use Rattle.niss_shell.specs.Names.{UsageFault, LineCommand, Rewrite, Search, Report, Solutions, Counts, Rewriting}
-use Rattle.niss_shell.specs.Names.{Invert, Unniss, Cleanup, Print, LineFault, Unread, NoStart, Stop, Done, Line}
+use Rattle.niss_shell.specs.Names.{Invert, Unniss, Cleanup, Print, LineFault, Unread, NoStart, Stop, Line}
 use Rattle.niss_shell.specs.Names.{Usage, InputTooLong, CannotRead, CannotWrite, OutOfMemory, Step, Token, Turn, ReadFault}
 
 -- the name of the step that must hold before this one
@@ -34,24 +34,33 @@ line_fault_text n (NoStart step) =
     codes "nissy: line " ++ decimal n ++ codes ": " ++ start_text step ++ codes " does not hold"
     ++ line_feed ∷ []
 
--- what is written on the error writer
-abbrev pub error_text : Stop → List ℕ
-error_text Done = []
-error_text (Line n fault) = line_fault_text n fault
-error_text Usage = codes "usage: nissy COMMAND [ARGUMENTS]" ++ line_feed ∷ []
-error_text InputTooLong = codes "nissy: input longer than 16777216 bytes" ++ line_feed ∷ []
-error_text CannotRead = codes "nissy: cannot read" ++ line_feed ∷ []
-error_text CannotWrite = codes "nissy: cannot write" ++ line_feed ∷ []
-error_text OutOfMemory = codes "nissy: out of memory" ++ line_feed ∷ []
+-- the text of what stops a run
+abbrev pub stop_text : Stop → List ℕ
+stop_text (Line n fault) = line_fault_text n fault
+stop_text Usage = codes "usage: nissy COMMAND [ARGUMENTS]" ++ line_feed ∷ []
+stop_text InputTooLong = codes "nissy: input longer than 16777216 bytes" ++ line_feed ∷ []
+stop_text CannotRead = codes "nissy: cannot read" ++ line_feed ∷ []
+stop_text CannotWrite = codes "nissy: cannot write" ++ line_feed ∷ []
+stop_text OutOfMemory = codes "nissy: out of memory" ++ line_feed ∷ []
 
-abbrev pub status_of : Stop → ℕ
-status_of Done = 0
-status_of (Line n fault) = 1
-status_of Usage = 2
-status_of InputTooLong = 3
-status_of CannotRead = 3
-status_of CannotWrite = 3
-status_of OutOfMemory = 3
+-- its exit status
+abbrev pub stop_status : Stop → ℕ
+stop_status (Line n fault) = 1
+stop_status Usage = 2
+stop_status InputTooLong = 3
+stop_status CannotRead = 3
+stop_status CannotWrite = 3
+stop_status OutOfMemory = 3
+
+-- what is written on the error writer
+abbrev pub error_text : Result (Unit {0}) Stop → List ℕ
+error_text (Ok u) = []
+error_text (Err stop) = stop_text stop
+
+-- the exit status
+abbrev pub status_of : Result (Unit {0}) Stop → ℕ
+status_of (Ok u) = 0
+status_of (Err stop) = stop_status stop
 
 -- the words with single spaces
 abbrev pub tokens_text : List Token → List ℕ
@@ -178,13 +187,13 @@ ending source = ending_of source.has_failed source.has_ended
 -- What is to be written, how the run is to end, the looks that all of it takes, and the most that it may take.
 pub record Answer : Type 0 where
   pub output : List ℕ
-  pub stop : Stop
+  pub outcome : Result (Unit {0}) Stop
   pub looks : ℕ
   pub most_looks : ℕ
 
 -- an answer without a search
-abbrev pub unsearched : List ℕ → Stop → Answer
-unsearched output stop = record { output = output; stop = stop; looks = 0; most_looks = 0 }
+abbrev pub unsearched : List ℕ → Result (Unit {0}) Stop → Answer
+unsearched output outcome = record { output = output; outcome = outcome; looks = 0; most_looks = 0 }
 
 -- the line alone, or no line where it has no byte
 abbrev pub line_with_bytes : List ℕ → List (List ℕ)
@@ -200,20 +209,21 @@ last_line Fail input = []
 abbrev pub complete_lines : List ℕ → Ending → List (List ℕ)
 complete_lines input ended = ended_lines [] (take most_bytes input) ++ last_line ended input
 
-abbrev pub stop_at_end : Ending → Stop
-stop_at_end Fail = CannotRead
-stop_at_end End = Done
-stop_at_end More = Done
+abbrev pub outcome_at_end : Ending → Result (Unit {0}) Stop
+outcome_at_end Fail = Err CannotRead
+outcome_at_end End = Ok tt
+outcome_at_end More = Ok tt
 
-abbrev pub stop_of : Option (ℕ × LineFault) → List ℕ → Ending → Stop
-stop_of (Some fault) input ended = Line fault.0 fault.1
-stop_of None input ended = if nat_lt most_bytes (length input) then InputTooLong else stop_at_end ended
+abbrev pub outcome_of : Option (ℕ × LineFault) → List ℕ → Ending → Result (Unit {0}) Stop
+outcome_of (Some fault) input ended = Err (Line fault.0 fault.1)
+outcome_of None input ended =
+    if nat_lt most_bytes (length input) then Err InputTooLong else outcome_at_end ended
 
 -- the answers to the complete lines of an input, up to the first fault
 abbrev pub answer_lines : LineAnswers → List ℕ → Ending → Answer
 answer_lines answers input ended = record {
   output = written_text answers.answer_of (complete_lines input ended);
-  stop = stop_of (first_fault answers.answer_of 1 (complete_lines input ended)) input ended;
+  outcome = outcome_of (first_fault answers.answer_of 1 (complete_lines input ended)) input ended;
   looks = looks_for answers (complete_lines input ended);
   most_looks = most_looks_for answers (complete_lines input ended);
 }
@@ -223,7 +233,7 @@ abbrev pub answer_on_lines : LineAnswers → List (List ℕ) → List ℕ → En
 answer_on_lines answers [] input ended = answer_lines answers input ended
 answer_on_lines answers (word ∷ words) input ended =
     if nat_lt most_bytes (length (joined (word ∷ words)))
-    then unsearched [] InputTooLong
+    then unsearched [] (Err InputTooLong)
     else answer_lines answers (joined (word ∷ words)) End
 
 -- a step's name on a line
@@ -231,12 +241,12 @@ abbrev pub step_line : Step → List ℕ
 step_line step = name_of step ++ line_feed ∷ []
 
 abbrev pub answer_request : Result Request UsageFault → List ℕ → Ending → Answer
-answer_request (Err fault) input ended = unsearched [] Usage
+answer_request (Err fault) input ended = unsearched [] (Err Usage)
 answer_request (Ok (OnLines command words)) input ended =
     answer_on_lines (line_answers command) words input ended
-answer_request (Ok ListSteps) input ended = unsearched (flat_map step_line steps) Done
+answer_request (Ok ListSteps) input ended = unsearched (flat_map step_line steps) (Ok tt)
 answer_request (Ok (DrawScrambles state stream turns count)) input ended =
-    unsearched (scramble_text turns count (generator_of state stream)) Done
+    unsearched (scramble_text turns count (generator_of state stream)) (Ok tt)
 
 -- what a run with these words is to write and to answer, where the source gave this input and was left so
 abbrev pub out_of : List (List ℕ) → List ℕ → SourceState → Answer

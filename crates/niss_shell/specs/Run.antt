@@ -1,9 +1,9 @@
 -- What a run does to its three devices.
-use Rattle.std.specs.Prelude.{◌≡◌, ℕ, ◌+◌, ◌<◌, ◌≤◌, not, Bool, true, false, Result, List, [], ◌++◌, length}
+use Rattle.std.specs.Prelude.{◌≡◌, ℕ, ◌+◌, ◌<◌, ◌≤◌, not, Bool, true, false, Result, Ok, Err, List, [], ◌++◌, length}
 use Rattle.niss_shell.specs.Device.{SourceState, TargetState, has_fault, Gave, Appended}
 use Rattle.niss_shell.specs.Words.{Request, request_of, reads_source, takes_memory}
 use Rattle.niss_shell.specs.Output.{Answer, out_of, error_text, status_of}
-use Rattle.niss_shell.specs.Names.{UsageFault, Stop, Done, CannotWrite, OutOfMemory}
+use Rattle.niss_shell.specs.Names.{UsageFault, Stop, CannotWrite, OutOfMemory}
 
 -- the source, the output and the error writer
 pub record Devices : Type 0 where
@@ -18,7 +18,7 @@ devices source output error = record { source = source; output = output; error =
 -- end.
 pub record ReachesEnd (due : Answer) (asked : Result Request UsageFault)
     (source_now : SourceState) : Type 0 where
-  pub good : due.stop ≡ Done
+  pub good : due.outcome ≡ Ok tt
   pub read_whole : reads_source asked ≡ true → source_now.has_ended ≡ true
 
 -- A good run: the whole output was written, and flushed.
@@ -50,16 +50,17 @@ pub record MemoryRefused (asked : Result Request UsageFault) (old new : Devices)
 
 -- A fault of the words, of a line or of the input, which comes after the answers before it. No write was refused.
 pub record EndsByFault (stop : Stop) (due : Answer) (old new : Devices) : Type 0 where
-  pub fault : due.stop ≡ stop
+  pub fault : due.outcome ≡ Err stop
   pub written : Appended old.output new.output due.output
   pub unrefused : new.output.write_failed ≡ false
 
 -- how a run ends, where `due` is what it is to write and to answer
-abbrev pub Ends : Stop → Answer → Result Request UsageFault → Devices → Devices → Type 0
-Ends Done due asked old new = Finishes due asked old new
-Ends CannotWrite due asked old new = OutputRefused due asked old new
-Ends OutOfMemory due asked old new = MemoryRefused asked old new
-Ends stop due asked old new = EndsByFault stop due old new
+abbrev pub Ends :
+    Result (Unit {0}) Stop → Answer → Result Request UsageFault → Devices → Devices → Type 0
+Ends (Ok u) due asked old new = Finishes due asked old new
+Ends (Err CannotWrite) due asked old new = OutputRefused due asked old new
+Ends (Err OutOfMemory) due asked old new = MemoryRefused asked old new
+Ends (Err stop) due asked old new = EndsByFault stop due old new
 
 -- The error writer took this text, or a beginning of it where it refused a write.
 pub record ReportsError (text : List ℕ) (old new : TargetState) : Type 0 where
@@ -73,10 +74,10 @@ pub record ReportsError (text : List ℕ) (old new : TargetState) : Type 0 where
 
 -- how far the meter rises, where the run is due to look so often: not at all where memory was refused, and no further
 -- where a write was
-abbrev pub Looked : Stop → Bool → ℕ → ℕ → ℕ → Type 0
-Looked OutOfMemory write_refused due looks looks_now = looks_now ≡ looks
-Looked stop true due looks looks_now = (looks ≤ looks_now) × (looks_now ≤ looks + due)
-Looked stop false due looks looks_now = looks_now ≡ looks + due
+abbrev pub Looked : Result (Unit {0}) Stop → Bool → ℕ → ℕ → ℕ → Type 0
+Looked (Err OutOfMemory) write_refused due looks looks_now = looks_now ≡ looks
+Looked outcome true due looks looks_now = (looks ≤ looks_now) × (looks_now ≤ looks + due)
+Looked outcome false due looks looks_now = looks_now ≡ looks + due
 
 -- What a run with these words does to its devices and to the meter of its looks, and the status that it answers.
 pub record Runs (words : List (List ℕ)) (old new : Devices) (looks looks_now : ℕ) (status : ℕ) : Type 0 where
@@ -86,16 +87,16 @@ pub record Runs (words : List (List ℕ)) (old new : Devices) (looks looks_now :
   -- nothing is read but by a command that takes its input from the source
   pub unread : reads_source (request_of words) ≡ false → new.source ≡ old.source
   -- how the run ended, and what was written
-  pub stop : Stop
-  pub ends : Ends stop (out_of words input new.source) (request_of words) old new
+  pub outcome : Result (Unit {0}) Stop
+  pub ends : Ends outcome (out_of words input new.source) (request_of words) old new
   -- however it ended, a flush of the output was tried after its last write
   pub tried : new.output.flush_tried ≡ true
   -- No flush but that last one was refused. So none came earlier, since an earlier one may be refused and the last one
   -- not.
   pub one_flush : new.output.flush_failed ≡ not new.output.is_flushed
   -- the looks at positions
-  pub looked : Looked stop new.output.write_failed (out_of words input new.source).looks looks looks_now
+  pub looked : Looked outcome new.output.write_failed (out_of words input new.source).looks looks looks_now
   pub within_bound : looks_now ≤ looks + (out_of words input new.source).most_looks
   -- what was written on the error writer
-  pub reports : ReportsError (error_text stop) old.error new.error
-  pub answers : status ≡ status_of stop
+  pub reports : ReportsError (error_text outcome) old.error new.error
+  pub answers : status ≡ status_of outcome

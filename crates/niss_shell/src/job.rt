@@ -2,9 +2,8 @@
 ghost use Rattle.std.specs.Prelude.{◌≡◌, ◌<◌, ◌≤◌, ◌++◌, true, false, Ok, List, [], ℕ, map, flat_map, string_bytes, length};
 ghost use Rattle.std.specs.Prelude.{OnOk, OnErr, IfOk, IfErr, IfSome, MatchOption};
 ghost use Rattle.niss_shell.specs.Words.{most_bytes, joined, spaced_word, has_step, reads_source, OnLines};
-ghost use Rattle.niss_shell.specs.Engine.{MayBegin, RunsUnflushed, EndsAtOnce, output_state, stop_unless};
+ghost use Rattle.niss_shell.specs.Engine.{MayBegin, RunsUnflushed, EndsAtOnce, output_state};
 ghost use Rattle.niss_shell.specs.Job.{IsInput, command_of};
-ghost use Rattle.niss_shell.specs.Names.{Done};
 
 use crate::command::{LineCommand, LineRequest, Rewriting};
 use crate::device::{Source, Target};
@@ -134,7 +133,7 @@ impl<A: Allocator> Job<A> {
         requires fits { IfSome self.now.text (λ text. length text.items ≤ most_bytes) }
         ensures same_target { output.new.target.ghost_name ≡ output.old.target.ghost_name }
         ensures runs { (words : List (List ℕ)) → IsInput (λ text. text.items) self.now.text words →
-            RunsUnflushed (Ok (OnLines (command_of self.now.work) words)) (stop_unless result Done)
+            RunsUnflushed (Ok (OnLines (command_of self.now.work) words)) result
             (R.state source.old) (R.state source.new)
             (output_state W.state output.old looks.old) (output_state W.state output.new looks.new) }
         ensures empty { output.new.pending.items ≡ [] }
@@ -162,7 +161,7 @@ pub fn answer_lines<A: Allocator + Copy, R: Source, W: Target>(
     ensures same_target { output.new.target.ghost_name ≡ output.old.target.ghost_name }
     ensures runs { RunsUnflushed
         (Ok (OnLines request.entry.command (map string_bytes request.entry.words.now)))
-        (stop_unless result Done) (R.state source.old) (R.state source.new)
+        result (R.state source.old) (R.state source.new)
         (output_state W.state output.old looks.old) (output_state W.state output.new looks.new) }
     ensures empty { output.new.pending.items ≡ [] }
     ensures unread { reads_source

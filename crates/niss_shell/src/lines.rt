@@ -34,10 +34,9 @@ pub struct Lines<'a, A: Allocator> {
 }
 
 impl<'a, A: Allocator> Lines<'a, A> {
-    ghost use Rattle.niss_shell.specs.Names.{Done};
     ghost use Rattle.niss_moves.specs.Reader.{moves_of};
     ghost use Rattle.niss_shell.specs.Engine.{MayBegin, AnswersLine, AnswersMoves, AnswersSource, Answers, HasRoom};
-    ghost use Rattle.niss_shell.specs.Engine.{piece_of, only_stop, stop_unless};
+    ghost use Rattle.niss_shell.specs.Engine.{piece_of, only_stop};
     ghost use Rattle.niss_shell.specs.Output.{answer_lines, End};
     ghost use Rattle.niss_shell.specs.Job.{command_of};
     ghost use Rattle.niss_shell.specs.Taking.{Keeps, AnswersOpenLine, Takes, Ends, answers_of, lines_state};
@@ -226,7 +225,7 @@ impl<'a, A: Allocator> Lines<'a, A> {
         requires line { self.old.line ≡ 1 }
         ensures keeps { Keeps self.old self.new }
         ensures same_target { output.new.target.ghost_name ≡ output.old.target.ghost_name }
-        ensures answers { AnswersSource (answers_of self.old) (stop_unless result Done)
+        ensures answers { AnswersSource (answers_of self.old) result
             (S.state source.old) (S.state source.new)
             (lines_state W.state output.old self.old) (lines_state W.state output.new self.new) }
         ensures empty { output.new.pending.items ≡ [] }
@@ -260,7 +259,7 @@ impl<'a, A: Allocator> Lines<'a, A> {
         requires meter { self.old.looks.now ≤ 2 ^ 64 }
         ensures keeps { Keeps self.old self.new }
         ensures same_target { output.new.target.ghost_name ≡ output.old.target.ghost_name }
-        ensures answers { Answers (answer_lines (answers_of self.old) text.now End) (stop_unless result Done)
+        ensures answers { Answers (answer_lines (answers_of self.old) text.now End) result
             (lines_state W.state output.old self.old) (lines_state W.state output.new self.new) }
         ensures empty { output.new.pending.items ≡ [] }
     {

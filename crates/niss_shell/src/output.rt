@@ -1,9 +1,8 @@
 //! Where the answers of a run go.
 ghost use Rattle.std.specs.Prelude.{◌≡◌, [], OnOk, OnErr};
 ghost use Rattle.niss_shell.specs.Device.{Appended, WriteRefused, has_fault};
-ghost use Rattle.niss_shell.specs.Engine.{Delivers, TakesLine, RefusesLine, FlushesLast, stop_unless};
+ghost use Rattle.niss_shell.specs.Engine.{Delivers, TakesLine, RefusesLine, FlushesLast};
 ghost use Rattle.niss_shell.specs.Output.{solution_line};
-ghost use Rattle.niss_shell.specs.Names.{Done};
 
 use crate::device::{DeviceFault, Target};
 use crate::search_text::put_solution;
@@ -74,16 +73,15 @@ impl<'a, W: Target> Output<'a, W> {
     }
 
     /// Ends a run by its last flush. Where that is refused, a good run ends with a fault.
-    pub fn finish(&mut self, answered: Result<(), Stop>) -> Stop
+    pub fn finish(&mut self, answered: Result<(), Stop>) -> Result<(), Stop>
         ensures same_target { self.new.target.ghost_name ≡ self.old.target.ghost_name }
-        ensures flushes { FlushesLast (stop_unless answered Done) result
+        ensures flushes { FlushesLast answered result
             (W.state self.old.target.now) (W.state self.new.target.now) }
     {
-        let stop = answered.err().unwrap_or(Stop::Done);
-        match (stop, self.target.flush()) {
-            (Stop::Done, Err(fault)) => Stop::from(fault),
-            (stop, _) => stop,
-        }
+        // a run that was stopped is flushed too
+        let flushed = self.target.flush();
+        answered?;
+        Ok(flushed?)
     }
 }
 

@@ -1,11 +1,10 @@
 //! The scrambles that a run writes.
-ghost use Rattle.std.specs.Prelude.{◌≡◌, ◌≤◌, ℕ, [], false, None};
+ghost use Rattle.std.specs.Prelude.{◌≡◌, ◌≤◌, ℕ, [], false, None, Ok};
 ghost use Rattle.niss_search.specs.Draw.{next_words, after_words, draw};
 ghost use Rattle.niss_shell.specs.Device.{has_fault};
-ghost use Rattle.niss_shell.specs.Engine.{Answers, output_state, stop_unless};
+ghost use Rattle.niss_shell.specs.Engine.{Answers, output_state};
 ghost use Rattle.niss_shell.specs.Output.{unsearched};
 ghost use Rattle.niss_shell.specs.Scrambles.{turns_line, scramble_text};
-ghost use Rattle.niss_shell.specs.Names.{Done};
 
 use crate::device::Target;
 use crate::output::Output;
@@ -36,7 +35,7 @@ pub fn write_scrambles<W: Target>(
     requires turns { turns ≤ 256 }
     ensures same_target { output.new.target.ghost_name ≡ output.old.target.ghost_name }
     ensures answers { (looks : ℕ) →
-        Answers (unsearched (scramble_text turns count rng) Done) (stop_unless result Done)
+        Answers (unsearched (scramble_text turns count rng) (Ok tt)) result
         (output_state W.state output.old looks) (output_state W.state output.new looks) }
     ensures empty { output.new.pending.items ≡ [] }
 {

@@ -1,11 +1,10 @@
 //! A run, from the words of a command line to the exit status.
-ghost use Rattle.std.specs.Prelude.{◌≡◌, ◌≤◌, ◌^◌, false, [], ℕ, map, flat_map, string_bytes};
+ghost use Rattle.std.specs.Prelude.{◌≡◌, ◌≤◌, ◌^◌, false, [], ℕ, Ok, map, flat_map, string_bytes};
 ghost use Rattle.niss_shell.specs.Device.{has_fault};
 ghost use Rattle.niss_shell.specs.Words.{request_of, reads_source};
-ghost use Rattle.niss_shell.specs.Output.{error_text, step_line, unsearched};
+ghost use Rattle.niss_shell.specs.Output.{error_text, status_of, step_line, unsearched};
 ghost use Rattle.niss_cube.specs.Steps.{steps};
-ghost use Rattle.niss_shell.specs.Names.{Done};
-ghost use Rattle.niss_shell.specs.Engine.{MayBegin, Answers, RunsUnflushed, output_state, stop_unless};
+ghost use Rattle.niss_shell.specs.Engine.{MayBegin, Answers, RunsUnflushed, output_state};
 ghost use Rattle.niss_shell.specs.Run.{Runs, ReportsError, devices};
 
 use crate::command::{Command, parse_words};
@@ -28,7 +27,7 @@ fn write_steps<W: Target>(output: &mut Output<W>) -> Result<(), Stop>
     requires works { has_fault (W.state output.old.target.now) ≡ false }
     ensures same_target { output.new.target.ghost_name ≡ output.old.target.ghost_name }
     ensures answers { (looks : ℕ) →
-        Answers (unsearched (flat_map step_line steps) Done) (stop_unless result Done)
+        Answers (unsearched (flat_map step_line steps) (Ok tt)) result
         (output_state W.state output.old looks) (output_state W.state output.new looks) }
     ensures empty { output.new.pending.items ≡ [] }
 {
@@ -50,7 +49,7 @@ fn answer_command<A: Allocator + Copy, R: Source, W: Target>(
 ) -> Result<(), Stop>
     requires { MayBegin (R.state source.old) (output_state W.state output.old looks.old) }
     ensures same_target { output.new.target.ghost_name ≡ output.old.target.ghost_name }
-    ensures runs { RunsUnflushed (request_of (map string_bytes words.now)) (stop_unless result Done)
+    ensures runs { RunsUnflushed (request_of (map string_bytes words.now)) result
         (R.state source.old) (R.state source.new)
         (output_state W.state output.old looks.old) (output_state W.state output.new looks.new) }
     ensures empty { output.new.pending.items ≡ [] }
@@ -76,12 +75,17 @@ fn answer_command<A: Allocator + Copy, R: Source, W: Target>(
     }
 }
 
-/// Writes what went wrong, or as much of it as the error writer takes.
-fn report<E: Target>(stop: Stop, err: &mut E)
-    ensures { ReportsError (error_text stop) (E.state err.old) (E.state err.new) }
+/// Writes what went wrong, or as much of it as the error writer takes, and answers the exit status.
+fn report<E: Target>(outcome: Result<(), Stop>, err: &mut E) -> u8
+    ensures reports { ReportsError (error_text outcome) (E.state err.old) (E.state err.new) }
+    ensures status { result ≡ status_of outcome }
 {
+    let Err(stop) = outcome else {
+        return 0;
+    };
     let text = stop.text();
     let _ = write_all(err, text.as_slice());
+    stop.status()
 }
 
 /// `run` over any allocator, for a caller that has a heap of its own, or that refuses growths.
@@ -105,9 +109,8 @@ pub fn run_in<A: Allocator + Copy, R: Source, W: Target, E: Target>(
     counts_and_bounds();
     let mut output = Output::new(out);
     let answered = answer_command(alloc, words, input, &mut output, looks);
-    let stop = output.finish(answered);
-    report(stop, err);
-    stop.status()
+    let outcome = output.finish(answered);
+    report(outcome, err)
 }
 
 /// Runs a command, and answers its exit status.

@@ -1,6 +1,6 @@
-//! How a run ends: what it then writes to the error writer, and its exit status.
+//! What stops a run before its good end: what it then writes to the error writer, and its exit status.
 ghost use Rattle.std.specs.Prelude.{◌≡◌, decimal, codes, ◌+◌, ◌∷◌, [], ◌++◌, ◌≤◌, length};
-ghost use Rattle.niss_shell.specs.Output.{error_text, status_of, start_text, line_fault_text};
+ghost use Rattle.niss_shell.specs.Output.{stop_text, stop_status, start_text, line_fault_text};
 ghost use Rattle.niss_shell.specs.Lines.{line_feed};
 ghost use Rattle.niss_moves.specs.FaultText.{fault_column, fault_text};
 ghost use Rattle.niss_shell.specs.Names.{CannotWrite, OutOfMemory};
@@ -20,10 +20,9 @@ pub enum LineFault {
     NoStart(Step),
 }
 
-/// How a run ends.
+/// What stops a run before its good end.
 #[derive(Clone, Copy)]
 pub enum Stop {
-    Done,
     Line { line: u32, fault: LineFault },
     Usage,
     InputTooLong,
@@ -102,11 +101,10 @@ impl From<AllocError> for Stop {
 impl Stop {
     /// The text for the error writer.
     pub fn text(self) -> LineText
-        ensures { result.items ≡ error_text self }
+        ensures { result.items ≡ stop_text self }
     {
         let mut text = LineText::new();
         match self {
-            Stop::Done => {}
             Stop::Line { line, fault } => put_line_fault(line, fault, &mut text),
             Stop::Usage => put_text(b"usage: nissy COMMAND [ARGUMENTS]\n", &mut text),
             Stop::InputTooLong => {
@@ -121,10 +119,9 @@ impl Stop {
 
     /// The exit status.
     pub fn status(self) -> u8
-        ensures { result ≡ status_of self }
+        ensures { result ≡ stop_status self }
     {
         match self {
-            Stop::Done => 0,
             Stop::Line { .. } => 1,
             Stop::Usage => 2,
             Stop::InputTooLong | Stop::CannotRead | Stop::CannotWrite | Stop::OutOfMemory => 3,

@@ -2,8 +2,7 @@ use Rattle.std.proofs.Common.{map, Ok, subst}
 use Rattle.std.specs.Prelude.{string_bytes}
 use Rattle.std.proofs.lemmas.Result.{err_from_is_err_and}
 use Rattle.niss_shell.specs.Words.{OnLines}
-use Rattle.niss_shell.specs.Engine.{RunsUnflushed, output_state, stop_unless}
-use Rattle.niss_shell.specs.Names.{Done}
+use Rattle.niss_shell.specs.Engine.{RunsUnflushed, output_state}
 use Rattle.niss_shell.proofs.RunLemmas.{by_words}
 use Rattle.niss_shell.proofs.job.answer_lines.Goals as goal
 
@@ -14,7 +13,7 @@ returns-in_err-new-clause-runs g c =
 
 pub returns-clause-runs : goal.returns-clause-runs
 returns-clause-runs g c =
-    subst (λ k. RunsUnflushed (Ok (OnLines k (map string_bytes c.args.request.words.now))) (stop_unless c.answer.result Done)
+    subst (λ k. RunsUnflushed (Ok (OnLines k (map string_bytes c.args.request.words.now))) c.answer.result
     (g.R.Source.state c.args.source.now) (g.R.Source.state c.answer.new.source)
     (output_state g.W.Target.state c.args.output.now c.args.looks.now) (output_state g.W.Target.state c.answer.new.output c.answer.new.looks))
     c.in_ok-new.ensures.work (c.answer.ensures.runs (map string_bytes c.args.request.words.now) c.in_ok-new.ensures.input)
