@@ -29,8 +29,6 @@ mod memory;
 #[cfg(test)]
 mod near;
 #[cfg(test)]
-mod near_searches;
-#[cfg(test)]
 mod path_sinks;
 #[cfg(test)]
 mod reading;
