@@ -19,9 +19,9 @@ mod device_faults;
 #[cfg(test)]
 mod devices;
 #[cfg(test)]
-mod draws;
-#[cfg(test)]
 mod examples;
+#[cfg(test)]
+mod generator;
 #[cfg(test)]
 mod limits;
 #[cfg(test)]
