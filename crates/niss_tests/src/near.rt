@@ -1,7 +1,7 @@
 //! Solutions a little longer than the least.
 use crate::runs::Given::{Input, Words};
 use crate::runs::Run::{self, Fault, Good};
-use crate::runs::{check_looks, check_runs, check_usage};
+use crate::runs::{check_looks, check_runs};
 
 /// The edge orientations of at most two turns of the cube after F.
 const AFTER_F: &[u8] = b"F (1)
@@ -120,21 +120,4 @@ fn looks_of_each_length_are_counted(rt: HostRuntime) {
     for (run, looks) in LOOKS {
         check_looks(&rt, rt.alloc(), run, looks);
     }
-}
-
-#[test]
-fn wrong_words_of_near_are_refused(rt: HostRuntime) {
-    let wrong: &[&[&str]] = &[
-        &["near"],
-        &["near", "eofb"],
-        &["near", "eofb", "5"],
-        &["near", "eofb", "5", "F"],
-        &["near", "eofb", "5", "21", "F"],
-        &["near", "eofb", "21", "5", "F"],
-        &["near", "eofb", "", "5", "F"],
-        &["near", "eofb", "5", "", "F"],
-        &["near", "htr", "5", "5", "F"],
-        &["near", "5", "5", "eofb", "F"],
-    ];
-    check_usage(&rt, rt.alloc(), wrong);
 }
