@@ -2,9 +2,9 @@
 use crate::coordinates::check_tables;
 use crate::devices::{Devices, FAULTLESS};
 use crate::path_sinks::HeapWatch;
-use crate::runs::Given::{Input, Words};
+use crate::runs::Given::Input;
 use crate::runs::Run::{self, Failure, Good};
-use crate::runs::{OUT_OF_MEMORY, TOO_LONG, repeated};
+use crate::runs::{OUT_OF_MEMORY, repeated};
 use crate::searches::Search;
 use linked_list_allocator::LocalHeap;
 use niss_cube::{OutOfMemory, Step, TurnTables};
@@ -14,7 +14,12 @@ use std::process::Abort;
 use std::test::Fail;
 
 /// Makes a run that leaves its source unread, with a heap of this size.
-fn check_heap(rt: &impl Abort, alloc: Global, size: usize, run: Run<'_>) -> Result<(), AllocError> {
+pub fn check_heap(
+    rt: &impl Abort,
+    alloc: Global,
+    size: usize,
+    run: Run<'_>,
+) -> Result<(), AllocError> {
     let heap = LocalHeap::new(alloc, size)?;
     let devices = Devices {
         heap: Some(&heap),
@@ -43,22 +48,6 @@ fn check_heaps(rt: &impl Abort, alloc: Global, word: &str) -> Result<(), AllocEr
 fn a_refused_growth_ends_the_run(rt: HostRuntime) -> Result<(), Fail> {
     let spaces = repeated(rt.alloc(), " ", 1000, "")?;
     check_heaps(&rt, rt.alloc(), &spaces)?;
-    Ok(())
-}
-
-#[test]
-fn words_above_the_limit_are_refused(rt: HostRuntime) -> Result<(), Fail> {
-    // no growth is asked for where the words are too many
-    let spaces = repeated(rt.alloc(), " ", 16_777_216, "")?;
-    let run = Failure(Input(&["invert", &spaces], b"R"), b"", TOO_LONG);
-    check_heap(&rt, rt.alloc(), 16, run)?;
-    Ok(())
-}
-
-#[test]
-fn words_at_the_limit_are_taken(rt: HostRuntime) -> Result<(), Fail> {
-    let spaces = repeated(rt.alloc(), " ", 16_777_215, "")?;
-    Good(Words(&["invert", &spaces]), b"\n").check(&rt, rt.alloc(), FAULTLESS);
     Ok(())
 }
 
