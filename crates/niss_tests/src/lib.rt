@@ -1,5 +1,5 @@
-//! Tests of all crates below the program: of calls of the notation and of the cube, and of the commands, from words and
-//! bytes to bytes, over devices in memory that may fail.
+//! Tests of all crates below the program: of calls of the notation, of the cube and of the search, and of the commands, from
+//! words and bytes to bytes, over devices in memory that may fail.
 #![tactic(auto)]
 
 #[cfg(test)]

@@ -118,7 +118,10 @@ fn check_search(
     };
     let mut sink = HeapWatch::new(heap);
     let (answer, _looks) = search.run(rt, tables, &mut sink);
-    assert!(rt; answer.expect(rt, "a search").solutions > 0, "{moves}");
+    assert!(rt;
+        matches!(answer, Ok(found) if found.solutions > 0),
+        "{moves}"
+    );
     assert!(rt; sink.is_same, "{moves}");
 }
 

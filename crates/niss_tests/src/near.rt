@@ -93,6 +93,7 @@ const SHORTEST: &[u8] = b"F (1)\nF' (1)\n\n";
 
 /// Runs, and how many positions they look at: those of all deepenings to the last length.
 const LOOKS: [(Run, u128); 6] = [
+    // the slack cuts the limit
     (Good(Words(&["near", "eofb", "7", "0", "F"]), SHORTEST), 20),
     (Good(Words(&["near", "eofb", "2", "0", "F"]), SHORTEST), 20),
     // the limit cuts the slack

@@ -1,5 +1,5 @@
-//! Searches: what is handed out, how often positions are looked at, and what a refusal leaves.
-ghost use Rattle.std.specs.Prelude.{◌≤◌};
+//! Searches: what is handed out, how often positions are looked at and turns are tried, and where a refusal ends them.
+ghost use Rattle.std.specs.Prelude.{◌≤◌, ◌^◌};
 ghost use Rattle.niss_search.specs.Cubes.{IsPosition};
 
 use crate::cubes::cube_after;
@@ -12,7 +12,7 @@ use std::process::Abort;
 /// The tables of a step. Who has them ends with `drop(tables)`, which is proved once: where a scope ends without it, the
 /// proof goes through all parts of the tables again.
 fn tables_of(rt: &impl Abort, alloc: Global, step: Step, meter: &mut Meter) -> Tables
-    requires { meter.old ≤ 1000000 }
+    requires { meter.old ≤ 2 ^ 127 }
 {
     let tables = Tables::build(alloc, step, meter).expect(rt, "tables");
     assert!(rt; tables.step() == step);
@@ -90,12 +90,12 @@ fn check_rows(rt: &impl Abort, alloc: Global, step: Step, rows: &[Row]) {
     drop(tables);
 }
 
-/// A search that finds something.
+/// A search whose paths are all taken, with the length of the shortest.
 const fn found(
     moves: &'static str,
     limit: u8,
     paths: &'static [&'static str],
-    length: u8,
+    length: Option<u8>,
     looks: u128,
 ) -> Row {
     Row {
@@ -107,7 +107,7 @@ const fn found(
         paths,
         searched: Searched {
             answer: Ok(Outcome {
-                length: Some(length),
+                length,
                 solutions: paths.len() as u128,
             }),
             looks,
@@ -117,21 +117,7 @@ const fn found(
 
 /// A search that finds nothing.
 const fn nothing(moves: &'static str, limit: u8, looks: u128) -> Row {
-    Row {
-        search: Search {
-            moves,
-            limit,
-            slack: 0,
-        },
-        paths: &[],
-        searched: Searched {
-            answer: Ok(Outcome {
-                length: None,
-                solutions: 0,
-            }),
-            looks,
-        },
-    }
+    found(moves, limit, &[], None, looks)
 }
 
 /// A search that a refusal ends.
@@ -153,9 +139,9 @@ fn shortest_edge_orientations_are_found(rt: HostRuntime) {
         rt.alloc(),
         Step::Eofb,
         &[
-            found("F", 7, &["F", "F'"], 1, 20),
-            found("F B", 5, &["F B", "F B'", "F' B", "F' B'"], 2, 75),
-            found("", 20, &[""], 0, 1),
+            found("F", 7, &["F", "F'"], Some(1), 20),
+            found("F B", 5, &["F B", "F B'", "F' B", "F' B'"], Some(2), 75),
+            found("", 20, &[""], Some(0), 1),
             nothing("F B", 1, 2),
             nothing("F", 0, 1),
             // four turns are needed: one look in each deepening
@@ -168,7 +154,7 @@ fn shortest_edge_orientations_are_found(rt: HostRuntime) {
         &rt,
         rt.alloc(),
         Step::Eorl,
-        &[found("R", 7, &["R", "R'"], 1, 20)],
+        &[found("R", 7, &["R", "R'"], Some(1), 20)],
     );
 }
 
@@ -179,8 +165,8 @@ fn shortest_domino_reductions_are_found(rt: HostRuntime) {
         rt.alloc(),
         Step::DrudEofb,
         &[
-            found("R U", 5, &["U' R", "U' R'"], 2, 28),
-            found("R", 5, &["R", "R'"], 1, 16),
+            found("R U", 5, &["U' R", "U' R'"], Some(2), 28),
+            found("R", 5, &["R", "R'"], Some(1), 16),
             // four turns are needed: one look in each deepening
             nothing("R U L D", 3, 4),
         ],
@@ -189,14 +175,14 @@ fn shortest_domino_reductions_are_found(rt: HostRuntime) {
         &rt,
         rt.alloc(),
         Step::DrrlEofb,
-        &[found("R", 5, &[""], 0, 1)],
+        &[found("R", 5, &[""], Some(0), 1)],
     );
     // tables on another axis than their own
     check_rows(
         &rt,
         rt.alloc(),
         Step::DrfbEorl,
-        &[found("U", 3, &["U", "U'"], 1, 16)],
+        &[found("U", 3, &["U", "U'"], Some(1), 16)],
     );
 }
 
