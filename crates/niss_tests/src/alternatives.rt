@@ -2,9 +2,6 @@
 use crate::runs::Given::Words;
 use crate::runs::Run::{self, Fault, Good};
 use crate::runs::check_runs;
-use crate::searches::count_after_fill;
-use niss_cube::Step;
-use niss_search::Meter;
 
 const EDGES: &[Run] = &[
     // two alternatives hold, and the empty sequence is one solution
@@ -103,18 +100,4 @@ const WITHOUT_EDGES: &[Run] = &[
 #[test]
 fn edges_must_be_oriented_for_a_domino(rt: HostRuntime) {
     check_runs(&rt, rt.alloc(), WITHOUT_EDGES);
-}
-
-/// A table for each alternative is filled, each with 18 turns from each of 2,048 entries, or 14 from each of 1,082,565.
-#[test]
-fn each_alternative_has_its_table(rt: HostRuntime) {
-    for (step, ticks) in [
-        (Step::Eo, 110_592u128),
-        (Step::DrEofb, 30_311_820),
-        (Step::DrEorl, 30_311_820),
-        (Step::DrEoud, 30_311_820),
-    ] {
-        let counted = count_after_fill(&rt, rt.alloc(), step, &mut Meter::new());
-        assert!(rt; counted == ticks, "{}", step.name());
-    }
 }

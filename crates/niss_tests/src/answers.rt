@@ -1,22 +1,9 @@
 //! Commands that answer each line: what a run writes, reports and answers.
 use crate::runs::Given::{Input, Words};
 use crate::runs::Run::{self, Fault, Good};
-use crate::runs::{FEW, check_answers, check_runs, check_usage, repeated};
+use crate::runs::{FEW, check_answers, check_runs, repeated};
 use std::alloc::Global;
 use std::process::Abort;
-
-#[test]
-fn wrong_words_are_refused(rt: HostRuntime) {
-    let wrong: &[&[&str]] = &[
-        &[],
-        &["turn", "R"],
-        &["solve", "eofb", "21", "F"],
-        &["solve", "htr", "3", "F"],
-        &["solve", "eofb"],
-        &["scramble", "1", "2", "3"],
-    ];
-    check_usage(&rt, rt.alloc(), wrong);
-}
 
 const INVERTED: &[Run] = &[
     Good(Words(&["invert", "R U' F2"]), b"F2 U R'\n"),

@@ -59,7 +59,7 @@ const WRITES: &[Writes] = &[
         pieces: &[b"length 1 solutions 2 nodes 20\n"],
     },
     Writes {
-        given: Words(&["near", "drud-eofb", "1", "1", ""]),
+        given: Words(&["near", "eofb", "1", "1", ""]),
         most_read: 1,
         pieces: &[
             b"(0)\n",
@@ -69,8 +69,12 @@ const WRITES: &[Writes] = &[
             b"D (1)\n",
             b"D2 (1)\n",
             b"D' (1)\n",
+            b"R (1)\n",
             b"R2 (1)\n",
+            b"R' (1)\n",
+            b"L (1)\n",
             b"L2 (1)\n",
+            b"L' (1)\n",
             b"F2 (1)\n",
             b"B2 (1)\n",
             b"\n",
@@ -168,8 +172,12 @@ impl Writes<'_> {
     /// Makes the run where all is taken, and the flush after it fails.
     fn check_failed_flush(self, rt: &impl Abort, alloc: Global) {
         let output = self.output(rt, alloc);
+        let unflushed = Devices {
+            flush_fails: true,
+            ..self.devices()
+        };
         let run = Failure(self.given, output.as_slice(), CANNOT_WRITE);
-        run.check(rt, alloc, UNFLUSHED);
+        run.check(rt, alloc, unflushed);
     }
 }
 
@@ -199,7 +207,7 @@ fn each_write_of_a_byte_fails(rt: HostRuntime) {
 #[test]
 fn no_bytes_are_taken(rt: HostRuntime) {
     for row in WRITES {
-        check_nothing_taken(&rt, rt.alloc(), row.given, FAULTLESS);
+        check_nothing_taken(&rt, rt.alloc(), row.given, row.devices());
     }
 }
 
@@ -210,35 +218,27 @@ fn last_flush_fails(rt: HostRuntime) {
     }
 }
 
-/// All is taken, and the flush after it fails.
-const UNFLUSHED: Devices<'static> = Devices {
-    flush_fails: true,
-    ..FAULTLESS
-};
-
 const NOT_A_MOVE: &[u8] = b"nissy: line 1, column 3: not a move\n";
 
 #[test]
 fn flush_fails_after_a_fault(rt: HostRuntime) {
-    Fault(Words(&["invert", "R '"]), b"", NOT_A_MOVE).check(&rt, rt.alloc(), UNFLUSHED);
-}
-
-/// Makes a run with this fault, over an error writer that takes so many bytes of it.
-fn check_cut_fault(rt: &impl Abort, alloc: Global, fault: &[u8], taken: usize)
-    requires a_part { taken < length fault.now }
-{
-    let devices = Devices {
-        most_reported: 1,
-        failed_report: Some(taken + 1),
+    let unflushed = Devices {
+        flush_fails: true,
         ..FAULTLESS
     };
-    Fault(Words(&["invert", "R '"]), b"", &fault[..taken]).check(rt, alloc, devices);
+    Fault(Words(&["invert", "R '"]), b"", NOT_A_MOVE).check(&rt, rt.alloc(), unflushed);
 }
 
+/// The error writer takes a byte at a time, and each of its writes fails in turn.
 #[test]
 fn each_write_of_a_fault_fails(rt: HostRuntime) {
     for taken in 0..NOT_A_MOVE.len() {
-        check_cut_fault(&rt, rt.alloc(), NOT_A_MOVE, taken);
+        let devices = Devices {
+            most_reported: 1,
+            failed_report: Some(taken + 1),
+            ..FAULTLESS
+        };
+        Fault(Words(&["invert", "R '"]), b"", &NOT_A_MOVE[..taken]).check(&rt, rt.alloc(), devices);
     }
 }
 

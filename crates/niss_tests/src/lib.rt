@@ -1,5 +1,5 @@
-//! Tests of all crates below the program: of calls of the notation and of the cube, and of the commands, from words and
-//! bytes to bytes, over devices in memory that may fail.
+//! Tests of all crates below the program: of calls of the notation, of the cube and of the search, and of the commands, from
+//! words and bytes to bytes, over devices in memory that may fail.
 #![tactic(auto)]
 
 #[cfg(test)]
@@ -19,17 +19,15 @@ mod device_faults;
 #[cfg(test)]
 mod devices;
 #[cfg(test)]
-mod draws;
-#[cfg(test)]
 mod examples;
+#[cfg(test)]
+mod generator;
 #[cfg(test)]
 mod limits;
 #[cfg(test)]
 mod memory;
 #[cfg(test)]
 mod near;
-#[cfg(test)]
-mod near_searches;
 #[cfg(test)]
 mod path_sinks;
 #[cfg(test)]

@@ -1,8 +1,10 @@
-//! Inputs at the limit of input and above it.
+//! Inputs and words at the limit of input and above it.
+use crate::blocks::BLOCK;
 use crate::devices::{Devices, Endless, FAULTLESS};
-use crate::runs::Given::Input;
+use crate::memory::check_heap;
+use crate::runs::Given::{Input, Words};
 use crate::runs::Run::{Failure, Good};
-use crate::runs::{Outcome, TOO_LONG, words_of};
+use crate::runs::{Outcome, TOO_LONG, repeated, words_of};
 use niss_shell::{Meter, run};
 use std::test::Fail;
 
@@ -11,7 +13,7 @@ const LIMIT: usize = 16_777_216;
 #[test]
 fn input_ends_at_the_limit(rt: HostRuntime) -> Result<(), Fail> {
     let blocks = Devices {
-        most_read: 4096,
+        most_read: BLOCK,
         ..FAULTLESS
     };
     let most = vec![in rt.alloc(); b' '; LIMIT]?;
@@ -41,5 +43,22 @@ fn endless_input_is_refused(rt: HostRuntime) -> Result<(), Fail> {
         status: 3,
     };
     outcome.compare(&rt, status, &out, &err);
+    Ok(())
+}
+
+// the line feed that ends the words counts too
+#[test]
+fn words_at_the_limit_are_taken(rt: HostRuntime) -> Result<(), Fail> {
+    let spaces = repeated(rt.alloc(), " ", LIMIT - 1, "")?;
+    Good(Words(&["invert", &spaces]), b"\n").check(&rt, rt.alloc(), FAULTLESS);
+    Ok(())
+}
+
+// no growth is asked for where the words are too many
+#[test]
+fn words_above_the_limit_are_refused(rt: HostRuntime) -> Result<(), Fail> {
+    let spaces = repeated(rt.alloc(), " ", LIMIT, "")?;
+    let run = Failure(Input(&["invert", &spaces], b"R"), b"", TOO_LONG);
+    check_heap(&rt, rt.alloc(), 16, run)?;
     Ok(())
 }

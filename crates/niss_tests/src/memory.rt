@@ -1,20 +1,25 @@
 //! Heaps of the size that some growths ask for, or a little less, and a heap while a search goes on.
 use crate::coordinates::check_tables;
-use crate::cubes::cube_after;
 use crate::devices::{Devices, FAULTLESS};
 use crate::path_sinks::HeapWatch;
-use crate::runs::Given::{Input, Words};
+use crate::runs::Given::Input;
 use crate::runs::Run::{self, Failure, Good};
-use crate::runs::{OUT_OF_MEMORY, TOO_LONG, repeated};
+use crate::runs::{OUT_OF_MEMORY, repeated};
+use crate::searches::Search;
 use linked_list_allocator::LocalHeap;
 use niss_cube::{OutOfMemory, Step, TurnTables};
-use niss_search::{Limit, Meter, Tables, TurnPath, search};
+use niss_search::{Meter, Tables};
 use std::alloc::{AllocError, Global};
 use std::process::Abort;
 use std::test::Fail;
 
 /// Makes a run that leaves its source unread, with a heap of this size.
-fn check_heap(rt: &impl Abort, alloc: Global, size: usize, run: Run<'_>) -> Result<(), AllocError> {
+pub fn check_heap(
+    rt: &impl Abort,
+    alloc: Global,
+    size: usize,
+    run: Run<'_>,
+) -> Result<(), AllocError> {
     let heap = LocalHeap::new(alloc, size)?;
     let devices = Devices {
         heap: Some(&heap),
@@ -43,22 +48,6 @@ fn check_heaps(rt: &impl Abort, alloc: Global, word: &str) -> Result<(), AllocEr
 fn a_refused_growth_ends_the_run(rt: HostRuntime) -> Result<(), Fail> {
     let spaces = repeated(rt.alloc(), " ", 1000, "")?;
     check_heaps(&rt, rt.alloc(), &spaces)?;
-    Ok(())
-}
-
-#[test]
-fn words_above_the_limit_are_refused(rt: HostRuntime) -> Result<(), Fail> {
-    // no growth is asked for where the words are too many
-    let spaces = repeated(rt.alloc(), " ", 16_777_216, "")?;
-    let run = Failure(Input(&["invert", &spaces], b"R"), b"", TOO_LONG);
-    check_heap(&rt, rt.alloc(), 16, run)?;
-    Ok(())
-}
-
-#[test]
-fn words_at_the_limit_are_taken(rt: HostRuntime) -> Result<(), Fail> {
-    let spaces = repeated(rt.alloc(), " ", 16_777_215, "")?;
-    Good(Words(&["invert", &spaces]), b"\n").check(&rt, rt.alloc(), FAULTLESS);
     Ok(())
 }
 
@@ -103,20 +92,6 @@ fn tables_fill_a_heap_once_more_when_dropped(rt: HostRuntime) -> Result<(), Fail
     Ok(())
 }
 
-/// Searches from the solved cube after some moves. At each hand-out the heap of the tables has given nothing more.
-fn check_search(rt: &impl Abort, heap: &LocalHeap, tables: &Tables<&LocalHeap>, moves: &str) {
-    let cube = cube_after(rt, moves);
-    assert!(rt; tables.step().may_start(&cube), "{moves}");
-    let position = tables.position(&cube);
-    let slack = Limit::new(1).expect(rt, "a slack");
-    let mut path = TurnPath::new(Limit::new(3).expect(rt, "a limit"));
-    let mut meter = Meter::new();
-    let mut sink = HeapWatch::new(heap);
-    let answer = search(tables, &position, slack, &mut path, &mut meter, &mut sink);
-    assert!(rt; answer.expect(rt, "a search").solutions > 0, "{moves}");
-    assert!(rt; sink.is_same, "{moves}");
-}
-
 /// The bytes of a table of the flips after each turn. Each growth takes a multiple of 16.
 const FLIPS: usize = 73_728;
 
@@ -129,6 +104,42 @@ const EDGES: usize = FLIPS + 2048;
 /// The bytes for a domino reduction, in the same way.
 const DOMINO: usize = TWISTS_AND_SLICES + 1_082_576;
 
+/// Searches from the solved cube after some moves. At each hand-out the heap of the tables has given nothing more.
+fn check_search(
+    rt: &impl Abort,
+    heap: &LocalHeap,
+    tables: &Tables<&LocalHeap>,
+    moves: &'static str,
+) {
+    let search = Search {
+        moves,
+        limit: 3,
+        slack: 1,
+    };
+    let mut sink = HeapWatch::new(heap);
+    let (answer, _looks) = search.run(rt, tables, &mut sink);
+    assert!(rt;
+        matches!(answer, Ok(found) if found.solutions > 0),
+        "{moves}"
+    );
+    assert!(rt; sink.is_same, "{moves}");
+}
+
+/// Builds the tables of a step in a heap of this size, and searches.
+fn check_in_heap(
+    rt: &impl Abort,
+    alloc: Global,
+    step: Step,
+    moves: &'static str,
+    size: usize,
+) -> Result<(), AllocError> {
+    let heap = LocalHeap::new(alloc, size)?;
+    let tables = Tables::build_in(&heap, step, &mut Meter::new()).expect(rt, "tables");
+    check_search(rt, &heap, &tables, moves);
+    drop(tables);
+    Ok(())
+}
+
 /// A search keeps nothing in the memory of its tables, of whatever kind these are, and they take no more than is said.
 #[test]
 fn searches_hold_no_memory(rt: HostRuntime) -> Result<(), Fail> {
@@ -138,10 +149,7 @@ fn searches_hold_no_memory(rt: HostRuntime) -> Result<(), Fail> {
         (Step::DrudEofb, "R", TWISTS_AND_SLICES + DOMINO),
         (Step::DrEofb, "R U", TWISTS_AND_SLICES + 2 * DOMINO),
     ] {
-        let heap = LocalHeap::new(rt.alloc(), size)?;
-        let tables = Tables::build_in(&heap, step, &mut Meter::new()).expect(&rt, "tables");
-        check_search(&rt, &heap, &tables, moves);
-        drop(tables);
+        check_in_heap(&rt, rt.alloc(), step, moves, size)?;
     }
     Ok(())
 }

@@ -1,7 +1,7 @@
 //! Solutions a little longer than the least.
 use crate::runs::Given::{Input, Words};
 use crate::runs::Run::{self, Fault, Good};
-use crate::runs::{check_looks, check_runs, check_usage};
+use crate::runs::{check_looks, check_runs};
 
 /// The edge orientations of at most two turns of the cube after F.
 const AFTER_F: &[u8] = b"F (1)
@@ -60,25 +60,8 @@ U' B2 (2)
 ";
 
 const NEAR: &[Run] = &[
-    Good(
-        Words(&["near", "eofb", "7", "0", "F"]),
-        b"F (1)\nF' (1)\n\n",
-    ),
-    Good(
-        Words(&["near", "eofb", "1", "5", "F"]),
-        b"F (1)\nF' (1)\n\n",
-    ),
-    Good(Words(&["near", "eofb", "2", "1", "F"]), AFTER_F),
     Good(Words(&["near", "eofb", "2", "20", "F"]), AFTER_F),
     Good(Words(&["near", "eofb", "20", "1", "F"]), AFTER_F),
-    Good(
-        Words(&["near", "drud-eofb", "1", "1", ""]),
-        b"(0)\nU (1)\nU2 (1)\nU' (1)\nD (1)\nD2 (1)\nD' (1)\nR2 (1)\nL2 (1)\nF2 (1)\nB2 (1)\n\n",
-    ),
-    Good(
-        Words(&["near", "eofb", "0", "3", "F"]),
-        b"no solution within 0 moves\n\n",
-    ),
     Good(
         Words(&["near", "dr-eofb", "2", "1", "R", "U"]),
         EITHER_DOMINO,
@@ -105,31 +88,37 @@ fn longer_solutions_follow_the_shortest(rt: HostRuntime) {
     check_runs(&rt, rt.alloc(), NEAR);
 }
 
-/// The looks of all deepenings to the last length: 1, 19 and 76.
-#[test]
-fn looks_of_each_length_are_counted(rt: HostRuntime) {
-    let near = Good(Words(&["near", "eofb", "2", "1", "F"]), AFTER_F);
-    check_looks(&rt, rt.alloc(), near, 96);
-    let least = Good(
-        Words(&["near", "eofb", "2", "0", "F"]),
-        b"F (1)\nF' (1)\n\n",
-    );
-    check_looks(&rt, rt.alloc(), least, 20);
-}
+/// The two shortest edge orientations of the cube after F.
+const SHORTEST: &[u8] = b"F (1)\nF' (1)\n\n";
+
+/// Runs, and how many positions they look at: those of all deepenings to the last length.
+const LOOKS: [(Run, u128); 6] = [
+    // the slack cuts the limit
+    (Good(Words(&["near", "eofb", "7", "0", "F"]), SHORTEST), 20),
+    (Good(Words(&["near", "eofb", "2", "0", "F"]), SHORTEST), 20),
+    // the limit cuts the slack
+    (Good(Words(&["near", "eofb", "1", "5", "F"]), SHORTEST), 20),
+    // 1, 19 and 76
+    (Good(Words(&["near", "eofb", "2", "1", "F"]), AFTER_F), 96),
+    (
+        Good(
+            Words(&["near", "eofb", "0", "3", "F"]),
+            b"no solution within 0 moves\n\n",
+        ),
+        1,
+    ),
+    (
+        Good(
+            Words(&["near", "drud-eofb", "1", "1", ""]),
+            b"(0)\nU (1)\nU2 (1)\nU' (1)\nD (1)\nD2 (1)\nD' (1)\nR2 (1)\nL2 (1)\nF2 (1)\nB2 (1)\n\n",
+        ),
+        16,
+    ),
+];
 
 #[test]
-fn wrong_words_of_near_are_refused(rt: HostRuntime) {
-    let wrong: &[&[&str]] = &[
-        &["near"],
-        &["near", "eofb"],
-        &["near", "eofb", "5"],
-        &["near", "eofb", "5", "F"],
-        &["near", "eofb", "5", "21", "F"],
-        &["near", "eofb", "21", "5", "F"],
-        &["near", "eofb", "", "5", "F"],
-        &["near", "eofb", "5", "", "F"],
-        &["near", "htr", "5", "5", "F"],
-        &["near", "5", "5", "eofb", "F"],
-    ];
-    check_usage(&rt, rt.alloc(), wrong);
+fn looks_of_each_length_are_counted(rt: HostRuntime) {
+    for (run, looks) in LOOKS {
+        check_looks(&rt, rt.alloc(), run, looks);
+    }
 }

@@ -7,24 +7,27 @@ use niss_search::{Sink, TurnPath};
 #[derive(Clone, Copy, Debug, PartialEq, Eq)]
 pub struct Refused;
 
-/// Compares what it takes with the paths that are wanted, and refuses all paths after the first `room`.
+/// Takes the paths that are wanted, compares them with these, and refuses all paths after them.
 #[derive(Drop)]
 pub struct Comparison<'a> {
     wanted: &'a [&'a str],
-    room: usize,
-    pub taken: usize,
-    pub is_same: bool,
+    taken: usize,
+    is_same: bool,
 }
 
 impl<'a> Comparison<'a> {
     /// Nothing was taken yet.
-    pub fn new(wanted: &'a [&'a str], room: usize) -> Comparison<'a> {
+    pub fn new(wanted: &'a [&'a str]) -> Comparison<'a> {
         Comparison {
             wanted,
-            room,
             taken: 0,
             is_same: true,
         }
+    }
+
+    /// Whether all wanted paths were taken, and none but these.
+    pub fn took_all(&self) -> bool {
+        self.is_same && self.taken == self.wanted.len()
     }
 }
 
@@ -38,16 +41,12 @@ impl Sink for Comparison<'_> {
     ghost refused = { λ old path new. new ≡ old };
 
     fn take(&mut self, path: &TurnPath) -> Result<(), Refused> {
-        if self.taken >= self.room {
+        let Some(wanted) = self.wanted.get(self.taken) else {
             return Err(Refused);
-        }
-        let _limit = path.limit();
+        };
         let mut text = LineText::new();
         put_faces(path.turns(), &mut text);
-        let is_wanted = match self.wanted.get(self.taken) {
-            Some(wanted) => wanted.as_bytes() == text.as_slice(),
-            None => false,
-        };
+        let is_wanted = wanted.as_bytes() == text.as_slice();
         self.is_same = self.is_same && is_wanted;
         self.taken += 1;
         Ok(())

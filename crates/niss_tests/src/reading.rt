@@ -1,8 +1,8 @@
-//! Lines that are read, byte by byte and as a whole.
+//! Lines that are read, and the faults of those that are none.
 ghost use Rattle.std.specs.Prelude.{◌≤◌, length};
 
 use crate::runs::{check_bytes, check_count};
-use niss_moves::{LineReader, ReadFault, read};
+use niss_moves::{ReadFault, read};
 use std::process::Abort;
 
 fn fault_of(line: &[u8]) -> Option<ReadFault>
@@ -14,17 +14,6 @@ fn fault_of(line: &[u8]) -> Option<ReadFault>
 /// Checks what fault was found, if any, of so many bytes or of this byte.
 fn check_found(rt: &impl Abort, at: usize, found: Option<ReadFault>, wanted: Option<ReadFault>) {
     assert_eq!(rt; found, wanted, "at {at}");
-}
-
-#[test]
-fn reports_a_fault_again(rt: HostRuntime) {
-    let unopened = ReadFault::Unopened { column: 2 };
-    let mut reader = LineReader::new();
-    check_found(&rt, 1, reader.feed(b'R').err(), None);
-    check_found(&rt, 2, reader.feed(b')').err(), Some(unopened));
-    check_found(&rt, 3, reader.feed(b'U').err(), Some(unopened));
-    assert!(rt; reader.fed() == 3);
-    check_found(&rt, 3, reader.finish().err(), Some(unopened));
 }
 
 fn check_fault(rt: &impl Abort, line: &[u8], column: usize, text: &str)

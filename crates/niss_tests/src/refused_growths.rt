@@ -43,107 +43,178 @@ fn in_heap(heap: &LocalHeap) -> Devices<'_> {
     }
 }
 
-/// Words, the heap that their run takes memory of, and what it writes where there is room.
-#[derive(Clone, Copy)]
-struct GrowingRun<'a> {
-    words: &'a [String],
-    heap: &'a LocalHeap,
-    output: &'a [u8],
+/// What a run has to write and to answer where it ends with this status, and where it writes this output if it is good.
+fn outcome_of<'a>(status: u8, output: &'a [u8]) -> Outcome<'a> {
+    match status {
+        0 => Outcome {
+            output,
+            error: b"",
+            status,
+        },
+        _ => Outcome {
+            output: b"",
+            error: OUT_OF_MEMORY,
+            status: 3,
+        },
+    }
 }
 
-impl<'a> GrowingRun<'a> {
-    /// Runs the words in the room that the heap has, and answers whether that was enough. Where it wasn't, nothing is read,
-    /// written or looked at.
-    fn run(self, rt: &impl Abort, alloc: Global) -> bool {
-        let ran = run_over(alloc, self.words, INPUT, in_heap(self.heap));
-        let status = ran.status;
-        let is_untouched = ran.input.reads == 0 && ran.out.writes == 0 && ran.looks == 0;
-        assert!(rt; status == 0 || is_untouched);
-        self.outcome(status).compare(rt, status, &ran.out, &ran.err);
-        drop(ran);
-        status == 0
-    }
+/// Runs words that write this output in the room that a heap has, and answers whether that was enough. Where it wasn't,
+/// nothing is read, written or looked at.
+fn run_fits(
+    rt: &impl Abort,
+    alloc: Global,
+    heap: &LocalHeap,
+    words: &[&str],
+    output: &[u8],
+) -> bool {
+    let words = words_of(alloc, words).expect(rt, "memory for words");
+    let ran = run_over(alloc, &words, INPUT, in_heap(heap));
+    let status = ran.status;
+    let is_untouched = ran.input.reads == 0 && ran.out.writes == 0 && ran.looks == 0;
+    assert!(rt; status == 0 || is_untouched);
+    outcome_of(status, output).compare(rt, status, &ran.out, &ran.err);
+    drop(ran);
+    status == 0
+}
 
-    /// What a run with this status has to write and to answer.
-    fn outcome(self, status: u8) -> Outcome<'a> {
-        match status {
-            0 => Outcome {
-                output: self.output,
-                error: b"",
-                status,
-            },
-            _ => Outcome {
-                output: b"",
-                error: OUT_OF_MEMORY,
-                status: 3,
-            },
+/// Checks that these are the tables of a step, and that they find the solved cube at its goal.
+fn check_tables<A: Allocator>(rt: &impl Abort, tables: &Tables<A>, step: Step) {
+    let cube = Cube::solved();
+    assert!(rt; tables.step() == step);
+    assert!(rt; tables.step().may_start(&cube));
+    let position = tables.position(&cube);
+    assert!(rt; tables.look(&position, &mut Meter::new()) == 0);
+}
+
+/// Checks tables that were to be built, and answers whether there are any.
+fn check_built<A: Allocator>(
+    rt: &impl Abort,
+    built: &Result<Tables<A>, OutOfMemory>,
+    step: Step,
+) -> bool {
+    match built {
+        Ok(tables) => {
+            check_tables(rt, tables, step);
+            true
+        }
+        Err(OutOfMemory) => false,
+    }
+}
+
+/// Builds the tables of a step in the room that a heap has, and answers whether that was enough. Where it wasn't, the meter
+/// hasn't risen.
+fn tables_fit(rt: &impl Abort, heap: &LocalHeap, step: Step) -> bool {
+    let mut fill = Meter::new();
+    let built = Tables::build_in(heap, step, &mut fill);
+    let fit = check_built(rt, &built, step);
+    drop(built);
+    assert!(rt; fit || fill.count() == 0);
+    fit
+}
+
+/// What takes memory.
+#[derive(Clone, Copy)]
+enum Growing<'a> {
+    /// A run of these words, which writes this output where there is room.
+    Run(&'a [&'a str], &'a [u8]),
+    /// The tables of a step.
+    Tables(Step),
+}
+
+impl Growing<'_> {
+    /// Whether the room that a heap has is enough.
+    fn fits(self, rt: &impl Abort, alloc: Global, heap: &LocalHeap) -> bool {
+        match self {
+            Growing::Run(words, output) => run_fits(rt, alloc, heap, words, output),
+            Growing::Tables(step) => tables_fit(rt, heap, step),
         }
     }
 
-    /// Runs the words where the heap has this room, and answers whether that was enough. Good or not, nothing of the run is
-    /// left in the heap.
-    fn runs_in_room(self, rt: &impl Abort, alloc: Global, room: usize) -> Result<bool, AllocError> {
-        let filled = filler(self.heap, room)?;
-        let used = self.heap.used();
-        let is_enough = self.run(rt, alloc);
-        assert!(rt; self.heap.used() == used, "in {room} bytes");
+    /// Whether this room is enough in a heap. Enough or not, nothing is left in the heap.
+    fn fits_in(
+        self,
+        rt: &impl Abort,
+        alloc: Global,
+        heap: &LocalHeap,
+        room: usize,
+    ) -> Result<bool, AllocError> {
+        let filled = filler(heap, room)?;
+        let used = heap.used();
+        let fits = self.fits(rt, alloc, heap);
+        assert!(rt; heap.used() == used, "in {room} bytes");
         drop(filled);
-        Ok(is_enough)
+        Ok(fits)
     }
 
     /// How many rooms, each `more` bytes larger than the one before, are not enough.
-    fn refusals(self, rt: &impl Abort, alloc: Global, more: u16) -> Result<usize, AllocError> {
+    fn refusals(
+        self,
+        rt: &impl Abort,
+        alloc: Global,
+        heap: &LocalHeap,
+        more: u16,
+    ) -> Result<usize, AllocError> {
         for refused in 0..MOST_ROOMS {
-            if self.runs_in_room(rt, alloc, refused * more as usize)? {
+            if self.fits_in(rt, alloc, heap, refused * more as usize)? {
                 return Ok(refused);
             }
         }
         Ok(MOST_ROOMS)
     }
+
+    /// Checks that of rooms that grow by `more` bytes some are refused, and that one is enough.
+    fn check(self, rt: &impl Abort, alloc: Global, more: u16) -> Result<(), AllocError> {
+        let heap = LocalHeap::new(alloc, AMPLE)?;
+        let refused = self.refusals(rt, alloc, &heap, more)?;
+        assert!(rt; refused > 0);
+        assert!(rt; refused < MOST_ROOMS, "no room is enough");
+        Ok(())
+    }
 }
 
-/// Checks that some rooms were refused, and that one was enough.
-fn check_refusals(rt: &impl Abort, refused: usize) {
-    assert!(rt; refused > 0);
-    assert!(rt; refused < MOST_ROOMS, "no room is enough");
-}
+const SOLVED: &[u8] = b"F (1)\nF' (1)\n\n";
 
-/// Runs the words in rooms that grow by `more` bytes.
-fn check_run(
-    rt: &impl Abort,
-    alloc: Global,
-    words: &[&str],
-    output: &[u8],
-    more: u16,
-) -> Result<(), AllocError> {
-    let words = words_of(alloc, words)?;
-    let heap = LocalHeap::new(alloc, AMPLE)?;
-    let run = GrowingRun {
-        words: &words,
-        heap: &heap,
-        output,
-    };
-    check_refusals(rt, run.refusals(rt, alloc, more)?);
+/// Runs, and by how many bytes their rooms differ.
+const RUNS: &[(Growing, u16)] = &[
+    (
+        Growing::Run(&["invert", "R U' F2"], b"F2 U R'\n"),
+        FOR_WORDS,
+    ),
+    (
+        Growing::Run(&["solve", "eofb", "7", "F"], SOLVED),
+        FOR_EDGES,
+    ),
+    (Growing::Run(&["solve", "eofb", "7"], SOLVED), FOR_EDGES),
+    (
+        Growing::Run(&["near", "eofb", "7", "0", "F"], SOLVED),
+        FOR_EDGES,
+    ),
+    (
+        Growing::Run(
+            &["count", "drud-eofb", "5", "R", "U"],
+            b"length 2 solutions 2 nodes 28\n",
+        ),
+        FOR_DOMINOES,
+    ),
+];
+
+#[test]
+fn each_growth_of_a_run_is_refused(rt: HostRuntime) -> Result<(), Fail> {
+    for (run, more) in RUNS {
+        run.check(&rt, rt.alloc(), *more)?;
+    }
     Ok(())
 }
 
 #[test]
-fn each_growth_of_a_run_is_refused(rt: HostRuntime) -> Result<(), Fail> {
-    let solved: &[u8] = b"F (1)\nF' (1)\n\n";
-    let counted: &[u8] = b"length 2 solutions 2 nodes 28\n";
-    let runs: [(&[&str], &[u8], u16); 5] = [
-        (&["invert", "R U' F2"], b"F2 U R'\n", FOR_WORDS),
-        (&["solve", "eofb", "7", "F"], solved, FOR_EDGES),
-        (&["solve", "eofb", "7"], solved, FOR_EDGES),
-        (&["near", "eofb", "7", "0", "F"], solved, FOR_EDGES),
-        (
-            &["count", "drud-eofb", "5", "R", "U"],
-            counted,
-            FOR_DOMINOES,
-        ),
-    ];
-    for (words, output, more) in runs {
-        check_run(&rt, rt.alloc(), words, output, more)?;
+fn each_growth_of_a_step_is_refused(rt: HostRuntime) -> Result<(), Fail> {
+    for step in Step::all() {
+        let more = match step.start_name() {
+            None => FOR_EDGES,
+            Some(_) => FOR_DOMINOES,
+        };
+        Growing::Tables(*step).check(&rt, rt.alloc(), more)?;
     }
     Ok(())
 }
@@ -187,89 +258,5 @@ fn runs_without_growth_work_with_a_full_heap(rt: HostRuntime) -> Result<(), Fail
     assert!(rt; heap.free() == 0);
     check_without_growth(&rt, rt.alloc(), &heap);
     drop(filled);
-    Ok(())
-}
-
-/// Checks that these are the tables of a step, and that they find the solved cube at its goal.
-fn check_tables<A: Allocator>(rt: &impl Abort, tables: &Tables<A>, step: Step) {
-    let cube = Cube::solved();
-    assert!(rt; tables.step() == step);
-    assert!(rt; tables.step().may_start(&cube));
-    let position = tables.position(&cube);
-    assert!(rt; tables.look(&position, &mut Meter::new()) == 0);
-}
-
-/// Checks tables that were to be built, and answers whether there are any.
-fn check_built<A: Allocator>(
-    rt: &impl Abort,
-    built: &Result<Tables<A>, OutOfMemory>,
-    step: Step,
-) -> bool {
-    match built {
-        Ok(tables) => {
-            check_tables(rt, tables, step);
-            true
-        }
-        Err(OutOfMemory) => false,
-    }
-}
-
-/// Builds the tables of a step, and answers whether the heap had room. Where it hadn't, the meter hasn't risen.
-fn tables_are_built(rt: &impl Abort, heap: &LocalHeap, step: Step) -> bool {
-    let mut fill = Meter::new();
-    let built = Tables::build_in(heap, step, &mut fill);
-    let has_room = check_built(rt, &built, step);
-    drop(built);
-    assert!(rt; has_room || fill.count() == 0);
-    has_room
-}
-
-/// Builds the tables of a step where a heap has this room, and answers whether that was enough. Good or not, nothing of them
-/// is left in the heap.
-fn tables_fit(
-    rt: &impl Abort,
-    heap: &LocalHeap,
-    step: Step,
-    room: usize,
-) -> Result<bool, AllocError> {
-    let filled = filler(heap, room)?;
-    let used = heap.used();
-    let fit = tables_are_built(rt, heap, step);
-    assert!(rt; heap.used() == used, "in {room} bytes");
-    drop(filled);
-    Ok(fit)
-}
-
-/// How many rooms, each `more` bytes larger than the one before, are not enough for the tables of a step.
-fn table_refusals(
-    rt: &impl Abort,
-    heap: &LocalHeap,
-    step: Step,
-    more: u16,
-) -> Result<usize, AllocError> {
-    for refused in 0..MOST_ROOMS {
-        if tables_fit(rt, heap, step, refused * more as usize)? {
-            return Ok(refused);
-        }
-    }
-    Ok(MOST_ROOMS)
-}
-
-/// Builds the tables of a step in rooms that grow by `more` bytes.
-fn check_step(rt: &impl Abort, alloc: Global, step: Step, more: u16) -> Result<(), AllocError> {
-    let heap = LocalHeap::new(alloc, AMPLE)?;
-    check_refusals(rt, table_refusals(rt, &heap, step, more)?);
-    Ok(())
-}
-
-#[test]
-fn each_growth_of_a_step_is_refused(rt: HostRuntime) -> Result<(), Fail> {
-    for step in Step::all() {
-        let more = match step.start_name() {
-            None => FOR_EDGES,
-            Some(_) => FOR_DOMINOES,
-        };
-        check_step(&rt, rt.alloc(), *step, more)?;
-    }
     Ok(())
 }

@@ -4,8 +4,8 @@ ghost use Rattle.std.specs.Prelude.{◌≤◌, length};
 use crate::cubes::quarter;
 use crate::runs::{check_bytes, check_count};
 use niss_moves::{
-    Axis, Face, Faces, LineText, Power, Slice, Token, allowed, invert, put_faces, put_niss_clean,
-    put_tokens, read, turn_order, turns_after, unniss,
+    Face, Faces, LineText, Token, allowed, invert, put_faces, put_niss_clean, put_tokens, read,
+    turn_order, turns_after, unniss,
 };
 
 #[test]
@@ -31,15 +31,6 @@ fn writes_the_turns_that_may_follow(rt: HostRuntime) {
     let mut text = LineText::new();
     put_faces(turns_after(Some(quarter(Face::D))), &mut text);
     check_bytes(&rt, text.as_slice(), b"R R2 R' L L2 L' F F2 F' B B2 B'");
-}
-
-// By the kind, then by what turns, then by the power.
-#[test]
-fn numbers_the_54_moves(rt: HostRuntime) {
-    assert!(rt; Token::Face(quarter(Face::U)).index() == 0);
-    assert!(rt; Token::Wide(Face::R, Power::Half).index() == 25);
-    assert!(rt; Token::Slice(Slice::S, Power::Counter).index() == 44);
-    assert!(rt; Token::Rotation(Axis::Fb, Power::Counter).index() == 53);
 }
 
 fn words(moves: &[Token]) -> LineText {

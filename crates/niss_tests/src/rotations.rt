@@ -31,16 +31,3 @@ fn turns_about_two_axes(rt: HostRuntime) {
     let before = [(Face::U, Face::D), (Face::F, Face::R), (Face::L, Face::B)];
     check_faces(&rt, x2_then_y, before);
 }
-
-// `x`, `x2`, `x'`, `z` and `z'` bring F, D, B, L and R to the top.
-#[test]
-fn brings_each_face_to_the_top(rt: HostRuntime) {
-    assert!(rt; Face::U.to_top() == None);
-    assert!(rt; Face::F.to_top() == Some((Axis::Rl, Power::Quarter)));
-    assert!(rt; Face::D.to_top() == Some((Axis::Rl, Power::Half)));
-    assert!(rt; Face::B.to_top() == Some((Axis::Rl, Power::Counter)));
-    assert!(rt; Face::L.to_top() == Some((Axis::Fb, Power::Quarter)));
-    assert!(rt; Face::R.to_top() == Some((Axis::Fb, Power::Counter)));
-    assert!(rt; Axis::Rl.face_before(Power::Half, Face::U) == Face::D);
-    assert!(rt; Axis::Fb.face_before(Power::Counter, Face::U) == Face::R);
-}

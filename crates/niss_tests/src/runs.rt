@@ -277,10 +277,3 @@ fn check_answer<'a>(
 ) {
     Run::Good(Given::Words(&[command, line]), answer.as_bytes()).check(rt, alloc, FEW);
 }
-
-/// Checks that each of these lists of words is refused.
-pub fn check_usage(rt: &impl Abort, alloc: Global, wrong: &[&[&str]]) {
-    for words in wrong {
-        Run::Usage(words).check(rt, alloc, FEW);
-    }
-}

@@ -2,7 +2,7 @@
 use crate::devices::{Devices, FAULTLESS};
 use crate::runs::Given::{Input, Words};
 use crate::runs::Run::{self, Good};
-use crate::runs::{check_count, check_each_write, check_runs, check_usage};
+use crate::runs::{check_count, check_each_write, check_runs};
 use linked_list_allocator::LocalHeap;
 use std::test::Fail;
 
@@ -35,27 +35,6 @@ const SCRAMBLES: &[Run] = &[
 #[test]
 fn scrambles_of_a_seed_are_written(rt: HostRuntime) {
     check_runs(&rt, rt.alloc(), SCRAMBLES);
-}
-
-#[test]
-fn wrong_words_of_scramble_are_refused(rt: HostRuntime) {
-    let wrong: &[&[&str]] = &[
-        &["scramble"],
-        &["scramble", "1", "2", "3"],
-        &["scramble", "1", "2", "3", "4", "5"],
-        &["scramble", "18446744073709551616", "2", "3", "4"],
-        &["scramble", "1", "18446744073709551616", "3", "4"],
-        &["scramble", "1", "2", "257", "4"],
-        &["scramble", "1", "2", "3", "10001"],
-        &["scramble", "", "2", "3", "4"],
-        &["scramble", "1", "+2", "3", "4"],
-        &["scramble", "1", "2", "-3", "4"],
-        &["scramble", "1", "2", "3", "4 "],
-        &["scramble", "1", "2", "0x3", "4"],
-        &["scramble", "1 2", "3", "4"],
-        &["scramble", "1", "2", "3", "\u{664}"],
-    ];
-    check_usage(&rt, rt.alloc(), wrong);
 }
 
 #[test]

@@ -1,7 +1,7 @@
-//! Rows of the commands that search, and of the command that lists the steps.
+//! Rows of the commands that search for the shortest solutions.
 use crate::runs::Given::{Input, Words};
 use crate::runs::Run::{self, Fault, Good};
-use crate::runs::{STEPS, check_looks, check_runs, check_usage};
+use crate::runs::{check_looks, check_runs};
 
 const SOLVED: &[Run] = &[
     Good(Words(&["solve", "eofb", "7", "F"]), b"F (1)\nF' (1)\n\n"),
@@ -152,29 +152,4 @@ fn looks_are_reported(rt: HostRuntime) {
     for (run, looks) in LOOKS {
         check_looks(&rt, rt.alloc(), run, looks);
     }
-}
-
-#[test]
-fn steps_are_listed(rt: HostRuntime) {
-    check_runs(&rt, rt.alloc(), &[Good(Input(&["steps"], b"R"), STEPS)]);
-}
-
-#[test]
-fn wrong_words_of_searches_are_refused(rt: HostRuntime) {
-    let wrong: &[&[&str]] = &[
-        &["solve"],
-        &["solve", "eofb"],
-        &["count", "eofb"],
-        &["solve", "eofb", "21", "F"],
-        &["solve", "eofb", "+3", "F"],
-        &["solve", "eofb", "-3", "F"],
-        &["solve", "eofb", "", "F"],
-        &["solve", "eofb", "3 ", "F"],
-        &["count", "eofb", "18446744073709551617", "F"],
-        &["solve", "htr", "3", "F"],
-        &["solve", "EOFB", "3", "F"],
-        &["count", "", "3", "F"],
-        &["steps", "eofb"],
-    ];
-    check_usage(&rt, rt.alloc(), wrong);
 }

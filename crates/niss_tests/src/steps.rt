@@ -88,22 +88,6 @@ fn steps_and_goals_are_equal_to_themselves_alone(rt: HostRuntime) {
     }
 }
 
-#[test]
-fn other_names_are_of_no_step(rt: HostRuntime) {
-    for name in [
-        "htr",
-        "",
-        "dr",
-        "eofb ",
-        " eofb",
-        "EOFB",
-        "drud",
-        "drud-eoud",
-    ] {
-        assert!(rt; Step::from_name(name.as_bytes()).is_none(), "{name}");
-    }
-}
-
 // Checks on which steps the cube may start, and which it has reached.
 fn check_steps(rt: &impl Abort, moves: &str, may_start: &[Step], reached: &[Step]) {
     let cube = cube_after(rt, moves);

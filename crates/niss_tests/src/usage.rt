@@ -1,12 +1,14 @@
-//! Each fault of wrong words, in the order in which they are looked for.
-use crate::runs::words_of;
-use niss_shell::{UsageFault, parse_words};
+//! Wrong words: each has its fault, in the order in which faults are looked for, and is refused by a run.
+use crate::runs::Run::Usage;
+use crate::runs::{FEW, words_of};
+use niss_shell::UsageFault::{self, BadNumber, NoCommand, UnknownCommand, UnknownStep, WrongCount};
+use niss_shell::parse_words;
 use std::alloc::Global;
 use std::process::Abort;
 
 type Row = (&'static [&'static str], UsageFault);
 
-/// Checks that the words of a row have its fault.
+/// Checks that the words of a row have its fault, and that a run refuses them.
 fn check_fault(rt: &impl Abort, alloc: Global, index: usize, row: &Row) {
     let (texts, fault) = *row;
     let words = words_of(alloc, texts).expect(rt, "memory for words");
@@ -14,45 +16,104 @@ fn check_fault(rt: &impl Abort, alloc: Global, index: usize, row: &Row) {
         panic!(rt; "row {index} has no fault")
     };
     assert!(rt; found == fault, "row {index}");
+    Usage(texts).check(rt, alloc, FEW);
 }
 
-const FAULTS: &[Row] = &[
-    (&[], UsageFault::NoCommand),
-    (&[""], UsageFault::UnknownCommand),
-    (&["Invert", "R"], UsageFault::UnknownCommand),
-    (&["solve"], UsageFault::WrongCount),
-    (&["solve", "htr"], UsageFault::WrongCount),
-    (&["count", "eofb"], UsageFault::WrongCount),
-    (&["steps", ""], UsageFault::WrongCount),
-    (&["scramble", "1", "2", "3"], UsageFault::WrongCount),
-    (
-        &["scramble", "1", "2", "3", "x", "5"],
-        UsageFault::WrongCount,
-    ),
-    (&["solve", "htr", "x"], UsageFault::UnknownStep),
-    (&["count", "Eofb", "21"], UsageFault::UnknownStep),
-    (&["solve", "eofb", "21", "F"], UsageFault::BadNumber),
-    (&["count", "eofb", "+3", "F"], UsageFault::BadNumber),
-    (&["scramble", "1", "2", "257", "1"], UsageFault::BadNumber),
-    (&["near"], UsageFault::WrongCount),
-    (&["near", "htr", "x"], UsageFault::WrongCount),
-    (&["near", "eofb", "5"], UsageFault::WrongCount),
-    // the step is judged before the numbers
-    (&["near", "nostep", "x", "y"], UsageFault::UnknownStep),
-    (&["near", "5", "5", "eofb", "F"], UsageFault::UnknownStep),
-    (&["near", "htr", "21", "5", "F"], UsageFault::UnknownStep),
-    // a move in the place of the slack
-    (&["near", "eofb", "5", "F"], UsageFault::BadNumber),
-    (&["near", "eofb", "5", "21", "F"], UsageFault::BadNumber),
-    (&["near", "eofb", "21", "5", "F"], UsageFault::BadNumber),
-    (&["near", "eofb", "", "5", "F"], UsageFault::BadNumber),
-    (&["near", "eofb", "5", "", "F"], UsageFault::BadNumber),
-    (&["near", "eofb", "x", "y"], UsageFault::BadNumber),
+fn check_faults(rt: &impl Abort, alloc: Global, rows: &[Row]) {
+    for (index, row) in rows.iter().enumerate() {
+        check_fault(rt, alloc, index, row);
+    }
+}
+
+const COMMANDS: &[Row] = &[
+    (&[], NoCommand),
+    (&[""], UnknownCommand),
+    (&["turn", "R"], UnknownCommand),
+    (&["Invert", "R"], UnknownCommand),
+    (&["steps", ""], WrongCount),
+    (&["steps", "eofb"], WrongCount),
 ];
 
 #[test]
-fn each_fault_of_words_is_named(rt: HostRuntime) {
-    for (index, row) in FAULTS.iter().enumerate() {
-        check_fault(&rt, rt.alloc(), index, row);
-    }
+fn wrong_commands_are_refused(rt: HostRuntime) {
+    check_faults(&rt, rt.alloc(), COMMANDS);
+}
+
+const SEARCHES: &[Row] = &[
+    (&["solve"], WrongCount),
+    (&["solve", "htr"], WrongCount),
+    (&["solve", "eofb"], WrongCount),
+    (&["count", "eofb"], WrongCount),
+    // the step is judged before the number
+    (&["solve", "htr", "x"], UnknownStep),
+    (&["count", "Eofb", "21"], UnknownStep),
+    (&["solve", "htr", "3", "F"], UnknownStep),
+    (&["solve", "EOFB", "3", "F"], UnknownStep),
+    (&["count", "", "3", "F"], UnknownStep),
+    (&["solve", "eofb", "21", "F"], BadNumber),
+    (&["solve", "eofb", "+3", "F"], BadNumber),
+    (&["count", "eofb", "+3", "F"], BadNumber),
+    (&["solve", "eofb", "-3", "F"], BadNumber),
+    (&["solve", "eofb", "", "F"], BadNumber),
+    (&["solve", "eofb", "3 ", "F"], BadNumber),
+    (&["count", "eofb", "18446744073709551617", "F"], BadNumber),
+];
+
+#[test]
+fn wrong_words_of_searches_are_refused(rt: HostRuntime) {
+    check_faults(&rt, rt.alloc(), SEARCHES);
+}
+
+const NEAR: &[Row] = &[
+    (&["near"], WrongCount),
+    (&["near", "eofb"], WrongCount),
+    (&["near", "htr", "x"], WrongCount),
+    (&["near", "eofb", "5"], WrongCount),
+    // the step is judged before the numbers
+    (&["near", "nostep", "x", "y"], UnknownStep),
+    (&["near", "5", "5", "eofb", "F"], UnknownStep),
+    (&["near", "htr", "5", "5", "F"], UnknownStep),
+    (&["near", "htr", "21", "5", "F"], UnknownStep),
+    // a move in the place of the slack
+    (&["near", "eofb", "5", "F"], BadNumber),
+    (&["near", "eofb", "5", "21", "F"], BadNumber),
+    (&["near", "eofb", "21", "5", "F"], BadNumber),
+    (&["near", "eofb", "", "5", "F"], BadNumber),
+    (&["near", "eofb", "5", "", "F"], BadNumber),
+    (&["near", "eofb", "x", "y"], BadNumber),
+];
+
+#[test]
+fn wrong_words_of_near_are_refused(rt: HostRuntime) {
+    check_faults(&rt, rt.alloc(), NEAR);
+}
+
+const SCRAMBLE: &[Row] = &[
+    (&["scramble"], WrongCount),
+    (&["scramble", "1", "2", "3"], WrongCount),
+    (&["scramble", "1 2", "3", "4"], WrongCount),
+    (&["scramble", "1", "2", "3", "4", "5"], WrongCount),
+    (&["scramble", "1", "2", "3", "x", "5"], WrongCount),
+    (
+        &["scramble", "18446744073709551616", "2", "3", "4"],
+        BadNumber,
+    ),
+    (
+        &["scramble", "1", "18446744073709551616", "3", "4"],
+        BadNumber,
+    ),
+    (&["scramble", "1", "2", "257", "1"], BadNumber),
+    (&["scramble", "1", "2", "257", "4"], BadNumber),
+    (&["scramble", "1", "2", "3", "10001"], BadNumber),
+    (&["scramble", "", "2", "3", "4"], BadNumber),
+    (&["scramble", "1", "+2", "3", "4"], BadNumber),
+    (&["scramble", "1", "2", "-3", "4"], BadNumber),
+    (&["scramble", "1", "2", "3", "4 "], BadNumber),
+    (&["scramble", "1", "2", "0x3", "4"], BadNumber),
+    (&["scramble", "1", "2", "3", "\u{664}"], BadNumber),
+];
+
+#[test]
+fn wrong_words_of_scramble_are_refused(rt: HostRuntime) {
+    check_faults(&rt, rt.alloc(), SCRAMBLE);
 }
