@@ -236,6 +236,17 @@ fn a_fill_counts_each_turn_it_tries(rt: HostRuntime) {
     }
 }
 
+/// With a meter that stands above 0 tables are built too, which no clause can say: a build may be refused memory at any time.
+#[test]
+fn tables_are_built_with_a_meter_above_0(rt: HostRuntime) {
+    let mut meter = Meter::new();
+    for ticks in [36_864u128, 73_728, 110_592] {
+        assert!(rt; meter.count() < 110_592);
+        drop(tables_of(&rt, rt.alloc(), Step::Eofb, &mut meter));
+        assert!(rt; meter.count() == ticks);
+    }
+}
+
 /// From the cube that both F and B disorient.
 const TWO_TURNS: Search = Search {
     moves: "F B",
