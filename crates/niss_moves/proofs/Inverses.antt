@@ -1,4 +1,4 @@
--- Single moves, computed over all places; a sequence and its inverse.
+-- Single moves, by their quarters and over all places; a sequence and its inverse.
 use Rattle.std.proofs.Common.{◌≡◌, true, refl, ap, sym, ◌∙◌, List, [], ◌∷◌, ◌++◌, length, map, reverse}
 use Rattle.std.proofs.lemmas.List.{reverse-append, map-append, reverse-reverse}
 use Rattle.niss_moves.specs.Places.{Place, is_place}

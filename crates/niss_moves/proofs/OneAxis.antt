@@ -52,7 +52,7 @@ spun_reduced a n q = λ i. record { cell = quarters_reduced a n q.cell i; direct
 abbrev pub quarters_at : Move → Coord → ℕ
 quarters_at m c = if m.turns c then m.quarters else 0
 
-pub moved_spun : (m : Move) (q : Place) → moved m q ≡ spun m.axis (quarters_at m (along m.axis q.cell)) q
+moved_spun : (m : Move) (q : Place) → moved m q ≡ spun m.axis (quarters_at m (along m.axis q.cell)) q
 moved_spun m q = by_case (m.turns (along m.axis q.cell))
   where
     by_case : (b : Bool) → (if b then spun m.axis m.quarters q else q) ≡ spun m.axis (if b then m.quarters else 0) q
