@@ -8,7 +8,7 @@ use Rattle.std.proofs.lemmas.List.{take-append-drop, drop_more, append-nil, leng
 use Rattle.std.proofs.lemmas.List.Elements.{Contains-get_or, Contains-append_right, All-contains, All-head, All-tail, All-take, filter_passes}
 use Rattle.std.proofs.Math.ListN.{get_or-map}
 use Rattle.std.proofs.lemmas.Grind.{flat_map-append}
-use Rattle.niss_search.specs.Names.{Turn, Step, Coordinates, Follower}
+use Rattle.niss_search.specs.Names.{Turn, no_turn, Step, Coordinates, Follower}
 use Rattle.niss_moves.specs.Canonical.{may_follow, last_turn}
 use Rattle.niss_cube.specs.Steps.{turns_of}
 use Rattle.niss_search.specs.Positions.{position_after, distance_at}
@@ -16,6 +16,10 @@ use Rattle.niss_search.specs.Delivery.{WentThrough, StoppedIn}
 use Rattle.niss_search.proofs.ListLemmas.{flat_map-filter, sum_by-filter, sum_by-one}
 use Rattle.niss_search.specs.Followers.{AreFar, IsNextNear}
 use Rattle.niss_search.specs.Descent.{found, visits, found_below, looks_below, looks_beyond, DescentState, descent_state, GoesThrough, StopsIn, Descends}
+
+-- what a list of followers answers past its end
+abbrev pub no_follower : Follower
+no_follower = record { turn = no_turn; column = 0 }
 
 -- what is found, and the looks, below the path and one turn more, where the turn may follow
 unfoldable pub found_after : Step → List Coordinates → List Turn → ℕ → Turn → List (List Turn)

@@ -17,7 +17,3 @@ pub use Rattle.niss_search.specs.declared.tables.followers.Follower.{Follower}
 -- what a list of turns answers past its end
 abbrev pub no_turn : Turn
 no_turn = record { face = U; power = Quarter }
-
--- and a list of followers
-abbrev pub no_follower : Follower
-no_follower = record { turn = no_turn; column = 0 }

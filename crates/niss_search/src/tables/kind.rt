@@ -1,15 +1,16 @@
 //! The tables of a step, by what it looks at.
-ghost use Rattle.std.specs.Prelude.{◌≡◌, ◌+◌, ◌≤◌, ◌^◌, IfOk, OnOk, OnErr};
+ghost use Rattle.std.specs.Prelude.{◌≡◌, ◌≤◌, ◌^◌, ◌∷◌, [], map, IfOk};
 ghost use Rattle.niss_cube.specs.declared.cube.coordinate.Coordinate.TheVariants as coordinate;
 ghost use Rattle.niss_cube.specs.declared.step.Goal.TheVariants as goals;
-ghost use Rattle.niss_search.specs.Entries.{fill_ticks};
+ghost use Rattle.niss_cube.specs.Steps.{goals_of};
 ghost use Rattle.niss_search.specs.KindOfStep.{IsOfStep};
+ghost use Rattle.niss_search.specs.StepSpace.{IsSpaceOf, IsBuilt};
 
 use super::goal_moves::{DominoMoves, DominoTurns, EdgeMoves, GoalMoves};
 use super::meter::Meter;
 use super::pruning_table::{EmptyTable, PruningTable};
 use super::search_tables::SearchTables;
-use super::state_space::Either;
+use super::state_space::{Either, StateSpace};
 use niss_cube::{Axis, Coordinate, Goal, OutOfMemory, Step, TurnTable};
 use std::alloc::Allocator;
 
@@ -36,35 +37,23 @@ pub enum Kind<A: Allocator> {
 }
 
 impl<A: Allocator + Copy> Kind<A> {
-    /// Builds the tables of a step: it takes all memory, gives back the turn tables, then fills.
+    /// Builds the tables of a step. Whatever its goals, it takes all memory, gives back the turn tables, then fills.
     pub(super) fn build_in(alloc: A, step: Step, meter: &mut Meter) -> Result<Kind<A>, OutOfMemory>
         requires { meter.old ≤ 2 ^ 127 }
-        ensures step { IfOk result (λ kind. IsOfStep kind step) }
-        ensures ticks { OnOk result (meter.new ≡ meter.old + fill_ticks step) }
-        ensures refused { OnErr result (meter.new ≡ meter.old) }
+        ensures { IsBuilt (λ kind. IsOfStep kind step) step meter.old meter.new result }
     {
         match *step.goals() {
             [Goal::Edges(axis)] => {
-                let flips = TurnTable::build_in(alloc, Coordinate::Flip)?;
-                let table = edge_table(alloc, step, axis, &flips)?;
-                drop(flips);
-                Ok(Kind::Edges(SearchTables::of(step, table.fill(meter))))
+                let space = edge_space(alloc, step, axis, meter)?;
+                Ok(Kind::Edges(SearchTables::of(step, space)))
             }
             [Goal::Edges(first), Goal::Edges(second), Goal::Edges(third)] => {
-                let flips = TurnTable::build_in(alloc, Coordinate::Flip)?;
-                let first = edge_table(alloc, step, first, &flips)?;
-                let second = edge_table(alloc, step, second, &flips)?;
-                let third = edge_table(alloc, step, third, &flips)?;
-                drop(flips);
-                let others = Either::of(second.fill(meter), third.fill(meter));
-                let space = Either::of(first.fill(meter), others);
+                let space = any_edge_space(alloc, step, [first, second, third], meter)?;
                 Ok(Kind::AnyEdges(SearchTables::of(step, space)))
             }
             [Goal::Domino { edges, axis }] => {
-                let turns = DominoTurns::build_in(alloc)?;
-                let table = domino_table(alloc, step, edges, axis, &turns)?;
-                drop(turns);
-                Ok(Kind::Domino(SearchTables::of(step, table.fill(meter))))
+                let space = domino_space(alloc, step, DominoAxes { edges, axis }, meter)?;
+                Ok(Kind::Domino(SearchTables::of(step, space)))
             }
             [
                 Goal::Domino { edges, axis },
@@ -73,16 +62,111 @@ impl<A: Allocator + Copy> Kind<A> {
                     axis: other_axis,
                 },
             ] => {
-                let turns = DominoTurns::build_in(alloc)?;
-                let first = domino_table(alloc, step, edges, axis, &turns)?;
-                let second = domino_table(alloc, step, other_edges, other_axis, &turns)?;
-                drop(turns);
-                let space = Either::of(first.fill(meter), second.fill(meter));
+                let other = DominoAxes {
+                    edges: other_edges,
+                    axis: other_axis,
+                };
+                let space = either_domino_space(
+                    alloc,
+                    step,
+                    DominoAxes { edges, axis },
+                    other,
+                    meter,
+                )?;
                 Ok(Kind::EitherDomino(SearchTables::of(step, space)))
             }
             _ => unreachable!(),
         }
     }
+}
+
+/// Builds the space of a step with one edge orientation.
+fn edge_space<A: Allocator + Copy>(
+    alloc: A,
+    step: Step,
+    axis: Axis,
+    meter: &mut Meter,
+) -> Result<EdgeSpace<A>, OutOfMemory>
+    requires goals { goals_of step ≡ goals.Edges axis ∷ [] }
+    requires meter { meter.old ≤ 2 ^ 127 }
+    ensures { IsBuilt (λ s.
+        IsSpaceOf step (⟦<EdgeSpace<A> as StateSpace>⟧.step s) (⟦<EdgeSpace<A> as StateSpace>⟧.goals s))
+        step meter.old meter.new result }
+{
+    let flips = TurnTable::build_in(alloc, Coordinate::Flip)?;
+    let table = edge_table(alloc, step, axis, &flips)?;
+    drop(flips);
+    Ok(table.fill(meter))
+}
+
+/// Builds that of a step with an edge orientation on any of three axes.
+fn any_edge_space<A: Allocator + Copy>(
+    alloc: A,
+    step: Step,
+    axes: [Axis; 3],
+    meter: &mut Meter,
+) -> Result<AnyEdgeSpace<A>, OutOfMemory>
+    requires goals { goals_of step ≡ map goals.Edges axes }
+    requires meter { meter.old ≤ 2 ^ 127 }
+    ensures { IsBuilt (λ s.
+        IsSpaceOf step (⟦<AnyEdgeSpace<A> as StateSpace>⟧.step s) (⟦<AnyEdgeSpace<A> as StateSpace>⟧.goals s))
+        step meter.old meter.new result }
+{
+    let flips = TurnTable::build_in(alloc, Coordinate::Flip)?;
+    let first = edge_table(alloc, step, axes[0], &flips)?;
+    let second = edge_table(alloc, step, axes[1], &flips)?;
+    let third = edge_table(alloc, step, axes[2], &flips)?;
+    drop(flips);
+    let others = Either::of(second.fill(meter), third.fill(meter));
+    Ok(Either::of(first.fill(meter), others))
+}
+
+/// Builds that of a step with one domino reduction.
+fn domino_space<A: Allocator + Copy>(
+    alloc: A,
+    step: Step,
+    goal: DominoAxes,
+    meter: &mut Meter,
+) -> Result<DominoSpace<A>, OutOfMemory>
+    requires goals { goals_of step ≡ goals.Domino goal.edges goal.axis ∷ [] }
+    requires meter { meter.old ≤ 2 ^ 127 }
+    ensures { IsBuilt (λ s.
+        IsSpaceOf step (⟦<DominoSpace<A> as StateSpace>⟧.step s) (⟦<DominoSpace<A> as StateSpace>⟧.goals s))
+        step meter.old meter.new result }
+{
+    let turns = DominoTurns::build_in(alloc)?;
+    let table = domino_table(alloc, step, goal, &turns)?;
+    drop(turns);
+    Ok(table.fill(meter))
+}
+
+/// Builds that of a step with either of two domino reductions.
+fn either_domino_space<A: Allocator + Copy>(
+    alloc: A,
+    step: Step,
+    goal: DominoAxes,
+    other: DominoAxes,
+    meter: &mut Meter,
+) -> Result<EitherDominoSpace<A>, OutOfMemory>
+    requires goals { goals_of step
+        ≡ goals.Domino goal.edges goal.axis ∷ goals.Domino other.edges other.axis ∷ [] }
+    requires meter { meter.old ≤ 2 ^ 127 }
+    ensures { IsBuilt (λ s.
+        IsSpaceOf step (⟦<EitherDominoSpace<A> as StateSpace>⟧.step s) (⟦<EitherDominoSpace<A> as StateSpace>⟧.goals s))
+        step meter.old meter.new result }
+{
+    let turns = DominoTurns::build_in(alloc)?;
+    let first = domino_table(alloc, step, goal, &turns)?;
+    let second = domino_table(alloc, step, other, &turns)?;
+    drop(turns);
+    Ok(Either::of(first.fill(meter), second.fill(meter)))
+}
+
+/// The axes of a domino reduction: that on which the edges are oriented before it, and its own.
+#[derive(Clone, Copy)]
+struct DominoAxes {
+    edges: Axis,
+    axis: Axis,
 }
 
 /// The pruning table of an edge orientation, still to be filled.
@@ -100,18 +184,17 @@ fn edge_table<A: Allocator + Copy>(
     EmptyTable::new_in(alloc, moves)
 }
 
-/// The pruning table of a domino reduction, by the axis of its edges and its own, still to be filled.
+/// The pruning table of a domino reduction, still to be filled.
 fn domino_table<A: Allocator + Copy>(
     alloc: A,
     step: Step,
-    edges: Axis,
-    axis: Axis,
+    goal: DominoAxes,
     turns: &DominoTurns<A>,
 ) -> Result<EmptyTable<DominoMoves<A>, A>, OutOfMemory>
     ensures { IfOk result (λ t.
         ⟦<DominoMoves<A> as GoalMoves>⟧.alternative t
-        ≡ record { step = step; goal = goals.Domino edges axis }) }
+        ≡ record { step = step; goal = goals.Domino goal.edges goal.axis }) }
 {
-    let moves = DominoMoves::build_in(alloc, step, edges, axis, turns)?;
+    let moves = DominoMoves::build_in(alloc, step, goal.edges, goal.axis, turns)?;
     EmptyTable::new_in(alloc, moves)
 }

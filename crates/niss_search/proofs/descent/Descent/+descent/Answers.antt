@@ -2,14 +2,13 @@ use Rattle.std.proofs.Common.{arith, ◌≡◌, ◌+◌, ◌-◌, ◌<◌, ◌�
 use Rattle.std.proofs.lemmas.List.Elements.{All-drop}
 use Rattle.std.proofs.lemmas.List.{length-drop, take_rest}
 use Rattle.niss_moves.specs.Canonical.{may_follow, last_turn}
-use Rattle.niss_search.specs.Names.{no_follower}
 use Rattle.niss_cube.specs.Steps.{turns_of}
 use Rattle.niss_search.specs.Delivery.{at_limit}
 use Rattle.niss_search.specs.Descent.{looks_beyond}
 use Rattle.niss_search.specs.Followers.{IsFollower}
 use Rattle.niss_search.specs.Path.{Path}
 use Rattle.niss_search.specs.Positions.{distance_at, position_after}
-use Rattle.niss_search.proofs.DescentLemmas.{found_below-end, looks_below-end, looks_below-one, found_below-listed, looks_beyond-listed, whole-more, turns_in, Descends-take, looks-rest, count-within, GoesThrough-far, looks-next, GoesThrough-next, StopsIn-next}
+use Rattle.niss_search.proofs.DescentLemmas.{no_follower, found_below-end, looks_below-end, looks_below-one, found_below-listed, looks_beyond-listed, whole-more, turns_in, Descends-take, looks-rest, count-within, GoesThrough-far, looks-next, GoesThrough-next, StopsIn-next}
 use Rattle.niss_search.proofs.descent.Descent.+descent.Goals as goal
 
 pub extend-returns-then-left-eq0-clause-finds : goal.extend-returns-then-left-eq0-clause-finds
@@ -33,7 +32,7 @@ extend-loop-index-init g t c =
       keeps = record { path = refl; same_path = refl; same_sink = refl };
       some_left = omega (arith, c.if-left-eq0.false);
       near = c.requires.near;
-      went = record { delivered = refl; counted = omega arith; looked = omega arith };
+      went = record { delivered = refl {a = c.args.self.now.sink.now}; counted = omega arith; looked = omega arith };
     }
 
 pub extend-next_near-requires-clause-meter : goal.extend-next_near-requires-clause-meter

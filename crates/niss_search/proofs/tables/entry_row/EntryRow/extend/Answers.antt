@@ -37,7 +37,7 @@ loop-column-preserved g c =
     record {
       end = inv.end;
       filling = rw (j, written) (least-filling law alt level small xs inv.filling entry t c.requires.at_level c.requires.in_range m);
-      extended = rw (j, written) (below_more _ _ (λ k l. kept _ (inv.extended k l)) (least-met law alt level small xs inv.filling entry t c.requires.at_level c.requires.in_range m));
+      extended = rw (j, written) (below_more _ _ (λ k l. kept (entry_after alt.goal entry (turn_at alt.step k)) (inv.extended k l)) (least-met law alt level small xs inv.filling entry t c.requires.at_level c.requires.in_range m));
       kept = rw (j, written) (λ i h. kept i (inv.kept i h));
       ticks = omega arith;
     }
