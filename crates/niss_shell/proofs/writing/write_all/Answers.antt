@@ -1,7 +1,7 @@
 use Rattle.std.proofs.Common.{◌≡◌, ℕ, List, ◌++◌, take, drop, ap, ◌∙◌, append_assoc, arith}
 use Rattle.std.proofs.lemmas.List.{take-append-drop}
 use Rattle.std.proofs.lemmas.Grind.{common_steps}
-use Rattle.niss_shell.specs.Device.{has_fault}
+use Rattle.niss_shell.specs.Device.{has_fault, is_empty_answer}
 use Rattle.niss_shell.proofs.DeviceLemmas.{appended_on, same_fault, is_empty_answer-some}
 use Rattle.niss_shell.proofs.writing.write_all.Goals as goal
 
@@ -12,7 +12,8 @@ split_again gone rest left piece n e l = append_assoc gone (take n rest) left �
 pub loop-rest-preserved : goal.loop-rest-preserved
 loop-rest-preserved g c =
     let some = is_empty_answer-some _ _ c.if-count-eq0.false in
-    let same : has_fault (g.W.Target.state c.write.new.self) ≡ has_fault (g.W.Target.state c.loop-rest.out) = same_fault (g.W.Target.state c.loop-rest.out) (g.W.Target.state c.write.new.self) c.in_ok-count.ensures.takes.write_failed c.in_ok-count.ensures.takes.flush_failed some in
+    let same : has_fault (g.W.Target.state c.write.new.self) ≡ has_fault (g.W.Target.state c.loop-rest.out) = same_fault (g.W.Target.state c.loop-rest.out) (g.W.Target.state c.write.new.self)
+    {refused = is_empty_answer c.in_ok-count.count c.loop-rest.rest.now} c.in_ok-count.ensures.takes.write_failed c.in_ok-count.ensures.takes.flush_failed some in
     record {
       written = (
         c.loop-rest.invariant.written.0 ++ take c.in_ok-count.count c.loop-rest.rest.now,
