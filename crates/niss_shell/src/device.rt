@@ -16,15 +16,15 @@ pub trait Source {
     fn read(&mut self, buf: &mut [u8]) -> Result<usize, DeviceFault>
         requires works { (state self.old).has_failed ≡ false }
         requires goes_on { (state self.old).has_ended ≡ false }
-        ensures { Reads result buf.new (state self.old) (state self.new) };
+        ensures reads { Reads result buf.new (state self.old) (state self.new) };
 
     /// Whether a read failed.
     fn failed(&self) -> bool
-        ensures { result ≡ (state self.now).has_failed };
+        ensures failed { result ≡ (state self.now).has_failed };
 
     /// Whether a read found the end.
     fn ended(&self) -> bool
-        ensures { result ≡ (state self.now).has_ended };
+        ensures ended { result ≡ (state self.now).has_ended };
 }
 
 /// Something that bytes are written to.
@@ -35,13 +35,13 @@ pub trait Target {
     /// Takes some first bytes of the piece, and answers how many. To take none of a piece that isn't empty is a failure,
     /// as an `Err` is.
     fn write(&mut self, piece: &[u8]) -> Result<usize, DeviceFault>
-        ensures { TakesPiece result piece.now (state self.old) (state self.new) };
+        ensures takes { TakesPiece result piece.now (state self.old) (state self.new) };
 
     /// Passes on what was taken.
     fn flush(&mut self) -> Result<(), DeviceFault>
-        ensures { Flushes (is_err result) (state self.old) (state self.new) };
+        ensures flushes { Flushes (is_err result) (state self.old) (state self.new) };
 
     /// Whether a write or a flush failed.
     fn failed(&self) -> bool
-        ensures { result ≡ has_fault (state self.now) };
+        ensures failed { result ≡ has_fault (state self.now) };
 }

@@ -1,7 +1,7 @@
 use Rattle.std.proofs.Common.{◌≡◌, ℕ, List, ◌++◌, take, drop, ap, ◌∙◌, append_assoc, arith}
 use Rattle.std.proofs.lemmas.List.{take-append-drop}
 use Rattle.std.proofs.lemmas.Grind.{common_steps}
-use Rattle.niss_shell.specs.Device.{has_fault}
+use Rattle.niss_shell.specs.Device.{has_fault, is_empty_answer}
 use Rattle.niss_shell.proofs.DeviceLemmas.{appended_on, same_fault, is_empty_answer-some}
 use Rattle.niss_shell.proofs.writing.write_all.Goals as goal
 
@@ -12,14 +12,15 @@ split_again gone rest left piece n e l = append_assoc gone (take n rest) left �
 pub loop-rest-preserved : goal.loop-rest-preserved
 loop-rest-preserved g c =
     let some = is_empty_answer-some _ _ c.if-count-eq0.false in
-    let same : has_fault (g.W.Target.state c.write.new.self) ≡ has_fault (g.W.Target.state c.loop-rest.out) = same_fault (g.W.Target.state c.loop-rest.out) (g.W.Target.state c.write.new.self) c.in_ok-count.ensures.write_failed c.in_ok-count.ensures.flush_failed some in
+    let same : has_fault (g.W.Target.state c.write.new.self) ≡ has_fault (g.W.Target.state c.loop-rest.out) = same_fault (g.W.Target.state c.loop-rest.out) (g.W.Target.state c.write.new.self)
+    {refused = is_empty_answer c.in_ok-count.count c.loop-rest.rest.now} c.in_ok-count.ensures.takes.write_failed c.in_ok-count.ensures.takes.flush_failed some in
     record {
       written = (
         c.loop-rest.invariant.written.0 ++ take c.in_ok-count.count c.loop-rest.rest.now,
         split_again c.loop-rest.invariant.written.0 c.loop-rest.rest.now _ c.args.piece.now c.in_ok-count.count c.loop-rest.invariant.written.1 (grind (arith, common_steps)),
         appended_on (g.W.Target.state c.args.out.now) (g.W.Target.state c.loop-rest.out) (g.W.Target.state c.write.new.self) c.loop-rest.invariant.written.0 (take c.in_ok-count.count c.loop-rest.rest.now)
-            (λ h. same ∙ h) c.in_ok-count.ensures.silent c.loop-rest.invariant.written.2 c.in_ok-count.ensures.bytes,
+            (λ h. same ∙ h) c.in_ok-count.ensures.takes.silent c.loop-rest.invariant.written.2 c.in_ok-count.ensures.takes.bytes,
       );
       works = same ∙ c.loop-rest.invariant.works;
-      flushes = c.in_ok-count.ensures.flush_failed ∙ c.loop-rest.invariant.flushes;
+      flushes = c.in_ok-count.ensures.takes.flush_failed ∙ c.loop-rest.invariant.flushes;
     }
