@@ -99,11 +99,3 @@ gathers_all {text} {new} {first} {words} no_gap e wrote h =
 pub words_of_turns : (ts : List Turn) → map word (map token.Face ts) ≡ turn_words ts
 words_of_turns [] = refl
 words_of_turns (t ∷ ts) = ap (λ ws. word (token.Face t) ∷ ws) (words_of_turns ts)
-
--- a word of which the space is left out where none is due
-pub word_put : (old new bytes w : List ℕ) (n : ℕ) (alone : Bool) → take n bytes ≡ 32 ∷ w → gap old ≡ cond alone [] (32 ∷ [])
-    → new ≡ old ++ between (cond alone 1 0) n bytes → new ≡ with_word old w
-word_put old new bytes w n true is g e =
-    e ∙ ap (λ x. old ++ x) (between_is bytes 1 n ∙ ap (drop 1) is) ∙ ap (λ x. x ++ w) (sym (append-nil old)) ∙ ap (λ x. (old ++ x) ++ w) (sym g)
-word_put old new bytes w n false is g e =
-    e ∙ ap (λ x. old ++ x) (between_from_start bytes n ∙ is) ∙ sym (append_assoc old (32 ∷ []) w) ∙ ap (λ x. (old ++ x) ++ w) (sym g)

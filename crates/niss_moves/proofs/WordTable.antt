@@ -1,6 +1,6 @@
 -- The table of words has at each number the word of that move.
 use Rattle.std.proofs.Common.{refl, sym, subst, arith}
-use Rattle.std.specs.Prelude.{◌≡◌, ℕ, ◌+◌, ◌*◌, ◌≤◌, ◌<◌, List, [], ◌∷◌, ◌++◌, length, take, get_or}
+use Rattle.std.specs.Prelude.{◌≡◌, ℕ, ◌+◌, ◌*◌, ◌≤◌, List, [], ◌∷◌, ◌++◌, length, take, get_or}
 use Rattle.niss_moves.specs.Letters.{face_letter}
 use Rattle.niss_moves.specs.Notation.{slice_letter, rotation_letter}
 use Rattle.niss_moves.specs.Text.{word, power_bytes}
@@ -59,16 +59,15 @@ of_rotation _ Counter d = refl
 -- a space and a word, in at most four bytes
 pub record IsWord (w : List ℕ) (entry : Word) : Type 0 where
   pub bytes : take entry.len entry.bytes ≡ 32 ∷ w
-  pub some : 0 < entry.len
   pub len : entry.len ≤ 4
 
 is_narrow : (letter : ℕ) (p : Power) → IsWord (letter ∷ power_bytes p) (narrow letter p)
-is_narrow letter Quarter = record { bytes = refl; some = (omega arith); len = (omega arith) }
-is_narrow letter _ = record { bytes = refl; some = (omega arith); len = (omega arith) }
+is_narrow letter Quarter = record { bytes = refl; len = (omega arith) }
+is_narrow letter _ = record { bytes = refl; len = (omega arith) }
 
 is_wide : (letter : ℕ) (p : Power) → IsWord (letter ∷ 119 ∷ power_bytes p) (wide letter p)
-is_wide letter Quarter = record { bytes = refl; some = (omega arith); len = (omega arith) }
-is_wide letter _ = record { bytes = refl; some = (omega arith); len = (omega arith) }
+is_wide letter Quarter = record { bytes = refl; len = (omega arith) }
+is_wide letter _ = record { bytes = refl; len = (omega arith) }
 
 pub word_at : (t : Token) (i : ℕ) (d : Word) → i ≡ token_index t → IsWord (word t) (get_or WORDS i d)
 word_at (token.Face t) i d e =

@@ -12,7 +12,7 @@ use crate::faces::Faces;
 use crate::gathering::{Word, Words};
 use crate::niss::Niss;
 use crate::rotation::Rotation;
-use crate::text::{LineText, put_gap, put_word};
+use crate::text::{LineText, put_gap};
 use crate::turn::Turn;
 
 /// Appends the words of the face turns, with one space before each word, but not at the beginning of the text or after
@@ -36,12 +36,14 @@ pub fn put_rotation(rotation: Rotation, text: &mut LineText)
     ensures items { text.new.items ≡ with_words text.old.items (rotation_words rotation) }
     ensures len { array_vec_len text.new ≤ array_vec_len text.old + 6 }
 {
+    let mut words = Words::after(text);
     if let Some((axis, power)) = rotation.top.to_top() {
-        put_word(Word::of_rotation(axis, power), text);
+        words.push(Word::of_rotation(axis, power), text);
     }
     if let Some(power) = rotation.vertical {
-        put_word(Word::of_rotation(Axis::Ud, power), text);
+        words.push(Word::of_rotation(Axis::Ud, power), text);
     }
+    words.write(text);
 }
 
 /// Whether there is no word to write.

@@ -1,5 +1,5 @@
 //! Words side by side, each after a space, but the first of a text or a bracket.
-ghost use Rattle.std.specs.Prelude.{◌≡◌, ℕ, ◌+◌, ◌≤◌, ◌<◌, List, [], ◌∷◌, ◌++◌, take, if◌then◌else◌};
+ghost use Rattle.std.specs.Prelude.{◌≡◌, ℕ, ◌+◌, ◌≤◌, List, [], ◌∷◌, ◌++◌, take, if◌then◌else◌};
 ghost use Rattle.arrayvec.specs.ArrayVec.{array_vec_len};
 ghost use Rattle.niss_moves.specs.Text.{word, gap};
 ghost use Rattle.niss_moves.specs.Helpers.{with_gathered};
@@ -21,7 +21,6 @@ impl Word {
     /// The word of a face turn.
     pub fn of_turn(turn: Turn) -> Word
         ensures bytes { take result.len result.bytes ≡ 32 ∷ word (token.Face turn) }
-        ensures some { 0 < result.len }
         ensures len { result.len ≤ 3 }
     {
         Word::of_token(Token::Face(turn))
@@ -30,7 +29,6 @@ impl Word {
     /// The word of a rotation about an axis.
     pub fn of_rotation(axis: Axis, power: Power) -> Word
         ensures bytes { take result.len result.bytes ≡ 32 ∷ word (token.Rotation axis power) }
-        ensures some { 0 < result.len }
         ensures len { result.len ≤ 3 }
     {
         Word::of_token(Token::Rotation(axis, power))
@@ -39,7 +37,6 @@ impl Word {
     /// The word of a move.
     pub fn of_token(token: Token) -> Word
         ensures bytes { take result.len result.bytes ≡ 32 ∷ word token }
-        ensures some { 0 < result.len }
         ensures len { result.len ≤ 4 }
     {
         WORDS[token.index()]

@@ -1,9 +1,9 @@
 //! Moves written out.
-ghost use Rattle.std.specs.Prelude.{◌≡◌, ◌+◌, ◌*◌, ◌≤◌, ◌<◌, [], ◌∷◌, ◌++◌, ℕ, List, length, map, take, if◌then◌else◌};
+ghost use Rattle.std.specs.Prelude.{◌≡◌, ◌+◌, ◌*◌, ◌≤◌, ◌<◌, [], ◌∷◌, ◌++◌, length, map, if◌then◌else◌};
 ghost use Rattle.arrayvec.specs.ArrayVec.{array_vec_len};
 ghost use Rattle.niss_moves.specs.Effects.{inverse};
 ghost use Rattle.niss_moves.specs.Line.{joined_moves};
-ghost use Rattle.niss_moves.specs.Text.{word, with_word, with_words, gap};
+ghost use Rattle.niss_moves.specs.Text.{word, with_words, gap};
 
 use crate::gathering::{Word, Words};
 use crate::niss::Niss;
@@ -64,20 +64,6 @@ pub fn put_inverted(niss: &Niss, text: &mut LineText)
 {
     put_tokens(niss.inverse(), text);
     put_inverse(niss.normal(), text);
-}
-
-/// Appends a word, with its space where one stands before it.
-pub(crate) fn put_word(word: Word, text: &mut LineText)
-    requires some { 0 < word.len }
-    requires short { word.len ≤ 4 }
-    requires room { array_vec_len text.old + word.len ≤ 2048 }
-    ensures items { (w : List ℕ) → take word.len word.bytes ≡ 32 ∷ w →
-        text.new.items ≡ with_word text.old.items w }
-    ensures len { array_vec_len text.new ≤ array_vec_len text.old + word.len }
-{
-    let start = has_no_gap(text) as usize;
-    text.try_extend_from_slice(&word.bytes[start..word.len])
-        .unwrap();
 }
 
 /// Whether no space stands before a word that comes next.

@@ -4,8 +4,5 @@ use Rattle.niss_moves.proofs.gathering.Word.of_token.Goals as goal
 pub returns-clause-bytes : goal.returns-clause-bytes
 returns-clause-bytes c = (word_at c.args.token c.index.result _ c.index.ensures.value).bytes
 
-pub returns-clause-some : goal.returns-clause-some
-returns-clause-some c = (word_at c.args.token c.index.result _ c.index.ensures.value).some
-
 pub returns-clause-len : goal.returns-clause-len
 returns-clause-len c = (word_at c.args.token c.index.result _ c.index.ensures.value).len
