@@ -99,12 +99,20 @@ def refused_faults(trial, words):
             trial.check("a text of faults refused", words + [how, str(nth)], b"", got, (whole[0], True, whole[2]))
 
 
-def judge(trial, kind, traced, how, is_memory):
-    """The whole answer, or where memory is refused out of memory with nothing read and nothing written."""
-    expected = model.run(traced.words, traced.data)
-    if is_memory and traced.answer == (b"", NO_MEMORY, 3) and not traced.on_stream("read", 0):
-        expected = traced.answer
-    trial.check(kind, traced.words + [how], traced.data, traced.answer, expected)
+def whole_answer(traced):
+    """The answer of a run that no refusal touches."""
+    return model.run(traced.words, traced.data)
+
+
+def whole_answer_or_no_memory(traced):
+    """That, or what the run answered, where it is out of memory with nothing read and nothing written."""
+    has_no_memory = traced.answer == (b"", NO_MEMORY, 3) and not traced.on_stream("read", 0)
+    return traced.answer if has_no_memory else whole_answer(traced)
+
+
+def judge(trial, kind, traced, how, expected):
+    """The run answers as is expected of it."""
+    trial.check(kind, traced.words + [how], traced.data, traced.answer, expected(traced))
 
 
 def refused_others(trial, words, data):
@@ -113,9 +121,11 @@ def refused_others(trial, words, data):
     for name, nth, _, _ in traced.calls[traced.own():]:
         if name in NOT_HERE:
             continue
-        for error in ["ENOMEM"] if name in ("mmap", "mremap", "munmap", "mprotect") else ["EPERM", "EINTR", "ENOSYS"]:
+        is_memory = name in ("mmap", "mremap", "munmap", "mprotect")
+        expected = whole_answer_or_no_memory if is_memory else whole_answer
+        for error in ["ENOMEM"] if is_memory else ["EPERM", "EINTR", "ENOSYS"]:
             for how in ("%s:error=%s:when=%d" % (name, error, nth), "%s:error=%s:when=%d+" % (name, error, nth)):
-                judge(trial, "another call refused", Traced(trial, words, data, how), how, error == "ENOMEM")
+                judge(trial, "another call refused", Traced(trial, words, data, how), how, expected)
 
 
 def refused_growths(trial, words, data):
@@ -126,9 +136,9 @@ def refused_growths(trial, words, data):
         if at >= own and name in GROWING and arguments != "NULL":
             from_here = ["brk:retval=%s:when=%d+" % (old_break, seen["brk"] + 1)]
             from_here += ["%s:error=ENOMEM:when=%d+" % (call, seen[call] + 1) for call in ("mmap", "mremap")]
-            judge(trial, "every growth from one on refused", Traced(trial, words, data, *from_here), str(at), True)
+            judge(trial, "every growth from one on refused", Traced(trial, words, data, *from_here), str(at), whole_answer_or_no_memory)
             once = "brk:retval=%s:when=%d" % (old_break, nth) if name == "brk" else "%s:error=ENOMEM:when=%d" % (name, nth)
-            judge(trial, "one growth refused", Traced(trial, words, data, once), once, True)
+            judge(trial, "one growth refused", Traced(trial, words, data, once), once, whole_answer_or_no_memory)
         if name in seen:
             seen[name] = nth
         if name == "brk":

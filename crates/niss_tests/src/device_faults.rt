@@ -172,12 +172,8 @@ impl Writes<'_> {
     /// Makes the run where all is taken, and the flush after it fails.
     fn check_failed_flush(self, rt: &impl Abort, alloc: Global) {
         let output = self.output(rt, alloc);
-        let unflushed = Devices {
-            flush_fails: true,
-            ..self.devices()
-        };
         let run = Failure(self.given, output.as_slice(), CANNOT_WRITE);
-        run.check(rt, alloc, unflushed);
+        run.check(rt, alloc, self.devices().unflushed());
     }
 }
 
@@ -222,11 +218,8 @@ const NOT_A_MOVE: &[u8] = b"nissy: line 1, column 3: not a move\n";
 
 #[test]
 fn flush_fails_after_a_fault(rt: HostRuntime) {
-    let unflushed = Devices {
-        flush_fails: true,
-        ..FAULTLESS
-    };
-    Fault(Words(&["invert", "R '"]), b"", NOT_A_MOVE).check(&rt, rt.alloc(), unflushed);
+    let run = Fault(Words(&["invert", "R '"]), b"", NOT_A_MOVE);
+    run.check(&rt, rt.alloc(), FAULTLESS.unflushed());
 }
 
 /// The error writer takes a byte at a time, and each of its writes fails in turn.

@@ -37,6 +37,14 @@ pub const FAULTLESS: Devices<'static> = Devices {
 };
 
 impl Devices<'_> {
+    /// The same, but the flush after the last write fails.
+    pub fn unflushed(self) -> Self {
+        Devices {
+            flush_fails: true,
+            ..self
+        }
+    }
+
     /// The source of this input.
     pub fn source<'b>(self, input: &'b [u8]) -> Bytes<'b>
         ensures works { result.failed ≡ false }

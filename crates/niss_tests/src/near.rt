@@ -3,6 +3,9 @@ use crate::runs::Given::{Input, Words};
 use crate::runs::Run::{self, Fault, Good};
 use crate::runs::{check_looks, check_runs};
 
+/// The two shortest edge orientations of the cube after F.
+pub const SHORTEST: &[u8] = b"F (1)\nF' (1)\n\n";
+
 /// The edge orientations of at most two turns of the cube after F.
 const AFTER_F: &[u8] = b"F (1)
 F' (1)
@@ -66,10 +69,7 @@ const NEAR: &[Run] = &[
         Words(&["near", "dr-eofb", "2", "1", "R", "U"]),
         EITHER_DOMINO,
     ),
-    Good(
-        Input(&["near", "eofb", "007", "00"], b"F\n"),
-        b"F (1)\nF' (1)\n\n",
-    ),
+    Good(Input(&["near", "eofb", "007", "00"], b"F\n"), SHORTEST),
     Good(Words(&["near", "eofb", "5", "0"]), b""),
     Fault(
         Input(&["near", "eofb", "1", "0"], b"F\nR\nq\nF"),
@@ -87,9 +87,6 @@ const NEAR: &[Run] = &[
 fn longer_solutions_follow_the_shortest(rt: HostRuntime) {
     check_runs(&rt, rt.alloc(), NEAR);
 }
-
-/// The two shortest edge orientations of the cube after F.
-const SHORTEST: &[u8] = b"F (1)\nF' (1)\n\n";
 
 /// Runs, and how many positions they look at: those of all deepenings to the last length.
 const LOOKS: [(Run, u128); 6] = [

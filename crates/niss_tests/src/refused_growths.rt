@@ -1,6 +1,7 @@
 //! Each growth refused in turn: in rooms that grow until one has room for all. Rooms differ by less than the smallest
 //! growth, so each growth is refused in one of them, whatever sizes the growths have.
 use crate::devices::{Devices, FAULTLESS};
+use crate::near::SHORTEST;
 use crate::runs::Given::Input;
 use crate::runs::Run::{self, Fault, Good};
 use crate::runs::{OUT_OF_MEMORY, Outcome, STEPS, run_over, words_of};
@@ -43,19 +44,20 @@ fn in_heap(heap: &LocalHeap) -> Devices<'_> {
     }
 }
 
-/// What a run has to write and to answer where it ends with this status, and where it writes this output if it is good.
-fn outcome_of<'a>(status: u8, output: &'a [u8]) -> Outcome<'a> {
-    match status {
-        0 => Outcome {
+/// What a run has to write and to answer: this output where the room is enough.
+fn outcome_of<'a>(fits: bool, output: &'a [u8]) -> Outcome<'a> {
+    if fits {
+        Outcome {
             output,
             error: b"",
-            status,
-        },
-        _ => Outcome {
+            status: 0,
+        }
+    } else {
+        Outcome {
             output: b"",
             error: OUT_OF_MEMORY,
             status: 3,
-        },
+        }
     }
 }
 
@@ -70,12 +72,12 @@ fn run_fits(
 ) -> bool {
     let words = words_of(alloc, words).expect(rt, "memory for words");
     let ran = run_over(alloc, &words, INPUT, in_heap(heap));
-    let status = ran.status;
+    let fits = ran.status == 0;
     let is_untouched = ran.input.reads == 0 && ran.out.writes == 0 && ran.looks == 0;
-    assert!(rt; status == 0 || is_untouched);
-    outcome_of(status, output).compare(rt, status, &ran.out, &ran.err);
+    assert!(rt; fits || is_untouched);
+    outcome_of(fits, output).compare(rt, ran.status, &ran.out, &ran.err);
     drop(ran);
-    status == 0
+    fits
 }
 
 /// Checks that these are the tables of a step, and that they find the solved cube at its goal.
@@ -173,8 +175,6 @@ impl Growing<'_> {
     }
 }
 
-const SOLVED: &[u8] = b"F (1)\nF' (1)\n\n";
-
 /// Runs, and by how many bytes their rooms differ.
 const RUNS: &[(Growing, u16)] = &[
     (
@@ -182,12 +182,12 @@ const RUNS: &[(Growing, u16)] = &[
         FOR_WORDS,
     ),
     (
-        Growing::Run(&["solve", "eofb", "7", "F"], SOLVED),
+        Growing::Run(&["solve", "eofb", "7", "F"], SHORTEST),
         FOR_EDGES,
     ),
-    (Growing::Run(&["solve", "eofb", "7"], SOLVED), FOR_EDGES),
+    (Growing::Run(&["solve", "eofb", "7"], SHORTEST), FOR_EDGES),
     (
-        Growing::Run(&["near", "eofb", "7", "0", "F"], SOLVED),
+        Growing::Run(&["near", "eofb", "7", "0", "F"], SHORTEST),
         FOR_EDGES,
     ),
     (
