@@ -1,4 +1,4 @@
-# `make` proves the crates below the program and builds it, `make test` runs the gate and the built program.
+# `make` proves the crates below the program and builds it, `make check` tries the built program, `make test` runs the gate and then that.
 PREFIX ?= /usr/local
 DESTDIR ?=
 
@@ -17,7 +17,7 @@ INSTALLED := \
 	completions/_nissy:share/zsh/site-functions/_nissy \
 	completions/nissy.fish:share/fish/vendor_completions.d/nissy.fish
 
-.PHONY: all test install uninstall clean bench
+.PHONY: all check test install uninstall clean bench
 
 all: build/nissy
 
@@ -26,6 +26,9 @@ build/nissy: $(SOURCES)
 	cd crates/nissy && rt run -- invert "" > /dev/null
 	mkdir -p build
 	cp crates/nissy/out/nissy build/nissy
+
+check: build/nissy
+	tests/built
 
 test:
 	tests/run
