@@ -1,18 +1,23 @@
 -- How the bytes that several calls move join.
-use Rattle.std.proofs.Common.{◌≡◌, ℕ, zero, suc, ◌≢◌, ◌<◌, ◌||◌, Bool, true, false, Option, Some, None, Result, Ok, Err, if◌then◌else◌, List, [], ◌∷◌, ◌++◌, take, length, refl, sym, ap, ◌∙◌, subst, append_assoc, append-nil, arith}
+use Rattle.std.proofs.Common.{◌≡◌, ℕ, ◌+◌, zero, suc, ◌≢◌, ◌<◌, ◌||◌, Bool, true, false, Option, Some, None, Result, Ok, Err, if◌then◌else◌, List, [], ◌∷◌, ◌++◌, take, drop, length, length-append, refl, sym, ap, ◌∙◌, subst, append_assoc, append-nil, arith}
 use Rattle.std.specs.Prelude.{is_err, IsErr, MatchResult}
 use Rattle.std.specs.Io.KnownBytes.{ReadConsumes}
+use Rattle.std.proofs.lemmas.List.{drop-drop, length-drop}
 use Rattle.std.proofs.Math.Bool.{or-false}
 use Rattle.std.proofs.lemmas.Bool.{or_parts}
-use Rattle.niss_shell.specs.Device.{SourceState, TargetState, has_fault, GaveOf, Gave, AppendedOf, Appended, StaysSilentOf, StaysSilent, is_empty_answer, moved_bytes}
+use Rattle.niss_shell.specs.Device.{SourceState, TargetState, Room, FilledOf, has_fault, GaveOf, Gave, AppendedOf, Appended, StaysSilentOf, StaysSilent, is_empty_answer, moved_bytes}
 use Rattle.niss_shell.specs.Names.{DeviceFault}
 
 nothing_appended : (held : Option (List ℕ)) (failed : Bool) → AppendedOf held held failed []
 nothing_appended None failed = tt
 nothing_appended (Some all) failed = sym (append-nil all)
 
+nothing_filled : (room : Option Room) → FilledOf 0 room room
+nothing_filled None = tt
+nothing_filled (Some room) = record { fits = omega arith; left = refl; same_reference = refl }
+
 pub appended_nothing : (a : TargetState) → Appended a a []
-appended_nothing a = nothing_appended _ _
+appended_nothing a = record { text = nothing_appended _ _; filled = nothing_filled _ }
 
 more_appended : (a b c : Option (List ℕ)) {s t : Bool} (x y : List ℕ) → (s ≡ true → t ≡ true) → StaysSilentOf s b c
     → AppendedOf a b s x → AppendedOf b c t y → AppendedOf a c t (x ++ y)
@@ -23,10 +28,23 @@ more_appended (Some old) None (Some new) x y sticks silent p q =
 more_appended (Some old) (Some mid) None x y sticks silent p q = q
 more_appended (Some old) (Some mid) (Some new) x y sticks silent p q = q ∙ ap (λ v. v ++ y) p ∙ append_assoc old x y
 
+more_filled : (a b c : Option Room) (n m : ℕ) → FilledOf n a b → FilledOf m b c → FilledOf (n + m) a c
+more_filled None b c n m p q = tt
+more_filled (Some old) None c n m p q = absurd p
+more_filled (Some old) (Some mid) None n m p q = q
+more_filled (Some old) (Some mid) (Some new) n m p q = record {
+  fits = omega (arith, p.fits, q.fits, ap (length {A = ℕ}) p.left, length-drop n old.free);
+  left = q.left ∙ ap (drop m) p.left ∙ drop-drop m n old.free;
+  same_reference = q.same_reference ∙ p.same_reference;
+}
+
 -- two calls, also on a target that failed before
 pub appended_on : (a b c : TargetState) (x y : List ℕ) → (has_fault b ≡ true → has_fault c ≡ true) → StaysSilent b c
     → Appended a b x → Appended b c y → Appended a c (x ++ y)
-appended_on a b c x y sticks silent p q = more_appended _ _ _ _ _ sticks silent p q
+appended_on a b c x y sticks silent p q = record {
+  text = more_appended _ _ _ _ _ sticks silent p.text q.text;
+  filled = subst (λ n. FilledOf n a.room c.room) (sym (length-append x y)) (more_filled _ _ _ _ _ p.filled q.filled);
+}
 
 pub appended_more : (a b c : TargetState) (x y : List ℕ) → has_fault b ≡ false → Appended a b x → Appended b c y → Appended a c (x ++ y)
 appended_more a b c x y e p q =

@@ -12,5 +12,6 @@ pub mod SearchLemmas
 pub mod OutputLemmas
 pub mod SolveLemmas
 pub mod RunLemmas
+pub mod MoreInputLemmas
 pub mod NumberLemmas
 pub mod WordsLemmas

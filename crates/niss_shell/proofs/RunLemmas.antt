@@ -32,20 +32,23 @@ by_words bytes None command (w ∷ ws) P is h p = absurd (omega arith)
 -- the error writer
 
 pub reported : (text : List ℕ) {piece : List ℕ} (r : Result (Unit {0}) DeviceFault) (a b : TargetState)
-    → piece ≡ text → OnOk r (Appended a b piece) → OnErr r (WriteRefused piece a b) → b.flush_failed ≡ a.flush_failed → ReportsError text a b
-reported text (Ok u) a b e whole refused unflushed = record {
+    → piece ≡ text → OnOk r (Appended a b piece) → OnOk r (has_fault b ≡ has_fault a) → OnErr r (WriteRefused piece a b) → b.flush_failed ≡ a.flush_failed
+    → ReportsError text a b
+reported text (Ok u) a b e whole same refused unflushed = record {
   part = text;
   rest = [];
   beginning = append-nil text;
   whole = λ good. refl;
+  cut = λ works failed. absurd (cc (failed, no_write_fault b (same ∙ works)));
   written = subst (λ t. Appended a b t) e whole;
   unflushed = unflushed;
 }
-reported text (Err x) a b e whole refused unflushed = record {
+reported text (Err x) a b e whole same refused unflushed = record {
   part = refused.part;
   rest = refused.cut.0;
   beginning = refused.cut.1 ∙ e;
   whole = λ good. absurd (cc (good, refused.refused));
+  cut = λ works failed. refused.cut.2;
   written = refused.appended;
   unflushed = unflushed;
 }

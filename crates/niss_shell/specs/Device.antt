@@ -1,6 +1,6 @@
 -- What a contract sees of a source and of a target of bytes, and what calls do to them.
 use Rattle.std.specs.Prelude.{◌≡◌, ℕ, zero, suc, ◌<◌, ◌≤◌, ◌||◌, not, Bool, true, false}
-use Rattle.std.specs.Prelude.{Option, Some, None, Result, Ok, Err, is_err, IfOk, List, [], ◌∷◌, ◌++◌, take, length}
+use Rattle.std.specs.Prelude.{Option, Some, None, Result, Ok, Err, is_err, IfOk, List, [], ◌∷◌, ◌++◌, take, drop, length}
 use Rattle.niss_shell.specs.Names.{DeviceFault}
 
 -- The bytes that a source will give, where they are known; whether a read failed; whether a read found the end.
@@ -9,10 +9,18 @@ pub record SourceState : Type 0 where
   pub has_failed : Bool
   pub has_ended : Bool
 
--- The bytes that a target holds, where they are known; whether a write failed; whether a flush failed; whether a flush
--- came after the last write, good or refused; whether the last one that came so was good.
+-- The room of a target in memory that it borrows: the reference, by its name, and the bytes there that aren't overwritten
+-- yet.
+pub record Room : Type 0 where
+  pub reference : ℕ
+  pub free : List ℕ
+
+-- The bytes that a target holds, where they are known; its room, where it has an end that is known; whether a write failed;
+-- whether a flush failed; whether a flush came after the last write, good or refused; whether the last one that came so was
+-- good.
 pub record TargetState : Type 0 where
   pub held : Option (List ℕ)
+  pub room : Option Room
   pub write_failed : Bool
   pub flush_failed : Bool
   pub flush_tried : Bool
@@ -38,9 +46,22 @@ AppendedOf None held_now failed bytes = Unit {0}
 AppendedOf (Some all) None failed bytes = failed ≡ true
 AppendedOf (Some all) (Some all_now) failed bytes = all_now ≡ all ++ bytes
 
--- A target took these bytes after what it held. What one that failed holds may no longer be known.
-abbrev pub Appended : TargetState → TargetState → List ℕ → Type 0
-Appended old new bytes = AppendedOf old.held new.held (has_fault new) bytes
+-- So many first bytes of the room were overwritten, and no others.
+pub record IsFilled (count : ℕ) (old new : Room) : Type 0 where
+  pub fits : count ≤ length old.free
+  pub left : new.free ≡ drop count old.free
+  pub same_reference : new.reference ≡ old.reference
+
+-- the same of a room that may not be known
+abbrev pub FilledOf : ℕ → Option Room → Option Room → Type 0
+FilledOf count None room_now = Unit {0}
+FilledOf count (Some room) None = ⊥
+FilledOf count (Some room) (Some room_now) = IsFilled count room room_now
+
+-- A target took these bytes after what it held, and into its room. What one that failed holds may no longer be known.
+pub record Appended (old new : TargetState) (bytes : List ℕ) : Type 0 where
+  pub text : AppendedOf old.held new.held (has_fault new) bytes
+  pub filled : FilledOf (length bytes) old.room new.room
 
 -- what `StaysSilent` says of the bytes held before and after, where the target had failed or hadn't
 abbrev pub StaysSilentOf : Bool → Option (List ℕ) → Option (List ℕ) → Type 0

@@ -11,3 +11,4 @@ pub mod Search
 pub mod Taking
 pub mod Run
 pub mod SolveLaw
+pub mod MoreInput

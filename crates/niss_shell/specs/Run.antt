@@ -68,6 +68,8 @@ pub record ReportsError (text : List ℕ) (old new : TargetState) : Type 0 where
   pub rest : List ℕ
   pub beginning : part ++ rest ≡ text
   pub whole : new.write_failed ≡ false → rest ≡ []
+  -- where nothing had failed before, a refused write left a rest
+  pub cut : has_fault old ≡ false → new.write_failed ≡ true → 0 < length rest
   pub written : Appended old new part
   -- it isn't flushed: a flush might have been refused
   pub unflushed : new.flush_failed ≡ old.flush_failed

@@ -117,7 +117,7 @@ request_of [] = Err NoCommand
 request_of (name ∷ rest) = request_named name rest
 
 -- what a command asks for, wherever its words lie
-abbrev pub requested : Command → Request
+abbrev pub requested : {B : Type 0} → Command B → Request
 requested (command.Invert rest) = OnLines (Rewrite Invert) (map string_bytes rest.now)
 requested (command.Unniss rest) = OnLines (Rewrite Unniss) (map string_bytes rest.now)
 requested (command.Cleanup rest) = OnLines (Rewrite Cleanup) (map string_bytes rest.now)
@@ -137,7 +137,7 @@ name_of_report Solutions = codes "solve"
 name_of_report Counts = codes "count"
 
 -- the first word of a command
-abbrev pub name_of_command : Command → List ℕ
+abbrev pub name_of_command : {B : Type 0} → Command B → List ℕ
 name_of_command (command.Invert rest) = codes "invert"
 name_of_command (command.Unniss rest) = codes "unniss"
 name_of_command (command.Cleanup rest) = codes "cleanup"

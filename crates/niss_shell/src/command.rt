@@ -8,6 +8,7 @@ ghost use Rattle.niss_shell.specs.Words.{without_words, request_of, requested, n
 use crate::number::{limit_of, number_of};
 use niss_cube::Step;
 use niss_search::Limit;
+use std::alloc::{Allocator, Global};
 
 /// The most turns of a scramble.
 const MOST_TURNS: u64 = 256;
@@ -78,29 +79,30 @@ fn search_for(report: Report, step: Step, limit: Limit, slack: Limit) -> LineCom
 }
 
 /// What is done with each line, and the words that give the lines; without words they are read.
-#[derive(Clone, Copy)]
-pub struct LineRequest<'a> {
+#[derive_where(Clone, Copy)]
+pub struct LineRequest<'a, B: Allocator = Global> {
     pub command: LineCommand,
-    pub words: &'a [String],
+    pub words: &'a [String<B>],
 }
 
-/// A command. The words that it lends are the input; where there are none, the input comes from the source.
-#[derive(Clone, Copy)]
-pub enum Command<'a> {
+/// A command. The words that it lends, whose memory is of an allocator `B`, are the input; where there are none, the input
+/// comes from the source.
+#[derive_where(Clone, Copy)]
+pub enum Command<'a, B: Allocator = Global> {
     /// The inverse of each line.
-    Invert(&'a [String]),
+    Invert(&'a [String<B>]),
     /// Each line without brackets: its normal moves, and then the inverse of its bracketed ones.
-    Unniss(&'a [String]),
+    Unniss(&'a [String<B>]),
     /// Each line as canonical face turns and a rotation, the normal and the bracketed moves each by itself.
-    Cleanup(&'a [String]),
+    Cleanup(&'a [String<B>]),
     /// The facelet text of each line.
-    Print(&'a [String]),
+    Print(&'a [String<B>]),
     /// The shortest solutions of a step for each line, of at most so many turns.
-    Solve(Step, Limit, &'a [String]),
+    Solve(Step, Limit, &'a [String<B>]),
     /// Their length, how many they are, and how often the search looks at a position, for each line.
-    Count(Step, Limit, &'a [String]),
+    Count(Step, Limit, &'a [String<B>]),
     /// The solutions of a step for each line, of at most so many turns, and of at most so many more than the shortest.
-    Near(Step, Limit, Limit, &'a [String]),
+    Near(Step, Limit, Limit, &'a [String<B>]),
     /// The names of the steps.
     Steps,
     /// So many scrambles of so many turns, at most 256, by one generator of a state and a stream.
@@ -112,9 +114,9 @@ pub enum Command<'a> {
     },
 }
 
-impl<'a> Command<'a> {
+impl<'a, B: Allocator> Command<'a, B> {
     /// What a command on lines asks for.
-    pub(crate) fn on_lines(&self) -> Option<LineRequest<'a>>
+    pub(crate) fn on_lines(&self) -> Option<LineRequest<'a, B>>
         ensures { MatchOption result (takes_lines (requested self.now) ≡ false)
             (λ asked. requested self.now ≡ OnLines asked.command (map string_bytes asked.words.now)) }
     {
@@ -150,7 +152,10 @@ fn step_of(word: &str) -> Option<Step>
 }
 
 /// The command that searches each line for a report, by its step, its limit and the words that are the input.
-fn parse_search(report: Report, words: &[String]) -> Result<Command<'_>, UsageFault>
+fn parse_search<B: Allocator>(
+    report: Report,
+    words: &[String<B>],
+) -> Result<Command<'_, B>, UsageFault>
     ensures command { MatchResult result
         (λ command. search_words report (map string_bytes words.now) ≡ Ok (requested command))
         (λ fault. search_words report (map string_bytes words.now) ≡ Err fault) }
@@ -169,7 +174,7 @@ fn parse_search(report: Report, words: &[String]) -> Result<Command<'_>, UsageFa
 }
 
 /// The command `near`, by its step, its limit, its slack and the words that are the input.
-fn parse_near(words: &[String]) -> Result<Command<'_>, UsageFault>
+fn parse_near<B: Allocator>(words: &[String<B>]) -> Result<Command<'_, B>, UsageFault>
     ensures command { MatchResult result
         (λ command. near_words (map string_bytes words.now) ≡ Ok (requested command))
         (λ fault. near_words (map string_bytes words.now) ≡ Err fault) }
@@ -186,7 +191,7 @@ fn parse_near(words: &[String]) -> Result<Command<'_>, UsageFault>
 }
 
 /// The command `steps`, which takes no words.
-fn parse_steps(words: &[String]) -> Result<Command<'_>, UsageFault>
+fn parse_steps<B: Allocator>(words: &[String<B>]) -> Result<Command<'_, B>, UsageFault>
     ensures command { MatchResult result
         (λ command. without_words ListSteps (map string_bytes words.now) ≡ Ok (requested command))
         (λ fault. without_words ListSteps (map string_bytes words.now) ≡ Err fault) }
@@ -200,7 +205,12 @@ fn parse_steps(words: &[String]) -> Result<Command<'_>, UsageFault>
 }
 
 /// The command `scramble` by its four numbers, where each is one.
-fn scramble_of(state: &str, stream: &str, length: &str, count: &str) -> Option<Command<'static>>
+fn scramble_of<'a, B: Allocator>(
+    state: &str,
+    stream: &str,
+    length: &str,
+    count: &str,
+) -> Option<Command<'a, B>>
     ensures command { let asked =
         scramble_with (number_of most_state state.now) (number_of most_state stream.now)
         (number_of most_turns length.now) (number_of most_scrambles count.now) in
@@ -221,7 +231,7 @@ fn scramble_of(state: &str, stream: &str, length: &str, count: &str) -> Option<C
 }
 
 /// The command `scramble`, which takes four numbers.
-fn parse_scramble(words: &[String]) -> Result<Command<'_>, UsageFault>
+fn parse_scramble<B: Allocator>(words: &[String<B>]) -> Result<Command<'_, B>, UsageFault>
     ensures command { MatchResult result
         (λ command. scramble_words (map string_bytes words.now) ≡ Ok (requested command))
         (λ fault. scramble_words (map string_bytes words.now) ≡ Err fault) }
@@ -244,7 +254,7 @@ fn parse_scramble(words: &[String]) -> Result<Command<'_>, UsageFault>
 
 /// The command that the words name, or their first fault: of the command, then of the count of words, of the step, and of
 /// the numbers from left to right.
-pub fn parse_words(words: &[String]) -> Result<Command<'_>, UsageFault>
+pub fn parse_words<B: Allocator>(words: &[String<B>]) -> Result<Command<'_, B>, UsageFault>
     ensures command { MatchResult result
         (λ command. request_of (map string_bytes words.now) ≡ Ok (requested command))
         (λ fault. request_of (map string_bytes words.now) ≡ Err fault) }

@@ -30,7 +30,7 @@ pub struct Job<A: Allocator> {
 }
 
 /// How many bytes the words give, where these aren't too many.
-fn joined_length(words: &[String]) -> Option<usize>
+fn joined_length<B: Allocator>(words: &[String<B>]) -> Option<usize>
     requires { 0 < length words.now }
     ensures { MatchOption result
         (most_bytes < length (joined (map string_bytes words.now)))
@@ -48,7 +48,10 @@ fn joined_length(words: &[String]) -> Option<usize>
 }
 
 /// Appends the words, each after a space.
-fn push_more_words<A: Allocator>(words: &[String], text: &mut Vec<u8, A>) -> Result<(), AllocError>
+fn push_more_words<A: Allocator, B: Allocator>(
+    words: &[String<B>],
+    text: &mut Vec<u8, A>,
+) -> Result<(), AllocError>
     ensures { OnOk result
         (text.new.items ≡ text.old.items ++ flat_map spaced_word (map string_bytes words.now)) }
 {
@@ -60,9 +63,9 @@ fn push_more_words<A: Allocator>(words: &[String], text: &mut Vec<u8, A>) -> Res
 }
 
 /// The words with single spaces, and a line feed.
-fn joined_words<A: Allocator>(
+fn joined_words<A: Allocator, B: Allocator>(
     alloc: A,
-    words: &[String],
+    words: &[String<B>],
     length: usize,
 ) -> Result<Vec<u8, A>, AllocError>
     ensures { IfOk result (λ text. text.items ≡ joined (map string_bytes words.now)) }
@@ -98,7 +101,11 @@ impl<A: Allocator> Work<A> {
 impl<A: Allocator> Job<A> {
     /// Takes all memory of a run: that of joined words, and then that of tables. It is handed the allocator alone of all
     /// that a run does, and takes nothing for a command without a step that reads the source.
-    pub fn new(alloc: A, command: LineCommand, words: &[String]) -> Result<Job<A>, Stop>
+    pub fn new<B: Allocator>(
+        alloc: A,
+        command: LineCommand,
+        words: &[String<B>],
+    ) -> Result<Job<A>, Stop>
     where
         A: Copy,
         ensures work { IfOk result (λ job. command_of job.work ≡ command) }
@@ -150,9 +157,9 @@ impl<A: Allocator> Job<A> {
 /// Does a command on the lines of the words, or of the source where there are none.
 ///
 /// It is a function of its own so that the job's drop, which is long, is proved apart from `answer_command`.
-pub fn answer_lines<A: Allocator + Copy, R: Source, W: Target>(
+pub fn answer_lines<A: Allocator + Copy, B: Allocator, R: Source, W: Target>(
     alloc: A,
-    request: LineRequest<'_>,
+    request: LineRequest<'_, B>,
     source: &mut R,
     output: &mut Output<W>,
     looks: &mut Meter,

@@ -1,5 +1,6 @@
 //! What holds of all texts and of all lines. Each law is the contract of a function that does nothing.
 ghost use Rattle.niss_shell.specs.LinesLaws.{TextIsCut, OneCut};
+ghost use Rattle.niss_shell.specs.MoreInput.{MoreInputKeepsAnswers};
 ghost use Rattle.niss_shell.specs.SolveLaw.{AcceptedLinesAreSolved};
 
 use niss_search::laws::counts_and_bounds;
@@ -17,3 +18,9 @@ pub fn accepted_lines_are_solved()
 {
     counts_and_bounds();
 }
+
+/// What is answered while more input is to come is a beginning of what is answered of the whole, and a fault stays. So a run
+/// of which the words and the whole input are known writes what these say, however much of the input it reads.
+pub fn more_input_keeps_answers()
+    ensures { MoreInputKeepsAnswers }
+{}

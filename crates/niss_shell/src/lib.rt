@@ -37,9 +37,10 @@ mod streams;
 mod text;
 mod writing;
 
-pub use command::{Command, UsageFault, parse_words};
+pub use answer::rewrite;
+pub use command::{Command, Rewriting, UsageFault, parse_words};
 pub use device::{DeviceFault, Source, Target};
-pub use laws::{accepted_lines_are_solved, lines_are_cut};
+pub use laws::{accepted_lines_are_solved, lines_are_cut, more_input_keeps_answers};
 pub use niss_cube::Step;
 pub use niss_search::{Limit, Meter};
 pub use shell::{run, run_in};

@@ -40,9 +40,9 @@ fn write_steps<W: Target>(output: &mut Output<W>) -> Result<(), Stop>
 }
 
 /// Does what the words ask for, up to the last flush.
-fn answer_command<A: Allocator + Copy, R: Source, W: Target>(
+fn answer_command<A: Allocator + Copy, B: Allocator, R: Source, W: Target>(
     alloc: A,
-    words: &[String],
+    words: &[String<B>],
     source: &mut R,
     output: &mut Output<W>,
     looks: &mut Meter,
@@ -88,10 +88,11 @@ fn report<E: Target>(outcome: Result<(), Stop>, err: &mut E) -> u8
     stop.status()
 }
 
-/// `run` over any allocator, for a caller that has a heap of its own, or that refuses growths.
-pub fn run_in<A: Allocator + Copy, R: Source, W: Target, E: Target>(
+/// `run` over any allocator, for a caller that has a heap of its own, or that refuses growths. The memory of the words may
+/// be of another one.
+pub fn run_in<A: Allocator + Copy, B: Allocator, R: Source, W: Target, E: Target>(
     alloc: A,
-    words: &[String],
+    words: &[String<B>],
     input: &mut R,
     out: &mut W,
     err: &mut E,

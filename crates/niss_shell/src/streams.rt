@@ -162,6 +162,7 @@ impl<W: io::Write> ToWriter<W> {
 impl<W: io::Write> Target for ToWriter<W> {
     ghost state = { λ t. record {
       held = if t.write_failed || t.flush_failed then Option.None else W.contents t.writer;
+      room = Option.None;
       write_failed = t.write_failed;
       flush_failed = t.flush_failed;
       flush_tried = t.flush_tried;

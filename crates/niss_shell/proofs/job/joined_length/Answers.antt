@@ -4,7 +4,7 @@ use Rattle.niss_shell.proofs.WordsLemmas.{joined_from}
 use Rattle.niss_shell.proofs.job.joined_length.Goals as goal
 
 pub returns-then-length-total : goal.returns-then-length-total
-returns-then-length-total c =
+returns-then-length-total g c =
     let e = joined_from string_bytes c.args.words.now c.loop-word.word-index c.word-item.result c.loop-word-test.true in
     let f : length (string_bytes (get_or c.args.words.now c.loop-word.word-index c.word-item.result)) ≡ length (string_bytes c.word-item.result) =
     ap (λ w. length (string_bytes w)) (sym c.word-item.is) in
