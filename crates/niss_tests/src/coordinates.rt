@@ -1,73 +1,89 @@
 //! Coordinates of cubes, and the tables that turn them.
 use crate::cubes::{cube_after, quarter};
-use niss_cube::{Axis, Coordinate, Cube, Face, OutOfMemory, TurnTable, TurnTables};
+use niss_cube::Coordinate::{self, Flip, Slice, Twist};
+use niss_cube::{Axis, Cube, Face, OutOfMemory, TurnTable, TurnTables};
 use std::alloc::Allocator;
 use std::process::Abort;
 
-const COORDINATES: [Coordinate; 3] = [Coordinate::Flip, Coordinate::Twist, Coordinate::Slice];
-
-fn check_equals(rt: &impl Abort, coordinate: Coordinate) {
-    for other in COORDINATES {
-        assert!(rt; (coordinate == other) == (coordinate.count() == other.count()));
-    }
+fn check_equal(rt: &impl Abort, coordinate: Coordinate, other: Coordinate) {
+    let same_count = coordinate.count() == other.count();
+    assert!(rt; (coordinate == other) == same_count);
 }
 
 // Each has another count.
 #[test]
 fn coordinates_are_equal_to_themselves_alone(rt: HostRuntime) {
-    for coordinate in COORDINATES {
-        check_equals(&rt, coordinate);
-    }
-}
-
-#[test]
-fn a_solved_cube_has_coordinates_0(rt: HostRuntime) {
-    let cube = Cube::solved();
-    for axis in [Axis::Ud, Axis::Rl, Axis::Fb] {
-        let numbers = [cube.flip(axis), cube.twist(axis), cube.slice(axis)];
-        assert!(rt; numbers == [0, 0, 0]);
-    }
-}
-
-#[test]
-fn a_quarter_turn_flips_edges(rt: HostRuntime) {
-    for (moves, axis) in [("F", Axis::Fb), ("R", Axis::Rl), ("U", Axis::Ud)] {
-        assert!(rt; cube_after(&rt, moves).flip(axis) == 550);
-    }
-}
-
-#[test]
-fn a_quarter_turn_twists_corners(rt: HostRuntime) {
-    for (moves, axis) in [("R", Axis::Ud), ("R", Axis::Fb), ("D", Axis::Rl)] {
-        assert!(rt; cube_after(&rt, moves).twist(axis) == 1494);
-    }
-}
-
-#[test]
-fn a_quarter_turn_takes_edges_out_of_a_slice(rt: HostRuntime) {
-    for (moves, axis) in [("F", Axis::Ud), ("F", Axis::Rl), ("D", Axis::Fb)] {
-        assert!(rt; cube_after(&rt, moves).slice(axis) == 33);
-    }
-}
-
-// These turns bring the edges FR, FL, BL, BR to the places UF, UL, UB, UR.
-#[test]
-fn the_largest_slice_number_is_494(rt: HostRuntime) {
-    let cube = cube_after(&rt, "R U R2 B' L'");
-    assert!(rt; cube.slice(Axis::Ud) == 494);
-}
-
-// The numbers of one cube on each axis, worked out from its stickers' places by a program that turns places and no cubies.
-#[test]
-fn a_turned_cube_has_its_numbers_on_each_axis(rt: HostRuntime) {
-    let cube = cube_after(&rt, "R U' F2 L D B'");
-    for (axis, wanted) in [
-        (Axis::Ud, [1309, 518, 14]),
-        (Axis::Rl, [1221, 1588, 350]),
-        (Axis::Fb, [137, 749, 378]),
+    for pair in &[
+        (Flip, Flip),
+        (Flip, Twist),
+        (Flip, Slice),
+        (Twist, Flip),
+        (Twist, Twist),
+        (Twist, Slice),
+        (Slice, Flip),
+        (Slice, Twist),
+        (Slice, Slice),
     ] {
-        let numbers = [cube.flip(axis), cube.twist(axis), cube.slice(axis)];
-        assert!(rt; numbers == wanted);
+        check_equal(&rt, pair.0, pair.1);
+    }
+}
+
+/// A number of the solved cube after some moves.
+type Row = (&'static str, Axis, Coordinate, u16);
+
+const NUMBERS: &[Row] = &[
+    ("", Axis::Ud, Flip, 0),
+    ("", Axis::Ud, Twist, 0),
+    ("", Axis::Ud, Slice, 0),
+    ("", Axis::Rl, Flip, 0),
+    ("", Axis::Rl, Twist, 0),
+    ("", Axis::Rl, Slice, 0),
+    ("", Axis::Fb, Flip, 0),
+    ("", Axis::Fb, Twist, 0),
+    ("", Axis::Fb, Slice, 0),
+    // a quarter turn flips edges, twists corners, and takes edges out of a slice
+    ("F", Axis::Fb, Flip, 550),
+    ("R", Axis::Rl, Flip, 550),
+    ("U", Axis::Ud, Flip, 550),
+    ("R", Axis::Ud, Twist, 1494),
+    ("R", Axis::Fb, Twist, 1494),
+    ("D", Axis::Rl, Twist, 1494),
+    ("F", Axis::Ud, Slice, 33),
+    ("F", Axis::Rl, Slice, 33),
+    ("D", Axis::Fb, Slice, 33),
+    // the largest: the edges FR, FL, BL, BR come to the places UF, UL, UB, UR
+    ("R U R2 B' L'", Axis::Ud, Slice, 494),
+    // worked out from the places of stickers, by a program that turns places and no cubies
+    ("R U' F2 L D B'", Axis::Ud, Flip, 1309),
+    ("R U' F2 L D B'", Axis::Ud, Twist, 518),
+    ("R U' F2 L D B'", Axis::Ud, Slice, 14),
+    ("R U' F2 L D B'", Axis::Rl, Flip, 1221),
+    ("R U' F2 L D B'", Axis::Rl, Twist, 1588),
+    ("R U' F2 L D B'", Axis::Rl, Slice, 350),
+    ("R U' F2 L D B'", Axis::Fb, Flip, 137),
+    ("R U' F2 L D B'", Axis::Fb, Twist, 749),
+    ("R U' F2 L D B'", Axis::Fb, Slice, 378),
+];
+
+/// The number by the call for this coordinate.
+fn number_of(cube: &Cube, axis: Axis, coordinate: Coordinate) -> u16 {
+    match coordinate {
+        Flip => cube.flip(axis),
+        Twist => cube.twist(axis),
+        Slice => cube.slice(axis),
+    }
+}
+
+fn check_number(rt: &impl Abort, row: &Row) {
+    let (moves, axis, coordinate, wanted) = *row;
+    let cube = cube_after(rt, moves);
+    assert!(rt; number_of(&cube, axis, coordinate) == wanted, "{moves}");
+}
+
+#[test]
+fn cubes_have_their_numbers(rt: HostRuntime) {
+    for row in NUMBERS {
+        check_number(&rt, row);
     }
 }
 
@@ -75,12 +91,9 @@ fn a_turned_cube_has_its_numbers_on_each_axis(rt: HostRuntime) {
 fn check_numbers<A: Allocator>(rt: &impl Abort, tables: &TurnTables<A>) {
     let front = quarter(Face::F);
     let right = quarter(Face::R);
-    let numbers = [
-        tables.next_flip(Axis::Fb, 0, front),
-        tables.next_twist(Axis::Ud, 0, right),
-        tables.next_slice(Axis::Ud, 0, front),
-    ];
-    assert!(rt; numbers == [550, 1494, 33]);
+    assert!(rt; tables.next_flip(Axis::Fb, 0, front) == 550);
+    assert!(rt; tables.next_twist(Axis::Ud, 0, right) == 1494);
+    assert!(rt; tables.next_slice(Axis::Ud, 0, front) == 33);
 }
 
 /// Turns the numbers of the solved cube by tables that were to be built.
@@ -100,11 +113,7 @@ fn tables_turn_the_solved_cube(rt: HostRuntime) {
 
 #[test]
 fn the_table_of_one_coordinate_turns_the_solved_cube(rt: HostRuntime) {
-    match TurnTable::build_in(rt.alloc(), Coordinate::Twist) {
-        Ok(table) => {
-            let right = quarter(Face::R);
-            assert!(rt; table.next(Axis::Ud, 0, right) == 1494);
-        }
-        Err(_) => panic!(rt; "no memory for tables"),
-    }
+    let table = TurnTable::build_in(rt.alloc(), Twist).expect(&rt, "a table");
+    assert!(rt; table.next(Axis::Ud, 0, quarter(Face::R)) == 1494);
+    drop(table);
 }

@@ -1,6 +1,4 @@
 //! Runs whose reads, writes or flushes fail, each in turn.
-ghost use Rattle.std.specs.Prelude.{◌<◌, length};
-
 use crate::devices::{Devices, FAULTLESS};
 use crate::runs::Given::{self, Input, Words};
 use crate::runs::Run::{Failure, Fault, Good};
@@ -135,82 +133,48 @@ impl Writes<'_> {
         written
     }
 
-    /// What all writes bring.
-    fn output(self, rt: &impl Abort, alloc: Global) -> Vec<u8> {
-        self.written(rt, alloc, self.pieces.len())
-    }
-
-    /// Makes the run, and counts its writes.
-    fn check(self, rt: &impl Abort, alloc: Global) {
-        let output = self.output(rt, alloc);
-        let run = Good(self.given, output.as_slice());
-        let calls = run.check(rt, alloc, self.devices());
-        check_count(rt, "writes", calls.writes, self.pieces.len());
-    }
-
-    /// Makes the run where the write after so many others fails.
-    fn check_failed_write(self, rt: &impl Abort, alloc: Global, before: usize)
-        requires a_write { before < length self.pieces.now }
-    {
+    /// Makes the run where the write after so many others fails: after all of them there is none.
+    fn check_write_after(self, rt: &impl Abort, alloc: Global, before: usize) {
         let written = self.written(rt, alloc, before);
+        let all = self.pieces.len();
+        let run = if before < all {
+            Failure(self.given, written.as_slice(), CANNOT_WRITE)
+        } else {
+            Good(self.given, written.as_slice())
+        };
+        let number = before.saturating_add(1);
         let failing = Devices {
-            failed_write: Some(before + 1),
+            failed_write: Some(number),
             ..self.devices()
         };
-        let cut = Failure(self.given, written.as_slice(), CANNOT_WRITE);
-        let calls = cut.check(rt, alloc, failing);
-        check_count(rt, "writes", calls.writes, before + 1);
+        let calls = run.check(rt, alloc, failing);
+        check_count(rt, "writes", calls.writes, number.min(all));
     }
 
-    /// Has each write of a byte of the run fail in turn.
-    fn check_failed_bytes(self, rt: &impl Abort, alloc: Global) {
-        let output = self.output(rt, alloc);
+    /// Makes the run where each write of a byte fails in turn, where no byte is taken, and where the last flush fails.
+    fn check_output(self, rt: &impl Abort, alloc: Global) {
+        let output = self.written(rt, alloc, self.pieces.len());
         let run = Good(self.given, output.as_slice());
         check_each_write(rt, alloc, run, self.devices());
-    }
-
-    /// Makes the run where all is taken, and the flush after it fails.
-    fn check_failed_flush(self, rt: &impl Abort, alloc: Global) {
-        let output = self.output(rt, alloc);
-        let run = Failure(self.given, output.as_slice(), CANNOT_WRITE);
-        run.check(rt, alloc, self.devices().unflushed());
-    }
-}
-
-#[test]
-fn each_solution_is_a_write(rt: HostRuntime) {
-    for row in WRITES {
-        row.check(&rt, rt.alloc());
+        check_nothing_taken(rt, alloc, self.given, self.devices());
+        let unflushed = Failure(self.given, output.as_slice(), CANNOT_WRITE);
+        unflushed.check(rt, alloc, self.devices().unflushed());
     }
 }
 
 #[test]
 fn each_write_fails(rt: HostRuntime) {
     for row in WRITES {
-        for before in 0..row.pieces.len() {
-            row.check_failed_write(&rt, rt.alloc(), before);
+        for before in 0..=row.pieces.len() {
+            row.check_write_after(&rt, rt.alloc(), before);
         }
     }
 }
 
 #[test]
-fn each_write_of_a_byte_fails(rt: HostRuntime) {
+fn each_byte_and_the_last_flush_fail(rt: HostRuntime) {
     for row in WRITES {
-        row.check_failed_bytes(&rt, rt.alloc());
-    }
-}
-
-#[test]
-fn no_bytes_are_taken(rt: HostRuntime) {
-    for row in WRITES {
-        check_nothing_taken(&rt, rt.alloc(), row.given, row.devices());
-    }
-}
-
-#[test]
-fn last_flush_fails(rt: HostRuntime) {
-    for row in WRITES {
-        row.check_failed_flush(&rt, rt.alloc());
+        row.check_output(&rt, rt.alloc());
     }
 }
 

@@ -1,4 +1,4 @@
-//! Devices in memory, which fail where a test says, and a source that never ends.
+//! Devices in memory, which fail where a test says.
 ghost use Rattle.std.specs.Prelude.{◌≡◌, ◌≤◌, ◌++◌, Bool, true, false, Option, Some, None, ◌||◌, IfOk, is_err, length};
 ghost use Rattle.niss_shell.specs.Device.{SourceState, TargetState, found_end, has_fault, moved_bytes};
 
@@ -158,29 +158,6 @@ impl io::Read for Bytes<'_> {
     }
 }
 
-/// A source that gives `R` for ever.
-#[derive(Drop)]
-pub struct Endless;
-
-impl Source for Endless {
-    ghost state = { λ s. record { left = Option.None; has_failed = false; has_ended = false } };
-
-    fn read(&mut self, buf: &mut [u8]) -> Result<usize, DeviceFault> {
-        for byte in buf.iter_mut() {
-            *byte = b'R';
-        }
-        Ok(buf.len())
-    }
-
-    fn failed(&self) -> bool {
-        false
-    }
-
-    fn ended(&self) -> bool {
-        false
-    }
-}
-
 /// A target in memory. After a write that failed it takes what later ones bring.
 #[derive(Drop)]
 pub struct Held {
@@ -201,6 +178,7 @@ pub struct Held {
 impl Target for Held {
     ghost state = { λ t. record {
       held = Some t.bytes.items;
+      room = None;
       write_failed = t.write_failed;
       flush_failed = t.flush_failed;
       flush_tried = t.flush_tried;

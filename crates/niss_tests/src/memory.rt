@@ -51,6 +51,18 @@ fn a_refused_growth_ends_the_run(rt: HostRuntime) -> Result<(), Fail> {
     Ok(())
 }
 
+#[test]
+fn scrambles_read_nothing_and_take_no_memory(rt: HostRuntime) -> Result<(), Fail> {
+    let words = ["scramble", "42", "54", "3", "1"];
+    check_heap(
+        &rt,
+        rt.alloc(),
+        16,
+        Good(Input(&words, b"R"), b"L' D' F'\n"),
+    )?;
+    Ok(())
+}
+
 /// Whether a heap has no room for the tables.
 fn refuses_tables(heap: &LocalHeap) -> bool {
     TurnTables::build_in(heap).err() == Some(OutOfMemory)
@@ -79,9 +91,9 @@ fn check_refused(rt: &impl Abort, alloc: Global, size: usize) -> Result<(), Allo
 #[test]
 fn a_table_without_room_is_refused(rt: HostRuntime) -> Result<(), Fail> {
     // the three growths ask for 73728, 78732 and 17820 bytes, and each takes a multiple of 16
-    for size in [73_712, 152_448, 170_272] {
-        check_refused(&rt, rt.alloc(), size)?;
-    }
+    check_refused(&rt, rt.alloc(), 73_712)?;
+    check_refused(&rt, rt.alloc(), 152_448)?;
+    check_refused(&rt, rt.alloc(), 170_272)?;
     Ok(())
 }
 
@@ -118,11 +130,10 @@ fn check_search(
     };
     let mut sink = HeapWatch::new(heap);
     let (answer, _looks) = search.run(rt, tables, &mut sink);
-    assert!(rt;
-        matches!(answer, Ok(found) if found.solutions > 0),
-        "{moves}"
-    );
-    assert!(rt; sink.is_same, "{moves}");
+    let Ok(found) = answer else {
+        panic!(rt; "{moves} is refused")
+    };
+    assert!(rt; found.solutions > 0 && sink.is_same, "{moves}");
 }
 
 /// Builds the tables of a step in a heap of this size, and searches.
@@ -140,16 +151,19 @@ fn check_in_heap(
     Ok(())
 }
 
-/// A search keeps nothing in the memory of its tables, of whatever kind these are, and they take no more than is said.
+/// Each kind of tables, moves before a search, and the bytes that the tables take.
+const KINDS: &[(Step, &str, usize)] = &[
+    (Step::Eofb, "F", FLIPS + EDGES),
+    (Step::Eo, "F R U", FLIPS + 3 * EDGES),
+    (Step::DrudEofb, "R", TWISTS_AND_SLICES + DOMINO),
+    (Step::DrEofb, "R U", TWISTS_AND_SLICES + 2 * DOMINO),
+];
+
+/// A search keeps nothing in the memory of its tables, and they take no more than is said.
 #[test]
 fn searches_hold_no_memory(rt: HostRuntime) -> Result<(), Fail> {
-    for (step, moves, size) in [
-        (Step::Eofb, "F", FLIPS + EDGES),
-        (Step::Eo, "F R U", FLIPS + 3 * EDGES),
-        (Step::DrudEofb, "R", TWISTS_AND_SLICES + DOMINO),
-        (Step::DrEofb, "R U", TWISTS_AND_SLICES + 2 * DOMINO),
-    ] {
-        check_in_heap(&rt, rt.alloc(), step, moves, size)?;
+    for kind in KINDS {
+        check_in_heap(&rt, rt.alloc(), kind.0, kind.1, kind.2)?;
     }
     Ok(())
 }

@@ -1,10 +1,9 @@
 //! Each growth refused in turn: in rooms that grow until one has room for all. Rooms differ by less than the smallest
 //! growth, so each growth is refused in one of them, whatever sizes the growths have.
 use crate::devices::{Devices, FAULTLESS};
-use crate::near::SHORTEST;
 use crate::runs::Given::Input;
 use crate::runs::Run::{self, Fault, Good};
-use crate::runs::{OUT_OF_MEMORY, Outcome, STEPS, run_over, words_of};
+use crate::runs::{OUT_OF_MEMORY, Outcome, SHORTEST, STEPS, run_over, words_of};
 use linked_list_allocator::LocalHeap;
 use niss_cube::{Cube, OutOfMemory, Step};
 use niss_search::{Meter, Tables};
@@ -89,30 +88,21 @@ fn check_tables<A: Allocator>(rt: &impl Abort, tables: &Tables<A>, step: Step) {
     assert!(rt; tables.look(&position, &mut Meter::new()) == 0);
 }
 
-/// Checks tables that were to be built, and answers whether there are any.
-fn check_built<A: Allocator>(
-    rt: &impl Abort,
-    built: &Result<Tables<A>, OutOfMemory>,
-    step: Step,
-) -> bool {
-    match built {
-        Ok(tables) => {
-            check_tables(rt, tables, step);
-            true
-        }
-        Err(OutOfMemory) => false,
-    }
-}
-
 /// Builds the tables of a step in the room that a heap has, and answers whether that was enough. Where it wasn't, the meter
 /// hasn't risen.
 fn tables_fit(rt: &impl Abort, heap: &LocalHeap, step: Step) -> bool {
     let mut fill = Meter::new();
-    let built = Tables::build_in(heap, step, &mut fill);
-    let fit = check_built(rt, &built, step);
-    drop(built);
-    assert!(rt; fit || fill.count() == 0);
-    fit
+    match Tables::build_in(heap, step, &mut fill) {
+        Ok(tables) => {
+            check_tables(rt, &tables, step);
+            drop(tables);
+            true
+        }
+        Err(OutOfMemory) => {
+            assert!(rt; fill.count() == 0);
+            false
+        }
+    }
 }
 
 /// What takes memory.

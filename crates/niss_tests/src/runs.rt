@@ -1,6 +1,6 @@
 //! Runs of the engine over devices in memory, and the check of what they write and answer.
 
-use crate::devices::{Bytes, Devices, FAULTLESS, Held};
+use crate::devices::{Bytes, Devices, Held};
 use niss_shell::{FromReader, Meter, ToWriter, run, run_in};
 use std::alloc::{AllocError, Global};
 use std::process::Abort;
@@ -14,6 +14,9 @@ pub const STEPS: &[u8] =
 
 /// What is written of an input above the limit.
 pub const TOO_LONG: &[u8] = b"nissy: input longer than 16777216 bytes\n";
+
+/// The two shortest edge orientations of the cube after F.
+pub const SHORTEST: &[u8] = b"F (1)\nF' (1)\n\n";
 
 pub const CANNOT_READ: &[u8] = b"nissy: cannot read\n";
 
@@ -239,41 +242,4 @@ pub fn check_nothing_taken(rt: &impl Abort, alloc: Global, given: Given<'_>, dev
     };
     let calls = Run::Failure(given, b"", CANNOT_WRITE).check(rt, alloc, full);
     check_count(rt, "writes", calls.writes, 1);
-}
-
-/// Few bytes in each call: so lines and moves are cut at every third byte.
-pub const FEW: Devices<'static> = Devices {
-    most_read: 3,
-    most_written: 5,
-    most_reported: 1,
-    ..FAULTLESS
-};
-
-/// Checks each of these runs.
-pub fn check_runs(rt: &impl Abort, alloc: Global, runs: &[Run<'_>]) {
-    for run in runs {
-        run.check(rt, alloc, FEW);
-    }
-}
-
-/// Checks this run, and how many positions it looks at.
-pub fn check_looks(rt: &impl Abort, alloc: Global, run: Run<'_>, looks: u128) {
-    assert_eq!(rt; run.check(rt, alloc, FEW).looks, looks);
-}
-
-/// Checks what a command answers to each of these lines, given as a word.
-pub fn check_answers(rt: &impl Abort, alloc: Global, command: &str, answers: &[(&str, &str)]) {
-    for (line, answer) in answers {
-        check_answer(rt, alloc, command, line, answer);
-    }
-}
-
-fn check_answer<'a>(
-    rt: &impl Abort,
-    alloc: Global,
-    command: &'a str,
-    line: &'a str,
-    answer: &'a str,
-) {
-    Run::Good(Given::Words(&[command, line]), answer.as_bytes()).check(rt, alloc, FEW);
 }

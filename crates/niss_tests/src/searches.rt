@@ -56,19 +56,13 @@ impl Search {
     }
 }
 
-/// What a search answered, and the looks at positions.
-#[derive(Clone, Copy, PartialEq)]
-struct Searched {
-    answer: Result<Outcome, Refused>,
-    looks: u128,
-}
-
-/// A search, the paths that its sink takes before it refuses one, and what comes of it.
+/// A search, the paths that its sink takes before it refuses one, the answer, and the looks at positions.
 #[derive(Clone, Copy)]
 struct Row {
     search: Search,
     paths: &'static [&'static str],
-    searched: Searched,
+    answer: Result<Outcome, Refused>,
+    looks: u128,
 }
 
 impl Row {
@@ -76,139 +70,25 @@ impl Row {
         let mut sink = Comparison::new(self.paths);
         let (answer, looks) = self.search.run(rt, tables, &mut sink);
         assert!(rt; sink.took_all(), "{}", self.search.moves);
-        let searched = Searched { answer, looks };
-        assert!(rt; searched == self.searched, "{}", self.search.moves);
+        assert!(rt; answer == self.answer, "{}", self.search.moves);
+        assert!(rt; looks == self.looks, "{}", self.search.moves);
     }
 }
 
-/// Makes these searches with the tables of a step.
-fn check_rows(rt: &impl Abort, alloc: Global, step: Step, rows: &[Row]) {
-    let tables = tables_of(rt, alloc, step, &mut Meter::new());
-    for row in rows {
-        row.check(rt, &tables);
-    }
-    drop(tables);
-}
-
-/// A search whose paths are all taken, with the length of the shortest.
-const fn found(
-    moves: &'static str,
-    limit: u8,
-    paths: &'static [&'static str],
-    length: Option<u8>,
-    looks: u128,
-) -> Row {
-    Row {
-        search: Search {
-            moves,
-            limit,
-            slack: 0,
-        },
-        paths,
-        searched: Searched {
-            answer: Ok(Outcome {
-                length,
-                solutions: paths.len() as u128,
-            }),
-            looks,
-        },
-    }
-}
-
-/// A search that finds nothing.
-const fn nothing(moves: &'static str, limit: u8, looks: u128) -> Row {
-    found(moves, limit, &[], None, looks)
-}
-
-/// A search that a refusal ends.
-const fn refused(search: Search, paths: &'static [&'static str], looks: u128) -> Row {
-    Row {
-        search,
-        paths,
-        searched: Searched {
-            answer: Err(Refused),
-            looks,
-        },
-    }
-}
-
-#[test]
-fn shortest_edge_orientations_are_found(rt: HostRuntime) {
-    check_rows(
-        &rt,
-        rt.alloc(),
-        Step::Eofb,
-        &[
-            found("F", 7, &["F", "F'"], Some(1), 20),
-            found("F B", 5, &["F B", "F B'", "F' B", "F' B'"], Some(2), 75),
-            found("", 20, &[""], Some(0), 1),
-            nothing("F B", 1, 2),
-            nothing("F", 0, 1),
-            // four turns are needed: one look in each deepening
-            nothing("F R U B", 2, 3),
-            nothing("F R U B", 3, 4),
-        ],
-    );
-    // tables on another axis than their own
-    check_rows(
-        &rt,
-        rt.alloc(),
-        Step::Eorl,
-        &[found("R", 7, &["R", "R'"], Some(1), 20)],
-    );
-}
-
-#[test]
-fn shortest_domino_reductions_are_found(rt: HostRuntime) {
-    check_rows(
-        &rt,
-        rt.alloc(),
-        Step::DrudEofb,
-        &[
-            found("R U", 5, &["U' R", "U' R'"], Some(2), 28),
-            found("R", 5, &["R", "R'"], Some(1), 16),
-            // four turns are needed: one look in each deepening
-            nothing("R U L D", 3, 4),
-        ],
-    );
-    check_rows(
-        &rt,
-        rt.alloc(),
-        Step::DrrlEofb,
-        &[found("R", 5, &[""], Some(0), 1)],
-    );
-    // tables on another axis than their own
-    check_rows(
-        &rt,
-        rt.alloc(),
-        Step::DrfbEorl,
-        &[found("U", 3, &["U", "U'"], Some(1), 16)],
-    );
-}
-
-/// Looks at the solved cube after some moves, with a meter that counted less than 3.
-fn look_after(rt: &impl Abort, tables: &Tables, moves: &str, meter: &mut Meter) -> u8 {
+/// Checks the distance of the solved cube after some moves, by one look.
+fn check_distance(rt: &impl Abort, tables: &Tables, moves: &str, distance: u8) {
     let position = position_after(rt, tables, moves);
-    assert!(rt; meter.count() < 3);
-    tables.look(&position, meter)
-}
-
-/// Checks the distances of the solved cube after some moves, each by one look.
-fn check_distances(rt: &impl Abort, tables: &Tables) {
     let mut meter = Meter::new();
-    for (moves, distance) in [("", 0u8), ("R", 1), ("R U", 2)] {
-        assert!(rt;
-            look_after(rt, tables, moves, &mut meter) == distance,
-            "{moves}"
-        );
-    }
-    assert!(rt; meter.count() == 3);
+    assert!(rt; tables.look(&position, &mut meter) == distance, "{moves}");
+    assert!(rt; meter.count() == 1, "{moves}");
 }
 
 #[test]
 fn looks_give_distances(rt: HostRuntime) {
     let tables = tables_of(&rt, rt.alloc(), Step::DrudEofb, &mut Meter::new());
-    check_distances(&rt, &tables);
+    check_distance(&rt, &tables, "", 0);
+    check_distance(&rt, &tables, "R", 1);
+    check_distance(&rt, &tables, "R U", 2);
     drop(tables);
 }
 
@@ -220,19 +100,21 @@ fn check_fill(rt: &impl Abort, alloc: Global, step: Step, ticks: u128) {
 }
 
 /// A table for each alternative is filled, each with 18 turns from each of 2,048 entries, or 14 from each of 1,082,565.
+const FILLS: &[(Step, u128)] = &[
+    (Step::Eofb, 36_864),
+    (Step::Eorl, 36_864),
+    (Step::Eoud, 36_864),
+    (Step::DrudEofb, 15_155_910),
+    (Step::Eo, 110_592),
+    (Step::DrEofb, 30_311_820),
+    (Step::DrEorl, 30_311_820),
+    (Step::DrEoud, 30_311_820),
+];
+
 #[test]
 fn a_fill_counts_each_turn_it_tries(rt: HostRuntime) {
-    for (step, ticks) in [
-        (Step::Eofb, 36_864u128),
-        (Step::Eorl, 36_864),
-        (Step::Eoud, 36_864),
-        (Step::DrudEofb, 15_155_910),
-        (Step::Eo, 110_592),
-        (Step::DrEofb, 30_311_820),
-        (Step::DrEorl, 30_311_820),
-        (Step::DrEoud, 30_311_820),
-    ] {
-        check_fill(&rt, rt.alloc(), step, ticks);
+    for fill in FILLS {
+        check_fill(&rt, rt.alloc(), fill.0, fill.1);
     }
 }
 
@@ -240,10 +122,10 @@ fn a_fill_counts_each_turn_it_tries(rt: HostRuntime) {
 #[test]
 fn tables_are_built_with_a_meter_above_0(rt: HostRuntime) {
     let mut meter = Meter::new();
-    for ticks in [36_864u128, 73_728, 110_592] {
+    for ticks in &[36_864u128, 73_728, 110_592] {
         assert!(rt; meter.count() < 110_592);
         drop(tables_of(&rt, rt.alloc(), Step::Eofb, &mut meter));
-        assert!(rt; meter.count() == ticks);
+        assert!(rt; meter.count() == *ticks);
     }
 }
 
@@ -254,23 +136,6 @@ const TWO_TURNS: Search = Search {
     slack: 0,
 };
 
-/// A refusal ends the search at once. The looks before it: one in each of the deepenings to 0 and 1; then the one at the root
-/// and 13 to F, 13 more to F B and 2 to F B'; 2 to F', 13 to F' B and 2 to F' B'. Without a refusal 27 follow below B and B'.
-#[test]
-fn each_path_is_refused(rt: HostRuntime) {
-    check_rows(
-        &rt,
-        rt.alloc(),
-        Step::Eofb,
-        &[
-            refused(TWO_TURNS, &[], 29),
-            refused(TWO_TURNS, &["F B"], 31),
-            refused(TWO_TURNS, &["F B", "F B'"], 46),
-            refused(TWO_TURNS, &["F B", "F B'", "F' B"], 48),
-        ],
-    );
-}
-
 /// Up to a turn longer than the least.
 const A_TURN_MORE: Search = Search {
     moves: "F",
@@ -278,9 +143,56 @@ const A_TURN_MORE: Search = Search {
     slack: 1,
 };
 
-/// 20 looks in the two deepenings before it; in the third the one at the root, 13 to F, and the one to F U.
+/// Four turns are needed.
+const TOO_FEW_TURNS: Search = Search {
+    moves: "F R U B",
+    limit: 3,
+    slack: 0,
+};
+
+/// A refusal ends the search at once. The looks of `TWO_TURNS` before it: one in each of the deepenings to 0 and 1; then the
+/// one at the root and 13 to F, 13 more to F B and 2 to F B'; 2 to F', 13 to F' B and 2 to F' B'. Without a refusal 27 follow
+/// below B and B'. Those of `A_TURN_MORE`: 20 in the two deepenings before it; in the third the one at the root, 13 to F, and
+/// the one to F U.
 #[test]
-fn a_longer_path_is_refused(rt: HostRuntime) {
-    let row = refused(A_TURN_MORE, &["F", "F'"], 35);
-    check_rows(&rt, rt.alloc(), Step::Eofb, &[row]);
+fn paths_are_taken_or_refused(rt: HostRuntime) {
+    let tables = tables_of(&rt, rt.alloc(), Step::Eofb, &mut Meter::new());
+    for row in &[
+        refused(TWO_TURNS, &[], 29),
+        refused(TWO_TURNS, &["F B"], 31),
+        refused(TWO_TURNS, &["F B", "F B'"], 46),
+        refused(TWO_TURNS, &["F B", "F B'", "F' B"], 48),
+        found(TWO_TURNS, &["F B", "F B'", "F' B", "F' B'"], Some(2), 75),
+        refused(A_TURN_MORE, &["F", "F'"], 35),
+        found(TOO_FEW_TURNS, &[], None, 4),
+    ] {
+        row.check(&rt, &tables);
+    }
+    drop(tables);
+}
+
+/// A search whose paths are all taken, with the length of the shortest.
+const fn found(
+    search: Search,
+    paths: &'static [&'static str],
+    length: Option<u8>,
+    looks: u128,
+) -> Row {
+    let solutions = paths.len() as u128;
+    Row {
+        search,
+        paths,
+        answer: Ok(Outcome { length, solutions }),
+        looks,
+    }
+}
+
+/// A search that a refusal ends.
+const fn refused(search: Search, paths: &'static [&'static str], looks: u128) -> Row {
+    Row {
+        search,
+        paths,
+        answer: Err(Refused),
+        looks,
+    }
 }

@@ -14,7 +14,7 @@ use std::io::Cursor;
 use std::process::Abort;
 
 /// Kinds of error that a stream may answer with: none of them is tried again.
-const KINDS: [io::ErrorKind; 5] = [
+const KINDS: &[io::ErrorKind] = &[
     io::ErrorKind::Interrupted,
     io::ErrorKind::WouldBlock,
     io::ErrorKind::BrokenPipe,
@@ -51,14 +51,6 @@ fn a_cursor_and_lists_are_streams(rt: HostRuntime) {
     check_count(&rt, "status", usize::from(status), 0);
     check_bytes(&rt, output.as_slice(), b"U' R'\n");
     check_bytes(&rt, error.as_slice(), b"");
-}
-
-#[test]
-fn each_read_fails_once(rt: HostRuntime) {
-    let outputs: &[&[u8]; 3] = &[b"", b"R'\n", b"R'\nU'\n"];
-    for kind in KINDS {
-        check_each_read(&rt, rt.alloc(), &["invert"], outputs, streams(kind));
-    }
 }
 
 /// A read that gives few bytes is followed by one more, up to the one that gives none.
@@ -106,31 +98,10 @@ fn check_failed_blocks(rt: &impl Abort, alloc: Global, kind: io::ErrorKind) {
     }
 }
 
-#[test]
-fn each_read_of_a_block_fails_once(rt: HostRuntime) {
-    for kind in KINDS {
-        check_failed_blocks(&rt, rt.alloc(), kind);
-    }
-}
-
 const INVERT: Run<'static> = Good(Words(&["invert", "R U' F2"]), b"F2 U R'\n");
 
-/// No write follows one that failed.
-#[test]
-fn each_write_fails_once(rt: HostRuntime) {
-    for kind in KINDS {
-        check_each_write(&rt, rt.alloc(), INVERT, streams(kind));
-    }
-}
-
-#[test]
-fn no_bytes_are_taken_by_a_stream(rt: HostRuntime) {
-    let words = Words(&["invert", "R U' F2"]);
-    check_nothing_taken(&rt, rt.alloc(), words, good_streams());
-}
-
 /// Runs with one flush, after the last write: a good one, one that a line's fault ends, and one that writes nothing.
-const FLUSHED: [Run<'static>; 3] = [
+const FLUSHED: &[Run] = &[
     Good(Input(&["invert"], b"R\nU\nF2\n"), b"R'\nU'\nF2\n"),
     Fault(
         Input(&["invert"], b"R\nU\nR '\n"),
@@ -140,8 +111,11 @@ const FLUSHED: [Run<'static>; 3] = [
     Usage(&[""]),
 ];
 
+/// The flush comes last, and a stream that takes no byte is written to once.
 #[test]
-fn the_flush_comes_last(rt: HostRuntime) {
+fn good_streams_are_written_and_flushed(rt: HostRuntime) {
+    let words = Words(&["invert", "R U' F2"]);
+    check_nothing_taken(&rt, rt.alloc(), words, good_streams());
     for run in FLUSHED {
         run.check(&rt, rt.alloc(), good_streams());
     }
@@ -170,10 +144,18 @@ fn long_pieces_are_taken_whole(rt: HostRuntime) {
     check_long_piece(&rt, rt.alloc(), None);
 }
 
-/// A flush that fails with any kind of error is reported and not tried again.
+/// A read, a write or a flush that fails with this kind of error is reported and not tried again.
+fn check_kind(rt: &impl Abort, alloc: Global, kind: io::ErrorKind) {
+    let outputs: &[&[u8]; 3] = &[b"", b"R'\n", b"R'\nU'\n"];
+    check_each_read(rt, alloc, &["invert"], outputs, streams(kind));
+    check_failed_blocks(rt, alloc, kind);
+    check_each_write(rt, alloc, INVERT, streams(kind));
+    check_long_piece(rt, alloc, Some(kind));
+}
+
 #[test]
-fn each_flush_fails_once(rt: HostRuntime) {
+fn each_call_of_a_stream_fails_once(rt: HostRuntime) {
     for kind in KINDS {
-        check_long_piece(&rt, rt.alloc(), Some(kind));
+        check_kind(&rt, rt.alloc(), *kind);
     }
 }

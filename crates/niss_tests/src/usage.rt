@@ -1,6 +1,5 @@
-//! Wrong words: each has its fault, in the order in which faults are looked for, and is refused by a run.
-use crate::runs::Run::Usage;
-use crate::runs::{FEW, words_of};
+//! Wrong words: each has its fault, in the order in which faults are looked for.
+use crate::runs::words_of;
 use niss_shell::UsageFault::{self, BadNumber, NoCommand, UnknownCommand, UnknownStep, WrongCount};
 use niss_shell::parse_words;
 use std::alloc::Global;
@@ -8,38 +7,13 @@ use std::process::Abort;
 
 type Row = (&'static [&'static str], UsageFault);
 
-/// Checks that the words of a row have its fault, and that a run refuses them.
-fn check_fault(rt: &impl Abort, alloc: Global, index: usize, row: &Row) {
-    let (texts, fault) = *row;
-    let words = words_of(alloc, texts).expect(rt, "memory for words");
-    let Err(found) = parse_words(&words) else {
-        panic!(rt; "row {index} has no fault")
-    };
-    assert!(rt; found == fault, "row {index}");
-    Usage(texts).check(rt, alloc, FEW);
-}
-
-fn check_faults(rt: &impl Abort, alloc: Global, rows: &[Row]) {
-    for (index, row) in rows.iter().enumerate() {
-        check_fault(rt, alloc, index, row);
-    }
-}
-
-const COMMANDS: &[Row] = &[
+const ROWS: &[Row] = &[
     (&[], NoCommand),
     (&[""], UnknownCommand),
     (&["turn", "R"], UnknownCommand),
     (&["Invert", "R"], UnknownCommand),
     (&["steps", ""], WrongCount),
     (&["steps", "eofb"], WrongCount),
-];
-
-#[test]
-fn wrong_commands_are_refused(rt: HostRuntime) {
-    check_faults(&rt, rt.alloc(), COMMANDS);
-}
-
-const SEARCHES: &[Row] = &[
     (&["solve"], WrongCount),
     (&["solve", "htr"], WrongCount),
     (&["solve", "eofb"], WrongCount),
@@ -57,14 +31,6 @@ const SEARCHES: &[Row] = &[
     (&["solve", "eofb", "", "F"], BadNumber),
     (&["solve", "eofb", "3 ", "F"], BadNumber),
     (&["count", "eofb", "18446744073709551617", "F"], BadNumber),
-];
-
-#[test]
-fn wrong_words_of_searches_are_refused(rt: HostRuntime) {
-    check_faults(&rt, rt.alloc(), SEARCHES);
-}
-
-const NEAR: &[Row] = &[
     (&["near"], WrongCount),
     (&["near", "eofb"], WrongCount),
     (&["near", "htr", "x"], WrongCount),
@@ -81,14 +47,6 @@ const NEAR: &[Row] = &[
     (&["near", "eofb", "", "5", "F"], BadNumber),
     (&["near", "eofb", "5", "", "F"], BadNumber),
     (&["near", "eofb", "x", "y"], BadNumber),
-];
-
-#[test]
-fn wrong_words_of_near_are_refused(rt: HostRuntime) {
-    check_faults(&rt, rt.alloc(), NEAR);
-}
-
-const SCRAMBLE: &[Row] = &[
     (&["scramble"], WrongCount),
     (&["scramble", "1", "2", "3"], WrongCount),
     (&["scramble", "1 2", "3", "4"], WrongCount),
@@ -113,7 +71,18 @@ const SCRAMBLE: &[Row] = &[
     (&["scramble", "1", "2", "3", "\u{664}"], BadNumber),
 ];
 
+fn check_fault(rt: &impl Abort, alloc: Global, index: usize, row: &Row) {
+    let (texts, fault) = *row;
+    let words = words_of(alloc, texts).expect(rt, "memory for words");
+    let Err(found) = parse_words(&words) else {
+        panic!(rt; "row {index} has no fault")
+    };
+    assert!(rt; found == fault, "row {index}");
+}
+
 #[test]
-fn wrong_words_of_scramble_are_refused(rt: HostRuntime) {
-    check_faults(&rt, rt.alloc(), SCRAMBLE);
+fn wrong_words_have_their_faults(rt: HostRuntime) {
+    for (index, row) in ROWS.iter().enumerate() {
+        check_fault(&rt, rt.alloc(), index, row);
+    }
 }
