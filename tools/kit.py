@@ -1,0 +1,68 @@
+"""What the Python tools of this folder share: the crates of the repository, and how the kit's checker is called on one of them."""
+
+import os
+import subprocess
+from functools import lru_cache
+
+TOP = os.path.dirname(os.path.dirname(os.path.abspath(__file__)))
+# what a check reads of a crate
+PARTS = ("src", "specs", "proofs")
+
+
+@lru_cache(None)
+def crates() -> dict[str, list[str]]:
+    """Returns the crates that crates.txt lists, each with the libraries that it names. A kind may stand after a name, as `staticlib`."""
+    with open(f"{TOP}/crates.txt", encoding="utf-8") as lines:
+        listed = [line.partition(":") for line in lines if line.strip()]
+    return {name.split()[0]: uses.split() for name, _, uses in listed}
+
+
+@lru_cache(None)
+def below(crate: str) -> list[str]:
+    """Returns the repository's crates that a crate stands on, the lowest first."""
+    return [name for name in crates() if any(name == use or name in below(use) for use in crates()[crate] if use in crates())]
+
+
+@lru_cache(None)
+def kit() -> str:
+    """Returns the folder of the kit, in which the page that `rt doc` names stands."""
+    said = subprocess.run(["rt", "doc"], capture_output=True, text=True, check=True)
+    return os.path.dirname(said.stdout.strip())
+
+
+def built(crate: str) -> str:
+    """Returns where a library is built."""
+    return f"{TOP}/crates/{crate}/out/rlib/{crate}.rlib"
+
+
+def is_fresh(crate: str) -> bool:
+    """Whether a library was built after the last change of its sources and of those below. Where `rt lib` built it, that one knows better."""
+    if not os.path.isdir(built(crate)) or os.path.isfile(f"{os.path.dirname(built(crate))}/stamp"):
+        return False
+    made = os.stat(built(crate)).st_mtime
+    folders = [f"{TOP}/crates/{it}/{part}" for it in (crate, *below(crate)) for part in PARTS]
+    files = [f"{at}/{name}" for folder in folders for at, _, names in os.walk(folder) for name in names]
+    return all(os.stat(file).st_mtime <= made for file in files)
+
+
+def build(crate: str) -> None:
+    """Proves and builds a library where what an earlier run left is not of these sources."""
+    if not is_fresh(crate):
+        subprocess.run(["rt", "lib"], cwd=f"{TOP}/crates/{crate}", stdout=subprocess.DEVNULL, check=True)
+
+
+def check_words(crate: str, kept: str, functions: list[str]) -> list[str]:
+    """Returns the words that check functions of a crate, to be run in a folder with its sources, over the work kept in another folder."""
+    mine = below(crate)
+    of_kit = ["std", *[use for use in crates()[crate] if use not in crates()]]
+    root = "src/main.rt" if os.path.isfile(f"{TOP}/crates/{crate}/src/main.rt") else "src/lib.rt"
+    words = [f"{kit()}/bin/rattle", "check", "--crate-name", crate, root]
+    for name in of_kit:
+        words += ["--extern", f"{name}={kit()}/rlibs/{name}.rlib"]
+    words += ["-L", f"dependency={kit()}/rlibs"]
+    for name in mine:
+        words += ["--extern", f"{name}={built(name)}"] if name in crates()[crate] else []
+        words += ["-L", f"dependency={os.path.dirname(built(name))}"]
+    words += ["--antt-project", f"{kit()}/rattle/logic/antt-project.json", "--logic-built", f"{kit()}/logic_built"]
+    words += ["--jobs", "1", "--links", f"{crate}=", "--incremental", kept, "--allow-holes"]
+    return words + [word for function in functions for word in ("--only", function)]
