@@ -1,0 +1,76 @@
+//! What a call on one line answers, and how its text comes into the caller's buffer.
+ghost use Rattle.std.specs.Prelude.{◌≡◌, length};
+ghost use Rattle.niss_moves.specs.FaultText.{fault_column};
+ghost use Rattle.niss_c.specs.LineCalls.{Does, Unread, TooLong, answer_for, fault_number, outcome_of_text};
+
+use niss_moves::ReadFault;
+
+/// What a call on one line answers: a status, and with it the fault of the line or the length of its text.
+#[repr(C)]
+#[derive(Clone, Copy)]
+pub struct LineAnswer {
+    /// 0: the text was written. 1: the line has a fault. 3: it has more than 16,777,216 bytes. 4: the buffer is too small.
+    pub status: u16,
+    /// What is wrong with the line, 1 to 5 in the order of `ReadFault`; 0 where nothing is.
+    pub fault: u16,
+    /// The column of the fault in bytes, from 1; 0 where there is none.
+    pub column: u32,
+    /// The bytes of the text, written or not; 0 where there is none.
+    pub length: usize,
+}
+
+/// The number of a fault.
+fn number_of(fault: ReadFault) -> u16
+    ensures { result ≡ fault_number fault }
+{
+    match fault {
+        ReadFault::NotAMove { .. } => 1,
+        ReadFault::Nested { .. } => 2,
+        ReadFault::Unopened { .. } => 3,
+        ReadFault::Unclosed { .. } => 4,
+        ReadFault::TooLong { .. } => 5,
+    }
+}
+
+impl LineAnswer {
+    /// The answer to a line with this fault.
+    pub fn unread(fault: ReadFault) -> LineAnswer
+        ensures { result ≡ answer_for (Unread fault) }
+    {
+        LineAnswer {
+            status: 1,
+            fault: number_of(fault),
+            column: fault.column(),
+            length: 0,
+        }
+    }
+
+    /// The answer to a line of too many bytes.
+    pub fn too_long() -> LineAnswer
+        ensures { result ≡ answer_for TooLong }
+    {
+        LineAnswer {
+            status: 3,
+            fault: 0,
+            column: 0,
+            length: 0,
+        }
+    }
+
+    /// Writes the text to the front of the buffer where it fits, and answers that it did or didn't.
+    pub fn put(text: &[u8], out: &mut [u8]) -> LineAnswer
+        ensures { Does (outcome_of_text (length out.old) text.now) out.old out.new result }
+    {
+        let length = text.len();
+        let fits = length <= out.len();
+        if fits {
+            out[..length].copy_from_slice(text);
+        }
+        LineAnswer {
+            status: if fits { 0 } else { 4 },
+            fault: 0,
+            column: 0,
+            length,
+        }
+    }
+}

@@ -1,0 +1,80 @@
+//! The call.
+ghost use Rattle.std.specs.Prelude.{map, string_bytes, [], Err};
+ghost use Rattle.niss_shell.specs.Output.{unsearched};
+ghost use Rattle.niss_embed.specs.Names.{OutOfMemory};
+ghost use Rattle.niss_embed.specs.Memory.{memory};
+ghost use Rattle.niss_embed.specs.Run.{Answers, RunsBytes, RunsWords};
+
+use crate::answer::Answer;
+use crate::source::MemorySource;
+use crate::target::{MemoryTarget, put};
+use crate::words::words_in;
+use niss_shell::{Meter, more_input_keeps_answers, run_in};
+use std::alloc::Allocator;
+
+/// Runs the command of these words.
+fn run_words<A: Allocator + Copy>(
+    alloc: A,
+    words: &[String<A>],
+    input: &[u8],
+    out: &mut [u8],
+    err: &mut [u8],
+) -> Answer
+    ensures runs { RunsWords (map string_bytes words.now) input.now (memory out.old out.new)
+        (memory err.old err.new) result }
+{
+    // what is written of the input that is read is a beginning of what the whole is answered with
+    more_input_keeps_answers();
+    let mut source = MemorySource::new(input);
+    let mut out = MemoryTarget::new(out);
+    let mut err = MemoryTarget::new(err);
+    let status = run_in(alloc, words, &mut source, &mut out, &mut err, &mut Meter::new());
+    Answer {
+        status,
+        out_length: out.written,
+        err_length: err.written,
+        out_too_small: out.refused,
+        err_too_small: err.refused,
+    }
+}
+
+/// What memory refused for the words is answered with, as for the tables of a step.
+fn refuse_memory(out: &mut [u8], err: &mut [u8]) -> Answer
+    ensures answers { Answers (unsearched [] (Err OutOfMemory)) (memory out.old out.new)
+        (memory err.old err.new) result }
+{
+    let text = b"nissy: out of memory\n";
+    let err_length = put(err, 0, text);
+    Answer {
+        status: 3,
+        out_length: 0,
+        err_length,
+        out_too_small: false,
+        err_too_small: err_length < text.len(),
+    }
+}
+
+/// Runs the command of these words on the input, and writes the output into `out` and the error text into `err`.
+///
+/// The words are those after the program's name, each ended by a zero byte; what stands after the last zero byte is a word
+/// where it has a byte. Words of which one isn't UTF-8 are no command, as they aren't for `nissy`. The words and the tables
+/// of a step take memory of `alloc`; all else is on the stack, and nothing is kept after the call.
+///
+/// An output that is longer than `out` ends the run as `nissy` ends where it can't write, with the status 3: then `out`
+/// is full, and `out_too_small` says so. A caller that wants the whole output tries again with more. What is behind the
+/// written bytes is left as it was.
+pub fn run_bytes<A: Allocator + Copy>(
+    alloc: A,
+    words: &[u8],
+    input: &[u8],
+    out: &mut [u8],
+    err: &mut [u8],
+) -> Answer
+    ensures runs { RunsBytes words.now input.now (memory out.old out.new) (memory err.old err.new)
+        result }
+{
+    match words_in(alloc, words) {
+        Ok(words) => run_words(alloc, &words, input, out, err),
+        Err(_) => refuse_memory(out, err),
+    }
+}

@@ -1,0 +1,22 @@
+//! `nissy` in other programs: one call that runs a command on bytes in memory. In crates.txt: `app: niss_embed`.
+//!
+//! `run_bytes` is handed what the program `nissy` is given: the words of a command line, the input, and memory for the output
+//! and for the error text. It answers the exit status and how much of that memory it wrote. Its contract says each byte of
+//! both, for every word, input and room:
+//!
+//! ```
+//! use niss_embed::run_bytes;
+//!
+//! let answer = run_bytes(rt.alloc(), b"invert\0", b"R U' F2\n", &mut out, &mut err);
+//! // `answer.status` is 0, and `out[..answer.out_length]` is `F2 U R'` and a line feed
+//! ```
+#![tactic(auto)]
+
+mod answer;
+mod call;
+mod source;
+mod target;
+mod words;
+
+pub use answer::Answer;
+pub use call::run_bytes;

@@ -1,0 +1,87 @@
+#!/usr/bin/env bash
+# Tries the library of `make lib` from C and from Python, as they find it in FOLDER, beside PROGRAM:
+#
+#     tests/library.sh [PROGRAM [FOLDER]]
+#
+# The program is build/nissy where none is named, and the folder build. What needs a tool that isn't here is skipped, and named. The last
+# line is `N passed, M failed`, and the status is 1 where M isn't 0.
+set -u
+# shellcheck source=tests/shared
+. "$(dirname "$0")/shared"
+program=$(program_of "$@") || exit 2
+cd "$(dirname "$0")/.." || exit 2
+folder=$(realpath -- "${2:-build}")
+export PYTHONDONTWRITEBYTECODE=1 PYTHONUTF8=1 NISSY_LIBRARY=$folder/libnissy.so.1
+
+missing() { ! command -v "$1" > /dev/null; }
+if missing cc || [ ! -e "$folder/libnissy.a" ]; then
+    echo "skipped: there is no C compiler here, or no library that make lib built"
+    echo "0 passed, 0 failed"
+    exit 0
+fi
+holds "the library has its files" test -s "$folder/libnissy.a" -a -s "$folder/libnissy.so.1" -a -L "$folder/libnissy.so"
+
+# what it shows to others
+exported() { nm "$@" | awk '$2 ~ /[A-Z]/ && $2 != "U" && $2 != "w" { print $3 }' | sort; }
+declared() { grep -oE '\bnissy_[a-z]+\(' include/nissy.h | tr -d '(' | sort -u; }
+holds "the shared object exports what the header declares" test "$(exported -D --defined-only "$folder/libnissy.so.1")" = "$(declared)"
+holds "so does the archive" test "$(exported --defined-only "$folder/libnissy.a" | grep .)" = "$(declared)"
+holds "its soname" test "$(objdump -p "$folder/libnissy.so.1" | awk '$1 == "SONAME" { print $2 }')" = libnissy.so.1
+needed() { objdump -p "$folder/libnissy.so.1" | awk '$1 == "NEEDED" { print $2 }'; }
+holds "it needs the C library alone" test "$(needed)" = libc.so.6
+has_no_runnable_stack() { objdump -p "$folder/libnissy.so.1" | grep -A 1 STACK | grep -q 'flags rw-$'; }
+holds "it asks for no stack that can be run" has_no_runnable_stack
+
+# each test in C, plain by the archive and by the shared object, with the sanitizers, and by valgrind
+strict=(-O1 -g -Wall -Wextra -Wpedantic -Werror -Iinclude -Itests/library)
+sanitized=("-fsanitize=address,undefined" -fno-sanitize-recover=all)
+linked() { # NAME: what the test is linked with
+    case $1 in
+        memory) echo "-Wl,--wrap=malloc,--wrap=realloc,--wrap=free" ;;
+        threads) echo -pthread ;;
+    esac
+}
+compiled() { # PROGRAM NAME WORD..: compiles the test of this name against the archive, with these words too
+    local made=$1 name=$2
+    shift 2
+    # shellcheck disable=SC2046 # no word or one
+    cc -std=c11 "${strict[@]}" "$@" $(linked "$name") -o "$made" "tests/library/$name.c" "$folder/libnissy.a"
+}
+has_sanitizers() {
+    echo 'int main(void) { return 0; }' > "$room/empty.c"
+    cc "${sanitized[@]}" -o "$room/empty" "$room/empty.c" 2> /dev/null && "$room/empty"
+}
+is_sanitized=no
+if has_sanitizers; then is_sanitized=yes; else echo "skipped: cc has no sanitizers here"; fi
+missing valgrind && echo "skipped: valgrind isn't installed"
+
+for name in lines runs memory threads; do
+    holds "$name.c compiles without a warning" compiled "$room/$name" "$name"
+    add "$room/$name"
+    if [ $is_sanitized = yes ]; then
+        holds "$name.c compiles with the sanitizers" compiled "$room/$name.sanitized" "$name" "${sanitized[@]}"
+        add "$room/$name.sanitized"
+    fi
+    # valgrind's own malloc takes no wraps, and threads are slow in it
+    case $name in memory | threads) continue ;; esac
+    missing valgrind || add valgrind -q --error-exitcode=99 --leak-check=full "$room/$name"
+done
+shared_one() {
+    cc -std=c99 "${strict[@]}" -D_DEFAULT_SOURCE -o "$room/shared_runs" tests/library/runs.c -L"$folder" -lnissy -Wl,-rpath,"$folder"
+}
+holds "runs.c compiles against the shared object" shared_one
+add "$room/shared_runs"
+if missing c++; then echo "skipped: there is no C++ compiler here"; else
+    holds "the header is C++ too" c++ -Wall -Wextra -Wpedantic -Werror -x c++ -fsyntax-only include/nissy.h
+fi
+refuses_one() { ! cc -std=c11 "${strict[@]}" -o "$room/other" "$room/other.c" "$folder/libnissy.a"; }
+printf '#include "nissy.h"\nint main(void) { return nissy_invert("R", 1, 0).status; }\n' > "$room/other.c"
+holds "a call with too few arguments doesn't compile" refuses_one
+
+if missing python3; then
+    echo "skipped: there is no python3 here"
+else
+    add python3 tests/library/module.py
+    add python3 tests/library/beside_program.py "$program" 1 0.4
+fi
+ended

@@ -1,0 +1,136 @@
+#!/usr/bin/env python3
+"""The Python module by itself: what it raises, how it takes text, room that grows, and threads.
+
+    tests/library/module.py
+
+The library is that of NISSY_LIBRARY. The last line is `N passed, M failed`, and the status is 1 where M isn't 0.
+"""
+import os
+import subprocess
+import sys
+import threading
+import time
+import typing
+
+PYTHON = os.path.join(os.path.dirname(os.path.abspath(__file__)), "..", "..", "python")
+sys.path.insert(0, PYTHON)
+
+import nissy
+
+USAGE = b"usage: nissy COMMAND [ARGUMENTS]\n"
+TOO_LONG = b"nissy: input longer than 16777216 bytes\n"
+counts = {True: 0, False: 0}
+
+
+def holds(what, is_so):
+    """Counts what holds, and names what doesn't."""
+    counts[bool(is_so)] += 1
+    if not is_so:
+        print("not so:", what)
+
+
+def raised(kind, call):
+    """What the call raises of this kind, or None."""
+    try:
+        call()
+    except kind as error:
+        return error
+    return None
+
+
+def lines():
+    """The calls on a line, by strings and by bytes."""
+    rows = [(nissy.invert, "R U' F2", "F2 U R'"), (nissy.invert, b"R U' F2", "F2 U R'"), (nissy.invert, "R\u2019", "R"),
+            (nissy.invert, bytearray(b"R"), "R'"), (nissy.unniss, "R (U F') D", "R D F U'"), (nissy.cleanup, "Rw U", "L F x"),
+            (nissy.cleanup, "F F F F", ""), (nissy.facelets, "x", "F" * 9 + "R" * 9 + "D" * 9 + "B" * 9 + "L" * 9 + "U" * 9)]
+    for call, line, text in rows:
+        holds("%s of %r" % (call.__name__, line), call(line) == text)
+    faults = [("R Q", 3, "not a move"), ("(R (U))", 4, "bracket inside a bracket"), ("R )", 3, "bracket closed that was not opened"),
+              ("R (U", 3, "bracket not closed"), ("U" * 257, 257, "more than 256 moves"), ("\u2019", 1, "not a move"),
+              ("R\n", 2, "not a move"), ("\udcff", 1, "not a move")]
+    for line, column, text in faults:
+        for call in (nissy.invert, nissy.unniss, nissy.cleanup, nissy.facelets):
+            fault = raised(nissy.LineFault, lambda: call(line))
+            holds("%s refuses %r" % (call.__name__, line), fault and (fault.column, fault.text) == (column, text))
+    holds("a fault says its column and text", str(raised(ValueError, lambda: nissy.invert("R Q"))) == "column 3: not a move")
+    too_long = raised(ValueError, lambda: nissy.invert(b" " * (nissy.MOST_INPUT + 1)))
+    holds("a line that is too long is a ValueError without a column", too_long and not isinstance(too_long, nissy.LineFault))
+    holds("a line of 16,777,216 blanks is read", nissy.invert(b" " * nissy.MOST_INPUT) == "")
+    holds("a number is no line", raised(TypeError, lambda: nissy.invert(None)))
+
+
+def runs():
+    """Runs by words: their answers and what is no run."""
+    rows = [(["invert"], b"R U' F2\n", (0, b"F2 U R'\n", b"")), (["invert"], "R\u2019", (0, b"R\n", b"")),
+            (("invert", "R"), b"q", (0, b"R'\n", b"")), ([b"solve", "eofb", "7"], b"F\n", (0, b"F (1)\nF' (1)\n\n", b"")),
+            (["invert", "R '"], b"", (1, b"", b"nissy: line 1, column 3: not a move\n")),
+            ([], b"", (2, b"", USAGE)), ([b"inver\xff"], b"", (2, b"", USAGE)), (["invert", "\udcff"], b"", (2, b"", USAGE)),
+            (["invert"], b" " * (nissy.MOST_INPUT + 1), (3, b"", TOO_LONG)), (["invert"], b"", (0, b"", b""))]
+    for words, data, wanted in rows:
+        answer = nissy.run(words, data)
+        holds("run of %r" % (words,), (answer.status, answer.out, answer.err, answer.full) == wanted + (False,))
+    holds("a word with a zero byte is a ValueError", raised(ValueError, lambda: nissy.run(["invert", "R\0U"])))
+    holds("an answer can't be changed", raised(AttributeError, lambda: setattr(nissy.run(["steps"]), "status", 1)))
+    holds("the module's functions have types", typing.get_type_hints(nissy.run)["return"] is nissy.Answer)
+    public = (nissy.run, nissy.invert, nissy.unniss, nissy.cleanup, nissy.facelets)
+    holds("each function says what it does", all(function.__doc__ for function in public))
+
+
+def rooms():
+    """Room that is given, and room that grows."""
+    answer = nissy.run(["steps"], room=7)
+    small = nissy.Answer(3, b"eofb\neo", b"nissy: cannot write\n", True)
+    holds("a room that is too small is full", answer == small)
+    holds("a room of nothing", nissy.run(["steps"], room=0).full)
+    few = nissy.run(["scramble", "7", "9", "256", "3"])
+    many = nissy.run(["scramble", "7", "9", "256", "10000"])
+    holds("an output of 7 MB comes whole", many.status == 0 and many.out.count(b"\n") == 10_000 and many.out.startswith(few.out))
+    printed = nissy.run(["print"], b"\n" * 300_000)
+    solved = b"".join(bytes([letter]) * 9 for letter in b"URFDLB") + b"\n"
+    holds("55 bytes for each byte of the input come whole", printed.out == solved * 300_000)
+
+
+def threads():
+    """Threads that call side by side, and one that goes on while another searches."""
+    wrong = []
+
+    def call(number):
+        scramble = nissy.run(["scramble", str(number), "54", "20", "1"]).out
+        for _ in range(50):
+            back = nissy.invert(nissy.invert(scramble.strip())).encode() + b"\n"
+            if back != scramble or nissy.run(["count", "eofb", "5"], b"F B\n").out != b"length 2 solutions 4 nodes 75\n":
+                wrong.append(number)
+
+    calling = [threading.Thread(target=call, args=(number,)) for number in range(8)]
+    for thread in calling:
+        thread.start()
+    for thread in calling:
+        thread.join()
+    holds("each thread has the answers of its own calls", not wrong)
+    searching = threading.Thread(target=nissy.run, args=(["count", "dr-eofb", "0"], b"\n" * 400_000))
+    searching.start()
+    begun, turns = time.monotonic(), 0
+    while searching.is_alive() and turns < 100:
+        time.sleep(0.0001)
+        turns += 1
+    holds("other threads go on during a call", turns >= 20 or time.monotonic() - begun < 0.02)
+    searching.join()
+
+
+def library():
+    """The library that isn't there."""
+    named = dict(os.environ, NISSY_LIBRARY="/nowhere/libnissy.so.1", PYTHONPATH=PYTHON)
+    done = subprocess.run([sys.executable, "-c", "import nissy"], capture_output=True, env=named, check=False)
+    holds("a library that isn't there is an OSError that names it", b"OSError: /nowhere/libnissy.so.1" in done.stderr)
+
+
+def main():
+    """All of it."""
+    for part in (lines, runs, rooms, threads, library):
+        part()
+    print("%d passed, %d failed" % (counts[True], counts[False]))
+    sys.exit(0 if counts[True] and not counts[False] else 1)
+
+
+if __name__ == "__main__":
+    main()

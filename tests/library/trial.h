@@ -1,0 +1,70 @@
+/* What the tests of the library share: counts, and buffers behind whose last byte no memory is. */
+#ifndef TRIAL_H
+#define TRIAL_H
+
+#define _GNU_SOURCE
+#include <stdio.h>
+#include <stdlib.h>
+#include <string.h>
+#include <sys/mman.h>
+#include <unistd.h>
+
+#include "nissy.h"
+
+static int passed, failed;
+
+/* Counts what holds, and names what doesn't. */
+static inline void holds(int is_so, const char *what, const char *of) {
+    if (is_so) {
+        passed++;
+    } else {
+        failed++;
+        printf("not so: %s: %s\n", of, what);
+    }
+}
+
+/* The last line of a test, and its status. */
+static inline int ended(void) {
+    printf("%d passed, %d failed\n", passed, failed);
+    return passed == 0 || failed != 0;
+}
+
+/* A buffer of so many bytes: a read or a write of the byte before its page or behind its end ends the test by a signal. */
+typedef struct guarded {
+    uint8_t *bytes;
+    size_t size;
+    void *mapped;
+    size_t mapped_size;
+} guarded;
+
+static inline guarded guard(size_t size) {
+    size_t page = (size_t)sysconf(_SC_PAGESIZE), pages = (size + page - 1) / page;
+    guarded made = {NULL, size, NULL, (pages + 2) * page};
+    made.mapped = mmap(NULL, made.mapped_size, PROT_NONE, MAP_PRIVATE | MAP_ANONYMOUS, -1, 0);
+    if (made.mapped == MAP_FAILED || (pages && mprotect((uint8_t *)made.mapped + page, pages * page, PROT_READ | PROT_WRITE))) {
+        perror("mmap");
+        exit(2);
+    }
+    made.bytes = (uint8_t *)made.mapped + page + pages * page - size;
+    return made;
+}
+
+static inline void let_go(guarded buffer) {
+    munmap(buffer.mapped, buffer.mapped_size);
+}
+
+/* A guarded copy. */
+static inline guarded copied(const void *bytes, size_t size) {
+    guarded made = guard(size);
+    if (size) memcpy(made.bytes, bytes, size);
+    return made;
+}
+
+/* Whether all of these bytes are this one. */
+static inline int are_all(const uint8_t *bytes, size_t size, uint8_t byte) {
+    for (size_t at = 0; at < size; at++)
+        if (bytes[at] != byte) return 0;
+    return 1;
+}
+
+#endif
