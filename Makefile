@@ -1,13 +1,26 @@
-# `make` proves the crates below the program and builds it, `make check` tries the built program, `make test` runs the gate and then that.
+# `make` proves the crates below the program and builds it, `make lib` does so with the library for C and Python, `make check` tries what
+# is built, `make test` runs the gate and then that.
 PREFIX ?= /usr/local
 DESTDIR ?=
+# `make install LIBRARY=no` leaves out what needs a C compiler and binutils to be built.
+LIBRARY ?= yes
+VERSION := $(shell sed -n 's/^Version: //p' include/nissy.pc)
+SONAME := libnissy.so.1
 
-# What the program is made of, without the crates that only test it or show the libraries' use.
-SOURCES := HANDLES crates.txt $(shell find crates \( -name out -o -name must-fail -o -name niss_tests -o -name eo_axes \) -prune \
+# What program and library are made of, without the crates that only test them or show the libraries' use.
+SOURCES := HANDLES crates.txt $(shell find crates \( -name out -o -name niss_tests -o -name eo_axes \) -prune \
 	-o -type f \( -name '*.rt' -o -name '*.antt' \) -print)
 
 # Where a distribution looks for each file. A package is built with `make install DESTDIR=FOLDER PREFIX=/usr`: the files go below
 # FOLDER, and PREFIX says where they will stand. `make uninstall` takes the same two.
+LIBRARY_FILES := \
+	build/libnissy.a:lib/libnissy.a \
+	build/$(SONAME):lib/$(SONAME) \
+	build/libnissy.so:lib/libnissy.so \
+	include/nissy.h:include/nissy.h \
+	include/nissy.pc:lib/pkgconfig/nissy.pc \
+	python/nissy.py:lib/python3/dist-packages/nissy.py \
+	docs/EMBEDDING.md:share/doc/nissy/EMBEDDING.md
 INSTALLED := \
 	build/nissy:bin/nissy \
 	docs/nissy.1:share/man/man1/nissy.1 \
@@ -15,11 +28,14 @@ INSTALLED := \
 	docs/COOKBOOK.md:share/doc/nissy/COOKBOOK.md \
 	completions/nissy.bash:share/bash-completion/completions/nissy \
 	completions/_nissy:share/zsh/site-functions/_nissy \
-	completions/nissy.fish:share/fish/vendor_completions.d/nissy.fish
+	completions/nissy.fish:share/fish/vendor_completions.d/nissy.fish \
+	$(if $(filter no,$(LIBRARY)),,$(LIBRARY_FILES))
 
-.PHONY: all check test install uninstall clean bench
+.PHONY: all lib check test install uninstall dist clean bench
 
 all: build/nissy
+
+lib: build/libnissy.a
 
 build/nissy: $(SOURCES)
 	@echo "Proving and building. The first time this takes five to ten minutes on two cores; later, seconds."
@@ -27,22 +43,34 @@ build/nissy: $(SOURCES)
 	mkdir -p build
 	cp crates/nissy/out/nissy build/nissy
 
-check: build/nissy
+# the shared object and its link come with it
+build/libnissy.a: $(SOURCES) tools/static-library
+	tools/static-library niss_c build/libnissy.a $(SONAME)
+
+check: build/nissy $(if $(filter no,$(LIBRARY)),,$(if $(shell command -v cc),build/libnissy.a))
 	tests/built
 
 test:
 	tests/run
 
-install: build/nissy
+install: build/nissy $(if $(filter no,$(LIBRARY)),,build/libnissy.a)
 	@set -e; for pair in $(INSTALLED); do \
-		mode=644; case $$pair in build/*) mode=755 ;; esac; \
-		install -D -m $$mode "$${pair%%:*}" "$(DESTDIR)$(PREFIX)/$${pair#*:}"; \
-		echo "$(DESTDIR)$(PREFIX)/$${pair#*:}"; \
+		from=$${pair%%:*}; to="$(DESTDIR)$(PREFIX)/$${pair#*:}"; \
+		case $$from in \
+			*.so) ln -sf $(SONAME) "$$to" ;; \
+			build/*[!a]) install -D -m 755 "$$from" "$$to" ;; \
+			*) install -D -m 644 "$$from" "$$to" ;; \
+		esac; \
+		echo "$$to"; \
 	done
 
 uninstall:
 	@set -e; for pair in $(INSTALLED); do rm -f "$(DESTDIR)$(PREFIX)/$${pair#*:}"; done
 	@rmdir "$(DESTDIR)$(PREFIX)/share/doc/nissy" 2> /dev/null || true
+
+# One archive for machines without the kit, the same bytes each time on one commit.
+dist: build/nissy build/libnissy.a
+	tools/dist nissy-$(VERSION)-x86_64-linux
 
 bench: build/nissy
 	bench/run

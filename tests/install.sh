@@ -1,6 +1,6 @@
 #!/usr/bin/env bash
-# Installs into a folder of its own and takes everything away again; compares the names that completions and manuals give with
-# those of PROGRAM:
+# Installs into a folder of its own, with the library where `make lib` built it, and takes everything away again; packs an archive of it;
+# compares the names that completions and manuals give with those of PROGRAM:
 #
 #     tests/install.sh [PROGRAM]
 #
@@ -15,11 +15,14 @@ top=$PWD
 # The Makefile's program is the one that was handed over, so that nothing is built. The folder has blanks in its name.
 packed="$room/a package of its own"
 usr=$packed/usr
-install_at() { make --no-print-directory -o build/nissy "$1" DESTDIR="$packed" PREFIX=/usr; }
+library=no
+if [ -e build/libnissy.so ]; then library=yes; else echo "skipped: the library, which wasn't built"; fi
+by_make() { make --no-print-directory -o build/nissy -o build/libnissy.a LIBRARY=$library "$@"; }
+install_at() { by_make "$1" DESTDIR="$packed" PREFIX=/usr; }
 refuses() { ! "$@"; }
 with_program() {
-    mkdir -p "$room/source/build" "$room/source/crates" && cp -R Makefile docs completions "$room/source" &&
-        cp "$program" "$room/source/build/nissy"
+    mkdir -p "$room/source/build" "$room/source/crates" && cp -R Makefile docs completions include python tools "$room/source" &&
+        cp "$program" "$room/source/build/nissy" && { [ $library = no ] || cp -P build/libnissy.* "$room/source/build"; }
 }
 holds "the files are there" with_program
 cd "$room/source" || exit 2
@@ -33,14 +36,60 @@ wanted="755 bin/nissy build/nissy
 644 share/fish/vendor_completions.d/nissy.fish completions/nissy.fish
 644 share/man/man1/nissy.1 docs/nissy.1
 644 share/zsh/site-functions/_nissy completions/_nissy"
-stands() { (cd "$usr" && find . -type f -printf '%m %P\n' | LC_ALL=C sort -k 2); }
+if [ $library = yes ]; then
+    wanted="$wanted
+644 include/nissy.h include/nissy.h
+644 lib/libnissy.a build/libnissy.a
+777 lib/libnissy.so build/libnissy.so.1
+755 lib/libnissy.so.1 build/libnissy.so.1
+644 lib/pkgconfig/nissy.pc include/nissy.pc
+644 lib/python3/dist-packages/nissy.py python/nissy.py
+644 share/doc/nissy/EMBEDDING.md docs/EMBEDDING.md"
+fi
+wanted=$(LC_ALL=C sort -k 2,2 <<< "$wanted")
+stands() { (cd "$1" && find . ! -type d -printf '%m %P\n' | LC_ALL=C sort -k 2,2); }
 are_copies() {
     while read -r _ place source; do cmp "$usr/$place" "$source" || return; done <<< "$wanted"
 }
-holds "each file stands in its place with its mode, and no other" test "$(stands)" = "$(cut -d ' ' -f 1,2 <<< "$wanted")"
+holds "each file stands in its place with its mode, and no other" test "$(stands "$usr")" = "$(cut -d ' ' -f 1,2 <<< "$wanted")"
 holds "each file is a copy of its source" are_copies
-holds "make install names each file" test "$(install_at install | LC_ALL=C sort)" = "$(find "$usr" -type f | LC_ALL=C sort)"
+holds "make install names each file" test "$(install_at install | LC_ALL=C sort)" = "$(find "$usr" ! -type d | LC_ALL=C sort)"
 holds "the installed program runs" test "$("$usr/bin/nissy" invert "R U' F2")" = "F2 U R'"
+if [ $library = yes ]; then
+    if command -v python3 > /dev/null; then
+        by_module() { PYTHONPATH=$1/lib/python3/dist-packages python3 -B -c 'import nissy; print(nissy.invert("R U"), nissy._nissy._name)'; }
+        found=$(realpath "$usr/lib/libnissy.so.1")
+        holds "the installed module finds the library beside it" test "$(realpath -- "$(by_module "$usr" | cut -d ' ' -f 3-)")" = "$found"
+    else
+        echo "skipped: there is no python3 here"
+    fi
+    if command -v pkg-config > /dev/null; then
+        by_pkg_config() { PKG_CONFIG_PATH="$usr/lib/pkgconfig" pkg-config "$@" nissy; }
+        holds "pkg-config knows the library's version" test "$(by_pkg_config --modversion)" = "$(sed -n 's/^Version: //p' include/nissy.pc)"
+        compiled_by_pkg_config() {
+            printf '#include <nissy.h>\nint main(void) { return nissy_invert((const uint8_t *)"R", 1, (uint8_t *)"", 0).status; }\n' > "$room/one.c"
+            eval "cc -o '$room/one' '$room/one.c' $(by_pkg_config --cflags --libs)" && LD_LIBRARY_PATH=$usr/lib "$room/one"
+            [ $? -eq 4 ]
+        }
+        holds "a program compiles by what pkg-config says" compiled_by_pkg_config
+    else
+        echo "skipped: pkg-config isn't installed"
+    fi
+    # the archive, twice, by other file modes and another day
+    export SOURCE_DATE_EPOCH=1000000000
+    archive=build/$(sed -n 's/^Version: //p' include/nissy.pc | sed 's/.*/nissy-&-x86_64-linux/').tar.gz
+    holds "make dist packs an archive" by_make dist
+    mv "$archive" "$room/first.tar.gz"
+    find docs include python build -type f -exec touch -d 2001-01-01 {} +
+    again() { (umask 077 && by_make dist); }
+    holds "make dist packs it again" again
+    holds "the archive has the same bytes each time" cmp "$archive" "$room/first.tar.gz"
+    mkdir "$room/unpacked"
+    holds "the archive is unpacked" tar -C "$room/unpacked" -xpf "$archive"
+    unpacked=$(echo "$room"/unpacked/*)
+    holds "the archive has what is installed" test "$(stands "$unpacked")" = "$(stands "$usr")"
+    holds "the program of the archive runs" test "$("$unpacked/bin/nissy" invert "R U' F2")" = "F2 U R'"
+fi
 mv docs/MANUAL.md docs/elsewhere
 holds "make install fails where a file is missing" refuses install_at install
 mv docs/elsewhere docs/MANUAL.md
@@ -98,7 +147,7 @@ else
 fi
 
 holds "make uninstall succeeds" install_at uninstall
-holds "nothing is left" test -z "$(find "$packed" -type f)"
+holds "nothing is left" test -z "$(find "$packed" ! -type d)"
 holds "no folder of its own is left" test ! -e "$share/doc/nissy"
 with_others() { # installs among files that aren't its own
     install_at install && touch "$usr/bin/other" "$share/doc/other" "$share/doc/nissy/other"

@@ -10,14 +10,17 @@ set -u
 nissy=$(program_of "$@") || exit 2
 
 many_blocks() { yes "R U'" | head -n 30000 | "$nissy" invert; }
-too_long() { head -c 16777217 /dev/zero | tr '\0' ' ' | "$nissy" invert; }
+blanks() { head -c "$1" /dev/zero | tr '\0' ' ' | "$nissy" invert; }
+endless() { yes R | tr -d '\n' | "$nissy" invert; }
 closed_input() { "$nissy" invert <&-; }
 gone_reader() {
     { sleep 0.2 && "$nissy" solve eofb 20 "R U F"; } | true
     return "${PIPESTATUS[0]}"
 }
 answers "many blocks of input" 0 "$(yes "U R'" | head -n 30000)\n" "" many_blocks
-answers "input that is too long" 3 "" "nissy: input longer than 16777216 bytes\n" too_long
+answers "input at the limit" 0 "\n" "" blanks 16777216
+answers "input above it" 3 "" "nissy: input longer than 16777216 bytes\n" blanks 16777217
+answers "input without an end" 3 "" "nissy: input longer than 16777216 bytes\n" endless
 answers "a closed input" 3 "" "nissy: cannot read\n" closed_input
 answers "a reader that has gone" 3 "" "nissy: cannot write\n" gone_reader
 

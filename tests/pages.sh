@@ -48,7 +48,7 @@ holds "README.md has links" test -n "$(links_of README.md)"
 holds "README.md has at most 90 lines" test "$(grep -c '' README.md)" -le 90
 
 # each file and name of code that these pages give in backquotes is one of the repository
-find crates tests tools Makefile -name out -prune -o -type f -print -exec cat {} + | grep -oE '[A-Za-z_0-9]+' | sort -u > "$room/words"
+find crates tests tools include python Makefile -name out -prune -o -type f -print -exec cat {} + | grep -oE '[A-Za-z_0-9]+' | sort -u > "$room/words"
 is_there() {
     case $1 in
         */*) stands_in_a_crate "$1" ;;
@@ -63,7 +63,7 @@ done
 
 says_nothing() { ! "$@" 2>&1 | grep .; }
 holds "docs/ARCHITECTURE.md maps each file of the libraries" says_nothing tools/map
-paths_in() { grep -oE '\b(crates|tests|tools|docs|bench|completions)/[A-Za-z0-9_./-]+' "$1" | sed 's/\.$//' | grep -v NAME | sort -u; }
+paths_in() { grep -oE '\b(crates|tests|tools|docs|bench|completions|include|python)/[A-Za-z0-9_./-]+' "$1" | sed 's/\.$//' | grep -v NAME | sort -u; }
 for page in README.md CONTRIBUTING.md; do
     each "$page" "a file or folder" "$(paths_in "$page")" test -e
 done
@@ -102,16 +102,15 @@ clauses_of_functions() { # each as FUNCTION-CLAUSE
 is_clause_of_function() { grep -qx -- "$1" "$room/clauses"; }
 each docs/PROMISES.md "a clause of its function" "$(clauses_of_functions)" is_clause_of_function
 
-# in the table of wrong programs each row names edits after the word, and rows of niss_tests
-edits_and_rows() {
+# in the table of wrong programs each row names edits after the word
+edits() {
     sed -n '/^## Wrong programs/,/^## Only tested/p' docs/PROMISES.md | grep '^|.*| .*edit' | sed 's/.* | //' |
         grep -oE '`[a-z0-9_]+`' | tr -d '\`' | grep -vx 'niss_[a-z]*' | sort -u
 }
-is_edit_or_row() {
-    compgen -G "crates/*/must-fail/$1.edit" > /dev/null || compgen -G "tests/wrong-bodies/*/$1.edit" > /dev/null ||
-        grep -qrE "fn $1\(" crates/niss_tests/src
+is_edit() {
+    compgen -G "tests/wrong-bodies/*/$1.edit" > /dev/null || compgen -G "tests/wrong-bodies/*/further/$1.edit" > /dev/null
 }
-each docs/PROMISES.md "an edit or a row" "$(edits_and_rows)" is_edit_or_row
+each docs/PROMISES.md "an edit" "$(edits)" is_edit
 
 # each line of an example on a crate's first page is one of a program or test that is proved
 statements() { sed -e 's|//.*||' -e 's/^ *//' -e 's/ *$//'; }

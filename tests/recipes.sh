@@ -3,7 +3,8 @@
 #
 #     tests/recipes.sh [PROGRAM [PAGE..]]
 #
-# The program is build/nissy where none is named, and the pages are README, COOKBOOK, MANUAL and the manual page.
+# The program is build/nissy where none is named, and the pages are README, COOKBOOK, MANUAL, EMBEDDING and the manual page. Where `make lib`
+# built the library, the examples find it, its header and its module; else EMBEDDING is skipped.
 # A block ```sh is run, and where the next block is ```text, that is what it prints (else nothing). In a block ```console
 # each line that begins with `$ ` is run, and the lines after it are what it prints. The blocks of a page run one after
 # another in one shell, so that variables and files stay; the whole page is run by each of sh, bash and zsh that is there.
@@ -19,7 +20,11 @@ if [ ! -x "$program" ]; then
     echo "usage: tests/recipes.sh [PROGRAM [PAGE..]]" >&2
     exit 2
 fi
-[ $# -gt 1 ] || set -- "$program" "$top/README.md" "$top/docs/COOKBOOK.md" "$top/docs/MANUAL.md" "$top/docs/nissy.1"
+if [ $# -le 1 ]; then
+    set -- "$program" "$top/README.md" "$top/docs/COOKBOOK.md" "$top/docs/MANUAL.md" "$top/docs/nissy.1"
+    if [ -e "$top/build/libnissy.so" ]; then set -- "$@" "$top/docs/EMBEDDING.md"; else echo "skipped: docs/EMBEDDING.md, no library here"; fi
+fi
+export CPATH=$top/include LIBRARY_PATH=$top/build LD_LIBRARY_PATH=$top/build PYTHONPATH=$top/python PYTHONDONTWRITEBYTECODE=1
 mkdir "$room/bin"
 ln -s "$program" "$room/bin/nissy"
 
