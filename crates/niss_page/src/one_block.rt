@@ -1,12 +1,12 @@
-//! An allocator of one block.
-ghost use Rattle.std.specs.Prelude.{◌≡◌, ◌≤◌, IfSome};
+//! An allocator that has one block.
+ghost use Rattle.std.specs.Prelude.{◌≡◌, ◌<◌, ◌≤◌, IfSome};
 ghost use Rattle.niss_page.specs.Room.{block_token};
 
 use crate::room::{Block, Room};
 use std::alloc::{AllocError, Allocator};
 use std::cell::Cell;
 
-/// The allocator that gives a room as one block.
+/// The allocator that gives a room as one block, to one owner at a time.
 #[derive(Drop)]
 pub struct OneBlock {
     room: Cell<Option<Room>>,
@@ -14,7 +14,10 @@ pub struct OneBlock {
 }
 
 impl OneBlock {
-    pub fn new(room: Room) -> OneBlock {
+    /// The allocator of this room.
+    pub fn new(room: Room) -> OneBlock
+        ensures { result.size ≡ room.size }
+    {
         let size = room.size;
         OneBlock {
             room: Cell::new(Some(room)),
@@ -23,7 +26,9 @@ impl OneBlock {
     }
 
     /// How many bytes the room has.
-    pub fn size(&self) -> usize {
+    pub fn size(&self) -> usize
+        ensures { result ≡ self.now.size }
+    {
         self.size
     }
 
@@ -35,12 +40,13 @@ impl OneBlock {
         }
     }
 
-    // no clause sees what the cell holds
-    fn take(&self, size: usize, align: usize) -> Option<Block>
-        ensures { IfSome result (λ block. (block.size ≡ self.now.size) × (size ≤ block.size) × (1 ≤ block.size) × (align ≤ 16)) }
+    /// Takes the block where it is there and has room for so many bytes.
+    fn take(&self, size: usize) -> Option<Block>
+        ensures { IfSome result (λ block. (block.size ≡ self.now.size) × (size ≤ block.size) × (0 < block.size)) }
     {
         let room = self.room.replace(None)?;
-        if room.size == self.size && room.size > 0 && size <= room.size && align <= 16 {
+        // no clause says which room the cell holds
+        if room.size == self.size && size <= room.size && room.size > 0 {
             Some(room.block)
         } else {
             self.room.set(Some(room));
@@ -48,6 +54,7 @@ impl OneBlock {
         }
     }
 
+    /// Takes the block back.
     fn give(&self, block: Block)
         requires { block.size ≡ self.now.size }
     {
@@ -59,8 +66,8 @@ impl OneBlock {
 unsafe impl Allocator for OneBlock {
     ghost dealloc_token = { λ heap ty ptr. block_token heap.size ty ptr };
 
-    fn allocate(&self, size: usize, align: usize) -> Result<*mut u8, AllocError> {
-        match self.take(size, align) {
+    fn allocate(&self, size: usize, _align: usize) -> Result<*mut u8, AllocError> {
+        match self.take(size) {
             Some(Block { ptr }) => Ok(ptr),
             None => Err(AllocError),
         }

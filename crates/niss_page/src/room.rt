@@ -1,4 +1,4 @@
-//! Memory that the host lends.
+//! The memory that a host lends for a call.
 ghost use Rattle.std.specs.Prelude.{◌≡◌, ℕ};
 ghost use Rattle.niss_page.specs.Room.{IsRoomSize, block_owns};
 
@@ -20,14 +20,15 @@ impl Model for Block {
 
 impl Block {
     /// No bytes.
-    fn none() -> Block
+    pub(crate) fn none() -> Block
         ensures { result.size ≡ 0 }
     {
         Block { ptr: null_mut() }
     }
 }
 
-/// Memory for one call.
+/// Memory for the tables of a call: where it is and how many bytes it has, both multiples of 16. The host lends it until the
+/// call has returned, and uses it for nothing else.
 #[repr(C)]
 #[derive(Drop)]
 pub struct Room {
@@ -38,7 +39,9 @@ pub struct Room {
 
 impl Room {
     /// No memory.
-    pub fn none() -> Room {
+    pub fn none() -> Room
+        ensures { result.size ≡ 0 }
+    {
         Room {
             block: Block::none(),
             size: 0,

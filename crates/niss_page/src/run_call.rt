@@ -8,10 +8,10 @@ use bumpalo::Bump;
 use niss_embed::{Answer, run_bytes};
 use std::mem::replace;
 
-/// What an arena may take of its allocator beside the bytes that it was asked for.
+/// What an arena takes at most beside the bytes that it is asked for: it adds its footer, and goes up to whole pages.
 const BESIDE: usize = 4160;
 
-/// An arena of all the bytes of a block, or one that refuses all where these are too few.
+/// An arena that has the block already, where that isn't too small.
 fn arena_of(block: &OneBlock) -> Bump<&OneBlock> {
     match Bump::try_with_capacity(block, block.size().saturating_sub(BESIDE)) {
         Ok(arena) => arena,
