@@ -87,8 +87,8 @@ _nissy.nissy_run.restype = _RunAnswer
 
 
 def _bytes_of(text: Text) -> bytes:
-    """Text as the bytes that the library reads."""
-    return text.encode("utf-8", "surrogateescape") if isinstance(text, str) else bytes(text)
+    """Text as the bytes that the library reads. A number is none, though `bytes` takes one."""
+    return text.encode("utf-8", "surrogateescape") if isinstance(text, str) else bytes(memoryview(text))
 
 
 def _refuse(answer: _LineAnswer) -> NoReturn:
@@ -140,6 +140,8 @@ def facelets(line: Text) -> str:
 
 def _joined(words: Iterable[Text]) -> bytes:
     """Words as the library takes them, each with a zero byte after it."""
+    if isinstance(words, (str, bytes)):
+        raise TypeError("the words are a list, not one text")
     listed = [_bytes_of(word) for word in words]
     if any(b"\0" in word for word in listed):
         raise ValueError("a word holds a zero byte")

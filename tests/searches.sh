@@ -17,6 +17,7 @@ writes "$quarters_of_f" solve eofb 7 F
 writes "$quarters_of_f" solve eofb 007 F
 writes "$quarters_of_f" solve eofb 000000000000000000000000000000000000001 F
 writes 'no solution within 0 moves\n\n' solve eofb 0 F
+writes 'no solution within 1 moves\n\n' solve eofb 1 'F B'
 writes "F B (2)\nF B' (2)\nF' B (2)\nF' B' (2)\n\n" solve eofb 5 'F B'
 writes '(0)\n\n' solve eofb 3 ''
 writes '(0)\n\n' solve eofb 20 ''
@@ -50,6 +51,9 @@ counts 1 2 16 drfb-eorl 3 U
 counts none 0 3 eofb 2 'F R U B'
 counts none 0 4 eofb 3 'F R U B'
 counts none 0 4 drud-eofb 3 'R U L D'
+writes 'no solution within 2 moves\n\n' solve eofb 2 'F R U B'
+writes 'no solution within 3 moves\n\n' solve eofb 3 'F R U B'
+writes 'no solution within 3 moves\n\n' solve drud-eofb 3 'R U L D'
 takes 'F\nR' 'length 1 solutions 2 nodes 20\nlength 0 solutions 1 nodes 1\n' count eofb 7
 stops 'U\nR\nU' 'length 0 solutions 1 nodes 1\n' '2: eorl does not hold' count drud-eorl 5
 

@@ -56,7 +56,7 @@ def lines():
     too_long = raised(ValueError, lambda: nissy.invert(b" " * (nissy.MOST_INPUT + 1)))
     holds("a line that is too long is a ValueError without a column", too_long and not isinstance(too_long, nissy.LineFault))
     holds("a line of 16,777,216 blanks is read", nissy.invert(b" " * nissy.MOST_INPUT) == "")
-    holds("a number is no line", raised(TypeError, lambda: nissy.invert(None)))
+    holds("nothing is no line, nor is a number", all(raised(TypeError, lambda: nissy.invert(it)) for it in (None, 3)))
 
 
 def runs():
@@ -70,6 +70,9 @@ def runs():
         answer = nissy.run(words, data)
         holds("run of %r" % (words,), (answer.status, answer.out, answer.err, answer.full) == wanted + (False,))
     holds("a word with a zero byte is a ValueError", raised(ValueError, lambda: nissy.run(["invert", "R\0U"])))
+    holds("one text is no list of words", all(raised(TypeError, lambda: nissy.run(it)) for it in ("steps", b"steps")))
+    holds("a number is no word", raised(TypeError, lambda: nissy.run(["count", "eofb", 20, "R"])))
+    holds("nor is it an input", raised(TypeError, lambda: nissy.run(["invert"], 3)))
     holds("an answer can't be changed", raised(AttributeError, lambda: setattr(nissy.run(["steps"]), "status", 1)))
     holds("the module's functions have types", typing.get_type_hints(nissy.run)["return"] is nissy.Answer)
     public = (nissy.run, nissy.invert, nissy.unniss, nissy.cleanup, nissy.facelets)

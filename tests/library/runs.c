@@ -63,6 +63,20 @@ static void answers_to_blanks(size_t count, const char *out_text, int status, co
     let_go(words), let_go(input), let_go(out), let_go(err);
 }
 
+/* The longest error text: of a line and a column whose numbers have fifteen digits together, as many as an input has bytes for. */
+static void longest_error_text_fits(void) {
+    static const char text[] = "nissy: line 10000000, column 6777217: bracket closed that was not opened\n";
+    size_t empty_lines = 9999999;
+    guarded words = copied("invert", 6), input = guard(NISSY_MOST_INPUT), out = guard(empty_lines), err = guard(NISSY_ERROR_ROOM);
+    memset(input.bytes, '\n', empty_lines);
+    memset(input.bytes + empty_lines, ' ', input.size - empty_lines - 1);
+    input.bytes[input.size - 1] = ')';
+    nissy_run_answer got = run(words, input, out, err);
+    holds(got.status == NISSY_FAULT && are_all(out.bytes, got.out_length, '\n') && got.out_length == empty_lines, "its output", "longest");
+    holds(holds_beginning(err, got.err_length, text) && !got.err_too_small, "the longest error text", "longest");
+    let_go(words), let_go(input), let_go(out), let_go(err);
+}
+
 int main(void) {
     for (int at = 0; at < RUN_COUNT; at++) {
         answers_in_every_room(&RUNS[at]);
@@ -71,5 +85,6 @@ int main(void) {
     answers_to_blanks(NISSY_MOST_INPUT, "\n", NISSY_DONE, "");
     answers_to_blanks(NISSY_MOST_INPUT - 1, "\n", NISSY_DONE, "");
     answers_to_blanks(NISSY_MOST_INPUT + 1, "", NISSY_STOPPED, "nissy: input longer than 16777216 bytes\n");
+    longest_error_text_fits();
     return ended();
 }

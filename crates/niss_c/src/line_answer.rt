@@ -1,5 +1,5 @@
 //! What a call on one line answers, and how its text comes into the caller's buffer.
-ghost use Rattle.std.specs.Prelude.{◌≡◌, length};
+ghost use Rattle.std.specs.Prelude.{◌≡◌, ◌≤◌, length};
 ghost use Rattle.niss_moves.specs.FaultText.{fault_column};
 ghost use Rattle.niss_c.specs.LineCalls.{Does, Unread, TooLong, answer_for, fault_number, outcome_of_text};
 
@@ -59,7 +59,8 @@ impl LineAnswer {
 
     /// Writes the text to the front of the buffer where it fits, and answers that it did or didn't.
     pub fn put(text: &[u8], out: &mut [u8]) -> LineAnswer
-        ensures { Does (outcome_of_text (length out.old) text.now) out.old out.new result }
+        ensures does { Does (outcome_of_text (length out.old) text.now) out.old out.new result }
+        ensures room { length text.now ≤ length out.old → result.status ≡ 0 }
     {
         let length = text.len();
         let fits = length <= out.len();

@@ -78,7 +78,7 @@ puts_cut : (before after part rest : List ℕ) (count : ℕ) → take count afte
 puts_cut before after part rest count e l fits full some =
     let count_is : length part ≡ count = ap (length {A = ℕ}) (sym e) ∙ length-take-le count after (omega (arith, full)) in
     let left : length after - count ≡ length before - length part =
-        sym (length-drop count after) ∙ ap (length {A = ℕ}) l ∙ length-drop (length part) before in
+    sym (length-drop count after) ∙ ap (length {A = ℕ}) l ∙ length-drop (length part) before in
     let filled : length part ≡ length before = omega (arith, count_is, left, full, fits) in
     let cut : take (length before) (part ++ rest) ≡ part = take_at part rest (length before) filled in
     let long : length before < length (part ++ rest) = omega (arith, length-append part rest, filled, some) in
@@ -170,12 +170,16 @@ puts_text before after text count bound fits most written left same = by_length 
   where
     none : 0 + count ≡ count
     none = omega arith
+
     front : take count after ≡ take count text
     front = ap (λ n. take n after) (sym none) ∙ written ∙ ap (λ v. v ++ take count text) (no_front before)
+
     behind : drop count after ≡ drop count before
     behind = ap (λ n. drop n after) (sym none) ∙ left ∙ ap (λ n. drop n before) none
+
     taken : length (take count text) ≡ count
     taken = length-take-le count text bound
+
     by_length : (c : Bool) → nat_lt count (length text) ≡ c → Puts text (memory before after) count c
     by_length false e =
         let all : length text ≤ count = grind (arith, common_steps) in

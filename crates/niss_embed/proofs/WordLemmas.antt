@@ -45,24 +45,42 @@ not_zero : {b : ℕ} → (b == 0) ≡ false → b ≢ 0
 not_zero e h = cc (e, ap (λ n. n == 0) h)
 
 longer_first : (b : ℕ) (bytes : List ℕ) → b ≢ 0 → (ended : List (List ℕ)) (last : List ℕ) → AreCutInto bytes ended last → Cut (b ∷ bytes)
-longer_first b bytes h [] last p = ([], (b ∷ last, record {
-  unbroken_words = All-nil HasNoZero;
-  unbroken_last = All-cons IsNotZero b last h p.unbroken_last;
-  whole = ap (λ v. b ∷ v) p.whole;
-}))
-longer_first b bytes h (word ∷ words) last p = ((b ∷ word) ∷ words, (last, record {
-  unbroken_words = All-cons HasNoZero (b ∷ word) words
-      (All-cons IsNotZero b word h (All-head HasNoZero word words p.unbroken_words)) (All-tail HasNoZero word words p.unbroken_words);
-  unbroken_last = p.unbroken_last;
-  whole = ap (λ v. b ∷ v) p.whole;
-}))
+longer_first b bytes h [] last p = (
+  [],
+  (
+    b ∷ last,
+    record {
+      unbroken_words = All-nil HasNoZero;
+      unbroken_last = All-cons IsNotZero b last h p.unbroken_last;
+      whole = ap (λ v. b ∷ v) p.whole;
+    },
+  ),
+)
+longer_first b bytes h (word ∷ words) last p = (
+  (b ∷ word) ∷ words,
+  (
+    last,
+    record {
+      unbroken_words = All-cons HasNoZero (b ∷ word) words
+          (All-cons IsNotZero b word h (All-head HasNoZero word words p.unbroken_words)) (All-tail HasNoZero word words p.unbroken_words);
+      unbroken_last = p.unbroken_last;
+      whole = ap (λ v. b ∷ v) p.whole;
+    },
+  ),
+)
 
 one_more : (c : Bool) (b : ℕ) (bytes : List ℕ) → (b == 0) ≡ c → Cut bytes → Cut (b ∷ bytes)
-one_more true b bytes e p = ([] ∷ p.0, (p.1.0, record {
-  unbroken_words = All-cons HasNoZero [] p.0 (All-nil IsNotZero) p.1.1.unbroken_words;
-  unbroken_last = p.1.1.unbroken_last;
-  whole = ap (λ v. 0 ∷ v) p.1.1.whole ∙ ap (λ n. n ∷ bytes) (sym (eqb-true b 0 e));
-}))
+one_more true b bytes e p = (
+  [] ∷ p.0,
+  (
+    p.1.0,
+    record {
+      unbroken_words = All-cons HasNoZero [] p.0 (All-nil IsNotZero) p.1.1.unbroken_words;
+      unbroken_last = p.1.1.unbroken_last;
+      whole = ap (λ v. 0 ∷ v) p.1.1.whole ∙ ap (λ n. n ∷ bytes) (sym (eqb-true b 0 e));
+    },
+  ),
+)
 one_more false b bytes e p = longer_first b bytes (not_zero e) p.0 p.1.0 p.1.1
 
 cut_all : (bytes : List ℕ) → Cut bytes
@@ -141,8 +159,8 @@ takes_none {word = word} {after = after} done kept t p h =
     let others = all_words after in
     let words = done ++ word ∷ others.0 in
     let none : list_all is_utf8 words ≡ false =
-        list_all-append is_utf8 done (word ∷ others.0) ∙ ap (λ c. c && list_all is_utf8 (word ∷ others.0)) t
-        ∙ ap (λ c. c && list_all is_utf8 others.0) (no_text (is_utf8 word) word refl h) in
+    list_all-append is_utf8 done (word ∷ others.0) ∙ ap (λ c. c && list_all is_utf8 (word ∷ others.0)) t
+    ∙ ap (λ c. c && list_all is_utf8 others.0) (no_text (is_utf8 word) word refl h) in
     record {
       words = words;
       are_words = kept (word ∷ others.0) (first_then p others.1);

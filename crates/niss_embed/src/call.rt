@@ -28,7 +28,14 @@ fn run_words<A: Allocator + Copy>(
     let mut source = MemorySource::new(input);
     let mut out = MemoryTarget::new(out);
     let mut err = MemoryTarget::new(err);
-    let status = run_in(alloc, words, &mut source, &mut out, &mut err, &mut Meter::new());
+    let status = run_in(
+        alloc,
+        words,
+        &mut source,
+        &mut out,
+        &mut err,
+        &mut Meter::new(),
+    );
     Answer {
         status,
         out_length: out.written,

@@ -32,7 +32,10 @@ fn first_word(bytes: &[u8]) -> Option<(&[u8], &[u8])>
 }
 
 /// The words of these bytes. Where one of them is no text there are none, since such words are no command.
-pub fn words_in<A: Allocator + Copy>(alloc: A, bytes: &[u8]) -> Result<Vec<String<A>, A>, AllocError>
+pub fn words_in<A: Allocator + Copy>(
+    alloc: A,
+    bytes: &[u8],
+) -> Result<Vec<String<A>, A>, AllocError>
     ensures words { IfOk result (λ words. TakesWords bytes.now (map string_bytes words.items)) }
     ensures asked { OnErr result (0 < length bytes.now) }
 {

@@ -55,8 +55,7 @@ more_lines input more short =
     let last = last_line End (input ++ more) in
     let begun = ended_lines [] input in
     let cut = ended_lines (last_part [] input) taken.0 in
-    let part : complete_lines input More ≡ begun = append-nil (ended_lines [] (take most_bytes input)) ∙ ap (λ t. ended_lines [] t) (take_all most_bytes input fits) in
-    (
+    let part : complete_lines input More ≡ begun = append-nil (ended_lines [] (take most_bytes input)) ∙ ap (λ t. ended_lines [] t) (take_all most_bytes input fits) in (
       cut ++ last,
       ap (λ t. ended_lines [] t ++ last) taken.1 ∙ ap (λ t. t ++ last) (ended_lines-append [] input taken.0)
           ∙ append_assoc begun cut last ∙ ap (λ t. t ++ (cut ++ last)) (sym part),
@@ -111,6 +110,7 @@ module _ (f : LineAnswers) (input more : List ℕ) where
           → (o : Option (ℕ × LineFault)) → first_fault f.answer_of 1 part_lines ≡ o → Begins part_answer whole_answer
       by_fault rest e short (Some fault) first = begins_fault fault rest e first
       by_fault rest e short None first = begins_good rest e short first
+
       by_length : (c : Bool) → nat_lt most_bytes (length input) ≡ c → Begins part_answer whole_answer
       by_length true long = begins_long long
       by_length false short = let m = more_lines input more short in by_fault m.0 m.1 short (first_fault f.answer_of 1 part_lines) refl

@@ -30,7 +30,7 @@ loop-word-smaller g c = shorter_after c.in-Some.ensures
 pub loop-word-preserved : goal.loop-word-preserved
 loop-word-preserved g c =
     let more = pushed_word c.loop-word.words.items c.push.new.self.items c.in_ok-from_str.field-0
-        c.in_ok-push.ensures.items (c.in_ok-from_str.ensures.ok ∙ c.in-Ok.ensures.cases.0) in
+    c.in_ok-push.ensures.items (c.in_ok-from_str.ensures.ok ∙ c.in-Ok.ensures.cases.0) in
     record {
       kept = with_next (map string_bytes c.loop-word.words.items) c.loop-word.invariant.kept c.in-Some.ensures more;
       text = text_with_next (map string_bytes c.loop-word.words.items) c.loop-word.invariant.text c.in-Ok.ensures.cases.1 more;
