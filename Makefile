@@ -50,7 +50,8 @@ build/libnissy.a: $(SOURCES) tools/static-library
 build/nissy.wasm: $(SOURCES) tools/web-module
 	tools/web-module build/nissy.wasm
 
-check: build/nissy $(if $(filter no,$(LIBRARY)),,$(if $(shell command -v cc),build/libnissy.a))
+check: build/nissy $(if $(filter no,$(LIBRARY)),,$(if $(shell command -v cc),build/libnissy.a)) \
+		$(if $(shell command -v node),build/nissy.wasm)
 	tests/built
 
 test:
