@@ -1,5 +1,5 @@
 //! An allocator that has one block.
-ghost use Rattle.std.specs.Prelude.{◌≡◌, ◌<◌, ◌≤◌, IfSome};
+ghost use Rattle.std.specs.Prelude.{◌≡◌, ◌⊎◌, ◌<◌, ◌≤◌, IfSome};
 ghost use Rattle.niss_page.specs.Room.{block_token};
 
 use crate::room::{Block, Room};
@@ -33,10 +33,12 @@ impl OneBlock {
     }
 
     /// The room again, or none where its block is out.
-    pub fn into_room(self) -> Room {
+    pub fn into_room(self) -> Room
+        ensures { (result.size ≡ self.size) ⊎ (result.size ≡ 0) }
+    {
         match self.room.into_inner() {
-            Some(room) => room,
-            None => Room::none(),
+            Some(room) if room.size == self.size => room,
+            _ => Room::none(),
         }
     }
 

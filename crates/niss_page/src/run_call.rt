@@ -1,4 +1,5 @@
 //! The call that does what the program does.
+ghost use Rattle.std.specs.Prelude.{◌≡◌, ◌⊎◌};
 ghost use Rattle.niss_embed.specs.Memory.{memory};
 ghost use Rattle.niss_embed.specs.Run.{RunsBytes};
 
@@ -20,7 +21,7 @@ fn arena_of(block: &OneBlock) -> Bump<&OneBlock> {
 }
 
 /// Does what the program does with these words and this input, as `run_bytes` of `niss_embed`: its output goes to `out`, its
-/// error text to `err`. The words and the tables of a step take memory of the room, which has all of it again at the end.
+/// error text to `err`. The words and the tables of a step take memory of the room.
 #[unsafe(no_mangle)]
 pub extern "C" fn nissy_run(
     room: &mut Room,
@@ -29,7 +30,9 @@ pub extern "C" fn nissy_run(
     out: &mut [u8],
     err: &mut [u8],
 ) -> Answer
-    ensures { RunsBytes words.now input.now (memory out.old out.new) (memory err.old err.new) result }
+    ensures runs { RunsBytes words.now input.now (memory out.old out.new) (memory err.old err.new) result }
+    // It has all its memory again, or none where some stays taken.
+    ensures room { (room.new.size ≡ room.old.size) ⊎ (room.new.size ≡ 0) }
 {
     let block = OneBlock::new(replace(room, Room::none()));
     let arena = arena_of(&block);
