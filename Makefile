@@ -47,6 +47,9 @@ build/nissy: $(SOURCES)
 build/libnissy.a: $(SOURCES) tools/static-library
 	tools/static-library niss_c build/libnissy.a $(SONAME)
 
+build/nissy.wasm: $(SOURCES) tools/web-module
+	tools/web-module build/nissy.wasm
+
 check: build/nissy $(if $(filter no,$(LIBRARY)),,$(if $(shell command -v cc),build/libnissy.a))
 	tests/built
 

@@ -1,6 +1,7 @@
 //! What a call answers.
 
 /// The answer of a call.
+#[repr(C)]
 #[derive(Clone, Copy, Debug, PartialEq, Eq)]
 pub struct Answer {
     /// The exit status, from 0 to 3, as that of `nissy`.

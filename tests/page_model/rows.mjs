@@ -1,0 +1,126 @@
+// Calls of the module in node, with the answers that are wanted.
+//
+//     node tests/page_model/rows.mjs MODULE
+//
+// The last line is `N passed, M failed`, and the status is 1 where M isn't 0.
+import { deepStrictEqual } from "node:assert";
+import { readFileSync } from "node:fs";
+import { NoWideMemory, Nissy } from "../../web/nissy.js";
+
+const SOLVED = "UUUUUUUUURRRRRRRRRFFFFFFFFFDDDDDDDDDLLLLLLLLLBBBBBBBBB\n";
+const USAGE = "usage: nissy COMMAND [ARGUMENTS]\n";
+const OUT_OF_ROOM = "nissy: cannot write\n";
+const CALLS = 10_000;
+
+// what a row shows, the arguments of `run`, and what is wanted: the status, the output, the error text, and whether it was full
+const ROWS = [
+  ["a line in words", [["invert", "R U' F2"]], 0, "F2 U R'\n", "", false],
+  ["a line in words of their own", [["invert", "R", "U'", "F2"]], 0, "F2 U R'\n", "", false],
+  ["lines as input", [["count", "eofb", "20"], "R U F\n\n"], 0, "length 1 solutions 2 nodes 20\nlength 0 solutions 1 nodes 1\n", "", false],
+  ["input as bytes", [["unniss"], Uint8Array.of(0x52, 0xe2, 0x80, 0x99)], 0, "R'\n", "", false],
+  ["words as bytes", [[Uint8Array.of(0x70, 0x72, 0x69, 0x6e, 0x74), ""]], 0, SOLVED, "", false],
+  ["a string is UTF-8", [["unniss"], "U2\u2019 R"], 0, "U2 R\n", "", false],
+  ["a domino reduction", [["solve", "drud-eofb", "5", "R", "U"]], 0, "U' R (2)\nU' R' (2)\n\n", "", false],
+  ["one of two domino reductions", [["count", "dr-eofb", "20"], "R U F2 L D R"], 0, "length 5 solutions 2 nodes 60\n", "", false],
+  ["a fault of a line", [["unniss"], "R\nR (U"], 1, "R\n", "nissy: line 2, column 3: bracket not closed\n", false],
+  ["no command", [["nosuch"]], 2, "", USAGE, false],
+  ["no words", [[]], 2, "", USAGE, false],
+  ["a word that is no text", [["invert", Uint8Array.of(0xff)]], 2, "", USAGE, false],
+  ["room for the output", [["solve", "eofb", "7"], "F", 14], 0, "F (1)\nF' (1)\n\n", "", false],
+  ["a byte of room too few", [["solve", "eofb", "7"], "F", 13], 3, "F (1)\nF' (1)\n", OUT_OF_ROOM, true],
+  ["no room", [["invert", "R"], "", 0], 3, "", OUT_OF_ROOM, true],
+  ["an output that needs more room than there is at first", [["print"], "\n".repeat(50_000)], 0, SOLVED.repeat(50_000), "", false],
+  ["the longest input", [["invert"], " ".repeat(16_777_215) + "R"], 0, "R'\n", "", false],
+  ["a byte more", [["invert"], " ".repeat(16_777_216) + "R"], 3, "", "nissy: input longer than 16777216 bytes\n", false],
+  ["words that need more memory than is lent at first", [["invert", " ".repeat(6_000_000) + "R"]], 0, "R'\n", "", false],
+  ["the longest line in words, which a line feed ends", [["invert", " ".repeat(16_777_214) + "R"]], 0, "R'\n", "", false],
+  ["a byte more in words", [["invert", " ".repeat(16_777_215) + "R"]], 3, "", "nissy: input longer than 16777216 bytes\n", false],
+  ["a search after these", [["count", "drud-eofb", "5", "R U"]], 0, "length 2 solutions 2 nodes 28\n", "", false],
+];
+
+let passed = 0;
+let failed = 0;
+
+/** Counts what was seen against what was wanted, and shows it where they differ. */
+function same(what, seen, wanted) {
+  try {
+    deepStrictEqual(seen, wanted);
+    passed += 1;
+  } catch (error) {
+    failed += 1;
+    console.log(`not so: ${what}\n${error.message.slice(0, 2000)}`);
+  }
+}
+
+/** The name of what a call throws, and its message. */
+async function thrown(call) {
+  try {
+    await call();
+  } catch (error) {
+    return [error.name, error.message];
+  }
+  return "nothing";
+}
+
+const text = (bytes) => new TextDecoder().decode(bytes);
+const module = readFileSync(process.argv[2]);
+
+/** Loads the module, and answers it with its memory, which it doesn't show. */
+async function loaded() {
+  const { instantiate } = WebAssembly;
+  let memory;
+  WebAssembly.instantiate = async (...given) => {
+    const made = await instantiate(...given);
+    memory = made.instance.exports.memory;
+    return made;
+  };
+  const nissy = await Nissy.load(module);
+  WebAssembly.instantiate = instantiate;
+  return { nissy, memory };
+}
+
+function tryRows(nissy) {
+  for (const [what, given, status, out, err, full] of ROWS) {
+    const answer = nissy.run(...given);
+    same(what, [answer.status, text(answer.out), text(answer.err), answer.full], [status, out, err, full]);
+  }
+}
+
+async function tryRefusals(nissy) {
+  same("a word with a zero byte", await thrown(() => nissy.run(["invert", "R\0U"])), ["RangeError", "a word holds a zero byte"]);
+  same("bytes that are no module", (await thrown(() => Nissy.load(module.subarray(1))))[0], "CompileError");
+  const { validate } = WebAssembly;
+  WebAssembly.validate = () => false;
+  const [name, message] = await thrown(() => Nissy.load(module));
+  WebAssembly.validate = validate;
+  same("an engine without 64-bit memories", [name, message], ["NoWideMemory", new NoWideMemory().message]);
+  same("it says so in words", /64-bit memories/.test(message), true);
+}
+
+/** After many calls the memory is as large as after a few. */
+async function tryMemory() {
+  const { nissy, memory } = await loaded();
+  const lines = "R U F\n".repeat(100);
+  const run = (at) => nissy.run(at % 1000 < 5 ? ["count", "dr-eofb", "1"] : ["invert"], at % 1000 < 5 ? "" : lines);
+  let sizeAfterTen = 0;
+  let done = 0;
+  for (let at = 0; at < CALLS; at += 1) {
+    done += run(at).status === 0 ? 1 : 0;
+    if (at === 9) sizeAfterTen = memory.buffer.byteLength;
+  }
+  console.log(`${done} calls, ${sizeAfterTen} bytes of memory after ten and ${memory.buffer.byteLength} after all`);
+  same("each of many calls is done", done, CALLS);
+  same("the memory after many calls", memory.buffer.byteLength, sizeAfterTen);
+}
+
+const compiled = await WebAssembly.compile(module);
+same("the module asks nothing of its host", WebAssembly.Module.imports(compiled), []);
+same("what it exports", WebAssembly.Module.exports(compiled).map(({ name }) => name), ["memory", "nissy_run", "__heap_base"]);
+const copied = module.buffer.slice(module.byteOffset, module.byteOffset + module.byteLength);
+same("a module in an ArrayBuffer", text((await Nissy.load(copied)).run(["invert", "R"]).out), "R'\n");
+const { nissy } = await loaded();
+tryRows(nissy);
+await tryRefusals(nissy);
+await tryMemory();
+console.log(`${passed} passed, ${failed} failed`);
+process.exitCode = failed ? 1 : 0;

@@ -1,0 +1,201 @@
+/**
+ * nissy in a page, or wherever JavaScript runs: moves and searches of the 3x3x3 cube, by the proved engine as WebAssembly.
+ *
+ *     import { Nissy } from "./nissy.js";
+ *     const nissy = await Nissy.load(await (await fetch("nissy.wasm")).arrayBuffer());
+ *     const answer = nissy.run(["count", "eofb", "20"], "R U F\n");
+ *     new TextDecoder().decode(answer.out); // "length 1 solutions 2 nodes 20\n"
+ *
+ * A run ends before `run` returns: in a page it belongs into a worker.
+ */
+
+/**
+ * What a run answers.
+ * @typedef {object} Answer
+ * @property {number} status the exit status of the program, 0 to 3
+ * @property {Uint8Array} out the output
+ * @property {Uint8Array} err the error text
+ * @property {boolean} full whether the output was longer than the greatest room for it; `out` is then a beginning of it
+ */
+
+/**
+ * The bytes that a call reads, and how many it may take for tables and for the output.
+ * @typedef {{words: Uint8Array, input: Uint8Array, lent: number, room: number}} Call
+ */
+
+const PAGE = 65_536;
+
+/** How many bytes are lent for the tables of a step at first: those of any step fit. Longer words take more. */
+const FIRST_LENT = 3 * 1_048_576;
+const MOST_LENT = 1_024 * 1_048_576;
+
+/** The room for an output at first, beside eight bytes for each byte of the input, and the greatest. */
+const FIRST_ROOM = 65_536;
+const MOST_ROOM = 512 * 1_048_576;
+
+/** By how much either grows where it was too small. */
+const GROWTH = 8;
+
+/** The room for an error text, which is enough for each. */
+const ERROR_ROOM = 128;
+
+/** The bytes of the module's `Answer`, and where its fields are. */
+const ANSWER = { bytes: 32, status: 0, outLength: 8, errLength: 16, outTooSmall: 24 };
+
+/** The same of its `Room`: where the memory is that is lent, and its size. */
+const ROOM = { bytes: 16, block: 0, size: 8 };
+
+const OUT_OF_MEMORY = "nissy: out of memory\n";
+
+/** A module that has a 64-bit memory and nothing else. */
+const WIDE_MEMORY = Uint8Array.of(0, 0x61, 0x73, 0x6d, 1, 0, 0, 0, 5, 3, 1, 4, 0);
+
+const encoder = new TextEncoder();
+const decoder = new TextDecoder();
+
+/** This engine can't run the module. */
+export class NoWideMemory extends Error {
+  constructor() {
+    super("This browser has no 64-bit memories for WebAssembly. Chrome and Edge have them from version 133 on, Firefox from 134 on.");
+    this.name = "NoWideMemory";
+  }
+}
+
+/**
+ * @param {string | Uint8Array} text
+ * @returns {Uint8Array} its bytes; those of UTF-8 for a string
+ */
+function bytesOf(text) {
+  return typeof text === "string" ? encoder.encode(text) : text;
+}
+
+/**
+ * @param {(string | Uint8Array)[]} words
+ * @returns {Uint8Array} the words as the module takes them, each with a zero byte after it
+ */
+function joined(words) {
+  const listed = words.map(bytesOf);
+  const bytes = new Uint8Array(listed.reduce((sum, word) => sum + word.length + 1, 0));
+  let at = 0;
+  for (const word of listed) {
+    if (word.includes(0)) throw new RangeError("a word holds a zero byte");
+    bytes.set(word, at);
+    at += word.length + 1;
+  }
+  return bytes;
+}
+
+/**
+ * @param {WebAssembly.Memory} memory
+ * @param {number} pages
+ */
+function grow(memory, pages) {
+  try {
+    memory.grow(/** @type {any} */ (BigInt(pages)));
+  } catch (error) {
+    // engines that had 64-bit memories before they were settled take a number here
+    if (!(error instanceof TypeError)) throw error;
+    memory.grow(pages);
+  }
+}
+
+/** @param {Answer} answer */
+function isRefusedMemory(answer) {
+  return answer.status === 3 && decoder.decode(answer.err) === OUT_OF_MEMORY;
+}
+
+/** The engine, loaded. */
+export class Nissy {
+  /** @type {WebAssembly.Memory} */ #memory;
+  /** @type {(...numbers: bigint[]) => void} */ #call;
+  /** @type {number} where the memory begins that the module doesn't use by itself */ #base;
+
+  /** @param {WebAssembly.Exports} exports */
+  constructor(exports) {
+    this.#memory = /** @type {WebAssembly.Memory} */ (exports.memory);
+    this.#call = /** @type {any} */ (exports.nissy_run);
+    this.#base = Number(/** @type {WebAssembly.Global} */ (exports.__heap_base).value);
+  }
+
+  /**
+   * Loads the module `nissy.wasm`. Rejects with `NoWideMemory` where the engine can't run it.
+   * @param {ArrayBuffer | Uint8Array} bytes those of the module
+   * @returns {Promise<Nissy>}
+   */
+  static async load(bytes) {
+    if (!globalThis.WebAssembly?.validate(WIDE_MEMORY)) throw new NoWideMemory();
+    const { instance } = await WebAssembly.instantiate(bytes, {});
+    return new Nissy(instance.exports);
+  }
+
+  /**
+   * Does what the program does with these words after its name, and `input` as its standard input. Nothing is kept after the run, but the
+   * memory that it needed, for the next.
+   * @param {(string | Uint8Array)[]} words the words of a command
+   * @param {string | Uint8Array} [input] what the program reads where its words don't give it
+   * @param {number} [room] where it is given, the output has room for so many bytes, and the run is made once
+   * @returns {Answer}
+   */
+  run(words, input = "", room = undefined) {
+    const call = { words: joined(words), input: bytesOf(input), lent: FIRST_LENT, room: 0 };
+    if (room !== undefined) return this.#runWithRoom({ ...call, room });
+    for (call.room = FIRST_ROOM + 8 * call.input.length; ; call.room *= GROWTH) {
+      const answer = this.#runWithRoom(call);
+      if (!answer.full || call.room >= MOST_ROOM) return answer;
+    }
+  }
+
+  /**
+   * Runs once, or again with more for the tables where memory was refused.
+   * @param {Call} call
+   * @returns {Answer}
+   */
+  #runWithRoom(call) {
+    for (let lent = call.lent; ; lent *= GROWTH) {
+      const answer = this.#runOnce({ ...call, lent });
+      if (!isRefusedMemory(answer) || lent >= MOST_LENT) return answer;
+    }
+  }
+
+  /**
+   * @param {Call} call
+   * @returns {Answer}
+   */
+  #runOnce({ words, input, lent, room }) {
+    const [answer, memory, err, block, wordsAt, inputAt, out] = this.#places([
+      ANSWER.bytes, ROOM.bytes, ERROR_ROOM, lent, words.length, input.length, room]);
+    const bytes = new Uint8Array(this.#memory.buffer);
+    bytes.set(words, wordsAt);
+    bytes.set(input, inputAt);
+    const view = new DataView(this.#memory.buffer);
+    view.setBigUint64(memory + ROOM.block, BigInt(block), true);
+    view.setBigUint64(memory + ROOM.size, BigInt(lent), true);
+    this.#call(...[answer, memory, wordsAt, words.length, inputAt, input.length, out, room, err, ERROR_ROOM].map(BigInt));
+    if (view.getBigUint64(memory + ROOM.size, true) !== BigInt(lent)) throw new Error("the module kept memory that it was lent");
+    const length = (/** @type {number} */ at) => Number(view.getBigUint64(answer + at, true));
+    return {
+      status: view.getUint8(answer + ANSWER.status),
+      out: bytes.slice(out, out + length(ANSWER.outLength)),
+      err: bytes.slice(err, err + length(ANSWER.errLength)),
+      full: view.getUint8(answer + ANSWER.outTooSmall) !== 0,
+    };
+  }
+
+  /**
+   * Where parts of these sizes stand in the memory, one after the other, which grows where they need more.
+   * @param {number[]} sizes
+   * @returns {number[]}
+   */
+  #places(sizes) {
+    let end = this.#base;
+    const places = sizes.map((size) => {
+      // the module takes its structs and the memory for the tables at multiples of 16
+      const place = Math.ceil(end / 16) * 16;
+      end = place + size;
+      return place;
+    });
+    const missing = end - this.#memory.buffer.byteLength;
+    if (missing > 0) grow(this.#memory, Math.ceil(missing / PAGE));
+    return places;
+  }
+}
