@@ -1,7 +1,7 @@
 // The part of the page that shows the best continuations, with progress and a way to stop.
 import { Stopped } from "./calls.js";
 import { findContinuations } from "./continuations.js";
-import { announce, counted, element, part, tell } from "./element.js";
+import { announce, counted, element, part, setBusy, tell } from "./element.js";
 import { bracketed } from "./position.js";
 import { SIDES, eitherReduction, stepNamed, titleOf } from "./steps.js";
 
@@ -61,6 +61,7 @@ export class BestContinuations {
         part("best-stop").hidden = !isWorking;
         part("best-progress").hidden = !isWorking;
         part("best-find").hidden = isWorking;
+        setBusy("best", isWorking);
         if (isWorking) part("best-progress").removeAttribute("value");
         part(isWorking ? "best-stop" : "best-find").focus({ preventScroll: true });
     }
@@ -85,7 +86,7 @@ export class BestContinuations {
             return element("td", best ? { class: "best" } : {}, each.lengths[side] === null ? "–" : String(each.lengths[side]));
         });
         const axis = element("small", {}, titleOf(stepNamed(each.orientation)));
-        return element("tr", {}, element("th", { scope: "row" }, sum), element("td", {}, take, axis), ...lengths);
+        return element("tr", {}, element("th", { scope: "row" }, sum), element("td", {}, take, " ", axis), ...lengths);
     }
 
     #take(each) {

@@ -11,14 +11,15 @@ const BATCH = 500;
 
 /** @param {import("./calls.js").Calls} calls @param {import("./position.js").Lines} now @param {number} slack @returns {Promise<Orientation[]>} */
 async function orientationsOf(calls, now, slack) {
-    const lists = [];
+    const list = [];
     for (const { name } of ORIENTATIONS) {
         for (const side of SIDES) {
             const { solutions } = await solutionsOf(calls, name, slack, now[side]);
-            lists.push(solutions.map((solution) => ({ orientation: name, side, ...solution })));
+            list.push(...solutions.map((solution) => ({ orientation: name, side, ...solution })));
         }
     }
-    return lists.flat();
+    // no moves are the same on both sides
+    return list.filter(({ side, moves }) => side === "normal" || moves !== "");
 }
 
 /** Cuts a list into batches of one orientation's axis each, since their reductions share their tables. @param {Orientation[]} list */

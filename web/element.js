@@ -30,6 +30,11 @@ export function tell(where, text) {
     where.hidden = text === "";
 }
 
+/** Says of a part of the page whether it waits for answers. @param {string} id @param {boolean} isBusy */
+export function setBusy(id, isBusy) {
+    part(id).setAttribute("aria-busy", String(isBusy));
+}
+
 /** Says something to screen readers. @param {string} text */
 export function announce(text) {
     part("status").textContent = text;

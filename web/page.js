@@ -3,7 +3,7 @@ import { addressOf, emptyState, readAddress } from "./address.js";
 import { EngineFault, solutionsOf } from "./answers.js";
 import { BestContinuations } from "./best.js";
 import { EngineMissing, Stopped } from "./calls.js";
-import { announce, counted, part, tell } from "./element.js";
+import { announce, counted, part, setBusy, tell } from "./element.js";
 import { emptyNet, showCube } from "./net.js";
 import { bracketed, examine, offersAfter, readLine } from "./position.js";
 import { ScrambleField } from "./scramble.js";
@@ -88,17 +88,24 @@ export class Page {
         this.#skeleton.show(this.#state.parts);
         this.#skeleton.turnTo(this.#state.side);
         this.#best.reset(null);
+        setBusy("results", true);
         try {
-            const scramble = await this.#readScramble(turn);
-            if (scramble === null) return;
-            const position = await examine(this.#calls, scramble, this.#state.parts);
-            if (turn !== this.#turn) return;
-            this.#showPosition(position);
-            const offers = await offersAfter(this.#calls, position.lines);
-            if (turn === this.#turn) this.#showOffers(offers);
+            await this.#answer(turn);
         } catch (fault) {
             if (turn === this.#turn) this.#refuse(fault);
         }
+        if (turn === this.#turn) setBusy("results", false);
+    }
+
+    /** Shows what the engine answers, as it comes. @param {number} turn */
+    async #answer(turn) {
+        const scramble = await this.#readScramble(turn);
+        if (scramble === null) return;
+        const position = await examine(this.#calls, scramble, this.#state.parts);
+        if (turn !== this.#turn) return;
+        this.#showPosition(position);
+        const offers = await offersAfter(this.#calls, position.lines);
+        if (turn === this.#turn) this.#showOffers(offers);
     }
 
     /** The scramble as the engine reads it, or null where it is at fault or overtaken. @param {number} turn */

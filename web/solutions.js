@@ -1,5 +1,5 @@
 // The list of a step's solutions: grouped by length, filtered by typing, and cut where it is long.
-import { counted, element, part, tell } from "./element.js";
+import { counted, element, part, setBusy, tell } from "./element.js";
 import { roveWithin } from "./roving.js";
 import { stepNamed, titleOf } from "./steps.js";
 
@@ -49,7 +49,7 @@ export class SolutionList {
         if (list === null) return;
         part("solutions-heading").textContent = `${titleOf(stepNamed(list.step))}, ${list.side} side`;
         part("slack").value = String(list.slack);
-        part("solutions-stop").hidden = false;
+        this.#setWorking(true);
         tell(part("solutions-note"), "Looking …");
     }
 
@@ -58,18 +58,23 @@ export class SolutionList {
         this.#solutions = solutions;
         this.#whole = whole;
         this.#filter.value = "";
-        part("solutions-stop").hidden = true;
+        this.#setWorking(false);
         this.#draw();
     }
 
     /** Says why there is no list. @param {string} text */
     refuse(text) {
-        part("solutions-stop").hidden = true;
+        this.#setWorking(false);
         tell(part("solutions-note"), text);
     }
 
     focus() {
         (this.#groups.querySelector("button") ?? part("solutions-heading")).focus();
+    }
+
+    #setWorking(isWorking) {
+        part("solutions-stop").hidden = !isWorking;
+        setBusy("solutions", isWorking);
     }
 
     #draw() {

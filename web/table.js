@@ -1,6 +1,6 @@
 // The table of the steps that may follow: a row for each, a cell for each side with the least length, the number of solutions and the looks.
 import { counted, element, part } from "./element.js";
-import { SIDES, titleOf } from "./steps.js";
+import { SIDES, stateOf, stepNamed, titleOf } from "./steps.js";
 
 /** @typedef {import("./position.js").Offer} Offer */
 /** @typedef {import("./steps.js").Side} Side */
@@ -12,10 +12,16 @@ function wordsOf({ length, solutions, looks }) {
     return [counted(length, "move"), `${counted(solutions, "solution")}, ${counted(looks, "look")}`];
 }
 
-/** The least length that a group of offers has, beside those that are reached. @param {Offer[]} offers */
+/** The least length of a group of offers, or null where one of them is reached. @param {Offer[]} offers */
 function leastOf(offers) {
-    const lengths = offers.flatMap((offer) => SIDES.map((side) => offer[side].length));
-    return Math.min(...lengths.filter((length) => length > 0));
+    const lengths = offers.flatMap((offer) => SIDES.map((side) => offer[side].length ?? Infinity));
+    return Math.min(...lengths) || null;
+}
+
+/** @param {import("./steps.js").OfferedStep} step */
+function headOf(step) {
+    const after = step.needs === null ? [] : [element("small", {}, ` after ${titleOf(stepNamed(step.needs))}`)];
+    return element("th", { scope: "row" }, stateOf(step), ...after);
 }
 
 export class StepTable {
@@ -54,8 +60,7 @@ export class StepTable {
     #rows(group, list) {
         const least = leastOf(group);
         return group.map((offer) => {
-            const head = element("th", { scope: "row" }, titleOf(offer.step));
-            return element("tr", {}, head, ...SIDES.map((side) => this.#cell(offer, side, least, list)));
+            return element("tr", {}, headOf(offer.step), ...SIDES.map((side) => this.#cell(offer, side, least, list)));
         });
     }
 
@@ -69,7 +74,7 @@ export class StepTable {
                 type: "button",
                 class: count.length === least ? "cell least" : "cell",
                 "data-cell": name,
-                "aria-pressed": list !== null && name === `${list.step}.${list.side}`,
+                "aria-pressed": String(list !== null && name === `${list.step}.${list.side}`),
                 "aria-label": `${titleOf(step)}, ${side} side: ${length}, ${rest}`,
                 click: () => this.#chosen(step.name, side),
             },
