@@ -9,7 +9,10 @@ import { ORIENTATIONS, SIDES, eitherReduction, otherSide } from "./steps.js";
 
 const BATCH = 500;
 
-/** @param {import("./calls.js").Calls} calls @param {import("./position.js").Lines} now @param {number} slack @returns {Promise<Orientation[]>} */
+/**
+ * @param {import("./calls.js").Calls} calls @param {import("./position.js").Lines} now @param {number} slack
+ * @returns {Promise<Orientation[]>}
+ */
 async function orientationsOf(calls, now, slack) {
     const list = [];
     for (const { name } of ORIENTATIONS) {

@@ -39,7 +39,7 @@ export class Page {
     constructor(newCalls) {
         this.#calls = newCalls();
         this.#listCalls = newCalls();
-        this.#scramble = new ScrambleField(this.#calls, (scramble) => this.#change({ scramble, parts: [], side: "normal", list: null }));
+        this.#scramble = new ScrambleField(this.#calls, (scramble, isNew) => this.#setScramble(scramble, isNew));
         this.#skeleton = new Skeleton(this.#calls, (change) => this.#change(change));
         this.#table = new StepTable((step, side) => this.#open(step, side));
         this.#list = new SolutionList((moves) => this.#take(moves), (slack) => this.#loosen(slack));
@@ -79,6 +79,10 @@ export class Page {
         this.#skeleton.turnTo(this.#state.side);
         this.#table.mark(this.#state.list);
         this.#showList();
+    }
+
+    #setScramble(scramble, isNew) {
+        this.#change(isNew ? { ...emptyState(), scramble } : { scramble });
     }
 
     /** Shows all of the state anew. A later call overtakes an earlier one. */

@@ -42,7 +42,8 @@ async function linesAfter(calls, scramble, parts) {
 
 /**
  * Counts a step after each beginning where it may start, and on the inverse side after the whole.
- * @param {import("./calls.js").Calls} calls @param {import("./steps.js").OfferedStep} step @param {Lines[]} lines @param {string[][]} reached
+ * @param {import("./calls.js").Calls} calls @param {import("./steps.js").OfferedStep} step @param {Lines[]} lines
+ * @param {string[][]} reached after each beginning; the step is added where it is reached
  * @returns {Promise<Offer | null>} null where it may not start after the whole
  */
 async function offerOf(calls, step, lines, reached) {

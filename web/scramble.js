@@ -25,7 +25,10 @@ export class ScrambleField {
     #seed = part("seed");
     #timer = 0;
 
-    /** @param {import("./calls.js").Calls} calls @param {(scramble: string) => void} changed */
+    /**
+     * @param {import("./calls.js").Calls} calls
+     * @param {(scramble: string, isNew: boolean) => void} changed a new scramble begins a new skeleton, one that is typed keeps it
+     */
     constructor(calls, changed) {
         this.#calls = calls;
         this.#changed = changed;
@@ -54,12 +57,12 @@ export class ScrambleField {
 
     #typed() {
         clearTimeout(this.#timer);
-        this.#timer = setTimeout(() => this.#changed(oneLine(this.#field.value)), PAUSE);
+        this.#timer = setTimeout(() => this.#changed(oneLine(this.#field.value), false), PAUSE);
     }
 
     #put(scramble) {
         this.show(scramble);
-        this.#changed(scramble);
+        this.#changed(scramble, true);
     }
 
     async #draw(seed) {

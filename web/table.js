@@ -1,4 +1,4 @@
-// The table of the steps that may follow: a row for each, a cell for each side with the least length, the number of solutions and the looks.
+// The table of the steps that may follow: a row for each, a cell for each side with the least length, how many solutions, and the looks.
 import { counted, element, part } from "./element.js";
 import { SIDES, stateOf, stepNamed, titleOf } from "./steps.js";
 
