@@ -15,10 +15,6 @@ import { StepTable } from "./table.js";
 /** @typedef {import("./address.js").State} State */
 /** @typedef {import("./steps.js").Side} Side */
 
-const NO_ENGINE =
-    "The engine can't start here. It needs a browser with 64-bit memories for WebAssembly: " +
-    "Chrome, Edge and their kin from 133 on, and Firefox from 134 on, have them.";
-
 export class Page {
     /** @type {State} */
     #state = emptyState();
@@ -54,6 +50,7 @@ export class Page {
     /** Begins with what an address says. @param {string} hash */
     async begin(hash) {
         const { state, fault } = readAddress(hash);
+        setBusy("results", true);
         tell(part("alert"), fault);
         try {
             await readLine(this.#calls, bracketed(state.parts));
@@ -201,8 +198,9 @@ export class Page {
     /** Says why there is no answer. @param {Error} fault */
     #refuse(fault) {
         if (fault instanceof Stopped) return;
+        setBusy("results", false);
         part("results").inert = true;
-        if (fault instanceof EngineMissing) tell(part("alert"), `${NO_ENGINE} (${fault.message})`);
+        if (fault instanceof EngineMissing) tell(part("alert"), `The engine can't start here. ${fault.message}`);
         else tell(part("alert"), `The scramble and the moves after it can't be read together: ${fault.message}`);
     }
 }

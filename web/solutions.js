@@ -46,10 +46,10 @@ export class SolutionList {
         this.#solutions = [];
         this.#groups.replaceChildren();
         part("solutions").hidden = list === null;
+        this.#setWorking(list !== null);
         if (list === null) return;
         part("solutions-heading").textContent = `${titleOf(stepNamed(list.step))}, ${list.side} side`;
         part("slack").value = String(list.slack);
-        this.#setWorking(true);
         tell(part("solutions-note"), "Looking …");
     }
 
