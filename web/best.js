@@ -1,13 +1,11 @@
 // The part of the page that shows the best continuations, with progress and a way to stop.
 import { Stopped } from "./calls.js";
-import { findContinuations } from "./continuations.js";
+import { MOST_KEPT, findContinuations } from "./continuations.js";
 import { announce, counted, element, part, setBusy, tell } from "./element.js";
 import { bracketed } from "./position.js";
 import { SIDES, eitherReduction, stepNamed, titleOf } from "./steps.js";
 
 /** @typedef {import("./continuations.js").Continuation} Continuation */
-
-const MOST_ROWS = 100;
 
 export class BestContinuations {
     #calls;
@@ -71,10 +69,10 @@ export class BestContinuations {
         this.#progress = progress;
         part("best-progress").max = Math.max(all, 1);
         part("best-progress").value = done;
-        const cut = found.length > MOST_ROWS ? ` The list is cut: the best ${MOST_ROWS} are shown.` : "";
+        const cut = done > MOST_KEPT ? ` The list is cut: the best ${MOST_KEPT} are shown.` : "";
         tell(part("best-note"), `${done.toLocaleString("en")} of ${counted(all, "orientation")} tried.${cut}`);
         part("best-table").hidden = found.length === 0;
-        part("best-body").replaceChildren(...found.slice(0, MOST_ROWS).map((each) => this.#row(each)));
+        part("best-body").replaceChildren(...found.map((each) => this.#row(each)));
     }
 
     #row(each) {

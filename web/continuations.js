@@ -5,24 +5,27 @@ import { ORIENTATIONS, SIDES, eitherReduction, otherSide } from "./steps.js";
 /** @typedef {import("./steps.js").Side} Side */
 /** @typedef {{orientation: string, side: Side, moves: string, length: number}} Orientation */
 /** @typedef {{sum: number, best: Side, lengths: Record<Side, number | null>} & Orientation} Continuation */
-/** @typedef {{done: number, all: number, found: Continuation[]}} Progress */
+/** @typedef {{done: number, all: number, found: Continuation[]}} Progress the best of those that were tried */
 
 const BATCH = 500;
+
+/** How many of the best are kept. */
+export const MOST_KEPT = 100;
 
 /**
  * @param {import("./calls.js").Calls} calls @param {import("./position.js").Lines} now @param {number} slack
  * @returns {Promise<Orientation[]>}
  */
 async function orientationsOf(calls, now, slack) {
-    const list = [];
+    const lists = [];
     for (const { name } of ORIENTATIONS) {
         for (const side of SIDES) {
             const { solutions } = await solutionsOf(calls, name, slack, now[side]);
-            list.push(...solutions.map((solution) => ({ orientation: name, side, ...solution })));
+            lists.push(solutions.map((solution) => ({ orientation: name, side, ...solution })));
         }
     }
     // no moves are the same on both sides
-    return list.filter(({ side, moves }) => side === "normal" || moves !== "");
+    return lists.flat().filter(({ side, moves }) => side === "normal" || moves !== "");
 }
 
 /** Cuts a list into batches of one orientation's axis each, since their reductions share their tables. @param {Orientation[]} list */
@@ -70,7 +73,7 @@ export async function findContinuations(calls, now, slack, tellProgress) {
     let done = 0;
     tellProgress({ done, all: list.length, found });
     for (const batch of batchesOf(list)) {
-        found = [...found, ...(await continuationsOf(calls, now, batch))].sort(bySum);
+        found = [...found, ...(await continuationsOf(calls, now, batch))].sort(bySum).slice(0, MOST_KEPT);
         done += batch.length;
         tellProgress({ done, all: list.length, found });
     }

@@ -14,10 +14,12 @@ from pathlib import Path
 import addresses
 import faults
 import keyboard
+import looks
+import searches
 from browser import Browser
 from tally import Tally
 
-PARTS = (keyboard, faults, addresses)
+PARTS = (keyboard, faults, addresses, searches, looks)
 
 
 TOP = Path(__file__).resolve().parent.parent.parent
