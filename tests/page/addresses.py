@@ -45,6 +45,7 @@ REFUSED = (
     "#scramble=" + "R_" * 500_000,
     "#" + "&" * 1_000_000,
 )
+REFUSALS = ("The page begins empty", "This address is too long", "The steps of this address can't be read")
 ELEMENTS = "return [...document.querySelectorAll('*')].filter((each) => !each.closest('#steps-body, pre')).length"
 
 
@@ -68,7 +69,7 @@ def refused(tally: Tally, browser: Browser, elements: int) -> None:
     for address in REFUSED:
         what = address if len(address) < 60 else f"{address[:30]}.. ({len(address)} signs)"
         browser.open(address)
-        tally.holds(f"{what} is refused in words", browser.text("alert").startswith(("The page begins empty", "This address", "The steps of")))
+        tally.holds(f"{what} is refused in words", browser.text("alert").startswith(REFUSALS))
         tally.equal(f"{what}: the scramble is empty", browser.script("return document.getElementById('scramble').value"), "")
         tally.equal(f"{what}: no step is taken", browser.texts("#skeleton-list li"), [])
         is_unharmed(tally, browser, what, elements)

@@ -104,7 +104,8 @@ class Browser:
 
     def submit(self, name: str, text: str) -> None:
         """Puts a text in place of a field's, and sends its form, without waiting."""
-        self.script("const field = document.getElementById(arguments[0]); field.value = arguments[1]; field.form.requestSubmit()", name, text)
+        send = "const field = document.getElementById(arguments[0]); field.value = arguments[1]; field.form.requestSubmit()"
+        self.script(send, name, text)
 
     def click(self, selector: str) -> None:
         """Clicks the first element that a selector finds."""

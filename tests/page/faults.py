@@ -76,7 +76,7 @@ def seeds(tally: Tally, browser: Browser) -> None:
     for seed in ("", "x", "-1", "18446744073709551616", "1 2"):
         browser.submit("seed", seed)
         tally.holds(f"the seed {seed!r} is refused", browser.until("return !document.getElementById('seed-fault').hidden"))
-        tally.holds("in the engine's words", browser.text("seed-fault").startswith("nissy: ") or "usage: nissy" in browser.text("seed-fault"))
+        tally.holds("in the engine's words", "usage: nissy COMMAND [ARGUMENTS]" in browser.text("seed-fault"))
         browser.script("document.getElementById('seed-fault').hidden = true")
 
 
