@@ -28,7 +28,7 @@ def orient(tally: Tally, browser: Browser) -> None:
     """Types the scramble, and takes an orientation on the inverse side from a filtered list."""
     tally.holds("the Tab key leads to the scramble", browser.tab_to("scramble", 3))
     browser.press(SCRAMBLE)
-    tally.holds("the scramble is answered", browser.until("return document.querySelector('[data-cell=\"eoud.inverse\"]') !== null"))
+    tally.holds("the scramble is answered", browser.until("return location.hash.endsWith('_R-_U-_F')"))
     browser.wait()
     position = Position(SCRAMBLE)
     shows(tally, browser, "the scramble", position)
