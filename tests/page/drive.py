@@ -18,6 +18,7 @@ import keyboard
 import looks
 import searches
 from browser import Browser
+from selenium.common.exceptions import WebDriverException
 from tally import Tally
 
 PARTS = (keyboard, faults, addresses, searches, looks)
@@ -45,7 +46,10 @@ def main() -> None:
     for part in chosen:
         with Browser(page) as browser, tempfile.TemporaryDirectory() as room:
             browser.program, browser.page_without_engine = program, page_without_engine(Path(room))
-            part.try_all(tally, browser)
+            try:
+                part.try_all(tally, browser)
+            except (WebDriverException, TimeoutError) as stop:
+                tally.holds(f"{part.__name__} goes to its end: {str(stop).splitlines()[0]}", False)
             tally.equal(f"{part.__name__}: the console", browser.complaints(), [])
             beyond = [url for url in browser.requests() if not url.startswith((page, "file:", "blob:", "data:", "about:"))]
             tally.equal(f"{part.__name__}: requests beyond the file", beyond, [])
