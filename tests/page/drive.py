@@ -23,7 +23,6 @@ from tally import Tally
 
 PARTS = (keyboard, faults, addresses, searches, looks)
 
-
 TOP = Path(__file__).resolve().parent.parent.parent
 NO_MEMORIES = "WebAssembly.validate = () => false;\n"
 
@@ -51,7 +50,8 @@ def main() -> None:
             except (WebDriverException, TimeoutError) as stop:
                 tally.holds(f"{part.__name__} goes to its end: {str(stop).splitlines()[0]}", False)
             tally.equal(f"{part.__name__}: the console", browser.complaints(), [])
-            beyond = [url for url in browser.requests() if not url.startswith((page, "file:", "blob:", "data:", "about:"))]
+            known = (page, browser.page_without_engine)
+            beyond = [url for url in browser.requests() if not url.startswith((*known, "blob:", "data:", "about:"))]
             tally.equal(f"{part.__name__}: requests beyond the file", beyond, [])
     tally.end()
 
