@@ -6,10 +6,11 @@
 # The page is build/nissy.html where none is named, and the program build/nissy. What needs a browser that isn't here is skipped, and named.
 # The last line is `N passed, M failed`, and the status is 1 where M isn't 0.
 set -u
+# shellcheck source=tests/shared
+. "$(dirname "$0")/shared"
+page=$(realpath -- "${1:-$(dirname "$0")/../build/nissy.html}")
+program=$(program_of "${@:2}")
 cd "$(dirname "$0")/.." || exit 2
-. tests/shared
-page=$(realpath -- "${1:-build/nissy.html}")
-program=$(realpath -- "${2:-build/nissy}")
 export PYTHONDONTWRITEBYTECODE=1 PYTHONUTF8=1 SE_OFFLINE=true SE_AVOID_STATS=true
 
 missing() { ! command -v "$1" > /dev/null; }
@@ -27,7 +28,7 @@ if missing chromium || missing chromedriver || ! $python -c "import selenium" 2>
 else
     add $python tests/page/drive.py "$page" "$program"
 fi
-if missing firefox; then
+if missing firefox && missing firefox-esr; then
     echo "skipped: the page in Firefox, which isn't installed"
 else
     add python3 tests/page/firefox.py "$page"

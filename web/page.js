@@ -49,6 +49,7 @@ export class Page {
 
     /** Begins with what an address says. @param {string} hash */
     async begin(hash) {
+        const turn = ++this.#turn;
         const { state, fault } = readAddress(hash);
         setBusy("results", true);
         tell(part("alert"), fault);
@@ -59,6 +60,7 @@ export class Page {
             tell(part("alert"), `The steps of this address can't be read: ${stop.message}`);
             Object.assign(state, { parts: [], list: null });
         }
+        if (turn !== this.#turn) return;
         this.#state = state;
         this.#scramble.show(state.scramble);
         await this.#refresh();
@@ -85,6 +87,7 @@ export class Page {
     /** Shows all of the state anew. A later call overtakes an earlier one. */
     async #refresh() {
         const turn = ++this.#turn;
+        this.#now = null;
         this.#calls.drop();
         this.#skeleton.show(this.#state.parts);
         this.#skeleton.turnTo(this.#state.side);
@@ -144,9 +147,10 @@ export class Page {
         this.#showList();
     }
 
-    /** Shows the open list, where it isn't shown yet. */
+    /** Shows the open list, where it isn't shown yet; where the cube isn't known yet, once it is. */
     async #showList() {
         const { list } = this.#state;
+        if (list && !this.#now) return;
         const name = list ? [this.#turn, list.step, list.side, list.slack].join(" ") : "";
         if (name === this.#openList) return;
         this.#openList = name;

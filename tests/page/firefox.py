@@ -6,6 +6,7 @@
 The last line is `N passed, M failed`, and the status is 1 where M isn't 0.
 """
 import json
+import shutil
 import socket
 import subprocess
 import sys
@@ -40,7 +41,7 @@ class Firefox:
         preferences = {"marionette.port": port, "datareporting.policy.dataSubmissionEnabled": False, "app.update.disabledForTesting": True}
         lines = [f"user_pref({json.dumps(name)}, {json.dumps(value)});\n" for name, value in preferences.items()]
         Path(room, "user.js").write_text("".join(lines))
-        words = ["firefox", "--headless", "--no-remote", "--marionette", "--profile", room]
+        words = [shutil.which("firefox") or "firefox-esr", "--headless", "--no-remote", "--marionette", "--profile", room]
         self.process = subprocess.Popen(words, stdout=subprocess.DEVNULL, stderr=subprocess.DEVNULL)
         self.count = 0
         self.stream = self.connect(port).makefile("rwb")

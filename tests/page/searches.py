@@ -102,6 +102,19 @@ def long_list(tally: Tally, browser: Browser) -> None:
     tally.equal("and cut", len(browser.texts("#solutions-groups button")), 200)
 
 
+def hasty(tally: Tally, browser: Browser) -> None:
+    """A cell that is chosen while another scramble is still looked at, and an address that is changed twice."""
+    browser.open(address_of(SCRAMBLE))
+    browser.script("document.querySelector('[data-example]').click(); document.querySelector('[data-cell=\"eoud.inverse\"]').click()")
+    browser.wait()
+    listed = Position(LONGER).solutions("eoud", "inverse")
+    tally.equal("a hasty choice is answered for the scramble that is shown", browser.texts("#solutions-groups button"), listed)
+    browser.script("location.hash = '#scramble=F'; setTimeout(() => { location.hash = '#scramble=R_U' })")
+    browser.until("return document.getElementById('scramble').value === 'R U'")
+    browser.wait()
+    tally.equal("the last address is shown", browser.letters("normal"), Position("R U").letters("normal"))
+
+
 def random(tally: Tally, browser: Browser) -> None:
     """Scrambles by a seed."""
     browser.open()
@@ -120,5 +133,5 @@ def random(tally: Tally, browser: Browser) -> None:
 
 def try_all(tally: Tally, browser: Browser) -> None:
     """All of them."""
-    for part in (best, stopped, long_list, random):
+    for part in (best, stopped, long_list, hasty, random):
         part(tally, browser)
