@@ -8,8 +8,9 @@
 set -u
 # shellcheck source=tests/shared
 . "$(dirname "$0")/shared"
-page=$(realpath -- "${1:-$(dirname "$0")/../build/nissy.html}")
-program=$(program_of "${@:2}")
+build=$(dirname "$0")/../build
+page=$(realpath -m -- "${1:-$build/nissy.html}")
+program=$(realpath -m -- "${2:-$build/nissy}")
 cd "$(dirname "$0")/.." || exit 2
 export PYTHONDONTWRITEBYTECODE=1 PYTHONUTF8=1 SE_OFFLINE=true SE_AVOID_STATS=true
 
