@@ -124,6 +124,10 @@ class Browser:
         """What the cells of the table are called."""
         return self.script("return [...document.querySelectorAll('#steps-body .cell')].map((each) => each.ariaLabel)")
 
+    def workers(self) -> int:
+        """How many workers there are."""
+        return sum(target["type"] == "worker" for target in self.command("Target.getTargets")["targetInfos"])
+
     def complaints(self) -> list[str]:
         """What the console says beside plain notes."""
         return [entry["message"] for entry in self.driver.get_log("browser") if entry["level"] in ("SEVERE", "WARNING")]

@@ -47,7 +47,7 @@ def main() -> None:
             browser.program, browser.page_without_engine = program, page_without_engine(Path(room))
             try:
                 part.try_all(tally, browser)
-            except (WebDriverException, TimeoutError) as stop:
+            except (WebDriverException, TimeoutError, LookupError, TypeError, ValueError) as stop:
                 tally.holds(f"{part.__name__} goes to its end: {str(stop).splitlines()[0]}", False)
             tally.equal(f"{part.__name__}: the console", browser.complaints(), [])
             known = (page, browser.page_without_engine)

@@ -1,5 +1,6 @@
 """Best continuations and long lists: their answers, their progress, and a stop in mid-search."""
 import subprocess
+import time
 
 from browser import Browser
 from tally import Tally
@@ -72,7 +73,12 @@ def stopped(tally: Tally, browser: Browser) -> None:
     browser.click('[data-cell="eofb.normal"]')
     tally.holds("meanwhile a list is answered", browser.until("return document.querySelector('#solutions-groups button') !== null"))
     tally.holds("and the search goes on", browser.script("return !document.getElementById('best-stop').hidden"))
+    workers = browser.workers()
     browser.act("#best-stop")
+    end = time.monotonic() + 10
+    while browser.workers() >= workers and time.monotonic() < end:
+        time.sleep(0.1)
+    tally.equal("a stop ends its worker", browser.workers(), workers - 1)
     note = browser.text("best-note")
     done, _, all_of_them = note.removeprefix("Stopped. ").split()[:3]
     tally.holds(f"it stops: {note}", note.startswith("Stopped.") and int(done.replace(",", "")) < int(all_of_them.replace(",", "")))
