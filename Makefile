@@ -56,7 +56,7 @@ build/nissy.wasm: $(SOURCES) tools/web-module
 build/nissy.html: build/nissy.wasm tools/page $(wildcard web/*.html web/*.css web/*.js)
 	tools/page web build/nissy.wasm build/nissy.html
 
-check: build/nissy $(if $(filter no,$(LIBRARY)),,$(if $(shell command -v cc),build/libnissy.a))
+check: build/nissy build/nissy.html $(if $(filter no,$(LIBRARY)),,$(if $(shell command -v cc),build/libnissy.a))
 	tests/built
 
 test:

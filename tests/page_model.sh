@@ -30,6 +30,6 @@ add "${node[@]}" tests/page_model/rows.mjs "$module"
 if ! command -v python3 > /dev/null; then
     echo "skipped: there is no python3 here"
 else
-    add python3 tests/page_model/beside_program.py "$program" "$module" 1 0.4 "${node[@]}"
+    add python3 tests/page_model/beside_program.py "$program" "$module" 1 0.25 "${node[@]}"
 fi
 ended

@@ -38,7 +38,7 @@ tables_are_whole() {
 
 links_of() { grep -oE '\]\([^) ]+\)' "$1" | sed 's/^](//; s/)$//' | grep -v '^http'; }
 
-for page in *.md docs/*.md bench/*.md; do
+for page in *.md docs/*.md bench/*.md web/*.md; do
     holds "$page: its tables are whole" tables_are_whole "$page"
     for target in $(links_of "$page"); do
         holds "$page: the link to $target leads somewhere" leads_somewhere "$page" "$target"
@@ -48,7 +48,7 @@ holds "README.md has links" test -n "$(links_of README.md)"
 holds "README.md has at most 90 lines" test "$(grep -c '' README.md)" -le 90
 
 # each file and name of code that these pages give in backquotes is one of the repository
-find crates tests tools include python Makefile -name out -prune -o -type f -print -exec cat {} + | grep -oE '[A-Za-z_0-9]+' | sort -u > "$room/words"
+find crates tests tools include python web Makefile -name out -prune -o -type f -print -exec cat {} + | grep -oE '[A-Za-z_0-9]+' | sort -u > "$room/words"
 is_there() {
     case $1 in
         */*) stands_in_a_crate "$1" ;;
@@ -63,7 +63,7 @@ done
 
 says_nothing() { ! "$@" 2>&1 | grep .; }
 holds "docs/ARCHITECTURE.md maps each file of the libraries" says_nothing tools/map
-paths_in() { grep -oE '\b(crates|tests|tools|docs|bench|completions|include|python)/[A-Za-z0-9_./-]+' "$1" | sed 's/\.$//' | grep -v NAME | sort -u; }
+paths_in() { grep -oE '\b(crates|tests|tools|docs|bench|completions|include|python|web)/[A-Za-z0-9_./-]+' "$1" | sed 's/\.$//' | grep -v NAME | sort -u; }
 for page in README.md CONTRIBUTING.md; do
     each "$page" "a file or folder" "$(paths_in "$page")" test -e
 done

@@ -19,8 +19,8 @@
  */
 
 /**
- * The bytes that a call reads, and how many it may take for tables and for the output.
- * @typedef {{words: Uint8Array, input: Uint8Array, lent: number, room: number}} Call
+ * The bytes that a call reads.
+ * @typedef {{words: Uint8Array, input: Uint8Array}} Given
  */
 
 const PAGE = 65_536;
@@ -99,6 +99,24 @@ function grow(memory, pages) {
   }
 }
 
+/**
+ * Makes a run, and makes it again with more as long as it had too little, up to the most.
+ * @param {number} first
+ * @param {number} most
+ * @param {(amount: number) => Answer} run
+ * @param {(answer: Answer) => boolean} hadTooLittle
+ * @returns {Answer}
+ */
+function withEnough(first, most, run, hadTooLittle) {
+  let amount = first;
+  let answer = run(amount);
+  while (hadTooLittle(answer) && amount < most) {
+    amount = Math.min(amount * GROWTH, most);
+    answer = run(amount);
+  }
+  return answer;
+}
+
 /** @param {Answer} answer */
 function isRefusedMemory(answer) {
   return answer.status === 3 && decoder.decode(answer.err) === OUT_OF_MEMORY;
@@ -130,38 +148,36 @@ export class Nissy {
 
   /**
    * Does what the program does with these words after its name, and `input` as its standard input. Nothing is kept after the run, but the
-   * memory that it needed, for the next.
+   * memory that it needed, for the next. Throws a `RangeError` where a word holds a zero byte, or the engine has no memory for the run.
    * @param {(string | Uint8Array)[]} words the words of a command
    * @param {string | Uint8Array} [input] what the program reads where its words don't give it
    * @param {number} [room] where it is given, the output has room for so many bytes, and the run is made once
    * @returns {Answer}
    */
   run(words, input = "", room = undefined) {
-    const call = { words: joined(words), input: bytesOf(input), lent: FIRST_LENT, room: 0 };
-    if (room !== undefined) return this.#runWithRoom({ ...call, room });
-    for (call.room = FIRST_ROOM + 8 * call.input.length; ; call.room *= GROWTH) {
-      const answer = this.#runWithRoom(call);
-      if (!answer.full || call.room >= MOST_ROOM) return answer;
-    }
+    const given = { words: joined(words), input: bytesOf(input) };
+    if (room !== undefined) return this.#runWithRoom(given, room);
+    const first = FIRST_ROOM + 8 * given.input.length;
+    return withEnough(first, MOST_ROOM, (more) => this.#runWithRoom(given, more), (answer) => answer.full);
   }
 
   /**
-   * Runs once, or again with more for the tables where memory was refused.
-   * @param {Call} call
+   * @param {Given} given
+   * @param {number} room
    * @returns {Answer}
    */
-  #runWithRoom(call) {
-    for (let lent = call.lent; ; lent *= GROWTH) {
-      const answer = this.#runOnce({ ...call, lent });
-      if (!isRefusedMemory(answer) || lent >= MOST_LENT) return answer;
-    }
+  #runWithRoom(given, room) {
+    return withEnough(FIRST_LENT, MOST_LENT, (lent) => this.#runOnce(given, room, lent), isRefusedMemory);
   }
 
   /**
-   * @param {Call} call
+   * One call of the module.
+   * @param {Given} given
+   * @param {number} room how many bytes the output may take
+   * @param {number} lent how many the tables may take
    * @returns {Answer}
    */
-  #runOnce({ words, input, lent, room }) {
+  #runOnce({ words, input }, room, lent) {
     const [answer, memory, err, block, wordsAt, inputAt, out] = this.#places([
       ANSWER.bytes, ROOM.bytes, ERROR_ROOM, lent, words.length, input.length, room]);
     const bytes = new Uint8Array(this.#memory.buffer);

@@ -4,7 +4,7 @@
     tests/page_model/beside_program.py PROGRAM MODULE SEED SCALE NODE..
 
 NODE is the command that runs node with 64-bit memories. The draws are those by which the program is compared with the independent model
-(tests/model/against.py), some 3,500 at scale 0.4, each called with room that grows and with room of a drawn size. The last line is
+(tests/model/against.py), some 4,000 at scale 0.25, each called with room that grows and with room of a drawn size. The last line is
 `N passed, M failed`, by kinds of calls, and the status is 1 where M isn't 0.
 """
 import base64

@@ -100,7 +100,7 @@ async function tryRefusals(nissy) {
 /** After many calls the memory is as large as after a few. */
 async function tryMemory() {
   const { nissy, memory } = await loaded();
-  const lines = "R U F\n".repeat(100);
+  const lines = "R U F\n".repeat(20);
   const run = (at) => nissy.run(at % 1000 < 5 ? ["count", "dr-eofb", "1"] : ["invert"], at % 1000 < 5 ? "" : lines);
   let sizeAfterTen = 0;
   let done = 0;
