@@ -1,5 +1,5 @@
-# `make` proves the crates below the program and builds it, `make lib` does so with the library for C and Python, `make check` tries what
-# is built, `make test` runs the gate and then that.
+# `make` proves the crates below the program and builds it, `make lib` does so with the library for C and Python, `make page` makes the
+# page for a browser, `make check` tries what is built, `make test` runs the gate and then that.
 PREFIX ?= /usr/local
 DESTDIR ?=
 # `make install LIBRARY=no` leaves out what needs a C compiler and binutils to be built.
@@ -31,11 +31,13 @@ INSTALLED := \
 	completions/nissy.fish:share/fish/vendor_completions.d/nissy.fish \
 	$(if $(filter no,$(LIBRARY)),,$(LIBRARY_FILES))
 
-.PHONY: all lib check test install uninstall dist clean bench
+.PHONY: all lib page check test install uninstall dist clean bench
 
 all: build/nissy
 
 lib: build/libnissy.a
+
+page: build/nissy.html
 
 build/nissy: $(SOURCES)
 	@echo "Proving and building. The first time this takes five to ten minutes on two cores; later, seconds."
@@ -50,8 +52,11 @@ build/libnissy.a: $(SOURCES) tools/static-library
 build/nissy.wasm: $(SOURCES) tools/web-module
 	tools/web-module build/nissy.wasm
 
-check: build/nissy $(if $(filter no,$(LIBRARY)),,$(if $(shell command -v cc),build/libnissy.a)) \
-		$(if $(shell command -v node),build/nissy.wasm)
+# one file, with the engine's module in it
+build/nissy.html: build/nissy.wasm tools/page $(wildcard web/*.html web/*.css web/*.js)
+	tools/page web build/nissy.wasm build/nissy.html
+
+check: build/nissy build/nissy.html $(if $(filter no,$(LIBRARY)),,$(if $(shell command -v cc),build/libnissy.a))
 	tests/built
 
 test:

@@ -2,6 +2,8 @@
 
 import os
 import subprocess
+import sys
+import tempfile
 from functools import lru_cache
 
 TOP = os.path.dirname(os.path.dirname(os.path.abspath(__file__)))
@@ -51,18 +53,38 @@ def build(crate: str) -> None:
         subprocess.run(["rt", "lib"], cwd=f"{TOP}/crates/{crate}", stdout=subprocess.DEVNULL, check=True)
 
 
-def check_words(crate: str, kept: str, functions: list[str]) -> list[str]:
-    """Returns the words that check functions of a crate, to be run in a folder with its sources, over the work kept in another folder."""
-    mine = below(crate)
+def words_on(crate: str, folder_of_kit: str) -> list[str]:
+    """Returns the words by which the kit's checker and its compiler find a crate's root and the libraries below it."""
     of_kit = ["std", *[use for use in crates()[crate] if use not in crates()]]
     root = "src/main.rt" if os.path.isfile(f"{TOP}/crates/{crate}/src/main.rt") else "src/lib.rt"
-    words = [f"{kit()}/bin/rattle", "check", "--crate-name", crate, root]
+    words = ["--crate-name", crate, root]
     for name in of_kit:
-        words += ["--extern", f"{name}={kit()}/rlibs/{name}.rlib"]
-    words += ["-L", f"dependency={kit()}/rlibs"]
-    for name in mine:
+        words += ["--extern", f"{name}={folder_of_kit}/rlibs/{name}.rlib"]
+    words += ["-L", f"dependency={folder_of_kit}/rlibs"]
+    for name in below(crate):
         words += ["--extern", f"{name}={built(name)}"] if name in crates()[crate] else []
         words += ["-L", f"dependency={os.path.dirname(built(name))}"]
-    words += ["--antt-project", f"{kit()}/rattle/logic/antt-project.json", "--logic-built", f"{kit()}/logic_built"]
-    words += ["--jobs", "1", "--links", f"{crate}=", "--incremental", kept, "--allow-holes"]
+    words += ["--antt-project", f"{folder_of_kit}/rattle/logic/antt-project.json", "--logic-built", f"{folder_of_kit}/logic_built"]
+    return words + ["--links", f"{crate}="]
+
+
+def check_words(crate: str, kept: str, functions: list[str]) -> list[str]:
+    """Returns the words that check functions of a crate, to be run in a folder with its sources, over the work kept in another folder."""
+    words = [f"{kit()}/bin/rattle", "check", *words_on(crate, kit()), "--jobs", "1", "--incremental", kept, "--allow-holes"]
     return words + [word for function in functions for word in ("--only", function)]
+
+
+def build_archive(crate: str, archive: str, target: str) -> None:
+    """Proves a crate that crates.txt lists as a static library, and compiles it for a target. The libraries below it are taken as a gate left
+    them, whose work `rt lib` would make anew."""
+    for name in crates()[crate]:
+        if name in crates():
+            build(name)
+    words = [f"{kit()}/bin/rattle", "build", *words_on(crate, kit()), "--jobs", "2", "--crate-type", "staticlib", "--target", target]
+    words += ["--toolchain", f"{kit()}/toolchain", "--backend", "llvm", "-o", archive]
+    with tempfile.TemporaryDirectory() as kept:
+        words += ["--incremental", kept]
+        ran = subprocess.run(words, cwd=f"{TOP}/crates/{crate}", stdout=subprocess.PIPE, stderr=subprocess.STDOUT, text=True, check=False)
+    proved = [line for line in ran.stdout.splitlines() if line.startswith("logic=proved ") and f" target={target} " in line]
+    if ran.returncode or len(proved) != 1:
+        sys.exit(f"{ran.stdout}{crate} is not proved")

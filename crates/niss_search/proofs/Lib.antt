@@ -14,3 +14,4 @@ pub mod EntryLemmas
 pub mod FillLemmas
 pub mod TickLemmas
 pub mod ScanLemmas
+pub mod WordLemmas

@@ -1,51 +1,23 @@
-use Rattle.std.proofs.Common.{arith, ◌≡◌, ◌≢◌, ◌+◌, ◌-◌, ◌≤◌, ◌<◌, ℕ, List, drop, slice_index, get_or, sym, ap, ◌∙◌, subst, true, false, leb, inl, inr, ◌⊎◌}
-use Rattle.std.proofs.lemmas.List.{get_or-drop}
-use Rattle.std.proofs.lemmas.Bool.Decides.{leb_tells}
-use Rattle.niss_search.proofs.ScanLemmas.{is-told}
+use Rattle.std.proofs.Common.{arith, ◌≢◌, length, slice_index}
+use Rattle.niss_search.proofs.ScanLemmas.{first-told, least-after, none-after}
 use Rattle.niss_search.proofs.scan.next_at.Goals as goal
 
-pub returns-then-place-lt32-clause-found : goal.returns-then-place-lt32-clause-found
-returns-then-place-lt32-clause-found c =
-    let inv = c.loop-block.invariant in
-    let told = is-told c.args.table.now c.args.from c.loop-block.block-index c.loop-block.at c.first_in_block-place.result c.args.level c.as_chunks.result.0.now c.requires inv.in_blocks c.loop-block-test.true inv.at c.first_in_block-place.ensures in
-    (omega arith, omega (arith, told.room), told.stops c.if-place-lt32.true)
+pub returns-then-place-lt8-clause-found : goal.returns-then-place-lt8-clause-found
+returns-then-place-lt8-clause-found c =
+    let word = c.in-Some.ensures.cases in
+    let told = first-told 8 c.args.table.now c.args.from c.first_in_word-place.result c.args.level c.in-Some.word.now c.requires word.enough word.same c.first_in_word-place.ensures in
+    (omega arith, omega (arith, told.room, c.if-place-lt8.true), told.stops c.if-place-lt8.true)
 
--- what holds below m and of each place from m up to m + r holds below m + r
-joined : (P : ℕ → Type 0) (from m r : ℕ) → ((k : ℕ) → from ≤ k → k < m → P k) → ((k : ℕ) → m ≤ k → k < m + r → P k) → (k : ℕ) → from ≤ k → k < m + r → P k
-joined P from m r below above k low high = by_side (leb_tells m k) where
-  by_side : ((leb m k ≡ true) × (m ≤ k)) ⊎ ((leb m k ≡ false) × (k < m)) → P k
-  by_side (inl e) = above k e.1 high
-  by_side (inr e) = below k low e.1
+pub returns-then-place-lt8-clause-least : goal.returns-then-place-lt8-clause-least
+returns-then-place-lt8-clause-least c =
+    let word = c.in-Some.ensures.cases in
+    let told = first-told 8 c.args.table.now c.args.from c.first_in_word-place.result c.args.level c.in-Some.word.now c.requires word.enough word.same c.first_in_word-place.ensures in
+    told.fails
 
-pub returns-then-place-lt32-clause-least : goal.returns-then-place-lt32-clause-least
-returns-then-place-lt32-clause-least c =
-    let inv = c.loop-block.invariant in
-    let told = is-told c.args.table.now c.args.from c.loop-block.block-index c.loop-block.at c.first_in_block-place.result c.args.level c.as_chunks.result.0.now c.requires inv.in_blocks c.loop-block-test.true inv.at c.first_in_block-place.ensures in
-    joined (λ k. slice_index c.args.table.now k ≢ c.args.level) c.args.from c.loop-block.at c.first_in_block-place.result inv.passed told.fails
+pub returns-clause-least : goal.returns-clause-least
+returns-clause-least c =
+    least-after (λ k. slice_index c.args.table.now k ≢ c.args.level) c.args.from c.skip_blocks.result c.next_by_words.result c.skip_blocks.ensures.skipped c.next_by_words.ensures.least
 
-pub loop-block-preserved : goal.loop-block-preserved
-loop-block-preserved c =
-    let inv = c.loop-block.invariant in
-    let told = is-told c.args.table.now c.args.from c.loop-block.block-index c.loop-block.at c.first_in_block-place.result c.args.level c.as_chunks.result.0.now c.requires inv.in_blocks c.loop-block-test.true inv.at c.first_in_block-place.ensures in
-    record {
-      in_blocks = inv.in_blocks;
-      rest = inv.rest;
-      at = omega arith;
-      passed = joined (λ k. slice_index c.args.table.now k ≢ c.args.level) c.args.from c.loop-block.at 32 inv.passed (λ k low high. told.fails k low (omega arith));
-    }
-
-pub loop-byte-preserved : goal.loop-byte-preserved
-loop-byte-preserved c =
-    let inv = c.loop-byte.invariant in
-    let table = c.args.table.now in
-    let same : c.loop-byte.at - c.loop-byte.byte-index ≡ c.loop-byte.at + 1 - (c.loop-byte.byte-index + 1) = omega arith in
-    let back : c.loop-byte.at - c.loop-byte.byte-index + c.loop-byte.byte-index ≡ c.loop-byte.at = omega arith in
-    let byte : get_or c.as_chunks.result.1.now c.loop-byte.byte-index 0 ≡ slice_index table c.loop-byte.at =
-    ap (λ (l : List ℕ). get_or l c.loop-byte.byte-index 0) inv.rest ∙ get_or-drop (c.loop-byte.at - c.loop-byte.byte-index) table c.loop-byte.byte-index 0 ∙ ap (slice_index table) back in
-    record {
-      rest = inv.rest ∙ ap (λ n. drop n table) same;
-      at = omega arith;
-      passed = joined (λ k. slice_index table k ≢ c.args.level) c.args.from c.loop-byte.at 1 inv.passed (λ k low high.
-          let here : k ≡ c.loop-byte.at = omega arith in
-          subst (λ (j : ℕ). slice_index table j ≢ c.args.level) (sym here) (λ e. c.if-byte-level.false (byte ∙ e)));
-    }
+pub returns-clause-none : goal.returns-clause-none
+returns-clause-none c =
+    none-after (λ k. slice_index c.args.table.now k ≢ c.args.level) c.args.from c.skip_blocks.result (length c.args.table.now) c.next_by_words.result c.skip_blocks.ensures.skipped c.next_by_words.ensures.none

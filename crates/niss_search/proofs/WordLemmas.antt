@@ -1,0 +1,195 @@
+-- Eight bytes as one number: which of them are a level, by one sum over all of them.
+use Rattle.std.proofs.Common.{◌≡◌, ℕ, zero, suc, ◌+◌, ◌*◌, ◌/◌, ◌%◌, ◌<◌, ◌≤◌, ◌==◌, not, cond, true, false, List, [], ◌∷◌, length, map, get_or, refl, sym, ap, ◌∙◌, inl, inr, ◌⊎◌, ap₂, Bool, eq-eqb, arith}
+use Rattle.std.proofs.lemmas.List.{length-map}
+use Rattle.std.specs.Prelude.{replicate}
+use Rattle.std.specs.Int.{w64, from_le_bytes}
+use Rattle.std.specs.Int.Bits.{bit_and, bit_or, bit_xor, xor_add_and, xor_self}
+use Rattle.std.specs.Int.Count.{count_trailing_zeros}
+use Rattle.std.specs.List.{prefix_len}
+use Rattle.std.proofs.lemmas.Nat.{and_block, or_block, xor_block, and_le_l, and_le_r, and_mask, xor_lt, or_lt}
+use Rattle.std.proofs.lemmas.Nat.Bits.{and_pow, bit_at_or}
+use Rattle.std.specs.Int.{bit_at}
+use Rattle.std.proofs.Math.Dec.{eqb}
+use lib.Count.{under}
+use Rattle.std.proofs.lemmas.Bool.Decides.{eqb_tells}
+use lib.Lanes.{number_l}
+
+-- 128 where a byte is the level, and else 0
+abbrev pub mark : ℕ → ℕ → ℕ
+mark level byte = cond (byte == level) 128 0
+
+-- how the marks of a number are found
+abbrev pub marked : (x level low high : ℕ) → ℕ
+marked x level low high =
+    bit_xor (bit_and (bit_or (bit_and (bit_xor x level) low + low) (bit_xor x level)) high) high
+
+-- ---- one byte
+
+high-of : (d : ℕ) → d < 256 → 0 < d → bit_and (bit_or (bit_and d 127 + 127) d) 128 ≡ 128
+high-of d small some =
+    let low : bit_and d 127 ≡ d % 128 = and_mask d 7 in
+    let of_or = bit_at_or (bit_and d 127 + 127) d 7 in
+    let one : bit_at (bit_or (bit_and d 127 + 127) d) 7 ≡ 1 = omega (arith, low, of_or) in
+    and_pow (bit_or (bit_and d 127 + 127) d) 7 ∙ ap (λ b. b * 128) one
+
+xor-zero-same : (a b : ℕ) → bit_xor a b ≡ 0 → a ≡ b
+xor-zero-same a b e = omega (arith, xor_add_and a b, and_le_l a b, and_le_r a b)
+
+positive : (n : ℕ) → (n ≡ 0 → ⊥) → 0 < n
+positive n h = grind arith
+
+one-byte : (x level : ℕ) → x < 256 → level < 256 → marked x level 127 128 ≡ mark level x
+one-byte x level xs ls = by_test (eqb_tells x level) where
+  by_test : ((eqb x level ≡ true) × (x ≡ level)) ⊎ ((eqb x level ≡ false) × (x ≡ level → ⊥)) → marked x level 127 128 ≡ mark level x
+  by_test (inl e) =
+      ap (λ d. bit_xor (bit_and (bit_or (bit_and d 127 + 127) d) 128) 128) (ap (λ y. bit_xor x y) (sym e.1) ∙ xor_self x) ∙ ap (λ b. cond {A = ℕ} b 128 0) (sym e.0)
+  by_test (inr e) =
+      let some : 0 < bit_xor x level = positive _ (λ z. e.1 (xor-zero-same x level z)) in
+      ap (λ n. bit_xor n 128) (high-of (bit_xor x level) (xor_lt 8 x level xs ls) some) ∙ ap (λ b. cond {A = ℕ} b 128 0) (sym e.0)
+
+-- ---- a byte and the rest
+
+flip : (x r : ℕ) → x + 256 * r ≡ r * 256 + x
+flip x r = omega arith
+
+xor-step : (x y r s : ℕ) → x < 256 → y < 256 → bit_xor (x + 256 * r) (y + 256 * s) ≡ bit_xor x y + 256 * bit_xor r s
+xor-step x y r s a b = ap₂ bit_xor (flip x r) (flip y s) ∙ xor_block 8 r s x y a b ∙ sym (flip (bit_xor x y) (bit_xor r s))
+
+and-step : (x y r s : ℕ) → x < 256 → y < 256 → bit_and (x + 256 * r) (y + 256 * s) ≡ bit_and x y + 256 * bit_and r s
+and-step x y r s a b = ap₂ bit_and (flip x r) (flip y s) ∙ and_block 8 r s x y a b ∙ sym (flip (bit_and x y) (bit_and r s))
+
+or-step : (x y r s : ℕ) → x < 256 → y < 256 → bit_or (x + 256 * r) (y + 256 * s) ≡ bit_or x y + 256 * bit_or r s
+or-step x y r s a b = ap₂ bit_or (flip x r) (flip y s) ∙ or_block 8 r s x y a b ∙ sym (flip (bit_or x y) (bit_or r s))
+
+marked-step : (x level r rest low high : ℕ) → x < 256 → level < 256 → marked (x + 256 * r) (level + 256 * rest) (127 + 256 * low) (128 + 256 * high) ≡ marked x level 127 128 + 256 * marked r rest low high
+marked-step x level r rest low high xs ls =
+    let d = bit_xor x level in
+    let ds : d < 256 = xor_lt 8 x level xs ls in
+    let few : bit_and d 127 ≤ 127 = and_le_r d 127 in
+    let e = bit_and d 127 + 127 in
+    let es : e < 256 = omega (arith, few) in
+    let os : bit_or e d < 256 = or_lt 8 e d es ds in
+    let hs : bit_and (bit_or e d) 128 < 256 = omega (arith, and_le_r (bit_or e d) 128) in
+    let dr = bit_xor r rest in
+    let er = bit_and dr low + low in
+    let at_d : bit_xor (x + 256 * r) (level + 256 * rest) ≡ d + 256 * dr = xor-step x level r rest xs ls in
+    let at_e : bit_and (d + 256 * dr) (127 + 256 * low) + (127 + 256 * low) ≡ e + 256 * er = omega (arith, and-step d 127 dr low ds (omega arith)) in
+    let at_o : bit_or (e + 256 * er) (d + 256 * dr) ≡ bit_or e d + 256 * bit_or er dr = or-step e d er dr es ds in
+    let at_h : bit_and (bit_or e d + 256 * bit_or er dr) (128 + 256 * high) ≡ bit_and (bit_or e d) 128 + 256 * bit_and (bit_or er dr) high = and-step (bit_or e d) 128 (bit_or er dr) high os (omega arith) in
+    let at_x = xor-step (bit_and (bit_or e d) 128) 128 (bit_and (bit_or er dr) high) high hs (omega arith) in
+    ap (λ n. bit_xor (bit_and (bit_or (bit_and n (127 + 256 * low) + (127 + 256 * low)) n) (128 + 256 * high)) (128 + 256 * high)) at_d
+    ∙ ap (λ n. bit_xor (bit_and (bit_or n (d + 256 * dr)) (128 + 256 * high)) (128 + 256 * high)) at_e
+    ∙ ap (λ n. bit_xor (bit_and n (128 + 256 * high)) (128 + 256 * high)) at_o
+    ∙ ap (λ n. bit_xor n (128 + 256 * high)) at_h
+    ∙ at_x
+
+-- ---- a list of bytes
+
+marked-list : (xs : List ℕ) (level : ℕ) → ((i : ℕ) → get_or xs i 0 < 256) → level < 256 → marked (number_l 256 xs) (number_l 256 (replicate (length xs) level)) (number_l 256 (replicate (length xs) 127)) (number_l 256 (replicate (length xs) 128)) ≡ number_l 256 (map (mark level) xs)
+marked-list [] level small ls = refl
+marked-list (x ∷ xs) level small ls =
+    marked-step x level (number_l 256 xs) (number_l 256 (replicate (length xs) level)) (number_l 256 (replicate (length xs) 127)) (number_l 256 (replicate (length xs) 128)) (small 0) ls
+    ∙ ap₂ (λ a b. a + 256 * b) (one-byte x level (small 0) ls) (marked-list xs level (λ i. small (suc i)) ls)
+
+-- the number of eight bytes is the one that `from_le_bytes` reads
+pub le-number : (xs : List ℕ) → length xs ≡ 8 → from_le_bytes w64 xs ≡ number_l 256 xs
+le-number (a ∷ b ∷ c ∷ d ∷ e ∷ f ∷ g ∷ h ∷ []) l = omega arith
+le-number [] l = absurd (omega arith)
+le-number (a ∷ []) l = absurd (omega arith)
+le-number (a ∷ b ∷ []) l = absurd (omega arith)
+le-number (a ∷ b ∷ c ∷ []) l = absurd (omega arith)
+le-number (a ∷ b ∷ c ∷ d ∷ []) l = absurd (omega arith)
+le-number (a ∷ b ∷ c ∷ d ∷ e ∷ []) l = absurd (omega arith)
+le-number (a ∷ b ∷ c ∷ d ∷ e ∷ f ∷ []) l = absurd (omega arith)
+le-number (a ∷ b ∷ c ∷ d ∷ e ∷ f ∷ g ∷ []) l = absurd (omega arith)
+le-number (a ∷ b ∷ c ∷ d ∷ e ∷ f ∷ g ∷ h ∷ i ∷ xs) l = absurd (omega arith)
+
+-- the marks of eight bytes
+pub marked-word : (xs : List ℕ) (level n v : ℕ) → length xs ≡ 8 → ((i : ℕ) → get_or xs i 0 < 256) → level < 256 → n ≡ from_le_bytes w64 xs → v ≡ from_le_bytes w64 (replicate 8 level) → marked n v 9187201950435737471 9259542123273814144 ≡ from_le_bytes w64 (map (mark level) xs)
+marked-word xs level n v l small ls is_n is_v =
+    let eight : replicate (length xs) level ≡ replicate 8 level = ap (λ (k : ℕ). replicate k level) l in
+    let lows : number_l 256 (replicate (length xs) 127) ≡ 9187201950435737471 = ap (λ (k : ℕ). number_l 256 (replicate k 127)) l in
+    let highs : number_l 256 (replicate (length xs) 128) ≡ 9259542123273814144 = ap (λ (k : ℕ). number_l 256 (replicate k 128)) l in
+    let numbers = is_n ∙ le-number xs l in
+    let levels = is_v ∙ le-number (replicate 8 level) refl ∙ ap (number_l 256) (sym eight) in
+    ap₂ (λ a b. marked a b 9187201950435737471 9259542123273814144) numbers levels
+    ∙ ap₂ (λ a b. marked (number_l 256 xs) (number_l 256 (replicate (length xs) level)) a b) (sym lows) (sym highs)
+    ∙ marked-list xs level small ls
+    ∙ sym (le-number (map (mark level) xs) (length-map xs (mark level) ∙ l))
+
+-- ---- the first mark
+
+trailing-even : (k m : ℕ) → count_trailing_zeros (suc k) (2 * m) ≡ suc (count_trailing_zeros k m)
+unfolding count_trailing_zeros
+trailing-even k m =
+    let r : (2 * m) % 2 ≡ 0 = omega arith in
+    let h : (2 * m) / 2 ≡ m = omega arith in
+    ap₂ (λ d n. under d (count_trailing_zeros k n)) r h
+
+trailing-odd : (k m : ℕ) → count_trailing_zeros (suc k) (1 + 2 * m) ≡ 0
+unfolding count_trailing_zeros
+trailing-odd k m =
+    let r : (1 + 2 * m) % 2 ≡ 1 = omega arith in
+    ap (λ d. under d (count_trailing_zeros k ((1 + 2 * m) / 2))) r
+
+-- a digit that isn't set
+trailing-next : (k n m t : ℕ) → n ≡ 2 * m → count_trailing_zeros k m ≡ t → count_trailing_zeros (suc k) n ≡ suc t
+trailing-next k n m t e h = ap (count_trailing_zeros (suc k)) e ∙ trailing-even k m ∙ ap suc h
+
+trailing-8 : (k m : ℕ) → count_trailing_zeros (8 + k) (256 * m) ≡ 8 + count_trailing_zeros k m
+trailing-8 k m =
+    let digits : 8 + k ≡ suc (suc (suc (suc (suc (suc (suc (suc k))))))) = omega arith in
+    let a = trailing-next k (2 * m) m (count_trailing_zeros k m) refl refl in
+    let b = trailing-next (suc k) (4 * m) (2 * m) _ (omega arith) a in
+    let c = trailing-next (suc (suc k)) (8 * m) (4 * m) _ (omega arith) b in
+    let d = trailing-next (suc (suc (suc k))) (16 * m) (8 * m) _ (omega arith) c in
+    let e = trailing-next (suc (suc (suc (suc k)))) (32 * m) (16 * m) _ (omega arith) d in
+    let f = trailing-next (suc (suc (suc (suc (suc k))))) (64 * m) (32 * m) _ (omega arith) e in
+    let g = trailing-next (suc (suc (suc (suc (suc (suc k)))))) (128 * m) (64 * m) _ (omega arith) f in
+    let all = trailing-next (suc (suc (suc (suc (suc (suc (suc k))))))) (256 * m) (128 * m) _ (omega arith) g in
+    omega (arith, ap (λ n. count_trailing_zeros n (256 * m)) digits, all)
+
+trailing-7 : (k m : ℕ) → count_trailing_zeros (8 + k) (128 + 256 * m) ≡ 7
+trailing-7 k m =
+    let digits : 8 + k ≡ suc (suc (suc (suc (suc (suc (suc (suc k))))))) = omega arith in
+    let a = trailing-odd k m in
+    let b = trailing-next (suc k) (2 + 4 * m) (1 + 2 * m) _ (omega arith) a in
+    let c = trailing-next (suc (suc k)) (4 + 8 * m) (2 + 4 * m) _ (omega arith) b in
+    let d = trailing-next (suc (suc (suc k))) (8 + 16 * m) (4 + 8 * m) _ (omega arith) c in
+    let e = trailing-next (suc (suc (suc (suc k)))) (16 + 32 * m) (8 + 16 * m) _ (omega arith) d in
+    let f = trailing-next (suc (suc (suc (suc (suc k))))) (32 + 64 * m) (16 + 32 * m) _ (omega arith) e in
+    let g = trailing-next (suc (suc (suc (suc (suc (suc k)))))) (64 + 128 * m) (32 + 64 * m) _ (omega arith) f in
+    ap (λ n. count_trailing_zeros n (128 + 256 * m)) digits ∙ trailing-next (suc (suc (suc (suc (suc (suc (suc k))))))) (128 + 256 * m) (64 + 128 * m) _ (omega arith) g
+
+first-of : (xs : List ℕ) (level : ℕ) → count_trailing_zeros (8 * length xs) (number_l 256 (map (mark level) xs)) / 8 ≡ prefix_len (λ x. not (x == level)) xs
+unfolding count_trailing_zeros
+first-of [] level = refl
+first-of (x ∷ xs) level =
+    let more : 8 * suc (length xs) ≡ 8 + 8 * length xs = omega arith in
+    ap (λ k. count_trailing_zeros k (mark level x + 256 * number_l 256 (map (mark level) xs)) / 8) more ∙ by_test (x == level) (first-of xs level) where
+      by_test : (b : Bool) → count_trailing_zeros (8 * length xs) (number_l 256 (map (mark level) xs)) / 8 ≡ prefix_len (λ y. not (y == level)) xs → count_trailing_zeros (8 + 8 * length xs) (cond b 128 0 + 256 * number_l 256 (map (mark level) xs)) / 8 ≡ cond (not b) (1 + prefix_len (λ y. not (y == level)) xs) 0
+      by_test true rest = ap (λ n. n / 8) (trailing-7 (8 * length xs) (number_l 256 (map (mark level) xs)))
+      by_test false rest =
+          let next : count_trailing_zeros (8 + 8 * length xs) (256 * number_l 256 (map (mark level) xs)) ≡ 8 + count_trailing_zeros (8 * length xs) (number_l 256 (map (mark level) xs)) = trailing-8 (8 * length xs) (number_l 256 (map (mark level) xs)) in
+          let same : cond {A = ℕ} false 128 0 + 256 * number_l 256 (map (mark level) xs) ≡ 256 * number_l 256 (map (mark level) xs) = omega arith in
+          let eight : count_trailing_zeros (8 + 8 * length xs) (256 * number_l 256 (map (mark level) xs)) / 8 ≡ 1 + prefix_len (λ y. not (y == level)) xs = omega (arith, next, rest) in
+          ap (λ n. count_trailing_zeros (8 + 8 * length xs) n / 8) same ∙ eight
+
+-- the place of the lowest mark of eight bytes is that of the level
+pub first-marked : (xs : List ℕ) (level n : ℕ) → length xs ≡ 8 → n ≡ from_le_bytes w64 (map (mark level) xs) → count_trailing_zeros 64 n / 8 ≡ prefix_len (λ x. not (x == level)) xs
+first-marked xs level n l is =
+    let number = is ∙ le-number (map (mark level) xs) (length-map xs (mark level) ∙ l) in
+    let digits : 8 * length xs ≡ 64 = omega (arith, l) in
+    ap₂ (λ k m. count_trailing_zeros k m / 8) (sym digits) number ∙ first-of xs level
+
+-- where no byte is marked, none is the level
+unmarked : (xs : List ℕ) (level : ℕ) → number_l 256 (map (mark level) xs) ≡ 0 → (k : ℕ) → k < length xs → get_or xs k 0 ≡ level → ⊥
+unmarked [] level none k few e = absurd (omega arith)
+unmarked (x ∷ xs) level none zero few e = clear (ap (λ b. cond {A = ℕ} b 128 0) (eq-eqb x level e)) where
+  clear : mark level x ≡ 128 → ⊥
+  clear m = absurd (omega (arith, m, none))
+unmarked (x ∷ xs) level none (suc k) few e = unmarked xs level (omega (arith, none)) k (omega arith) e
+
+pub none-marked : (xs : List ℕ) (level n : ℕ) → length xs ≡ 8 → n ≡ from_le_bytes w64 (map (mark level) xs) → n ≡ 0 → (k : ℕ) → k < 8 → get_or xs k 0 ≡ level → ⊥
+none-marked xs level n l is none k few e =
+    unmarked xs level (sym (le-number (map (mark level) xs) (length-map xs (mark level) ∙ l)) ∙ sym is ∙ none) k (omega arith) e

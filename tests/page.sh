@@ -1,0 +1,37 @@
+#!/usr/bin/env bash
+# Tries the page that `make page` built, and drives it in Chromium and Firefox:
+#
+#     tests/page.sh [PAGE [PROGRAM]]
+#
+# The page is build/nissy.html where none is named, and the program build/nissy. What needs a browser that isn't here is skipped, and named.
+# The last line is `N passed, M failed`, and the status is 1 where M isn't 0.
+set -u
+# shellcheck source=tests/shared
+. "$(dirname "$0")/shared"
+build=$(dirname "$0")/../build
+page=$(realpath -m -- "${1:-$build/nissy.html}")
+program=$(realpath -m -- "${2:-$build/nissy}")
+cd "$(dirname "$0")/.." || exit 2
+export PYTHONDONTWRITEBYTECODE=1 PYTHONUTF8=1 SE_OFFLINE=true SE_AVOID_STATS=true
+
+missing() { ! command -v "$1" > /dev/null; }
+if [ ! -e "$page" ] || missing python3; then
+    echo "skipped: the page, since make page built none or there is no python3"
+    echo "0 passed, 0 failed"
+    exit 0
+fi
+add python3 tests/page/files.py "$page"
+
+# Debian's Python has Debian's selenium, whatever other Python comes first
+python=/usr/bin/python3
+if missing chromium || missing chromedriver || ! $python -c "import selenium" 2> /dev/null; then
+    echo "skipped: the page in Chromium, since chromium, chromedriver or python3-selenium isn't installed"
+else
+    add $python tests/page/drive.py "$page" "$program"
+fi
+if missing firefox && missing firefox-esr; then
+    echo "skipped: the page in Firefox, which isn't installed"
+else
+    add python3 tests/page/firefox.py "$page"
+fi
+ended

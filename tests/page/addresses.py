@@ -1,0 +1,98 @@
+"""Addresses that nobody's page wrote: each becomes a state of the page or a sentence, and never markup."""
+from urllib.parse import quote
+
+from browser import Browser
+from tally import Tally
+from wanted import SIDES, Position, fault
+
+MARKUP = (
+    "<img src=x onerror=window.hit=1>",
+    "<script>window.hit=1</script>",
+    "\"><svg onload=window.hit=1>",
+    "javascript:window.hit=1",
+    "${window.hit=1}",
+)
+REFUSED = (
+    "#%",
+    "#scramble=%",
+    "#scramble=%E0%A4%A",
+    "#scramble=%FF",
+    "#scramble",
+    "#scramble=R=U",
+    "#__proto__=R",
+    "#constructor=R",
+    "#scramble=R&toString=1",
+    "#steps=R",
+    "#steps=normal.",
+    "#steps=normal.R~",
+    "#steps=up.R",
+    "#steps=normal.R.U",
+    "#steps=normal.%3Cb%3E",
+    "#steps=normal.q",
+    "#steps=normal.R_2",
+    "#steps=inverse.R)_(U",
+    "#steps=" + "~".join(["normal.R"] * 257),
+    "#steps=normal." + "_".join(["R"] * 257),
+    "#side=__proto__",
+    "#side=Normal",
+    "#list=eofb.normal",
+    "#list=eofb.normal.4",
+    "#list=eofb.normal.-1",
+    "#list=toString.normal.0",
+    "#list=eofb.constructor.0",
+    "#list=eofb.normal.0.0",
+    "#scramble=" + "R_" * 1000,
+    "#scramble=" + "R_" * 500_000,
+    "#" + "&" * 1_000_000,
+)
+REFUSALS = ("The page begins empty", "This address is too long", "The steps of this address can't be read")
+ELEMENTS = "return [...document.querySelectorAll('*')].filter((each) => !each.closest('#steps-body, pre')).length"
+
+
+def is_unharmed(tally: Tally, browser: Browser, what: str, elements: int) -> None:
+    """No script ran, and no element came."""
+    tally.holds(f"{what}: nothing ran", browser.script("return window.hit === undefined && ({}).hit === undefined"))
+    tally.equal(f"{what}: no element came", browser.script(ELEMENTS), elements)
+
+
+def markup(tally: Tally, browser: Browser, elements: int) -> None:
+    """Markup as a scramble: it is text in the field and in the engine's words."""
+    for text in MARKUP:
+        browser.open("#scramble=" + quote(text, safe=""))
+        tally.equal("the field has the text", browser.script("return document.getElementById('scramble').value"), text)
+        tally.equal("the words on it", browser.texts("#scramble-fault p"), [fault(text)])
+        is_unharmed(tally, browser, text, elements + len(["p"]))
+
+
+def refused(tally: Tally, browser: Browser, elements: int) -> None:
+    """What is no state: the page begins empty, says so, and works."""
+    for address in REFUSED:
+        what = address if len(address) < 60 else f"{address[:30]}.. ({len(address)} signs)"
+        browser.open(address)
+        tally.holds(f"{what} is refused in words", browser.text("alert").startswith(REFUSALS))
+        tally.equal(f"{what}: the scramble is empty", browser.script("return document.getElementById('scramble').value"), "")
+        tally.equal(f"{what}: no step is taken", browser.texts("#skeleton-list li"), [])
+        is_unharmed(tally, browser, what, elements)
+
+
+def changed(tally: Tally, browser: Browser) -> None:
+    """An address that is changed while the page is open."""
+    browser.open("#scramble=R_U")
+    browser.script("document.getElementById('results').setAttribute('aria-busy', 'true'); location.hash = '#scramble=F_B&steps=inverse.R'")
+    browser.wait()
+    for side in SIDES:
+        tally.equal(f"another address: the {side} side", browser.letters(side), Position("F B", "", "R").letters(side))
+    browser.fill("scramble", "F\u2019 - _ % & = ~ . # \u00e9 \U0001f9e9")
+    text = browser.script("return document.getElementById('scramble').value")
+    browser.open(browser.script("return location.hash"))
+    tally.equal("any text comes back from the address", browser.script("return document.getElementById('scramble').value"), text)
+
+
+def try_all(tally: Tally, browser: Browser) -> None:
+    """All of them."""
+    browser.open("#scramble=q")
+    elements = browser.script(ELEMENTS) - len(["p"])
+    markup(tally, browser, elements)
+    browser.open()
+    refused(tally, browser, browser.script(ELEMENTS))
+    changed(tally, browser)

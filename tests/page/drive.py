@@ -1,0 +1,60 @@
+#!/usr/bin/env python3
+"""Drives the page in Chromium, and holds what it shows against the independent model.
+
+    tests/page/drive.py PAGE PROGRAM [PART..]
+
+PAGE is the joined file, PROGRAM the built nissy, and a PART one of keyboard, faults, addresses, searches and looks; all where none is
+named. The last line is `N passed, M failed`, and the status is 1 where M isn't 0.
+"""
+import shutil
+import subprocess
+import sys
+import tempfile
+from pathlib import Path
+
+import addresses
+import faults
+import keyboard
+import looks
+import searches
+from browser import Browser
+from selenium.common.exceptions import WebDriverException
+from tally import Tally
+
+PARTS = (keyboard, faults, addresses, searches, looks)
+
+TOP = Path(__file__).resolve().parent.parent.parent
+NO_MEMORIES = "WebAssembly.validate = () => false;\n"
+
+
+def page_without_engine(room: Path) -> str:
+    """The page as a browser without 64-bit memories has it: no module with one is valid."""
+    shutil.copytree(TOP / "web", room / "web")
+    engine = room / "web/nissy.js"
+    engine.write_text(NO_MEMORIES + engine.read_text())
+    (room / "module").write_bytes(b"none")
+    subprocess.run([TOP / "tools/page", room / "web", room / "module", room / "page.html"], check=True)
+    return (room / "page.html").as_uri()
+
+
+def main() -> None:
+    """Each part in a browser of its own, whose console and requests are looked at in the end."""
+    page, program = Path(sys.argv[1]).resolve().as_uri(), str(Path(sys.argv[2]).resolve())
+    tally = Tally()
+    chosen = [part for part in PARTS if len(sys.argv) == 3 or part.__name__ in sys.argv[3:]]
+    for part in chosen:
+        with Browser(page) as browser, tempfile.TemporaryDirectory() as room:
+            browser.program, browser.page_without_engine = program, page_without_engine(Path(room))
+            try:
+                part.try_all(tally, browser)
+            except (WebDriverException, TimeoutError, LookupError, TypeError, ValueError) as stop:
+                tally.holds(f"{part.__name__} goes to its end: {str(stop).splitlines()[0]}", False)
+            tally.equal(f"{part.__name__}: the console", browser.complaints(), [])
+            known = (page, browser.page_without_engine)
+            beyond = [url for url in browser.requests() if not url.startswith((*known, "blob:", "data:", "about:"))]
+            tally.equal(f"{part.__name__}: requests beyond the file", beyond, [])
+    tally.end()
+
+
+if __name__ == "__main__":
+    main()

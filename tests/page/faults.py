@@ -1,0 +1,101 @@
+"""What the page says of what can't be read, typed or sent: the engine's own words, and a mark under the column that they name."""
+import re
+
+from browser import Browser
+from tally import Tally
+from wanted import fault
+
+# a line and the sign that the fault's column names; the words come from the model, and the signs stand here
+LINES = (
+    ("R q", "q"),
+    ("R U\u2019 F2 ?", "?"),
+    ("\u00e9 R", "\u00e9"),
+    ("R (U (F))", "("),
+    ("R U) F", ")"),
+    ("R (U F", "("),
+    ("R " * 256 + "F", "F"),
+    ("R2 3Rw", "3"),
+    ("R <b>U</b>", "<"),
+    ("R' U'\U0001f9e9", "\U0001f9e9"),
+)
+# of a long line 24 signs before the fault are shown, and a sign for those before them
+MOST_BEFORE = 25
+LONG = "R U F' " * 84
+
+
+def shows_fault(tally: Tally, browser: Browser, name: str, text: str, sign: str) -> None:
+    """The words under a field, the marked sign, and the sign under it."""
+    where = f"#{name}-fault"
+    browser.until("return !document.querySelector(arguments[0]).hidden", where)
+    tally.equal(f"the words on {text[-30:]!r}", browser.texts(f"{where} p"), [fault(text)])
+    tally.equal(f"the sign that is marked in {text[-30:]!r}", browser.texts(f"{where} mark"), [sign])
+    column = int(re.search(r"column (\d+)", fault(text))[1])
+    before = len(text.encode()[: column - 1].decode())
+    under = browser.texts(f"{where} pre")[0].split("\n")[1]
+    tally.equal(f"the sign under {text[-30:]!r}", under, " " * min(before, MOST_BEFORE) + "^")
+    tally.equal(f"{name} is said to be at fault", browser.script("return document.getElementById(arguments[0]).ariaInvalid", name), "true")
+
+
+def scrambles(tally: Tally, browser: Browser) -> None:
+    """Faults of the scramble's field."""
+    for text, sign in LINES:
+        browser.fill("scramble", text)
+        shows_fault(tally, browser, "scramble", text, sign)
+        tally.holds("nothing else can be used meanwhile", browser.script("return document.getElementById('results').inert"))
+    browser.fill("scramble", "R\nU\r\nF")
+    tally.equal("line ends are blanks", browser.text("scramble-fault"), "")
+    tally.equal("a fault goes away", browser.script("return document.getElementById('results').inert"), False)
+    tally.holds("and the table is there", len(browser.cells()) >= 6)
+
+
+def by_hand(tally: Tally, browser: Browser) -> None:
+    """Faults of moves by hand, and what is read of them."""
+    for text, sign in LINES[:6]:
+        browser.script("document.getElementById('own-fault').hidden = true")
+        browser.submit("own", text)
+        shows_fault(tally, browser, "own", text, sign)
+    browser.submit("own", "r (U F2\u2019) x")
+    tally.holds("brackets name the sides", browser.until("return document.querySelectorAll('#skeleton-list li').length === 3"))
+    browser.wait()
+    tally.equal("as the engine writes them", browser.text("bracketed"), "Rw (U F2) x")
+    browser.act("#clear")
+
+
+def together(tally: Tally, browser: Browser) -> None:
+    """A scramble and moves that are each short enough, and too long together."""
+    browser.fill("scramble", LONG)
+    browser.submit("own", "R U F D L")
+    tally.holds("too many moves are refused", browser.until("return !document.getElementById('alert').hidden"))
+    tally.holds("in the engine's words", "more than 256 moves" in browser.text("alert"))
+    browser.act("#undo-step")
+    tally.equal("and can be undone", browser.text("alert"), "")
+
+
+def seeds(tally: Tally, browser: Browser) -> None:
+    """Seeds that are none, and one whose scramble is known."""
+    for seed in ("", "x", "-1", "18446744073709551616", "1 2"):
+        browser.submit("seed", seed)
+        tally.holds(f"the seed {seed!r} is refused", browser.until("return !document.getElementById('seed-fault').hidden"))
+        tally.holds("in the engine's words", "usage: nissy COMMAND [ARGUMENTS]" in browser.text("seed-fault"))
+        browser.script("document.getElementById('seed-fault').hidden = true")
+
+
+def starts(tally: Tally, browser: Browser) -> None:
+    """A list that an address asks for though its step may not start."""
+    browser.open("#scramble=F&list=drud-eofb.normal.0")
+    tally.equal("the engine's words on the start", browser.text("solutions-note"), "nissy: line 1: eofb does not hold")
+
+
+def without_memories(tally: Tally, browser: Browser) -> None:
+    """The page where the engine can't start."""
+    browser.driver.get(browser.page_without_engine)
+    tally.holds("a missing engine is said", browser.until("return !document.getElementById('alert').hidden"))
+    said = browser.text("alert")
+    tally.holds("with the browsers that have it", all(word in said for word in ("64-bit memories", "Chrome", "133", "Firefox", "134")))
+
+
+def try_all(tally: Tally, browser: Browser) -> None:
+    """All of them."""
+    browser.open()
+    for part in (scrambles, by_hand, together, seeds, starts, without_memories):
+        part(tally, browser)

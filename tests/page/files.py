@@ -1,0 +1,121 @@
+#!/usr/bin/env python3
+"""Looks at the joined page as text: its size, its policy, what it may ask for, its parts; and at what tools/page refuses.
+
+    tests/page/files.py PAGE
+
+The last line is `N passed, M failed`, and the status is 1 where M isn't 0.
+"""
+import base64
+import hashlib
+import re
+import shutil
+import subprocess
+import sys
+import tempfile
+from pathlib import Path
+
+from tally import Tally
+
+TOP = Path(__file__).resolve().parent.parent.parent
+MOST_BYTES = 400_000
+# what would make text into markup or into a program
+MARKUP = r"(?:inner|outer|set)HTML|insertAdjacent|document\.write|ContextualFragment|DOMParser|\beval\b|new Function|srcdoc|import\("
+# what would ask a network
+ASKING = r"\bfetch\b|XMLHttpRequest|WebSocket|EventSource|sendBeacon|importScripts|RTCPeer|serviceWorker"
+# a script of the page that is put in place of one, and what it would do
+REFUSED = (
+    ("main.js", 'import { part } from "./element.js";\nconst part = 1;\n', "a name that is declared twice"),
+    ("main.js", 'import * as element from "./element.js";\n', "an import of another form"),
+    ("main.js", "export default 1;\n", "an export of another form"),
+    ("main.js", 'const text = "</script>";\n', "an end of its element"),
+    ("main.js", 'const text = "<!--";\n', "a comment of the page"),
+    ("style.css", "</style>", "an end of the style"),
+    ("main.js", "// " + "x" * MOST_BYTES, "a page that is too large"),
+)
+
+
+def element(page: str, pattern: str) -> str:
+    """The text in the one element whose tag has this form."""
+    found = re.findall(f"<{pattern}>(.*?)</(?:script|style)>", page, re.DOTALL)
+    return found[0] if len(found) == 1 else ""
+
+
+def hash_of(text: str) -> str:
+    """What a policy calls this text."""
+    return f"'sha256-{base64.b64encode(hashlib.sha256(text.encode()).digest()).decode()}'"
+
+
+def is_closed(tally: Tally, page: str) -> None:
+    """The policy allows the page's own script, style and worker, and nothing of a network."""
+    policy = re.search(r'http-equiv="Content-Security-Policy" content="([^"]*)"', page)[1]
+    rules = dict(rule.strip().split(" ", 1) for rule in policy.split(";"))
+    wanted = {
+        "default-src": "'none'",
+        "script-src": hash_of(element(page, 'script type="module"')) + " 'wasm-unsafe-eval'",
+        "worker-src": "blob:",
+        "style-src": hash_of(element(page, "style")),
+        "img-src": "data:",
+        "base-uri": "'none'",
+        "form-action": "'none'",
+    }
+    tally.equal("the policy", rules, wanted)
+    tally.holds("it stands before what it rules", page.index("Content-Security-Policy") < min(page.index("<style"), page.index("<link")))
+    links = re.findall(r'\b(?:src|href|action|data|poster)="([^"]*)"', page)
+    tally.holds("its links are data", links and all(link.startswith("data:image/svg+xml,") for link in links))
+    tally.holds("no style asks for a file", not re.search(r"url\(|@import", element(page, "style")))
+    tally.equal("inline handlers", re.findall(r"<[^>]* on[a-z]+=", page.split("<script")[0]), [])
+
+
+def is_plain(tally: Tally, page: str) -> None:
+    """The scripts make no markup and ask nothing."""
+    for name in ('script type="module"', 'script type="text/plain" id="worker-script"'):
+        script = re.sub(r"/\*[\s\S]*?\*/|^\s*//.*$", "", element(page, name), flags=re.MULTILINE)
+        tally.holds(f"{name} is there", len(script) > 1000)
+        tally.equal(f"{name}: markup", re.findall(MARKUP, script), [])
+        tally.equal(f"{name}: requests", re.findall(ASKING, script), [])
+        tally.equal(f"{name}: imports that are left", re.findall(r"^\s*(?:import|export)\b.*", script, re.MULTILINE), [])
+
+
+def is_whole(tally: Tally, page: str) -> None:
+    """Every part that a script names is there once, each help has its button, each label its field, and each text its place."""
+    ids = re.findall(r' id="([^"]+)"', page)
+    tally.equal("ids that stand twice", sorted({name for name in ids if ids.count(name) > 1}), [])
+    script = element(page, 'script type="module"')
+    for name in sorted(set(re.findall(r'\bpart\("([^"]+)"\)', script))):
+        tally.holds(f"the part {name} is there", name in ids)
+    for name in re.findall(r'<label for="([^"]+)"', page) + re.findall(r'aria-(?:describedby|labelledby)="([^"]+)"', page):
+        tally.holds(f"{name}, which a label or a text names, is there", name in ids)
+    helps = sorted(re.findall(r'<div popover id="([^"]+)"', page))
+    tally.equal("each help has its button", sorted(re.findall(r'popovertarget="([^"]+)"', page)), helps)
+    module = base64.b64decode(element(page, 'script type="text/plain" id="engine-module"'), validate=True)
+    tally.equal("the module's first bytes", module[:4], b"\0asm")
+    tally.equal("marks that are left", re.findall(r">@\w+@<|\"@\w+@\"", page), [])
+
+
+def refuses(tally: Tally) -> None:
+    """The tool joins the parts of this folder, and refuses what it can't join."""
+    for name, text, what in (("style.css", "", ""),) + REFUSED:
+        with tempfile.TemporaryDirectory() as room:
+            web, made = Path(room, "web"), Path(room, "page.html")
+            shutil.copytree(TOP / "web", web)
+            Path(room, "module").write_bytes(b"\0asm")
+            with (web / name).open("a") as file:
+                file.write("\n" + text)
+            done = subprocess.run([TOP / "tools/page", web, Path(room, "module"), made], capture_output=True, check=False)
+            is_made = done.returncode == 0 and made.exists()
+            tally.equal(f"tools/page makes a page with {what or 'nothing added'}", is_made, not what)
+
+
+def main() -> None:
+    """All of these."""
+    tally = Tally()
+    text = Path(sys.argv[1]).read_text()
+    tally.holds("the page isn't too large", len(text.encode()) <= MOST_BYTES)
+    for part in (is_closed, is_plain, is_whole):
+        part(tally, text)
+    refuses(tally)
+    tally.end()
+
+
+if __name__ == "__main__":
+    main()

@@ -1,0 +1,119 @@
+"""How the page looks and what it is called: contrast in light and dark, 360 points of width, names, the focus, help."""
+from browser import Browser
+from selenium.webdriver.common.keys import Keys
+from tally import Tally
+
+ADDRESS = (
+    "#scramble=R-_U-_F_D2_L2_F_R2_U2_R2_B_D2_L_B2_D-_B2_L-_R-_B-_D2_B2_R-_U-_F"
+    "&steps=inverse.B_D_R_F2_B_D~normal.R_B-&side=inverse&list=drfb-eoud.inverse.1"
+)
+STOPS = ("scramble", "random", "seed", "undo-move", "own", "switch", "copy-joined", "eofb.normal", "slack", "filter", "best-find")
+# the least contrast of all text that is seen, with the text; what can't be used meanwhile doesn't count
+CONTRAST = """
+    const channels = (text) => text.match(/[\\d.]+/g).map(Number);
+    const bright = (part) => part <= 0.04045 ? part / 12.92 : ((part + 0.055) / 1.055) ** 2.4;
+    const light = ([r, g, b]) => 0.2126 * bright(r / 255) + 0.7152 * bright(g / 255) + 0.0722 * bright(b / 255);
+    const behind = (node) => {
+        if (node === null) return [255, 255, 255];
+        if (node.matches("g.sticker")) return channels(getComputedStyle(node.firstChild).fill);
+        const ground = channels(getComputedStyle(node).backgroundColor);
+        return ground.length === 3 || ground[3] === 1 ? ground : behind(node.parentElement);
+    };
+    const found = [];
+    const seen = [...document.querySelectorAll("body *")].filter((node) => node.checkVisibility() && !node.closest("[inert]"));
+    for (const node of seen) {
+        const words = [...node.childNodes].filter((each) => each.nodeType === 3).map((each) => each.data.trim()).join("");
+        if (words === "" && !node.matches("textarea, input")) continue;
+        const own = getComputedStyle(node);
+        const text = light(channels(node.ownerSVGElement ? own.fill : own.color));
+        const ground = light(behind(node.ownerSVGElement ? node.parentElement : node));
+        found.push([(Math.max(text, ground) + 0.05) / (Math.min(text, ground) + 0.05), words]);
+    }
+    return [found.length, ...found.sort((one, other) => one[0] - other[0])[0]]"""
+# the buttons and fields without a name, and how many there are
+NAMELESS = ("button", "textbox", "combobox", "img", "progressbar", "searchbox")
+WIDE = """
+    const far = [...document.querySelectorAll("body *")].filter((node) => node.checkVisibility() && !node.closest(".unseen, .scrolled, pre")
+        && node.getBoundingClientRect().right > document.documentElement.clientWidth + 0.5);
+    return [innerWidth, document.documentElement.scrollWidth <= innerWidth, far.map((node) => node.outerHTML.slice(0, 80))]"""
+
+
+def is_legible(tally: Tally, browser: Browser, what: str) -> None:
+    """The contrast of every text that is seen."""
+    count, least, words = browser.script(CONTRAST)
+    tally.holds(f"{what}: there is text", count > 15)
+    tally.holds(f"{what}: the least contrast is {least:.2f}, of {words!r}", least >= 4.5)
+
+
+def is_named(tally: Tally, browser: Browser, what: str) -> None:
+    """What assistive technology is told of each control."""
+    nodes = browser.command("Accessibility.getFullAXTree")["nodes"]
+    controls = [node for node in nodes if not node.get("ignored") and node.get("role", {}).get("value") in NAMELESS]
+    nameless = [node["role"]["value"] for node in controls if not node.get("name", {}).get("value", "").strip()]
+    tally.holds(f"{what}: there are controls", len(controls) > 30)
+    tally.equal(f"{what}: controls without a name", nameless, [])
+
+
+def fits(tally: Tally, browser: Browser, what: str) -> None:
+    """Nothing stands beyond the window."""
+    tally.equal(f"{what}: it fits", browser.script(WIDE), [360, True, []])
+
+
+def shows_focus(tally: Tally, browser: Browser) -> None:
+    """Each stop of the Tab key has a line around it, none is missed, and the key isn't caught."""
+    browser.open(ADDRESS)
+    outline = "const own = getComputedStyle(document.activeElement); return [own.outlineStyle, parseFloat(own.outlineWidth)]"
+    stops = []
+    for _ in range(80):
+        browser.press(Keys.TAB)
+        if browser.script("return document.activeElement === document.body"):
+            break
+        stops.append(browser.focused())
+        style, width = browser.script(outline)
+        tally.holds(f"the focus is seen at {stops[-1]!r}", style == "solid" and width >= 2)
+    tally.holds("the Tab key leaves the page at its end", browser.script("return document.activeElement === document.body"))
+    for wanted in STOPS:
+        tally.holds(f"the Tab key comes to {wanted}", wanted in stops)
+
+
+def helps(tally: Tally, browser: Browser) -> None:
+    """Each help opens by the keyboard, fits, and closes."""
+    seen = "[...document.querySelectorAll('.help')].filter((each) => each.checkVisibility())"
+    buttons = browser.script(f"return {seen}.map((each) => each.ariaLabel)")
+    tally.holds("there is help", len(buttons) >= 7)
+    for name in buttons:
+        browser.script("document.querySelector(`.help[aria-label='${arguments[0]}']`).focus()", name)
+        browser.press(Keys.ENTER)
+        tally.holds(f"{name} opens", browser.until("return document.querySelectorAll('.popover:popover-open').length === 1"))
+        fits(tally, browser, name)
+        browser.press(Keys.ESCAPE)
+        tally.holds(f"{name} closes", browser.until("return document.querySelector('.popover:popover-open') === null"))
+
+
+def copies(tally: Tally, browser: Browser) -> None:
+    """The lines are copied, and said to be."""
+    for name in ("bracketed", "joined"):
+        line = browser.text(name)
+        browser.click(f"#copy-{name}")
+        browser.until("return /^(Copied|Selected)/.test(document.getElementById('status').textContent)")
+        said = browser.texts("#status")[0]
+        selected = browser.script("return String(getSelection())")
+        tally.holds(f"{name} is copied: {said}", said == f"Copied: {line}" or selected == line)
+
+
+def try_all(tally: Tally, browser: Browser) -> None:
+    """At 360 points, light and dark, with and without a fault."""
+    browser.command("Emulation.setDeviceMetricsOverride", width=360, height=800, deviceScaleFactor=1, mobile=False)
+    for colours in ("light", "dark"):
+        browser.command("Emulation.setEmulatedMedia", features=[{"name": "prefers-color-scheme", "value": colours}])
+        browser.open(ADDRESS)
+        browser.act("#best-find")
+        is_legible(tally, browser, colours)
+        is_named(tally, browser, colours)
+        fits(tally, browser, colours)
+    for part in (helps, copies):
+        part(tally, browser)
+    shows_focus(tally, browser)
+    browser.fill("scramble", "R U q " + "F" * 300)
+    is_legible(tally, browser, "with a fault")
+    fits(tally, browser, "with a fault")

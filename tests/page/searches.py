@@ -1,0 +1,143 @@
+"""Best continuations and long lists: their answers, their progress, and a stop in mid-search."""
+import subprocess
+import time
+
+from browser import Browser
+from tally import Tally
+from wanted import SIDES, Position
+
+SCRAMBLE = "F2 U2 L2 D2 R2 L2 U2 L B R2 B2 L2 D F B2 R2 U' F R L U R2 F' D2 R2"
+LONGER = "R' U' F D2 L2 F R2 U2 R2 B D2 L B2 D' B2 L' R' B' D2 B2 R' U' F"
+STEPS = ("eofb", "eorl", "eoud")
+ROWS = "return [...document.querySelectorAll('#best-body tr')].map((row) => [...row.children].map((each) => each.firstChild.textContent))"
+
+
+def program_answers(program: str, words: list[str], lines: list[str]) -> list[str]:
+    """What the built program answers to each line."""
+    text = "".join(line + "\n" for line in lines)
+    return subprocess.run([program, *words], input=text, capture_output=True, text=True, check=True).stdout.splitlines()
+
+
+def wanted_rows(program: str, position: Position) -> set[tuple[str, ...]]:
+    """Each orientation with its shortest reductions on both sides, as the cookbook goes about it, by the built program."""
+    rows = set()
+    for step in STEPS:
+        for side in SIDES:
+            other = SIDES[side == "normal"]
+            lists = program_answers(program, ["solve", step, "20"], [position.lines[side]])
+            moves = [line.rsplit("(", 1)[0].strip() for line in lists if line]
+            inverted = program_answers(program, ["invert"], moves)
+            same = program_answers(program, ["count", f"dr-{step}", "20"], [f"{position.lines[side]} {each}" for each in moves])
+            across = program_answers(program, ["count", f"dr-{step}", "20"], [f"{each} {position.lines[other]}" for each in inverted])
+            for each, *counts in zip(moves, same, across):
+                lengths = dict(zip((side, other), (count.split()[1] for count in counts)))
+                total = str(len(each.split()) + min(map(int, lengths.values())))
+                rows.add((total, each if side == "normal" else f"({each})", lengths["normal"], lengths["inverse"]))
+    return rows
+
+
+def address_of(scramble: str) -> str:
+    """The address of a scramble."""
+    return "#scramble=" + scramble.replace(" ", "_").replace("'", "-")
+
+
+def best(tally: Tally, browser: Browser) -> None:
+    """All continuations of the shortest orientations, and the way on from the best."""
+    browser.open(address_of(SCRAMBLE))
+    browser.act("#best-find")
+    rows = [tuple(row) for row in browser.script(ROWS)]
+    wanted = wanted_rows(browser.program, Position(SCRAMBLE))
+    tally.holds("there are some", len(wanted) > 20)
+    tally.equal("how many were tried", browser.text("best-note").split(" tried")[0], f"{len(wanted)} of {len(wanted)} orientations")
+    sums = [int(row[0]) for row in rows]
+    tally.equal("they are sorted by their sum", sums, sorted(int(row[0]) for row in wanted)[: len(rows)])
+    tally.holds("each of them is right", set(rows) <= wanted)
+    tally.equal("as many as fit are shown", len(set(rows)), min(100, len(wanted)))
+    line = rows[0][1]
+    browser.act("#best-body button")
+    browser.until("return document.activeElement.closest('#solutions-groups') !== null")
+    tally.equal("the best is taken", browser.text("bracketed"), line)
+    shown = browser.texts("#solutions-groups button")
+    tally.holds("and its shortest reductions are listed", shown and len(shown[0].split()) == min(int(rows[0][2]), int(rows[0][3])))
+    browser.act("#solutions-groups button")
+    tally.holds("one of them finishes", "is reached" in browser.text("finished"))
+
+
+def stopped(tally: Tally, browser: Browser) -> None:
+    """A stop in mid-search, while the page stays at hand."""
+    browser.open(address_of(LONGER))
+    browser.script("document.getElementById('best-slack').value = '2'")
+    browser.click("#best-find")
+    moving = "const bar = document.getElementById('best-progress'); return !bar.hidden && bar.value > 0 && bar.value < bar.max"
+    tally.holds("the progress is shown", browser.until(moving))
+    browser.click('[data-cell="eofb.normal"]')
+    tally.holds("meanwhile a list is answered", browser.until("return document.querySelector('#solutions-groups button') !== null"))
+    tally.holds("and the search goes on", browser.script("return !document.getElementById('best-stop').hidden"))
+    workers = browser.workers()
+    browser.act("#best-stop")
+    end = time.monotonic() + 10
+    while browser.workers() >= workers and time.monotonic() < end:
+        time.sleep(0.1)
+    tally.equal("a stop ends its worker", browser.workers(), workers - 1)
+    note = browser.text("best-note")
+    done, _, all_of_them = note.removeprefix("Stopped. ").split()[:3]
+    tally.holds(f"it stops: {note}", note.startswith("Stopped.") and int(done.replace(",", "")) < int(all_of_them.replace(",", "")))
+    tally.holds("what was found stays", len(browser.script(ROWS)) > 0)
+    browser.script("document.getElementById('best-slack').value = '0'")
+    browser.act("#best-find")
+    tally.holds("and it can be asked again", "tried" in browser.text("best-note") and "Stopped" not in browser.text("best-note"))
+    browser.click("#best-find")
+    browser.fill("scramble", "R U F")
+    tally.equal("another scramble ends a search", browser.text("best-note"), "")
+
+
+def long_list(tally: Tally, browser: Browser) -> None:
+    """The longest list that the page offers, and a stop of it."""
+    browser.open(address_of(LONGER))
+    browser.click('[data-cell="eoud.inverse"]')
+    browser.wait()
+    choose = "const slack = document.getElementById('slack'); slack.value = arguments[0]; slack.dispatchEvent(new Event('change'))"
+    browser.script(choose + "; document.getElementById('solutions-stop').click()", "3")
+    browser.wait()
+    tally.equal("a list is stopped", browser.text("solutions-note"), "Stopped.")
+    browser.script(choose, "2")
+    browser.wait()
+    count = program_answers(browser.program, ["near", "eoud", "20", "2", f"({LONGER})"], [])
+    wanted = sum(line.endswith(")") for line in count)
+    tally.equal("a long one is counted whole", browser.text("solutions-note").split(".")[0], f"{wanted:,} solutions")
+    tally.equal("and cut", len(browser.texts("#solutions-groups button")), 200)
+
+
+def hasty(tally: Tally, browser: Browser) -> None:
+    """A cell that is chosen while another scramble is still looked at, and an address that is changed twice."""
+    browser.open(address_of(SCRAMBLE))
+    browser.script("document.querySelector('[data-example]').click(); document.querySelector('[data-cell=\"eoud.inverse\"]').click()")
+    browser.wait()
+    listed = Position(LONGER).solutions("eoud", "inverse")
+    tally.equal("a hasty choice is answered for the scramble that is shown", browser.texts("#solutions-groups button"), listed)
+    browser.script("location.hash = '#scramble=F'; setTimeout(() => { location.hash = '#scramble=R_U' })")
+    browser.until("return document.getElementById('scramble').value === 'R U'")
+    browser.wait()
+    tally.equal("the last address is shown", browser.letters("normal"), Position("R U").letters("normal"))
+
+
+def random(tally: Tally, browser: Browser) -> None:
+    """Scrambles by a seed."""
+    browser.open()
+    browser.submit("seed", "42")
+    browser.until("return document.getElementById('scramble').value !== ''")
+    browser.wait()
+    wanted = program_answers(browser.program, ["scramble", "42", "1", "25", "1"], [])
+    tally.equal("a seed's scramble", [browser.script("return document.getElementById('scramble').value")], wanted)
+    browser.click("#random")
+    browser.until("return document.getElementById('scramble').value !== arguments[0]", wanted[0])
+    browser.wait()
+    seed = browser.script("return document.getElementById('seed').value")
+    wanted = program_answers(browser.program, ["scramble", seed, "1", "25", "1"], [])
+    tally.equal("a random one shows its seed", [browser.script("return document.getElementById('scramble').value")], wanted)
+
+
+def try_all(tally: Tally, browser: Browser) -> None:
+    """All of them."""
+    for part in (best, stopped, long_list, hasty, random):
+        part(tally, browser)

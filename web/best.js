@@ -1,0 +1,93 @@
+// The part of the page that shows the best continuations, with progress and a way to stop.
+import { Stopped } from "./calls.js";
+import { MOST_KEPT, findContinuations } from "./continuations.js";
+import { announce, counted, element, part, setBusy, tell } from "./element.js";
+import { bracketed } from "./position.js";
+import { SIDES, eitherReduction, stepNamed, titleOf } from "./steps.js";
+
+/** @typedef {import("./continuations.js").Continuation} Continuation */
+
+export class BestContinuations {
+    #calls;
+    #taken;
+    #now = null;
+    #progress = null;
+
+    /**
+     * @param {import("./calls.js").Calls} calls calls of its own, that can be stopped
+     * @param {(continuation: Continuation, list: {step: string, side: import("./steps.js").Side}) => void} taken
+     */
+    constructor(calls, taken) {
+        this.#calls = calls;
+        this.#taken = taken;
+        part("best-find").addEventListener("click", () => this.#find());
+        part("best-stop").addEventListener("click", () => this.#calls.stop());
+    }
+
+    /** Takes another cube, or none, and forgets what was found for the last one. @param {import("./position.js").Lines | null} now */
+    reset(now) {
+        this.#calls.stop();
+        this.#now = now;
+        this.#progress = null;
+        part("best-find").disabled = now === null;
+        part("best-table").hidden = true;
+        tell(part("best-note"), "");
+    }
+
+    async #find() {
+        const now = this.#now;
+        this.#working(true);
+        tell(part("best-note"), "Looking for the orientations …");
+        try {
+            await findContinuations(this.#calls, now, Number(part("best-slack").value), (progress) => this.#show(progress));
+            announce(part("best-note").textContent);
+        } catch (fault) {
+            if (now === this.#now) this.#brokenOff(fault);
+        } finally {
+            this.#working(false);
+        }
+    }
+
+    #brokenOff(fault) {
+        const seen = this.#progress ? ` ${this.#progress.done} of ${this.#progress.all} orientations were tried.` : "";
+        const text = fault instanceof Stopped ? `Stopped.${seen}` : fault.message;
+        tell(part("best-note"), text);
+        announce(text);
+    }
+
+    #working(isWorking) {
+        part("best-stop").hidden = !isWorking;
+        part("best-progress").hidden = !isWorking;
+        part("best-find").hidden = isWorking;
+        setBusy("best", isWorking);
+        if (isWorking) part("best-progress").removeAttribute("value");
+        part(isWorking ? "best-stop" : "best-find").focus({ preventScroll: true });
+    }
+
+    #show(progress) {
+        const { done, all, found } = progress;
+        this.#progress = progress;
+        part("best-progress").max = Math.max(all, 1);
+        part("best-progress").value = done;
+        const cut = done > MOST_KEPT ? ` The list is cut: the best ${MOST_KEPT} are shown.` : "";
+        tell(part("best-note"), `${done.toLocaleString("en")} of ${counted(all, "orientation")} tried.${cut}`);
+        part("best-table").hidden = found.length === 0;
+        part("best-body").replaceChildren(...found.map((each) => this.#row(each)));
+    }
+
+    #row(each) {
+        const line = each.moves === "" ? "no moves" : bracketed([each]);
+        const sum = Number.isFinite(each.sum) ? String(each.sum) : "–";
+        const take = element("button", { type: "button", class: "moves", click: () => this.#take(each) }, line);
+        const lengths = SIDES.map((side) => {
+            const best = side === each.best;
+            return element("td", best ? { class: "best" } : {}, each.lengths[side] === null ? "–" : String(each.lengths[side]));
+        });
+        const axis = element("small", {}, titleOf(stepNamed(each.orientation)));
+        return element("tr", {}, element("th", { scope: "row" }, sum), element("td", {}, take, " ", axis), ...lengths);
+    }
+
+    #take(each) {
+        this.#taken(each, { step: eitherReduction(each.orientation), side: each.best });
+    }
+}

@@ -1,0 +1,46 @@
+// Makes and fills elements of the page. Text from outside goes through here as text, never as markup.
+
+/** The element of the page that has this id. @param {string} id */
+export function part(id) {
+    const found = document.getElementById(id);
+    if (!found) throw new Error(`the page has no part ${id}`);
+    return found;
+}
+
+/**
+ * A new element: attributes by name, listeners as functions, children as elements or text.
+ * @param {string} name
+ * @param {Record<string, string | number | boolean | ((event: Event) => void)>} attributes
+ * @param {...(Node | string)} children
+ */
+export function element(name, attributes = {}, ...children) {
+    const made = document.createElement(name);
+    for (const [key, value] of Object.entries(attributes)) {
+        if (typeof value === "function") made.addEventListener(key, value);
+        else if (value === true) made.setAttribute(key, "");
+        else if (value !== false) made.setAttribute(key, String(value));
+    }
+    made.append(...children);
+    return made;
+}
+
+/** Shows text in an element, and hides the element where there is none. @param {HTMLElement} where @param {string} text */
+export function tell(where, text) {
+    where.textContent = text;
+    where.hidden = text === "";
+}
+
+/** Says of a part of the page whether it waits for answers. @param {string} id @param {boolean} isBusy */
+export function setBusy(id, isBusy) {
+    part(id).setAttribute("aria-busy", String(isBusy));
+}
+
+/** Says something to screen readers. @param {string} text */
+export function announce(text) {
+    part("status").textContent = text;
+}
+
+/** A number with its word: `1 move`, `1,200 moves`. @param {number} count @param {string} word */
+export function counted(count, word) {
+    return `${count.toLocaleString("en")} ${word}${count === 1 ? "" : "s"}`;
+}

@@ -1,0 +1,13 @@
+// Starts the page: the worker's script and the engine's module stand in the page itself.
+import { Calls } from "./calls.js";
+import { part } from "./element.js";
+import { placeHelp } from "./help.js";
+import { Page } from "./page.js";
+
+const script = part("worker-script").textContent;
+const module = Uint8Array.from(atob(part("engine-module").textContent.trim()), (sign) => sign.charCodeAt(0));
+
+placeHelp();
+const page = new Page(() => new Calls(script, module));
+addEventListener("hashchange", () => page.begin(location.hash));
+page.begin(location.hash);

@@ -1,0 +1,210 @@
+// The page's state, and what each change of it makes the parts of the page show.
+import { addressOf, emptyState, readAddress } from "./address.js";
+import { EngineFault, solutionsOf } from "./answers.js";
+import { BestContinuations } from "./best.js";
+import { EngineMissing, Stopped } from "./calls.js";
+import { announce, counted, part, setBusy, tell } from "./element.js";
+import { emptyNet, showCube } from "./net.js";
+import { bracketed, examine, offersAfter, readLine } from "./position.js";
+import { ScrambleField } from "./scramble.js";
+import { Skeleton } from "./skeleton.js";
+import { SolutionList } from "./solutions.js";
+import { SIDES, stepNamed, titleOf } from "./steps.js";
+import { StepTable } from "./table.js";
+
+/** @typedef {import("./address.js").State} State */
+/** @typedef {import("./steps.js").Side} Side */
+
+export class Page {
+    /** @type {State} */
+    #state = emptyState();
+    #turn = 0;
+    #now = null;
+    #openList = "";
+    #focusNext = null;
+    #calls;
+    #listCalls;
+    #nets = {};
+    #scramble;
+    #skeleton;
+    #table;
+    #list;
+    #best;
+
+    /** @param {() => import("./calls.js").Calls} newCalls each has a worker of its own */
+    constructor(newCalls) {
+        this.#calls = newCalls();
+        this.#listCalls = newCalls();
+        this.#scramble = new ScrambleField(this.#calls, (scramble, isNew) => this.#setScramble(scramble, isNew));
+        this.#skeleton = new Skeleton(this.#calls, (change) => this.#change(change));
+        this.#table = new StepTable((step, side) => this.#open(step, side));
+        this.#list = new SolutionList((moves) => this.#take(moves), (slack) => this.#loosen(slack));
+        this.#best = new BestContinuations(newCalls(), (found, list) => this.#goOn(found, list));
+        part("solutions-stop").addEventListener("click", () => this.#listCalls.stop());
+        for (const side of SIDES) {
+            this.#nets[side] = emptyNet();
+            part(`net-${side}`).prepend(this.#nets[side]);
+        }
+    }
+
+    /** Begins with what an address says. @param {string} hash */
+    async begin(hash) {
+        const turn = ++this.#turn;
+        const { state, fault } = readAddress(hash);
+        setBusy("results", true);
+        tell(part("alert"), fault);
+        try {
+            await readLine(this.#calls, bracketed(state.parts));
+        } catch (stop) {
+            if (!(stop instanceof EngineFault)) return this.#refuse(stop);
+            tell(part("alert"), `The steps of this address can't be read: ${stop.message}`);
+            Object.assign(state, { parts: [], list: null });
+        }
+        if (turn !== this.#turn) return;
+        this.#state = state;
+        this.#scramble.show(state.scramble);
+        await this.#refresh();
+    }
+
+    /** Takes another state, or parts of it. @param {Partial<State>} change */
+    #change(change) {
+        this.#state = { ...this.#state, ...change };
+        history.replaceState(null, "", addressOf(this.#state));
+        if ("scramble" in change || "parts" in change) {
+            tell(part("alert"), "");
+            this.#refresh();
+            return;
+        }
+        this.#skeleton.turnTo(this.#state.side);
+        this.#table.mark(this.#state.list);
+        this.#showList();
+    }
+
+    #setScramble(scramble, isNew) {
+        this.#change(isNew ? { ...emptyState(), scramble } : { scramble });
+    }
+
+    /** Shows all of the state anew. A later call overtakes an earlier one. */
+    async #refresh() {
+        const turn = ++this.#turn;
+        this.#now = null;
+        this.#calls.drop();
+        this.#skeleton.show(this.#state.parts);
+        this.#skeleton.turnTo(this.#state.side);
+        this.#best.reset(null);
+        setBusy("results", true);
+        try {
+            await this.#answer(turn);
+        } catch (fault) {
+            if (turn === this.#turn) this.#refuse(fault);
+        }
+        if (turn === this.#turn) setBusy("results", false);
+    }
+
+    /** Shows what the engine answers, as it comes. @param {number} turn */
+    async #answer(turn) {
+        const scramble = await this.#readScramble(turn);
+        if (scramble === null) return;
+        const position = await examine(this.#calls, scramble, this.#state.parts);
+        if (turn !== this.#turn) return;
+        this.#showPosition(position);
+        const offers = await offersAfter(this.#calls, position.lines);
+        if (turn === this.#turn) this.#showOffers(offers);
+    }
+
+    /** The scramble as the engine reads it, or null where it is at fault or overtaken. @param {number} turn */
+    async #readScramble(turn) {
+        let read = null;
+        let fault = null;
+        try {
+            read = await readLine(this.#calls, this.#state.scramble);
+        } catch (stop) {
+            if (!(stop instanceof EngineFault)) throw stop;
+            fault = stop;
+        }
+        if (turn !== this.#turn) return null;
+        this.#scramble.judge(fault);
+        if (fault) this.#setUsable(false);
+        return read;
+    }
+
+    #showPosition({ now, facelets, skeleton }) {
+        this.#now = now;
+        for (const side of SIDES) showCube(this.#nets[side], facelets[side], `The cube on the ${side} side`);
+        this.#skeleton.describe(skeleton);
+        this.#setUsable(true);
+        this.#best.reset(now);
+    }
+
+    #showOffers({ offers, reached }) {
+        this.#skeleton.name(reached);
+        const isBare = this.#state.scramble.trim() === "" && this.#state.parts.length === 0;
+        part("welcome").hidden = !isBare;
+        part("choices").hidden = isBare;
+        this.#table.show(offers, this.#state.list);
+        if (this.#focusNext === "table") this.#table.focus();
+        if (this.#focusNext === "table") this.#focusNext = null;
+        this.#showList();
+    }
+
+    /** Shows the open list, where it isn't shown yet; where the cube isn't known yet, once it is. */
+    async #showList() {
+        const { list } = this.#state;
+        if (list && !this.#now) return;
+        const name = list ? [this.#turn, list.step, list.side, list.slack].join(" ") : "";
+        if (name === this.#openList) return;
+        this.#openList = name;
+        this.#listCalls.stop();
+        this.#list.open(list);
+        if (!list) return;
+        try {
+            const { solutions, whole } = await solutionsOf(this.#listCalls, list.step, list.slack, this.#now[list.side]);
+            if (name !== this.#openList) return;
+            this.#list.show(solutions, whole);
+            announce(`${titleOf(stepNamed(list.step))}, ${list.side} side: ${counted(solutions.length, "solution")}.`);
+            if (this.#focusNext === "list") this.#list.focus();
+            this.#focusNext = null;
+        } catch (fault) {
+            if (name === this.#openList) this.#list.refuse(fault instanceof Stopped ? "Stopped." : fault.message);
+        }
+    }
+
+    #open(step, side) {
+        this.#focusNext = "list";
+        this.#openList = "";
+        this.#change({ list: { step, side, slack: this.#state.list?.slack ?? 0 } });
+    }
+
+    #loosen(slack) {
+        if (this.#state.list) this.#change({ list: { ...this.#state.list, slack } });
+    }
+
+    #take(moves) {
+        const { parts, list } = this.#state;
+        const taken = { side: list.side, moves };
+        this.#focusNext = "table";
+        this.#change({ parts: [...parts, taken], side: list.side, list: null });
+        announce(`${bracketed([taken])} is taken.`);
+    }
+
+    #goOn({ side, moves }, list) {
+        const { parts } = this.#state;
+        this.#focusNext = "list";
+        this.#openList = "";
+        this.#change({ parts: moves === "" ? parts : [...parts, { side, moves }], side: list.side, list: { ...list, slack: 0 } });
+    }
+
+    /** Makes what rests on a readable scramble usable or not. @param {boolean} usable */
+    #setUsable(usable) {
+        for (const name of ["skeleton", "results"]) part(name).inert = !usable;
+    }
+
+    /** Says why there is no answer. @param {Error} fault */
+    #refuse(fault) {
+        if (fault instanceof Stopped) return;
+        setBusy("results", false);
+        part("results").inert = true;
+        if (fault instanceof EngineMissing) tell(part("alert"), `The engine can't start here. ${fault.message}`);
+        else tell(part("alert"), `The scramble and the moves after it can't be read together: ${fault.message}`);
+    }
+}

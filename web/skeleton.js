@@ -1,0 +1,138 @@
+// The skeleton: the steps that were taken, with undo, moves by hand, the switch of sides, and the whole to copy.
+import { answersOf } from "./answers.js";
+import { announce, counted, element, part, tell } from "./element.js";
+import { showFault } from "./fault.js";
+import { bracketed } from "./position.js";
+import { otherSide, stateOf, stepNamed } from "./steps.js";
+
+/** @typedef {import("./position.js").Part} Part */
+/** @typedef {import("./steps.js").Side} Side */
+
+/**
+ * Cuts a line that was read into runs: what is in brackets goes on the inverse side.
+ * @param {string} text @param {Side} side where moves without brackets go in a line that has none @returns {Part[]}
+ */
+export function runsOf(text, side) {
+    if (!text.includes("(")) return [{ side, moves: text }];
+    return [...text.matchAll(/\(([^()]*)\)|[^()]+/g)].map(([whole, inside]) =>
+        inside === undefined ? { side: "normal", moves: whole } : { side: "inverse", moves: inside },
+    );
+}
+
+/** The parts without their last move. @param {Part[]} parts @returns {Part[]} */
+export function withoutLastMove(parts) {
+    const { side, moves } = parts.at(-1);
+    const left = moves.split(" ").slice(0, -1).join(" ");
+    return left === "" ? parts.slice(0, -1) : [...parts.slice(0, -1), { side, moves: left }];
+}
+
+/** What a step of the skeleton newly reaches. @param {string[]} before @param {string[]} after */
+function newlyReached(before, after) {
+    const fresh = after.filter((name) => !before.includes(name)).map((name) => stateOf(stepNamed(name)));
+    return [...new Set(fresh)].join(", ");
+}
+
+async function copy(text, shownIn) {
+    try {
+        await navigator.clipboard.writeText(text);
+        announce(`Copied: ${text}`);
+    } catch {
+        getSelection().selectAllChildren(shownIn);
+        announce("Selected; copy it with the keys of your system.");
+    }
+}
+
+export class Skeleton {
+    #calls;
+    #change;
+    #parts = [];
+    #side = "normal";
+
+    /** @param {import("./calls.js").Calls} calls @param {(change: {parts?: Part[], side?: Side}) => void} change */
+    constructor(calls, change) {
+        this.#calls = calls;
+        this.#change = change;
+        part("own-form").addEventListener("submit", (event) => {
+            event.preventDefault();
+            this.#add(part("own").value);
+        });
+        part("switch").addEventListener("click", () => this.#switch());
+        part("undo-step").addEventListener("click", () => this.#undo(this.#parts.slice(0, -1)));
+        part("undo-move").addEventListener("click", () => this.#undo(withoutLastMove(this.#parts)));
+        part("clear").addEventListener("click", () => this.#undo([]));
+        for (const name of ["bracketed", "joined"]) {
+            part(`copy-${name}`).addEventListener("click", () => copy(part(name).textContent, part(name)));
+        }
+    }
+
+    /** Shows on which side moves by hand go. @param {Side} side */
+    turnTo(side) {
+        this.#side = side;
+        part("side").textContent = `${side} side`;
+        part("switch").textContent = `Switch to the ${otherSide(side)} side`;
+    }
+
+    /** Shows the parts at once; what the engine says of them comes by `describe` and `name`. @param {Part[]} parts */
+    show(parts) {
+        this.#parts = parts;
+        tell(part("finished"), "");
+        part("skeleton-list").replaceChildren(...parts.map((each) => this.#item(each)));
+        part("skeleton-empty").hidden = parts.length > 0;
+        for (const name of ["skeleton-list", "whole", "undo"]) part(name).hidden = parts.length === 0;
+    }
+
+    /** Shows the counts and the whole. @param {{line: string, joined: string, turns: number, turnsOfParts: number[]}} skeleton */
+    describe({ line, joined, turns, turnsOfParts }) {
+        part("bracketed").textContent = line;
+        part("joined").textContent = joined;
+        part("total").textContent = counted(turns, "move");
+        this.#items().forEach((item, index) => {
+            item.querySelector(".count").textContent = counted(turnsOfParts[index], "move");
+        });
+    }
+
+    /** Shows what each step reaches. @param {string[][]} reached after each beginning */
+    name(reached) {
+        this.#items().forEach((item, index) => tell(item.querySelector(".reaches"), newlyReached(reached[index], reached[index + 1])));
+        const reductions = reached.at(-1).map(stepNamed).filter(({ needs }) => needs !== null);
+        const axes = [...new Set(reductions.map(stateOf))].join(" and ");
+        tell(part("finished"), axes === "" ? "" : `${axes} is reached. nissy goes no further than the domino reduction.`);
+    }
+
+    #items() {
+        return [...part("skeleton-list").children];
+    }
+
+    #item(each) {
+        const moves = element("span", { class: "moves" }, bracketed([each]));
+        const note = element("span", { class: "note" }, element("span", { class: "count" }), ` on the ${each.side} side`);
+        return element("li", {}, moves, note, element("span", { class: "reaches", hidden: true }));
+    }
+
+    #switch() {
+        const side = otherSide(this.#side);
+        this.#change({ side });
+        announce(`Moves by hand go on the ${side} side.`);
+    }
+
+    #undo(parts) {
+        this.#change({ parts });
+        announce(parts.length === 0 ? "The skeleton is empty." : `The skeleton is ${bracketed(parts)}.`);
+        if (parts.length === 0) part("own").focus();
+    }
+
+    async #add(text) {
+        const [where, field] = [part("own-fault"), part("own")];
+        try {
+            await answersOf(this.#calls, ["unniss"], [text]);
+            const runs = runsOf(text, this.#side);
+            const read = await answersOf(this.#calls, ["unniss"], runs.map(({ moves }) => moves));
+            const added = runs.map(({ side }, index) => ({ side, moves: read[index] })).filter(({ moves }) => moves !== "");
+            showFault(where, field, text, null);
+            field.value = "";
+            if (added.length > 0) this.#change({ parts: [...this.#parts, ...added] });
+        } catch (fault) {
+            showFault(where, field, text, fault);
+        }
+    }
+}

@@ -1,0 +1,86 @@
+// The table of the steps that may follow: a row for each, a cell for each side with the least length, how many solutions, and the looks.
+import { counted, element, part } from "./element.js";
+import { SIDES, stateOf, stepNamed, titleOf } from "./steps.js";
+
+/** @typedef {import("./position.js").Offer} Offer */
+/** @typedef {import("./steps.js").Side} Side */
+
+/** @param {import("./answers.js").Count} count */
+function wordsOf({ length, solutions, looks }) {
+    if (length === null) return ["–", "none within 20 moves"];
+    if (length === 0) return ["0", "reached"];
+    return [counted(length, "move"), `${counted(solutions, "solution")}, ${counted(looks, "look")}`];
+}
+
+/** The least length of a group of offers, or null where one of them is reached. @param {Offer[]} offers */
+function leastOf(offers) {
+    const lengths = offers.flatMap((offer) => SIDES.map((side) => offer[side].length ?? Infinity));
+    return Math.min(...lengths) || null;
+}
+
+/** @param {import("./steps.js").OfferedStep} step */
+function headOf(step) {
+    const after = step.needs === null ? [] : [element("small", {}, ` after ${titleOf(stepNamed(step.needs))}`)];
+    return element("th", { scope: "row" }, stateOf(step), ...after);
+}
+
+export class StepTable {
+    #chosen;
+    #body = part("steps-body");
+
+    /** @param {(step: string, side: Side) => void} chosen */
+    constructor(chosen) {
+        this.#chosen = chosen;
+    }
+
+    /** Shows the offers. @param {Offer[]} offers @param {import("./address.js").List | null} list the list that is open */
+    show(offers, list) {
+        const groups = [offers.filter(({ step }) => step.needs === null), offers.filter(({ step }) => step.needs !== null)];
+        const focused = document.activeElement?.getAttribute("data-cell");
+        this.#body.replaceChildren(...groups.flatMap((group) => this.#rows(group, list)));
+        this.#body.querySelector(`[data-cell="${focused}"]`)?.focus();
+        part("no-reduction").hidden = groups[1].length > 0;
+        part("steps-table").hidden = false;
+    }
+
+    /** Shows which list is open. @param {import("./address.js").List | null} list */
+    mark(list) {
+        const open = list && `${list.step}.${list.side}`;
+        for (const cell of this.#body.querySelectorAll("[data-cell]")) {
+            cell.setAttribute("aria-pressed", String(cell.dataset.cell === open));
+        }
+    }
+
+    /** Puts the focus on the shortest step that is left. */
+    focus() {
+        const cells = this.#body.querySelectorAll(".least");
+        (cells[cells.length - 1] ?? part("steps-heading")).focus();
+    }
+
+    #rows(group, list) {
+        const least = leastOf(group);
+        return group.map((offer) => {
+            return element("tr", {}, headOf(offer.step), ...SIDES.map((side) => this.#cell(offer, side, least, list)));
+        });
+    }
+
+    #cell({ step, ...counts }, side, least, list) {
+        const count = counts[side];
+        const [length, rest] = wordsOf(count);
+        const name = `${step.name}.${side}`;
+        const cell = element(
+            "button",
+            {
+                type: "button",
+                class: count.length === least ? "cell least" : "cell",
+                "data-cell": name,
+                "aria-pressed": String(list !== null && name === `${list.step}.${list.side}`),
+                "aria-label": `${titleOf(step)}, ${side} side: ${length}, ${rest}`,
+                click: () => this.#chosen(step.name, side),
+            },
+            element("strong", {}, length),
+            element("small", {}, rest),
+        );
+        return element("td", {}, cell);
+    }
+}
