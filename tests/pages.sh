@@ -80,7 +80,7 @@ for kind in clause law record field; do
 done
 
 # where a row gives clauses of functions, as '`f` and `T::g`, clauses `c`, `d`' or 'clause `c` of `f`', each function has each of them
-awk '/^ *(pub )?(pub\(.*\) )?(const )?fn / { sub(/.*fn /, ""); sub(/[^a-z0-9_].*/, ""); name = $0 }
+awk '/^ *(pub )?(pub\(.*\) )?(const )?(extern "C" )?fn / { sub(/.*fn /, ""); sub(/[^a-z0-9_].*/, ""); name = $0 }
     /^ *ensures [a-z_]+ \{/ { print name "-" $2 }' crates/niss_*/src/*.rt crates/niss_*/src/*/*.rt | sort -u > "$room/clauses"
 clauses_of_functions() { # each as FUNCTION-CLAUSE
     sed -n 's/^|.* | \(.*\) |$/\1/p' docs/PROMISES.md | tr ';' '\n' | sed 's/`==` of `[A-Za-z]*`/`eq`/' | awk '
