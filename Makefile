@@ -2,7 +2,7 @@
 # page for a browser, `make check` tries what is built, `make test` runs the gate and then that.
 PREFIX ?= /usr/local
 DESTDIR ?=
-# `make install LIBRARY=no` leaves out what needs a C compiler and binutils to be built.
+# `make install LIBRARY=no` leaves out what needs a C compiler, binutils and Python 3 to be built.
 LIBRARY ?= yes
 VERSION := $(shell sed -n 's/^Version: //p' include/nissy.pc)
 SONAME := libnissy.so.1
@@ -40,7 +40,7 @@ lib: build/libnissy.a
 page: build/nissy.html
 
 build/nissy: $(SOURCES)
-	@echo "Proving and building. The first time this takes five to ten minutes on two cores; later, seconds."
+	@echo "Proving and building. The first time this takes some ten minutes; later, seconds."
 	cd crates/nissy && rt run -- invert "" > /dev/null
 	mkdir -p build
 	cp crates/nissy/out/nissy build/nissy
