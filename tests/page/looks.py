@@ -92,13 +92,12 @@ def helps(tally: Tally, browser: Browser) -> None:
 
 def copies(tally: Tally, browser: Browser) -> None:
     """The lines are copied, and said to be."""
+    copied = "return document.getElementById('status').textContent === `Copied: ${arguments[0]}` || String(getSelection()) === arguments[0]"
     for name in ("bracketed", "joined"):
         line = browser.text(name)
         browser.click(f"#copy-{name}")
-        browser.until("return /^(Copied|Selected)/.test(document.getElementById('status').textContent)")
-        said = browser.texts("#status")[0]
-        selected = browser.script("return String(getSelection())")
-        tally.holds(f"{name} is copied: {said}", said == f"Copied: {line}" or selected == line)
+        is_copied = browser.until(copied, line)
+        tally.holds(f"{name} is copied: {browser.texts('#status')[0]}", is_copied)
 
 
 def try_all(tally: Tally, browser: Browser) -> None:
