@@ -64,7 +64,8 @@ for name in lines runs memory threads; do
     fi
     # valgrind's own malloc takes no wraps, and threads are slow in it
     case $name in memory | threads) continue ;; esac
-    missing valgrind || add valgrind -q --error-exitcode=99 --leak-check=full "$room/$name"
+    # it makes each byte thirty times as slow: of the rooms of runs.c, which the others went through, one of seven, and no longest input
+    missing valgrind || add valgrind -q --error-exitcode=99 --leak-check=full "$room/$name" 7
 done
 shared_one() {
     cc -std=c99 "${strict[@]}" -D_DEFAULT_SOURCE -o "$room/shared_runs" tests/library/runs.c -L"$folder" -lnissy -Wl,-rpath,"$folder"

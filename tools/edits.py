@@ -7,7 +7,7 @@ from dataclasses import dataclass, field
 from kit import TOP
 
 FOLDER = f"{TOP}/tests/wrong-bodies"
-HEAD = re.compile(r"( *)(?:pub(?:\([a-z]+\))? )?(?:const )?fn (\w+)")
+HEAD = re.compile(r'( *)(?:pub(?:\([a-z]+\))? )?(?:const )?(?:extern "C" )?fn (\w+)')
 
 
 class BadEdit(Exception):

@@ -1,4 +1,7 @@
-/* nissy_run: what it answers, for rooms of every size, and that it touches nothing but what it may. */
+/* nissy_run: what it answers, for rooms of every size, and that it touches nothing but what it may.
+ *
+ *     runs [STEP]        of the rooms each, and the longest inputs; or one of STEP rooms, where a tool makes each byte slow
+ */
 #include "rows.h"
 
 enum { UNTOUCHED = '#' };
@@ -29,11 +32,11 @@ static void answers_with_room(const run_row *row, guarded words, guarded input, 
     let_go(out), let_go(err);
 }
 
-static void answers_in_every_room(const run_row *row) {
+static void answers_in_rooms(const run_row *row, size_t step) {
     guarded words = copied(row->words, row->words_length), input = copied(row->input, strlen(row->input));
     size_t length = strlen(row->out);
-    for (size_t room = 0; room <= length + 2; room++) answers_with_room(row, words, input, room, NISSY_ERROR_ROOM);
-    for (size_t room = 0; room <= strlen(row->err) + 2; room++) answers_with_room(row, words, input, length, room);
+    for (size_t room = 0; room <= length + 2; room += step) answers_with_room(row, words, input, room, NISSY_ERROR_ROOM);
+    for (size_t room = 0; room <= strlen(row->err) + 2; room += step) answers_with_room(row, words, input, length, room);
     let_go(words), let_go(input);
 }
 
@@ -77,11 +80,13 @@ static void longest_error_text_fits(void) {
     let_go(words), let_go(input), let_go(out), let_go(err);
 }
 
-int main(void) {
+int main(int count, char **words) {
+    size_t step = count > 1 ? strtoul(words[1], NULL, 10) : 1;
     for (int at = 0; at < RUN_COUNT; at++) {
-        answers_in_every_room(&RUNS[at]);
+        answers_in_rooms(&RUNS[at], step);
         last_zero_is_free(&RUNS[at]);
     }
+    if (step > 1) return ended();
     answers_to_blanks(NISSY_MOST_INPUT, "\n", NISSY_DONE, "");
     answers_to_blanks(NISSY_MOST_INPUT - 1, "\n", NISSY_DONE, "");
     answers_to_blanks(NISSY_MOST_INPUT + 1, "", NISSY_STOPPED, "nissy: input longer than 16777216 bytes\n");
