@@ -8,20 +8,13 @@ from selenium.webdriver.common.action_chains import ActionChains
 from selenium.webdriver.common.by import By
 from selenium.webdriver.common.keys import Keys
 
+from net import letters_of, stickers_of
+
 PATIENCE = 90
 IDLE = """
     return document.querySelector("#results[aria-busy=false]") !== null
         && document.querySelector("[aria-busy=true]:not([hidden])") === null"""
 
-
-# where the faces U, R, F, D, L and B stand in a net, in blocks of three stickers from the left and from above
-BLOCKS = ((1, 0), (2, 1), (1, 1), (1, 2), (0, 1), (3, 1))
-# of each sticker the letter that it shows, which is that of its colour too, and its place
-STICKERS = """return [...document.querySelectorAll(arguments[0])].map((each) => {
-    const { left, top } = each.firstElementChild.getBoundingClientRect();
-    const letter = each.querySelector("text").textContent;
-    return { left, top, letter: each.dataset.colour === letter ? letter : "?" };
-});"""
 
 class Browser:
     """One window with the page."""
@@ -127,12 +120,7 @@ class Browser:
 
     def letters(self, side: str) -> str:
         """The letters that a net shows, by where they are seen, in the order of the program's letters."""
-        seen = self.script(STICKERS, f"#net-{side} .sticker")
-        columns, rows = (sorted({round(sticker[at]) for sticker in seen}) for at in ("left", "top"))
-        if (len(seen), len(columns), len(rows)) != (54, 12, 9):
-            return f"{len(seen)} stickers in {len(columns)} columns and {len(rows)} rows"
-        shown = {(columns.index(round(it["left"])), rows.index(round(it["top"]))): it["letter"] for it in seen}
-        return "".join(shown.get((3 * column + place % 3, 3 * row + place // 3), "?") for column, row in BLOCKS for place in range(9))
+        return letters_of(self.script(stickers_of(side)))
 
     def cells(self) -> list[str]:
         """What the cells of the table are called."""

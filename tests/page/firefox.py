@@ -14,6 +14,7 @@ import tempfile
 import time
 from pathlib import Path
 
+from net import letters_of, stickers_of
 from tally import Tally
 from wanted import SIDES, Position
 
@@ -112,7 +113,7 @@ def try_all(tally: Tally, firefox: Firefox, page: str) -> None:
     firefox.script(REFUSALS)
     position = Position(SCRAMBLE, "", FIRST)
     for side in SIDES:
-        tally.equal(f"the net of the {side} side", "".join(texts(firefox, f"#net-{side} .sticker text")), position.letters(side))
+        tally.equal(f"the net of the {side} side", letters_of(firefox.script(stickers_of(side))), position.letters(side))
     cells = firefox.script("return [...document.querySelectorAll('#steps-body .cell')].map((each) => each.ariaLabel)")
     wanted = [position.cell(step, side) for step in ("eofb", "eorl", "eoud") for side in SIDES]
     tally.equal("the orientations", cells[:6], wanted)

@@ -1,0 +1,22 @@
+"""The letters of a net, by where its stickers are seen."""
+# where the faces U, R, F, D, L and B stand in a net, in blocks of three stickers from the left and from above
+BLOCKS = ((1, 0), (2, 1), (1, 1), (1, 2), (0, 1), (3, 1))
+Sticker = dict[str, float | str]
+
+
+def stickers_of(side: str) -> str:
+    """A script that answers of each sticker of a net the letter that it shows, which is that of its colour too, and its place."""
+    return f"""return [...document.querySelectorAll("#net-{side} .sticker")].map((each) => {{
+        const {{ left, top }} = each.firstElementChild.getBoundingClientRect();
+        const letter = each.querySelector("text").textContent;
+        return {{ left, top, letter: each.dataset.colour === letter ? letter : "?" }};
+    }});"""
+
+
+def letters_of(seen: list[Sticker]) -> str:
+    """The letters of these stickers, in the order of the program's letters."""
+    columns, rows = (sorted({round(sticker[at]) for sticker in seen}) for at in ("left", "top"))
+    if (len(seen), len(columns), len(rows)) != (54, 12, 9):
+        return f"{len(seen)} stickers in {len(columns)} columns and {len(rows)} rows"
+    shown = {(columns.index(round(it["left"])), rows.index(round(it["top"]))): it["letter"] for it in seen}
+    return "".join(shown.get((3 * column + place % 3, 3 * row + place // 3), "?") for column, row in BLOCKS for place in range(9))
