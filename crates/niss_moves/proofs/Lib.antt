@@ -29,3 +29,4 @@ pub mod MadeLists
 pub mod CleanFunction
 pub mod Gathered
 pub mod WholeMoves
+pub mod LawLemmas
