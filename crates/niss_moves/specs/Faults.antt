@@ -83,9 +83,7 @@ Lacks bytes (NotAMove column) =
     (is_open : Bool) × (cut : Cut) × (0 < cut_length cut)
     × EndsEarly bytes cut is_open × (column + cut_length cut ≡ length bytes + 1)
 Lacks bytes (Unclosed column) = EndsEarly bytes Whole true × OpensAt bytes column
-Lacks bytes (Nested column) = ⊥
-Lacks bytes (Unopened column) = ⊥
-Lacks bytes (TooLong column) = ⊥
+Lacks bytes _ = ⊥
 
 -- the fault of a line that no value of at most 256 moves spells
 abbrev pub Faults : List ℕ → ReadFault → Type 0
