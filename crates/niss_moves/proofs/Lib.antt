@@ -1,3 +1,4 @@
+pub mod Names
 pub mod Finite
 pub mod Rotations
 pub mod Pushed

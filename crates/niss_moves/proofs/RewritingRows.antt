@@ -1,13 +1,7 @@
 -- Worked rows of canonical sequences, cleaning, rotations and their texts, computed from the definitions.
-use Rattle.std.proofs.Common.{◌≡◌, true, refl, ℕ, List, [], ◌∷◌, length, map, codes, Result, Ok, Err}
-use Rattle.niss_moves.specs.Places.{same_place}
-use Rattle.niss_moves.specs.Effects.{effect_of_turns}
-use Rattle.niss_moves.specs.Canonical.{all_canonical, turn_order}
-use Rattle.niss_moves.specs.CleanedLine.{rewritten_within, rewritten_once, clean_turns, rotation_left, with_clean_line}
-use Rattle.niss_moves.specs.Line.{Moves}
-use Rattle.niss_moves.specs.Machine.{symbol_of, step_within}
-use Rattle.niss_moves.specs.Reader.{read_line}
-use Rattle.niss_moves.specs.Names.{U, D, R, L, Half, ReadFault}
+use Rattle.niss_moves.proofs.Names.{◌≡◌, true, refl, ℕ, List, [], ◌∷◌, length, map, codes, Result, Ok, Err, same_place, effect_of_turns}
+use Rattle.niss_moves.proofs.Names.{all_canonical, turn_order, rewritten_within, rewritten_once, clean_turns, rotation_left}
+use Rattle.niss_moves.proofs.Names.{with_clean_line, Moves, symbol_of, step_within, read_line, U, D, R, L, Half, ReadFault}
 use Rattle.niss_moves.proofs.Finite.{every_coord, every_vector, every_place}
 use Rattle.niss_moves.proofs.Rotations.{turn}
 

@@ -1,10 +1,8 @@
 -- What each byte may be, by the letters of the grammar.
-use Rattle.std.proofs.Common.{◌≡◌, ℕ, Bool, true, false, cond, eqb, refl, ap, sym, ◌∙◌, subst, List, [], ◌∷◌}
+use Rattle.niss_moves.proofs.Names.{◌≡◌, ℕ, Bool, true, false, cond, eqb, refl, ap, sym, ◌∙◌, subst, List, [], ◌∷◌, face_letter}
+use Rattle.niss_moves.proofs.Names.{lower_letter, slice_letter, rotation_letter, base_bytes, Blank, Space, Tab, Return, blank_byte}
+use Rattle.niss_moves.proofs.Names.{bytes_of_a_line, look_up, symbol_of, Face, U, Axis, Rl, Slice, M, Base, Symbol}
 use Rattle.std.proofs.lemmas.Bool.{eqb-true}
-use Rattle.niss_moves.specs.Letters.{face_letter}
-use Rattle.niss_moves.specs.Notation.{lower_letter, slice_letter, rotation_letter, base_bytes, Blank, Space, Tab, Return, blank_byte}
-use Rattle.niss_moves.specs.Machine.{bytes_of_a_line, look_up, symbol_of}
-use Rattle.niss_moves.specs.Names.{Face, U, Axis, Rl, Slice, M, Base, Symbol}
 use Rattle.niss_moves.specs.declared.base.Base.TheVariants as base
 use Rattle.niss_moves.specs.declared.symbol.Symbol.TheVariants as symbol
 

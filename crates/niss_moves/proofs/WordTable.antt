@@ -1,9 +1,7 @@
 -- The table of words has at each number the word of that move.
-use Rattle.std.proofs.Common.{refl, ap, sym, ◌∙◌, ◌≡◌, ℕ, ◌≤◌, Bool, true, false, ◌&&◌, eqb, nat_le, List, [], ◌∷◌, take, get_or}
+use Rattle.niss_moves.proofs.Names.{refl, ◌≡◌, ℕ, ◌≤◌, Bool, true, false, ◌&&◌, eqb, nat_le, List, [], ◌∷◌, take, get_or, word}
+use Rattle.niss_moves.proofs.Names.{token_index, Token}
 use Rattle.std.proofs.lemmas.Bool.{and_parts, eqb-true, leb-true}
-use Rattle.niss_moves.specs.Text.{word}
-use Rattle.niss_moves.specs.Indices.{token_index}
-use Rattle.niss_moves.specs.Names.{Token}
 use Rattle.niss_moves.specs.declared.gathering.Word.{Word}
 use Rattle.niss_moves.specs.declared.gathering.TheConstants.{WORDS}
 use Rattle.niss_moves.proofs.Finite.{every_face, every_power, every_axis, every_slice, every_token, at_token, and_left, and_right}

@@ -47,6 +47,7 @@ pub fn put_rotation(rotation: Rotation, text: &mut LineText)
 }
 
 /// Whether there is no word to write.
+#[tactic(auto, using(crate::proofs::CleanWords::not_empty))]
 fn have_no_word(turns: &[Turn], rotation: Rotation) -> bool
     ensures { result ≡ is_empty (cleaned_words turns.now rotation) }
 {

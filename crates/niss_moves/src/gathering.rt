@@ -35,6 +35,7 @@ impl Word {
     }
 
     /// The word of a move.
+    #[tactic(auto, using(crate::proofs::WordTable::word_at))]
     pub fn of_token(token: Token) -> Word
         ensures bytes { take result.len result.bytes ≡ 32 ∷ word token }
         ensures len { result.len ≤ 4 }
@@ -93,6 +94,7 @@ impl Words {
     }
 
     /// Appends the words to the text.
+    #[tactic(auto, using(crate::proofs::Gathered::written))]
     pub fn write(&mut self, text: &mut LineText)
         requires { array_vec_len text.old + self.old.len ≤ 2048 }
         ensures items { (rest : List ℕ) → with_gathered text.new.items self.new.no_gap rest

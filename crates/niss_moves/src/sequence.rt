@@ -11,6 +11,7 @@ use crate::token::Token;
 use arrayvec::ArrayVec;
 
 /// The normal moves of a line, and then the inverse of its bracketed ones.
+#[tactic(auto, using(crate::proofs::Inverses::joined, crate::proofs::Inverses::meaning_of))]
 pub fn unniss(niss: &Niss) -> ArrayVec<Token, 256>
     ensures moves { result.items ≡ joined_moves niss.now }
     ensures meaning { HasMeaning result.items niss.now.normal niss.now.bracketed }
