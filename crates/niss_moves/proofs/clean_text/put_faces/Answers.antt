@@ -1,8 +1,7 @@
 use Rattle.niss_moves.proofs.Names.{arith, ap, map, ◌∙◌, with_words}
 use Rattle.std.proofs.lemmas.List.{drop_all}
 use Rattle.niss_moves.specs.declared.token.Token.TheVariants as token
-use Rattle.niss_moves.proofs.Gathered.{words_of_turns}
-use Rattle.niss_moves.proofs.Gathered.{gathers_none, gathers_all}
+use Rattle.niss_moves.proofs.Gathered.{words_of_turns, gathers_none, gathers_all}
 use Rattle.niss_moves.proofs.clean_text.put_faces.Goals as goal
 
 pub loop-turn-init : goal.loop-turn-init
