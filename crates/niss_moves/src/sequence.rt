@@ -23,6 +23,7 @@ pub fn unniss(niss: &Niss) -> ArrayVec<Token, 256>
 }
 
 /// The inverse of the list that `unniss` gives.
+#[tactic(auto, using(crate::proofs::Inverses::joined, crate::proofs::Inverses::inverse_of))]
 pub fn invert(niss: &Niss) -> ArrayVec<Token, 256>
     ensures moves { result.items ≡ inverse (joined_moves niss.now) }
     ensures effect { (s : List Token) (q : Place) →

@@ -1,16 +1,8 @@
-use Rattle.niss_moves.proofs.Names.{arith, ap, map, ◌∙◌, with_words}
+use Rattle.niss_moves.proofs.Names.{ap, map, ◌∙◌, with_words}
 use Rattle.std.proofs.lemmas.List.{drop_all}
 use Rattle.niss_moves.specs.declared.token.Token.TheVariants as token
-use Rattle.niss_moves.proofs.Gathered.{words_of_turns, gathers_none, gathers_all}
+use Rattle.niss_moves.proofs.Gathered.{words_of_turns, gathers_all}
 use Rattle.niss_moves.proofs.clean_text.put_faces.Goals as goal
-
-pub loop-turn-init : goal.loop-turn-init
-loop-turn-init c =
-    let words = c.after-words in
-    record {
-      room = omega (arith, words.ensures.none);
-      gathers = gathers_none c.args.text.now.items words.result (map token.Face c.args.turns.now) words.ensures.none words.ensures.gap;
-    }
 
 pub returns-clause-items : goal.returns-clause-items
 returns-clause-items c =
