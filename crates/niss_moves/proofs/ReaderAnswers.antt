@@ -142,11 +142,8 @@ reader_line r = ap ended (same (state_or r.fault r.so_far))
     same (Ok s) = refl
     same (Err f) = refl
 
-pub reported_end : (r : Reader) (f : ReadFault) → r.fault ≡ Some f → Err f ≡ line_with r []
-reported_end r f e = sym (reader_line r ∙ ap (λ o. ended (state_or o r.so_far)) e)
-
-pub ended_end : (r : Reader) → r.fault ≡ None → ended (Ok r.so_far) ≡ line_with r []
-ended_end r e = sym (reader_line r ∙ ap (λ o. ended (state_or o r.so_far)) e)
+pub ended_end : (r : Reader) (o : Option ReadFault) → r.fault ≡ o → ended (state_or o r.so_far) ≡ line_with r []
+ended_end r o e = sym (reader_line r ∙ ap (λ o. ended (state_or o r.so_far)) e)
 
 -- That is the line of what was fed.
 pub line_of_fed : (r : Reader) (bytes : List ℕ) → IsFed r bytes → line_with r [] ≡ read_line bytes
