@@ -144,7 +144,7 @@ pub(crate) fn clean_into(tokens: &[Token], turns: &mut Faces) -> Rotation
 /// the order, the leftmost two are summed, where they are of one face, or exchanged: `R L R` is `R2 L`, `U D U'` is `D`.
 /// A sum that is a whole round leaves nothing: so does `F F F F`. That the list is the shortest of its effect isn't said.
 /// A sequence has at most 256 moves.
-#[tactic(auto, using(crate::proofs::CleanFunction::clean_turns_are_clean, crate::proofs::CleanEffect::cleans_effect, crate::proofs::Home::cleaned_effect, crate::proofs::Home::rotation_is_left))]
+#[tactic(auto, using(crate::proofs::LawLemmas::of_cleaning))]
 pub fn cleanup(tokens: &[Token]) -> (Faces, Rotation)
     requires { length tokens.now ≤ 256 }
     ensures len { array_vec_len result.0 ≤ 2 * length tokens.now }
