@@ -1,15 +1,14 @@
 -- The list of all canonical sequences of a length: its members, and its order.
-use Rattle.std.proofs.Common.{inl, inr, refl, ap, sym, ◌∙◌, subst, length-append, arith, append_assoc}
+use Rattle.niss_moves.proofs.Names.{inl, inr, refl, ap, sym, ◌∙◌, subst, length-append, arith, append_assoc, may_follow, IsCanonical}
+use Rattle.niss_moves.proofs.Names.{last_turn, canonical_extensions, all_canonical, DiffersFirst, CanonicalMembers, CanonicalGrows}
+use Rattle.niss_moves.proofs.Names.{CanonicalInOrder, Turn, ◌≡◌, ℕ, zero, suc, ◌-◌, true, List, [], ◌∷◌, ◌++◌, length, Some, Bool, map}
+use Rattle.niss_moves.proofs.Names.{IsTrue}
 use Rattle.std.specs.List.{All, Contains, filter, slice_get, AllPairs, flat_map}
 use Rattle.std.proofs.lemmas.List.Elements.{Contains-push, All-push, All-contains, All-append, All-weaker, All-contains_itself, All-map}
 use Rattle.std.proofs.lemmas.List.{get_or_append_left}
-use Rattle.niss_moves.specs.Canonical.{may_follow, IsCanonical, last_turn, canonical_extensions, all_canonical, DiffersFirst}
-use Rattle.niss_moves.specs.RewritingLaws.{CanonicalMembers, CanonicalGrows, CanonicalInOrder}
-use Rattle.niss_moves.specs.Names.{Turn}
 use Rattle.niss_moves.proofs.MadeLists.{none, here, first_or_later, in_map, from_map, in_filter}
 use Rattle.niss_moves.proofs.MadeLists.{from_filter, in_flat_map, from_flat_map, later}
 use Rattle.niss_moves.proofs.CanonicalLists.{canonical_front, canonical_pair, canonical_push, last_of, snoc_assoc}
-use Rattle.std.specs.Prelude.{◌≡◌, ℕ, zero, suc, ◌-◌, true, List, [], ◌∷◌, ◌++◌, length, Some, Bool, map, IsTrue}
 use Rattle.std.proofs.lemmas.List.Kept.{AllPairs-cons, AllPairs-filter}
 
 -- the last turn

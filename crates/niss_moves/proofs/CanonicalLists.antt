@@ -1,8 +1,6 @@
 -- Canonical lists and their parts.
-use Rattle.std.proofs.Common.{◌≡◌, Bool, true, false, not, ◌&&◌, refl, ap, subst, List, [], ◌∷◌, ◌++◌, append_assoc, ◌⊎◌, inl, inr}
-use Rattle.niss_moves.specs.Turn.{opposite, same_face, goes_first}
-use Rattle.niss_moves.specs.Canonical.{face_may_follow, IsCanonical}
-use Rattle.niss_moves.specs.Names.{Face, Turn}
+use Rattle.niss_moves.proofs.Names.{◌≡◌, Bool, true, false, not, ◌&&◌, refl, ap, subst, List, [], ◌∷◌, ◌++◌, append_assoc, ◌⊎◌, inl}
+use Rattle.niss_moves.proofs.Names.{inr, opposite, same_face, goes_first, face_may_follow, IsCanonical, Face, Turn}
 use Rattle.niss_moves.proofs.Finite.{every_face, at_face, implies, by_implies, not_true, and_both, and_left, and_right}
 use Rattle.std.proofs.lemmas.Bool.{and_parts}
 use Rattle.niss_moves.proofs.Rotations.{same_face_is}

@@ -1,11 +1,7 @@
 -- Cleaning keeps the effect.
-use Rattle.std.proofs.Common.{◌≡◌, Bool, true, false, refl, ap, sym, ◌∙◌, subst, List, [], ◌∷◌, ◌++◌, map}
-use Rattle.niss_moves.specs.Places.{Place}
-use Rattle.niss_moves.specs.Effects.{turned, effect_of_turns}
-use Rattle.niss_moves.specs.Turn.{opposite, same_face}
-use Rattle.niss_moves.specs.Canonical.{face_may_follow}
-use Rattle.niss_moves.specs.Cleaning.{sum_of_turns, rewritten_pair, IsRewriting, Cleans, Clean, Rewrite}
-use Rattle.niss_moves.specs.Names.{Face, Power, Turn}
+use Rattle.niss_moves.proofs.Names.{◌≡◌, Bool, true, false, refl, ap, sym, ◌∙◌, subst, List, [], ◌∷◌, ◌++◌, map, Place, turned}
+use Rattle.niss_moves.proofs.Names.{effect_of_turns, opposite, same_face, face_may_follow, sum_of_turns, rewritten_pair, IsRewriting}
+use Rattle.niss_moves.proofs.Names.{Cleans, Clean, Rewrite, Face, Power, Turn}
 use Rattle.niss_moves.proofs.Finite.{every_face, every_power, at_power, every_coord}
 use Rattle.niss_moves.proofs.OneAxis.{move_of_turn, made, turn_alike, same_made}
 use Rattle.niss_moves.proofs.Rotations.{turn, same_face_is, every_turn, at_turn, effect_of_turns-append}

@@ -1,15 +1,13 @@
 -- Cleaning as a function is the relation, and has one result.
-use Rattle.std.proofs.Common.{inl, inr, refl, ap, ◌∙◌, subst, arith, sym}
-use Rattle.std.specs.Prelude.{◌≡◌, ℕ, zero, suc, ◌+◌, ◌*◌, ◌<◌, ◌≤◌, Bool, true, false, List, [], ◌∷◌, ◌++◌, length, cond, Option, None, Some}
+use Rattle.niss_moves.proofs.Names.{inl, inr, refl, ap, ◌∙◌, subst, arith, sym, ◌≡◌, ℕ, zero, suc, ◌+◌, ◌*◌, ◌<◌, ◌≤◌, Bool, true}
+use Rattle.niss_moves.proofs.Names.{false, List, [], ◌∷◌, ◌++◌, length, cond, Option, None, Some, face_may_follow, IsCanonical}
+use Rattle.niss_moves.proofs.Names.{rewritten_pair, IsRewriting, Cleans, Clean, Rewrite, are_disordered, disorder, CleaningEnds}
+use Rattle.niss_moves.proofs.Names.{OneCleanList, CanonicalStays, CleanTurnsAreClean, after_first, rewritten_once, rewritten_within}
+use Rattle.niss_moves.proofs.Names.{most_rewritings, clean_turns, Turn}
 use Rattle.std.specs.Option.{option_map_or}
 use Rattle.std.specs.List.{count_by}
 use Rattle.std.proofs.Math.Nat.{mul-le-mul_left, mul_comm}
 use Rattle.std.proofs.lemmas.List.Sums.{count_by-le-length}
-use Rattle.niss_moves.specs.Canonical.{face_may_follow, IsCanonical}
-use Rattle.niss_moves.specs.Cleaning.{rewritten_pair, IsRewriting, Cleans, Clean, Rewrite, are_disordered, disorder}
-use Rattle.niss_moves.specs.RewritingLaws.{CleaningEnds, OneCleanList, CanonicalStays, CleanTurnsAreClean}
-use Rattle.niss_moves.specs.CleanedLine.{after_first, rewritten_once, rewritten_within, most_rewritings, clean_turns}
-use Rattle.niss_moves.specs.Names.{Turn}
 use Rattle.niss_moves.proofs.Finite.{and_both, and_left, and_right}
 use Rattle.niss_moves.proofs.Disorder.{rewriting_lowers}
 use Rattle.niss_moves.proofs.CanonicalLists.{canonical_pair}

@@ -1,14 +1,8 @@
 -- A cleaned line written out.
-use Rattle.std.proofs.Common.{◌≡◌, ℕ, refl, ap, sym, ◌∙◌, true, false, List, [], ◌∷◌, ◌++◌, length, map, ap₂, ◌==◌}
+use Rattle.niss_moves.proofs.Names.{◌≡◌, ℕ, refl, ap, sym, ◌∙◌, true, false, List, [], ◌∷◌, ◌++◌, length, map, ap₂, ◌==◌, inverse, gap}
+use Rattle.niss_moves.proofs.Names.{word, with_word, with_words, turn_words, rotation_words, cleaned_words, with_bracket, clean_turns}
+use Rattle.niss_moves.proofs.Names.{rotation_left, clean_words, with_clean_line, is_empty, Moves, faces, Turn, Token, Rotation}
 use Rattle.std.proofs.lemmas.List.{map-append}
-use Rattle.niss_moves.specs.Effects.{inverse}
-use Rattle.niss_moves.specs.Text.{gap, word, with_word, with_words}
-use Rattle.niss_moves.specs.CleanText.{turn_words, rotation_words, cleaned_words, with_bracket}
-use Rattle.niss_moves.specs.CleanedLine.{clean_turns, rotation_left, clean_words, with_clean_line}
-use Rattle.niss_moves.specs.Helpers.{is_empty}
-use Rattle.niss_moves.specs.Line.{Moves}
-use Rattle.niss_moves.specs.Faces.{faces}
-use Rattle.niss_moves.specs.Names.{Turn, Token, Rotation}
 
 with_words-append : (t : List ℕ) (a b : List (List ℕ)) → with_words t (a ++ b) ≡ with_words (with_words t a) b
 with_words-append t [] b = refl

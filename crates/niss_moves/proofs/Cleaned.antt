@@ -1,12 +1,9 @@
 -- Cleaning in one pass.
-use Rattle.std.proofs.Common.{refl, ap, sym, ◌∙◌, subst, subst₂, append_assoc, append-nil, inl, inr}
-use Rattle.std.specs.Prelude.{◌≡◌, Bool, true, false, List, [], ◌∷◌, ◌++◌, Option, None, Some, IfSome}
-use Rattle.niss_moves.specs.Turn.{same_face}
-use Rattle.niss_moves.specs.Canonical.{face_may_follow, last_turn, IsCanonical}
+use Rattle.niss_moves.proofs.Names.{refl, ap, sym, ◌∙◌, subst, subst₂, append_assoc, append-nil, inl, inr, ◌≡◌, Bool, true, false, List}
+use Rattle.niss_moves.proofs.Names.{[], ◌∷◌, ◌++◌, Option, None, Some, IfSome, same_face, face_may_follow, last_turn, IsCanonical}
+use Rattle.niss_moves.proofs.Names.{turn_by, sum_of_powers, sum_of_turns, rewritten_pair, Cleans, Clean, Rewrite, pair_of_turns}
+use Rattle.niss_moves.proofs.Names.{list_with_turn, Face, U, D, R, L, F, B, Power, Turn}
 use Rattle.niss_moves.proofs.AllCanonical.{last_turn-push}
-use Rattle.niss_moves.specs.Cleaning.{turn_by, sum_of_powers, sum_of_turns, rewritten_pair, Cleans, Clean, Rewrite}
-use Rattle.niss_moves.specs.Helpers.{pair_of_turns, list_with_turn}
-use Rattle.niss_moves.specs.Names.{Face, U, D, R, L, F, B, Power, Turn}
 use denote.Enum.Bare.{sameb}
 use Rattle.niss_moves.specs.contracts.turn.Face.{the_type}
 use Rattle.niss_moves.proofs.Finite.{and_both}

@@ -1,16 +1,14 @@
 -- What is spelled is read.
-use Rattle.std.proofs.Common.{refl, ap, sym, ◌∙◌, append_assoc, append-nil, arith, length-append}
-use Rattle.std.specs.Prelude.{◌≡◌, ℕ, ◌+◌, ◌<◌, ◌≤◌, List, [], ◌∷◌, ◌++◌, length, flat_map, Option, None, Some, Result, Ok, Err, cond}
+use Rattle.niss_moves.proofs.Names.{refl, ap, sym, ◌∙◌, append_assoc, append-nil, arith, length-append, ◌≡◌, ℕ, ◌+◌, ◌<◌, ◌≤◌, List, []}
+use Rattle.niss_moves.proofs.Names.{◌∷◌, ◌++◌, length, flat_map, Option, None, Some, Result, Ok, Err, cond, face_letter, lower_letter}
+use Rattle.niss_moves.proofs.Names.{slice_letter, rotation_letter, base_bytes, token_of, Plain, Typographic, Suffix, Nothing, Two}
+use Rattle.niss_moves.proofs.Names.{Prime, TwoPrime, suffix_bytes, suffix_power, Blank, blank_byte, Piece, Gap, Spelled, piece_bytes}
+use Rattle.niss_moves.proofs.Names.{piece_moves, Item, Outside, Bracket, item_bytes, item_normal, item_bracketed, Spells, symbol_of}
+use Rattle.niss_moves.proofs.Names.{State, start, outside, inside, added, settled, opened, closed, count, with_last, fed_to, step_by}
+use Rattle.niss_moves.proofs.Names.{step_at, step_within, and_then, run_within, Face, Half, Counter, Token, Base, LastMove, ReadFault}
+use Rattle.niss_moves.proofs.Names.{TooLong}
 use Rattle.std.proofs.lemmas.Bool.{lt-ltb}
-use Rattle.niss_moves.specs.Letters.{face_letter}
 use Rattle.niss_moves.proofs.Symbols.{symbol_of_face, symbol_of_lower, symbol_of_slice, symbol_of_rotation, symbol_of_blank}
-use Rattle.niss_moves.specs.Notation.{lower_letter, slice_letter, rotation_letter, base_bytes, token_of, Plain, Typographic}
-use Rattle.niss_moves.specs.Notation.{Suffix, Nothing, Two, Prime, TwoPrime, suffix_bytes, suffix_power, Blank, blank_byte}
-use Rattle.niss_moves.specs.Line.{Piece, Gap, Spelled, piece_bytes, piece_moves}
-use Rattle.niss_moves.specs.Line.{Item, Outside, Bracket, item_bytes, item_normal, item_bracketed, Spells}
-use Rattle.niss_moves.specs.Machine.{symbol_of, State, start, outside, inside, added, settled}
-use Rattle.niss_moves.specs.Machine.{opened, closed, count, with_last, fed_to, step_by, step_at, step_within, and_then, run_within}
-use Rattle.niss_moves.specs.Names.{Face, Half, Counter, Token, Base, LastMove, ReadFault, TooLong}
 use Rattle.niss_moves.specs.declared.base.Base.TheVariants as base
 use Rattle.niss_moves.specs.declared.partial_line.LastMove.TheVariants as last
 use Rattle.niss_moves.specs.declared.symbol.Symbol.TheVariants as symbol

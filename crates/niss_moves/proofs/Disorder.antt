@@ -1,13 +1,10 @@
 -- Each rewriting shortens the list, or leaves fewer pairs in the wrong order.
-use Rattle.std.proofs.Common.{inl, inr, refl, ap, sym, ◌∙◌, subst, subst₂, length-append, append_assoc, arith}
-use Rattle.std.specs.Prelude.{◌≡◌, ℕ, ◌+◌, ◌<◌, ◌≤◌, ◌⊎◌, Bool, true, false, List, [], ◌∷◌, ◌++◌, length, cond, Option, None, Some}
+use Rattle.niss_moves.proofs.Names.{inl, inr, refl, ap, sym, ◌∙◌, subst, subst₂, length-append, append_assoc, arith, ◌≡◌, ℕ, ◌+◌, ◌<◌}
+use Rattle.niss_moves.proofs.Names.{◌≤◌, ◌⊎◌, Bool, true, false, List, [], ◌∷◌, ◌++◌, length, cond, Option, None, Some, same_face}
+use Rattle.niss_moves.proofs.Names.{face_may_follow, turn_by, sum_of_powers, rewritten_pair, are_disordered, disorder, RewritingLowers}
+use Rattle.niss_moves.proofs.Names.{Face, Power, Turn}
 use Rattle.std.specs.List.{count_by}
 use Rattle.std.proofs.lemmas.List.Sums.{sum_by-cons}
-use Rattle.niss_moves.specs.Turn.{same_face}
-use Rattle.niss_moves.specs.Canonical.{face_may_follow}
-use Rattle.niss_moves.specs.Cleaning.{turn_by, sum_of_powers, rewritten_pair, are_disordered, disorder}
-use Rattle.niss_moves.specs.RewritingLaws.{RewritingLowers}
-use Rattle.niss_moves.specs.Names.{Face, Power, Turn}
 use Rattle.niss_moves.proofs.CanonicalLists.{exchanged, exchange}
 use Rattle.niss_moves.proofs.Cleaned.{same_rewritten, other_rewritten}
 

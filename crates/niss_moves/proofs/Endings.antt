@@ -1,11 +1,7 @@
 -- A beginning of a line ends in one cut, and a bracket is open or none is.
-use Rattle.std.proofs.Common.{refl, ap, sym, ◌∙◌, subst}
-use Rattle.std.specs.Prelude.{◌≡◌, ℕ, Bool, true, false, List, ◌++◌}
-use Rattle.std.specs.Prelude.{Option, None, Some, Result, Ok, Err}
-use Rattle.niss_moves.specs.Faults.{Cut, Whole, LacksOne, LacksTwo, cut_ending, bracket_ending}
-use Rattle.niss_moves.specs.Faults.{Continues}
-use Rattle.niss_moves.specs.Machine.{symbol_of, State, start, step_within, and_then, run}
-use Rattle.niss_moves.specs.Names.{Token, LastMove, ReadFault}
+use Rattle.niss_moves.proofs.Names.{refl, ap, sym, ◌∙◌, subst, ◌≡◌, ℕ, Bool, true, false, List, ◌++◌, Option, None, Some, Result, Ok}
+use Rattle.niss_moves.proofs.Names.{Err, Cut, Whole, LacksOne, LacksTwo, cut_ending, bracket_ending, Continues, symbol_of, State, start}
+use Rattle.niss_moves.proofs.Names.{step_within, and_then, run, Token, LastMove, ReadFault}
 use Rattle.niss_moves.specs.declared.partial_line.LastMove.TheVariants as last
 use Rattle.niss_moves.proofs.Completes.{IsReady, state, run-append, completes}
 use Rattle.niss_moves.proofs.Sound.{ready_whole, cut_of, is_open}

@@ -1,10 +1,9 @@
 -- Truth values, and facts over the finite types of the crate by a test that is computed over all values.
-use Rattle.std.proofs.Common.{◌≡◌, Bool, true, false, ◌&&◌, refl, subst, Option, None, Some, not}
+use Rattle.niss_moves.proofs.Names.{◌≡◌, Bool, true, false, ◌&&◌, refl, subst, Option, None, Some, not, face_order, Coord, Neg, Zero}
+use Rattle.niss_moves.proofs.Names.{Pos, Vector, vector, Place, same_coord, same_vector, same_place, Face, U, D, R, L, F, B, Power}
+use Rattle.niss_moves.proofs.Names.{Quarter, Half, Counter, Axis, Ud, Rl, Fb, Slice, M, E, S, Token}
 use Rattle.std.proofs.lemmas.Bool.{and_parts}
 use Rattle.std.specs.List.{list_all}
-use Rattle.niss_moves.specs.Canonical.{face_order}
-use Rattle.niss_moves.specs.Places.{Coord, Neg, Zero, Pos, Vector, vector, Place, same_coord, same_vector, same_place}
-use Rattle.niss_moves.specs.Names.{Face, U, D, R, L, F, B, Power, Quarter, Half, Counter, Axis, Ud, Rl, Fb, Slice, M, E, S, Token}
 use Rattle.niss_moves.specs.declared.token.Token.TheVariants as token
 
 pub not_true : (b : Bool) → not b ≡ true → b ≡ false

@@ -1,15 +1,12 @@
 -- Words gathered after a text.
-use Rattle.std.proofs.Common.{refl, arith, ap, ap₂, sym, ◌∙◌, append_assoc, append-nil}
-use Rattle.std.specs.Prelude.{◌≡◌, ℕ, ◌+◌, ◌≤◌, ◌<◌, if◌then◌else◌, map, Bool, true, false, cond, List, [], ◌∷◌, ◌++◌, length, take, drop}
+use Rattle.niss_moves.proofs.Names.{refl, arith, ap, ap₂, sym, ◌∙◌, append_assoc, append-nil, ◌≡◌, ℕ, ◌+◌, ◌≤◌, ◌<◌, if◌then◌else◌, map}
+use Rattle.niss_moves.proofs.Names.{Bool, true, false, cond, List, [], ◌∷◌, ◌++◌, length, take, drop, word, gap, with_word, with_words}
+use Rattle.niss_moves.proofs.Names.{with_gathered, turn_words, Turn, Token}
 use Rattle.std.proofs.Math.Seq.{take-append-add}
 use Rattle.std.proofs.lemmas.List.{take-append-le, length-take-le, drop-append-le}
 use Rattle.std.specs.List.{between}
 use Rattle.std.proofs.lemmas.Slice.{between_is, between_from_start}
 use borrow.Rule.Slice.PartMut.{put_mid, post_of}
-use Rattle.niss_moves.specs.Text.{word, gap, with_word, with_words}
-use Rattle.niss_moves.specs.Helpers.{with_gathered}
-use Rattle.niss_moves.specs.CleanText.{turn_words}
-use Rattle.niss_moves.specs.Names.{Turn, Token}
 use Rattle.niss_moves.specs.declared.token.Token.TheVariants as token
 use Rattle.niss_moves.specs.declared.gathering.Words.{Words}
 use Rattle.niss_moves.proofs.ReadBack.{gap_word}

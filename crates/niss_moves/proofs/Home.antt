@@ -1,24 +1,16 @@
 -- Rotations one after the other, sequences whose centres are brought home, and what is left of sequences and lines.
-use Rattle.std.proofs.Common.{◌≡◌, ◌++◌, refl, ap₂, subst, ap, sym, ◌∙◌, List, [], ◌∷◌, map, Option, None, Some, inl, inr, Bool, true, false}
-use Rattle.niss_moves.specs.Places.{Place, same_place}
-use Rattle.niss_moves.specs.Facelets.{centre}
-use Rattle.niss_moves.specs.Effects.{effect, effect_of_turns, inverse, turned, HasMeaning}
-use Rattle.niss_moves.specs.Rotations.{face_before, face_before_power, spelling, IsRotationOf}
-use Rattle.niss_moves.specs.Helpers.{rotation_by}
-use Rattle.niss_moves.specs.Canonical.{face_order}
-use Rattle.niss_moves.specs.Line.{joined_moves}
-use Rattle.niss_moves.specs.Faces.{BasicMove, FaceTurn, WholeRotation, expanded, faces}
-use Rattle.niss_moves.specs.RewritingLaws.{CentresComeHome, FacesAreHome, LineIsHome, FacesAndRotation, CleanedEffect, RotationIsLeft}
-use Rattle.niss_moves.specs.Names.{Face, U, D, R, L, F, B, Power, Turn, Axis, Token, Rotation}
+use Rattle.niss_moves.proofs.Names.{◌≡◌, ◌++◌, refl, ap₂, subst, ap, sym, ◌∙◌, List, [], ◌∷◌, map, Option, None, Some, inl, inr, Bool}
+use Rattle.niss_moves.proofs.Names.{true, false, Place, same_place, centre, effect, effect_of_turns, inverse, turned, HasMeaning}
+use Rattle.niss_moves.proofs.Names.{face_before, face_before_power, spelling, IsRotationOf, rotation_by, face_order, joined_moves}
+use Rattle.niss_moves.proofs.Names.{BasicMove, FaceTurn, WholeRotation, expanded, faces, CentresComeHome, FacesAreHome, LineIsHome}
+use Rattle.niss_moves.proofs.Names.{FacesAndRotation, CleanedEffect, RotationIsLeft, Face, U, D, R, L, F, B, Power, Turn, Axis, Token}
+use Rattle.niss_moves.proofs.Names.{Rotation, TurnsAreMoves, OneMeaning, unwrap_or, rotations, moves_centres_as, rotation_left}
 use Rattle.niss_moves.proofs.Inverses.{inverse_after, effect_of_expanded, meaning, undone_by}
 use Rattle.niss_moves.proofs.Rotations.{turn, rotation, IsNext, next_rotation, is_next, effect_of_turns-append, every_rotation, at_rotation}
 use Rattle.niss_moves.proofs.Pushed.{before, Pushes, pushes_none, pushes_turn, pushes_rotation, map_none, keep_centre}
 use Rattle.niss_moves.proofs.OneSpelling.{one_spelling, same_rotation, same_rotation_is}
-use Rattle.niss_moves.specs.EffectLaws.{TurnsAreMoves, OneMeaning}
 use Rattle.niss_moves.proofs.CleanEffect.{cleans_effect}
 use Rattle.std.specs.List.{Contains, find, list_any}
-use Rattle.std.specs.Prelude.{unwrap_or}
-use Rattle.niss_moves.specs.CleanedLine.{rotations, moves_centres_as, rotation_left}
 use Rattle.std.proofs.lemmas.Bool.{cases_Bool, cond-true, cond-false}
 use Rattle.std.proofs.lemmas.Map.Views.{Contains-from_any}
 use Rattle.niss_moves.proofs.Finite.{every_face, at_face, all_faces, every_power, every_optional_power, same_place_is, same_place_of}

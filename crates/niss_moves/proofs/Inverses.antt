@@ -1,15 +1,12 @@
 -- Single moves, by their quarters and over all places; a sequence and its inverse.
-use Rattle.std.proofs.Common.{◌≡◌, true, refl, ap, sym, ◌∙◌, List, [], ◌∷◌, ◌++◌, length, map, reverse}
+use Rattle.niss_moves.proofs.Names.{◌≡◌, true, refl, ap, sym, ◌∙◌, List, [], ◌∷◌, ◌++◌, map, reverse, Place, is_place, effect}
+use Rattle.niss_moves.proofs.Names.{moved_by, move_of, inverse, inverse_token, inverse_power, HasMeaning, Power, Quarter, Token}
+use Rattle.niss_moves.proofs.Names.{expanded, token_of_basic, PlacesStay}
 use Rattle.std.proofs.lemmas.List.{reverse-append, map-append, reverse-reverse}
-use Rattle.niss_moves.specs.Places.{Place, is_place}
-use Rattle.niss_moves.specs.Effects.{effect, moved_by, move_of, inverse, inverse_token, inverse_power, HasMeaning}
-use Rattle.niss_moves.specs.Names.{Power, Quarter, Token}
 use Rattle.niss_moves.specs.declared.token.Token.TheVariants as token
 use Rattle.niss_moves.proofs.Finite.{every_place, at_place, every_token, at_token, every_vector, every_coord, every_power}
 use Rattle.niss_moves.proofs.Finite.{every_face, every_slice, every_axis, implies, by_implies}
-use Rattle.niss_moves.specs.Faces.{expanded, token_of_basic}
 use Rattle.niss_moves.proofs.OneAxis.{turn_alike, same_made, effect_made}
-use Rattle.niss_moves.specs.EffectLaws.{PlacesStay}
 
 pub effect-append : (s t : List Token) (q : Place) → effect (s ++ t) q ≡ effect t (effect s q)
 effect-append [] t q = refl
@@ -76,11 +73,6 @@ inverse_of m n b e = e ∙ inverse_whole n b
 
 pub undone_by : (m s : List Token) (q : Place) → m ≡ inverse s → effect m (effect s q) ≡ q
 undone_by m s q e = ap (λ x. effect x (effect s q)) e ∙ inverse_after s q
-
--- the inverse of no moves, and of moves with a last one
-pub inverse_none : (s : List Token) → length s ≡ 0 → inverse s ≡ []
-inverse_none [] e = refl
-inverse_none (t ∷ s) e = cc
 
 pub inverse_last : (s front : List Token) (t u : Token) → s ≡ front ++ t ∷ [] → u ≡ inverse_token t → inverse s ≡ u ∷ inverse front
 inverse_last s front t u e i =

@@ -1,3 +1,4 @@
+pub mod Names
 pub mod Finite
 pub mod Rotations
 pub mod Pushed
@@ -29,3 +30,4 @@ pub mod MadeLists
 pub mod CleanFunction
 pub mod Gathered
 pub mod WholeMoves
+pub mod LawLemmas

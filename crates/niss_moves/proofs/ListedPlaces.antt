@@ -1,5 +1,6 @@
 -- The list of the sticker places, computed, and the facelet texts of maps on it.
-use Rattle.std.proofs.Common.{◌≡◌, true, refl, ap, sym, List, [], ◌∷◌, map}
+use Rattle.niss_moves.proofs.Names.{◌≡◌, true, refl, ap, sym, List, [], ◌∷◌, map, is_place, same_place, Place, SameMap, places}
+use Rattle.niss_moves.proofs.Names.{PlacesAreListed, PlacesDiffer, SameLetters, if◌then◌else◌, letter_at, letter_of, letters}
 use Rattle.std.specs.Cmp.{IsEquivalence}
 use Rattle.std.specs.List.{list_any, list_all}
 use Rattle.std.proofs.lemmas.Bool.Decides.{same_from_decides}
@@ -7,13 +8,8 @@ use Rattle.std.proofs.lemmas.List.Elements.{All-contains}
 use Rattle.std.proofs.lemmas.List.Sums.{AllPass-from_list_all}
 use Rattle.std.proofs.lemmas.Map.Made.{IsDistinct-from_count, AllPairs-from_IsDistinct}
 use Rattle.std.proofs.lemmas.Map.Views.{Contains-from_any}
-use Rattle.niss_moves.specs.Places.{is_place, same_place, Place, SameMap}
-use Rattle.niss_moves.specs.Facelets.{places}
-use Rattle.niss_moves.specs.EffectLaws.{PlacesAreListed, PlacesDiffer, SameLetters}
 use Rattle.niss_moves.proofs.Finite.{every_coord, every_vector, every_place, at_place, same_place_is}
 use Rattle.niss_moves.proofs.Finite.{same_place_of, same_place_self, implies, by_implies, and_left, and_right}
-use Rattle.std.specs.Prelude.{if◌then◌else◌}
-use Rattle.niss_moves.specs.Letters.{letter_at, letter_of, letters}
 
 listed_test : every_place (λ q. implies (is_place q) (list_any (same_place q) places)) ≡ true
 unfolding every_place every_vector every_coord

@@ -1,10 +1,9 @@
 -- Moves about one axis turn each layer by the sum of their quarters.
-use Rattle.std.proofs.Common.{◌≡◌, ℕ, zero, suc, ◌+◌, Bool, true, false, ◌&&◌, if◌then◌else◌, eqb, refl, ap, sym, ◌∙◌, subst, List, [], ◌∷◌, map, arith}
+use Rattle.niss_moves.proofs.Names.{◌≡◌, ℕ, zero, suc, ◌+◌, Bool, true, false, ◌&&◌, if◌then◌else◌, eqb, refl, ap, sym, ◌∙◌, subst}
+use Rattle.niss_moves.proofs.Names.{List, [], ◌∷◌, map, arith, Coord, Neg, negated, Vector, Place, along, quarter, quarters, Move}
+use Rattle.niss_moves.proofs.Names.{moved, move_of, face_move, times, effect, Turn, Axis, Ud, Rl, Fb, Token}
 use Rattle.std.proofs.lemmas.Bool.{eqb-true, and_parts}
 use Rattle.std.specs.List.{list_all}
-use Rattle.niss_moves.specs.Places.{Coord, Neg, negated, Vector, Place, along}
-use Rattle.niss_moves.specs.Effects.{quarter, quarters, Move, moved, move_of, face_move, times, effect}
-use Rattle.niss_moves.specs.Names.{Turn, Axis, Ud, Rl, Fb, Token}
 use Rattle.niss_moves.proofs.Finite.{every_coord, at_coord}
 
 negated_twice : (c : Coord) → negated (negated c) ≡ c

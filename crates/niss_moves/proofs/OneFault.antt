@@ -1,12 +1,10 @@
 -- A line has one fault.
-use Rattle.std.proofs.Common.{refl, ap, sym, ◌∙◌, subst, subst₂, arith, inl, inr}
-use Rattle.std.specs.Prelude.{◌≡◌, ℕ, ◌+◌, ◌-◌, ◌<◌, Bool, true, false, List, [], ◌∷◌, ◌++◌, length, take, drop}
-use Rattle.std.specs.Prelude.{Option, None, Some, Result, Ok, Err, suc, ◌==◌, ◌||◌, not}
+use Rattle.niss_moves.proofs.Names.{refl, ap, sym, ◌∙◌, subst, subst₂, arith, inl, inr, ◌≡◌, ℕ, ◌+◌, ◌-◌, ◌<◌, Bool, true, false, List}
+use Rattle.niss_moves.proofs.Names.{[], ◌∷◌, ◌++◌, length, take, drop, Option, None, Some, Result, Ok, Err, suc, ◌==◌, ◌||◌, not}
+use Rattle.niss_moves.proofs.Names.{has_no_bracket, Cut, Whole, LacksOne, LacksTwo, cut_length, Continues, CanContinue, BeginsBase}
+use Rattle.niss_moves.proofs.Names.{StopsAt, Stops, Lacks, Faults, symbol_of, State, start, step, and_then, run, ended, ended_at}
+use Rattle.niss_moves.proofs.Names.{ended_in, Base, Symbol, LastMove, ReadFault, NotAMove, Nested, Unopened, Unclosed, TooLong}
 use Rattle.std.proofs.lemmas.List.{take-append-drop, take_more, take_all, length-take-le}
-use Rattle.niss_moves.specs.Faults.{has_no_bracket, Cut, Whole, LacksOne, LacksTwo, cut_length}
-use Rattle.niss_moves.specs.Faults.{Continues, CanContinue, BeginsBase, StopsAt, Stops, Lacks, Faults}
-use Rattle.niss_moves.specs.Machine.{symbol_of, State, start, step, and_then, run, ended, ended_at, ended_in}
-use Rattle.niss_moves.specs.Names.{Base, Symbol, LastMove, ReadFault, NotAMove, Nested, Unopened, Unclosed, TooLong}
 use Rattle.niss_moves.specs.declared.partial_line.LastMove.TheVariants as last
 use Rattle.niss_moves.specs.declared.symbol.Symbol.TheVariants as symbol
 use Rattle.niss_moves.proofs.Finite.{and_right}

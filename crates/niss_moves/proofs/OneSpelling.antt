@@ -1,12 +1,6 @@
 -- Each of the 24 rotations has one spelling, computed.
-use Rattle.std.proofs.Common.{◌≡◌, Bool, true, false, ◌&&◌, refl, ap, Option, None, Some}
-use Rattle.niss_moves.specs.Places.{same_place}
-use Rattle.niss_moves.specs.Facelets.{centre}
-use Rattle.niss_moves.specs.Effects.{effect}
-use Rattle.niss_moves.specs.Rotations.{spelling}
-use Rattle.niss_moves.specs.Turn.{same_face}
-use Rattle.niss_moves.specs.RewritingLaws.{OneSpelling}
-use Rattle.niss_moves.specs.Names.{Face, Power, Quarter, Half, Counter, Rotation}
+use Rattle.niss_moves.proofs.Names.{◌≡◌, Bool, true, false, ◌&&◌, refl, ap, Option, None, Some, same_place, centre, effect, spelling}
+use Rattle.niss_moves.proofs.Names.{same_face, OneSpelling, Face, Power, Quarter, Half, Counter, Rotation}
 use Rattle.niss_moves.proofs.Finite.{every_face, every_power, every_optional_power, all_faces, same_place_of, implies, by_implies}
 use Rattle.std.proofs.lemmas.Bool.{and_parts}
 use Rattle.niss_moves.proofs.Rotations.{every_rotation, at_rotation, same_face_is}

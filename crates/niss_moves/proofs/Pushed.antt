@@ -1,15 +1,10 @@
 -- Face turns pushed after a rotation, basic move by basic move.
-use Rattle.std.proofs.Common.{refl, ap, sym, ◌∙◌, append_assoc, subst}
-use Rattle.std.specs.Prelude.{◌≡◌, ℕ, List, [], ◌∷◌, ◌++◌, map, ◌+◌, ◌<◌, length, take, drop, get_or, true, None}
+use Rattle.niss_moves.proofs.Names.{refl, ap, sym, ◌∙◌, append_assoc, subst, ◌≡◌, ℕ, List, [], ◌∷◌, ◌++◌, map, ◌+◌, ◌<◌, length, take}
+use Rattle.niss_moves.proofs.Names.{drop, get_or, true, None, Place, same_place, centre, effect, effect_of_turns, moved_by, turned}
+use Rattle.niss_moves.proofs.Names.{inverse_power, face_before, face_before_power, renamed_turn, spelling, BasicMove, FaceTurn}
+use Rattle.niss_moves.proofs.Names.{WholeRotation, faces, expanded, token_of_basic, faces_with, Cleans, opposite, Face, U, Power, Turn}
+use Rattle.niss_moves.proofs.Names.{Axis, Slice, Token, Rotation}
 use Rattle.std.proofs.lemmas.List.{take_more, at_drop_more}
-use Rattle.niss_moves.specs.Places.{Place, same_place}
-use Rattle.niss_moves.specs.Facelets.{centre}
-use Rattle.niss_moves.specs.Effects.{effect, effect_of_turns, moved_by, turned, inverse_power}
-use Rattle.niss_moves.specs.Rotations.{face_before, face_before_power, renamed_turn, spelling}
-use Rattle.niss_moves.specs.Faces.{BasicMove, FaceTurn, WholeRotation, faces, expanded, token_of_basic, faces_with}
-use Rattle.niss_moves.specs.Cleaning.{Cleans}
-use Rattle.niss_moves.specs.Turn.{opposite}
-use Rattle.niss_moves.specs.Names.{Face, U, Power, Turn, Axis, Slice, Token, Rotation}
 use Rattle.niss_moves.specs.declared.token.Token.TheVariants as token
 use Rattle.niss_moves.proofs.Finite.{every_face, every_power, at_face, same_place_is}
 use Rattle.niss_moves.proofs.Inverses.{effect_of_expanded, effect-append}

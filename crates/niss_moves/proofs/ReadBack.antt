@@ -1,12 +1,10 @@
 -- What is written is spelled.
-use Rattle.std.proofs.Common.{refl, ap, sym, ◌∙◌, append_assoc, append-nil, arith, length-append}
-use Rattle.std.specs.Prelude.{◌≡◌, ℕ, ◌-◌, List, [], ◌∷◌, ◌++◌, length, map, flat_map, Some, slice_get}
+use Rattle.niss_moves.proofs.Names.{refl, ap, sym, ◌∙◌, append_assoc, append-nil, arith, length-append, ◌≡◌, ℕ, ◌-◌, List, [], ◌∷◌}
+use Rattle.niss_moves.proofs.Names.{◌++◌, length, map, flat_map, Some, slice_get, face_letter, base_bytes, Suffix, Nothing, Two, Prime}
+use Rattle.niss_moves.proofs.Names.{Plain, suffix_bytes, suffix_power, Space, Gap, Spelled, Item, Outside, item_bytes, item_normal}
+use Rattle.niss_moves.proofs.Names.{item_bracketed, Spells, word, power_bytes, gap, gap_after, with_word, with_words, Face, U, Power}
+use Rattle.niss_moves.proofs.Names.{Quarter, Half, Counter, Ud, Rl, Fb, M, E, S, Token, Base}
 use Rattle.std.specs.List.{join_with_byte}
-use Rattle.niss_moves.specs.Letters.{face_letter}
-use Rattle.niss_moves.specs.Notation.{base_bytes, Suffix, Nothing, Two, Prime, Plain, suffix_bytes, suffix_power, Space}
-use Rattle.niss_moves.specs.Line.{Gap, Spelled, Item, Outside, item_bytes, item_normal, item_bracketed, Spells}
-use Rattle.niss_moves.specs.Text.{word, power_bytes, gap, gap_after, with_word, with_words}
-use Rattle.niss_moves.specs.Names.{Face, U, Power, Quarter, Half, Counter, Ud, Rl, Fb, M, E, S, Token, Base}
 use Rattle.niss_moves.specs.declared.token.Token.TheVariants as token
 use Rattle.niss_moves.specs.declared.base.Base.TheVariants as base
 

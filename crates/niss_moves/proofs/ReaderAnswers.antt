@@ -134,7 +134,7 @@ refused_stops (Err f) bytes h = by_run (run start bytes) refl
         run_stops bytes f (e ∙ ap Err (sym w))
 
 -- what a reader answers at the end
-pub reader_line : (r : Reader) → line_with r [] ≡ ended (state_or r.fault r.so_far)
+reader_line : (r : Reader) → line_with r [] ≡ ended (state_or r.fault r.so_far)
 unfolding line_with
 reader_line r = ap ended (same (state_or r.fault r.so_far))
   where
@@ -142,21 +142,12 @@ reader_line r = ap ended (same (state_or r.fault r.so_far))
     same (Ok s) = refl
     same (Err f) = refl
 
-pub line_end : (r : Reader) (bytes : List ℕ) → IsFed r bytes → read_line bytes ≡ ended (state_or r.fault r.so_far)
-line_end r bytes h = ap read_line (sym (append-nil bytes)) ∙ sym (h.line []) ∙ reader_line r
+pub ended_end : (r : Reader) (o : Option ReadFault) → r.fault ≡ o → ended (state_or o r.so_far) ≡ line_with r []
+ended_end r o e = sym (reader_line r ∙ ap (λ o. ended (state_or o r.so_far)) e)
 
-pub reported_line : (r : Reader) (bytes : List ℕ) (f : ReadFault) → r.fault ≡ Some f → IsFed r bytes → Err f ≡ read_line bytes
-reported_line r bytes f e h = sym (line_end r bytes h ∙ ap (λ o. ended (state_or o r.so_far)) e)
-
-pub ended_line : (r : Reader) (bytes : List ℕ) → r.fault ≡ None → IsFed r bytes → ended (Ok r.so_far) ≡ read_line bytes
-ended_line r bytes e h = sym (line_end r bytes h ∙ ap (λ o. ended (state_or o r.so_far)) e)
-
--- the same for the line of what was fed
-pub reported_end : (r : Reader) (f : ReadFault) → r.fault ≡ Some f → Err f ≡ line_with r []
-reported_end r f e = sym (reader_line r ∙ ap (λ o. ended (state_or o r.so_far)) e)
-
-pub ended_end : (r : Reader) → r.fault ≡ None → ended (Ok r.so_far) ≡ line_with r []
-ended_end r e = sym (reader_line r ∙ ap (λ o. ended (state_or o r.so_far)) e)
+-- That is the line of what was fed.
+pub line_of_fed : (r : Reader) (bytes : List ℕ) → IsFed r bytes → line_with r [] ≡ read_line bytes
+line_of_fed r bytes h = h.line [] ∙ ap read_line (append-nil bytes)
 
 -- a byte fed to a reader
 pub record IsFedOn (old : Reader) (byte : ℕ) (new : Reader) (result : Result (Unit {0}) ReadFault) : Type 0 where

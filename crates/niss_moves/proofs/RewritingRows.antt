@@ -1,121 +1,48 @@
--- Worked rows of rotations, canonical sequences, cleaning and their texts, computed from the definitions.
-use Rattle.std.proofs.Common.{◌≡◌, true, false, refl, List, [], ◌∷◌, length, None, Some, codes}
-use Rattle.niss_moves.specs.Places.{Place, same_place}
-use Rattle.niss_moves.specs.Effects.{effect_of_turns}
-use Rattle.niss_moves.specs.Rotations.{IsRotationOf}
-use Rattle.niss_moves.specs.Faces.{faces}
-use Rattle.niss_moves.specs.Canonical.{all_canonical, turn_order, is_canonical}
-use Rattle.niss_moves.specs.Cleaning.{Cleans}
-use Rattle.niss_moves.specs.CleanedLine.{clean_turns, rewritten_within, rewritten_once}
-use Rattle.niss_moves.proofs.CleanFunction.{clean_turns_are_clean}
-use Rattle.niss_moves.proofs.Home.{is_left_of_test}
-use Rattle.niss_moves.specs.Text.{with_words}
-use Rattle.niss_moves.specs.CleanText.{rotation_words, cleaned_words, with_bracket}
-use Rattle.niss_moves.specs.Names.{U, D, R, L, F, B, Quarter, Half, Counter, Turn, Ud, Rl, Fb, M}
-use Rattle.niss_moves.specs.declared.token.Token.TheVariants as token
-use Rattle.niss_moves.proofs.Finite.{every_coord, every_vector, every_place, at_place, same_place_is}
-use Rattle.niss_moves.proofs.Rotations.{turn, rotation}
+-- Worked rows of canonical sequences, cleaning, rotations and their texts, computed from the definitions.
+use Rattle.niss_moves.proofs.Names.{◌≡◌, true, refl, ℕ, List, [], ◌∷◌, length, map, codes, Result, Ok, Err, same_place, effect_of_turns}
+use Rattle.niss_moves.proofs.Names.{all_canonical, turn_order, rewritten_within, rewritten_once, clean_turns, rotation_left}
+use Rattle.niss_moves.proofs.Names.{with_clean_line, Moves, symbol_of, step_within, read_line, U, D, R, L, Half, ReadFault}
+use Rattle.niss_moves.proofs.Finite.{every_coord, every_vector, every_place}
+use Rattle.niss_moves.proofs.Rotations.{turn}
 
 -- counts of canonical sequences over the 18 turns
-one_turn : length (all_canonical turn_order 1) ≡ 18
+counts : map (λ k. length (all_canonical turn_order k)) (1 ∷ 2 ∷ 3 ∷ []) ≡ 18 ∷ 243 ∷ 3240 ∷ []
 unfolding all_canonical
-one_turn = refl
+counts = refl
 
-two_turns : length (all_canonical turn_order 2) ≡ 243
-unfolding all_canonical
-two_turns = refl
+-- what cleaning leaves of a line
+cleaned : List ℕ → List ℕ
+cleaned bytes = text (read_line bytes)
+  where
+    text : Result Moves ReadFault → List ℕ
+    text (Ok line) = with_clean_line [] line
+    text (Err f) = codes "a fault"
 
-three_turns : length (all_canonical turn_order 3) ≡ 3240
-unfolding all_canonical
-three_turns = refl
+record Row : Type 0 where
+  line : List ℕ
+  clean : List ℕ
 
--- `U D` is canonical and `D U` isn't
-in_order : is_canonical (turn U Quarter ∷ turn D Quarter ∷ []) ≡ true
-in_order = refl
+row : List ℕ → List ℕ → Row
+row line clean = record { line = line; clean = clean }
 
-out_of_order : is_canonical (turn D Quarter ∷ turn U Quarter ∷ []) ≡ false
-out_of_order = refl
+rows : List Row
+rows =
+    row (codes "U D") (codes "U D") ∷ row (codes "D U") (codes "U D")
+    -- by `U U' D`, by `U D D'`, and by `R R L`
+    ∷ row (codes "U D U'") (codes "D") ∷ row (codes "D U D'") (codes "U") ∷ row (codes "R L R") (codes "R2 L")
+    -- by `F2 F F` and `F' F`
+    ∷ row (codes "F F F F") [] ∷ row (codes "R R'") [] ∷ row (codes "U U") (codes "U2")
+    -- a rotation renames what follows it, and the rest stands at the end by its one spelling
+    ∷ row (codes "Rw U") (codes "L F x") ∷ row (codes "M") (codes "R L' x'")
+    ∷ row (codes "z z") (codes "x2 y2") ∷ row (codes "x y x'") (codes "z")
+    ∷ row (codes "(U2)") (codes "(U2)") ∷ row (codes "x (y)") (codes "x (y)")
+    -- These two have one effect: the clean list is more than that.
+    ∷ row (codes "R2 L2 U2 D2") (codes "R2 L2 U2 D2") ∷ row (codes "U2 D2 R2 L2") (codes "U2 D2 R2 L2") ∷ []
 
--- `Rw U` is `L F` and then `x`, and `M` is `R L'` and then `x'`
-wide_turn : faces (token.Wide R Quarter ∷ token.Face (turn U Quarter) ∷ []) ≡ turn L Quarter ∷ turn F Quarter ∷ []
-wide_turn = refl
+rows_are_so : map (λ r. cleaned r.line) rows ≡ map (λ r. r.clean) rows
+unfolding cleaned row rows read_line step_within symbol_of rewritten_within rewritten_once clean_turns rotation_left
+rows_are_so = refl
 
-slice_turn : faces (token.Slice M Quarter ∷ []) ≡ turn R Quarter ∷ turn L Counter ∷ []
-slice_turn = refl
-
-rotation_of_wide_turn : IsRotationOf (token.Wide R Quarter ∷ token.Face (turn U Quarter) ∷ []) (rotation F None)
-rotation_of_wide_turn = is_left_of_test (token.Wide R Quarter ∷ token.Face (turn U Quarter) ∷ []) (rotation F None) refl
-
-rotation_of_slice_turn : IsRotationOf (token.Slice M Quarter ∷ []) (rotation B None)
-rotation_of_slice_turn = is_left_of_test (token.Slice M Quarter ∷ []) (rotation B None) refl
-
--- `z z` is `x2 y2`, spelled so, and `x y x'` is `z`
-two_rotations : IsRotationOf (token.Rotation Fb Quarter ∷ token.Rotation Fb Quarter ∷ []) (rotation D (Some Half))
-two_rotations = is_left_of_test (token.Rotation Fb Quarter ∷ token.Rotation Fb Quarter ∷ []) (rotation D (Some Half)) refl
-
-two_words : rotation_words (rotation D (Some Half)) ≡ codes "x2" ∷ codes "y2" ∷ []
-two_words = refl
-
-three_rotations : IsRotationOf (token.Rotation Rl Quarter ∷ token.Rotation Ud Quarter ∷ token.Rotation Rl Counter ∷ []) (rotation L None)
-three_rotations = is_left_of_test (token.Rotation Rl Quarter ∷ token.Rotation Ud Quarter ∷ token.Rotation Rl Counter ∷ []) (rotation L None) refl
-
--- `U D U'` is cleaned to `D`, by `U U' D`
-passed : Cleans (turn U Quarter ∷ turn D Quarter ∷ turn U Counter ∷ []) (turn D Quarter ∷ [])
-unfolding clean_turns rewritten_within rewritten_once
-passed = clean_turns_are_clean (turn U Quarter ∷ turn D Quarter ∷ turn U Counter ∷ [])
-
--- `D U D'` is cleaned to `U`, by `U D D'`
-exchanged : Cleans (turn D Quarter ∷ turn U Quarter ∷ turn D Counter ∷ []) (turn U Quarter ∷ [])
-unfolding clean_turns rewritten_within rewritten_once
-exchanged = clean_turns_are_clean (turn D Quarter ∷ turn U Quarter ∷ turn D Counter ∷ [])
-
--- `F F F F` is cleaned to nothing, by `F2 F F` and `F' F`
-whole_round : Cleans (turn F Quarter ∷ turn F Quarter ∷ turn F Quarter ∷ turn F Quarter ∷ []) []
-unfolding clean_turns rewritten_within rewritten_once
-whole_round = clean_turns_are_clean (turn F Quarter ∷ turn F Quarter ∷ turn F Quarter ∷ turn F Quarter ∷ [])
-
--- `R R'` is cleaned to nothing, and `U U` to `U2`
-undone : Cleans (turn R Quarter ∷ turn R Counter ∷ []) []
-unfolding clean_turns rewritten_within rewritten_once
-undone = clean_turns_are_clean (turn R Quarter ∷ turn R Counter ∷ [])
-
-doubled : Cleans (turn U Quarter ∷ turn U Quarter ∷ []) (turn U Half ∷ [])
-unfolding clean_turns rewritten_within rewritten_once
-doubled = clean_turns_are_clean (turn U Quarter ∷ turn U Quarter ∷ [])
-
--- `R L R` is cleaned to `R2 L`, by `R R L`
-summed : Cleans (turn R Quarter ∷ turn L Quarter ∷ turn R Quarter ∷ []) (turn R Half ∷ turn L Quarter ∷ [])
-unfolding clean_turns rewritten_within rewritten_once
-summed = clean_turns_are_clean (turn R Quarter ∷ turn L Quarter ∷ turn R Quarter ∷ [])
-
--- `R2 L2 U2 D2` and `U2 D2 R2 L2` are both canonical and have one effect: the clean list is more than that.
-right_first : List Turn
-right_first = turn R Half ∷ turn L Half ∷ turn U Half ∷ turn D Half ∷ []
-
-up_first : List Turn
-up_first = turn U Half ∷ turn D Half ∷ turn R Half ∷ turn L Half ∷ []
-
-right_first_canonical : is_canonical right_first ≡ true
-unfolding right_first
-right_first_canonical = refl
-
-up_first_canonical : is_canonical up_first ≡ true
-unfolding up_first
-up_first_canonical = refl
-
-alike_test : every_place (λ q. same_place (effect_of_turns right_first q) (effect_of_turns up_first q)) ≡ true
-unfolding every_place every_vector every_coord right_first up_first
-alike_test = refl
-
-one_effect : (q : Place) → effect_of_turns right_first q ≡ effect_of_turns up_first q
-one_effect q = same_place_is _ _ (at_place _ alike_test q)
-
--- nothing left and then `U2` in a bracket, `x` and then `y` in a bracket, `L F x` and then nothing
-bracket_text : with_bracket (with_words [] (cleaned_words [] (rotation U None))) (cleaned_words (turn U Half ∷ []) (rotation U None)) ≡ codes "(U2)"
-bracket_text = refl
-
-rotations_text : with_bracket (with_words [] (cleaned_words [] (rotation F None))) (cleaned_words [] (rotation U (Some Quarter))) ≡ codes "x (y)"
-rotations_text = refl
-
-turns_text : with_bracket (with_words [] (cleaned_words (turn L Quarter ∷ turn F Quarter ∷ []) (rotation F None))) (cleaned_words [] (rotation U None)) ≡ codes "L F x"
-turns_text = refl
+one_effect : every_place (λ q. same_place (effect_of_turns (turn R Half ∷ turn L Half ∷ turn U Half ∷ turn D Half ∷ []) q) (effect_of_turns (turn U Half ∷ turn D Half ∷ turn R Half ∷ turn L Half ∷ []) q)) ≡ true
+unfolding every_place every_vector every_coord
+one_effect = refl

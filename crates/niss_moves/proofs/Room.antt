@@ -1,13 +1,13 @@
 -- What the steps of a line do to its state: they keep the moves within their bound.
-use Rattle.std.proofs.Common.{◌≡◌, ℕ, ◌+◌, ◌-◌, ◌<◌, ◌≤◌, Bool, true, false, cond, nat_lt, eqb, refl, subst, List, [], ◌∷◌, length, Option, None, Some, Result, Ok, Err, arith, MatchResult}
+use Rattle.std.proofs.Common.{◌≡◌, ℕ, ◌+◌, ◌-◌, ◌<◌, ◌≤◌, Bool, true, false, cond, nat_lt, eqb, refl, subst, List, [], ◌∷◌, length, Option, None, Some, Result, Ok, Err, arith}
 use Rattle.std.proofs.lemmas.Bool.{ltb-true}
 use Rattle.niss_moves.specs.Notation.{token_of}
-use Rattle.niss_moves.specs.Machine.{symbol_of, State, outside, inside, settled, opened, closed, begun, count, with_last, fed_to, step_by, step_at, step, step_within, HasRoom, IsStep}
+use Rattle.niss_moves.specs.Machine.{symbol_of, State, outside, inside, settled, opened, closed, begun, count, with_last, fed_to, step_by, step_at, step, step_within, HasRoom}
 use Rattle.niss_moves.specs.Names.{Quarter, Half, Counter, Token, Base, Symbol, LastMove, ReadFault, NotAMove, TooLong}
 use Rattle.niss_moves.specs.declared.base.Base.TheVariants as base
 use Rattle.niss_moves.specs.declared.partial_line.LastMove.TheVariants as last
 use Rattle.niss_moves.specs.declared.symbol.Symbol.TheVariants as symbol
-use Rattle.niss_moves.proofs.Completes.{state, count_more, IsReady}
+use Rattle.niss_moves.proofs.Completes.{state, count_more}
 
 abbrev Roomy : Result State ReadFault → Type 0
 Roomy (Ok t) = HasRoom t
@@ -68,19 +68,3 @@ room_step s byte h = room_fed (s.fed + 1) _ (by_last s.normal s.bracketed s.brac
 
 pub room_kept : (p q : State) (byte : ℕ) → HasRoom p → step p byte ≡ Ok q → HasRoom q
 room_kept p q byte h e = subst Roomy e (room_step p byte h)
-
-pub step_whole : (byte : ℕ) (x : Symbol) (p q : State) (r : Result (Unit {0}) ReadFault) → x ≡ symbol_of byte → IsReady p.last → IsStep (step_by 256 x) p r q → IsStep (λ s. step_at 256 s.last s byte) p r q
-step_whole byte x p q r e ready h = by_last p.last ready
-  where
-    whole : IsStep (step_by 256 (symbol_of byte)) p r q
-    whole = subst (λ (y : Symbol). IsStep (step_by 256 y) p r q) e h
-
-    by_last : (t : LastMove) → IsReady t → MatchResult r (λ _. step_at 256 t p byte ≡ Ok q) (λ f. step_at 256 t p byte ≡ Err f)
-    by_last (last.FirstByte t) k = absurd k
-    by_last (last.SecondByte t) k = absurd k
-    by_last _ k = whole
-
-pub is_ready : (t : LastMove) → ((x : Token) → t ≡ last.FirstByte x → ⊥) → ((x : Token) → t ≡ last.SecondByte x → ⊥) → IsReady t
-is_ready (last.FirstByte x) f g = f x refl
-is_ready (last.SecondByte x) f g = g x refl
-is_ready _ f g = tt

@@ -1,18 +1,14 @@
 -- The 24 rotations, computed.
-use Rattle.std.proofs.Common.{◌≡◌, Bool, true, false, not, ◌&&◌, if◌then◌else◌, refl, ap, sym, ◌∙◌, List, [], ◌∷◌, ◌++◌, Option, None, Some}
-use Rattle.niss_moves.specs.Places.{Place, Vector, along, same_vector, same_place}
-use Rattle.niss_moves.specs.Facelets.{centre}
-use Rattle.niss_moves.specs.Effects.{effect, effect_of_turns, Move, moved, moved_by, turned, quarter, quarters, times}
-use Rattle.niss_moves.specs.Rotations.{face_before, face_before_power, face_before_if}
-use Rattle.niss_moves.specs.Rotations.{renamed_turn, to_top, about_vertical, rotation_if, spelling}
-use Rattle.niss_moves.specs.Turn.{same_face}
-use Rattle.niss_moves.specs.Helpers.{is_beside, rotation_by}
-use Rattle.niss_moves.proofs.Finite.{every_coord, every_vector, at_vector, same_vector_is, same_place_is}
+use Rattle.niss_moves.proofs.Names.{◌≡◌, Bool, true, false, not, ◌&&◌, if◌then◌else◌, refl, ap, sym, ◌∙◌, List, [], ◌∷◌, ◌++◌, Option}
+use Rattle.niss_moves.proofs.Names.{None, Some, Place, Vector, along, same_vector, effect, effect_of_turns, Move}
+use Rattle.niss_moves.proofs.Names.{moved, moved_by, turned, quarter, quarters, times, face_before, face_before_power, face_before_if}
+use Rattle.niss_moves.proofs.Names.{renamed_turn, to_top, about_vertical, rotation_if, spelling, same_face, is_beside, rotation_by}
+use Rattle.niss_moves.proofs.Names.{Face, U, D, R, L, F, B, Power, Quarter, Half, Counter, Turn, Axis, Rotation}
+use Rattle.niss_moves.proofs.Finite.{every_coord, every_vector, at_vector, same_vector_is}
 use Rattle.niss_moves.proofs.Finite.{every_face, at_face, every_power, at_power, every_axis, at_axis, every_optional_power, at_optional_power}
 use Rattle.std.proofs.lemmas.Bool.{and_parts}
 use Rattle.niss_moves.proofs.OneAxis.{spun, move_of_turn}
 use Rattle.niss_moves.proofs.Inverses.{effect-append}
-use Rattle.niss_moves.specs.Names.{Face, U, D, R, L, F, B, Power, Quarter, Half, Counter, Turn, Axis, Rotation}
 use Rattle.niss_moves.specs.declared.token.Token.TheVariants as token
 
 abbrev pub turn : Face → Power → Turn
@@ -154,14 +150,6 @@ turn_after r t q =
     ap (turned t) (effect-append (rotation_if up) (rotation_if about) q) ∙ turn_after_if about t (effect (rotation_if up) q)
     ∙ ap (effect (rotation_if about)) (turn_after_if up (renamed_turn (face_before_if about) t) q)
     ∙ sym (effect-append (rotation_if up) (rotation_if about) (turned (renamed_turn (face_before r) t) q))
-
--- The centre of the face that a rotation brings to the place of another comes to the centre of that one.
-centres_test : every_rotation (λ r. every_face (λ f. same_place (effect (spelling r) (centre (face_before r f))) (centre f))) ≡ true
-unfolding every_rotation every_optional_power every_power every_face
-centres_test = refl
-
-pub brings_centre : (r : Rotation) (f g : Face) → g ≡ face_before r f → effect (spelling r) (centre g) ≡ centre f
-brings_centre r f g e = rw e (same_place_is _ _ (at_face _ (at_rotation _ centres_test r) f))
 
 pub effect_of_turns-append : (s t : List Turn) (q : Place) → effect_of_turns (s ++ t) q ≡ effect_of_turns t (effect_of_turns s q)
 effect_of_turns-append [] t q = refl

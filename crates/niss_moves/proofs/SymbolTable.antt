@@ -1,10 +1,8 @@
 -- The table of symbols is that of the bytes of a line, by its 256 values.
-use Rattle.std.proofs.Common.{◌≡◌, ℕ, ◌<◌, refl, ap, ◌∙◌, get_or, map, List, arith}
+use Rattle.niss_moves.proofs.Names.{◌≡◌, ℕ, ◌<◌, refl, ap, ◌∙◌, get_or, map, List, arith, symbol_of, Symbol}
 use Rattle.std.specs.List.{range_with_len}
 use Rattle.std.proofs.lemmas.List.FromFn.{get_or-map-range_with_len}
-use Rattle.niss_moves.specs.Machine.{symbol_of}
 use Rattle.niss_moves.specs.declared.symbol.TheConstants.{SYMBOLS}
-use Rattle.niss_moves.specs.Names.{Symbol}
 
 symbols_are : SYMBOLS ≡ map symbol_of (range_with_len 0 256)
 unfolding symbol_of

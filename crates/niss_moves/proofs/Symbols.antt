@@ -1,10 +1,8 @@
 -- What each byte may be, by the letters of the grammar.
-use Rattle.std.proofs.Common.{◌≡◌, ℕ, Bool, true, false, cond, eqb, refl, ap, sym, ◌∙◌, subst, List, [], ◌∷◌}
+use Rattle.niss_moves.proofs.Names.{◌≡◌, ℕ, Bool, true, false, cond, eqb, refl, ap, sym, ◌∙◌, subst, List, [], ◌∷◌, face_letter}
+use Rattle.niss_moves.proofs.Names.{lower_letter, slice_letter, rotation_letter, base_bytes, Blank, Space, Tab, Return, blank_byte}
+use Rattle.niss_moves.proofs.Names.{bytes_of_a_line, look_up, symbol_of, Face, U, Axis, Rl, Slice, M, Base, Symbol}
 use Rattle.std.proofs.lemmas.Bool.{eqb-true}
-use Rattle.niss_moves.specs.Letters.{face_letter}
-use Rattle.niss_moves.specs.Notation.{lower_letter, slice_letter, rotation_letter, base_bytes, Blank, Space, Tab, Return, blank_byte}
-use Rattle.niss_moves.specs.Machine.{Entry, bytes_of_a_line, look_up, symbol_of}
-use Rattle.niss_moves.specs.Names.{Face, U, Axis, Rl, Slice, M, Base, Symbol}
 use Rattle.niss_moves.specs.declared.base.Base.TheVariants as base
 use Rattle.niss_moves.specs.declared.symbol.Symbol.TheVariants as symbol
 
@@ -61,16 +59,16 @@ IsSymbol symbol.Apostrophe b = b ≡ 39
 IsSymbol symbol.Cut b = b ≡ 0xE2
 IsSymbol symbol.Other b = Unit {0}
 
-abbrev IsTable : List Entry → Type 0
+abbrev IsTable : List (ℕ × Symbol) → Type 0
 IsTable [] = Unit {0}
-IsTable (e ∷ es) = IsSymbol e.symbol e.byte × IsTable es
+IsTable (e ∷ es) = IsSymbol e.1 e.0 × IsTable es
 
-look_up_is : (es : List Entry) → IsTable es → (b : ℕ) → IsSymbol (look_up es b) b
+look_up_is : (es : List (ℕ × Symbol)) → IsTable es → (b : ℕ) → IsSymbol (look_up es b) b
 look_up_is [] h b = tt
-look_up_is (e ∷ es) h b = chosen (eqb b e.byte) refl (look_up_is es h.1 b)
+look_up_is (e ∷ es) h b = chosen (eqb b e.0) refl (look_up_is es h.1 b)
   where
-    chosen : (c : Bool) → eqb b e.byte ≡ c → IsSymbol (look_up es b) b → IsSymbol (cond c e.symbol (look_up es b)) b
-    chosen true q k = subst (λ (x : ℕ). IsSymbol e.symbol x) (sym (eqb-true b e.byte q)) h.0
+    chosen : (c : Bool) → eqb b e.0 ≡ c → IsSymbol (look_up es b) b → IsSymbol (cond c e.1 (look_up es b)) b
+    chosen true q k = subst (λ (x : ℕ). IsSymbol e.1 x) (sym (eqb-true b e.0 q)) h.0
     chosen false q k = k
 
 table : IsTable bytes_of_a_line

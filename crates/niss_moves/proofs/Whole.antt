@@ -1,7 +1,9 @@
 -- Whole lines: what is read of them, and which fault.
-use Rattle.std.proofs.Common.{◌≡◌, ℕ, ◌+◌, ◌-◌, ◌<◌, ◌≤◌, Bool, true, refl, ap, sym, ◌∙◌, subst, subst₂, List, [], ◌∷◌, ◌++◌, length, flat_map, append_assoc, append-nil, Option, None, Some, Result, Ok, Err, arith, length-append, take, drop, get_or, inl, inr, ◌==◌, ◌||◌, not}
+use Rattle.std.proofs.Common.{◌≡◌, ℕ, ◌+◌, ◌-◌, ◌<◌, ◌≤◌, Bool, true, ◌&&◌, refl, ap, sym, ◌∙◌, subst, subst₂, List, [], ◌∷◌, ◌++◌, length, flat_map, append_assoc, append-nil, Option, None, Some, Result, Ok, Err, arith, length-append, take, drop, get_or, inl, inr, ◌==◌, ◌||◌, not}
 use Rattle.std.proofs.lemmas.List.{take-append-le, take-append-drop}
 use Rattle.std.proofs.Math.Path.{subst₃}
+use Rattle.std.specs.List.{list_all}
+use Rattle.std.proofs.lemmas.List.Folds.{list_all-append}
 use Rattle.std.proofs.Math.Seq.{take-append_seam, take-append-add, get_or-append_seam}
 use Rattle.niss_moves.specs.Line.{Gap, Spelled, piece_bytes, Piece, item_bytes, Spells, IsLine}
 use Rattle.niss_moves.specs.Faults.{has_no_bracket, Cut, Whole, LacksOne, LacksTwo, cut_ending, cut_length, bracket_ending, Continues, CanContinue, StopsAt, EndsEarly, OpensAt, Stops, Lacks}
@@ -160,36 +162,39 @@ ends_early bytes s e n =
       no_line = λ h. n (line_ends bytes s e h);
     }
 
--- no bracket stands in a move
-no_bracket_base : (b : Base) → has_no_bracket (base_bytes b) ≡ true
+-- neither a bracket nor a line feed
+abbrev pub is_plain : ℕ → Bool
+is_plain b = not (b == 40 || b == 41) && not (b == 10)
+
+plain_base : (b : Base) → list_all is_plain (base_bytes b) ≡ true
 unfolding every_face every_slice every_axis
-no_bracket_base (base.Face f) = at_face (λ f. has_no_bracket (base_bytes (base.Face f))) refl f
-no_bracket_base (base.Wide f) = at_face (λ f. has_no_bracket (base_bytes (base.Wide f))) refl f
-no_bracket_base (base.LowerCase f) = at_face (λ f. has_no_bracket (base_bytes (base.LowerCase f))) refl f
-no_bracket_base (base.Slice l) = at_slice (λ l. has_no_bracket (base_bytes (base.Slice l))) refl l
-no_bracket_base (base.Rotation a) = at_axis (λ a. has_no_bracket (base_bytes (base.Rotation a))) refl a
+plain_base (base.Face f) = at_face (λ f. list_all is_plain (base_bytes (base.Face f))) refl f
+plain_base (base.Wide f) = at_face (λ f. list_all is_plain (base_bytes (base.Wide f))) refl f
+plain_base (base.LowerCase f) = at_face (λ f. list_all is_plain (base_bytes (base.LowerCase f))) refl f
+plain_base (base.Slice l) = at_slice (λ l. list_all is_plain (base_bytes (base.Slice l))) refl l
+plain_base (base.Rotation a) = at_axis (λ a. list_all is_plain (base_bytes (base.Rotation a))) refl a
 
-no_bracket_suffix : (s : Suffix) → has_no_bracket (suffix_bytes s) ≡ true
-no_bracket_suffix (Prime Plain) = refl
-no_bracket_suffix (TwoPrime Plain) = refl
-no_bracket_suffix _ = refl
+plain_suffix : (s : Suffix) → list_all is_plain (suffix_bytes s) ≡ true
+plain_suffix (Prime Plain) = refl
+plain_suffix (TwoPrime Plain) = refl
+plain_suffix _ = refl
 
-no_bracket_append : (a b : List ℕ) → has_no_bracket a ≡ true → has_no_bracket b ≡ true → has_no_bracket (a ++ b) ≡ true
-no_bracket_append [] b p q = q
-no_bracket_append (x ∷ a) b p q =
-    and_both _ _ (and_left _ _ p) (no_bracket_append a b (and_right (not (x == 40 || x == 41)) _ p) q)
+pub plain_pieces : (ps : List Piece) → list_all is_plain (flat_map piece_bytes ps) ≡ true
+plain_pieces [] = refl
+plain_pieces (Gap Space ∷ ps) = plain_pieces ps
+plain_pieces (Gap _ ∷ ps) = plain_pieces ps
+plain_pieces (Spelled b s ∷ ps) =
+    rw (list_all-append is_plain (base_bytes b ++ suffix_bytes s) (flat_map piece_bytes ps), list_all-append is_plain (base_bytes b) (suffix_bytes s))
+    (and_both _ _ (and_both _ _ (plain_base b) (plain_suffix s)) (plain_pieces ps))
 
-no_bracket_pieces : (ps : List Piece) → has_no_bracket (flat_map piece_bytes ps) ≡ true
-no_bracket_pieces [] = refl
-no_bracket_pieces (Gap Space ∷ ps) = no_bracket_pieces ps
-no_bracket_pieces (Gap _ ∷ ps) = no_bracket_pieces ps
-no_bracket_pieces (Spelled b s ∷ ps) =
-    no_bracket_append (base_bytes b ++ suffix_bytes s) _ (no_bracket_append (base_bytes b) _ (no_bracket_base b) (no_bracket_suffix s)) (no_bracket_pieces ps)
+plain_no_bracket : (bytes : List ℕ) → list_all is_plain bytes ≡ true → has_no_bracket bytes ≡ true
+plain_no_bracket [] e = refl
+plain_no_bracket (b ∷ bs) e = and_both _ _ (and_left _ _ (and_left _ _ e)) (plain_no_bracket bs (and_right (is_plain b) _ e))
 
 opens_front : (o : Option ℕ) (bytes : List ℕ) (n b : List Token) (c : ℕ) → WholeItems o bytes n b → o ≡ Some c → OpensAt bytes c
 opens_front o bytes n b c (Closed items) e = absurd (cc)
 opens_front o bytes n b c (Opened items ps) e =
-    (flat_map item_bytes items, flat_map piece_bytes ps, refl, no_bracket_pieces ps, (let k : c ≡ length (flat_map item_bytes items) + 1 = cc in k))
+    (flat_map item_bytes items, flat_map piece_bytes ps, refl, plain_no_bracket (flat_map piece_bytes ps) (plain_pieces ps), (let k : c ≡ length (flat_map item_bytes items) + 1 = cc in k))
 
 pub opens_at : (bytes : List ℕ) (s : State) (c : ℕ) → cut_of s.last ≡ Whole → Reads s bytes → s.bracket ≡ Some c → OpensAt bytes c
 opens_at bytes s c w h o = opens_front s.bracket bytes _ _ c (whole_front s bytes w h) o

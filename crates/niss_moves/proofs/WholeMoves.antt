@@ -1,19 +1,18 @@
 -- What a move that is read at once does.
-use Rattle.std.proofs.Common.{◌≡◌, ℕ, ◌+◌, ◌<◌, refl, ap, sym, ◌∙◌, subst, List, [], ◌∷◌, ◌++◌, length, take, take-add, drop, get_or, append_assoc, Result, Ok, Option, Some, None, arith, length-append, inl, inr, ap₂}
+use Rattle.niss_moves.proofs.Names.{◌≡◌, ℕ, ◌+◌, ◌<◌, ap, sym, ◌∙◌, subst, List, [], ◌∷◌, ◌++◌, length, take, take-add, drop}
+use Rattle.niss_moves.proofs.Names.{get_or, append_assoc, Result, Ok, Option, Some, None, arith, length-append, inl, inr, ap₂, ◌≢◌}
+use Rattle.niss_moves.proofs.Names.{◌==◌, ◌||◌, ◌*◌, nat_lt, not, Bool, true, false, Gap, Spelled, token_of, base_bytes, Nothing}
+use Rattle.niss_moves.proofs.Names.{Two, Prime, TwoPrime, Blank, blank_byte, State, state_or, HasRoom, added, settled, with_last, count}
+use Rattle.niss_moves.proofs.Names.{run, and_then, ended, answer_after, IsFed, line_with, read_line, IsSuffix, IsMove, BeginsApostrophe}
+use Rattle.niss_moves.proofs.Names.{HasNoLineFeed, Power, Quarter, Half, Counter, Token, Base, ReadFault}
 use mir.Val.{bool_byte}
 use Rattle.std.proofs.lemmas.List.{take_more}
-use Rattle.std.proofs.lemmas.List.Elements.{All-nil, All-append}
+use Rattle.std.proofs.lemmas.List.Elements.{All-append}
 use Rattle.std.proofs.lemmas.List.Sums.{AllPass-from_list_all}
 use Rattle.std.specs.List.{list_all}
-use Rattle.std.specs.Prelude.{◌≢◌, ◌==◌, ◌*◌, nat_lt, not, Bool, true, false}
-use Rattle.niss_moves.proofs.Finite.{every_face, at_face, every_slice, at_slice, every_axis, at_axis}
+use Rattle.niss_moves.proofs.Finite.{and_right}
+use Rattle.niss_moves.proofs.Whole.{is_plain, plain_pieces}
 use Rattle.std.proofs.lemmas.Bool.{lt-ltb, eqb-true}
-use Rattle.niss_moves.specs.Notation.{token_of, base_bytes, Plain, Suffix, Nothing, Two, Prime, TwoPrime, suffix_bytes, Blank, Space, blank_byte}
-use Rattle.niss_moves.specs.Machine.{State, state_or, HasRoom, added, settled, with_last, count, run, and_then, ended, answer_after}
-use Rattle.niss_moves.specs.Reader.{IsFed, line_with, read_line}
-use Rattle.niss_moves.specs.WholeMoves.{IsSuffix, IsMove, BeginsApostrophe, HasNoLineFeed}
-use Rattle.niss_moves.specs.Names.{Power, Quarter, Half, Counter, Token, Base, ReadFault}
-use Rattle.niss_moves.specs.declared.base.Base.TheVariants as base
 use Rattle.niss_moves.specs.declared.partial_line.LastMove.TheVariants as last
 use Rattle.niss_moves.proofs.Completes.{IsReady, count_more, and_then-assoc, run-append, at_fed, run_move}
 use Rattle.niss_moves.proofs.ReaderAnswers.{IsOutcome, reader}
@@ -22,11 +21,6 @@ use Rattle.niss_moves.proofs.ReaderAnswers.{IsOutcome, reader}
 pub take_one : (bytes : List ℕ) (x : ℕ) → 0 < length bytes → get_or bytes 0 0 ≡ x → take 1 bytes ≡ x ∷ []
 take_one [] x lt e = absurd (omega arith)
 take_one (a ∷ bytes) x lt e = ap (λ y. y ∷ []) e
-
--- a plain apostrophe, or none
-pub plain_at : (plain : Bool) (bytes : List ℕ) → 0 < length bytes → (get_or bytes 0 0 == 39) ≡ plain → BeginsApostrophe bytes (bool_byte plain)
-plain_at false bytes lt e = inl refl
-plain_at true bytes lt e = inr (Plain, omega arith, take_one bytes 39 lt (eqb-true _ 39 e))
 
 -- a suffix, by whether a `2` stands there and how long the apostrophe after it is
 pub suffix_at : (two : Bool) (bytes : List ℕ) (n : ℕ) → 0 < length bytes → (get_or bytes 0 0 == 50) ≡ two → BeginsApostrophe (drop (bool_byte two) bytes) n
@@ -75,34 +69,11 @@ move_run s bytes t e room h =
     ∙ (λ i. Ok (at_fed (here i) (sym h.token_is i) (s.fed + length (sym h.bytes_are i))))
 
 -- no line feed stands in a move
-abbrev has_no_feed : List ℕ → Bool
-has_no_feed bytes = list_all (λ b. not (b == 10)) bytes
-
-no_feed : (bytes : List ℕ) → has_no_feed bytes ≡ true → HasNoLineFeed bytes
-no_feed bytes h k d lt e = cc (AllPass-from_list_all (λ b. not (b == 10)) bytes h k d lt)
-
-no_feed_base : (b : Base) → has_no_feed (base_bytes b) ≡ true
-unfolding every_face every_slice every_axis
-no_feed_base (base.Face f) = at_face (λ f. has_no_feed (base_bytes (base.Face f))) refl f
-no_feed_base (base.Wide f) = at_face (λ f. has_no_feed (base_bytes (base.Wide f))) refl f
-no_feed_base (base.LowerCase f) = at_face (λ f. has_no_feed (base_bytes (base.LowerCase f))) refl f
-no_feed_base (base.Slice l) = at_slice (λ l. has_no_feed (base_bytes (base.Slice l))) refl l
-no_feed_base (base.Rotation a) = at_axis (λ a. has_no_feed (base_bytes (base.Rotation a))) refl a
-
-no_feed_suffix : (x : Suffix) → has_no_feed (suffix_bytes x) ≡ true
-no_feed_suffix (Prime Plain) = refl
-no_feed_suffix (TwoPrime Plain) = refl
-no_feed_suffix _ = refl
-
-no_feed_blank : (k : Blank) → has_no_feed (blank_byte k ∷ []) ≡ true
-no_feed_blank Space = refl
-no_feed_blank _ = refl
-
 no_line_feed : (bytes : List ℕ) (t : Token) → IsMove bytes t → HasNoLineFeed bytes
-no_line_feed bytes t h =
-    let P : ℕ → Type 0 = λ b. b ≢ 10 in
-    let front = All-append P (base_bytes h.base) _ (no_feed (base_bytes h.base) (no_feed_base h.base)) (no_feed (suffix_bytes h.suffix) (no_feed_suffix h.suffix)) in
-    subst HasNoLineFeed (sym h.bytes_are) (All-append P (base_bytes h.base ++ suffix_bytes h.suffix) _ front (no_feed (blank_byte h.blank ∷ []) (no_feed_blank h.blank)))
+no_line_feed bytes t h k d lt e =
+    let plain = plain_pieces (Spelled h.base h.suffix ∷ Gap h.blank ∷ []) in
+    let here = AllPass-from_list_all is_plain bytes (ap (list_all is_plain) h.bytes_are ∙ plain) k d lt in
+    cc (and_right (not (get_or bytes k d == 40 || get_or bytes k d == 41)) _ here)
 
 -- A line took these bytes as whole moves, and counts them later.
 pub record HasTaken (old new : State) (bytes : List ℕ) : Type 0 where
@@ -111,11 +82,6 @@ pub record HasTaken (old new : State) (bytes : List ℕ) : Type 0 where
   pub finished : new.last ≡ last.Finished
   pub room : HasRoom new
   pub inside : HasNoLineFeed bytes
-
-pub taken_none : (p : State) → p.last ≡ last.Finished → HasRoom p → HasTaken p p []
-taken_none p e room =
-    let sum : p.fed ≡ p.fed + 0 = omega arith in
-    record { runs = ap (λ n. Ok (record p { fed = n })) sum; uncounted = refl; finished = e; room = room; inside = All-nil (λ b. b ≢ 10) }
 
 taken_more : (old mid new : State) (a b : List ℕ) (t : Token) → HasTaken old mid a → count mid < 256
     → IsMove b t → new ≡ added mid (Some t) → HasTaken old new (a ++ b)

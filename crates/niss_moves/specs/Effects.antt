@@ -47,14 +47,9 @@ face_move D n = record { axis = Ud; turns = is_negative; quarters = against n }
 face_move F n = record { axis = Fb; turns = is_positive; quarters = n }
 face_move B n = record { axis = Fb; turns = is_negative; quarters = against n }
 
--- the two outer layers
+-- all layers but that of the opposite face
 abbrev pub wide_move : Face → ℕ → Move
-wide_move R n = record { axis = Rl; turns = λ c. not (is_negative c); quarters = n }
-wide_move L n = record { axis = Rl; turns = λ c. not (is_positive c); quarters = against n }
-wide_move U n = record { axis = Ud; turns = λ c. not (is_negative c); quarters = n }
-wide_move D n = record { axis = Ud; turns = λ c. not (is_positive c); quarters = against n }
-wide_move F n = record { axis = Fb; turns = λ c. not (is_negative c); quarters = n }
-wide_move B n = record { axis = Fb; turns = λ c. not (is_positive c); quarters = against n }
+wide_move f n = record (face_move f n) { turns = λ c. not ((face_move f n).turns (negated c)) }
 
 abbrev pub slice_move : Slice → ℕ → Move
 slice_move M n = record { axis = Rl; turns = is_zero; quarters = against n }

@@ -1,7 +1,8 @@
 -- The fault of a line: the leftmost byte that can't go on there (of a U+2019 that it cuts, the first byte), or what the end
 -- lacks.
 use Rattle.std.specs.Prelude.{◌≡◌, ℕ, ◌+◌, ◌-◌, ◌<◌, ◌≤◌, Bool, true, false}
-use Rattle.std.specs.Prelude.{List, [], ◌∷◌, ◌++◌, length, take, slice_index, ◌⊎◌, ◌==◌, ◌||◌, ◌&&◌, not, IsTrue}
+use Rattle.std.specs.Prelude.{List, [], ◌∷◌, ◌++◌, length, take, slice_index, ◌⊎◌, ◌==◌, ◌||◌, not, IsTrue}
+use Rattle.std.specs.List.{list_all}
 use Rattle.niss_moves.specs.Line.{IsLine}
 use Rattle.niss_moves.specs.Notation.{base_bytes}
 use Rattle.niss_moves.specs.Names.{Base, ReadFault, NotAMove, Nested, Unopened, Unclosed, TooLong}
@@ -53,8 +54,7 @@ abbrev pub BeginsBase : ℕ → Type 0
 BeginsBase byte = (base : Base) × (more : List ℕ) × (base_bytes base ≡ byte ∷ more)
 
 abbrev pub has_no_bracket : List ℕ → Bool
-has_no_bracket [] = true
-has_no_bracket (b ∷ bs) = not (b == 40 || b == 41) && has_no_bracket bs
+has_no_bracket bytes = list_all (λ b. not (b == 40 || b == 41)) bytes
 
 -- the column of the last opening bracket, with no bracket after it
 abbrev pub OpensAt : List ℕ → ℕ → Type 0
@@ -83,9 +83,7 @@ Lacks bytes (NotAMove column) =
     (is_open : Bool) × (cut : Cut) × (0 < cut_length cut)
     × EndsEarly bytes cut is_open × (column + cut_length cut ≡ length bytes + 1)
 Lacks bytes (Unclosed column) = EndsEarly bytes Whole true × OpensAt bytes column
-Lacks bytes (Nested column) = ⊥
-Lacks bytes (Unopened column) = ⊥
-Lacks bytes (TooLong column) = ⊥
+Lacks bytes _ = ⊥
 
 -- the fault of a line that no value of at most 256 moves spells
 abbrev pub Faults : List ℕ → ReadFault → Type 0

@@ -4,39 +4,29 @@ use Rattle.std.specs.Prelude.{ℕ, ◌+◌, ◌-◌, ◌≤◌, if◌then◌else
 use Rattle.std.specs.Prelude.{List, [], ◌∷◌, ◌++◌, length, map, Option, None, Some, Result, Ok, Err, MatchResult, ◌≡◌}
 use Rattle.std.specs.Option.{option_map_or}
 use Rattle.niss_moves.specs.Letters.{face_letter}
+use Rattle.niss_moves.specs.Canonical.{face_order}
 use Rattle.niss_moves.specs.Notation.{token_of, lower_letter, slice_letter, rotation_letter, blank_byte, Space, Tab, Return}
 use Rattle.niss_moves.specs.Line.{Moves}
-use Rattle.niss_moves.specs.Names.{U, D, R, L, F, B, Quarter, Half, Counter, Ud, Rl, Fb, M, E, S, Token, Base}
+use Rattle.niss_moves.specs.Names.{Quarter, Half, Counter, Ud, Rl, Fb, M, E, S, Token, Base}
 use Rattle.niss_moves.specs.Names.{Symbol, LastMove, ReadFault, NotAMove, Nested, Unopened, Unclosed, TooLong}
 use Rattle.niss_moves.specs.declared.base.Base.TheVariants as base
 use Rattle.niss_moves.specs.declared.symbol.Symbol.TheVariants as symbol
 use Rattle.niss_moves.specs.declared.partial_line.LastMove.TheVariants as last
 
-pub record Entry : Type 0 where
-  pub byte : ℕ
-  pub symbol : Symbol
-
-abbrev pub entry : ℕ → Symbol → Entry
-entry b s = record { byte = b; symbol = s }
-
--- the entry of a letter that is a base
-abbrev pub base_entry : ℕ → Base → Entry
-base_entry letter b = entry letter (symbol.Base b)
-
 -- each byte that may stand in a line, but for the second and third of U+2019
-abbrev pub bytes_of_a_line : List Entry
+abbrev pub bytes_of_a_line : List (ℕ × Symbol)
 bytes_of_a_line =
-    map (λ b. entry (blank_byte b) symbol.Blank) (Space ∷ Tab ∷ Return ∷ [])
-    ++ map (λ f. base_entry (face_letter f) (base.Face f)) (U ∷ D ∷ R ∷ L ∷ F ∷ B ∷ [])
-    ++ map (λ f. base_entry (lower_letter f) (base.LowerCase f)) (U ∷ D ∷ R ∷ L ∷ F ∷ B ∷ [])
-    ++ map (λ l. base_entry (slice_letter l) (base.Slice l)) (M ∷ E ∷ S ∷ [])
-    ++ map (λ a. base_entry (rotation_letter a) (base.Rotation a)) (Rl ∷ Ud ∷ Fb ∷ [])
-    ++ entry 40 symbol.Open ∷ entry 41 symbol.Close ∷ entry 119 symbol.Wide ∷ entry 50 symbol.Two
-    ∷ entry 39 symbol.Apostrophe ∷ entry 0xE2 symbol.Cut ∷ []
+    map (λ b. (blank_byte b, symbol.Blank)) (Space ∷ Tab ∷ Return ∷ [])
+    ++ map (λ f. (face_letter f, symbol.Base (base.Face f))) face_order
+    ++ map (λ f. (lower_letter f, symbol.Base (base.LowerCase f))) face_order
+    ++ map (λ l. (slice_letter l, symbol.Base (base.Slice l))) (M ∷ E ∷ S ∷ [])
+    ++ map (λ a. (rotation_letter a, symbol.Base (base.Rotation a))) (Rl ∷ Ud ∷ Fb ∷ [])
+    ++ (40, symbol.Open) ∷ (41, symbol.Close) ∷ (119, symbol.Wide) ∷ (50, symbol.Two)
+    ∷ (39, symbol.Apostrophe) ∷ (0xE2, symbol.Cut) ∷ []
 
-abbrev pub look_up : List Entry → ℕ → Symbol
+abbrev pub look_up : List (ℕ × Symbol) → ℕ → Symbol
 look_up [] b = symbol.Other
-look_up (e ∷ es) b = if b == e.byte then e.symbol else look_up es b
+look_up (e ∷ es) b = if b == e.0 then e.1 else look_up es b
 
 unfoldable pub symbol_of : ℕ → Symbol
 symbol_of b = look_up bytes_of_a_line b

@@ -15,18 +15,15 @@ negated Pos = Neg
 
 abbrev pub is_negative : Coord → Bool
 is_negative Neg = true
-is_negative Zero = false
-is_negative Pos = false
+is_negative _ = false
 
 abbrev pub is_zero : Coord → Bool
-is_zero Neg = false
 is_zero Zero = true
-is_zero Pos = false
+is_zero _ = false
 
 abbrev pub is_positive : Coord → Bool
-is_positive Neg = false
-is_positive Zero = false
 is_positive Pos = true
+is_positive _ = false
 
 abbrev pub same_coord : Coord → Coord → Bool
 same_coord Neg Neg = true

@@ -39,20 +39,15 @@ face_before_quarter Rl U = F
 face_before_quarter Rl F = D
 face_before_quarter Rl D = B
 face_before_quarter Rl B = U
-face_before_quarter Rl R = R
-face_before_quarter Rl L = L
-face_before_quarter Ud U = U
 face_before_quarter Ud F = R
-face_before_quarter Ud D = D
-face_before_quarter Ud B = L
 face_before_quarter Ud R = B
+face_before_quarter Ud B = L
 face_before_quarter Ud L = F
 face_before_quarter Fb U = L
-face_before_quarter Fb F = F
-face_before_quarter Fb D = R
-face_before_quarter Fb B = B
-face_before_quarter Fb R = U
 face_before_quarter Fb L = D
+face_before_quarter Fb D = R
+face_before_quarter Fb R = U
+face_before_quarter _ f = f
 
 -- the same for one, two or three quarters
 abbrev pub face_before_power : Axis → Power → Face → Face

@@ -25,9 +25,7 @@ abbrev pub goes_first : Face → Bool
 goes_first U = true
 goes_first R = true
 goes_first F = true
-goes_first D = false
-goes_first L = false
-goes_first B = false
+goes_first _ = false
 
 abbrev pub inverse_turn : Turn → Turn
 inverse_turn t = record t { power = inverse_power t.power }

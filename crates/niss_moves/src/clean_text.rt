@@ -17,6 +17,7 @@ use crate::turn::Turn;
 
 /// Appends the words of the face turns, with one space before each word, but not at the beginning of the text or after
 /// `(`. A turn takes at most three bytes.
+#[tactic(auto, using(crate::proofs::Gathered::gathers_none))]
 pub fn put_faces(turns: &[Turn], text: &mut LineText)
     requires { array_vec_len text.old + 3 * length turns.now ≤ 2048 }
     ensures items { text.new.items ≡ with_words text.old.items (turn_words turns.now) }
@@ -47,6 +48,7 @@ pub fn put_rotation(rotation: Rotation, text: &mut LineText)
 }
 
 /// Whether there is no word to write.
+#[tactic(auto, using(crate::proofs::CleanWords::not_empty))]
 fn have_no_word(turns: &[Turn], rotation: Rotation) -> bool
     ensures { result ≡ is_empty (cleaned_words turns.now rotation) }
 {

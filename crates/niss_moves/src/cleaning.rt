@@ -66,6 +66,7 @@ fn push_summed(turns: &mut Faces, turn: Turn)
 }
 
 /// Sums a turn that may not follow the last one with it, or lets it pass.
+#[tactic(auto, using(crate::proofs::Cleaned::cleaned_sum, crate::proofs::Cleaned::cleaned_passed, crate::proofs::Cleaned::same_faces))]
 fn push_before(turns: &mut Faces, turn: Turn)
     requires breaks { IfSome (last_turn turns.old.items) (λ t. face_may_follow t.face turn.face ≡ false) }
     requires canonical { IsCanonical turns.old.items }
@@ -88,6 +89,7 @@ fn push_before(turns: &mut Faces, turn: Turn)
 }
 
 /// Appends a turn to a clean list and cleans it again.
+#[tactic(auto, using(crate::proofs::AllCanonical::canonical_more))]
 fn push_clean(turns: &mut Faces, turn: Turn)
     requires canonical { IsCanonical turns.old.items }
     requires room { array_vec_len turns.old < 512 }
@@ -142,6 +144,7 @@ pub(crate) fn clean_into(tokens: &[Token], turns: &mut Faces) -> Rotation
 /// the order, the leftmost two are summed, where they are of one face, or exchanged: `R L R` is `R2 L`, `U D U'` is `D`.
 /// A sum that is a whole round leaves nothing: so does `F F F F`. That the list is the shortest of its effect isn't said.
 /// A sequence has at most 256 moves.
+#[tactic(auto, using(crate::proofs::LawLemmas::of_cleaning))]
 pub fn cleanup(tokens: &[Token]) -> (Faces, Rotation)
     requires { length tokens.now ≤ 256 }
     ensures len { array_vec_len result.0 ≤ 2 * length tokens.now }

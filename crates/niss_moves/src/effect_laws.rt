@@ -1,9 +1,10 @@
 //! What holds of all moves and sequences. Each law is the contract of a function that does nothing.
+#![tactic(auto, using(crate::proofs::LawLemmas::of_effects))]
+
 ghost use Rattle.niss_moves.specs.EffectLaws.{PlacesStay, PlacesAreListed, PlacesDiffer, PlacesAre54, InverseUndoes};
 ghost use Rattle.niss_moves.specs.EffectLaws.{InverseIsUndone, EffectsCompose, TurnsAreMoves, OneMeaning, SameLetters};
 
 /// A move brings places to places.
-#[tactic(auto, using(crate::proofs::Inverses::places_stay))]
 pub fn places_stay()
     ensures { PlacesStay }
 {}
@@ -16,13 +17,11 @@ pub fn places_are_listed()
 {}
 
 /// The inverse of a sequence, made after it, brings each place back.
-#[tactic(auto, using(crate::proofs::Inverses::inverse_after))]
 pub fn inverse_undoes()
     ensures { InverseUndoes }
 {}
 
 /// A sequence, made after its inverse, brings each place back.
-#[tactic(auto, using(crate::proofs::Inverses::inverse_before))]
 pub fn inverse_is_undone()
     ensures { InverseIsUndone }
 {}
@@ -33,7 +32,6 @@ pub fn effects_compose()
 {}
 
 /// Face turns have one effect, by themselves and as moves of a line.
-#[tactic(auto, using(crate::proofs::Home::turns_are_moves))]
 pub fn turns_are_moves()
     ensures { TurnsAreMoves }
 {}
@@ -44,7 +42,6 @@ pub fn one_meaning()
 {}
 
 /// Maps that are the same on the 54 places have the same facelet text.
-#[tactic(auto, using(crate::proofs::ListedPlaces::same_letters))]
 pub fn same_letters()
     ensures { SameLetters }
 {}

@@ -93,6 +93,7 @@ impl Words {
     }
 
     /// Appends the words to the text.
+    #[tactic(auto, using(crate::proofs::Gathered::written))]
     pub fn write(&mut self, text: &mut LineText)
         requires { array_vec_len text.old + self.old.len ≤ 2048 }
         ensures items { (rest : List ℕ) → with_gathered text.new.items self.new.no_gap rest

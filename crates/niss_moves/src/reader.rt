@@ -35,6 +35,7 @@ impl LineReader {
     ghost use Rattle.niss_moves.specs.declared.fault.ReadFault.{ReadFault};
 
     /// A reader before the first byte of a line.
+    #[tactic(auto, using(crate::proofs::ReaderAnswers::new_fed))]
     pub fn new() -> LineReader
         ensures fed { result.fed ≡ 0 }
         ensures bytes { IsFed result [] }
@@ -127,6 +128,7 @@ impl LineReader {
     }
 
     /// Goes back before the first byte of a line.
+    #[tactic(auto, using(crate::proofs::ReaderAnswers::new_fed))]
     pub fn clear(&mut self)
         ensures fed { self.new.fed ≡ 0 }
         ensures bytes { IsFed self.new [] }

@@ -1,4 +1,6 @@
 //! Laws of rotations, canonical sequences and cleaning: each is the contract of a function that does nothing.
+#![tactic(auto, using(crate::proofs::LawLemmas::of_rewriting))]
+
 ghost use Rattle.niss_moves.specs.RewritingLaws.{OneSpelling, ExpandsAlike, RenamesAboutAxis, RenamesByRotation};
 ghost use Rattle.niss_moves.specs.RewritingLaws.{CentresComeHome, FacesAreHome, LineIsHome, FacesAndRotation};
 ghost use Rattle.niss_moves.specs.RewritingLaws.{CleanedEffect, CanonicalMembers, CanonicalInOrder, CanonicalGrows};
@@ -6,13 +8,11 @@ ghost use Rattle.niss_moves.specs.RewritingLaws.{CleaningEnds, OneCleanList, Can
 ghost use Rattle.niss_moves.specs.RewritingLaws.{CleanTurnsAreClean, RotationIsLeft};
 
 /// Two rotations that move the six centres alike are one. So each of the 24 has one spelling.
-#[tactic(auto, using(crate::proofs::OneSpelling::one_spelling))]
 pub fn one_spelling()
     ensures { OneSpelling }
 {}
 
 /// Wide turns and slices have the effect of the face turns and rotations to which they are expanded.
-#[tactic(auto, using(crate::proofs::Inverses::effect_of_expanded))]
 pub fn expands_alike()
     ensures { ExpandsAlike }
 {}
@@ -44,7 +44,6 @@ pub fn canonical_members()
 {}
 
 /// A canonical sequence goes on canonically by the turns that `allowed` lets stand after its last one.
-#[tactic(auto, using(crate::proofs::AllCanonical::canonical_grows))]
 pub fn canonical_grows()
     ensures { CanonicalGrows }
 {}

@@ -11,6 +11,7 @@ use crate::token::Token;
 use arrayvec::ArrayVec;
 
 /// The normal moves of a line, and then the inverse of its bracketed ones.
+#[tactic(auto, using(crate::proofs::Inverses::joined, crate::proofs::Inverses::meaning_of))]
 pub fn unniss(niss: &Niss) -> ArrayVec<Token, 256>
     ensures moves { result.items ≡ joined_moves niss.now }
     ensures meaning { HasMeaning result.items niss.now.normal niss.now.bracketed }
@@ -22,6 +23,7 @@ pub fn unniss(niss: &Niss) -> ArrayVec<Token, 256>
 }
 
 /// The inverse of the list that `unniss` gives.
+#[tactic(auto, using(crate::proofs::Inverses::joined, crate::proofs::Inverses::inverse_of))]
 pub fn invert(niss: &Niss) -> ArrayVec<Token, 256>
     ensures moves { result.items ≡ inverse (joined_moves niss.now) }
     ensures effect { (s : List Token) (q : Place) →

@@ -16,6 +16,7 @@ pub type LineText = ArrayVec<u8, 2048>;
 /// Appends the words of the moves, with one space before each word, but not at the beginning of the text or after
 /// `(`. A wide turn is written with `w`, a half turn with `2`, a quarter turn counterclockwise with `'`. The text needs
 /// four free bytes for each move.
+#[tactic(auto, using(crate::proofs::Gathered::gathers_none))]
 pub fn put_tokens(tokens: &[Token], text: &mut LineText)
     requires { array_vec_len text.old + 4 * length tokens.now ≤ 2048 }
     ensures items { text.new.items ≡ with_words text.old.items (map word tokens.now) }
@@ -29,6 +30,7 @@ pub fn put_tokens(tokens: &[Token], text: &mut LineText)
 }
 
 /// Appends the words of the inverse of the moves, in the same way.
+#[tactic(auto, using(crate::proofs::Gathered::gathers_none))]
 fn put_inverse(tokens: &[Token], text: &mut LineText)
     requires { array_vec_len text.old + 4 * length tokens.now ≤ 2048 }
     ensures items { text.new.items ≡ with_words text.old.items (map word (inverse tokens.now)) }

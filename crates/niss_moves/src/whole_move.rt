@@ -96,6 +96,7 @@ fn wide_move(letter: Base, bytes: &[u8]) -> Option<(Token, usize)>
 }
 
 /// The move in front of the bytes and how many bytes it has with the blank after it.
+#[tactic(auto, using(crate::proofs::WholeMoves::take_one, crate::proofs::Symbols::base_is))]
 pub fn whole_move(bytes: &[u8]) -> Option<(Token, usize)>
     ensures fits { IfSome result (λ m. m.1 ≤ length bytes.now) }
     ensures moves { IfSome result (λ m. IsMove (take m.1 bytes.now) m.0) }

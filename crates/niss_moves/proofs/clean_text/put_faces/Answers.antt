@@ -1,26 +1,8 @@
-use Rattle.std.proofs.Common.{arith, ap, map, take, drop, ◌+◌, ◌∙◌}
-use Rattle.std.proofs.lemmas.List.{drop_more, drop_all}
-use Rattle.niss_moves.specs.Text.{with_words}
+use Rattle.niss_moves.proofs.Names.{ap, map, ◌∙◌, with_words}
+use Rattle.std.proofs.lemmas.List.{drop_all}
 use Rattle.niss_moves.specs.declared.token.Token.TheVariants as token
-use Rattle.niss_moves.proofs.Gathered.{words_of_turns}
-use Rattle.niss_moves.proofs.Gathered.{gathers_none, gathers_more, gathers_all}
+use Rattle.niss_moves.proofs.Gathered.{words_of_turns, gathers_all}
 use Rattle.niss_moves.proofs.clean_text.put_faces.Goals as goal
-
-pub loop-turn-init : goal.loop-turn-init
-loop-turn-init c =
-    let words = c.after-words in
-    record {
-      room = omega (arith, words.ensures.none);
-      gathers = gathers_none c.args.text.now.items words.result (map token.Face c.args.turns.now) words.ensures.none words.ensures.gap;
-    }
-
-pub loop-turn-preserved : goal.loop-turn-preserved
-loop-turn-preserved c =
-    let l = c.loop-turn in
-    record {
-      room = omega (arith, c.push.ensures.len, c.of_turn.ensures.len, l.invariant.room);
-      gathers = gathers_more (take c.of_turn.result.len c.of_turn.result.bytes) _ (map token.Face (drop (l.turn-index + 1) c.args.turns.now)) (ap (map token.Face) (drop_more c.args.turns.now l.turn-index _ c.loop-turn-test.true)) c.of_turn.ensures.bytes c.push.ensures.items l.invariant.gathers;
-    }
 
 pub returns-clause-items : goal.returns-clause-items
 returns-clause-items c =

@@ -1,7 +1,5 @@
-use Rattle.std.proofs.Common.{refl, ◌++◌, [], ap, sym, subst, take}
-use Rattle.niss_moves.specs.Rotations.{about_vertical, rotation_if, spelling}
+use Rattle.niss_moves.proofs.Names.{refl, ◌++◌, [], ap, sym, subst, take, about_vertical, rotation_if, spelling, Ud}
 use Rattle.niss_moves.specs.declared.token.Token.TheVariants as token
-use Rattle.niss_moves.specs.Names.{Ud}
 use Rattle.niss_moves.proofs.Gathered.{Gathers, gathers_none, gathers_more, gathers_all}
 use Rattle.niss_moves.proofs.clean_text.put_rotation.Goals as goal
 use Rattle.niss_moves.proofs.clean_text.put_rotation.Goals.{in-Some, in_default, in-Some-vertical, in_default-vertical}

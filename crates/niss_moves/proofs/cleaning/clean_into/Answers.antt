@@ -1,12 +1,6 @@
-use Rattle.std.proofs.Common.{sym, ◌∙◌, ap, subst, refl, arith, List, [], map}
+use Rattle.niss_moves.proofs.Names.{sym, ◌∙◌, ap, subst, refl, arith, List, [], map, Cleans, effect, centre, faces, turns_in}
+use Rattle.niss_moves.proofs.Names.{face_before, renamed_turn, Turn}
 use Rattle.std.proofs.lemmas.List.{take_all, drop_all}
-use Rattle.niss_moves.specs.Cleaning.{Cleans}
-use Rattle.niss_moves.specs.Effects.{effect}
-use Rattle.niss_moves.specs.Facelets.{centre}
-use Rattle.niss_moves.specs.Faces.{faces}
-use Rattle.niss_moves.specs.Helpers.{turns_in}
-use Rattle.niss_moves.specs.Rotations.{face_before, renamed_turn}
-use Rattle.niss_moves.specs.Names.{Turn}
 use Rattle.niss_moves.proofs.CleanFunction.{clean_turns_are_clean, one_clean_list}
 use Rattle.niss_moves.proofs.Home.{rotation_left_is}
 use Rattle.niss_moves.proofs.Cleaned.{cleans_all}

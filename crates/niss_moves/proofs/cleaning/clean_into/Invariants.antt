@@ -1,12 +1,6 @@
-use Rattle.std.proofs.Common.{◌≡◌, ◌*◌, ◌≤◌, List, ◌++◌, map, take, drop}
+use Rattle.niss_moves.proofs.Names.{◌≡◌, ◌*◌, ◌≤◌, List, ◌++◌, map, take, drop, IsCanonical, Cleans, effect, centre, faces, face_before}
+use Rattle.niss_moves.proofs.Names.{renamed_turn, spelling, Face, Turn}
 use Rattle.arrayvec.specs.ArrayVec.{array_vec_len}
-use Rattle.niss_moves.specs.Canonical.{IsCanonical}
-use Rattle.niss_moves.specs.Cleaning.{Cleans}
-use Rattle.niss_moves.specs.Effects.{effect}
-use Rattle.niss_moves.specs.Facelets.{centre}
-use Rattle.niss_moves.specs.Faces.{faces}
-use Rattle.niss_moves.specs.Rotations.{face_before, renamed_turn, spelling}
-use Rattle.niss_moves.specs.Names.{Face, Turn}
 use Rattle.niss_moves.proofs.cleaning.clean_into.Given as goal
 
 abbrev pub invariant-loop-token : goal.invariant-loop-token

@@ -1,9 +1,5 @@
-use Rattle.std.proofs.Common.{◌∙◌, sym, ap, refl, arith}
+use Rattle.niss_moves.proofs.Names.{◌∙◌, sym, ap, refl, arith, effect, centre, turns_in, spelling}
 use Rattle.std.proofs.lemmas.List.{take_all}
-use Rattle.niss_moves.specs.Effects.{effect}
-use Rattle.niss_moves.specs.Facelets.{centre}
-use Rattle.niss_moves.specs.Helpers.{turns_in}
-use Rattle.niss_moves.specs.Rotations.{spelling}
 use Rattle.niss_moves.proofs.Pushed.{pushed_more, faces_more, effect_more, map_none, keep_centre}
 use Rattle.niss_moves.proofs.faces.to_faces.Goals as goal
 

@@ -1,9 +1,6 @@
-use Rattle.std.proofs.Common.{◌≡◌, ◌*◌, ◌≤◌, ◌++◌, map, take, drop}
+use Rattle.niss_moves.proofs.Names.{◌≡◌, ◌*◌, ◌≤◌, ◌++◌, map, take, drop, Place, effect, effect_of_turns, face_before, renamed_turn}
+use Rattle.niss_moves.proofs.Names.{spelling, faces}
 use Rattle.arrayvec.specs.ArrayVec.{array_vec_len}
-use Rattle.niss_moves.specs.Places.{Place}
-use Rattle.niss_moves.specs.Effects.{effect, effect_of_turns}
-use Rattle.niss_moves.specs.Rotations.{face_before, renamed_turn, spelling}
-use Rattle.niss_moves.specs.Faces.{faces}
 use Rattle.niss_moves.proofs.faces.to_faces.Given as goal
 
 abbrev pub invariant-loop-token : goal.invariant-loop-token

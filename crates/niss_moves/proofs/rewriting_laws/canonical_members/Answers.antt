@@ -1,8 +1,5 @@
-use Rattle.niss_moves.proofs.AllCanonical.{canonical_members, canonical_in_order}
+use Rattle.niss_moves.proofs.AllCanonical.{canonical_members}
 use Rattle.niss_moves.proofs.rewriting_laws.canonical_members.Goals as goal
 
 pub returns-clause-members : goal.returns-clause-members
 returns-clause-members c = canonical_members
-
-pub returns-clause-order : goal.returns-clause-order
-returns-clause-order c = canonical_in_order

@@ -1,9 +1,5 @@
-use Rattle.niss_moves.proofs.CleanFunction.{cleaning_ends}
 use Rattle.niss_moves.proofs.Disorder.{rewriting_lowers}
 use Rattle.niss_moves.proofs.rewriting_laws.cleaning_ends.Goals as goal
-
-pub returns-clause-ends : goal.returns-clause-ends
-returns-clause-ends c = cleaning_ends
 
 pub returns-clause-lowers : goal.returns-clause-lowers
 returns-clause-lowers c = rewriting_lowers

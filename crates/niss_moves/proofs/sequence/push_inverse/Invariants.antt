@@ -1,6 +1,5 @@
-use Rattle.std.proofs.Common.{◌≡◌, ◌+◌, ◌≤◌, ◌++◌, length}
+use Rattle.niss_moves.proofs.Names.{◌≡◌, ◌+◌, ◌≤◌, ◌++◌, length, inverse}
 use Rattle.arrayvec.specs.ArrayVec.{array_vec_len}
-use Rattle.niss_moves.specs.Effects.{inverse}
 use Rattle.niss_moves.proofs.sequence.push_inverse.Given as goal
 
 abbrev pub invariant-loop-last : goal.invariant-loop-last

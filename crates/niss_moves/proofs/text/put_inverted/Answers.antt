@@ -1,6 +1,4 @@
-use Rattle.std.proofs.Common.{◌∙◌, ap, map, List}
-use Rattle.niss_moves.specs.Text.{word, with_words}
-use Rattle.niss_moves.specs.Names.{Token}
+use Rattle.niss_moves.proofs.Names.{◌∙◌, ap, map, List, word, with_words, Token}
 use Rattle.niss_moves.proofs.CleanWords.{words_joined}
 use Rattle.niss_moves.proofs.Inverses.{inverse_whole}
 use Rattle.niss_moves.proofs.text.put_inverted.Goals as goal

@@ -1,6 +1,5 @@
-use Rattle.std.proofs.Common.{sym, subst, List, ℕ, ◌∙◌, take, arith}
+use Rattle.niss_moves.proofs.Names.{sym, subst, List, ℕ, ◌∙◌, take, arith, IsSuffix}
 use Rattle.std.proofs.lemmas.Slice.{between_to_end}
-use Rattle.niss_moves.specs.WholeMoves.{IsSuffix}
 use Rattle.niss_moves.proofs.Symbols.{blank_is}
 use Rattle.niss_moves.proofs.WholeMoves.{move_at}
 use Rattle.niss_moves.proofs.whole_move.move_of.Goals as goal

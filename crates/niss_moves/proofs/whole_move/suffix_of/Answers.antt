@@ -1,7 +1,6 @@
-use Rattle.std.proofs.Common.{refl, subst, arith, ◌==◌, get_or, length, ℕ, List}
+use Rattle.niss_moves.proofs.Names.{refl, subst, arith, ◌==◌, get_or, length, ℕ, List, BeginsApostrophe}
 use mir.Val.{bool_byte}
 use Rattle.std.proofs.lemmas.Slice.{between_to_end}
-use Rattle.niss_moves.specs.WholeMoves.{BeginsApostrophe}
 use Rattle.niss_moves.proofs.WholeMoves.{suffix_at}
 use Rattle.niss_moves.proofs.whole_move.suffix_of.Goals as goal
 

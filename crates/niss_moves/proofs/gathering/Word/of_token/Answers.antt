@@ -3,6 +3,3 @@ use Rattle.niss_moves.proofs.gathering.Word.of_token.Goals as goal
 
 pub returns-clause-bytes : goal.returns-clause-bytes
 returns-clause-bytes c = (word_at c.args.token c.index.result _ c.index.ensures.value).bytes
-
-pub returns-clause-len : goal.returns-clause-len
-returns-clause-len c = (word_at c.args.token c.index.result _ c.index.ensures.value).len

@@ -1,21 +1,8 @@
-use Rattle.std.proofs.Common.{ap, sym, ◌∙◌, length, arith}
+use Rattle.niss_moves.proofs.Names.{ap, length, arith, count}
 use Rattle.std.proofs.lemmas.List.{length-drop}
 use Rattle.std.proofs.lemmas.Slice.{between_to_end}
-use Rattle.niss_moves.specs.Machine.{count}
-use Rattle.niss_moves.proofs.WholeMoves.{taken_none, taken_next, one_more}
+use Rattle.niss_moves.proofs.WholeMoves.{taken_next}
 use Rattle.niss_moves.proofs.partial_line.PartialLine.take_moves.Goals as goal
-
-pub loop-self-init : goal.loop-self-init
-loop-self-init c =
-    record { within = omega arith; taken = taken_none c.args.self.now (sym (ap (λ s. s.last) c.self.view_is) ∙ c.in-Finished.is) c.requires.room }
-
-pub slice_bounds-whole_move-count : goal.slice_bounds-whole_move-count
-slice_bounds-whole_move-count c = c.loop-self.invariant.within
-
-pub loop-self-smaller : goal.loop-self-smaller
-loop-self-smaller c =
-    let more = one_more c.loop-self.self c.push.new.self c.in-Some.token c.push.ensures in
-    omega (arith, more, ap count c.self-in-loop-self.view_is, c.len.ensures, c.loop-self-test.true)
 
 pub loop-self-preserved : goal.loop-self-preserved
 loop-self-preserved c =

@@ -1,5 +1,4 @@
-use Rattle.std.proofs.Common.{◌-◌, ◌≤◌, length, take}
-use Rattle.niss_moves.specs.Machine.{count}
+use Rattle.niss_moves.proofs.Names.{◌-◌, ◌≤◌, length, take, count}
 use Rattle.niss_moves.proofs.WholeMoves.{HasTaken}
 use Rattle.niss_moves.proofs.partial_line.PartialLine.take_moves.Given as goal
 

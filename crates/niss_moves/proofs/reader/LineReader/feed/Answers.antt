@@ -1,5 +1,4 @@
-use Rattle.std.proofs.Common.{ap, sym, subst}
-use Rattle.niss_moves.specs.Reader.{Reader, IsFed}
+use Rattle.niss_moves.proofs.Names.{ap, sym, subst, Reader, IsFed}
 use Rattle.niss_moves.proofs.ReaderAnswers.{IsFedOn, reader, fed_on, fed_again, is_fed_on, fed_taken, fed_stops}
 use Rattle.niss_moves.proofs.reader.LineReader.feed.Goals as goal
 use Rattle.niss_moves.proofs.reader.LineReader.feed.Goals.{in-Some, in-None}

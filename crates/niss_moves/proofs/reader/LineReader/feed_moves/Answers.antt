@@ -1,6 +1,5 @@
-use Rattle.std.proofs.Common.{sym, subst, take, ap, ◌+◌, ◌∙◌}
+use Rattle.niss_moves.proofs.Names.{sym, subst, take, ap, ◌+◌, ◌∙◌, Reader, IsFed}
 use Rattle.std.proofs.lemmas.List.{length-take-le}
-use Rattle.niss_moves.specs.Reader.{Reader, IsFed}
 use Rattle.niss_moves.proofs.WholeMoves.{fed_moves}
 use Rattle.niss_moves.proofs.reader.LineReader.feed_moves.Goals as goal
 

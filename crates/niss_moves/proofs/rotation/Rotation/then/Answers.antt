@@ -1,5 +1,4 @@
-use Rattle.std.proofs.Common.{sym, subst}
-use Rattle.niss_moves.specs.Names.{Rotation}
+use Rattle.niss_moves.proofs.Names.{sym, subst, Rotation}
 use Rattle.niss_moves.proofs.Rotations.{IsNext, beside_of}
 use Rattle.niss_moves.proofs.Home.{by_next}
 use Rattle.niss_moves.proofs.rotation.Rotation.then.Goals as goal
