@@ -1,20 +1,12 @@
 -- The cubies, the maps and the turns of the cube as it is renamed.
-use Rattle.std.proofs.Common.{◌≡◌, refl, sym, ◌∙◌, ap, Bool, true, ◌&&◌}
-use Rattle.std.specs.List.{list_all}
-use Rattle.niss_moves.specs.Places.{Place, is_place, same_place, SameMap}
-use Rattle.niss_moves.specs.Facelets.{places}
-use Rattle.niss_moves.specs.Effects.{turned}
-use Rattle.niss_moves.specs.Rotations.{renamed_turn}
-use Rattle.niss_moves.specs.Turn.{inverse_turn}
-use Rattle.niss_cube.specs.Names.{Turn, Renaming}
-use Rattle.niss_cube.specs.Renamings.{face_by, renamed_by}
+use Rattle.niss_cube.proofs.Words.{◌≡◌, refl, sym, ◌∙◌, ap, Bool, true, ◌&&◌, list_all, Place, is_place, same_place, SameMap, places}
+use Rattle.niss_cube.proofs.Words.{turned, renamed_turn, inverse_turn, Turn, Renaming, renamed_by, at_place, and_left, and_right}
+use Rattle.niss_cube.proofs.Words.{same_place_is, every_turn, every_face, every_power, at_turn}
+use Rattle.niss_cube.specs.Renamings.{face_by}
 use Rattle.niss_cube.proofs.CubieLists.{CubieLists, Valid, map_lists}
 use Rattle.niss_cube.proofs.CubieKinds.{map_place}
-use Rattle.niss_cube.proofs.Each.{at_place}
-use Rattle.niss_cube.proofs.RenamedCubies.{rotated, rotated_back, renamed_by-is, all_renamings, at_renaming}
-use Rattle.niss_cube.proofs.RenamedCubies.{keeps_kinds, renamed_cubies, renamed_cubies-valid, renamed_lists-map}
-use Rattle.niss_cube.proofs.Logic.{and_left, and_right}
-use Rattle.niss_moves.proofs.CallerLemmas.{same_place_is, every_turn, every_face, every_power, at_turn}
+use Rattle.niss_cube.proofs.RenamedCubies.{rotated, rotated_back, renamed_by-is, all_renamings, at_renaming, keeps_kinds, renamed_cubies}
+use Rattle.niss_cube.proofs.RenamedCubies.{renamed_cubies-valid, renamed_lists-map}
 
 abbrev pub KeepsPlaces : (Place → Place) → Type 0
 KeepsPlaces e = (q : Place) → is_place q ≡ true → is_place (e q) ≡ true

@@ -1,24 +1,17 @@
 -- A coordinate as a code of the cubies that it depends on: each number has cubies of its own, and the code after a turn
 -- depends on the code alone.
-use Rattle.std.proofs.Common.{◌≡◌, ℕ, ◌<◌, refl, sym, ap, List, get_or, take, reverse}
-use Rattle.std.specs.Prelude.{count_by, nat_lt, ◌==◌}
-use Rattle.std.proofs.lemmas.Bool.{eqb-true, ltb-true}
-use Rattle.niss_moves.specs.Places.{Place, SameMap}
-use Rattle.niss_moves.specs.Effects.{turned}
-use Rattle.niss_cube.specs.Names.{Turn, Axis, Coordinate, Flip, Twist, Slice}
-use Rattle.niss_cube.specs.Coordinates.{number, rank, flip_of, twist_of, slice_of, number_of, count_of, renamed_for, standard_axis, turn_for}
-use Rattle.niss_cube.specs.Cubies.{corners_home, edges_home, twists_home, flips_home}
-use Rattle.niss_cube.specs.CubieTurns.{turn_table}
-use Rattle.niss_cube.specs.NumberedCubies.{flips_of_number, twists_of_number, edges_of_number}
-use Rattle.niss_cube.specs.NumberAfter.{number_after}
+use Rattle.niss_cube.proofs.Words.{◌≡◌, ℕ, ◌<◌, refl, sym, ap, List, get_or, take, reverse, count_by, nat_lt, ◌==◌, eqb-true, ltb-true}
+use Rattle.niss_cube.proofs.Words.{Place, SameMap, turned, Turn, Axis, Coordinate, Flip, Twist, Slice, number, rank, flip_of, twist_of}
+use Rattle.niss_cube.proofs.Words.{slice_of, number_of, count_of, renamed_for, standard_axis, turn_for, twists_home, flips_home, turn_table}
+use Rattle.niss_cube.proofs.Words.{flips_of_number, twists_of_number, edges_of_number, number_after, at_below}
+use Rattle.niss_cube.specs.Cubies.{corners_home, edges_home}
 use Rattle.niss_cube.proofs.CubieLists.{CubieLists, Valid, map_lists, tabulated, brought_turned}
 use Rattle.niss_cube.proofs.CubieKinds.{Corners, Edges}
-use Rattle.niss_cube.proofs.FiniteTests.{at_below}
 use Rattle.niss_cube.proofs.ShownCubies.{turns_shown, slice_shown}
 use Rattle.niss_cube.proofs.CoordinateValues.{slice-below, slice_occupied, slice_occupied-filled}
 use Rattle.niss_cube.proofs.TurnedCubies.{turned_lists}
-use Rattle.niss_cube.proofs.Orientations.{AreOriented, base_2, base_3, orientations_of_number-are}
-use Rattle.niss_cube.proofs.Orientations.{orientations_of_number-number, oriented-below, oriented-same}
+use Rattle.niss_cube.proofs.Orientations.{AreOriented, base_2, base_3, orientations_of_number-are, orientations_of_number-number}
+use Rattle.niss_cube.proofs.Orientations.{oriented-below, oriented-same}
 use Rattle.niss_cube.proofs.SliceCodes.{ArePlaced, of_number-placed, of_number-rank, turned-occupied, occupied-same}
 
 edges_home-are : ArePlaced edges_home

@@ -1,26 +1,16 @@
 -- Flips, twists and slices are coordinates, by their codes.
-use Rattle.std.proofs.Common.{◌≡◌, ℕ, ◌<◌, refl, sym, ◌∙◌, ap, subst, true}
-use Rattle.std.specs.Prelude.{◌↔◌}
-use Rattle.std.specs.List.{list_all}
-use Rattle.niss_moves.specs.Places.{Place, same_place, is_place, SameMap}
-use Rattle.niss_moves.specs.Facelets.{places}
-use Rattle.niss_moves.specs.Effects.{turned}
-use Rattle.niss_moves.specs.Turn.{inverse_turn}
-use Rattle.niss_cube.specs.Names.{Turn, Axis, Cube, Coordinate}
-use Rattle.niss_cube.specs.Map.{map_of}
-use Rattle.niss_cube.specs.Sets.{Kept, set_of}
-use Rattle.niss_cube.specs.Coordinates.{number_of, count_of, renamed_for, standard_axis, turn_for}
-use Rattle.niss_cube.specs.NumberAfter.{number_after}
-use Rattle.niss_cube.specs.AfterTurn.{IsCube, TurnedIsCube, AreCoordinates}
+use Rattle.niss_cube.proofs.Words.{◌≡◌, ℕ, ◌<◌, refl, sym, ◌∙◌, ap, subst, true, ◌↔◌, list_all, Place, same_place, is_place, SameMap}
+use Rattle.niss_cube.proofs.Words.{places, turned, inverse_turn, Turn, Axis, Cube, Coordinate, map_of, Kept, set_of, number_of, count_of}
+use Rattle.niss_cube.proofs.Words.{renamed_for, standard_axis, turn_for, number_after, IsCube, at_place, same_place_is, every_turn}
+use Rattle.niss_cube.proofs.Words.{every_face, every_power, at_turn}
+use Rattle.niss_cube.specs.AfterTurn.{TurnedIsCube, AreCoordinates}
 use Rattle.niss_cube.proofs.CubieLists.{CubieLists, Valid, map_lists}
-use Rattle.niss_cube.proofs.Each.{at_place}
 use Rattle.niss_cube.proofs.CubieKinds.{map_place}
 use Rattle.niss_cube.proofs.SetPlaces.{kept_same}
 use Rattle.niss_cube.proofs.TurnedCubies.{turned_lists, turned-valid, turned-map}
-use Rattle.niss_cube.proofs.Codes.{code, number_of-code, code-below, cubies_with, cubies_with-valid}
-use Rattle.niss_cube.proofs.Codes.{cubies_with-code, number_after-is, code-turned, unrenamed}
+use Rattle.niss_cube.proofs.Codes.{code, number_of-code, code-below, cubies_with, cubies_with-valid, cubies_with-code, number_after-is}
+use Rattle.niss_cube.proofs.Codes.{code-turned, unrenamed}
 use Rattle.niss_cube.proofs.KeptSets.{cubies_for, renaming, sets_are_places, zero-kept}
-use Rattle.niss_moves.proofs.CallerLemmas.{same_place_is, every_turn, every_face, every_power, at_turn}
 
 back_test : every_turn (λ t. list_all (λ q. same_place (turned (inverse_turn t) (turned t q)) q) places) ≡ true
 unfolding every_turn every_face every_power

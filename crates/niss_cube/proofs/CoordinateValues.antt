@@ -1,15 +1,11 @@
 -- The digits and the occupied places of a cube's cubies, and the range of their numbers.
-use Rattle.std.proofs.Common.{refl, sym, ◌∙◌, ap, subst, arith}
-use Rattle.std.specs.Prelude.{◌≡◌, ℕ, zero, suc, ◌+◌, ◌-◌, ◌*◌, ◌<◌, ◌≤◌}
-use Rattle.std.specs.Prelude.{List, [], ◌∷◌, length, get_or, map, take, drop, reverse, Bool, true, false, nat_le, ◌==◌}
-use Rattle.std.proofs.lemmas.Bool.{eqb-true}
-use Rattle.std.proofs.lemmas.List.{get_or-reverse, length-reverse, length-map, get_or-map, get_or-take, length-take}
-use Rattle.std.proofs.Math.Seq.{drop-cons}
-use Rattle.niss_cube.specs.Coordinates.{choose, rank}
+use Rattle.niss_cube.proofs.Words.{refl, sym, ◌∙◌, ap, subst, arith, ◌≡◌, ℕ, zero, suc, ◌+◌, ◌-◌, ◌*◌, ◌<◌, ◌≤◌, List, [], ◌∷◌, length}
+use Rattle.niss_cube.proofs.Words.{get_or, map, take, drop, reverse, Bool, true, false, nat_le, ◌==◌, eqb-true, get_or-reverse}
+use Rattle.niss_cube.proofs.Words.{length-reverse, length-map, get_or-map, get_or-take, length-take, drop-cons, choose, rank, all_below}
+use Rattle.niss_cube.proofs.Words.{at_below}
 use Rattle.niss_cube.proofs.CubieLists.{CubieLists, Valid}
 use Rattle.niss_cube.proofs.CubieKinds.{Edges, stand}
 use Rattle.niss_cube.proofs.Sums.{below, one_if, below_same, below_permuted, below_front}
-use Rattle.niss_cube.proofs.FiniteTests.{all_below, at_below}
 use Rattle.niss_cube.proofs.Numbers.{number_from, Digits, filled, rank-below}
 
 pub digits_from : (b : ℕ) (xs : List ℕ) → ((i : ℕ) → i < length xs → get_or xs i 0 < b) → Digits b xs

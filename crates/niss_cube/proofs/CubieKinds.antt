@@ -1,19 +1,14 @@
 -- Corners and edges as two kinds of cubies: what holds of both, and where the map of cubies brings their facelets.
-use Rattle.std.proofs.Common.{refl, sym, ◌∙◌, ap, arith, inl, inr}
-use Rattle.std.specs.Prelude.{◌≡◌, ℕ, ◌+◌, ◌-◌, ◌%◌, ◌<◌, List, length, get_or, Bool, true, false, ◌&&◌, ◌||◌, not, ◌==◌, ◌⊎◌, nat_lt, sum}
-use Rattle.std.specs.List.{list_all, list_any}
-use Rattle.std.proofs.lemmas.Bool.{eqb-true, ltb-true}
-use Rattle.niss_moves.specs.Places.{Place, same_place, is_place, is_corner, is_edge, SameMap}
-use Rattle.niss_moves.specs.Facelets.{places}
-use Rattle.niss_cube.specs.CubieFacelets.{index_in, row_at, facelet_at, corner_facelets, edge_facelets}
+use Rattle.niss_cube.proofs.Words.{refl, sym, ◌∙◌, ap, arith, inl, inr, ◌≡◌, ℕ, ◌+◌, ◌-◌, ◌%◌, ◌<◌, List, length, get_or, Bool, true, false}
+use Rattle.niss_cube.proofs.Words.{◌&&◌, ◌||◌, not, ◌==◌, ◌⊎◌, nat_lt, sum, list_all, list_any, eqb-true, ltb-true, Place, same_place}
+use Rattle.niss_cube.proofs.Words.{is_place, is_corner, is_edge, SameMap, places, index_in, row_at, facelet_at, corner_facelets}
+use Rattle.niss_cube.proofs.Words.{edge_facelets, at_place, each_record, at_record, all_below, at_below, and_left, and_right, not_true}
+use Rattle.niss_cube.proofs.Words.{or_then, same_place_is}
 use Rattle.niss_cube.specs.Map.{sticker_place}
 use Rattle.niss_cube.proofs.CubieLists.{CubieLists, Valid, map_lists}
-use Rattle.niss_cube.proofs.Each.{at_place, each_record, at_record}
 use Rattle.niss_cube.proofs.Once.{times_in, place_in, place_in-found, place_in-is, count_by-times}
-use Rattle.niss_cube.proofs.FiniteTests.{all_below, at_below}
 use Rattle.niss_cube.proofs.SetPlaces.{corner_place, edge_place}
-use Rattle.niss_cube.proofs.Logic.{and_left, and_right, is_true, not_true, or_then}
-use Rattle.niss_moves.proofs.CallerLemmas.{same_place_is}
+use Rattle.niss_cube.proofs.Logic.{is_true}
 
 pub data Kind : Type 0 where
   Corners : Kind

@@ -1,12 +1,9 @@
 -- The cubies as lists, and what turns do to them.
-use Rattle.std.proofs.Common.{◌≡◌, ◌<◌, ◌∙◌, sym, length, get_or, arith}
-use Rattle.std.specs.Prelude.{ℕ, ◌+◌, ◌%◌, List, map, slice_index, EachIndex}
-use Rattle.std.specs.List.{range_with_len}
+use Rattle.niss_cube.proofs.Words.{◌≡◌, ◌<◌, ◌∙◌, sym, length, get_or, arith, ℕ, ◌+◌, ◌%◌, List, map, slice_index, range_with_len}
+use Rattle.niss_cube.proofs.Words.{ext_get_or, Place, sticker_map}
+use Rattle.std.specs.Prelude.{EachIndex}
 use Rattle.std.proofs.lemmas.List.FromFn.{get_or-map-range_with_len, length-map-range_with_len}
-use Rattle.std.proofs.lemmas.List.{ext_get_or}
-use Rattle.niss_moves.specs.Places.{Place}
 use Rattle.niss_cube.specs.Cubies.{AreCubies}
-use Rattle.niss_cube.specs.Map.{sticker_map}
 
 pub record CubieLists : Type 0 where
   pub corners : List ℕ

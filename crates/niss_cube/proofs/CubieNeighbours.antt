@@ -1,16 +1,9 @@
 -- The next facelet of a cubie, clockwise: moves keep the facelets of a cubie in their order.
-use Rattle.std.proofs.Common.{◌≡◌, ℕ, zero, suc, ◌+◌, ◌%◌, refl, ◌∙◌, ap, List, [], ◌∷◌, Bool, true, ◌&&◌}
-use Rattle.std.specs.Prelude.{if◌then◌else◌}
-use Rattle.std.specs.List.{list_all}
-use Rattle.niss_moves.specs.Places.{Place, is_place, is_corner, is_edge, same_place}
-use Rattle.niss_moves.specs.Facelets.{places}
-use Rattle.niss_moves.specs.Effects.{effect, moved_by}
-use Rattle.niss_cube.specs.Names.{Token}
-use Rattle.niss_cube.specs.CubieFacelets.{facelet_at, corner_facelets, edge_facelets}
-use Rattle.niss_cube.proofs.Each.{at_place}
+use Rattle.niss_cube.proofs.Words.{◌≡◌, ℕ, zero, suc, ◌+◌, ◌%◌, refl, ◌∙◌, ap, List, [], ◌∷◌, Bool, true, ◌&&◌, if◌then◌else◌, list_all}
+use Rattle.niss_cube.proofs.Words.{Place, is_place, is_corner, is_edge, same_place, places, effect, moved_by, Token, facelet_at}
+use Rattle.niss_cube.proofs.Words.{corner_facelets, edge_facelets, at_place, and_left, and_right, same_place_is, every_token, every_face}
+use Rattle.niss_cube.proofs.Words.{every_power, every_slice, every_axis, at_token}
 use Rattle.niss_cube.proofs.CubieKinds.{Corners, Edges, row_of, index_of}
-use Rattle.niss_cube.proofs.Logic.{and_left, and_right}
-use Rattle.niss_moves.proofs.CallerLemmas.{same_place_is, every_token, every_face, every_power, every_slice, every_axis, at_token}
 
 unfoldable pub next : Place → Place
 next q =

@@ -1,19 +1,12 @@
 -- The facelet text, place by place.
-use Rattle.std.proofs.Common.{refl, ap, sym, ◌∙◌, arith}
-use Rattle.std.specs.Prelude.{◌≡◌, ℕ, zero, suc, ◌+◌, ◌-◌, ◌%◌, ◌<◌, List, [], ◌∷◌, length, get_or, map, Bool, true, not, ◌==◌, ◌&&◌, nat_lt}
-use Rattle.std.proofs.lemmas.Bool.{eqb-true, ltb-true}
-use Rattle.std.proofs.lemmas.List.{ext_get_or, get_or-map, length-map}
-use Rattle.niss_moves.specs.Places.{is_place, is_corner, is_edge, same_place, Place}
-use Rattle.niss_cube.specs.Names.{U}
-use Rattle.niss_moves.specs.Facelets.{places, facelet}
-use Rattle.niss_moves.specs.Letters.{letter_at, letter_of, letters}
+use Rattle.niss_cube.proofs.Words.{refl, ap, sym, ◌∙◌, arith, ◌≡◌, ℕ, zero, suc, ◌+◌, ◌-◌, ◌%◌, ◌<◌, List, [], ◌∷◌, length, get_or, map}
+use Rattle.niss_cube.proofs.Words.{Bool, true, not, ◌==◌, ◌&&◌, nat_lt, eqb-true, ltb-true, ext_get_or, get_or-map, length-map, is_place}
+use Rattle.niss_cube.proofs.Words.{is_corner, is_edge, same_place, Place, U, places, facelet, letter_at, letter_of, letters, all_below}
+use Rattle.niss_cube.proofs.Words.{at_below, and_left, and_right, not_true, same_place_is}
 use Rattle.niss_cube.specs.declared.letters.TheConstants.{CORNER_LETTERS, EDGE_LETTERS}
 use Rattle.niss_cube.proofs.CubieLists.{CubieLists, Valid, map_lists}
 use Rattle.niss_cube.proofs.CubieKinds.{Kind, Corners, Edges, count, facelets, at, home_at, turn_at, Stand, stand, low, rewound}
 use Rattle.niss_cube.proofs.Origins.{kind_letter, centre_letter}
-use Rattle.niss_cube.proofs.FiniteTests.{all_below, at_below}
-use Rattle.niss_cube.proofs.Logic.{and_left, and_right, not_true}
-use Rattle.niss_moves.proofs.CallerLemmas.{same_place_is}
 
 -- A position of the facelet text: a cubie's place of a kind and the number of its facelet, or a centre with its letter.
 pub data FaceletPosition : Type 0 where

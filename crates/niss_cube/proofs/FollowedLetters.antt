@@ -1,21 +1,13 @@
 -- The facelet text from where the stickers that stand at the first facelets began.
-use Rattle.std.proofs.Common.{◌≡◌, ℕ, ◌<◌, refl, sym, ◌∙◌, ap, List, [], ◌++◌, length, get_or, Bool, true, ◌&&◌}
-use Rattle.std.specs.Prelude.{◌==◌, nat_lt, slice_index}
-use Rattle.std.proofs.lemmas.Bool.{eqb-true, ltb-true}
-use Rattle.niss_moves.specs.Places.{Place, same_place, is_place}
-use Rattle.niss_moves.specs.Facelets.{places, facelet}
-use Rattle.niss_moves.specs.Effects.{effect, inverse}
-use Rattle.niss_moves.specs.Letters.{letter_at, letter_of, letters}
-use Rattle.niss_cube.specs.Names.{U, Token}
-use Rattle.niss_cube.specs.PlacePositions.{place_at, AreMoved}
+use Rattle.niss_cube.proofs.Words.{◌≡◌, ℕ, ◌<◌, refl, sym, ◌∙◌, ap, List, [], ◌++◌, length, get_or, Bool, true, ◌&&◌, ◌==◌, nat_lt}
+use Rattle.niss_cube.proofs.Words.{slice_index, eqb-true, ltb-true, Place, same_place, is_place, places, facelet, effect, inverse}
+use Rattle.niss_cube.proofs.Words.{letter_at, letter_of, letters, U, Token, place_at, AreMoved, all_below, at_below, and_left, and_right}
+use Rattle.niss_cube.proofs.Words.{same_place_is, effect-append, inverse_after, inverse_before}
 use Rattle.niss_cube.specs.declared.followed_places.TheConstants.{FIRST_FACELETS, CUBIES, FACELETS}
 use Rattle.niss_cube.specs.declared.letters.TheConstants.{CUBIE_LETTERS}
 use Rattle.niss_cube.proofs.CubieNeighbours.{next, after, effect-place, effect-after}
 use Rattle.niss_cube.proofs.FaceletLetters.{letters-is}
 use Rattle.niss_cube.proofs.Origins.{letter_of-is}
-use Rattle.niss_cube.proofs.FiniteTests.{all_below, at_below}
-use Rattle.niss_cube.proofs.Logic.{and_left, and_right}
-use Rattle.niss_moves.proofs.CallerLemmas.{same_place_is, effect-append, inverse_after, inverse_before}
 
 listed_at : (j : ℕ) → place_at j ≡ get_or places j (facelet U 5)
 unfolding place_at

@@ -1,24 +1,16 @@
 -- How a coordinate on an axis is renamed, and that it is 0 exactly where its set of places is kept.
-use Rattle.std.proofs.Common.{refl, sym, ◌∙◌, ap, arith, inl, inr}
-use Rattle.std.specs.Prelude.{◌≡◌, ℕ, ◌+◌, ◌-◌, ◌%◌, ◌<◌, List, [], ◌∷◌, get_or}
-use Rattle.std.specs.Prelude.{Option, None, Some, Bool, true, false, ◌&&◌, not, ◌==◌, ◌↔◌, nat_le}
-use Rattle.std.specs.List.{list_all}
-use Rattle.std.proofs.lemmas.Bool.{eqb-true, false_from_ne_true}
-use Rattle.std.proofs.lemmas.Bool.Decides.{eqb_tells}
-use Rattle.std.proofs.lemmas.List.{ext_get_or}
-use Rattle.niss_moves.specs.Places.{Place, is_place, is_edge, SameMap}
-use Rattle.niss_moves.specs.Facelets.{places}
-use Rattle.niss_moves.specs.Rotations.{renamed_turn}
-use Rattle.niss_cube.specs.Names.{Axis, Ud, Rl, Fb, Coordinate, Flip, Twist, Slice, Renaming, XCounter, XQuarter, YQuarter, ZCounter}
+use Rattle.niss_cube.proofs.Words.{refl, sym, ◌∙◌, ap, arith, inl, inr, ◌≡◌, ℕ, ◌+◌, ◌-◌, ◌%◌, ◌<◌, List, [], ◌∷◌, get_or, Option, None}
+use Rattle.niss_cube.proofs.Words.{Some, Bool, true, false, ◌&&◌, not, ◌==◌, ◌↔◌, nat_le, list_all, eqb-true, false_from_ne_true, eqb_tells}
+use Rattle.niss_cube.proofs.Words.{ext_get_or, Place, is_place, is_edge, SameMap, places, renamed_turn, Axis, Ud, Rl, Fb, Coordinate, Flip}
+use Rattle.niss_cube.proofs.Words.{Twist, Slice, Renaming, XCounter, XQuarter, YQuarter, ZCounter, rank, number_of, renamed_for, turn_for}
+use Rattle.niss_cube.proofs.Words.{flips_home, twists_home, Kept, is_kept, flip_set, twist_set, slice_set, set_of, at_place, all_below}
+use Rattle.niss_cube.proofs.Words.{at_below, and_left}
 use Rattle.niss_cube.specs.Renamings.{renamed_if, face_if}
-use Rattle.niss_cube.specs.Coordinates.{rank, number_of, renaming_for, renamed_for, turn_for}
-use Rattle.niss_cube.specs.Cubies.{flips_home, twists_home}
-use Rattle.niss_cube.specs.Sets.{Kept, SetsArePlaces, is_kept, flip_set, twist_set, slice_set, set_of}
+use Rattle.niss_cube.specs.Coordinates.{renaming_for}
+use Rattle.niss_cube.specs.Sets.{SetsArePlaces}
 use Rattle.niss_cube.proofs.CubieLists.{CubieLists, Valid, map_lists}
-use Rattle.niss_cube.proofs.CubieKinds.{Kind, Corners, Edges, count, facelets, at, is_of, home_at, turn_at, place_of}
-use Rattle.niss_cube.proofs.CubieKinds.{stand, stands, stands-at, low, some_facelet, kind_place, Located, located, shown_at, map_place}
-use Rattle.niss_cube.proofs.Each.{at_place}
-use Rattle.niss_cube.proofs.FiniteTests.{all_below, at_below}
+use Rattle.niss_cube.proofs.CubieKinds.{Kind, Corners, Edges, count, facelets, at, is_of, home_at, turn_at, place_of, stand, stands}
+use Rattle.niss_cube.proofs.CubieKinds.{stands-at, low, some_facelet, kind_place, Located, located, shown_at, map_place}
 use Rattle.niss_cube.proofs.Sums.{one_if, below_permuted, below_all_same, one_if-at_most, eqb-itself}
 use Rattle.niss_cube.proofs.Numbers.{rank-same}
 use Rattle.niss_cube.proofs.CoordinateValues.{edge-once, slice_occupied, slice_occupied-length, slice_occupied-at, slice_occupied-filled}
@@ -27,7 +19,6 @@ use Rattle.niss_cube.proofs.AxisRenamings.{KeepsPlaces, IsRenaming, by_rotation,
 use Rattle.niss_cube.proofs.Orientations.{base_2, base_3, oriented_zero}
 use Rattle.niss_cube.proofs.Codes.{code, number_of-code, are_flips, are_twists, flips_home-are, twists_home-are}
 use Rattle.niss_cube.proofs.KeptTests.{kept-tested}
-use Rattle.niss_cube.proofs.Logic.{and_left}
 
 -- the cubies from which a coordinate on an axis is read
 abbrev renamed_cubies_if : Option Renaming → CubieLists → CubieLists

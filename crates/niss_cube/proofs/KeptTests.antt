@@ -1,12 +1,7 @@
 -- A set is kept where the test says so.
-use Rattle.std.proofs.Common.{◌≡◌, refl, Bool, true, false, not, ◌||◌}
-use Rattle.std.specs.Prelude.{IsTrue, ◌↔◌}
+use Rattle.niss_cube.proofs.Words.{◌≡◌, refl, Bool, true, false, not, ◌||◌, IsTrue, ◌↔◌, Place, is_place, places, Kept, is_kept, at_place}
 use Rattle.std.proofs.lemmas.List.Sums.{list_all-from_AllPass}
-use Rattle.niss_moves.specs.Places.{Place, is_place}
-use Rattle.niss_moves.specs.Facelets.{places}
-use Rattle.niss_cube.specs.Sets.{Kept}
-use Rattle.niss_cube.specs.Sets.{is_kept, KeptIsTested}
-use Rattle.niss_cube.proofs.Each.{at_place}
+use Rattle.niss_cube.specs.Sets.{KeptIsTested}
 pub use Rattle.niss_cube.proofs.Logic.{or_then, or_then as implied}
 
 implies : (a b : Bool) → (a ≡ true → b ≡ true) → (not a || b) ≡ true

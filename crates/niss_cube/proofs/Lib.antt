@@ -36,6 +36,7 @@ pub mod StepTurns
 pub mod Sums
 pub mod TableSteps
 pub mod TurnedCubies
+pub mod Words
 pub mod WorkedTurns
 pub mod WorkedValues
 pub mod WrittenLists

@@ -1,16 +1,9 @@
 -- The table of positions after moves holds the places to which the moves bring the stickers, by computation.
-use Rattle.std.proofs.Common.{◌≡◌, ℕ, ◌<◌, refl, sym, subst, List, [], get_or, Bool, true, ◌&&◌}
-use Rattle.std.specs.Prelude.{nat_lt}
-use Rattle.std.proofs.lemmas.Bool.{ltb-true}
-use Rattle.niss_moves.specs.Places.{same_place}
-use Rattle.niss_moves.specs.Effects.{moved_by}
+use Rattle.niss_cube.proofs.Words.{◌≡◌, ℕ, ◌<◌, refl, sym, subst, List, [], get_or, Bool, true, ◌&&◌, nat_lt, ltb-true, same_place}
+use Rattle.niss_cube.proofs.Words.{moved_by, Token, place_at, all_below, at_below, and_left, and_right, same_place_is, every_token}
+use Rattle.niss_cube.proofs.Words.{every_face, every_power, every_slice, every_axis, at_token}
 use Rattle.niss_moves.specs.Indices.{token_index}
-use Rattle.niss_cube.specs.Names.{Token}
-use Rattle.niss_cube.specs.PlacePositions.{place_at}
 use Rattle.niss_cube.specs.declared.place_positions.TheConstants.{POSITIONS_AFTER}
-use Rattle.niss_cube.proofs.FiniteTests.{all_below, at_below}
-use Rattle.niss_cube.proofs.Logic.{and_left, and_right}
-use Rattle.niss_moves.proofs.CallerLemmas.{same_place_is, every_token, every_face, every_power, every_slice, every_axis, at_token}
 
 abbrev row_of : Token → List ℕ
 row_of m = get_or POSITIONS_AFTER (token_index m) []

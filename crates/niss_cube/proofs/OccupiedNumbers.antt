@@ -1,12 +1,9 @@
 -- Each number below the choices is that of its places.
-use Rattle.std.proofs.Common.{refl, sym, ◌∙◌, ap, arith, inl, inr}
-use Rattle.std.specs.Prelude.{◌≡◌, ℕ, zero, suc, ◌+◌, ◌-◌, ◌<◌, ◌≤◌}
-use Rattle.std.specs.Prelude.{List, [], ◌∷◌, ◌++◌, length, get_or, set, take, Bool, true, false, nat_lt}
-use Rattle.std.proofs.lemmas.Bool.{ltb-true, lt-ltb, false_from_ne_true}
+use Rattle.niss_cube.proofs.Words.{refl, sym, ◌∙◌, ap, arith, inl, inr, ◌≡◌, ℕ, zero, suc, ◌+◌, ◌-◌, ◌<◌, ◌≤◌, List, [], ◌∷◌, ◌++◌, length}
+use Rattle.niss_cube.proofs.Words.{get_or, set, take, Bool, true, false, nat_lt, ltb-true, false_from_ne_true, length-set, choose, rank}
+use Rattle.niss_cube.proofs.Words.{occupied_of_number}
+use Rattle.std.proofs.lemmas.Bool.{lt-ltb}
 use Rattle.std.proofs.lemmas.Bool.Decides.{leb_tells}
-use Rattle.std.proofs.lemmas.List.{length-set}
-use Rattle.niss_cube.specs.Coordinates.{choose, rank}
-use Rattle.niss_cube.specs.NumberedCubies.{occupied_of_number}
 use Rattle.niss_cube.specs.declared.slice_places.TheConstants.{CHOICES}
 use Rattle.niss_cube.proofs.Numbers.{filled}
 use Rattle.niss_cube.proofs.SliceSteps.{choices-are}

@@ -1,9 +1,6 @@
 -- A number that stands once in a list stands at one index.
-use Rattle.std.proofs.Common.{◌≡◌, ℕ, zero, suc, ◌+◌, ◌<◌, ◌≤◌, ap, List, [], ◌∷◌, length, get_or, arith, inl, inr}
-use Rattle.std.specs.Prelude.{◌==◌, count_by}
-use Rattle.std.proofs.lemmas.Bool.{eq-eqb}
-use Rattle.std.proofs.lemmas.Bool.Decides.{eqb_tells}
-use Rattle.niss_cube.specs.CubieFacelets.{index_in}
+use Rattle.niss_cube.proofs.Words.{◌≡◌, ℕ, zero, suc, ◌+◌, ◌<◌, ◌≤◌, ap, List, [], ◌∷◌, length, get_or, arith, inl, inr, ◌==◌, count_by}
+use Rattle.niss_cube.proofs.Words.{eq-eqb, eqb_tells, index_in}
 use Rattle.niss_cube.proofs.Sums.{below, one_if, sum_by-below, below_front}
 
 -- how often h stands in xs, by the places

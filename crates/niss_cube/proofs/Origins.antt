@@ -1,17 +1,13 @@
 -- Where the sticker at a place began, and its letter in the facelet text.
-use Rattle.std.proofs.Common.{◌≡◌, ℕ, ◌+◌, ◌%◌, ◌<◌, refl, sym, ◌∙◌, ap, List, [], ◌∷◌, Bool, true, false, ◌||◌}
-use Rattle.std.specs.Prelude.{if◌then◌else◌}
-use Rattle.std.specs.List.{list_all, list_any}
-use Rattle.std.proofs.lemmas.List.Folds.{Any-from_list_any, list_any-from_Any}
-use Rattle.niss_moves.specs.Places.{Place, same_place, is_place, is_corner, is_edge}
-use Rattle.niss_moves.specs.Facelets.{places}
-use Rattle.niss_moves.specs.Letters.{letter_of, letter_at}
+use Rattle.niss_cube.proofs.Words.{◌≡◌, ℕ, ◌+◌, ◌%◌, ◌<◌, refl, sym, ◌∙◌, ap, List, [], ◌∷◌, Bool, true, false, ◌||◌, if◌then◌else◌}
+use Rattle.niss_cube.proofs.Words.{list_all, list_any, Any-from_list_any, Place, same_place, is_place, is_corner, is_edge, places}
+use Rattle.niss_cube.proofs.Words.{letter_of, letter_at, and_left, and_right, same_place_is, same_place_of}
+use Rattle.std.proofs.lemmas.List.Folds.{list_any-from_Any}
 use Rattle.niss_cube.proofs.CubieLists.{CubieLists, Valid, map_lists}
-use Rattle.niss_cube.proofs.CubieKinds.{Kind, count, facelets, at, home_at, turn_at}
-use Rattle.niss_cube.proofs.CubieKinds.{stand, kind_place, facelet_kind, origin, centre_stays, one_to_one}
+use Rattle.niss_cube.proofs.CubieKinds.{Kind, count, facelets, at, home_at, turn_at, stand, kind_place, facelet_kind, origin, centre_stays}
+use Rattle.niss_cube.proofs.CubieKinds.{one_to_one}
 use Rattle.niss_cube.proofs.Each.{listed}
-use Rattle.niss_cube.proofs.Logic.{and_left, and_right}
-use Rattle.niss_moves.proofs.CallerLemmas.{same_place_is, same_place_of, all_places}
+use Rattle.niss_moves.proofs.CallerLemmas.{all_places}
 
 -- the only place from which e brings a sticker to q has this letter, and there is one
 letter_of-only : (e : Place → Place) (q : Place) (letter : ℕ) (ps : List Place) → list_all is_place ps ≡ true → ((p : Place) → is_place p ≡ true → e p ≡ q → letter_at p ≡ letter) → list_any (λ p. same_place (e p) q) ps ≡ true → letter_of e ps q ≡ letter

@@ -1,13 +1,7 @@
 -- A turn that is none of a step's brings each cube on which the step may start to one on which it may not.
-use Rattle.std.proofs.Common.{◌≡◌, refl, ap, ◌∙◌, sym, Bool, true, not, ◌||◌, Option, None, Some}
-use Rattle.std.specs.Prelude.{Contains, IsTrue}
-use Rattle.std.proofs.lemmas.Map.Views.{Contains-from_any}
-use Rattle.niss_moves.specs.Effects.{turned}
-use Rattle.niss_cube.specs.Names.{Axis, Ud, Rl, Fb, Turn, Cube, Flip}
-use Rattle.niss_moves.proofs.CallerLemmas.{every_turn, every_face, every_power, at_turn}
-use Rattle.niss_cube.specs.Map.{map_of}
-use Rattle.niss_cube.specs.Sets.{Kept, is_kept, flip_set}
-use Rattle.niss_cube.specs.Steps.{start_of, turns_of, may_start}
+use Rattle.niss_cube.proofs.Words.{◌≡◌, refl, ap, ◌∙◌, sym, Bool, true, not, ◌||◌, Option, None, Some, Contains, IsTrue, Contains-from_any}
+use Rattle.niss_cube.proofs.Words.{turned, Axis, Ud, Rl, Fb, Turn, Cube, Flip, every_turn, every_face, every_power, at_turn, map_of, Kept}
+use Rattle.niss_cube.proofs.Words.{is_kept, flip_set, start_of, turns_of, may_start}
 use Rattle.niss_cube.specs.StepLaws.{OtherTurnsLeaveStart}
 use Rattle.niss_cube.proofs.KeptSets.{sets_are_places}
 use Rattle.niss_cube.proofs.KeptTests.{implied, kept-tested}

@@ -1,24 +1,13 @@
 -- The map of a cube permutes the places, and a set of places that it keeps is kept both ways.
-use Rattle.std.proofs.Common.{◌≡◌, ℕ, ◌+◌, ◌-◌, ◌*◌, ◌%◌, ◌<◌, refl, sym, ◌∙◌, ap, get_or, Bool, true, false, ◌&&◌, arith, inl, inr}
-use Rattle.std.specs.Prelude.{◌==◌, nat_lt}
-use Rattle.std.specs.List.{list_all}
-use Rattle.std.proofs.lemmas.Bool.{ltb-true, eqb-true, eq-eqb}
-use Rattle.std.proofs.lemmas.Bool.Decides.{eqb_tells}
-use Rattle.niss_moves.specs.Places.{Place, same_place, is_place}
-use Rattle.niss_moves.specs.Facelets.{places, facelet}
-use Rattle.niss_cube.specs.Names.{U}
-use Rattle.niss_cube.specs.CubieFacelets.{index_in}
-use Rattle.niss_cube.specs.Sets.{Kept}
+use Rattle.niss_cube.proofs.Words.{◌≡◌, ℕ, ◌+◌, ◌-◌, ◌*◌, ◌%◌, ◌<◌, refl, sym, ◌∙◌, ap, get_or, Bool, true, false, ◌&&◌, arith, inl, inr}
+use Rattle.niss_cube.proofs.Words.{◌==◌, nat_lt, list_all, ltb-true, eqb-true, eq-eqb, eqb_tells, Place, same_place, is_place, places}
+use Rattle.niss_cube.proofs.Words.{facelet, U, index_in, Kept, at_place, all_below, at_below, and_left, and_right, same_place_is}
 use Rattle.niss_cube.specs.Permutations.{PermutesPlaces, CubesPermutePlaces, KeptIsEqual}
 use Rattle.niss_cube.proofs.CoordinateLaws.{lists_of}
 use Rattle.niss_cube.proofs.CubieLists.{CubieLists, Valid, map_lists}
-use Rattle.niss_cube.proofs.CubieKinds.{Kind, facelets, at, home_at, turn_at, Stand, stand, low, rewound, kind_of, kind_place}
-use Rattle.niss_cube.proofs.CubieKinds.{facelet_kind, Located, located, origin, centre_stays, map_place, one_to_one}
-use Rattle.niss_cube.proofs.Each.{at_place}
-use Rattle.niss_cube.proofs.FiniteTests.{all_below, at_below}
+use Rattle.niss_cube.proofs.CubieKinds.{Kind, facelets, at, home_at, turn_at, Stand, stand, low, rewound, kind_of, kind_place, facelet_kind}
+use Rattle.niss_cube.proofs.CubieKinds.{Located, located, origin, centre_stays, map_place, one_to_one}
 use Rattle.niss_cube.proofs.Sums.{below, below_same, below_permuted, eqb-other, one_if, one_of, below_all_same, one_if-at_most}
-use Rattle.niss_cube.proofs.Logic.{and_left, and_right}
-use Rattle.niss_moves.proofs.CallerLemmas.{same_place_is}
 
 module _ (c : CubieLists) (v : Valid c) where
   onto : (q : Place) → is_place q ≡ true → (p : Place) × (is_place p ≡ true) × (map_lists c p ≡ q)

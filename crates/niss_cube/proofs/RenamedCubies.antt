@@ -1,23 +1,17 @@
 -- The renamings: cubies that are renamed by their tables are cubies, with the renamed map.
-use Rattle.std.proofs.Common.{◌≡◌, ℕ, ◌+◌, ◌-◌, ◌%◌, ◌<◌, refl, sym, ◌∙◌, ap, length, get_or, Bool, true, false, ◌&&◌, not, arith, inl, inr}
-use Rattle.std.specs.Prelude.{◌==◌, nat_lt, sum}
-use Rattle.std.specs.List.{list_all}
-use Rattle.std.proofs.lemmas.Bool.{eqb-true, ltb-true, eq-eqb}
-use Rattle.niss_moves.specs.Places.{Place, same_place, is_place, is_corner, is_edge, SameMap}
-use Rattle.niss_moves.specs.Facelets.{places}
-use Rattle.niss_cube.specs.Names.{Rl, Ud, Fb, Renaming, XCounter, XQuarter, YQuarter, ZCounter}
+use Rattle.niss_cube.proofs.Words.{◌≡◌, ℕ, ◌+◌, ◌-◌, ◌%◌, ◌<◌, refl, sym, ◌∙◌, ap, length, get_or, Bool, true, false, ◌&&◌, not, arith, inl}
+use Rattle.niss_cube.proofs.Words.{inr, ◌==◌, nat_lt, sum, list_all, eqb-true, ltb-true, eq-eqb, Place, same_place, is_place, is_corner}
+use Rattle.niss_cube.proofs.Words.{is_edge, SameMap, places, Rl, Ud, Fb, Renaming, XCounter, XQuarter, YQuarter, ZCounter, renamed_by}
+use Rattle.niss_cube.proofs.Words.{renamed_home, renamed_orientation, at_place, all_below, at_below, and_left, and_right, same_truth}
+use Rattle.niss_cube.proofs.Words.{same_place_is}
 use Rattle.niss_cube.specs.declared.renaming.RenamingTable.{RenamingTable}
-use Rattle.niss_cube.specs.Renamings.{spun, renaming_table, renamed_by, renamed_home, renamed_orientation}
+use Rattle.niss_cube.specs.Renamings.{spun, renaming_table}
 use Rattle.niss_cube.proofs.CubieLists.{CubieLists, Valid, map_lists, tabulated, tabulated-length, tabulated-at}
-use Rattle.niss_cube.proofs.CubieKinds.{Kind, Corners, Edges, count, facelets, at, home_at, turn_at, homes, turns, place_of, Stand}
-use Rattle.niss_cube.proofs.CubieKinds.{stand, standing-valid, stands, low, kind_of, Located, located, map_at, centre_stays}
-use Rattle.niss_cube.proofs.Each.{at_place}
-use Rattle.niss_cube.proofs.FiniteTests.{all_below, at_below}
+use Rattle.niss_cube.proofs.CubieKinds.{Kind, Corners, Edges, count, facelets, at, home_at, turn_at, homes, turns, place_of, Stand, stand}
+use Rattle.niss_cube.proofs.CubieKinds.{standing-valid, stands, low, kind_of, Located, located, map_at, centre_stays}
 use Rattle.niss_cube.proofs.Once.{place_in-is}
 use Rattle.niss_cube.proofs.Sums.{below, one_if, below_same, below_add, below_permuted}
 use Rattle.niss_cube.proofs.TurnedCubies.{remainders, below_mod, sum_turns}
-use Rattle.niss_cube.proofs.Logic.{and_left, and_right, same_truth}
-use Rattle.niss_moves.proofs.CallerLemmas.{same_place_is}
 
 abbrev pub rotated : Renaming → Place → Place
 rotated XCounter = spun Rl 3

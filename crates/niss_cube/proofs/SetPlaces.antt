@@ -1,9 +1,6 @@
 -- Corner and edge places are sticker places, and whether a set of places is kept depends on the places alone.
-use Rattle.std.proofs.Common.{◌≡◌, refl, sym, ◌∙◌, ap, Bool, true, ◌||◌, not}
-use Rattle.niss_moves.specs.Places.{Place, is_place, is_corner, is_edge, SameMap}
-use Rattle.niss_cube.specs.Sets.{Kept, ArePlaces}
-use Rattle.niss_cube.proofs.Each.{each_record, at_record}
-use Rattle.niss_cube.proofs.Logic.{or_then}
+use Rattle.niss_cube.proofs.Words.{◌≡◌, refl, sym, ◌∙◌, ap, Bool, true, ◌||◌, not, Place, is_place, is_corner, is_edge, SameMap, Kept}
+use Rattle.niss_cube.proofs.Words.{ArePlaces, each_record, at_record, or_then}
 
 corners_test : each_record (λ q. not (is_corner q) || is_place q) ≡ true
 corners_test = refl

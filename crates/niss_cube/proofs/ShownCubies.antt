@@ -1,24 +1,17 @@
 -- The flips and twists that a cube's map shows are those of its cubies.
-use Rattle.std.proofs.Common.{refl, sym, ◌∙◌, ap, arith, inl, inr}
-use Rattle.std.specs.Prelude.{◌≡◌, ℕ, zero, suc, ◌<◌, List, [], ◌∷◌, length, get_or, map, drop, Bool, true, false, ◌&&◌, ◌==◌, nat_le}
-use Rattle.std.specs.List.{list_any, range_with_len}
-use Rattle.std.proofs.lemmas.Bool.{eqb-true, eq-eqb}
-use Rattle.std.proofs.lemmas.Bool.Decides.{eqb_tells}
-use Rattle.std.proofs.lemmas.List.{ext_get_or, get_or-map, length-map, get_or_default}
-use Rattle.std.proofs.lemmas.List.Folds.{Any-from_list_any, list_any_at}
+use Rattle.niss_cube.proofs.Words.{refl, sym, ◌∙◌, ap, arith, inl, inr, ◌≡◌, ℕ, zero, suc, ◌<◌, List, [], ◌∷◌, length, get_or, map, drop}
+use Rattle.niss_cube.proofs.Words.{Bool, true, false, ◌&&◌, ◌==◌, nat_le, list_any, range_with_len, eqb-true, eq-eqb, eqb_tells, ext_get_or}
+use Rattle.niss_cube.proofs.Words.{get_or-map, length-map, Any-from_list_any, Place, same_place, SameMap, U, facelet, index_in, row_at}
+use Rattle.niss_cube.proofs.Words.{edge_facelets, all_below, at_below, and_left, and_right, and_both, same_truth, same_place_is}
+use Rattle.niss_cube.proofs.Words.{same_place_of}
+use Rattle.std.proofs.lemmas.List.{get_or_default}
+use Rattle.std.proofs.lemmas.List.Folds.{list_any_at}
 use Rattle.std.proofs.lemmas.List.FromFn.{get_or-range_with_len, length-range_with_len}
-use Rattle.niss_moves.specs.Places.{Place, same_place, SameMap}
-use Rattle.niss_cube.specs.Names.{U}
-use Rattle.niss_moves.specs.Facelets.{facelet}
-use Rattle.niss_cube.specs.CubieFacelets.{index_in, row_at, edge_facelets}
 use Rattle.niss_cube.specs.Coordinates.{firsts, brings, orientations, occupied}
 use Rattle.niss_cube.proofs.CubieLists.{CubieLists, Valid, map_lists}
-use Rattle.niss_cube.proofs.CubieKinds.{Kind, Corners, Edges, count, facelets, rows, at, home_at, turn_at, turns, place_of}
-use Rattle.niss_cube.proofs.CubieKinds.{stand, stands, stands-at, unturned, some_facelet, same_facelet, shown_at}
-use Rattle.niss_cube.proofs.FiniteTests.{all_below, at_below}
+use Rattle.niss_cube.proofs.CubieKinds.{Kind, Corners, Edges, count, facelets, rows, at, home_at, turn_at, turns, place_of, stand, stands}
+use Rattle.niss_cube.proofs.CubieKinds.{stands-at, unturned, some_facelet, same_facelet, shown_at}
 use Rattle.niss_cube.proofs.Sums.{eqb-itself, eqb-other}
-use Rattle.niss_cube.proofs.Logic.{and_left, and_right, and_both, same_truth}
-use Rattle.niss_moves.proofs.CallerLemmas.{same_place_is, same_place_of}
 
 -- whether a test passes at a number below n
 abbrev any_below : ℕ → (ℕ → Bool) → Bool

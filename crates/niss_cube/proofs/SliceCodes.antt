@@ -1,20 +1,14 @@
 -- The edges of a slice by their number, and after a turn.
-use Rattle.std.proofs.Common.{refl, sym, ◌∙◌, ap, arith}
-use Rattle.std.specs.Prelude.{◌≡◌, ℕ, zero, suc, ◌+◌, ◌<◌, ◌≤◌, List, [], ◌∷◌, length, get_or, map, reverse}
-use Rattle.std.specs.Prelude.{Bool, true, false, nat_le, ◌==◌, count_by, slice_index}
+use Rattle.niss_cube.proofs.Words.{refl, sym, ◌∙◌, ap, arith, ◌≡◌, ℕ, zero, suc, ◌+◌, ◌<◌, ◌≤◌, List, [], ◌∷◌, length, get_or, map, reverse}
+use Rattle.niss_cube.proofs.Words.{Bool, true, false, nat_le, ◌==◌, count_by, slice_index, eqb-true, le-leb, leb-true, false_from_ne_true}
+use Rattle.niss_cube.proofs.Words.{ext_get_or, get_or-map, length-map, length-reverse, sum_by-cons, Turn, turn_table, rank, edges_at}
+use Rattle.niss_cube.proofs.Words.{edges_of_number, occupied_of_number, all_below, at_below}
 use mathlib.Core.List.{reverse_aux}
-use Rattle.std.proofs.lemmas.Bool.{eqb-true, le-leb, leb-true, false_from_ne_true}
-use Rattle.std.proofs.lemmas.List.{ext_get_or, get_or-map, length-map, length-reverse, reverse-reverse}
-use Rattle.std.proofs.lemmas.List.Sums.{sum_by-cons}
-use Rattle.niss_cube.specs.Names.{Turn}
-use Rattle.niss_cube.specs.CubieTurns.{turn_table}
-use Rattle.niss_cube.specs.Coordinates.{rank}
+use Rattle.std.proofs.lemmas.List.{reverse-reverse}
 use Rattle.niss_cube.proofs.CubieLists.{tabulated, tabulated-length, tabulated-at, brought}
 use Rattle.niss_cube.proofs.CubieKinds.{Edges}
 use Rattle.niss_cube.proofs.TurnedCubies.{is_table}
-use Rattle.niss_cube.specs.NumberedCubies.{edges_at, edges_of_number, occupied_of_number}
 use Rattle.niss_cube.proofs.Sums.{one_if}
-use Rattle.niss_cube.proofs.FiniteTests.{all_below, at_below}
 use Rattle.niss_cube.proofs.Numbers.{filled, rank-same}
 use Rattle.niss_cube.proofs.OccupiedNumbers.{Numbered, numbered}
 use Rattle.niss_cube.proofs.CoordinateValues.{slice_occupied}

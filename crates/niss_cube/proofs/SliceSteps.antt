@@ -1,12 +1,9 @@
 -- The steps of the number of a slice.
-use Rattle.std.proofs.Common.{◌≡◌, ℕ, suc, ◌+◌, ◌-◌, ◌<◌, ◌≤◌, refl, ◌∙◌, ap, List, [], ◌∷◌, length, get_or, drop, true, false, arith}
-use Rattle.std.specs.Prelude.{nat_le, ◌==◌}
-use Rattle.std.proofs.lemmas.Bool.{eqb-true, le-leb, leb-true, false_from_ne_true}
-use Rattle.std.proofs.Math.Seq.{drop-cons}
+use Rattle.niss_cube.proofs.Words.{◌≡◌, ℕ, suc, ◌+◌, ◌-◌, ◌<◌, ◌≤◌, refl, ◌∙◌, ap, List, [], ◌∷◌, length, get_or, drop, true, false, arith}
+use Rattle.niss_cube.proofs.Words.{nat_le, ◌==◌, eqb-true, le-leb, leb-true, false_from_ne_true, drop-cons, choose, rank, all_below}
+use Rattle.niss_cube.proofs.Words.{at_below}
 use Rattle.std.proofs.lemmas.List.{length-drop}
-use Rattle.niss_cube.specs.Coordinates.{choose, rank}
 use Rattle.niss_cube.specs.declared.slice_places.TheConstants.{CHOICES}
-use Rattle.niss_cube.proofs.FiniteTests.{all_below, at_below}
 use Rattle.niss_cube.proofs.CoordinateValues.{slice_occupied, slice_occupied-length, slice_occupied-at}
 
 choices_test : all_below 12 (λ n. all_below 4 (λ k. get_or (get_or CHOICES n []) k 0 == choose n k)) ≡ true

@@ -1,15 +1,10 @@
 -- Whether a step may start and is reached, over maps of the places.
-use Rattle.std.proofs.Common.{◌≡◌, refl, sym, Bool, true, ◌&&◌, ◌||◌, List, [], ◌∷◌, Option, None, Some}
-use Rattle.std.specs.Prelude.{Contains, IsTrue}
-use Rattle.std.specs.List.{list_any}
-use Rattle.std.specs.Option.{option_map_or}
-use Rattle.niss_moves.specs.Places.{Place, SameMap}
-use Rattle.niss_moves.specs.Effects.{turned}
-use Rattle.niss_cube.specs.Names.{Axis, Turn, Goal, Edges, Domino, Flip, Twist, Slice}
-use Rattle.niss_cube.specs.Sets.{ArePlaces, is_kept, flip_set, twist_set, slice_set}
-use Rattle.niss_cube.specs.Steps.{start_of, goals_of, turns_of, holds, may_start, reached}
+use Rattle.niss_cube.proofs.Words.{◌≡◌, refl, sym, Bool, true, ◌&&◌, ◌||◌, List, [], ◌∷◌, Option, None, Some, Contains, IsTrue, list_any}
+use Rattle.niss_cube.proofs.Words.{option_map_or, Place, SameMap, turned, Axis, Turn, Goal, Domino, Flip, Twist, Slice, ArePlaces, is_kept}
+use Rattle.niss_cube.proofs.Words.{flip_set, twist_set, slice_set, start_of, goals_of, turns_of, may_start, same_truth}
+use Rattle.niss_cube.specs.Names.{Edges}
+use Rattle.niss_cube.specs.Steps.{holds, reached}
 use Rattle.niss_cube.specs.StepLaws.{StartIsKept, StepsSeePlaces}
-use Rattle.niss_cube.proofs.Logic.{same_truth}
 use Rattle.niss_cube.proofs.KeptTests.{kept-tested}
 use Rattle.niss_cube.proofs.KeptSets.{sets_are_places}
 use Rattle.niss_cube.proofs.SetPlaces.{kept_same}

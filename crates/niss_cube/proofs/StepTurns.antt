@@ -1,20 +1,14 @@
 -- The turns of the steps: parts of the turn order, which hold their inverses and keep the start.
-use Rattle.std.proofs.Common.{◌≡◌, ◌≤◌, refl, ◌∙◌, ap, Bool, true, not, ◌&&◌, ◌||◌, List, length, Option, None, Some, arith}
-use Rattle.std.specs.Prelude.{Contains, flat_map, map, filter}
-use Rattle.std.specs.List.{list_all, list_any}
-use Rattle.std.specs.Option.{option_map_or}
-use Rattle.std.proofs.lemmas.Map.Views.{Contains-from_any}
-use Rattle.niss_moves.specs.Places.{is_place}
-use Rattle.niss_moves.specs.Facelets.{places}
-use Rattle.niss_moves.specs.Effects.{turned}
-use Rattle.niss_moves.specs.Turn.{same_face, inverse_turn}
+use Rattle.niss_cube.proofs.Words.{◌≡◌, ◌≤◌, refl, ◌∙◌, ap, Bool, true, not, ◌&&◌, ◌||◌, List, length, Option, None, Some, arith, Contains}
+use Rattle.niss_cube.proofs.Words.{map, list_all, list_any, option_map_or, Contains-from_any, is_place, places, turned, inverse_turn, Axis}
+use Rattle.niss_cube.proofs.Words.{Ud, Rl, Fb, Half, Turn, Step, Kept, flip_set, start_of, turns_of, at_place, and_left, and_right}
+use Rattle.niss_cube.proofs.Words.{at_member}
+use Rattle.std.specs.Prelude.{flat_map, filter}
+use Rattle.niss_moves.specs.Turn.{same_face}
 use Rattle.niss_moves.specs.Canonical.{face_order, turn_order}
-use Rattle.niss_cube.specs.Names.{Axis, Ud, Rl, Fb, Half, Turn, Step}
-use Rattle.niss_cube.specs.Sets.{Kept, flip_set}
-use Rattle.niss_cube.specs.Steps.{start_of, turns_of, powers_from, is_face_of}
+use Rattle.niss_cube.specs.Steps.{powers_from, is_face_of}
 use Rattle.niss_cube.specs.StepLaws.{InversesOfSteps, StepTurnsInOrder, StepTurnsAreCounted}
 use Rattle.niss_moves.proofs.CallerLemmas.{same_face_is, same_power, same_power_is}
-use Rattle.niss_cube.proofs.Each.{at_place, and_left, and_right, at_member}
 use Rattle.niss_cube.proofs.KeptTests.{implied}
 
 -- the turns of a step from its start

@@ -1,10 +1,8 @@
 -- Sums over the numbers below a bound, and over the places of a permutation.
-use Rattle.std.proofs.Common.{refl, sym, ◌∙◌, ap, arith, inl, inr}
-use Rattle.std.specs.Prelude.{◌≡◌, ℕ, zero, suc, ◌+◌, ◌*◌, ◌<◌, ◌≤◌, List, [], ◌∷◌, length, get_or, Bool, true, false, cond, ◌==◌}
+use Rattle.niss_cube.proofs.Words.{refl, sym, ◌∙◌, ap, arith, inl, inr, ◌≡◌, ℕ, zero, suc, ◌+◌, ◌*◌, ◌<◌, ◌≤◌, List, [], ◌∷◌, length}
+use Rattle.niss_cube.proofs.Words.{get_or, Bool, true, false, ◌==◌, sum_by-cons, eqb-true, eq-eqb, false_from_ne_true, eqb_tells}
+use Rattle.std.specs.Prelude.{cond}
 use Rattle.std.specs.List.{sum_by}
-use Rattle.std.proofs.lemmas.List.Sums.{sum_by-cons}
-use Rattle.std.proofs.lemmas.Bool.{eqb-true, eq-eqb, false_from_ne_true}
-use Rattle.std.proofs.lemmas.Bool.Decides.{eqb_tells}
 
 abbrev pub below : ℕ → (ℕ → ℕ) → ℕ
 below zero f = 0

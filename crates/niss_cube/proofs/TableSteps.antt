@@ -1,24 +1,17 @@
 -- The rows of the tables, as they are written.
-use Rattle.std.proofs.Common.{refl, sym, ◌∙◌, ap, subst, arith, inl, inr}
-use Rattle.std.specs.Prelude.{◌≡◌, ℕ, ◌+◌, ◌<◌, List, [], ◌∷◌, length, get_or, set, Bool, true, ◌&&◌, slice_index}
-use Rattle.std.proofs.lemmas.List.{get_or-set_same, get_or-set_other, length-set}
-use Rattle.std.proofs.lemmas.Bool.Decides.{eqb_tells}
-use Rattle.std.specs.List.{list_all}
-use Rattle.niss_moves.specs.Places.{Place, same_place, is_place}
-use Rattle.niss_moves.specs.Facelets.{places}
-use Rattle.niss_moves.specs.Effects.{turned}
+use Rattle.niss_cube.proofs.Words.{refl, sym, ◌∙◌, ap, subst, arith, inl, inr, ◌≡◌, ℕ, ◌+◌, ◌<◌, List, [], ◌∷◌, length, get_or, set, Bool}
+use Rattle.niss_cube.proofs.Words.{true, ◌&&◌, slice_index, length-set, eqb_tells, list_all, Place, same_place, is_place, places, turned}
+use Rattle.niss_cube.proofs.Words.{Face, U, D, R, L, F, B, Quarter, Half, Counter, Turn, Cube, Coordinate, map_of, count_of, number_of}
+use Rattle.niss_cube.proofs.Words.{standard_axis, number_after, IsCube, AreRowsAt, AreQuarters, IsQuarter, at_place, and_left, and_right}
+use Rattle.niss_cube.proofs.Words.{same_place_is, every_face}
+use Rattle.std.proofs.lemmas.List.{get_or-set_same, get_or-set_other}
 use Rattle.niss_moves.specs.Indices.{face_index, power_index}
-use Rattle.niss_cube.specs.Names.{Face, U, D, R, L, F, B, Power, Quarter, Half, Counter, Turn, Cube, Coordinate}
-use Rattle.niss_cube.specs.Map.{map_of}
-use Rattle.niss_cube.specs.Coordinates.{count_of, number_of, standard_axis}
-use Rattle.niss_cube.specs.NumberAfter.{number_after}
-use Rattle.niss_cube.specs.AfterTurn.{IsCoordinate, IsCube}
-use Rattle.niss_cube.specs.TableRows.{AreRowsAt, AreQuarters, IsQuarter, entry_at}
+use Rattle.niss_cube.specs.Names.{Power}
+use Rattle.niss_cube.specs.AfterTurn.{IsCoordinate}
+use Rattle.niss_cube.specs.TableRows.{entry_at}
 use Rattle.niss_cube.proofs.CoordinateLaws.{are_coordinates, cube-itself, lists_of, turned_is_cube}
 use Rattle.niss_cube.proofs.CubieKinds.{map_place}
-use Rattle.niss_cube.proofs.Each.{at_place}
-use Rattle.niss_cube.proofs.Logic.{and_left, and_right}
-use Rattle.niss_moves.proofs.CallerLemmas.{same_place_is, every_face, at_face, turn}
+use Rattle.niss_moves.proofs.CallerLemmas.{at_face, turn}
 
 abbrev after_of : Coordinate → ℕ → Turn → ℕ
 after_of k = number_after k (standard_axis k)

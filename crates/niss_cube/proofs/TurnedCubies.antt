@@ -1,23 +1,14 @@
 -- Cubies that are brought to their places by the table of a turn are cubies, with the turned map.
-use Rattle.std.proofs.Common.{refl, sym, ◌∙◌, ap, subst, arith, inl, inr}
-use Rattle.std.specs.Prelude.{◌≡◌, ℕ, zero, suc, ◌+◌, ◌%◌, ◌<◌, length, get_or, Bool, true, false, ◌&&◌, ◌||◌, ◌==◌, nat_lt, sum}
-use Rattle.std.specs.List.{list_all}
-use Rattle.std.proofs.lemmas.Bool.{eqb-true, ltb-true}
-use Rattle.niss_moves.specs.Places.{Place, same_place, is_place, is_corner, is_edge, SameMap}
-use Rattle.niss_moves.specs.Facelets.{places}
-use Rattle.niss_moves.specs.Effects.{turned}
-use Rattle.niss_cube.specs.Names.{Turn}
-use Rattle.niss_cube.specs.CubieTurns.{turn_table}
+use Rattle.niss_cube.proofs.Words.{refl, sym, ◌∙◌, ap, subst, arith, inl, inr, ◌≡◌, ℕ, zero, suc, ◌+◌, ◌%◌, ◌<◌, length, get_or, Bool, true}
+use Rattle.niss_cube.proofs.Words.{false, ◌&&◌, ◌||◌, ◌==◌, nat_lt, sum, list_all, eqb-true, ltb-true, Place, same_place, is_place}
+use Rattle.niss_cube.proofs.Words.{is_corner, is_edge, SameMap, places, turned, Turn, turn_table, at_place, all_below, at_below, and_left}
+use Rattle.niss_cube.proofs.Words.{and_right, same_place_is, every_turn, every_face, every_power, at_turn}
 use Rattle.niss_cube.specs.declared.cubie_turns.CubieTurn.{CubieTurn}
 use Rattle.niss_cube.proofs.CubieLists.{CubieLists, Valid, map_lists, tabulated, tabulated-length, tabulated-at, brought, brought_turned}
-use Rattle.niss_cube.proofs.CubieKinds.{Kind, Corners, Edges, count, facelets, at, home_at, turn_at, homes, turns, place_of, Stand}
-use Rattle.niss_cube.proofs.CubieKinds.{stand, standing-valid, stands, low, kind_of, Located, located, map_at, centre_stays}
-use Rattle.niss_cube.proofs.Each.{at_place}
-use Rattle.niss_cube.proofs.FiniteTests.{all_below, at_below}
+use Rattle.niss_cube.proofs.CubieKinds.{Kind, Corners, Edges, count, facelets, at, home_at, turn_at, homes, turns, place_of, Stand, stand}
+use Rattle.niss_cube.proofs.CubieKinds.{standing-valid, stands, low, kind_of, Located, located, map_at, centre_stays}
 use Rattle.niss_cube.proofs.Once.{place_in-is}
 use Rattle.niss_cube.proofs.Sums.{below, one_if, below_same, below_add, below_permuted, sum_by-below}
-use Rattle.niss_cube.proofs.Logic.{and_left, and_right}
-use Rattle.niss_moves.proofs.CallerLemmas.{same_place_is, every_turn, every_face, every_power, at_turn}
 
 -- from which place the cubies of a kind come by a table, and what is added to how each is turned
 abbrev from_by : Kind → CubieTurn → ℕ → ℕ

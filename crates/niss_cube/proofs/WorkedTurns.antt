@@ -1,12 +1,8 @@
 -- Worked values of the coordinates after a turn.
-use Rattle.std.proofs.Common.{◌≡◌, refl, true, Bool, ◌==◌, ◌&&◌}
-use Rattle.niss_cube.specs.Names.{Face, Turn, U, D, R, F, Quarter, Counter, Axis, Ud, Rl, Fb, Coordinate, Flip, Twist, Slice}
-use Rattle.niss_moves.specs.Places.{Place}
-use Rattle.niss_moves.specs.Effects.{turned}
-use Rattle.niss_cube.specs.NumberedCubies.{flips_of_number, twists_of_number, edges_of_number, occupied_of_number}
-use Rattle.niss_cube.specs.Coordinates.{flip_of, twist_of, slice_of, number_of}
-use Rattle.niss_cube.specs.NumberAfter.{number_after}
-use Rattle.niss_moves.proofs.CallerLemmas.{every_turn, every_face, every_power}
+use Rattle.niss_cube.proofs.Words.{◌≡◌, refl, true, Bool, ◌==◌, ◌&&◌, Face, Turn, U, D, R, F, Quarter, Counter, Axis, Ud, Rl, Fb}
+use Rattle.niss_cube.proofs.Words.{Coordinate, Flip, Twist, Slice, Place, turned, flips_of_number, twists_of_number, edges_of_number}
+use Rattle.niss_cube.proofs.Words.{occupied_of_number, flip_of, twist_of, slice_of, number_of, number_after, every_turn, every_face}
+use Rattle.niss_cube.proofs.Words.{every_power}
 
 abbrev turn : Face → Turn
 turn f = record { face = f; power = Quarter }

@@ -1,11 +1,9 @@
 -- The steps of the loop that writes the orientations with a number.
-use Rattle.std.proofs.Common.{sym, ◌∙◌, ap, subst, arith, append_assoc}
-use Rattle.std.specs.Prelude.{◌≡◌, ℕ, suc, ◌+◌, ◌-◌, ◌/◌, ◌%◌, ◌<◌, List, [], ◌∷◌, ◌++◌, length, set, take, drop, sum}
-use Rattle.std.proofs.lemmas.List.{length-set, append-nil}
-use Rattle.std.proofs.lemmas.List.Sums.{sum_by-cons}
+use Rattle.niss_cube.proofs.Words.{sym, ◌∙◌, ap, subst, arith, append_assoc, ◌≡◌, ℕ, suc, ◌+◌, ◌-◌, ◌/◌, ◌%◌, ◌<◌, List, [], ◌∷◌, ◌++◌}
+use Rattle.niss_cube.proofs.Words.{length, set, take, drop, sum, length-set, append-nil, sum_by-cons, take-length, digits_of_number}
+use Rattle.niss_cube.proofs.Words.{orientations_of_number}
 use Rattle.std.proofs.lemmas.Grind.{drop-set_at}
-use Rattle.std.proofs.Math.Seq.{take-suc-set, take-length}
-use Rattle.niss_cube.specs.NumberedCubies.{digits_of_number, orientations_of_number}
+use Rattle.std.proofs.Math.Seq.{take-suc-set}
 use Rattle.niss_cube.proofs.Orientations.{Base}
 
 -- the last digits of n

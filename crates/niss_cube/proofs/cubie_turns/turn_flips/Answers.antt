@@ -1,4 +1,4 @@
-use Rattle.std.proofs.Common.{get_or, arith}
+use Rattle.niss_cube.proofs.Words.{get_or, arith}
 use Rattle.niss_cube.proofs.CubieKinds.{Edges}
 use Rattle.niss_cube.proofs.TurnedCubies.{table_ranges}
 use Rattle.niss_cube.proofs.cubie_turns.turn_flips.Goals as goal

@@ -1,8 +1,5 @@
-use Rattle.std.proofs.Common.{◌%◌, refl, get_or, arith}
-use Rattle.std.specs.Prelude.{◌==◌}
-use Rattle.std.proofs.lemmas.Bool.{eqb-true}
+use Rattle.niss_cube.proofs.Words.{◌%◌, refl, get_or, arith, ◌==◌, eqb-true, at_below}
 use Rattle.niss_cube.specs.declared.cubie_turns.TheConstants.{TWIST_SUMS}
-use Rattle.niss_cube.proofs.FiniteTests.{at_below}
 use Rattle.niss_cube.proofs.cubie_turns.twist_sum.Goals as goal
 
 pub returns : goal.returns

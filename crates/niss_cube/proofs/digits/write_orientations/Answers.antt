@@ -1,4 +1,4 @@
-use Rattle.std.proofs.Common.{◌≡◌, ℕ, ◌-◌, ◌%◌, ◌<◌, ◌≤◌, ◌⊎◌, inl, inr, sym, subst, length, arith}
+use Rattle.niss_cube.proofs.Words.{◌≡◌, ℕ, ◌-◌, ◌%◌, ◌<◌, ◌≤◌, ◌⊎◌, inl, inr, sym, subst, length, arith}
 use Rattle.niss_cube.proofs.Orientations.{base_of}
 use Rattle.niss_cube.proofs.WrittenOrientations.{written-start, written-step-at, written-end, total-small}
 use Rattle.niss_cube.proofs.digits.write_orientations.Goals as goal

@@ -1,6 +1,4 @@
-use Rattle.std.proofs.Common.{◌≡◌, sym, ◌∙◌, ap, subst, arith}
-use Rattle.niss_moves.specs.Places.{SameMap}
-use Rattle.niss_cube.specs.Renamings.{renamed_by}
+use Rattle.niss_cube.proofs.Words.{◌≡◌, sym, ◌∙◌, ap, subst, arith, SameMap, renamed_by}
 use Rattle.niss_cube.proofs.CubieLists.{CubieLists, Valid, map_lists, lists_path, tabulated-is}
 use Rattle.niss_cube.proofs.CoordinateLaws.{lists_of}
 use Rattle.niss_cube.proofs.RenamedCubies.{renamed_with, renamed_cubies, renamed_cubies-valid, renamed_lists-map}

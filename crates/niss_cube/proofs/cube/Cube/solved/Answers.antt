@@ -1,10 +1,4 @@
-use Rattle.std.proofs.Common.{◌≡◌, refl, true, [], ◌∷◌}
-use Rattle.std.specs.List.{list_all}
-use Rattle.niss_moves.specs.Places.{Place, same_place}
-use Rattle.niss_cube.specs.Map.{sticker_map}
-use Rattle.niss_moves.specs.Facelets.{places}
-use Rattle.niss_cube.proofs.Each.{at_place}
-use Rattle.niss_moves.proofs.CallerLemmas.{same_place_is}
+use Rattle.niss_cube.proofs.Words.{◌≡◌, refl, true, [], ◌∷◌, list_all, Place, same_place, sticker_map, places, at_place, same_place_is}
 use Rattle.niss_cube.proofs.cube.Cube.solved.Goals as goal
 
 abbrev solved_map : Place → Place

@@ -1,5 +1,4 @@
-use Rattle.std.proofs.Common.{◌∙◌, ap, get_or}
-use Rattle.niss_cube.specs.PlacePositions.{place_at}
+use Rattle.niss_cube.proofs.Words.{◌∙◌, ap, get_or, place_at}
 use Rattle.niss_cube.proofs.followed_places.FollowedPlaces.follow.Goals as goal
 
 pub returns : goal.returns

@@ -1,7 +1,4 @@
-use Rattle.std.proofs.Common.{◌+◌, ◌∙◌, ap, sym, drop, get_or}
-use Rattle.std.proofs.lemmas.List.{at_drop_more}
-use Rattle.niss_moves.specs.Effects.{effect}
-use Rattle.niss_cube.specs.PlacePositions.{place_at}
+use Rattle.niss_cube.proofs.Words.{◌+◌, ◌∙◌, ap, sym, drop, get_or, at_drop_more, effect, place_at}
 use Rattle.niss_cube.proofs.followed_places.FollowedPlaces.follow_all.Goals as goal
 
 pub loop-token-preserved : goal.loop-token-preserved

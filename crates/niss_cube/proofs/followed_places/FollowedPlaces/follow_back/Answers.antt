@@ -1,6 +1,4 @@
-use Rattle.std.proofs.Common.{◌∙◌, ap, sym, get_or}
-use Rattle.niss_moves.specs.Effects.{effect, inverse}
-use Rattle.niss_cube.specs.PlacePositions.{place_at}
+use Rattle.niss_cube.proofs.Words.{◌∙◌, ap, sym, get_or, effect, inverse, place_at}
 use Rattle.niss_moves.proofs.CallerLemmas.{inverse_last}
 use Rattle.niss_cube.proofs.followed_places.FollowedPlaces.follow_back.Goals as goal
 

@@ -1,5 +1,4 @@
-use Rattle.std.proofs.Common.{arith, ◌<◌, length}
-use Rattle.niss_cube.specs.TableRows.{IsAnyTurn}
+use Rattle.niss_cube.proofs.Words.{arith, ◌<◌, length, IsAnyTurn}
 use Rattle.niss_cube.proofs.TableSteps.{rows-start, rows-step, rows-end, quarters-kept}
 use Rattle.niss_cube.proofs.cube.coordinate.Coordinate.fill.Goals as goal
 

@@ -1,5 +1,4 @@
-use Rattle.std.proofs.Common.{arith}
-use Rattle.niss_cube.specs.TableRows.{IsQuarter}
+use Rattle.niss_cube.proofs.Words.{arith, IsQuarter}
 use Rattle.niss_cube.proofs.TableSteps.{rows-start, rows-step, rows-end, quarter-row}
 use Rattle.niss_cube.proofs.cube.coordinate.Coordinate.fill_quarters.Goals as goal
 

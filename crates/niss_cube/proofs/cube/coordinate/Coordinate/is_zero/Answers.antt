@@ -1,5 +1,4 @@
-use Rattle.std.proofs.lemmas.Bool.{eqb-true, eq-eqb}
-use Rattle.niss_cube.specs.Map.{map_of}
+use Rattle.niss_cube.proofs.Words.{eqb-true, eq-eqb, map_of}
 use Rattle.niss_cube.proofs.KeptSets.{zero_test}
 use Rattle.niss_cube.proofs.cube.coordinate.Coordinate.is_zero.Goals as goal
 

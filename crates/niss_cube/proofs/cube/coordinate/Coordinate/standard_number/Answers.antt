@@ -1,6 +1,4 @@
-use Rattle.std.proofs.Common.{◌<◌, ◌∙◌, sym, arith, take}
-use Rattle.niss_cube.specs.Coordinates.{number}
-use Rattle.niss_cube.specs.Names.{Flip, Twist, Slice}
+use Rattle.niss_cube.proofs.Words.{◌<◌, ◌∙◌, sym, arith, take, number, Flip, Twist, Slice}
 use Rattle.niss_cube.proofs.Codes.{code-below}
 use Rattle.niss_cube.proofs.CoordinateLaws.{lists_of, standard-code}
 use Rattle.niss_cube.proofs.cube.coordinate.Coordinate.standard_number.Goals as goal

@@ -1,6 +1,4 @@
-use Rattle.std.proofs.Common.{◌≡◌, ◌<◌, ◌∙◌, sym, ap, arith, take}
-use Rattle.niss_cube.specs.Coordinates.{number, rank}
-use Rattle.niss_cube.specs.Names.{Flip, Twist, Slice}
+use Rattle.niss_cube.proofs.Words.{◌≡◌, ◌<◌, ◌∙◌, sym, ap, arith, take, number, rank, Flip, Twist, Slice}
 use Rattle.niss_cube.proofs.CoordinateValues.{slice_occupied}
 use Rattle.niss_cube.proofs.CubieLists.{tabulated-is}
 use Rattle.niss_cube.proofs.TurnedCubies.{turned_lists, turned-valid}
