@@ -5,7 +5,7 @@ use Rattle.niss_cube.proofs.Words.{ext_get_or, Place, is_place, is_edge, SameMap
 use Rattle.niss_cube.proofs.Words.{Twist, Slice, Renaming, XCounter, XQuarter, YQuarter, ZCounter, rank, number_of, renamed_for, turn_for}
 use Rattle.niss_cube.proofs.Words.{flips_home, twists_home, Kept, is_kept, flip_set, twist_set, slice_set, set_of, at_place, all_below}
 use Rattle.niss_cube.proofs.Words.{at_below, and_left}
-use Rattle.niss_cube.specs.Renamings.{renamed_if, face_if}
+use Rattle.niss_cube.specs.Renamings.{renamed_if, face_if, rotated, rotated_back}
 use Rattle.niss_cube.specs.Coordinates.{renaming_for}
 use Rattle.niss_cube.specs.Sets.{SetsArePlaces}
 use Rattle.niss_cube.proofs.CubieLists.{CubieLists, Valid, map_lists}
@@ -14,16 +14,17 @@ use Rattle.niss_cube.proofs.CubieKinds.{stands-at, low, some_facelet, kind_place
 use Rattle.niss_cube.proofs.Sums.{one_if, below_permuted, below_all_same, one_if-at_most, eqb-itself}
 use Rattle.niss_cube.proofs.Numbers.{rank-same}
 use Rattle.niss_cube.proofs.CoordinateValues.{edge-once, slice_occupied, slice_occupied-length, slice_occupied-at, slice_occupied-filled}
-use Rattle.niss_cube.proofs.RenamedCubies.{rotated, rotated_back, keeps_kinds, renamed_cubies, same_bool, same_bool-is}
-use Rattle.niss_cube.proofs.AxisRenamings.{KeepsPlaces, IsRenaming, by_rotation, not_renamed}
+use Rattle.niss_cube.proofs.AxisRenamings.{KeepsPlaces, IsRenaming, by_rotation, not_renamed, back-place, out-back, back-out}
 use Rattle.niss_cube.proofs.Orientations.{base_2, base_3, oriented_zero}
 use Rattle.niss_cube.proofs.Codes.{code, number_of-code, are_flips, are_twists, flips_home-are, twists_home-are}
 use Rattle.niss_cube.proofs.KeptTests.{kept-tested}
+use Rattle.niss_cube.proofs.Logic.{same_bool, same_bool-is}
+use Rattle.niss_cube.proofs.MovedCubies.{Under, moved}
 
 -- the cubies from which a coordinate on an axis is read
 abbrev renamed_cubies_if : Option Renaming → CubieLists → CubieLists
 renamed_cubies_if None c = c
-renamed_cubies_if (Some v) c = renamed_cubies v c
+renamed_cubies_if (Some v) c = moved (Under v) c
 
 abbrev pub cubies_for : Coordinate → Axis → CubieLists → CubieLists
 cubies_for k a = renamed_cubies_if (renaming_for k a)
@@ -69,12 +70,12 @@ renaming_kept : (v : Renaming) (set renamed_set : Place → Bool) → list_all (
     Kept set e ↔ Kept renamed_set (λ q. rotated v (e (rotated_back v q)))
 renaming_kept v set renamed_set test p p' e keep = (
   (λ kept q q_in.
-      let k = keeps_kinds v q (p' q q_in) in
-      sym (same (e (rotated_back v q)) (keep (rotated_back v q) k.home_place)) ∙ kept (rotated_back v q) (same (rotated_back v q) k.home_place ∙ ap renamed_set k.out_home ∙ q_in)),
+      let l = p' q q_in in
+      let at : is_place (rotated_back v q) ≡ true = back-place v q l in
+      sym (same (e (rotated_back v q)) (keep (rotated_back v q) at)) ∙ kept (rotated_back v q) (same (rotated_back v q) at ∙ ap renamed_set (out-back v q l) ∙ q_in)),
   (λ kept q q_in.
       let l : is_place q ≡ true = p q q_in in
-      let k = keeps_kinds v q l in
-      same (e q) (keep q l) ∙ ap (λ z. renamed_set (rotated v (e z))) (sym k.home_out) ∙ kept (rotated v q) (sym (same q l) ∙ q_in)),
+      same (e q) (keep q l) ∙ ap (λ z. renamed_set (rotated v (e z))) (sym (back-out v q l)) ∙ kept (rotated v q) (sym (same q l) ∙ q_in)),
 )
   where
     same : (q : Place) → is_place q ≡ true → set q ≡ renamed_set (rotated v q)

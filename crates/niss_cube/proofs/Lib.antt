@@ -8,6 +8,7 @@ pub mod CubieNeighbours
 pub mod Each
 pub mod EqualCubes
 pub mod FaceletLetters
+pub mod Facts
 pub mod FiniteTests
 pub mod FollowedLetters
 pub mod KeptSets
@@ -15,6 +16,7 @@ pub mod KeptTests
 pub mod CubieKinds
 pub mod LawLemmas
 pub mod Logic
+pub mod MovedCubies
 pub mod MovedPositions
 pub mod Numbers
 pub mod OccupiedNumbers
@@ -24,7 +26,6 @@ pub mod Origins
 pub mod OtherTurns
 pub mod Permutations
 pub mod PlacedEdges
-pub mod RenamedCubies
 pub mod RotatedLetters
 pub mod SetPlaces
 pub mod ShownCubies
@@ -35,7 +36,6 @@ pub mod StepMaps
 pub mod StepTurns
 pub mod Sums
 pub mod TableSteps
-pub mod TurnedCubies
 pub mod Words
 pub mod WorkedTurns
 pub mod WorkedValues

@@ -7,7 +7,7 @@ use mathlib.Core.List.{reverse_aux}
 use Rattle.std.proofs.lemmas.List.{reverse-reverse}
 use Rattle.niss_cube.proofs.CubieLists.{tabulated, tabulated-length, tabulated-at, brought}
 use Rattle.niss_cube.proofs.CubieKinds.{Edges}
-use Rattle.niss_cube.proofs.TurnedCubies.{is_table}
+use Rattle.niss_cube.proofs.MovedCubies.{By, table}
 use Rattle.niss_cube.proofs.Sums.{one_if}
 use Rattle.niss_cube.proofs.Numbers.{filled, rank-same}
 use Rattle.niss_cube.proofs.OccupiedNumbers.{Numbered, numbered}
@@ -138,7 +138,7 @@ turned-occupied t xs ys lx ly e =
     at zs lz i l =
         get_or-map (nat_le 8) (tabulated 12 (brought from zs)) i 0 false (omega (arith, l, tabulated-length 12 (brought from zs)))
         ∙ ap (nat_le 8) (tabulated-at 12 (brought from zs) i l)
-        ∙ sym (get_or-map (nat_le 8) zs (get_or from i 0) 0 false (omega (arith, (is_table Edges t).from_below i l, lz)))
+        ∙ sym (get_or-map (nat_le 8) zs (get_or from i 0) 0 false (omega (arith, (table Edges (By t)).from_below i l, lz)))
 
 -- where the edges of a slice stand is determined by their number
 pub occupied-same : (xs ys : List ℕ) → length xs ≡ 12 → length ys ≡ 12 → filled (slice_occupied xs) ≡ 4 → filled (slice_occupied ys) ≡ 4 → rank (slice_occupied xs) 4 ≡ rank (slice_occupied ys) 4 → map (nat_le 8) xs ≡ map (nat_le 8) ys
