@@ -1,9 +1,9 @@
 -- A coordinate as a code of the cubies that it depends on: each number has cubies of its own, and the code after a turn
 -- depends on the code alone.
-use Rattle.niss_cube.proofs.Words.{[], ◌≡◌, ℕ, ◌<◌, refl, sym, ap, List, get_or, take, reverse, count_by, nat_lt, ◌==◌, eqb-true, ltb-true}
-use Rattle.niss_cube.proofs.Words.{Place, SameMap, turned, Turn, Axis, Coordinate, Flip, Twist, Slice, number, rank, flip_of, twist_of}
-use Rattle.niss_cube.proofs.Words.{slice_of, number_of, count_of, renamed_for, standard_axis, turn_for, twists_home, flips_home}
-use Rattle.niss_cube.proofs.Words.{flips_of_number, twists_of_number, edges_of_number, number_after, at_below}
+use Rattle.niss_cube.proofs.Words.{Equal, Below, Numbers, holds, tested, [], ◌≡◌, ℕ, ◌<◌, refl, sym, ap, List, get_or, take, reverse}
+use Rattle.niss_cube.proofs.Words.{count_by, ◌==◌, Place, SameMap, turned, Turn, Axis, Coordinate, Flip, Twist, Slice, number, rank}
+use Rattle.niss_cube.proofs.Words.{flip_of, twist_of, slice_of, number_of, count_of, renamed_for, standard_axis, turn_for, twists_home}
+use Rattle.niss_cube.proofs.Words.{flips_home, flips_of_number, twists_of_number, edges_of_number, number_after}
 use Rattle.niss_cube.specs.Cubies.{corners_home, edges_home}
 use Rattle.niss_cube.proofs.CubieLists.{CubieLists, Valid, map_lists}
 use Rattle.niss_cube.proofs.CubieKinds.{Corners, Edges}
@@ -15,10 +15,11 @@ use Rattle.niss_cube.proofs.SliceCodes.{ArePlaced, of_number-placed, of_number-r
 use Rattle.niss_cube.proofs.MovedCubies.{By, moved}
 
 edges_home-are : ArePlaced edges_home
+unfolding tested
 edges_home-are = record {
   places = refl;
-  each = λ h l. eqb-true _ _ (at_below 12 (λ h. count_by (λ x. x == h) edges_home == 1) refl h l);
-  range = λ n l. ltb-true _ _ (at_below 12 (λ n. nat_lt (get_or edges_home n 0) 12) refl n l);
+  each = holds (Numbers 12 λ h. Equal (count_by (λ x. x == h) edges_home) 1) refl;
+  range = holds (Numbers 12 λ n. Below (get_or edges_home n 0) 12) refl;
 }
 
 pub flips_home-are : AreOriented 2 11 flips_home
@@ -32,15 +33,16 @@ abbrev pub cubies_of : (twists edges flips : List ℕ) → CubieLists
 cubies_of twists edges flips = record { corners = corners_home; twists = twists; edges = edges; flips = flips }
 
 cubies_of-valid : (twists edges flips : List ℕ) → AreOriented 3 7 twists → ArePlaced edges → AreOriented 2 11 flips → Valid (cubies_of twists edges flips)
+unfolding tested
 cubies_of-valid twists edges flips t e f =
     record {
       corner_places = refl;
       twist_places = t.places;
       edge_places = e.places;
       flip_places = f.places;
-      each_corner = λ h l. eqb-true _ _ (at_below 8 (λ h. count_by (λ x. x == h) corners_home == 1) refl h l);
+      each_corner = holds (Numbers 8 λ h. Equal (count_by (λ x. x == h) corners_home) 1) refl;
       each_edge = e.each;
-      corner_range = λ n l. ltb-true _ _ (at_below 8 (λ n. nat_lt (get_or corners_home n 0) 8) refl n l);
+      corner_range = holds (Numbers 8 λ n. Below (get_or corners_home n 0) 8) refl;
       edge_range = e.range;
       twist_range = t.range;
       flip_range = f.range;

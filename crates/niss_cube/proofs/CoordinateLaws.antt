@@ -1,25 +1,19 @@
 -- Flips, twists and slices are coordinates, by their codes.
-use Rattle.niss_cube.proofs.Words.{◌≡◌, ℕ, ◌<◌, refl, sym, ◌∙◌, ap, subst, true, ◌↔◌, list_all, Place, same_place, is_place, SameMap}
-use Rattle.niss_cube.proofs.Words.{places, turned, inverse_turn, Turn, Axis, Cube, Coordinate, map_of, Kept, set_of, number_of, count_of}
-use Rattle.niss_cube.proofs.Words.{renamed_for, standard_axis, turn_for, number_after, IsCube, at_place, same_place_is, every_turn}
-use Rattle.niss_cube.proofs.Words.{every_face, every_power, at_turn}
+use Rattle.niss_cube.proofs.Words.{Alike, Places, Turns, holds, tested, ◌≡◌, ℕ, ◌<◌, refl, sym, ◌∙◌, ap, subst, true, ◌↔◌, Place, is_place}
+use Rattle.niss_cube.proofs.Words.{SameMap, turned, inverse_turn, Turn, Axis, Cube, Coordinate, map_of, Kept, set_of, number_of, count_of}
+use Rattle.niss_cube.proofs.Words.{renamed_for, standard_axis, turn_for, number_after, IsCube, every_turn, every_face, every_power}
 use Rattle.niss_cube.specs.AfterTurn.{TurnedIsCube, AreCoordinates}
 use Rattle.niss_cube.proofs.CubieLists.{CubieLists, Valid, map_lists}
 use Rattle.niss_cube.proofs.CubieKinds.{map_place}
-use Rattle.niss_cube.proofs.SetPlaces.{kept_same}
+use Rattle.niss_cube.proofs.KeptTests.{kept_same}
 use Rattle.niss_cube.proofs.Codes.{code, number_of-code, code-below, cubies_with, cubies_with-valid, cubies_with-code, number_after-is}
 use Rattle.niss_cube.proofs.Codes.{code-turned, unrenamed}
 use Rattle.niss_cube.proofs.KeptSets.{cubies_for, renaming, sets_are_places, zero-kept}
 use Rattle.niss_cube.proofs.MovedCubies.{By, moved, moved-map, moved-valid}
 
-back_test : every_turn (λ t. list_all (λ q. same_place (turned (inverse_turn t) (turned t q)) q) places) ≡ true
-unfolding every_turn every_face every_power
-back_test = refl
-
 turned-inverse_turn : (t : Turn) (q : Place) → is_place q ≡ true → turned (inverse_turn t) (turned t q) ≡ q
-turned-inverse_turn t q h =
-    same_place_is _ _ (at_place (λ q. same_place (turned (inverse_turn t) (turned t q)) q)
-    (at_turn (λ t. list_all (λ q. same_place (turned (inverse_turn t) (turned t q)) q) places) back_test t) q h)
+unfolding tested every_turn every_face every_power
+turned-inverse_turn = holds (Turns λ t. Places λ q. Alike (turned (inverse_turn t) (turned t q)) q) refl
 
 -- cubies turned and turned back have the map that they had
 turned_back-map : (t : Turn) (c : CubieLists) → Valid c → SameMap (map_lists (moved (By (inverse_turn t)) (moved (By t) c))) (map_lists c)

@@ -1,9 +1,15 @@
 -- Facts that computation decides: where the test of a fact passes, the fact holds.
-use Rattle.niss_cube.proofs.Words.{◌≡◌, ℕ, zero, suc, ◌<◌, ◌∙◌, ap, Bool, true, not, ◌&&◌, ◌||◌, ◌==◌, arith, inl, inr, nat_lt, list_all}
-use Rattle.niss_cube.proofs.Words.{eqb-true, ltb-true, eqb_tells, Place, same_place, is_place, places, same_place_is, every_turn, at_turn}
-use Rattle.niss_cube.proofs.Words.{Turn, Renaming, XCounter, XQuarter, YQuarter, ZCounter, at_place, each_record, at_record, and_left}
-use Rattle.niss_cube.proofs.Words.{and_right, or_then}
-use Rattle.niss_cube.proofs.Logic.{same_bool, same_bool-is}
+use Rattle.std.proofs.Common.{◌≡◌, ℕ, List, zero, suc, ◌<◌, ◌∙◌, ap, Bool, true, not, ◌&&◌, ◌||◌, ◌==◌, arith, inl, inr}
+use Rattle.std.specs.Prelude.{nat_lt, Contains}
+use Rattle.std.specs.List.{list_all}
+use Rattle.std.proofs.lemmas.Bool.{eqb-true, ltb-true}
+use Rattle.std.proofs.lemmas.Bool.Decides.{eqb_tells}
+use Rattle.niss_moves.specs.Places.{Place, same_place, is_place}
+use Rattle.niss_moves.specs.Facelets.{places}
+use Rattle.niss_moves.proofs.CallerLemmas.{same_place_is, every_turn, every_face, every_token, at_turn, at_face, at_token}
+use Rattle.niss_cube.specs.Names.{Turn, Face, Token, Renaming, XCounter, XQuarter, YQuarter, ZCounter}
+use Rattle.niss_cube.proofs.Each.{at_place, at_member, each_record, at_record}
+use Rattle.niss_cube.proofs.Logic.{and_left, and_right, or_then, same_bool, same_bool-is}
 
 pub data Fact : Type 0 where
   Yes : Bool → Fact
@@ -17,6 +23,9 @@ pub data Fact : Type 0 where
   Places : (Place → Fact) → Fact
   Records : (Place → Fact) → Fact
   Turns : (Turn → Fact) → Fact
+  Among : List Turn → (Turn → Fact) → Fact
+  Faces : (Face → Fact) → Fact
+  Tokens : (Token → Fact) → Fact
   Renamings : (Renaming → Fact) → Fact
 
 abbrev pub Holds : Fact → Type 0
@@ -31,6 +40,9 @@ Holds (Numbers n f) = (k : ℕ) → k < n → Holds (f k)
 Holds (Places f) = (q : Place) → is_place q ≡ true → Holds (f q)
 Holds (Records f) = (q : Place) → Holds (f q)
 Holds (Turns f) = (t : Turn) → Holds (f t)
+Holds (Among ts f) = (t : Turn) → Contains ts t → Holds (f t)
+Holds (Faces f) = (face : Face) → Holds (f face)
+Holds (Tokens f) = (m : Token) → Holds (f m)
 Holds (Renamings f) = (v : Renaming) → Holds (f v)
 
 abbrev all_below : ℕ → (ℕ → Bool) → Bool
@@ -52,6 +64,9 @@ tested (Numbers n f) = all_below n (λ k. tested (f k))
 tested (Places f) = list_all (λ q. tested (f q)) places
 tested (Records f) = each_record (λ q. tested (f q))
 tested (Turns f) = every_turn (λ t. tested (f t))
+tested (Among ts f) = list_all (λ t. tested (f t)) ts
+tested (Faces f) = every_face (λ face. tested (f face))
+tested (Tokens f) = every_token (λ m. tested (f m))
 tested (Renamings f) = all_renamings (λ v. tested (f v))
 
 at_below : (n : ℕ) (t : ℕ → Bool) → all_below n t ≡ true → (k : ℕ) → k < n → t k ≡ true
@@ -80,4 +95,7 @@ holds (Numbers n f) h = λ k l. holds (f k) (at_below n (λ k. tested (f k)) h k
 holds (Places f) h = λ q p. holds (f q) (at_place (λ q. tested (f q)) h q p)
 holds (Records f) h = λ q. holds (f q) (at_record (λ q. tested (f q)) h q)
 holds (Turns f) h = λ t. holds (f t) (at_turn (λ t. tested (f t)) h t)
+holds (Among ts f) h = λ t m. holds (f t) (at_member (λ t. tested (f t)) ts t h m)
+holds (Faces f) h = λ face. holds (f face) (at_face (λ face. tested (f face)) h face)
+holds (Tokens f) h = λ m. holds (f m) (at_token _ h m)
 holds (Renamings f) h = λ v. holds (f v) (at_renaming (λ v. tested (f v)) h v)

@@ -9,7 +9,6 @@ pub mod Each
 pub mod EqualCubes
 pub mod FaceletLetters
 pub mod Facts
-pub mod FiniteTests
 pub mod FollowedLetters
 pub mod KeptSets
 pub mod KeptTests
@@ -27,7 +26,6 @@ pub mod OtherTurns
 pub mod Permutations
 pub mod PlacedEdges
 pub mod RotatedLetters
-pub mod SetPlaces
 pub mod ShownCubies
 pub mod SliceCodes
 pub mod SliceSteps

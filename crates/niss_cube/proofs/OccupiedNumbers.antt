@@ -50,7 +50,7 @@ written-step index met w rest w' rest' b occupied l head h = record {
 }
 
 choice : (n met k : ℕ) → n + (met + 1) ≡ 12 → k < 4 → get_or (get_or CHOICES (11 - met) []) k 0 ≡ choose n k
-choice n met k e l = choices-are (11 - met) k (omega arith) l ∙ ap (λ m. choose m k) (let m : 11 - met ≡ n = omega arith in m)
+choice n met k e l = choices-are (11 - met) (omega arith) k l ∙ ap (λ m. choose m k) (let m : 11 - met ≡ n = omega arith in m)
 
 head_yes : (n k i : ℕ) → i < choose n k → occupied_of_number (suc n) (suc k) i ≡ true ∷ occupied_of_number n k i
 unfolding occupied_of_number

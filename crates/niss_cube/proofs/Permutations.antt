@@ -1,7 +1,7 @@
 -- The map of a cube permutes the places, and a set of places that it keeps is kept both ways.
-use Rattle.niss_cube.proofs.Words.{◌≡◌, ℕ, ◌+◌, ◌-◌, ◌*◌, ◌%◌, ◌<◌, refl, sym, ◌∙◌, ap, get_or, Bool, true, false, ◌&&◌, arith, inl, inr}
-use Rattle.niss_cube.proofs.Words.{◌==◌, nat_lt, list_all, ltb-true, eqb-true, eq-eqb, eqb_tells, Place, same_place, is_place, places}
-use Rattle.niss_cube.proofs.Words.{facelet, U, index_in, Kept, at_place, all_below, at_below, and_left, and_right, same_place_is}
+use Rattle.niss_cube.proofs.Words.{Yes, Equal, Below, Alike, Both, Numbers, Places, holds, tested, ◌≡◌, ℕ, ◌+◌, ◌-◌, ◌*◌, ◌%◌, ◌<◌, refl}
+use Rattle.niss_cube.proofs.Words.{sym, ◌∙◌, ap, get_or, Bool, true, false, arith, inl, inr, ◌==◌, eq-eqb, eqb_tells, Place, same_place}
+use Rattle.niss_cube.proofs.Words.{is_place, places, facelet, U, index_in, Kept}
 use Rattle.niss_cube.specs.Permutations.{PermutesPlaces, CubesPermutePlaces, KeptIsEqual}
 use Rattle.niss_cube.proofs.CoordinateLaws.{lists_of}
 use Rattle.niss_cube.proofs.CubieLists.{CubieLists, Valid, map_lists}
@@ -39,21 +39,13 @@ place_at k = get_or places k (facelet U 5)
 abbrev number_at : Place → ℕ
 number_at q = index_in (same_place q) places
 
-numbered_test : list_all (λ q. nat_lt (number_at q) 54 && same_place (place_at (number_at q)) q) places ≡ true
-numbered_test = refl
-
 at_number : (q : Place) → is_place q ≡ true → (number_at q < 54) × (place_at (number_at q) ≡ q)
-at_number q l =
-    let t = at_place (λ q. nat_lt (number_at q) 54 && same_place (place_at (number_at q)) q) numbered_test q l in
-    (ltb-true _ _ (and_left _ _ t), same_place_is _ _ (and_right (nat_lt (number_at q) 54) _ t))
-
-places_test : all_below 54 (λ k. (number_at (place_at k) == k) && is_place (place_at k)) ≡ true
-places_test = refl
+unfolding tested
+at_number = holds (Places λ q. Both (Below (number_at q) 54) (Alike (place_at (number_at q)) q)) refl
 
 of_number : (k : ℕ) → k < 54 → (number_at (place_at k) ≡ k) × (is_place (place_at k) ≡ true)
-of_number k l =
-    let t = at_below 54 (λ k. (number_at (place_at k) == k) && is_place (place_at k)) places_test k l in
-    (eqb-true _ _ (and_left _ _ t), and_right (number_at (place_at k) == k) _ t)
+unfolding tested
+of_number = holds (Numbers 54 λ k. Both (Equal (number_at (place_at k)) k) (Yes (is_place (place_at k)))) refl
 
 one_if-true : (b : Bool) → one_if b ≡ 1 → b ≡ true
 one_if-true true h = refl

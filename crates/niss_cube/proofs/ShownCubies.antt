@@ -1,9 +1,9 @@
 -- The flips and twists that a cube's map shows are those of its cubies.
-use Rattle.niss_cube.proofs.Words.{refl, sym, ◌∙◌, ap, arith, inl, inr, ◌≡◌, ℕ, zero, suc, ◌<◌, List, [], ◌∷◌, length, get_or, map, drop}
-use Rattle.niss_cube.proofs.Words.{Bool, true, false, ◌&&◌, ◌==◌, nat_le, list_any, range_with_len, eqb-true, eq-eqb, eqb_tells, ext_get_or}
-use Rattle.niss_cube.proofs.Words.{get_or-map, length-map, Any-from_list_any, Place, same_place, SameMap, U, facelet, index_in, row_at}
-use Rattle.niss_cube.proofs.Words.{edge_facelets, all_below, at_below, and_left, and_right, and_both, same_truth, same_place_is}
-use Rattle.niss_cube.proofs.Words.{same_place_of}
+use Rattle.niss_cube.proofs.Words.{corner_facelets, Equal, Numbers, holds, tested, refl, sym, ◌∙◌, ap, arith, inl, inr, ◌≡◌, ℕ, zero, suc}
+use Rattle.niss_cube.proofs.Words.{◌<◌, List, [], ◌∷◌, length, get_or, map, drop, Bool, true, false, ◌&&◌, ◌==◌, nat_le, list_any}
+use Rattle.niss_cube.proofs.Words.{range_with_len, eqb-true, eq-eqb, eqb_tells, ext_get_or, get_or-map, length-map, Any-from_list_any}
+use Rattle.niss_cube.proofs.Words.{Place, same_place, SameMap, U, facelet, index_in, row_at, edge_facelets, and_left, and_right, and_both}
+use Rattle.niss_cube.proofs.Words.{same_truth, same_place_is, same_place_of}
 use Rattle.std.proofs.lemmas.List.{get_or_default}
 use Rattle.std.proofs.lemmas.List.Folds.{list_any_at}
 use Rattle.std.proofs.lemmas.List.FromFn.{get_or-range_with_len, length-range_with_len}
@@ -53,12 +53,10 @@ rows_len : (k : Kind) → length (rows k) ≡ count k
 rows_len Corners = refl
 rows_len Edges = refl
 
-row_lens : (k : Kind) → all_below (count k) (λ i. length (row_at (rows k) i) == facelets k) ≡ true
-row_lens Corners = refl
-row_lens Edges = refl
-
 row_len : (k : Kind) (i : ℕ) → i < count k → length (row_at (rows k) i) ≡ facelets k
-row_len k i l = eqb-true _ _ (at_below (count k) (λ i. length (row_at (rows k) i) == facelets k) (row_lens k) i l)
+unfolding tested
+row_len Corners = holds (Numbers 8 λ i. Equal (length (row_at corner_facelets i)) 3) refl
+row_len Edges = holds (Numbers 12 λ i. Equal (length (row_at edge_facelets i)) 2) refl
 
 brought_first : (k : Kind) (e : Place → Place) (q : Place) → brings e (firsts (rows k)) q ≡ any_below (count k) (λ h. same_place (e (at k h 0)) q)
 brought_first Corners e q = refl

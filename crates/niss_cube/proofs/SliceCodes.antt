@@ -1,8 +1,8 @@
 -- The edges of a slice by their number, and after a turn.
-use Rattle.niss_cube.proofs.Words.{refl, sym, ◌∙◌, ap, arith, ◌≡◌, ℕ, zero, suc, ◌+◌, ◌<◌, ◌≤◌, List, [], ◌∷◌, length, get_or, map, reverse}
-use Rattle.niss_cube.proofs.Words.{Bool, true, false, nat_le, ◌==◌, count_by, slice_index, eqb-true, le-leb, leb-true, false_from_ne_true}
-use Rattle.niss_cube.proofs.Words.{ext_get_or, get_or-map, length-map, length-reverse, sum_by-cons, Turn, turn_table, rank, edges_at}
-use Rattle.niss_cube.proofs.Words.{edges_of_number, occupied_of_number, all_below, at_below}
+use Rattle.niss_cube.proofs.Words.{Equal, Numbers, holds, tested, refl, sym, ◌∙◌, ap, arith, ◌≡◌, ℕ, zero, suc, ◌+◌, ◌<◌, ◌≤◌, List, []}
+use Rattle.niss_cube.proofs.Words.{◌∷◌, length, get_or, map, reverse, Bool, true, false, nat_le, ◌==◌, count_by, slice_index, le-leb}
+use Rattle.niss_cube.proofs.Words.{leb-true, false_from_ne_true, ext_get_or, get_or-map, length-map, length-reverse, sum_by-cons, Turn}
+use Rattle.niss_cube.proofs.Words.{turn_table, rank, edges_at, edges_of_number, occupied_of_number}
 use mathlib.Core.List.{reverse_aux}
 use Rattle.std.proofs.lemmas.List.{reverse-reverse}
 use Rattle.niss_cube.proofs.CubieLists.{tabulated, tabulated-length, tabulated-at, brought}
@@ -72,8 +72,9 @@ edges_at-occupied (false ∷ os) free occupied f g =
     let here : nat_le 8 free ≡ false = free_is free (omega arith) in
     rw here (ap (λ rs. false ∷ rs) (edges_at-occupied os (suc free) occupied (omega arith) g))
 
-each_test : all_below 12 (λ h. within 0 8 h + within 8 4 h == 1) ≡ true
-each_test = refl
+each_once : (h : ℕ) → h < 12 → within 0 8 h + within 8 4 h ≡ 1
+unfolding tested
+each_once = holds (Numbers 12 λ h. Equal (within 0 8 h + within 8 4 h) 1) refl
 
 module _ (os : List Bool) (l : length os ≡ 12) (four : filled os ≡ 4) where
   eight : free_places os ≡ 8
@@ -86,7 +87,7 @@ module _ (os : List Bool) (l : length os ≡ 12) (four : filled os ≡ 4) where
         edges_at-count os 0 8 h
         ∙ ap (λ n. within 0 n h + within 8 (filled os) h) eight
         ∙ ap (λ n. within 0 8 h + within 8 n h) four
-        ∙ eqb-true _ _ (at_below 12 (λ h. within 0 8 h + within 8 4 h == 1) each_test h lh);
+        ∙ each_once h lh;
     range = λ n ln. edges_at-range os 0 8 n (omega (arith, eight)) (omega arith) (omega arith);
   }
 

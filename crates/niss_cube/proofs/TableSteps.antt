@@ -1,9 +1,8 @@
 -- The rows of the tables, as they are written.
-use Rattle.niss_cube.proofs.Words.{refl, sym, ◌∙◌, ap, subst, arith, inl, inr, ◌≡◌, ℕ, ◌+◌, ◌<◌, List, [], ◌∷◌, length, get_or, set, Bool}
-use Rattle.niss_cube.proofs.Words.{true, ◌&&◌, slice_index, length-set, eqb_tells, list_all, Place, same_place, is_place, places, turned}
+use Rattle.niss_cube.proofs.Words.{Alike, Both, Places, Faces, holds, tested, refl, sym, ◌∙◌, ap, subst, arith, inl, inr, ◌≡◌, ℕ, ◌+◌, ◌<◌}
+use Rattle.niss_cube.proofs.Words.{List, [], ◌∷◌, length, get_or, set, true, slice_index, length-set, eqb_tells, Place, is_place, turned}
 use Rattle.niss_cube.proofs.Words.{Face, U, D, R, L, F, B, Quarter, Half, Counter, Turn, Cube, Coordinate, map_of, count_of, number_of}
-use Rattle.niss_cube.proofs.Words.{standard_axis, number_after, IsCube, AreRowsAt, AreQuarters, IsQuarter, at_place, and_left, and_right}
-use Rattle.niss_cube.proofs.Words.{same_place_is, every_face}
+use Rattle.niss_cube.proofs.Words.{standard_axis, number_after, IsCube, AreRowsAt, AreQuarters, IsQuarter, every_face}
 use Rattle.std.proofs.lemmas.List.{get_or-set_same, get_or-set_other}
 use Rattle.niss_moves.specs.Indices.{face_index, power_index}
 use Rattle.niss_cube.specs.Names.{Power}
@@ -11,7 +10,7 @@ use Rattle.niss_cube.specs.AfterTurn.{IsCoordinate}
 use Rattle.niss_cube.specs.TableRows.{entry_at}
 use Rattle.niss_cube.proofs.CoordinateLaws.{are_coordinates, cube-itself, lists_of, turned_is_cube}
 use Rattle.niss_cube.proofs.CubieKinds.{map_place}
-use Rattle.niss_moves.proofs.CallerLemmas.{at_face, turn}
+use Rattle.niss_moves.proofs.CallerLemmas.{turn}
 
 abbrev after_of : Coordinate → ℕ → Turn → ℕ
 after_of k = number_after k (standard_axis k)
@@ -36,25 +35,19 @@ after-both k s t u same i l =
     ∙ number u
 
 -- a half turn is two quarters, a counter turn three
-abbrev powers_test : Face → Place → Bool
-powers_test f q =
-    same_place (turned (turn f Quarter) (turned (turn f Quarter) q)) (turned (turn f Half) q)
-    && same_place (turned (turn f Quarter) (turned (turn f Half) q)) (turned (turn f Counter) q)
-
-powers_hold : every_face (λ f. list_all (powers_test f) places) ≡ true
-unfolding every_face
-powers_hold = refl
-
-powers_tested : (f : Face) (q : Place) → is_place q ≡ true → powers_test f q ≡ true
-powers_tested f q p = at_place (powers_test f) (at_face (λ f. list_all (powers_test f) places) powers_hold f) q p
+powers-hold : (f : Face) (q : Place) → is_place q ≡ true →
+    (turned (turn f Quarter) (turned (turn f Quarter) q) ≡ turned (turn f Half) q)
+    × (turned (turn f Quarter) (turned (turn f Half) q) ≡ turned (turn f Counter) q)
+unfolding tested every_face
+powers-hold = holds (Faces λ f. Places λ q. Both
+    (Alike (turned (turn f Quarter) (turned (turn f Quarter) q)) (turned (turn f Half) q))
+    (Alike (turned (turn f Quarter) (turned (turn f Half) q)) (turned (turn f Counter) q))) refl
 
 after-twice : (k : Coordinate) (f : Face) (i : ℕ) → i < count_of k → after_of k (after_of k i (turn f Quarter)) (turn f Quarter) ≡ after_of k i (turn f Half)
-after-twice k f = after-both k (turn f Quarter) (turn f Quarter) (turn f Half) (λ q p. same_place_is _ _ (and_left _ _ (powers_tested f q p)))
+after-twice k f = after-both k (turn f Quarter) (turn f Quarter) (turn f Half) (λ q p. (powers-hold f q p).0)
 
 after-thrice : (k : Coordinate) (f : Face) (i : ℕ) → i < count_of k → after_of k (after_of k i (turn f Half)) (turn f Quarter) ≡ after_of k i (turn f Counter)
-after-thrice k f =
-    after-both k (turn f Half) (turn f Quarter) (turn f Counter)
-    (λ q p. same_place_is _ _ (and_right (same_place (turned (turn f Quarter) (turned (turn f Quarter) q)) (turned (turn f Half) q)) _ (powers_tested f q p)))
+after-thrice k f = after-both k (turn f Half) (turn f Quarter) (turn f Counter) (λ q p. (powers-hold f q p).1)
 
 abbrev AreNumbersAfter : Coordinate → ℕ → Face → List ℕ → Type 0
 AreNumbersAfter k i f numbers = (p : Power) → slice_index numbers (power_index p) ≡ after_of k i (turn f p)

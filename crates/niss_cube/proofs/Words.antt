@@ -23,8 +23,10 @@ unfoldable pub use Rattle.niss_moves.specs.Letters.{letter_of, letters}
 pub use Rattle.niss_moves.specs.Places.{Place, is_place, same_place, SameMap, is_edge, is_corner}
 pub use Rattle.niss_moves.specs.Rotations.{renamed_turn, rotation_if, to_top}
 pub use Rattle.niss_moves.specs.Turn.{inverse_turn}
-pub use Rattle.niss_cube.proofs.Each.{at_place, at_member, at_record, each_record}
-pub use Rattle.niss_cube.proofs.FiniteTests.{at_below, all_below}
+pub use Rattle.niss_cube.proofs.Each.{at_member}
+pub use Rattle.niss_cube.proofs.Facts.{Fact, Yes, Same, Equal, Below, Alike, Both, When, Numbers, Places, Records}
+pub use Rattle.niss_cube.proofs.Facts.{Turns, Among, Faces, Tokens, Renamings, Holds, holds}
+unfoldable pub use Rattle.niss_cube.proofs.Facts.{tested}
 pub use Rattle.niss_cube.proofs.Logic.{and_left, and_right, same_truth, and_both, not_true, or_then}
 pub use Rattle.niss_cube.specs.AfterTurn.{IsCube}
 pub use Rattle.niss_cube.specs.Coordinates.{rank, number_of, number, count_of, standard_axis, choose, renamed_for, turn_for}
