@@ -3,10 +3,8 @@
 use Rattle.niss_cube.proofs.Words.{Equal, Below, Numbers, holds, tested, [], ◌≡◌, ℕ, ◌<◌, refl, sym, ap, List, get_or, take, reverse}
 use Rattle.niss_cube.proofs.Words.{count_by, ◌==◌, Place, SameMap, turned, Turn, Axis, Coordinate, Flip, Twist, Slice, number, rank}
 use Rattle.niss_cube.proofs.Words.{flip_of, twist_of, slice_of, number_of, count_of, renamed_for, standard_axis, turn_for, twists_home}
-use Rattle.niss_cube.proofs.Words.{flips_home, flips_of_number, twists_of_number, edges_of_number, number_after}
-use Rattle.niss_cube.specs.Cubies.{corners_home, edges_home}
-use Rattle.niss_cube.proofs.CubieLists.{CubieLists, Valid, map_lists}
-use Rattle.niss_cube.proofs.CubieKinds.{Corners, Edges}
+use Rattle.niss_cube.proofs.Words.{flips_home, flips_of_number, twists_of_number, edges_of_number, number_after, corners_home, edges_home}
+use Rattle.niss_cube.proofs.CubieKinds.{CubieLists, Valid, map_lists, Corners, Edges}
 use Rattle.niss_cube.proofs.ShownCubies.{turns_shown, slice_shown}
 use Rattle.niss_cube.proofs.CoordinateValues.{slice-below, slice_occupied, slice_occupied-filled}
 use Rattle.niss_cube.proofs.Orientations.{AreOriented, base_2, base_3, orientations_of_number-are, orientations_of_number-number}

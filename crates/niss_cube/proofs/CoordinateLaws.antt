@@ -2,9 +2,8 @@
 use Rattle.niss_cube.proofs.Words.{Alike, Places, Turns, holds, tested, ◌≡◌, ℕ, ◌<◌, refl, sym, ◌∙◌, ap, subst, true, ◌↔◌, Place, is_place}
 use Rattle.niss_cube.proofs.Words.{SameMap, turned, inverse_turn, Turn, Axis, Cube, Coordinate, map_of, Kept, set_of, number_of, count_of}
 use Rattle.niss_cube.proofs.Words.{renamed_for, standard_axis, turn_for, number_after, IsCube, every_turn, every_face, every_power}
-use Rattle.niss_cube.specs.AfterTurn.{TurnedIsCube, AreCoordinates}
-use Rattle.niss_cube.proofs.CubieLists.{CubieLists, Valid, map_lists}
-use Rattle.niss_cube.proofs.CubieKinds.{map_place}
+use Rattle.niss_cube.proofs.Words.{TurnedIsCube, AreCoordinates}
+use Rattle.niss_cube.proofs.CubieKinds.{lists_of, cube_of, CubieLists, Valid, map_lists, map_place}
 use Rattle.niss_cube.proofs.KeptTests.{kept_same}
 use Rattle.niss_cube.proofs.Codes.{code, number_of-code, code-below, cubies_with, cubies_with-valid, cubies_with-code, number_after-is}
 use Rattle.niss_cube.proofs.Codes.{code-turned, unrenamed}
@@ -21,12 +20,6 @@ turned_back-map t c v = λ q p.
     moved-map (By (inverse_turn t)) (moved (By t) c) (moved-valid (By t) c v) q p
     ∙ ap (turned (inverse_turn t)) (moved-map (By t) c v q p)
     ∙ turned-inverse_turn t (map_lists c q) (map_place c v q p)
-
-abbrev pub lists_of : Cube → CubieLists
-lists_of c = record { corners = c.corners; twists = c.twists; edges = c.edges; flips = c.flips }
-
-abbrev pub cube_of : (c : CubieLists) → Valid c → Cube
-cube_of c v = record { corners = c.corners; twists = c.twists; edges = c.edges; flips = c.flips; are_cubies = v }
 
 pub cube-itself : (c : Cube) → IsCube (map_of c)
 cube-itself c = (c, λ q p. refl)

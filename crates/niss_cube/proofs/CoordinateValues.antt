@@ -3,8 +3,7 @@ use Rattle.niss_cube.proofs.Words.{Equal, Numbers, holds, tested, refl, sym, ◌
 use Rattle.niss_cube.proofs.Words.{◌≤◌, List, [], ◌∷◌, length, get_or, map, take, drop, reverse, Bool, true, false, nat_le, ◌==◌}
 use Rattle.niss_cube.proofs.Words.{get_or-reverse, length-reverse, length-map, get_or-map, get_or-take, length-take, drop-cons, choose}
 use Rattle.niss_cube.proofs.Words.{rank}
-use Rattle.niss_cube.proofs.CubieLists.{CubieLists, Valid}
-use Rattle.niss_cube.proofs.CubieKinds.{Edges, stand}
+use Rattle.niss_cube.proofs.CubieKinds.{CubieLists, Valid, Edges, stand}
 use Rattle.niss_cube.proofs.Sums.{below, one_if, below_same, below_permuted, below_front}
 use Rattle.niss_cube.proofs.Numbers.{number_from, Digits, filled, rank-below}
 

@@ -2,11 +2,10 @@
 use Rattle.niss_cube.proofs.Words.{Fact, Yes, Same, Equal, Below, Alike, Both, When, Numbers, Places, Records, Holds, holds, tested, refl}
 use Rattle.niss_cube.proofs.Words.{sym, ◌∙◌, ap, arith, inl, inr, ◌≡◌, ℕ, ◌+◌, ◌-◌, ◌%◌, ◌<◌, List, length, get_or, Bool, true, false, ◌⊎◌}
 use Rattle.niss_cube.proofs.Words.{sum, list_any, Place, same_place, is_place, is_corner, is_edge, SameMap, index_in, row_at, facelet_at}
-use Rattle.niss_cube.proofs.Words.{corner_facelets, edge_facelets}
-use Rattle.niss_cube.specs.Map.{sticker_place}
-use Rattle.niss_cube.proofs.CubieLists.{CubieLists, Valid, map_lists}
+use Rattle.niss_cube.proofs.Words.{corner_facelets, edge_facelets, sticker_place, is_true}
 use Rattle.niss_cube.proofs.Once.{times_in, place_in, place_in-found, place_in-is, count_by-times}
-use Rattle.niss_cube.proofs.Logic.{is_true}
+pub use Rattle.niss_cube.proofs.CubieLists.{CubieLists, Valid, map_lists, lists_of, cube_of, lists_path}
+pub use Rattle.niss_cube.proofs.CubieLists.{tabulated, tabulated-length, tabulated-at, tabulated-is, brought}
 
 pub data Kind : Type 0 where
   Corners : Kind

@@ -2,9 +2,9 @@
 use Rattle.niss_cube.proofs.Words.{false, Fact, Yes, Same, Equal, Below, Alike, Both, Numbers, Holds, holds, tested, refl, ap, sym, ◌∙◌}
 use Rattle.niss_cube.proofs.Words.{arith, ◌≡◌, ℕ, zero, suc, ◌+◌, ◌-◌, ◌%◌, ◌<◌, List, [], ◌∷◌, length, get_or, map, ext_get_or, get_or-map}
 use Rattle.niss_cube.proofs.Words.{length-map, is_place, is_corner, is_edge, Place, U, places, facelet, letter_at, letter_of, letters}
-use Rattle.niss_cube.specs.declared.letters.TheConstants.{CORNER_LETTERS, EDGE_LETTERS}
-use Rattle.niss_cube.proofs.CubieLists.{CubieLists, Valid, map_lists}
-use Rattle.niss_cube.proofs.CubieKinds.{Kind, Corners, Edges, count, facelets, at, home_at, turn_at, Stand, stand, low, rewound}
+use Rattle.niss_cube.proofs.Words.{CORNER_LETTERS, EDGE_LETTERS}
+use Rattle.niss_cube.proofs.CubieKinds.{CubieLists, Valid, map_lists, Kind, Corners, Edges, count, facelets, at, home_at, turn_at, Stand}
+use Rattle.niss_cube.proofs.CubieKinds.{stand, low, rewound}
 use Rattle.niss_cube.proofs.Origins.{kind_letter, centre_letter}
 
 -- A position of the facelet text: a cubie's place of a kind and the number of its facelet, or a centre with its letter.

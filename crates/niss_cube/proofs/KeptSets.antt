@@ -4,13 +4,11 @@ use Rattle.niss_cube.proofs.Words.{◌≡◌, ℕ, ◌+◌, ◌-◌, ◌%◌, �
 use Rattle.niss_cube.proofs.Words.{◌==◌, ◌↔◌, nat_le, eqb-true, false_from_ne_true, eqb_tells, ext_get_or, Place, is_place, is_edge}
 use Rattle.niss_cube.proofs.Words.{SameMap, renamed_turn, Axis, Ud, Rl, Fb, Coordinate, Flip, Twist, Slice, Renaming, XCounter, XQuarter}
 use Rattle.niss_cube.proofs.Words.{YQuarter, ZCounter, rank, number_of, renamed_for, turn_for, flips_home, twists_home, Kept, is_kept}
-use Rattle.niss_cube.proofs.Words.{flip_set, twist_set, slice_set, set_of, and_left}
-use Rattle.niss_cube.specs.Renamings.{renamed_if, face_if, rotated, rotated_back}
-use Rattle.niss_cube.specs.Coordinates.{renaming_for}
-use Rattle.niss_cube.specs.Sets.{SetsArePlaces}
-use Rattle.niss_cube.proofs.CubieLists.{CubieLists, Valid, map_lists}
-use Rattle.niss_cube.proofs.CubieKinds.{Kind, Corners, Edges, count, facelets, at, is_of, home_at, turn_at, place_of, stand, stands}
-use Rattle.niss_cube.proofs.CubieKinds.{stands-at, low, some_facelet, kind_place, Located, located, shown_at, map_place}
+use Rattle.niss_cube.proofs.Words.{flip_set, twist_set, slice_set, set_of, and_left, renamed_if, face_if, rotated, rotated_back}
+use Rattle.niss_cube.proofs.Words.{renaming_for, SetsArePlaces}
+use Rattle.niss_cube.proofs.CubieKinds.{CubieLists, Valid, map_lists, Kind, Corners, Edges, count, facelets, at, is_of, home_at, turn_at}
+use Rattle.niss_cube.proofs.CubieKinds.{place_of, stand, stands, stands-at, low, some_facelet, kind_place, Located, located, shown_at}
+use Rattle.niss_cube.proofs.CubieKinds.{map_place}
 use Rattle.niss_cube.proofs.Sums.{one_if, below_permuted, below_all_same, one_if-at_most, eqb-itself}
 use Rattle.niss_cube.proofs.Numbers.{rank-same}
 use Rattle.niss_cube.proofs.CoordinateValues.{edge-once, slice_occupied, slice_occupied-length, slice_occupied-at, slice_occupied-filled}

@@ -1,8 +1,6 @@
 -- A set is kept where the test says so.
 use Rattle.niss_cube.proofs.Words.{◌∙◌, sym, ap, SameMap, ArePlaces, Yes, When, Places, holds, tested, ◌≡◌, refl, Bool, true, false, not}
-use Rattle.niss_cube.proofs.Words.{◌||◌, Place, places, Kept, is_kept}
-use Rattle.std.proofs.lemmas.List.Sums.{list_all-from_AllPass}
-use Rattle.niss_cube.specs.Sets.{KeptIsTested}
+use Rattle.niss_cube.proofs.Words.{◌||◌, Place, places, Kept, is_kept, list_all-from_AllPass, KeptIsTested}
 
 implies : (a b : Bool) → (a ≡ true → b ≡ true) → (not a || b) ≡ true
 implies true b h = h refl

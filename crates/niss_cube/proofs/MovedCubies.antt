@@ -2,12 +2,10 @@
 use Rattle.niss_cube.proofs.Words.{◌≡◌, ℕ, zero, suc, ◌+◌, ◌-◌, ◌%◌, ◌<◌, ◌==◌, refl, sym, ◌∙◌, ap, subst, get_or, length, not, sum, arith}
 use Rattle.niss_cube.proofs.Words.{inl, inr, Turn, Renaming, Place, SameMap, is_corner, is_edge, turned, turn_table, every_turn, every_face}
 use Rattle.niss_cube.proofs.Words.{every_power, eqb-true, eq-eqb, same_truth, Fact, Both, Below, Equal, Alike, Same, When, Numbers, Places}
-use Rattle.niss_cube.proofs.Words.{Turns, Renamings, Holds, holds, tested}
-use Rattle.niss_cube.specs.declared.cubie_turns.CubieTurn.{CubieTurn}
-use Rattle.niss_cube.specs.Renamings.{rotated, rotated_back, renaming_table}
-use Rattle.niss_cube.proofs.CubieLists.{CubieLists, Valid, map_lists, tabulated, tabulated-length, tabulated-at}
-use Rattle.niss_cube.proofs.CubieKinds.{Kind, Corners, Edges, count, facelets, at, home_at, turn_at, homes, turns, place_of, Stand, stand}
-use Rattle.niss_cube.proofs.CubieKinds.{standing-valid, stands, low, kind_of, Located, located, map_at, centre_stays}
+use Rattle.niss_cube.proofs.Words.{Turns, Renamings, Holds, holds, tested, CubieTurn, rotated, rotated_back, renaming_table}
+use Rattle.niss_cube.proofs.CubieKinds.{CubieLists, Valid, map_lists, tabulated, tabulated-length, tabulated-at, Kind, Corners, Edges}
+use Rattle.niss_cube.proofs.CubieKinds.{count, facelets, at, home_at, turn_at, homes, turns, place_of, Stand, stand, standing-valid, stands}
+use Rattle.niss_cube.proofs.CubieKinds.{low, kind_of, Located, located, map_at, centre_stays}
 use Rattle.niss_cube.proofs.Once.{place_in-is}
 use Rattle.niss_cube.proofs.Sums.{below, one_if, below_same, below_add, below_permuted, sum_by-below}
 

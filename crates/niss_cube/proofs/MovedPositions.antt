@@ -1,8 +1,6 @@
 -- The table of positions after moves holds the places to which the moves bring the stickers, by computation.
 use Rattle.niss_cube.proofs.Words.{Below, Alike, Both, Numbers, Tokens, holds, tested, ◌≡◌, ℕ, ◌<◌, refl, [], get_or, moved_by, Token}
-use Rattle.niss_cube.proofs.Words.{place_at, every_token, every_face, every_power, every_slice, every_axis}
-use Rattle.niss_moves.specs.Indices.{token_index}
-use Rattle.niss_cube.specs.declared.place_positions.TheConstants.{POSITIONS_AFTER}
+use Rattle.niss_cube.proofs.Words.{place_at, every_token, every_face, every_power, every_slice, every_axis, token_index, POSITIONS_AFTER}
 
 abbrev after : Token → ℕ → ℕ
 after m i = get_or (get_or POSITIONS_AFTER (token_index m) []) i 0

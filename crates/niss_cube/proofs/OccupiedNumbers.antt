@@ -1,10 +1,7 @@
 -- Each number below the choices is that of its places.
 use Rattle.niss_cube.proofs.Words.{refl, sym, ◌∙◌, ap, arith, inl, inr, ◌≡◌, ℕ, zero, suc, ◌+◌, ◌-◌, ◌<◌, ◌≤◌, List, [], ◌∷◌, ◌++◌, length}
 use Rattle.niss_cube.proofs.Words.{get_or, set, take, Bool, true, false, nat_lt, ltb-true, false_from_ne_true, length-set, choose, rank}
-use Rattle.niss_cube.proofs.Words.{occupied_of_number}
-use Rattle.std.proofs.lemmas.Bool.{lt-ltb}
-use Rattle.std.proofs.lemmas.Bool.Decides.{leb_tells}
-use Rattle.niss_cube.specs.declared.slice_places.TheConstants.{CHOICES}
+use Rattle.niss_cube.proofs.Words.{occupied_of_number, lt-ltb, leb_tells, CHOICES}
 use Rattle.niss_cube.proofs.Numbers.{filled}
 use Rattle.niss_cube.proofs.SliceSteps.{choices-are}
 use Rattle.niss_cube.proofs.WrittenLists.{one_more, all_written}

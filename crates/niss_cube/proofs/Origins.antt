@@ -1,13 +1,10 @@
 -- Where the sticker at a place began, and its letter in the facelet text.
 use Rattle.niss_cube.proofs.Words.{◌≡◌, ℕ, ◌+◌, ◌%◌, ◌<◌, refl, sym, ◌∙◌, ap, List, [], ◌∷◌, Bool, true, false, ◌||◌, if◌then◌else◌}
 use Rattle.niss_cube.proofs.Words.{list_all, list_any, Any-from_list_any, Place, same_place, is_place, is_corner, is_edge, places}
-use Rattle.niss_cube.proofs.Words.{letter_of, letter_at, and_left, and_right, same_place_is, same_place_of}
-use Rattle.std.proofs.lemmas.List.Folds.{list_any-from_Any}
-use Rattle.niss_cube.proofs.CubieLists.{CubieLists, Valid, map_lists}
-use Rattle.niss_cube.proofs.CubieKinds.{Kind, count, facelets, at, home_at, turn_at, stand, kind_place, facelet_kind, origin, centre_stays}
-use Rattle.niss_cube.proofs.CubieKinds.{one_to_one}
-use Rattle.niss_cube.proofs.Each.{listed}
-use Rattle.niss_moves.proofs.CallerLemmas.{all_places}
+use Rattle.niss_cube.proofs.Words.{letter_of, letter_at, and_left, and_right, same_place_is, same_place_of, list_any-from_Any, listed}
+use Rattle.niss_cube.proofs.Words.{all_places}
+use Rattle.niss_cube.proofs.CubieKinds.{CubieLists, Valid, map_lists, Kind, count, facelets, at, home_at, turn_at, stand, kind_place}
+use Rattle.niss_cube.proofs.CubieKinds.{facelet_kind, origin, centre_stays, one_to_one}
 
 -- the only place from which e brings a sticker to q has this letter, and there is one
 letter_of-only : (e : Place → Place) (q : Place) (letter : ℕ) (ps : List Place) → list_all is_place ps ≡ true → ((p : Place) → is_place p ≡ true → e p ≡ q → letter_at p ≡ letter) → list_any (λ p. same_place (e p) q) ps ≡ true → letter_of e ps q ≡ letter

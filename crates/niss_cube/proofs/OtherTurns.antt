@@ -1,8 +1,7 @@
 -- A turn that is none of a step's brings each cube on which the step may start to one on which it may not.
 use Rattle.niss_cube.proofs.Words.{Fact, Yes, When, Turns, Holds, holds, tested, ◌≡◌, refl, ap, ◌∙◌, sym, true, Option, None, Some}
 use Rattle.niss_cube.proofs.Words.{Contains, IsTrue, Contains-from_any, turned, Axis, Ud, Rl, Fb, Turn, Cube, Flip, every_turn, every_face}
-use Rattle.niss_cube.proofs.Words.{every_power, map_of, Kept, is_kept, flip_set, start_of, turns_of, may_start}
-use Rattle.niss_cube.specs.StepLaws.{OtherTurnsLeaveStart}
+use Rattle.niss_cube.proofs.Words.{every_power, map_of, Kept, is_kept, flip_set, start_of, turns_of, may_start, OtherTurnsLeaveStart}
 use Rattle.niss_cube.proofs.KeptSets.{sets_are_places}
 use Rattle.niss_cube.proofs.KeptTests.{kept_is_tested}
 use Rattle.niss_cube.proofs.Permutations.{cubes_permute_places, kept_is_equal}

@@ -1,12 +1,10 @@
 -- The map of a cube permutes the places, and a set of places that it keeps is kept both ways.
 use Rattle.niss_cube.proofs.Words.{Yes, Equal, Below, Alike, Both, Numbers, Places, holds, tested, ◌≡◌, ℕ, ◌+◌, ◌-◌, ◌*◌, ◌%◌, ◌<◌, refl}
 use Rattle.niss_cube.proofs.Words.{sym, ◌∙◌, ap, get_or, Bool, true, false, arith, inl, inr, ◌==◌, eq-eqb, eqb_tells, Place, same_place}
-use Rattle.niss_cube.proofs.Words.{is_place, places, facelet, U, index_in, Kept}
-use Rattle.niss_cube.specs.Permutations.{PermutesPlaces, CubesPermutePlaces, KeptIsEqual}
-use Rattle.niss_cube.proofs.CoordinateLaws.{lists_of}
-use Rattle.niss_cube.proofs.CubieLists.{CubieLists, Valid, map_lists}
-use Rattle.niss_cube.proofs.CubieKinds.{Kind, facelets, at, home_at, turn_at, Stand, stand, low, rewound, kind_of, kind_place, facelet_kind}
-use Rattle.niss_cube.proofs.CubieKinds.{Located, located, origin, centre_stays, map_place, one_to_one}
+use Rattle.niss_cube.proofs.Words.{is_place, places, facelet, U, index_in, Kept, PermutesPlaces, CubesPermutePlaces, KeptIsEqual}
+use Rattle.niss_cube.proofs.CubieKinds.{lists_of, CubieLists, Valid, map_lists, Kind, facelets, at, home_at, turn_at, Stand, stand, low}
+use Rattle.niss_cube.proofs.CubieKinds.{rewound, kind_of, kind_place, facelet_kind, Located, located, origin, centre_stays, map_place}
+use Rattle.niss_cube.proofs.CubieKinds.{one_to_one}
 use Rattle.niss_cube.proofs.Sums.{below, below_same, below_permuted, eqb-other, one_if, one_of, below_all_same, one_if-at_most}
 
 module _ (c : CubieLists) (v : Valid c) where

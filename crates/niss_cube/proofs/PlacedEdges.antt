@@ -1,7 +1,6 @@
 -- The steps of the loop that places the edges of a slice.
 use Rattle.niss_cube.proofs.Words.{refl, sym, ◌∙◌, ap, subst, arith, ◌≡◌, ℕ, suc, ◌+◌, ◌-◌, ◌<◌, List, ◌∷◌, ◌++◌, length, get_or, set, take}
-use Rattle.niss_cube.proofs.Words.{drop, reverse, Bool, true, false, length-set, get_or-reverse, drop-cons, edges_at}
-use Rattle.std.proofs.Math.Seq.{drop-length}
+use Rattle.niss_cube.proofs.Words.{drop, reverse, Bool, true, false, length-set, get_or-reverse, drop-cons, edges_at, drop-length}
 use Rattle.niss_cube.proofs.WrittenLists.{one_more, all_written}
 
 -- what the loop keeps: the edges placed and those still to come are those of the occupied places

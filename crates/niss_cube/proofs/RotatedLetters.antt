@@ -2,9 +2,7 @@
 use Rattle.niss_cube.proofs.Words.{◌≡◌, ℕ, ◌<◌, refl, sym, ◌∙◌, ap, List, [], ◌∷◌, length, get_or, if◌then◌else◌, get_or-map, Place}
 use Rattle.niss_cube.proofs.Words.{same_place, places, facelet, effect, moved_by, to_top, rotation_if, letter_at, letter_of, letters, Token}
 use Rattle.niss_cube.proofs.Words.{U, place_at, same_truth, same_place_is, same_place_of, effect-append, inverse_after, inverse_before}
-use Rattle.niss_moves.specs.Effects.{inverse_token}
-use Rattle.niss_moves.specs.Rotations.{about_vertical, spelling}
-use Rattle.niss_moves.specs.declared.rotation.Rotation.{Rotation}
+use Rattle.niss_cube.proofs.Words.{inverse_token, about_vertical, spelling, Rotation}
 use Rattle.niss_cube.proofs.FaceletLetters.{letters-is}
 
 same_place-moved : (m : Token) (p q : Place) → same_place (moved_by m p) q ≡ same_place p (moved_by (inverse_token m) q)

@@ -3,14 +3,10 @@ use Rattle.niss_cube.proofs.Words.{corner_facelets, Equal, Numbers, holds, teste
 use Rattle.niss_cube.proofs.Words.{◌<◌, List, [], ◌∷◌, length, get_or, map, drop, Bool, true, false, ◌&&◌, ◌==◌, nat_le, list_any}
 use Rattle.niss_cube.proofs.Words.{range_with_len, eqb-true, eq-eqb, eqb_tells, ext_get_or, get_or-map, length-map, Any-from_list_any}
 use Rattle.niss_cube.proofs.Words.{Place, same_place, SameMap, U, facelet, index_in, row_at, edge_facelets, and_left, and_right, and_both}
-use Rattle.niss_cube.proofs.Words.{same_truth, same_place_is, same_place_of}
-use Rattle.std.proofs.lemmas.List.{get_or_default}
-use Rattle.std.proofs.lemmas.List.Folds.{list_any_at}
-use Rattle.std.proofs.lemmas.List.FromFn.{get_or-range_with_len, length-range_with_len}
-use Rattle.niss_cube.specs.Coordinates.{firsts, brings, orientations, occupied}
-use Rattle.niss_cube.proofs.CubieLists.{CubieLists, Valid, map_lists}
-use Rattle.niss_cube.proofs.CubieKinds.{Kind, Corners, Edges, count, facelets, rows, at, home_at, turn_at, turns, place_of, stand, stands}
-use Rattle.niss_cube.proofs.CubieKinds.{stands-at, unturned, some_facelet, same_facelet, shown_at}
+use Rattle.niss_cube.proofs.Words.{same_truth, same_place_is, same_place_of, get_or_default, list_any_at, get_or-range_with_len}
+use Rattle.niss_cube.proofs.Words.{length-range_with_len, firsts, brings, orientations, occupied}
+use Rattle.niss_cube.proofs.CubieKinds.{CubieLists, Valid, map_lists, Kind, Corners, Edges, count, facelets, rows, at, home_at, turn_at}
+use Rattle.niss_cube.proofs.CubieKinds.{turns, place_of, stand, stands, stands-at, unturned, some_facelet, same_facelet, shown_at}
 use Rattle.niss_cube.proofs.Sums.{eqb-itself, eqb-other}
 
 -- whether a test passes at a number below n

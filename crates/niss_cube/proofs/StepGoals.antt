@@ -1,9 +1,8 @@
 -- The goals of the steps: what a step can reach keeps its start.
 use Rattle.niss_cube.proofs.Words.{◌≡◌, refl, Bool, true, false, Option, Some, list_all, Axis, Ud, Rl, Fb, Goal, Domino, Step, Eofb, Eorl}
 use Rattle.niss_cube.proofs.Words.{Eoud, DrudEofb, DrrlEofb, DrudEorl, DrfbEorl, DrrlEoud, DrfbEoud, Eo, DrEofb, DrEorl, DrEoud, start_of}
-use Rattle.niss_cube.proofs.Words.{goals_of, at_member}
+use Rattle.niss_cube.proofs.Words.{goals_of, at_member, DominoKeepsStart}
 use Rattle.niss_cube.specs.Names.{Edges}
-use Rattle.niss_cube.specs.StepLaws.{DominoKeepsStart}
 
 abbrev keeps : Option Axis → Goal → Bool
 keeps _ (Edges _) = true

@@ -1,10 +1,10 @@
 -- Whether a step may start and is reached, over maps of the places.
 use Rattle.niss_cube.proofs.Words.{◌≡◌, refl, sym, Bool, true, ◌&&◌, ◌||◌, List, [], ◌∷◌, Option, None, Some, Contains, IsTrue, list_any}
 use Rattle.niss_cube.proofs.Words.{option_map_or, Place, SameMap, turned, Axis, Turn, Goal, Domino, Flip, Twist, Slice, ArePlaces, is_kept}
-use Rattle.niss_cube.proofs.Words.{flip_set, twist_set, slice_set, start_of, goals_of, turns_of, may_start, same_truth}
+use Rattle.niss_cube.proofs.Words.{flip_set, twist_set, slice_set, start_of, goals_of, turns_of, may_start, same_truth, reached}
+use Rattle.niss_cube.proofs.Words.{StartIsKept, StepsSeePlaces}
 use Rattle.niss_cube.specs.Names.{Edges}
-use Rattle.niss_cube.specs.Steps.{holds, reached}
-use Rattle.niss_cube.specs.StepLaws.{StartIsKept, StepsSeePlaces}
+use Rattle.niss_cube.specs.Steps.{holds}
 use Rattle.niss_cube.proofs.KeptTests.{kept_is_tested, kept_same}
 use Rattle.niss_cube.proofs.KeptSets.{sets_are_places}
 use Rattle.niss_cube.proofs.StepTurns.{turns_from, turn_keeps}

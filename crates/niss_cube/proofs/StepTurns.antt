@@ -2,13 +2,8 @@
 use Rattle.niss_cube.proofs.Words.{Fact, Yes, When, Places, Among, Holds, holds, tested, ◌≡◌, ◌≤◌, refl, ◌∙◌, ap, Bool, true, not, ◌&&◌}
 use Rattle.niss_cube.proofs.Words.{◌||◌, List, length, Option, None, Some, arith, Contains, map, list_any, option_map_or, Contains-from_any}
 use Rattle.niss_cube.proofs.Words.{is_place, turned, inverse_turn, Axis, Ud, Rl, Fb, Half, Turn, Step, Kept, flip_set, start_of, turns_of}
-use Rattle.niss_cube.proofs.Words.{and_left, and_right}
-use Rattle.std.specs.Prelude.{flat_map, filter}
-use Rattle.niss_moves.specs.Turn.{same_face}
-use Rattle.niss_moves.specs.Canonical.{face_order, turn_order}
-use Rattle.niss_cube.specs.Steps.{powers_from, is_face_of}
-use Rattle.niss_cube.specs.StepLaws.{InversesOfSteps, StepTurnsInOrder, StepTurnsAreCounted}
-use Rattle.niss_moves.proofs.CallerLemmas.{same_face_is, same_power, same_power_is}
+use Rattle.niss_cube.proofs.Words.{and_left, and_right, flat_map, filter, same_face, face_order, turn_order, powers_from, is_face_of}
+use Rattle.niss_cube.proofs.Words.{InversesOfSteps, StepTurnsInOrder, StepTurnsAreCounted, same_face_is, same_power, same_power_is}
 
 -- the turns of a step from its start
 abbrev pub turns_from : Option Axis → List Turn

@@ -1,8 +1,7 @@
 -- Sums over the numbers below a bound, and over the places of a permutation.
 use Rattle.niss_cube.proofs.Words.{refl, sym, ◌∙◌, ap, arith, inl, inr, ◌≡◌, ℕ, zero, suc, ◌+◌, ◌*◌, ◌<◌, ◌≤◌, List, [], ◌∷◌, length}
-use Rattle.niss_cube.proofs.Words.{get_or, Bool, true, false, ◌==◌, sum_by-cons, eqb-true, eq-eqb, false_from_ne_true, eqb_tells}
-use Rattle.std.specs.Prelude.{cond}
-use Rattle.std.specs.List.{sum_by}
+use Rattle.niss_cube.proofs.Words.{get_or, Bool, true, false, ◌==◌, sum_by-cons, eqb-true, eq-eqb, false_from_ne_true, eqb_tells, cond}
+use Rattle.niss_cube.proofs.Words.{sum_by}
 
 abbrev pub below : ℕ → (ℕ → ℕ) → ℕ
 below zero f = 0

@@ -2,15 +2,10 @@
 use Rattle.niss_cube.proofs.Words.{Alike, Both, Places, Faces, holds, tested, refl, sym, ◌∙◌, ap, subst, arith, inl, inr, ◌≡◌, ℕ, ◌+◌, ◌<◌}
 use Rattle.niss_cube.proofs.Words.{List, [], ◌∷◌, length, get_or, set, true, slice_index, length-set, eqb_tells, Place, is_place, turned}
 use Rattle.niss_cube.proofs.Words.{Face, U, D, R, L, F, B, Quarter, Half, Counter, Turn, Cube, Coordinate, map_of, count_of, number_of}
-use Rattle.niss_cube.proofs.Words.{standard_axis, number_after, IsCube, AreRowsAt, AreQuarters, IsQuarter, every_face}
-use Rattle.std.proofs.lemmas.List.{get_or-set_same, get_or-set_other}
-use Rattle.niss_moves.specs.Indices.{face_index, power_index}
-use Rattle.niss_cube.specs.Names.{Power}
-use Rattle.niss_cube.specs.AfterTurn.{IsCoordinate}
-use Rattle.niss_cube.specs.TableRows.{entry_at}
-use Rattle.niss_cube.proofs.CoordinateLaws.{are_coordinates, cube-itself, lists_of, turned_is_cube}
-use Rattle.niss_cube.proofs.CubieKinds.{map_place}
-use Rattle.niss_moves.proofs.CallerLemmas.{turn}
+use Rattle.niss_cube.proofs.Words.{standard_axis, number_after, IsCube, AreRowsAt, AreQuarters, IsQuarter, every_face, get_or-set_same}
+use Rattle.niss_cube.proofs.Words.{get_or-set_other, face_index, power_index, Power, IsCoordinate, entry_at, turn}
+use Rattle.niss_cube.proofs.CubieKinds.{lists_of, map_place}
+use Rattle.niss_cube.proofs.CoordinateLaws.{are_coordinates, cube-itself, turned_is_cube}
 
 abbrev after_of : Coordinate → ℕ → Turn → ℕ
 after_of k = number_after k (standard_axis k)

@@ -1,9 +1,7 @@
 -- The steps of the loop that writes the orientations with a number.
 use Rattle.niss_cube.proofs.Words.{number, sym, ◌∙◌, ap, subst, arith, append_assoc, ◌≡◌, ℕ, suc, ◌+◌, ◌-◌, ◌/◌, ◌%◌, ◌<◌, List, [], ◌∷◌}
 use Rattle.niss_cube.proofs.Words.{◌++◌, length, set, take, drop, sum, length-set, append-nil, sum_by-cons, take-length, digits_of_number}
-use Rattle.niss_cube.proofs.Words.{orientations_of_number}
-use Rattle.std.proofs.lemmas.Grind.{drop-set_at}
-use Rattle.std.proofs.Math.Seq.{take-suc-set}
+use Rattle.niss_cube.proofs.Words.{orientations_of_number, drop-set_at, take-suc-set}
 use Rattle.niss_cube.proofs.Orientations.{Base}
 
 -- the last digits of n

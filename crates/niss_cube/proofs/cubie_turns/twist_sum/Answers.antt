@@ -1,5 +1,4 @@
-use Rattle.niss_cube.proofs.Words.{Equal, Numbers, holds, tested, ◌%◌, refl, get_or, arith}
-use Rattle.niss_cube.specs.declared.cubie_turns.TheConstants.{TWIST_SUMS}
+use Rattle.niss_cube.proofs.Words.{Equal, Numbers, holds, tested, ◌%◌, refl, get_or, arith, TWIST_SUMS}
 use Rattle.niss_cube.proofs.cubie_turns.twist_sum.Goals as goal
 
 pub returns : goal.returns

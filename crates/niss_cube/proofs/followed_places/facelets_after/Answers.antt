@@ -1,5 +1,4 @@
-use Rattle.niss_cube.proofs.Words.{ap, sym, subst, ◌∙◌, ◌++◌, List, ℕ, effect, inverse, letters, AreMoved}
-use Rattle.niss_moves.proofs.CallerLemmas.{inverse_whole}
+use Rattle.niss_cube.proofs.Words.{ap, sym, subst, ◌∙◌, ◌++◌, List, ℕ, effect, inverse, letters, AreMoved, inverse_whole}
 use Rattle.niss_cube.proofs.FollowedLetters.{moved-twice}
 use Rattle.niss_cube.proofs.followed_places.facelets_after.Goals as goal
 

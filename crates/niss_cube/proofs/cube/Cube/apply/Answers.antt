@@ -1,5 +1,4 @@
-use Rattle.niss_cube.proofs.Words.{◌+◌, ◌∙◌, ap, sym, drop, at_drop_more, map_of, effect_of_turns}
-use Rattle.std.proofs.lemmas.List.{at_drop_all}
+use Rattle.niss_cube.proofs.Words.{◌+◌, ◌∙◌, ap, sym, drop, at_drop_more, map_of, effect_of_turns, at_drop_all}
 use Rattle.niss_cube.proofs.cube.Cube.apply.Goals as goal
 
 pub loop-turn-preserved : goal.loop-turn-preserved

@@ -1,6 +1,5 @@
 use Rattle.niss_cube.proofs.Words.{◌≡◌, arith}
-use Rattle.niss_cube.proofs.CoordinateLaws.{lists_of}
-use Rattle.niss_cube.proofs.CubieLists.{CubieLists, lists_path, tabulated-is}
+use Rattle.niss_cube.proofs.CubieKinds.{lists_of, CubieLists, lists_path, tabulated-is}
 use Rattle.niss_cube.proofs.MovedCubies.{Under, moved, made}
 use Rattle.niss_cube.proofs.cube.Cube.renamed.Goals.{After-renamed-2}
 use Rattle.niss_cube.proofs.cube.Cube.renamed.Goals as goal

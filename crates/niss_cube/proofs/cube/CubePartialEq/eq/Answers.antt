@@ -1,4 +1,4 @@
-use Rattle.niss_cube.proofs.CubieLists.{CubieLists}
+use Rattle.niss_cube.proofs.CubieKinds.{CubieLists}
 use Rattle.niss_cube.proofs.EqualCubes.{same_lists}
 use Rattle.niss_cube.proofs.cube.CubePartialEq.eq.Goals as goal
 

@@ -1,5 +1,4 @@
-use Rattle.niss_cube.proofs.Words.{◌∙◌, ap, sym, get_or, effect, inverse, place_at}
-use Rattle.niss_moves.proofs.CallerLemmas.{inverse_last}
+use Rattle.niss_cube.proofs.Words.{◌∙◌, ap, sym, get_or, effect, inverse, place_at, inverse_last}
 use Rattle.niss_cube.proofs.followed_places.FollowedPlaces.follow_back.Goals as goal
 
 pub loop-last-preserved : goal.loop-last-preserved

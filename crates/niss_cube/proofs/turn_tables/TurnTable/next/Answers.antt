@@ -1,5 +1,4 @@
-use Rattle.niss_cube.proofs.Words.{ℕ, ◌<◌, sym, ◌∙◌, ap, subst, count_of, number_after}
-use Rattle.niss_cube.specs.TableRows.{AreRows}
+use Rattle.niss_cube.proofs.Words.{ℕ, ◌<◌, sym, ◌∙◌, ap, subst, count_of, number_after, AreRows}
 use Rattle.niss_cube.proofs.CoordinateLaws.{are_coordinates}
 use Rattle.niss_cube.proofs.turn_tables.TurnTable.next.Goals as goal
 

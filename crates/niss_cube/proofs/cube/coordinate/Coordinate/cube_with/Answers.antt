@@ -1,5 +1,5 @@
 use Rattle.niss_cube.proofs.Words.{◌≡◌, ◌∙◌, refl, sym, subst, number_of, standard_axis, flips_of_number, twists_of_number}
-use Rattle.niss_cube.proofs.CubieLists.{CubieLists, Valid, map_lists}
+use Rattle.niss_cube.proofs.CubieKinds.{CubieLists, Valid, map_lists}
 use Rattle.niss_cube.proofs.Codes.{cubies_of, cubies_with, cubies_with-valid, cubies_with-code}
 use Rattle.niss_cube.proofs.CoordinateLaws.{standard-code}
 use Rattle.niss_cube.proofs.cube.coordinate.Coordinate.cube_with.Goals.{in-Flip, in-Twist, in-Slice}

@@ -1,6 +1,7 @@
 use Rattle.niss_cube.proofs.Words.{◌<◌, ◌∙◌, sym, arith, take, number, Flip, Twist, Slice}
 use Rattle.niss_cube.proofs.Codes.{code-below}
-use Rattle.niss_cube.proofs.CoordinateLaws.{lists_of, standard-code}
+use Rattle.niss_cube.proofs.CubieKinds.{lists_of}
+use Rattle.niss_cube.proofs.CoordinateLaws.{standard-code}
 use Rattle.niss_cube.proofs.cube.coordinate.Coordinate.standard_number.Goals as goal
 
 pub number_from_digits-requires-clause-fits : goal.number_from_digits-requires-clause-fits

@@ -1,8 +1,8 @@
 use Rattle.niss_cube.proofs.Words.{◌≡◌, ◌<◌, ◌∙◌, sym, ap, arith, take, number, rank, Flip, Twist, Slice}
 use Rattle.niss_cube.proofs.CoordinateValues.{slice_occupied}
-use Rattle.niss_cube.proofs.CubieLists.{tabulated-is}
+use Rattle.niss_cube.proofs.CubieKinds.{tabulated-is, lists_of}
 use Rattle.niss_cube.proofs.Codes.{code-below}
-use Rattle.niss_cube.proofs.CoordinateLaws.{lists_of, standard-turned}
+use Rattle.niss_cube.proofs.CoordinateLaws.{standard-turned}
 use Rattle.niss_cube.proofs.MovedCubies.{By, moved, moved-valid}
 use Rattle.niss_cube.proofs.cube.coordinate.Coordinate.standard_number_after.Goals as goal
 
