@@ -1,7 +1,6 @@
 -- The cubies as lists, and what turns do to them.
-use Rattle.niss_cube.proofs.Words.{Cube, ◌≡◌, ◌<◌, ◌∙◌, sym, length, get_or, arith, ℕ, ◌+◌, ◌%◌, List, map, slice_index, range_with_len}
-use Rattle.niss_cube.proofs.Words.{ext_get_or, Place, sticker_map, EachIndex, get_or-map-range_with_len, length-map-range_with_len}
-use Rattle.niss_cube.proofs.Words.{AreCubies}
+use Rattle.niss_cube.proofs.Words.{Cube, ◌≡◌, ◌<◌, ◌∙◌, sym, length, get_or, arith, ℕ, List, map, slice_index, range_with_len, ext_get_or}
+use Rattle.niss_cube.proofs.Words.{Place, sticker_map, EachIndex, get_or-map-range_with_len, length-map-range_with_len, AreCubies}
 
 pub record CubieLists : Type 0 where
   pub corners : List ℕ

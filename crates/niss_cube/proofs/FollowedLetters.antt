@@ -1,6 +1,6 @@
 -- The facelet text from where the stickers that stand at the first facelets began.
-use Rattle.niss_cube.proofs.Words.{Fact, Yes, Equal, Below, Alike, Both, Numbers, Holds, holds, tested, ◌≡◌, ℕ, ◌<◌, refl, sym, ◌∙◌, ap}
-use Rattle.niss_cube.proofs.Words.{List, [], ◌++◌, length, get_or, true, slice_index, Place, is_place, places, facelet, effect, inverse}
+use Rattle.niss_cube.proofs.Words.{moved, Fact, Yes, Equal, Below, Alike, Both, Numbers, Holds, holds, tested, ◌≡◌, ℕ, ◌<◌, refl, sym, ◌∙◌}
+use Rattle.niss_cube.proofs.Words.{ap, List, [], ◌++◌, length, get_or, true, slice_index, Place, is_place, places, facelet, effect, inverse}
 use Rattle.niss_cube.proofs.Words.{letter_at, letter_of, letters, U, Token, place_at, AreMoved, effect-append, inverse_after}
 use Rattle.niss_cube.proofs.Words.{inverse_before, FIRST_FACELETS, CUBIES, FACELETS, CUBIE_LETTERS}
 use Rattle.niss_cube.proofs.CubieNeighbours.{next, after, effect-place, effect-after}

@@ -1,7 +1,7 @@
 -- Each number below the choices is that of its places.
-use Rattle.niss_cube.proofs.Words.{refl, sym, ◌∙◌, ap, arith, inl, inr, ◌≡◌, ℕ, zero, suc, ◌+◌, ◌-◌, ◌<◌, ◌≤◌, List, [], ◌∷◌, ◌++◌, length}
-use Rattle.niss_cube.proofs.Words.{get_or, set, take, Bool, true, false, nat_lt, ltb-true, false_from_ne_true, length-set, choose, rank}
-use Rattle.niss_cube.proofs.Words.{occupied_of_number, lt-ltb, leb_tells, CHOICES}
+use Rattle.niss_cube.proofs.Words.{occupied, refl, sym, ◌∙◌, ap, arith, inl, inr, ◌≡◌, ℕ, zero, suc, ◌+◌, ◌-◌, ◌<◌, ◌≤◌, List, [], ◌∷◌}
+use Rattle.niss_cube.proofs.Words.{◌++◌, length, get_or, set, take, Bool, true, false, nat_lt, ltb-true, false_from_ne_true, length-set}
+use Rattle.niss_cube.proofs.Words.{choose, rank, occupied_of_number, lt-ltb, leb_tells, CHOICES}
 use Rattle.niss_cube.proofs.Numbers.{filled}
 use Rattle.niss_cube.proofs.SliceSteps.{choices-are}
 use Rattle.niss_cube.proofs.WrittenLists.{one_more, all_written}
@@ -34,9 +34,6 @@ numbered (suc n) (suc k) i l = step n k i l (numbered n k i) (numbered n (suc k)
 pub record Written (index met wanted rest : ℕ) (occupied : List Bool) : Type 0 where
   pub places : length occupied ≡ 12
   pub is : (n : ℕ) → n + met ≡ 12 → take met occupied ++ occupied_of_number n wanted rest ≡ occupied_of_number 12 4 index
-
-pub written-start : (index : ℕ) (occupied : List Bool) → length occupied ≡ 12 → Written index 0 4 index occupied
-written-start index occupied l = record { places = l; is = λ n e. ap (λ m. occupied_of_number m 4 index) (let m : n ≡ 12 = omega arith in m) }
 
 written-step : (index met w rest w' rest' : ℕ) (b : Bool) (occupied : List Bool) → met < 12 →
     ((n : ℕ) → n + (met + 1) ≡ 12 → occupied_of_number (suc n) w rest ≡ b ∷ occupied_of_number n w' rest') →

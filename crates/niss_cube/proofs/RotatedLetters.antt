@@ -1,5 +1,5 @@
 -- The letters of a map that is followed by a move, and by a rotation of the whole cube.
-use Rattle.niss_cube.proofs.Words.{◌≡◌, ℕ, ◌<◌, refl, sym, ◌∙◌, ap, List, [], ◌∷◌, length, get_or, if◌then◌else◌, get_or-map, Place}
+use Rattle.niss_cube.proofs.Words.{moved, ◌≡◌, ℕ, ◌<◌, refl, sym, ◌∙◌, ap, List, [], ◌∷◌, length, get_or, if◌then◌else◌, get_or-map, Place}
 use Rattle.niss_cube.proofs.Words.{same_place, places, facelet, effect, moved_by, to_top, rotation_if, letter_at, letter_of, letters, Token}
 use Rattle.niss_cube.proofs.Words.{U, place_at, same_truth, same_place_is, same_place_of, effect-append, inverse_after, inverse_before}
 use Rattle.niss_cube.proofs.Words.{inverse_token, about_vertical, spelling, Rotation}

@@ -3,9 +3,6 @@ use Rattle.niss_cube.proofs.RotatedLetters.{moved_text}
 use Rattle.niss_moves.specs.declared.token.Token.TheVariants as token
 use Rattle.niss_cube.proofs.rotated_text.rotate.Goals as goal
 
-pub bounds-text-sources : goal.bounds-text-sources
-bounds-text-sources c = omega (arith, c.positions_after-sources.ensures.in_range c.loop-position.position (omega arith))
-
 pub returns : goal.returns
 returns c = λ e h.
     moved_text (token.Rotation c.args.axis c.args.power) e c.args.text.now c.positions_after-sources.result.now c.loop-position.letter-items h c.loop-position-test.array_long

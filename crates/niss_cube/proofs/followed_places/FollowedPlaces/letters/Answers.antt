@@ -1,4 +1,4 @@
-use Rattle.niss_cube.proofs.Words.{arith}
+use Rattle.niss_cube.proofs.Words.{moved, arith}
 use Rattle.niss_cube.proofs.FollowedLetters.{is_facelet, followed_letters}
 use Rattle.niss_cube.proofs.followed_places.FollowedPlaces.letters.Goals as goal
 

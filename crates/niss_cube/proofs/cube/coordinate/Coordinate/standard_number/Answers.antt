@@ -9,11 +9,6 @@ number_from_digits-requires-clause-fits c =
     let l : number 2 (take 11 c.args.cube.now.flips) < 2048 = code-below Flip (lists_of c.args.cube.now) c.args.cube.now.are_cubies in
     omega arith
 
-pub number_from_digits-requires-in-Twist-clause-fits : goal.number_from_digits-requires-in-Twist-clause-fits
-number_from_digits-requires-in-Twist-clause-fits c =
-    let l : number 3 (take 7 c.args.cube.now.twists) < 2187 = code-below Twist (lists_of c.args.cube.now) c.args.cube.now.are_cubies in
-    omega arith
-
 pub returns-in-Flip : goal.returns-in-Flip
 returns-in-Flip c = rw c.in-Flip.is (c.number_from_digits.ensures ∙ sym (standard-code Flip (lists_of c.args.cube.now) c.args.cube.now.are_cubies))
 
