@@ -1,7 +1,7 @@
 -- The cubies, the maps and the turns of the cube as it is renamed.
 use Rattle.niss_cube.proofs.Words.{turn, ◌≡◌, refl, sym, ◌∙◌, ap, true, Place, is_place, SameMap, turned, renamed_turn, inverse_turn, Turn}
 use Rattle.niss_cube.proofs.Words.{Renaming, renamed_by, every_turn, every_face, every_power, Yes, Alike, Renamings, Turns, Places, holds}
-use Rattle.niss_cube.proofs.Words.{tested, face_by, rotated, rotated_back}
+use Rattle.niss_cube.proofs.Words.{face_by, rotated, rotated_back}
 use Rattle.niss_cube.proofs.CubieKinds.{CubieLists, Valid, map_lists, map_place}
 use Rattle.niss_cube.proofs.MovedCubies.{Motion, Under, moved, moved-valid, moved-map}
 
@@ -19,29 +19,24 @@ pub record IsRenaming (rename : (Place → Place) → Place → Place) (turn : T
 
 -- a rotation of the whole cube keeps the places, and is taken back
 pub back-place : (v : Renaming) (q : Place) → is_place q ≡ true → is_place (rotated_back v q) ≡ true
-unfolding tested
 back-place = holds (Renamings λ v. Places λ q. Yes (is_place (rotated_back v q))) refl
 
 pub out-back : (v : Renaming) (q : Place) → is_place q ≡ true → rotated v (rotated_back v q) ≡ q
-unfolding tested
 out-back = holds (Renamings λ v. Places λ q. Alike (rotated v (rotated_back v q)) q) refl
 
 pub back-out : (v : Renaming) (q : Place) → is_place q ≡ true → rotated_back v (rotated v q) ≡ q
-unfolding tested
 back-out = holds (Renamings λ v. Places λ q. Alike (rotated_back v (rotated v q)) q) refl
 
 -- under a renaming a turn becomes that of the face to which the face is brought
 renamed-turn : (v : Renaming) (t : Turn) (q : Place) → is_place q ≡ true → rotated v (turned t q) ≡ turned (renamed_turn (face_by v) t) (rotated v q)
-unfolding tested every_turn every_face every_power
+unfolding every_turn every_face every_power
 renamed-turn = holds (Renamings λ v. Turns λ t. Places λ q. Alike (rotated v (turned t q)) (turned (renamed_turn (face_by v) t) (rotated v q))) refl
 
 -- A rotation made three times takes it back: so the cubies that become c under a renaming are c renamed thrice.
 thrice : (v : Renaming) (q : Place) → is_place q ≡ true → rotated v (rotated v (rotated v q)) ≡ rotated_back v q
-unfolding tested
 thrice = holds (Renamings λ v. Places λ q. Alike (rotated v (rotated v (rotated v q))) (rotated_back v q)) refl
 
 thrice-back : (v : Renaming) (q : Place) → is_place q ≡ true → rotated_back v (rotated_back v (rotated_back v (rotated_back v q))) ≡ q
-unfolding tested
 thrice-back = holds (Renamings λ v. Places λ q. Alike (rotated_back v (rotated_back v (rotated_back v (rotated_back v q)))) q) refl
 
 renamed_from : (v : Renaming) (c : CubieLists) → Valid c → (w : CubieLists) × Valid w × SameMap (map_lists c) (renamed_by v (map_lists w))

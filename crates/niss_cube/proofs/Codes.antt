@@ -1,9 +1,9 @@
 -- A coordinate as a code of the cubies that it depends on: each number has cubies of its own, and the code after a turn
 -- depends on the code alone.
-use Rattle.niss_cube.proofs.Words.{Equal, Below, Numbers, holds, tested, [], ◌≡◌, ℕ, ◌<◌, refl, sym, ap, List, get_or, take, reverse}
-use Rattle.niss_cube.proofs.Words.{count_by, ◌==◌, Place, SameMap, turned, Turn, Axis, Coordinate, Flip, Twist, Slice, number, rank}
-use Rattle.niss_cube.proofs.Words.{flip_of, twist_of, slice_of, number_of, count_of, renamed_for, standard_axis, turn_for, twists_home}
-use Rattle.niss_cube.proofs.Words.{flips_home, flips_of_number, twists_of_number, edges_of_number, number_after, corners_home, edges_home}
+use Rattle.niss_cube.proofs.Words.{Equal, Below, Numbers, holds, [], ◌≡◌, ℕ, ◌<◌, refl, sym, ap, List, get_or, take, reverse, count_by}
+use Rattle.niss_cube.proofs.Words.{◌==◌, Place, SameMap, turned, Turn, Axis, Coordinate, Flip, Twist, Slice, number, rank, flip_of}
+use Rattle.niss_cube.proofs.Words.{twist_of, slice_of, number_of, count_of, renamed_for, standard_axis, turn_for, twists_home, flips_home}
+use Rattle.niss_cube.proofs.Words.{flips_of_number, twists_of_number, edges_of_number, number_after, corners_home, edges_home}
 use Rattle.niss_cube.proofs.CubieKinds.{CubieLists, Valid, map_lists, Corners, Edges}
 use Rattle.niss_cube.proofs.ShownCubies.{turns_shown, slice_shown}
 use Rattle.niss_cube.proofs.CoordinateValues.{slice-below, slice_occupied, slice_occupied-filled}
@@ -13,7 +13,6 @@ use Rattle.niss_cube.proofs.SliceCodes.{ArePlaced, of_number-placed, of_number-r
 use Rattle.niss_cube.proofs.MovedCubies.{By, moved}
 
 edges_home-are : ArePlaced edges_home
-unfolding tested
 edges_home-are = record {
   places = refl;
   each = holds (Numbers 12 λ h. Equal (count_by (λ x. x == h) edges_home) 1) refl;
@@ -31,7 +30,6 @@ abbrev pub cubies_of : (twists edges flips : List ℕ) → CubieLists
 cubies_of twists edges flips = record { corners = corners_home; twists = twists; edges = edges; flips = flips }
 
 cubies_of-valid : (twists edges flips : List ℕ) → AreOriented 3 7 twists → ArePlaced edges → AreOriented 2 11 flips → Valid (cubies_of twists edges flips)
-unfolding tested
 cubies_of-valid twists edges flips t e f =
     record {
       corner_places = refl;

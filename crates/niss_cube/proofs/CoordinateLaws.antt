@@ -1,6 +1,6 @@
 -- Flips, twists and slices are coordinates, by their codes.
-use Rattle.niss_cube.proofs.Words.{Alike, Places, Turns, holds, tested, ◌≡◌, ℕ, ◌<◌, refl, sym, ◌∙◌, ap, subst, true, ◌↔◌, Place, is_place}
-use Rattle.niss_cube.proofs.Words.{SameMap, turned, inverse_turn, Turn, Axis, Cube, Coordinate, map_of, Kept, set_of, number_of, count_of}
+use Rattle.niss_cube.proofs.Words.{Alike, Places, Turns, holds, ◌≡◌, ℕ, ◌<◌, refl, sym, ◌∙◌, ap, subst, true, ◌↔◌, Place, is_place, SameMap}
+use Rattle.niss_cube.proofs.Words.{turned, inverse_turn, Turn, Axis, Cube, Coordinate, map_of, Kept, set_of, number_of, count_of}
 use Rattle.niss_cube.proofs.Words.{renamed_for, standard_axis, turn_for, number_after, IsCube, every_turn, every_face, every_power}
 use Rattle.niss_cube.proofs.Words.{TurnedIsCube, AreCoordinates}
 use Rattle.niss_cube.proofs.CubieKinds.{lists_of, cube_of, CubieLists, Valid, map_lists, map_place}
@@ -11,7 +11,7 @@ use Rattle.niss_cube.proofs.KeptSets.{cubies_for, renaming, sets_are_places, zer
 use Rattle.niss_cube.proofs.MovedCubies.{By, moved, moved-map, moved-valid}
 
 turned-inverse_turn : (t : Turn) (q : Place) → is_place q ≡ true → turned (inverse_turn t) (turned t q) ≡ q
-unfolding tested every_turn every_face every_power
+unfolding every_turn every_face every_power
 turned-inverse_turn = holds (Turns λ t. Places λ q. Alike (turned (inverse_turn t) (turned t q)) q) refl
 
 -- cubies turned and turned back have the map that they had

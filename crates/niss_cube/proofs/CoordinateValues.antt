@@ -1,8 +1,7 @@
 -- The digits and the occupied places of a cube's cubies, and the range of their numbers.
-use Rattle.niss_cube.proofs.Words.{Equal, Numbers, holds, tested, refl, sym, ◌∙◌, ap, subst, arith, ◌≡◌, ℕ, zero, suc, ◌+◌, ◌-◌, ◌*◌, ◌<◌}
-use Rattle.niss_cube.proofs.Words.{◌≤◌, List, [], ◌∷◌, length, get_or, map, take, drop, reverse, Bool, true, false, nat_le, ◌==◌}
-use Rattle.niss_cube.proofs.Words.{get_or-reverse, length-reverse, length-map, get_or-map, get_or-take, length-take, drop-cons, choose}
-use Rattle.niss_cube.proofs.Words.{rank}
+use Rattle.niss_cube.proofs.Words.{Equal, Numbers, holds, refl, sym, ◌∙◌, ap, subst, arith, ◌≡◌, ℕ, zero, suc, ◌+◌, ◌-◌, ◌*◌, ◌<◌, ◌≤◌}
+use Rattle.niss_cube.proofs.Words.{List, [], ◌∷◌, length, get_or, map, take, drop, reverse, Bool, true, false, nat_le, ◌==◌, get_or-reverse}
+use Rattle.niss_cube.proofs.Words.{length-reverse, length-map, get_or-map, get_or-take, length-take, drop-cons, choose, rank}
 use Rattle.niss_cube.proofs.CubieKinds.{CubieLists, Valid, Edges, stand}
 use Rattle.niss_cube.proofs.Sums.{below, one_if, below_same, below_permuted, below_front}
 use Rattle.niss_cube.proofs.Numbers.{number_from, Digits, filled, rank-below}
@@ -28,7 +27,6 @@ filled-below (true ∷ os) = omega (arith, filled-below os, below_front (length 
 filled-below (false ∷ os) = omega (arith, filled-below os, below_front (length os) (λ k. one_if (get_or (false ∷ os) k false)))
 
 down-once : (h : ℕ) → h < 12 → below 12 (λ k. one_if (11 - k == h)) ≡ 1
-unfolding tested
 down-once = holds (Numbers 12 λ h. Equal (below 12 (λ k. one_if (11 - k == h))) 1) refl
 
 -- which places, from the last down, hold an edge of the slice

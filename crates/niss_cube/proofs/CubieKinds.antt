@@ -1,7 +1,7 @@
 -- Corners and edges as two kinds of cubies: what holds of both, and where the map of cubies brings their facelets.
-use Rattle.niss_cube.proofs.Words.{Fact, Yes, Same, Equal, Below, Alike, Both, When, Numbers, Places, Records, Holds, holds, tested, refl}
-use Rattle.niss_cube.proofs.Words.{sym, ◌∙◌, ap, arith, inl, inr, ◌≡◌, ℕ, ◌+◌, ◌-◌, ◌%◌, ◌<◌, List, length, get_or, Bool, true, false, ◌⊎◌}
-use Rattle.niss_cube.proofs.Words.{sum, list_any, Place, same_place, is_place, is_corner, is_edge, SameMap, index_in, row_at, facelet_at}
+use Rattle.niss_cube.proofs.Words.{Fact, Yes, Same, Equal, Below, Alike, Both, When, Numbers, Places, Records, Holds, holds, refl, sym, ◌∙◌}
+use Rattle.niss_cube.proofs.Words.{ap, arith, inl, inr, ◌≡◌, ℕ, ◌+◌, ◌-◌, ◌%◌, ◌<◌, List, length, get_or, Bool, true, false, ◌⊎◌, sum}
+use Rattle.niss_cube.proofs.Words.{list_any, Place, same_place, is_place, is_corner, is_edge, SameMap, index_in, row_at, facelet_at}
 use Rattle.niss_cube.proofs.Words.{corner_facelets, edge_facelets, sticker_place, is_true}
 use Rattle.niss_cube.proofs.Once.{times_in, place_in, place_in-found, place_in-is, count_by-times}
 pub use Rattle.niss_cube.proofs.CubieLists.{CubieLists, Valid, map_lists, lists_of, cube_of, lists_path}
@@ -118,16 +118,13 @@ some_facelet Edges = omega arith
 
 -- the sets of places of the kinds
 pub kind_place : (k : Kind) (q : Place) → is_of k q ≡ true → is_place q ≡ true
-unfolding tested
 kind_place Corners = holds (Records λ q. When (is_corner q) (Yes (is_place q))) refl
 kind_place Edges = holds (Records λ q. When (is_edge q) (Yes (is_place q))) refl
 
 pub no_corner : (q : Place) → is_edge q ≡ true → is_corner q ≡ false
-unfolding tested
 no_corner = holds (Records λ q. When (is_edge q) (Same (is_corner q) false)) refl
 
 no_edge : (q : Place) → is_corner q ≡ true → is_edge q ≡ false
-unfolding tested
 no_edge = holds (Records λ q. When (is_corner q) (Same (is_edge q) false)) refl
 
 alike : (j k : Kind) (p q : Place) → is_of j p ≡ true → is_of j q ≡ true → is_of k p ≡ is_of k q
@@ -158,7 +155,6 @@ facelet_fact k = Numbers (count k) λ i. Numbers (facelets k) λ j.
     Both (Equal (row_of k (at k i j)) i) (Both (Equal (index_of k (at k i j)) j) (Yes (is_of k (at k i j))))
 
 found : (k : Kind) → Holds (facelet_fact k)
-unfolding tested
 found Corners = holds (facelet_fact Corners) refl
 found Edges = holds (facelet_fact Edges) refl
 
@@ -177,7 +173,6 @@ located_fact k = Places λ q.
     When (is_of k q) (Both (Below (row_of k q) (count k)) (Both (Below (index_of k q) (facelets k)) (Alike q (at k (row_of k q) (index_of k q)))))
 
 all_located : (k : Kind) → Holds (located_fact k)
-unfolding tested
 all_located Corners = holds (located_fact Corners) refl
 all_located Edges = holds (located_fact Edges) refl
 

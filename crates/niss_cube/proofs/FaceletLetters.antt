@@ -1,8 +1,8 @@
 -- The facelet text, place by place.
-use Rattle.niss_cube.proofs.Words.{false, Fact, Yes, Same, Equal, Below, Alike, Both, Numbers, Holds, holds, tested, refl, ap, sym, ◌∙◌}
-use Rattle.niss_cube.proofs.Words.{arith, ◌≡◌, ℕ, zero, suc, ◌+◌, ◌-◌, ◌%◌, ◌<◌, List, [], ◌∷◌, length, get_or, map, ext_get_or, get_or-map}
-use Rattle.niss_cube.proofs.Words.{length-map, is_place, is_corner, is_edge, Place, U, places, facelet, letter_at, letter_of, letters}
-use Rattle.niss_cube.proofs.Words.{CORNER_LETTERS, EDGE_LETTERS}
+use Rattle.niss_cube.proofs.Words.{false, Fact, Yes, Same, Equal, Below, Alike, Both, Numbers, Holds, holds, refl, ap, sym, ◌∙◌, arith, ◌≡◌}
+use Rattle.niss_cube.proofs.Words.{ℕ, zero, suc, ◌+◌, ◌-◌, ◌%◌, ◌<◌, List, [], ◌∷◌, length, get_or, map, ext_get_or, get_or-map, length-map}
+use Rattle.niss_cube.proofs.Words.{is_place, is_corner, is_edge, Place, U, places, facelet, letter_at, letter_of, letters, CORNER_LETTERS}
+use Rattle.niss_cube.proofs.Words.{EDGE_LETTERS}
 use Rattle.niss_cube.proofs.CubieKinds.{CubieLists, Valid, map_lists, Kind, Corners, Edges, count, facelets, at, home_at, turn_at, Stand}
 use Rattle.niss_cube.proofs.CubieKinds.{stand, low, rewound}
 use Rattle.niss_cube.proofs.Origins.{kind_letter, centre_letter}
@@ -35,7 +35,6 @@ positions =
     []
 
 position-at : (i : ℕ) → i < 54 → Holds (is_position_at (get_or positions i (Centre 0)) (get_or places i (facelet U 5)))
-unfolding tested
 position-at = holds (Numbers 54 λ i. is_position_at (get_or positions i (Centre 0)) (get_or places i (facelet U 5))) refl
 
 -- the letters of each cubie, twice over
@@ -48,7 +47,6 @@ letter_fact k = Numbers (count k) λ h. Numbers (facelets k + facelets k) λ j.
     Equal (get_or (get_or (letters_of k) h []) j 0) (letter_at (at k h (j % facelets k)))
 
 letters-are : (k : Kind) → Holds (letter_fact k)
-unfolding tested
 letters-are Corners = holds (letter_fact Corners) refl
 letters-are Edges = holds (letter_fact Edges) refl
 

@@ -52,7 +52,7 @@ all_below (suc n) t = all_below n t && t n
 abbrev all_renamings : (Renaming → Bool) → Bool
 all_renamings t = t XCounter && (t XQuarter && (t YQuarter && t ZCounter))
 
-unfoldable pub tested : Fact → Bool
+abbrev pub tested : Fact → Bool
 tested (Yes b) = b
 tested (Same a b) = same_bool a b
 tested (Equal m n) = m == n
@@ -83,7 +83,6 @@ at_renaming t h YQuarter = and_left _ _ (and_right (t XQuarter) _ (and_right (t 
 at_renaming t h ZCounter = and_right (t YQuarter) _ (and_right (t XQuarter) _ (and_right (t XCounter) _ h))
 
 pub holds : (f : Fact) → tested f ≡ true → Holds f
-unfolding tested
 holds (Yes b) h = h
 holds (Same a b) h = same_bool-is a b h
 holds (Equal m n) h = eqb-true m n h

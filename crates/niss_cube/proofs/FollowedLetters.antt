@@ -1,6 +1,6 @@
 -- The facelet text from where the stickers that stand at the first facelets began.
-use Rattle.niss_cube.proofs.Words.{moved, Fact, Yes, Equal, Below, Alike, Both, Numbers, Holds, holds, tested, ◌≡◌, ℕ, ◌<◌, refl, sym, ◌∙◌}
-use Rattle.niss_cube.proofs.Words.{ap, List, [], ◌++◌, length, get_or, true, slice_index, Place, is_place, places, facelet, effect, inverse}
+use Rattle.niss_cube.proofs.Words.{moved, Fact, Yes, Equal, Below, Alike, Both, Numbers, Holds, holds, ◌≡◌, ℕ, ◌<◌, refl, sym, ◌∙◌, ap}
+use Rattle.niss_cube.proofs.Words.{List, [], ◌++◌, length, get_or, true, slice_index, Place, is_place, places, facelet, effect, inverse}
 use Rattle.niss_cube.proofs.Words.{letter_at, letter_of, letters, U, Token, place_at, AreMoved, effect-append, inverse_after}
 use Rattle.niss_cube.proofs.Words.{inverse_before, FIRST_FACELETS, CUBIES, FACELETS, CUBIE_LETTERS}
 use Rattle.niss_cube.proofs.CubieNeighbours.{next, after, effect-place, effect-after}
@@ -19,7 +19,7 @@ letter-back s q h =
 
 -- what computation shows of each position of the text
 letter-is : (i : ℕ) → i < 54 → (k : ℕ) → k < 3 → get_or (get_or CUBIE_LETTERS i []) k 0 ≡ letter_at (after k (place_at i))
-unfolding tested place_at next
+unfolding place_at next
 letter-is = holds (Numbers 54 λ i. Numbers 3 λ k. Equal (get_or (get_or CUBIE_LETTERS i []) k 0) (letter_at (after k (place_at i)))) refl
 
 abbrev first_of : ℕ → Place
@@ -31,7 +31,7 @@ facelet_fact j =
     (Both (Yes (is_place (place_at j))) (Alike (after (get_or FACELETS j 0) (first_of j)) (place_at j)))))
 
 pub is_facelet : (j : ℕ) → j < 54 → Holds (facelet_fact j)
-unfolding tested place_at next
+unfolding place_at next
 is_facelet = holds (Numbers 54 facelet_fact) refl
 
 -- The letters at the places to which the first facelets were followed make the text of the inverse.
@@ -60,5 +60,4 @@ moved-twice old between new s t first second k l =
     ∙ sym (effect-append s t (place_at (slice_index old k)))
 
 pub first-below : (k : ℕ) → k < 26 → get_or FIRST_FACELETS k 0 < 54
-unfolding tested
 first-below = holds (Numbers 26 λ k. Below (get_or FIRST_FACELETS k 0) 54) refl

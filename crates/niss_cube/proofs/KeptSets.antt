@@ -1,15 +1,16 @@
 -- How a coordinate on an axis is renamed, and that it is 0 exactly where its set of places is kept.
-use Rattle.niss_cube.proofs.Words.{ArePlaces, Fact, Equal, Numbers, Holds, Same, Places, holds, tested, refl, sym, ◌∙◌, ap, arith, inl, inr}
-use Rattle.niss_cube.proofs.Words.{◌≡◌, ℕ, ◌+◌, ◌-◌, ◌%◌, ◌<◌, List, [], ◌∷◌, get_or, Option, None, Some, Bool, true, false, ◌&&◌, not}
-use Rattle.niss_cube.proofs.Words.{◌==◌, ◌↔◌, nat_le, eqb-true, false_from_ne_true, eqb_tells, ext_get_or, Place, is_place, is_edge}
-use Rattle.niss_cube.proofs.Words.{SameMap, renamed_turn, Axis, Ud, Rl, Fb, Coordinate, Flip, Twist, Slice, Renaming, XCounter, XQuarter}
-use Rattle.niss_cube.proofs.Words.{YQuarter, ZCounter, rank, number_of, renamed_for, turn_for, flips_home, twists_home, Kept, is_kept}
-use Rattle.niss_cube.proofs.Words.{flip_set, twist_set, slice_set, set_of, and_left, renamed_if, face_if, rotated, rotated_back}
-use Rattle.niss_cube.proofs.Words.{renaming_for, SetsArePlaces}
+use Rattle.niss_cube.proofs.Words.{ArePlaces, Fact, Equal, Numbers, Holds, Same, Places, holds, refl, sym, ◌∙◌, ap, arith, inl, inr, ◌≡◌, ℕ}
+use Rattle.niss_cube.proofs.Words.{◌+◌, ◌-◌, ◌%◌, ◌<◌, List, [], ◌∷◌, get_or, Option, None, Some, Bool, true, false, ◌&&◌, not, ◌==◌, ◌↔◌}
+use Rattle.niss_cube.proofs.Words.{nat_le, eqb-true, false_from_ne_true, eqb_tells, ext_get_or, Place, is_place, is_edge, SameMap}
+use Rattle.niss_cube.proofs.Words.{renamed_turn, Axis, Ud, Rl, Fb, Coordinate, Flip, Twist, Slice, Renaming, XCounter, XQuarter, YQuarter}
+use Rattle.niss_cube.proofs.Words.{ZCounter, rank, number_of, renamed_for, turn_for, flips_home, twists_home, Kept, is_kept, flip_set}
+use Rattle.niss_cube.proofs.Words.{twist_set, slice_set, set_of, and_left, renamed_if, face_if, rotated, rotated_back, renaming_for}
+use Rattle.niss_cube.proofs.Words.{SetsArePlaces}
+use Rattle.niss_cube.proofs.Words.{tested}
+use Rattle.niss_cube.proofs.Sums.{one_if-same, one_if, below_permuted, below_all_same, one_if-at_most, eqb-itself}
 use Rattle.niss_cube.proofs.CubieKinds.{CubieLists, Valid, map_lists, Kind, Corners, Edges, count, facelets, at, is_of, home_at, turn_at}
 use Rattle.niss_cube.proofs.CubieKinds.{place_of, stand, stands, stands-at, low, some_facelet, kind_place, Located, located, shown_at}
 use Rattle.niss_cube.proofs.CubieKinds.{map_place}
-use Rattle.niss_cube.proofs.Sums.{one_if, below_permuted, below_all_same, one_if-at_most, eqb-itself}
 use Rattle.niss_cube.proofs.Numbers.{rank-same}
 use Rattle.niss_cube.proofs.CoordinateValues.{edge-once, slice_occupied, slice_occupied-length, slice_occupied-at, slice_occupied-filled}
 use Rattle.niss_cube.proofs.AxisRenamings.{KeepsPlaces, IsRenaming, by_rotation, not_renamed, back-place, out-back, back-out}
@@ -76,7 +77,6 @@ renaming_kept v set renamed_set same p p' e keep = (
 )
 
 kept_renamed : (k : Coordinate) (a : Axis) (e : Place → Place) → KeepsPlaces e → Kept (set_of k a) e ↔ Kept (standard_set k a) (renamed_for k a e)
-unfolding tested
 kept_renamed k a e keep = go k a
   where
     by : (v : Renaming) (k : Coordinate) (a : Axis) → tested (Places λ q. Same (set_of k a q) (standard_set k a (rotated v q))) ≡ true → Kept (set_of k a) e ↔ Kept (standard_set k a) (λ q. rotated v (e (rotated_back v q)))
@@ -130,22 +130,14 @@ module _ (k : Kind) (set : Place → Bool) (inside : (q : Place) → set q ≡ t
   turns_kept : Kept set e ↔ ((i : ℕ) → i < count k → turn_at k c i ≡ 0)
   turns_kept = (kept-unturned, unturned-kept)
 
-one_if-same : (a b : Bool) → one_if a ≡ one_if b → a ≡ b
-one_if-same true true h = refl
-one_if-same true false h = absurd (omega arith)
-one_if-same false true h = absurd (omega arith)
-one_if-same false false h = refl
-
 -- the places of the slice's edges at home, from the last place down
 abbrev home_occupied : List Bool
 home_occupied = true ∷ true ∷ true ∷ true ∷ false ∷ false ∷ false ∷ false ∷ false ∷ false ∷ false ∷ false ∷ []
 
 home_occupied-at : (k : ℕ) → k < 12 → get_or home_occupied k false ≡ nat_le 8 (11 - k)
-unfolding tested
 home_occupied-at = holds (Numbers 12 λ k. Same (get_or home_occupied k false) (nat_le 8 (11 - k))) refl
 
 slice_at : (h : ℕ) → h < 12 → (j : ℕ) → j < 2 → slice_set Ud (at Edges h j) ≡ nat_le 8 h
-unfolding tested
 slice_at = holds (Numbers 12 λ h. Numbers 2 λ j. Same (slice_set Ud (at Edges h j)) (nat_le 8 h)) refl
 
 -- each place of the slice holds an edge of it, and no other does
@@ -196,13 +188,11 @@ AtZero Twist c = (i : ℕ) → i < 8 → get_or c.twists i 0 ≡ 0
 AtZero Slice c = AtHome c.edges
 
 code_zero : (k : Coordinate) (c : CubieLists) → Valid c → (code k c ≡ 0) ↔ AtZero k c
-unfolding tested
 code_zero Flip c v = oriented_zero 2 base_2 11 c.flips flips_home (are_flips c v) flips_home-are refl (holds (Numbers 12 λ i. Equal (get_or flips_home i 0) 0) refl)
 code_zero Twist c v = oriented_zero 3 base_3 7 c.twists twists_home (are_twists c v) twists_home-are refl (holds (Numbers 8 λ i. Equal (get_or twists_home i 0) 0) refl)
 code_zero Slice c v = slice_number_zero c v
 
 kept_zero : (k : Coordinate) (a : Axis) (c : CubieLists) → Valid c → (e : Place → Place) → SameMap e (map_lists c) → Kept (standard_set k a) e ↔ AtZero k c
-unfolding tested
 kept_zero Flip Ud c v e same = turns_kept Edges (standard_set Flip Ud) (standard_kind Flip Ud) 1 (omega arith) (holds (row_fact Edges (standard_set Flip Ud) 1) refl) c v e same
 kept_zero Flip Rl c v e same = turns_kept Edges (standard_set Flip Rl) (standard_kind Flip Rl) 0 (some_facelet Edges) (holds (row_fact Edges (standard_set Flip Rl) 0) refl) c v e same
 kept_zero Flip Fb c v e same = turns_kept Edges (standard_set Flip Fb) (standard_kind Flip Fb) 0 (some_facelet Edges) (holds (row_fact Edges (standard_set Flip Fb) 0) refl) c v e same

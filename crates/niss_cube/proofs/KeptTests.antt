@@ -1,13 +1,13 @@
 -- A set is kept where the test says so.
-use Rattle.niss_cube.proofs.Words.{◌∙◌, sym, ap, SameMap, ArePlaces, Yes, When, Places, holds, tested, ◌≡◌, refl, Bool, true, false, not}
-use Rattle.niss_cube.proofs.Words.{◌||◌, Place, places, Kept, is_kept, list_all-from_AllPass, KeptIsTested}
+use Rattle.niss_cube.proofs.Words.{◌∙◌, sym, ap, SameMap, ArePlaces, Yes, When, Places, holds, ◌≡◌, refl, Bool, true, false, not, ◌||◌}
+use Rattle.niss_cube.proofs.Words.{Place, places, Kept, is_kept, list_all-from_AllPass, KeptIsTested}
 
 implies : (a b : Bool) → (a ≡ true → b ≡ true) → (not a || b) ≡ true
 implies true b h = h refl
 implies false b h = refl
 
 pub kept_is_tested : KeptIsTested
-unfolding is_kept tested
+unfolding is_kept
 kept_is_tested set e inside = (
   (λ h q m. holds (Places λ q. When (set q) (Yes (set (e q)))) h q (inside q m) m),
   (λ k. list_all-from_AllPass (λ q. not (set q) || set (e q)) places (λ i q l. implies _ _ (k _))),

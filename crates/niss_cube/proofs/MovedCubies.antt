@@ -2,7 +2,7 @@
 use Rattle.niss_cube.proofs.Words.{◌≡◌, ℕ, zero, suc, ◌+◌, ◌-◌, ◌%◌, ◌<◌, ◌==◌, refl, sym, ◌∙◌, ap, subst, get_or, length, not, sum, arith}
 use Rattle.niss_cube.proofs.Words.{inl, inr, Turn, Renaming, Place, SameMap, is_corner, is_edge, turned, turn_table, every_turn, every_face}
 use Rattle.niss_cube.proofs.Words.{every_power, eqb-true, eq-eqb, same_truth, Fact, Both, Below, Equal, Alike, Same, When, Numbers, Places}
-use Rattle.niss_cube.proofs.Words.{Turns, Renamings, Holds, holds, tested, CubieTurn, rotated, rotated_back, renaming_table}
+use Rattle.niss_cube.proofs.Words.{Turns, Renamings, Holds, holds, CubieTurn, rotated, rotated_back, renaming_table}
 use Rattle.niss_cube.proofs.CubieKinds.{CubieLists, Valid, map_lists, tabulated, tabulated-length, tabulated-at, Kind, Corners, Edges}
 use Rattle.niss_cube.proofs.CubieKinds.{count, facelets, at, home_at, turn_at, homes, turns, place_of, Stand, stand, standing-valid, stands}
 use Rattle.niss_cube.proofs.CubieKinds.{low, kind_of, Located, located, map_at, centre_stays}
@@ -82,12 +82,12 @@ at_motion f h (By t) = h.0 t
 at_motion f h (Under v) = h.1 v
 
 tables : (k : Kind) → Holds (motion_fact (table_fact k))
-unfolding tested every_turn every_face every_power
+unfolding every_turn every_face every_power
 tables Corners = holds (motion_fact (table_fact Corners)) refl
 tables Edges = holds (motion_fact (table_fact Edges)) refl
 
 kinds : (m : Motion) → Holds (kinds_fact m)
-unfolding tested every_turn every_face every_power
+unfolding every_turn every_face every_power
 kinds = at_motion kinds_fact (holds (motion_fact kinds_fact) refl)
 
 pub record Table (k : Kind) (m : Motion) : Type 0 where
@@ -120,7 +120,7 @@ abbrev ranges : Kind → Fact
 ranges k = Turns λ t. Numbers (count k) λ i. Below (added_by k (turn_table t.face t.power) i) (facelets k)
 
 added_below : (k : Kind) → Holds (ranges k)
-unfolding tested every_turn every_face every_power
+unfolding every_turn every_face every_power
 added_below Corners = holds (ranges Corners) refl
 added_below Edges = holds (ranges Edges) refl
 

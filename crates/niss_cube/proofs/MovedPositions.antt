@@ -1,10 +1,10 @@
 -- The table of positions after moves holds the places to which the moves bring the stickers, by computation.
-use Rattle.niss_cube.proofs.Words.{Below, Alike, Both, Numbers, Tokens, holds, tested, ◌≡◌, ℕ, ◌<◌, refl, [], get_or, moved_by, Token}
-use Rattle.niss_cube.proofs.Words.{place_at, every_token, every_face, every_power, every_slice, every_axis, token_index, POSITIONS_AFTER}
+use Rattle.niss_cube.proofs.Words.{Below, Alike, Both, Numbers, Tokens, holds, ◌≡◌, ℕ, ◌<◌, refl, [], get_or, moved_by, Token, place_at}
+use Rattle.niss_cube.proofs.Words.{every_token, every_face, every_power, every_slice, every_axis, token_index, POSITIONS_AFTER}
 
 abbrev after : Token → ℕ → ℕ
 after m i = get_or (get_or POSITIONS_AFTER (token_index m) []) i 0
 
 pub after-moved : (m : Token) (i : ℕ) → i < 54 → (after m i < 54) × (place_at (after m i) ≡ moved_by m (place_at i))
-unfolding tested place_at every_token every_face every_power every_slice every_axis
+unfolding place_at every_token every_face every_power every_slice every_axis
 after-moved = holds (Tokens λ m. Numbers 54 λ i. Both (Below (after m i) 54) (Alike (place_at (after m i)) (moved_by m (place_at i)))) refl

@@ -1,6 +1,6 @@
 -- A turn that is none of a step's brings each cube on which the step may start to one on which it may not.
-use Rattle.niss_cube.proofs.Words.{Fact, Yes, When, Turns, Holds, holds, tested, ◌≡◌, refl, ap, ◌∙◌, sym, true, Option, None, Some}
-use Rattle.niss_cube.proofs.Words.{Contains, IsTrue, Contains-from_any, turned, Axis, Ud, Rl, Fb, Turn, Cube, Flip, every_turn, every_face}
+use Rattle.niss_cube.proofs.Words.{Fact, Yes, When, Turns, Holds, holds, ◌≡◌, refl, ap, ◌∙◌, sym, true, Option, None, Some, Contains}
+use Rattle.niss_cube.proofs.Words.{IsTrue, Contains-from_any, turned, Axis, Ud, Rl, Fb, Turn, Cube, Flip, every_turn, every_face}
 use Rattle.niss_cube.proofs.Words.{every_power, map_of, Kept, is_kept, flip_set, start_of, turns_of, may_start, OtherTurnsLeaveStart}
 use Rattle.niss_cube.proofs.KeptSets.{sets_are_places}
 use Rattle.niss_cube.proofs.KeptTests.{kept_is_tested}
@@ -14,13 +14,13 @@ abbrev leaves_fact : Axis → Fact
 leaves_fact a = Turns λ t. When (is_kept (flip_set a) (turned t)) (Yes (is_among (turns_from (Some a)) t))
 
 leaves : (a : Axis) → Holds (leaves_fact a)
-unfolding tested every_turn every_face every_power is_kept
+unfolding every_turn every_face every_power is_kept
 leaves Ud = holds (leaves_fact Ud) refl
 leaves Rl = holds (leaves_fact Rl) refl
 leaves Fb = holds (leaves_fact Fb) refl
 
 anywhere : (t : Turn) → is_among (turns_from None) t ≡ true
-unfolding tested every_turn every_face every_power
+unfolding every_turn every_face every_power
 anywhere = holds (Turns λ t. Yes (is_among (turns_from None) t)) refl
 
 -- a turn after which the set is kept still keeps the set itself, since the cube's map brings the set to itself

@@ -1,6 +1,6 @@
 -- The flips and twists that a cube's map shows are those of its cubies.
-use Rattle.niss_cube.proofs.Words.{corner_facelets, Equal, Numbers, holds, tested, refl, sym, ◌∙◌, ap, arith, inl, inr, ◌≡◌, ℕ, zero, suc}
-use Rattle.niss_cube.proofs.Words.{◌<◌, List, [], ◌∷◌, length, get_or, map, drop, Bool, true, false, ◌&&◌, ◌==◌, nat_le, list_any}
+use Rattle.niss_cube.proofs.Words.{corner_facelets, Equal, Numbers, holds, refl, sym, ◌∙◌, ap, arith, inl, inr, ◌≡◌, ℕ, zero, suc, ◌<◌}
+use Rattle.niss_cube.proofs.Words.{List, [], ◌∷◌, length, get_or, map, drop, Bool, true, false, ◌&&◌, ◌==◌, nat_le, list_any}
 use Rattle.niss_cube.proofs.Words.{range_with_len, eqb-true, eq-eqb, eqb_tells, ext_get_or, get_or-map, length-map, Any-from_list_any}
 use Rattle.niss_cube.proofs.Words.{Place, same_place, SameMap, U, facelet, index_in, row_at, edge_facelets, and_left, and_right, and_both}
 use Rattle.niss_cube.proofs.Words.{same_truth, same_place_is, same_place_of, get_or_default, list_any_at, get_or-range_with_len}
@@ -50,7 +50,6 @@ rows_len Corners = refl
 rows_len Edges = refl
 
 row_len : (k : Kind) (i : ℕ) → i < count k → length (row_at (rows k) i) ≡ facelets k
-unfolding tested
 row_len Corners = holds (Numbers 8 λ i. Equal (length (row_at corner_facelets i)) 3) refl
 row_len Edges = holds (Numbers 12 λ i. Equal (length (row_at edge_facelets i)) 2) refl
 

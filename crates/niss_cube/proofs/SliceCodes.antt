@@ -1,8 +1,8 @@
 -- The edges of a slice by their number, and after a turn.
-use Rattle.niss_cube.proofs.Words.{occupied, Equal, Numbers, holds, tested, refl, sym, ◌∙◌, ap, arith, ◌≡◌, ℕ, zero, suc, ◌+◌, ◌<◌, ◌≤◌}
-use Rattle.niss_cube.proofs.Words.{List, [], ◌∷◌, length, get_or, map, reverse, Bool, true, false, nat_le, ◌==◌, count_by, slice_index}
-use Rattle.niss_cube.proofs.Words.{le-leb, leb-true, false_from_ne_true, ext_get_or, get_or-map, length-map, length-reverse, sum_by-cons}
-use Rattle.niss_cube.proofs.Words.{Turn, turn_table, rank, edges_at, edges_of_number, occupied_of_number, reverse_aux, reverse-reverse}
+use Rattle.niss_cube.proofs.Words.{occupied, Equal, Numbers, holds, refl, sym, ◌∙◌, ap, arith, ◌≡◌, ℕ, zero, suc, ◌+◌, ◌<◌, ◌≤◌, List, []}
+use Rattle.niss_cube.proofs.Words.{◌∷◌, length, get_or, map, reverse, Bool, true, false, nat_le, ◌==◌, count_by, slice_index, le-leb}
+use Rattle.niss_cube.proofs.Words.{leb-true, false_from_ne_true, ext_get_or, get_or-map, length-map, length-reverse, sum_by-cons, Turn}
+use Rattle.niss_cube.proofs.Words.{turn_table, rank, edges_at, edges_of_number, occupied_of_number, reverse_aux, reverse-reverse}
 use Rattle.niss_cube.proofs.CubieKinds.{tabulated, tabulated-length, tabulated-at, brought, Edges}
 use Rattle.niss_cube.proofs.MovedCubies.{By, table}
 use Rattle.niss_cube.proofs.Sums.{one_if}
@@ -70,7 +70,6 @@ edges_at-occupied (false ∷ os) free occupied f g =
     rw here (ap (λ rs. false ∷ rs) (edges_at-occupied os (suc free) occupied (omega arith) g))
 
 each_once : (h : ℕ) → h < 12 → within 0 8 h + within 8 4 h ≡ 1
-unfolding tested
 each_once = holds (Numbers 12 λ h. Equal (within 0 8 h + within 8 4 h) 1) refl
 
 module _ (os : List Bool) (l : length os ≡ 12) (four : filled os ≡ 4) where

@@ -1,11 +1,10 @@
 -- The steps of the number of a slice.
-use Rattle.niss_cube.proofs.Words.{Equal, Numbers, holds, tested, ◌≡◌, ℕ, suc, ◌+◌, ◌-◌, ◌<◌, ◌≤◌, refl, ◌∙◌, ap, List, [], ◌∷◌, length}
-use Rattle.niss_cube.proofs.Words.{get_or, drop, false, arith, nat_le, le-leb, leb-true, false_from_ne_true, drop-cons, choose, rank}
-use Rattle.niss_cube.proofs.Words.{length-drop, CHOICES}
+use Rattle.niss_cube.proofs.Words.{Equal, Numbers, holds, ◌≡◌, ℕ, suc, ◌+◌, ◌-◌, ◌<◌, ◌≤◌, refl, ◌∙◌, ap, List, [], ◌∷◌, length, get_or}
+use Rattle.niss_cube.proofs.Words.{drop, false, arith, nat_le, le-leb, leb-true, false_from_ne_true, drop-cons, choose, rank, length-drop}
+use Rattle.niss_cube.proofs.Words.{CHOICES}
 use Rattle.niss_cube.proofs.CoordinateValues.{slice_occupied, slice_occupied-length, slice_occupied-at}
 
 pub choices-are : (n : ℕ) → n < 12 → (k : ℕ) → k < 4 → get_or (get_or CHOICES n []) k 0 ≡ choose n k
-unfolding tested
 choices-are = holds (Numbers 12 λ n. Numbers 4 λ k. Equal (get_or (get_or CHOICES n []) k 0) (choose n k)) refl
 
 lt-leb_false : (a b : ℕ) → b < a → nat_le a b ≡ false

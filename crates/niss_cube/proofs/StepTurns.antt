@@ -1,9 +1,9 @@
 -- The turns of the steps: parts of the turn order, which hold their inverses and keep the start.
-use Rattle.niss_cube.proofs.Words.{Fact, Yes, When, Places, Among, Holds, holds, tested, ◌≡◌, ◌≤◌, refl, ◌∙◌, ap, Bool, true, not, ◌&&◌}
-use Rattle.niss_cube.proofs.Words.{◌||◌, List, length, Option, None, Some, arith, Contains, map, list_any, option_map_or, Contains-from_any}
-use Rattle.niss_cube.proofs.Words.{is_place, turned, inverse_turn, Axis, Ud, Rl, Fb, Half, Turn, Step, Kept, flip_set, start_of, turns_of}
-use Rattle.niss_cube.proofs.Words.{and_left, and_right, flat_map, filter, same_face, face_order, turn_order, powers_from, is_face_of}
-use Rattle.niss_cube.proofs.Words.{InversesOfSteps, StepTurnsInOrder, StepTurnsAreCounted, same_face_is, same_power, same_power_is}
+use Rattle.niss_cube.proofs.Words.{Fact, Yes, When, Places, Among, Holds, holds, ◌≡◌, ◌≤◌, refl, ◌∙◌, ap, Bool, true, not, ◌&&◌, ◌||◌, List}
+use Rattle.niss_cube.proofs.Words.{length, Option, None, Some, arith, Contains, map, list_any, option_map_or, Contains-from_any, is_place}
+use Rattle.niss_cube.proofs.Words.{turned, inverse_turn, Axis, Ud, Rl, Fb, Half, Turn, Step, Kept, flip_set, start_of, turns_of, and_left}
+use Rattle.niss_cube.proofs.Words.{and_right, flat_map, filter, same_face, face_order, turn_order, powers_from, is_face_of, InversesOfSteps}
+use Rattle.niss_cube.proofs.Words.{StepTurnsInOrder, StepTurnsAreCounted, same_face_is, same_power, same_power_is}
 
 -- the turns of a step from its start
 abbrev pub turns_from : Option Axis → List Turn
@@ -37,7 +37,6 @@ abbrev keeps_fact : Axis → Fact
 keeps_fact a = Among (turns_from (Some a)) λ t. Places λ q. When (flip_set a q) (Yes (flip_set a (turned t q)))
 
 all_keep : (a : Axis) → Holds (keeps_fact a)
-unfolding tested
 all_keep Ud = holds (keeps_fact Ud) refl
 all_keep Rl = holds (keeps_fact Rl) refl
 all_keep Fb = holds (keeps_fact Fb) refl
@@ -63,7 +62,6 @@ abbrev inverse_fact : Option Axis → Fact
 inverse_fact start = Among (turns_from start) λ t. Yes (is_among (turns_from start) (inverse_turn t))
 
 all_have_inverses : (start : Option Axis) → Holds (inverse_fact start)
-unfolding tested
 all_have_inverses None = holds (inverse_fact None) refl
 all_have_inverses (Some Ud) = holds (inverse_fact (Some Ud)) refl
 all_have_inverses (Some Rl) = holds (inverse_fact (Some Rl)) refl

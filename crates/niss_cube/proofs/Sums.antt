@@ -106,3 +106,9 @@ below_all_same (suc n) f g h e k l =
 pub one_if-at_most : (a b : Bool) → (a ≡ true → b ≡ true) → one_if a ≤ one_if b
 one_if-at_most true b h = rw (h refl) (omega arith)
 one_if-at_most false b h = omega arith
+
+pub one_if-same : (a b : Bool) → one_if a ≡ one_if b → a ≡ b
+one_if-same true true h = refl
+one_if-same true false h = absurd (omega arith)
+one_if-same false true h = absurd (omega arith)
+one_if-same false false h = refl

@@ -1,9 +1,9 @@
 -- The rows of the tables, as they are written.
-use Rattle.niss_cube.proofs.Words.{Alike, Both, Places, Faces, holds, tested, refl, sym, ◌∙◌, ap, subst, arith, inl, inr, ◌≡◌, ℕ, ◌+◌, ◌<◌}
-use Rattle.niss_cube.proofs.Words.{List, [], ◌∷◌, length, get_or, set, true, slice_index, length-set, eqb_tells, Place, is_place, turned}
-use Rattle.niss_cube.proofs.Words.{Face, Quarter, Half, Counter, Turn, Cube, Coordinate, map_of, count_of, number_of, standard_axis}
-use Rattle.niss_cube.proofs.Words.{number_after, IsCube, AreRowsAt, AreQuarters, IsQuarter, every_face, get_or-set_same, get_or-set_other}
-use Rattle.niss_cube.proofs.Words.{power_index, Power, IsCoordinate, entry_at, turn}
+use Rattle.niss_cube.proofs.Words.{Alike, Both, Places, Faces, holds, refl, sym, ◌∙◌, ap, subst, arith, inl, inr, ◌≡◌, ℕ, ◌+◌, ◌<◌, List}
+use Rattle.niss_cube.proofs.Words.{[], ◌∷◌, length, get_or, set, true, slice_index, length-set, eqb_tells, Place, is_place, turned, Face}
+use Rattle.niss_cube.proofs.Words.{Quarter, Half, Counter, Turn, Cube, Coordinate, map_of, count_of, number_of, standard_axis, number_after}
+use Rattle.niss_cube.proofs.Words.{IsCube, AreRowsAt, AreQuarters, IsQuarter, every_face, get_or-set_same, get_or-set_other, power_index}
+use Rattle.niss_cube.proofs.Words.{Power, IsCoordinate, entry_at, turn}
 use Rattle.niss_cube.proofs.CubieKinds.{lists_of, map_place}
 use Rattle.niss_cube.proofs.CoordinateLaws.{are_coordinates, cube-itself, turned_is_cube}
 
@@ -33,7 +33,7 @@ after-both k s t u same i l =
 powers-hold : (f : Face) (q : Place) → is_place q ≡ true →
     (turned (turn f Quarter) (turned (turn f Quarter) q) ≡ turned (turn f Half) q)
     × (turned (turn f Quarter) (turned (turn f Half) q) ≡ turned (turn f Counter) q)
-unfolding tested every_face
+unfolding every_face
 powers-hold = holds (Faces λ f. Places λ q. Both
     (Alike (turned (turn f Quarter) (turned (turn f Quarter) q)) (turned (turn f Half) q))
     (Alike (turned (turn f Quarter) (turned (turn f Half) q)) (turned (turn f Counter) q))) refl

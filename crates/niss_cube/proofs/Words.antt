@@ -38,8 +38,7 @@ pub use Rattle.niss_moves.specs.Turn.{inverse_turn, same_face}
 pub use Rattle.niss_moves.specs.declared.rotation.Rotation.{Rotation}
 pub use Rattle.niss_cube.proofs.Each.{at_member, listed}
 pub use Rattle.niss_cube.proofs.Facts.{Fact, Yes, Same, Equal, Below, Alike, Both, When, Numbers, Places, Records, Turns, Among, Faces}
-pub use Rattle.niss_cube.proofs.Facts.{Tokens, Renamings, Holds, holds}
-unfoldable pub use Rattle.niss_cube.proofs.Facts.{tested}
+pub use Rattle.niss_cube.proofs.Facts.{Tokens, Renamings, Holds, holds, tested}
 pub use Rattle.niss_cube.proofs.Logic.{and_left, and_right, same_truth, and_both, not_true, or_then, is_true}
 pub use Rattle.niss_cube.specs.AfterTurn.{IsCube, TurnedIsCube, AreCoordinates, IsCoordinate}
 pub use Rattle.niss_cube.specs.Coordinates.{rank, number_of, number, count_of, standard_axis, choose, renamed_for, turn_for, renaming_for}
