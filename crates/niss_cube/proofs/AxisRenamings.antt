@@ -1,5 +1,5 @@
 -- The cubies, the maps and the turns of the cube as it is renamed.
-use Rattle.niss_cube.proofs.Words.{turn, ◌≡◌, refl, sym, ◌∙◌, ap, true, Place, is_place, SameMap, turned, renamed_turn, inverse_turn, Turn}
+use Rattle.niss_cube.proofs.Words.{◌≡◌, refl, sym, ◌∙◌, ap, true, Place, is_place, SameMap, turned, renamed_turn, inverse_turn, Turn}
 use Rattle.niss_cube.proofs.Words.{Renaming, renamed_by, every_turn, every_face, every_power, Yes, Alike, Renamings, Turns, Places, holds}
 use Rattle.niss_cube.proofs.Words.{face_by, rotated, rotated_back}
 use Rattle.niss_cube.proofs.CubieKinds.{CubieLists, Valid, map_lists, map_place}

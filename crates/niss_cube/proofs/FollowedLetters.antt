@@ -4,8 +4,7 @@ use Rattle.niss_cube.proofs.Words.{List, [], ◌++◌, length, get_or, true, sli
 use Rattle.niss_cube.proofs.Words.{letter_at, letter_of, letters, U, Token, place_at, AreMoved, effect-append, inverse_after}
 use Rattle.niss_cube.proofs.Words.{inverse_before, FIRST_FACELETS, CUBIES, FACELETS, CUBIE_LETTERS}
 use Rattle.niss_cube.proofs.CubieNeighbours.{next, after, effect-place, effect-after}
-use Rattle.niss_cube.proofs.FaceletLetters.{letters-is}
-use Rattle.niss_cube.proofs.Origins.{letter_of-is}
+use Rattle.niss_cube.proofs.FaceletLetters.{letters-is, letter_of-is}
 
 listed_at : (j : ℕ) → place_at j ≡ get_or places j (facelet U 5)
 unfolding place_at

@@ -5,8 +5,7 @@ use Rattle.niss_cube.proofs.Words.{nat_le, eqb-true, false_from_ne_true, eqb_tel
 use Rattle.niss_cube.proofs.Words.{renamed_turn, Axis, Ud, Rl, Fb, Coordinate, Flip, Twist, Slice, Renaming, XCounter, XQuarter, YQuarter}
 use Rattle.niss_cube.proofs.Words.{ZCounter, rank, number_of, renamed_for, turn_for, flips_home, twists_home, Kept, is_kept, flip_set}
 use Rattle.niss_cube.proofs.Words.{twist_set, slice_set, set_of, and_left, renamed_if, face_if, rotated, rotated_back, renaming_for}
-use Rattle.niss_cube.proofs.Words.{SetsArePlaces}
-use Rattle.niss_cube.proofs.Words.{tested}
+use Rattle.niss_cube.proofs.Words.{SetsArePlaces, tested}
 use Rattle.niss_cube.proofs.Sums.{one_if-same, one_if, below_permuted, below_all_same, one_if-at_most, eqb-itself}
 use Rattle.niss_cube.proofs.CubieKinds.{CubieLists, Valid, map_lists, Kind, Corners, Edges, count, facelets, at, is_of, home_at, turn_at}
 use Rattle.niss_cube.proofs.CubieKinds.{place_of, stand, stands, stands-at, low, some_facelet, kind_place, Located, located, shown_at}

@@ -21,7 +21,6 @@ pub mod Numbers
 pub mod OccupiedNumbers
 pub mod Once
 pub mod Orientations
-pub mod Origins
 pub mod OtherTurns
 pub mod Permutations
 pub mod PlacedEdges

@@ -1,5 +1,5 @@
 -- The sets of sticker places that the coordinates depend on.
-use Rattle.niss_cube.specs.Names.{Bool, ◌&&◌, ◌||◌, IsTrue, ◌↔◌, Place, is_corner, is_edge, IsPlace, places, Axis, Ud, Rl, Fb, Coordinate}
+use Rattle.niss_cube.specs.Names.{Bool, ◌&&◌, ◌||◌, IsTrue, ◌↔◌, Place, is_corner, is_edge, IsPlace, places, Axis, Ud, Rl, Coordinate}
 use Rattle.niss_cube.specs.Names.{Flip, Twist, Slice}
 use Rattle.std.specs.Prelude.{not}
 use Rattle.std.specs.List.{list_all}

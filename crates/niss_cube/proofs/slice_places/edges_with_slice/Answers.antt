@@ -1,5 +1,4 @@
-use Rattle.niss_cube.proofs.Words.{occupied, arith, List, Bool, true, false, ◌≡◌, ◌∙◌, ap, length, reverse, length-reverse, edges_at}
-use Rattle.niss_cube.proofs.Words.{edges_of_number}
+use Rattle.niss_cube.proofs.Words.{arith, List, Bool, true, false, ◌≡◌, ◌∙◌, ap, length, reverse, length-reverse, edges_at, edges_of_number}
 use Rattle.niss_cube.proofs.PlacedEdges.{placed-slice, placed-free, placed-end, reversed-at}
 use Rattle.niss_cube.proofs.slice_places.edges_with_slice.Goals.{then-occupied-place, else-occupied-place}
 use Rattle.niss_cube.proofs.slice_places.edges_with_slice.Goals as goal
