@@ -1,20 +1,9 @@
 -- The cubies, the maps and the turns of the cube as it is renamed.
-use Rattle.std.proofs.Common.{◌≡◌, refl, sym, ◌∙◌, ap, Bool, true, ◌&&◌}
-use Rattle.std.specs.List.{list_all}
-use Rattle.niss_moves.specs.Places.{Place, is_place, same_place, SameMap}
-use Rattle.niss_moves.specs.Facelets.{places}
-use Rattle.niss_moves.specs.Effects.{turned}
-use Rattle.niss_moves.specs.Rotations.{renamed_turn}
-use Rattle.niss_moves.specs.Turn.{inverse_turn}
-use Rattle.niss_cube.specs.Names.{Turn, Renaming}
-use Rattle.niss_cube.specs.Renamings.{face_by, renamed_by}
-use Rattle.niss_cube.proofs.CubieLists.{CubieLists, Valid, map_lists}
-use Rattle.niss_cube.proofs.CubieKinds.{map_place}
-use Rattle.niss_cube.proofs.Each.{at_place}
-use Rattle.niss_cube.proofs.RenamedCubies.{rotated, rotated_back, renamed_by-is, all_renamings, at_renaming}
-use Rattle.niss_cube.proofs.RenamedCubies.{keeps_kinds, renamed_cubies, renamed_cubies-valid, renamed_lists-map}
-use Rattle.niss_cube.proofs.Logic.{and_left, and_right}
-use Rattle.niss_moves.proofs.CallerLemmas.{same_place_is, every_turn, every_face, every_power, at_turn}
+use Rattle.niss_cube.proofs.Words.{◌≡◌, refl, sym, ◌∙◌, ap, true, Place, is_place, SameMap, turned, renamed_turn, inverse_turn, Turn}
+use Rattle.niss_cube.proofs.Words.{Renaming, renamed_by, every_turn, every_face, every_power, Yes, Alike, Renamings, Turns, Places, holds}
+use Rattle.niss_cube.proofs.Words.{face_by, rotated, rotated_back}
+use Rattle.niss_cube.proofs.CubieKinds.{CubieLists, Valid, map_lists, map_place}
+use Rattle.niss_cube.proofs.MovedCubies.{Motion, Under, moved, moved-valid, moved-map}
 
 abbrev pub KeepsPlaces : (Place → Place) → Type 0
 KeepsPlaces e = (q : Place) → is_place q ≡ true → is_place (e q) ≡ true
@@ -28,63 +17,52 @@ pub record IsRenaming (rename : (Place → Place) → Place → Place) (turn : T
   pub back_is : (t : Turn) → turn (inverse_turn t) ≡ inverse_turn (turn t)
   pub onto : (c : CubieLists) → Valid c → (w : CubieLists) × Valid w × SameMap (map_lists c) (rename (map_lists w))
 
+-- a rotation of the whole cube keeps the places, and is taken back
+pub back-place : (v : Renaming) (q : Place) → is_place q ≡ true → is_place (rotated_back v q) ≡ true
+back-place = holds (Renamings λ v. Places λ q. Yes (is_place (rotated_back v q))) refl
+
+pub out-back : (v : Renaming) (q : Place) → is_place q ≡ true → rotated v (rotated_back v q) ≡ q
+out-back = holds (Renamings λ v. Places λ q. Alike (rotated v (rotated_back v q)) q) refl
+
+pub back-out : (v : Renaming) (q : Place) → is_place q ≡ true → rotated_back v (rotated v q) ≡ q
+back-out = holds (Renamings λ v. Places λ q. Alike (rotated_back v (rotated v q)) q) refl
+
 -- under a renaming a turn becomes that of the face to which the face is brought
-abbrev turn_test : Renaming → Turn → Place → Bool
-turn_test v t q = same_place (rotated v (turned t q)) (turned (renamed_turn (face_by v) t) (rotated v q))
-
-turns_test : all_renamings (λ v. every_turn (λ t. list_all (turn_test v t) places)) ≡ true
-unfolding every_turn every_face every_power
-turns_test = refl
-
 renamed-turn : (v : Renaming) (t : Turn) (q : Place) → is_place q ≡ true → rotated v (turned t q) ≡ turned (renamed_turn (face_by v) t) (rotated v q)
-renamed-turn v t q p =
-    same_place_is _ _ (at_place (turn_test v t) (at_turn (λ t. list_all (turn_test v t) places) (at_renaming (λ v. every_turn (λ t. list_all (turn_test v t) places)) turns_test v) t) q p)
+unfolding every_turn every_face every_power
+renamed-turn = holds (Renamings λ v. Turns λ t. Places λ q. Alike (rotated v (turned t q)) (turned (renamed_turn (face_by v) t) (rotated v q))) refl
 
--- A rotation made four times brings each place back: so the cubies that become c under a renaming are c renamed thrice.
-abbrev four_test : Renaming → Place → Bool
-four_test v q =
-    same_place (rotated v (rotated v (rotated v (rotated v q)))) q
-    && same_place (rotated_back v (rotated_back v (rotated_back v (rotated_back v q)))) q
+-- A rotation made three times takes it back: so the cubies that become c under a renaming are c renamed thrice.
+thrice : (v : Renaming) (q : Place) → is_place q ≡ true → rotated v (rotated v (rotated v q)) ≡ rotated_back v q
+thrice = holds (Renamings λ v. Places λ q. Alike (rotated v (rotated v (rotated v q))) (rotated_back v q)) refl
 
-fours_test : all_renamings (λ v. list_all (four_test v) places) ≡ true
-fours_test = refl
-
-four-back : (v : Renaming) (q : Place) → is_place q ≡ true → (rotated v (rotated v (rotated v (rotated v q))) ≡ q) × (rotated_back v (rotated_back v (rotated_back v (rotated_back v q))) ≡ q)
-four-back v q p =
-    let h = at_place (four_test v) (at_renaming (λ v. list_all (four_test v) places) fours_test v) q p in
-    (same_place_is _ _ (and_left _ _ h), same_place_is _ _ (and_right (same_place (rotated v (rotated v (rotated v (rotated v q)))) q) _ h))
+thrice-back : (v : Renaming) (q : Place) → is_place q ≡ true → rotated_back v (rotated_back v (rotated_back v (rotated_back v q))) ≡ q
+thrice-back = holds (Renamings λ v. Places λ q. Alike (rotated_back v (rotated_back v (rotated_back v (rotated_back v q)))) q) refl
 
 renamed_from : (v : Renaming) (c : CubieLists) → Valid c → (w : CubieLists) × Valid w × SameMap (map_lists c) (renamed_by v (map_lists w))
 renamed_from v c h =
-    let d : CubieLists = renamed_cubies v c in
-    let dh : Valid d = renamed_cubies-valid v c h in
-    let b : CubieLists = renamed_cubies v d in
-    let bh : Valid b = renamed_cubies-valid v d dh in
-    let w : CubieLists = renamed_cubies v b in (
-      w,
-      renamed_cubies-valid v b bh,
+    let m : Motion = Under v in
+    let r : Place → Place = rotated_back v in
+    let d : CubieLists = moved m c in
+    let dh : Valid d = moved-valid m c h in
+    let b : CubieLists = moved m d in
+    let bh : Valid b = moved-valid m d dh in (
+      moved m b,
+      moved-valid m b bh,
       λ q p.
-          let r : Place → Place = rotated_back v in
-          let q₁ = (keeps_kinds v q p).home_place in
-          let q₂ = (keeps_kinds v (r q) q₁).home_place in
-          let q₃ = (keeps_kinds v (r (r q)) q₂).home_place in
-          sym (renamed_by-is v (map_lists w) q
-          ∙ ap (rotated v) (renamed_lists-map v b bh (r q) q₁ ∙ renamed_by-is v (map_lists b) (r q))
-          ∙ ap (λ x. rotated v (rotated v x)) (renamed_lists-map v d dh (r (r q)) q₂ ∙ renamed_by-is v (map_lists d) (r (r q)))
-          ∙ ap (λ x. rotated v (rotated v (rotated v x))) (renamed_lists-map v c h (r (r (r q))) q₃ ∙ renamed_by-is v (map_lists c) (r (r (r q))))
-          ∙ ap (λ x. rotated v (rotated v (rotated v (rotated v (map_lists c x))))) (four-back v q p).1
-          ∙ (four-back v (map_lists c q) (map_place c h q p)).0),
+          let q₁ = back-place v q p in
+          let q₂ = back-place v (r q) q₁ in
+          sym (ap (rotated v) (moved-map m b bh (r q) q₁ ∙ ap (rotated v) (moved-map m d dh (r (r q)) q₂ ∙ ap (rotated v) (moved-map m c h (r (r (r q))) (back-place v (r (r q)) q₂))))
+          ∙ ap (λ x. rotated v (rotated v (rotated v (rotated v (map_lists c x))))) (thrice-back v q p)
+          ∙ ap (rotated v) (thrice v (map_lists c q) (map_place c h q p)) ∙ out-back v (map_lists c q) (map_place c h q p)),
     )
 
-pub by_rotation : (v : Renaming) → IsRenaming (renamed_by v) (renamed_turn (face_by v)) (renamed_cubies v)
+pub by_rotation : (v : Renaming) → IsRenaming (renamed_by v) (renamed_turn (face_by v)) (λ c. moved (Under v) c)
 by_rotation v = record {
-  valid = renamed_cubies-valid v;
-  map_is = renamed_lists-map v;
-  same = λ d e s q p. renamed_by-is v d q ∙ ap (rotated v) (s (rotated_back v q) (keeps_kinds v q p).home_place) ∙ sym (renamed_by-is v e q);
-  turned_is = λ t e keep q p.
-      renamed_by-is v (λ q. turned t (e q)) q
-      ∙ renamed-turn v t (e (rotated_back v q)) (keep (rotated_back v q) (keeps_kinds v q p).home_place)
-      ∙ ap (turned (renamed_turn (face_by v) t)) (sym (renamed_by-is v e q));
+  valid = moved-valid (Under v);
+  map_is = moved-map (Under v);
+  same = λ d e s q p. ap (rotated v) (s (rotated_back v q) (back-place v q p));
+  turned_is = λ t e keep q p. renamed-turn v t (e (rotated_back v q)) (keep (rotated_back v q) (back-place v q p));
   back_is = λ t. refl;
   onto = renamed_from v;
 }

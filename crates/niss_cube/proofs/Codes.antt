@@ -1,31 +1,22 @@
 -- A coordinate as a code of the cubies that it depends on: each number has cubies of its own, and the code after a turn
 -- depends on the code alone.
-use Rattle.std.proofs.Common.{◌≡◌, ℕ, ◌<◌, refl, sym, ap, List, get_or, take, reverse}
-use Rattle.std.specs.Prelude.{count_by, nat_lt, ◌==◌}
-use Rattle.std.proofs.lemmas.Bool.{eqb-true, ltb-true}
-use Rattle.niss_moves.specs.Places.{Place, SameMap}
-use Rattle.niss_moves.specs.Effects.{turned}
-use Rattle.niss_cube.specs.Names.{Turn, Axis, Coordinate, Flip, Twist, Slice}
-use Rattle.niss_cube.specs.Coordinates.{number, rank, flip_of, twist_of, slice_of, number_of, count_of, renamed_for, standard_axis, turn_for}
-use Rattle.niss_cube.specs.Cubies.{corners_home, edges_home, twists_home, flips_home}
-use Rattle.niss_cube.specs.CubieTurns.{turn_table}
-use Rattle.niss_cube.specs.NumberedCubies.{flips_of_number, twists_of_number, edges_of_number}
-use Rattle.niss_cube.specs.NumberAfter.{number_after}
-use Rattle.niss_cube.proofs.CubieLists.{CubieLists, Valid, map_lists, tabulated, brought_turned}
-use Rattle.niss_cube.proofs.CubieKinds.{Corners, Edges}
-use Rattle.niss_cube.proofs.FiniteTests.{at_below}
+use Rattle.niss_cube.proofs.Words.{Equal, Below, Numbers, holds, [], ◌≡◌, ℕ, ◌<◌, refl, sym, ap, List, get_or, take, reverse, count_by}
+use Rattle.niss_cube.proofs.Words.{◌==◌, Place, SameMap, turned, Turn, Axis, Coordinate, Flip, Twist, Slice, number, rank, flip_of}
+use Rattle.niss_cube.proofs.Words.{twist_of, slice_of, number_of, count_of, renamed_for, standard_axis, turn_for, twists_home, flips_home}
+use Rattle.niss_cube.proofs.Words.{flips_of_number, twists_of_number, edges_of_number, number_after, corners_home, edges_home}
+use Rattle.niss_cube.proofs.CubieKinds.{CubieLists, Valid, map_lists, Corners, Edges}
 use Rattle.niss_cube.proofs.ShownCubies.{turns_shown, slice_shown}
 use Rattle.niss_cube.proofs.CoordinateValues.{slice-below, slice_occupied, slice_occupied-filled}
-use Rattle.niss_cube.proofs.TurnedCubies.{turned_lists}
-use Rattle.niss_cube.proofs.Orientations.{AreOriented, base_2, base_3, orientations_of_number-are}
-use Rattle.niss_cube.proofs.Orientations.{orientations_of_number-number, oriented-below, oriented-same}
+use Rattle.niss_cube.proofs.Orientations.{AreOriented, base_2, base_3, orientations_of_number-are, orientations_of_number-number}
+use Rattle.niss_cube.proofs.Orientations.{oriented-below, oriented-same}
 use Rattle.niss_cube.proofs.SliceCodes.{ArePlaced, of_number-placed, of_number-rank, turned-occupied, occupied-same}
+use Rattle.niss_cube.proofs.MovedCubies.{By, moved}
 
 edges_home-are : ArePlaced edges_home
 edges_home-are = record {
   places = refl;
-  each = λ h l. eqb-true _ _ (at_below 12 (λ h. count_by (λ x. x == h) edges_home == 1) refl h l);
-  range = λ n l. ltb-true _ _ (at_below 12 (λ n. nat_lt (get_or edges_home n 0) 12) refl n l);
+  each = holds (Numbers 12 λ h. Equal (count_by (λ x. x == h) edges_home) 1) refl;
+  range = holds (Numbers 12 λ n. Below (get_or edges_home n 0) 12) refl;
 }
 
 pub flips_home-are : AreOriented 2 11 flips_home
@@ -45,9 +36,9 @@ cubies_of-valid twists edges flips t e f =
       twist_places = t.places;
       edge_places = e.places;
       flip_places = f.places;
-      each_corner = λ h l. eqb-true _ _ (at_below 8 (λ h. count_by (λ x. x == h) corners_home == 1) refl h l);
+      each_corner = holds (Numbers 8 λ h. Equal (count_by (λ x. x == h) corners_home) 1) refl;
       each_edge = e.each;
-      corner_range = λ n l. ltb-true _ _ (at_below 8 (λ n. nat_lt (get_or corners_home n 0) 8) refl n l);
+      corner_range = holds (Numbers 8 λ n. Below (get_or corners_home n 0) 8) refl;
       edge_range = e.range;
       twist_range = t.range;
       flip_range = f.range;
@@ -110,13 +101,11 @@ number_after-standard Twist a i t = refl
 number_after-standard Slice a i t = refl
 
 -- cubies of one code have one code after a turn
-pub code-turned : (k : Coordinate) (t : Turn) (c d : CubieLists) → Valid c → Valid d → code k c ≡ code k d → code k (turned_lists t c) ≡ code k (turned_lists t d)
+pub code-turned : (k : Coordinate) (t : Turn) (c d : CubieLists) → Valid c → Valid d → code k c ≡ code k d → code k (moved (By t) c) ≡ code k (moved (By t) d)
 code-turned Flip t c d v w e =
-    let table = turn_table t.face t.power in
-    ap (λ xs. number 2 (take 11 (tabulated 12 (brought_turned 2 table.edges table.flips xs)))) (oriented-same 2 base_2 11 c.flips d.flips (are_flips c v) (are_flips d w) e)
+    ap (λ xs. code Flip (moved (By t) (cubies_of [] [] xs))) (oriented-same 2 base_2 11 c.flips d.flips (are_flips c v) (are_flips d w) e)
 code-turned Twist t c d v w e =
-    let table = turn_table t.face t.power in
-    ap (λ xs. number 3 (take 7 (tabulated 8 (brought_turned 3 table.corners table.twists xs)))) (oriented-same 3 base_3 7 c.twists d.twists (are_twists c v) (are_twists d w) e)
+    ap (λ xs. code Twist (moved (By t) (cubies_of xs [] []))) (oriented-same 3 base_3 7 c.twists d.twists (are_twists c v) (are_twists d w) e)
 code-turned Slice t c d v w e =
     ap (λ os. rank (reverse os) 4)
     (turned-occupied t c.edges d.edges v.edge_places w.edge_places

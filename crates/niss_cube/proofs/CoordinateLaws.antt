@@ -1,48 +1,25 @@
 -- Flips, twists and slices are coordinates, by their codes.
-use Rattle.std.proofs.Common.{◌≡◌, ℕ, ◌<◌, refl, sym, ◌∙◌, ap, subst, true}
-use Rattle.std.specs.Prelude.{◌↔◌}
-use Rattle.std.specs.List.{list_all}
-use Rattle.niss_moves.specs.Places.{Place, same_place, is_place, SameMap}
-use Rattle.niss_moves.specs.Facelets.{places}
-use Rattle.niss_moves.specs.Effects.{turned}
-use Rattle.niss_moves.specs.Turn.{inverse_turn}
-use Rattle.niss_cube.specs.Names.{Turn, Axis, Cube, Coordinate}
-use Rattle.niss_cube.specs.Map.{map_of}
-use Rattle.niss_cube.specs.Sets.{Kept, set_of}
-use Rattle.niss_cube.specs.Coordinates.{number_of, count_of, renamed_for, standard_axis, turn_for}
-use Rattle.niss_cube.specs.NumberAfter.{number_after}
-use Rattle.niss_cube.specs.AfterTurn.{IsCube, TurnedIsCube, AreCoordinates}
-use Rattle.niss_cube.proofs.CubieLists.{CubieLists, Valid, map_lists}
-use Rattle.niss_cube.proofs.Each.{at_place}
-use Rattle.niss_cube.proofs.CubieKinds.{map_place}
-use Rattle.niss_cube.proofs.SetPlaces.{kept_same}
-use Rattle.niss_cube.proofs.TurnedCubies.{turned_lists, turned-valid, turned-map}
-use Rattle.niss_cube.proofs.Codes.{code, number_of-code, code-below, cubies_with, cubies_with-valid}
-use Rattle.niss_cube.proofs.Codes.{cubies_with-code, number_after-is, code-turned, unrenamed}
+use Rattle.niss_cube.proofs.Words.{Alike, Places, Turns, holds, ◌≡◌, ℕ, ◌<◌, refl, sym, ◌∙◌, ap, subst, true, ◌↔◌, Place, is_place, SameMap}
+use Rattle.niss_cube.proofs.Words.{turned, inverse_turn, Turn, Axis, Cube, Coordinate, map_of, Kept, set_of, number_of, count_of}
+use Rattle.niss_cube.proofs.Words.{renamed_for, standard_axis, turn_for, number_after, IsCube, every_turn, every_face, every_power}
+use Rattle.niss_cube.proofs.Words.{TurnedIsCube, AreCoordinates}
+use Rattle.niss_cube.proofs.CubieKinds.{lists_of, cube_of, CubieLists, Valid, map_lists, map_place}
+use Rattle.niss_cube.proofs.KeptTests.{kept_same}
+use Rattle.niss_cube.proofs.Codes.{code, number_of-code, code-below, cubies_with, cubies_with-valid, cubies_with-code, number_after-is}
+use Rattle.niss_cube.proofs.Codes.{code-turned, unrenamed}
 use Rattle.niss_cube.proofs.KeptSets.{cubies_for, renaming, sets_are_places, zero-kept}
-use Rattle.niss_moves.proofs.CallerLemmas.{same_place_is, every_turn, every_face, every_power, at_turn}
-
-back_test : every_turn (λ t. list_all (λ q. same_place (turned (inverse_turn t) (turned t q)) q) places) ≡ true
-unfolding every_turn every_face every_power
-back_test = refl
+use Rattle.niss_cube.proofs.MovedCubies.{By, moved, moved-map, moved-valid}
 
 turned-inverse_turn : (t : Turn) (q : Place) → is_place q ≡ true → turned (inverse_turn t) (turned t q) ≡ q
-turned-inverse_turn t q h =
-    same_place_is _ _ (at_place (λ q. same_place (turned (inverse_turn t) (turned t q)) q)
-    (at_turn (λ t. list_all (λ q. same_place (turned (inverse_turn t) (turned t q)) q) places) back_test t) q h)
+unfolding every_turn every_face every_power
+turned-inverse_turn = holds (Turns λ t. Places λ q. Alike (turned (inverse_turn t) (turned t q)) q) refl
 
 -- cubies turned and turned back have the map that they had
-turned_back-map : (t : Turn) (c : CubieLists) → Valid c → SameMap (map_lists (turned_lists (inverse_turn t) (turned_lists t c))) (map_lists c)
+turned_back-map : (t : Turn) (c : CubieLists) → Valid c → SameMap (map_lists (moved (By (inverse_turn t)) (moved (By t) c))) (map_lists c)
 turned_back-map t c v = λ q p.
-    turned-map (inverse_turn t) (turned_lists t c) (turned-valid t c v) q p
-    ∙ ap (turned (inverse_turn t)) (turned-map t c v q p)
+    moved-map (By (inverse_turn t)) (moved (By t) c) (moved-valid (By t) c v) q p
+    ∙ ap (turned (inverse_turn t)) (moved-map (By t) c v q p)
     ∙ turned-inverse_turn t (map_lists c q) (map_place c v q p)
-
-abbrev pub lists_of : Cube → CubieLists
-lists_of c = record { corners = c.corners; twists = c.twists; edges = c.edges; flips = c.flips }
-
-abbrev pub cube_of : (c : CubieLists) → Valid c → Cube
-cube_of c v = record { corners = c.corners; twists = c.twists; edges = c.edges; flips = c.flips; are_cubies = v }
 
 pub cube-itself : (c : Cube) → IsCube (map_of c)
 cube-itself c = (c, λ q p. refl)
@@ -55,7 +32,7 @@ pub turned_is_cube : TurnedIsCube
 turned_is_cube e t h =
     let c : CubieLists = lists_of h.0 in
     let v : Valid c = h.0.are_cubies in
-    (cube_of (turned_lists t c) (turned-valid t c v), λ q p. turned-map t c v q p ∙ ap (turned t) (h.1 q p))
+    (cube_of (moved (By t) c) (moved-valid (By t) c v), λ q p. moved-map (By t) c v q p ∙ ap (turned t) (h.1 q p))
 
 -- what a number is on the standard axis
 pub standard-code : (k : Coordinate) (c : CubieLists) → Valid c → number_of k (standard_axis k) (map_lists c) ≡ code k c
@@ -65,35 +42,35 @@ standard-code k c v = number_of-code k (standard_axis k) (map_lists c) c v (λ q
 pub renamed-number : (k : Coordinate) (a : Axis) (c : Cube) (e : Place → Place) → SameMap (map_of c) (renamed_for k a e) → number_of k (standard_axis k) (map_of c) ≡ number_of k a e
 renamed-number k a c e s = standard-code k (lists_of c) c.are_cubies ∙ sym (number_of-code k a e (lists_of c) c.are_cubies s)
 
-pub standard-turned : (k : Coordinate) (t : Turn) (c : CubieLists) → Valid c → number_of k (standard_axis k) (λ q. turned t (map_lists c q)) ≡ code k (turned_lists t c)
+pub standard-turned : (k : Coordinate) (t : Turn) (c : CubieLists) → Valid c → number_of k (standard_axis k) (λ q. turned t (map_lists c q)) ≡ code k (moved (By t) c)
 standard-turned k t c v =
-    number_of-code k (standard_axis k) (λ q. turned t (map_lists c q)) (turned_lists t c) (turned-valid t c v)
-    (λ q p. turned-map t c v q p ∙ sym (unrenamed k (λ q. turned t (map_lists c q)) q))
+    number_of-code k (standard_axis k) (λ q. turned t (map_lists c q)) (moved (By t) c) (moved-valid (By t) c v)
+    (λ q p. moved-map (By t) c v q p ∙ sym (unrenamed k (λ q. turned t (map_lists c q)) q))
 
 module _ (k : Coordinate) (a : Axis) where
-  after_code : (i : ℕ) (t : Turn) → i < count_of k → number_after k a i t ≡ code k (turned_lists (turn_for k a t) (cubies_with k i))
+  after_code : (i : ℕ) (t : Turn) → i < count_of k → number_after k a i t ≡ code k (moved (By (turn_for k a t)) (cubies_with k i))
   after_code i t l = number_after-is k a i t ∙ standard-turned k (turn_for k a t) (cubies_with k i) (cubies_with-valid k i l)
 
   stays_below : (i : ℕ) (t : Turn) → i < count_of k → number_after k a i t < count_of k
   stays_below i t l =
       let P : ℕ → Type 0 = λ n. n < count_of k in
       let s : Turn = turn_for k a t in
-      subst P (sym (after_code i t l)) (code-below k (turned_lists s (cubies_with k i)) (turned-valid s (cubies_with k i) (cubies_with-valid k i l)))
+      subst P (sym (after_code i t l)) (code-below k (moved (By s) (cubies_with k i)) (moved-valid (By s) (cubies_with k i) (cubies_with-valid k i l)))
 
   goes_back : (i : ℕ) (t : Turn) → i < count_of k → number_after k a (number_after k a i t) (inverse_turn t) ≡ i
   goes_back i t l =
       let s : Turn = turn_for k a t in
       let c : CubieLists = cubies_with k i in
       let cv : Valid c = cubies_with-valid k i l in
-      let w : CubieLists = turned_lists s c in
-      let wv : Valid w = turned-valid s c cv in
-      let u : CubieLists = turned_lists (inverse_turn s) w in
+      let w : CubieLists = moved (By s) c in
+      let wv : Valid w = moved-valid (By s) c cv in
+      let u : CubieLists = moved (By (inverse_turn s)) w in
       let j : ℕ = number_after k a i t in
       let lj : j < count_of k = stays_below i t l in
       after_code j (inverse_turn t) lj
-      ∙ ap (λ s. code k (turned_lists s (cubies_with k j))) ((renaming k a).back_is t)
+      ∙ ap (λ s. code k (moved (By s) (cubies_with k j))) ((renaming k a).back_is t)
       ∙ code-turned k (inverse_turn s) (cubies_with k j) w (cubies_with-valid k j lj) wv (cubies_with-code k j lj ∙ after_code i t l)
-      ∙ sym (standard-code k u (turned-valid (inverse_turn s) w wv))
+      ∙ sym (standard-code k u (moved-valid (By (inverse_turn s)) w wv))
       ∙ number_of-code k (standard_axis k) (map_lists u) c cv (λ q p. sym (turned_back-map s c cv q p) ∙ sym (unrenamed k (map_lists u) q))
       ∙ cubies_with-code k i l
 
@@ -109,11 +86,11 @@ module _ (k : Coordinate) (a : Axis) where
     number-here =
         number_of-code k a e here here-valid (λ q p. (renaming k a).map_is c v q p ∙ (renaming k a).same (map_lists c) e same q p)
 
-    turned-here : (t : Turn) → number_of k a (λ q. turned t (e q)) ≡ code k (turned_lists (turn_for k a t) here)
+    turned-here : (t : Turn) → number_of k a (λ q. turned t (e q)) ≡ code k (moved (By (turn_for k a t)) here)
     turned-here t =
         let s : Turn = turn_for k a t in
-        number_of-code k a (λ q. turned t (e q)) (turned_lists s here) (turned-valid s here here-valid)
-        (λ q p. turned-map s here here-valid q p
+        number_of-code k a (λ q. turned t (e q)) (moved (By s) here) (moved-valid (By s) here here-valid)
+        (λ q p. moved-map (By s) here here-valid q p
         ∙ ap (turned s) ((renaming k a).map_is c v q p)
         ∙ sym ((renaming k a).turned_is t (map_lists c) (map_place c v) q p)
         ∙ (renaming k a).same (λ q. turned t (map_lists c q)) (λ q. turned t (e q)) (λ q p. ap (turned t) (same q p)) q p)

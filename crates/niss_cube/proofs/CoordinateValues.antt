@@ -1,15 +1,9 @@
 -- The digits and the occupied places of a cube's cubies, and the range of their numbers.
-use Rattle.std.proofs.Common.{refl, sym, ◌∙◌, ap, subst, arith}
-use Rattle.std.specs.Prelude.{◌≡◌, ℕ, zero, suc, ◌+◌, ◌-◌, ◌*◌, ◌<◌, ◌≤◌}
-use Rattle.std.specs.Prelude.{List, [], ◌∷◌, length, get_or, map, take, drop, reverse, Bool, true, false, nat_le, ◌==◌}
-use Rattle.std.proofs.lemmas.Bool.{eqb-true}
-use Rattle.std.proofs.lemmas.List.{get_or-reverse, length-reverse, length-map, get_or-map, get_or-take, length-take}
-use Rattle.std.proofs.Math.Seq.{drop-cons}
-use Rattle.niss_cube.specs.Coordinates.{choose, rank}
-use Rattle.niss_cube.proofs.CubieLists.{CubieLists, Valid}
-use Rattle.niss_cube.proofs.CubieKinds.{Edges, stand}
+use Rattle.niss_cube.proofs.Words.{Equal, Numbers, holds, refl, sym, ◌∙◌, ap, subst, arith, ◌≡◌, ℕ, zero, suc, ◌+◌, ◌-◌, ◌*◌, ◌<◌, ◌≤◌}
+use Rattle.niss_cube.proofs.Words.{List, [], ◌∷◌, length, get_or, map, take, drop, reverse, Bool, true, false, nat_le, ◌==◌, get_or-reverse}
+use Rattle.niss_cube.proofs.Words.{length-reverse, length-map, get_or-map, get_or-take, length-take, drop-cons, choose, rank}
+use Rattle.niss_cube.proofs.CubieKinds.{CubieLists, Valid, Edges, stand}
 use Rattle.niss_cube.proofs.Sums.{below, one_if, below_same, below_permuted, below_front}
-use Rattle.niss_cube.proofs.FiniteTests.{all_below, at_below}
 use Rattle.niss_cube.proofs.Numbers.{number_from, Digits, filled, rank-below}
 
 pub digits_from : (b : ℕ) (xs : List ℕ) → ((i : ℕ) → i < length xs → get_or xs i 0 < b) → Digits b xs
@@ -32,11 +26,8 @@ filled-below [] = refl
 filled-below (true ∷ os) = omega (arith, filled-below os, below_front (length os) (λ k. one_if (get_or (true ∷ os) k false)))
 filled-below (false ∷ os) = omega (arith, filled-below os, below_front (length os) (λ k. one_if (get_or (false ∷ os) k false)))
 
-down_once : all_below 12 (λ h. below 12 (λ k. one_if (11 - k == h)) == 1) ≡ true
-down_once = refl
-
 down-once : (h : ℕ) → h < 12 → below 12 (λ k. one_if (11 - k == h)) ≡ 1
-down-once h l = eqb-true _ _ (at_below 12 (λ h. below 12 (λ k. one_if (11 - k == h)) == 1) down_once h l)
+down-once = holds (Numbers 12 λ h. Equal (below 12 (λ k. one_if (11 - k == h))) 1) refl
 
 -- which places, from the last down, hold an edge of the slice
 abbrev pub slice_occupied : List ℕ → List Bool

@@ -1,19 +1,11 @@
 -- Corners and edges as two kinds of cubies: what holds of both, and where the map of cubies brings their facelets.
-use Rattle.std.proofs.Common.{refl, sym, ◌∙◌, ap, arith, inl, inr}
-use Rattle.std.specs.Prelude.{◌≡◌, ℕ, ◌+◌, ◌-◌, ◌%◌, ◌<◌, List, length, get_or, Bool, true, false, ◌&&◌, ◌||◌, not, ◌==◌, ◌⊎◌, nat_lt, sum}
-use Rattle.std.specs.List.{list_all, list_any}
-use Rattle.std.proofs.lemmas.Bool.{eqb-true, ltb-true}
-use Rattle.niss_moves.specs.Places.{Place, same_place, is_place, is_corner, is_edge, SameMap}
-use Rattle.niss_moves.specs.Facelets.{places}
-use Rattle.niss_cube.specs.CubieFacelets.{index_in, row_at, facelet_at, corner_facelets, edge_facelets}
-use Rattle.niss_cube.specs.Map.{sticker_place}
-use Rattle.niss_cube.proofs.CubieLists.{CubieLists, Valid, map_lists}
-use Rattle.niss_cube.proofs.Each.{at_place, each_record, at_record}
+use Rattle.niss_cube.proofs.Words.{Fact, Yes, Same, Equal, Below, Alike, Both, When, Numbers, Places, Records, Holds, holds, refl, sym, ◌∙◌}
+use Rattle.niss_cube.proofs.Words.{ap, arith, inl, inr, ◌≡◌, ℕ, ◌+◌, ◌-◌, ◌%◌, ◌<◌, List, length, get_or, Bool, true, false, ◌⊎◌, sum}
+use Rattle.niss_cube.proofs.Words.{list_any, Place, same_place, is_place, is_corner, is_edge, SameMap, index_in, row_at, facelet_at}
+use Rattle.niss_cube.proofs.Words.{corner_facelets, edge_facelets, sticker_place, is_true}
 use Rattle.niss_cube.proofs.Once.{times_in, place_in, place_in-found, place_in-is, count_by-times}
-use Rattle.niss_cube.proofs.FiniteTests.{all_below, at_below}
-use Rattle.niss_cube.proofs.SetPlaces.{corner_place, edge_place}
-use Rattle.niss_cube.proofs.Logic.{and_left, and_right, is_true, not_true, or_then}
-use Rattle.niss_moves.proofs.CallerLemmas.{same_place_is}
+pub use Rattle.niss_cube.proofs.CubieLists.{CubieLists, Valid, map_lists, lists_of, cube_of, lists_path}
+pub use Rattle.niss_cube.proofs.CubieLists.{tabulated, tabulated-length, tabulated-at, tabulated-is, brought}
 
 pub data Kind : Type 0 where
   Corners : Kind
@@ -126,20 +118,14 @@ some_facelet Edges = omega arith
 
 -- the sets of places of the kinds
 pub kind_place : (k : Kind) (q : Place) → is_of k q ≡ true → is_place q ≡ true
-kind_place Corners = corner_place
-kind_place Edges = edge_place
-
-apart_test : each_record (λ q. not (is_edge q) || not (is_corner q)) ≡ true
-apart_test = refl
+kind_place Corners = holds (Records λ q. When (is_corner q) (Yes (is_place q))) refl
+kind_place Edges = holds (Records λ q. When (is_edge q) (Yes (is_place q))) refl
 
 pub no_corner : (q : Place) → is_edge q ≡ true → is_corner q ≡ false
-no_corner q h = not_true _ (or_then (is_edge q) _ (at_record (λ q. not (is_edge q) || not (is_corner q)) apart_test q) h)
+no_corner = holds (Records λ q. When (is_edge q) (Same (is_corner q) false)) refl
 
 no_edge : (q : Place) → is_corner q ≡ true → is_edge q ≡ false
-no_edge q h = elim (is_true (is_edge q)) [
-  | inl w ↦ absurd (let n : is_corner q ≡ false = no_corner q w in cc)
-  | inr w ↦ w
-]
+no_edge = holds (Records λ q. When (is_corner q) (Same (is_edge q) false)) refl
 
 alike : (j k : Kind) (p q : Place) → is_of j p ≡ true → is_of j q ≡ true → is_of k p ≡ is_of k q
 alike Corners Corners p q a b = a ∙ sym b
@@ -164,40 +150,31 @@ row_of k q = index_in (λ row. list_any (same_place q) row) (rows k)
 abbrev pub index_of : Kind → Place → ℕ
 index_of k q = index_in (same_place q) (row_at (rows k) (row_of k q))
 
-abbrev found_test : Kind → ℕ → ℕ → Bool
-found_test k i j = (row_of k (at k i j) == i) && ((index_of k (at k i j) == j) && is_of k (at k i j))
+abbrev facelet_fact : Kind → Fact
+facelet_fact k = Numbers (count k) λ i. Numbers (facelets k) λ j.
+    Both (Equal (row_of k (at k i j)) i) (Both (Equal (index_of k (at k i j)) j) (Yes (is_of k (at k i j))))
 
-all_found : (k : Kind) → all_below (count k) (λ i. all_below (facelets k) (found_test k i)) ≡ true
-all_found Corners = refl
-all_found Edges = refl
-
-record Found (k : Kind) (i j : ℕ) : Type 0 where
-  pub row : row_of k (at k i j) ≡ i
-  pub index : index_of k (at k i j) ≡ j
-  pub kind : is_of k (at k i j) ≡ true
-
-found : (k : Kind) (i j : ℕ) → i < count k → j < facelets k → Found k i j
-found k i j li lj =
-    let t : found_test k i j ≡ true = at_below (facelets k) (found_test k i) (at_below (count k) (λ i. all_below (facelets k) (found_test k i)) (all_found k) i li) j lj in
-    let u = and_right (row_of k (at k i j) == i) _ t in
-    record { row = eqb-true _ _ (and_left _ _ t); index = eqb-true _ _ (and_left _ _ u); kind = and_right (index_of k (at k i j) == j) _ u }
+found : (k : Kind) → Holds (facelet_fact k)
+found Corners = holds (facelet_fact Corners) refl
+found Edges = holds (facelet_fact Edges) refl
 
 pub facelet_kind : (k : Kind) (i j : ℕ) → i < count k → j < facelets k → is_of k (at k i j) ≡ true
-facelet_kind k i j li lj = (found k i j li lj).kind
+facelet_kind k i j li lj = (found k i li j lj).1.1
 
 pub same_facelet : (k : Kind) (i j i' j' : ℕ) → i < count k → j < facelets k → i' < count k → j' < facelets k → at k i j ≡ at k i' j' → (i ≡ i') × (j ≡ j')
 same_facelet k i j i' j' li lj li' lj' e =
-    let f = found k i j li lj in
-    let g = found k i' j' li' lj' in
-    (sym f.row ∙ ap (row_of k) e ∙ g.row, sym f.index ∙ ap (index_of k) e ∙ g.index)
+    let f = found k i li j lj in
+    let g = found k i' li' j' lj' in
+    (sym f.0 ∙ ap (row_of k) e ∙ g.0, sym f.1.0 ∙ ap (index_of k) e ∙ g.1.0)
 
 -- each place of a kind is a facelet of it
-abbrev located_test : Kind → Place → Bool
-located_test k q = not (is_of k q) || (nat_lt (row_of k q) (count k) && (nat_lt (index_of k q) (facelets k) && same_place q (at k (row_of k q) (index_of k q))))
+abbrev located_fact : Kind → Fact
+located_fact k = Places λ q.
+    When (is_of k q) (Both (Below (row_of k q) (count k)) (Both (Below (index_of k q) (facelets k)) (Alike q (at k (row_of k q) (index_of k q)))))
 
-all_located : (k : Kind) → list_all (located_test k) places ≡ true
-all_located Corners = refl
-all_located Edges = refl
+all_located : (k : Kind) → Holds (located_fact k)
+all_located Corners = holds (located_fact Corners) refl
+all_located Edges = holds (located_fact Edges) refl
 
 pub record Located (k : Kind) (q : Place) : Type 0 where
   pub row : ℕ
@@ -208,15 +185,8 @@ pub record Located (k : Kind) (q : Place) : Type 0 where
 
 pub located : (k : Kind) (q : Place) → is_of k q ≡ true → Located k q
 located k q h =
-    let t = or_then (is_of k q) _ (at_place (located_test k) (all_located k) q (kind_place k q h)) h in
-    let u = and_right (nat_lt (row_of k q) (count k)) _ t in
-    record {
-      row = row_of k q;
-      index = index_of k q;
-      row_below = ltb-true _ _ (and_left _ _ t);
-      index_below = ltb-true _ _ (and_left _ _ u);
-      is = same_place_is _ _ (and_right (nat_lt (index_of k q) (facelets k)) _ u);
-    }
+    let t = all_located k q (kind_place k q h) h in
+    record { row = row_of k q; index = index_of k q; row_below = t.0; index_below = t.1.0; is = t.1.1 }
 
 -- where the map of cubies brings the facelets, and the centres
 map_is : (k : Kind) (c : CubieLists) (q : Place) → is_of k q ≡ true → map_lists c q ≡ sticker_place (facelets k) (rows k) (homes k c) (turns k c) q
@@ -225,10 +195,10 @@ map_is Edges c q h = rw (no_corner q h, h) refl
 
 pub map_at : (k : Kind) (c : CubieLists) (h j : ℕ) → h < count k → j < facelets k → map_lists c (at k h j) ≡ at k (place_of k c h) ((j + turn_at k c (place_of k c h)) % facelets k)
 map_at k c h j lh lj =
-    let f = found k h j lh lj in
-    map_is k c (at k h j) f.kind
-    ∙ ap (λ r. at k (place_of k c r) ((index_of k (at k h j) + turn_at k c (place_of k c r)) % facelets k)) f.row
-    ∙ ap (λ i. at k (place_of k c h) ((i + turn_at k c (place_of k c h)) % facelets k)) f.index
+    let f = found k h lh j lj in
+    map_is k c (at k h j) f.1.1
+    ∙ ap (λ r. at k (place_of k c r) ((index_of k (at k h j) + turn_at k c (place_of k c r)) % facelets k)) f.0
+    ∙ ap (λ i. at k (place_of k c h) ((i + turn_at k c (place_of k c h)) % facelets k)) f.1.0
 
 -- the same of a map that is theirs on the places
 pub shown_at : (k : Kind) (c : CubieLists) (e : Place → Place) → SameMap e (map_lists c) → (h j : ℕ) → h < count k → j < facelets k → e (at k h j) ≡ at k (place_of k c h) ((j + turn_at k c (place_of k c h)) % facelets k)

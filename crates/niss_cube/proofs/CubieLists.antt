@@ -1,12 +1,6 @@
 -- The cubies as lists, and what turns do to them.
-use Rattle.std.proofs.Common.{◌≡◌, ◌<◌, ◌∙◌, sym, length, get_or, arith}
-use Rattle.std.specs.Prelude.{ℕ, ◌+◌, ◌%◌, List, map, slice_index, EachIndex}
-use Rattle.std.specs.List.{range_with_len}
-use Rattle.std.proofs.lemmas.List.FromFn.{get_or-map-range_with_len, length-map-range_with_len}
-use Rattle.std.proofs.lemmas.List.{ext_get_or}
-use Rattle.niss_moves.specs.Places.{Place}
-use Rattle.niss_cube.specs.Cubies.{AreCubies}
-use Rattle.niss_cube.specs.Map.{sticker_map}
+use Rattle.niss_cube.proofs.Words.{Cube, ◌≡◌, ◌<◌, ◌∙◌, sym, length, get_or, arith, ℕ, List, map, slice_index, range_with_len, ext_get_or}
+use Rattle.niss_cube.proofs.Words.{Place, sticker_map, EachIndex, get_or-map-range_with_len, length-map-range_with_len, AreCubies}
 
 pub record CubieLists : Type 0 where
   pub corners : List ℕ
@@ -22,6 +16,13 @@ Valid c = AreCubies c.corners c.twists c.edges c.flips
 
 abbrev pub map_lists : CubieLists → Place → Place
 map_lists c = sticker_map c.corners c.twists c.edges c.flips
+
+-- the lists of a cube, and the cube of lists
+abbrev pub lists_of : Cube → CubieLists
+lists_of c = record { corners = c.corners; twists = c.twists; edges = c.edges; flips = c.flips }
+
+abbrev pub cube_of : (c : CubieLists) → Valid c → Cube
+cube_of c v = record { corners = c.corners; twists = c.twists; edges = c.edges; flips = c.flips; are_cubies = v }
 
 -- the n values of a function from 0 on
 unfoldable pub tabulated : ℕ → (ℕ → ℕ) → List ℕ
@@ -39,9 +40,6 @@ tabulated-at n f i l = get_or-map-range_with_len f 0 n i i 0 l (omega arith)
 pub tabulated-is : (n : ℕ) (f : ℕ → ℕ) (xs : List ℕ) → length xs ≡ n → EachIndex xs (λ i. slice_index xs i ≡ f i) → xs ≡ tabulated n f
 tabulated-is n f xs l h = ext_get_or 0 xs (tabulated n f) (l ∙ sym (tabulated-length n f)) (λ i li. h i li ∙ sym (tabulated-at n f i (omega (arith, li, l))))
 
--- what comes to a place from the one that a table names, alone and with what the table adds
+-- what comes to a place from the one that a table names
 abbrev pub brought : (from xs : List ℕ) → ℕ → ℕ
 brought from xs i = slice_index xs (slice_index from i)
-
-abbrev pub brought_turned : ℕ → (from added xs : List ℕ) → ℕ → ℕ
-brought_turned m from added xs i = (slice_index xs (slice_index from i) + slice_index added i) % m

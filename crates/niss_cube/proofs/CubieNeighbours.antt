@@ -1,16 +1,8 @@
 -- The next facelet of a cubie, clockwise: moves keep the facelets of a cubie in their order.
-use Rattle.std.proofs.Common.{◌≡◌, ℕ, zero, suc, ◌+◌, ◌%◌, refl, ◌∙◌, ap, List, [], ◌∷◌, Bool, true, ◌&&◌}
-use Rattle.std.specs.Prelude.{if◌then◌else◌}
-use Rattle.std.specs.List.{list_all}
-use Rattle.niss_moves.specs.Places.{Place, is_place, is_corner, is_edge, same_place}
-use Rattle.niss_moves.specs.Facelets.{places}
-use Rattle.niss_moves.specs.Effects.{effect, moved_by}
-use Rattle.niss_cube.specs.Names.{Token}
-use Rattle.niss_cube.specs.CubieFacelets.{facelet_at, corner_facelets, edge_facelets}
-use Rattle.niss_cube.proofs.Each.{at_place}
+use Rattle.niss_cube.proofs.Words.{Yes, Alike, Both, Places, Tokens, holds, ◌≡◌, ℕ, zero, suc, ◌+◌, ◌%◌, refl, ◌∙◌, ap, List, [], ◌∷◌, true}
+use Rattle.niss_cube.proofs.Words.{if◌then◌else◌, Place, is_place, is_corner, is_edge, effect, moved_by, Token, facelet_at, corner_facelets}
+use Rattle.niss_cube.proofs.Words.{edge_facelets, every_token, every_face, every_power, every_slice, every_axis}
 use Rattle.niss_cube.proofs.CubieKinds.{Corners, Edges, row_of, index_of}
-use Rattle.niss_cube.proofs.Logic.{and_left, and_right}
-use Rattle.niss_moves.proofs.CallerLemmas.{same_place_is, every_token, every_face, every_power, every_slice, every_axis, at_token}
 
 unfoldable pub next : Place → Place
 next q =
@@ -18,39 +10,21 @@ next q =
     then facelet_at corner_facelets (row_of Corners q) ((index_of Corners q + 1) % 3)
     else (if is_edge q then facelet_at edge_facelets (row_of Edges q) ((index_of Edges q + 1) % 2) else q)
 
-abbrev kept_test : Token → Place → Bool
-kept_test m q = is_place (moved_by m q) && same_place (next (moved_by m q)) (moved_by m (next q))
-
-abbrev all_kept : Token → Bool
-all_kept m = list_all (kept_test m) places
-
-kept : every_token all_kept ≡ true
+kept : (m : Token) (q : Place) → is_place q ≡ true → (is_place (moved_by m q) ≡ true) × (next (moved_by m q) ≡ moved_by m (next q))
 unfolding next every_token every_face every_power every_slice every_axis
-kept = refl
-
-kept_at : (m : Token) (q : Place) → is_place q ≡ true → kept_test m q ≡ true
-kept_at m q h = at_place (kept_test m) (at_token _ kept m) q h
-
-pub moved-place : (m : Token) (q : Place) → is_place q ≡ true → is_place (moved_by m q) ≡ true
-moved-place m q h = and_left _ _ (kept_at m q h)
-
-moved-next : (m : Token) (q : Place) → is_place q ≡ true → next (moved_by m q) ≡ moved_by m (next q)
-moved-next m q h = same_place_is _ _ (and_right (is_place (moved_by m q)) _ (kept_at m q h))
+kept = holds (Tokens λ m. Places λ q. Both (Yes (is_place (moved_by m q))) (Alike (next (moved_by m q)) (moved_by m (next q)))) refl
 
 pub effect-place : (s : List Token) (q : Place) → is_place q ≡ true → is_place (effect s q) ≡ true
 effect-place [] q h = h
-effect-place (m ∷ s) q h = effect-place s (moved_by m q) (moved-place m q h)
+effect-place (m ∷ s) q h = effect-place s (moved_by m q) (kept m q h).0
 
 pub effect-next : (s : List Token) (q : Place) → is_place q ≡ true → next (effect s q) ≡ effect s (next q)
 effect-next [] q h = refl
-effect-next (m ∷ s) q h = effect-next s (moved_by m q) (moved-place m q h) ∙ ap (effect s) (moved-next m q h)
+effect-next (m ∷ s) q h = effect-next s (moved_by m q) (kept m q h).0 ∙ ap (effect s) (kept m q h).1
 
-next_places : list_all (λ q. is_place (next q)) places ≡ true
+next-place : (q : Place) → is_place q ≡ true → is_place (next q) ≡ true
 unfolding next
-next_places = refl
-
-pub next-place : (q : Place) → is_place q ≡ true → is_place (next q) ≡ true
-next-place q h = at_place (λ q. is_place (next q)) next_places q h
+next-place = holds (Places λ q. Yes (is_place (next q))) refl
 
 -- the k-th facelet after that of a place
 abbrev pub after : ℕ → Place → Place

@@ -1,16 +1,9 @@
 -- A cube is determined by its map: cubes of one map are equal.
-use Rattle.std.proofs.Common.{◌≡◌, ℕ, ◌<◌, refl, sym, ◌∙◌, ap, List, Bool, true, ◌&&◌, arith}
-use Rattle.std.proofs.lemmas.List.{ext_get_or}
-use Rattle.std.specs.Prelude.{nat_eq, ◌↔◌}
-use lib.Pointwise.{pointwise}
-use Rattle.std.specs.Cmp.Lexicographic.{same_text, other_text}
-use Rattle.std.proofs.lemmas.Bool.{true_from_ne_false}
-use Rattle.niss_moves.specs.Places.{SameMap}
-use Rattle.niss_cube.specs.Map.{sticker_map}
-use Rattle.niss_cube.proofs.CubieLists.{CubieLists, Valid, map_lists, lists_path}
-use Rattle.niss_cube.proofs.CubieKinds.{Kind, Corners, Edges, count, home_at, turn_at, place_of, stand, stands, stands-at, same_facelet}
+use Rattle.niss_cube.proofs.Words.{◌≡◌, ℕ, ◌<◌, refl, sym, ◌∙◌, ap, List, Bool, true, ◌&&◌, arith, ext_get_or, ◌↔◌, SameMap, sticker_map}
+use Rattle.niss_cube.proofs.Words.{and_left, and_right, and_both, nat_eq, pointwise, same_text, other_text, true_from_ne_false}
+use Rattle.niss_cube.proofs.CubieKinds.{CubieLists, Valid, map_lists, lists_path, Kind, Corners, Edges, count, home_at, turn_at, place_of}
+use Rattle.niss_cube.proofs.CubieKinds.{stand, stands, stands-at, same_facelet}
 use Rattle.niss_cube.proofs.ShownCubies.{first_at}
-use Rattle.niss_cube.proofs.Logic.{and_left, and_right, and_both}
 
 -- two cubes with the same map have the same cubies at each place, turned alike
 same_cubie : (k : Kind) (c d : CubieLists) → Valid c → Valid d → SameMap (map_lists c) (map_lists d) → (i : ℕ) → i < count k → (home_at k c i ≡ home_at k d i) × (turn_at k c i ≡ turn_at k d i)

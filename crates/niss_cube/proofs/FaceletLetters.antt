@@ -1,19 +1,43 @@
--- The facelet text, place by place.
-use Rattle.std.proofs.Common.{refl, ap, sym, ◌∙◌, arith}
-use Rattle.std.specs.Prelude.{◌≡◌, ℕ, zero, suc, ◌+◌, ◌-◌, ◌%◌, ◌<◌, List, [], ◌∷◌, length, get_or, map, Bool, true, not, ◌==◌, ◌&&◌, nat_lt}
-use Rattle.std.proofs.lemmas.Bool.{eqb-true, ltb-true}
-use Rattle.std.proofs.lemmas.List.{ext_get_or, get_or-map, length-map}
-use Rattle.niss_moves.specs.Places.{is_place, is_corner, is_edge, same_place, Place}
-use Rattle.niss_cube.specs.Names.{U}
-use Rattle.niss_moves.specs.Facelets.{places, facelet}
-use Rattle.niss_moves.specs.Letters.{letter_at, letter_of, letters}
-use Rattle.niss_cube.specs.declared.letters.TheConstants.{CORNER_LETTERS, EDGE_LETTERS}
-use Rattle.niss_cube.proofs.CubieLists.{CubieLists, Valid, map_lists}
-use Rattle.niss_cube.proofs.CubieKinds.{Kind, Corners, Edges, count, facelets, at, home_at, turn_at, Stand, stand, low, rewound}
-use Rattle.niss_cube.proofs.Origins.{kind_letter, centre_letter}
-use Rattle.niss_cube.proofs.FiniteTests.{all_below, at_below}
-use Rattle.niss_cube.proofs.Logic.{and_left, and_right, not_true}
-use Rattle.niss_moves.proofs.CallerLemmas.{same_place_is}
+-- The facelet text, place by place: where the sticker at a place began, and its letter.
+use Rattle.niss_cube.proofs.Words.{false, Fact, Yes, Same, Equal, Below, Alike, Both, Numbers, Holds, holds, refl, ap, sym, ◌∙◌, arith, ◌≡◌}
+use Rattle.niss_cube.proofs.Words.{ℕ, zero, suc, ◌+◌, ◌-◌, ◌%◌, ◌<◌, List, [], ◌∷◌, length, get_or, map, ext_get_or, get_or-map, length-map}
+use Rattle.niss_cube.proofs.Words.{is_place, is_corner, is_edge, Place, U, places, facelet, letter_at, letter_of, letters, CORNER_LETTERS}
+use Rattle.niss_cube.proofs.Words.{EDGE_LETTERS, Bool, true, ◌||◌, if◌then◌else◌, list_all, list_any, Any-from_list_any, same_place}
+use Rattle.niss_cube.proofs.Words.{and_left, and_right, same_place_is, same_place_of, list_any-from_Any, listed, all_places}
+use Rattle.niss_cube.proofs.CubieKinds.{CubieLists, Valid, map_lists, Kind, Corners, Edges, count, facelets, at, home_at, turn_at, Stand}
+use Rattle.niss_cube.proofs.CubieKinds.{stand, low, rewound, kind_place, facelet_kind, origin, centre_stays, one_to_one}
+
+-- the only place from which e brings a sticker to q has this letter, and there is one
+letter_of-only : (e : Place → Place) (q : Place) (letter : ℕ) (ps : List Place) → list_all is_place ps ≡ true → ((p : Place) → is_place p ≡ true → e p ≡ q → letter_at p ≡ letter) → list_any (λ p. same_place (e p) q) ps ≡ true → letter_of e ps q ≡ letter
+unfolding letter_of
+letter_of-only e q letter [] all only some = absurd (cc)
+letter_of-only e q letter (p ∷ ps) all only some = go (same_place (e p) q) refl some (letter_of-only e q letter ps (and_right (is_place p) _ all) only)
+  where
+    go : (b : Bool) → same_place (e p) q ≡ b → (b || list_any (λ p. same_place (e p) q) ps) ≡ true → (list_any (λ p. same_place (e p) q) ps ≡ true → letter_of e ps q ≡ letter) → (if b then letter_at p else letter_of e ps q) ≡ letter
+    go true h s rest = only p (and_left _ _ all) (same_place_is (e p) q h)
+    go false h s rest = rest s
+
+any_brought : (e : Place → Place) (q p : Place) (ps : List Place) → e p ≡ q → list_any (same_place p) ps ≡ true → list_any (λ p. same_place (e p) q) ps ≡ true
+any_brought e q p ps h some =
+    let m = Any-from_list_any (same_place p) ps some in
+    list_any-from_Any (λ p. same_place (e p) q) ps (m.0, m.1, m.2, m.3, same_place_of _ _ (ap e (sym (same_place_is p m.1 m.4)) ∙ h))
+
+pub letter_of-is : (e : Place → Place) (q p : Place) → is_place p ≡ true → e p ≡ q → ((p' : Place) → is_place p' ≡ true → e p' ≡ q → p' ≡ p) → letter_of e places q ≡ letter_at p
+letter_of-is e q p l h only =
+    letter_of-only e q (letter_at p) places all_places (λ p' l' h'. ap letter_at (only p' l' h')) (any_brought e q p places h (listed p l))
+
+module _ (c : CubieLists) (v : Valid c) where
+  -- the letter at the place to which the map brings the sticker of a place
+  pub brought_letter : (p : Place) → is_place p ≡ true → letter_of (map_lists c) places (map_lists c p) ≡ letter_at p
+  brought_letter p l = letter_of-is (map_lists c) (map_lists c p) p l refl (λ q m h. one_to_one c v q p h)
+
+  pub kind_letter : (k : Kind) (i j j' : ℕ) → i < count k → j' < facelets k → (j' + turn_at k c i) % facelets k ≡ j → letter_of (map_lists c) places (at k i j) ≡ letter_at (at k (home_at k c i) j')
+  kind_letter k i j j' li lj e =
+      ap (letter_of (map_lists c) places) (sym (origin k c v i j j' li lj e))
+      ∙ brought_letter (at k (home_at k c i) j') (kind_place k _ (facelet_kind k _ j' ((stand k c v).home_below i li) lj))
+
+  pub centre_letter : (q : Place) → is_place q ≡ true → is_corner q ≡ false → is_edge q ≡ false → letter_of (map_lists c) places q ≡ letter_at q
+  centre_letter q l w u = ap (letter_of (map_lists c) places) (sym (centre_stays c q w u)) ∙ brought_letter q l
 
 -- A position of the facelet text: a cubie's place of a kind and the number of its facelet, or a centre with its letter.
 pub data FaceletPosition : Type 0 where
@@ -21,9 +45,9 @@ pub data FaceletPosition : Type 0 where
   Centre : ℕ → FaceletPosition
 
 -- the position is that of the place
-abbrev is_position_at : FaceletPosition → Place → Bool
-is_position_at (On k n j) q = nat_lt n (count k) && (nat_lt j (facelets k) && same_place (at k n j) q)
-is_position_at (Centre letter) q = (letter == letter_at q) && (is_place q && (not (is_corner q) && not (is_edge q)))
+abbrev is_position_at : FaceletPosition → Place → Fact
+is_position_at (On k n j) q = Both (Below n (count k)) (Both (Below j (facelets k)) (Alike (at k n j) q))
+is_position_at (Centre letter) q = Both (Equal letter (letter_at q)) (Both (Yes (is_place q)) (Both (Same (is_corner q) false) (Same (is_edge q) false)))
 
 -- the 54 positions, in the order of the text
 abbrev corner : ℕ → ℕ → FaceletPosition
@@ -42,24 +66,21 @@ positions =
     corner 3 1 ∷ edge 3 1 ∷ corner 2 2 ∷ edge 11 0 ∷ Centre 66 ∷ edge 10 0 ∷ corner 7 2 ∷ edge 7 1 ∷ corner 6 1 ∷
     []
 
-position-at : (i : ℕ) → i < 54 → is_position_at (get_or positions i (Centre 0)) (get_or places i (facelet U 5)) ≡ true
-position-at = at_below 54 (λ i. is_position_at (get_or positions i (Centre 0)) (get_or places i (facelet U 5))) refl
+position-at : (i : ℕ) → i < 54 → Holds (is_position_at (get_or positions i (Centre 0)) (get_or places i (facelet U 5)))
+position-at = holds (Numbers 54 λ i. is_position_at (get_or positions i (Centre 0)) (get_or places i (facelet U 5))) refl
 
 -- the letters of each cubie, twice over
 abbrev letters_of : Kind → List (List ℕ)
 letters_of Corners = CORNER_LETTERS
 letters_of Edges = EDGE_LETTERS
 
-abbrev letter_test : Kind → ℕ → ℕ → Bool
-letter_test k h j = get_or (get_or (letters_of k) h []) j 0 == letter_at (at k h (j % facelets k))
+abbrev letter_fact : Kind → Fact
+letter_fact k = Numbers (count k) λ h. Numbers (facelets k + facelets k) λ j.
+    Equal (get_or (get_or (letters_of k) h []) j 0) (letter_at (at k h (j % facelets k)))
 
-letters_test : (k : Kind) → all_below (count k) (λ h. all_below (facelets k + facelets k) (letter_test k h)) ≡ true
-letters_test Corners = refl
-letters_test Edges = refl
-
-letters-are : (k : Kind) (h j : ℕ) → h < count k → j < facelets k + facelets k → get_or (get_or (letters_of k) h []) j 0 ≡ letter_at (at k h (j % facelets k))
-letters-are k h j lh lj =
-    eqb-true _ _ (at_below (facelets k + facelets k) (letter_test k h) (at_below (count k) (λ h. all_below (facelets k + facelets k) (letter_test k h)) (letters_test k) h lh) j lj)
+letters-are : (k : Kind) → Holds (letter_fact k)
+letters-are Corners = holds (letter_fact Corners) refl
+letters-are Edges = holds (letter_fact Edges) refl
 
 -- the text, letter by letter
 pub letters-is : (e : Place → Place) (text : List ℕ) → length text ≡ 54 → ((i : ℕ) → i < 54 → get_or text i 0 ≡ letter_of e places (get_or places i (facelet U 5))) → text ≡ letters e
@@ -77,7 +98,7 @@ module _ (k : Kind) (c : CubieLists) (v : Valid c) (n : ℕ) (l : n < count k) w
   shown-at j lj =
       let s : Stand k c = stand k c v in
       let t : turn_at k c n < facelets k = s.turn_below n l in
-      letters-are k (home_at k c n) (facelets k - turn_at k c n + j) (s.home_below n l) (omega arith)
+      letters-are k (home_at k c n) (s.home_below n l) (facelets k - turn_at k c n + j) (omega arith)
       ∙ sym (kind_letter c v k n j ((facelets k - turn_at k c n + j) % facelets k) l (low k _) (rewound k j (turn_at k c n) lj t))
 
 pub corner_shown : (c : CubieLists) (v : Valid c) (n : ℕ) → n < 8 → Shows Corners (map_lists c) n (let row = get_or CORNER_LETTERS (get_or c.corners n 0) [] in let t : ℕ = get_or c.twists n 0 in get_or row (3 - t) 0 ∷ get_or row (3 - t + 1) 0 ∷ get_or row (3 - t + 2) 0 ∷ [])
@@ -120,14 +141,6 @@ letters-shown c v corners edges lc le hc he =
     row Corners n l = at_row (Shows Corners (map_lists c)) corners hc n (omega arith)
     row Edges n l = at_row (Shows Edges (map_lists c)) edges he n (omega arith)
 
-    place : (i : ℕ) (s : FaceletPosition) → is_position_at s (get_or places i (facelet U 5)) ≡ true → shown corners edges s ≡ letter_of (map_lists c) places (get_or places i (facelet U 5))
-    place i (On k n j) t =
-        let u = and_right (nat_lt n (count k)) _ t in
-        row k n (ltb-true _ _ (and_left _ _ t)) j (ltb-true _ _ (and_left _ _ u))
-        ∙ ap (letter_of (map_lists c) places) (same_place_is _ _ (and_right (nat_lt j (facelets k)) _ u))
-    place i (Centre letter) t =
-        let q = get_or places i (facelet U 5) in
-        let u = and_right (letter == letter_at q) _ t in
-        let w = and_right (is_place q) _ u in
-        eqb-true _ _ (and_left _ _ t)
-        ∙ sym (centre_letter c v q (and_left _ _ u) (not_true _ (and_left _ _ w)) (not_true _ (and_right (not (is_corner q)) _ w)))
+    place : (i : ℕ) (s : FaceletPosition) → Holds (is_position_at s (get_or places i (facelet U 5))) → shown corners edges s ≡ letter_of (map_lists c) places (get_or places i (facelet U 5))
+    place i (On k n j) t = row k n t.0 j t.1.0 ∙ ap (letter_of (map_lists c) places) t.1.1
+    place i (Centre letter) t = t.0 ∙ sym (centre_letter c v (get_or places i (facelet U 5)) t.1.0 t.1.1.0 t.1.1.1)

@@ -1,21 +1,10 @@
 -- The facelet text from where the stickers that stand at the first facelets began.
-use Rattle.std.proofs.Common.{◌≡◌, ℕ, ◌<◌, refl, sym, ◌∙◌, ap, List, [], ◌++◌, length, get_or, Bool, true, ◌&&◌}
-use Rattle.std.specs.Prelude.{◌==◌, nat_lt, slice_index}
-use Rattle.std.proofs.lemmas.Bool.{eqb-true, ltb-true}
-use Rattle.niss_moves.specs.Places.{Place, same_place, is_place}
-use Rattle.niss_moves.specs.Facelets.{places, facelet}
-use Rattle.niss_moves.specs.Effects.{effect, inverse}
-use Rattle.niss_moves.specs.Letters.{letter_at, letter_of, letters}
-use Rattle.niss_cube.specs.Names.{U, Token}
-use Rattle.niss_cube.specs.PlacePositions.{place_at, AreMoved}
-use Rattle.niss_cube.specs.declared.followed_places.TheConstants.{FIRST_FACELETS, CUBIES, FACELETS}
-use Rattle.niss_cube.specs.declared.letters.TheConstants.{CUBIE_LETTERS}
+use Rattle.niss_cube.proofs.Words.{moved, Fact, Yes, Equal, Below, Alike, Both, Numbers, Holds, holds, ◌≡◌, ℕ, ◌<◌, refl, sym, ◌∙◌, ap}
+use Rattle.niss_cube.proofs.Words.{List, [], ◌++◌, length, get_or, true, slice_index, Place, is_place, places, facelet, effect, inverse}
+use Rattle.niss_cube.proofs.Words.{letter_at, letter_of, letters, U, Token, place_at, AreMoved, effect-append, inverse_after}
+use Rattle.niss_cube.proofs.Words.{inverse_before, FIRST_FACELETS, CUBIES, FACELETS, CUBIE_LETTERS}
 use Rattle.niss_cube.proofs.CubieNeighbours.{next, after, effect-place, effect-after}
-use Rattle.niss_cube.proofs.FaceletLetters.{letters-is}
-use Rattle.niss_cube.proofs.Origins.{letter_of-is}
-use Rattle.niss_cube.proofs.FiniteTests.{all_below, at_below}
-use Rattle.niss_cube.proofs.Logic.{and_left, and_right}
-use Rattle.niss_moves.proofs.CallerLemmas.{same_place_is, effect-append, inverse_after, inverse_before}
+use Rattle.niss_cube.proofs.FaceletLetters.{letters-is, letter_of-is}
 
 listed_at : (j : ℕ) → place_at j ≡ get_or places j (facelet U 5)
 unfolding place_at
@@ -28,50 +17,21 @@ letter-back s q h =
     (λ p l e. sym (inverse_before s p) ∙ ap (effect s) e)
 
 -- what computation shows of each position of the text
-abbrev letter_test : ℕ → ℕ → Bool
-letter_test i k = get_or (get_or CUBIE_LETTERS i []) k 0 == letter_at (after k (place_at i))
-
-letters_hold : all_below 54 (λ i. all_below 3 (letter_test i)) ≡ true
+letter-is : (i : ℕ) → i < 54 → (k : ℕ) → k < 3 → get_or (get_or CUBIE_LETTERS i []) k 0 ≡ letter_at (after k (place_at i))
 unfolding place_at next
-letters_hold = refl
-
-letter-is : (i k : ℕ) → i < 54 → k < 3 → get_or (get_or CUBIE_LETTERS i []) k 0 ≡ letter_at (after k (place_at i))
-letter-is i k l lk = eqb-true _ _ (at_below 3 (letter_test i) (at_below 54 (λ i. all_below 3 (letter_test i)) letters_hold i l) k lk)
+letter-is = holds (Numbers 54 λ i. Numbers 3 λ k. Equal (get_or (get_or CUBIE_LETTERS i []) k 0) (letter_at (after k (place_at i)))) refl
 
 abbrev first_of : ℕ → Place
 first_of j = place_at (get_or FIRST_FACELETS (get_or CUBIES j 0) 0)
 
-abbrev facelet_test : ℕ → Bool
-facelet_test j =
-    nat_lt (get_or CUBIES j 0) 26
-    && (nat_lt (get_or FACELETS j 0) 3
-    && (is_place (first_of j)
-    && (is_place (place_at j) && same_place (after (get_or FACELETS j 0) (first_of j)) (place_at j))))
+abbrev pub facelet_fact : ℕ → Fact
+facelet_fact j =
+    Both (Below (get_or CUBIES j 0) 26) (Both (Below (get_or FACELETS j 0) 3) (Both (Yes (is_place (first_of j)))
+    (Both (Yes (is_place (place_at j))) (Alike (after (get_or FACELETS j 0) (first_of j)) (place_at j)))))
 
-facelets_hold : all_below 54 facelet_test ≡ true
+pub is_facelet : (j : ℕ) → j < 54 → Holds (facelet_fact j)
 unfolding place_at next
-facelets_hold = refl
-
-pub record IsFacelet (j : ℕ) : Type 0 where
-  pub cubie : get_or CUBIES j 0 < 26
-  pub index : get_or FACELETS j 0 < 3
-  pub first : is_place (first_of j) ≡ true
-  pub listed : is_place (place_at j) ≡ true
-  pub after_first : after (get_or FACELETS j 0) (first_of j) ≡ place_at j
-
-pub is_facelet : (j : ℕ) → j < 54 → IsFacelet j
-is_facelet j l =
-    let t : facelet_test j ≡ true = at_below 54 facelet_test facelets_hold j l in
-    let u = and_right (nat_lt (get_or CUBIES j 0) 26) _ t in
-    let v = and_right (nat_lt (get_or FACELETS j 0) 3) _ u in
-    let w = and_right (is_place (first_of j)) _ v in
-    record {
-      cubie = ltb-true _ _ (and_left _ _ t);
-      index = ltb-true _ _ (and_left _ _ u);
-      first = and_left _ _ v;
-      listed = and_left _ _ w;
-      after_first = same_place_is _ _ (and_right (is_place (place_at j)) _ w);
-    }
+is_facelet = holds (Numbers 54 facelet_fact) refl
 
 -- The letters at the places to which the first facelets were followed make the text of the inverse.
 pub followed_letters : (s : List Token) (now text : List ℕ) → length text ≡ 54 → ((k : ℕ) → k < 26 → slice_index now k < 54) → AreMoved FIRST_FACELETS now s →
@@ -81,15 +41,15 @@ followed_letters s now text lt range moved written = letters-is (effect (inverse
   where
     at : (j : ℕ) → j < 54 → get_or text j 0 ≡ letter_of (effect (inverse s)) places (place_at j)
     at j l =
-        let f : IsFacelet j = is_facelet j l in
+        let f = is_facelet j l in
         let c : ℕ = get_or CUBIES j 0 in
         let k : ℕ = get_or FACELETS j 0 in
         written j l
-        ∙ letter-is (get_or now c 0) k (range c f.cubie) f.index
-        ∙ ap (λ q. letter_at (after k q)) (moved c f.cubie)
-        ∙ ap letter_at (effect-after s k (first_of j) f.first)
-        ∙ ap (λ q. letter_at (effect s q)) f.after_first
-        ∙ sym (letter-back s (place_at j) f.listed)
+        ∙ letter-is (get_or now c 0) (range c f.0) k f.1.0
+        ∙ ap (λ q. letter_at (after k q)) (moved c f.0)
+        ∙ ap letter_at (effect-after s k (first_of j) f.1.1.0)
+        ∙ ap (λ q. letter_at (effect s q)) f.1.1.1.1
+        ∙ sym (letter-back s (place_at j) f.1.1.1.0)
 
 -- positions that were moved by two sequences
 pub moved-twice : (old between new : List ℕ) (s t : List Token) → AreMoved old between s → AreMoved between new t → AreMoved old new (s ++ t)
@@ -98,8 +58,5 @@ moved-twice old between new s t first second k l =
     ∙ ap (effect t) (first k l)
     ∙ sym (effect-append s t (place_at (slice_index old k)))
 
-first_test : all_below 26 (λ k. nat_lt (get_or FIRST_FACELETS k 0) 54) ≡ true
-first_test = refl
-
 pub first-below : (k : ℕ) → k < 26 → get_or FIRST_FACELETS k 0 < 54
-first-below k l = ltb-true _ _ (at_below 26 (λ k. nat_lt (get_or FIRST_FACELETS k 0) 54) first_test k l)
+first-below = holds (Numbers 26 λ k. Below (get_or FIRST_FACELETS k 0) 54) refl

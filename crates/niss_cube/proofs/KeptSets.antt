@@ -1,38 +1,27 @@
 -- How a coordinate on an axis is renamed, and that it is 0 exactly where its set of places is kept.
-use Rattle.std.proofs.Common.{refl, sym, ◌∙◌, ap, arith, inl, inr}
-use Rattle.std.specs.Prelude.{◌≡◌, ℕ, ◌+◌, ◌-◌, ◌%◌, ◌<◌, List, [], ◌∷◌, get_or}
-use Rattle.std.specs.Prelude.{Option, None, Some, Bool, true, false, ◌&&◌, not, ◌==◌, ◌↔◌, nat_le}
-use Rattle.std.specs.List.{list_all}
-use Rattle.std.proofs.lemmas.Bool.{eqb-true, false_from_ne_true}
-use Rattle.std.proofs.lemmas.Bool.Decides.{eqb_tells}
-use Rattle.std.proofs.lemmas.List.{ext_get_or}
-use Rattle.niss_moves.specs.Places.{Place, is_place, is_edge, SameMap}
-use Rattle.niss_moves.specs.Facelets.{places}
-use Rattle.niss_moves.specs.Rotations.{renamed_turn}
-use Rattle.niss_cube.specs.Names.{Axis, Ud, Rl, Fb, Coordinate, Flip, Twist, Slice, Renaming, XCounter, XQuarter, YQuarter, ZCounter}
-use Rattle.niss_cube.specs.Renamings.{renamed_if, face_if}
-use Rattle.niss_cube.specs.Coordinates.{rank, number_of, renaming_for, renamed_for, turn_for}
-use Rattle.niss_cube.specs.Cubies.{flips_home, twists_home}
-use Rattle.niss_cube.specs.Sets.{Kept, SetsArePlaces, is_kept, flip_set, twist_set, slice_set, set_of}
-use Rattle.niss_cube.proofs.CubieLists.{CubieLists, Valid, map_lists}
-use Rattle.niss_cube.proofs.CubieKinds.{Kind, Corners, Edges, count, facelets, at, is_of, home_at, turn_at, place_of}
-use Rattle.niss_cube.proofs.CubieKinds.{stand, stands, stands-at, low, some_facelet, kind_place, Located, located, shown_at, map_place}
-use Rattle.niss_cube.proofs.Each.{at_place}
-use Rattle.niss_cube.proofs.FiniteTests.{all_below, at_below}
-use Rattle.niss_cube.proofs.Sums.{one_if, below_permuted, below_all_same, one_if-at_most, eqb-itself}
+use Rattle.niss_cube.proofs.Words.{ArePlaces, Fact, Equal, Numbers, Holds, Same, Places, holds, refl, sym, ◌∙◌, ap, arith, inl, inr, ◌≡◌, ℕ}
+use Rattle.niss_cube.proofs.Words.{◌+◌, ◌-◌, ◌%◌, ◌<◌, List, [], ◌∷◌, get_or, Option, None, Some, Bool, true, false, ◌&&◌, not, ◌==◌, ◌↔◌}
+use Rattle.niss_cube.proofs.Words.{nat_le, eqb-true, false_from_ne_true, eqb_tells, ext_get_or, Place, is_place, is_edge, SameMap}
+use Rattle.niss_cube.proofs.Words.{renamed_turn, Axis, Ud, Rl, Fb, Coordinate, Flip, Twist, Slice, Renaming, XCounter, XQuarter, YQuarter}
+use Rattle.niss_cube.proofs.Words.{ZCounter, rank, number_of, renamed_for, turn_for, flips_home, twists_home, Kept, is_kept, flip_set}
+use Rattle.niss_cube.proofs.Words.{twist_set, slice_set, set_of, and_left, renamed_if, face_if, rotated, rotated_back, renaming_for}
+use Rattle.niss_cube.proofs.Words.{SetsArePlaces, tested}
+use Rattle.niss_cube.proofs.Sums.{one_if-same, one_if, below_permuted, below_all_same, one_if-at_most, eqb-itself}
+use Rattle.niss_cube.proofs.CubieKinds.{CubieLists, Valid, map_lists, Kind, Corners, Edges, count, facelets, at, is_of, home_at, turn_at}
+use Rattle.niss_cube.proofs.CubieKinds.{place_of, stand, stands, stands-at, low, some_facelet, kind_place, Located, located, shown_at}
+use Rattle.niss_cube.proofs.CubieKinds.{map_place}
 use Rattle.niss_cube.proofs.Numbers.{rank-same}
 use Rattle.niss_cube.proofs.CoordinateValues.{edge-once, slice_occupied, slice_occupied-length, slice_occupied-at, slice_occupied-filled}
-use Rattle.niss_cube.proofs.RenamedCubies.{rotated, rotated_back, keeps_kinds, renamed_cubies, same_bool, same_bool-is}
-use Rattle.niss_cube.proofs.AxisRenamings.{KeepsPlaces, IsRenaming, by_rotation, not_renamed}
+use Rattle.niss_cube.proofs.AxisRenamings.{KeepsPlaces, IsRenaming, by_rotation, not_renamed, back-place, out-back, back-out}
 use Rattle.niss_cube.proofs.Orientations.{base_2, base_3, oriented_zero}
 use Rattle.niss_cube.proofs.Codes.{code, number_of-code, are_flips, are_twists, flips_home-are, twists_home-are}
-use Rattle.niss_cube.proofs.KeptTests.{kept-tested}
-use Rattle.niss_cube.proofs.Logic.{and_left}
+use Rattle.niss_cube.proofs.KeptTests.{kept_is_tested}
+use Rattle.niss_cube.proofs.MovedCubies.{Under, moved}
 
 -- the cubies from which a coordinate on an axis is read
 abbrev renamed_cubies_if : Option Renaming → CubieLists → CubieLists
 renamed_cubies_if None c = c
-renamed_cubies_if (Some v) c = renamed_cubies v c
+renamed_cubies_if (Some v) c = moved (Under v) c
 
 abbrev pub cubies_for : Coordinate → Axis → CubieLists → CubieLists
 cubies_for k a = renamed_cubies_if (renaming_for k a)
@@ -74,41 +63,39 @@ standard_kind Twist a q h = and_left _ _ h
 standard_kind Slice a q h = and_left _ _ h
 
 -- a set is kept where the renamed set is kept by the renamed map
-renaming_kept : (v : Renaming) (set renamed_set : Place → Bool) → list_all (λ q. same_bool (set q) (renamed_set (rotated v q))) places ≡ true → ((q : Place) → set q ≡ true → is_place q ≡ true) → ((q : Place) → renamed_set q ≡ true → is_place q ≡ true) → (e : Place → Place) → ((q : Place) → is_place q ≡ true → is_place (e q) ≡ true) →
+renaming_kept : (v : Renaming) (set renamed_set : Place → Bool) → ((q : Place) → is_place q ≡ true → set q ≡ renamed_set (rotated v q)) → ArePlaces set → ArePlaces renamed_set → (e : Place → Place) → KeepsPlaces e →
     Kept set e ↔ Kept renamed_set (λ q. rotated v (e (rotated_back v q)))
-renaming_kept v set renamed_set test p p' e keep = (
+renaming_kept v set renamed_set same p p' e keep = (
   (λ kept q q_in.
-      let k = keeps_kinds v q (p' q q_in) in
-      sym (same (e (rotated_back v q)) (keep (rotated_back v q) k.home_place)) ∙ kept (rotated_back v q) (same (rotated_back v q) k.home_place ∙ ap renamed_set k.out_home ∙ q_in)),
+      let l = p' q q_in in
+      let at : is_place (rotated_back v q) ≡ true = back-place v q l in
+      sym (same (e (rotated_back v q)) (keep (rotated_back v q) at)) ∙ kept (rotated_back v q) (same (rotated_back v q) at ∙ ap renamed_set (out-back v q l) ∙ q_in)),
   (λ kept q q_in.
       let l : is_place q ≡ true = p q q_in in
-      let k = keeps_kinds v q l in
-      same (e q) (keep q l) ∙ ap (λ z. renamed_set (rotated v (e z))) (sym k.home_out) ∙ kept (rotated v q) (sym (same q l) ∙ q_in)),
+      same (e q) (keep q l) ∙ ap (λ z. renamed_set (rotated v (e z))) (sym (back-out v q l)) ∙ kept (rotated v q) (sym (same q l) ∙ q_in)),
 )
-  where
-    same : (q : Place) → is_place q ≡ true → set q ≡ renamed_set (rotated v q)
-    same q l = same_bool-is _ _ (at_place (λ q. same_bool (set q) (renamed_set (rotated v q))) test q l)
 
 kept_renamed : (k : Coordinate) (a : Axis) (e : Place → Place) → KeepsPlaces e → Kept (set_of k a) e ↔ Kept (standard_set k a) (renamed_for k a e)
 kept_renamed k a e keep = go k a
   where
-    by : (v : Renaming) (k : Coordinate) (a : Axis) → list_all (λ q. same_bool (set_of k a q) (standard_set k a (rotated v q))) places ≡ true → Kept (set_of k a) e ↔ Kept (standard_set k a) (λ q. rotated v (e (rotated_back v q)))
-    by v k a test = renaming_kept v (set_of k a) (standard_set k a) test (sets_are_places k a) (λ q h. kind_place (kind_for k) q (standard_kind k a q h)) e keep
+    by : (v : Renaming) (k : Coordinate) (a : Axis) → tested (Places λ q. Same (set_of k a q) (standard_set k a (rotated v q))) ≡ true → Kept (set_of k a) e ↔ Kept (standard_set k a) (λ q. rotated v (e (rotated_back v q)))
+    by v k a test =
+        renaming_kept v (set_of k a) (standard_set k a) (holds (Places λ q. Same (set_of k a q) (standard_set k a (rotated v q))) test) (sets_are_places k a) (λ q h. kind_place (kind_for k) q (standard_kind k a q h)) e keep
 
     go : (k : Coordinate) (a : Axis) → Kept (set_of k a) e ↔ Kept (standard_set k a) (renamed_for k a e)
     go Flip Ud = by XCounter Flip Ud refl
     go Flip Rl = by YQuarter Flip Rl refl
-    go Flip Fb = ((λ h. h), (λ h. h))
-    go Twist Ud = ((λ h. h), (λ h. h))
     go Twist Rl = by ZCounter Twist Rl refl
     go Twist Fb = by XQuarter Twist Fb refl
-    go Slice Ud = ((λ h. h), (λ h. h))
     go Slice Rl = by ZCounter Slice Rl refl
     go Slice Fb = by XQuarter Slice Fb refl
+    go Flip Fb = ((λ h. h), (λ h. h))
+    go Twist Ud = ((λ h. h), (λ h. h))
+    go Slice Ud = ((λ h. h), (λ h. h))
 
 -- in each row one facelet, the s-th, belongs to the set
-abbrev row_test : Kind → (Place → Bool) → ℕ → ℕ → Bool
-row_test k set s i = all_below (facelets k) λ j. same_bool (set (at k i j)) (j == s)
+abbrev row_fact : Kind → (Place → Bool) → ℕ → Fact
+row_fact k set s = Numbers (count k) λ i. Numbers (facelets k) λ j. Same (set (at k i j)) (j == s)
 
 none_turned : (k : Kind) (s t : ℕ) → s < facelets k → t < facelets k → (s + t) % facelets k ≡ s → t ≡ 0
 none_turned Corners s t ls lt e = omega arith
@@ -119,53 +106,38 @@ turned_by_none Corners s l = omega arith
 turned_by_none Edges s l = omega arith
 
 -- a set with one facelet in each row is kept where no cubie is turned
-module _ (k : Kind) (set : Place → Bool) (inside : (q : Place) → set q ≡ true → is_of k q ≡ true) (s : ℕ) (ls : s < facelets k) (rows_ok : all_below (count k) (row_test k set s) ≡ true)
+module _ (k : Kind) (set : Place → Bool) (inside : (q : Place) → set q ≡ true → is_of k q ≡ true) (s : ℕ) (ls : s < facelets k) (in_set : Holds (row_fact k set s))
     (c : CubieLists) (v : Valid c) (e : Place → Place) (same : SameMap e (map_lists c)) where
-  in_set : (i j : ℕ) → i < count k → j < facelets k → set (at k i j) ≡ (j == s)
-  in_set i j li lj = same_bool-is _ _ (at_below (facelets k) (λ j. same_bool (set (at k i j)) (j == s)) (at_below (count k) (row_test k set s) rows_ok i li) j lj)
-
   kept-unturned : Kept set e → (i : ℕ) → i < count k → turn_at k c i ≡ 0
   kept-unturned kept i li =
       let h : ℕ = home_at k c i in
       let lh : h < count k = (stand k c v).home_below i li in
       let there : e (at k h s) ≡ at k i ((s + turn_at k c i) % facelets k) = shown_at k c e same h s lh ls ∙ ap (λ n. at k n ((s + turn_at k c n) % facelets k)) (stands-at k c v i li) in
       none_turned k s (turn_at k c i) ls ((stand k c v).turn_below i li)
-      (eqb-true _ _ (sym (in_set i _ li (low k _)) ∙ ap set (sym there) ∙ kept (at k h s) (in_set h s lh ls ∙ eqb-itself s)))
+      (eqb-true _ _ (sym (in_set i li _ (low k _)) ∙ ap set (sym there) ∙ kept (at k h s) (in_set h lh s ls ∙ eqb-itself s)))
 
   unturned-kept : ((i : ℕ) → i < count k → turn_at k c i ≡ 0) → Kept set e
   unturned-kept zeros q q_in =
       let a : Located k q = located k q (inside q q_in) in
       let n : ℕ = place_of k c a.row in
       let ln : n < count k = (stands k c v a.row a.row_below).0 in
-      let first : a.index ≡ s = eqb-true _ _ (sym (in_set a.row a.index a.row_below a.index_below) ∙ ap set (sym a.is) ∙ q_in) in
+      let first : a.index ≡ s = eqb-true _ _ (sym (in_set a.row a.row_below a.index a.index_below) ∙ ap set (sym a.is) ∙ q_in) in
       ap (λ z. set (e z)) (a.is ∙ ap (at k a.row) first)
       ∙ ap set (shown_at k c e same a.row s a.row_below ls ∙ ap (λ t. at k n ((s + t) % facelets k)) (zeros n ln) ∙ ap (at k n) (turned_by_none k s ls))
-      ∙ in_set n s ln ls ∙ eqb-itself s
+      ∙ in_set n ln s ls ∙ eqb-itself s
 
   turns_kept : Kept set e ↔ ((i : ℕ) → i < count k → turn_at k c i ≡ 0)
   turns_kept = (kept-unturned, unturned-kept)
-
-one_if-same : (a b : Bool) → one_if a ≡ one_if b → a ≡ b
-one_if-same true true h = refl
-one_if-same true false h = absurd (omega arith)
-one_if-same false true h = absurd (omega arith)
-one_if-same false false h = refl
 
 -- the places of the slice's edges at home, from the last place down
 abbrev home_occupied : List Bool
 home_occupied = true ∷ true ∷ true ∷ true ∷ false ∷ false ∷ false ∷ false ∷ false ∷ false ∷ false ∷ false ∷ []
 
-home_occupied-test : all_below 12 (λ k. same_bool (get_or home_occupied k false) (nat_le 8 (11 - k))) ≡ true
-home_occupied-test = refl
-
 home_occupied-at : (k : ℕ) → k < 12 → get_or home_occupied k false ≡ nat_le 8 (11 - k)
-home_occupied-at k l = same_bool-is _ _ (at_below 12 (λ k. same_bool (get_or home_occupied k false) (nat_le 8 (11 - k))) home_occupied-test k l)
+home_occupied-at = holds (Numbers 12 λ k. Same (get_or home_occupied k false) (nat_le 8 (11 - k))) refl
 
-slice_rows : all_below 12 (λ h. all_below 2 λ k. same_bool (slice_set Ud (at Edges h k)) (nat_le 8 h)) ≡ true
-slice_rows = refl
-
-slice_at : (h k : ℕ) → h < 12 → k < 2 → slice_set Ud (at Edges h k) ≡ nat_le 8 h
-slice_at h k lh lk = same_bool-is _ _ (at_below 2 (λ k. same_bool (slice_set Ud (at Edges h k)) (nat_le 8 h)) (at_below 12 (λ h. all_below 2 λ k. same_bool (slice_set Ud (at Edges h k)) (nat_le 8 h)) slice_rows h lh) k lk)
+slice_at : (h : ℕ) → h < 12 → (j : ℕ) → j < 2 → slice_set Ud (at Edges h j) ≡ nat_le 8 h
+slice_at = holds (Numbers 12 λ h. Numbers 2 λ j. Same (slice_set Ud (at Edges h j)) (nat_le 8 h)) refl
 
 -- each place of the slice holds an edge of it, and no other does
 abbrev AtHome : List ℕ → Type 0
@@ -189,7 +161,7 @@ slice_number_zero c v = (
 -- the slice is kept where its edges stand in it
 module _ (c : CubieLists) (v : Valid c) (e : Place → Place) (same : SameMap e (map_lists c)) where
   goes : (h j : ℕ) → h < 12 → j < 2 → slice_set Ud (e (at Edges h j)) ≡ nat_le 8 (place_of Edges c h)
-  goes h j lh lj = ap (slice_set Ud) (shown_at Edges c e same h j lh lj) ∙ slice_at (place_of Edges c h) _ (stands Edges c v h lh).0 (low Edges _)
+  goes h j lh lj = ap (slice_set Ud) (shown_at Edges c e same h j lh lj) ∙ slice_at (place_of Edges c h) (stands Edges c v h lh).0 _ (low Edges _)
 
   home-kept : AtHome c.edges → Kept (slice_set Ud) e
   home-kept home q q_in =
@@ -197,7 +169,7 @@ module _ (c : CubieLists) (v : Valid c) (e : Place → Place) (same : SameMap e 
       let there = stands Edges c v a.row a.row_below in
       ap (λ z. slice_set Ud (e z)) a.is ∙ goes a.row a.index a.row_below a.index_below
       ∙ sym (home (place_of Edges c a.row) there.0) ∙ ap (nat_le 8) there.1
-      ∙ sym (slice_at a.row a.index a.row_below a.index_below) ∙ ap (slice_set Ud) (sym a.is) ∙ q_in
+      ∙ sym (slice_at a.row a.row_below a.index a.index_below) ∙ ap (slice_set Ud) (sym a.is) ∙ q_in
 
   kept-home : Kept (slice_set Ud) e → AtHome c.edges
   kept-home kept i l =
@@ -205,7 +177,7 @@ module _ (c : CubieLists) (v : Valid c) (e : Place → Place) (same : SameMap e 
       (λ i li. one_if-at_most _ _ (λ h.
       let n : ℕ = get_or c.edges i 0 in
       let ln : n < 12 = v.edge_range i li in
-      ap (nat_le 8) (sym (stands-at Edges c v i li)) ∙ sym (goes n 0 ln (some_facelet Edges)) ∙ kept (at Edges n 0) (slice_at n 0 ln (some_facelet Edges) ∙ h)))
+      ap (nat_le 8) (sym (stands-at Edges c v i li)) ∙ sym (goes n 0 ln (some_facelet Edges)) ∙ kept (at Edges n 0) (slice_at n ln 0 (some_facelet Edges) ∙ h)))
       (below_permuted 12 (λ i. get_or c.edges i 0) (λ h. one_if (nat_le 8 h)) v.edge_range (edge-once c v)) i l)
 
 -- what the cubies of code 0 are
@@ -215,15 +187,15 @@ AtZero Twist c = (i : ℕ) → i < 8 → get_or c.twists i 0 ≡ 0
 AtZero Slice c = AtHome c.edges
 
 code_zero : (k : Coordinate) (c : CubieLists) → Valid c → (code k c ≡ 0) ↔ AtZero k c
-code_zero Flip c v = oriented_zero 2 base_2 11 c.flips flips_home (are_flips c v) flips_home-are refl (λ i l. eqb-true _ _ (at_below 12 (λ i. get_or flips_home i 0 == 0) refl i l))
-code_zero Twist c v = oriented_zero 3 base_3 7 c.twists twists_home (are_twists c v) twists_home-are refl (λ i l. eqb-true _ _ (at_below 8 (λ i. get_or twists_home i 0 == 0) refl i l))
+code_zero Flip c v = oriented_zero 2 base_2 11 c.flips flips_home (are_flips c v) flips_home-are refl (holds (Numbers 12 λ i. Equal (get_or flips_home i 0) 0) refl)
+code_zero Twist c v = oriented_zero 3 base_3 7 c.twists twists_home (are_twists c v) twists_home-are refl (holds (Numbers 8 λ i. Equal (get_or twists_home i 0) 0) refl)
 code_zero Slice c v = slice_number_zero c v
 
 kept_zero : (k : Coordinate) (a : Axis) (c : CubieLists) → Valid c → (e : Place → Place) → SameMap e (map_lists c) → Kept (standard_set k a) e ↔ AtZero k c
-kept_zero Flip Ud c v e same = turns_kept Edges (standard_set Flip Ud) (standard_kind Flip Ud) 1 (omega arith) refl c v e same
-kept_zero Flip Rl c v e same = turns_kept Edges (standard_set Flip Rl) (standard_kind Flip Rl) 0 (some_facelet Edges) refl c v e same
-kept_zero Flip Fb c v e same = turns_kept Edges (standard_set Flip Fb) (standard_kind Flip Fb) 0 (some_facelet Edges) refl c v e same
-kept_zero Twist a c v e same = turns_kept Corners (standard_set Twist a) (standard_kind Twist a) 0 (some_facelet Corners) refl c v e same
+kept_zero Flip Ud c v e same = turns_kept Edges (standard_set Flip Ud) (standard_kind Flip Ud) 1 (omega arith) (holds (row_fact Edges (standard_set Flip Ud) 1) refl) c v e same
+kept_zero Flip Rl c v e same = turns_kept Edges (standard_set Flip Rl) (standard_kind Flip Rl) 0 (some_facelet Edges) (holds (row_fact Edges (standard_set Flip Rl) 0) refl) c v e same
+kept_zero Flip Fb c v e same = turns_kept Edges (standard_set Flip Fb) (standard_kind Flip Fb) 0 (some_facelet Edges) (holds (row_fact Edges (standard_set Flip Fb) 0) refl) c v e same
+kept_zero Twist a c v e same = turns_kept Corners (standard_set Twist a) (standard_kind Twist a) 0 (some_facelet Corners) (holds (row_fact Corners (standard_set Twist a) 0) refl) c v e same
 kept_zero Slice a c v e same = (kept-home c v e same, home-kept c v e same)
 
 pub zero-kept : (k : Coordinate) (a : Axis) (c : CubieLists) → Valid c → (number_of k a (map_lists c) ≡ 0) ↔ Kept (set_of k a) (map_lists c)
@@ -240,6 +212,6 @@ zero-kept k a c v =
 -- A number that is 0 where the set of a coordinate is kept gives the test of the set.
 pub zero_test : (k : Coordinate) (a : Axis) (e : Place → Place) (n : ℕ) → (n ≡ 0) ↔ Kept (set_of k a) e → (n == 0) ≡ is_kept (set_of k a) e
 zero_test k a e n zero = elim (eqb_tells n 0) [
-  | inl w ↦ w.0 ∙ sym ((kept-tested (set_of k a) e (sets_are_places k a)).1 (zero.0 w.1))
-  | inr w ↦ w.0 ∙ sym (false_from_ne_true (is_kept (set_of k a) e) (λ t. w.1 (zero.1 ((kept-tested (set_of k a) e (sets_are_places k a)).0 t))))
+  | inl w ↦ w.0 ∙ sym ((kept_is_tested (set_of k a) e (sets_are_places k a)).1 (zero.0 w.1))
+  | inr w ↦ w.0 ∙ sym (false_from_ne_true (is_kept (set_of k a) e) (λ t. w.1 (zero.1 ((kept_is_tested (set_of k a) e (sets_are_places k a)).0 t))))
 ]

@@ -1,24 +1,18 @@
 -- A set is kept where the test says so.
-use Rattle.std.proofs.Common.{◌≡◌, refl, Bool, true, false, not, ◌||◌}
-use Rattle.std.specs.Prelude.{IsTrue, ◌↔◌}
-use Rattle.std.proofs.lemmas.List.Sums.{list_all-from_AllPass}
-use Rattle.niss_moves.specs.Places.{Place, is_place}
-use Rattle.niss_moves.specs.Facelets.{places}
-use Rattle.niss_cube.specs.Sets.{Kept}
-use Rattle.niss_cube.specs.Sets.{is_kept, KeptIsTested}
-use Rattle.niss_cube.proofs.Each.{at_place}
-pub use Rattle.niss_cube.proofs.Logic.{or_then, or_then as implied}
+use Rattle.niss_cube.proofs.Words.{◌∙◌, sym, ap, SameMap, ArePlaces, Yes, When, Places, holds, ◌≡◌, refl, Bool, true, false, not, ◌||◌}
+use Rattle.niss_cube.proofs.Words.{Place, places, Kept, is_kept, list_all-from_AllPass, KeptIsTested}
 
 implies : (a b : Bool) → (a ≡ true → b ≡ true) → (not a || b) ≡ true
 implies true b h = h refl
 implies false b h = refl
 
-pub kept-tested : (set : Place → Bool) (e : Place → Place) → ((q : Place) → set q ≡ true → is_place q ≡ true) → IsTrue (is_kept set e) ↔ Kept set e
+pub kept_is_tested : KeptIsTested
 unfolding is_kept
-kept-tested set e inside = (
-  (λ h q m. or_then (set q) (set (e q)) (at_place (λ q. not (set q) || set (e q)) h q (inside q m)) m),
+kept_is_tested set e inside = (
+  (λ h q m. holds (Places λ q. When (set q) (Yes (set (e q)))) h q (inside q m) m),
   (λ k. list_all-from_AllPass (λ q. not (set q) || set (e q)) places (λ i q l. implies _ _ (k _))),
 )
 
-pub kept_is_tested : KeptIsTested
-kept_is_tested set e inside = kept-tested set e inside
+-- whether a set of places is kept depends on the places alone
+pub kept_same : (set : Place → Bool) (d e : Place → Place) → ArePlaces set → SameMap d e → Kept set d → Kept set e
+kept_same set d e inside s kept q m = ap set (sym (s q (inside q m))) ∙ kept q m

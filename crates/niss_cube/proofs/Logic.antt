@@ -16,3 +16,12 @@ pub same_truth : (a b : Bool) → (a ≡ true → b ≡ true) → (b ≡ true �
 same_truth true b f g = sym (f refl)
 same_truth false true f g = g refl
 same_truth false false f g = refl
+
+abbrev pub same_bool : Bool → Bool → Bool
+same_bool true b = b
+same_bool false b = not b
+
+pub same_bool-is : (a b : Bool) → same_bool a b ≡ true → a ≡ b
+same_bool-is true b h = sym h
+same_bool-is false true h = h
+same_bool-is false false h = refl

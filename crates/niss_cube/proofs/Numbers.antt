@@ -1,8 +1,6 @@
 -- Digits and their number; occupied places and their number.
-use Rattle.std.proofs.Common.{◌≡◌, ℕ, zero, suc, ◌+◌, ◌*◌, ◌<◌, ◌≤◌, refl, ap, List, [], ◌∷◌, length, Bool, true, false, arith}
-use Rattle.std.specs.Prelude.{fold}
-use Rattle.niss_cube.specs.Coordinates.{number, choose, rank}
-use Rattle.std.proofs.Math.Nat.{mul-le-mul_left}
+use Rattle.niss_cube.proofs.Words.{◌≡◌, ℕ, zero, suc, ◌+◌, ◌*◌, ◌<◌, ◌≤◌, refl, ap, List, [], ◌∷◌, length, Bool, true, false, arith, number}
+use Rattle.niss_cube.proofs.Words.{choose, rank, fold, mul-le-mul_left}
 
 abbrev pub number_from : ℕ → ℕ → List ℕ → ℕ
 number_from b a ds = fold (λ n d. b * n + d) a ds

@@ -1,13 +1,7 @@
 -- Each number below the choices is that of its places.
-use Rattle.std.proofs.Common.{refl, sym, ◌∙◌, ap, arith, inl, inr}
-use Rattle.std.specs.Prelude.{◌≡◌, ℕ, zero, suc, ◌+◌, ◌-◌, ◌<◌, ◌≤◌}
-use Rattle.std.specs.Prelude.{List, [], ◌∷◌, ◌++◌, length, get_or, set, take, Bool, true, false, nat_lt}
-use Rattle.std.proofs.lemmas.Bool.{ltb-true, lt-ltb, false_from_ne_true}
-use Rattle.std.proofs.lemmas.Bool.Decides.{leb_tells}
-use Rattle.std.proofs.lemmas.List.{length-set}
-use Rattle.niss_cube.specs.Coordinates.{choose, rank}
-use Rattle.niss_cube.specs.NumberedCubies.{occupied_of_number}
-use Rattle.niss_cube.specs.declared.slice_places.TheConstants.{CHOICES}
+use Rattle.niss_cube.proofs.Words.{occupied, refl, sym, ◌∙◌, ap, arith, inl, inr, ◌≡◌, ℕ, zero, suc, ◌+◌, ◌-◌, ◌<◌, ◌≤◌, List, [], ◌∷◌}
+use Rattle.niss_cube.proofs.Words.{◌++◌, length, get_or, set, take, Bool, true, false, nat_lt, ltb-true, false_from_ne_true, length-set}
+use Rattle.niss_cube.proofs.Words.{choose, rank, occupied_of_number, lt-ltb, leb_tells, CHOICES}
 use Rattle.niss_cube.proofs.Numbers.{filled}
 use Rattle.niss_cube.proofs.SliceSteps.{choices-are}
 use Rattle.niss_cube.proofs.WrittenLists.{one_more, all_written}
@@ -41,9 +35,6 @@ pub record Written (index met wanted rest : ℕ) (occupied : List Bool) : Type 0
   pub places : length occupied ≡ 12
   pub is : (n : ℕ) → n + met ≡ 12 → take met occupied ++ occupied_of_number n wanted rest ≡ occupied_of_number 12 4 index
 
-pub written-start : (index : ℕ) (occupied : List Bool) → length occupied ≡ 12 → Written index 0 4 index occupied
-written-start index occupied l = record { places = l; is = λ n e. ap (λ m. occupied_of_number m 4 index) (let m : n ≡ 12 = omega arith in m) }
-
 written-step : (index met w rest w' rest' : ℕ) (b : Bool) (occupied : List Bool) → met < 12 →
     ((n : ℕ) → n + (met + 1) ≡ 12 → occupied_of_number (suc n) w rest ≡ b ∷ occupied_of_number n w' rest') →
     Written index met w rest occupied → Written index (met + 1) w' rest' (set occupied met b)
@@ -53,7 +44,7 @@ written-step index met w rest w' rest' b occupied l head h = record {
 }
 
 choice : (n met k : ℕ) → n + (met + 1) ≡ 12 → k < 4 → get_or (get_or CHOICES (11 - met) []) k 0 ≡ choose n k
-choice n met k e l = choices-are (11 - met) k (omega arith) l ∙ ap (λ m. choose m k) (let m : 11 - met ≡ n = omega arith in m)
+choice n met k e l = choices-are (11 - met) (omega arith) k l ∙ ap (λ m. choose m k) (let m : 11 - met ≡ n = omega arith in m)
 
 head_yes : (n k i : ℕ) → i < choose n k → occupied_of_number (suc n) (suc k) i ≡ true ∷ occupied_of_number n k i
 unfolding occupied_of_number

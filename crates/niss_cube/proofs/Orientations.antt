@@ -1,13 +1,8 @@
 -- The orientations of pieces, flips or twists, by their number.
-use Rattle.std.proofs.Common.{refl, sym, ◌∙◌, ap, subst, length-append, arith, inl, inr}
-use Rattle.std.specs.Prelude.{◌≡◌, ℕ, zero, suc, ◌+◌, ◌-◌, ◌*◌, ◌/◌, ◌%◌, ◌<◌}
-use Rattle.std.specs.Prelude.{List, [], ◌∷◌, ◌++◌, length, get_or, take, min, ◌⊎◌, slice_index, sum, ◌↔◌}
-use Rattle.std.proofs.lemmas.List.{ext_get_or, get_or-take, length-take}
-use Rattle.std.proofs.lemmas.List.Sums.{fold-append, sum_by-append}
-use Rattle.std.proofs.Math.Seq.{take-suc, take-length, take-append_seam}
-use Rattle.std.proofs.lemmas.Bool.Decides.{eqb_tells}
-use Rattle.niss_cube.specs.Coordinates.{number}
-use Rattle.niss_cube.specs.NumberedCubies.{digits_of_number, orientations_of_number}
+use Rattle.niss_cube.proofs.Words.{refl, sym, ◌∙◌, ap, subst, arith, inl, inr, ◌≡◌, ℕ, zero, suc, ◌+◌, ◌-◌, ◌*◌, ◌/◌, ◌%◌, ◌<◌, List, []}
+use Rattle.niss_cube.proofs.Words.{◌∷◌, ◌++◌, length, get_or, take, ◌⊎◌, slice_index, sum, ◌↔◌, ext_get_or, get_or-take, length-take}
+use Rattle.niss_cube.proofs.Words.{take-length, eqb_tells, number, digits_of_number, orientations_of_number, length-append, min}
+use Rattle.niss_cube.proofs.Words.{fold-append, sum_by-append, take-suc, take-append_seam}
 use Rattle.niss_cube.proofs.Numbers.{number_from, Digits, Splits, splits-2, splits-3, number-same, number-below, span}
 use Rattle.niss_cube.proofs.CoordinateValues.{digits_taken}
 

@@ -1,24 +1,11 @@
 -- The map of a cube permutes the places, and a set of places that it keeps is kept both ways.
-use Rattle.std.proofs.Common.{◌≡◌, ℕ, ◌+◌, ◌-◌, ◌*◌, ◌%◌, ◌<◌, refl, sym, ◌∙◌, ap, get_or, Bool, true, false, ◌&&◌, arith, inl, inr}
-use Rattle.std.specs.Prelude.{◌==◌, nat_lt}
-use Rattle.std.specs.List.{list_all}
-use Rattle.std.proofs.lemmas.Bool.{ltb-true, eqb-true, eq-eqb}
-use Rattle.std.proofs.lemmas.Bool.Decides.{eqb_tells}
-use Rattle.niss_moves.specs.Places.{Place, same_place, is_place}
-use Rattle.niss_moves.specs.Facelets.{places, facelet}
-use Rattle.niss_cube.specs.Names.{U}
-use Rattle.niss_cube.specs.CubieFacelets.{index_in}
-use Rattle.niss_cube.specs.Sets.{Kept}
-use Rattle.niss_cube.specs.Permutations.{PermutesPlaces, CubesPermutePlaces, KeptIsEqual}
-use Rattle.niss_cube.proofs.CoordinateLaws.{lists_of}
-use Rattle.niss_cube.proofs.CubieLists.{CubieLists, Valid, map_lists}
-use Rattle.niss_cube.proofs.CubieKinds.{Kind, facelets, at, home_at, turn_at, Stand, stand, low, rewound, kind_of, kind_place}
-use Rattle.niss_cube.proofs.CubieKinds.{facelet_kind, Located, located, origin, centre_stays, map_place, one_to_one}
-use Rattle.niss_cube.proofs.Each.{at_place}
-use Rattle.niss_cube.proofs.FiniteTests.{all_below, at_below}
-use Rattle.niss_cube.proofs.Sums.{below, below_same, below_permuted, eqb-other, one_if, one_of, below_all_same, one_if-at_most}
-use Rattle.niss_cube.proofs.Logic.{and_left, and_right}
-use Rattle.niss_moves.proofs.CallerLemmas.{same_place_is}
+use Rattle.niss_cube.proofs.Words.{Yes, Equal, Below, Alike, Both, Numbers, Places, holds, ◌≡◌, ℕ, ◌+◌, ◌-◌, ◌*◌, ◌%◌, ◌<◌, refl, sym, ◌∙◌}
+use Rattle.niss_cube.proofs.Words.{ap, get_or, Bool, true, false, inl, inr, ◌==◌, eq-eqb, eqb_tells, Place, same_place, is_place, places}
+use Rattle.niss_cube.proofs.Words.{facelet, U, index_in, Kept, PermutesPlaces, CubesPermutePlaces, KeptIsEqual}
+use Rattle.niss_cube.proofs.Sums.{one_if-same, below, below_same, below_permuted, eqb-other, one_if, one_of, below_all_same, one_if-at_most}
+use Rattle.niss_cube.proofs.CubieKinds.{lists_of, CubieLists, Valid, map_lists, Kind, facelets, at, home_at, turn_at, Stand, stand, low}
+use Rattle.niss_cube.proofs.CubieKinds.{rewound, kind_of, kind_place, facelet_kind, Located, located, origin, centre_stays, map_place}
+use Rattle.niss_cube.proofs.CubieKinds.{one_to_one}
 
 module _ (c : CubieLists) (v : Valid c) where
   onto : (q : Place) → is_place q ≡ true → (p : Place) × (is_place p ≡ true) × (map_lists c p ≡ q)
@@ -50,25 +37,11 @@ place_at k = get_or places k (facelet U 5)
 abbrev number_at : Place → ℕ
 number_at q = index_in (same_place q) places
 
-numbered_test : list_all (λ q. nat_lt (number_at q) 54 && same_place (place_at (number_at q)) q) places ≡ true
-numbered_test = refl
-
 at_number : (q : Place) → is_place q ≡ true → (number_at q < 54) × (place_at (number_at q) ≡ q)
-at_number q l =
-    let t = at_place (λ q. nat_lt (number_at q) 54 && same_place (place_at (number_at q)) q) numbered_test q l in
-    (ltb-true _ _ (and_left _ _ t), same_place_is _ _ (and_right (nat_lt (number_at q) 54) _ t))
-
-places_test : all_below 54 (λ k. (number_at (place_at k) == k) && is_place (place_at k)) ≡ true
-places_test = refl
+at_number = holds (Places λ q. Both (Below (number_at q) 54) (Alike (place_at (number_at q)) q)) refl
 
 of_number : (k : ℕ) → k < 54 → (number_at (place_at k) ≡ k) × (is_place (place_at k) ≡ true)
-of_number k l =
-    let t = at_below 54 (λ k. (number_at (place_at k) == k) && is_place (place_at k)) places_test k l in
-    (eqb-true _ _ (and_left _ _ t), and_right (number_at (place_at k) == k) _ t)
-
-one_if-true : (b : Bool) → one_if b ≡ 1 → b ≡ true
-one_if-true true h = refl
-one_if-true false h = absurd (omega arith)
+of_number = holds (Numbers 54 λ k. Both (Equal (number_at (place_at k)) k) (Yes (is_place (place_at k)))) refl
 
 -- a numbering of the places, and a map that permutes them
 module _ (n : ℕ) (at : ℕ → Place) (number : Place → ℕ) (numbers : (q : Place) → is_place q ≡ true → (number q < n) × (at (number q) ≡ q)) (each : (k : ℕ) → k < n → (number (at k) ≡ k) × (is_place (at k) ≡ true))
@@ -104,7 +77,7 @@ module _ (n : ℕ) (at : ℕ → Place) (number : Place → ℕ) (numbers : (q :
       let at_q = numbers q l in
       let same : one_if (set (at (number q))) ≡ one_if (set (e (at (number q)))) =
       below_all_same n (λ k. one_if (set (at k))) (λ k. one_if (set (e (at k)))) (λ k lk. one_if-at_most (set (at k)) (set (e (at k))) (kept (at k))) (sym (sum_permuted (λ z. one_if (set z)))) (number q) at_q.0 in
-      one_if-true (set q) (ap (λ z. one_if (set z)) (sym at_q.1) ∙ same ∙ ap (λ z. one_if (set (e z))) at_q.1 ∙ ap one_if m)
+      one_if-same (set q) true (ap (λ z. one_if (set z)) (sym at_q.1) ∙ same ∙ ap (λ z. one_if (set (e z))) at_q.1 ∙ ap one_if m)
 
 pub kept_is_equal : KeptIsEqual
 kept_is_equal c set kept q l m = kept_back 54 place_at number_at at_number of_number (map_lists (lists_of c)) (cubes_permute_places c) set kept q l m

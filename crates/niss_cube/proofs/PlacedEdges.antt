@@ -1,18 +1,12 @@
 -- The steps of the loop that places the edges of a slice.
-use Rattle.std.proofs.Common.{refl, sym, ◌∙◌, ap, subst, arith}
-use Rattle.std.specs.Prelude.{◌≡◌, ℕ, suc, ◌+◌, ◌-◌, ◌<◌, List, ◌∷◌, ◌++◌, length, get_or, set, take, drop, reverse, Bool, true, false}
-use Rattle.std.proofs.lemmas.List.{length-set, get_or-reverse}
-use Rattle.std.proofs.Math.Seq.{drop-cons, drop-length}
-use Rattle.niss_cube.specs.NumberedCubies.{edges_at}
+use Rattle.niss_cube.proofs.Words.{occupied, sym, ◌∙◌, ap, subst, arith, ◌≡◌, ℕ, suc, ◌+◌, ◌-◌, ◌<◌, List, ◌∷◌, ◌++◌, length, get_or, set}
+use Rattle.niss_cube.proofs.Words.{take, drop, reverse, Bool, true, false, length-set, get_or-reverse, drop-cons, edges_at, drop-length}
 use Rattle.niss_cube.proofs.WrittenLists.{one_more, all_written}
 
 -- what the loop keeps: the edges placed and those still to come are those of the occupied places
 pub record Placed (os : List Bool) (place free of_slice : ℕ) (xs : List ℕ) : Type 0 where
   pub places : length xs ≡ 12
   pub is : take place xs ++ edges_at (drop place os) free of_slice ≡ edges_at os 0 8
-
-pub placed-start : (os : List Bool) (xs : List ℕ) → length xs ≡ 12 → Placed os 0 0 8 xs
-placed-start os xs l = record { places = l; is = refl }
 
 -- at a place that is occupied or free
 next : (os : List Bool) (b : Bool) (place : ℕ) → place < length os → get_or os place false ≡ b → drop place os ≡ b ∷ drop (place + 1) os

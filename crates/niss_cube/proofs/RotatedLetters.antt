@@ -1,18 +1,9 @@
 -- The letters of a map that is followed by a move, and by a rotation of the whole cube.
-use Rattle.std.proofs.Common.{◌≡◌, ℕ, ◌<◌, refl, sym, ◌∙◌, ap, List, [], ◌∷◌, length, get_or}
-use Rattle.std.specs.Prelude.{if◌then◌else◌}
-use Rattle.std.proofs.lemmas.List.{get_or-map}
-use Rattle.niss_moves.specs.Places.{Place, same_place}
-use Rattle.niss_moves.specs.Facelets.{places, facelet}
-use Rattle.niss_moves.specs.Effects.{effect, moved_by, inverse_token}
-use Rattle.niss_moves.specs.Rotations.{to_top, about_vertical, rotation_if, spelling}
-use Rattle.niss_moves.specs.Letters.{letter_at, letter_of, letters}
-use Rattle.niss_moves.specs.declared.rotation.Rotation.{Rotation}
-use Rattle.niss_cube.specs.Names.{Token, U}
-use Rattle.niss_cube.specs.PlacePositions.{place_at}
+use Rattle.niss_cube.proofs.Words.{moved, ◌≡◌, ℕ, ◌<◌, refl, sym, ◌∙◌, ap, List, [], ◌∷◌, length, get_or, if◌then◌else◌, get_or-map, Place}
+use Rattle.niss_cube.proofs.Words.{same_place, places, facelet, effect, moved_by, to_top, rotation_if, letter_at, letter_of, letters, Token}
+use Rattle.niss_cube.proofs.Words.{U, place_at, same_truth, same_place_is, same_place_of, effect-append, inverse_after, inverse_before}
+use Rattle.niss_cube.proofs.Words.{inverse_token, about_vertical, spelling, Rotation}
 use Rattle.niss_cube.proofs.FaceletLetters.{letters-is}
-use Rattle.niss_cube.proofs.Logic.{same_truth}
-use Rattle.niss_moves.proofs.CallerLemmas.{same_place_is, same_place_of, effect-append, inverse_after, inverse_before}
 
 same_place-moved : (m : Token) (p q : Place) → same_place (moved_by m p) q ≡ same_place p (moved_by (inverse_token m) q)
 same_place-moved m p q =

@@ -1,24 +1,13 @@
 -- The flips and twists that a cube's map shows are those of its cubies.
-use Rattle.std.proofs.Common.{refl, sym, ◌∙◌, ap, arith, inl, inr}
-use Rattle.std.specs.Prelude.{◌≡◌, ℕ, zero, suc, ◌<◌, List, [], ◌∷◌, length, get_or, map, drop, Bool, true, false, ◌&&◌, ◌==◌, nat_le}
-use Rattle.std.specs.List.{list_any, range_with_len}
-use Rattle.std.proofs.lemmas.Bool.{eqb-true, eq-eqb}
-use Rattle.std.proofs.lemmas.Bool.Decides.{eqb_tells}
-use Rattle.std.proofs.lemmas.List.{ext_get_or, get_or-map, length-map, get_or_default}
-use Rattle.std.proofs.lemmas.List.Folds.{Any-from_list_any, list_any_at}
-use Rattle.std.proofs.lemmas.List.FromFn.{get_or-range_with_len, length-range_with_len}
-use Rattle.niss_moves.specs.Places.{Place, same_place, SameMap}
-use Rattle.niss_cube.specs.Names.{U}
-use Rattle.niss_moves.specs.Facelets.{facelet}
-use Rattle.niss_cube.specs.CubieFacelets.{index_in, row_at, edge_facelets}
-use Rattle.niss_cube.specs.Coordinates.{firsts, brings, orientations, occupied}
-use Rattle.niss_cube.proofs.CubieLists.{CubieLists, Valid, map_lists}
-use Rattle.niss_cube.proofs.CubieKinds.{Kind, Corners, Edges, count, facelets, rows, at, home_at, turn_at, turns, place_of}
-use Rattle.niss_cube.proofs.CubieKinds.{stand, stands, stands-at, unturned, some_facelet, same_facelet, shown_at}
-use Rattle.niss_cube.proofs.FiniteTests.{all_below, at_below}
+use Rattle.niss_cube.proofs.Words.{corner_facelets, Equal, Numbers, holds, refl, sym, ◌∙◌, ap, arith, inl, inr, ◌≡◌, ℕ, zero, suc, ◌<◌}
+use Rattle.niss_cube.proofs.Words.{List, [], ◌∷◌, length, get_or, map, drop, Bool, true, false, ◌&&◌, ◌==◌, nat_le, list_any}
+use Rattle.niss_cube.proofs.Words.{range_with_len, eqb-true, eq-eqb, eqb_tells, ext_get_or, get_or-map, length-map, Any-from_list_any}
+use Rattle.niss_cube.proofs.Words.{Place, same_place, SameMap, U, facelet, index_in, row_at, edge_facelets, and_left, and_right, and_both}
+use Rattle.niss_cube.proofs.Words.{same_truth, same_place_is, same_place_of, get_or_default, list_any_at, get_or-range_with_len}
+use Rattle.niss_cube.proofs.Words.{length-range_with_len, firsts, brings, orientations, occupied}
+use Rattle.niss_cube.proofs.CubieKinds.{CubieLists, Valid, map_lists, Kind, Corners, Edges, count, facelets, rows, at, home_at, turn_at}
+use Rattle.niss_cube.proofs.CubieKinds.{turns, place_of, stand, stands, stands-at, unturned, some_facelet, same_facelet, shown_at}
 use Rattle.niss_cube.proofs.Sums.{eqb-itself, eqb-other}
-use Rattle.niss_cube.proofs.Logic.{and_left, and_right, and_both, same_truth}
-use Rattle.niss_moves.proofs.CallerLemmas.{same_place_is, same_place_of}
 
 -- whether a test passes at a number below n
 abbrev any_below : ℕ → (ℕ → Bool) → Bool
@@ -60,12 +49,9 @@ rows_len : (k : Kind) → length (rows k) ≡ count k
 rows_len Corners = refl
 rows_len Edges = refl
 
-row_lens : (k : Kind) → all_below (count k) (λ i. length (row_at (rows k) i) == facelets k) ≡ true
-row_lens Corners = refl
-row_lens Edges = refl
-
 row_len : (k : Kind) (i : ℕ) → i < count k → length (row_at (rows k) i) ≡ facelets k
-row_len k i l = eqb-true _ _ (at_below (count k) (λ i. length (row_at (rows k) i) == facelets k) (row_lens k) i l)
+row_len Corners = holds (Numbers 8 λ i. Equal (length (row_at corner_facelets i)) 3) refl
+row_len Edges = holds (Numbers 12 λ i. Equal (length (row_at edge_facelets i)) 2) refl
 
 brought_first : (k : Kind) (e : Place → Place) (q : Place) → brings e (firsts (rows k)) q ≡ any_below (count k) (λ h. same_place (e (at k h 0)) q)
 brought_first Corners e q = refl

@@ -1,20 +1,11 @@
 -- The edges of a slice by their number, and after a turn.
-use Rattle.std.proofs.Common.{refl, sym, ◌∙◌, ap, arith}
-use Rattle.std.specs.Prelude.{◌≡◌, ℕ, zero, suc, ◌+◌, ◌<◌, ◌≤◌, List, [], ◌∷◌, length, get_or, map, reverse}
-use Rattle.std.specs.Prelude.{Bool, true, false, nat_le, ◌==◌, count_by, slice_index}
-use mathlib.Core.List.{reverse_aux}
-use Rattle.std.proofs.lemmas.Bool.{eqb-true, le-leb, leb-true, false_from_ne_true}
-use Rattle.std.proofs.lemmas.List.{ext_get_or, get_or-map, length-map, length-reverse, reverse-reverse}
-use Rattle.std.proofs.lemmas.List.Sums.{sum_by-cons}
-use Rattle.niss_cube.specs.Names.{Turn}
-use Rattle.niss_cube.specs.CubieTurns.{turn_table}
-use Rattle.niss_cube.specs.Coordinates.{rank}
-use Rattle.niss_cube.proofs.CubieLists.{tabulated, tabulated-length, tabulated-at, brought}
-use Rattle.niss_cube.proofs.CubieKinds.{Edges}
-use Rattle.niss_cube.proofs.TurnedCubies.{is_table}
-use Rattle.niss_cube.specs.NumberedCubies.{edges_at, edges_of_number, occupied_of_number}
+use Rattle.niss_cube.proofs.Words.{occupied, Equal, Numbers, holds, refl, sym, ◌∙◌, ap, arith, ◌≡◌, ℕ, zero, suc, ◌+◌, ◌<◌, ◌≤◌, List, []}
+use Rattle.niss_cube.proofs.Words.{◌∷◌, length, get_or, map, reverse, Bool, true, false, nat_le, ◌==◌, count_by, slice_index, le-leb}
+use Rattle.niss_cube.proofs.Words.{leb-true, false_from_ne_true, ext_get_or, get_or-map, length-map, length-reverse, sum_by-cons, Turn}
+use Rattle.niss_cube.proofs.Words.{turn_table, rank, edges_at, edges_of_number, occupied_of_number, reverse_aux, reverse-reverse}
+use Rattle.niss_cube.proofs.CubieKinds.{tabulated, tabulated-length, tabulated-at, brought, Edges}
+use Rattle.niss_cube.proofs.MovedCubies.{By, table}
 use Rattle.niss_cube.proofs.Sums.{one_if}
-use Rattle.niss_cube.proofs.FiniteTests.{all_below, at_below}
 use Rattle.niss_cube.proofs.Numbers.{filled, rank-same}
 use Rattle.niss_cube.proofs.OccupiedNumbers.{Numbered, numbered}
 use Rattle.niss_cube.proofs.CoordinateValues.{slice_occupied}
@@ -78,8 +69,8 @@ edges_at-occupied (false ∷ os) free occupied f g =
     let here : nat_le 8 free ≡ false = free_is free (omega arith) in
     rw here (ap (λ rs. false ∷ rs) (edges_at-occupied os (suc free) occupied (omega arith) g))
 
-each_test : all_below 12 (λ h. within 0 8 h + within 8 4 h == 1) ≡ true
-each_test = refl
+each_once : (h : ℕ) → h < 12 → within 0 8 h + within 8 4 h ≡ 1
+each_once = holds (Numbers 12 λ h. Equal (within 0 8 h + within 8 4 h) 1) refl
 
 module _ (os : List Bool) (l : length os ≡ 12) (four : filled os ≡ 4) where
   eight : free_places os ≡ 8
@@ -92,7 +83,7 @@ module _ (os : List Bool) (l : length os ≡ 12) (four : filled os ≡ 4) where
         edges_at-count os 0 8 h
         ∙ ap (λ n. within 0 n h + within 8 (filled os) h) eight
         ∙ ap (λ n. within 0 8 h + within 8 n h) four
-        ∙ eqb-true _ _ (at_below 12 (λ h. within 0 8 h + within 8 4 h == 1) each_test h lh);
+        ∙ each_once h lh;
     range = λ n ln. edges_at-range os 0 8 n (omega (arith, eight)) (omega arith) (omega arith);
   }
 
@@ -144,7 +135,7 @@ turned-occupied t xs ys lx ly e =
     at zs lz i l =
         get_or-map (nat_le 8) (tabulated 12 (brought from zs)) i 0 false (omega (arith, l, tabulated-length 12 (brought from zs)))
         ∙ ap (nat_le 8) (tabulated-at 12 (brought from zs) i l)
-        ∙ sym (get_or-map (nat_le 8) zs (get_or from i 0) 0 false (omega (arith, (is_table Edges t).from_below i l, lz)))
+        ∙ sym (get_or-map (nat_le 8) zs (get_or from i 0) 0 false (omega (arith, (table Edges (By t)).from_below i l, lz)))
 
 -- where the edges of a slice stand is determined by their number
 pub occupied-same : (xs ys : List ℕ) → length xs ≡ 12 → length ys ≡ 12 → filled (slice_occupied xs) ≡ 4 → filled (slice_occupied ys) ≡ 4 → rank (slice_occupied xs) 4 ≡ rank (slice_occupied ys) 4 → map (nat_le 8) xs ≡ map (nat_le 8) ys

@@ -1,21 +1,11 @@
 -- The steps of the number of a slice.
-use Rattle.std.proofs.Common.{◌≡◌, ℕ, suc, ◌+◌, ◌-◌, ◌<◌, ◌≤◌, refl, ◌∙◌, ap, List, [], ◌∷◌, length, get_or, drop, true, false, arith}
-use Rattle.std.specs.Prelude.{nat_le, ◌==◌}
-use Rattle.std.proofs.lemmas.Bool.{eqb-true, le-leb, leb-true, false_from_ne_true}
-use Rattle.std.proofs.Math.Seq.{drop-cons}
-use Rattle.std.proofs.lemmas.List.{length-drop}
-use Rattle.niss_cube.specs.Coordinates.{choose, rank}
-use Rattle.niss_cube.specs.declared.slice_places.TheConstants.{CHOICES}
-use Rattle.niss_cube.proofs.FiniteTests.{all_below, at_below}
+use Rattle.niss_cube.proofs.Words.{Equal, Numbers, holds, ◌≡◌, ℕ, suc, ◌+◌, ◌-◌, ◌<◌, ◌≤◌, refl, ◌∙◌, ap, List, [], ◌∷◌, length, get_or}
+use Rattle.niss_cube.proofs.Words.{drop, false, arith, nat_le, le-leb, leb-true, false_from_ne_true, drop-cons, choose, rank, length-drop}
+use Rattle.niss_cube.proofs.Words.{CHOICES}
 use Rattle.niss_cube.proofs.CoordinateValues.{slice_occupied, slice_occupied-length, slice_occupied-at}
 
-choices_test : all_below 12 (λ n. all_below 4 (λ k. get_or (get_or CHOICES n []) k 0 == choose n k)) ≡ true
-choices_test = refl
-
-pub choices-are : (n k : ℕ) → n < 12 → k < 4 → get_or (get_or CHOICES n []) k 0 ≡ choose n k
-choices-are n k ln lk =
-    eqb-true _ _ (at_below 4 (λ k. get_or (get_or CHOICES n []) k 0 == choose n k)
-    (at_below 12 (λ n. all_below 4 (λ k. get_or (get_or CHOICES n []) k 0 == choose n k)) choices_test n ln) k lk)
+pub choices-are : (n : ℕ) → n < 12 → (k : ℕ) → k < 4 → get_or (get_or CHOICES n []) k 0 ≡ choose n k
+choices-are = holds (Numbers 12 λ n. Numbers 4 λ k. Equal (get_or (get_or CHOICES n []) k 0) (choose n k)) refl
 
 lt-leb_false : (a b : ℕ) → b < a → nat_le a b ≡ false
 lt-leb_false a b h = false_from_ne_true (nat_le a b) (λ e. let l : a ≤ b = leb-true a b e in omega arith)
@@ -55,4 +45,4 @@ module _ (edges : List ℕ) (l : length edges ≡ 12) (met n : ℕ) (lm : met < 
       let more : met + 1 ≡ suc met = omega arith in
       let step = step_no (w - 1) h in
       let same : rank (drop met (slice_occupied edges)) w ≡ choose (11 - met) (w - 1) + rank (drop (met + 1) (slice_occupied edges)) w' = cc in
-      omega (arith, same, choices-are (11 - met) (w - 1) (omega arith) (omega arith))
+      omega (arith, same, choices-are (11 - met) (omega arith) (w - 1) (omega arith))

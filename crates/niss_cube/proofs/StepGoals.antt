@@ -1,12 +1,8 @@
 -- The goals of the steps: what a step can reach keeps its start.
-use Rattle.std.proofs.Common.{◌≡◌, refl, Bool, true, false, Option, Some}
-use Rattle.std.specs.List.{list_all}
-use Rattle.niss_cube.specs.Names.{Axis, Ud, Rl, Fb, Goal, Edges, Domino}
-use Rattle.niss_cube.specs.Names.{Step, Eofb, Eorl, Eoud, DrudEofb, DrrlEofb, DrudEorl, DrfbEorl, DrrlEoud, DrfbEoud}
-use Rattle.niss_cube.specs.Names.{Eo, DrEofb, DrEorl, DrEoud}
-use Rattle.niss_cube.specs.Steps.{start_of, goals_of}
-use Rattle.niss_cube.specs.StepLaws.{DominoKeepsStart}
-use Rattle.niss_cube.proofs.Each.{at_member}
+use Rattle.niss_cube.proofs.Words.{◌≡◌, refl, Bool, true, false, Option, Some, list_all, Axis, Ud, Rl, Fb, Goal, Domino, Step, Eofb, Eorl}
+use Rattle.niss_cube.proofs.Words.{Eoud, DrudEofb, DrrlEofb, DrudEorl, DrfbEorl, DrrlEoud, DrfbEoud, Eo, DrEofb, DrEorl, DrEoud, start_of}
+use Rattle.niss_cube.proofs.Words.{goals_of, at_member, DominoKeepsStart}
+use Rattle.niss_cube.specs.Names.{Edges}
 
 abbrev keeps : Option Axis → Goal → Bool
 keeps _ (Edges _) = true

@@ -1,18 +1,12 @@
 -- Whether a step may start and is reached, over maps of the places.
-use Rattle.std.proofs.Common.{◌≡◌, refl, sym, Bool, true, ◌&&◌, ◌||◌, List, [], ◌∷◌, Option, None, Some}
-use Rattle.std.specs.Prelude.{Contains, IsTrue}
-use Rattle.std.specs.List.{list_any}
-use Rattle.std.specs.Option.{option_map_or}
-use Rattle.niss_moves.specs.Places.{Place, SameMap}
-use Rattle.niss_moves.specs.Effects.{turned}
-use Rattle.niss_cube.specs.Names.{Axis, Turn, Goal, Edges, Domino, Flip, Twist, Slice}
-use Rattle.niss_cube.specs.Sets.{ArePlaces, is_kept, flip_set, twist_set, slice_set}
-use Rattle.niss_cube.specs.Steps.{start_of, goals_of, turns_of, holds, may_start, reached}
-use Rattle.niss_cube.specs.StepLaws.{StartIsKept, StepsSeePlaces}
-use Rattle.niss_cube.proofs.Logic.{same_truth}
-use Rattle.niss_cube.proofs.KeptTests.{kept-tested}
+use Rattle.niss_cube.proofs.Words.{◌≡◌, refl, sym, Bool, true, ◌&&◌, ◌||◌, List, [], ◌∷◌, Option, None, Some, Contains, IsTrue, list_any}
+use Rattle.niss_cube.proofs.Words.{option_map_or, Place, SameMap, turned, Axis, Turn, Goal, Domino, Flip, Twist, Slice, ArePlaces, is_kept}
+use Rattle.niss_cube.proofs.Words.{flip_set, twist_set, slice_set, start_of, goals_of, turns_of, may_start, same_truth, reached}
+use Rattle.niss_cube.proofs.Words.{StartIsKept, StepsSeePlaces}
+use Rattle.niss_cube.specs.Names.{Edges}
+use Rattle.niss_cube.specs.Steps.{holds}
+use Rattle.niss_cube.proofs.KeptTests.{kept_is_tested, kept_same}
 use Rattle.niss_cube.proofs.KeptSets.{sets_are_places}
-use Rattle.niss_cube.proofs.SetPlaces.{kept_same}
 use Rattle.niss_cube.proofs.StepTurns.{turns_from, turn_keeps}
 
 -- the start is kept
@@ -23,8 +17,8 @@ starts start e = option_map_or (λ a. holds (Edges a) e) start true
 start_kept : (start : Option Axis) (e : Place → Place) (t : Turn) → Contains (turns_from start) t → IsTrue (starts start e) → IsTrue (starts start (λ q. turned t (e q)))
 start_kept None e t m h = refl
 start_kept (Some a) e t m h =
-    (kept-tested (flip_set a) (λ q. turned t (e q)) (sets_are_places Flip a)).1
-    (λ q s. turn_keeps a t m (e q) ((kept-tested (flip_set a) e (sets_are_places Flip a)).0 h q s))
+    (kept_is_tested (flip_set a) (λ q. turned t (e q)) (sets_are_places Flip a)).1
+    (λ q s. turn_keeps a t m (e q) ((kept_is_tested (flip_set a) e (sets_are_places Flip a)).0 h q s))
 
 pub start_is_kept : StartIsKept
 unfolding may_start turns_of
@@ -35,8 +29,8 @@ start_is_kept s e t m h = start_kept (start_of s) e t m h
 is_kept_same : (set : Place → Bool) (d e : Place → Place) → ArePlaces set → SameMap d e → is_kept set d ≡ is_kept set e
 is_kept_same set d e inside same =
     same_truth (is_kept set d) (is_kept set e)
-    (λ h. (kept-tested set e inside).1 (kept_same set d e inside same ((kept-tested set d inside).0 h)))
-    (λ h. (kept-tested set d inside).1 (kept_same set e d inside (λ q p. sym (same q p)) ((kept-tested set e inside).0 h)))
+    (λ h. (kept_is_tested set e inside).1 (kept_same set d e inside same ((kept_is_tested set d inside).0 h)))
+    (λ h. (kept_is_tested set d inside).1 (kept_same set e d inside (λ q p. sym (same q p)) ((kept_is_tested set e inside).0 h)))
 
 holds_same : (g : Goal) (d e : Place → Place) → SameMap d e → holds g d ≡ holds g e
 holds_same (Edges a) d e same = is_kept_same (flip_set a) d e (sets_are_places Flip a) same

@@ -1,21 +1,9 @@
 -- The turns of the steps: parts of the turn order, which hold their inverses and keep the start.
-use Rattle.std.proofs.Common.{◌≡◌, ◌≤◌, refl, ◌∙◌, ap, Bool, true, not, ◌&&◌, ◌||◌, List, length, Option, None, Some, arith}
-use Rattle.std.specs.Prelude.{Contains, flat_map, map, filter}
-use Rattle.std.specs.List.{list_all, list_any}
-use Rattle.std.specs.Option.{option_map_or}
-use Rattle.std.proofs.lemmas.Map.Views.{Contains-from_any}
-use Rattle.niss_moves.specs.Places.{is_place}
-use Rattle.niss_moves.specs.Facelets.{places}
-use Rattle.niss_moves.specs.Effects.{turned}
-use Rattle.niss_moves.specs.Turn.{same_face, inverse_turn}
-use Rattle.niss_moves.specs.Canonical.{face_order, turn_order}
-use Rattle.niss_cube.specs.Names.{Axis, Ud, Rl, Fb, Half, Turn, Step}
-use Rattle.niss_cube.specs.Sets.{Kept, flip_set}
-use Rattle.niss_cube.specs.Steps.{start_of, turns_of, powers_from, is_face_of}
-use Rattle.niss_cube.specs.StepLaws.{InversesOfSteps, StepTurnsInOrder, StepTurnsAreCounted}
-use Rattle.niss_moves.proofs.CallerLemmas.{same_face_is, same_power, same_power_is}
-use Rattle.niss_cube.proofs.Each.{at_place, and_left, and_right, at_member}
-use Rattle.niss_cube.proofs.KeptTests.{implied}
+use Rattle.niss_cube.proofs.Words.{Fact, Yes, When, Places, Among, Holds, holds, ◌≡◌, ◌≤◌, refl, ◌∙◌, ap, Bool, true, not, ◌&&◌, ◌||◌, List}
+use Rattle.niss_cube.proofs.Words.{length, Option, None, Some, arith, Contains, map, list_any, option_map_or, Contains-from_any, is_place}
+use Rattle.niss_cube.proofs.Words.{turned, inverse_turn, Axis, Ud, Rl, Fb, Half, Turn, Step, Kept, flip_set, start_of, turns_of, and_left}
+use Rattle.niss_cube.proofs.Words.{and_right, flat_map, filter, same_face, face_order, turn_order, powers_from, is_face_of, InversesOfSteps}
+use Rattle.niss_cube.proofs.Words.{StepTurnsInOrder, StepTurnsAreCounted, same_face_is, same_power, same_power_is}
 
 -- the turns of a step from its start
 abbrev pub turns_from : Option Axis → List Turn
@@ -45,18 +33,16 @@ turns_of-oriented s a e = omega (arith, step_turns_are_counted s ∙ ap (λ star
 
 -- each turn from oriented edges keeps them so
 
-abbrev keeps : Axis → Turn → Bool
-keeps a t = list_all (λ q. not (flip_set a q) || flip_set a (turned t q)) places
+abbrev keeps_fact : Axis → Fact
+keeps_fact a = Among (turns_from (Some a)) λ t. Places λ q. When (flip_set a q) (Yes (flip_set a (turned t q)))
 
-all_keep : (a : Axis) → list_all (keeps a) (turns_from (Some a)) ≡ true
-all_keep Ud = refl
-all_keep Rl = refl
-all_keep Fb = refl
+all_keep : (a : Axis) → Holds (keeps_fact a)
+all_keep Ud = holds (keeps_fact Ud) refl
+all_keep Rl = holds (keeps_fact Rl) refl
+all_keep Fb = holds (keeps_fact Fb) refl
 
 pub turn_keeps : (a : Axis) (t : Turn) → Contains (turns_from (Some a)) t → Kept (flip_set a) (turned t)
-turn_keeps a t m q h =
-    implied (flip_set a q) (flip_set a (turned t q))
-    (at_place (λ q. not (flip_set a q) || flip_set a (turned t q)) (at_member (keeps a) (turns_from (Some a)) t (all_keep a) m) q (and_left (is_place q) _ (and_left _ _ h))) h
+turn_keeps a t m q h = all_keep a t m q (and_left (is_place q) _ (and_left _ _ h)) h
 
 -- the inverse of each turn is among them
 
@@ -72,18 +58,17 @@ same_turn-is t u h =
 abbrev pub is_among : List Turn → Turn → Bool
 is_among ts t = list_any (same_turn t) ts
 
-abbrev has_inverse : List Turn → Turn → Bool
-has_inverse ts t = is_among ts (inverse_turn t)
+abbrev inverse_fact : Option Axis → Fact
+inverse_fact start = Among (turns_from start) λ t. Yes (is_among (turns_from start) (inverse_turn t))
 
-all_have_inverses : (start : Option Axis) → list_all (has_inverse (turns_from start)) (turns_from start) ≡ true
-all_have_inverses None = refl
-all_have_inverses (Some Ud) = refl
-all_have_inverses (Some Rl) = refl
-all_have_inverses (Some Fb) = refl
+all_have_inverses : (start : Option Axis) → Holds (inverse_fact start)
+all_have_inverses None = holds (inverse_fact None) refl
+all_have_inverses (Some Ud) = holds (inverse_fact (Some Ud)) refl
+all_have_inverses (Some Rl) = holds (inverse_fact (Some Rl)) refl
+all_have_inverses (Some Fb) = holds (inverse_fact (Some Fb)) refl
 
 inverse_from : (start : Option Axis) (t : Turn) → Contains (turns_from start) t → Contains (turns_from start) (inverse_turn t)
-inverse_from start t m =
-    Contains-from_any same_turn-is (inverse_turn t) (turns_from start) (at_member (has_inverse (turns_from start)) (turns_from start) t (all_have_inverses start) m)
+inverse_from start t m = Contains-from_any same_turn-is (inverse_turn t) (turns_from start) (all_have_inverses start t m)
 
 pub inverses_of_steps : InversesOfSteps
 unfolding turns_of

@@ -1,10 +1,7 @@
 -- Sums over the numbers below a bound, and over the places of a permutation.
-use Rattle.std.proofs.Common.{refl, sym, ◌∙◌, ap, arith, inl, inr}
-use Rattle.std.specs.Prelude.{◌≡◌, ℕ, zero, suc, ◌+◌, ◌*◌, ◌<◌, ◌≤◌, List, [], ◌∷◌, length, get_or, Bool, true, false, cond, ◌==◌}
-use Rattle.std.specs.List.{sum_by}
-use Rattle.std.proofs.lemmas.List.Sums.{sum_by-cons}
-use Rattle.std.proofs.lemmas.Bool.{eqb-true, eq-eqb, false_from_ne_true}
-use Rattle.std.proofs.lemmas.Bool.Decides.{eqb_tells}
+use Rattle.niss_cube.proofs.Words.{refl, sym, ◌∙◌, ap, arith, inl, inr, ◌≡◌, ℕ, zero, suc, ◌+◌, ◌*◌, ◌<◌, ◌≤◌, List, [], ◌∷◌, length}
+use Rattle.niss_cube.proofs.Words.{get_or, Bool, true, false, ◌==◌, sum_by-cons, eqb-true, eq-eqb, false_from_ne_true, eqb_tells, cond}
+use Rattle.niss_cube.proofs.Words.{sum_by}
 
 abbrev pub below : ℕ → (ℕ → ℕ) → ℕ
 below zero f = 0
@@ -109,3 +106,9 @@ below_all_same (suc n) f g h e k l =
 pub one_if-at_most : (a b : Bool) → (a ≡ true → b ≡ true) → one_if a ≤ one_if b
 one_if-at_most true b h = rw (h refl) (omega arith)
 one_if-at_most false b h = omega arith
+
+pub one_if-same : (a b : Bool) → one_if a ≡ one_if b → a ≡ b
+one_if-same true true h = refl
+one_if-same true false h = absurd (omega arith)
+one_if-same false true h = absurd (omega arith)
+one_if-same false false h = refl

@@ -1,24 +1,11 @@
 -- The rows of the tables, as they are written.
-use Rattle.std.proofs.Common.{refl, sym, ◌∙◌, ap, subst, arith, inl, inr}
-use Rattle.std.specs.Prelude.{◌≡◌, ℕ, ◌+◌, ◌<◌, List, [], ◌∷◌, length, get_or, set, Bool, true, ◌&&◌, slice_index}
-use Rattle.std.proofs.lemmas.List.{get_or-set_same, get_or-set_other, length-set}
-use Rattle.std.proofs.lemmas.Bool.Decides.{eqb_tells}
-use Rattle.std.specs.List.{list_all}
-use Rattle.niss_moves.specs.Places.{Place, same_place, is_place}
-use Rattle.niss_moves.specs.Facelets.{places}
-use Rattle.niss_moves.specs.Effects.{turned}
-use Rattle.niss_moves.specs.Indices.{face_index, power_index}
-use Rattle.niss_cube.specs.Names.{Face, U, D, R, L, F, B, Power, Quarter, Half, Counter, Turn, Cube, Coordinate}
-use Rattle.niss_cube.specs.Map.{map_of}
-use Rattle.niss_cube.specs.Coordinates.{count_of, number_of, standard_axis}
-use Rattle.niss_cube.specs.NumberAfter.{number_after}
-use Rattle.niss_cube.specs.AfterTurn.{IsCoordinate, IsCube}
-use Rattle.niss_cube.specs.TableRows.{AreRowsAt, AreQuarters, IsQuarter, entry_at}
-use Rattle.niss_cube.proofs.CoordinateLaws.{are_coordinates, cube-itself, lists_of, turned_is_cube}
-use Rattle.niss_cube.proofs.CubieKinds.{map_place}
-use Rattle.niss_cube.proofs.Each.{at_place}
-use Rattle.niss_cube.proofs.Logic.{and_left, and_right}
-use Rattle.niss_moves.proofs.CallerLemmas.{same_place_is, every_face, at_face, turn}
+use Rattle.niss_cube.proofs.Words.{Alike, Both, Places, Faces, holds, refl, sym, ◌∙◌, ap, subst, arith, inl, inr, ◌≡◌, ℕ, ◌+◌, ◌<◌, List}
+use Rattle.niss_cube.proofs.Words.{[], ◌∷◌, length, get_or, set, true, slice_index, length-set, eqb_tells, Place, is_place, turned, Face}
+use Rattle.niss_cube.proofs.Words.{Quarter, Half, Counter, Turn, Cube, Coordinate, map_of, count_of, number_of, standard_axis, number_after}
+use Rattle.niss_cube.proofs.Words.{IsCube, AreRowsAt, AreQuarters, IsQuarter, every_face, get_or-set_same, get_or-set_other, power_index}
+use Rattle.niss_cube.proofs.Words.{Power, IsCoordinate, entry_at, turn}
+use Rattle.niss_cube.proofs.CubieKinds.{lists_of, map_place}
+use Rattle.niss_cube.proofs.CoordinateLaws.{are_coordinates, cube-itself, turned_is_cube}
 
 abbrev after_of : Coordinate → ℕ → Turn → ℕ
 after_of k = number_after k (standard_axis k)
@@ -43,25 +30,19 @@ after-both k s t u same i l =
     ∙ number u
 
 -- a half turn is two quarters, a counter turn three
-abbrev powers_test : Face → Place → Bool
-powers_test f q =
-    same_place (turned (turn f Quarter) (turned (turn f Quarter) q)) (turned (turn f Half) q)
-    && same_place (turned (turn f Quarter) (turned (turn f Half) q)) (turned (turn f Counter) q)
-
-powers_hold : every_face (λ f. list_all (powers_test f) places) ≡ true
+powers-hold : (f : Face) (q : Place) → is_place q ≡ true →
+    (turned (turn f Quarter) (turned (turn f Quarter) q) ≡ turned (turn f Half) q)
+    × (turned (turn f Quarter) (turned (turn f Half) q) ≡ turned (turn f Counter) q)
 unfolding every_face
-powers_hold = refl
-
-powers_tested : (f : Face) (q : Place) → is_place q ≡ true → powers_test f q ≡ true
-powers_tested f q p = at_place (powers_test f) (at_face (λ f. list_all (powers_test f) places) powers_hold f) q p
+powers-hold = holds (Faces λ f. Places λ q. Both
+    (Alike (turned (turn f Quarter) (turned (turn f Quarter) q)) (turned (turn f Half) q))
+    (Alike (turned (turn f Quarter) (turned (turn f Half) q)) (turned (turn f Counter) q))) refl
 
 after-twice : (k : Coordinate) (f : Face) (i : ℕ) → i < count_of k → after_of k (after_of k i (turn f Quarter)) (turn f Quarter) ≡ after_of k i (turn f Half)
-after-twice k f = after-both k (turn f Quarter) (turn f Quarter) (turn f Half) (λ q p. same_place_is _ _ (and_left _ _ (powers_tested f q p)))
+after-twice k f = after-both k (turn f Quarter) (turn f Quarter) (turn f Half) (λ q p. (powers-hold f q p).0)
 
 after-thrice : (k : Coordinate) (f : Face) (i : ℕ) → i < count_of k → after_of k (after_of k i (turn f Half)) (turn f Quarter) ≡ after_of k i (turn f Counter)
-after-thrice k f =
-    after-both k (turn f Half) (turn f Quarter) (turn f Counter)
-    (λ q p. same_place_is _ _ (and_right (same_place (turned (turn f Quarter) (turned (turn f Quarter) q)) (turned (turn f Half) q)) _ (powers_tested f q p)))
+after-thrice k f = after-both k (turn f Half) (turn f Quarter) (turn f Counter) (λ q p. (powers-hold f q p).1)
 
 abbrev AreNumbersAfter : Coordinate → ℕ → Face → List ℕ → Type 0
 AreNumbersAfter k i f numbers = (p : Power) → slice_index numbers (power_index p) ≡ after_of k i (turn f p)
@@ -85,49 +66,20 @@ module _ (k : Coordinate) (rows : List (List (List ℕ))) (h : AreQuarters k row
     numbers_after-are thrice z Half = twice-is
     numbers_after-are thrice z Counter = z ∙ h.entries twice (turn f Quarter) refl twice-below ∙ ap (λ j. after_of k j (turn f Quarter)) twice-is ∙ after-thrice k f i l
 
-pub row-is : (k : Coordinate) (i : ℕ) (u d r l f b : List ℕ) → AreNumbersAfter k i U u → AreNumbersAfter k i D d → AreNumbersAfter k i R r → AreNumbersAfter k i L l → AreNumbersAfter k i F f → AreNumbersAfter k i B b →
-    (t : Turn) → entry_at (u ∷ d ∷ r ∷ l ∷ f ∷ b ∷ []) t ≡ after_of k i t
-row-is k i u d r l f b hu hd hr hl hf hb t = at t.face t.power
-  where
-    at : (g : Face) (p : Power) → slice_index (get_or (u ∷ d ∷ r ∷ l ∷ f ∷ b ∷ []) (face_index g) []) (power_index p) ≡ after_of k i (turn g p)
-    at U p = hu p
-    at D p = hd p
-    at R p = hr p
-    at L p = hl p
-    at F p = hf p
-    at B p = hb p
-
 -- A row is written at its number: the rows that were right at some turns still are, and so is that row.
-row-written : (k : Coordinate) (some : Turn → Type 0) (m m' n : ℕ) (rows : List (List (List ℕ))) (row : List (List ℕ)) → n < length rows → ((t : Turn) → some t → entry_at row t ≡ after_of k n t) → ((i : ℕ) → i < m' → (i ≡ n → ⊥) → i < m) →
-    AreRowsAt k some m rows → AreRowsAt k some m' (set rows n row)
-row-written k some m m' n rows row l r less done = record { rows_count = length-set rows n row ∙ done.rows_count; entries = λ i t s h. at i t s h }
+pub rows-step : (k : Coordinate) (some : Turn → Type 0) (n : ℕ) (rows : List (List (List ℕ))) (row : List (List ℕ)) → n < length rows → ((t : Turn) → some t → entry_at row t ≡ after_of k n t) →
+    AreRowsAt k some n rows → AreRowsAt k some (n + 1) (set rows n row)
+rows-step k some n rows row l r done = record { rows_count = length-set rows n row ∙ done.rows_count; entries = at }
   where
-    at : (i : ℕ) (t : Turn) → some t → i < m' → entry_at (get_or (set rows n row) i []) t ≡ after_of k i t
+    at : (i : ℕ) (t : Turn) → some t → i < n + 1 → entry_at (get_or (set rows n row) i []) t ≡ after_of k i t
     at i t s h = elim (eqb_tells i n) [
       | inl w ↦
           ap (λ j. entry_at (get_or (set rows n row) j []) t) w.1
           ∙ ap (λ x. entry_at x t) (get_or-set_same rows n row [] l)
           ∙ r t s
           ∙ ap (λ j. after_of k j t) (sym w.1)
-      | inr w ↦ ap (λ x. entry_at x t) (get_or-set_other rows n i row [] w.1) ∙ done.entries i t s (less i h w.1)
+      | inr w ↦ ap (λ x. entry_at x t) (get_or-set_other rows n i row [] w.1) ∙ done.entries i t s (grind (arith, w.1))
     ]
-
--- no row is written yet
-pub rows-start : (k : Coordinate) (some : Turn → Type 0) (rows : List (List (List ℕ))) → length rows ≡ count_of k → AreRowsAt k some 0 rows
-rows-start k some rows l = record { rows_count = l; entries = λ i t s h. absurd (omega arith) }
-
--- one more row is
-pub rows-step : (k : Coordinate) (some : Turn → Type 0) (n : ℕ) (rows : List (List (List ℕ))) (row : List (List ℕ)) → n < length rows → ((t : Turn) → some t → entry_at row t ≡ after_of k n t) →
-    AreRowsAt k some n rows → AreRowsAt k some (n + 1) (set rows n row)
-rows-step k some n rows row l r done = row-written k some n (n + 1) n rows row l r (λ i h w. grind (arith, w)) done
-
--- all rows are
-pub rows-end : (k : Coordinate) (some : Turn → Type 0) (n : ℕ) (rows : List (List (List ℕ))) → n ≡ count_of k → AreRowsAt k some n rows → AreRowsAt k some (count_of k) rows
-rows-end k some n rows e done = subst (λ m. AreRowsAt k some m rows) e done
-
--- a whole row keeps the quarters
-pub quarters-kept : (k : Coordinate) (n : ℕ) (rows : List (List (List ℕ))) (row : List (List ℕ)) → n < length rows → ((t : Turn) → entry_at row t ≡ after_of k n t) → AreQuarters k rows → AreQuarters k (set rows n row)
-quarters-kept k n rows row l r done = row-written k IsQuarter (count_of k) (count_of k) n rows row l (λ t s. r t) (λ i h w. h) done
 
 -- a row of the quarters of a cube that has the number
 pub quarter-row : (k : Coordinate) (n : ℕ) (row : List (List ℕ)) (c : Cube) → coordinate_of k (map_of c) ≡ n → ((f : Face) → entry_at row (turn f Quarter) ≡ coordinate_of k (λ q. turned (turn f Quarter) (map_of c q))) →

@@ -1,9 +1,6 @@
 -- Worked values of the coordinates.
-use Rattle.std.proofs.Common.{◌≡◌, refl, true, false, Bool, ◌==◌, ◌&&◌, [], ◌∷◌, reverse}
-use Rattle.niss_moves.specs.Places.{Place}
-use Rattle.niss_moves.specs.Effects.{moved, face_move}
-use Rattle.niss_cube.specs.Names.{Ud, Rl, Fb, Face, U, D, R, F, Coordinate, Flip, Twist, Slice}
-use Rattle.niss_cube.specs.Coordinates.{number_of, flip_of, twist_of, slice_of, rank}
+use Rattle.niss_cube.proofs.Words.{◌≡◌, refl, true, false, Bool, ◌==◌, ◌&&◌, [], ◌∷◌, reverse, Place, Ud, Rl, Fb, Face, U, D, R, F}
+use Rattle.niss_cube.proofs.Words.{Coordinate, Flip, Twist, Slice, number_of, flip_of, twist_of, slice_of, rank, moved, face_move}
 
 -- of the solved cube, on each axis
 abbrev is_0_when_solved : Coordinate → Bool

@@ -1,11 +1,7 @@
 -- The steps of the loop that writes the orientations with a number.
-use Rattle.std.proofs.Common.{sym, ◌∙◌, ap, subst, arith, append_assoc}
-use Rattle.std.specs.Prelude.{◌≡◌, ℕ, suc, ◌+◌, ◌-◌, ◌/◌, ◌%◌, ◌<◌, List, [], ◌∷◌, ◌++◌, length, set, take, drop, sum}
-use Rattle.std.proofs.lemmas.List.{length-set, append-nil}
-use Rattle.std.proofs.lemmas.List.Sums.{sum_by-cons}
-use Rattle.std.proofs.lemmas.Grind.{drop-set_at}
-use Rattle.std.proofs.Math.Seq.{take-suc-set, take-length}
-use Rattle.niss_cube.specs.NumberedCubies.{digits_of_number, orientations_of_number}
+use Rattle.niss_cube.proofs.Words.{number, sym, ◌∙◌, ap, subst, arith, append_assoc, ◌≡◌, ℕ, suc, ◌+◌, ◌-◌, ◌/◌, ◌%◌, ◌<◌, List, [], ◌∷◌}
+use Rattle.niss_cube.proofs.Words.{◌++◌, length, set, take, drop, sum, length-set, sum_by-cons, take-length, digits_of_number}
+use Rattle.niss_cube.proofs.Words.{orientations_of_number, drop-set_at, take-suc-set}
 use Rattle.niss_cube.proofs.Orientations.{Base}
 
 -- the last digits of n
@@ -23,9 +19,6 @@ pub record Written (b n number met rest total : ℕ) (xs : List ℕ) : Type 0 wh
   pub places : length xs ≡ suc n
   pub digits : digits_of_number b (n - met) rest ++ last_digits n met xs ≡ digits_of_number b n number
   pub total_is : sum (last_digits n met xs) % b ≡ total
-
-pub written-start : (b n number : ℕ) → Base b → (xs : List ℕ) → length xs ≡ suc n → Written b n number 0 number 0 xs
-written-start b n number base xs l = record { places = l; digits = append-nil (digits_of_number b (n - 0) number) ∙ ap (λ k. digits_of_number b k number) (let a : n - 0 ≡ n = omega arith in a); total_is = base.none }
 
 pub written-step : (b n number met rest total : ℕ) → Base b → (xs : List ℕ) → met < n → Written b n number met rest total xs → Written b n number (met + 1) (rest / b) ((total + rest % b) % b) (set xs (n - 1 - met) (rest % b))
 written-step b n number met rest total base xs h w =
@@ -74,6 +67,3 @@ written-end b n number met rest total xs e w =
     set_last n xs ((b - total) % b) w.places
     ∙ ap (λ ys. ys ++ ((b - total) % b) ∷ []) all
     ∙ ap (λ k. digits_of_number b n number ++ ((b - k) % b) ∷ []) total_of
-
-pub total-small : (b n number met rest total : ℕ) → Base b → (xs : List ℕ) → Written b n number met rest total xs → total < b
-total-small b n number met rest total base xs w = let s : sum (last_digits n met xs) % b < b = base.small (sum (last_digits n met xs)) in omega (arith, w.total_is, s)

@@ -1,9 +1,5 @@
 -- A coordinate, and how its number follows the turns.
-use Rattle.std.specs.Prelude.{◌≡◌, ℕ, ◌<◌, ◌↔◌}
-use Rattle.niss_moves.specs.Places.{Place, SameMap}
-use Rattle.niss_moves.specs.Effects.{turned}
-use Rattle.niss_moves.specs.Turn.{inverse_turn}
-use Rattle.niss_cube.specs.Names.{Axis, Turn, Cube, Coordinate}
+use Rattle.niss_cube.specs.Names.{◌≡◌, ℕ, ◌<◌, ◌↔◌, Place, SameMap, turned, inverse_turn, Axis, Turn, Cube, Coordinate}
 use Rattle.niss_cube.specs.Map.{map_of}
 use Rattle.niss_cube.specs.Sets.{Kept, set_of}
 use Rattle.niss_cube.specs.Coordinates.{count_of, number_of}

@@ -1,11 +1,9 @@
 -- The coordinates of a map of the sticker places, in the order of the cubies.
-use Rattle.std.specs.Prelude.{ℕ, zero, suc, ◌+◌, ◌*◌, Option, None, Some, Bool, true, false}
-use Rattle.std.specs.Prelude.{List, [], ◌∷◌, map, take, drop, fold, reverse, length}
-use Rattle.std.specs.List.{list_any}
-use Rattle.niss_moves.specs.Places.{Place, same_place}
+use Rattle.niss_cube.specs.Names.{ℕ, zero, suc, ◌+◌, Option, None, Some, Bool, true, false, List, [], ◌∷◌, map, reverse, length, list_any}
+use Rattle.niss_cube.specs.Names.{Place, same_place, Axis, Ud, Rl, Fb, Face, Turn, Coordinate, Flip, Twist, Slice, Renaming, XCounter}
+use Rattle.niss_cube.specs.Names.{XQuarter, YQuarter, ZCounter}
+use Rattle.std.specs.Prelude.{◌*◌, take, drop, fold}
 use Rattle.niss_moves.specs.Rotations.{renamed_turn}
-use Rattle.niss_cube.specs.Names.{Axis, Ud, Rl, Fb, Face, Turn, Coordinate, Flip, Twist, Slice}
-use Rattle.niss_cube.specs.Names.{Renaming, XCounter, XQuarter, YQuarter, ZCounter}
 use Rattle.niss_cube.specs.CubieFacelets.{index_in, corner_facelets, edge_facelets}
 use Rattle.niss_cube.specs.Renamings.{renamed_if, face_if}
 
@@ -15,12 +13,9 @@ abbrev pub renaming_for : Coordinate → Axis → Option Renaming
 renaming_for Flip Ud = Some XCounter
 renaming_for Flip Rl = Some YQuarter
 renaming_for Flip Fb = None
-renaming_for Twist Ud = None
-renaming_for Twist Rl = Some ZCounter
-renaming_for Twist Fb = Some XQuarter
-renaming_for Slice Ud = None
-renaming_for Slice Rl = Some ZCounter
-renaming_for Slice Fb = Some XQuarter
+renaming_for _ Ud = None
+renaming_for _ Rl = Some ZCounter
+renaming_for _ Fb = Some XQuarter
 
 -- the map of the cube from which a coordinate on an axis is read
 abbrev pub renamed_for : Coordinate → Axis → (Place → Place) → Place → Place
@@ -93,5 +88,4 @@ count_of Slice = 495
 -- the axis for which the cube isn't renamed before a coordinate is read
 abbrev pub standard_axis : Coordinate → Axis
 standard_axis Flip = Fb
-standard_axis Twist = Ud
-standard_axis Slice = Ud
+standard_axis _ = Ud

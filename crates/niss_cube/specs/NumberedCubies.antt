@@ -1,10 +1,10 @@
 -- The cubies that have a number on the standard axis of a coordinate.
-use Rattle.std.specs.Prelude.{ℕ, zero, suc, ◌-◌, ◌/◌, ◌%◌, Bool, true, false, List, [], ◌∷◌, ◌++◌, sum, reverse, nat_lt, if◌then◌else◌}
-use Rattle.niss_moves.specs.Places.{Place}
+use Rattle.niss_cube.specs.Names.{ℕ, zero, suc, ◌-◌, ◌%◌, Bool, true, false, List, [], ◌∷◌, reverse, if◌then◌else◌, Place, Coordinate, Flip}
+use Rattle.niss_cube.specs.Names.{Twist, Slice}
+use Rattle.std.specs.Prelude.{◌/◌, ◌++◌, sum, nat_lt}
 use Rattle.niss_cube.specs.Coordinates.{choose}
 use Rattle.niss_cube.specs.Cubies.{corners_home, twists_home, edges_home, flips_home}
 use Rattle.niss_cube.specs.Map.{sticker_map}
-use Rattle.niss_cube.specs.Names.{Coordinate, Flip, Twist, Slice}
 
 -- the number i as n digits in base b, the highest first
 abbrev pub digits_of_number : (b n i : ℕ) → List ℕ

@@ -1,9 +1,8 @@
 -- The rotations of the whole cube by which a cube is renamed before a coordinate is read.
-use Rattle.std.specs.Prelude.{ℕ, ◌+◌, ◌-◌, ◌%◌, List, Option, None, Some, slice_index}
-use Rattle.niss_moves.specs.Places.{Place}
+use Rattle.niss_cube.specs.Names.{ℕ, ◌+◌, ◌-◌, ◌%◌, List, Option, None, Some, slice_index, Place, Axis, Rl, Ud, Fb, Face, Quarter, Counter}
+use Rattle.niss_cube.specs.Names.{Renaming, XCounter, XQuarter, YQuarter, ZCounter}
 use Rattle.niss_moves.specs.Effects.{quarters}
 use Rattle.niss_moves.specs.Rotations.{face_before_power}
-use Rattle.niss_cube.specs.Names.{Axis, Rl, Ud, Fb, Face, Quarter, Counter, Renaming, XCounter, XQuarter, YQuarter, ZCounter}
 use Rattle.niss_cube.specs.declared.renaming.RenamingTable.{RenamingTable}
 use Rattle.niss_cube.specs.declared.renaming.TheConstants.{X_COUNTER, X_QUARTER, Y_QUARTER, Z_COUNTER}
 
@@ -11,16 +10,22 @@ use Rattle.niss_cube.specs.declared.renaming.TheConstants.{X_COUNTER, X_QUARTER,
 abbrev pub spun : Axis → ℕ → Place → Place
 spun axis n q = record { cell = quarters axis n q.cell; direction = quarters axis n q.direction }
 
--- the map of the cube renamed by a rotation of the whole cube: where e goes from q to r, this goes from g q to g r
-abbrev pub renamed : Axis → ℕ → (Place → Place) → Place → Place
-renamed axis n e q = spun axis n (e (spun axis (4 - n) q))
+-- a place after the rotation of a renaming, and after the one that takes it back
+abbrev pub rotated : Renaming → Place → Place
+rotated XCounter = spun Rl 3
+rotated XQuarter = spun Rl 1
+rotated YQuarter = spun Ud 1
+rotated ZCounter = spun Fb 3
 
--- the map of the renamed cube
+abbrev pub rotated_back : Renaming → Place → Place
+rotated_back XCounter = spun Rl 1
+rotated_back XQuarter = spun Rl 3
+rotated_back YQuarter = spun Ud 3
+rotated_back ZCounter = spun Fb 1
+
+-- the map of the renamed cube: where e goes from q to r, this goes from the renamed q to the renamed r
 abbrev pub renamed_by : Renaming → (Place → Place) → Place → Place
-renamed_by XCounter e = renamed Rl 3 e
-renamed_by XQuarter e = renamed Rl 1 e
-renamed_by YQuarter e = renamed Ud 1 e
-renamed_by ZCounter e = renamed Fb 3 e
+renamed_by v e q = rotated v (e (rotated_back v q))
 
 -- the face to which a face is brought: the one that the inverse brings to its place
 abbrev pub face_by : Renaming → Face → Face

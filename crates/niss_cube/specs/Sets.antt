@@ -1,15 +1,14 @@
 -- The sets of sticker places that the coordinates depend on.
-use Rattle.std.specs.Prelude.{Bool, ◌&&◌, ◌||◌, not, IsTrue, ◌↔◌}
+use Rattle.niss_cube.specs.Names.{Bool, ◌&&◌, ◌||◌, IsTrue, ◌↔◌, Place, is_corner, is_edge, IsPlace, places, Axis, Ud, Rl, Coordinate}
+use Rattle.niss_cube.specs.Names.{Flip, Twist, Slice}
+use Rattle.std.specs.Prelude.{not}
 use Rattle.std.specs.List.{list_all}
-use Rattle.niss_moves.specs.Places.{Place, along, looks_along, is_zero, is_corner, is_edge, IsPlace}
-use Rattle.niss_moves.specs.Facelets.{places}
-use Rattle.niss_cube.specs.Names.{Axis, Ud, Rl, Fb, Coordinate, Flip, Twist, Slice}
+use Rattle.niss_moves.specs.Places.{along, looks_along, is_zero}
 
 -- the helper axis of the flips on an axis
 abbrev pub helper_of : Axis → Axis
 helper_of Ud = Rl
-helper_of Rl = Ud
-helper_of Fb = Ud
+helper_of _ = Ud
 
 -- corner places whose direction lies along the axis
 abbrev pub twist_set : Axis → Place → Bool

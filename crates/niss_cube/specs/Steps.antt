@@ -1,13 +1,11 @@
 -- The steps of solving: from where each may start, what it reaches, and its turns.
-use Rattle.std.specs.Prelude.{ℕ, Bool, true, ◌&&◌, ◌||◌, if◌then◌else◌, List, [], ◌∷◌, map, flat_map, codes, Option, None, Some}
-use Rattle.std.specs.List.{list_any}
-use Rattle.std.specs.Option.{option_map, option_map_or}
-use Rattle.niss_moves.specs.Places.{Place}
+use Rattle.niss_cube.specs.Names.{ℕ, Bool, true, ◌&&◌, ◌||◌, if◌then◌else◌, List, [], ◌∷◌, map, Option, None, Some, list_any, option_map_or}
+use Rattle.niss_cube.specs.Names.{Place, Axis, Ud, Rl, Fb, Face, U, D, R, L, F, B, Power, Half, Turn, Goal, Edges, Domino, Step, Eofb, Eorl}
+use Rattle.niss_cube.specs.Names.{Eoud, DrudEofb, DrrlEofb, DrudEorl, DrfbEorl, DrrlEoud, DrfbEoud, Eo, DrEofb, DrEorl, DrEoud}
+use Rattle.std.specs.Prelude.{flat_map, codes}
+use Rattle.std.specs.Option.{option_map}
 use Rattle.niss_moves.specs.Turn.{same_face}
 use Rattle.niss_moves.specs.Canonical.{face_order, powers}
-use Rattle.niss_cube.specs.Names.{Axis, Ud, Rl, Fb, Face, U, D, R, L, F, B, Power, Half, Turn, Goal, Edges, Domino}
-use Rattle.niss_cube.specs.Names.{Step, Eofb, Eorl, Eoud, DrudEofb, DrrlEofb, DrudEorl, DrfbEorl, DrrlEoud, DrfbEoud}
-use Rattle.niss_cube.specs.Names.{Eo, DrEofb, DrEorl, DrEoud}
 use Rattle.niss_cube.specs.Sets.{flip_set, twist_set, slice_set, is_kept, Kept}
 
 -- all steps, in the order in which they are listed
@@ -33,19 +31,16 @@ name_of DrEoud = codes "dr-eoud"
 
 -- the axis on which the edges must be oriented before the step, if it needs that
 abbrev pub start_of : Step → Option Axis
-start_of Eofb = None
-start_of Eorl = None
-start_of Eoud = None
 start_of DrudEofb = Some Fb
 start_of DrrlEofb = Some Fb
 start_of DrudEorl = Some Rl
 start_of DrfbEorl = Some Rl
 start_of DrrlEoud = Some Ud
 start_of DrfbEoud = Some Ud
-start_of Eo = None
 start_of DrEofb = Some Fb
 start_of DrEorl = Some Rl
 start_of DrEoud = Some Ud
+start_of _ = None
 
 -- the step that orients the edges on an axis
 abbrev pub edge_step_on : Axis → Step

@@ -1,6 +1,6 @@
-use Rattle.std.proofs.Common.{get_or, arith}
+use Rattle.niss_cube.proofs.Words.{get_or, arith}
 use Rattle.niss_cube.proofs.CubieKinds.{Edges}
-use Rattle.niss_cube.proofs.TurnedCubies.{table_ranges}
+use Rattle.niss_cube.proofs.MovedCubies.{table_ranges}
 use Rattle.niss_cube.proofs.cubie_turns.turn_flips.Goals as goal
 
 pub bounds-flips-table : goal.bounds-flips-table

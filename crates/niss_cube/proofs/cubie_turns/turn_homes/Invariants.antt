@@ -1,4 +1,4 @@
-use Rattle.std.proofs.Common.{◌≡◌, ℕ, ◌<◌, get_or}
+use Rattle.niss_cube.proofs.Words.{◌≡◌, ℕ, ◌<◌, get_or}
 use Rattle.niss_cube.proofs.cubie_turns.turn_homes.Given as goal
 
 abbrev pub invariant-loop-place : goal.invariant-loop-place

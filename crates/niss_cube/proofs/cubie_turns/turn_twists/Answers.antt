@@ -1,6 +1,6 @@
-use Rattle.std.proofs.Common.{arith}
+use Rattle.niss_cube.proofs.Words.{arith}
 use Rattle.niss_cube.proofs.CubieKinds.{Corners}
-use Rattle.niss_cube.proofs.TurnedCubies.{table_ranges}
+use Rattle.niss_cube.proofs.MovedCubies.{table_ranges}
 use Rattle.niss_cube.proofs.cubie_turns.turn_twists.Goals as goal
 
 pub bounds-twists-table : goal.bounds-twists-table

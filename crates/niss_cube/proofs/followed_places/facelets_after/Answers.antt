@@ -1,8 +1,4 @@
-use Rattle.std.proofs.Common.{ap, sym, subst, ◌∙◌, ◌++◌, List, ℕ}
-use Rattle.niss_moves.specs.Effects.{effect, inverse}
-use Rattle.niss_moves.specs.Letters.{letters}
-use Rattle.niss_cube.specs.PlacePositions.{AreMoved}
-use Rattle.niss_moves.proofs.CallerLemmas.{inverse_whole}
+use Rattle.niss_cube.proofs.Words.{ap, sym, subst, ◌∙◌, ◌++◌, List, ℕ, effect, inverse, letters, AreMoved, inverse_whole}
 use Rattle.niss_cube.proofs.FollowedLetters.{moved-twice}
 use Rattle.niss_cube.proofs.followed_places.facelets_after.Goals as goal
 

@@ -1,4 +1,4 @@
-use Rattle.std.proofs.Common.{◌≡◌, ℕ, ◌<◌, ◌≤◌, get_or}
+use Rattle.niss_cube.proofs.Words.{◌≡◌, ℕ, ◌<◌, ◌≤◌, get_or}
 use Rattle.niss_cube.proofs.followed_places.replace_each.Given as goal
 
 abbrev pub invariant-loop-position : goal.invariant-loop-position

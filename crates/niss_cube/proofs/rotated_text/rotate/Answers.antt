@@ -1,12 +1,7 @@
-use Rattle.std.proofs.Common.{◌∙◌, ap, arith}
-use Rattle.niss_moves.specs.Effects.{moved_by}
-use Rattle.niss_moves.specs.declared.token.Token.TheVariants as token
-use Rattle.niss_cube.specs.PlacePositions.{place_at}
+use Rattle.niss_cube.proofs.Words.{◌∙◌, ap, arith, moved_by, place_at}
 use Rattle.niss_cube.proofs.RotatedLetters.{moved_text}
+use Rattle.niss_moves.specs.declared.token.Token.TheVariants as token
 use Rattle.niss_cube.proofs.rotated_text.rotate.Goals as goal
-
-pub bounds-text-sources : goal.bounds-text-sources
-bounds-text-sources c = omega (arith, c.positions_after-sources.ensures.in_range c.loop-position.position (omega arith))
 
 pub returns : goal.returns
 returns c = λ e h.

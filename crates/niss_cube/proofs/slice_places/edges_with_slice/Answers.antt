@@ -1,12 +1,7 @@
-use Rattle.std.proofs.Common.{arith, refl, List, Bool, true, false, ◌≡◌, ◌∙◌, ap, length, reverse}
-use Rattle.std.proofs.lemmas.List.{length-reverse}
-use Rattle.niss_cube.specs.NumberedCubies.{edges_at, edges_of_number}
-use Rattle.niss_cube.proofs.PlacedEdges.{placed-start, placed-slice, placed-free, placed-end, reversed-at}
-use Rattle.niss_cube.proofs.slice_places.edges_with_slice.Goals as goal
+use Rattle.niss_cube.proofs.Words.{arith, List, Bool, true, false, ◌≡◌, ◌∙◌, ap, length, reverse, length-reverse, edges_at, edges_of_number}
+use Rattle.niss_cube.proofs.PlacedEdges.{placed-slice, placed-free, placed-end, reversed-at}
 use Rattle.niss_cube.proofs.slice_places.edges_with_slice.Goals.{then-occupied-place, else-occupied-place}
-
-pub loop-place-init : goal.loop-place-init
-loop-place-init c = record { placed = placed-start (reverse c.occupied_places-occupied.result) _ refl; free_below = omega arith; slice_below = omega arith }
+use Rattle.niss_cube.proofs.slice_places.edges_with_slice.Goals as goal
 
 pub loop-place-preserved : goal.loop-place-preserved
 loop-place-preserved c =

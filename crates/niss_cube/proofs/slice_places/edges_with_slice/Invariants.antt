@@ -1,4 +1,4 @@
-use Rattle.std.proofs.Common.{◌≤◌, ◌+◌, reverse}
+use Rattle.niss_cube.proofs.Words.{◌≤◌, ◌+◌, reverse}
 use Rattle.niss_cube.proofs.PlacedEdges.{Placed}
 use Rattle.niss_cube.proofs.slice_places.edges_with_slice.Given as goal
 

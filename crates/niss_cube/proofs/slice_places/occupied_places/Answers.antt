@@ -1,11 +1,8 @@
-use Rattle.std.proofs.Common.{arith}
-use Rattle.niss_cube.proofs.OccupiedNumbers.{written-start, written-yes, written-no, written-none, written-end}
-use Rattle.niss_cube.proofs.slice_places.occupied_places.Goals.{then-wanted-gt0+then-rest-with}
-use Rattle.niss_cube.proofs.slice_places.occupied_places.Goals.{then-wanted-gt0+else-rest-with, else-wanted-gt0}
+use Rattle.niss_cube.proofs.Words.{arith}
+use Rattle.niss_cube.proofs.OccupiedNumbers.{written-yes, written-no, written-none, written-end}
+use Rattle.niss_cube.proofs.slice_places.occupied_places.Goals.{then-wanted-gt0+then-rest-with, then-wanted-gt0+else-rest-with}
+use Rattle.niss_cube.proofs.slice_places.occupied_places.Goals.{else-wanted-gt0}
 use Rattle.niss_cube.proofs.slice_places.occupied_places.Goals as goal
-
-pub loop-met-init : goal.loop-met-init
-loop-met-init c = record { wanted_below = omega arith; written = written-start c.args.index _ (omega arith) }
 
 pub loop-met-preserved : goal.loop-met-preserved
 loop-met-preserved c =

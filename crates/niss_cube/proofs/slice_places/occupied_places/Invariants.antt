@@ -1,4 +1,4 @@
-use Rattle.std.proofs.Common.{◌≤◌}
+use Rattle.niss_cube.proofs.Words.{◌≤◌}
 use Rattle.niss_cube.proofs.OccupiedNumbers.{Written}
 use Rattle.niss_cube.proofs.slice_places.occupied_places.Given as goal
 

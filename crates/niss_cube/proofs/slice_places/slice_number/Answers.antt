@@ -1,4 +1,4 @@
-use Rattle.std.proofs.Common.{refl, arith}
+use Rattle.niss_cube.proofs.Words.{refl, arith}
 use Rattle.niss_cube.proofs.CoordinateValues.{slice-at_most}
 use Rattle.niss_cube.proofs.SliceSteps.{counted_yes, counted_no}
 use Rattle.niss_cube.proofs.slice_places.slice_number.Goals.{then-edges-place-ge8, else-edges-place-ge8}

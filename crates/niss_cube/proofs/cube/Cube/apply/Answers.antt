@@ -1,7 +1,4 @@
-use Rattle.std.proofs.Common.{◌+◌, ◌∙◌, ap, sym, drop}
-use Rattle.std.proofs.lemmas.List.{at_drop_more, at_drop_all}
-use Rattle.niss_cube.specs.Map.{map_of}
-use Rattle.niss_moves.specs.Effects.{effect_of_turns}
+use Rattle.niss_cube.proofs.Words.{◌+◌, ◌∙◌, ap, sym, drop, at_drop_more, map_of, effect_of_turns, at_drop_all}
 use Rattle.niss_cube.proofs.cube.Cube.apply.Goals as goal
 
 pub loop-turn-preserved : goal.loop-turn-preserved

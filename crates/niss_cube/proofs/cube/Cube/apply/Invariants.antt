@@ -1,7 +1,4 @@
-use Rattle.std.proofs.Common.{drop}
-use Rattle.niss_cube.specs.Map.{map_of}
-use Rattle.niss_moves.specs.Places.{SameMap}
-use Rattle.niss_moves.specs.Effects.{effect_of_turns}
+use Rattle.niss_cube.proofs.Words.{drop, map_of, SameMap, effect_of_turns}
 use Rattle.niss_cube.proofs.cube.Cube.apply.Given as goal
 
 abbrev pub invariant-loop-turn : goal.invariant-loop-turn

@@ -1,4 +1,4 @@
-use Rattle.niss_cube.proofs.CoordinateLaws.{lists_of}
+use Rattle.niss_cube.proofs.CubieKinds.{lists_of}
 use Rattle.niss_cube.proofs.FaceletLetters.{corner_shown}
 use Rattle.niss_cube.proofs.cube.Cube.corner_letters.Goals as goal
 

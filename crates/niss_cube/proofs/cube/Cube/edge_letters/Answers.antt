@@ -1,4 +1,4 @@
-use Rattle.niss_cube.proofs.CoordinateLaws.{lists_of}
+use Rattle.niss_cube.proofs.CubieKinds.{lists_of}
 use Rattle.niss_cube.proofs.FaceletLetters.{edge_shown}
 use Rattle.niss_cube.proofs.cube.Cube.edge_letters.Goals as goal
 

@@ -1,7 +1,4 @@
-use Rattle.std.proofs.Common.{◌∙◌}
-use Rattle.niss_moves.specs.Effects.{effect}
-use Rattle.niss_moves.specs.Rotations.{to_top, rotation_if}
-use Rattle.niss_cube.specs.Map.{map_of}
+use Rattle.niss_cube.proofs.Words.{◌∙◌, effect, to_top, rotation_if, map_of}
 use Rattle.niss_cube.proofs.RotatedLetters.{letters-spelling}
 use Rattle.niss_cube.proofs.cube.Cube.facelets.Goals as goal
 

@@ -1,5 +1,5 @@
-use Rattle.std.proofs.Common.{ℕ, List, [], ◌∷◌, refl, rules}
-use Rattle.niss_cube.proofs.CoordinateLaws.{lists_of}
+use Rattle.niss_cube.proofs.Words.{ℕ, List, [], ◌∷◌, refl, rules}
+use Rattle.niss_cube.proofs.CubieKinds.{lists_of}
 use Rattle.niss_cube.proofs.FaceletLetters.{letters-shown}
 use Rattle.niss_cube.proofs.cube.Cube.letters.Goals as goal
 

@@ -1,17 +1,8 @@
-use Rattle.std.proofs.Common.{◌≡◌, refl, true, [], ◌∷◌}
-use Rattle.std.specs.List.{list_all}
-use Rattle.niss_moves.specs.Places.{Place, same_place}
-use Rattle.niss_cube.specs.Map.{sticker_map}
-use Rattle.niss_moves.specs.Facelets.{places}
-use Rattle.niss_cube.proofs.Each.{at_place}
-use Rattle.niss_moves.proofs.CallerLemmas.{same_place_is}
+use Rattle.niss_cube.proofs.Words.{Alike, Places, holds, refl, [], ◌∷◌, Place, sticker_map}
 use Rattle.niss_cube.proofs.cube.Cube.solved.Goals as goal
 
 abbrev solved_map : Place → Place
 solved_map = sticker_map (0 ∷ 1 ∷ 2 ∷ 3 ∷ 4 ∷ 5 ∷ 6 ∷ 7 ∷ []) (0 ∷ 0 ∷ 0 ∷ 0 ∷ 0 ∷ 0 ∷ 0 ∷ 0 ∷ []) (0 ∷ 1 ∷ 2 ∷ 3 ∷ 4 ∷ 5 ∷ 6 ∷ 7 ∷ 8 ∷ 9 ∷ 10 ∷ 11 ∷ []) (0 ∷ 0 ∷ 0 ∷ 0 ∷ 0 ∷ 0 ∷ 0 ∷ 0 ∷ 0 ∷ 0 ∷ 0 ∷ 0 ∷ [])
 
-solved_test : list_all (λ q. same_place (solved_map q) q) places ≡ true
-solved_test = refl
-
 pub returns : goal.returns
-returns c = λ q p. same_place_is (solved_map q) q (at_place (λ q. same_place (solved_map q) q) solved_test q p)
+returns c = holds (Places λ q. Alike (solved_map q) q) refl

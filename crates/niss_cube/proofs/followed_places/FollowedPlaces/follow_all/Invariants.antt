@@ -1,6 +1,4 @@
-use Rattle.std.proofs.Common.{◌≡◌, ℕ, ◌<◌, drop, get_or}
-use Rattle.niss_moves.specs.Effects.{effect}
-use Rattle.niss_cube.specs.PlacePositions.{place_at}
+use Rattle.niss_cube.proofs.Words.{◌≡◌, ℕ, ◌<◌, drop, get_or, effect, place_at}
 use Rattle.niss_cube.proofs.followed_places.FollowedPlaces.follow_all.Given as goal
 
 abbrev pub invariant-loop-token : goal.invariant-loop-token

@@ -1,6 +1,4 @@
-use Rattle.std.proofs.Common.{◌≡◌, ℕ, ◌<◌, length, get_or}
-use Rattle.niss_moves.specs.Effects.{effect, inverse}
-use Rattle.niss_cube.specs.PlacePositions.{place_at}
+use Rattle.niss_cube.proofs.Words.{◌≡◌, ℕ, ◌<◌, length, get_or, effect, inverse, place_at}
 use Rattle.niss_cube.proofs.followed_places.FollowedPlaces.follow_back.Given as goal
 
 abbrev pub invariant-loop-last : goal.invariant-loop-last

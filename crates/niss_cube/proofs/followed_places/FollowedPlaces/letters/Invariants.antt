@@ -1,6 +1,4 @@
-use Rattle.std.proofs.Common.{◌≡◌, ℕ, ◌<◌, [], get_or}
-use Rattle.niss_cube.specs.declared.followed_places.TheConstants.{CUBIES, FACELETS}
-use Rattle.niss_cube.specs.declared.letters.TheConstants.{CUBIE_LETTERS}
+use Rattle.niss_cube.proofs.Words.{◌≡◌, ℕ, ◌<◌, [], get_or, CUBIES, FACELETS, CUBIE_LETTERS}
 use Rattle.niss_cube.proofs.followed_places.FollowedPlaces.letters.Given as goal
 
 abbrev pub invariant-loop-position : goal.invariant-loop-position

@@ -1,5 +1,4 @@
-use Rattle.std.proofs.Common.{◌≡◌, ◌<◌, length, slice_index, ℕ}
-use Rattle.niss_cube.specs.Renamings.{renamed_home, renamed_orientation}
+use Rattle.niss_cube.proofs.Words.{◌≡◌, ◌<◌, length, slice_index, ℕ, renamed_home, renamed_orientation}
 use Rattle.niss_cube.proofs.renaming.RenamedPlaces.renamed.Given as goal
 
 abbrev pub invariant-loop-place : goal.invariant-loop-place

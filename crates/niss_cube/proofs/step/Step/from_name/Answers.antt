@@ -1,8 +1,6 @@
-use Rattle.std.proofs.Common.{◌≡◌, ◌≢◌, ℕ, ◌<◌, Option, Some, None, ◌∙◌, ap, subst, rules, arith, length}
-use Rattle.std.specs.Prelude.{IfNone, IfSome, MatchOption, slice_index_or}
-use Rattle.niss_cube.specs.Steps.{steps, name_of}
-use Rattle.niss_cube.specs.Names.{Step, Eofb, Eorl, Eoud, DrudEofb, DrrlEofb, DrudEorl, DrfbEorl, DrrlEoud, DrfbEoud}
-use Rattle.niss_cube.specs.Names.{Eo, DrEofb, DrEorl, DrEoud}
+use Rattle.niss_cube.proofs.Words.{◌≡◌, ℕ, ◌<◌, Option, Some, None, ◌∙◌, ap, subst, rules, arith, length, Step, Eofb, Eorl, Eoud, DrudEofb}
+use Rattle.niss_cube.proofs.Words.{DrrlEofb, DrudEorl, DrfbEorl, DrrlEoud, DrfbEoud, Eo, DrEofb, DrEorl, DrEoud, ◌≢◌, IfNone, IfSome}
+use Rattle.niss_cube.proofs.Words.{MatchOption, slice_index_or, steps, name_of}
 use Rattle.niss_cube.proofs.step.Step.from_name.Goals as goal
 
 -- what holds of each item, where the items are the steps, holds of each step

@@ -1,7 +1,4 @@
-use Rattle.std.proofs.Common.{ℕ, ◌<◌, sym, ◌∙◌, ap, subst}
-use Rattle.niss_cube.specs.Coordinates.{count_of}
-use Rattle.niss_cube.specs.TableRows.{AreRows}
-use Rattle.niss_cube.specs.NumberAfter.{number_after}
+use Rattle.niss_cube.proofs.Words.{ℕ, ◌<◌, sym, ◌∙◌, ap, subst, count_of, number_after, AreRows}
 use Rattle.niss_cube.proofs.CoordinateLaws.{are_coordinates}
 use Rattle.niss_cube.proofs.turn_tables.TurnTable.next.Goals as goal
 

@@ -1,8 +1,5 @@
-use Rattle.std.proofs.Common.{◌≡◌, ◌∙◌, refl, sym, subst}
-use Rattle.niss_cube.specs.Coordinates.{number_of, standard_axis}
-use Rattle.niss_cube.specs.NumberedCubies.{flips_of_number, twists_of_number}
-use Rattle.niss_cube.proofs.CubieLists.{CubieLists}
-use Rattle.niss_cube.proofs.CubieLists.{Valid, map_lists}
+use Rattle.niss_cube.proofs.Words.{◌≡◌, ◌∙◌, refl, sym, subst, number_of, standard_axis, flips_of_number, twists_of_number}
+use Rattle.niss_cube.proofs.CubieKinds.{CubieLists, Valid, map_lists}
 use Rattle.niss_cube.proofs.Codes.{cubies_of, cubies_with, cubies_with-valid, cubies_with-code}
 use Rattle.niss_cube.proofs.CoordinateLaws.{standard-code}
 use Rattle.niss_cube.proofs.cube.coordinate.Coordinate.cube_with.Goals.{in-Flip, in-Twist, in-Slice}

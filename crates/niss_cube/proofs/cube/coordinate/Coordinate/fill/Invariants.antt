@@ -1,4 +1,4 @@
-use Rattle.niss_cube.specs.TableRows.{AreQuarters, AreRowsAt, IsAnyTurn}
+use Rattle.niss_cube.proofs.Words.{AreQuarters, AreRowsAt, IsAnyTurn}
 use Rattle.niss_cube.proofs.cube.coordinate.Coordinate.fill.Given as goal
 
 abbrev pub invariant-loop-number : goal.invariant-loop-number

@@ -1,15 +1,8 @@
-use Rattle.std.proofs.Common.{arith}
-use Rattle.niss_cube.specs.TableRows.{IsQuarter}
-use Rattle.niss_cube.proofs.TableSteps.{rows-start, rows-step, rows-end, quarter-row}
+use Rattle.niss_cube.proofs.Words.{arith, IsQuarter}
+use Rattle.niss_cube.proofs.TableSteps.{rows-step, quarter-row}
 use Rattle.niss_cube.proofs.cube.coordinate.Coordinate.fill_quarters.Goals as goal
-
-pub loop-number-init : goal.loop-number-init
-loop-number-init c = rows-start c.args.self IsQuarter c.args.rows.now c.requires
 
 pub loop-number-preserved : goal.loop-number-preserved
 loop-number-preserved c =
     rows-step c.args.self IsQuarter c.loop-number.number c.loop-number.rows c.quarters.result (omega arith)
     (quarter-row c.args.self c.loop-number.number c.quarters.result c.cube_with.result c.cube_with.ensures c.quarters.ensures) c.loop-number.invariant
-
-pub returns : goal.returns
-returns c = rows-end c.args.self IsQuarter c.loop-number.number c.loop-number.rows (omega arith) c.loop-number.invariant

@@ -1,4 +1,4 @@
-use Rattle.niss_cube.specs.TableRows.{AreRowsAt, IsQuarter}
+use Rattle.niss_cube.proofs.Words.{AreRowsAt, IsQuarter}
 use Rattle.niss_cube.proofs.cube.coordinate.Coordinate.fill_quarters.Given as goal
 
 abbrev pub invariant-loop-number : goal.invariant-loop-number

@@ -1,6 +1,4 @@
-use Rattle.std.proofs.Common.{ℕ, ◌<◌, sym, ◌∙◌, refl, subst}
-use Rattle.niss_cube.specs.Map.{map_of}
-use Rattle.niss_cube.specs.Coordinates.{count_of}
+use Rattle.niss_cube.proofs.Words.{ℕ, ◌<◌, sym, ◌∙◌, refl, subst, map_of, count_of}
 use Rattle.niss_cube.proofs.CoordinateLaws.{are_coordinates, renamed-number}
 use Rattle.niss_cube.proofs.cube.coordinate.Coordinate.number.Goals as goal
 

@@ -1,4 +1,4 @@
-use Rattle.std.proofs.Common.{arith}
+use Rattle.niss_cube.proofs.Words.{arith}
 use Rattle.niss_cube.proofs.TableSteps.{once-below, twice-below, numbers_after-are}
 use Rattle.niss_cube.proofs.cube.coordinate.Coordinate.numbers_after.Goals as goal
 

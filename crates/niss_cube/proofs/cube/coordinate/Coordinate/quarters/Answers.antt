@@ -1,4 +1,4 @@
-use Rattle.niss_cube.specs.Names.{U, D, R, L, F, B}
+use Rattle.niss_cube.proofs.Words.{U, D, R, L, F, B}
 use Rattle.niss_cube.proofs.cube.coordinate.Coordinate.quarters.Goals as goal
 
 pub returns : goal.returns

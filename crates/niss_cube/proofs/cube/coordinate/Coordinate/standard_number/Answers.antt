@@ -1,18 +1,12 @@
-use Rattle.std.proofs.Common.{◌<◌, ◌∙◌, sym, arith, take}
-use Rattle.niss_cube.specs.Coordinates.{number}
-use Rattle.niss_cube.specs.Names.{Flip, Twist, Slice}
+use Rattle.niss_cube.proofs.Words.{◌<◌, ◌∙◌, sym, arith, take, number, Flip, Twist, Slice}
 use Rattle.niss_cube.proofs.Codes.{code-below}
-use Rattle.niss_cube.proofs.CoordinateLaws.{lists_of, standard-code}
+use Rattle.niss_cube.proofs.CubieKinds.{lists_of}
+use Rattle.niss_cube.proofs.CoordinateLaws.{standard-code}
 use Rattle.niss_cube.proofs.cube.coordinate.Coordinate.standard_number.Goals as goal
 
 pub number_from_digits-requires-clause-fits : goal.number_from_digits-requires-clause-fits
 number_from_digits-requires-clause-fits c =
     let l : number 2 (take 11 c.args.cube.now.flips) < 2048 = code-below Flip (lists_of c.args.cube.now) c.args.cube.now.are_cubies in
-    omega arith
-
-pub number_from_digits-requires-in-Twist-clause-fits : goal.number_from_digits-requires-in-Twist-clause-fits
-number_from_digits-requires-in-Twist-clause-fits c =
-    let l : number 3 (take 7 c.args.cube.now.twists) < 2187 = code-below Twist (lists_of c.args.cube.now) c.args.cube.now.are_cubies in
     omega arith
 
 pub returns-in-Flip : goal.returns-in-Flip

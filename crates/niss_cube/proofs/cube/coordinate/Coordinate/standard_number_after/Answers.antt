@@ -1,25 +1,23 @@
-use Rattle.std.proofs.Common.{◌≡◌, ◌<◌, ◌∙◌, sym, ap, arith, take}
-use Rattle.niss_cube.specs.Coordinates.{number, rank}
-use Rattle.niss_cube.specs.Names.{Flip, Twist, Slice}
+use Rattle.niss_cube.proofs.Words.{◌≡◌, ◌<◌, ◌∙◌, sym, ap, arith, take, number, rank, Flip, Twist, Slice}
 use Rattle.niss_cube.proofs.CoordinateValues.{slice_occupied}
-use Rattle.niss_cube.proofs.CubieLists.{tabulated-is}
-use Rattle.niss_cube.proofs.TurnedCubies.{turned_lists, turned-valid}
+use Rattle.niss_cube.proofs.CubieKinds.{tabulated-is, lists_of}
 use Rattle.niss_cube.proofs.Codes.{code-below}
-use Rattle.niss_cube.proofs.CoordinateLaws.{lists_of, standard-turned}
+use Rattle.niss_cube.proofs.CoordinateLaws.{standard-turned}
+use Rattle.niss_cube.proofs.MovedCubies.{By, moved, moved-valid}
 use Rattle.niss_cube.proofs.cube.coordinate.Coordinate.standard_number_after.Goals as goal
 
 pub number_from_digits-requires-clause-fits : goal.number_from_digits-requires-clause-fits
 number_from_digits-requires-clause-fits c =
     let a = lists_of c.args.cube.now in
-    let same : c.turn_flips.result ≡ (turned_lists c.args.turn a).flips = tabulated-is 12 _ _ (omega arith) c.turn_flips.ensures in
-    let l : number 2 (take 11 (turned_lists c.args.turn a).flips) < 2048 = code-below Flip (turned_lists c.args.turn a) (turned-valid c.args.turn a c.args.cube.now.are_cubies) in
+    let same : c.turn_flips.result ≡ (moved (By c.args.turn) a).flips = tabulated-is 12 _ _ (omega arith) c.turn_flips.ensures in
+    let l : number 2 (take 11 (moved (By c.args.turn) a).flips) < 2048 = code-below Flip (moved (By c.args.turn) a) (moved-valid (By c.args.turn) a c.args.cube.now.are_cubies) in
     omega (arith, l, ap (λ xs. number 2 (take 11 xs)) same)
 
 pub number_from_digits-requires-in-Twist-clause-fits : goal.number_from_digits-requires-in-Twist-clause-fits
 number_from_digits-requires-in-Twist-clause-fits c =
     let a = lists_of c.args.cube.now in
-    let same : c.turn_twists.result ≡ (turned_lists c.args.turn a).twists = tabulated-is 8 _ _ (omega arith) c.turn_twists.ensures in
-    let l : number 3 (take 7 (turned_lists c.args.turn a).twists) < 2187 = code-below Twist (turned_lists c.args.turn a) (turned-valid c.args.turn a c.args.cube.now.are_cubies) in
+    let same : c.turn_twists.result ≡ (moved (By c.args.turn) a).twists = tabulated-is 8 _ _ (omega arith) c.turn_twists.ensures in
+    let l : number 3 (take 7 (moved (By c.args.turn) a).twists) < 2187 = code-below Twist (moved (By c.args.turn) a) (moved-valid (By c.args.turn) a c.args.cube.now.are_cubies) in
     omega (arith, l, ap (λ xs. number 3 (take 7 xs)) same)
 
 pub returns-in-Flip : goal.returns-in-Flip

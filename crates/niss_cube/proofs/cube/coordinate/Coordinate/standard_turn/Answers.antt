@@ -1,7 +1,4 @@
-use Rattle.std.proofs.Common.{◌∙◌, ap}
-use Rattle.niss_cube.specs.Names.{Face}
-use Rattle.niss_cube.specs.Coordinates.{standard_axis}
-use Rattle.niss_cube.specs.NumberAfter.{number_after}
+use Rattle.niss_cube.proofs.Words.{◌∙◌, ap, Face, standard_axis, number_after}
 use Rattle.niss_cube.proofs.Codes.{number_after-standard}
 use Rattle.niss_cube.proofs.cube.coordinate.Coordinate.standard_turn.Goals as goal
 

@@ -1,0 +1,100 @@
+-- Facts that computation decides: where the test of a fact passes, the fact holds.
+use Rattle.std.proofs.Common.{◌≡◌, ℕ, List, zero, suc, ◌<◌, ◌∙◌, ap, Bool, true, not, ◌&&◌, ◌||◌, ◌==◌, arith, inl, inr}
+use Rattle.std.specs.Prelude.{nat_lt, Contains}
+use Rattle.std.specs.List.{list_all}
+use Rattle.std.proofs.lemmas.Bool.{eqb-true, ltb-true}
+use Rattle.std.proofs.lemmas.Bool.Decides.{eqb_tells}
+use Rattle.niss_moves.specs.Places.{Place, same_place, is_place}
+use Rattle.niss_moves.specs.Facelets.{places}
+use Rattle.niss_moves.proofs.CallerLemmas.{same_place_is, every_turn, every_face, every_token, at_turn, at_face, at_token}
+use Rattle.niss_cube.specs.Names.{Turn, Face, Token, Renaming, XCounter, XQuarter, YQuarter, ZCounter}
+use Rattle.niss_cube.proofs.Each.{at_place, at_member, each_record, at_record}
+use Rattle.niss_cube.proofs.Logic.{and_left, and_right, or_then, same_bool, same_bool-is}
+
+pub data Fact : Type 0 where
+  Yes : Bool → Fact
+  Same : Bool → Bool → Fact
+  Equal : ℕ → ℕ → Fact
+  Below : ℕ → ℕ → Fact
+  Alike : Place → Place → Fact
+  Both : Fact → Fact → Fact
+  When : Bool → Fact → Fact
+  Numbers : ℕ → (ℕ → Fact) → Fact
+  Places : (Place → Fact) → Fact
+  Records : (Place → Fact) → Fact
+  Turns : (Turn → Fact) → Fact
+  Among : List Turn → (Turn → Fact) → Fact
+  Faces : (Face → Fact) → Fact
+  Tokens : (Token → Fact) → Fact
+  Renamings : (Renaming → Fact) → Fact
+
+abbrev pub Holds : Fact → Type 0
+Holds (Yes b) = b ≡ true
+Holds (Same a b) = a ≡ b
+Holds (Equal m n) = m ≡ n
+Holds (Below m n) = m < n
+Holds (Alike p q) = p ≡ q
+Holds (Both f g) = Holds f × Holds g
+Holds (When b f) = b ≡ true → Holds f
+Holds (Numbers n f) = (k : ℕ) → k < n → Holds (f k)
+Holds (Places f) = (q : Place) → is_place q ≡ true → Holds (f q)
+Holds (Records f) = (q : Place) → Holds (f q)
+Holds (Turns f) = (t : Turn) → Holds (f t)
+Holds (Among ts f) = (t : Turn) → Contains ts t → Holds (f t)
+Holds (Faces f) = (face : Face) → Holds (f face)
+Holds (Tokens f) = (m : Token) → Holds (f m)
+Holds (Renamings f) = (v : Renaming) → Holds (f v)
+
+abbrev all_below : ℕ → (ℕ → Bool) → Bool
+all_below zero t = true
+all_below (suc n) t = all_below n t && t n
+
+abbrev all_renamings : (Renaming → Bool) → Bool
+all_renamings t = t XCounter && (t XQuarter && (t YQuarter && t ZCounter))
+
+abbrev pub tested : Fact → Bool
+tested (Yes b) = b
+tested (Same a b) = same_bool a b
+tested (Equal m n) = m == n
+tested (Below m n) = nat_lt m n
+tested (Alike p q) = same_place p q
+tested (Both f g) = tested f && tested g
+tested (When b f) = not b || tested f
+tested (Numbers n f) = all_below n (λ k. tested (f k))
+tested (Places f) = list_all (λ q. tested (f q)) places
+tested (Records f) = each_record (λ q. tested (f q))
+tested (Turns f) = every_turn (λ t. tested (f t))
+tested (Among ts f) = list_all (λ t. tested (f t)) ts
+tested (Faces f) = every_face (λ face. tested (f face))
+tested (Tokens f) = every_token (λ m. tested (f m))
+tested (Renamings f) = all_renamings (λ v. tested (f v))
+
+at_below : (n : ℕ) (t : ℕ → Bool) → all_below n t ≡ true → (k : ℕ) → k < n → t k ≡ true
+at_below zero t h k l = absurd (omega arith)
+at_below (suc n) t h k l = elim (eqb_tells k n) [
+  | inl w ↦ ap t w.1 ∙ and_right (all_below n t) (t n) h
+  | inr w ↦ at_below n t (and_left _ _ h) k (grind (arith, w.1))
+]
+
+at_renaming : (t : Renaming → Bool) → all_renamings t ≡ true → (v : Renaming) → t v ≡ true
+at_renaming t h XCounter = and_left _ _ h
+at_renaming t h XQuarter = and_left _ _ (and_right (t XCounter) _ h)
+at_renaming t h YQuarter = and_left _ _ (and_right (t XQuarter) _ (and_right (t XCounter) _ h))
+at_renaming t h ZCounter = and_right (t YQuarter) _ (and_right (t XQuarter) _ (and_right (t XCounter) _ h))
+
+pub holds : (f : Fact) → tested f ≡ true → Holds f
+holds (Yes b) h = h
+holds (Same a b) h = same_bool-is a b h
+holds (Equal m n) h = eqb-true m n h
+holds (Below m n) h = ltb-true m n h
+holds (Alike p q) h = same_place_is p q h
+holds (Both f g) h = (holds f (and_left _ _ h), holds g (and_right (tested f) _ h))
+holds (When b f) h = λ e. holds f (or_then b _ h e)
+holds (Numbers n f) h = λ k l. holds (f k) (at_below n (λ k. tested (f k)) h k l)
+holds (Places f) h = λ q p. holds (f q) (at_place (λ q. tested (f q)) h q p)
+holds (Records f) h = λ q. holds (f q) (at_record (λ q. tested (f q)) h q)
+holds (Turns f) h = λ t. holds (f t) (at_turn (λ t. tested (f t)) h t)
+holds (Among ts f) h = λ t m. holds (f t) (at_member (λ t. tested (f t)) ts t h m)
+holds (Faces f) h = λ face. holds (f face) (at_face (λ face. tested (f face)) h face)
+holds (Tokens f) h = λ m. holds (f m) (at_token _ h m)
+holds (Renamings f) h = λ v. holds (f v) (at_renaming (λ v. tested (f v)) h v)
