@@ -32,15 +32,6 @@ high a b h = omega arith
 low : (a b : ℕ) → b < 495 → (a * 495 + b) % 495 ≡ b
 low a b h = omega arith
 
--- the row in which an entry stands
-pub row_length-some : (g : Goal) → 0 < row_length g
-row_length-some (Edges a) = lit< tt
-row_length-some (Domino o a) = lit< tt
-
-pub row-to : (g : Goal) (i : ℕ) → i < i / row_length g * row_length g + row_length g
-row-to (Edges a) i = omega arith
-row-to (Domino o a) i = omega arith
-
 module _ (coordinates : AreCoordinates) where
   -- the entry number is one to one: the coordinates of a goal are found back from it
   entry_at-back : (g : Goal) (e : Place → Place) → IsCube e → IsEntry g (coordinates_of g e)

@@ -15,13 +15,7 @@ use Rattle.niss_search.specs.Filling.{entry_after, entry_distance, byte_at, Alte
 use Rattle.niss_search.proofs.ListLemmas.{sum_by-same, sum_by-none, sum_by-range_more}
 use Rattle.niss_search.proofs.EntryLemmas.{count_for-some, entry_distance-zero, entry_distance-turn, entry_distance-back, entry_distance-nearer}
 
--- what a byte may be when a level begins, and that it is the distance once it is met, or once the level is done
-may-begin : (level d : ℕ) → level < 20 → MayBeAt level d (byte_at level d)
-may-begin level d small = elim (leb_tells d level) [
-  | inl e ↦ rw e.0 record { near = λ n. refl; met = λ m. refl; next = λ m. omega (arith, e.1) }
-  | inr e ↦ rw e.0 record { near = λ n. absurd (omega arith); met = λ m. absurd (m refl); next = λ m. absurd (m refl) }
-]
-
+-- what a byte may be is the distance once it is met, or once the level is done
 may-meet : (level d byte : ℕ) → level < 20 → MayBeAt level d byte → d ≤ level + 1 → min byte (level + 1) ≡ d
 may-meet level d byte small h near = elim (leb_tells d level) [
   | inl e ↦ omega (arith, h.near e.1)
@@ -43,10 +37,6 @@ set-each P xs j v inside here others k = elim (eqb_tells k j) [
   | inl e ↦ rw (e.1, get_or-set_same xs j v 0 inside) here
   | inr e ↦ rw (get_or-set_other xs j k v 0 e.1) (others k)
 ]
-
-pub filling-start : (alt : Alternative) (level : ℕ) (xs : List ℕ) → level < 20 → IsFilled alt level xs → IsFilling alt level xs
-filling-start alt level xs small f =
-    record { size = f.size; bytes = λ i l. rw (f.bytes i l) (may-begin level (entry_distance alt i) small) }
 
 module _ (law : EntriesTurn) (alt : Alternative) (level : ℕ) (small : level < 20) (xs : List ℕ) (f : IsFilling alt level xs) where
   -- the entry to which a turn leads from the level becomes the lesser of its byte and the next level

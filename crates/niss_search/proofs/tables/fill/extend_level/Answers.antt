@@ -7,8 +7,7 @@ use Rattle.niss_cube.specs.Steps.{turns_of}
 use Rattle.niss_search.specs.Entries.{count_for}
 use Rattle.niss_search.specs.Filling.{Alternative, entry_distance, IsFilling, IsExtended}
 use Rattle.niss_search.proofs.Bounds.{turns_of-length}
-use Rattle.niss_search.proofs.EntryLemmas.{count_for-some}
-use Rattle.niss_search.proofs.FillLemmas.{filling-start, filled-next, count-more, count-skip, count-range-le, ticks-le}
+use Rattle.niss_search.proofs.FillLemmas.{filled-next, count-more, count-skip, count-range-le, ticks-le}
 use Rattle.niss_search.proofs.tables.fill.extend_level.Goals as goal
 
 -- an entry whose byte isn't the level isn't at it
@@ -19,19 +18,6 @@ away alt level xs f k l n e = n ((f.bytes k l).near (omega arith) ∙ e)
 skipped : (alt : Alternative) (level : ℕ) (xs : List ℕ) → IsFilling alt level xs → (a b : ℕ) → a ≤ b → b ≤ count_for alt.goal → ((k : ℕ) → a ≤ k → k < b → slice_index xs k ≢ level) → count_by (λ x. entry_distance alt x == level) (range_with_len 0 b) ≡ count_by (λ x. entry_distance alt x == level) (range_with_len 0 a)
 skipped alt level xs f a b l r none =
     count-skip (λ x. entry_distance alt x == level) a b l (λ k low high. ne_eqb _ _ (away alt level xs f k (omega arith) (none k low high)))
-
-pub of-row-requires : goal.of-row-requires
-of-row-requires g c = count_for-some (g.M.GoalMoves.alternative c.args.moves.now).goal
-
-pub loop-entry-init : goal.loop-entry-init
-loop-entry-init g c = record {
-  moves = c.of-row.ensures.moves;
-  row = omega (arith, c.of-row.ensures.from);
-  filling = filling-start _ _ _ (omega (arith, c.number-number.ensures)) c.requires.filled;
-  within = omega arith;
-  extended = λ j l. absurd (omega arith);
-  ticks = omega arith;
-}
 
 pub extend-requires-clause-meter : goal.extend-requires-clause-meter
 extend-requires-clause-meter g c =

@@ -33,11 +33,6 @@ loop-level-preserved g c =
       ticks = omega (arith, more, rw c.new-in-loop-level.ensures at c.extend_level.ensures.ticks);
     }
 
-pub returns-clause-filled : goal.returns-clause-filled
-returns-clause-filled g c =
-    let last : c.loop-level.level ≡ 20 = omega arith in
-    rw (← last) c.loop-level.invariant.filled
-
 pub returns-clause-ticks : goal.returns-clause-ticks
 returns-clause-ticks g c =
     let alt = (g.M.GoalMoves.alternative c.args.moves.now) in
