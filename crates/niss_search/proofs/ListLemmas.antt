@@ -1,5 +1,5 @@
 -- Lists joined, filtered and summed.
-use Rattle.std.proofs.Common.{◌≡◌, ℕ, zero, suc, ◌+◌, ◌<◌, Bool, true, false, ◌||◌, cond, List, [], ◌∷◌, ◌++◌, length, get_or, map, filter, sum_by, Contains, refl, sym, ap, ◌∙◌, arith, add-one, add-zero, find}
+use Rattle.std.proofs.Common.{◌≡◌, ℕ, zero, suc, ◌+◌, ◌<◌, Bool, true, false, ◌||◌, cond, List, [], ◌∷◌, ◌++◌, length, map, filter, sum_by, Contains, refl, sym, ap, ◌∙◌, arith, add-one, add-zero, find}
 use Rattle.std.specs.Prelude.{flat_map}
 use Rattle.std.specs.List.{range_with_len, list_any}
 use Rattle.std.proofs.lemmas.List.Sums.{sum_by-cons, sum_by-append, sum_by_push}
@@ -145,11 +145,3 @@ module _ {X : Type 0} where
     by_test : (b : Bool) → m x ≡ b → sum_by f (filter m xs) ≡ sum_by f xs → sum_by f (cond b (x ∷ filter m xs) (filter m xs)) ≡ sum_by f (x ∷ xs)
     by_test true e rest = omega (arith, sum_by-cons f x (filter m xs), sum_by-cons f x xs)
     by_test false e rest = omega (arith, sum_by-cons f x xs, h x e)
-
--- what comes of each of three
-pub map-three : {X Y : Type 0} (f : X → Y) (xs : List X) (d : X) → length xs ≡ 3 → map f xs ≡ f (get_or xs 0 d) ∷ f (get_or xs 1 d) ∷ f (get_or xs 2 d) ∷ []
-map-three f [] d n = absurd (omega (arith, n))
-map-three f (x ∷ []) d n = absurd (omega (arith, n))
-map-three f (x ∷ y ∷ []) d n = absurd (omega (arith, n))
-map-three f (x ∷ y ∷ z ∷ []) d n = refl
-map-three f (x ∷ y ∷ z ∷ w ∷ xs) d n = absurd (omega (arith, n))
