@@ -123,7 +123,7 @@ lt-twenty a = grind (arith, nat_tests)
 
 pub count-twenty : (f : ℕ → ℕ) (xs : List ℕ) → count_by (λ x. nat_lt (f x) 20) xs ≡ count_by (λ x. nat_le (f x) 19) xs
 count-twenty f xs =
-    sum_by-same (λ x. cond (nat_lt (f x) 20) 1 0) (λ x. cond (nat_le (f x) 19) 1 0) xs (λ x m. lt-twenty (f x))
+    sum_by-same (λ x. cond (nat_lt (f x) 20) 1 0) (λ x. cond (nat_le (f x) 19) 1 0) xs (λ x. lt-twenty (f x))
 
 -- ticks within the room
 pub ticks-le : (turns count bound : ℕ) → turns ≤ 18 → count ≤ bound → turns * count ≤ 18 * bound

@@ -14,10 +14,8 @@ module _ {X : Type 0} where
   Contains-later x xs y h = Contains-append_right (x ∷ []) xs y h
 
 module _ {X A : Type 0} where
-  pub flat_map-same : (f g : X → List A) (xs : List X) → ((x : X) → Contains xs x → f x ≡ g x) → flat_map f xs ≡ flat_map g xs
-  flat_map-same f g [] h = refl
-  flat_map-same f g (x ∷ xs) h =
-      rw (h x (Contains-first x xs), flat_map-same f g xs (λ y m. h y (Contains-later x xs y m)))
+  pub flat_map-same : (f g : X → List A) (xs : List X) → ((x : X) → f x ≡ g x) → flat_map f xs ≡ flat_map g xs
+  flat_map-same f g xs h = ap (λ (k : X → List A). flat_map k xs) (λ i x. h x i)
 
   pub flat_map-none : (f : X → List A) (xs : List X) → ((x : X) → Contains xs x → f x ≡ []) → flat_map f xs ≡ []
   flat_map-none f [] h = refl
@@ -66,14 +64,11 @@ module _ {X Y : Type 0} where
         omega (arith, both zs, sum_by-cons (f x) z zs, sum_by-cons (λ y. sum_by (λ w. f w y) xs) z zs, sum_by-cons (λ y. sum_by (λ w. f w y) (x ∷ xs)) z zs, sum_by-cons (λ w. f w z) x xs)
 
 module _ {X : Type 0} where
-  pub sum_by-same : (f g : X → ℕ) (xs : List X) → ((x : X) → Contains xs x → f x ≡ g x) → sum_by f xs ≡ sum_by g xs
-  sum_by-same f g [] h = refl
-  sum_by-same f g (x ∷ xs) h =
-      omega (arith, sum_by-cons f x xs, sum_by-cons g x xs, h x (Contains-first x xs), sum_by-same f g xs (λ y m. h y (Contains-later x xs y m)))
+  pub sum_by-same : (f g : X → ℕ) (xs : List X) → ((x : X) → f x ≡ g x) → sum_by f xs ≡ sum_by g xs
+  sum_by-same f g xs h = ap (λ (k : X → ℕ). sum_by k xs) (λ i x. h x i)
 
   pub find-same : (p q : X → Bool) (xs : List X) → ((x : X) → p x ≡ q x) → find p xs ≡ find q xs
-  find-same p q [] h = refl
-  find-same p q (x ∷ xs) h = rw (h x, find-same p q xs h)
+  find-same p q xs h = ap (λ (k : X → Bool). find k xs) (λ i x. h x i)
 
   -- some element passes exactly where the filtered list is not empty
   pub filter-none : (p : X → Bool) (xs : List X) → length (filter p xs) ≡ 0 → list_any p xs ≡ false

@@ -66,7 +66,7 @@ values-numbered (Domino o a) k e = pairs-numbered a 495 2187 k e
 -- the list has as many entries as are counted
 pub entries-counted : EntriesAreCounted
 unfolding entries_of entry_count
-entries-counted s = length-flat_map values_for (goals_of s) ∙ sum_by-same (λ g. length (values_for g)) count_for (goals_of s) (λ g m. values-counted g) where
+entries-counted s = length-flat_map values_for (goals_of s) ∙ sum_by-same (λ g. length (values_for g)) count_for (goals_of s) (λ g. values-counted g) where
   values-counted : (g : Goal) → length (values_for g) ≡ count_for g
   values-counted g = ap length (values-numbered g (count_for g) refl) ∙ length-map-range_with_len (entry_at g) 0 (count_for g)
 

@@ -16,7 +16,7 @@ use Rattle.niss_search.specs.Positions.{position_after, distance_at}
 use Rattle.niss_search.specs.Cubes.{HasPosition, distance_of, reaches, least_length_of, near_solutions_of, near_looks_of}
 use Rattle.niss_search.specs.Deepening.{reaches_at, least_length_at, solutions_at, all_looks_at}
 use Rattle.niss_search.specs.Laws.{PositionsFollowCubes}
-use Rattle.niss_search.proofs.ListLemmas.{Contains-first, Contains-later, find-same, flat_map-same}
+use Rattle.niss_search.proofs.ListLemmas.{Contains-first, Contains-later, find-same, flat_map-same, sum_by-same}
 use Rattle.niss_search.proofs.DistanceLemmas.{reached_in}
 use Rattle.niss_search.proofs.LookLemmas.{distance_at-goal}
 
@@ -102,9 +102,8 @@ module _ (turns : List Turn) where
     pub solutions-same : (n slack : ℕ) → solutions turns p n slack ≡ solutions turns q n slack
     unfolding solutions
     solutions-same n slack =
-        rw (least_length-same n) (by_lengths (solution_lengths (least_length turns q n) n slack)) where
-          by_lengths : (ks : List ℕ) → flat_map (reaching turns p) ks ≡ flat_map (reaching turns q) ks
-          by_lengths ks = flat_map-same (reaching turns p) (reaching turns q) ks (λ k m. reaching-same k)
+        rw (least_length-same n)
+        (flat_map-same (reaching turns p) (reaching turns q) (solution_lengths (least_length turns q n) n slack) reaching-same)
 
     pub distance-same : distance turns p ≡ distance turns q
     unfolding distance
@@ -119,11 +118,8 @@ module _ (turns : List Turn) where
 
     pub looks-same : (d : ℕ) → looks turns f d ≡ looks turns g d
     unfolding looks
-    looks-same d = sums (up_to d) where
-      sums : (ks : List ℕ) → sum_by (λ k. count_by (is_looked_at f d) (all_canonical turns k)) ks ≡ sum_by (λ k. count_by (is_looked_at g d) (all_canonical turns k)) ks
-      sums ks = sum_by-each (λ k. Unit {0}) (λ k. count_by (is_looked_at f d) (all_canonical turns k)) (λ k. count_by (is_looked_at g d) (all_canonical turns k)) ks (λ k u.
-          sum_by-each (IsOver turns) (λ s. cond (is_looked_at f d s) 1 0) (λ s. cond (is_looked_at g d s) 1 0) (all_canonical turns k) (λ s over. ap (λ b. cond b 1 0) (is_looked_at-same d s over)) (canonical-over k))
-          (Each-all (λ k. Unit {0}) ks (λ k m. tt))
+    looks-same d = sum_by-same (λ k. count_by (is_looked_at f d) (all_canonical turns k)) (λ k. count_by (is_looked_at g d) (all_canonical turns k)) (up_to d) (λ k.
+        sum_by-each (IsOver turns) (λ s. cond (is_looked_at f d s) 1 0) (λ s. cond (is_looked_at g d s) 1 0) (all_canonical turns k) (λ s over. ap (λ b. cond b 1 0) (is_looked_at-same d s over)) (canonical-over k))
 
 -- a cube and its position
 module _ (law : PositionsFollowCubes) (step : Step) where
@@ -153,9 +149,8 @@ module _ (law : PositionsFollowCubes) (step : Step) where
     unfolding all_looks
     all_looks-cube n slack =
         rw (least_length-cube n)
-        (sum_by-each (λ d. Unit {0}) _ _ (up_to (last_length (least_length_at step x n) n slack)) (λ d u.
-        looks-same (turns_of step) _ _ (λ s over. distance-cube (λ q. effect_of_turns s (e q)) _ (has_position-all s e x h over)) d)
-        (Each-all (λ d. Unit {0}) _ (λ d m. tt)))
+        (sum_by-same _ _ (up_to (last_length (least_length_at step x n) n slack))
+        (looks-same (turns_of step) _ _ (λ s over. distance-cube (λ q. effect_of_turns s (e q)) _ (has_position-all s e x h over))))
 
   module _ (e : Place → Place) (x : List Coordinates) (h : HasPosition step e x) where
     -- the distance is 0 exactly where the step is reached
