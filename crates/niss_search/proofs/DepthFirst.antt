@@ -42,9 +42,6 @@ is_looked_at-push far d (u ∷ us) t =
     let e : length (u ∷ us) ≡ length (us ++ t ∷ []) = omega (arith, length-append us (t ∷ [])) in
     rw (take_at (u ∷ us) (t ∷ []) (length (us ++ t ∷ [])) e)
 
-cond-same : {A : Type 0} (b : Bool) (x y z : A) → x ≡ y → cond b x z ≡ cond b y z
-cond-same b x y z e = ap (λ v. cond b v z) e
-
 cond-sum : {A : Type 0} (b : Bool) (v : ℕ) (w : A → ℕ) (xs : List A) → v ≡ sum_by w xs → cond b v 0 ≡ sum_by (λ x. cond b (w x) 0) xs
 cond-sum true v w xs e = e
 cond-sum false v w xs e = sym (sum_by-none (λ x. 0) xs (λ x m. refl))
@@ -106,7 +103,7 @@ module _ {P : Type 0} (turns : List Turn) (after : P → Turn → P) (look : P �
       by_test : (b : Bool) → leb (far p) (suc k) ≡ b → ((t : Turn) → found turns after look (here (p ++ t ∷ [])) (p ++ t ∷ []) k ≡ filter reach (below turns (p ++ t ∷ []) k)) → cond b (flat_map (λ t. cond (may_follow (last_turn p) t) (found turns after look (after (here p) t) (p ++ t ∷ []) k) []) turns) [] ≡ filter reach (below turns p (suc k))
       by_test true e rest =
           flat_map-same (λ t. cond (may_follow (last_turn p) t) (found turns after look (after (here p) t) (p ++ t ∷ []) k) []) (λ t. cond (may_follow (last_turn p) t) (filter reach (below turns (p ++ t ∷ []) k)) []) turns (λ t.
-          cond-same (may_follow (last_turn p) t) _ _ [] (ap (λ x. found turns after look x (p ++ t ∷ []) k) (sym (here-push p t)) ∙ rest t))
+          ap (λ (v : List (List Turn)). cond (may_follow (last_turn p) t) v []) (ap (λ x. found turns after look x (p ++ t ∷ []) k) (sym (here-push p t)) ∙ rest t))
           ∙ sym (filter-below k p)
       by_test false e rest = sym (pruned (suc k) p (leb-false (far p) (suc k) e))
 

@@ -1,12 +1,11 @@
 -- How a pruning table fills, level by level.
-use Rattle.std.proofs.Common.{◌≡◌, ℕ, zero, suc, ◌+◌, ◌*◌, ◌≤◌, ◌<◌, ◌≢◌, leb, nat_le, nat_lt, ◌==◌, eqb, Bool, true, false, cond, List, [], ◌∷◌, length, set, slice_index, Contains, count_by, refl, sym, ap, ◌∙◌, subst, arith, inl, inr, ◌⊎◌, add-one, length-set, get_or-set_other, get_or-set_same, replicate, min}
+use Rattle.std.proofs.Common.{◌≡◌, ℕ, zero, suc, ◌+◌, ◌≤◌, ◌<◌, ◌≢◌, leb, nat_le, nat_lt, ◌==◌, eqb, Bool, true, false, cond, List, [], ◌∷◌, length, set, slice_index, Contains, count_by, refl, sym, ap, ◌∙◌, subst, arith, inl, inr, ◌⊎◌, add-one, length-set, get_or-set_other, get_or-set_same, replicate, min}
 use Rattle.std.proofs.lemmas.Bool.{leb-true}
 use Rattle.std.specs.List.{range_with_len}
 use Rattle.std.proofs.lemmas.Bool.Decides.{leb_tells, eqb_tells, nat_tests}
 use Rattle.std.proofs.lemmas.List.Sums.{sum_by-cons, count_by-le-length}
 use Rattle.std.proofs.lemmas.List.FromFn.{length-range_with_len}
 use Rattle.std.proofs.lemmas.List.{length-replicate, get_or-replicate}
-use Rattle.std.proofs.Math.Nat.{mul-le-mul}
 use Rattle.niss_moves.specs.Turn.{inverse_turn}
 use Rattle.niss_search.specs.Names.{Turn}
 use Rattle.niss_cube.specs.Steps.{turns_of}
@@ -124,10 +123,6 @@ lt-twenty a = grind (arith, nat_tests)
 pub count-twenty : (f : ℕ → ℕ) (xs : List ℕ) → count_by (λ x. nat_lt (f x) 20) xs ≡ count_by (λ x. nat_le (f x) 19) xs
 count-twenty f xs =
     sum_by-same (λ x. cond (nat_lt (f x) 20) 1 0) (λ x. cond (nat_le (f x) 19) 1 0) xs (λ x. lt-twenty (f x))
-
--- ticks within the room
-pub ticks-le : (turns count bound : ℕ) → turns ≤ 18 → count ≤ bound → turns * count ≤ 18 * bound
-ticks-le turns count bound h k = mul-le-mul h k
 
 -- the table at the beginning: 21, but 0 at the goal
 pub filled-start : (alt : Alternative) (n : ℕ) → n ≡ count_for alt.goal → IsFilled alt 0 (set (replicate n 21) 0 0)

@@ -1,13 +1,13 @@
 use Rattle.std.proofs.Common.{arith, ◌≡◌, ◌≢◌, ◌+◌, ◌*◌, ◌^◌, ◌<◌, ◌≤◌, ◌==◌, length, ℕ, List, count_by, true, false, leb, inl, inr, ◌⊎◌, sym, ap, ◌∙◌, subst, slice_index, cond, eq-eqb}
 use Rattle.std.specs.List.{range_with_len}
-use Rattle.std.proofs.Math.Nat.{mul-add}
+use Rattle.std.proofs.Math.Nat.{mul-add, mul-le-mul}
 use Rattle.std.proofs.lemmas.Bool.{ne_eqb}
 use Rattle.std.proofs.lemmas.Bool.Decides.{leb_tells}
 use Rattle.niss_cube.specs.Steps.{turns_of}
 use Rattle.niss_search.specs.Entries.{count_for}
 use Rattle.niss_search.specs.Filling.{Alternative, entry_distance, IsFilling, IsExtended}
 use Rattle.niss_search.proofs.Bounds.{turns_of-length}
-use Rattle.niss_search.proofs.FillLemmas.{filled-next, count-more, count-skip, count-range-le, ticks-le}
+use Rattle.niss_search.proofs.FillLemmas.{filled-next, count-more, count-skip, count-range-le}
 use Rattle.niss_search.proofs.tables.fill.extend_level.Goals as goal
 
 -- an entry whose byte isn't the level isn't at it
@@ -29,7 +29,7 @@ extend-requires-clause-meter g c =
     let few : count + 1 ≤ count_for (g.M.GoalMoves.alternative c.args.moves.now).goal = omega (arith, count-range-le p c.loop-entry.from, inv.filling.size, found) in
     let same = c.advance_to.ensures.moves ∙ inv.moves in
     let room : c.loop-entry.meter + turns < 2 ^ 128 =
-    omega (arith, inv.ticks, c.requires.meter, ticks-le turns (count + 1) (count_for (g.M.GoalMoves.alternative c.args.moves.now).goal) (turns_of-length (g.M.GoalMoves.alternative c.args.moves.now).step) few) in
+    omega (arith, inv.ticks, c.requires.meter, mul-le-mul (turns_of-length (g.M.GoalMoves.alternative c.args.moves.now).step) few) in
     rw same room
 
 pub loop-entry-preserved : goal.loop-entry-preserved
