@@ -103,7 +103,8 @@ module _ {P : Type 0} (turns : List Turn) (after : P → Turn → P) (look : P �
       by_test : (b : Bool) → leb (far p) (suc k) ≡ b → ((t : Turn) → found turns after look (here (p ++ t ∷ [])) (p ++ t ∷ []) k ≡ filter reach (below turns (p ++ t ∷ []) k)) → cond b (flat_map (λ t. cond (may_follow (last_turn p) t) (found turns after look (after (here p) t) (p ++ t ∷ []) k) []) turns) [] ≡ filter reach (below turns p (suc k))
       by_test true e rest =
           flat_map-same (λ t. cond (may_follow (last_turn p) t) (found turns after look (after (here p) t) (p ++ t ∷ []) k) []) (λ t. cond (may_follow (last_turn p) t) (filter reach (below turns (p ++ t ∷ []) k)) []) turns (λ t.
-          ap (λ (v : List (List Turn)). cond (may_follow (last_turn p) t) v []) (ap (λ x. found turns after look x (p ++ t ∷ []) k) (sym (here-push p t)) ∙ rest t))
+          ap (λ (v : List (List Turn)). cond (may_follow (last_turn p) t) v [])
+          (ap (λ x. found turns after look x (p ++ t ∷ []) k) (sym (here-push p t)) ∙ rest t))
           ∙ sym (filter-below k p)
       by_test false e rest = sym (pruned (suc k) p (leb-false (far p) (suc k) e))
 

@@ -44,13 +44,15 @@ module _ (turns : List Turn) (reaches : List Turn → Bool) where
 
   pub NoneBelow-more : (d : ℕ) → NoneBelow d → length (reaching turns reaches d) ≡ 0 → NoneBelow (d + 1)
   NoneBelow-more d h e =
-      below_more (λ k. list_any reaches (all_canonical turns k) ≡ false) d h (list_any-filter reaches (all_canonical turns d) ∙ lt-leb 1 _ (omega arith))
+      below_more (λ k. list_any reaches (all_canonical turns k) ≡ false) d h
+      (list_any-filter reaches (all_canonical turns d) ∙ lt-leb 1 _ (omega arith))
 
   module _ (d n : ℕ) (none : NoneBelow d) (some : 0 < length (reaching turns reaches d)) (within : d ≤ n) where
     pub least_length-at : least_length turns reaches n ≡ Some d
     unfolding least_length
     least_length-at =
-        find-first (λ k. list_any reaches (all_canonical turns k)) 0 (n + 1) d (omega arith) (omega arith) none (list_any-filter reaches (all_canonical turns d) ∙ le-leb 1 _ some)
+        find-first (λ k. list_any reaches (all_canonical turns k)) 0 (n + 1) d (omega arith) (omega arith) none
+        (list_any-filter reaches (all_canonical turns d) ∙ le-leb 1 _ some)
 
   module _ (n : ℕ) (none : NoneBelow (n + 1)) where
     pub least_length-none : least_length turns reaches n ≡ None

@@ -104,7 +104,9 @@ module _ (law : PositionsFollowCubes) (step : Step) where
   has_position-all : (s : List Turn) (e : Place → Place) (x : List Coordinates) → HasPosition step e x → IsOver (turns_of step) s → HasPosition step (λ q. effect_of_turns s (e q)) (fold position_after x s)
   has_position-all [] e x h over = h
   has_position-all (t ∷ s) e x h over =
-      has_position-all s (λ q. turned t (e q)) (position_after x t) (law.after_turn step e x t (All-head (Contains (turns_of step)) t s over) h) (All-tail (Contains (turns_of step)) t s over)
+      has_position-all s (λ q. turned t (e q)) (position_after x t)
+      (law.after_turn step e x t (All-head (Contains (turns_of step)) t s over) h)
+      (All-tail (Contains (turns_of step)) t s over)
 
   reach-same : (s : List Turn) (e : Place → Place) (x : List Coordinates) → HasPosition step e x → IsOver (turns_of step) s → reaches step e s ≡ reaches_at step x s
   reach-same s e x h over =

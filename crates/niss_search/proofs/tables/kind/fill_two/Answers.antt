@@ -4,4 +4,6 @@ use Rattle.niss_search.proofs.tables.kind.fill_two.Goals as goal
 
 pub returns-clause-ticks : goal.returns-clause-ticks
 returns-clause-ticks g c =
-    omega (arith, ticks-of-step c.args.step (g.M.GoalMoves.alternative c.args.first) c.requires.of_step, ticks-of-step c.args.step (g.M.GoalMoves.alternative c.args.second) c.requires.second_of_step, ticks-listed c.args.step _ c.requires.goals)
+    let first = ticks-of-step c.args.step (g.M.GoalMoves.alternative c.args.first) c.requires.of_step in
+    let second = ticks-of-step c.args.step (g.M.GoalMoves.alternative c.args.second) c.requires.second_of_step in
+    omega (arith, first, second, ticks-listed c.args.step _ c.requires.goals)
