@@ -58,17 +58,13 @@ sum-after F k = omega arith
 sum-after B k = omega arith
 
 below-after : (k : ℕ) (p : List Turn) (t : Turn) → length (below turn_order (p ++ t ∷ []) k) ≡ after_face t.face k
-below-after zero p t = by_face t.face where
-  by_face : (f : Face) → 1 ≡ after_face f zero
-  by_face U = refl
-  by_face D = refl
-  by_face R = refl
-  by_face L = refl
-  by_face F = refl
-  by_face B = refl
+below-after zero p t = one (goes_first t.face) where
+  one : (b : Bool) → ◌≡◌ {A = ℕ} 1 (cond b 1 1)
+  one true = refl
+  one false = refl
 below-after (suc k) p t =
     length-below turn_order k (p ++ t ∷ [])
-    ∙ sum_by-same (λ u. cond (may_follow (last_turn (p ++ t ∷ [])) u) (length (below turn_order ((p ++ t ∷ []) ++ u ∷ []) k)) 0) (λ u. cond (face_may_follow t.face u.face) (after_face u.face k) 0) turn_order (λ u m.
+    ∙ sum_by-same (λ u. cond (may_follow (last_turn (p ++ t ∷ [])) u) (length (below turn_order ((p ++ t ∷ []) ++ u ∷ []) k)) 0) (λ u. cond (face_may_follow t.face u.face) (after_face u.face k) 0) turn_order (λ u.
     rw (last_turn-push p t, below-after k (p ++ t ∷ []) u))
     ∙ sum-after t.face k
 
@@ -76,7 +72,7 @@ count-suc : (k : ℕ) → count_of_length turn_order (suc k) ≡ 9 * (afters k).
 count-suc k =
     sym (ap length (below-all turn_order (suc k)))
     ∙ length-below turn_order k []
-    ∙ sum_by-same (λ u. length (below turn_order ([] ++ u ∷ []) k)) (λ u. after_face u.face k) turn_order (λ u m. below-after k [] u)
+    ∙ sum_by-same (λ u. length (below turn_order ([] ++ u ∷ []) k)) (λ u. after_face u.face k) turn_order (λ u. below-after k [] u)
     ∙ sums (afters k).0 (afters k).1 where
       sums : (a b : ℕ) → sum_by (λ (u : Turn). cond (goes_first u.face) a b) turn_order ≡ 9 * a + 9 * b
       sums a b = omega arith

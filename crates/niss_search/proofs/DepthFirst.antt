@@ -26,7 +26,7 @@ module _ (turns : List Turn) where
     singles [] = refl
     singles (q ∷ qs) = ap (λ (l : List (List Turn)). q ∷ l) (singles qs)
   below-last (suc k) p =
-      flat_map-same (λ q. below turns q (suc k)) (λ q. flat_map (canonical_extensions turns) (below turns q k)) (canonical_extensions turns p) (λ q m. below-last k q)
+      flat_map-same (λ q. below turns q (suc k)) (λ q. flat_map (canonical_extensions turns) (below turns q k)) (canonical_extensions turns p) (λ q. below-last k q)
       ∙ sym (flat_map-flat_map (canonical_extensions turns) (λ q. below turns q k) (canonical_extensions turns p))
 
   -- the whole tree, level by level
@@ -41,9 +41,6 @@ is_looked_at-push far d [] t = refl
 is_looked_at-push far d (u ∷ us) t =
     let e : length (u ∷ us) ≡ length (us ++ t ∷ []) = omega (arith, length-append us (t ∷ [])) in
     rw (take_at (u ∷ us) (t ∷ []) (length (us ++ t ∷ [])) e)
-
-cond-same : {A : Type 0} (b : Bool) (x y z : A) → x ≡ y → cond b x z ≡ cond b y z
-cond-same b x y z e = ap (λ v. cond b v z) e
 
 cond-sum : {A : Type 0} (b : Bool) (v : ℕ) (w : A → ℕ) (xs : List A) → v ≡ sum_by w xs → cond b v 0 ≡ sum_by (λ x. cond b (w x) 0) xs
 cond-sum true v w xs e = e
@@ -105,8 +102,9 @@ module _ {P : Type 0} (turns : List Turn) (after : P → Turn → P) (look : P �
     found_is (suc k) p = by_test (leb (far p) (suc k)) refl (λ t. found_is k (p ++ t ∷ [])) where
       by_test : (b : Bool) → leb (far p) (suc k) ≡ b → ((t : Turn) → found turns after look (here (p ++ t ∷ [])) (p ++ t ∷ []) k ≡ filter reach (below turns (p ++ t ∷ []) k)) → cond b (flat_map (λ t. cond (may_follow (last_turn p) t) (found turns after look (after (here p) t) (p ++ t ∷ []) k) []) turns) [] ≡ filter reach (below turns p (suc k))
       by_test true e rest =
-          flat_map-same (λ t. cond (may_follow (last_turn p) t) (found turns after look (after (here p) t) (p ++ t ∷ []) k) []) (λ t. cond (may_follow (last_turn p) t) (filter reach (below turns (p ++ t ∷ []) k)) []) turns (λ t m.
-          cond-same (may_follow (last_turn p) t) _ _ [] (ap (λ x. found turns after look x (p ++ t ∷ []) k) (sym (here-push p t)) ∙ rest t))
+          flat_map-same (λ t. cond (may_follow (last_turn p) t) (found turns after look (after (here p) t) (p ++ t ∷ []) k) []) (λ t. cond (may_follow (last_turn p) t) (filter reach (below turns (p ++ t ∷ []) k)) []) turns (λ t.
+          ap (λ (v : List (List Turn)). cond (may_follow (last_turn p) t) v [])
+          (ap (λ x. found turns after look x (p ++ t ∷ []) k) (sym (here-push p t)) ∙ rest t))
           ∙ sym (filter-below k p)
       by_test false e rest = sym (pruned (suc k) p (leb-false (far p) (suc k) e))
 
@@ -129,7 +127,7 @@ module _ {P : Type 0} (turns : List Turn) (after : P → Turn → P) (look : P �
         ap (λ n. 1 + n) (by_test (leb (far p) (suc k)) refl (λ t. visits_is d k (p ++ t ∷ []) (omega (arith, length-append p (t ∷ []))))) where
           by_test : (b : Bool) → leb (far p) (suc k) ≡ b → ((t : Turn) → visits turns after look (here (p ++ t ∷ [])) (p ++ t ∷ []) k ≡ 1 + sum_by (λ j. sum_by (looked d) (below turns (p ++ t ∷ []) (suc j))) (range_with_len 0 k)) → cond b (sum_by (λ t. cond (may_follow (last_turn p) t) (visits turns after look (after (here p) t) (p ++ t ∷ []) k) 0) turns) 0 ≡ sum_by (λ j. sum_by (looked d) (below turns p (suc j))) (range_with_len 0 (suc k))
           by_test true f rest =
-              sum_by-same (λ t. cond (may_follow (last_turn p) t) (visits turns after look (after (here p) t) (p ++ t ∷ []) k) 0) (λ t. sum_by (λ j. cond (may_follow (last_turn p) t) (sum_by (looked d) (below turns (p ++ t ∷ []) j)) 0) (range_with_len 0 (suc k))) turns (λ t m.
+              sum_by-same (λ t. cond (may_follow (last_turn p) t) (visits turns after look (after (here p) t) (p ++ t ∷ []) k) 0) (λ t. sum_by (λ j. cond (may_follow (last_turn p) t) (sum_by (looked d) (below turns (p ++ t ∷ []) j)) 0) (range_with_len 0 (suc k))) turns (λ t.
               let W : ℕ → ℕ = λ j. sum_by (looked d) (below turns (p ++ t ∷ []) j) in
               let passes : nat_le (far p) (d - length p) ≡ true = le-leb (far p) (d - length p) (omega (arith, leb-true (far p) (suc k) f)) in
               let one = sum_by-one (looked d) (p ++ t ∷ []) ∙ looked-push d p t true passes in
@@ -138,7 +136,7 @@ module _ {P : Type 0} (turns : List Turn) (after : P → Turn → P) (look : P �
               omega (arith, moved, one, sum_by-cons W 0 (range_with_len (0 + 1) k), sum_by-shift W 0 k) in
               cond-sum (may_follow (last_turn p) t) _ W (range_with_len 0 (suc k)) all)
               ∙ sum_by-swap (λ t j. cond (may_follow (last_turn p) t) (sum_by (looked d) (below turns (p ++ t ∷ []) j)) 0) turns (range_with_len 0 (suc k))
-              ∙ sum_by-same (λ j. sum_by (λ t. cond (may_follow (last_turn p) t) (sum_by (looked d) (below turns (p ++ t ∷ []) j)) 0) turns) (λ j. sum_by (looked d) (below turns p (suc j))) (range_with_len 0 (suc k)) (λ j m. sym (looked-below d j p))
+              ∙ sum_by-same (λ j. sum_by (λ t. cond (may_follow (last_turn p) t) (sum_by (looked d) (below turns (p ++ t ∷ []) j)) 0) turns) (λ j. sum_by (looked d) (below turns p (suc j))) (range_with_len 0 (suc k)) (λ j. sym (looked-below d j p))
           by_test false f rest =
               let fails = leb-false (far p) (suc k) f in
               sym (range-none (λ j. sum_by (looked d) (below turns p (suc j))) 0 (suc k) (λ j l. unlooked d j p (omega arith) (omega arith)))
@@ -153,7 +151,7 @@ module _ {P : Type 0} (turns : List Turn) (after : P → Turn → P) (look : P �
     visits_all d =
         let W : ℕ → ℕ = λ k. count_by (is_looked_at far d) (all_canonical turns k) in
         let V : ℕ → ℕ = λ k. sum_by (looked d) (below turns [] k) in
-        let same = sum_by-same W V (range_with_len 0 (suc d)) (λ k m. sym (ap (sum_by (looked d)) (below-all turns k))) in
+        let same = sum_by-same W V (range_with_len 0 (suc d)) (λ k. sym (ap (sum_by (looked d)) (below-all turns k))) in
         let one = sum_by-one (looked d) [] in
         let parts : sum_by V (range_with_len 0 (suc d)) ≡ 1 + sum_by (λ j. V (suc j)) (range_with_len 0 d) =
         omega (arith, one, sum_by-cons V 0 (range_with_len (0 + 1) d), sum_by-shift V 0 d) in

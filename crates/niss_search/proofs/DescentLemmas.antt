@@ -123,12 +123,6 @@ module _ {K : Type 0} (took refused : K → List Turn → K → Type 0) where
   WentThrough-append a b c [] qs h k = subst (λ (s : K). WentThrough took s qs c) (sym h) k
   WentThrough-append a b c (p ∷ ps) qs h k = (h.0, (h.1.0, WentThrough-append h.0 b c ps qs h.1.1 k))
 
-  pub WentThrough-one : (a b : K) (p : List Turn) → took a p b → WentThrough took a (p ∷ []) b
-  WentThrough-one a b p h = (b, (h, refl))
-
-  pub StoppedIn-one : (a c : K) (p : List Turn) → refused a p c → StoppedIn took refused a (p ∷ []) c
-  StoppedIn-one a c p h = inl h
-
   pub StoppedIn-some : (a c : K) (ps : List (List Turn)) → StoppedIn took refused a ps c → 0 < length ps
   StoppedIn-some a c [] h = absurd h
   StoppedIn-some a c (p ∷ ps) h = omega arith
@@ -172,9 +166,9 @@ module _ {K : Type 0} (took refused : K → List Turn → K → Type 0) where
   -- a path that is handed out
   pub Descends-take : {F : Type 0} (r : Result (Unit {0}) F) (m c : ℕ) (s t : K) (p : List Turn) → OnOk r (took s p t) → OnErr r (refused s p t) → Descends took refused (p ∷ []) 0 (descent_state m c s) (descent_state m (c + 1) t) r
   Descends-take (Ok u) m c s t p ok err =
-      record { delivered = WentThrough-one took refused s t p ok; counted = omega arith; looked = omega arith }
+      record { delivered = (t, (ok, refl)); counted = omega arith; looked = omega arith }
   Descends-take (Err e) m c s t p ok err =
-      record { stopped = StoppedIn-one took refused s t p err; rises = omega arith; looked = omega arith }
+      record { stopped = inl err; rises = omega arith; looked = omega arith }
 
   -- a look, and then what goes on
   pub Descends-look : {F : Type 0} (r : Result (Unit {0}) F) (ps : List (List Turn)) (l m n c : ℕ) (s : K) (new : DescentState K) → n ≡ m + 1 → Descends took refused ps l (descent_state n c s) new r → Descends took refused ps (1 + l) (descent_state m c s) new r

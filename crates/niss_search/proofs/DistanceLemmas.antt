@@ -7,6 +7,7 @@ use Rattle.std.proofs.lemmas.List.Folds.{list_any-append, list_any_at}
 use Rattle.std.proofs.lemmas.Bool.Decides.{leb_tells}
 use Rattle.niss_search.specs.Names.{Turn}
 use Rattle.niss_search.specs.Distance.{all_sequences, distance}
+use Rattle.niss_search.proofs.Bounds.{least-le}
 
 list_any-map : {X Y : Type 0} (p : Y → Bool) (f : X → Y) (xs : List X) → list_any p (map f xs) ≡ list_any (λ x. p (f x)) xs
 list_any-map p f [] = refl
@@ -29,10 +30,7 @@ pub reached_in-suc : (turns : List Turn) (reaches : List Turn → Bool) (k : ℕ
 unfolding all_sequences
 reached_in-suc turns reaches k =
     list_any-flat_map reaches (λ t. map (λ s. t ∷ s) (all_sequences turns k)) turns
-    ∙ list_any-same' turns where
-      list_any-same' : (ts : List Turn) → list_any (λ t. list_any reaches (map (λ s. t ∷ s) (all_sequences turns k))) ts ≡ list_any (λ t. list_any (λ s. reaches (t ∷ s)) (all_sequences turns k)) ts
-      list_any-same' [] = refl
-      list_any-same' (t ∷ ts) = rw (list_any-map reaches (λ s. t ∷ s) (all_sequences turns k), list_any-same' ts)
+    ∙ ap (λ (p : Turn → Bool). list_any p turns) (λ i t. list_any-map reaches (λ s. t ∷ s) (all_sequences turns k) i)
 
 -- the first number from a on, of n, that passes, or else d
 abbrev first_or : (ℕ → Bool) → ℕ → ℕ → ℕ → ℕ
@@ -60,13 +58,6 @@ first_or-passes p a (suc n) d = by_test (p a) refl (first_or-passes p (a + 1) n 
   by_test : (b : Bool) → p a ≡ b → (p (first_or p (a + 1) n d) ≡ true) ⊎ (first_or p (a + 1) n d ≡ d) → (p (unwrap_or (cond b (Some a) (find p (range_with_len (a + 1) n))) d) ≡ true) ⊎ (unwrap_or (cond b (Some a) (find p (range_with_len (a + 1) n))) d ≡ d)
   by_test true f rest = inl f
   by_test false f rest = rest
-
-first_or-most : (p : ℕ → Bool) (a n d : ℕ) → a + n ≤ d → first_or p a n d ≤ d
-first_or-most p a zero d h = omega arith
-first_or-most p a (suc n) d h = by_test (p a) (omega arith) (first_or-most p (a + 1) n d (omega arith)) where
-  by_test : (b : Bool) → a ≤ d → first_or p (a + 1) n d ≤ d → unwrap_or (cond b (Some a) (find p (range_with_len (a + 1) n))) d ≤ d
-  by_test true l h = l
-  by_test false l h = h
 
 first_or-after : (p : ℕ → Bool) (a n d : ℕ) → a + n ≤ d → a < d → p a ≡ false → a < first_or p a n d
 first_or-after p a zero d h l e = l
@@ -108,7 +99,7 @@ module _ (turns : List Turn) (reaches : List Turn → Bool) where
 
   pub distance-most : distance turns reaches ≤ 21
   unfolding distance
-  distance-most = first_or-most (reached_in turns reaches) 0 21 21 (omega arith)
+  distance-most = least-le (reached_in turns reaches) 0 21 21 21 (omega arith) (omega arith)
 
   pub distance-reached : (reached_in turns reaches (distance turns reaches) ≡ true) ⊎ (distance turns reaches ≡ 21)
   unfolding distance

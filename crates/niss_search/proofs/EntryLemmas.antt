@@ -1,5 +1,6 @@
 -- The entries of a pruning table by number, and how the turns lead from one to another.
-use Rattle.std.proofs.Common.{◌≡◌, ℕ, zero, suc, ◌+◌, ◌-◌, ◌*◌, ◌/◌, ◌%◌, ◌≤◌, ◌<◌, leb, ◌==◌, ◌&&◌, Bool, true, false, ◌||◌, List, [], ◌∷◌, map, Contains, refl, sym, ap, ◌∙◌, subst, arith, lit<, inl, inr, ◌⊎◌, length, get_or, slice_index, replicate}
+use Rattle.std.proofs.Common.{◌≡◌, ℕ, zero, suc, ◌+◌, ◌-◌, ◌*◌, ◌/◌, ◌%◌, ◌≤◌, ◌<◌, leb, ◌==◌, ◌&&◌, true, false, List, [], ◌∷◌, map, Contains, refl, sym, ap, ◌∙◌, subst, arith, lit<, inl, inr, ◌⊎◌, length, get_or, slice_index, replicate}
+use Rattle.std.proofs.Math.Bool.{or-false}
 use Rattle.std.proofs.lemmas.Bool.Decides.{eqb_tells, leb_tells}
 use Rattle.niss_moves.specs.Places.{Place}
 use Rattle.niss_search.specs.Names.{Axis, Turn, Goal, Edges, Domino, Step, Coordinates}
@@ -31,15 +32,6 @@ high a b h = omega arith
 
 low : (a b : ℕ) → b < 495 → (a * 495 + b) % 495 ≡ b
 low a b h = omega arith
-
--- the row in which an entry stands
-pub row_length-some : (g : Goal) → 0 < row_length g
-row_length-some (Edges a) = lit< tt
-row_length-some (Domino o a) = lit< tt
-
-pub row-to : (g : Goal) (i : ℕ) → i < i / row_length g * row_length g + row_length g
-row-to (Edges a) i = omega arith
-row-to (Domino o a) i = omega arith
 
 module _ (coordinates : AreCoordinates) where
   -- the entry number is one to one: the coordinates of a goal are found back from it
@@ -112,10 +104,7 @@ zero-alone (Domino o a) i = by_parts (eqb_tells i 0) where
 pub entry_distance-zero : (alt : Alternative) (i : ℕ) → leb (entry_distance alt i) 0 ≡ (i == 0)
 unfolding entry_distance is_reached_at
 entry_distance-zero alt i =
-    distance_at-goal alt.step (entry_at alt.goal i ∷ []) ∙ by_test (are_zero (entry_at alt.goal i)) ∙ zero-alone alt.goal i where
-      by_test : (b : Bool) → (b || false) ≡ b
-      by_test true = refl
-      by_test false = refl
+    distance_at-goal alt.step (entry_at alt.goal i ∷ []) ∙ or-false (are_zero (entry_at alt.goal i)) ∙ zero-alone alt.goal i
 
 module _ (law : EntriesTurn) (alt : Alternative) where
   -- the position of an entry after a turn is that of the entry after it

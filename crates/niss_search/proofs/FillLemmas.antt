@@ -1,12 +1,11 @@
 -- How a pruning table fills, level by level.
-use Rattle.std.proofs.Common.{◌≡◌, ℕ, zero, suc, ◌+◌, ◌*◌, ◌≤◌, ◌<◌, ◌≢◌, leb, nat_le, nat_lt, ◌==◌, eqb, Bool, true, false, cond, List, [], ◌∷◌, length, set, slice_index, Contains, count_by, refl, sym, ap, ◌∙◌, subst, arith, inl, inr, ◌⊎◌, add-one, length-set, get_or-set_other, get_or-set_same, replicate, min}
+use Rattle.std.proofs.Common.{◌≡◌, ℕ, zero, suc, ◌+◌, ◌≤◌, ◌<◌, ◌≢◌, leb, nat_le, nat_lt, ◌==◌, eqb, Bool, true, false, cond, List, [], ◌∷◌, length, set, slice_index, Contains, count_by, refl, sym, ap, ◌∙◌, subst, arith, inl, inr, ◌⊎◌, add-one, length-set, get_or-set_other, get_or-set_same, replicate, min}
 use Rattle.std.proofs.lemmas.Bool.{leb-true}
 use Rattle.std.specs.List.{range_with_len}
 use Rattle.std.proofs.lemmas.Bool.Decides.{leb_tells, eqb_tells, nat_tests}
 use Rattle.std.proofs.lemmas.List.Sums.{sum_by-cons, count_by-le-length}
 use Rattle.std.proofs.lemmas.List.FromFn.{length-range_with_len}
 use Rattle.std.proofs.lemmas.List.{length-replicate, get_or-replicate}
-use Rattle.std.proofs.Math.Nat.{mul-le-mul}
 use Rattle.niss_moves.specs.Turn.{inverse_turn}
 use Rattle.niss_search.specs.Names.{Turn}
 use Rattle.niss_cube.specs.Steps.{turns_of}
@@ -15,13 +14,7 @@ use Rattle.niss_search.specs.Filling.{entry_after, entry_distance, byte_at, Alte
 use Rattle.niss_search.proofs.ListLemmas.{sum_by-same, sum_by-none, sum_by-range_more}
 use Rattle.niss_search.proofs.EntryLemmas.{count_for-some, entry_distance-zero, entry_distance-turn, entry_distance-back, entry_distance-nearer}
 
--- what a byte may be when a level begins, and that it is the distance once it is met, or once the level is done
-may-begin : (level d : ℕ) → level < 20 → MayBeAt level d (byte_at level d)
-may-begin level d small = elim (leb_tells d level) [
-  | inl e ↦ rw e.0 record { near = λ n. refl; met = λ m. refl; next = λ m. omega (arith, e.1) }
-  | inr e ↦ rw e.0 record { near = λ n. absurd (omega arith); met = λ m. absurd (m refl); next = λ m. absurd (m refl) }
-]
-
+-- what a byte may be is the distance once it is met, or once the level is done
 may-meet : (level d byte : ℕ) → level < 20 → MayBeAt level d byte → d ≤ level + 1 → min byte (level + 1) ≡ d
 may-meet level d byte small h near = elim (leb_tells d level) [
   | inl e ↦ omega (arith, h.near e.1)
@@ -43,10 +36,6 @@ set-each P xs j v inside here others k = elim (eqb_tells k j) [
   | inl e ↦ rw (e.1, get_or-set_same xs j v 0 inside) here
   | inr e ↦ rw (get_or-set_other xs j k v 0 e.1) (others k)
 ]
-
-pub filling-start : (alt : Alternative) (level : ℕ) (xs : List ℕ) → level < 20 → IsFilled alt level xs → IsFilling alt level xs
-filling-start alt level xs small f =
-    record { size = f.size; bytes = λ i l. rw (f.bytes i l) (may-begin level (entry_distance alt i) small) }
 
 module _ (law : EntriesTurn) (alt : Alternative) (level : ℕ) (small : level < 20) (xs : List ℕ) (f : IsFilling alt level xs) where
   -- the entry to which a turn leads from the level becomes the lesser of its byte and the next level
@@ -133,11 +122,7 @@ lt-twenty a = grind (arith, nat_tests)
 
 pub count-twenty : (f : ℕ → ℕ) (xs : List ℕ) → count_by (λ x. nat_lt (f x) 20) xs ≡ count_by (λ x. nat_le (f x) 19) xs
 count-twenty f xs =
-    sum_by-same (λ x. cond (nat_lt (f x) 20) 1 0) (λ x. cond (nat_le (f x) 19) 1 0) xs (λ x m. lt-twenty (f x))
-
--- ticks within the room
-pub ticks-le : (turns count bound : ℕ) → turns ≤ 18 → count ≤ bound → turns * count ≤ 18 * bound
-ticks-le turns count bound h k = mul-le-mul h k
+    sum_by-same (λ x. cond (nat_lt (f x) 20) 1 0) (λ x. cond (nat_le (f x) 19) 1 0) xs (λ x. lt-twenty (f x))
 
 -- the table at the beginning: 21, but 0 at the goal
 pub filled-start : (alt : Alternative) (n : ℕ) → n ≡ count_for alt.goal → IsFilled alt 0 (set (replicate n 21) 0 0)

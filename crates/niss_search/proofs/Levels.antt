@@ -1,6 +1,7 @@
 -- The search by levels: what the least level with a solution says of the whole.
-use Rattle.std.proofs.Common.{◌≡◌, ℕ, zero, suc, ◌+◌, ◌≤◌, ◌<◌, Bool, true, false, cond, List, [], length, find, sum_by, Some, None, refl, arith, leb, inl, inr, ◌⊎◌, below_more}
+use Rattle.std.proofs.Common.{◌≡◌, ℕ, zero, suc, ◌+◌, ◌≤◌, ◌<◌, Bool, true, false, cond, List, [], length, find, sum_by, Some, None, refl, ◌∙◌, arith, leb, inl, inr, ◌⊎◌, below_more}
 use Rattle.std.specs.List.{range_with_len, list_any}
+use Rattle.std.proofs.lemmas.Bool.{le-leb, lt-leb}
 use Rattle.std.proofs.lemmas.Bool.Decides.{leb_tells}
 use Rattle.niss_search.specs.Names.{Turn, Step, Coordinates}
 use Rattle.niss_cube.specs.Steps.{turns_of}
@@ -10,7 +11,7 @@ use Rattle.niss_search.specs.Looks.{looks, all_looks}
 use Rattle.niss_search.specs.Descent.{found_below, looks_below}
 use Rattle.niss_search.specs.Deepening.{reaches_at, far_at}
 use Rattle.niss_search.specs.Positions.{position_after, is_reached_at, distance_at}
-use Rattle.niss_search.proofs.ListLemmas.{filter-none, filter-some}
+use Rattle.niss_search.proofs.ListLemmas.{list_any-filter}
 use Rattle.niss_search.proofs.DepthFirst.{found_all, visits_all}
 use Rattle.niss_search.proofs.LookLemmas.{distance_at-goal, distance_at-turn}
 
@@ -43,13 +44,15 @@ module _ (turns : List Turn) (reaches : List Turn → Bool) where
 
   pub NoneBelow-more : (d : ℕ) → NoneBelow d → length (reaching turns reaches d) ≡ 0 → NoneBelow (d + 1)
   NoneBelow-more d h e =
-      below_more (λ k. list_any reaches (all_canonical turns k) ≡ false) d h (filter-none reaches (all_canonical turns d) e)
+      below_more (λ k. list_any reaches (all_canonical turns k) ≡ false) d h
+      (list_any-filter reaches (all_canonical turns d) ∙ lt-leb 1 _ (omega arith))
 
   module _ (d n : ℕ) (none : NoneBelow d) (some : 0 < length (reaching turns reaches d)) (within : d ≤ n) where
     pub least_length-at : least_length turns reaches n ≡ Some d
     unfolding least_length
     least_length-at =
-        find-first (λ k. list_any reaches (all_canonical turns k)) 0 (n + 1) d (omega arith) (omega arith) none (filter-some reaches (all_canonical turns d) some)
+        find-first (λ k. list_any reaches (all_canonical turns k)) 0 (n + 1) d (omega arith) (omega arith) none
+        (list_any-filter reaches (all_canonical turns d) ∙ le-leb 1 _ some)
 
   module _ (n : ℕ) (none : NoneBelow (n + 1)) where
     pub least_length-none : least_length turns reaches n ≡ None

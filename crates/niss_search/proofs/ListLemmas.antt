@@ -1,7 +1,8 @@
 -- Lists joined, filtered and summed.
-use Rattle.std.proofs.Common.{◌≡◌, ℕ, zero, suc, ◌+◌, ◌<◌, Bool, true, false, ◌||◌, cond, List, [], ◌∷◌, ◌++◌, length, get_or, map, filter, sum_by, Contains, refl, sym, ap, ◌∙◌, arith, add-one, add-zero, find}
+use Rattle.std.proofs.Common.{◌≡◌, ℕ, zero, suc, ◌+◌, ◌<◌, nat_le, Bool, true, false, ◌||◌, cond, List, [], ◌∷◌, ◌++◌, length, map, filter, sum_by, Contains, refl, sym, ap, ◌∙◌, arith, add-one, add-zero, find}
 use Rattle.std.specs.Prelude.{flat_map}
 use Rattle.std.specs.List.{range_with_len, list_any}
+use Rattle.std.proofs.lemmas.Bool.{le-leb}
 use Rattle.std.proofs.lemmas.List.Sums.{sum_by-cons, sum_by-append, sum_by_push}
 use Rattle.std.proofs.lemmas.List.Elements.{filter-append, Contains-append_right, Contains-get_or}
 use Rattle.std.proofs.lemmas.Grind.{flat_map-append}
@@ -13,11 +14,14 @@ module _ {X : Type 0} where
   pub Contains-later : (x : X) (xs : List X) (y : X) → Contains xs y → Contains (x ∷ xs) y
   Contains-later x xs y h = Contains-append_right (x ∷ []) xs y h
 
+pub sum_by-none : {X : Type 0} (f : X → ℕ) (xs : List X) → ((x : X) → Contains xs x → f x ≡ 0) → sum_by f xs ≡ 0
+sum_by-none f [] h = refl
+sum_by-none f (x ∷ xs) h =
+    omega (arith, sum_by-cons f x xs, h x (Contains-first x xs), sum_by-none f xs (λ y m. h y (Contains-later x xs y m)))
+
 module _ {X A : Type 0} where
-  pub flat_map-same : (f g : X → List A) (xs : List X) → ((x : X) → Contains xs x → f x ≡ g x) → flat_map f xs ≡ flat_map g xs
-  flat_map-same f g [] h = refl
-  flat_map-same f g (x ∷ xs) h =
-      rw (h x (Contains-first x xs), flat_map-same f g xs (λ y m. h y (Contains-later x xs y m)))
+  pub flat_map-same : (f g : X → List A) (xs : List X) → ((x : X) → f x ≡ g x) → flat_map f xs ≡ flat_map g xs
+  flat_map-same f g xs h = ap (λ (k : X → List A). flat_map k xs) (λ i x. h x i)
 
   pub flat_map-none : (f : X → List A) (xs : List X) → ((x : X) → Contains xs x → f x ≡ []) → flat_map f xs ≡ []
   flat_map-none f [] h = refl
@@ -55,10 +59,7 @@ module _ {X Y : Type 0} where
 
   -- two sums may be taken in either order
   pub sum_by-swap : (f : X → Y → ℕ) (xs : List X) (ys : List Y) → sum_by (λ x. sum_by (f x) ys) xs ≡ sum_by (λ y. sum_by (λ x. f x y) xs) ys
-  sum_by-swap f [] ys = sym (zeros ys) where
-    zeros : (zs : List Y) → sum_by (λ y. 0) zs ≡ 0
-    zeros [] = refl
-    zeros (z ∷ zs) = omega (arith, sum_by-cons (λ (y : Y). 0) z zs, zeros zs)
+  sum_by-swap f [] ys = sym (sum_by-none (λ y. 0) ys (λ y m. refl))
   sum_by-swap f (x ∷ xs) ys = sum_by-cons (λ z. sum_by (f z) ys) x xs ∙ ap (λ n. sum_by (f x) ys + n) (sum_by-swap f xs ys) ∙ both ys where
     both : (zs : List Y) → sum_by (f x) zs + sum_by (λ y. sum_by (λ z. f z y) xs) zs ≡ sum_by (λ y. sum_by (λ z. f z y) (x ∷ xs)) zs
     both [] = refl
@@ -66,29 +67,19 @@ module _ {X Y : Type 0} where
         omega (arith, both zs, sum_by-cons (f x) z zs, sum_by-cons (λ y. sum_by (λ w. f w y) xs) z zs, sum_by-cons (λ y. sum_by (λ w. f w y) (x ∷ xs)) z zs, sum_by-cons (λ w. f w z) x xs)
 
 module _ {X : Type 0} where
-  pub sum_by-same : (f g : X → ℕ) (xs : List X) → ((x : X) → Contains xs x → f x ≡ g x) → sum_by f xs ≡ sum_by g xs
-  sum_by-same f g [] h = refl
-  sum_by-same f g (x ∷ xs) h =
-      omega (arith, sum_by-cons f x xs, sum_by-cons g x xs, h x (Contains-first x xs), sum_by-same f g xs (λ y m. h y (Contains-later x xs y m)))
+  pub sum_by-same : (f g : X → ℕ) (xs : List X) → ((x : X) → f x ≡ g x) → sum_by f xs ≡ sum_by g xs
+  sum_by-same f g xs h = ap (λ (k : X → ℕ). sum_by k xs) (λ i x. h x i)
 
   pub find-same : (p q : X → Bool) (xs : List X) → ((x : X) → p x ≡ q x) → find p xs ≡ find q xs
-  find-same p q [] h = refl
-  find-same p q (x ∷ xs) h = rw (h x, find-same p q xs h)
+  find-same p q xs h = ap (λ (k : X → Bool). find k xs) (λ i x. h x i)
 
   -- some element passes exactly where the filtered list is not empty
-  pub filter-none : (p : X → Bool) (xs : List X) → length (filter p xs) ≡ 0 → list_any p xs ≡ false
-  filter-none p [] h = refl
-  filter-none p (x ∷ xs) h = by_test (p x) (filter-none p xs) h where
-    by_test : (b : Bool) → (length (filter p xs) ≡ 0 → list_any p xs ≡ false) → length (cond b (x ∷ filter p xs) (filter p xs)) ≡ 0 → (b || list_any p xs) ≡ false
-    by_test true e h = absurd (omega arith)
-    by_test false e h = e h
-
-  pub filter-some : (p : X → Bool) (xs : List X) → 0 < length (filter p xs) → list_any p xs ≡ true
-  filter-some p [] h = absurd (omega arith)
-  filter-some p (x ∷ xs) h = by_test (p x) (filter-some p xs) h where
-    by_test : (b : Bool) → (0 < length (filter p xs) → list_any p xs ≡ true) → 0 < length (cond b (x ∷ filter p xs) (filter p xs)) → (b || list_any p xs) ≡ true
-    by_test true e h = refl
-    by_test false e h = e h
+  pub list_any-filter : (p : X → Bool) (xs : List X) → list_any p xs ≡ nat_le 1 (length (filter p xs))
+  list_any-filter p [] = refl
+  list_any-filter p (x ∷ xs) = by_test (p x) (list_any-filter p xs) where
+    by_test : (b : Bool) → list_any p xs ≡ nat_le 1 (length (filter p xs)) → (b || list_any p xs) ≡ nat_le 1 (length (cond b (x ∷ filter p xs) (filter p xs)))
+    by_test true e = sym (le-leb 1 (length (x ∷ filter p xs)) (omega arith))
+    by_test false e = e
 
 pub sum_by-shift : (f : ℕ → ℕ) (a n : ℕ) → sum_by f (range_with_len (a + 1) n) ≡ sum_by (λ j. f (suc j)) (range_with_len a n)
 sum_by-shift f a zero = refl
@@ -97,11 +88,6 @@ sum_by-shift f a (suc n) =
 
 pub sum_by-one : {X : Type 0} (f : X → ℕ) (x : X) → sum_by f (x ∷ []) ≡ f x
 sum_by-one f x = omega (arith, sum_by-cons f x [])
-
-pub sum_by-none : {X : Type 0} (f : X → ℕ) (xs : List X) → ((x : X) → Contains xs x → f x ≡ 0) → sum_by f xs ≡ 0
-sum_by-none f [] h = refl
-sum_by-none f (x ∷ xs) h =
-    omega (arith, sum_by-cons f x xs, h x (Contains-first x xs), sum_by-none f xs (λ y m. h y (Contains-later x xs y m)))
 
 pub range-none : (f : ℕ → ℕ) (a n : ℕ) → ((j : ℕ) → j < a + n → f j ≡ 0) → sum_by f (range_with_len a n) ≡ 0
 range-none f a zero h = refl
@@ -145,11 +131,3 @@ module _ {X : Type 0} where
     by_test : (b : Bool) → m x ≡ b → sum_by f (filter m xs) ≡ sum_by f xs → sum_by f (cond b (x ∷ filter m xs) (filter m xs)) ≡ sum_by f (x ∷ xs)
     by_test true e rest = omega (arith, sum_by-cons f x (filter m xs), sum_by-cons f x xs)
     by_test false e rest = omega (arith, sum_by-cons f x xs, h x e)
-
--- what comes of each of three
-pub map-three : {X Y : Type 0} (f : X → Y) (xs : List X) (d : X) → length xs ≡ 3 → map f xs ≡ f (get_or xs 0 d) ∷ f (get_or xs 1 d) ∷ f (get_or xs 2 d) ∷ []
-map-three f [] d n = absurd (omega (arith, n))
-map-three f (x ∷ []) d n = absurd (omega (arith, n))
-map-three f (x ∷ y ∷ []) d n = absurd (omega (arith, n))
-map-three f (x ∷ y ∷ z ∷ []) d n = refl
-map-three f (x ∷ y ∷ z ∷ w ∷ xs) d n = absurd (omega (arith, n))

@@ -1,6 +1,7 @@
 -- The distance of a position: 0 exactly at the goal, never more than one beyond that after a turn, and nearer after some.
 use Rattle.std.proofs.Common.{◌≡◌, ℕ, suc, ◌+◌, ◌≤◌, ◌<◌, leb, Bool, true, false, ◌||◌, List, [], ◌∷◌, fold, Contains, refl, sym, ap, ◌∙◌, arith, inl, inr, ◌⊎◌}
 use Rattle.std.specs.List.{list_any}
+use Rattle.std.proofs.Math.Bool.{or-false}
 use Rattle.niss_search.specs.Names.{Turn, Step, Coordinates}
 use Rattle.niss_cube.specs.Steps.{turns_of}
 use Rattle.niss_search.specs.Distance.{distance}
@@ -47,10 +48,7 @@ distance_at-nearer step x k e l = by_reached (distance-reached turns reaches) wh
 
 either : (s : List Turn) (c : Coordinates) (x : List Coordinates) → is_reached_at (fold position_after (c ∷ x) s) ≡ (is_reached_at (fold position_after (c ∷ []) s) || is_reached_at (fold position_after x s))
 unfolding position_after is_reached_at
-either [] c x = by_test (are_zero c) where
-  by_test : (b : Bool) → (b || list_any are_zero x) ≡ ((b || false) || list_any are_zero x)
-  by_test true = refl
-  by_test false = refl
+either [] c x = ap (λ b. b || list_any are_zero x) (sym (or-false (are_zero c)))
 either (t ∷ s) c x = either s (coordinates_after c t) (position_after x t)
 
 -- the distance of a position is the least of those of its coordinates

@@ -4,7 +4,7 @@ use Rattle.std.specs.List.{list_any}
 use Rattle.std.specs.Option.{option_map_or}
 use Rattle.niss_moves.specs.Places.{Place, SameMap}
 use Rattle.niss_moves.specs.Effects.{turned}
-use Rattle.niss_search.specs.Names.{Axis, Turn, Goal, Edges, Domino, Step, Flip}
+use Rattle.niss_search.specs.Names.{Axis, Turn, Goal, Edges, Domino, Step, Coordinates, Flip}
 use Rattle.niss_cube.specs.AfterTurn.{IsCube, TurnedIsCube, AreCoordinates}
 use Rattle.niss_cube.specs.Coordinates.{flip_of, twist_of, slice_of}
 use Rattle.niss_cube.specs.Steps.{goals_of, may_start, reached, holds}
@@ -14,10 +14,6 @@ use Rattle.niss_cube.proofs.CallerLemmas.{alike_is_cube, zero_test}
 use Rattle.niss_search.specs.Positions.{coordinates_of, coordinates_after, are_zero, position_of, position_after, is_reached_at}
 use Rattle.niss_search.specs.Laws.{PositionsFollowCubes}
 use Rattle.niss_search.proofs.ListLemmas.{Contains-first, Contains-later}
-
-map_alike : {X Y : Type 0} (f g : X → Y) (xs : List X) → ((x : X) → f x ≡ g x) → map f xs ≡ map g xs
-map_alike f g [] h = refl
-map_alike f g (x ∷ xs) h = rw (h x, map_alike f g xs h)
 
 map_twice : {X Y Z : Type 0} (g : Y → Z) (f : X → Y) (h : X → Z) (xs : List X) → ((x : X) → h x ≡ g (f x)) → map h xs ≡ map g (map f xs)
 map_twice g f h [] same = refl
@@ -41,7 +37,7 @@ module _ (coordinates : AreCoordinates) where
   position_alike : (s : Step) (d e : Place → Place) → IsCube d → SameMap d e → position_of s d ≡ position_of s e
   unfolding position_of
   position_alike s d e h same =
-      map_alike (λ g. coordinates_of g d) (λ g. coordinates_of g e) (goals_of s) (λ g. goal_alike g d e h same)
+      ap (λ (f : Goal → Coordinates). map f (goals_of s)) (λ i g. goal_alike g d e h same i)
 
   position_follows : (s : Step) (e : Place → Place) (t : Turn) → IsCube e → position_of s (λ q. turned t (e q)) ≡ position_after (position_of s e) t
   unfolding position_of position_after

@@ -66,7 +66,7 @@ values-numbered (Domino o a) k e = pairs-numbered a 495 2187 k e
 -- the list has as many entries as are counted
 pub entries-counted : EntriesAreCounted
 unfolding entries_of entry_count
-entries-counted s = length-flat_map values_for (goals_of s) ∙ sum_by-same (λ g. length (values_for g)) count_for (goals_of s) (λ g m. values-counted g) where
+entries-counted s = length-flat_map values_for (goals_of s) ∙ sum_by-same (λ g. length (values_for g)) count_for (goals_of s) (λ g. values-counted g) where
   values-counted : (g : Goal) → length (values_for g) ≡ count_for g
   values-counted g = ap length (values-numbered g (count_for g) refl) ∙ length-map-range_with_len (entry_at g) 0 (count_for g)
 
@@ -108,15 +108,12 @@ ticks-of-goals s = by_goals (goals_of s) where
       ∙ ap (λ n. turns * count_by near (values_for g) + n) (by_goals gs)
       ∙ sym (sum_by-cons (λ g. turns * count_by near (values_for g)) g gs)
 
--- of one goal, of two and of three
-pub ticks_of_one : (s : Step) (g : Goal) → goals_of s ≡ g ∷ [] → fill_ticks s ≡ goal_ticks record { step = s; goal = g }
-ticks_of_one s g e = let sum = ticks-of-goals s in omega (arith, rw e at sum)
+-- by its list of goals, and of an alternative of the step
+pub ticks-listed : (s : Step) (gs : List Goal) → goals_of s ≡ gs → fill_ticks s ≡ sum_by (λ g. goal_ticks record { step = s; goal = g }) gs
+ticks-listed s gs e = ticks-of-goals s ∙ ap (sum_by (λ g. goal_ticks record { step = s; goal = g })) e
 
-pub ticks_of_two : (s : Step) (g h : Goal) → goals_of s ≡ g ∷ h ∷ [] → fill_ticks s ≡ goal_ticks record { step = s; goal = g } + goal_ticks record { step = s; goal = h }
-ticks_of_two s g h e = let sum = ticks-of-goals s in omega (arith, rw e at sum)
-
-pub ticks_of_three : (s : Step) (g h i : Goal) → goals_of s ≡ g ∷ h ∷ i ∷ [] → fill_ticks s ≡ goal_ticks record { step = s; goal = g } + goal_ticks record { step = s; goal = h } + goal_ticks record { step = s; goal = i }
-ticks_of_three s g h i e = let sum = ticks-of-goals s in omega (arith, rw e at sum)
+pub ticks-of-step : (s : Step) (alt : Alternative) → alt.step ≡ s → goal_ticks alt ≡ goal_ticks record { step = s; goal = alt.goal }
+ticks-of-step s alt e = ap (λ t. goal_ticks record { step = t; goal = alt.goal }) e
 
 -- and a bound for each goal
 pub goal_ticks_bound : (alt : Alternative) → goal_ticks alt ≤ 2 ^ 32

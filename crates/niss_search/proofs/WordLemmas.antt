@@ -132,34 +132,30 @@ trailing-odd k m =
     let r : (1 + 2 * m) % 2 ≡ 1 = omega arith in
     ap (λ d. under d (count_trailing_zeros k ((1 + 2 * m) / 2))) r
 
--- a digit that isn't set
-trailing-next : (k n m t : ℕ) → n ≡ 2 * m → count_trailing_zeros k m ≡ t → count_trailing_zeros (suc k) n ≡ suc t
-trailing-next k n m t e h = ap (count_trailing_zeros (suc k)) e ∙ trailing-even k m ∙ ap suc h
+-- twice, n times over
+abbrev doubled : ℕ → ℕ → ℕ
+doubled zero m = m
+doubled (suc n) m = 2 * doubled n m
+
+-- n digits that aren't set
+trailing-doubled : (n k m : ℕ) → count_trailing_zeros (n + k) (doubled n m) ≡ n + count_trailing_zeros k m
+trailing-doubled zero k m =
+    let digits : 0 + k ≡ k = omega arith in
+    omega (arith, ap (λ d. count_trailing_zeros d m) digits)
+trailing-doubled (suc n) k m =
+    let digits : suc n + k ≡ suc (n + k) = omega arith in
+    omega (arith, ap (λ d. count_trailing_zeros d (2 * doubled n m)) digits, trailing-even (n + k) (doubled n m), trailing-doubled n k m)
 
 trailing-8 : (k m : ℕ) → count_trailing_zeros (8 + k) (256 * m) ≡ 8 + count_trailing_zeros k m
 trailing-8 k m =
-    let digits : 8 + k ≡ suc (suc (suc (suc (suc (suc (suc (suc k))))))) = omega arith in
-    let a = trailing-next k (2 * m) m (count_trailing_zeros k m) refl refl in
-    let b = trailing-next (suc k) (4 * m) (2 * m) _ (omega arith) a in
-    let c = trailing-next (suc (suc k)) (8 * m) (4 * m) _ (omega arith) b in
-    let d = trailing-next (suc (suc (suc k))) (16 * m) (8 * m) _ (omega arith) c in
-    let e = trailing-next (suc (suc (suc (suc k)))) (32 * m) (16 * m) _ (omega arith) d in
-    let f = trailing-next (suc (suc (suc (suc (suc k))))) (64 * m) (32 * m) _ (omega arith) e in
-    let g = trailing-next (suc (suc (suc (suc (suc (suc k)))))) (128 * m) (64 * m) _ (omega arith) f in
-    let all = trailing-next (suc (suc (suc (suc (suc (suc (suc k))))))) (256 * m) (128 * m) _ (omega arith) g in
-    omega (arith, ap (λ n. count_trailing_zeros n (256 * m)) digits, all)
+    let number : 256 * m ≡ doubled 8 m = omega arith in
+    ap (count_trailing_zeros (8 + k)) number ∙ trailing-doubled 8 k m
 
 trailing-7 : (k m : ℕ) → count_trailing_zeros (8 + k) (128 + 256 * m) ≡ 7
 trailing-7 k m =
-    let digits : 8 + k ≡ suc (suc (suc (suc (suc (suc (suc (suc k))))))) = omega arith in
-    let a = trailing-odd k m in
-    let b = trailing-next (suc k) (2 + 4 * m) (1 + 2 * m) _ (omega arith) a in
-    let c = trailing-next (suc (suc k)) (4 + 8 * m) (2 + 4 * m) _ (omega arith) b in
-    let d = trailing-next (suc (suc (suc k))) (8 + 16 * m) (4 + 8 * m) _ (omega arith) c in
-    let e = trailing-next (suc (suc (suc (suc k)))) (16 + 32 * m) (8 + 16 * m) _ (omega arith) d in
-    let f = trailing-next (suc (suc (suc (suc (suc k))))) (32 + 64 * m) (16 + 32 * m) _ (omega arith) e in
-    let g = trailing-next (suc (suc (suc (suc (suc (suc k)))))) (64 + 128 * m) (32 + 64 * m) _ (omega arith) f in
-    ap (λ n. count_trailing_zeros n (128 + 256 * m)) digits ∙ trailing-next (suc (suc (suc (suc (suc (suc (suc k))))))) (128 + 256 * m) (64 + 128 * m) _ (omega arith) g
+    let digits : 8 + k ≡ 7 + suc k = omega arith in
+    let number : 128 + 256 * m ≡ doubled 7 (1 + 2 * m) = omega arith in
+    omega (arith, ap₂ count_trailing_zeros digits number, trailing-doubled 7 (suc k) (1 + 2 * m), trailing-odd k m)
 
 first-of : (xs : List ℕ) (level : ℕ) → count_trailing_zeros (8 * length xs) (number_l 256 (map (mark level) xs)) / 8 ≡ prefix_len (λ x. not (x == level)) xs
 unfolding count_trailing_zeros

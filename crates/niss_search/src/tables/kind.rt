@@ -1,39 +1,37 @@
 //! The tables of a step, by what it looks at.
-ghost use Rattle.std.specs.Prelude.{◌≡◌, ◌≤◌, ◌^◌, ◌∷◌, [], map, IfOk};
+ghost use Rattle.std.specs.Prelude.{◌≡◌, ◌+◌, ◌≤◌, ◌^◌, ◌∷◌, [], IfOk};
 ghost use Rattle.niss_cube.specs.declared.cube.coordinate.Coordinate.TheVariants as coordinate;
 ghost use Rattle.niss_cube.specs.declared.step.Goal.TheVariants as goals;
 ghost use Rattle.niss_cube.specs.Steps.{goals_of};
+ghost use Rattle.niss_search.specs.Entries.{fill_ticks};
 ghost use Rattle.niss_search.specs.KindOfStep.{IsOfStep};
-ghost use Rattle.niss_search.specs.StepSpace.{IsSpaceOf, IsBuilt};
+ghost use Rattle.niss_search.specs.StepSpace.{IsBuilt};
 
 use super::goal_moves::{DominoMoves, DominoTurns, EdgeMoves, GoalMoves};
 use super::meter::Meter;
 use super::pruning_table::{EmptyTable, PruningTable};
 use super::search_tables::SearchTables;
-use super::state_space::{Either, StateSpace};
+use super::state_space::Either;
 use niss_cube::{Axis, Coordinate, Goal, OutOfMemory, Step, TurnTable};
 use std::alloc::Allocator;
 
-/// The space of an edge orientation.
-type EdgeSpace<A> = PruningTable<EdgeMoves<A>, A>;
+/// The tables of a step with one goal.
+type OneGoal<M, A> = SearchTables<PruningTable<M, A>>;
 
-/// That of an edge orientation on any of three axes.
-type AnyEdgeSpace<A> = Either<EdgeMoves<A>, A, Either<EdgeMoves<A>, A, EdgeSpace<A>>>;
+/// Those of a step with two.
+type TwoGoals<M, A> = SearchTables<Either<M, A, PruningTable<M, A>>>;
 
-/// The space of a domino reduction.
-type DominoSpace<A> = PruningTable<DominoMoves<A>, A>;
-
-/// That of either of two domino reductions.
-type EitherDominoSpace<A> = Either<DominoMoves<A>, A, DominoSpace<A>>;
+/// Those of a step with three.
+type ThreeGoals<M, A> = SearchTables<Either<M, A, Either<M, A, PruningTable<M, A>>>>;
 
 /// The tables of a step, by what it looks at: the flip on an axis, or on each of the three; or twist and slice on an axis, or
 /// on either of two.
 #[derive(Drop)]
 pub enum Kind<A: Allocator> {
-    Edges(SearchTables<EdgeSpace<A>>),
-    AnyEdges(SearchTables<AnyEdgeSpace<A>>),
-    Domino(SearchTables<DominoSpace<A>>),
-    EitherDomino(SearchTables<EitherDominoSpace<A>>),
+    Edges(OneGoal<EdgeMoves<A>, A>),
+    AnyEdges(ThreeGoals<EdgeMoves<A>, A>),
+    Domino(OneGoal<DominoMoves<A>, A>),
+    EitherDomino(TwoGoals<DominoMoves<A>, A>),
 }
 
 impl<A: Allocator + Copy> Kind<A> {
@@ -44,16 +42,24 @@ impl<A: Allocator + Copy> Kind<A> {
     {
         match *step.goals() {
             [Goal::Edges(axis)] => {
-                let space = edge_space(alloc, step, axis, meter)?;
-                Ok(Kind::Edges(SearchTables::of(step, space)))
+                let flips = TurnTable::build_in(alloc, Coordinate::Flip)?;
+                let table = edge_table(alloc, step, axis, &flips)?;
+                drop(flips);
+                Ok(Kind::Edges(fill_one(step, table, meter)))
             }
             [Goal::Edges(first), Goal::Edges(second), Goal::Edges(third)] => {
-                let space = any_edge_space(alloc, step, [first, second, third], meter)?;
-                Ok(Kind::AnyEdges(SearchTables::of(step, space)))
+                let flips = TurnTable::build_in(alloc, Coordinate::Flip)?;
+                let first = edge_table(alloc, step, first, &flips)?;
+                let second = edge_table(alloc, step, second, &flips)?;
+                let third = edge_table(alloc, step, third, &flips)?;
+                drop(flips);
+                Ok(Kind::AnyEdges(fill_three(step, first, second, third, meter)))
             }
             [Goal::Domino { edges, axis }] => {
-                let space = domino_space(alloc, step, DominoAxes { edges, axis }, meter)?;
-                Ok(Kind::Domino(SearchTables::of(step, space)))
+                let turns = DominoTurns::build_in(alloc)?;
+                let table = domino_table(alloc, step, edges, axis, &turns)?;
+                drop(turns);
+                Ok(Kind::Domino(fill_one(step, table, meter)))
             }
             [
                 Goal::Domino { edges, axis },
@@ -62,111 +68,70 @@ impl<A: Allocator + Copy> Kind<A> {
                     axis: other_axis,
                 },
             ] => {
-                let other = DominoAxes {
-                    edges: other_edges,
-                    axis: other_axis,
-                };
-                let space = either_domino_space(
-                    alloc,
-                    step,
-                    DominoAxes { edges, axis },
-                    other,
-                    meter,
-                )?;
-                Ok(Kind::EitherDomino(SearchTables::of(step, space)))
+                let turns = DominoTurns::build_in(alloc)?;
+                let first = domino_table(alloc, step, edges, axis, &turns)?;
+                let second = domino_table(alloc, step, other_edges, other_axis, &turns)?;
+                drop(turns);
+                Ok(Kind::EitherDomino(fill_two(step, first, second, meter)))
             }
             _ => unreachable!(),
         }
     }
 }
 
-/// Builds the space of a step with one edge orientation.
-fn edge_space<A: Allocator + Copy>(
-    alloc: A,
+/// Fills the table of a step with one goal.
+fn fill_one<M: GoalMoves, A: Allocator>(
     step: Step,
-    axis: Axis,
+    table: EmptyTable<M, A>,
     meter: &mut Meter,
-) -> Result<EdgeSpace<A>, OutOfMemory>
-    requires goals { goals_of step ≡ goals.Edges axis ∷ [] }
+) -> OneGoal<M, A>
+    requires of_step { (M.alternative table).step ≡ step }
+    requires goals { goals_of step ≡ (M.alternative table).goal ∷ [] }
     requires meter { meter.old ≤ 2 ^ 127 }
-    ensures { IsBuilt (λ s.
-        IsSpaceOf step (⟦<EdgeSpace<A> as StateSpace>⟧.step s) (⟦<EdgeSpace<A> as StateSpace>⟧.goals s))
-        step meter.old meter.new result }
+    ensures step { result.step ≡ step }
+    ensures ticks { meter.new ≡ meter.old + fill_ticks step }
 {
-    let flips = TurnTable::build_in(alloc, Coordinate::Flip)?;
-    let table = edge_table(alloc, step, axis, &flips)?;
-    drop(flips);
-    Ok(table.fill(meter))
+    SearchTables::of(step, table.fill(meter))
 }
 
-/// Builds that of a step with an edge orientation on any of three axes.
-fn any_edge_space<A: Allocator + Copy>(
-    alloc: A,
+/// Fills those of a step with two.
+fn fill_two<M: GoalMoves, A: Allocator>(
     step: Step,
-    axes: [Axis; 3],
+    first: EmptyTable<M, A>,
+    second: EmptyTable<M, A>,
     meter: &mut Meter,
-) -> Result<AnyEdgeSpace<A>, OutOfMemory>
-    requires goals { goals_of step ≡ map goals.Edges axes }
+) -> TwoGoals<M, A>
+    requires of_step { (M.alternative first).step ≡ step }
+    requires second_of_step { (M.alternative second).step ≡ step }
+    requires goals { goals_of step ≡ (M.alternative first).goal ∷ (M.alternative second).goal ∷ [] }
     requires meter { meter.old ≤ 2 ^ 127 }
-    ensures { IsBuilt (λ s.
-        IsSpaceOf step (⟦<AnyEdgeSpace<A> as StateSpace>⟧.step s) (⟦<AnyEdgeSpace<A> as StateSpace>⟧.goals s))
-        step meter.old meter.new result }
+    ensures step { result.step ≡ step }
+    ensures ticks { meter.new ≡ meter.old + fill_ticks step }
 {
-    let flips = TurnTable::build_in(alloc, Coordinate::Flip)?;
-    let first = edge_table(alloc, step, axes[0], &flips)?;
-    let second = edge_table(alloc, step, axes[1], &flips)?;
-    let third = edge_table(alloc, step, axes[2], &flips)?;
-    drop(flips);
-    let others = Either::of(second.fill(meter), third.fill(meter));
-    Ok(Either::of(first.fill(meter), others))
+    let space = Either::of(first.fill(meter), second.fill(meter));
+    SearchTables::of(step, space)
 }
 
-/// Builds that of a step with one domino reduction.
-fn domino_space<A: Allocator + Copy>(
-    alloc: A,
+/// Fills those of a step with three.
+fn fill_three<M: GoalMoves, A: Allocator>(
     step: Step,
-    goal: DominoAxes,
+    first: EmptyTable<M, A>,
+    second: EmptyTable<M, A>,
+    third: EmptyTable<M, A>,
     meter: &mut Meter,
-) -> Result<DominoSpace<A>, OutOfMemory>
-    requires goals { goals_of step ≡ goals.Domino goal.edges goal.axis ∷ [] }
-    requires meter { meter.old ≤ 2 ^ 127 }
-    ensures { IsBuilt (λ s.
-        IsSpaceOf step (⟦<DominoSpace<A> as StateSpace>⟧.step s) (⟦<DominoSpace<A> as StateSpace>⟧.goals s))
-        step meter.old meter.new result }
-{
-    let turns = DominoTurns::build_in(alloc)?;
-    let table = domino_table(alloc, step, goal, &turns)?;
-    drop(turns);
-    Ok(table.fill(meter))
-}
-
-/// Builds that of a step with either of two domino reductions.
-fn either_domino_space<A: Allocator + Copy>(
-    alloc: A,
-    step: Step,
-    goal: DominoAxes,
-    other: DominoAxes,
-    meter: &mut Meter,
-) -> Result<EitherDominoSpace<A>, OutOfMemory>
+) -> ThreeGoals<M, A>
+    requires of_step { (M.alternative first).step ≡ step }
+    requires second_of_step { (M.alternative second).step ≡ step }
+    requires third_of_step { (M.alternative third).step ≡ step }
     requires goals { goals_of step
-        ≡ goals.Domino goal.edges goal.axis ∷ goals.Domino other.edges other.axis ∷ [] }
+        ≡ (M.alternative first).goal ∷ (M.alternative second).goal ∷ (M.alternative third).goal ∷ [] }
     requires meter { meter.old ≤ 2 ^ 127 }
-    ensures { IsBuilt (λ s.
-        IsSpaceOf step (⟦<EitherDominoSpace<A> as StateSpace>⟧.step s) (⟦<EitherDominoSpace<A> as StateSpace>⟧.goals s))
-        step meter.old meter.new result }
+    ensures step { result.step ≡ step }
+    ensures ticks { meter.new ≡ meter.old + fill_ticks step }
 {
-    let turns = DominoTurns::build_in(alloc)?;
-    let first = domino_table(alloc, step, goal, &turns)?;
-    let second = domino_table(alloc, step, other, &turns)?;
-    drop(turns);
-    Ok(Either::of(first.fill(meter), second.fill(meter)))
-}
-
-/// The axes of a domino reduction: that on which the edges are oriented before it, and its own.
-#[derive(Clone, Copy)]
-struct DominoAxes {
-    edges: Axis,
-    axis: Axis,
+    let others = Either::of(second.fill(meter), third.fill(meter));
+    let space = Either::of(first.fill(meter), others);
+    SearchTables::of(step, space)
 }
 
 /// The pruning table of an edge orientation, still to be filled.
@@ -188,13 +153,14 @@ fn edge_table<A: Allocator + Copy>(
 fn domino_table<A: Allocator + Copy>(
     alloc: A,
     step: Step,
-    goal: DominoAxes,
+    edges: Axis,
+    axis: Axis,
     turns: &DominoTurns<A>,
 ) -> Result<EmptyTable<DominoMoves<A>, A>, OutOfMemory>
     ensures { IfOk result (λ t.
         ⟦<DominoMoves<A> as GoalMoves>⟧.alternative t
-        ≡ record { step = step; goal = goals.Domino goal.edges goal.axis }) }
+        ≡ record { step = step; goal = goals.Domino edges axis }) }
 {
-    let moves = DominoMoves::build_in(alloc, step, goal.edges, goal.axis, turns)?;
+    let moves = DominoMoves::build_in(alloc, step, edges, axis, turns)?;
     EmptyTable::new_in(alloc, moves)
 }

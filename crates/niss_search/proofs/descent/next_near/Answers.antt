@@ -1,26 +1,10 @@
-use Rattle.std.proofs.Common.{arith, ◌<◌, ◌≤◌, subst, All}
-use Rattle.std.proofs.lemmas.List.{get_or_default, take_all}
+use Rattle.std.proofs.Common.{arith, ◌<◌, subst, All}
+use Rattle.std.proofs.lemmas.List.{take_all}
 use Rattle.std.proofs.lemmas.List.Elements.{All-more}
 use Rattle.niss_search.specs.Names.{Follower}
 use Rattle.niss_search.specs.Followers.{distance_after}
 use Rattle.niss_search.proofs.DescentLemmas.{no_follower}
 use Rattle.niss_search.proofs.descent.next_near.Goals as goal
-
-pub loop-index-init : goal.loop-index-init
-loop-index-init g c = record { far = λ k d l. absurd (omega arith); ticks = omega arith }
-
-pub returns-then-look-left-clause-near : goal.returns-then-look-left-clause-near
-returns-then-look-left-clause-near g c =
-    let inv = c.loop-index.invariant in
-    let step = c.args.tables.now.step in
-    let fs = c.args.followers.now in
-    let value = rw c.after.ensures at c.look.ensures.value in
-    record {
-      inside = c.loop-index-test.true;
-      far = inv.far;
-      near = λ d. subst (λ (f : Follower). distance_after step (g.S.StateSpace.seen c.args.tables.now.space c.args.state) f ≤ c.args.left) (get_or_default fs c.loop-index.index no_follower d c.loop-index-test.true) (omega (arith, value, c.if-look-left.true));
-      looked = omega (arith, inv.ticks, c.look.ensures.tick);
-    }
 
 pub loop-index-preserved : goal.loop-index-preserved
 loop-index-preserved g c =

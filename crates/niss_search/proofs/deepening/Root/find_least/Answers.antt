@@ -1,4 +1,4 @@
-use Rattle.std.proofs.Common.{arith, ◌≡◌, ◌+◌, refl, sym, ◌∙◌}
+use Rattle.std.proofs.Common.{arith, ◌≡◌, ◌+◌, sym, ◌∙◌}
 use Rattle.std.proofs.lemmas.Result.{err_from_is_err_and}
 use Rattle.niss_cube.specs.Steps.{turns_of}
 use Rattle.niss_search.specs.Delivery.{at_limit}
@@ -9,16 +9,6 @@ use Rattle.niss_search.proofs.ListLemmas.{sum_by-range_more}
 use Rattle.niss_search.proofs.Levels.{least_length-none}
 use Rattle.niss_search.proofs.DeepeningLemmas.{least_length-found, solutions-found, solutions-stopped, none-here, sink-same, nothing-found}
 use Rattle.niss_search.proofs.deepening.Root.find_least.Goals as goal
-
-pub loop-length-init : goal.loop-length-init
-loop-length-init g c = record {
-  path = refl;
-  sink = refl;
-  end = omega arith;
-  small = omega arith;
-  none = λ k lt. absurd (omega arith);
-  looked = omega arith;
-}
 
 pub deepen-requires-clause-meter : goal.deepen-requires-clause-meter
 deepen-requires-clause-meter g c =

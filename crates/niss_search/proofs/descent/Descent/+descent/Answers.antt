@@ -72,12 +72,6 @@ extend-returns-in-Err-clause-finds g t c =
     rw (found_below-listed step x p c.args.left inv.some_left inv.near listed refl, looks_beyond-listed step x p c.args.left inv.some_left inv.near listed refl)
     (StopsIn-next step x p (c.args.left - 1) inv.done c.loop-index.rest.now inv.whole inv.went c.in-Some.ensures.near no_follower stopped)
 
-pub extend-overflow_add-rest : goal.extend-overflow_add-rest
-extend-overflow_add-rest g t c = omega (arith, c.in-Some.ensures.near.inside, c.loop-index.invariant.few)
-
-pub extend-offset_bounds-rest-index-in-Some : goal.extend-offset_bounds-rest-index-in-Some
-extend-offset_bounds-rest-index-in-Some g t c = omega (arith, c.in-Some.ensures.near.inside, c.loop-index.invariant.few)
-
 pub extend-loop-index-preserved : goal.extend-loop-index-preserved
 extend-loop-index-preserved g t c =
     let step = c.args.tables.now.step in

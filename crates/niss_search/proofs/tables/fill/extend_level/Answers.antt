@@ -1,14 +1,13 @@
 use Rattle.std.proofs.Common.{arith, ◌≡◌, ◌≢◌, ◌+◌, ◌*◌, ◌^◌, ◌<◌, ◌≤◌, ◌==◌, length, ℕ, List, count_by, true, false, leb, inl, inr, ◌⊎◌, sym, ap, ◌∙◌, subst, slice_index, cond, eq-eqb}
 use Rattle.std.specs.List.{range_with_len}
-use Rattle.std.proofs.Math.Nat.{mul-add}
+use Rattle.std.proofs.Math.Nat.{mul-add, mul-le-mul}
 use Rattle.std.proofs.lemmas.Bool.{ne_eqb}
 use Rattle.std.proofs.lemmas.Bool.Decides.{leb_tells}
 use Rattle.niss_cube.specs.Steps.{turns_of}
 use Rattle.niss_search.specs.Entries.{count_for}
 use Rattle.niss_search.specs.Filling.{Alternative, entry_distance, IsFilling, IsExtended}
 use Rattle.niss_search.proofs.Bounds.{turns_of-length}
-use Rattle.niss_search.proofs.EntryLemmas.{count_for-some}
-use Rattle.niss_search.proofs.FillLemmas.{filling-start, filled-next, count-more, count-skip, count-range-le, ticks-le}
+use Rattle.niss_search.proofs.FillLemmas.{filled-next, count-more, count-skip, count-range-le}
 use Rattle.niss_search.proofs.tables.fill.extend_level.Goals as goal
 
 -- an entry whose byte isn't the level isn't at it
@@ -20,19 +19,6 @@ skipped : (alt : Alternative) (level : ℕ) (xs : List ℕ) → IsFilling alt le
 skipped alt level xs f a b l r none =
     count-skip (λ x. entry_distance alt x == level) a b l (λ k low high. ne_eqb _ _ (away alt level xs f k (omega arith) (none k low high)))
 
-pub of-row-requires : goal.of-row-requires
-of-row-requires g c = count_for-some (g.M.GoalMoves.alternative c.args.moves.now).goal
-
-pub loop-entry-init : goal.loop-entry-init
-loop-entry-init g c = record {
-  moves = c.of-row.ensures.moves;
-  row = omega (arith, c.of-row.ensures.from);
-  filling = filling-start _ _ _ (omega (arith, c.number-number.ensures)) c.requires.filled;
-  within = omega arith;
-  extended = λ j l. absurd (omega arith);
-  ticks = omega arith;
-}
-
 pub extend-requires-clause-meter : goal.extend-requires-clause-meter
 extend-requires-clause-meter g c =
     let inv = c.loop-entry.invariant in
@@ -43,7 +29,7 @@ extend-requires-clause-meter g c =
     let few : count + 1 ≤ count_for (g.M.GoalMoves.alternative c.args.moves.now).goal = omega (arith, count-range-le p c.loop-entry.from, inv.filling.size, found) in
     let same = c.advance_to.ensures.moves ∙ inv.moves in
     let room : c.loop-entry.meter + turns < 2 ^ 128 =
-    omega (arith, inv.ticks, c.requires.meter, ticks-le turns (count + 1) (count_for (g.M.GoalMoves.alternative c.args.moves.now).goal) (turns_of-length (g.M.GoalMoves.alternative c.args.moves.now).step) few) in
+    omega (arith, inv.ticks, c.requires.meter, mul-le-mul (turns_of-length (g.M.GoalMoves.alternative c.args.moves.now).step) few) in
     rw same room
 
 pub loop-entry-preserved : goal.loop-entry-preserved

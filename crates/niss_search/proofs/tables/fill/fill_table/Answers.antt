@@ -1,10 +1,11 @@
 use Rattle.std.proofs.Common.{arith, ◌≡◌, ◌+◌, ◌*◌, length, ℕ, count_by, nat_lt, ap, sym, ◌∙◌}
 use Rattle.std.specs.List.{range_with_len}
+use Rattle.std.proofs.Math.Nat.{mul-le-mul}
 use Rattle.niss_cube.specs.Steps.{turns_of}
 use Rattle.niss_search.specs.Entries.{count_for}
 use Rattle.niss_search.specs.Filling.{goal_ticks, entry_distance}
 use Rattle.niss_search.proofs.Bounds.{turns_of-length}
-use Rattle.niss_search.proofs.FillLemmas.{count-level, count-below-zero, count-twenty, count-range-le, ticks-le}
+use Rattle.niss_search.proofs.FillLemmas.{count-level, count-below-zero, count-twenty, count-range-le}
 use Rattle.niss_search.proofs.EntryLemmas.{count_for-bound}
 use Rattle.niss_search.proofs.TickLemmas.{ticks-numbered}
 use Rattle.niss_search.proofs.tables.fill.fill_table.Goals as goal
@@ -20,7 +21,7 @@ pub extend_level-requires-clause-meter : goal.extend_level-requires-clause-meter
 extend_level-requires-clause-meter g c =
     let alt = (g.M.GoalMoves.alternative c.args.moves.now) in
     let p = λ (x : ℕ). nat_lt (entry_distance alt x) c.loop-level.level in
-    let within = ticks-le (length (turns_of alt.step)) (count_by p (range_with_len 0 (count_for alt.goal))) (count_for alt.goal) (turns_of-length alt.step) (count-range-le p (count_for alt.goal)) in
+    let within = mul-le-mul (turns_of-length alt.step) (count-range-le p (count_for alt.goal)) in
     omega (arith, within, count_for-bound alt.goal)
 
 pub loop-level-preserved : goal.loop-level-preserved
@@ -32,11 +33,6 @@ loop-level-preserved g c =
       filled = rw c.new-in-loop-level.ensures at c.extend_level.ensures.filled;
       ticks = omega (arith, more, rw c.new-in-loop-level.ensures at c.extend_level.ensures.ticks);
     }
-
-pub returns-clause-filled : goal.returns-clause-filled
-returns-clause-filled g c =
-    let last : c.loop-level.level ≡ 20 = omega arith in
-    rw (← last) c.loop-level.invariant.filled
 
 pub returns-clause-ticks : goal.returns-clause-ticks
 returns-clause-ticks g c =

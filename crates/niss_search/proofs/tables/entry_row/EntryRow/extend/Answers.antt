@@ -1,22 +1,12 @@
-use Rattle.std.proofs.Common.{arith, ◌≡◌, ◌+◌, ◌<◌, sym, ap, ◌∙◌, subst, below_more, slice_index, min, length}
+use Rattle.std.proofs.Common.{arith, ◌≡◌, ◌+◌, ◌<◌, ap, ◌∙◌, below_more, slice_index, min, length}
 use Rattle.std.proofs.lemmas.List.Elements.{Contains-get_or}
-use Rattle.std.proofs.lemmas.List.{get_or_read}
-use Rattle.niss_search.specs.Names.{Turn, no_turn}
+use Rattle.niss_search.specs.Names.{no_turn}
 use Rattle.niss_cube.specs.Steps.{turns_of}
 use Rattle.niss_search.specs.Filling.{entry_after}
 use Rattle.niss_search.specs.Moves.{turn_at}
 use Rattle.niss_search.proofs.EntryLemmas.{row-entry}
 use Rattle.niss_search.proofs.FillLemmas.{least-filling, least-met, least-kept}
 use Rattle.niss_search.proofs.tables.entry_row.EntryRow.extend.Goals as goal
-
-pub bounds-distances-next : goal.bounds-distances-next
-bounds-distances-next g c =
-    let inv = c.loop-column.invariant in
-    let alt = g.M.GoalMoves.alternative c.args.self.now.moves.now in
-    let t = turn_at alt.step c.loop-column.column in
-    let column : c.loop-column.column < length (turns_of alt.step) = omega (arith, inv.end, c.loop-column-test.true) in
-    let next = row-entry alt c.args.self.now.start c.args.entry c.args.self.now.starts c.places-places.result.now c.args.self.now.are_starts c.places-places.ensures c.requires.from c.requires.to c.loop-column.column column in
-    omega (arith, c.entries_turn.ensures.below alt.goal c.args.entry t c.requires.in_range, inv.filling.size, next)
 
 pub loop-column-preserved : goal.loop-column-preserved
 loop-column-preserved g c =
@@ -41,11 +31,3 @@ loop-column-preserved g c =
       kept = rw (j, written) (λ i h. kept i (inv.kept i h));
       ticks = omega arith;
     }
-
-pub returns-clause-extended : goal.returns-clause-extended
-returns-clause-extended g c = λ t m.
-    let inv = c.loop-column.invariant in
-    let alt = g.M.GoalMoves.alternative c.args.self.now.moves.now in
-    let same : turn_at alt.step m.0 ≡ t = sym (get_or_read (turns_of alt.step) m.0 t m.1 (sym m.2) no_turn) in
-    let inside : m.0 < c.loop-column.column = omega (arith, m.1, inv.end) in
-    subst (λ (u : Turn). slice_index c.loop-column.distances (entry_after alt.goal c.args.entry u) < 21) same (inv.extended m.0 inside)

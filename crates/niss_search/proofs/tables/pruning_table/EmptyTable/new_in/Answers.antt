@@ -1,11 +1,5 @@
-use Rattle.std.proofs.Common.{arith}
-use Rattle.niss_search.proofs.EntryLemmas.{count_for-some}
 use Rattle.niss_search.proofs.FillLemmas.{filled-start}
 use Rattle.niss_search.proofs.tables.pruning_table.EmptyTable.new_in.Goals as goal
-
-pub index_mut-requires : goal.index_mut-requires
-index_mut-requires g c =
-    omega (arith, count_for-some (g.M.GoalMoves.alternative c.args.moves).goal, c.entries.ensures, c.in-Ok.ensures.len)
 
 pub invariant_of-result : goal.invariant_of-result
 invariant_of-result g c =
