@@ -1,15 +1,15 @@
 -- What is answered of a part of an input is a beginning of what is answered of the whole.
-use Rattle.std.proofs.Common.{◌≡◌, ℕ, zero, suc, ◌≤◌, Bool, true, false, if◌then◌else◌, Option, Some, None, Result, Ok, Err, List, [], ◌∷◌, ◌++◌, take, length, length-append, refl, sym, ap, ◌∙◌, append_assoc, append-nil, arith}
+use Rattle.std.proofs.Common.{◌≡◌, ℕ, zero, suc, ◌≤◌, Bool, true, false, Option, Some, None, Ok, Err, List, [], ◌∷◌, ◌++◌, take, length, length-append, refl, sym, ap, ◌∙◌, append_assoc, append-nil, arith}
 use Rattle.std.specs.Prelude.{nat_lt, flat_map}
 use Rattle.std.proofs.lemmas.List.{take_all, take-append-le}
 use Rattle.std.proofs.lemmas.Grind.{flat_map-append, common_steps}
 use Rattle.niss_shell.specs.Lines.{ended_lines, last_part, written_text, answered_lines, first_fault, text_of}
-use Rattle.niss_shell.specs.Words.{most_bytes, Request, OnLines, ListSteps, DrawScrambles}
-use Rattle.niss_shell.specs.Output.{Answer, More, End, LineAnswers, complete_lines, last_line, line_with_bytes, outcome_of, line_answers, answer_lines, answer_request}
+use Rattle.niss_shell.specs.Words.{most_bytes, OnLines, ListSteps, DrawScrambles}
+use Rattle.niss_shell.specs.Output.{Answer, More, End, LineAnswers, complete_lines, last_line, line_with_bytes, outcome_of, line_answers, answer_lines}
 use Rattle.niss_shell.specs.MoreInput.{Begins, MoreInputKeepsAnswers}
-use Rattle.niss_shell.specs.Names.{UsageFault, LineFault, Stop, Line, InputTooLong}
+use Rattle.niss_shell.specs.Names.{LineFault, InputTooLong}
 use Rattle.niss_shell.proofs.AnswerLemmas.{choose_false, choose_true}
-use Rattle.niss_shell.proofs.LinesLemmas.{ended_lines-append, first_fault-append, first_fault-stays, answered_lines-append, answered_lines-stays}
+use Rattle.niss_shell.proofs.LinesLemmas.{ended_lines-append, first_fault-stays, answered_lines-append, answered_lines-stays}
 
 -- the same is written, and it ends in the same way
 begins_same : (part whole : Answer) → whole.output ≡ part.output → whole.outcome ≡ part.outcome → Begins part whole

@@ -139,6 +139,12 @@ runs_memory_source command [] a h n works asks = record {
 }
 runs_memory_source command (v ∷ ws) a h n works asks = absurd (omega arith)
 
+pub runs_tables : {T : Type 0} (bytes : T → List ℕ) (text : Option T) (command : LineCommand) (ws : List (List ℕ)) (a : SourceState) (h : AnswerState)
+    → IsInput bytes text ws → has_fault h.target ≡ false → has_step command ≡ true
+    → RunsUnflushed (Ok (OnLines command ws)) (Err OutOfMemory) a a h h
+runs_tables bytes None command ws a h none works asks = runs_memory_source command ws a h none works asks
+runs_tables bytes (Some text) command ws a h (some, whole, fits) works asks = runs_memory command ws a h some works fits
+
 -- other requests
 
 pub runs_usage : {asked : Result Request UsageFault} {fault : UsageFault} (a : SourceState) (h : AnswerState)

@@ -1,5 +1,5 @@
 -- What holds of an input that goes on, proved as the contract of a function.
-use Rattle.std.specs.Prelude.{◌≡◌, ℕ, Result, Ok, Err, List, ◌++◌}
+use Rattle.std.specs.Prelude.{◌≡◌, ℕ, Result, Err, List, ◌++◌}
 use Rattle.niss_shell.specs.Words.{Request}
 use Rattle.niss_shell.specs.Output.{Answer, More, End, answer_request}
 use Rattle.niss_shell.specs.Names.{UsageFault, Stop}

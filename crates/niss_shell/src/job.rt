@@ -1,17 +1,16 @@
 //! A command on lines with all that its run takes memory for, taken before the first byte is read or written.
-ghost use Rattle.std.specs.Prelude.{◌≡◌, ◌<◌, ◌≤◌, ◌++◌, true, false, Ok, List, [], ℕ, map, flat_map, string_bytes, length};
+ghost use Rattle.std.specs.Prelude.{◌≡◌, ◌<◌, ◌≤◌, ◌++◌, false, Ok, List, [], ℕ, map, flat_map, string_bytes, length};
 ghost use Rattle.std.specs.Prelude.{OnOk, OnErr, IfOk, IfErr, IfSome, MatchOption};
-ghost use Rattle.niss_shell.specs.Words.{most_bytes, joined, spaced_word, has_step, reads_source, OnLines};
+ghost use Rattle.niss_shell.specs.Words.{most_bytes, joined, spaced_word, reads_source, OnLines};
 ghost use Rattle.niss_shell.specs.Engine.{MayBegin, RunsUnflushed, EndsAtOnce, output_state};
 ghost use Rattle.niss_shell.specs.Job.{IsInput, command_of};
 
-use crate::command::{LineCommand, LineRequest, Rewriting};
+use crate::command::{LineCommand, LineRequest, Query, Rewriting};
 use crate::device::{Source, Target};
 use crate::lines::{Lines, MOST_BYTES};
 use crate::output::Output;
 use crate::search::Search;
 use crate::stop::Stop;
-use niss_cube::OutOfMemory;
 use niss_search::{Meter, Tables};
 use std::alloc::{AllocError, Allocator};
 
@@ -22,10 +21,9 @@ pub enum Work<A: Allocator> {
     Search(Search<A>),
 }
 
-/// The work of a run, and the words that are the input, joined; nothing where the input comes from the source.
+/// The words that are the input, joined; nothing where the input comes from the source.
 #[derive(Drop)]
-pub struct Job<A: Allocator> {
-    work: Work<A>,
+struct Input<A: Allocator> {
     text: Option<Vec<u8, A>>,
 }
 
@@ -79,59 +77,28 @@ fn joined_words<A: Allocator, B: Allocator>(
     Ok(text)
 }
 
-impl<A: Allocator> Work<A> {
-    /// The work of a command. Memory is taken for the tables of a step alone.
-    fn new(alloc: A, command: LineCommand) -> Result<Work<A>, OutOfMemory>
-    where
-        A: Copy,
-        ensures work { IfOk result (λ work. command_of work ≡ command) }
-        ensures asks { OnErr result (has_step command ≡ true) }
-    {
-        match command {
-            LineCommand::Rewrite(rewriting) => Ok(Work::Rewrite(rewriting)),
-            LineCommand::Search(query) => {
-                // what fills the tables is no look at a line
-                let tables = Tables::build_in(alloc, query.step, &mut Meter::new())?;
-                Ok(Work::Search(Search { query, tables }))
-            }
-        }
-    }
-}
-
-impl<A: Allocator> Job<A> {
-    /// Takes all memory of a run: that of joined words, and then that of tables. It is handed the allocator alone of all
-    /// that a run does, and takes nothing for a command without a step that reads the source.
-    pub fn new<B: Allocator>(
-        alloc: A,
-        command: LineCommand,
-        words: &[String<B>],
-    ) -> Result<Job<A>, Stop>
-    where
-        A: Copy,
-        ensures work { IfOk result (λ job. command_of job.work ≡ command) }
+impl<A: Allocator> Input<A> {
+    /// Takes the memory of joined words, and none where the source is read.
+    fn new<B: Allocator>(alloc: A, words: &[String<B>]) -> Result<Input<A>, Stop>
         ensures input { IfOk result
-            (λ job. IsInput (λ text. text.items) job.text (map string_bytes words.now)) }
-        ensures refused { IfErr result
-            (λ stop. EndsAtOnce (Ok (OnLines command (map string_bytes words.now))) stop) }
+            (λ input. IsInput (λ text. text.items) input.text (map string_bytes words.now)) }
+        ensures refused { IfErr result (λ stop. (command : LineCommand) →
+            EndsAtOnce (Ok (OnLines command (map string_bytes words.now))) stop) }
     {
         if words.is_empty() {
-            let work = Work::new(alloc, command)?;
-            return Ok(Job { work, text: None });
+            return Ok(Input { text: None });
         }
         let Some(length) = joined_length(words) else {
             return Err(Stop::InputTooLong);
         };
         let text = joined_words(alloc, words, length)?;
-        let work = Work::new(alloc, command)?;
-        Ok(Job {
-            work,
-            text: Some(text),
-        })
+        Ok(Input { text: Some(text) })
     }
 
     /// Answers the lines of the words, or of the source where there are none.
-    pub fn answer<R: Source, W: Target>(
+    fn answer<R: Source, W: Target>(
         &self,
+        work: &Work<A>,
         source: &mut R,
         output: &mut Output<W>,
         looks: &mut Meter,
@@ -140,23 +107,72 @@ impl<A: Allocator> Job<A> {
         requires fits { IfSome self.now.text (λ text. length text.items ≤ most_bytes) }
         ensures same_target { output.new.target.ghost_name ≡ output.old.target.ghost_name }
         ensures runs { (words : List (List ℕ)) → IsInput (λ text. text.items) self.now.text words →
-            RunsUnflushed (Ok (OnLines (command_of self.now.work) words)) result
+            RunsUnflushed (Ok (OnLines (command_of work.now) words)) result
             (R.state source.old) (R.state source.new)
             (output_state W.state output.old looks.old) (output_state W.state output.new looks.new) }
         ensures empty { output.new.pending.items ≡ [] }
         ensures unread { IfSome self.now.text (λ text. R.state source.new ≡ R.state source.old) }
     {
-        let mut lines = Lines::new(&self.work, looks);
+        let mut lines = Lines::new(work, looks);
         match &self.text {
             None => lines.read(source, output),
             Some(text) => lines.take_text(text.as_slice(), output),
         }
     }
+
+    /// Answers them by a rewriting. Nothing of this work is moved: with its room for tables it is large.
+    fn rewrite<R: Source, W: Target>(
+        &self,
+        rewriting: Rewriting,
+        source: &mut R,
+        output: &mut Output<W>,
+        looks: &mut Meter,
+    ) -> Result<(), Stop>
+        requires begins { MayBegin (R.state source.old) (output_state W.state output.old looks.old) }
+        requires fits { IfSome self.now.text (λ text. length text.items ≤ most_bytes) }
+        ensures same_target { output.new.target.ghost_name ≡ output.old.target.ghost_name }
+        ensures runs { (words : List (List ℕ)) → IsInput (λ text. text.items) self.now.text words →
+            RunsUnflushed (Ok (OnLines (LineCommand.Rewrite rewriting) words)) result
+            (R.state source.old) (R.state source.new)
+            (output_state W.state output.old looks.old) (output_state W.state output.new looks.new) }
+        ensures empty { output.new.pending.items ≡ [] }
+        ensures unread { IfSome self.now.text (λ text. R.state source.new ≡ R.state source.old) }
+    {
+        self.answer(&Work::Rewrite(rewriting), source, output, looks)
+    }
+
+    /// Answers them by a search, whose tables take memory before the first byte is read or written.
+    fn search<R: Source, W: Target>(
+        &self,
+        alloc: A,
+        query: Query,
+        source: &mut R,
+        output: &mut Output<W>,
+        looks: &mut Meter,
+    ) -> Result<(), Stop>
+    where
+        A: Copy,
+        requires begins { MayBegin (R.state source.old) (output_state W.state output.old looks.old) }
+        requires fits { IfSome self.now.text (λ text. length text.items ≤ most_bytes) }
+        ensures same_target { output.new.target.ghost_name ≡ output.old.target.ghost_name }
+        ensures runs { (words : List (List ℕ)) → IsInput (λ text. text.items) self.now.text words →
+            RunsUnflushed (Ok (OnLines (LineCommand.Search query) words)) result
+            (R.state source.old) (R.state source.new)
+            (output_state W.state output.old looks.old) (output_state W.state output.new looks.new) }
+        ensures empty { output.new.pending.items ≡ [] }
+        ensures unread { IfSome self.now.text (λ text. R.state source.new ≡ R.state source.old) }
+    {
+        // what fills the tables is no look at a line
+        let tables = Tables::build_in(alloc, query.step, &mut Meter::new())?;
+        let work = Work::Search(Search { query, tables });
+        self.answer(&work, source, output, looks)
+    }
 }
 
-/// Does a command on the lines of the words, or of the source where there are none.
+/// Does a command on the lines of the words, or of the source where there are none. Memory is taken for joined words, and
+/// then for tables, before the first byte is read or written.
 ///
-/// It is a function of its own so that the job's drop, which is long, is proved apart from `answer_command`.
+/// It is a function of its own so that the input's drop, which is long, is proved apart from `answer_command`.
 pub fn answer_lines<A: Allocator + Copy, B: Allocator, R: Source, W: Target>(
     alloc: A,
     request: LineRequest<'_, B>,
@@ -175,5 +191,10 @@ pub fn answer_lines<A: Allocator + Copy, B: Allocator, R: Source, W: Target>(
         (Ok (OnLines request.entry.command (map string_bytes request.entry.words.now))) ≡ false →
         R.state source.new ≡ R.state source.old }
 {
-    Job::new(alloc, request.command, request.words)?.answer(source, output, looks)
+    let LineRequest { command, words } = request;
+    let input = Input::new(alloc, words)?;
+    match command {
+        LineCommand::Rewrite(rewriting) => input.rewrite(rewriting, source, output, looks),
+        LineCommand::Search(query) => input.search(alloc, query, source, output, looks),
+    }
 }

@@ -2,7 +2,7 @@ use Rattle.std.proofs.Common.{◌≡◌, refl, sym, ap, ◌∙◌, subst}
 use Rattle.niss_shell.specs.Job.{IsInput, command_of}
 use Rattle.niss_shell.specs.Engine.{output_state}
 use Rattle.niss_shell.proofs.RunLemmas.{runs_source, runs_text}
-use Rattle.niss_shell.proofs.job.Job.answer.Goals as goal
+use Rattle.niss_shell.proofs.job.Input.answer.Goals as goal
 
 pub returns-in-None-clause-runs : goal.returns-in-None-clause-runs
 returns-in-None-clause-runs g c = λ words input.
