@@ -34,6 +34,7 @@ pub mod StepTurns
 pub mod Sums
 pub mod TableSteps
 pub mod Words
+pub mod WorkedTurns
 pub mod WorkedValues
 pub mod WrittenLists
 pub mod WrittenOrientations
