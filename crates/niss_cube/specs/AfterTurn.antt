@@ -1,5 +1,6 @@
 -- A coordinate, and how its number follows the turns.
-use Rattle.niss_cube.specs.Names.{◌≡◌, ℕ, ◌<◌, ◌↔◌, Place, SameMap, turned, inverse_turn, Axis, Turn, Cube, Coordinate}
+use Rattle.std.specs.Prelude.{◌≡◌, ℕ, ◌<◌, ◌↔◌}
+use Rattle.niss_cube.specs.Names.{Place, SameMap, turned, inverse_turn, Axis, Turn, Cube, Coordinate}
 use Rattle.niss_cube.specs.Map.{map_of}
 use Rattle.niss_cube.specs.Sets.{Kept, set_of}
 use Rattle.niss_cube.specs.Coordinates.{count_of, number_of}

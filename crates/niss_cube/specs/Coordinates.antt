@@ -1,9 +1,10 @@
 -- The coordinates of a map of the sticker places, in the order of the cubies.
-use Rattle.niss_cube.specs.Names.{ℕ, zero, suc, ◌+◌, Option, None, Some, Bool, true, false, List, [], ◌∷◌, map, reverse, length, list_any}
+use Rattle.std.specs.Prelude.{ℕ, zero, suc, ◌+◌, Option, None, Some, Bool, true, false, List, [], ◌∷◌, map, reverse, length, ◌*◌, take}
+use Rattle.std.specs.Prelude.{drop, fold}
+use Rattle.std.specs.List.{list_any}
+use Rattle.niss_moves.specs.Rotations.{renamed_turn}
 use Rattle.niss_cube.specs.Names.{Place, same_place, Axis, Ud, Rl, Fb, Face, Turn, Coordinate, Flip, Twist, Slice, Renaming, XCounter}
 use Rattle.niss_cube.specs.Names.{XQuarter, YQuarter, ZCounter}
-use Rattle.std.specs.Prelude.{◌*◌, take, drop, fold}
-use Rattle.niss_moves.specs.Rotations.{renamed_turn}
 use Rattle.niss_cube.specs.CubieFacelets.{index_in, corner_facelets, edge_facelets}
 use Rattle.niss_cube.specs.Renamings.{renamed_if, face_if}
 

@@ -1,5 +1,6 @@
 -- The facelets of the corner and the edge places, in the order of the cubies (the cubie level of Kociemba's solver).
-use Rattle.niss_cube.specs.Names.{ℕ, suc, Bool, if◌then◌else◌, List, [], ◌∷◌, get_or, Place, facelet, U, D, R, L, F, B}
+use Rattle.std.specs.Prelude.{ℕ, suc, Bool, if◌then◌else◌, List, [], ◌∷◌, get_or}
+use Rattle.niss_cube.specs.Names.{Place, facelet, U, D, R, L, F, B}
 
 -- URF, UFL, ULB, UBR, DFR, DLF, DBL, DRB
 abbrev pub corner_facelets : List (List Place)

@@ -1,6 +1,7 @@
 -- A cube as a map of the sticker places.
-use Rattle.niss_cube.specs.Names.{ℕ, ◌+◌, ◌%◌, if◌then◌else◌, List, slice_index, list_any, Place, same_place, is_corner, is_edge, Cube}
-use Rattle.std.specs.Prelude.{◌==◌}
+use Rattle.std.specs.Prelude.{ℕ, ◌+◌, ◌%◌, if◌then◌else◌, List, slice_index, ◌==◌}
+use Rattle.std.specs.List.{list_any}
+use Rattle.niss_cube.specs.Names.{Place, same_place, is_corner, is_edge, Cube}
 use Rattle.niss_cube.specs.CubieFacelets.{index_in, row_at, facelet_at, corner_facelets, edge_facelets}
 
 -- Where the sticker that began at p stands: p is facelet k of the home of cubie h, which stands at place n.

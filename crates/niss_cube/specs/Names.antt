@@ -1,8 +1,4 @@
--- Words of std and of the places, turns, axes and the types of the crate with their values, so that other files take them by one line.
-pub use Rattle.std.specs.List.{list_any}
-pub use Rattle.std.specs.Option.{option_map_or}
-pub use Rattle.std.specs.Prelude.{◌≡◌, ℕ, ◌<◌, ◌↔◌, zero, suc, ◌+◌, Option, None, Some, Bool, true, false, List, [], ◌∷◌, map, reverse}
-pub use Rattle.std.specs.Prelude.{length, if◌then◌else◌, get_or, ◌%◌, slice_index, ◌-◌, IsTrue, ◌&&◌, ◌||◌}
+-- Words of the places, turns, axes and the types of the crate with their values, so that other files take them by one line.
 pub use Rattle.niss_moves.specs.Effects.{turned}
 pub use Rattle.niss_moves.specs.Facelets.{facelet, places}
 pub use Rattle.niss_moves.specs.Places.{Place, SameMap, same_place, is_corner, is_edge, IsPlace}

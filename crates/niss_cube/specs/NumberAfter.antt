@@ -1,5 +1,6 @@
 -- The number of a coordinate after a turn: a cube with the number is turned, and its number read again.
-use Rattle.niss_cube.specs.Names.{ℕ, turned, Axis, Turn, Coordinate}
+use Rattle.std.specs.Prelude.{ℕ}
+use Rattle.niss_cube.specs.Names.{turned, Axis, Turn, Coordinate}
 use Rattle.niss_cube.specs.NumberedCubies.{numbered}
 use Rattle.niss_cube.specs.Coordinates.{number_of, standard_axis, turn_for}
 

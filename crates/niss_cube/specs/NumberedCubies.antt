@@ -1,7 +1,6 @@
 -- The cubies that have a number on the standard axis of a coordinate.
-use Rattle.niss_cube.specs.Names.{ℕ, zero, suc, ◌-◌, ◌%◌, Bool, true, false, List, [], ◌∷◌, reverse, if◌then◌else◌, Place, Coordinate, Flip}
-use Rattle.niss_cube.specs.Names.{Twist, Slice}
-use Rattle.std.specs.Prelude.{◌/◌, ◌++◌, sum, nat_lt}
+use Rattle.std.specs.Prelude.{ℕ, zero, suc, ◌-◌, ◌%◌, Bool, true, false, List, [], ◌∷◌, reverse, if◌then◌else◌, ◌/◌, ◌++◌, sum, nat_lt}
+use Rattle.niss_cube.specs.Names.{Place, Coordinate, Flip, Twist, Slice}
 use Rattle.niss_cube.specs.Coordinates.{choose}
 use Rattle.niss_cube.specs.Cubies.{corners_home, twists_home, edges_home, flips_home}
 use Rattle.niss_cube.specs.Map.{sticker_map}

@@ -1,5 +1,6 @@
 -- The map of a cube permutes the 54 sticker places, so the sets of places that it keeps are kept both ways.
-use Rattle.niss_cube.specs.Names.{◌≡◌, Bool, IsTrue, Place, IsPlace, Cube}
+use Rattle.std.specs.Prelude.{◌≡◌, Bool, IsTrue}
+use Rattle.niss_cube.specs.Names.{Place, IsPlace, Cube}
 use Rattle.niss_cube.specs.Map.{map_of}
 use Rattle.niss_cube.specs.Sets.{Kept}
 

@@ -1,6 +1,7 @@
 -- The 54 places by their positions in the facelet text, and how moves bring them to others.
-use Rattle.niss_cube.specs.Names.{◌≡◌, ℕ, ◌<◌, List, slice_index, get_or, Place, places, facelet, U, Token}
+use Rattle.std.specs.Prelude.{◌≡◌, ℕ, ◌<◌, List, slice_index, get_or}
 use Rattle.niss_moves.specs.Effects.{effect}
+use Rattle.niss_cube.specs.Names.{Place, places, facelet, U, Token}
 
 unfoldable pub place_at : ℕ → Place
 place_at n = get_or places n (facelet U 5)

@@ -1,8 +1,8 @@
 -- The rotations of the whole cube by which a cube is renamed before a coordinate is read.
-use Rattle.niss_cube.specs.Names.{ℕ, ◌+◌, ◌-◌, ◌%◌, List, Option, None, Some, slice_index, Place, Axis, Rl, Ud, Fb, Face, Quarter, Counter}
-use Rattle.niss_cube.specs.Names.{Renaming, XCounter, XQuarter, YQuarter, ZCounter}
+use Rattle.std.specs.Prelude.{ℕ, ◌+◌, ◌-◌, ◌%◌, List, Option, None, Some, slice_index}
 use Rattle.niss_moves.specs.Effects.{quarters}
 use Rattle.niss_moves.specs.Rotations.{face_before_power}
+use Rattle.niss_cube.specs.Names.{Place, Axis, Rl, Ud, Fb, Face, Quarter, Counter, Renaming, XCounter, XQuarter, YQuarter, ZCounter}
 use Rattle.niss_cube.specs.declared.renaming.RenamingTable.{RenamingTable}
 use Rattle.niss_cube.specs.declared.renaming.TheConstants.{X_COUNTER, X_QUARTER, Y_QUARTER, Z_COUNTER}
 

@@ -1,9 +1,8 @@
 -- The sets of sticker places that the coordinates depend on.
-use Rattle.niss_cube.specs.Names.{Bool, ◌&&◌, ◌||◌, IsTrue, ◌↔◌, Place, is_corner, is_edge, IsPlace, places, Axis, Ud, Rl, Coordinate}
-use Rattle.niss_cube.specs.Names.{Flip, Twist, Slice}
-use Rattle.std.specs.Prelude.{not}
+use Rattle.std.specs.Prelude.{Bool, ◌&&◌, ◌||◌, IsTrue, ◌↔◌, not}
 use Rattle.std.specs.List.{list_all}
 use Rattle.niss_moves.specs.Places.{along, looks_along, is_zero}
+use Rattle.niss_cube.specs.Names.{Place, is_corner, is_edge, IsPlace, places, Axis, Ud, Rl, Coordinate, Flip, Twist, Slice}
 
 -- the helper axis of the flips on an axis
 abbrev pub helper_of : Axis → Axis

@@ -1,8 +1,8 @@
 -- What follows from the definitions of the steps alone.
-use Rattle.niss_cube.specs.Names.{◌≡◌, Bool, Some, length, IsTrue, option_map_or, Place, SameMap, turned, inverse_turn, Turn, Axis, Domino}
-use Rattle.niss_cube.specs.Names.{Cube, Step}
-use Rattle.std.specs.Prelude.{filter, Contains}
+use Rattle.std.specs.Prelude.{◌≡◌, Bool, Some, length, IsTrue, filter, Contains}
+use Rattle.std.specs.Option.{option_map_or}
 use Rattle.niss_moves.specs.Canonical.{turn_order}
+use Rattle.niss_cube.specs.Names.{Place, SameMap, turned, inverse_turn, Turn, Axis, Domino, Cube, Step}
 use Rattle.niss_cube.specs.Map.{map_of}
 use Rattle.niss_cube.specs.Steps.{start_of, goals_of, turns_of, may_start, reached}
 

@@ -1,6 +1,7 @@
 -- Tables of the number of a coordinate after each turn.
-use Rattle.niss_cube.specs.Names.{◌≡◌, ℕ, ◌<◌, List, [], length, slice_index, get_or, Quarter, Turn, Coordinate}
+use Rattle.std.specs.Prelude.{◌≡◌, ℕ, ◌<◌, List, [], length, slice_index, get_or}
 use Rattle.niss_moves.specs.Indices.{face_index, power_index}
+use Rattle.niss_cube.specs.Names.{Quarter, Turn, Coordinate}
 use Rattle.niss_cube.specs.Coordinates.{count_of, standard_axis}
 use Rattle.niss_cube.specs.NumberAfter.{number_after}
 
