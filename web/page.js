@@ -4,8 +4,9 @@ import { EngineFault, solutionsOf } from "./answers.js";
 import { BestContinuations } from "./best.js";
 import { EngineMissing, Stopped } from "./calls.js";
 import { announce, counted, part, setBusy, tell } from "./element.js";
+import { MOST_MOVES, readScramble, readSteps } from "./lines.js";
 import { emptyNet, showCube } from "./net.js";
-import { bracketed, examine, offersAfter, readLine } from "./position.js";
+import { bracketed, examine, offersAfter } from "./position.js";
 import { ScrambleField } from "./scramble.js";
 import { Skeleton } from "./skeleton.js";
 import { SolutionList } from "./solutions.js";
@@ -14,6 +15,15 @@ import { StepTable } from "./table.js";
 
 /** @typedef {import("./address.js").State} State */
 /** @typedef {import("./steps.js").Side} Side */
+
+const TOO_MANY = `more than ${MOST_MOVES} moves`;
+
+/** Why there is no answer. @param {Error & {words?: string}} fault */
+function unanswered(fault) {
+    const words = fault.words ?? fault.message;
+    if (words !== TOO_MANY) return `There is no answer: ${words}.`;
+    return `The scramble and the moves after it can't be read together: they have ${TOO_MANY}.`;
+}
 
 export class Page {
     /** @type {State} */
@@ -54,10 +64,10 @@ export class Page {
         setBusy("results", true);
         tell(part("alert"), fault);
         try {
-            await readLine(this.#calls, bracketed(state.parts));
+            state.parts = await readSteps(this.#calls, state.parts);
         } catch (stop) {
             if (!(stop instanceof EngineFault)) return this.#refuse(stop);
-            tell(part("alert"), `The steps of this address can't be read: ${stop.message}`);
+            tell(part("alert"), `The steps of this address can't be read: ${stop.words}.`);
             Object.assign(state, { parts: [], list: null });
         }
         if (turn !== this.#turn) return;
@@ -112,20 +122,20 @@ export class Page {
         if (turn === this.#turn) this.#showOffers(offers);
     }
 
-    /** The scramble as the engine reads it, or null where it is at fault or overtaken. @param {number} turn */
+    /** The scramble by its face turns, or null where it is at fault or overtaken. @param {number} turn */
     async #readScramble(turn) {
         let read = null;
         let fault = null;
         try {
-            read = await readLine(this.#calls, this.#state.scramble);
+            read = await readScramble(this.#calls, this.#state.scramble);
         } catch (stop) {
             if (!(stop instanceof EngineFault)) throw stop;
             fault = stop;
         }
         if (turn !== this.#turn) return null;
-        this.#scramble.judge(fault);
+        this.#scramble.judge(fault, read);
         if (fault) this.#setUsable(false);
-        return read;
+        return read && read.line;
     }
 
     #showPosition({ now, facelets, skeleton }) {
@@ -205,6 +215,6 @@ export class Page {
         setBusy("results", false);
         part("results").inert = true;
         if (fault instanceof EngineMissing) tell(part("alert"), `The engine can't start here. ${fault.message}`);
-        else tell(part("alert"), `The scramble and the moves after it can't be read together: ${fault.message}`);
+        else tell(part("alert"), unanswered(fault));
     }
 }

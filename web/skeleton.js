@@ -1,23 +1,12 @@
 // The skeleton: the steps that were taken, with undo, moves by hand, the switch of sides, and the whole to copy.
-import { answersOf } from "./answers.js";
 import { announce, counted, element, part, tell } from "./element.js";
 import { showFault } from "./fault.js";
+import { readByHand } from "./lines.js";
 import { bracketed } from "./position.js";
 import { otherSide, stateOf, stepNamed } from "./steps.js";
 
 /** @typedef {import("./position.js").Part} Part */
 /** @typedef {import("./steps.js").Side} Side */
-
-/**
- * Cuts a line that was read into runs: what is in brackets goes on the inverse side.
- * @param {string} text @param {Side} side where moves without brackets go in a line that has none @returns {Part[]}
- */
-export function runsOf(text, side) {
-    if (!text.includes("(")) return [{ side, moves: text }];
-    return [...text.matchAll(/\(([^()]*)\)|[^()]+/g)].map(([whole, inside]) =>
-        inside === undefined ? { side: "normal", moves: whole } : { side: "inverse", moves: inside },
-    );
-}
 
 /** The parts without their last move. @param {Part[]} parts @returns {Part[]} */
 export function withoutLastMove(parts) {
@@ -124,10 +113,7 @@ export class Skeleton {
     async #add(text) {
         const [where, field] = [part("own-fault"), part("own")];
         try {
-            await answersOf(this.#calls, ["unniss"], [text]);
-            const runs = runsOf(text, this.#side);
-            const read = await answersOf(this.#calls, ["unniss"], runs.map(({ moves }) => moves));
-            const added = runs.map(({ side }, index) => ({ side, moves: read[index] })).filter(({ moves }) => moves !== "");
+            const added = await readByHand(this.#calls, text, this.#side);
             showFault(where, field, text, null);
             field.value = "";
             if (added.length > 0) this.#change({ parts: [...this.#parts, ...added] });

@@ -55,9 +55,9 @@ def by_hand(tally: Tally, browser: Browser) -> None:
         browser.submit("own", text)
         shows_fault(tally, browser, "own", text, sign)
     browser.submit("own", "r (U F2\u2019) x")
-    tally.holds("brackets name the sides", browser.until("return document.querySelectorAll('#skeleton-list li').length === 3"))
+    tally.holds("brackets name the sides", browser.until("return document.querySelectorAll('#skeleton-list li').length === 2"))
     browser.wait()
-    tally.equal("as the engine writes them", browser.text("bracketed"), "Rw (U F2) x")
+    tally.equal("as face turns", browser.text("bracketed"), "L (U F2)")
     browser.act("#clear")
 
 
@@ -66,7 +66,8 @@ def together(tally: Tally, browser: Browser) -> None:
     browser.fill("scramble", LONG)
     browser.submit("own", "R U F D L")
     tally.holds("too many moves are refused", browser.until("return !document.getElementById('alert').hidden"))
-    tally.holds("in the engine's words", "more than 256 moves" in browser.text("alert"))
+    wanted = "The scramble and the moves after it can't be read together: they have more than 256 moves."
+    tally.equal("in words without a place", browser.text("alert"), wanted)
     browser.act("#undo-step")
     tally.equal("and can be undone", browser.text("alert"), "")
 
