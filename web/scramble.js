@@ -1,5 +1,6 @@
 // The field of the scramble, with examples and random scrambles from a seed.
-import { answersOf } from "./answers.js";
+import { EngineFault, answersOf } from "./answers.js";
+import { Stopped } from "./calls.js";
 import { LONGEST_SCRAMBLE } from "./address.js";
 import { announce, part, tell } from "./element.js";
 import { showFault } from "./fault.js";
@@ -38,7 +39,7 @@ export class ScrambleField {
         part("random").addEventListener("click", () => this.#draw(freshSeed()));
         part("seed-form").addEventListener("submit", (event) => {
             event.preventDefault();
-            this.#draw(this.#seed.value.trim());
+            this.#draw(this.#seed.value.trim() || freshSeed());
         });
         for (const example of document.querySelectorAll("[data-example]")) {
             example.addEventListener("click", () => this.#put(example.dataset.example));
@@ -78,8 +79,8 @@ export class ScrambleField {
             this.#put(scramble);
             announce(`Scramble from seed ${seed}: ${scramble}`);
         } catch (fault) {
-            fault.message += `. ${SEEDS}`;
-            showFault(part("seed-fault"), this.#seed, seed, fault);
+            if (fault instanceof Stopped) return;
+            showFault(part("seed-fault"), this.#seed, seed, fault instanceof EngineFault ? new Error(SEEDS) : fault);
         }
     }
 }

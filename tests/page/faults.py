@@ -74,11 +74,15 @@ def together(tally: Tally, browser: Browser) -> None:
 
 def seeds(tally: Tally, browser: Browser) -> None:
     """Seeds that are none, and one whose scramble is known."""
-    for seed in ("", "x", "-1", "18446744073709551616", "1 2"):
+    for seed in ("abc", "x", "-1", "18446744073709551616", "1 2"):
         browser.submit("seed", seed)
         tally.holds(f"the seed {seed!r} is refused", browser.until("return !document.getElementById('seed-fault').hidden"))
-        tally.holds("in the engine's words", "usage: nissy COMMAND [ARGUMENTS]" in browser.text("seed-fault"))
+        tally.equal("in one sentence", browser.text("seed-fault"), "A seed is a whole number from 0 to 18,446,744,073,709,551,615.")
         browser.script("document.getElementById('seed-fault').hidden = true")
+    browser.submit("seed", "")
+    tally.holds("no seed takes a fresh one", browser.until("return /^[0-9]+$/.test(document.getElementById('seed').value)"))
+    browser.wait()
+    tally.equal("and nothing is wrong", browser.text("seed-fault"), "")
 
 
 def starts(tally: Tally, browser: Browser) -> None:
