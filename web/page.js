@@ -12,6 +12,7 @@ import { Skeleton } from "./skeleton.js";
 import { SolutionList } from "./solutions.js";
 import { SIDES, stepNamed, titleOf } from "./steps.js";
 import { StepTable } from "./table.js";
+import { keepInView, showStart } from "./view.js";
 
 /** @typedef {import("./address.js").State} State */
 /** @typedef {import("./steps.js").Side} Side */
@@ -50,6 +51,7 @@ export class Page {
         this.#table = new StepTable((step, side) => this.#open(step, side));
         this.#list = new SolutionList((moves) => this.#take(moves), (slack) => this.#loosen(slack));
         this.#best = new BestContinuations(newCalls(), (found, list) => this.#goOn(found, list));
+        keepInView(part("left"));
         part("solutions-stop").addEventListener("click", () => this.#listCalls.stop());
         for (const side of SIDES) {
             this.#nets[side] = emptyNet();
@@ -79,7 +81,10 @@ export class Page {
     /** Takes another state, or parts of it. @param {Partial<State>} change */
     #change(change) {
         this.#state = { ...this.#state, ...change };
-        history.replaceState(null, "", addressOf(this.#state));
+        const address = addressOf(this.#state);
+        // what may be missed later can be had back by the browser
+        if ("parts" in change && address !== (location.hash || "#")) history.pushState(null, "", address);
+        else history.replaceState(null, "", address);
         if ("scramble" in change || "parts" in change) {
             tell(part("alert"), "");
             this.#refresh();
@@ -102,6 +107,7 @@ export class Page {
         this.#skeleton.show(this.#state.parts);
         this.#skeleton.turnTo(this.#state.side);
         this.#best.reset(null);
+        this.#table.hold();
         setBusy("results", true);
         try {
             await this.#answer(turn);
@@ -119,7 +125,7 @@ export class Page {
         if (turn !== this.#turn) return;
         this.#showPosition(position);
         const offers = await offersAfter(this.#calls, position.lines);
-        if (turn === this.#turn) this.#showOffers(offers);
+        if (turn === this.#turn) this.#showOffers(offers, scramble);
     }
 
     /** The scramble by its face turns, or null where it is at fault or overtaken. @param {number} turn */
@@ -146,15 +152,22 @@ export class Page {
         this.#best.reset(now);
     }
 
-    #showOffers({ offers, reached }) {
-        this.#skeleton.name(reached);
+    #showOffers({ offers, reached }, scramble) {
+        const isFinished = this.#skeleton.name(reached, scramble === "");
         const isBare = this.#state.scramble.trim() === "" && this.#state.parts.length === 0;
         part("welcome").hidden = !isBare;
         part("choices").hidden = isBare;
         this.#table.show(offers, this.#state.list);
-        if (this.#focusNext === "table") this.#table.focus();
-        if (this.#focusNext === "table") this.#focusNext = null;
         this.#showList();
+        if (this.#focusNext === "table") this.#showTaken(isFinished);
+    }
+
+    /** After a step the cube and the skeleton come into view, and the focus goes to what comes next. @param {boolean} isFinished */
+    #showTaken(isFinished) {
+        this.#focusNext = null;
+        if (isFinished) part("copy-bracketed").focus({ preventScroll: true });
+        else this.#table.focus();
+        showStart(isFinished);
     }
 
     /** Shows the open list, where it isn't shown yet; where the cube isn't known yet, once it is. */
