@@ -1,5 +1,5 @@
-// How lines are read: as the engine writes them, and by face turns alone where they turn the whole cube. The engine pushes such turns to the
-// end of a line; there they are left out, so that each letter names the same face in all that follows.
+// How lines are read: as the engine writes them, and by face turns alone where they turn the whole cube. The engine pushes such turns to
+// the end of a line; there they are left out, so that each letter names the same face in all that follows.
 import { EngineFault, answersOf } from "./answers.js";
 import { bracketed } from "./position.js";
 
