@@ -10,9 +10,11 @@ export class EngineFault extends Error {
     constructor(text) {
         super(text.trim());
         this.name = "EngineFault";
-        const place = /^nissy: line (\d+)(?:, column (\d+))?: /.exec(text);
-        this.line = place ? Number(place[1]) : null;
+        const place = /^nissy: (?:line (\d+)(?:, column (\d+))?: )?/.exec(text);
+        this.line = place?.[1] ? Number(place[1]) : null;
         this.column = place?.[2] ? Number(place[2]) : null;
+        /** what is wrong, without the place */
+        this.words = this.message.slice(place?.[0].length ?? 0);
     }
 }
 

@@ -7,11 +7,20 @@ import { SIDES, eitherReduction, stepNamed, titleOf } from "./steps.js";
 
 /** @typedef {import("./continuations.js").Continuation} Continuation */
 
+/** Of how many searches what was found is kept. */
+const MOST_KEPT_SEARCHES = 8;
+
+/** What a cube is kept by. @param {import("./position.js").Lines} now */
+const nameOf = ({ normal, inverse }) => `${normal} / ${inverse}`;
+
+const slackNow = () => part("best-slack").value;
+
 export class BestContinuations {
     #calls;
     #taken;
     #now = null;
     #progress = null;
+    #kept = [];
 
     /**
      * @param {import("./calls.js").Calls} calls calls of its own, that can be stopped
@@ -22,9 +31,16 @@ export class BestContinuations {
         this.#taken = taken;
         part("best-find").addEventListener("click", () => this.#find());
         part("best-stop").addEventListener("click", () => this.#calls.stop());
+        part("best-slack").addEventListener("change", () => {
+            const kept = this.#now && this.#keptOf(this.#now).find(({ slack }) => slack === slackNow());
+            if (kept && part("best-stop").hidden) this.#showKept(kept);
+        });
     }
 
-    /** Takes another cube, or none, and forgets what was found for the last one. @param {import("./position.js").Lines | null} now */
+    /**
+     * Takes another cube, or none, and shows what was found for it before, if it is kept.
+     * @param {import("./position.js").Lines | null} now
+     */
     reset(now) {
         this.#calls.stop();
         this.#now = now;
@@ -32,14 +48,37 @@ export class BestContinuations {
         part("best-find").disabled = now === null;
         part("best-table").hidden = true;
         tell(part("best-note"), "");
+        const ofCube = now ? this.#keptOf(now) : [];
+        const kept = ofCube.find(({ slack }) => slack === slackNow()) ?? ofCube.at(-1);
+        if (kept) this.#showKept(kept);
+    }
+
+    /** What is kept for a cube, the last search last. @param {import("./position.js").Lines} now */
+    #keptOf(now) {
+        return this.#kept.filter(({ cube }) => cube === nameOf(now));
+    }
+
+    /** @param {{slack: string, progress: import("./continuations.js").Progress}} kept */
+    #showKept({ slack, progress }) {
+        part("best-slack").value = slack;
+        this.#show(progress);
+    }
+
+    /** Keeps what was found, in place of what was kept longest. @param {import("./position.js").Lines} now @param {string} slack */
+    #keep(now, slack) {
+        const cube = nameOf(now);
+        const others = this.#kept.filter((each) => each.cube !== cube || each.slack !== slack);
+        this.#kept = [...others, { cube, slack, progress: this.#progress }].slice(-MOST_KEPT_SEARCHES);
     }
 
     async #find() {
         const now = this.#now;
+        const slack = slackNow();
         this.#working(true);
         tell(part("best-note"), "Looking for the orientations …");
         try {
-            await findContinuations(this.#calls, now, Number(part("best-slack").value), (progress) => this.#show(progress));
+            await findContinuations(this.#calls, now, Number(slack), (progress) => this.#show(progress));
+            this.#keep(now, slack);
             announce(part("best-note").textContent);
         } catch (fault) {
             if (now === this.#now) this.#brokenOff(fault);
@@ -80,7 +119,7 @@ export class BestContinuations {
         const sum = Number.isFinite(each.sum) ? String(each.sum) : "–";
         const take = element("button", { type: "button", class: "moves", click: () => this.#take(each) }, line);
         const lengths = SIDES.map((side) => {
-            const best = side === each.best;
+            const best = each.lengths[side] !== null && each.lengths[side] === each.lengths[each.best];
             return element("td", best ? { class: "best" } : {}, each.lengths[side] === null ? "–" : String(each.lengths[side]));
         });
         const axis = element("small", {}, titleOf(stepNamed(each.orientation)));

@@ -40,6 +40,11 @@ export function announce(text) {
     part("status").textContent = text;
 }
 
+/** Words in a row: `one`, `one and another`, `one, another and a third`. @param {string[]} words */
+export function listed(words) {
+    return [words.slice(0, -1).join(", "), ...words.slice(-1)].filter((each) => each !== "").join(" and ");
+}
+
 /** A number with its word: `1 move`, `1,200 moves`. @param {number} count @param {string} word */
 export function counted(count, word) {
     return `${count.toLocaleString("en")} ${word}${count === 1 ? "" : "s"}`;

@@ -4,16 +4,27 @@ import { EngineFault, solutionsOf } from "./answers.js";
 import { BestContinuations } from "./best.js";
 import { EngineMissing, Stopped } from "./calls.js";
 import { announce, counted, part, setBusy, tell } from "./element.js";
+import { MOST_MOVES, readScramble, readSteps } from "./lines.js";
 import { emptyNet, showCube } from "./net.js";
-import { bracketed, examine, offersAfter, readLine } from "./position.js";
+import { bracketed, examine, offersAfter } from "./position.js";
 import { ScrambleField } from "./scramble.js";
 import { Skeleton } from "./skeleton.js";
 import { SolutionList } from "./solutions.js";
 import { SIDES, stepNamed, titleOf } from "./steps.js";
 import { StepTable } from "./table.js";
+import { keepInView, showStart } from "./view.js";
 
 /** @typedef {import("./address.js").State} State */
 /** @typedef {import("./steps.js").Side} Side */
+
+const TOO_MANY = `more than ${MOST_MOVES} moves`;
+
+/** Why there is no answer. @param {Error & {words?: string}} fault */
+function unanswered(fault) {
+    const words = fault.words ?? fault.message;
+    if (words !== TOO_MANY) return `There is no answer: ${words}.`;
+    return `The scramble and the moves after it can't be read together: they have ${TOO_MANY}.`;
+}
 
 export class Page {
     /** @type {State} */
@@ -40,6 +51,7 @@ export class Page {
         this.#table = new StepTable((step, side) => this.#open(step, side));
         this.#list = new SolutionList((moves) => this.#take(moves), (slack) => this.#loosen(slack));
         this.#best = new BestContinuations(newCalls(), (found, list) => this.#goOn(found, list));
+        keepInView(part("left"));
         part("solutions-stop").addEventListener("click", () => this.#listCalls.stop());
         for (const side of SIDES) {
             this.#nets[side] = emptyNet();
@@ -54,10 +66,10 @@ export class Page {
         setBusy("results", true);
         tell(part("alert"), fault);
         try {
-            await readLine(this.#calls, bracketed(state.parts));
+            state.parts = await readSteps(this.#calls, state.parts);
         } catch (stop) {
             if (!(stop instanceof EngineFault)) return this.#refuse(stop);
-            tell(part("alert"), `The steps of this address can't be read: ${stop.message}`);
+            tell(part("alert"), `The steps of this address can't be read: ${stop.words}.`);
             Object.assign(state, { parts: [], list: null });
         }
         if (turn !== this.#turn) return;
@@ -69,7 +81,10 @@ export class Page {
     /** Takes another state, or parts of it. @param {Partial<State>} change */
     #change(change) {
         this.#state = { ...this.#state, ...change };
-        history.replaceState(null, "", addressOf(this.#state));
+        const address = addressOf(this.#state);
+        // what may be missed later can be had back by the browser
+        if ("parts" in change && address !== (location.hash || "#")) history.pushState(null, "", address);
+        else history.replaceState(null, "", address);
         if ("scramble" in change || "parts" in change) {
             tell(part("alert"), "");
             this.#refresh();
@@ -92,6 +107,7 @@ export class Page {
         this.#skeleton.show(this.#state.parts);
         this.#skeleton.turnTo(this.#state.side);
         this.#best.reset(null);
+        this.#table.hold();
         setBusy("results", true);
         try {
             await this.#answer(turn);
@@ -109,23 +125,23 @@ export class Page {
         if (turn !== this.#turn) return;
         this.#showPosition(position);
         const offers = await offersAfter(this.#calls, position.lines);
-        if (turn === this.#turn) this.#showOffers(offers);
+        if (turn === this.#turn) this.#showOffers(offers, scramble);
     }
 
-    /** The scramble as the engine reads it, or null where it is at fault or overtaken. @param {number} turn */
+    /** The scramble by its face turns, or null where it is at fault or overtaken. @param {number} turn */
     async #readScramble(turn) {
         let read = null;
         let fault = null;
         try {
-            read = await readLine(this.#calls, this.#state.scramble);
+            read = await readScramble(this.#calls, this.#state.scramble);
         } catch (stop) {
             if (!(stop instanceof EngineFault)) throw stop;
             fault = stop;
         }
         if (turn !== this.#turn) return null;
-        this.#scramble.judge(fault);
+        this.#scramble.judge(fault, read);
         if (fault) this.#setUsable(false);
-        return read;
+        return read && read.line;
     }
 
     #showPosition({ now, facelets, skeleton }) {
@@ -136,15 +152,22 @@ export class Page {
         this.#best.reset(now);
     }
 
-    #showOffers({ offers, reached }) {
-        this.#skeleton.name(reached);
+    #showOffers({ offers, reached }, scramble) {
+        const isFinished = this.#skeleton.name(reached, scramble === "");
         const isBare = this.#state.scramble.trim() === "" && this.#state.parts.length === 0;
         part("welcome").hidden = !isBare;
         part("choices").hidden = isBare;
         this.#table.show(offers, this.#state.list);
-        if (this.#focusNext === "table") this.#table.focus();
-        if (this.#focusNext === "table") this.#focusNext = null;
         this.#showList();
+        if (this.#focusNext === "table") this.#showTaken(isFinished);
+    }
+
+    /** After a step the cube and the skeleton come into view, and the focus goes to what comes next. @param {boolean} isFinished */
+    #showTaken(isFinished) {
+        this.#focusNext = null;
+        if (isFinished) part("copy-bracketed").focus({ preventScroll: true });
+        else this.#table.focus();
+        showStart(isFinished);
     }
 
     /** Shows the open list, where it isn't shown yet; where the cube isn't known yet, once it is. */
@@ -205,6 +228,6 @@ export class Page {
         setBusy("results", false);
         part("results").inert = true;
         if (fault instanceof EngineMissing) tell(part("alert"), `The engine can't start here. ${fault.message}`);
-        else tell(part("alert"), `The scramble and the moves after it can't be read together: ${fault.message}`);
+        else tell(part("alert"), unanswered(fault));
     }
 }

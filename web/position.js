@@ -72,15 +72,9 @@ async function skeletonOf(calls, parts) {
     return { line, joined: joinedLine, turns, turnsOfParts };
 }
 
-/** A line as the engine reads it, without brackets. @param {import("./calls.js").Calls} calls @param {string} line */
-export async function readLine(calls, line) {
-    const [read] = await answersOf(calls, ["unniss"], [line]);
-    return read;
-}
-
 /**
  * The cube on both sides and the skeleton.
- * @param {import("./calls.js").Calls} calls @param {string} scramble as the engine reads it @param {Part[]} parts
+ * @param {import("./calls.js").Calls} calls @param {string} scramble by its face turns @param {Part[]} parts
  */
 export async function examine(calls, scramble, parts) {
     const lines = await linesAfter(calls, scramble, parts);

@@ -1,13 +1,15 @@
 // The field of the scramble, with examples and random scrambles from a seed.
-import { answersOf } from "./answers.js";
+import { EngineFault, answersOf } from "./answers.js";
+import { Stopped } from "./calls.js";
 import { LONGEST_SCRAMBLE } from "./address.js";
-import { announce, part } from "./element.js";
+import { announce, part, tell } from "./element.js";
 import { showFault } from "./fault.js";
 
 const LENGTH = "25";
 const STREAM = "1";
 const PAUSE = 150;
 const SEEDS = "A seed is a whole number from 0 to 18,446,744,073,709,551,615.";
+const LEFT_OUT = "the turns of the whole cube are left out, so U stays the face that was U.";
 
 /** What the engine reads of the field: one line. @param {string} text */
 export const oneLine = (text) => text.replace(/[\r\n]/g, " ");
@@ -37,7 +39,7 @@ export class ScrambleField {
         part("random").addEventListener("click", () => this.#draw(freshSeed()));
         part("seed-form").addEventListener("submit", (event) => {
             event.preventDefault();
-            this.#draw(this.#seed.value.trim());
+            this.#draw(this.#seed.value.trim() || freshSeed());
         });
         for (const example of document.querySelectorAll("[data-example]")) {
             example.addEventListener("click", () => this.#put(example.dataset.example));
@@ -50,9 +52,13 @@ export class ScrambleField {
         if (oneLine(this.#field.value) !== scramble) this.#field.value = scramble;
     }
 
-    /** Shows what is wrong with the scramble, or that nothing is. @param {Error | null} fault */
-    judge(fault) {
+    /**
+     * Shows what is wrong with the scramble, or that nothing is; and how it is read, where turns of the whole cube are left out.
+     * @param {Error | null} fault @param {{line: string, isTurned: boolean} | null} read
+     */
+    judge(fault, read) {
         showFault(part("scramble-fault"), this.#field, oneLine(this.#field.value), fault);
+        tell(part("scramble-read"), read?.isTurned ? `Read as ${read.line || "no moves"}: ${LEFT_OUT}` : "");
     }
 
     #typed() {
@@ -73,8 +79,8 @@ export class ScrambleField {
             this.#put(scramble);
             announce(`Scramble from seed ${seed}: ${scramble}`);
         } catch (fault) {
-            fault.message += `. ${SEEDS}`;
-            showFault(part("seed-fault"), this.#seed, seed, fault);
+            if (fault instanceof Stopped) return;
+            showFault(part("seed-fault"), this.#seed, seed, fault instanceof EngineFault ? new Error(SEEDS) : fault);
         }
     }
 }

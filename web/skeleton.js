@@ -1,23 +1,14 @@
 // The skeleton: the steps that were taken, with undo, moves by hand, the switch of sides, and the whole to copy.
-import { answersOf } from "./answers.js";
-import { announce, counted, element, part, tell } from "./element.js";
+import { announce, counted, element, listed, part, tell } from "./element.js";
 import { showFault } from "./fault.js";
+import { readByHand } from "./lines.js";
 import { bracketed } from "./position.js";
 import { otherSide, stateOf, stepNamed } from "./steps.js";
 
 /** @typedef {import("./position.js").Part} Part */
 /** @typedef {import("./steps.js").Side} Side */
 
-/**
- * Cuts a line that was read into runs: what is in brackets goes on the inverse side.
- * @param {string} text @param {Side} side where moves without brackets go in a line that has none @returns {Part[]}
- */
-export function runsOf(text, side) {
-    if (!text.includes("(")) return [{ side, moves: text }];
-    return [...text.matchAll(/\(([^()]*)\)|[^()]+/g)].map(([whole, inside]) =>
-        inside === undefined ? { side: "normal", moves: whole } : { side: "inverse", moves: inside },
-    );
-}
+const MOMENT = 1500;
 
 /** The parts without their last move. @param {Part[]} parts @returns {Part[]} */
 export function withoutLastMove(parts) {
@@ -32,13 +23,23 @@ function newlyReached(before, after) {
     return [...new Set(fresh)].join(", ");
 }
 
-async function copy(text, shownIn) {
+/** A word on the button that copies, for a moment. @param {HTMLElement} button @param {string} word */
+function sayOn(button, word) {
+    button.textContent = word;
+    setTimeout(() => {
+        button.textContent = "Copy";
+    }, MOMENT);
+}
+
+async function copy(text, shownIn, button) {
     try {
         await navigator.clipboard.writeText(text);
         announce(`Copied: ${text}`);
+        sayOn(button, "Copied");
     } catch {
         getSelection().selectAllChildren(shownIn);
         announce("Selected; copy it with the keys of your system.");
+        sayOn(button, "Selected");
     }
 }
 
@@ -61,7 +62,8 @@ export class Skeleton {
         part("undo-move").addEventListener("click", () => this.#undo(withoutLastMove(this.#parts)));
         part("clear").addEventListener("click", () => this.#undo([]));
         for (const name of ["bracketed", "joined"]) {
-            part(`copy-${name}`).addEventListener("click", () => copy(part(name).textContent, part(name)));
+            const button = part(`copy-${name}`);
+            button.addEventListener("click", () => copy(part(name).textContent, part(name), button));
         }
     }
 
@@ -91,12 +93,19 @@ export class Skeleton {
         });
     }
 
-    /** Shows what each step reaches. @param {string[][]} reached after each beginning */
-    name(reached) {
+    /**
+     * Shows what each step reaches, and answers whether the last one is taken.
+     * @param {string[][]} reached after each beginning @param {boolean} isSolved whether the scramble has no moves
+     */
+    name(reached, isSolved) {
         this.#items().forEach((item, index) => tell(item.querySelector(".reaches"), newlyReached(reached[index], reached[index + 1])));
         const reductions = reached.at(-1).map(stepNamed).filter(({ needs }) => needs !== null);
-        const axes = [...new Set(reductions.map(stateOf))].join(" and ");
-        tell(part("finished"), axes === "" ? "" : `${axes} is reached. nissy goes no further than the domino reduction.`);
+        const states = [...new Set(reductions.map(stateOf))];
+        const are = states.length === 1 ? "is" : "are";
+        const text = `${listed(states)} ${are} reached. nissy goes no further than the domino reduction.`;
+        const isFinished = states.length > 0 && !(isSolved && this.#parts.length === 0);
+        tell(part("finished"), isFinished ? text : "");
+        return isFinished;
     }
 
     #items() {
@@ -116,7 +125,8 @@ export class Skeleton {
     }
 
     #undo(parts) {
-        this.#change({ parts });
+        const isOneLess = parts.length === this.#parts.length - 1;
+        this.#change(isOneLess ? { parts, side: this.#parts.at(-1).side } : { parts });
         announce(parts.length === 0 ? "The skeleton is empty." : `The skeleton is ${bracketed(parts)}.`);
         if (parts.length === 0) part("own").focus();
     }
@@ -124,10 +134,7 @@ export class Skeleton {
     async #add(text) {
         const [where, field] = [part("own-fault"), part("own")];
         try {
-            await answersOf(this.#calls, ["unniss"], [text]);
-            const runs = runsOf(text, this.#side);
-            const read = await answersOf(this.#calls, ["unniss"], runs.map(({ moves }) => moves));
-            const added = runs.map(({ side }, index) => ({ side, moves: read[index] })).filter(({ moves }) => moves !== "");
+            const added = await readByHand(this.#calls, text, this.#side);
             showFault(where, field, text, null);
             field.value = "";
             if (added.length > 0) this.#change({ parts: [...this.#parts, ...added] });

@@ -7,9 +7,17 @@ import { stepNamed, titleOf } from "./steps.js";
 /** @typedef {import("./answers.js").Solution} Solution */
 
 export const MOST_SHOWN = 200;
+const NOT_MOVES = "The text in the filter is not moves: type face turns such as F B'.";
 
-/** @param {string} text */
-const plainMoves = (text) => text.replace(/\u2019/g, "'").toUpperCase().trim().split(/\s+/).join(" ");
+/** The face turns that are typed, or null where the text isn't moves. @param {string} text @returns {string[] | null} */
+function turnsOf(text) {
+    const plain = text.replace(/\u2019/g, "'").toUpperCase();
+    if (!/^\s*(?:[UDRLFB](?:2'?|')?\s*)*$/.test(plain)) return null;
+    return (plain.match(/[UDRLFB][2']*/g) ?? []).map((turn) => turn.replace("2'", "2"));
+}
+
+/** Whether a solution has these turns one after another. @param {Solution} solution @param {string[]} wanted */
+const hasTurns = ({ moves }, wanted) => ` ${moves} `.includes(` ${wanted.join(" ")} `) || wanted.length === 0;
 
 /** @param {Solution[]} solutions @returns {Map<number, Solution[]>} */
 function byLength(solutions) {
@@ -78,14 +86,15 @@ export class SolutionList {
     }
 
     #draw() {
-        const wanted = plainMoves(this.#filter.value);
-        const matching = this.#solutions.filter(({ moves }) => moves.includes(wanted));
+        const wanted = turnsOf(this.#filter.value);
+        this.#filter.setAttribute("aria-invalid", String(wanted === null));
+        const matching = wanted === null ? [] : this.#solutions.filter((solution) => hasTurns(solution, wanted));
         const shown = matching.slice(0, MOST_SHOWN);
         const groups = byLength(matching);
         const parts = [...byLength(shown)].map(([length, solutions]) => this.#group(length, solutions, groups.get(length).length));
         this.#groups.replaceChildren(...parts);
         this.#groups.querySelector("button")?.setAttribute("tabindex", "0");
-        tell(part("solutions-note"), this.#note(matching.length, shown.length, wanted));
+        tell(part("solutions-note"), wanted === null ? NOT_MOVES : this.#note(matching.length, shown.length, wanted.join(" ")));
     }
 
     #note(matching, shown, wanted) {
@@ -99,8 +108,10 @@ export class SolutionList {
 
     #group(length, solutions, all) {
         const items = solutions.map(({ moves }) => element("li", {}, this.#button(moves)));
+        const list = element("ul", { class: "moves" }, ...items);
+        list.style.setProperty("--longest", Math.max(...solutions.map(({ moves }) => moves.length)));
         const head = element("h3", {}, `${counted(length, "move")}: ${counted(all, "solution")}`);
-        return element("div", { class: "group" }, head, element("ul", {}, ...items));
+        return element("div", { class: "group" }, head, list);
     }
 
     #button(moves) {

@@ -26,6 +26,7 @@ function headOf(step) {
 
 export class StepTable {
     #chosen;
+    #focused = null;
     #body = part("steps-body");
 
     /** @param {(step: string, side: Side) => void} chosen */
@@ -33,12 +34,22 @@ export class StepTable {
         this.#chosen = chosen;
     }
 
+    /** Dims the offers of the last cube, with all that rests on them, until those of the next one are there. */
+    hold() {
+        const { activeElement } = document;
+        if (part("choices").contains(activeElement)) this.#focused = activeElement.getAttribute("data-cell");
+        part("choices").inert = true;
+    }
+
     /** Shows the offers. @param {Offer[]} offers @param {import("./address.js").List | null} list the list that is open */
     show(offers, list) {
         const groups = [offers.filter(({ step }) => step.needs === null), offers.filter(({ step }) => step.needs !== null)];
-        const focused = document.activeElement?.getAttribute("data-cell");
         this.#body.replaceChildren(...groups.flatMap((group) => this.#rows(group, list)));
-        this.#body.querySelector(`[data-cell="${focused}"]`)?.focus();
+        part("choices").inert = false;
+        if (this.#focused && document.activeElement === document.body) {
+            this.#body.querySelector(`[data-cell="${this.#focused}"]`)?.focus({ preventScroll: true });
+        }
+        this.#focused = null;
         part("no-reduction").hidden = groups[1].length > 0;
         part("steps-table").hidden = false;
     }
@@ -51,10 +62,9 @@ export class StepTable {
         }
     }
 
-    /** Puts the focus on the shortest step that is left. */
+    /** Puts the focus on the first of the shortest steps that are left. */
     focus() {
-        const cells = this.#body.querySelectorAll(".least");
-        (cells[cells.length - 1] ?? part("steps-heading")).focus();
+        (this.#body.querySelector(".least") ?? part("steps-heading")).focus({ preventScroll: true });
     }
 
     #rows(group, list) {

@@ -70,6 +70,7 @@ def refused(tally: Tally, browser: Browser, elements: int) -> None:
         what = address if len(address) < 60 else f"{address[:30]}.. ({len(address)} signs)"
         browser.open(address)
         tally.holds(f"{what} is refused in words", browser.text("alert").startswith(REFUSALS))
+        tally.holds(f"{what}: no line is named, since none is seen", "nissy: line" not in browser.text("alert"))
         tally.equal(f"{what}: the scramble is empty", browser.script("return document.getElementById('scramble').value"), "")
         tally.equal(f"{what}: no step is taken", browser.texts("#skeleton-list li"), [])
         is_unharmed(tally, browser, what, elements)

@@ -3,7 +3,7 @@
 
     tests/page/drive.py PAGE PROGRAM [PART..]
 
-PAGE is the joined file, PROGRAM the built nissy, and a PART one of keyboard, faults, addresses, searches and looks; all where none is
+PAGE is the joined file, PROGRAM the built nissy, and a PART one of keyboard, faults, addresses, searches, turned, steps and looks; all where none is
 named. The last line is `N passed, M failed`, and the status is 1 where M isn't 0.
 """
 import shutil
@@ -17,11 +17,13 @@ import faults
 import keyboard
 import looks
 import searches
+import steps
+import turned
 from browser import Browser
 from selenium.common.exceptions import WebDriverException
 from tally import Tally
 
-PARTS = (keyboard, faults, addresses, searches, looks)
+PARTS = (keyboard, faults, addresses, searches, turned, steps, looks)
 
 TOP = Path(__file__).resolve().parent.parent.parent
 NO_MEMORIES = "WebAssembly.validate = () => false;\n"

@@ -55,9 +55,9 @@ def by_hand(tally: Tally, browser: Browser) -> None:
         browser.submit("own", text)
         shows_fault(tally, browser, "own", text, sign)
     browser.submit("own", "r (U F2\u2019) x")
-    tally.holds("brackets name the sides", browser.until("return document.querySelectorAll('#skeleton-list li').length === 3"))
+    tally.holds("brackets name the sides", browser.until("return document.querySelectorAll('#skeleton-list li').length === 2"))
     browser.wait()
-    tally.equal("as the engine writes them", browser.text("bracketed"), "Rw (U F2) x")
+    tally.equal("as face turns", browser.text("bracketed"), "L (U F2)")
     browser.act("#clear")
 
 
@@ -66,18 +66,23 @@ def together(tally: Tally, browser: Browser) -> None:
     browser.fill("scramble", LONG)
     browser.submit("own", "R U F D L")
     tally.holds("too many moves are refused", browser.until("return !document.getElementById('alert').hidden"))
-    tally.holds("in the engine's words", "more than 256 moves" in browser.text("alert"))
+    wanted = "The scramble and the moves after it can't be read together: they have more than 256 moves."
+    tally.equal("in words without a place", browser.text("alert"), wanted)
     browser.act("#undo-step")
     tally.equal("and can be undone", browser.text("alert"), "")
 
 
 def seeds(tally: Tally, browser: Browser) -> None:
     """Seeds that are none, and one whose scramble is known."""
-    for seed in ("", "x", "-1", "18446744073709551616", "1 2"):
+    for seed in ("abc", "x", "-1", "18446744073709551616", "1 2"):
         browser.submit("seed", seed)
         tally.holds(f"the seed {seed!r} is refused", browser.until("return !document.getElementById('seed-fault').hidden"))
-        tally.holds("in the engine's words", "usage: nissy COMMAND [ARGUMENTS]" in browser.text("seed-fault"))
+        tally.equal("in one sentence", browser.text("seed-fault"), "A seed is a whole number from 0 to 18,446,744,073,709,551,615.")
         browser.script("document.getElementById('seed-fault').hidden = true")
+    browser.submit("seed", "")
+    tally.holds("no seed takes a fresh one", browser.until("return /^[0-9]+$/.test(document.getElementById('seed').value)"))
+    browser.wait()
+    tally.equal("and nothing is wrong", browser.text("seed-fault"), "")
 
 
 def starts(tally: Tally, browser: Browser) -> None:

@@ -83,7 +83,8 @@ def is_whole(tally: Tally, page: str) -> None:
     script = element(page, 'script type="module"')
     for name in sorted(set(re.findall(r'\bpart\("([^"]+)"\)', script))):
         tally.holds(f"the part {name} is there", name in ids)
-    for name in re.findall(r'<label for="([^"]+)"', page) + re.findall(r'aria-(?:describedby|labelledby)="([^"]+)"', page):
+    named = re.findall(r'<label for="([^"]+)"', page) + re.findall(r'aria-(?:describedby|labelledby)="([^"]+)"', page)
+    for name in " ".join(named).split():
         tally.holds(f"{name}, which a label or a text names, is there", name in ids)
     helps = sorted(re.findall(r'<div popover id="([^"]+)"', page))
     tally.equal("each help has its button", sorted(re.findall(r'popovertarget="([^"]+)"', page)), helps)

@@ -46,8 +46,8 @@ def orient(tally: Tally, browser: Browser) -> None:
     tally.holds("and says so", f"{len(longer)} solutions" in browser.text("solutions-note") and "cut" in browser.text("solutions-note"))
     tally.equal("by length", browser.texts("#solutions-groups h3"), ["5 moves: 16 solutions", f"6 moves: {len(longer) - 16} solutions"])
     tally.holds("the Tab key leads to the filter", browser.tab_to("filter"))
-    browser.press("b d r f2 b d")
-    filtered = [moves for moves in longer if FIRST in moves]
+    browser.press("b d r f2 b")
+    filtered = [moves for moves in longer if " B D R F2 B " in f" {moves} "]
     tally.equal("the filter leaves what has these moves", browser.texts("#solutions-groups button"), filtered)
     tally.holds("the Tab key leads to the list", browser.tab_to(FIRST, 3))
     browser.press(Keys.ARROW_DOWN)

@@ -3,10 +3,8 @@ from browser import Browser
 from selenium.webdriver.common.keys import Keys
 from tally import Tally
 
-ADDRESS = (
-    "#scramble=R-_U-_F_D2_L2_F_R2_U2_R2_B_D2_L_B2_D-_B2_L-_R-_B-_D2_B2_R-_U-_F"
-    "&steps=inverse.B_D_R_F2_B_D~normal.R_B-&side=inverse&list=drfb-eoud.inverse.1"
-)
+SCRAMBLE = "#scramble=R-_U-_F_D2_L2_F_R2_U2_R2_B_D2_L_B2_D-_B2_L-_R-_B-_D2_B2_R-_U-_F"
+ADDRESS = SCRAMBLE + "&steps=inverse.B_D_R_F2_B_D~normal.R_B-&side=inverse&list=drfb-eoud.inverse.1"
 STOPS = ("scramble", "random", "seed", "undo-move", "own", "switch", "copy-joined", "eofb.normal", "slack", "filter", "best-find")
 # the least contrast of all text that is seen, with the text; what can't be used meanwhile doesn't count
 CONTRAST = """
@@ -32,6 +30,12 @@ CONTRAST = """
     return [found.length, ...found.sort((one, other) => one[0] - other[0])[0]]"""
 # the buttons and fields without a name, and how many there are
 NAMELESS = ("button", "textbox", "combobox", "img", "progressbar", "searchbox")
+IN_VIEW = """
+    const { top, bottom, height } = document.getElementById(arguments[0]).getBoundingClientRect();
+    return height > 0 && top >= 0 && bottom <= innerHeight"""
+BROKEN = """
+    return [...document.querySelectorAll("#solutions-groups button")].filter((each) => each.textContent.split(" ").length <= 8
+        && each.clientHeight >= 2 * parseFloat(getComputedStyle(each).lineHeight)).map((each) => each.textContent)"""
 WIDE = """
     const far = [...document.querySelectorAll("body *")].filter((node) => node.checkVisibility() && !node.closest(".unseen, .scrolled, pre")
         && node.getBoundingClientRect().right > document.documentElement.clientWidth + 0.5);
@@ -90,6 +94,24 @@ def helps(tally: Tally, browser: Browser) -> None:
         tally.holds(f"{name} closes", browser.until("return document.querySelector('.popover:popover-open') === null"))
 
 
+def places(tally: Tally, browser: Browser, width: int, height: int) -> None:
+    """After a step the cube and the skeleton are in view; after the last one the skeleton and its line are."""
+    browser.command("Emulation.setDeviceMetricsOverride", width=width, height=height, deviceScaleFactor=1, mobile=False)
+    browser.open(SCRAMBLE + "&list=eoud.inverse.0")
+    browser.script("document.querySelector('#solutions-groups').scrollIntoView()")
+    browser.act("#solutions-groups button")
+    for name in ("skeleton-list", "whole", "net-normal"):
+        tally.holds(f"{width}: after a step {name} is in view", browser.script(IN_VIEW, name))
+    browser.act("#steps-body .least")
+    tally.holds(f"{width}: there are long solutions", any(len(moves.split()) == 8 for moves in browser.texts("#solutions-groups button")))
+    tally.equal(f"{width}: solutions of more than one line", browser.script(BROKEN), [])
+    browser.act("#solutions-groups button")
+    for name in ("skeleton-list", "finished", "bracketed", "joined", "copy-bracketed"):
+        tally.holds(f"{width}: after the last step {name} is in view", browser.script(IN_VIEW, name))
+    inner = "return [...document.querySelectorAll('.column')].filter((each) => getComputedStyle(each).overflowY !== 'visible').length"
+    tally.equal(f"{width}: columns with a scroll area", browser.script(inner), 0)
+
+
 def copies(tally: Tally, browser: Browser) -> None:
     """The lines are copied, and said to be."""
     copied = "return document.getElementById('status').textContent === `Copied: ${arguments[0]}` || String(getSelection()) === arguments[0]"
@@ -98,6 +120,9 @@ def copies(tally: Tally, browser: Browser) -> None:
         browser.click(f"#copy-{name}")
         is_copied = browser.until(copied, line)
         tally.holds(f"{name} is copied: {browser.texts('#status')[0]}", is_copied)
+        words = [browser.text(f"copy-{name}")]
+        tally.holds(f"its button says so: {words}", words[0] in ("Copied", "Selected"))
+        tally.holds("for a moment", browser.until("return document.getElementById(arguments[0]).textContent === 'Copy'", f"copy-{name}"))
 
 
 def try_all(tally: Tally, browser: Browser) -> None:
@@ -113,6 +138,8 @@ def try_all(tally: Tally, browser: Browser) -> None:
     for part in (helps, copies):
         part(tally, browser)
     shows_focus(tally, browser)
+    for width, height in ((1200, 900), (360, 800)):
+        places(tally, browser, width, height)
     browser.fill("scramble", "R U q " + "F" * 300)
     is_legible(tally, browser, "with a fault")
     fits(tally, browser, "with a fault")

@@ -53,6 +53,9 @@ def best(tally: Tally, browser: Browser) -> None:
     tally.equal("they are sorted by their sum", sums, sorted(int(row[0]) for row in wanted)[: len(rows)])
     tally.holds("each of them is right", set(rows) <= wanted)
     tally.equal("as many as fit are shown", len(set(rows)), min(100, len(wanted)))
+    marks = browser.script("return [...document.querySelectorAll('#best-body tr')].map((row) => [...row.querySelectorAll('td.best')].length)")
+    tally.equal("both sides are marked where they are as short", marks, [1 + (row[2] == row[3]) for row in rows])
+    tally.holds("which is seen", {1, 2} <= set(marks))
     line = rows[0][1]
     browser.act("#best-body button")
     browser.until("return document.activeElement.closest('#solutions-groups') !== null")

@@ -35,11 +35,16 @@ def fault(line: str) -> str:
     return run(("unniss",), line)[1].strip()
 
 
+def by_faces(line: str) -> str:
+    """A line by its face turns alone, without the turns of the whole cube at its end."""
+    return " ".join(move for move in answer("cleanup", line).split() if move[0] not in "xyz")
+
+
 class Position:
     """A scramble and the moves after it on both sides, as the definition of the inverse scramble has them."""
 
     def __init__(self, scramble: str, normal: str = "", inverse: str = "") -> None:
-        whole = answer("unniss", scramble)
+        whole = by_faces(answer("unniss", scramble))
         self.lines = {
             "normal": " ".join([answer("invert", inverse), whole, normal]),
             "inverse": " ".join([answer("invert", f"{whole} {normal}"), inverse]),

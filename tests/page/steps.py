@@ -1,0 +1,149 @@
+"""The way on from step to step and back: the browser's history, undo, what is kept, what is dimmed, the filter, and where the focus goes."""
+from browser import Browser
+from tally import Tally
+from wanted import Position
+
+SCRAMBLE = "F2 U2 L2 D2 R2 L2 U2 L B R2 B2 L2 D F B2 R2 U' F R L U R2 F' D2 R2"
+ADDRESS = "#scramble=" + SCRAMBLE.replace(" ", "_").replace("'", "-")
+EXAMPLE = "R' U' F D2 L2 F R2 U2 R2 B D2 L B2 D' B2 L' R' B' D2 B2 R' U' F"
+VALUE = "return document.getElementById('scramble').value"
+HELD = """const choices = document.getElementById("choices");
+    return [choices.inert, Number(getComputedStyle(choices).opacity) < 0.5]"""
+
+
+def back(browser: Browser) -> None:
+    """The browser's Back."""
+    browser.script('document.getElementById("results").setAttribute("aria-busy", "true"); history.back()')
+    browser.wait()
+
+
+def history(tally: Tally, browser: Browser) -> None:
+    """Steps, undo, Clear, random scrambles and examples can be had back by the browser; typing, a side and a list are no such steps."""
+    browser.open(ADDRESS)
+    entries = browser.script("return history.length")
+    browser.click("#switch")
+    browser.act('[data-cell="eofb.inverse"]')
+    tally.equal("a side and a list make no entry", browser.script("return history.length"), entries)
+    browser.act("#solutions-groups button")
+    first = browser.text("bracketed")
+    browser.submit("own", "R")
+    browser.until("return document.querySelectorAll('#skeleton-list li').length === 2")
+    browser.wait()
+    both = browser.text("bracketed")
+    browser.act("#clear")
+    tally.equal("a step, moves by hand and Clear make one each", browser.script("return history.length"), entries + 3)
+    back(browser)
+    tally.equal("Back after Clear", browser.text("bracketed"), both)
+    browser.act("#undo-move")
+    tally.equal("an undone move", browser.text("bracketed"), first)
+    back(browser)
+    tally.equal("Back after an undone move", browser.text("bracketed"), both)
+    back(browser)
+    tally.equal("Back after moves by hand", browser.text("bracketed"), first)
+    back(browser)
+    tally.equal("Back after a step", (browser.text("bracketed"), browser.text("side")), ("", "inverse side"))
+    tally.equal("with its list", browser.text("solutions-heading"), "EO on F/B, inverse side")
+    browser.act("[data-example]")
+    tally.equal("an example", browser.script(VALUE), EXAMPLE)
+    browser.click("#random")
+    browser.until("return document.getElementById('scramble').value !== arguments[0]", EXAMPLE)
+    browser.wait()
+    back(browser)
+    tally.equal("Back after a random scramble", browser.script(VALUE), EXAMPLE)
+    back(browser)
+    tally.equal("Back after an example", browser.script(VALUE), SCRAMBLE)
+    entries = browser.script("return history.length")
+    browser.fill("scramble", "R U F")
+    tally.equal("typing makes no entry", browser.script("return history.length"), entries)
+
+
+def undo(tally: Tally, browser: Browser) -> None:
+    """An undone step gives its side back."""
+    browser.open("#scramble=R_U_F&steps=inverse.R~normal.U")
+    browser.act("#undo-step")
+    tally.equal("the side of a step on the normal side", browser.text("side"), "normal side")
+    browser.act("#undo-step")
+    tally.equal("the side of a step on the inverse side", browser.text("side"), "inverse side")
+
+
+def kept(tally: Tally, browser: Browser) -> None:
+    """The best continuations of a cube are there again when one comes back to it."""
+    browser.open(ADDRESS)
+    browser.act("#best-find")
+    found = (browser.texts("#best-body tr"), browser.text("best-note"))
+    browser.act("#best-body button")
+    tally.equal("those of another cube aren't shown", browser.text("best-note"), "")
+    browser.act("#undo-step")
+    tally.equal("they are kept", (browser.texts("#best-body tr"), browser.text("best-note")), found)
+    tally.holds("and seen", browser.script("return document.getElementById('best-table').checkVisibility()"))
+    browser.fill("scramble", "R U F")
+    tally.equal("not for another scramble", browser.text("best-note"), "")
+
+
+def dimmed(tally: Tally, browser: Browser) -> None:
+    """The table of the last cube can't be used under another scramble."""
+    browser.open(ADDRESS)
+    tally.equal("the table is lit", browser.script(HELD), [False, False])
+    browser.script("document.querySelector('[data-cell=\"eorl.normal\"]').focus()")
+    held = browser.script("document.querySelector('[data-example]').click();" + HELD)
+    tally.equal("an old table is dimmed and can't be used", held, [True, True])
+    browser.wait()
+    tally.equal("a new one is lit", browser.script(HELD), [False, False])
+    tally.equal("and its cell has the focus again", browser.focused(), "eorl.normal")
+
+
+def filters(tally: Tally, browser: Browser) -> None:
+    """The filter finds whole moves one after another, however they are typed."""
+    browser.open(ADDRESS + "&list=eoud.normal.1")
+    listed = [moves.split() for moves in Position(SCRAMBLE).solutions("eoud", "normal", 1)]
+    for typed, turns in (("U", ["U"]), ("u2", ["U2"]), ("U'", ["U'"]), ("  R F2 ", ["R", "F2"]), ("l\u2019f", ["L'", "F"]), ("B2'", ["B2"]), ("", [])):
+        browser.script("const it = document.getElementById('filter'); it.value = arguments[0]; it.dispatchEvent(new Event('input'))", typed)
+        places = [[moves[at : at + len(turns)] for at in range(len(moves))] for moves in listed]
+        wanted = [" ".join(moves) for moves, found in zip(listed, places) if turns in found]
+        tally.equal(f"the filter {typed!r}", browser.texts("#solutions-groups button"), wanted[:200])
+    for typed in ("U3", "x", "2U", "U '", "hello"):
+        browser.script("const it = document.getElementById('filter'); it.value = arguments[0]; it.dispatchEvent(new Event('input'))", typed)
+        tally.holds(f"{typed!r}: {browser.text('solutions-note')}", "not moves" in browser.text("solutions-note"))
+        tally.equal(f"{typed!r}: no list", browser.texts("#solutions-groups button"), [])
+
+
+def solved(tally: Tally, browser: Browser) -> None:
+    """Nothing is finished where nothing was done, and several reductions are."""
+    for scramble in ("", "  ", "R R'", "x2"):
+        browser.open()
+        browser.fill("scramble", scramble)
+        tally.equal(f"{scramble!r} finishes nothing", browser.text("finished"), "")
+    browser.fill("scramble", "U2")
+    wanted = "DR on U/D, DR on R/L and DR on F/B are reached. nissy goes no further than the domino reduction."
+    tally.equal("several reductions", browser.text("finished"), wanted)
+
+
+def ends(tally: Tally, browser: Browser) -> None:
+    """After a step the first of the shortest cells has the focus, and after the last one the button that copies."""
+    browser.open("#scramble=R_U_F&list=eofb.normal.0")
+    browser.act("#solutions-groups li:nth-child(2) button")
+    least = browser.script("return [...document.querySelectorAll('#steps-body .least')].map((each) => each.dataset.cell)")
+    tally.holds(f"there are several: {least}", len(least) > 1)
+    tally.equal("the first has the focus", browser.focused(), least[0])
+    browser.act(f'[data-cell="{least[0]}"]')
+    browser.act("#solutions-groups button")
+    tally.holds("the last step", "reached" in browser.text("finished"))
+    tally.equal("the line to copy has the focus", browser.focused(), "copy-bracketed")
+
+
+def words(tally: Tally, browser: Browser) -> None:
+    """What the tables and the fields are called."""
+    browser.open(ADDRESS)
+    ground = "return getComputedStyle(document.querySelector(arguments[0])).backgroundColor"
+    tally.equal("the word for the shortest cells", browser.texts("#steps-table caption .least"), ["shortest"])
+    tally.equal("it has their colour", browser.script(ground, "caption .least"), browser.script(ground, "td .least"))
+    tally.holds("what a sum is of", browser.texts("#best-table caption")[0].startswith("Sum of the orientation and of its shortest reduction;"))
+    row = " ".join(browser.text("best").split())
+    tally.holds(f"what an orientation is longer than: {row}", "2 moves than the shortest of their axis and side" in row)
+    tally.equal("the filter's help", browser.texts("label[for=filter] + .help"), ["?"])
+
+
+def try_all(tally: Tally, browser: Browser) -> None:
+    """All of them."""
+    for part in (history, undo, kept, dimmed, filters, solved, ends, words):
+        part(tally, browser)

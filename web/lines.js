@@ -1,0 +1,64 @@
+// How lines are read: as the engine writes them, and by face turns alone where they turn the whole cube. The engine pushes such turns to
+// the end of a line; there they are left out, so that each letter names the same face in all that follows.
+import { EngineFault, answersOf } from "./answers.js";
+import { bracketed } from "./position.js";
+
+/** @typedef {import("./calls.js").Calls} Calls */
+/** @typedef {import("./position.js").Part} Part */
+/** @typedef {import("./steps.js").Side} Side */
+
+export const MOST_MOVES = 256;
+const FACE_TURNS = /^[UDRLFB2' ]*$/;
+
+/** A cleaned line without turns of the whole cube. @param {string} cleaned */
+function withoutTurns(cleaned) {
+    const line = cleaned.replace(/[xyz][2']?/g, "").replace(/ +/g, " ").replace(/\( /g, "(").replace(/ \)/g, ")");
+    if ((line.match(/[UDRLFB]/g)?.length ?? 0) > MOST_MOVES) throw new EngineFault(`more than ${MOST_MOVES} moves, as face turns`);
+    return line.replace(/\(\)/g, "").trim();
+}
+
+/**
+ * Cuts a line that was read into runs: what is in brackets goes on the inverse side.
+ * @param {string} text @param {Side} side where moves without brackets go in a line that has none @returns {Part[]}
+ */
+function runsOf(text, side) {
+    if (!text.includes("(")) return [{ side, moves: text }];
+    return [...text.matchAll(/\(([^()]*)\)|[^()]+/g)].map(([whole, inside]) =>
+        inside === undefined ? { side: "normal", moves: whole } : { side: "inverse", moves: inside },
+    );
+}
+
+/** A line as the engine reads it, without brackets. @param {Calls} calls @param {string} line */
+async function readLine(calls, line) {
+    const [read] = await answersOf(calls, ["unniss"], [line]);
+    return read;
+}
+
+/** A scramble by its face turns, and whether turns of the whole cube were left out. @param {Calls} calls @param {string} text */
+export async function readScramble(calls, text) {
+    const [cleaned] = await answersOf(calls, ["cleanup"], [await readLine(calls, text)]);
+    const line = withoutTurns(cleaned);
+    return { line, isTurned: line !== cleaned };
+}
+
+/**
+ * Moves by hand as steps, those in brackets on the inverse side.
+ * @param {Calls} calls @param {string} text @param {Side} side where moves go in a line without brackets @returns {Promise<Part[]>}
+ */
+export async function readByHand(calls, text, side) {
+    const read = await readLine(calls, text);
+    const line = FACE_TURNS.test(read) ? text : withoutTurns((await answersOf(calls, ["cleanup"], [text]))[0]);
+    const runs = runsOf(line, text.includes("(") ? "normal" : side);
+    const moves = await answersOf(calls, ["unniss"], runs.map((run) => run.moves));
+    return runs.map((run, index) => ({ side: run.side, moves: moves[index] })).filter((run) => run.moves !== "");
+}
+
+/** The steps of an address, each read as moves by hand are. @param {Calls} calls @param {Part[]} parts @returns {Promise<Part[]>} */
+export async function readSteps(calls, parts) {
+    await readLine(calls, bracketed(parts));
+    const lines = parts.map(({ moves }) => moves);
+    const read = await answersOf(calls, ["unniss"], lines);
+    const cleaned = await answersOf(calls, ["cleanup"], lines);
+    const moves = read.map((line, index) => (FACE_TURNS.test(line) ? line : withoutTurns(cleaned[index])));
+    return parts.map(({ side }, index) => ({ side, moves: moves[index] })).filter((part) => part.moves !== "");
+}
