@@ -1,15 +1,16 @@
 -- What is answered of a part of an input is a beginning of what is answered of the whole.
-use Rattle.std.proofs.Common.{◌≡◌, ℕ, zero, suc, ◌≤◌, Bool, true, false, Option, Some, None, Ok, Err, List, [], ◌∷◌, ◌++◌, take, length, length-append, refl, sym, ap, ◌∙◌, append_assoc, append-nil, arith}
-use Rattle.std.specs.Prelude.{nat_lt, flat_map}
+use Rattle.std.proofs.Common.{◌≡◌, ℕ, zero, suc, ◌+◌, ◌≤◌, Bool, true, false, Result, Ok, Err, List, [], ◌∷◌, ◌++◌, take, length, length-append, refl, sym, ap, ◌∙◌, subst, append_assoc, append-nil, arith}
+use Rattle.std.specs.Prelude.{nat_lt}
 use Rattle.std.proofs.lemmas.List.{take_all, take-append-le}
-use Rattle.std.proofs.lemmas.Grind.{flat_map-append, common_steps}
-use Rattle.niss_shell.specs.Lines.{ended_lines, last_part, written_text, answered_lines, first_fault, text_of}
+use Rattle.std.proofs.lemmas.Grind.{common_steps}
+use Rattle.niss_shell.specs.Lines.{ended_lines, last_part}
 use Rattle.niss_shell.specs.Words.{most_bytes, OnLines, ListSteps, DrawScrambles}
-use Rattle.niss_shell.specs.Output.{Answer, More, End, LineAnswers, complete_lines, last_line, line_with_bytes, outcome_of, line_answers, answer_lines}
+use Rattle.niss_shell.specs.Output.{Answer, Ending, More, End, LineAnswers, complete_lines, last_line, line_with_bytes, outcome_of, joined_answer, then_answer, unsearched, line_answers, answers_from, answer_lines}
 use Rattle.niss_shell.specs.MoreInput.{Begins, MoreInputKeepsAnswers}
-use Rattle.niss_shell.specs.Names.{LineFault, InputTooLong}
+use Rattle.niss_shell.specs.Names.{Stop, InputTooLong}
 use Rattle.niss_shell.proofs.AnswerLemmas.{choose_false, choose_true}
-use Rattle.niss_shell.proofs.LinesLemmas.{ended_lines-append, first_fault-stays, answered_lines-append, answered_lines-stays}
+use Rattle.niss_shell.proofs.StateLemmas.{then_then}
+use Rattle.niss_shell.proofs.LinesLemmas.{ended_lines-append, answers_from-append}
 
 -- the same is written, and it ends in the same way
 begins_same : (part whole : Answer) → whole.output ≡ part.output → whole.outcome ≡ part.outcome → Begins part whole
@@ -33,12 +34,8 @@ long_lines input more long =
     ∙ ap (λ t. ended_lines [] (take most_bytes input) ++ t)
     (choose_true (nat_lt most_bytes (length (input ++ more))) [] (line_with_bytes (last_part [] (input ++ more))) (still_long input more long))
 
-long_outcome : (o : Option (ℕ × LineFault)) (input more : List ℕ) → nat_lt most_bytes (length input) ≡ true
-    → outcome_of o (input ++ more) End ≡ outcome_of o input More
-long_outcome (Some fault) input more long = refl
-long_outcome None input more long =
-    choose_true (nat_lt most_bytes (length (input ++ more))) (Err InputTooLong) (Ok tt) (still_long input more long)
-    ∙ sym (choose_true (nat_lt most_bytes (length input)) (Err InputTooLong) (Ok tt) long)
+long_outcome : (input : List ℕ) (m : Ending) → nat_lt most_bytes (length input) ≡ true → outcome_of input m ≡ Err InputTooLong
+long_outcome input m long = choose_true _ _ _ long
 
 -- one that isn't
 
@@ -61,59 +58,46 @@ more_lines input more short =
           ∙ append_assoc begun cut last ∙ ap (λ t. t ++ (cut ++ last)) (sym part),
     )
 
+-- what comes after an answer that has no fault is more of it
+begins_then : (a b : Answer) (o end : Result (Unit {0}) Stop) → a.outcome ≡ o → end ≡ Ok tt
+    → Begins (joined_answer o a (unsearched [] end)) (joined_answer o a b)
+begins_then a b (Ok u) end e good = record {
+  rest = b.output;
+  beginning = ap (λ v. v ++ b.output) (append-nil a.output);
+  stopped = λ stop s. absurd (cc (good, s));
+}
+begins_then a b (Err stop) end e good = begins_same a a refl refl
+
 module _ (f : LineAnswers) (input more : List ℕ) where
-  abbrev part_lines : List (List ℕ)
-  part_lines = complete_lines input More
+  abbrev KeepsAnswers : Type 0
+  KeepsAnswers = Begins (answer_lines f input More) (answer_lines f (input ++ more) End)
 
-  abbrev part_answer : Answer
-  part_answer = answer_lines f input More
-
-  abbrev whole_answer : Answer
-  whole_answer = answer_lines f (input ++ more) End
-
-  abbrev text_at : List ℕ → List ℕ
-  text_at line = text_of (f.answer_of line)
-
-  begins_long : nat_lt most_bytes (length input) ≡ true → Begins part_answer whole_answer
+  begins_long : nat_lt most_bytes (length input) ≡ true → KeepsAnswers
   begins_long long =
-      let e = long_lines input more long in
-      begins_same part_answer whole_answer (ap (λ v. written_text f.answer_of v) e)
-      (ap (λ v. outcome_of (first_fault f.answer_of 1 v) (input ++ more) End) e ∙ long_outcome (first_fault f.answer_of 1 part_lines) input more long)
+      let same : answer_lines f (input ++ more) End ≡ answer_lines f input More =
+      ap (λ v. then_answer (answers_from f 1 v) (unsearched [] (outcome_of (input ++ more) End))) (long_lines input more long)
+      ∙ ap (λ v. then_answer (answers_from f 1 (complete_lines input More)) (unsearched [] v))
+      (long_outcome (input ++ more) End (still_long input more long) ∙ sym (long_outcome input More long)) in
+      begins_same _ _ (ap (λ v. v.output) same) (ap (λ v. v.outcome) same)
 
-  -- a fault in the part
-  begins_fault : (fault : ℕ × LineFault) (rest : List (List ℕ)) → complete_lines (input ++ more) End ≡ part_lines ++ rest
-      → first_fault f.answer_of 1 part_lines ≡ Some fault → Begins part_answer whole_answer
-  begins_fault fault rest e first =
-      begins_same part_answer whole_answer
-      (ap (λ v. written_text f.answer_of v) e ∙ ap (λ v. flat_map text_at v) (answered_lines-stays f.answer_of 1 part_lines rest fault first))
-      (ap (λ v. outcome_of (first_fault f.answer_of 1 v) (input ++ more) End) e
-      ∙ ap (λ v. outcome_of v (input ++ more) End) (first_fault-stays f.answer_of 1 part_lines rest fault first)
-      ∙ sym (ap (λ v. outcome_of v input More) first))
+  begins_short : nat_lt most_bytes (length input) ≡ false → KeepsAnswers
+  begins_short short =
+      let m = more_lines input more short in
+      let part = answers_from f 1 (complete_lines input More) in
+      let end = unsearched [] (outcome_of (input ++ more) End) in
+      let rest = answers_from f (1 + length (complete_lines input More)) m.0 in
+      let whole : answer_lines f (input ++ more) End ≡ then_answer part (then_answer rest end) =
+      ap (λ v. then_answer (answers_from f 1 v) end) m.1
+      ∙ ap (λ v. then_answer v end) (answers_from-append f 1 (complete_lines input More) m.0) ∙ then_then part rest end in
+      subst (λ v. Begins (answer_lines f input More) v) (sym whole)
+      (begins_then part (then_answer rest end) part.outcome (outcome_of input More) refl (choose_false _ _ _ short))
 
-  -- none in the part
-  begins_good : (rest : List (List ℕ)) → complete_lines (input ++ more) End ≡ part_lines ++ rest → nat_lt most_bytes (length input) ≡ false
-      → first_fault f.answer_of 1 part_lines ≡ None → Begins part_answer whole_answer
-  begins_good rest e short none =
-      let good : part_answer.outcome ≡ Ok tt =
-      ap (λ v. outcome_of v input More) none ∙ choose_false (nat_lt most_bytes (length input)) (Err InputTooLong) (Ok tt) short in
-      record {
-        rest = flat_map text_at (answered_lines f.answer_of rest);
-        beginning = sym (flat_map-append text_at (answered_lines f.answer_of part_lines) (answered_lines f.answer_of rest))
-            ∙ ap (λ v. flat_map text_at v) (sym (answered_lines-append f.answer_of 1 part_lines rest none)) ∙ sym (ap (λ v. written_text f.answer_of v) e);
-        stopped = λ stop s. absurd (cc (good, s));
-      }
-
-  begins_lines : Begins part_answer whole_answer
+  begins_lines : KeepsAnswers
   begins_lines = by_length (nat_lt most_bytes (length input)) refl
     where
-      by_fault : (rest : List (List ℕ)) → complete_lines (input ++ more) End ≡ part_lines ++ rest → nat_lt most_bytes (length input) ≡ false
-          → (o : Option (ℕ × LineFault)) → first_fault f.answer_of 1 part_lines ≡ o → Begins part_answer whole_answer
-      by_fault rest e short (Some fault) first = begins_fault fault rest e first
-      by_fault rest e short None first = begins_good rest e short first
-
-      by_length : (c : Bool) → nat_lt most_bytes (length input) ≡ c → Begins part_answer whole_answer
+      by_length : (c : Bool) → nat_lt most_bytes (length input) ≡ c → KeepsAnswers
       by_length true long = begins_long long
-      by_length false short = let m = more_lines input more short in by_fault m.0 m.1 short (first_fault f.answer_of 1 part_lines) refl
+      by_length false short = begins_short short
 
 pub more_input : MoreInputKeepsAnswers
 more_input (Ok (OnLines command [])) input more = begins_lines (line_answers command) input more

@@ -2,8 +2,7 @@
 use Rattle.std.proofs.Common.{◌≡◌, ℕ, false, Result, Ok, Err, List, [], ◌++◌, sym, ap, ◌∙◌, subst, append-nil, arith}
 use Rattle.std.specs.Prelude.{OnOk, OnErr}
 use Rattle.niss_shell.specs.Device.{TargetState, has_fault, Appended, WriteRefused}
-use Rattle.niss_shell.specs.Output.{LineAnswers}
-use Rattle.niss_shell.specs.Engine.{AnswerState, pending_state, Writes, Refuses, RefusesAnswers, WritesOrRefuses, AllAnswered}
+use Rattle.niss_shell.specs.Engine.{AnswerState, pending_state, Writes, WritesOrRefuses}
 use Rattle.niss_shell.specs.Names.{DeviceFault}
 use Rattle.niss_shell.proofs.DeviceLemmas.{appended_nothing}
 use Rattle.niss_shell.proofs.StateLemmas.{writes_more, writes_as, refuses_more, refuses_as}
@@ -38,16 +37,3 @@ pub then_sent : {T : Type 0} (r : Result T DeviceFault) (text : List ℕ) (looks
     → Writes text looks a b → WritesOrRefuses r [] 0 b c → WritesOrRefuses r text looks a c
 then_sent (Ok u) text looks a b c p q = writes_as (append-nil text) (omega arith) (writes_more p q)
 then_sent (Err x) text looks a b c p q = refuses_as (append-nil text) (omega arith) (refuses_more p q)
-
--- what waits is written after lines that were taken, or a write of it is refused
-
-pub lines_sent : {f : LineAnswers} {n : ℕ} {lines : List (List ℕ)} {a b c : AnswerState}
-    → AllAnswered f n lines a b → Writes [] 0 b c → AllAnswered f n lines a c
-lines_sent x q = record {
-  faultless = x.faultless;
-  writes = writes_as (append-nil _) (omega arith) (writes_more x.writes q);
-}
-
-pub lines_unsent : {f : LineAnswers} {n : ℕ} {lines : List (List ℕ)} {a b c : AnswerState}
-    → AllAnswered f n lines a b → Refuses [] 0 b c → RefusesAnswers f lines a c
-lines_unsent x q = refuses_as (append-nil _) (omega arith) (refuses_more x.writes q)

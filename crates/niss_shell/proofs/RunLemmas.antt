@@ -1,22 +1,19 @@
 -- From what was read and written to what a run says of it.
-use Rattle.std.proofs.Common.{◌≡◌, ◌≢◌, ℕ, get_or, ◌+◌, ◌≤◌, ◌<◌, Bool, true, false, ◌||◌, not, if◌then◌else◌, Option, Some, None, Result, Ok, Err, List, [], ◌∷◌, ◌++◌, length, refl, sym, ap, ◌∙◌, subst, append-nil, add-zero, arith}
-use Rattle.std.specs.Prelude.{OnOk, OnErr, IfSome, nat_lt, nat_le, flat_map, sum_by}
-use Rattle.std.proofs.Math.Nat.{mul_comm}
-use Rattle.std.proofs.lemmas.List.Sums.{sum_by-le}
+use Rattle.std.proofs.Common.{◌≡◌, ◌≢◌, ℕ, ◌+◌, ◌≤◌, ◌<◌, Bool, true, false, ◌||◌, not, if◌then◌else◌, Option, Some, None, Result, Ok, Err, List, [], ◌∷◌, ◌++◌, length, refl, sym, ap, ◌∙◌, subst, append-nil, add-zero, arith}
+use Rattle.std.specs.Prelude.{OnOk, OnErr, IfSome, nat_lt, nat_le, flat_map}
 use Rattle.std.proofs.lemmas.Grind.{common_steps}
 use Rattle.rand_pcg.specs.Lcg.{Lcg}
 use Rattle.niss_shell.specs.Device.{SourceState, TargetState, has_fault, Appended, Flushes, WriteRefused}
 use Rattle.niss_shell.specs.Scrambles.{generator_of, scramble_text}
 use Rattle.niss_shell.specs.Words.{most_bytes, Request, OnLines, ListSteps, DrawScrambles, request_of, reads_source, has_step, joined}
-use Rattle.niss_shell.specs.Output.{Answer, Ending, More, End, Fail, ending, outcome_at_end, answer, line_looks, looks_at, most_line_looks, complete_lines, line_answers, answer_lines, answer_request, unsearched, step_line, outcome_of, out_of, error_text, status_of}
-use Rattle.niss_cube.specs.Steps.{steps, turns_of}
+use Rattle.niss_shell.specs.Output.{Answer, Ending, More, End, Fail, ending, outcome_at_end, answer_to, looks_at, most_line_looks, home, where_it_starts, complete_lines, LineAnswers, line_answer, answer_at, answers_from, joined_answer, line_answers, answer_lines, answer_request, unsearched, step_line, outcome_of, out_of, error_text, status_of}
+use Rattle.niss_cube.specs.Steps.{steps, turns_of, may_start}
 use Rattle.niss_moves.specs.Line.{Moves}
 use Rattle.niss_moves.specs.Reader.{read_line}
-use Rattle.niss_shell.specs.Lines.{answered_lines}
 use Rattle.niss_shell.specs.Engine.{AnswerState, pending_state, AnswersSource, Answers, Writes, Refuses, EndsUnflushed, RunsUnflushed, flushed_outcome, FlushesLast}
 use Rattle.niss_shell.specs.Job.{IsInput}
 use Rattle.niss_shell.specs.Run.{Devices, devices, OutputRefused, EndsByFault, Ends, ReportsError, Looked, Runs}
-use Rattle.niss_shell.specs.Names.{DeviceFault, UsageFault, LineCommand, Rewrite, Search, LineFault, ReadFault, Stop, Usage, InputTooLong, CannotWrite, OutOfMemory}
+use Rattle.niss_shell.specs.Names.{DeviceFault, UsageFault, LineCommand, Rewrite, Search, LineFault, ReadFault, Step, Stop, Usage, InputTooLong, CannotWrite, OutOfMemory}
 use Rattle.niss_search.specs.Laws.{LooksWithinBound}
 use Rattle.niss_shell.proofs.DeviceLemmas.{appended_then, appended_after_failure, gave_nothing, fault_of_write, no_write_fault, no_flush_fault}
 use Rattle.niss_shell.proofs.StateLemmas.{writes_nothing, all_sent}
@@ -59,15 +56,32 @@ either : {A : Type 0} (P : A → Type 0) (c : Bool) (x y : A) → P x → P y �
 either P true x y p q = p
 either P false x y p q = q
 
-end_is_not_memory : (m : Ending) → outcome_at_end m ≢ Err OutOfMemory
+abbrev IsNotMemory : Result (Unit {0}) Stop → Type 0
+IsNotMemory outcome = outcome ≢ Err OutOfMemory
+
+joined_is_not_memory : (a b : Answer) (o : Result (Unit {0}) Stop) → a.outcome ≡ o → IsNotMemory a.outcome → IsNotMemory b.outcome → IsNotMemory (joined_answer o a b).outcome
+joined_is_not_memory a b (Ok u) e p q = q
+joined_is_not_memory a b (Err stop) e p q = p
+
+line_is_not_memory : (n looks most : ℕ) (r : Result (List ℕ) LineFault) → IsNotMemory (line_answer n looks most r).outcome
+line_is_not_memory n looks most (Ok text) = λ e. cc e
+line_is_not_memory n looks most (Err fault) = λ e. cc e
+
+lines_are_not_memory : (f : LineAnswers) (n : ℕ) (lines : List (List ℕ)) → IsNotMemory (answers_from f n lines).outcome
+unfolding answers_from
+lines_are_not_memory f n [] = λ e. cc e
+lines_are_not_memory f n (line ∷ lines) =
+    joined_is_not_memory (answer_at f n line) (answers_from f (n + 1) lines) _ refl (line_is_not_memory n _ _ (f.answer_of line)) (lines_are_not_memory f (n + 1) lines)
+
+end_is_not_memory : (m : Ending) → IsNotMemory (outcome_at_end m)
 end_is_not_memory Fail = λ e. cc e
 end_is_not_memory End = λ e. cc e
 end_is_not_memory More = λ e. cc e
 
-is_not_memory : (o : Option (ℕ × LineFault)) (input : List ℕ) (m : Ending) → outcome_of o input m ≢ Err OutOfMemory
-is_not_memory (Some fault) input m = λ e. cc e
-is_not_memory None input m =
-    either (λ outcome. outcome ≢ Err OutOfMemory) (nat_lt most_bytes (length input)) (Err InputTooLong) (outcome_at_end m) (λ e. cc e) (end_is_not_memory m)
+is_not_memory : (f : LineAnswers) (input : List ℕ) (m : Ending) → IsNotMemory (answer_lines f input m).outcome
+is_not_memory f input m =
+    joined_is_not_memory (answers_from f 1 (complete_lines input m)) (unsearched [] (outcome_of input m)) _ refl (lines_are_not_memory f 1 (complete_lines input m))
+    (either IsNotMemory (nat_lt most_bytes (length input)) (Err InputTooLong) (outcome_at_end m) (λ e. cc e) (end_is_not_memory m))
 
 ends_of_answers : (a : Answer) (asked : Result Request UsageFault) (outcome : Result (Unit {0}) Stop) (source source_now : SourceState) (h i : AnswerState)
     → a.outcome ≢ Err OutOfMemory → Answers a outcome h i → EndsUnflushed outcome a asked source source_now h i
@@ -82,7 +96,7 @@ pub runs_source : {command given : LineCommand} {ws : List (List ℕ)} {outcome 
 runs_source {given = given} {ws = []} {b = b} e f g none x = rw (← e, ← f, ← g) (record {
   input = x.input;
   gave = x.gave;
-  ends = ends_of_answers (answer_lines (line_answers given) x.input (ending b)) _ _ _ b _ _ (is_not_memory _ x.input (ending b)) x.answers;
+  ends = ends_of_answers (answer_lines (line_answers given) x.input (ending b)) _ _ _ b _ _ (is_not_memory (line_answers given) x.input (ending b)) x.answers;
   read_whole = λ d r. x.read_whole d;
 })
 runs_source {ws = w ∷ ws} e f g none x = absurd (omega arith)
@@ -107,7 +121,7 @@ runs_text {given = given} {ws = v ∷ ws} {text = text} {outcome = outcome} {a =
     rw (← e, ← f, ← g) (unread_run (Ok (OnLines given (v ∷ ws))) outcome a k j refl
     (subst (λ y. EndsUnflushed outcome y (Ok (OnLines given (v ∷ ws))) a a k j)
     (ap (λ t. answer_lines (line_answers given) t End) whole ∙ sym (choose_false _ _ _ (short_test fits)))
-    (ends_of_answers (answer_lines (line_answers given) text End) (Ok (OnLines given (v ∷ ws))) _ a a k j (is_not_memory _ text End) x)))
+    (ends_of_answers (answer_lines (line_answers given) text End) (Ok (OnLines given (v ∷ ws))) _ a a k j (is_not_memory (line_answers given) text End) x)))
 
 pub runs_too_long : (command : LineCommand) (ws : List (List ℕ)) (a : SourceState) (h : AnswerState)
     → 0 < length ws → has_fault h.target ≡ false → most_bytes < length (joined ws)
@@ -265,22 +279,39 @@ looked_flushed a asked (Err stop) source source_now h i j w flush =
 abbrev IsWithin : Answer → Type 0
 IsWithin due = due.looks ≤ due.most_looks
 
-module _ (law : LooksWithinBound) where
-  line_within : (command : LineCommand) (read : Result Moves ReadFault) → looks_at command read ≤ most_line_looks command
-  line_within (Rewrite rewriting) (Ok line) = omega arith
-  line_within (Search query) (Ok line) = law (turns_of query.step) _ _ query.limit query.slack
-  line_within command (Err fault) = omega arith
+joined_within : (a b : Answer) (o : Result (Unit {0}) Stop) → IsWithin a → IsWithin b → IsWithin (joined_answer o a b)
+joined_within a b (Ok u) p q = omega (arith, p, q)
+joined_within a b (Err stop) p q = p
 
-  lines_within : (command : LineCommand) (input : List ℕ) (m : Ending) → IsWithin (answer_lines (line_answers command) input m)
-  lines_within command input m =
-      let lines = answered_lines (answer command) (complete_lines input m) in
-      subst (λ n. sum_by (line_looks command) lines ≤ n) (mul_comm (length lines) (most_line_looks command))
-      (sum_by-le _ _ lines (λ k d lt. line_within command (read_line (get_or lines k d))))
+start_within : (step : Step) (starts : Bool) (text : List ℕ) (n : ℕ) {looks most : ℕ} → looks ≤ most
+    → IsWithin (line_answer n looks most (where_it_starts step starts text))
+start_within step true text n h = h
+start_within step false text n h = omega arith
+
+module _ (law : LooksWithinBound) where
+  line_within : (command : LineCommand) (n : ℕ) (read : Result Moves ReadFault)
+      → IsWithin (line_answer n (looks_at command read) (most_line_looks command) (answer_to command read))
+  line_within (Rewrite rewriting) n (Ok line) = omega arith
+  line_within (Search query) n (Ok line) =
+      start_within query.step (may_start query.step (home line)) _ n (law (turns_of query.step) _ _ query.limit query.slack)
+  line_within command n (Err fault) = omega arith
+
+  lines_within : (command : LineCommand) (n : ℕ) (lines : List (List ℕ)) → IsWithin (answers_from (line_answers command) n lines)
+  unfolding answers_from
+  lines_within command n [] = omega arith
+  lines_within command n (line ∷ lines) =
+      joined_within (answer_at (line_answers command) n line) (answers_from (line_answers command) (n + 1) lines) _
+      (line_within command n (read_line line)) (lines_within command (n + 1) lines)
+
+  input_within : (command : LineCommand) (input : List ℕ) (m : Ending) → IsWithin (answer_lines (line_answers command) input m)
+  input_within command input m =
+      joined_within (answers_from (line_answers command) 1 (complete_lines input m)) (unsearched [] (outcome_of input m)) _
+      (lines_within command 1 (complete_lines input m)) (omega arith)
 
   answer_within : (asked : Result Request UsageFault) (input : List ℕ) (m : Ending) → IsWithin (answer_request asked input m)
-  answer_within (Ok (OnLines command [])) input m = lines_within command input m
+  answer_within (Ok (OnLines command [])) input m = input_within command input m
   answer_within (Ok (OnLines command (word ∷ words))) input m =
-      either IsWithin (nat_lt most_bytes (length (joined (word ∷ words)))) _ _ (omega arith) (lines_within command (joined (word ∷ words)) End)
+      either IsWithin (nat_lt most_bytes (length (joined (word ∷ words)))) _ _ (omega arith) (input_within command (joined (word ∷ words)) End)
   answer_within _ input m = omega arith
 
 bounded_looks : (a : Answer) (asked : Result Request UsageFault) (outcome : Result (Unit {0}) Stop) (source source_now : SourceState) (h i : AnswerState)

@@ -1,13 +1,13 @@
 -- What a search keeps of its sink, and how the text of a line ends it.
-use Rattle.std.proofs.Common.{◌≡◌, ℕ, Bool, true, false, Result, Ok, Err, List, [], ◌∷◌, inl, inr, sym, ap, ◌∙◌, subst}
+use Rattle.std.proofs.Common.{◌≡◌, ℕ, Bool, true, false, Result, Ok, Err, List, [], ◌∷◌, inl, inr, refl, sym, ap, ◌∙◌, subst}
 use Rattle.std.specs.Prelude.{IsTrue}
 use Rattle.niss_shell.specs.Names.{Turn, Step, LineCommand, Search, Query, Report, NoStart, Stop, CannotWrite}
 use Rattle.niss_search.specs.Delivery.{WentThrough, StoppedIn}
-use Rattle.niss_shell.specs.Engine.{AnswerState, Writes, Refuses, AnswersLine, AnswersMoves}
+use Rattle.niss_shell.specs.Engine.{AnswerState, Answers, Writes, Refuses, answer_at_moves}
 use Rattle.niss_cube.specs.Steps.{may_start}
 use Rattle.niss_moves.specs.Line.{Moves}
 use Rattle.niss_search.specs.Cubes.{near_looks_of}
-use Rattle.niss_shell.specs.Output.{where_it_starts, search_text, home}
+use Rattle.niss_shell.specs.Output.{line_answer, fault_answer, where_it_starts, search_text, home}
 use Rattle.niss_shell.specs.Words.{search_command}
 
 -- What every path keeps, a walk through a list of paths keeps.
@@ -26,22 +26,15 @@ stop_keeps keeps last (p ∷ ps) a b (inr h) = stop_keeps keeps last ps h.0 b h.
 
 -- a line on whose cube the step may start, or may not
 
-starts : (step : Step) (b : Bool) (text : List ℕ) (looks n : ℕ) (u : Unit {0}) (old new : AnswerState)
-    → IsTrue b → Writes text looks old new → AnswersLine (where_it_starts step b text) looks n (Ok u) old new
-starts step true text looks n u old new e p = p
-starts step false text looks n u old new e p = absurd (cc e)
+module _ (step : Step) (text : List ℕ) (looks most n : ℕ) (r : Result (Unit {0}) Stop) (old new : AnswerState) where
+  starts : (b : Bool) → IsTrue b → Answers (line_answer n looks most (Ok text)) r old new → Answers (line_answer n looks most (where_it_starts step b text)) r old new
+  starts true e p = p
+  starts false e p = absurd (cc e)
 
-starts_refused : (step : Step) (b : Bool) (text : List ℕ) (looks n : ℕ) (stop : Stop) (old new : AnswerState)
-    → IsTrue b → stop ≡ CannotWrite → Refuses text looks old new → AnswersLine (where_it_starts step b text) looks n (Err stop) old new
-starts_refused step true text looks n stop old new e f p = (f, p)
-starts_refused step false text looks n stop old new e f p = absurd (cc e)
-
-starts_not : (step given : Step) (b : Bool) (text : List ℕ) (looks n : ℕ) (r : Result (Unit {0}) Stop) (old new : AnswerState)
-    → b ≡ false → given ≡ step → ((l : ℕ) → AnswersLine (Err (NoStart given)) l n r old new)
-    → AnswersLine (where_it_starts step b text) looks n r old new
-starts_not step given true text looks n r old new e f h = absurd (cc e)
-starts_not step given false text looks n r old new e f h =
-    subst (λ s. AnswersLine (Err (NoStart s)) looks n r old new) f (h looks)
+  starts_not : (given : Step) (b : Bool) → b ≡ false → given ≡ step → Answers (fault_answer n (NoStart given)) r old new
+      → Answers (line_answer n looks most (where_it_starts step b text)) r old new
+  starts_not given true e f h = absurd (cc e)
+  starts_not given false e f h = subst (λ s. Answers (fault_answer n (NoStart s)) r old new) f h
 
 -- the same of the command on the line
 
@@ -52,21 +45,22 @@ module _ (command : LineCommand) (line given : Moves) (asked : Report) (query : 
       ap (λ r. search_command r step query.limit query.slack) (sym reports)
       ∙ ap (λ s. search_command query.report s query.limit query.slack) of_step ∙ sym searches
 
-  answered : (r : Result (Unit {0}) Stop) → AnswersMoves (search_command asked step query.limit query.slack) given n r old new → AnswersMoves command line n r old new
+  answered : (r : Result (Unit {0}) Stop) → Answers (answer_at_moves (search_command asked step query.limit query.slack) n given) r old new
+      → Answers (answer_at_moves command n line) r old new
   answered r x =
-      subst (λ k. AnswersMoves k line n r old new) searched
-      (subst (λ m. AnswersMoves (search_command asked step query.limit query.slack) m n r old new) same x)
+      subst (λ k. Answers (answer_at_moves k n line) r old new) searched
+      (subst (λ m. Answers (answer_at_moves (search_command asked step query.limit query.slack) n m) r old new) same x)
 
-  pub all_reported : {u : Unit {0}} → IsTrue (may_start step (home given))
+  pub all_reported : IsTrue (may_start step (home given))
       → Writes (search_text asked step query.limit query.slack (home given)) (near_looks_of step (home given) query.limit query.slack) old new
-      → AnswersMoves command line n (Ok u) old new
-  all_reported e p = answered _ (starts _ _ _ _ _ _ _ _ e p)
+      → Answers (answer_at_moves command n line) (Ok tt) old new
+  all_reported e p = answered (Ok tt) (starts _ _ _ _ _ (Ok tt) _ _ _ e (refl, p))
 
   pub refusal_reported : {stop : Stop} → IsTrue (may_start step (home given)) → stop ≡ CannotWrite
       → Refuses (search_text asked step query.limit query.slack (home given)) (near_looks_of step (home given) query.limit query.slack) old new
-      → AnswersMoves command line n (Err stop) old new
-  refusal_reported e f p = answered _ (starts_refused _ _ _ _ _ _ _ _ e f p)
+      → Answers (answer_at_moves command n line) (Err stop) old new
+  refusal_reported e f p = rw f (answered (Err CannotWrite) (starts _ _ _ _ _ (Err CannotWrite) _ _ _ e p))
 
   pub not_started : (named : Step) (r : Result (Unit {0}) Stop) → may_start step (home given) ≡ false → named ≡ step
-      → ((l : ℕ) → AnswersLine (Err (NoStart named)) l n r old new) → AnswersMoves command line n r old new
-  not_started named r e f h = answered _ (starts_not _ _ _ _ _ _ _ _ _ e f h)
+      → Answers (fault_answer n (NoStart named)) r old new → Answers (answer_at_moves command n line) r old new
+  not_started named r e f h = answered r (starts_not _ _ _ _ _ r _ _ named _ e f h)

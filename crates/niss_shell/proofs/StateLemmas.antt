@@ -1,12 +1,9 @@
 -- How what is written and looked at adds up.
-use Rattle.std.proofs.Common.{◌≡◌, ℕ, ◌+◌, ◌≤◌, false, List, [], ◌++◌, sym, ap, ◌∙◌, subst, append_assoc, append-nil, length-append, arith}
-use Rattle.std.specs.Prelude.{sum_by, flat_map}
-use Rattle.std.proofs.lemmas.Grind.{flat_map-append}
-use Rattle.std.proofs.lemmas.List.Sums.{sum_by-append}
+use Rattle.std.proofs.Common.{◌≡◌, ℕ, ◌+◌, ◌≤◌, false, Result, Ok, Err, List, [], ◌++◌, refl, sym, ap, ◌∙◌, subst, append_assoc, append-nil, length-append, arith}
 use Rattle.niss_shell.specs.Device.{TargetState, has_fault, Appended, IsCut, WriteRefused}
-use Rattle.niss_shell.specs.Lines.{text_of}
-use Rattle.niss_shell.specs.Output.{LineAnswers}
-use Rattle.niss_shell.specs.Engine.{AnswerState, TakesIn, Writes, Refuses}
+use Rattle.niss_shell.specs.Output.{Answer, unsearched, joined_answer, then_answer}
+use Rattle.niss_shell.specs.Engine.{AnswerState, TakesIn, Writes, Refuses, Answers}
+use Rattle.niss_shell.specs.Names.{Stop, CannotWrite}
 use Rattle.niss_shell.proofs.DeviceLemmas.{appended_nothing, appended_more, no_flush_fault}
 
 -- Nothing was written, and nothing looked at.
@@ -99,29 +96,58 @@ refuses_as {a = a} {b = b} e f p = record {
   looked = omega (arith, p.looked, f);
 }
 
--- lines that are answered, and more lines
+-- an answer, and the one after it
 
-abbrev text_at : LineAnswers → List ℕ → List ℕ
-text_at f line = text_of (f.answer_of line)
+same_answer : {a b : Answer} → a.output ≡ b.output → a.outcome ≡ b.outcome → a.looks ≡ b.looks → a.most_looks ≡ b.most_looks → a ≡ b
+same_answer p q r s = λ i. record { output = p i; outcome = q i; looks = r i; most_looks = s i }
 
-abbrev pub WritesLines : LineAnswers → List (List ℕ) → AnswerState → AnswerState → Type 0
-WritesLines f lines old new = Writes (flat_map (text_at f) lines) (sum_by f.looks_of lines) old new
+pub nothing_then : (a : Answer) → then_answer (unsearched [] (Ok tt)) a ≡ a
+nothing_then a = same_answer refl refl (omega arith) (omega arith)
 
-abbrev pub RefusesLines : LineAnswers → List (List ℕ) → AnswerState → AnswerState → Type 0
-RefusesLines f lines old new = Refuses (flat_map (text_at f) lines) (sum_by f.looks_of lines) old new
+then_none : (a : Answer) (o : Result (Unit {0}) Stop) → a.outcome ≡ o → joined_answer o a (unsearched [] (Ok tt)) ≡ a
+then_none a (Ok u) e = same_answer (append-nil a.output) (sym e) (omega arith) (omega arith)
+then_none a (Err stop) e = refl
 
-module _ (f : LineAnswers) (xs ys : List (List ℕ)) where
-  pub lines_written : {a b c : AnswerState} → WritesLines f xs a b → WritesLines f ys b c → WritesLines f (xs ++ ys) a c
-  lines_written p q =
-      writes_as (sym (flat_map-append (text_at f) xs ys)) (sym (sum_by-append f.looks_of xs ys)) (writes_more p q)
+pub then_nothing : (a : Answer) → then_answer a (unsearched [] (Ok tt)) ≡ a
+then_nothing a = then_none a a.outcome refl
 
-  pub lines_refused : {a b c : AnswerState} → WritesLines f xs a b → RefusesLines f ys b c → RefusesLines f (xs ++ ys) a c
-  lines_refused p q =
-      refuses_as (sym (flat_map-append (text_at f) xs ys)) (sym (sum_by-append f.looks_of xs ys)) (refuses_more p q)
+-- nothing comes after a fault
+after_fault : (a b : Answer) (o : Result (Unit {0}) Stop) {stop : Stop} → o ≡ Err stop → joined_answer o a b ≡ a
+after_fault a b (Ok u) e = absurd (cc e)
+after_fault a b (Err stop) e = refl
 
-  -- a write that was refused before more lines
-  pub lines_cut : {a c : AnswerState} → RefusesLines f xs a c → RefusesLines f (xs ++ ys) a c
-  lines_cut {a = a} {c = c} p =
-      let looks : sum_by f.looks_of (xs ++ ys) ≡ sum_by f.looks_of xs + sum_by f.looks_of ys = sum_by-append f.looks_of xs ys in
-      subst (λ t. Refuses t (sum_by f.looks_of (xs ++ ys)) a c) (sym (flat_map-append (text_at f) xs ys))
-      (refuses_front _ (omega (arith, looks)) p)
+then_joined : (a b c : Answer) (o p : Result (Unit {0}) Stop) → a.outcome ≡ o → b.outcome ≡ p
+    → then_answer (joined_answer o a b) c ≡ joined_answer o a (joined_answer p b c)
+then_joined a b c (Ok u) (Ok v) e f =
+    ap (λ o. joined_answer o (joined_answer (Ok u) a b) c) f
+    ∙ same_answer (append_assoc a.output b.output c.output) refl (omega arith) (omega arith)
+then_joined a b c (Ok u) (Err stop) e f = ap (λ o. joined_answer o (joined_answer (Ok u) a b) c) f
+then_joined a b c (Err stop) p e f = after_fault a c a.outcome e
+
+pub then_then : (a b c : Answer) → then_answer (then_answer a b) c ≡ then_answer a (then_answer b c)
+then_then a b c = then_joined a b c a.outcome b.outcome refl refl
+
+pub answers_more : (a b : Answer) (r : Result (Unit {0}) Stop) (x : AnswerState) {y : AnswerState} (z : AnswerState)
+    → Answers a (Ok tt) x y → Answers b r y z → Answers (then_answer a b) r x z
+answers_more a b (Err CannotWrite) x z p q =
+    subst (λ o. Refuses (joined_answer o a b).output (joined_answer o a b).looks x z) p.0 (refuses_more p.1 q)
+answers_more a b r x z p q =
+    subst (λ o. (r ≡ (joined_answer o a b).outcome) × Writes (joined_answer o a b).output (joined_answer o a b).looks x z) p.0
+    (q.0, writes_more p.1 q.1)
+
+refused_first : (a b : Answer) (o : Result (Unit {0}) Stop) {x z : AnswerState}
+    → Refuses a.output a.looks x z → Refuses (joined_answer o a b).output (joined_answer o a b).looks x z
+refused_first a b (Ok u) p = refuses_front b.output (omega arith) p
+refused_first a b (Err stop) p = p
+
+pub answers_stopped : (a b : Answer) (stop : Stop) (x z : AnswerState) → Answers a (Err stop) x z → Answers (then_answer a b) (Err stop) x z
+answers_stopped a b CannotWrite x z p = refused_first a b a.outcome p
+answers_stopped a b stop x z p = subst (λ d. Answers d (Err stop) x z) (sym (after_fault a b a.outcome (sym p.0))) p
+
+-- what waited is written after it, or a write is refused
+
+pub answers_sent : (a : Answer) {x y z : AnswerState} → Answers a (Ok tt) x y → Writes [] 0 y z → Answers a (Ok tt) x z
+answers_sent a p q = (p.0, writes_as (append-nil _) (omega arith) (writes_more p.1 q))
+
+pub answers_unsent : (a : Answer) {x y z : AnswerState} → Answers a (Ok tt) x y → Refuses [] 0 y z → Answers a (Err CannotWrite) x z
+answers_unsent a p q = refuses_as (append-nil _) (omega arith) (refuses_more p.1 q)

@@ -6,24 +6,25 @@ use Rattle.std.proofs.lemmas.List.Elements.{All-nil, All-cons}
 use Rattle.niss_moves.specs.Reader.{Reader, IsFed}
 use Rattle.niss_moves.specs.WholeMoves.{HasNoLineFeed}
 use Rattle.niss_shell.specs.Device.{has_fault}
-use Rattle.niss_shell.specs.Output.{LineAnswers, line_answers}
-use Rattle.niss_shell.specs.Engine.{AnswerState, Progress, Writes, Refuses, AnswersBytes, TakesNext, TakesLast}
+use Rattle.niss_shell.specs.Lines.{ended_lines}
+use Rattle.niss_shell.specs.Output.{LineAnswers, line_answers, answer_at, answers_from, line_with_bytes}
+use Rattle.niss_shell.specs.Engine.{AnswerState, Progress, Answers, Writes, Refuses, TakesNext, TakesLast}
 use Rattle.niss_shell.specs.Job.{command_of}
 use Rattle.niss_shell.specs.Taking.{Keeps, answers_of}
 use Rattle.niss_shell.specs.Names.{Lines, Stop, CannotWrite}
 use Rattle.niss_shell.proofs.EngineLemmas.{takes_none, takes_inside, takes_end_of_line, nothing_fed, first_piece, takes_piece, takes_stopped}
 use Rattle.niss_shell.proofs.AnswerLemmas.{takes_no_line, takes_last_line}
-use Rattle.niss_shell.proofs.PendingLemmas.{lines_sent, lines_unsent}
+use Rattle.niss_shell.proofs.StateLemmas.{answers_sent, answers_unsent}
 
 -- one piece
 
 pub none_taken : {f : LineAnswers} {p : Progress} {out : AnswerState} → has_fault out.target ≡ false → TakesNext f [] p p (Ok tt) out out
-none_taken works = record { takes = λ front at. takes_none _ front _ _ _ tt at refl works }
+none_taken works = record { takes = λ front at. takes_none _ front _ _ _ at refl works }
 
 pub inside_taken : {f : LineAnswers} {bytes : List ℕ} {p q : Progress} {out : AnswerState} → HasNoLineFeed bytes
     → ((front : List ℕ) → IsFed p.reader front → IsFed q.reader (front ++ bytes)) → q.line ≡ p.line → has_fault out.target ≡ false
     → TakesNext f bytes p q (Ok tt) out out
-inside_taken inside fed line works = record { takes = λ front at. takes_inside _ front _ _ _ _ tt inside (fed front at) line works }
+inside_taken inside fed line works = record { takes = λ front at. takes_inside _ front _ _ _ _ inside (fed front at) line works }
 
 -- where no moves were taken first
 pub still_fed : {r s : Reader} (bytes : List ℕ) (k : ℕ) → k ≤ 0 → ((front : List ℕ) → IsFed r front → IsFed s (front ++ take k bytes))
@@ -32,7 +33,7 @@ still_fed bytes k none fed front at = nothing_fed _ front bytes k none (fed fron
 
 pub line_feed_taken : {f : LineAnswers} (bytes : List ℕ) {p q : Progress} {r : Result (Unit {0}) Stop} {old new : AnswerState}
     → 0 < length bytes → get_or bytes 0 0 ≡ 10
-    → ((front : List ℕ) → IsFed p.reader front → AnswersBytes f front p.line r old new)
+    → ((front : List ℕ) → IsFed p.reader front → Answers (answer_at f p.line front) r old new)
     → OnOk r (IsFed q.reader []) → OnOk r (q.line ≡ p.line + 1) → TakesNext f (take 1 bytes) p q r old new
 line_feed_taken bytes some feed answers reader line = record {
   takes = λ front at. first_piece _ front bytes _ _ _ _ _ some (takes_end_of_line _ front _ _ _ _ _ feed (answers front at) reader line);
@@ -44,7 +45,7 @@ pub byte_taken : {f : LineAnswers} (bytes : List ℕ) {p q : Progress} {out : An
     → q.line ≡ p.line → has_fault out.target ≡ false → TakesNext f (take 1 bytes) p q (Ok tt) out out
 byte_taken bytes {p = p} {q = q} {out = out} some other fed line works = record {
   takes = λ front at. first_piece _ front bytes p.line q (Ok tt) out out some
-      (takes_inside _ front _ p.line q out tt (All-cons (λ b. b ≢ 10) _ [] other (All-nil (λ b. b ≢ 10))) (fed front at) line works);
+      (takes_inside _ front _ p.line q out (All-cons (λ b. b ≢ 10) _ [] other (All-nil (λ b. b ≢ 10))) (fed front at) line works);
 }
 
 -- a block, piece by piece
@@ -70,11 +71,15 @@ block_whole {f = f} bytes n {p = p} {q = q} {r = r} {h = h} {i = i} fits x = sub
 
 pub block_sent : {f : LineAnswers} {bytes : List ℕ} {p q : Progress} {h i j : AnswerState}
     → TakesNext f bytes p q (Ok tt) h i → Writes [] 0 i j → TakesNext f bytes p q (Ok tt) h j
-block_sent x w = record { takes = λ front at. let y = x.takes front at in (lines_sent y.0 w, y.1) }
+block_sent {f = f} {bytes = bytes} {p = p} x w = record {
+  takes = λ front at. let y = x.takes front at in (answers_sent (answers_from f p.line (ended_lines front bytes)) y.0 w, y.1);
+}
 
 pub block_unsent : {f : LineAnswers} {bytes : List ℕ} {p q : Progress} {h i j : AnswerState}
     → TakesNext f bytes p q (Ok tt) h i → Refuses [] 0 i j → TakesNext f bytes p q (Err CannotWrite) h j
-block_unsent x w = record { takes = λ front at. lines_unsent (x.takes front at).0 w }
+block_unsent {f = f} {bytes = bytes} {p = p} x w = record {
+  takes = λ front at. (answers_unsent (answers_from f p.line (ended_lines front bytes)) (x.takes front at).0 w, tt);
+}
 
 -- the end of an input
 
@@ -82,16 +87,16 @@ pub no_last : {f : LineAnswers} {p : Progress} {out : AnswerState} → p.reader.
 no_last none works = record { takes = λ front at. takes_no_line _ front _ _ at none works }
 
 pub last_line : {f : LineAnswers} {p : Progress} {r : Result (Unit {0}) Stop} {old new : AnswerState}
-    → p.reader.fed ≢ 0 → ((front : List ℕ) → IsFed p.reader front → AnswersBytes f front p.line r old new) → TakesLast f p r old new
-last_line some answers = record { takes = λ front at. takes_last_line _ _ _ _ _ at some (answers front at) }
+    → p.reader.fed ≢ 0 → ((front : List ℕ) → IsFed p.reader front → Answers (answer_at f p.line front) r old new) → TakesLast f p r old new
+last_line some answers = record { takes = λ front at. takes_last_line _ front _ _ _ _ at some (answers front at) }
 
 pub last_sent : {f : LineAnswers} {p : Progress} {h i j : AnswerState}
     → TakesLast f p (Ok tt) h i → Writes [] 0 i j → TakesLast f p (Ok tt) h j
-last_sent x w = record { takes = λ front at. lines_sent (x.takes front at) w }
+last_sent {f = f} {p = p} x w = record { takes = λ front at. answers_sent (answers_from f p.line (line_with_bytes front)) (x.takes front at) w }
 
 pub last_unsent : {f : LineAnswers} {p : Progress} {h i j : AnswerState}
     → TakesLast f p (Ok tt) h i → Refuses [] 0 i j → TakesLast f p (Err CannotWrite) h j
-last_unsent x w = record { takes = λ front at. lines_unsent (x.takes front at) w }
+last_unsent {f = f} {p = p} x w = record { takes = λ front at. answers_unsent (answers_from f p.line (line_with_bytes front)) (x.takes front at) w }
 
 -- what lines take that keep their work
 

@@ -1,13 +1,13 @@
 -- What the engine's steps do. `front` are the bytes of the line that is being read.
-use Rattle.std.specs.Prelude.{◌≡◌, ◌⊎◌, ℕ, ◌+◌, ◌*◌, ◌^◌, ◌≤◌, Bool, true, false, Some, None, Result, Ok, Err, List, [], ◌++◌, length}
+use Rattle.std.specs.Prelude.{◌≡◌, ℕ, ◌+◌, ◌*◌, ◌^◌, ◌≤◌, Bool, true, false, Result, Ok, Err, OnOk, List, [], ◌++◌, length}
 use Rattle.niss_shell.specs.Device.{SourceState, TargetState, has_fault, Gave, Appended, Flushes, WriteRefused}
-use Rattle.niss_shell.specs.Lines.{ended_lines, last_part, written_text, first_fault}
+use Rattle.niss_shell.specs.Lines.{ended_lines, last_part}
 use Rattle.niss_moves.specs.Line.{Moves}
 use Rattle.niss_moves.specs.Reader.{Reader, IsFed}
 use Rattle.niss_shell.specs.Words.{Request, reads_source, takes_memory}
-use Rattle.niss_shell.specs.Output.{Answer, LineAnswers, answer_to_moves, looks_at_moves}
-use Rattle.niss_shell.specs.Output.{looks_for, answer_lines, answer_request, line_with_bytes, ending}
-use Rattle.niss_shell.specs.Names.{LineCommand, UsageFault, DeviceFault, LineFault, Stop, Line, CannotWrite, OutOfMemory, Output}
+use Rattle.niss_shell.specs.Output.{Answer, LineAnswers, answer_to_moves, looks_at_moves, most_line_looks, line_answer}
+use Rattle.niss_shell.specs.Output.{answers_from, answer_lines, answer_request, line_with_bytes, ending}
+use Rattle.niss_shell.specs.Names.{LineCommand, UsageFault, DeviceFault, Stop, CannotWrite, OutOfMemory, Output}
 
 -- What answers to lines change: the target that they are written to, the answers that wait to be written to it, and the
 -- count of the looks.
@@ -74,31 +74,10 @@ RefusesLine state text old new =
     (new.pending.items ≡ []) × (has_fault (state old.target.now) ≡ false → (looks : ℕ) →
     Refuses text 0 (output_state state old looks) (output_state state new looks))
 
--- the answers to these lines, up to the first fault, were written
-abbrev pub WritesAnswers : LineAnswers → List (List ℕ) → AnswerState → AnswerState → Type 0
-WritesAnswers f lines old new = Writes (written_text f.answer_of lines) (looks_for f lines) old new
-
--- a write of them was refused
-abbrev pub RefusesAnswers : LineAnswers → List (List ℕ) → AnswerState → AnswerState → Type 0
-RefusesAnswers f lines old new = Refuses (written_text f.answer_of lines) (looks_for f lines) old new
-
--- None of the lines has a fault, and all answers are written.
-pub record AllAnswered (f : LineAnswers) (n : ℕ) (lines : List (List ℕ))
-    (old new : AnswerState) : Type 0 where
-  pub faultless : first_fault f.answer_of n lines ≡ None
-  pub writes : WritesAnswers f lines old new
-
--- The first fault of the lines came, after the answers before it.
-pub record FaultCame (f : LineAnswers) (n : ℕ) (lines : List (List ℕ))
-    (at : ℕ) (fault : LineFault) (old new : AnswerState) : Type 0 where
-  pub first : first_fault f.answer_of n lines ≡ Some (at, fault)
-  pub writes : WritesAnswers f lines old new
-
--- how the lines stop a run
-abbrev pub StopsWithin : LineAnswers → ℕ → List (List ℕ) → Stop → AnswerState → AnswerState → Type 0
-StopsWithin f n lines CannotWrite old new = RefusesAnswers f lines old new
-StopsWithin f n lines (Line at fault) old new = FaultCame f n lines at fault old new
-StopsWithin f n lines stop old new = ⊥
+-- what a run does before its last flush, where a write may be refused
+abbrev pub Answers : Answer → Result (Unit {0}) Stop → AnswerState → AnswerState → Type 0
+Answers a (Err CannotWrite) old new = Refuses a.output a.looks old new
+Answers a outcome old new = (outcome ≡ a.outcome) × Writes a.output a.looks old new
 
 -- The line that is being read, and its number.
 pub record Progress : Type 0 where
@@ -113,10 +92,8 @@ pub record Advanced (front bytes : List ℕ) (n : ℕ) (progress : Progress) : T
 -- The bytes after `front`, in line n, were taken.
 abbrev pub TakesBytes :
     LineAnswers → List ℕ → List ℕ → ℕ → Progress → Result (Unit {0}) Stop → AnswerState → AnswerState → Type 0
-TakesBytes f front bytes n progress (Ok u) old new =
-    AllAnswered f n (ended_lines front bytes) old new × Advanced front bytes n progress
-TakesBytes f front bytes n progress (Err stop) old new =
-    StopsWithin f n (ended_lines front bytes) stop old new
+TakesBytes f front bytes n progress result old new =
+    Answers (answers_from f n (ended_lines front bytes)) result old new × OnOk result (Advanced front bytes n progress)
 
 -- how many bytes were taken: one where the run stops
 abbrev pub piece_of : Result ℕ Stop → ℕ
@@ -129,8 +106,7 @@ only_stop (Err stop) = Err stop
 
 -- The end of the input after `front`, in line n, was taken.
 abbrev pub TakesEnd : LineAnswers → List ℕ → ℕ → Result (Unit {0}) Stop → AnswerState → AnswerState → Type 0
-TakesEnd f front n (Ok u) old new = AllAnswered f n (line_with_bytes front) old new
-TakesEnd f front n (Err stop) old new = StopsWithin f n (line_with_bytes front) stop old new
+TakesEnd f front n result old new = Answers (answers_from f n (line_with_bytes front)) result old new
 
 -- The next bytes were taken, whatever stood before them in their line.
 pub record TakesNext (f : LineAnswers) (bytes : List ℕ) (before after : Progress)
@@ -143,26 +119,10 @@ pub record TakesLast (f : LineAnswers) (before : Progress)
     (result : Result (Unit {0}) Stop) (old new : AnswerState) : Type 0 where
   pub takes : (front : List ℕ) → IsFed before.reader front → TakesEnd f front before.line result old new
 
--- One line was answered, which takes so many looks.
-abbrev pub AnswersLine :
-    Result (List ℕ) LineFault → ℕ → ℕ → Result (Unit {0}) Stop → AnswerState → AnswerState → Type 0
-AnswersLine (Ok text) looks n (Ok u) old new = Writes text looks old new
-AnswersLine (Ok text) looks n (Err stop) old new = (stop ≡ CannotWrite) × Refuses text looks old new
-AnswersLine (Err fault) looks n (Ok u) old new = ⊥
-AnswersLine (Err fault) looks n (Err stop) old new =
-    ((stop ≡ Line n fault) × Writes [] 0 old new) ⊎ ((stop ≡ CannotWrite) × Refuses [] 0 old new)
-
--- the same of the moves of a line, by a command
-abbrev pub AnswersMoves :
-    LineCommand → Moves → ℕ → Result (Unit {0}) Stop → AnswerState → AnswerState → Type 0
-AnswersMoves command line n result old new =
-    AnswersLine (answer_to_moves command line) (looks_at_moves command line) n result old new
-
--- the same of a line by its bytes
-abbrev pub AnswersBytes :
-    LineAnswers → List ℕ → ℕ → Result (Unit {0}) Stop → AnswerState → AnswerState → Type 0
-AnswersBytes f bytes n result old new =
-    AnswersLine (f.answer_of bytes) (f.looks_of bytes) n result old new
+-- the answer to the moves of line n, by a command
+abbrev pub answer_at_moves : LineCommand → ℕ → Moves → Answer
+answer_at_moves command n line =
+    line_answer n (looks_at_moves command line) (most_line_looks command) (answer_to_moves command line)
 
 -- The looks before line n leave room for those of the rest of a run: at most 2 ^ 64 before the first line, and less
 -- than 2 ^ 93 at each.
@@ -176,11 +136,6 @@ pub record IsAt (f : LineAnswers) (count : ℕ) (progress : Progress)
   pub gave : Gave source source_now input
   pub takes : TakesBytes f [] input 1 progress (Ok tt) old new
   pub count_is : count ≡ length input
-
--- what a run does before its last flush, where a write may be refused
-abbrev pub Answers : Answer → Result (Unit {0}) Stop → AnswerState → AnswerState → Type 0
-Answers a (Err CannotWrite) old new = Refuses a.output a.looks old new
-Answers a outcome old new = (outcome ≡ a.outcome) × Writes a.output a.looks old new
 
 -- The source was read as far as needed, and its lines answered.
 pub record AnswersSource (f : LineAnswers) (outcome : Result (Unit {0}) Stop)

@@ -1,8 +1,8 @@
 -- What a run is to write and to answer.
-use Rattle.std.specs.Prelude.{ℕ, zero, suc, ◌*◌, nat_lt, Bool, true, false, if◌then◌else◌, codes, decimal}
-use Rattle.std.specs.Prelude.{Option, Some, None, Result, Ok, Err, List, [], ◌∷◌, ◌++◌, map, flat_map, take, length, sum_by, unwrap_or}
+use Rattle.std.specs.Prelude.{ℕ, zero, suc, ◌+◌, nat_lt, Bool, true, false, if◌then◌else◌, codes, decimal}
+use Rattle.std.specs.Prelude.{Option, Some, None, Result, Ok, Err, List, [], ◌∷◌, ◌++◌, map, flat_map, take, length, unwrap_or}
 use Rattle.niss_shell.specs.Device.{SourceState}
-use Rattle.niss_shell.specs.Lines.{line_feed, space, ended_lines, last_part, written_text, answered_lines, first_fault}
+use Rattle.niss_shell.specs.Lines.{line_feed, space, ended_lines, last_part}
 use Rattle.niss_cube.specs.Steps.{name_of, start_name_of, steps, turns_of, may_start}
 use Rattle.niss_moves.specs.CleanedLine.{with_clean_line}
 use Rattle.niss_moves.specs.CleanText.{turn_words}
@@ -163,13 +163,6 @@ line_answers command = record {
   most_looks = most_line_looks command;
 }
 
--- the looks that the answers to these lines take, up to the first that has a fault
-abbrev pub looks_for : LineAnswers → List (List ℕ) → ℕ
-looks_for answers lines = sum_by answers.looks_of (answered_lines answers.answer_of lines)
-
-abbrev pub most_looks_for : LineAnswers → List (List ℕ) → ℕ
-most_looks_for answers lines = answers.most_looks * length (answered_lines answers.answer_of lines)
-
 -- how the source was left: with more to give, at its end, or failed
 pub data Ending : Type 0 where
   More : Ending
@@ -195,6 +188,35 @@ pub record Answer : Type 0 where
 abbrev pub unsearched : List ℕ → Result (Unit {0}) Stop → Answer
 unsearched output outcome = record { output = output; outcome = outcome; looks = 0; most_looks = 0 }
 
+-- an answer that ends so, and the one after it: nothing comes after a fault
+abbrev pub joined_answer : Result (Unit {0}) Stop → Answer → Answer → Answer
+joined_answer (Ok u) first next = record {
+  output = first.output ++ next.output;
+  outcome = next.outcome;
+  looks = first.looks + next.looks;
+  most_looks = first.most_looks + next.most_looks;
+}
+joined_answer (Err stop) first next = first
+
+abbrev pub then_answer : Answer → Answer → Answer
+then_answer first next = joined_answer first.outcome first next
+
+-- the answer to line n: its fault, or a text with its looks and the most that there may be
+abbrev pub fault_answer : ℕ → LineFault → Answer
+fault_answer n fault = unsearched [] (Err (Line n fault))
+
+abbrev pub line_answer : ℕ → (looks most_looks : ℕ) → Result (List ℕ) LineFault → Answer
+line_answer n looks most (Ok text) = record { output = text; outcome = Ok tt; looks = looks; most_looks = most }
+line_answer n looks most (Err fault) = fault_answer n fault
+
+abbrev pub answer_at : LineAnswers → ℕ → List ℕ → Answer
+answer_at answers n line = line_answer n (answers.looks_of line) answers.most_looks (answers.answer_of line)
+
+-- the answers to lines, the first of which has the number n, up to the first fault
+unfoldable pub answers_from : LineAnswers → ℕ → List (List ℕ) → Answer
+answers_from answers n [] = unsearched [] (Ok tt)
+answers_from answers n (line ∷ lines) = then_answer (answer_at answers n line) (answers_from answers (n + 1) lines)
+
 -- the line alone, or no line where it has no byte
 abbrev pub line_with_bytes : List ℕ → List (List ℕ)
 line_with_bytes [] = []
@@ -214,19 +236,14 @@ outcome_at_end Fail = Err CannotRead
 outcome_at_end End = Ok tt
 outcome_at_end More = Ok tt
 
-abbrev pub outcome_of : Option (ℕ × LineFault) → List ℕ → Ending → Result (Unit {0}) Stop
-outcome_of (Some fault) input ended = Err (Line fault.0 fault.1)
-outcome_of None input ended =
-    if nat_lt most_bytes (length input) then Err InputTooLong else outcome_at_end ended
+-- how a run ends whose lines have no fault
+abbrev pub outcome_of : List ℕ → Ending → Result (Unit {0}) Stop
+outcome_of input ended = if nat_lt most_bytes (length input) then Err InputTooLong else outcome_at_end ended
 
 -- the answers to the complete lines of an input, up to the first fault
 abbrev pub answer_lines : LineAnswers → List ℕ → Ending → Answer
-answer_lines answers input ended = record {
-  output = written_text answers.answer_of (complete_lines input ended);
-  outcome = outcome_of (first_fault answers.answer_of 1 (complete_lines input ended)) input ended;
-  looks = looks_for answers (complete_lines input ended);
-  most_looks = most_looks_for answers (complete_lines input ended);
-}
+answer_lines answers input ended =
+    then_answer (answers_from answers 1 (complete_lines input ended)) (unsearched [] (outcome_of input ended))
 
 -- Words that give the input take the source's place, and are refused as a whole where they are too long.
 abbrev pub answer_on_lines : LineAnswers → List (List ℕ) → List ℕ → Ending → Answer

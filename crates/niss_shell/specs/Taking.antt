@@ -3,8 +3,8 @@ use Rattle.std.specs.Prelude.{◌≡◌, ℕ, Result, List}
 use Rattle.niss_moves.specs.Reader.{IsFed}
 use Rattle.niss_shell.specs.Device.{TargetState}
 use Rattle.niss_shell.specs.Job.{command_of}
-use Rattle.niss_shell.specs.Output.{LineAnswers, line_answers}
-use Rattle.niss_shell.specs.Engine.{AnswerState, Progress, TakesNext, TakesLast, AnswersBytes, output_state}
+use Rattle.niss_shell.specs.Output.{LineAnswers, line_answers, answer_at}
+use Rattle.niss_shell.specs.Engine.{AnswerState, Progress, Answers, TakesNext, TakesLast, output_state}
 use Rattle.niss_shell.specs.Names.{Lines, Output, Stop}
 
 -- what lines change of their output, by what a contract sees of its target
@@ -27,7 +27,7 @@ abbrev pub AnswersOpenLine :
     {A : Type 0} → Result (Unit {0}) Stop → Lines A → AnswerState → AnswerState → Type 0
 AnswersOpenLine result lines old new =
     (bytes : List ℕ) → IsFed lines.reader bytes →
-    AnswersBytes (answers_of lines) bytes lines.line result old new
+    Answers (answer_at (answers_of lines) lines.line bytes) result old new
 
 -- The next bytes were taken.
 abbrev pub Takes :

@@ -35,9 +35,8 @@ pub struct Lines<'a, A: Allocator> {
 
 impl<'a, A: Allocator> Lines<'a, A> {
     ghost use Rattle.niss_moves.specs.Reader.{moves_of};
-    ghost use Rattle.niss_shell.specs.Engine.{MayBegin, AnswersLine, AnswersMoves, AnswersSource, Answers, HasRoom};
-    ghost use Rattle.niss_shell.specs.Engine.{piece_of, only_stop};
-    ghost use Rattle.niss_shell.specs.Output.{answer_lines, End};
+    ghost use Rattle.niss_shell.specs.Engine.{MayBegin, Answers, AnswersSource, HasRoom, answer_at_moves, piece_of, only_stop};
+    ghost use Rattle.niss_shell.specs.Output.{answer_lines, fault_answer, End};
     ghost use Rattle.niss_shell.specs.Job.{command_of};
     ghost use Rattle.niss_shell.specs.Taking.{Keeps, AnswersOpenLine, Takes, Ends, answers_of, lines_state};
 
@@ -64,7 +63,7 @@ impl<'a, A: Allocator> Lines<'a, A> {
         requires works { has_fault (W.state output.old.target.now) ≡ false }
         ensures keeps { Keeps self.old self.new }
         ensures same_target { output.new.target.ghost_name ≡ output.old.target.ghost_name }
-        ensures refused { (looks : ℕ) → AnswersLine (Err fault) looks self.old.line result
+        ensures refused { Answers (fault_answer self.old.line fault) result
             (lines_state W.state output.old self.old) (lines_state W.state output.new self.new) }
         ensures stops { OnOk result ⊥ }
         ensures empty { OnErr result (output.new.pending.items ≡ []) }
@@ -86,8 +85,8 @@ impl<'a, A: Allocator> Lines<'a, A> {
         requires meter { self.old.looks.now ≤ 2 ^ 127 }
         ensures keeps { Keeps self.old self.new }
         ensures same_target { output.new.target.ghost_name ≡ output.old.target.ghost_name }
-        ensures answers { AnswersMoves (command_of self.old.work.now) (moves_of self.old.reader)
-            self.old.line result
+        ensures answers { Answers
+            (answer_at_moves (command_of self.old.work.now) self.old.line (moves_of self.old.reader)) result
             (lines_state W.state output.old self.old) (lines_state W.state output.new self.new) }
         ensures works { OnOk result (has_fault (W.state output.new.target.now) ≡ false) }
         ensures empty { OnErr result (output.new.pending.items ≡ []) }

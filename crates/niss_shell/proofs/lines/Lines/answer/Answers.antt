@@ -9,7 +9,11 @@ use Rattle.niss_shell.proofs.lines.Lines.answer.Goals as goal
 pub returns-in_err-put-in-Rewrite-clause-answers : goal.returns-in_err-put-in-Rewrite-clause-answers
 returns-in_err-put-in-Rewrite-clause-answers g c =
     let p = err_from_is_err_and c.from_residual.result c.from_residual.ensures.1 in
-    rw (p.1, p.2, c.in-Rewrite.is, ← c.moves.ensures, ← c.rewrite.ensures) (refl, c.in_err-put-in-Rewrite.ensures.taken c.requires.works c.args.self.now.looks.now)
+    rw (p.1, p.2, c.in-Rewrite.is, ← c.moves.ensures, ← c.rewrite.ensures) (c.in_err-put-in-Rewrite.ensures.taken c.requires.works c.args.self.now.looks.now)
+
+pub returns-in_ok-put-in-Rewrite-clause-answers : goal.returns-in_ok-put-in-Rewrite-clause-answers
+returns-in_ok-put-in-Rewrite-clause-answers g c =
+    rw (c.in-Rewrite.is, ← c.moves.ensures, ← c.rewrite.ensures) (refl, c.in_ok-put-in-Rewrite.ensures.taken c.requires.works c.args.self.now.looks.now)
 
 pub returns-in_ok-put-in-Rewrite-clause-works : goal.returns-in_ok-put-in-Rewrite-clause-works
 returns-in_ok-put-in-Rewrite-clause-works g c = (c.in_ok-put-in-Rewrite.ensures.taken c.requires.works c.args.self.now.looks.now).works
