@@ -1,106 +1,59 @@
 -- A line has one fault.
-use Rattle.niss_moves.proofs.Names.{refl, ap, sym, ◌∙◌, subst, subst₂, arith, inl, inr, ◌≡◌, ℕ, ◌+◌, ◌-◌, ◌<◌, Bool, true, false, List}
+use Rattle.niss_moves.proofs.Names.{refl, ap, sym, ◌∙◌, subst, arith, inl, inr, ◌≡◌, ℕ, ◌+◌, ◌-◌, ◌<◌, Bool, true, false, List}
 use Rattle.niss_moves.proofs.Names.{[], ◌∷◌, ◌++◌, length, take, drop, Option, None, Some, Result, Ok, Err, suc, ◌==◌, ◌||◌, not}
-use Rattle.niss_moves.proofs.Names.{has_no_bracket, Cut, Whole, LacksOne, LacksTwo, cut_length, Continues, CanContinue, BeginsBase}
+use Rattle.niss_moves.proofs.Names.{has_no_bracket, Cut, Whole, cut_length, Continues, CanContinue, BeginsBase}
 use Rattle.niss_moves.proofs.Names.{StopsAt, Stops, Lacks, Faults, symbol_of, State, start, step, and_then, run, ended, ended_at}
-use Rattle.niss_moves.proofs.Names.{ended_in, Base, Symbol, LastMove, ReadFault, NotAMove, Nested, Unopened, Unclosed, TooLong}
+use Rattle.niss_moves.proofs.Names.{ended_in, Symbol, LastMove, ReadFault, NotAMove, Nested, Unopened, Unclosed, TooLong}
 use Rattle.std.proofs.lemmas.List.{take-append-drop, take_more, take_all, length-take-le}
 use Rattle.niss_moves.specs.declared.partial_line.LastMove.TheVariants as last
 use Rattle.niss_moves.specs.declared.symbol.Symbol.TheVariants as symbol
 use Rattle.niss_moves.proofs.Finite.{and_right}
 use Rattle.niss_moves.proofs.Completes.{run-append}
-use Rattle.niss_moves.proofs.Sound.{Reads, cut_of, is_open, Refusal, Outcome, step_means}
-use Rattle.niss_moves.proofs.Symbols.{first_symbol, symbol_of_open, symbol_of_close}
+use Rattle.niss_moves.proofs.Sound.{Reads, cut_of, is_open, fault_by, fault_at, Outcome, step_means}
+use Rattle.niss_moves.proofs.Symbols.{IsSymbol, symbol_is, first_symbol}
 use Rattle.niss_moves.proofs.Whole.{reads_all, can_continue, continued_ok, opens_at}
 use Rattle.niss_moves.proofs.Endings.{one_ending}
 
--- what a stop says of the run
-pub record Stopped (bytes : List ℕ) (column : ℕ) (c : Cut) (q : Bool) (byte : ℕ) : Type 0 where
-  pub fault : ReadFault
-  pub ran : run start bytes ≡ Err fault
-  pub reported : Refusal c q byte (column - 1) fault
-
-stopped : (bytes : List ℕ) (column : ℕ) (c : Cut) (q : Bool) (byte : ℕ) → StopsAt bytes column c q byte → Stopped bytes column c q byte
+-- Where bytes stop, the run has the fault of the byte there.
+stopped : (bytes : List ℕ) (column : ℕ) (c : Cut) (q : Bool) (byte : ℕ) → StopsAt bytes column c q byte → run start bytes ≡ Err (fault_at c q byte column)
 stopped bytes column c q byte h =
-    let w = continued_ok (take (column - 1) bytes) (h.before (column - 1) (omega (arith, h.positive))) in
+    let front = take (column - 1) bytes in
+    let w = continued_ok front (h.before (column - 1) (omega (arith, h.positive))) in
     let one = one_ending _ w.0 c q w.1 h.ends_so in
     let lt : column - 1 < length bytes = omega (arith, h.positive, h.within) in
-    let split : take column bytes ≡ take (column - 1) bytes ++ byte ∷ [] = ap (λ n. take n bytes) (omega (arith, h.positive)) ∙ take_more bytes (column - 1) 0 lt ∙ ap (λ b. take (column - 1) bytes ++ b ∷ []) (sym h.byte_is) in
-    let front : run start (take column bytes) ≡ and_then (step w.0 byte) (λ t. Ok t) = ap (run start) split ∙ run-append 256 start (take (column - 1) bytes) (byte ∷ []) ∙ ap (λ r. and_then r (λ t. run t (byte ∷ []))) w.1 in
-    by_step w.0 one.0 one.1 (step w.0 byte) refl (step_means w.0 (take (column - 1) bytes) byte (reads_all _ w.0 w.1)) front (length_is lt)
+    let split : take column bytes ≡ front ++ byte ∷ [] = ap (λ n. take n bytes) (omega (arith, h.positive)) ∙ take_more bytes (column - 1) 0 lt ∙ ap (λ b. front ++ b ∷ []) (sym h.byte_is) in
+    let step_is : run start (take column bytes) ≡ and_then (step w.0 byte) (λ t. Ok t) = ap (run start) split ∙ run-append 256 start front (byte ∷ []) ∙ ap (λ r. and_then r (λ t. run t (byte ∷ []))) w.1 in
+    let reads = reads_all front w.0 w.1 in
+    let at : w.0.fed + 1 ≡ column = (let long = length-take-le (column - 1) bytes (omega (arith, lt)) in omega (arith, reads.fed, long, h.positive)) in
+    by_step _ _ (step w.0 byte) (step_means w.0 front byte reads) step_is ∙ (λ i. Err (fault_at (one.0 i) (one.1 i) byte (at i)))
   where
-    length_is : column - 1 < length bytes → length (take (column - 1) bytes) ≡ column - 1
-    length_is lt = length-take-le (column - 1) bytes (omega arith)
+    by_step : (fault : ReadFault) (front : List ℕ) (r : Result State ReadFault) → Outcome fault front r → run start (take column bytes) ≡ and_then r (λ t. Ok t) → run start bytes ≡ Err fault
+    by_step fault front (Ok t) k f = absurd (h.stops (can_continue (take column bytes) t f))
+    by_step fault front (Err g) k f =
+        ap (run start) (sym (take-append-drop column bytes)) ∙ run-append 256 start (take column bytes) (drop column bytes) ∙ ap (λ r. and_then r (λ t. run t (drop column bytes))) f ∙ ap Err k
 
-    by_step : (s : State) → cut_of s.last ≡ c → is_open s.bracket ≡ q → (r : Result State ReadFault) → step s byte ≡ r → Outcome (cut_of s.last) (is_open s.bracket) (take (column - 1) bytes) byte r → run start (take column bytes) ≡ and_then r (λ t. Ok t) → length (take (column - 1) bytes) ≡ column - 1 → Stopped bytes column c q byte
-    by_step s ec eq (Ok t) e k f l = absurd (h.stops (can_continue (take column bytes) t f))
-    by_step s ec eq (Err g) e k f l =
-        record {
-          fault = g;
-          ran = ap (run start) (sym (take-append-drop column bytes)) ∙ run-append 256 start (take column bytes) (drop column bytes) ∙ ap (λ r. and_then r (λ t. run t (drop column bytes))) f;
-          reported = subst (λ (n : ℕ). Refusal c q byte n g) l (subst₂ (λ (x : Cut) (y : Bool). Refusal x y byte (length (take (column - 1) bytes)) g) ec eq k);
-        }
+other_fault : (x : Symbol) (o : Bool) (byte column : ℕ) → IsSymbol x byte → ((byte ≡ 40) × (o ≡ true) → ⊥) → ((byte ≡ 41) × (o ≡ false) → ⊥) → (BeginsBase byte → ⊥) → fault_by x o column ≡ NotAMove column
+other_fault symbol.Open true byte column i nested unopened long = absurd (nested (i, refl))
+other_fault symbol.Close false byte column i nested unopened long = absurd (unopened (i, refl))
+other_fault (symbol.Base b) o byte column i nested unopened long = absurd (long (b, [], i))
+other_fault _ _ byte column i nested unopened long = refl
 
-not_base : (byte : ℕ) (x : Symbol) → symbol_of byte ≡ x → ((b : Base) → x ≡ symbol.Base b → ⊥) → BeginsBase byte → ⊥
-not_base byte x e n h = let w = first_symbol h.0 byte h.1 h.2 in n w.0 (sym e ∙ w.1)
-
-not_base_40 : (byte : ℕ) → byte ≡ 40 → BeginsBase byte → ⊥
-not_base_40 byte e = not_base byte symbol.Open (ap symbol_of e ∙ symbol_of_open) (λ b q. cc)
-
-not_base_41 : (byte : ℕ) → byte ≡ 41 → BeginsBase byte → ⊥
-not_base_41 byte e = not_base byte symbol.Close (ap symbol_of e ∙ symbol_of_close) (λ b q. cc)
-
-abbrev IsOther : Bool → ℕ → Type 0
-IsOther q byte =
-    ((byte ≡ 40) × (q ≡ true) → ⊥) × ((byte ≡ 41) × (q ≡ false) → ⊥) × (BeginsBase byte → ⊥)
-
--- the fault that a refused byte has
-other_reported : (column byte : ℕ) (q : Bool) (g : ReadFault) → 0 < column → IsOther q byte → Refusal Whole q byte (column - 1) g → g ≡ NotAMove column
-other_reported column byte q (NotAMove c) p n t = ap NotAMove (let e = t.0 in omega arith)
-other_reported column byte q (Nested c) p n t = absurd (n.0 (t.1, t.2))
-other_reported column byte q (Unopened c) p n t = absurd (n.1 (t.1, t.2))
-other_reported column byte q (TooLong c) p n t = absurd (n.2 t.1)
-other_reported column byte q (Unclosed c) p n t = absurd t
-
-nested_reported : (column : ℕ) (g : ReadFault) → 0 < column → Refusal Whole true 40 (column - 1) g → g ≡ Nested column
-nested_reported column (NotAMove c) p t = absurd (t.1 (refl, refl))
-nested_reported column (Nested c) p t = ap Nested (let e = t.0 in omega arith)
-nested_reported column (Unopened c) p t = absurd (let e : true ≡ false = t.2 in cc)
-nested_reported column (TooLong c) p t = absurd (not_base_40 40 refl t.1)
-nested_reported column (Unclosed c) p t = absurd t
-
-unopened_reported : (column : ℕ) (g : ReadFault) → 0 < column → Refusal Whole false 41 (column - 1) g → g ≡ Unopened column
-unopened_reported column (NotAMove c) p t = absurd (t.2 (refl, refl))
-unopened_reported column (Nested c) p t = absurd (let e : false ≡ true = t.2 in cc)
-unopened_reported column (Unopened c) p t = ap Unopened (let e = t.0 in omega arith)
-unopened_reported column (TooLong c) p t = absurd (not_base_41 41 refl t.1)
-unopened_reported column (Unclosed c) p t = absurd t
-
-long_reported : (column byte : ℕ) (q : Bool) (g : ReadFault) → 0 < column → BeginsBase byte → Refusal Whole q byte (column - 1) g → g ≡ TooLong column
-long_reported column byte q (NotAMove c) p n t = absurd (t.3 n)
-long_reported column byte q (Nested c) p n t = absurd (not_base_40 byte t.1 n)
-long_reported column byte q (Unopened c) p n t = absurd (not_base_41 byte t.1 n)
-long_reported column byte q (TooLong c) p n t = ap TooLong (let e = t.0 in omega arith)
-long_reported column byte q (Unclosed c) p n t = absurd t
-
-cut_reported : (column byte : ℕ) (q : Bool) (c : Cut) (g : ReadFault) → 0 < cut_length c → Refusal c q byte (column + cut_length c - 1) g → g ≡ NotAMove column
-cut_reported column byte q Whole g p t = absurd (omega arith)
-cut_reported column byte q LacksOne (NotAMove c) p t = ap NotAMove (omega (arith, t))
-cut_reported column byte q LacksTwo (NotAMove c) p t = ap NotAMove (omega (arith, t))
-cut_reported column byte q _ _ p t = absurd t
+cut_fault : (c : Cut) (o : Bool) (byte column : ℕ) → 0 < cut_length c → fault_at c o byte (column + cut_length c) ≡ NotAMove column
+cut_fault Whole o byte column p = absurd (omega (arith, p))
+cut_fault _ o byte column p = ap NotAMove (omega arith)
 
 stops_run : (bytes : List ℕ) (f : ReadFault) → Stops bytes f → run start bytes ≡ Err f
+unfolding symbol_of
 stops_run bytes (NotAMove column) h =
     elim h [
-      | inl w ↦ (let s = stopped bytes column Whole w.1 w.0 w.2 in s.ran ∙ ap Err (other_reported column w.0 w.1 s.fault w.2.positive (w.3, w.4, w.5) s.reported))
-      | inr w ↦ (let s = stopped bytes (column + cut_length w.2) w.2 w.1 w.0 w.4 in s.ran ∙ ap Err (cut_reported column w.0 w.1 w.2 s.fault w.3 s.reported))
+      | inl w ↦ stopped bytes column Whole w.1 w.0 w.2 ∙ ap Err (other_fault (symbol_of w.0) w.1 w.0 column (symbol_is w.0) w.3 w.4 w.5)
+      | inr w ↦ stopped bytes (column + cut_length w.2) w.2 w.1 w.0 w.4 ∙ ap Err (cut_fault w.2 w.1 w.0 column w.3)
     ]
-stops_run bytes (Nested column) h =
-    let s = stopped bytes column Whole true 40 h in s.ran ∙ ap Err (nested_reported column s.fault h.positive s.reported)
-stops_run bytes (Unopened column) h =
-    let s = stopped bytes column Whole false 41 h in s.ran ∙ ap Err (unopened_reported column s.fault h.positive s.reported)
+stops_run bytes (Nested column) h = stopped bytes column Whole true 40 h
+stops_run bytes (Unopened column) h = stopped bytes column Whole false 41 h
 stops_run bytes (TooLong column) h =
-    let s = stopped bytes column Whole h.1 h.0 h.3 in s.ran ∙ ap Err (long_reported column h.0 h.1 s.fault h.3.positive h.2 s.reported)
+    let w = first_symbol h.2.0 h.0 h.2.1 h.2.2 in
+    stopped bytes column Whole h.1 h.0 h.3 ∙ ap (λ x. Err (fault_by x h.1 column)) w.1
 stops_run bytes (Unclosed column) h = absurd h
 
 -- the last opening bracket is one

@@ -8,7 +8,7 @@ use Rattle.niss_moves.specs.Reader.{Reader, IsFed, line_with, read_line}
 use Rattle.niss_moves.specs.Names.{Token, LastMove, ReadFault}
 use Rattle.niss_moves.specs.declared.partial_line.LastMove.TheVariants as last
 use Rattle.niss_moves.proofs.Completes.{IsReady, state, and_then-assoc, run-append, completes}
-use Rattle.niss_moves.proofs.Sound.{IsLast, ready_whole, cut_of, is_open, long_enough}
+use Rattle.niss_moves.proofs.Sound.{ready_whole, cut_of, cut_fits, is_open}
 use Rattle.niss_moves.proofs.Whole.{reads_all, run_stops, ends_whole, lacks_bracket, lacks_apostrophe}
 use Rattle.niss_moves.proofs.OneFault.{ended_whole, fault_ended}
 use Rattle.niss_moves.proofs.Room.{room_kept}
@@ -37,8 +37,7 @@ final bytes (Ok s) e = by_last s.last refl
         inr (lacks_apostrophe bytes s s.fed (sym e) (subst (λ (x : LastMove). 0 < cut_length (cut_of x)) (sym t) (omega arith)) (λ r. subst (λ (x : LastMove). IsReady x) t r) (subst (λ (x : LastMove). s.fed + cut_length (cut_of x) ≡ length bytes + 1) (sym t) (omega (arith, h.fed))))
     by_last (last.SecondByte x) t =
         let h = reads_all bytes s (sym e) in
-        let cut = subst (λ (x : LastMove). IsLast x h.rest) t h.is_last in
-        let long = long_enough _ _ _ h.bytes_are cut.long in
+        let long = subst (λ (x : LastMove). cut_length (cut_of x) ≤ length bytes) t (cut_fits s bytes h) in
         inr (lacks_apostrophe bytes s (s.fed - 1) (sym e) (subst (λ (x : LastMove). 0 < cut_length (cut_of x)) (sym t) (omega arith)) (λ r. subst (λ (x : LastMove). IsReady x) t r) (subst (λ (x : LastMove). s.fed - 1 + cut_length (cut_of x) ≡ length bytes + 1) (sym t) (omega (arith, h.fed))))
     by_last _ t = by_bracket s.bracket (ap cut_of t) refl
 

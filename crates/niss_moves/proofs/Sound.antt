@@ -5,14 +5,14 @@ use Rattle.std.proofs.Math.Path.{subst₃}
 use Rattle.std.proofs.lemmas.List.Concat.{flat_map-append}
 use Rattle.niss_moves.specs.Notation.{token_of, base_bytes, Typographic, Plain, Nothing, Two, Prime, TwoPrime, blank_byte}
 use Rattle.niss_moves.specs.Line.{Piece, Gap, Spelled, piece_bytes, piece_moves, Item, Outside, Bracket, item_bytes, item_normal, item_bracketed}
-use Rattle.niss_moves.specs.Faults.{Cut, Whole, LacksOne, LacksTwo, cut_ending, cut_length, BeginsBase}
+use Rattle.niss_moves.specs.Faults.{Cut, Whole, LacksOne, LacksTwo, cut_ending, cut_length}
 use Rattle.niss_moves.specs.Machine.{symbol_of, State, start, outside, inside, settled, opened, closed, begun, count, with_last, fed_to, step_by, step_at, step, step_within}
-use Rattle.niss_moves.specs.Names.{Quarter, Half, Counter, Token, Base, Symbol, LastMove, ReadFault, NotAMove, Nested, Unopened, Unclosed, TooLong}
+use Rattle.niss_moves.specs.Names.{Quarter, Half, Counter, Token, Base, Symbol, LastMove, ReadFault, NotAMove, Nested, Unopened, TooLong}
 use Rattle.niss_moves.specs.declared.base.Base.TheVariants as base
 use Rattle.niss_moves.specs.declared.partial_line.LastMove.TheVariants as last
 use Rattle.niss_moves.specs.declared.symbol.Symbol.TheVariants as symbol
 use Rattle.niss_moves.proofs.Completes.{IsReady, state, counted, count_more, outside_none, inside_none}
-use Rattle.niss_moves.proofs.Symbols.{IsSymbol, symbol_is, symbol_of_open, symbol_of_close, first_symbol}
+use Rattle.niss_moves.proofs.Symbols.{IsSymbol, symbol_is}
 
 -- the bytes so far as whole items, with these moves, and an open bracket with its pieces if there is one
 pub data WholeItems : Option ℕ → List ℕ → List Token → List Token → Type 0 where
@@ -109,38 +109,36 @@ pub whole_front : (s : State) (bytes : List ℕ) → cut_of s.last ≡ Whole →
 whole_front s bytes w h =
     subst (λ (x : List ℕ). WholeItems s.bracket x (settled s).normal (settled s).bracketed) (ap (λ c. bytes ++ cut_ending c) w ∙ append-nil bytes) (settled_front s bytes h)
 
+-- the bytes that a cut U+2019 has
+pub cut_fits : (s : State) (bytes : List ℕ) → Reads s bytes → cut_length (cut_of s.last) ≤ length bytes
+cut_fits s bytes h =
+    let here = by_last s.last h.is_last in omega (arith, here, ap length h.bytes_are, length-append h.front h.rest)
+  where
+    by_last : (t : LastMove) → IsLast t h.rest → cut_length (cut_of t) ≤ length h.rest
+    by_last (last.FirstByte t) k = k.long
+    by_last (last.SecondByte t) k = k.long
+    by_last _ k = omega arith
+
 abbrev pub is_open : Option ℕ → Bool
 is_open None = false
 is_open (Some c) = true
 
--- what a refused byte means, after n bytes
-abbrev pub Refusal : Cut → Bool → ℕ → ℕ → ReadFault → Type 0
-Refusal Whole o byte n (NotAMove c) =
-    (c ≡ n + 1) × ((byte ≡ 40) × (o ≡ true) → ⊥) × ((byte ≡ 41) × (o ≡ false) → ⊥) × (BeginsBase byte → ⊥)
-Refusal Whole o byte n (Nested c) = (c ≡ n + 1) × (byte ≡ 40) × (o ≡ true)
-Refusal Whole o byte n (Unopened c) = (c ≡ n + 1) × (byte ≡ 41) × (o ≡ false)
-Refusal Whole o byte n (TooLong c) = (c ≡ n + 1) × BeginsBase byte
-Refusal Whole o byte n (Unclosed c) = ⊥
-Refusal LacksOne o byte n (NotAMove c) = c + 2 ≡ n + 1
-Refusal LacksTwo o byte n (NotAMove c) = c + 1 ≡ n + 1
-Refusal _ o byte n _ = ⊥
+-- the fault of a symbol that can't stand at a column
+abbrev pub fault_by : Symbol → Bool → ℕ → ReadFault
+fault_by symbol.Open true column = Nested column
+fault_by symbol.Close false column = Unopened column
+fault_by (symbol.Base b) o column = TooLong column
+fault_by _ o column = NotAMove column
 
-abbrev pub Outcome : Cut → Bool → List ℕ → ℕ → Result State ReadFault → Type 0
-Outcome c o bytes byte (Ok t) = Reads t (bytes ++ byte ∷ [])
-Outcome c o bytes byte (Err f) = Refusal c o byte (length bytes) f
+-- the fault of a byte that can't: of a U+2019 that it cuts, the first byte
+abbrev pub fault_at : Cut → Bool → ℕ → ℕ → ReadFault
+fault_at Whole o byte column = fault_by (symbol_of byte) o column
+fault_at c o byte column = NotAMove (column - cut_length c)
 
--- bytes that begin no item
-abbrev IsFollower : Symbol → Type 0
-IsFollower symbol.Wide = Unit {0}
-IsFollower symbol.Two = Unit {0}
-IsFollower symbol.Apostrophe = Unit {0}
-IsFollower symbol.Cut = Unit {0}
-IsFollower symbol.Other = Unit {0}
-IsFollower _ = ⊥
-
-reported_other : (o : Bool) (byte n k : ℕ) (x : Symbol) → symbol_of byte ≡ x → IsFollower x → k ≡ n → Refusal Whole o byte n (NotAMove (k + 1))
-reported_other o byte n k x e f q =
-    (ap (λ n. n + 1) q, λ h. subst IsFollower (sym e ∙ ap symbol_of h.0 ∙ symbol_of_open) f, λ h. subst IsFollower (sym e ∙ ap symbol_of h.0 ∙ symbol_of_close) f, λ h. let w = first_symbol h.0 byte h.1 h.2 in subst IsFollower (sym e ∙ w.1) f)
+-- what a step comes to: a state of these bytes, or this fault
+abbrev pub Outcome : ReadFault → List ℕ → Result State ReadFault → Type 0
+Outcome fault bytes (Ok t) = Reads t bytes
+Outcome fault bytes (Err f) = f ≡ fault
 
 front_reads : (s : State) (bytes : List ℕ) → WholeItems s.bracket bytes s.normal s.bracketed → s.last ≡ last.Finished → s.fed ≡ length bytes → count (settled s) ≤ 256 → Reads s bytes
 front_reads s bytes h e k r =
@@ -153,20 +151,20 @@ blank_means : (s : State) (bytes : List ℕ) (byte : ℕ) → cut_of s.last ≡ 
 blank_means s bytes byte r h k =
     front_reads (counted (settled s)) _ (subst (λ (x : ℕ). WholeItems s.bracket (bytes ++ x ∷ []) (settled s).normal (settled s).bracketed) (sym k.1) (subst₂ (λ (n b : List Token). WholeItems s.bracket (bytes ++ blank_byte k.0 ∷ []) n b) (sym (outside_none s.bracket _)) (sym (inside_none s.bracket _)) (front_piece _ _ _ _ (Gap k.0) (whole_front s bytes r h)))) refl (fed_more _ _ _ h.fed) h.room
 
-open_means : (o : Option ℕ) (s : State) (bytes : List ℕ) (byte : ℕ) → s.bracket ≡ o → cut_of s.last ≡ Whole → Reads s bytes → byte ≡ 40 → Outcome Whole (is_open o) bytes byte (fed_to (s.fed + 1) (opened o s))
+open_means : (o : Option ℕ) (s : State) (bytes : List ℕ) (byte : ℕ) → s.bracket ≡ o → cut_of s.last ≡ Whole → Reads s bytes → byte ≡ 40 → Outcome (fault_by symbol.Open (is_open o) (s.fed + 1)) (bytes ++ byte ∷ []) (fed_to (s.fed + 1) (opened o s))
 open_means None s bytes byte e r h k =
     front_reads _ _ (subst (λ (x : ℕ). WholeItems (Some (s.fed + 1)) (bytes ++ x ∷ []) (settled s).normal (settled s).bracketed) (sym k) (front_open _ (s.fed + 1) _ _ _ e (ap (λ n. n + 1) h.fed) (whole_front s bytes r h))) refl (fed_more _ _ _ h.fed) h.room
-open_means (Some c) s bytes byte e r h k = (ap (λ n. n + 1) h.fed, k, refl)
+open_means (Some c) s bytes byte e r h k = refl
 
-close_means : (o : Option ℕ) (s : State) (bytes : List ℕ) (byte : ℕ) → s.bracket ≡ o → cut_of s.last ≡ Whole → Reads s bytes → byte ≡ 41 → Outcome Whole (is_open o) bytes byte (fed_to (s.fed + 1) (closed o s))
-close_means None s bytes byte e r h k = (ap (λ n. n + 1) h.fed, k, refl)
+close_means : (o : Option ℕ) (s : State) (bytes : List ℕ) (byte : ℕ) → s.bracket ≡ o → cut_of s.last ≡ Whole → Reads s bytes → byte ≡ 41 → Outcome (fault_by symbol.Close (is_open o) (s.fed + 1)) (bytes ++ byte ∷ []) (fed_to (s.fed + 1) (closed o s))
+close_means None s bytes byte e r h k = refl
 close_means (Some c) s bytes byte e r h k =
     front_reads _ _ (subst (λ (x : ℕ). WholeItems None (bytes ++ x ∷ []) (settled s).normal (settled s).bracketed) (sym k) (front_close _ c _ _ _ e (whole_front s bytes r h))) refl (fed_more _ _ _ h.fed) h.room
 
-base_means : (o : Bool) (s : State) (bytes : List ℕ) (byte : ℕ) (b : Base) → cut_of s.last ≡ Whole → Reads s bytes → base_bytes b ≡ byte ∷ [] → Outcome Whole o bytes byte (fed_to (s.fed + 1) (begun 256 b s))
-base_means o s bytes byte b r h k = chosen (nat_lt (count (settled s)) 256) refl
+base_means : (s : State) (bytes : List ℕ) (byte : ℕ) (b : Base) → cut_of s.last ≡ Whole → Reads s bytes → base_bytes b ≡ byte ∷ [] → Outcome (TooLong (s.fed + 1)) (bytes ++ byte ∷ []) (fed_to (s.fed + 1) (begun 256 b s))
+base_means s bytes byte b r h k = chosen (nat_lt (count (settled s)) 256) refl
   where
-    chosen : (c : Bool) → nat_lt (count (settled s)) 256 ≡ c → Outcome Whole o bytes byte (fed_to (s.fed + 1) (cond c (Ok (with_last (last.Bare b) (settled s))) (Err (TooLong (s.fed + 1)))))
+    chosen : (c : Bool) → nat_lt (count (settled s)) 256 ≡ c → Outcome (TooLong (s.fed + 1)) (bytes ++ byte ∷ []) (fed_to (s.fed + 1) (cond c (Ok (with_last (last.Bare b) (settled s))) (Err (TooLong (s.fed + 1)))))
     chosen true e =
         let room : count (settled s) < 256 = ltb-true _ _ e in
         record {
@@ -178,7 +176,7 @@ base_means o s bytes byte b r h k = chosen (nat_lt (count (settled s)) 256) refl
           fed = fed_more _ _ _ h.fed;
           room = omega (arith, count_more s.bracket (settled s).normal (settled s).bracketed (token_of b Quarter ∷ []));
         }
-    chosen false e = (ap (λ n. n + 1) h.fed, (b, [], k))
+    chosen false e = refl
 
 -- the last move goes on
 goes_on : (n b : List Token) (o : Option ℕ) (t u : LastMove) (k : ℕ) (bytes : List ℕ) (byte : ℕ) (h : Reads (state n b o t k) bytes) → IsLast u (h.rest ++ byte ∷ [])
@@ -216,27 +214,27 @@ begins_cut xs ys x p t e k same moves =
       long = omega (arith, length-append xs (x ∷ []));
     }
 
-symbol_means : (x : Symbol) (n b : List Token) (o : Option ℕ) (t : LastMove) (k : ℕ) (bytes : List ℕ) (byte : ℕ) → symbol_of byte ≡ x → IsSymbol x byte → cut_of t ≡ Whole → Reads (state n b o t k) bytes → Outcome Whole (is_open o) bytes byte (fed_to (k + 1) (step_by 256 x (state n b o t k)))
+symbol_means : (x : Symbol) (n b : List Token) (o : Option ℕ) (t : LastMove) (k : ℕ) (bytes : List ℕ) (byte : ℕ) → IsSymbol x byte → cut_of t ≡ Whole → Reads (state n b o t k) bytes → Outcome (fault_by x (is_open o) (k + 1)) (bytes ++ byte ∷ []) (fed_to (k + 1) (step_by 256 x (state n b o t k)))
 unfolding state
-symbol_means symbol.Blank n b o t k bytes byte e i r h = blank_means _ bytes byte r h i
-symbol_means symbol.Open n b o t k bytes byte e i r h = open_means o _ bytes byte refl r h i
-symbol_means symbol.Close n b o t k bytes byte e i r h = close_means o _ bytes byte refl r h i
-symbol_means (symbol.Base x) n b o t k bytes byte e i r h = base_means _ _ bytes byte x r h i
-symbol_means symbol.Wide n b o (last.Bare (base.Face f)) k bytes byte e i r h =
+symbol_means symbol.Blank n b o t k bytes byte i r h = blank_means _ bytes byte r h i
+symbol_means symbol.Open n b o t k bytes byte i r h = open_means o _ bytes byte refl r h i
+symbol_means symbol.Close n b o t k bytes byte i r h = close_means o _ bytes byte refl r h i
+symbol_means (symbol.Base x) n b o t k bytes byte i r h = base_means _ bytes byte x r h i
+symbol_means symbol.Wide n b o (last.Bare (base.Face f)) k bytes byte i r h =
     goes_on n b o _ (last.Bare (base.Wide f)) k bytes byte h (follows h.is_last i) (omega (arith, h.room, count_more o n b (token_of (base.Face f) Quarter ∷ []), count_more o n b (token_of (base.Wide f) Quarter ∷ [])))
-symbol_means symbol.Two n b o (last.Bare f) k bytes byte e i r h =
+symbol_means symbol.Two n b o (last.Bare f) k bytes byte i r h =
     goes_on n b o _ (last.Doubled f) k bytes byte h (follows h.is_last i) (omega (arith, h.room, count_more o n b (token_of f Quarter ∷ []), count_more o n b (token_of f Half ∷ [])))
-symbol_means symbol.Apostrophe n b o (last.Bare f) k bytes byte e i r h =
+symbol_means symbol.Apostrophe n b o (last.Bare f) k bytes byte i r h =
     ends_so n b o _ k bytes byte (Spelled f (Prime Plain)) h (follows h.is_last i) (omega (arith, h.room, count_more o n b (token_of f Quarter ∷ []), count_more o n b (token_of f Counter ∷ [])))
-symbol_means symbol.Apostrophe n b o (last.Doubled f) k bytes byte e i r h =
+symbol_means symbol.Apostrophe n b o (last.Doubled f) k bytes byte i r h =
     ends_so n b o _ k bytes byte (Spelled f (TwoPrime Plain)) h (follows h.is_last i ∙ append_assoc (base_bytes f) (50 ∷ []) (39 ∷ [])) h.room
-symbol_means symbol.Cut n b o (last.Bare f) k bytes byte e i r h =
+symbol_means symbol.Cut n b o (last.Bare f) k bytes byte i r h =
     goes_on n b o _ (last.FirstByte (token_of f Counter)) k bytes byte h (begins_cut _ _ _ (Spelled f (Prime Typographic)) _ h.is_last i refl refl) (omega (arith, h.room, count_more o n b (token_of f Quarter ∷ []), count_more o n b (token_of f Counter ∷ [])))
-symbol_means symbol.Cut n b o (last.Doubled f) k bytes byte e i r h =
+symbol_means symbol.Cut n b o (last.Doubled f) k bytes byte i r h =
     goes_on n b o _ (last.FirstByte (token_of f Half)) k bytes byte h (begins_cut _ _ _ (Spelled f (TwoPrime Typographic)) _ h.is_last i (append_assoc (base_bytes f) (50 ∷ []) (0xE2 ∷ 0x80 ∷ 0x99 ∷ [])) refl) h.room
-symbol_means x n b o t k bytes byte e i r h = reported_other _ byte (length bytes) k x e tt h.fed
+symbol_means x n b o t k bytes byte i r h = refl
 
-first_means : (n b : List Token) (o : Option ℕ) (t : Token) (k : ℕ) (bytes : List ℕ) (byte : ℕ) → Reads (state n b o (last.FirstByte t) k) bytes → Outcome LacksTwo (is_open o) bytes byte (fed_to (k + 1) (step_at 256 (last.FirstByte t) (state n b o (last.FirstByte t) k) byte))
+first_means : (n b : List Token) (o : Option ℕ) (t : Token) (k : ℕ) (bytes : List ℕ) (byte : ℕ) → Reads (state n b o (last.FirstByte t) k) bytes → Outcome (NotAMove (k + 1 - 1)) (bytes ++ byte ∷ []) (fed_to (k + 1) (step_at 256 (last.FirstByte t) (state n b o (last.FirstByte t) k) byte))
 unfolding state
 first_means n b o t k bytes byte h = chosen (eqb byte 0x80) refl
   where
@@ -249,28 +247,25 @@ first_means n b o t k bytes byte h = chosen (eqb byte 0x80) refl
           long = omega (arith, h.is_last.long, length-append h.rest (byte ∷ []));
         }
 
-    chosen : (c : Bool) → eqb byte 0x80 ≡ c → Outcome LacksTwo (is_open o) bytes byte (fed_to (k + 1) (cond c (Ok (with_last (last.SecondByte t) (state n b o (last.FirstByte t) k))) (Err (NotAMove k))))
+    chosen : (c : Bool) → eqb byte 0x80 ≡ c → Outcome (NotAMove (k + 1 - 1)) (bytes ++ byte ∷ []) (fed_to (k + 1) (cond c (Ok (with_last (last.SecondByte t) (state n b o (last.FirstByte t) k))) (Err (NotAMove k))))
     chosen true e = goes_on n b o _ (last.SecondByte t) k bytes byte h (goes (eqb-true _ _ e)) h.room
-    chosen false e = ap (λ n. n + 1) h.fed
+    chosen false e = ap NotAMove (omega arith)
 
-pub long_enough : (bytes front rest : List ℕ) → bytes ≡ front ++ rest → 2 ≤ length rest → 2 ≤ length bytes
-long_enough bytes front rest e long = omega (arith, ap length e, length-append front rest)
-
-second_means : (n b : List Token) (o : Option ℕ) (t : Token) (k : ℕ) (bytes : List ℕ) (byte : ℕ) → Reads (state n b o (last.SecondByte t) k) bytes → Outcome LacksOne (is_open o) bytes byte (fed_to (k + 1) (step_at 256 (last.SecondByte t) (state n b o (last.SecondByte t) k) byte))
+second_means : (n b : List Token) (o : Option ℕ) (t : Token) (k : ℕ) (bytes : List ℕ) (byte : ℕ) → Reads (state n b o (last.SecondByte t) k) bytes → Outcome (NotAMove (k + 1 - 2)) (bytes ++ byte ∷ []) (fed_to (k + 1) (step_at 256 (last.SecondByte t) (state n b o (last.SecondByte t) k) byte))
 unfolding state
 second_means n b o t k bytes byte h = chosen (eqb byte 0x99) refl
   where
-    chosen : (c : Bool) → eqb byte 0x99 ≡ c → Outcome LacksOne (is_open o) bytes byte (fed_to (k + 1) (cond c (Ok (settled (state n b o (last.SecondByte t) k))) (Err (NotAMove (k - 1)))))
+    chosen : (c : Bool) → eqb byte 0x99 ≡ c → Outcome (NotAMove (k + 1 - 2)) (bytes ++ byte ∷ []) (fed_to (k + 1) (cond c (Ok (settled (state n b o (last.SecondByte t) k))) (Err (NotAMove (k - 1)))))
     chosen true e =
         front_reads _ _ (subst (λ (z : ℕ). WholeItems o (bytes ++ z ∷ []) (outside o n (t ∷ [])) (inside o b (t ∷ []))) (sym (eqb-true _ _ e)) (settled_front _ bytes h)) refl (fed_more _ _ _ h.fed) h.room
-    chosen false e = let long = long_enough _ _ _ h.bytes_are h.is_last.long in omega (arith, h.fed)
+    chosen false e = ap NotAMove (omega arith)
 
--- A step keeps what the state stands for, or refuses the byte by what it is.
-pub step_means : (s : State) (bytes : List ℕ) (byte : ℕ) → Reads s bytes → Outcome (cut_of s.last) (is_open s.bracket) bytes byte (step s byte)
+-- A step keeps what the state stands for, or refuses the byte by its fault there.
+pub step_means : (s : State) (bytes : List ℕ) (byte : ℕ) → Reads s bytes → Outcome (fault_at (cut_of s.last) (is_open s.bracket) byte (s.fed + 1)) (bytes ++ byte ∷ []) (step s byte)
 unfolding step_within state
 step_means s bytes byte h = by_last s.normal s.bracketed s.bracket s.last s.fed h
   where
-    by_last : (n b : List Token) (o : Option ℕ) (t : LastMove) (k : ℕ) → Reads (state n b o t k) bytes → Outcome (cut_of t) (is_open o) bytes byte (fed_to (k + 1) (step_at 256 t (state n b o t k) byte))
+    by_last : (n b : List Token) (o : Option ℕ) (t : LastMove) (k : ℕ) → Reads (state n b o t k) bytes → Outcome (fault_at (cut_of t) (is_open o) byte (k + 1)) (bytes ++ byte ∷ []) (fed_to (k + 1) (step_at 256 t (state n b o t k) byte))
     by_last n b o (last.FirstByte t) k h = first_means n b o t k bytes byte h
     by_last n b o (last.SecondByte t) k h = second_means n b o t k bytes byte h
-    by_last n b o t k h = symbol_means (symbol_of byte) n b o t k bytes byte refl (symbol_is byte) refl h
+    by_last n b o t k h = symbol_means (symbol_of byte) n b o t k bytes byte (symbol_is byte) refl h

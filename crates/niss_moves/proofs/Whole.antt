@@ -1,19 +1,20 @@
 -- Whole lines: what is read of them, and which fault.
-use Rattle.std.proofs.Common.{◌≡◌, ℕ, ◌+◌, ◌-◌, ◌<◌, ◌≤◌, Bool, true, ◌&&◌, refl, ap, sym, ◌∙◌, subst, subst₂, List, [], ◌∷◌, ◌++◌, length, flat_map, append_assoc, append-nil, Option, None, Some, Result, Ok, Err, arith, length-append, take, drop, get_or, inl, inr, ◌==◌, ◌||◌, not}
+use Rattle.std.proofs.Common.{◌≡◌, ℕ, ◌+◌, ◌-◌, ◌<◌, ◌≤◌, Bool, true, false, ◌&&◌, refl, ap, sym, ◌∙◌, subst, subst₂, List, [], ◌∷◌, ◌++◌, length, flat_map, append_assoc, append-nil, Option, None, Some, Result, Ok, Err, arith, length-append, take, drop, get_or, inl, inr, ◌==◌, ◌||◌, not}
 use Rattle.std.proofs.lemmas.List.{take-append-le, take-append-drop}
-use Rattle.std.proofs.Math.Path.{subst₃}
 use Rattle.std.specs.List.{list_all}
 use Rattle.std.proofs.lemmas.List.Folds.{list_all-append}
 use Rattle.std.proofs.Math.Seq.{take-append_seam, take-append-add, get_or-append_seam}
 use Rattle.niss_moves.specs.Line.{Gap, Spelled, piece_bytes, Piece, item_bytes, Spells, IsLine}
-use Rattle.niss_moves.specs.Faults.{has_no_bracket, Cut, Whole, LacksOne, LacksTwo, cut_ending, cut_length, bracket_ending, Continues, CanContinue, StopsAt, EndsEarly, OpensAt, Stops, Lacks}
-use Rattle.niss_moves.specs.Machine.{State, start, settled, step, and_then, run}
+use Rattle.niss_moves.specs.Faults.{has_no_bracket, Cut, Whole, cut_ending, cut_length, bracket_ending, Continues, CanContinue, StopsAt, EndsEarly, OpensAt, Stops, Lacks}
+use Rattle.niss_moves.specs.Machine.{State, start, settled, symbol_of, step, and_then, run}
 use Rattle.niss_moves.specs.Notation.{base_bytes, Plain, Suffix, Prime, TwoPrime, suffix_bytes, Space}
-use Rattle.niss_moves.specs.Names.{Token, Base, ReadFault, NotAMove, Nested, Unopened, Unclosed, TooLong}
+use Rattle.niss_moves.specs.Names.{Token, Base, Symbol, ReadFault, NotAMove, Unclosed}
 use Rattle.niss_moves.specs.declared.base.Base.TheVariants as base
+use Rattle.niss_moves.specs.declared.symbol.Symbol.TheVariants as symbol
+use Rattle.niss_moves.proofs.Symbols.{IsSymbol, symbol_is, symbol_of_open, symbol_of_close, first_symbol}
 use Rattle.niss_moves.proofs.Finite.{every_face, at_face, every_slice, at_slice, every_axis, at_axis, and_both, and_left, and_right}
 use Rattle.niss_moves.proofs.Completes.{IsReady, run-append, completes}
-use Rattle.niss_moves.proofs.Sound.{WholeItems, Closed, Opened, front_close, Reads, reads_start, settled_front, whole_front, cut_of, is_open, Refusal, Outcome, step_means}
+use Rattle.niss_moves.proofs.Sound.{WholeItems, Closed, Opened, front_close, Reads, reads_start, settled_front, whole_front, cut_of, cut_fits, is_open, fault_by, fault_at, Outcome, step_means}
 
 -- the state after more bytes
 reads_run : (more bytes : List ℕ) (s t : State) → Reads s bytes → run s more ≡ Ok t → Reads t (bytes ++ more)
@@ -23,7 +24,7 @@ reads_run [] bytes s t h e =
 reads_run (x ∷ more) bytes s t h e =
     by_step (step s x) (step_means s bytes x h) e (λ u k r. reads_run more (bytes ++ x ∷ []) u t k r)
   where
-    by_step : (r : Result State ReadFault) → Outcome (cut_of s.last) (is_open s.bracket) bytes x r → and_then r (λ u. run u more) ≡ Ok t → ((u : State) → Reads u (bytes ++ x ∷ []) → run u more ≡ Ok t → Reads t ((bytes ++ x ∷ []) ++ more)) → Reads t (bytes ++ x ∷ more)
+    by_step : (r : Result State ReadFault) → Outcome (fault_at (cut_of s.last) (is_open s.bracket) x (s.fed + 1)) (bytes ++ x ∷ []) r → and_then r (λ u. run u more) ≡ Ok t → ((u : State) → Reads u (bytes ++ x ∷ []) → run u more ≡ Ok t → Reads t ((bytes ++ x ∷ []) ++ more)) → Reads t (bytes ++ x ∷ more)
     by_step (Ok u) k e f = subst (λ (y : List ℕ). Reads t y) (append_assoc bytes (x ∷ []) more) (f u k e)
     by_step (Err g) k e f = cc
 
@@ -86,24 +87,32 @@ stop_at front rest byte s f e g =
           cc;
     }
 
-pub reported_stops : (c : Cut) (o : Bool) (byte n : ℕ) (bytes : List ℕ) (f : ReadFault) → Refusal c o byte n f → StopsAt bytes (n + 1) c o byte → Stops bytes f
-reported_stops Whole o byte n bytes (NotAMove col) t h =
-    inl (byte, o, subst (λ (x : ℕ). StopsAt bytes x Whole o byte) (sym t.0) h, t.1, t.2, t.3)
-reported_stops Whole o byte n bytes (Nested col) t h =
-    subst₃ (λ (x y : ℕ) (z : Bool). StopsAt bytes x Whole z y) (sym t.0) t.1 t.2 h
-reported_stops Whole o byte n bytes (Unopened col) t h =
-    subst₃ (λ (x y : ℕ) (z : Bool). StopsAt bytes x Whole z y) (sym t.0) t.1 t.2 h
-reported_stops Whole o byte n bytes (TooLong col) t h =
-    (byte, o, t.1, subst (λ (x : ℕ). StopsAt bytes x Whole o byte) (sym t.0) h)
-reported_stops LacksOne o byte n bytes (NotAMove col) t h =
-    inr (byte, o, LacksOne, omega arith, subst (λ (x : ℕ). StopsAt bytes x LacksOne o byte) (sym t) h)
-reported_stops LacksTwo o byte n bytes (NotAMove col) t h =
-    inr (byte, o, LacksTwo, omega arith, subst (λ (x : ℕ). StopsAt bytes x LacksTwo o byte) (sym t) h)
-reported_stops _ o byte n bytes _ t h = absurd t
+-- no bracket that has a fault of its own there, and no base
+abbrev IsOther : Symbol → Bool → Type 0
+IsOther symbol.Open true = ⊥
+IsOther symbol.Close false = ⊥
+IsOther (symbol.Base b) o = ⊥
+IsOther _ o = Unit {0}
+
+-- Where bytes stop, the fault is that of the byte there.
+fault_stops : (c : Cut) (o : Bool) (byte column : ℕ) (bytes : List ℕ) → cut_length c < column → StopsAt bytes column c o byte → Stops bytes (fault_at c o byte column)
+fault_stops Whole o byte column bytes lt h = by_symbol (symbol_of byte) o refl (symbol_is byte) h
+  where
+    by_symbol : (x : Symbol) (o : Bool) → symbol_of byte ≡ x → IsSymbol x byte → StopsAt bytes column Whole o byte → Stops bytes (fault_by x o column)
+    by_symbol symbol.Open true e i h = subst (λ (b : ℕ). StopsAt bytes column Whole true b) i h
+    by_symbol symbol.Close false e i h = subst (λ (b : ℕ). StopsAt bytes column Whole false b) i h
+    by_symbol (symbol.Base b) o e i h = (byte, o, (b, [], i), h)
+    by_symbol x o e i h =
+        inl (byte, o, h, λ k. subst₂ IsOther (sym e ∙ ap symbol_of k.0 ∙ symbol_of_open) k.1 tt, λ k. subst₂ IsOther (sym e ∙ ap symbol_of k.0 ∙ symbol_of_close) k.1 tt, λ k. (let w = first_symbol k.0 byte k.1 k.2 in subst (λ (x : Symbol). IsOther x o) (sym e ∙ w.1) tt))
+fault_stops c o byte column bytes lt h =
+    inr (byte, o, c, omega arith, subst (λ (x : ℕ). StopsAt bytes x c o byte) (omega arith) h)
 
 pub step_stops : (front rest : List ℕ) (byte : ℕ) (s : State) (f : ReadFault) → run start front ≡ Ok s → step s byte ≡ Err f → Stops (front ++ byte ∷ rest) f
 step_stops front rest byte s f e g =
-    reported_stops _ _ byte (length front) _ f (subst (λ (r : Result State ReadFault). Outcome (cut_of s.last) (is_open s.bracket) front byte r) g (step_means s front byte (reads_all front s e))) (stop_at front rest byte s f e g)
+    let h = reads_all front s e in
+    let is = subst (λ (r : Result State ReadFault). Outcome (fault_at (cut_of s.last) (is_open s.bracket) byte (s.fed + 1)) (front ++ byte ∷ []) r) g (step_means s front byte h) in
+    subst (λ (f : ReadFault). Stops (front ++ byte ∷ rest) f) (sym (is ∙ ap (λ n. fault_at (cut_of s.last) (is_open s.bracket) byte (n + 1)) h.fed))
+    (fault_stops (cut_of s.last) (is_open s.bracket) byte (length front + 1) _ (let fits = cut_fits s front h in omega arith) (stop_at front rest byte s f e g))
 
 -- where a run was refused
 pub record Refused (s : State) (bytes : List ℕ) (f : ReadFault) : Type 0 where
