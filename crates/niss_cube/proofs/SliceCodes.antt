@@ -2,19 +2,13 @@
 use Rattle.niss_cube.proofs.Words.{Equal, Numbers, holds, refl, sym, ◌∙◌, ap, arith, ◌≡◌, ℕ, ◌-◌, ◌<◌, List, [], ◌∷◌, length, get_or}
 use Rattle.niss_cube.proofs.Words.{map, reverse, Bool, false, nat_le, ◌==◌, count_by, slice_index, ext_get_or, get_or-map, length-map}
 use Rattle.niss_cube.proofs.Words.{length-reverse, get_or-reverse, reverse-append, map-append, IsPermutation-reverse, Turn, turn_table}
-use Rattle.niss_cube.proofs.Words.{sum_by-IsPermutation, rank, edges_down, edges_of_number, reverse-reverse}
+use Rattle.niss_cube.proofs.Words.{sum_by-IsPermutation, rank, edges_down, edges_of_number, reverse-reverse, ArePlaced}
 use Rattle.niss_cube.proofs.CubieKinds.{tabulated, tabulated-length, tabulated-at, brought, Edges}
 use Rattle.niss_cube.proofs.MovedCubies.{By, table}
 use Rattle.niss_cube.proofs.Sums.{one_if}
 use Rattle.niss_cube.proofs.Numbers.{filled, rank-same}
 use Rattle.niss_cube.proofs.NumberedEdges.{within, Numbered, numbered}
 use Rattle.niss_cube.proofs.CoordinateValues.{slice_occupied}
-
--- which edge stands at each edge place
-pub record ArePlaced (edges : List ℕ) : Type 0 where
-  pub places : length edges ≡ 12
-  pub each : (h : ℕ) → h < 12 → count_by (λ x. x == h) edges ≡ 1
-  pub range : (n : ℕ) → n < 12 → slice_index edges n < 12
 
 each_once : (h : ℕ) → h < 12 → within 12 4 h ≡ 1
 each_once = holds (Numbers 12 λ h. Equal (within 12 4 h) 1) refl
@@ -23,7 +17,7 @@ each_once = holds (Numbers 12 λ h. Equal (within 12 4 h) 1) refl
 edges_are : (i : ℕ) → i < 495 → Numbered 12 4 i (edges_down 12 4 i)
 edges_are i l = numbered 12 4 i l (omega arith) (omega arith)
 
-pub of_number-placed : (i : ℕ) → i < 495 → ArePlaced (edges_of_number i)
+pub of_number-placed : (i : ℕ) → i < 495 → ArePlaced 12 (edges_of_number i)
 unfolding edges_of_number
 of_number-placed i l =
     let xs : List ℕ = edges_down 12 4 i in

@@ -46,7 +46,7 @@ pub use Rattle.niss_cube.specs.Coordinates.{firsts, brings, orientations, occupi
 unfoldable pub use Rattle.niss_cube.specs.Coordinates.{flip_of, slice_of, twist_of}
 pub use Rattle.niss_cube.specs.CubieFacelets.{index_in, edge_facelets, corner_facelets, facelet_at, row_at}
 pub use Rattle.niss_cube.specs.CubieTurns.{turn_table}
-pub use Rattle.niss_cube.specs.Cubies.{flips_home, twists_home, corners_home, edges_home, AreCubies}
+pub use Rattle.niss_cube.specs.Cubies.{flips_home, twists_home, corners_home, edges_home, AreCubies, ArePlaced, AreOriented}
 pub use Rattle.niss_cube.specs.Map.{map_of, sticker_map, sticker_place}
 pub use Rattle.niss_cube.specs.Names.{Turn, U, Axis, Flip, Fb, Rl, Slice, Twist, Ud, Coordinate, D, F, Face, R, Token, Cube, Renaming, Step}
 pub use Rattle.niss_cube.specs.Names.{B, Counter, Domino, DrEofb, DrEorl, DrEoud, DrfbEorl, DrfbEoud, DrrlEofb, DrrlEoud, DrudEofb}
