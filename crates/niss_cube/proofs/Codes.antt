@@ -3,48 +3,42 @@
 use Rattle.niss_cube.proofs.Words.{Equal, Below, Numbers, holds, [], ◌≡◌, ℕ, ◌<◌, refl, sym, ap, List, get_or, take, reverse, count_by}
 use Rattle.niss_cube.proofs.Words.{◌==◌, Place, SameMap, turned, Turn, Axis, Coordinate, Flip, Twist, Slice, number, rank, flip_of}
 use Rattle.niss_cube.proofs.Words.{twist_of, slice_of, number_of, count_of, renamed_for, standard_axis, turn_for, twists_home, flips_home}
-use Rattle.niss_cube.proofs.Words.{flips_of_number, twists_of_number, edges_of_number, number_after, corners_home, edges_home}
+use Rattle.niss_cube.proofs.Words.{flips_of_number, twists_of_number, edges_of_number, number_after, corners_home, edges_home, ArePlaced, AreOriented}
 use Rattle.niss_cube.proofs.CubieKinds.{CubieLists, Valid, map_lists, Corners, Edges}
 use Rattle.niss_cube.proofs.ShownCubies.{turns_shown, slice_shown}
 use Rattle.niss_cube.proofs.CoordinateValues.{slice-below, slice_occupied, slice_occupied-filled}
-use Rattle.niss_cube.proofs.Orientations.{AreOriented, base_2, base_3, orientations_of_number-are, orientations_of_number-number}
+use Rattle.niss_cube.proofs.Orientations.{base_2, base_3, orientations_of_number-are, orientations_of_number-number}
 use Rattle.niss_cube.proofs.Orientations.{oriented-below, oriented-same}
-use Rattle.niss_cube.proofs.SliceCodes.{ArePlaced, of_number-placed, of_number-rank, turned-occupied, occupied-same}
+use Rattle.niss_cube.proofs.SliceCodes.{of_number-placed, of_number-rank, turned-occupied, occupied-same}
 use Rattle.niss_cube.proofs.MovedCubies.{By, moved}
 
-edges_home-are : ArePlaced edges_home
+corners_home-are : ArePlaced 8 corners_home
+corners_home-are = record {
+  places = refl;
+  each = holds (Numbers 8 λ h. Equal (count_by (λ x. x == h) corners_home) 1) refl;
+  range = holds (Numbers 8 λ n. Below (get_or corners_home n 0) 8) refl;
+}
+
+edges_home-are : ArePlaced 12 edges_home
 edges_home-are = record {
   places = refl;
   each = holds (Numbers 12 λ h. Equal (count_by (λ x. x == h) edges_home) 1) refl;
   range = holds (Numbers 12 λ n. Below (get_or edges_home n 0) 12) refl;
 }
 
-pub flips_home-are : AreOriented 2 11 flips_home
+pub flips_home-are : AreOriented 2 12 flips_home
 flips_home-are = orientations_of_number-are 2 base_2 11 0
 
-pub twists_home-are : AreOriented 3 7 twists_home
+pub twists_home-are : AreOriented 3 8 twists_home
 twists_home-are = orientations_of_number-are 3 base_3 7 0
 
 -- cubies with corners at home
 abbrev pub cubies_of : (twists edges flips : List ℕ) → CubieLists
 cubies_of twists edges flips = record { corners = corners_home; twists = twists; edges = edges; flips = flips }
 
-cubies_of-valid : (twists edges flips : List ℕ) → AreOriented 3 7 twists → ArePlaced edges → AreOriented 2 11 flips → Valid (cubies_of twists edges flips)
+cubies_of-valid : (twists edges flips : List ℕ) → AreOriented 3 8 twists → ArePlaced 12 edges → AreOriented 2 12 flips → Valid (cubies_of twists edges flips)
 cubies_of-valid twists edges flips t e f =
-    record {
-      corner_places = refl;
-      twist_places = t.places;
-      edge_places = e.places;
-      flip_places = f.places;
-      each_corner = holds (Numbers 8 λ h. Equal (count_by (λ x. x == h) corners_home) 1) refl;
-      each_edge = e.each;
-      corner_range = holds (Numbers 8 λ n. Below (get_or corners_home n 0) 8) refl;
-      edge_range = e.range;
-      twist_range = t.range;
-      flip_range = f.range;
-      twist_sum = t.whole;
-      flip_sum = f.whole;
-    }
+    record { corners_placed = corners_home-are; twists_oriented = t; edges_placed = e; flips_oriented = f }
 
 -- the number on an axis is the code of the cubies that are renamed for it
 abbrev pub code : Coordinate → CubieLists → ℕ
@@ -58,15 +52,9 @@ number_of-code Flip a e c v s = ap (λ ds. number 2 (take 11 ds)) (turns_shown E
 number_of-code Twist a e c v s = ap (λ ds. number 3 (take 7 ds)) (turns_shown Corners c v (renamed_for Twist a e) (λ q p. sym (s q p)))
 number_of-code Slice a e c v s = ap (λ os. rank (reverse os) 4) (slice_shown c v (renamed_for Slice a e) (λ q p. sym (s q p)))
 
-pub are_flips : (c : CubieLists) → Valid c → AreOriented 2 11 c.flips
-are_flips c v = record { places = v.flip_places; range = v.flip_range; whole = v.flip_sum }
-
-pub are_twists : (c : CubieLists) → Valid c → AreOriented 3 7 c.twists
-are_twists c v = record { places = v.twist_places; range = v.twist_range; whole = v.twist_sum }
-
 pub code-below : (k : Coordinate) (c : CubieLists) → Valid c → code k c < count_of k
-code-below Flip c v = oriented-below 2 11 c.flips (are_flips c v)
-code-below Twist c v = oriented-below 3 7 c.twists (are_twists c v)
+code-below Flip c v = oriented-below 2 11 c.flips v.flips_oriented
+code-below Twist c v = oriented-below 3 7 c.twists v.twists_oriented
 code-below Slice c v = slice-below c v
 
 -- cubies that have a number
@@ -103,13 +91,13 @@ number_after-standard Slice a i t = refl
 -- cubies of one code have one code after a turn
 pub code-turned : (k : Coordinate) (t : Turn) (c d : CubieLists) → Valid c → Valid d → code k c ≡ code k d → code k (moved (By t) c) ≡ code k (moved (By t) d)
 code-turned Flip t c d v w e =
-    ap (λ xs. code Flip (moved (By t) (cubies_of [] [] xs))) (oriented-same 2 base_2 11 c.flips d.flips (are_flips c v) (are_flips d w) e)
+    ap (λ xs. code Flip (moved (By t) (cubies_of [] [] xs))) (oriented-same 2 base_2 11 c.flips d.flips v.flips_oriented w.flips_oriented e)
 code-turned Twist t c d v w e =
-    ap (λ xs. code Twist (moved (By t) (cubies_of xs [] []))) (oriented-same 3 base_3 7 c.twists d.twists (are_twists c v) (are_twists d w) e)
+    ap (λ xs. code Twist (moved (By t) (cubies_of xs [] []))) (oriented-same 3 base_3 7 c.twists d.twists v.twists_oriented w.twists_oriented e)
 code-turned Slice t c d v w e =
     ap (λ os. rank (reverse os) 4)
-    (turned-occupied t c.edges d.edges v.edge_places w.edge_places
-    (occupied-same c.edges d.edges v.edge_places w.edge_places (slice_occupied-filled c v) (slice_occupied-filled d w) e))
+    (turned-occupied t c.edges d.edges v.edges_placed.places w.edges_placed.places
+    (occupied-same c.edges d.edges v.edges_placed.places w.edges_placed.places (slice_occupied-filled c v) (slice_occupied-filled d w) e))
 
 -- on the standard axis the cube isn't renamed
 pub unrenamed : (k : Coordinate) (e : Place → Place) (q : Place) → renamed_for k (standard_axis k) e q ≡ e q

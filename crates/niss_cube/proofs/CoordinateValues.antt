@@ -2,7 +2,7 @@
 use Rattle.niss_cube.proofs.Words.{Equal, Numbers, holds, refl, sym, ◌∙◌, ap, subst, arith, ◌≡◌, ℕ, zero, suc, ◌+◌, ◌-◌, ◌*◌, ◌<◌, ◌≤◌}
 use Rattle.niss_cube.proofs.Words.{List, [], ◌∷◌, length, get_or, map, take, drop, reverse, Bool, true, false, nat_le, ◌==◌, get_or-reverse}
 use Rattle.niss_cube.proofs.Words.{length-reverse, length-map, get_or-map, get_or-take, length-take, drop-cons, choose, rank}
-use Rattle.niss_cube.proofs.CubieKinds.{CubieLists, Valid, Edges, stand}
+use Rattle.niss_cube.proofs.CubieKinds.{CubieLists, Valid, Edges, once}
 use Rattle.niss_cube.proofs.Sums.{below, one_if, below_same, below_permuted, below_front}
 use Rattle.niss_cube.proofs.Numbers.{number_from, Digits, filled, rank-below}
 
@@ -19,7 +19,7 @@ digits_taken b n xs l h =
 
 -- each edge stands at one place
 pub edge-once : (c : CubieLists) → Valid c → (h : ℕ) → h < 12 → below 12 (λ i. one_if (get_or c.edges i 0 == h)) ≡ 1
-edge-once c v h l = ap (λ n. below n (λ i. one_if (get_or c.edges i 0 == h))) (sym v.edge_places) ∙ (stand Edges c v).once h l
+edge-once c v h l = ap (λ n. below n (λ i. one_if (get_or c.edges i 0 == h))) (sym v.edges_placed.places) ∙ once Edges c v h l
 
 filled-below : (os : List Bool) → filled os ≡ below (length os) (λ k. one_if (get_or os k false))
 filled-below [] = refl
@@ -47,15 +47,15 @@ slice_occupied-at edges l k lk =
 pub slice_occupied-filled : (c : CubieLists) → Valid c → filled (slice_occupied c.edges) ≡ 4
 slice_occupied-filled c v =
     filled-below (slice_occupied c.edges)
-    ∙ ap (λ n. below n (λ k. one_if (get_or (slice_occupied c.edges) k false))) (slice_occupied-length c.edges v.edge_places)
-    ∙ below_same 12 (λ k. one_if (get_or (slice_occupied c.edges) k false)) (λ k. one_if (nat_le 8 (get_or c.edges (11 - k) 0))) (λ k l. ap one_if (slice_occupied-at c.edges v.edge_places k l))
+    ∙ ap (λ n. below n (λ k. one_if (get_or (slice_occupied c.edges) k false))) (slice_occupied-length c.edges v.edges_placed.places)
+    ∙ below_same 12 (λ k. one_if (get_or (slice_occupied c.edges) k false)) (λ k. one_if (nat_le 8 (get_or c.edges (11 - k) 0))) (λ k l. ap one_if (slice_occupied-at c.edges v.edges_placed.places k l))
     ∙ below_permuted 12 (λ k. 11 - k) (λ k. one_if (nat_le 8 (get_or c.edges k 0))) (λ k l. omega arith) down-once
-    ∙ below_permuted 12 (λ k. get_or c.edges k 0) (λ h. one_if (nat_le 8 h)) v.edge_range (edge-once c v)
+    ∙ below_permuted 12 (λ k. get_or c.edges k 0) (λ h. one_if (nat_le 8 h)) v.edges_placed.range (edge-once c v)
 
 pub slice-below : (c : CubieLists) → Valid c → rank (slice_occupied c.edges) 4 < 495
 slice-below c v =
     let P : ℕ → Type 0 = λ n. rank (slice_occupied c.edges) 4 < choose n 4 in
-    subst P (slice_occupied-length c.edges v.edge_places) (rank-below (slice_occupied c.edges) 4 (slice_occupied-filled c v))
+    subst P (slice_occupied-length c.edges v.edges_placed.places) (rank-below (slice_occupied c.edges) 4 (slice_occupied-filled c v))
 
 pub rank-le : (os : List Bool) (k : ℕ) → rank os k ≤ choose (length os) k
 rank-le [] zero = omega arith

@@ -2,7 +2,7 @@
 use Rattle.niss_cube.proofs.Words.{Fact, Yes, Same, Equal, Below, Alike, Both, When, Numbers, Places, Records, Holds, holds, refl, sym, ◌∙◌}
 use Rattle.niss_cube.proofs.Words.{ap, arith, inl, inr, ◌≡◌, ℕ, ◌+◌, ◌-◌, ◌%◌, ◌<◌, List, length, get_or, Bool, true, false, ◌⊎◌, sum}
 use Rattle.niss_cube.proofs.Words.{list_any, Place, same_place, is_place, is_corner, is_edge, SameMap, index_in, row_at, facelet_at}
-use Rattle.niss_cube.proofs.Words.{corner_facelets, edge_facelets, sticker_place, is_true}
+use Rattle.niss_cube.proofs.Words.{corner_facelets, edge_facelets, sticker_place, is_true, ArePlaced, AreOriented}
 use Rattle.niss_cube.proofs.Once.{times_in, place_in, place_in-found, place_in-is, count_by-times}
 pub use Rattle.niss_cube.proofs.CubieLists.{CubieLists, Valid, map_lists, lists_of, cube_of, lists_path}
 pub use Rattle.niss_cube.proofs.CubieLists.{tabulated, tabulated-length, tabulated-at, tabulated-is, brought}
@@ -51,49 +51,23 @@ place_of k c h = place_in (homes k c) h
 
 -- what valid cubies are, by the kind
 pub record Stand (k : Kind) (c : CubieLists) : Type 0 where
-  pub homes_len : length (homes k c) ≡ count k
-  pub turns_len : length (turns k c) ≡ count k
-  pub once : (h : ℕ) → h < count k → times_in (homes k c) h ≡ 1
-  pub home_below : (i : ℕ) → i < count k → home_at k c i < count k
-  pub turn_below : (i : ℕ) → i < count k → turn_at k c i < facelets k
-  pub whole : sum (turns k c) % facelets k ≡ 0
+  pub placed : ArePlaced (count k) (homes k c)
+  pub oriented : AreOriented (facelets k) (count k) (turns k c)
 
 pub stand : (k : Kind) (c : CubieLists) → Valid c → Stand k c
-stand Corners c v = record {
-  homes_len = v.corner_places;
-  turns_len = v.twist_places;
-  once = λ h l. sym (count_by-times c.corners h) ∙ v.each_corner h l;
-  home_below = v.corner_range;
-  turn_below = v.twist_range;
-  whole = v.twist_sum;
-}
-stand Edges c v = record {
-  homes_len = v.edge_places;
-  turns_len = v.flip_places;
-  once = λ h l. sym (count_by-times c.edges h) ∙ v.each_edge h l;
-  home_below = v.edge_range;
-  turn_below = v.flip_range;
-  whole = v.flip_sum;
-}
+stand Corners c v = record { placed = v.corners_placed; oriented = v.twists_oriented }
+stand Edges c v = record { placed = v.edges_placed; oriented = v.flips_oriented }
+
+pub once : (k : Kind) (c : CubieLists) → Valid c → (h : ℕ) → h < count k → times_in (homes k c) h ≡ 1
+once k c v h l = sym (count_by-times (homes k c) h) ∙ (stand k c v).placed.each h l
 
 pub standing-valid : (c : CubieLists) → ((k : Kind) → Stand k c) → Valid c
-standing-valid c s =
-    let a : Stand Corners c = s Corners in
-    let b : Stand Edges c = s Edges in
-    record {
-      corner_places = a.homes_len;
-      twist_places = a.turns_len;
-      edge_places = b.homes_len;
-      flip_places = b.turns_len;
-      each_corner = λ h l. count_by-times c.corners h ∙ a.once h l;
-      each_edge = λ h l. count_by-times c.edges h ∙ b.once h l;
-      corner_range = a.home_below;
-      edge_range = b.home_below;
-      twist_range = a.turn_below;
-      flip_range = b.turn_below;
-      twist_sum = a.whole;
-      flip_sum = b.whole;
-    }
+standing-valid c s = record {
+  corners_placed = (s Corners).placed;
+  twists_oriented = (s Corners).oriented;
+  edges_placed = (s Edges).placed;
+  flips_oriented = (s Edges).oriented;
+}
 
 -- remainders by the number of facelets
 pub low : (k : Kind) (a : ℕ) → a % facelets k < facelets k
@@ -212,18 +186,18 @@ module _ (k : Kind) (c : CubieLists) (v : Valid c) where
   pub stands : (h : ℕ) → h < count k → (place_of k c h < count k) × (home_at k c (place_of k c h) ≡ h)
   stands h l =
       let s : Stand k c = stand k c v in
-      let r : (place_of k c h < length (homes k c)) × (home_at k c (place_of k c h) ≡ h) = place_in-found (homes k c) h (omega (arith, s.once h l)) in
-      (omega (arith, r.0, s.homes_len), r.1)
+      let r : (place_of k c h < length (homes k c)) × (home_at k c (place_of k c h) ≡ h) = place_in-found (homes k c) h (omega (arith, once k c v h l)) in
+      (omega (arith, r.0, s.placed.places), r.1)
 
   pub stands-at : (i : ℕ) → i < count k → place_of k c (home_at k c i) ≡ i
   stands-at i l =
       let s : Stand k c = stand k c v in
-      place_in-is (homes k c) (home_at k c i) i (s.once _ (s.home_below i l)) (omega (arith, l, s.homes_len)) refl
+      place_in-is (homes k c) (home_at k c i) i (once k c v _ (s.placed.range i l)) (omega (arith, l, s.placed.places)) refl
 
   -- the facelet that stands at facelet j of place i
   pub origin : (i j j' : ℕ) → i < count k → j' < facelets k → (j' + turn_at k c i) % facelets k ≡ j → map_lists c (at k (home_at k c i) j') ≡ at k i j
   origin i j j' li lj e =
-      map_at k c (home_at k c i) j' ((stand k c v).home_below i li) lj
+      map_at k c (home_at k c i) j' ((stand k c v).placed.range i li) lj
       ∙ ap (λ x. at k x ((j' + turn_at k c x) % facelets k)) (stands-at i li)
       ∙ ap (at k i) e
 

@@ -9,11 +9,11 @@ use Rattle.niss_cube.proofs.ShownCubies.{first_at}
 same_cubie : (k : Kind) (c d : CubieLists) → Valid c → Valid d → SameMap (map_lists c) (map_lists d) → (i : ℕ) → i < count k → (home_at k c i ≡ home_at k d i) × (turn_at k c i ≡ turn_at k d i)
 same_cubie k c d v w same i l =
     let h : ℕ = home_at k c i in
-    let lh : h < count k = (stand k c v).home_below i l in
+    let lh : h < count k = (stand k c v).placed.range i l in
     let p : place_of k c h ≡ i = stands-at k c v i l in
     let here = stands k c v h lh in
     let there = stands k d w h lh in
-    let f = same_facelet k (place_of k c h) (turn_at k c (place_of k c h)) (place_of k d h) (turn_at k d (place_of k d h)) here.0 ((stand k c v).turn_below _ here.0) there.0 ((stand k d w).turn_below _ there.0)
+    let f = same_facelet k (place_of k c h) (turn_at k c (place_of k c h)) (place_of k d h) (turn_at k d (place_of k d h)) here.0 ((stand k c v).oriented.range _ here.0) there.0 ((stand k d w).oriented.range _ there.0)
     (sym (first_at k c v (map_lists c) (λ q p. refl) h lh) ∙ first_at k d w (map_lists c) same h lh) in (
       sym there.1 ∙ ap (home_at k d) (sym f.0 ∙ p),
       ap (turn_at k c) (sym p) ∙ f.1 ∙ ap (turn_at k d) (sym f.0 ∙ p),
@@ -22,10 +22,10 @@ same_cubie k c d v w same i l =
 lists-equal : (c d : CubieLists) → Valid c → Valid d → SameMap (map_lists c) (map_lists d) → c ≡ d
 lists-equal c d v w s =
     lists_path c d
-    (ext_get_or 0 _ _ (v.corner_places ∙ sym w.corner_places) (λ i l. (corners i (omega (arith, l, v.corner_places))).0))
-    (ext_get_or 0 _ _ (v.twist_places ∙ sym w.twist_places) (λ i l. (corners i (omega (arith, l, v.twist_places))).1))
-    (ext_get_or 0 _ _ (v.edge_places ∙ sym w.edge_places) (λ i l. (edges i (omega (arith, l, v.edge_places))).0))
-    (ext_get_or 0 _ _ (v.flip_places ∙ sym w.flip_places) (λ i l. (edges i (omega (arith, l, v.flip_places))).1))
+    (ext_get_or 0 _ _ (v.corners_placed.places ∙ sym w.corners_placed.places) (λ i l. (corners i (omega (arith, l, v.corners_placed.places))).0))
+    (ext_get_or 0 _ _ (v.twists_oriented.places ∙ sym w.twists_oriented.places) (λ i l. (corners i (omega (arith, l, v.twists_oriented.places))).1))
+    (ext_get_or 0 _ _ (v.edges_placed.places ∙ sym w.edges_placed.places) (λ i l. (edges i (omega (arith, l, v.edges_placed.places))).0))
+    (ext_get_or 0 _ _ (v.flips_oriented.places ∙ sym w.flips_oriented.places) (λ i l. (edges i (omega (arith, l, v.flips_oriented.places))).1))
   where
     corners : (i : ℕ) → i < 8 → (home_at Corners c i ≡ home_at Corners d i) × (turn_at Corners c i ≡ turn_at Corners d i)
     corners = same_cubie Corners c d v w s

@@ -34,7 +34,7 @@ module _ (c : CubieLists) (v : Valid c) where
   pub kind_letter : (k : Kind) (i j j' : ℕ) → i < count k → j' < facelets k → (j' + turn_at k c i) % facelets k ≡ j → letter_of (map_lists c) places (at k i j) ≡ letter_at (at k (home_at k c i) j')
   kind_letter k i j j' li lj e =
       ap (letter_of (map_lists c) places) (sym (origin k c v i j j' li lj e))
-      ∙ brought_letter (at k (home_at k c i) j') (kind_place k _ (facelet_kind k _ j' ((stand k c v).home_below i li) lj))
+      ∙ brought_letter (at k (home_at k c i) j') (kind_place k _ (facelet_kind k _ j' ((stand k c v).placed.range i li) lj))
 
   pub centre_letter : (q : Place) → is_place q ≡ true → is_corner q ≡ false → is_edge q ≡ false → letter_of (map_lists c) places q ≡ letter_at q
   centre_letter q l w u = ap (letter_of (map_lists c) places) (sym (centre_stays c q w u)) ∙ brought_letter q l
@@ -97,8 +97,8 @@ module _ (k : Kind) (c : CubieLists) (v : Valid c) (n : ℕ) (l : n < count k) w
   shown-at : (j : ℕ) → j < facelets k → get_or (get_or (letters_of k) (home_at k c n) []) (facelets k - turn_at k c n + j) 0 ≡ letter_of (map_lists c) places (at k n j)
   shown-at j lj =
       let s : Stand k c = stand k c v in
-      let t : turn_at k c n < facelets k = s.turn_below n l in
-      letters-are k (home_at k c n) (s.home_below n l) (facelets k - turn_at k c n + j) (omega arith)
+      let t : turn_at k c n < facelets k = s.oriented.range n l in
+      letters-are k (home_at k c n) (s.placed.range n l) (facelets k - turn_at k c n + j) (omega arith)
       ∙ sym (kind_letter c v k n j ((facelets k - turn_at k c n + j) % facelets k) l (low k _) (rewound k j (turn_at k c n) lj t))
 
 pub corner_shown : (c : CubieLists) (v : Valid c) (n : ℕ) → n < 8 → Shows Corners (map_lists c) n (let row = get_or CORNER_LETTERS (get_or c.corners n 0) [] in let t : ℕ = get_or c.twists n 0 in get_or row (3 - t) 0 ∷ get_or row (3 - t + 1) 0 ∷ get_or row (3 - t + 2) 0 ∷ [])

@@ -14,7 +14,7 @@ use Rattle.niss_cube.proofs.Numbers.{rank-same}
 use Rattle.niss_cube.proofs.CoordinateValues.{edge-once, slice_occupied, slice_occupied-length, slice_occupied-at, slice_occupied-filled}
 use Rattle.niss_cube.proofs.AxisRenamings.{KeepsPlaces, IsRenaming, by_rotation, not_renamed, back-place, out-back, back-out}
 use Rattle.niss_cube.proofs.Orientations.{base_2, base_3, oriented_zero}
-use Rattle.niss_cube.proofs.Codes.{code, number_of-code, are_flips, are_twists, flips_home-are, twists_home-are}
+use Rattle.niss_cube.proofs.Codes.{code, number_of-code, flips_home-are, twists_home-are}
 use Rattle.niss_cube.proofs.KeptTests.{kept_is_tested}
 use Rattle.niss_cube.proofs.MovedCubies.{Under, moved}
 
@@ -111,9 +111,9 @@ module _ (k : Kind) (set : Place → Bool) (inside : (q : Place) → set q ≡ t
   kept-unturned : Kept set e → (i : ℕ) → i < count k → turn_at k c i ≡ 0
   kept-unturned kept i li =
       let h : ℕ = home_at k c i in
-      let lh : h < count k = (stand k c v).home_below i li in
+      let lh : h < count k = (stand k c v).placed.range i li in
       let there : e (at k h s) ≡ at k i ((s + turn_at k c i) % facelets k) = shown_at k c e same h s lh ls ∙ ap (λ n. at k n ((s + turn_at k c n) % facelets k)) (stands-at k c v i li) in
-      none_turned k s (turn_at k c i) ls ((stand k c v).turn_below i li)
+      none_turned k s (turn_at k c i) ls ((stand k c v).oriented.range i li)
       (eqb-true _ _ (sym (in_set i li _ (low k _)) ∙ ap set (sym there) ∙ kept (at k h s) (in_set h lh s ls ∙ eqb-itself s)))
 
   unturned-kept : ((i : ℕ) → i < count k → turn_at k c i ≡ 0) → Kept set e
@@ -146,16 +146,16 @@ AtHome edges = (i : ℕ) → i < 12 → nat_le 8 (get_or edges i 0) ≡ nat_le 8
 slice_number_zero : (c : CubieLists) → Valid c → (rank (slice_occupied c.edges) 4 ≡ 0) ↔ AtHome c.edges
 slice_number_zero c v = (
   (λ e i l.
-      let same : slice_occupied c.edges ≡ home_occupied = rank-same (slice_occupied c.edges) home_occupied 4 (slice_occupied-length c.edges v.edge_places) (slice_occupied-filled c v) refl e in
+      let same : slice_occupied c.edges ≡ home_occupied = rank-same (slice_occupied c.edges) home_occupied 4 (slice_occupied-length c.edges v.edges_placed.places) (slice_occupied-filled c v) refl e in
       let back : 11 - (11 - i) ≡ i = omega arith in
       ap (λ k. nat_le 8 (get_or c.edges k 0)) (sym back)
-      ∙ sym (slice_occupied-at c.edges v.edge_places (11 - i) (omega arith))
+      ∙ sym (slice_occupied-at c.edges v.edges_placed.places (11 - i) (omega arith))
       ∙ ap (λ os. get_or os (11 - i) false) same
       ∙ home_occupied-at (11 - i) (omega arith)
       ∙ ap (nat_le 8) back),
-  (λ h. ap (λ os. rank os 4) (ext_get_or false (slice_occupied c.edges) home_occupied (slice_occupied-length c.edges v.edge_places) (λ k l.
-      let lk : k < 12 = omega (arith, l, slice_occupied-length c.edges v.edge_places) in
-      slice_occupied-at c.edges v.edge_places k lk ∙ h (11 - k) (omega arith) ∙ sym (home_occupied-at k lk)))),
+  (λ h. ap (λ os. rank os 4) (ext_get_or false (slice_occupied c.edges) home_occupied (slice_occupied-length c.edges v.edges_placed.places) (λ k l.
+      let lk : k < 12 = omega (arith, l, slice_occupied-length c.edges v.edges_placed.places) in
+      slice_occupied-at c.edges v.edges_placed.places k lk ∙ h (11 - k) (omega arith) ∙ sym (home_occupied-at k lk)))),
 )
 
 -- the slice is kept where its edges stand in it
@@ -176,9 +176,9 @@ module _ (c : CubieLists) (v : Valid c) (e : Place → Place) (same : SameMap e 
       one_if-same _ _ (below_all_same 12 (λ i. one_if (nat_le 8 (get_or c.edges i 0))) (λ i. one_if (nat_le 8 i))
       (λ i li. one_if-at_most _ _ (λ h.
       let n : ℕ = get_or c.edges i 0 in
-      let ln : n < 12 = v.edge_range i li in
+      let ln : n < 12 = v.edges_placed.range i li in
       ap (nat_le 8) (sym (stands-at Edges c v i li)) ∙ sym (goes n 0 ln (some_facelet Edges)) ∙ kept (at Edges n 0) (slice_at n ln 0 (some_facelet Edges) ∙ h)))
-      (below_permuted 12 (λ i. get_or c.edges i 0) (λ h. one_if (nat_le 8 h)) v.edge_range (edge-once c v)) i l)
+      (below_permuted 12 (λ i. get_or c.edges i 0) (λ h. one_if (nat_le 8 h)) v.edges_placed.range (edge-once c v)) i l)
 
 -- what the cubies of code 0 are
 abbrev AtZero : Coordinate → CubieLists → Type 0
@@ -187,8 +187,8 @@ AtZero Twist c = (i : ℕ) → i < 8 → get_or c.twists i 0 ≡ 0
 AtZero Slice c = AtHome c.edges
 
 code_zero : (k : Coordinate) (c : CubieLists) → Valid c → (code k c ≡ 0) ↔ AtZero k c
-code_zero Flip c v = oriented_zero 2 base_2 11 c.flips flips_home (are_flips c v) flips_home-are refl (holds (Numbers 12 λ i. Equal (get_or flips_home i 0) 0) refl)
-code_zero Twist c v = oriented_zero 3 base_3 7 c.twists twists_home (are_twists c v) twists_home-are refl (holds (Numbers 8 λ i. Equal (get_or twists_home i 0) 0) refl)
+code_zero Flip c v = oriented_zero 2 base_2 11 c.flips flips_home v.flips_oriented flips_home-are refl (holds (Numbers 12 λ i. Equal (get_or flips_home i 0) 0) refl)
+code_zero Twist c v = oriented_zero 3 base_3 7 c.twists twists_home v.twists_oriented twists_home-are refl (holds (Numbers 8 λ i. Equal (get_or twists_home i 0) 0) refl)
 code_zero Slice c v = slice_number_zero c v
 
 kept_zero : (k : Coordinate) (a : Axis) (c : CubieLists) → Valid c → (e : Place → Place) → SameMap e (map_lists c) → Kept (standard_set k a) e ↔ AtZero k c

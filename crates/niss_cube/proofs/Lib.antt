@@ -17,8 +17,8 @@ pub mod LawLemmas
 pub mod Logic
 pub mod MovedCubies
 pub mod MovedPositions
+pub mod NumberedEdges
 pub mod Numbers
-pub mod OccupiedNumbers
 pub mod Once
 pub mod Orientations
 pub mod OtherTurns
@@ -34,7 +34,4 @@ pub mod StepTurns
 pub mod Sums
 pub mod TableSteps
 pub mod Words
-pub mod WorkedTurns
-pub mod WorkedValues
-pub mod WrittenLists
 pub mod WrittenOrientations

@@ -4,9 +4,9 @@ use Rattle.niss_cube.proofs.Words.{inl, inr, Turn, Renaming, Place, SameMap, is_
 use Rattle.niss_cube.proofs.Words.{every_power, eqb-true, eq-eqb, same_truth, Fact, Both, Below, Equal, Alike, Same, When, Numbers, Places}
 use Rattle.niss_cube.proofs.Words.{Turns, Renamings, Holds, holds, CubieTurn, rotated, rotated_back, renaming_table}
 use Rattle.niss_cube.proofs.CubieKinds.{CubieLists, Valid, map_lists, tabulated, tabulated-length, tabulated-at, Kind, Corners, Edges}
-use Rattle.niss_cube.proofs.CubieKinds.{count, facelets, at, home_at, turn_at, homes, turns, place_of, Stand, stand, standing-valid, stands}
+use Rattle.niss_cube.proofs.CubieKinds.{count, facelets, at, home_at, turn_at, homes, turns, place_of, Stand, stand, standing-valid, stands, once}
 use Rattle.niss_cube.proofs.CubieKinds.{low, kind_of, Located, located, map_at, centre_stays}
-use Rattle.niss_cube.proofs.Once.{place_in-is}
+use Rattle.niss_cube.proofs.Once.{place_in-is, count_by-times}
 use Rattle.niss_cube.proofs.Sums.{below, one_if, below_same, below_add, below_permuted, sum_by-below}
 
 pub data Motion : Type 0 where
@@ -200,40 +200,45 @@ module _ (m : Motion) (c : CubieLists) (v : Valid c) where
   home-was : (k : Kind) (i : ℕ) → i < count k → was_at k m (home_at k d i) ≡ home_at k c (from_at k m i)
   home-was k i l =
       let t : Table k m = table k m in
-      ap (was_at k m) ((moved-is k m c).home_is i l) ∙ t.was_to _ ((stand k c v).home_below _ (t.from_below i l))
+      ap (was_at k m) ((moved-is k m c).home_is i l) ∙ t.was_to _ ((stand k c v).placed.range _ (t.from_below i l))
 
   moved-stand : (k : Kind) → Stand k d
   moved-stand k =
       let s : Stand k c = stand k c v in
       let t : Table k m = table k m in
       let b : Moved k m c = moved-is k m c in
-      let once : (h : ℕ) → h < count k → below (count k) (λ i. one_if (home_at k c i == h)) ≡ 1 = λ h l. ap (λ n. below n (λ i. one_if (home_at k c i == h))) (sym s.homes_len) ∙ s.once h l in
+      let all_once : (h : ℕ) → h < count k → below (count k) (λ i. one_if (home_at k c i == h)) ≡ 1 = λ h l. ap (λ n. below n (λ i. one_if (home_at k c i == h))) (sym s.placed.places) ∙ once k c v h l in
       let turns_from : ℕ → ℕ = λ i. inward_at k m (home_at k c i) + turn_at k c i in
       record {
-        homes_len = b.homes_len;
-        turns_len = b.turns_len;
-        once = λ h l.
-            ap (λ n. below n (λ i. one_if (home_at k d i == h))) b.homes_len
+        placed = record {
+          places = b.homes_len;
+          each = λ h l.
+            count_by-times (homes k d) h
+            ∙ ap (λ n. below n (λ i. one_if (home_at k d i == h))) b.homes_len
             ∙ below_same (count k) (λ i. one_if (home_at k d i == h)) (λ i. one_if (home_at k c (from_at k m i) == was_at k m h)) (λ i li.
             ap one_if (same_truth _ _
             (λ e. eq-eqb _ _ (sym (home-was k i li) ∙ ap (was_at k m) (eqb-true _ _ e)))
             (λ e. eq-eqb _ _ (b.home_is i li ∙ ap (to_at k m) (eqb-true _ _ e) ∙ t.to_was h l))))
             ∙ below_permuted (count k) (from_at k m) (λ i. one_if (home_at k c i == was_at k m h)) t.from_below t.once
-            ∙ once (was_at k m h) (t.was_below h l);
-        home_below = λ i l. let s : new_home k m c i < count k = t.to_below _ (s.home_below _ (t.from_below i l)) in rw (b.home_is i l) s;
-        turn_below = λ i l. rw (b.turn_is i l) (low k _);
-        whole =
+            ∙ all_once (was_at k m h) (t.was_below h l);
+          range = λ i l. let s : new_home k m c i < count k = t.to_below _ (s.placed.range _ (t.from_below i l)) in rw (b.home_is i l) s;
+        };
+        oriented = record {
+          places = b.turns_len;
+          range = λ i l. rw (b.turn_is i l) (low k _);
+          whole =
             let sum_is : below (count k) (turned_sum k m c) ≡ sum (turns k c) + (below (count k) (inward_at k m) + below (count k) (outward_at k m)) =
             below_add (count k) (λ i. turns_from (from_at k m i)) (outward_at k m)
             ∙ ap (λ x. x + below (count k) (outward_at k m))
             (below_permuted (count k) (from_at k m) turns_from t.from_below t.once
             ∙ below_add (count k) (λ i. inward_at k m (home_at k c i)) (turn_at k c)
-            ∙ ap (λ x. x + below (count k) (turn_at k c)) (below_permuted (count k) (home_at k c) (inward_at k m) s.home_below once))
-            ∙ omega (arith, sum_turns k c s.turns_len) in
+            ∙ ap (λ x. x + below (count k) (turn_at k c)) (below_permuted (count k) (home_at k c) (inward_at k m) s.placed.range all_once))
+            ∙ omega (arith, sum_turns k c s.oriented.places) in
             ap (λ x. x % facelets k) (sum_turns k d b.turns_len ∙ below_same (count k) (turn_at k d) (λ i. turned_sum k m c i % facelets k) b.turn_is)
             ∙ below_mod (facelets k) (remainders k) (count k) (turned_sum k m c)
             ∙ ap (λ x. x % facelets k) sum_is
-            ∙ (remainders k).zeros (sum (turns k c)) (below (count k) (inward_at k m) + below (count k) (outward_at k m)) s.whole t.whole;
+            ∙ (remainders k).zeros (sum (turns k c)) (below (count k) (inward_at k m) + below (count k) (outward_at k m)) s.oriented.whole t.whole;
+        };
       }
 
   pub moved-valid : Valid d
@@ -250,7 +255,7 @@ module _ (m : Motion) (c : CubieLists) (v : Valid c) where
       let p : ℕ = from_at k m n in
       let new : (n < count k) × (home_at k d n ≡ h) = stands k d moved-valid h lh in
       let home : home_at k c p ≡ w = sym (home-was k n new.0) ∙ ap (was_at k m) new.1 in
-      let stood : place_of k c w ≡ p = place_in-is (homes k c) w p (s.once w lw) (omega (arith, t.from_below n new.0, s.homes_len)) home in
+      let stood : place_of k c w ≡ p = place_in-is (homes k c) w p (once k c v w lw) (omega (arith, t.from_below n new.0, s.placed.places)) home in
       map_at k d h j lh lj
       ∙ ap (λ y. at k n ((j + y) % facelets k)) ((moved-is k m c).turn_is n new.0 ∙ ap (λ y. (inward_at k m y + turn_at k c p + outward_at k m n) % facelets k) home)
       ∙ ap (at k n) ((remainders k).regroup j (inward_at k m w) (turn_at k c p) (outward_at k m n))

@@ -2,7 +2,7 @@
 use Rattle.niss_cube.proofs.Words.{refl, sym, ◌∙◌, ap, subst, arith, inl, inr, ◌≡◌, ℕ, zero, suc, ◌+◌, ◌-◌, ◌*◌, ◌/◌, ◌%◌, ◌<◌, List, []}
 use Rattle.niss_cube.proofs.Words.{◌∷◌, ◌++◌, length, get_or, take, ◌⊎◌, slice_index, sum, ◌↔◌, ext_get_or, get_or-take, length-take}
 use Rattle.niss_cube.proofs.Words.{take-length, eqb_tells, number, digits_of_number, orientations_of_number, length-append, min}
-use Rattle.niss_cube.proofs.Words.{fold-append, sum_by-append, take-suc, take-append_seam}
+use Rattle.niss_cube.proofs.Words.{fold-append, sum_by-append, take-suc, take-append_seam, AreOriented}
 use Rattle.niss_cube.proofs.Numbers.{number_from, Digits, Splits, splits-2, splits-3, number-same, number-below, span}
 use Rattle.niss_cube.proofs.CoordinateValues.{digits_taken}
 
@@ -26,12 +26,6 @@ base_3 = record { splits = splits-3; whole = λ r. omega arith; small = λ r. om
 pub base_of : (b : ℕ) → (b ≡ 2) ⊎ (b ≡ 3) → Base b
 base_of b (inl e) = subst Base (sym e) base_2
 base_of b (inr e) = subst Base (sym e) base_3
-
--- the orientations of n + 1 pieces that a cube can have
-pub record AreOriented (b n : ℕ) (xs : List ℕ) : Type 0 where
-  pub places : length xs ≡ suc n
-  pub range : (i : ℕ) → i < suc n → slice_index xs i < b
-  pub whole : sum xs % b ≡ 0
 
 length-more : (xs : List ℕ) (d : ℕ) → length (xs ++ d ∷ []) ≡ suc (length xs)
 length-more xs d = length-append xs (d ∷ []) ∙ omega arith
@@ -75,7 +69,7 @@ sum_taken n xs l =
     ∙ sum-more (take n xs) (get_or xs n 0)
 
 -- each number is that of its orientations
-pub orientations_of_number-are : (b : ℕ) → Base b → (n i : ℕ) → AreOriented b n (orientations_of_number b n i)
+pub orientations_of_number-are : (b : ℕ) → Base b → (n i : ℕ) → AreOriented b (suc n) (orientations_of_number b n i)
 orientations_of_number-are b base n i =
     let ds : List ℕ = digits_of_number b n i in
     let last : ℕ = (b - sum ds % b) % b in
@@ -92,17 +86,17 @@ orientations_of_number-number b base n i h =
     let ds : List ℕ = digits_of_number b n i in
     ap (number b) (take-more ds ((b - sum ds % b) % b) n (digits_of_number-length b n i)) ∙ digits_of_number-number b base n i h
 
-oriented-digits : (b n : ℕ) (xs : List ℕ) → AreOriented b n xs → Digits b (take n xs)
+oriented-digits : (b n : ℕ) (xs : List ℕ) → AreOriented b (suc n) xs → Digits b (take n xs)
 oriented-digits b n xs r = digits_taken b n xs (omega (arith, r.places)) (λ i l. r.range i (omega (arith, l, r.places)))
 
-pub oriented-below : (b n : ℕ) (xs : List ℕ) → AreOriented b n xs → number b (take n xs) < span b n
+pub oriented-below : (b n : ℕ) (xs : List ℕ) → AreOriented b (suc n) xs → number b (take n xs) < span b n
 oriented-below b n xs r =
     let P : ℕ → Type 0 = λ m. number b (take n xs) < span b m in
     let len : length (take n xs) ≡ n = length-take n xs ∙ omega (arith, r.places) in
     subst P len (number-below b (take n xs) (oriented-digits b n xs r))
 
 -- orientations are determined by their number
-pub oriented-same : (b : ℕ) → Base b → (n : ℕ) (xs ys : List ℕ) → AreOriented b n xs → AreOriented b n ys → number b (take n xs) ≡ number b (take n ys) → xs ≡ ys
+pub oriented-same : (b : ℕ) → Base b → (n : ℕ) (xs ys : List ℕ) → AreOriented b (suc n) xs → AreOriented b (suc n) ys → number b (take n xs) ≡ number b (take n ys) → xs ≡ ys
 oriented-same b base n xs ys p q e =
     ext_get_or 0 xs ys (p.places ∙ sym q.places) (λ i li. go i (omega (arith, li, p.places)))
   where
@@ -125,7 +119,7 @@ oriented-same b base n xs ys p q e =
     ]
 
 -- orientations have the number 0 exactly where no piece is turned, as in a list where none is
-pub oriented_zero : (b : ℕ) → Base b → (n : ℕ) (xs none : List ℕ) → AreOriented b n xs → AreOriented b n none → number b (take n none) ≡ 0 → ((i : ℕ) → i < suc n → get_or none i 0 ≡ 0) →
+pub oriented_zero : (b : ℕ) → Base b → (n : ℕ) (xs none : List ℕ) → AreOriented b (suc n) xs → AreOriented b (suc n) none → number b (take n none) ≡ 0 → ((i : ℕ) → i < suc n → get_or none i 0 ≡ 0) →
     (number b (take n xs) ≡ 0) ↔ ((i : ℕ) → i < suc n → get_or xs i 0 ≡ 0)
 oriented_zero b base n xs none p z number_none at_none = (
   (λ e i l. ap (λ ys. get_or ys i 0) (oriented-same b base n xs none p z (e ∙ sym number_none)) ∙ at_none i l),

@@ -18,8 +18,8 @@ module _ (c : CubieLists) (v : Valid c) where
         let t : ℕ = turn_at k c a.row in
         let j : ℕ = (facelets k - t + a.index) % facelets k in (
           at k h j,
-          kind_place k (at k h j) (facelet_kind k h j (s.home_below a.row a.row_below) (low k _)),
-          origin k c v a.row a.index j a.row_below (low k _) (rewound k a.index t a.index_below (s.turn_below a.row a.row_below)) ∙ sym a.is,
+          kind_place k (at k h j) (facelet_kind k h j (s.placed.range a.row a.row_below) (low k _)),
+          origin k c v a.row a.index j a.row_below (low k _) (rewound k a.index t a.index_below (s.oriented.range a.row a.row_below)) ∙ sym a.is,
         )
     | inr w ↦ (q, l, centre_stays c q w.0 w.1)
   ]

@@ -1,47 +1,74 @@
 -- The steps of the loop that places the edges of a slice.
-use Rattle.niss_cube.proofs.Words.{occupied, sym, ◌∙◌, ap, subst, arith, ◌≡◌, ℕ, suc, ◌+◌, ◌-◌, ◌<◌, List, ◌∷◌, ◌++◌, length, get_or, set}
-use Rattle.niss_cube.proofs.Words.{take, drop, reverse, Bool, true, false, length-set, get_or-reverse, drop-cons, edges_at, drop-length}
-use Rattle.niss_cube.proofs.WrittenLists.{one_more, all_written}
+use Rattle.niss_cube.proofs.Words.{refl, sym, ◌∙◌, ap, subst, arith, ◌≡◌, ℕ, zero, suc, ◌+◌, ◌-◌, ◌<◌, ◌≤◌, List, [], ◌∷◌, ◌++◌, length, set}
+use Rattle.niss_cube.proofs.Words.{drop, reverse, append_assoc, length-set, drop-set_at, reverse-append, lt-ltb, ltb-true}
+use Rattle.niss_cube.proofs.Words.{false_from_ne_true, nat_lt, choose, choices_with, edges_down, edges_of_number}
+use Rattle.niss_cube.proofs.NumberedEdges.{choosable}
 
--- what the loop keeps: the edges placed and those still to come are those of the occupied places
-pub record Placed (os : List Bool) (place free of_slice : ℕ) (xs : List ℕ) : Type 0 where
-  pub places : length xs ≡ 12
-  pub is : take place xs ++ edges_at (drop place os) free of_slice ≡ edges_at os 0 8
+-- what the loop keeps: the edges still to come, and those placed, are the edges of the number
+pub record Placed (number n wanted rest : ℕ) (edges : List ℕ) : Type 0 where
+  pub places : length edges ≡ 12
+  pub fits : rest < choose n wanted
+  pub few : wanted ≤ 4
+  pub is : reverse (edges_down n wanted rest) ++ drop n edges ≡ edges_of_number number
 
--- at a place that is occupied or free
-next : (os : List Bool) (b : Bool) (place : ℕ) → place < length os → get_or os place false ≡ b → drop place os ≡ b ∷ drop (place + 1) os
-next os b place l e =
-    drop-cons os place false l ∙ ap (λ c. c ∷ drop (suc place) os) e ∙ ap (λ k. b ∷ drop k os) (let a : suc place ≡ place + 1 = omega arith in a)
+-- the choices by which the last place is wanted, and those by which it isn't
+choices : (n k : ℕ) → choose (suc n) k ≡ choices_with n k + choose n k
+choices n zero = omega arith
+choices n (suc k) = refl
 
--- the places are counted from the last down
-pub reversed-at : (occupied : List Bool) (place : ℕ) (b : Bool) → length occupied ≡ 12 → place < 12 → get_or occupied (11 - place) false ≡ b → get_or (reverse occupied) place false ≡ b
-reversed-at occupied place b l h e =
-    get_or-reverse occupied place false (omega arith)
-    ∙ ap (λ n. get_or occupied (n - 1 - place) false) l
-    ∙ e
+one_less : (n k i : ℕ) → i < choices_with n k → i < choose n (k - 1)
+one_less n zero i l = absurd (omega arith)
+one_less n (suc k) i l = let e : suc k - 1 ≡ k = omega arith in rw e l
 
-placed-step : (os : List Bool) (place free of_slice free' of_slice' x : ℕ) (xs xs' : List ℕ) → place < 12 → xs' ≡ set xs place x →
-    edges_at (drop place os) free of_slice ≡ x ∷ edges_at (drop (place + 1) os) free' of_slice' → Placed os place free of_slice xs → Placed os (place + 1) free' of_slice' xs'
-placed-step os place free of_slice free' of_slice' x xs xs' l same head p =
-    let P : List ℕ → Type 0 = λ ys. Placed os (place + 1) free' of_slice' ys in
-    subst P (sym same) record {
-      places = length-set xs place x ∙ p.places;
-      is = one_more xs place x (edges_at (drop place os) free of_slice) (edges_at (drop (place + 1) os) free' of_slice') _ (omega (arith, p.places)) head p.is;
-    }
+head_slice : (n k i : ℕ) → i < choices_with n k → edges_down (suc n) k i ≡ (8 + (k - 1)) ∷ edges_down n (k - 1) i
+unfolding edges_down
+head_slice n zero i l = absurd (omega arith)
+head_slice n (suc k) i l = let e : suc k - 1 ≡ k = omega arith in rw (lt-ltb i (choose n k) l, e) refl
 
-module _ (os : List Bool) (place free of_slice free' of_slice' : ℕ) (xs xs' : List ℕ) (len : length os ≡ 12) (l : place < 12) (now : Placed os place free of_slice xs) where
-  pub placed-slice : get_or os place false ≡ true → free' ≡ free → of_slice' ≡ of_slice + 1 → xs' ≡ set xs place of_slice → Placed os (place + 1) free' of_slice' xs'
-  placed-slice e p q r =
-      let more : of_slice' ≡ suc of_slice = omega arith in
-      let here = next os true place (omega arith) e in
-      placed-step os place free of_slice free' of_slice' of_slice xs xs' l r (ap (λ rs. edges_at rs free of_slice) here ∙ (cc)) now
+head_free : (n k i : ℕ) → choices_with n k ≤ i → edges_down (suc n) k i ≡ (n - k) ∷ edges_down n k (i - choices_with n k)
+unfolding edges_down
+head_free n zero i l =
+    let a : n - 0 ≡ n = omega arith in
+    let b : i - 0 ≡ i = omega arith in
+    cc
+head_free n (suc k) i l = rw (false_from_ne_true (nat_lt i (choose n k)) (λ t. let m : i < choose n k = ltb-true i (choose n k) t in omega arith)) refl
 
-  pub placed-free : get_or os place false ≡ false → free' ≡ free + 1 → of_slice' ≡ of_slice → xs' ≡ set xs place free → Placed os (place + 1) free' of_slice' xs'
-  placed-free e p q r =
-      let more : free' ≡ suc free = omega arith in
-      let here = next os false place (omega arith) e in
-      placed-step os place free of_slice free' of_slice' free xs xs' l r (ap (λ rs. edges_at rs free of_slice) here ∙ (cc)) now
+module _ (number met w r : ℕ) (edges edges' : List ℕ) (l : met < 12) (now : Placed number (12 - met) w r edges) where
+  abbrev n : ℕ
+  n = 11 - met
 
-pub placed-end : (os : List Bool) (place free of_slice : ℕ) (xs : List ℕ) → length os ≡ 12 → place ≡ 12 → Placed os place free of_slice xs → xs ≡ edges_at os 0 8
-placed-end os place free of_slice xs l e p =
-    all_written xs place (edges_at (drop place os) free of_slice) _ (e ∙ sym p.places) (ap (λ rs. edges_at rs free of_slice) (ap (λ k. drop k os) (e ∙ sym l) ∙ drop-length os)) p.is
+  here : Placed number (suc n) w r edges
+  here = subst (λ n. Placed number n w r edges) (let e : 12 - met ≡ suc (11 - met) = omega arith in e) now
+
+  placed-step : (w' r' x : ℕ) → edges_down (suc n) w r ≡ x ∷ edges_down n w' r' → r' < choose n w' → w' ≤ 4 → edges' ≡ set edges n x → Placed number (12 - (met + 1)) w' r' edges'
+  placed-step w' r' x head fits few e =
+      let left : 12 - (met + 1) ≡ n = omega arith in
+      rw (e, left) record {
+        places = length-set edges n x ∙ now.places;
+        fits = fits;
+        few = few;
+        is =
+            ap (λ ys. reverse (edges_down n w' r') ++ ys) (drop-set_at edges n n x refl (omega (arith, now.places)) ∙ ap (λ k. x ∷ drop k edges) (let m : n + 1 ≡ suc n = omega arith in m))
+            ∙ sym (append_assoc (reverse (edges_down n w' r')) (x ∷ []) (drop (suc n) edges))
+            ∙ ap (λ ys. ys ++ drop (suc n) edges) (sym (reverse-append (x ∷ []) (edges_down n w' r')) ∙ ap reverse (sym head))
+            ∙ here.is;
+      }
+
+  -- the place is given to an edge of the slice, or to another one
+  pub placed-slice : r < choices_with n w → edges' ≡ set edges n (8 + (w - 1)) → Placed number (12 - (met + 1)) (w - 1) r edges'
+  placed-slice h e = placed-step (w - 1) r (8 + (w - 1)) (head_slice n w r h) (one_less n w r h) (omega (arith, now.few)) e
+
+  left_over : choices_with n w ≤ r → r - choices_with n w < choose n w
+  left_over h = omega (arith, here.fits, choices n w)
+
+  pub placed-free : choices_with n w ≤ r → edges' ≡ set edges n (n - w) → Placed number (12 - (met + 1)) w (r - choices_with n w) edges'
+  placed-free h e = placed-step w (r - choices_with n w) (n - w) (head_free n w r h) (left_over h) now.few e
+
+  pub wanted-below : choices_with n w ≤ r → w ≤ n
+  wanted-below h = choosable n w (omega (arith, left_over h))
+
+pub placed-end : (number met w r : ℕ) (edges : List ℕ) → met ≡ 12 → Placed number (12 - met) w r edges → edges ≡ edges_of_number number
+unfolding edges_down
+placed-end number met w r edges e h =
+    let none : 12 - met ≡ 0 = omega arith in
+    (subst (λ n. Placed number n w r edges) none h).is

@@ -63,7 +63,7 @@ module _ (k : Kind) (c : CubieLists) (v : Valid c) (e : Place → Place) (same :
   pub first_at : (h : ℕ) → h < count k → e (at k h 0) ≡ at k (place_of k c h) (turn_at k c (place_of k c h))
   first_at h l =
       shown_at k c e same h 0 l (some_facelet k)
-      ∙ ap (at k (place_of k c h)) (unturned k _ ((stand k c v).turn_below _ (stands k c v h l).0))
+      ∙ ap (at k (place_of k c h)) (unturned k _ ((stand k c v).oriented.range _ (stands k c v h l).0))
 
   -- that of a home that is selected is brought to facelet j of place i
   brings_test : (sel : ℕ → Bool) (i j : ℕ) → i < count k → j < facelets k → any_below (count k) (λ h. sel h && same_place (e (at k h 0)) (at k i j)) ≡ (sel (home_at k c i) && (turn_at k c i == j))
@@ -72,12 +72,12 @@ module _ (k : Kind) (c : CubieLists) (v : Valid c) (e : Place → Place) (same :
       (λ a.
       let r : (h : ℕ) × (h < count k) × ((sel h && same_place (e (at k h 0)) (at k i j)) ≡ true) = any_below-found (count k) (λ h. sel h && same_place (e (at k h 0)) (at k i j)) a in
       let w = stands k c v r.0 r.1 in
-      let s = same_facelet k (place_of k c r.0) (turn_at k c (place_of k c r.0)) i j w.0 ((stand k c v).turn_below _ w.0) li lj
+      let s = same_facelet k (place_of k c r.0) (turn_at k c (place_of k c r.0)) i j w.0 ((stand k c v).oriented.range _ w.0) li lj
       (sym (first_at r.0 r.1) ∙ same_place_is _ _ (and_right (sel r.0) _ r.2)) in
       and_both _ _ (ap sel (ap (home_at k c) (sym s.0) ∙ w.1) ∙ and_left (sel r.0) _ r.2) (eq-eqb (turn_at k c i) j (ap (turn_at k c) (sym s.0) ∙ s.1)))
       (λ b.
       let h : ℕ = home_at k c i in
-      let lh : h < count k = (stand k c v).home_below i li in
+      let lh : h < count k = (stand k c v).placed.range i li in
       any_below-some (count k) (λ h. sel h && same_place (e (at k h 0)) (at k i j)) h lh
       (and_both _ _ (and_left (sel h) _ b)
       (same_place_of _ _ (first_at h lh ∙ ap (λ n. at k n (turn_at k c n)) (stands-at k c v i li) ∙ ap (at k i) (eqb-true _ _ (and_right (sel h) _ b))))))
@@ -87,19 +87,19 @@ module _ (k : Kind) (c : CubieLists) (v : Valid c) (e : Place → Place) (same :
   turns_shown =
       let test = brings e (firsts (rows k)) in
       let len : length (orientations e (rows k)) ≡ count k = length-map (rows k) (index_in test) ∙ rows_len k in
-      ext_get_or 0 (orientations e (rows k)) (turns k c) (len ∙ sym (stand k c v).turns_len) (λ i l.
+      ext_get_or 0 (orientations e (rows k)) (turns k c) (len ∙ sym (stand k c v).oriented.places) (λ i l.
       let li : i < count k = omega (arith, l, len) in
       get_or-map (index_in test) (rows k) i [] 0 (omega (arith, li, rows_len k))
-      ∙ index_in-is test (row_at (rows k) i) (facelet U 5) (turn_at k c i) (omega (arith, (stand k c v).turn_below i li, row_len k i li))
+      ∙ index_in-is test (row_at (rows k) i) (facelet U 5) (turn_at k c i) (omega (arith, (stand k c v).oriented.range i li, row_len k i li))
       (λ j lj. brought_first k e (at k i j) ∙ brings_test (λ h. true) i j li (omega (arith, lj, row_len k i li))))
 
 -- where the edges 8 to 11 stand
 pub slice_shown : (c : CubieLists) (v : Valid c) (e : Place → Place) → SameMap e (map_lists c) → occupied e ≡ map (nat_le 8) c.edges
 slice_shown c v e same =
-    ext_get_or false (occupied e) (map (nat_le 8) c.edges) (sym (length-map c.edges (nat_le 8) ∙ v.edge_places)) (λ i l.
+    ext_get_or false (occupied e) (map (nat_le 8) c.edges) (sym (length-map c.edges (nat_le 8) ∙ v.edges_placed.places)) (λ i l.
     let li : i < 12 = l in
     let test = brings e (firsts (drop 8 edge_facelets)) in
     get_or-map (list_any test) edge_facelets i [] false li
-    ∙ list_any-is test (row_at edge_facelets i) (facelet U 5) (nat_le 8 (get_or c.edges i 0)) (get_or c.flips i 0) (omega (arith, v.flip_range i li, row_len Edges i li))
+    ∙ list_any-is test (row_at edge_facelets i) (facelet U 5) (nat_le 8 (get_or c.edges i 0)) (get_or c.flips i 0) (omega (arith, v.flips_oriented.range i li, row_len Edges i li))
     (λ j lj. brings_test Edges c v e same (nat_le 8) i j li (omega (arith, lj, row_len Edges i li)))
-    ∙ sym (get_or-map (nat_le 8) c.edges i 0 false (omega (arith, v.edge_places))))
+    ∙ sym (get_or-map (nat_le 8) c.edges i 0 false (omega (arith, v.edges_placed.places))))

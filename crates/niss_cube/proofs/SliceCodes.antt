@@ -1,121 +1,44 @@
 -- The edges of a slice by their number, and after a turn.
-use Rattle.niss_cube.proofs.Words.{occupied, Equal, Numbers, holds, refl, sym, ◌∙◌, ap, arith, ◌≡◌, ℕ, zero, suc, ◌+◌, ◌<◌, ◌≤◌, List, []}
-use Rattle.niss_cube.proofs.Words.{◌∷◌, length, get_or, map, reverse, Bool, true, false, nat_le, ◌==◌, count_by, slice_index, le-leb}
-use Rattle.niss_cube.proofs.Words.{leb-true, false_from_ne_true, ext_get_or, get_or-map, length-map, length-reverse, sum_by-cons, Turn}
-use Rattle.niss_cube.proofs.Words.{turn_table, rank, edges_at, edges_of_number, occupied_of_number, reverse_aux, reverse-reverse}
+use Rattle.niss_cube.proofs.Words.{Equal, Numbers, holds, refl, sym, ◌∙◌, ap, arith, ◌≡◌, ℕ, ◌-◌, ◌<◌, List, [], ◌∷◌, length, get_or}
+use Rattle.niss_cube.proofs.Words.{map, reverse, Bool, false, nat_le, ◌==◌, count_by, slice_index, ext_get_or, get_or-map, length-map}
+use Rattle.niss_cube.proofs.Words.{length-reverse, get_or-reverse, reverse-append, map-append, IsPermutation-reverse, Turn, turn_table}
+use Rattle.niss_cube.proofs.Words.{sum_by-IsPermutation, rank, edges_down, edges_of_number, reverse-reverse, ArePlaced}
 use Rattle.niss_cube.proofs.CubieKinds.{tabulated, tabulated-length, tabulated-at, brought, Edges}
 use Rattle.niss_cube.proofs.MovedCubies.{By, table}
 use Rattle.niss_cube.proofs.Sums.{one_if}
 use Rattle.niss_cube.proofs.Numbers.{filled, rank-same}
-use Rattle.niss_cube.proofs.OccupiedNumbers.{Numbered, numbered}
+use Rattle.niss_cube.proofs.NumberedEdges.{within, Numbered, numbered}
 use Rattle.niss_cube.proofs.CoordinateValues.{slice_occupied}
 
--- which edge stands at each edge place
-pub record ArePlaced (edges : List ℕ) : Type 0 where
-  pub places : length edges ≡ 12
-  pub each : (h : ℕ) → h < 12 → count_by (λ x. x == h) edges ≡ 1
-  pub range : (n : ℕ) → n < 12 → slice_index edges n < 12
-
--- how many places are not occupied
-abbrev free_places : List Bool → ℕ
-free_places [] = 0
-free_places (true ∷ os) = free_places os
-free_places (false ∷ os) = suc (free_places os)
-
-free_and_filled : (os : List Bool) → free_places os + filled os ≡ length os
-free_and_filled [] = refl
-free_and_filled (true ∷ os) = omega (arith, free_and_filled os)
-free_and_filled (false ∷ os) = omega (arith, free_and_filled os)
-
-filled-onto : (os rs : List Bool) → filled (reverse_aux os rs) ≡ filled os + filled rs
-filled-onto [] rs = omega arith
-filled-onto (true ∷ os) rs = omega (arith, filled-onto os (true ∷ rs))
-filled-onto (false ∷ os) rs = omega (arith, filled-onto os (false ∷ rs))
-
-filled-reverse : (os : List Bool) → filled (reverse os) ≡ filled os
-filled-reverse os = filled-onto os [] ∙ omega arith
-
--- how often h is among the n numbers from a on
-abbrev within : (a n h : ℕ) → ℕ
-within a zero h = 0
-within a (suc n) h = one_if (a == h) + within (suc a) n h
-
-edges_at-length : (os : List Bool) (free occupied : ℕ) → length (edges_at os free occupied) ≡ length os
-edges_at-length [] free occupied = refl
-edges_at-length (true ∷ os) free occupied = ap suc (edges_at-length os free (suc occupied))
-edges_at-length (false ∷ os) free occupied = ap suc (edges_at-length os (suc free) occupied)
-
-edges_at-count : (os : List Bool) (free occupied h : ℕ) → count_by (λ x. x == h) (edges_at os free occupied) ≡ within free (free_places os) h + within occupied (filled os) h
-edges_at-count [] free occupied h = refl
-edges_at-count (true ∷ os) free occupied h =
-    omega (arith, sum_by-cons (λ x. one_if (x == h)) occupied (edges_at os free (suc occupied)), edges_at-count os free (suc occupied) h)
-edges_at-count (false ∷ os) free occupied h =
-    omega (arith, sum_by-cons (λ x. one_if (x == h)) free (edges_at os (suc free) occupied), edges_at-count os (suc free) occupied h)
-
-edges_at-range : (os : List Bool) (free occupied i : ℕ) → free + free_places os ≤ 12 → occupied + filled os ≤ 12 → i < length os → get_or (edges_at os free occupied) i 0 < 12
-edges_at-range [] free occupied i f g l = absurd (omega arith)
-edges_at-range (true ∷ os) free occupied zero f g l = omega arith
-edges_at-range (true ∷ os) free occupied (suc i) f g l = edges_at-range os free (suc occupied) i f (omega arith) (omega arith)
-edges_at-range (false ∷ os) free occupied zero f g l = omega arith
-edges_at-range (false ∷ os) free occupied (suc i) f g l = edges_at-range os (suc free) occupied i (omega arith) g (omega arith)
-
-free_is : (n : ℕ) → n < 8 → nat_le 8 n ≡ false
-free_is n h = false_from_ne_true (nat_le 8 n) (λ e. let l : 8 ≤ n = leb-true 8 n e in omega arith)
-
-edges_at-occupied : (os : List Bool) (free occupied : ℕ) → free + free_places os ≤ 8 → 8 ≤ occupied → map (nat_le 8) (edges_at os free occupied) ≡ os
-edges_at-occupied [] free occupied f g = refl
-edges_at-occupied (true ∷ os) free occupied f g = rw (le-leb 8 occupied g) (ap (λ rs. true ∷ rs) (edges_at-occupied os free (suc occupied) f (omega arith)))
-edges_at-occupied (false ∷ os) free occupied f g =
-    let here : nat_le 8 free ≡ false = free_is free (omega arith) in
-    rw here (ap (λ rs. false ∷ rs) (edges_at-occupied os (suc free) occupied (omega arith) g))
-
-each_once : (h : ℕ) → h < 12 → within 0 8 h + within 8 4 h ≡ 1
-each_once = holds (Numbers 12 λ h. Equal (within 0 8 h + within 8 4 h) 1) refl
-
-module _ (os : List Bool) (l : length os ≡ 12) (four : filled os ≡ 4) where
-  eight : free_places os ≡ 8
-  eight = omega (arith, free_and_filled os)
-
-  edges_at-placed : ArePlaced (edges_at os 0 8)
-  edges_at-placed = record {
-    places = edges_at-length os 0 8 ∙ l;
-    each = λ h lh.
-        edges_at-count os 0 8 h
-        ∙ ap (λ n. within 0 n h + within 8 (filled os) h) eight
-        ∙ ap (λ n. within 0 8 h + within 8 n h) four
-        ∙ each_once h lh;
-    range = λ n ln. edges_at-range os 0 8 n (omega (arith, eight)) (omega arith) (omega arith);
-  }
-
-  edges_at-is : map (nat_le 8) (edges_at os 0 8) ≡ os
-  edges_at-is = edges_at-occupied os 0 8 (omega (arith, eight)) (omega arith)
-
-pub record Occupied (i : ℕ) (os : List Bool) : Type 0 where
-  pub places : length os ≡ 12
-  pub four : filled os ≡ 4
-  pub rank_is : rank (reverse os) 4 ≡ i
-
-occupied_of : (i : ℕ) → i < 495 → Occupied i (reverse (occupied_of_number 12 4 i))
-occupied_of i l =
-    let n : Numbered 12 4 i (occupied_of_number 12 4 i) = numbered 12 4 i l in
-    record {
-      places = length-reverse (occupied_of_number 12 4 i) ∙ n.places;
-      four = filled-reverse (occupied_of_number 12 4 i) ∙ n.filled_is;
-      rank_is = ap (λ os. rank os 4) (reverse-reverse (occupied_of_number 12 4 i)) ∙ n.rank_is;
-    }
+each_once : (h : ℕ) → h < 12 → within 12 4 h ≡ 1
+each_once = holds (Numbers 12 λ h. Equal (within 12 4 h) 1) refl
 
 -- each number is that of its edges
-pub of_number-placed : (i : ℕ) → i < 495 → ArePlaced (edges_of_number i)
+edges_are : (i : ℕ) → i < 495 → Numbered 12 4 i (edges_down 12 4 i)
+edges_are i l = numbered 12 4 i l (omega arith) (omega arith)
+
+pub of_number-placed : (i : ℕ) → i < 495 → ArePlaced 12 (edges_of_number i)
 unfolding edges_of_number
 of_number-placed i l =
-    let o : Occupied i (reverse (occupied_of_number 12 4 i)) = occupied_of i l in
-    edges_at-placed (reverse (occupied_of_number 12 4 i)) o.places o.four
+    let xs : List ℕ = edges_down 12 4 i in
+    let r : Numbered 12 4 i xs = edges_are i l in
+    record {
+      places = length-reverse xs ∙ r.places;
+      each = λ h lh. sum_by-IsPermutation (λ x. one_if (x == h)) xs (reverse xs) (IsPermutation-reverse xs) ∙ r.each h ∙ each_once h lh;
+      range = λ n ln. rw (get_or-reverse xs n 0 (omega (arith, ln, r.places))) (r.range (length xs - 1 - n) (omega (arith, r.places)));
+    }
+
+reversed-map : (f : ℕ → Bool) (xs : List ℕ) → reverse (map f (reverse xs)) ≡ map f xs
+reversed-map f [] = refl
+reversed-map f (x ∷ xs) =
+    ap (λ ys. reverse (map f ys)) (reverse-append (x ∷ []) xs)
+    ∙ ap reverse (map-append f (reverse xs) (x ∷ []))
+    ∙ reverse-append (map f (reverse xs)) (f x ∷ [])
+    ∙ ap (λ ys. f x ∷ ys) (reversed-map f xs)
 
 pub of_number-rank : (i : ℕ) → i < 495 → rank (slice_occupied (edges_of_number i)) 4 ≡ i
 unfolding edges_of_number
-of_number-rank i l =
-    let o : Occupied i (reverse (occupied_of_number 12 4 i)) = occupied_of i l in
-    ap (λ os. rank (reverse os) 4) (edges_at-is (reverse (occupied_of_number 12 4 i)) o.places o.four) ∙ o.rank_is
+of_number-rank i l = ap (λ os. rank os 4) (reversed-map (nat_le 8) (edges_down 12 4 i)) ∙ (edges_are i l).rank_is
 
 -- where the edges of the slice stand after a turn depends on where they stood
 pub turned-occupied : (t : Turn) (xs ys : List ℕ) → length xs ≡ 12 → length ys ≡ 12 → map (nat_le 8) xs ≡ map (nat_le 8) ys →

@@ -1,11 +1,15 @@
 -- The steps of the number of a slice.
 use Rattle.niss_cube.proofs.Words.{Equal, Numbers, holds, ◌≡◌, ℕ, suc, ◌+◌, ◌-◌, ◌<◌, ◌≤◌, refl, ◌∙◌, ap, List, [], ◌∷◌, length, get_or}
 use Rattle.niss_cube.proofs.Words.{drop, false, arith, nat_le, le-leb, leb-true, false_from_ne_true, drop-cons, choose, rank, length-drop}
-use Rattle.niss_cube.proofs.Words.{CHOICES}
+use Rattle.niss_cube.proofs.Words.{zero, CHOICES, choices_with}
 use Rattle.niss_cube.proofs.CoordinateValues.{slice_occupied, slice_occupied-length, slice_occupied-at}
 
-pub choices-are : (n : ℕ) → n < 12 → (k : ℕ) → k < 4 → get_or (get_or CHOICES n []) k 0 ≡ choose n k
+choices-are : (n : ℕ) → n < 12 → (k : ℕ) → k < 4 → get_or (get_or CHOICES n []) k 0 ≡ choose n k
 choices-are = holds (Numbers 12 λ n. Numbers 4 λ k. Equal (get_or (get_or CHOICES n []) k 0) (choose n k)) refl
+
+pub choices_with-are : (n k : ℕ) → n < 12 → k ≤ 4 → 0 < k → get_or (get_or CHOICES n []) (k - 1) 0 ≡ choices_with n k
+choices_with-are n zero l few some = absurd (omega arith)
+choices_with-are n (suc k) l few some = let e : suc k - 1 ≡ k = omega arith in rw e (choices-are n l k (omega arith))
 
 lt-leb_false : (a b : ℕ) → b < a → nat_le a b ≡ false
 lt-leb_false a b h = false_from_ne_true (nat_le a b) (λ e. let l : a ≤ b = leb-true a b e in omega arith)

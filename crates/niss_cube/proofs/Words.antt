@@ -3,13 +3,14 @@ pub use Rattle.std.proofs.Common.{◌≡◌, ℕ, ◌<◌, ◌∙◌, ap, refl, 
 pub use Rattle.std.proofs.Common.{subst, suc, ◌%◌, ◌≤◌, drop, inl, inr, ◌-◌, zero, take, not, reverse, ◌||◌, map, ◌++◌, Option, Some}
 pub use Rattle.std.proofs.Common.{slice_index, ◌*◌, None, set, ◌⊎◌, append_assoc, rules, length-append, ◌≢◌}
 pub use Rattle.std.proofs.Math.Nat.{mul-le-mul_left}
-pub use Rattle.std.proofs.Math.Seq.{drop-cons, take-length, take-suc, take-append_seam, drop-length, take-suc-set}
+pub use Rattle.std.proofs.Math.Seq.{drop-cons, take-length, take-suc, take-append_seam, take-suc-set}
 pub use Rattle.std.proofs.lemmas.Bool.{eqb-true, ltb-true, eq-eqb, false_from_ne_true, le-leb, leb-true, true_from_ne_false, lt-ltb}
 pub use Rattle.std.proofs.lemmas.Bool.Decides.{eqb_tells, leb_tells}
 pub use Rattle.std.proofs.lemmas.Grind.{drop-set_at}
-pub use Rattle.std.proofs.lemmas.List.{ext_get_or, get_or-map, length-map, length-set, length-reverse, append-nil, at_drop_more}
+pub use Rattle.std.proofs.lemmas.List.{ext_get_or, get_or-map, length-map, length-set, length-reverse, append-nil, at_drop_more, map-append}
 pub use Rattle.std.proofs.lemmas.List.{get_or-reverse, get_or-take, length-take, get_or_default, reverse-reverse, length-drop}
-pub use Rattle.std.proofs.lemmas.List.{get_or-set_same, get_or-set_other, take_more_set, at_drop_all}
+pub use Rattle.std.proofs.lemmas.List.{get_or-set_same, get_or-set_other, at_drop_all, reverse-append}
+pub use Rattle.std.proofs.lemmas.List.Sorted.{sum_by-IsPermutation, IsPermutation-reverse}
 pub use Rattle.std.proofs.lemmas.List.Folds.{Any-from_list_any, list_any-from_Any, list_any_at}
 pub use Rattle.std.proofs.lemmas.List.FromFn.{get_or-map-range_with_len, length-map-range_with_len, get_or-range_with_len}
 pub use Rattle.std.proofs.lemmas.List.FromFn.{length-range_with_len}
@@ -21,7 +22,6 @@ pub use Rattle.std.specs.Option.{option_map_or}
 pub use Rattle.std.specs.Prelude.{nat_lt, nat_le, sum, ◌↔◌, Contains, IsTrue, count_by, if◌then◌else◌, ◌/◌, EachIndex, nat_eq, fold, min}
 pub use Rattle.std.specs.Prelude.{flat_map, filter, cond, IfNone, IfSome, MatchOption, slice_index_or}
 pub use lib.Pointwise.{pointwise}
-pub use mathlib.Core.List.{reverse_aux}
 pub use Rattle.niss_moves.proofs.CallerLemmas.{same_place_is, at_turn, same_place_of, at_token, effect-append, inverse_after}
 pub use Rattle.niss_moves.proofs.CallerLemmas.{inverse_before, all_places, same_face_is, same_power, same_power_is, turn, inverse_last}
 pub use Rattle.niss_moves.proofs.CallerLemmas.{inverse_whole}
@@ -46,14 +46,14 @@ pub use Rattle.niss_cube.specs.Coordinates.{firsts, brings, orientations, occupi
 unfoldable pub use Rattle.niss_cube.specs.Coordinates.{flip_of, slice_of, twist_of}
 pub use Rattle.niss_cube.specs.CubieFacelets.{index_in, edge_facelets, corner_facelets, facelet_at, row_at}
 pub use Rattle.niss_cube.specs.CubieTurns.{turn_table}
-pub use Rattle.niss_cube.specs.Cubies.{flips_home, twists_home, corners_home, edges_home, AreCubies}
+pub use Rattle.niss_cube.specs.Cubies.{flips_home, twists_home, corners_home, edges_home, AreCubies, ArePlaced, AreOriented}
 pub use Rattle.niss_cube.specs.Map.{map_of, sticker_map, sticker_place}
 pub use Rattle.niss_cube.specs.Names.{Turn, U, Axis, Flip, Fb, Rl, Slice, Twist, Ud, Coordinate, D, F, Face, R, Token, Cube, Renaming, Step}
 pub use Rattle.niss_cube.specs.Names.{B, Counter, Domino, DrEofb, DrEorl, DrEoud, DrfbEorl, DrfbEoud, DrrlEofb, DrrlEoud, DrudEofb}
 pub use Rattle.niss_cube.specs.Names.{DrudEorl, Eo, Eofb, Eorl, Eoud, Goal, Half, L, Quarter, XCounter, XQuarter, YQuarter, ZCounter, Power}
 unfoldable pub use Rattle.niss_cube.specs.NumberAfter.{number_after}
-pub use Rattle.niss_cube.specs.NumberedCubies.{edges_at, digits_of_number, orientations_of_number}
-unfoldable pub use Rattle.niss_cube.specs.NumberedCubies.{edges_of_number, flips_of_number, occupied_of_number, twists_of_number}
+pub use Rattle.niss_cube.specs.NumberedCubies.{choices_with, digits_of_number, orientations_of_number}
+unfoldable pub use Rattle.niss_cube.specs.NumberedCubies.{edges_down, edges_of_number, flips_of_number, twists_of_number}
 pub use Rattle.niss_cube.specs.Permutations.{PermutesPlaces, CubesPermutePlaces, KeptIsEqual}
 pub use Rattle.niss_cube.specs.PlacePositions.{AreMoved}
 unfoldable pub use Rattle.niss_cube.specs.PlacePositions.{place_at}

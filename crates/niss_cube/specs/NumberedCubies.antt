@@ -1,5 +1,5 @@
 -- The cubies that have a number on the standard axis of a coordinate.
-use Rattle.std.specs.Prelude.{ℕ, zero, suc, ◌-◌, ◌%◌, Bool, true, false, List, [], ◌∷◌, reverse, if◌then◌else◌, ◌/◌, ◌++◌, sum, nat_lt}
+use Rattle.std.specs.Prelude.{ℕ, zero, suc, ◌+◌, ◌-◌, ◌%◌, List, [], ◌∷◌, reverse, if◌then◌else◌, ◌/◌, ◌++◌, sum, nat_lt}
 use Rattle.niss_cube.specs.Names.{Place, Coordinate, Flip, Twist, Slice}
 use Rattle.niss_cube.specs.Coordinates.{choose}
 use Rattle.niss_cube.specs.Cubies.{corners_home, twists_home, edges_home, flips_home}
@@ -22,24 +22,23 @@ flips_of_number i = orientations_of_number 2 11 i
 unfoldable pub twists_of_number : ℕ → List ℕ
 twists_of_number i = orientations_of_number 3 7 i
 
--- n places from the last down, of which k are occupied, with the number i
-unfoldable pub occupied_of_number : ℕ → ℕ → ℕ → List Bool
-occupied_of_number zero k i = []
-occupied_of_number (suc n) zero i = false ∷ occupied_of_number n zero i
-occupied_of_number (suc n) (suc k) i =
-    if nat_lt i (choose n k)
-    then true ∷ occupied_of_number n k i
-    else false ∷ occupied_of_number n (suc k) (i - choose n k)
+-- at a place with n below, the choices that leave the last of k wanted ones to it
+abbrev pub choices_with : ℕ → ℕ → ℕ
+choices_with n zero = 0
+choices_with n (suc k) = choose n k
 
--- edges 8 and on at the occupied places, the others at the free ones, each in order
-abbrev pub edges_at : List Bool → (free of_slice : ℕ) → List ℕ
-edges_at [] free of_slice = []
-edges_at (true ∷ os) free of_slice = of_slice ∷ edges_at os free (suc of_slice)
-edges_at (false ∷ os) free of_slice = free ∷ edges_at os (suc free) of_slice
+-- the edges at n places from the last down that have the number i: k of the slice, from 8 on, and others, each in order
+unfoldable pub edges_down : (n k i : ℕ) → List ℕ
+edges_down zero k i = []
+edges_down (suc n) zero i = n ∷ edges_down n zero i
+edges_down (suc n) (suc k) i =
+    if nat_lt i (choose n k)
+    then (8 + k) ∷ edges_down n k i
+    else (n - suc k) ∷ edges_down n (suc k) (i - choose n k)
 
 -- edges whose places have the number i
 unfoldable pub edges_of_number : ℕ → List ℕ
-edges_of_number i = edges_at (reverse (occupied_of_number 12 4 i)) 0 8
+edges_of_number i = reverse (edges_down 12 4 i)
 
 -- the map of a cube that has the number i on the standard axis, its other cubies at home
 abbrev pub numbered : Coordinate → ℕ → Place → Place

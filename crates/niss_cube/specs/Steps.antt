@@ -14,33 +14,39 @@ steps =
     Eofb ∷ Eorl ∷ Eoud ∷ DrudEofb ∷ DrrlEofb ∷ DrudEorl ∷ DrfbEorl ∷ DrrlEoud ∷ DrfbEoud
     ∷ Eo ∷ DrEofb ∷ DrEorl ∷ DrEoud ∷ []
 
-abbrev pub name_of : Step → List ℕ
-name_of Eofb = codes "eofb"
-name_of Eorl = codes "eorl"
-name_of Eoud = codes "eoud"
-name_of DrudEofb = codes "drud-eofb"
-name_of DrrlEofb = codes "drrl-eofb"
-name_of DrudEorl = codes "drud-eorl"
-name_of DrfbEorl = codes "drfb-eorl"
-name_of DrrlEoud = codes "drrl-eoud"
-name_of DrfbEoud = codes "drfb-eoud"
-name_of Eo = codes "eo"
-name_of DrEofb = codes "dr-eofb"
-name_of DrEorl = codes "dr-eorl"
-name_of DrEoud = codes "dr-eoud"
+-- What makes a step: its name; the axis on which the edges must be oriented before it, if it needs that; and its
+-- alternatives: it is reached where one of them holds.
+pub record StepRow : Type 0 where
+  pub name : List ℕ
+  pub start : Option Axis
+  pub goals : List Goal
 
--- the axis on which the edges must be oriented before the step, if it needs that
+abbrev row : List ℕ → Option Axis → List Goal → StepRow
+row n s gs = record { name = n; start = s; goals = gs }
+
+abbrev pub row_of : Step → StepRow
+row_of Eofb = row (codes "eofb") None (Edges Fb ∷ [])
+row_of Eorl = row (codes "eorl") None (Edges Rl ∷ [])
+row_of Eoud = row (codes "eoud") None (Edges Ud ∷ [])
+row_of DrudEofb = row (codes "drud-eofb") (Some Fb) (Domino Fb Ud ∷ [])
+row_of DrrlEofb = row (codes "drrl-eofb") (Some Fb) (Domino Fb Rl ∷ [])
+row_of DrudEorl = row (codes "drud-eorl") (Some Rl) (Domino Rl Ud ∷ [])
+row_of DrfbEorl = row (codes "drfb-eorl") (Some Rl) (Domino Rl Fb ∷ [])
+row_of DrrlEoud = row (codes "drrl-eoud") (Some Ud) (Domino Ud Rl ∷ [])
+row_of DrfbEoud = row (codes "drfb-eoud") (Some Ud) (Domino Ud Fb ∷ [])
+row_of Eo = row (codes "eo") None (Edges Fb ∷ Edges Rl ∷ Edges Ud ∷ [])
+row_of DrEofb = row (codes "dr-eofb") (Some Fb) (Domino Fb Ud ∷ Domino Fb Rl ∷ [])
+row_of DrEorl = row (codes "dr-eorl") (Some Rl) (Domino Rl Ud ∷ Domino Rl Fb ∷ [])
+row_of DrEoud = row (codes "dr-eoud") (Some Ud) (Domino Ud Rl ∷ Domino Ud Fb ∷ [])
+
+abbrev pub name_of : Step → List ℕ
+name_of step = (row_of step).name
+
 abbrev pub start_of : Step → Option Axis
-start_of DrudEofb = Some Fb
-start_of DrrlEofb = Some Fb
-start_of DrudEorl = Some Rl
-start_of DrfbEorl = Some Rl
-start_of DrrlEoud = Some Ud
-start_of DrfbEoud = Some Ud
-start_of DrEofb = Some Fb
-start_of DrEorl = Some Rl
-start_of DrEoud = Some Ud
-start_of _ = None
+start_of step = (row_of step).start
+
+abbrev pub goals_of : Step → List Goal
+goals_of step = (row_of step).goals
 
 -- the step that orients the edges on an axis
 abbrev pub edge_step_on : Axis → Step
@@ -51,22 +57,6 @@ edge_step_on Fb = Eofb
 -- the name of the step that must be reached before this one, if there is one
 abbrev pub start_name_of : Step → Option (List ℕ)
 start_name_of step = option_map (λ axis. name_of (edge_step_on axis)) (start_of step)
-
--- the alternatives of a step: it is reached where one of them holds
-abbrev pub goals_of : Step → List Goal
-goals_of Eofb = Edges Fb ∷ []
-goals_of Eorl = Edges Rl ∷ []
-goals_of Eoud = Edges Ud ∷ []
-goals_of DrudEofb = Domino Fb Ud ∷ []
-goals_of DrrlEofb = Domino Fb Rl ∷ []
-goals_of DrudEorl = Domino Rl Ud ∷ []
-goals_of DrfbEorl = Domino Rl Fb ∷ []
-goals_of DrrlEoud = Domino Ud Rl ∷ []
-goals_of DrfbEoud = Domino Ud Fb ∷ []
-goals_of Eo = Edges Fb ∷ Edges Rl ∷ Edges Ud ∷ []
-goals_of DrEofb = Domino Fb Ud ∷ Domino Fb Rl ∷ []
-goals_of DrEorl = Domino Rl Ud ∷ Domino Rl Fb ∷ []
-goals_of DrEoud = Domino Ud Rl ∷ Domino Ud Fb ∷ []
 
 -- the two faces of an axis
 abbrev pub is_face_of : Axis → Face → Bool

@@ -1,7 +1,7 @@
 //! The number of the places at which the four edges of a slice stand.
-ghost use Rattle.std.specs.Prelude.{◌≡◌, ◌<◌, map, reverse, nat_le};
+ghost use Rattle.std.specs.Prelude.{◌≡◌, ◌<◌, ◌≤◌, map, reverse, nat_le};
 ghost use Rattle.niss_cube.specs.Coordinates.{rank};
-ghost use Rattle.niss_cube.specs.NumberedCubies.{edges_of_number, occupied_of_number};
+ghost use Rattle.niss_cube.specs.NumberedCubies.{choices_with, edges_of_number};
 
 /// At a number of places below, the choices of 0 to 3 of them.
 const CHOICES: [[u16; 4]; 12] = [
@@ -39,28 +39,17 @@ pub fn slice_number(edges: &[u8; 12]) -> u16
     n
 }
 
-/// The places, from the last down, that hold the edges of a slice with a number.
-pub fn occupied_places(index: u16) -> [bool; 12]
-    requires { index < 495 }
-    ensures { result ≡ occupied_of_number 12 4 index }
+/// At a place with a number of places below, the choices that leave the last of the wanted edges to it.
+fn choices_with(below: usize, wanted: usize) -> u16
+    requires below { below < 12 }
+    requires wanted { wanted ≤ 4 }
+    ensures { result ≡ choices_with below wanted }
 {
-    let mut occupied = [false; 12];
-    let mut wanted: usize = 4;
-    let mut rest = index;
-    for met in 0..12 {
-        let mut here = false;
-        if wanted > 0 {
-            let with = CHOICES[11 - met][wanted - 1];
-            if rest < with {
-                here = true;
-                wanted -= 1;
-            } else {
-                rest -= with;
-            }
-        }
-        occupied[met] = here;
+    if wanted == 0 {
+        0
+    } else {
+        CHOICES[below][wanted - 1]
     }
-    occupied
 }
 
 /// The edges by place, those of the slice at the places that have a number.
@@ -68,17 +57,18 @@ pub fn edges_with_slice(number: u16) -> [u8; 12]
     requires { number < 495 }
     ensures { result ≡ edges_of_number number }
 {
-    let occupied = occupied_places(number);
     let mut edges = [0; 12];
-    let mut free = 0;
-    let mut of_slice = 8;
-    for (place, edge) in edges.iter_mut().enumerate() {
-        if occupied[11 - place] {
-            *edge = of_slice;
-            of_slice += 1;
+    let mut wanted: usize = 4;
+    let mut rest = number;
+    for met in 0..12 {
+        let place = 11 - met;
+        let with = choices_with(place, wanted);
+        if rest < with {
+            wanted -= 1;
+            edges[place] = (8 + wanted) as u8;
         } else {
-            *edge = free;
-            free += 1;
+            rest -= with;
+            edges[place] = (place - wanted) as u8;
         }
     }
     edges

@@ -124,25 +124,34 @@ impl Step {
         &STEPS
     }
 
+    /// What makes the step: its name, its start and its goals.
+    fn row(self) -> (&'static str, Option<Axis>, &'static [Goal])
+        ensures name { result.0.now ≡ name_of self }
+        ensures start { result.1 ≡ start_of self }
+        ensures goals { result.2.now ≡ goals_of self }
+    {
+        match self {
+            Step::Eofb => ("eofb", None, &[EDGES_ON_FB]),
+            Step::Eorl => ("eorl", None, &[EDGES_ON_RL]),
+            Step::Eoud => ("eoud", None, &[EDGES_ON_UD]),
+            Step::DrudEofb => ("drud-eofb", Some(Axis::Fb), &[UD_FROM_FB]),
+            Step::DrrlEofb => ("drrl-eofb", Some(Axis::Fb), &[RL_FROM_FB]),
+            Step::DrudEorl => ("drud-eorl", Some(Axis::Rl), &[UD_FROM_RL]),
+            Step::DrfbEorl => ("drfb-eorl", Some(Axis::Rl), &[FB_FROM_RL]),
+            Step::DrrlEoud => ("drrl-eoud", Some(Axis::Ud), &[RL_FROM_UD]),
+            Step::DrfbEoud => ("drfb-eoud", Some(Axis::Ud), &[FB_FROM_UD]),
+            Step::Eo => ("eo", None, &[EDGES_ON_FB, EDGES_ON_RL, EDGES_ON_UD]),
+            Step::DrEofb => ("dr-eofb", Some(Axis::Fb), &[UD_FROM_FB, RL_FROM_FB]),
+            Step::DrEorl => ("dr-eorl", Some(Axis::Rl), &[UD_FROM_RL, FB_FROM_RL]),
+            Step::DrEoud => ("dr-eoud", Some(Axis::Ud), &[RL_FROM_UD, FB_FROM_UD]),
+        }
+    }
+
     /// The step's name, such as `eofb` or `drud-eofb`.
     pub fn name(self) -> &'static str
         ensures { result.now ≡ name_of self }
     {
-        match self {
-            Step::Eofb => "eofb",
-            Step::Eorl => "eorl",
-            Step::Eoud => "eoud",
-            Step::DrudEofb => "drud-eofb",
-            Step::DrrlEofb => "drrl-eofb",
-            Step::DrudEorl => "drud-eorl",
-            Step::DrfbEorl => "drfb-eorl",
-            Step::DrrlEoud => "drrl-eoud",
-            Step::DrfbEoud => "drfb-eoud",
-            Step::Eo => "eo",
-            Step::DrEofb => "dr-eofb",
-            Step::DrEorl => "dr-eorl",
-            Step::DrEoud => "dr-eoud",
-        }
+        self.row().0
     }
 
     /// The step of exactly this name.
@@ -160,12 +169,7 @@ impl Step {
     pub fn start(self) -> Option<Axis>
         ensures { result ≡ start_of self }
     {
-        match self {
-            Step::Eofb | Step::Eorl | Step::Eoud | Step::Eo => None,
-            Step::DrudEofb | Step::DrrlEofb | Step::DrEofb => Some(Axis::Fb),
-            Step::DrudEorl | Step::DrfbEorl | Step::DrEorl => Some(Axis::Rl),
-            Step::DrrlEoud | Step::DrfbEoud | Step::DrEoud => Some(Axis::Ud),
-        }
+        self.row().1
     }
 
     /// The name of the step that must be reached before this one; `None` where it needs none.
@@ -197,21 +201,7 @@ impl Step {
     pub fn goals(self) -> &'static [Goal]
         ensures { result.now ≡ goals_of self }
     {
-        match self {
-            Step::Eofb => &[EDGES_ON_FB],
-            Step::Eorl => &[EDGES_ON_RL],
-            Step::Eoud => &[EDGES_ON_UD],
-            Step::DrudEofb => &[UD_FROM_FB],
-            Step::DrrlEofb => &[RL_FROM_FB],
-            Step::DrudEorl => &[UD_FROM_RL],
-            Step::DrfbEorl => &[FB_FROM_RL],
-            Step::DrrlEoud => &[RL_FROM_UD],
-            Step::DrfbEoud => &[FB_FROM_UD],
-            Step::Eo => &[EDGES_ON_FB, EDGES_ON_RL, EDGES_ON_UD],
-            Step::DrEofb => &[UD_FROM_FB, RL_FROM_FB],
-            Step::DrEorl => &[UD_FROM_RL, FB_FROM_RL],
-            Step::DrEoud => &[RL_FROM_UD, FB_FROM_UD],
-        }
+        self.row().2
     }
 
     /// Whether the step may start on the cube.
