@@ -95,13 +95,6 @@ least-within turns reaches n d e =
     let P : Option ℕ → Type 0 = λ o. unwrap_or o n ≤ n in
     subst P e (least-le (λ k. list_any reaches (all_canonical turns k)) 0 (n + 1) n n (omega arith) (omega arith))
 
-pub solutions-small : (turns : List Turn) (reaches : List Turn → Bool) (n slack : ℕ) → length turns ≤ 18 → n ≤ 20 → length (solutions turns reaches n slack) ≤ 21 * 18 ^ 20
-unfolding solutions
-solutions-small turns reaches n slack h l = by_length (least_length turns reaches n) (least-within turns reaches n) where
-  by_length : (o : Option ℕ) → ((d : ℕ) → o ≡ Some d → d ≤ n) → length (flat_map (reaching turns reaches) (solution_lengths o n slack)) ≤ 21 * 18 ^ 20
-  by_length None within = omega arith
-  by_length (Some d) within = reaching-small turns reaches d _ h (omega (arith, within d refl))
-
 -- the bound of a step is small
 pub bound-small : BoundIsSmall
 unfolding look_bound

@@ -123,14 +123,6 @@ module _ {K : Type 0} (took refused : K → List Turn → K → Type 0) where
   WentThrough-append a b c [] qs h k = subst (λ (s : K). WentThrough took s qs c) (sym h) k
   WentThrough-append a b c (p ∷ ps) qs h k = (h.0, (h.1.0, WentThrough-append h.0 b c ps qs h.1.1 k))
 
-  pub StoppedIn-some : (a c : K) (ps : List (List Turn)) → StoppedIn took refused a ps c → 0 < length ps
-  StoppedIn-some a c [] h = absurd h
-  StoppedIn-some a c (p ∷ ps) h = omega arith
-
-  pub WentThrough-none : (a c : K) (ps : List (List Turn)) → length ps ≡ 0 → WentThrough took a ps c → a ≡ c
-  WentThrough-none a c [] e h = h
-  WentThrough-none a c (p ∷ ps) e h = absurd (omega arith)
-
   -- a refusal after some paths
   pub StoppedIn-after : (a b c : K) (ps qs : List (List Turn)) → WentThrough took a ps b → StoppedIn took refused b qs c → StoppedIn took refused a (ps ++ qs) c
   StoppedIn-after a b c [] qs h k = subst (λ (s : K). StoppedIn took refused s qs c) (sym h) k

@@ -33,17 +33,17 @@ reached_in-suc turns reaches k =
     ∙ ap (λ (p : Turn → Bool). list_any p turns) (λ i t. list_any-map reaches (λ s. t ∷ s) (all_sequences turns k) i)
 
 -- the first number from a on, of n, that passes, or else d
-abbrev first_or : (ℕ → Bool) → ℕ → ℕ → ℕ → ℕ
+abbrev pub first_or : (ℕ → Bool) → ℕ → ℕ → ℕ → ℕ
 first_or p a n d = unwrap_or (find p (range_with_len a n)) d
 
-first_or-from : (p : ℕ → Bool) (a n d : ℕ) → a + n ≤ d → a ≤ first_or p a n d
+pub first_or-from : (p : ℕ → Bool) (a n d : ℕ) → a + n ≤ d → a ≤ first_or p a n d
 first_or-from p a zero d h = omega arith
 first_or-from p a (suc n) d h = by_test (p a) (first_or-from p (a + 1) n d (omega arith)) where
   by_test : (b : Bool) → a + 1 ≤ first_or p (a + 1) n d → a ≤ unwrap_or (cond b (Some a) (find p (range_with_len (a + 1) n))) d
   by_test true h = omega arith
   by_test false h = omega arith
 
-first_or-le : (p : ℕ → Bool) (a n d k : ℕ) → a ≤ k → k < a + n → p k ≡ true → first_or p a n d ≤ k
+pub first_or-le : (p : ℕ → Bool) (a n d k : ℕ) → a ≤ k → k < a + n → p k ≡ true → first_or p a n d ≤ k
 first_or-le p a zero d k low high e = absurd (omega arith)
 first_or-le p a (suc n) d k low high e = by_test (p a) refl (first_or-le p (a + 1) n d k) where
   by_test : (b : Bool) → p a ≡ b → (a + 1 ≤ k → k < a + 1 + n → p k ≡ true → first_or p (a + 1) n d ≤ k) → unwrap_or (cond b (Some a) (find p (range_with_len (a + 1) n))) d ≤ k

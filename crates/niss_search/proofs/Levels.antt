@@ -1,17 +1,22 @@
--- The search by levels: what the least level with a solution says of the whole.
-use Rattle.std.proofs.Common.{◌≡◌, ℕ, zero, suc, ◌+◌, ◌≤◌, ◌<◌, Bool, true, false, cond, List, [], length, find, sum_by, Some, None, refl, ◌∙◌, arith, leb, inl, inr, ◌⊎◌, below_more}
+-- The search by levels: what those up to one say of the whole.
+use Rattle.std.proofs.Common.{◌≡◌, ℕ, ◌+◌, ◌-◌, ◌≤◌, ◌<◌, nat_le, Bool, true, false, cond, List, [], ◌∷◌, ◌++◌, length, find, unwrap_or, Option, Some, None, refl, sym, ap, ◌∙◌, arith}
+use Rattle.std.specs.Prelude.{flat_map}
 use Rattle.std.specs.List.{range_with_len, list_any}
-use Rattle.std.proofs.lemmas.Bool.{le-leb, lt-leb}
-use Rattle.std.proofs.lemmas.Bool.Decides.{leb_tells}
+use Rattle.std.specs.Bool.{then_some}
+use Rattle.std.specs.Option.{option_or}
+use Rattle.std.proofs.lemmas.Grind.{flat_map-append}
+use Rattle.std.proofs.lemmas.List.Folds.{find-append}
 use Rattle.niss_search.specs.Names.{Turn, Step, Coordinates}
 use Rattle.niss_cube.specs.Steps.{turns_of}
 use Rattle.niss_moves.specs.Canonical.{all_canonical}
-use Rattle.niss_search.specs.Solutions.{up_to, least_length, solutions, reaching}
-use Rattle.niss_search.specs.Looks.{looks, all_looks}
+use Rattle.niss_search.specs.Solutions.{from_to, up_to, least_length, last_length, solution_lengths, solutions, reaching}
+use Rattle.niss_search.specs.Looks.{looks}
 use Rattle.niss_search.specs.Descent.{found_below, looks_below}
 use Rattle.niss_search.specs.Deepening.{reaches_at, far_at}
 use Rattle.niss_search.specs.Positions.{position_after, is_reached_at, distance_at}
-use Rattle.niss_search.proofs.ListLemmas.{list_any-filter}
+use Rattle.niss_search.proofs.Bounds.{least-le, least-within}
+use Rattle.niss_search.proofs.DistanceLemmas.{first_or-from, first_or-le}
+use Rattle.niss_search.proofs.ListLemmas.{list_any-filter, filter-none, flat_map-range_none, range-push, range-split}
 use Rattle.niss_search.proofs.DepthFirst.{found_all, visits_all}
 use Rattle.niss_search.proofs.LookLemmas.{distance_at-goal, distance_at-turn}
 
@@ -23,46 +28,75 @@ pub looks_below-level : (step : Step) (x : List Coordinates) (d : ℕ) → looks
 unfolding looks_below
 looks_below-level step x d = visits_all (turns_of step) position_after (distance_at step) is_reached_at x (distance_at-goal step) (distance_at-turn step) d
 
-find-first : (p : ℕ → Bool) (a n d : ℕ) → a ≤ d → d < a + n → ((k : ℕ) → k < d → p k ≡ false) → p d ≡ true → find p (range_with_len a n) ≡ Some d
-find-first p a zero d low high none e = absurd (omega arith)
-find-first p a (suc n) d low high none e = by_order (leb_tells d a) (find-first p (a + 1) n d) where
-  by_order : ((leb d a ≡ true) × (d ≤ a)) ⊎ ((leb d a ≡ false) × (a < d)) → (a + 1 ≤ d → d < a + 1 + n → ((k : ℕ) → k < d → p k ≡ false) → p d ≡ true → find p (range_with_len (a + 1) n) ≡ Some d) → cond (p a) (Some a) (find p (range_with_len (a + 1) n)) ≡ Some d
-  by_order (inl h) rest =
-      let q : a ≡ d = omega arith in
-      rw (q, e)
-  by_order (inr h) rest = rw (none a h.1) (rest (omega arith) (omega arith) none e)
-
-find-none : (p : ℕ → Bool) (a n : ℕ) → ((k : ℕ) → k < a + n → p k ≡ false) → find p (range_with_len a n) ≡ None
-find-none p a zero none = refl
-find-none p a (suc n) none =
-    rw (none a (omega arith)) (find-none p (a + 1) n (λ k h. none k (omega arith)))
-
 module _ (turns : List Turn) (reaches : List Turn → Bool) where
-  -- no canonical sequence of fewer than d turns reaches
-  abbrev pub NoneBelow : ℕ → Type 0
-  NoneBelow d = (k : ℕ) → k < d → list_any reaches (all_canonical turns k) ≡ false
+  -- Does a canonical sequence of k turns reach?
+  abbrev pub is_level : ℕ → Bool
+  is_level k = list_any reaches (all_canonical turns k)
 
-  pub NoneBelow-more : (d : ℕ) → NoneBelow d → length (reaching turns reaches d) ≡ 0 → NoneBelow (d + 1)
-  NoneBelow-more d h e =
-      below_more (λ k. list_any reaches (all_canonical turns k) ≡ false) d h
-      (list_any-filter reaches (all_canonical turns d) ∙ lt-leb 1 _ (omega arith))
+  -- the least length below d of one that reaches
+  abbrev pub least_below : ℕ → Option ℕ
+  least_below d = find is_level (range_with_len 0 d)
 
-  module _ (d n : ℕ) (none : NoneBelow d) (some : 0 < length (reaching turns reaches d)) (within : d ≤ n) where
-    pub least_length-at : least_length turns reaches n ≡ Some d
+  -- by what the deepening to d finds
+  pub least_below-more : (d : ℕ) → least_below (d + 1) ≡ option_or (least_below d) (then_some (nat_le 1 (length (reaching turns reaches d))) d)
+  least_below-more d =
+      ap (find is_level) (range-push d)
+      ∙ find-append is_level (range_with_len 0 d) (d ∷ [])
+      ∙ ap (option_or (least_below d)) (one (is_level d) ∙ ap (λ b. then_some b d) (list_any-filter reaches (all_canonical turns d))) where
+        one : (b : Bool) → cond b (Some d) None ≡ then_some b d
+        one true = refl
+        one false = refl
+
+  -- a length within the last one is so still when it was deepened to
+  pub level-next : (n slack d : ℕ) → d ≤ last_length (least_below d) n slack → d ≤ last_length (least_below (d + 1)) n slack
+  level-next n slack d h = rw (least_below-more d) (by_least (least_below d) (nat_le 1 (length (reaching turns reaches d))) h) where
+    by_least : (o : Option ℕ) (b : Bool) → d ≤ last_length o n slack → d ≤ last_length (option_or o (then_some b d)) n slack
+    by_least None true k = omega arith
+    by_least None false k = k
+    by_least (Some l) b k = k
+
+  module _ (n : ℕ) where
+    from-level : (d : ℕ) → d ≤ n + 1 → least_length turns reaches n ≡ option_or (least_below d) (find is_level (range_with_len d (n + 1 - d)))
     unfolding least_length
-    least_length-at =
-        find-first (λ k. list_any reaches (all_canonical turns k)) 0 (n + 1) d (omega arith) (omega arith) none
-        (list_any-filter reaches (all_canonical turns d) ∙ le-leb 1 _ some)
+    from-level d h = ap (find is_level) (range-split d (n + 1) h) ∙ find-append is_level (range_with_len 0 d) (range_with_len d (n + 1 - d))
 
-  module _ (n : ℕ) (none : NoneBelow (n + 1)) where
-    pub least_length-none : least_length turns reaches n ≡ None
+    pub level-within : (slack d : ℕ) → d ≤ last_length (least_below d) n slack → d ≤ last_length (least_length turns reaches n) n slack
+    level-within slack d h = by_least (least_below d) refl h where
+      later : (o : Option ℕ) → d ≤ unwrap_or o (n + 1) → d ≤ n → d ≤ last_length o n slack
+      later None from within = within
+      later (Some e) from within = omega (arith, from)
+
+      by_least : (o : Option ℕ) → least_below d ≡ o → d ≤ last_length o n slack → d ≤ last_length (least_length turns reaches n) n slack
+      by_least None e k =
+          rw (from-level d (omega (arith, k)), e) (later _ (first_or-from is_level d (n + 1 - d) (n + 1) (omega (arith, k))) k)
+      by_least (Some l) e k = rw (from-level d (omega (arith, k)), e) k
+
+    pub least_length-is : (slack d : ℕ) → d ≡ last_length (least_below d) n slack + 1 → least_length turns reaches n ≡ least_below d
     unfolding least_length
-    least_length-none = find-none (λ k. list_any reaches (all_canonical turns k)) 0 (n + 1) (λ k h. none k (omega arith))
+    least_length-is slack d h = by_least (least_below d) refl h where
+      by_least : (o : Option ℕ) → least_below d ≡ o → d ≡ last_length o n slack + 1 → find is_level (range_with_len 0 (n + 1)) ≡ o
+      by_least None e k = ap least_below (sym k) ∙ e
+      by_least (Some l) e k = from-level d (omega (arith, k)) ∙ ap (λ o. option_or o (find is_level (range_with_len d (n + 1 - d)))) e
 
-    pub solutions-none : (slack : ℕ) → solutions turns reaches n slack ≡ []
+    -- below the least length there is nothing
+    nothing-below : (k : ℕ) → k < unwrap_or (least_length turns reaches n) (n + 1) → reaching turns reaches k ≡ []
+    unfolding least_length
+    nothing-below k h = filter-none reaches (all_canonical turns k) (by_test (is_level k) refl) where
+      by_test : (b : Bool) → is_level k ≡ b → is_level k ≡ false
+      by_test true e =
+          let within : unwrap_or (least_below (n + 1)) (n + 1) ≤ n + 1 = least-le is_level 0 (n + 1) (n + 1) (n + 1) (omega arith) (omega arith) in
+          absurd (omega (arith, h, within, first_or-le is_level 0 (n + 1) (n + 1) k (omega arith) (omega (arith, h, within)) e))
+      by_test false e = e
+
+    -- so the solutions are all that reach, up to the last length
+    pub solutions-up_to : (slack : ℕ) → solutions turns reaches n slack ≡ flat_map (reaching turns reaches) (up_to (last_length (least_length turns reaches n) n slack))
     unfolding solutions
-    solutions-none slack = rw least_length-none
-
-    pub all_looks-none : (far : List Turn → ℕ) (slack : ℕ) → all_looks turns reaches far n slack ≡ sum_by (looks turns far) (up_to n)
-    unfolding all_looks
-    all_looks-none far slack = rw least_length-none
+    solutions-up_to slack = by_least (least_length turns reaches n) nothing-below (least-within turns reaches n) where
+      by_least : (o : Option ℕ) → ((k : ℕ) → k < unwrap_or o (n + 1) → reaching turns reaches k ≡ []) → ((d : ℕ) → o ≡ Some d → d ≤ n)
+          → flat_map (reaching turns reaches) (solution_lengths o n slack) ≡ flat_map (reaching turns reaches) (up_to (last_length o n slack))
+      by_least None none within = sym (flat_map-range_none (reaching turns reaches) 0 (n + 1) (λ k l. none k (omega arith)))
+      by_least (Some d) none within =
+          let top = last_length (Some d) n slack in
+          sym (ap (flat_map (reaching turns reaches)) (range-split d (top + 1) (omega (arith, within d refl)))
+          ∙ flat_map-append (reaching turns reaches) (range_with_len 0 d) (from_to d top)
+          ∙ ap (λ ps. ps ++ flat_map (reaching turns reaches) (from_to d top)) (flat_map-range_none (reaching turns reaches) 0 d (λ k l. none k (omega arith))))

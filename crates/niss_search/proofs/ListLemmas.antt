@@ -1,5 +1,5 @@
 -- Lists joined, filtered and summed.
-use Rattle.std.proofs.Common.{◌≡◌, ℕ, zero, suc, ◌+◌, ◌<◌, nat_le, Bool, true, false, ◌||◌, cond, List, [], ◌∷◌, ◌++◌, length, map, filter, sum_by, Contains, refl, sym, ap, ◌∙◌, arith, add-one, add-zero, find}
+use Rattle.std.proofs.Common.{◌≡◌, ℕ, zero, suc, ◌+◌, ◌-◌, ◌≤◌, ◌<◌, nat_le, Bool, true, false, ◌||◌, cond, List, [], ◌∷◌, ◌++◌, length, map, filter, sum_by, Contains, refl, sym, ap, ◌∙◌, arith, add-one, add-zero, find}
 use Rattle.std.specs.Prelude.{flat_map}
 use Rattle.std.specs.List.{range_with_len, list_any}
 use Rattle.std.proofs.lemmas.Bool.{le-leb}
@@ -115,6 +115,33 @@ range_with_len-append a (suc m) n =
     let next : a + 1 + m ≡ a + suc m = omega arith in
     ap (range_with_len a) e
     ∙ ap (λ (l : List ℕ). a ∷ l) (range_with_len-append (a + 1) m n ∙ ap (λ k. range_with_len (a + 1) m ++ range_with_len k n) next)
+
+-- one number more
+pub range-push : (d : ℕ) → range_with_len 0 (d + 1) ≡ range_with_len 0 d ++ d ∷ []
+range-push d =
+    let last : 0 + d ≡ d = omega arith in
+    ap (range_with_len 0) (add-one d) ∙ range_with_len-more 0 d ∙ ap (λ k. range_with_len 0 d ++ k ∷ []) last
+
+-- the numbers below m, and then those from m on
+pub range-split : (m n : ℕ) → m ≤ n → range_with_len 0 n ≡ range_with_len 0 m ++ range_with_len m (n - m)
+range-split m n h =
+    let parts : n ≡ m + (n - m) = omega arith in
+    let start : 0 + m ≡ m = omega arith in
+    ap (range_with_len 0) parts
+    ∙ range_with_len-append 0 m (n - m)
+    ∙ ap (λ k. range_with_len 0 m ++ range_with_len k (n - m)) start
+
+pub flat_map-range_none : {A : Type 0} (f : ℕ → List A) (a n : ℕ) → ((k : ℕ) → k < a + n → f k ≡ []) → flat_map f (range_with_len a n) ≡ []
+flat_map-range_none f a zero h = refl
+flat_map-range_none f a (suc n) h =
+    rw (h a (omega arith), flat_map-range_none f (a + 1) n (λ k l. h k (omega arith)))
+
+pub filter-none : {X : Type 0} (p : X → Bool) (xs : List X) → list_any p xs ≡ false → filter p xs ≡ []
+filter-none p [] e = refl
+filter-none p (x ∷ xs) e = by_test (p x) (filter-none p xs) e where
+  by_test : (b : Bool) → (list_any p xs ≡ false → filter p xs ≡ []) → (b || list_any p xs) ≡ false → cond b (x ∷ filter p xs) (filter p xs) ≡ []
+  by_test true rest h = absurd cc
+  by_test false rest h = rest h
 
 module _ {X : Type 0} where
   -- what has nothing where a test fails may leave those out

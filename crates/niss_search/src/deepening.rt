@@ -4,7 +4,7 @@ ghost use Rattle.std.specs.Prelude.{◌≡◌, ◌+◌, ◌≤◌, ◌<◌, ◌^
 ghost use Rattle.niss_moves.specs.Places.{Place};
 ghost use Rattle.niss_cube.specs.Steps.{turns_of};
 ghost use Rattle.niss_search.specs.Cubes.{IsPosition, HasPosition, least_length_of, near_solutions_of, near_looks_of};
-ghost use Rattle.niss_search.specs.Solutions.{look_bound, from_to};
+ghost use Rattle.niss_search.specs.Solutions.{look_bound, last_length};
 ghost use Rattle.niss_search.specs.Delivery.{WentThrough, StoppedIn, at_limit};
 ghost use Rattle.niss_search.specs.Deepening.{least_length_at, solutions_at, all_looks_at, reaching_at, looks_at, Delivers};
 
@@ -67,7 +67,7 @@ struct Root<'a, A: Allocator> {
 }
 
 impl<A: Allocator> Root<'_, A> {
-    /// Hands out the solutions of least length, and then those that are at most `slack` turns longer.
+    /// Deepens to each length in turn, up to the last that the slack allows.
     fn find<K: Sink>(
         &self,
         slack: Limit,
@@ -86,79 +86,20 @@ impl<A: Allocator> Root<'_, A> {
             (all_looks_at self.now.tables.now self.now.position.now path.old.limit slack)
             meter.old meter.new sink.old sink.new (λ o. o.solutions) result }
     {
-        let limit = path.limit().get();
-        let shortest = self.find_least(path, meter, sink)?;
-        let Some(least) = shortest.length else {
-            return Ok(shortest);
-        };
-        let last = limit.min(least + slack.get());
-        let longer = self.find_longer(least, last, path, meter, sink)?;
-        Ok(Outcome {
-            length: Some(least),
-            solutions: shortest.solutions + longer,
-        })
-    }
-
-    /// Deepens up to the least length at which something is found within the path's limit.
-    fn find_least<K: Sink>(
-        &self,
-        path: &mut TurnPath,
-        meter: &mut Meter,
-        sink: &mut K,
-    ) -> Result<Outcome, K::Fault>
-        requires position { IsPosition self.now.tables.now self.now.position.now }
-        requires empty { path.old.turns ≡ [] }
-        requires meter { meter.old ≤ 2 ^ 127 }
-        ensures path { path.new ≡ path.old }
-        ensures length { IfOk result (λ o. o.length ≡
-            least_length_at self.now.tables.now self.now.position.now path.old.limit) }
-        ensures delivers { Delivers K.took K.refused path.old.limit
-            (solutions_at self.now.tables.now self.now.position.now path.old.limit 0)
-            (all_looks_at self.now.tables.now self.now.position.now path.old.limit 0)
-            meter.old meter.new sink.old sink.new (λ o. o.solutions) result }
-    {
-        for length in 0..path.limit().get() + 1 {
-            let solutions = self.deepen(length, path, meter, sink)?;
-            if solutions > 0 {
-                return Ok(Outcome {
-                    length: Some(length),
-                    solutions,
-                });
-            }
-        }
-        Ok(Outcome {
-            length: None,
-            solutions: 0,
-        })
-    }
-
-    /// Deepens on, from one turn more than the least length to the last one, and answers how many solutions it handed out.
-    fn find_longer<K: Sink>(
-        &self,
-        least: u8,
-        last: u8,
-        path: &mut TurnPath,
-        meter: &mut Meter,
-        sink: &mut K,
-    ) -> Result<u128, K::Fault>
-        requires position { IsPosition self.now.tables.now self.now.position.now }
-        requires empty { path.old.turns ≡ [] }
-        requires order { least ≤ last }
-        requires within { last ≤ path.old.limit }
-        requires in_range { last ≤ 20 }
-        requires meter { meter.old
-            + looks_at self.now.tables.now self.now.position.now (from_to (least + 1) last) < 2 ^ 128 }
-        ensures path { path.new ≡ path.old }
-        ensures delivers { Delivers K.took K.refused path.old.limit
-            (reaching_at self.now.tables.now self.now.position.now (from_to (least + 1) last))
-            (looks_at self.now.tables.now self.now.position.now (from_to (least + 1) last))
-            meter.old meter.new sink.old sink.new (λ count. count) result }
-    {
+        let limit = path.limit();
+        let mut least = None;
         let mut solutions = 0;
-        for length in least + 1..last + 1 {
-            solutions += self.deepen(length, path, meter, sink)?;
+        let mut length = 0;
+        while length <= last_length(least, limit, slack) {
+            let found = self.deepen(length, path, meter, sink)?;
+            least = least.or((found > 0).then_some(length));
+            solutions += found;
+            length += 1;
         }
-        Ok(solutions)
+        Ok(Outcome {
+            length: least,
+            solutions,
+        })
     }
 
     /// Hands out the solutions of exactly so many turns, and answers how many they are.
@@ -188,5 +129,16 @@ impl<A: Allocator> Root<'_, A> {
         *meter = after;
         visited?;
         Ok(solutions)
+    }
+}
+
+/// The greatest length of a deepening, by the least length of a solution where one is known.
+fn last_length(least: Option<u8>, limit: Limit, slack: Limit) -> u8
+    ensures value { result ≡ last_length least limit slack }
+    ensures in_range { result ≤ 20 }
+{
+    match least {
+        Some(least) => limit.get().min(least.saturating_add(slack.get())),
+        None => limit.get(),
     }
 }

@@ -1,0 +1,23 @@
+use Rattle.std.proofs.Common.{◌≡◌, ◌+◌, ◌-◌, ◌≤◌}
+use Rattle.std.specs.List.{range_with_len}
+use Rattle.niss_cube.specs.Steps.{turns_of}
+use Rattle.niss_search.specs.Delivery.{at_limit}
+use Rattle.niss_search.specs.Descent.{GoesThrough, descent_state}
+use Rattle.niss_search.specs.Deepening.{reaches_at, reaching_at, looks_at}
+use Rattle.niss_search.specs.Solutions.{last_length}
+use Rattle.niss_search.proofs.Levels.{least_below}
+use Rattle.niss_search.proofs.deepening.Root.find.Given as goal
+
+abbrev pub decreases-loop-length : goal.decreases-loop-length
+decreases-loop-length g l = 21 - l.length
+
+abbrev pub invariant-loop-length : goal.invariant-loop-length
+invariant-loop-length g l = record {
+  path : l.path ≡ l.fn.path;
+  least : l.least ≡ least_below (turns_of l.self.tables.now) (reaches_at l.self.tables.now l.self.position.now) l.length;
+  within : l.length ≤ last_length l.least l.fn.path.limit l.slack + 1;
+  went : GoesThrough (at_limit g.K.Sink.took l.fn.path.limit) (at_limit g.K.Sink.refused l.fn.path.limit)
+      (reaching_at l.self.tables.now l.self.position.now (range_with_len 0 l.length))
+      (looks_at l.self.tables.now l.self.position.now (range_with_len 0 l.length))
+      (descent_state l.fn.meter 0 l.fn.sink) (descent_state l.meter l.solutions l.sink);
+}
