@@ -57,7 +57,7 @@ build/nissy.html: build/nissy.wasm tools/page $(wildcard web/*.html web/*.css we
 	tools/page web build/nissy.wasm build/nissy.html
 
 check: build/nissy build/nissy.html $(if $(filter no,$(LIBRARY)),,$(if $(shell command -v cc),build/libnissy.a))
-	tests/built
+	tests/run built
 
 test:
 	tests/run
