@@ -4,7 +4,8 @@ PREFIX ?= /usr/local
 DESTDIR ?=
 # `make install LIBRARY=no` leaves out what needs a C compiler, binutils and Python 3 to be built.
 LIBRARY ?= yes
-VERSION := $(shell sed -n 's/^Version: //p' include/nissy.pc)
+# asked for by `make dist` alone
+VERSION = $(shell tools/version)
 SONAME := libnissy.so.1
 
 # What program and library are made of, without the crates that only test them or show the libraries' use.

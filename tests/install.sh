@@ -15,12 +15,13 @@ top=$PWD
 # The Makefile's program is the one that was handed over, so that nothing is built. The folder has blanks in its name.
 packed="$room/a package of its own"
 usr=$packed/usr
+version=$(tools/version)
 library=no
 if [ -e build/libnissy.so ]; then library=yes; else skips "the library, which wasn't built"; fi
 by_make() { make --no-print-directory -o build/nissy -o build/libnissy.a LIBRARY=$library "$@"; }
 install_at() { by_make "$1" DESTDIR="$packed" PREFIX=/usr; }
 with_program() {
-    mkdir -p "$room/source/build" "$room/source/crates" && cp -R Makefile docs completions include python tools "$room/source" &&
+    mkdir -p "$room/source/build" "$room/source/crates" && cp -R Makefile CHANGELOG.md docs completions include python tools "$room/source" &&
         cp "$program" "$room/source/build/nissy" && { [ $library = no ] || cp -P build/libnissy.* "$room/source/build"; }
 }
 holds "the files are there" with_program
@@ -64,7 +65,7 @@ if [ $library = yes ]; then
     fi
     if ! missing pkg-config; then
         by_pkg_config() { PKG_CONFIG_PATH="$usr/lib/pkgconfig" pkg-config "$@" nissy; }
-        holds "pkg-config knows the library's version" test "$(by_pkg_config --modversion)" = "$(sed -n 's/^Version: //p' include/nissy.pc)"
+        holds "pkg-config knows the library's version" test "$(by_pkg_config --modversion)" = "$version"
         compiled_by_pkg_config() {
             printf '#include <nissy.h>\nint main(void) { return nissy_invert((const uint8_t *)"R", 1, (uint8_t *)"", 0).status; }\n' > "$room/one.c"
             eval "cc -o '$room/one' '$room/one.c' $(by_pkg_config --cflags --libs)" && LD_LIBRARY_PATH=$usr/lib "$room/one"
@@ -76,7 +77,7 @@ if [ $library = yes ]; then
     fi
     # the archive, twice, by other file modes and another day
     export SOURCE_DATE_EPOCH=1000000000
-    archive=build/$(sed -n 's/^Version: //p' include/nissy.pc | sed 's/.*/nissy-&-x86_64-linux/').tar.gz
+    archive=build/nissy-$version-x86_64-linux.tar.gz
     holds "make dist packs an archive" by_make dist
     mv "$archive" "$room/first.tar.gz"
     find docs include python build -type f -exec touch -d 2001-01-01 {} +
@@ -96,6 +97,22 @@ mv docs/elsewhere docs/MANUAL.md
 share=$usr/share
 steps=$("$program" steps)
 commands="invert unniss cleanup print solve count near scramble steps"
+# the number that CHANGELOG.md closed, wherever one is named
+finds_another() { # FILE FROM TO
+    cp "$1" "$room/kept" && sed -i "s/$2/$3/" "$1" && ! cmp -s "$1" "$room/kept" || return
+    tools/version --check 2>&1 | grep -qx "$1 names another version than .*"
+    set -- "$1" $?
+    cp "$room/kept" "$1"
+    return "$2"
+}
+if missing python3; then skips "there is no python3 here"; else
+    holds "each place names the version of CHANGELOG.md" tools/version --check
+    holds "make dist's archive has it in its name" test "$(make -n dist -o build/nissy -o build/libnissy.a)" = "tools/dist nissy-$version-x86_64-linux"
+    for file in include/nissy.pc include/nissy.h docs/nissy.1; do
+        holds "another version in $file is found" finds_another "$file" "$version" 9.9.9
+    done
+fi
+
 holds "the program lists its steps" test -n "$steps"
 completed() { # the words that bash offers after these
     bash -c '. "$0"; COMP_WORDS=("$@" ""); COMP_CWORD=$#; _nissy; printf "%s\n" "${COMPREPLY[@]}"' \
