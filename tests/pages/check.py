@@ -85,7 +85,7 @@ def map_of_page() -> list[str]:
     return [f"gone: web: {it}" for it in sorted(on_map - there)] + [f"missing: web: {it}" for it in sorted(there - on_map)]
 
 
-def clauses_of_functions(page: Page) -> list[tuple[str, str]]:
+def clauses_of_functions(page: Page) -> list[str]:
     """Returns what rows say as '`f` and `T::g`, clauses `c`, `d`' or 'clause `c` of `f`': each function with each of its clauses."""
     found = []
     for line in page.lines:
@@ -94,7 +94,7 @@ def clauses_of_functions(page: Page) -> list[tuple[str, str]]:
             claims = [(of[2], of[1]) for of in re.finditer(rf"clauses? ({LIST}) of ({LIST})", part)]
             claims = claims or [(of[1], of[2]) for of in re.finditer(rf"({LIST}),? clauses? ({LIST})", part)]
             for functions, clauses in claims:
-                found += [(f.split("::")[-1], c) for f in NAME.findall(functions) for c in NAME.findall(clauses)]
+                found += [f"{f.split('::')[-1]} {c}" for f in NAME.findall(functions) for c in NAME.findall(clauses)]
     return sorted(set(found))
 
 

@@ -35,15 +35,15 @@ class Code:
         return "\n".join(text for path, text in self.texts.items() if re.match(r"crates/niss_.*\.(rt|antt)$", path))
 
     @cached_property
-    def clauses(self) -> set[tuple[str, str]]:
-        """The clauses of functions, each by the function's name and its own."""
+    def clauses(self) -> set[str]:
+        """The clauses of functions, each as the function's name and its own."""
         found, function = set(), ""
         for path, text in self.texts.items():
             for line in text.splitlines() if re.match(r"crates/niss_[^/]*/src/.*\.rt$", path) else ():
                 if head := FUNCTION.match(line):
                     function = head[1]
                 elif clause := CLAUSE.match(line):
-                    found.add((function, clause[1]))
+                    found.add(f"{function} {clause[1]}")
         return found
 
     def declares(self, kind: str, name: str) -> bool:
