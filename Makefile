@@ -4,7 +4,8 @@ PREFIX ?= /usr/local
 DESTDIR ?=
 # `make install LIBRARY=no` leaves out what needs a C compiler, binutils and Python 3 to be built.
 LIBRARY ?= yes
-VERSION := $(shell sed -n 's/^Version: //p' include/nissy.pc)
+# asked for by `make dist` alone
+VERSION = $(shell tools/version)
 SONAME := libnissy.so.1
 
 # What program and library are made of, without the crates that only test them or show the libraries' use.
@@ -57,7 +58,7 @@ build/nissy.html: build/nissy.wasm tools/page $(wildcard web/*.html web/*.css we
 	tools/page web build/nissy.wasm build/nissy.html
 
 check: build/nissy build/nissy.html $(if $(filter no,$(LIBRARY)),,$(if $(shell command -v cc),build/libnissy.a))
-	tests/built
+	tests/run built
 
 test:
 	tests/run

@@ -11,6 +11,9 @@
 #ifndef NISSY_H
 #define NISSY_H
 
+/* The version of this header and of the library that it comes with. */
+#define NISSY_VERSION "1.0.0"
+
 #include <stdbool.h>
 #include <stddef.h>
 #include <stdint.h>

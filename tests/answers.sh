@@ -25,7 +25,7 @@ takes '' '' invert
 takes 'R\nU' "R'\nU'\n" invert
 takes 'R\nU\n\n' "R'\nU'\n\n" invert
 takes 'R\xe2\x80\x99\n' 'R\n' invert
-refuses ', column 3: not a move' invert "R '"
+has_fault ', column 3: not a move' invert "R '"
 stops 'R\xe2\x80U\n' '' '1, column 2: not a move' invert
 stops 'R\nq\nU' "R'\n" '2, column 1: not a move' invert
 
@@ -33,12 +33,12 @@ stops 'R\nq\nU' "R'\n" '2, column 1: not a move' invert
 writes "R D F U'\n" unniss "R (U F') D"
 writes "Rw2 M x'\n" unniss "r2' Mx'"
 writes "Uw2 B2 y' M Fw\n" unniss "u2 (f'M' yB2’)"
-refuses ', column 3: not a move' unniss 'R Q'
-refuses ', column 6: bracket inside a bracket' unniss 'R (U ('
-refuses ', column 4: bracket inside a bracket' unniss '(R (U))'
-refuses ', column 2: bracket closed that was not opened' unniss 'R)'
-refuses ', column 3: bracket closed that was not opened' unniss 'R )'
-refuses ', column 5: bracket not closed' unniss '(R) (U'
+has_fault ', column 3: not a move' unniss 'R Q'
+has_fault ', column 6: bracket inside a bracket' unniss 'R (U ('
+has_fault ', column 4: bracket inside a bracket' unniss '(R (U))'
+has_fault ', column 2: bracket closed that was not opened' unniss 'R)'
+has_fault ', column 3: bracket closed that was not opened' unniss 'R )'
+has_fault ', column 5: bracket not closed' unniss '(R) (U'
 stops 'R\n(U' 'R\n' '2, column 1: bracket not closed' unniss
 
 # cleaned
@@ -61,7 +61,7 @@ writes 'R2\n' cleanup "R2'"
 most=$(times 256 U)
 writes "$(times 255 "U' ")U'\n" invert "$most"
 writes '\n' cleanup "$most"
-for command in invert cleanup; do refuses ', column 257: more than 256 moves' "$command" "${most}U"; done
+for command in invert cleanup; do has_fault ', column 257: more than 256 moves' "$command" "${most}U"; done
 
 # facelets
 solved=UUUUUUUUURRRRRRRRRFFFFFFFFFDDDDDDDDDLLLLLLLLLBBBBBBBBB

@@ -15,13 +15,13 @@ top=$PWD
 # The Makefile's program is the one that was handed over, so that nothing is built. The folder has blanks in its name.
 packed="$room/a package of its own"
 usr=$packed/usr
+version=$(tools/version)
 library=no
-if [ -e build/libnissy.so ]; then library=yes; else echo "skipped: the library, which wasn't built"; fi
+if [ -e build/libnissy.so ]; then library=yes; else skips "the library, which wasn't built"; fi
 by_make() { make --no-print-directory -o build/nissy -o build/libnissy.a LIBRARY=$library "$@"; }
 install_at() { by_make "$1" DESTDIR="$packed" PREFIX=/usr; }
-refuses() { ! "$@"; }
 with_program() {
-    mkdir -p "$room/source/build" "$room/source/crates" && cp -R Makefile docs completions include python tools "$room/source" &&
+    mkdir -p "$room/source/build" "$room/source/crates" && cp -R Makefile CHANGELOG.md docs completions include python tools "$room/source" &&
         cp "$program" "$room/source/build/nissy" && { [ $library = no ] || cp -P build/libnissy.* "$room/source/build"; }
 }
 holds "the files are there" with_program
@@ -56,16 +56,16 @@ holds "each file is a copy of its source" are_copies
 holds "make install names each file" test "$(install_at install | LC_ALL=C sort)" = "$(find "$usr" ! -type d | LC_ALL=C sort)"
 holds "the installed program runs" test "$("$usr/bin/nissy" invert "R U' F2")" = "F2 U R'"
 if [ $library = yes ]; then
-    if command -v python3 > /dev/null; then
+    if ! missing python3; then
         by_module() { PYTHONPATH=$1/lib/python3/dist-packages python3 -B -c 'import nissy; print(nissy.invert("R U"), nissy._nissy._name)'; }
         found=$(realpath "$usr/lib/libnissy.so.1")
         holds "the installed module finds the library beside it" test "$(realpath -- "$(by_module "$usr" | cut -d ' ' -f 3-)")" = "$found"
     else
-        echo "skipped: there is no python3 here"
+        skips "there is no python3 here"
     fi
-    if command -v pkg-config > /dev/null; then
+    if ! missing pkg-config; then
         by_pkg_config() { PKG_CONFIG_PATH="$usr/lib/pkgconfig" pkg-config "$@" nissy; }
-        holds "pkg-config knows the library's version" test "$(by_pkg_config --modversion)" = "$(sed -n 's/^Version: //p' include/nissy.pc)"
+        holds "pkg-config knows the library's version" test "$(by_pkg_config --modversion)" = "$version"
         compiled_by_pkg_config() {
             printf '#include <nissy.h>\nint main(void) { return nissy_invert((const uint8_t *)"R", 1, (uint8_t *)"", 0).status; }\n' > "$room/one.c"
             eval "cc -o '$room/one' '$room/one.c' $(by_pkg_config --cflags --libs)" && LD_LIBRARY_PATH=$usr/lib "$room/one"
@@ -73,11 +73,11 @@ if [ $library = yes ]; then
         }
         holds "a program compiles by what pkg-config says" compiled_by_pkg_config
     else
-        echo "skipped: pkg-config isn't installed"
+        skips "pkg-config isn't installed"
     fi
     # the archive, twice, by other file modes and another day
     export SOURCE_DATE_EPOCH=1000000000
-    archive=build/$(sed -n 's/^Version: //p' include/nissy.pc | sed 's/.*/nissy-&-x86_64-linux/').tar.gz
+    archive=build/nissy-$version-x86_64-linux.tar.gz
     holds "make dist packs an archive" by_make dist
     mv "$archive" "$room/first.tar.gz"
     find docs include python build -type f -exec touch -d 2001-01-01 {} +
@@ -97,6 +97,22 @@ mv docs/elsewhere docs/MANUAL.md
 share=$usr/share
 steps=$("$program" steps)
 commands="invert unniss cleanup print solve count near scramble steps"
+# the number that CHANGELOG.md closed, wherever one is named
+finds_another() { # FILE FROM TO
+    cp "$1" "$room/kept" && sed -i "s/$2/$3/" "$1" && ! cmp -s "$1" "$room/kept" || return
+    tools/version --check 2>&1 | grep -qx "$1 names another version than .*"
+    set -- "$1" $?
+    cp "$room/kept" "$1"
+    return "$2"
+}
+if missing python3; then skips "there is no python3 here"; else
+    holds "each place names the version of CHANGELOG.md" tools/version --check
+    holds "make dist's archive has it in its name" test "$(make -n dist -o build/nissy -o build/libnissy.a)" = "tools/dist nissy-$version-x86_64-linux"
+    for file in include/nissy.pc include/nissy.h docs/nissy.1; do
+        holds "another version in $file is found" finds_another "$file" "$version" 9.9.9
+    done
+fi
+
 holds "the program lists its steps" test -n "$steps"
 completed() { # the words that bash offers after these
     bash -c '. "$0"; COMP_WORDS=("$@" ""); COMP_CWORD=$#; _nissy; printf "%s\n" "${COMPREPLY[@]}"' \
@@ -128,22 +144,22 @@ for page in zsh/site-functions/_nissy fish/vendor_completions.d/nissy.fish doc/n
     holds "$page names each step" all_named "$share/$page"
 done
 
-if command -v zsh > /dev/null; then
+if ! missing zsh; then
     holds "zsh reads its completion" zsh -n "$share/zsh/site-functions/_nissy"
 else
-    echo "skipped: zsh isn't installed"
+    skips "zsh isn't installed"
 fi
-if command -v fish > /dev/null; then
+if ! missing fish; then
     # shellcheck disable=SC2016 # fish itself is to read $argv
     holds "fish completes the steps" test "$(HOME=$room fish --no-config -c 'source $argv[1]; complete -C "nissy count "' \
         "$share/fish/vendor_completions.d/nissy.fish" | LC_ALL=C sort)" = "$(echo "$steps" | LC_ALL=C sort)"
 else
-    echo "skipped: fish isn't installed"
+    skips "fish isn't installed"
 fi
-if command -v mandoc > /dev/null; then
+if ! missing mandoc; then
     holds "the manual page is clean" mandoc -T lint -W style "$share/man/man1/nissy.1"
 else
-    echo "skipped: mandoc isn't installed"
+    skips "mandoc isn't installed"
 fi
 
 holds "make uninstall succeeds" install_at uninstall

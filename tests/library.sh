@@ -11,14 +11,9 @@ set -u
 program=$(program_of "$@") || exit 2
 cd "$(dirname "$0")/.." || exit 2
 folder=$(realpath -- "${2:-build}")
-export PYTHONDONTWRITEBYTECODE=1 PYTHONUTF8=1 NISSY_LIBRARY=$folder/libnissy.so.1
+export NISSY_LIBRARY=$folder/libnissy.so.1
 
-missing() { ! command -v "$1" > /dev/null; }
-if missing cc || [ ! -e "$folder/libnissy.a" ]; then
-    echo "skipped: there is no C compiler here, or no library that make lib built"
-    echo "0 passed, 0 failed"
-    exit 0
-fi
+if missing cc || [ ! -e "$folder/libnissy.a" ]; then skips_all "there is no C compiler here, or no library that make lib built"; fi
 holds "the library has its files" test -s "$folder/libnissy.a" -a -s "$folder/libnissy.so.1" -a -L "$folder/libnissy.so"
 
 # what it shows to others
@@ -52,8 +47,8 @@ has_sanitizers() {
     cc "${sanitized[@]}" -o "$room/empty" "$room/empty.c" 2> /dev/null && "$room/empty"
 }
 is_sanitized=no
-if has_sanitizers; then is_sanitized=yes; else echo "skipped: cc has no sanitizers here"; fi
-missing valgrind && echo "skipped: valgrind isn't installed"
+if has_sanitizers; then is_sanitized=yes; else skips "cc has no sanitizers here"; fi
+missing valgrind && skips "valgrind isn't installed"
 
 for name in lines runs memory threads; do
     holds "$name.c compiles without a warning" compiled "$room/$name" "$name"
@@ -72,15 +67,14 @@ shared_one() {
 }
 holds "runs.c compiles against the shared object" shared_one
 add "$room/shared_runs"
-if missing c++; then echo "skipped: there is no C++ compiler here"; else
+if missing c++; then skips "there is no C++ compiler here"; else
     holds "the header is C++ too" c++ -Wall -Wextra -Wpedantic -Werror -x c++ -fsyntax-only include/nissy.h
 fi
-refuses_one() { ! cc -std=c11 "${strict[@]}" -o "$room/other" "$room/other.c" "$folder/libnissy.a"; }
 printf '#include "nissy.h"\nint main(void) { return nissy_invert("R", 1, 0).status; }\n' > "$room/other.c"
-holds "a call with too few arguments doesn't compile" refuses_one
+holds "a call with too few arguments doesn't compile" refuses cc -std=c11 "${strict[@]}" -o "$room/other" "$room/other.c" "$folder/libnissy.a"
 
 if missing python3; then
-    echo "skipped: there is no python3 here"
+    skips "there is no python3 here"
 else
     add python3 tests/library/module.py
     add python3 tests/library/beside_program.py "$program" 1 0.4

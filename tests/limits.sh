@@ -38,7 +38,7 @@ done
 if [ "$kilobytes" -gt 2000 ] && succeeds within "$kilobytes" steps; then
     answers "no memory for the tables" 3 "" "nissy: out of memory\n" within "$kilobytes" solve drud-eofb 5 R U
 else
-    echo "skipped: no memory was refused here"
+    skips "no memory was refused here"
 fi
 
 # Under more and more memory long words are refused, at first where the program takes them and then where it joins them, and answered.
@@ -61,7 +61,7 @@ while [ "$kilobytes" -lt 20000 ] && is_refused "$kilobytes"; do
     kilobytes=$((kilobytes + 100)) refused=$((refused + 1))
 done
 if [ "$refused" -eq 0 ] && { [ "$kilobytes" -ge 20000 ] || succeeds within "$kilobytes" invert "${words[@]}"; }; then
-    echo "skipped: no memory was refused to words here"
+    skips "no memory was refused to words here"
 else
     answers "long words under more and more memory" 0 "\n" "" within "$kilobytes" invert "${words[@]}"
 fi

@@ -12,25 +12,20 @@ build=$(dirname "$0")/../build
 page=$(realpath -m -- "${1:-$build/nissy.html}")
 program=$(realpath -m -- "${2:-$build/nissy}")
 cd "$(dirname "$0")/.." || exit 2
-export PYTHONDONTWRITEBYTECODE=1 PYTHONUTF8=1 SE_OFFLINE=true SE_AVOID_STATS=true
+export SE_OFFLINE=true SE_AVOID_STATS=true
 
-missing() { ! command -v "$1" > /dev/null; }
-if [ ! -e "$page" ] || missing python3; then
-    echo "skipped: the page, since make page built none or there is no python3"
-    echo "0 passed, 0 failed"
-    exit 0
-fi
+if [ ! -e "$page" ] || missing python3; then skips_all "the page, since make page built none or there is no python3"; fi
 add python3 tests/page/files.py "$page"
 
 # Debian's Python has Debian's selenium, whatever other Python comes first
 python=/usr/bin/python3
 if missing chromium || missing chromedriver || ! $python -c "import selenium" 2> /dev/null; then
-    echo "skipped: the page in Chromium, since chromium, chromedriver or python3-selenium isn't installed"
+    skips "the page in Chromium, since chromium, chromedriver or python3-selenium isn't installed"
 else
     add $python tests/page/drive.py "$page" "$program"
 fi
 if missing firefox && missing firefox-esr; then
-    echo "skipped: the page in Firefox, which isn't installed"
+    skips "the page in Firefox, which isn't installed"
 else
     add python3 tests/page/firefox.py "$page"
 fi

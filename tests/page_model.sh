@@ -11,7 +11,6 @@ set -u
 program=$(program_of "$@") || exit 2
 cd "$(dirname "$0")/.." || exit 2
 module=$(realpath -- "${2:-build/nissy.wasm}")
-export PYTHONDONTWRITEBYTECODE=1 PYTHONUTF8=1
 
 # node 20 and 22 have 64-bit memories where they are asked for them
 # shellcheck disable=SC2016 # the text is JavaScript
@@ -21,14 +20,12 @@ for command in node "node --experimental-wasm-memory64"; do
     if [ ${#node[@]} -eq 0 ] && $command -e "$wide" > /dev/null 2>&1; then read -ra node <<< "$command"; fi
 done
 if [ ! -e "$module" ] || [ ${#node[@]} -eq 0 ]; then
-    echo "skipped: there is no module that make build/nissy.wasm built, or no node with 64-bit memories"
-    echo "0 passed, 0 failed"
-    exit 0
+    skips_all "there is no module that make build/nissy.wasm built, or no node with 64-bit memories"
 fi
 
 add "${node[@]}" tests/page_model/rows.mjs "$module"
-if ! command -v python3 > /dev/null; then
-    echo "skipped: there is no python3 here"
+if missing python3; then
+    skips "there is no python3 here"
 else
     add python3 tests/page_model/beside_program.py "$program" "$module" 1 0.25 "${node[@]}"
 fi

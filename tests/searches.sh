@@ -96,11 +96,11 @@ takes '' '' near eofb 5 0
 stops 'F\nR\nq\nF' "$quarters_of_f(0)\n\n" '3, column 1: not a move' near eofb 1 0
 
 # the edges must be oriented before a domino reduction
-refuses ': eofb does not hold' solve drud-eofb 5 F
-refuses ': eoud does not hold' solve dr-eoud 3 U
-refuses ': eofb does not hold' solve dr-eofb 3 F
-refuses ': eorl does not hold' count dr-eorl 3 R
-refuses ': eoud does not hold' near dr-eoud 3 1 U
+has_fault ': eofb does not hold' solve drud-eofb 5 F
+has_fault ': eoud does not hold' solve dr-eoud 3 U
+has_fault ': eofb does not hold' solve dr-eofb 3 F
+has_fault ': eorl does not hold' count dr-eorl 3 R
+has_fault ': eoud does not hold' near dr-eoud 3 1 U
 stops 'U\n(U)\n' '' '1: eoud does not hold' solve drrl-eoud 20
 
 # With each limit and each slack the tables are there.
@@ -118,7 +118,7 @@ stand() {
         case " $2 , $3 " in
             *" $step "*,*) writes '(0)\n\n' solve "$step" 0 "$1" ;;
             *,*" $step "*) writes 'no solution within 0 moves\n\n' solve "$step" 0 "$1" ;;
-            *) refuses ": ${step#*-} does not hold" solve "$step" 0 "$1" ;;
+            *) has_fault ": ${step#*-} does not hold" solve "$step" 0 "$1" ;;
         esac
     done
 }

@@ -2,12 +2,11 @@
 import ctypes
 import re
 import shutil
-import subprocess
 
 import model
 from hostile_input import lines
 from model import CANNOT_WRITE, NO_MEMORY
-from trial import TIMEOUT
+from trial import ran
 
 CALL = re.compile(r"^(?:\[pid +\d+\] |\d+ +)?(\w+)\((.*)\) += (-?\d+|\?|0x[0-9a-f]+)(.*)$")
 LIBC = ctypes.CDLL(None)
@@ -31,8 +30,8 @@ class Traced:
         self.words, self.data = words, data
         command = ["strace", "-f", "-a1", "-s0", "-o", trial.path("calls")] + options + [trial.program] + words
         with trial.input_file(data) as file:
-            done = subprocess.run(command, stdin=file, capture_output=True, timeout=TIMEOUT, preexec_fn=same_addresses, check=False)
-        self.answer, self.calls, seen = (done.stdout, done.stderr, done.returncode), [], {}
+            self.answer = ran(command, stdin=file, preexec_fn=same_addresses)
+        self.calls, seen = [], {}
         with open(trial.path("calls"), encoding="utf-8", errors="replace") as file:
             for name, arguments, answer, _ in [found.groups() for found in map(CALL.match, file) if found]:
                 seen[name] = seen.get(name, 0) + 1

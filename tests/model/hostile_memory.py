@@ -7,7 +7,7 @@ import subprocess
 import model
 from model import NO_MEMORY
 from streams import run_with
-from trial import TIMEOUT
+from trial import ran
 
 SOURCE = os.path.join(os.path.dirname(os.path.abspath(__file__)), "refuse.c")
 ALLOCATING = [(["invert"], b"R U\nF2\n"), (["unniss"], b"R\n(U"), (["cleanup"], b"R U\nF2\n"), (["print"], b"R"), (["steps"], b""),
@@ -34,12 +34,11 @@ def allocating(trial, library, words, data, refused):
     """What the program answers, how many bytes it read, and how many allocations it made."""
     with trial.input_file(data) as file, open(trial.path("count"), "wb") as count:
         environment = {"LD_PRELOAD": library, "REFUSE": refused, "REFUSE_COUNT": str(count.fileno())}
-        done = subprocess.run([trial.program] + words, stdin=file, capture_output=True, timeout=TIMEOUT,
-                              pass_fds=[count.fileno()], env=environment, check=False)
+        answer = ran([trial.program] + words, stdin=file, pass_fds=[count.fileno()], env=environment)
         read = os.lseek(file.fileno(), 0, os.SEEK_CUR)
     with open(trial.path("count"), encoding="ascii") as count:
         text = count.read().strip()
-    return done.stdout, done.stderr, done.returncode, read, int(text) if text else -1
+    return *answer, read, int(text) if text else -1
 
 
 def allocations(trial):

@@ -13,7 +13,7 @@ import model
 from hostile_input import lines
 from model import CANNOT_READ, CANNOT_WRITE, INPUT_TOO_LONG
 from streams import Trickle, close_quietly, ended, read_all, run_with, small_pipe, started
-from trial import TIMEOUT
+from trial import TIMEOUT, ran
 
 WRITING = [(["invert", "R U"], None), (["solve", "eofb", "5", "F B"], None), (["scramble", "1", "2", "20", "3"], None), (["steps"], None),
            (["count", "eofb", "5", "F B"], None), (["near", "eofb", "3", "1", "F"], None), (["print", "R"], None),
@@ -250,8 +250,8 @@ def odd_starts(trial):
     for words, expected in (([b"", b"invert", b"R"], (b"R'\n", b"", 0)), ([b"nissy"], usage), ([b"nissy", b"invert", b"R\xff"], usage),
                             ([b"nissy", b"\xe2\x80"], usage), ([b"nissy", b"unniss", b"R\xe2\x80", b"U"], usage),
                             ([b"nissy", b"solve", b"eofb", b"\xb2", b"F"], usage)):
-        done = subprocess.run(words, executable=trial.program, stdin=subprocess.DEVNULL, capture_output=True, timeout=TIMEOUT, check=False)
-        trial.check("odd starts", [str(word) for word in words], b"", (done.stdout, done.stderr, done.returncode), expected)
+        got = ran(words, executable=trial.program, stdin=subprocess.DEVNULL)
+        trial.check("odd starts", [str(word) for word in words], b"", got, expected)
     words = ["near", "eofb", "20", "0", "F B R U F"]
     got = run_with(trial, words, before=lambda: resource.setrlimit(resource.RLIMIT_STACK, (65536, 65536)))
     trial.check("a stack of 64 KiB", words, b"", got, model.run(words))

@@ -25,6 +25,12 @@ def seed_and_scale(arguments):
     return int(seed), float(scale)
 
 
+def ran(command, **how):
+    """Output, standard error and status of a command, run with these words of subprocess."""
+    done = subprocess.run(command, capture_output=True, timeout=TIMEOUT, check=False, **how)
+    return done.stdout, done.stderr, done.returncode
+
+
 def short(value, most=300):
     """Bytes or another value as they are shown."""
     text = repr(value)
@@ -66,12 +72,10 @@ class Trial:
         try:
             if by_file:
                 with self.input_file(data) as file:
-                    done = subprocess.run([self.program] + words, stdin=file, capture_output=True, timeout=TIMEOUT, check=False)
-            else:
-                done = subprocess.run([self.program] + words, input=data, capture_output=True, timeout=TIMEOUT, check=False)
+                    return ran([self.program] + words, stdin=file)
+            return ran([self.program] + words, input=data)
         except subprocess.TimeoutExpired:
             return b"", HANGS, -1000
-        return done.stdout, done.stderr, done.returncode
 
     def is_searchable(self, words, line):
         """Whether the model answers this line; one that it doesn't is counted."""

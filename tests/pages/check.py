@@ -1,0 +1,160 @@
+#!/usr/bin/env python3
+"""Holds the pages against the repository. With the word `map` it only prints what the maps of docs/ARCHITECTURE.md lack, and what is gone.
+
+    tests/pages/check.py [map]
+
+The last line is `N passed, M failed`, and the status is 1 where M isn't 0.
+"""
+import re
+import sys
+from pathlib import Path
+
+TOP = Path(__file__).resolve().parents[2]
+sys.path.insert(0, str(TOP / "tests/page"))
+
+from repository import Code
+from markdown import NAME, Page, cells, rows
+from tally import Tally
+
+PAGES = ("*.md", "docs/*.md", "bench/*.md", "web/*.md")
+# most lines that README may have
+MOST_LINES = 90
+# pages of which each name of code in backquotes must be there, and pages of which each path must
+WITH_NAMES = ("README.md", "docs/ARCHITECTURE.md", "docs/PROMISES.md", "docs/DECISIONS.md")
+WITH_PATHS = ("CONTRIBUTING.md", *WITH_NAMES, "docs/EMBEDDING.md", "bench/README.md", "web/README.md")
+CODE_NAME = r"`([A-Za-z_0-9:]+|[a-z_]*/?(src|specs|proofs)/[A-Za-z_/]+\.(rt|antt))`"
+PATH = re.compile(r"\b(?:crates|tests|tools|docs|bench|completions|include|python|web)/[A-Za-z0-9_./-]+")
+LIST = r"`[^`]+`(?:(?:, | and )`[^`]+`)*"
+# where the examples of crates' first pages stand as programs and tests
+EXAMPLES = ("crates/eo_axes/src/main.rt", "crates/nissy/src/main.rt", "crates/niss_tests/src/examples.rt")
+WITH_EXAMPLES = ("niss_moves", "niss_cube", "niss_search", "niss_shell")
+
+
+def each(tally: Tally, page: str, kind: str, names: list, is_so) -> None:
+    """The page has names of this kind, and each is so."""
+    tally.holds(f"{page} names {kind}", names)
+    for name in names:
+        tally.holds(f"{page}: {name} is {kind}", is_so(name))
+
+
+def links_and_tables(tally: Tally, pages: list[Page]) -> None:
+    """Tables are whole, and links lead to a file and a heading."""
+    for page in pages:
+        for row in page.torn_tables() or [""]:
+            tally.holds(f"{page.name}: its table is whole: {row[:80]}", not row)
+        for link in page.links():
+            tally.holds(f"{page.name}: the link to {link} leads somewhere", page.leads_somewhere(link))
+
+
+def readme(tally: Tally, page: Page) -> None:
+    """README has links, and is short."""
+    tally.holds("README.md has links", page.links())
+    tally.holds(f"README.md has at most {MOST_LINES} lines", len(page.lines) <= MOST_LINES)
+
+
+def names_of_code(tally: Tally, code: Code) -> None:
+    """Each file and each name of code is one of the repository."""
+    for name in WITH_NAMES:
+        each(tally, name, "a file or a word of the repository", Page(TOP, name).quoted(CODE_NAME), code.has)
+    for name in WITH_PATHS:
+        paths = {it.rstrip(".") for it in PATH.findall(Page(TOP, name).text) if "NAME" not in it}
+        each(tally, name, "a file or folder", sorted(paths), lambda path: (TOP / path).exists() or code.has(path))
+
+
+def map_of_crates(code: Code) -> list[str]:
+    """Returns what the map of the crates and their files don't have in common."""
+    named: dict[str, set[str]] = {crate: set() for crate in code.libraries()}
+    crate = ""
+    for row in rows(Page(TOP, "docs/ARCHITECTURE.md").section("Where things are")):
+        crate = row[0].strip("`") or crate
+        named.setdefault(crate, set()).update(name.split("/")[-1] for cell in row[1:] for name in NAME.findall(cell) if re.fullmatch(r"[A-Za-z_/]+", name))
+    found = []
+    for crate, names in named.items():
+        for part, ending, of_part in (("src", ".rt", str.islower), ("specs", ".antt", str.istitle)):
+            there = {it for it in code.stems(f"crates/{crate}/{part}", ending) if it not in ("lib", "Lib")}
+            on_map = {name for name in names if of_part(name[0])}
+            found += [f"gone: crates/{crate}/{part}: {it}" for it in sorted(on_map - there)]
+            found += [f"missing: crates/{crate}/{part}: {it}" for it in sorted(there - on_map)]
+    return found
+
+
+def map_of_page() -> list[str]:
+    """Returns what the table of the page's scripts and the folder of them don't have in common."""
+    on_map = {name for row in rows(Page(TOP, "docs/ARCHITECTURE.md").section("The page")) for name in re.findall(r"\w+\.js", row[0])}
+    there = {path.name for path in (TOP / "web").glob("*.js")} - {"nissy.js"}
+    return [f"gone: web: {it}" for it in sorted(on_map - there)] + [f"missing: web: {it}" for it in sorted(there - on_map)]
+
+
+def clauses_of_functions(page: Page) -> list[str]:
+    """Returns what rows say as '`f` and `T::g`, clauses `c`, `d`' or 'clause `c` of `f`': each function with each of its clauses."""
+    found = []
+    for line in page.lines:
+        for part in cells(line)[-1].split(";") if line.startswith("|") else ():
+            part = re.sub(r"`==` of `\w+`", "`eq`", part)
+            claims = [(of[2], of[1]) for of in re.finditer(rf"clauses? ({LIST}) of ({LIST})", part)]
+            claims = claims or [(of[1], of[2]) for of in re.finditer(rf"({LIST}),? clauses? ({LIST})", part)]
+            for functions, clauses in claims:
+                found += [f"{f.split('::')[-1]} {c}" for f in NAME.findall(functions) for c in NAME.findall(clauses)]
+    return sorted(set(found))
+
+
+def promises(tally: Tally, code: Code) -> None:
+    """What docs/PROMISES.md names after the word of what it is, clauses of functions, and the edits of its table of wrong programs."""
+    page = Page(TOP, "docs/PROMISES.md")
+    for kind in ("clause", "law", "record", "field"):
+        named = page.quoted(rf"\b{kind}s? (`[a-z_A-Z]+`(, | and )?)+")
+        each(tally, page.name, f"a {kind}", named, lambda name, kind=kind: code.declares(kind, name))
+    each(tally, page.name, "a clause of its function", clauses_of_functions(page), code.clauses.__contains__)
+    wrong = [row[-1] for row in rows(page.section("Wrong programs, and what refuses them"))]
+    for cell in wrong:
+        tally.holds(f"{page.name}: a row of wrong programs names edits: {cell[:60]}", NAME.search(cell))
+    each(tally, page.name, "an edit", sorted({name for cell in wrong for name in NAME.findall(cell)}), code.has_edit)
+
+
+def statement(line: str) -> str:
+    """A line of code without its comment and indentation."""
+    return re.sub(r"//.*", "", line).strip()
+
+
+def example_lines(page: str) -> list[str]:
+    """Returns the lines of the examples at the top of a crate's first page."""
+    found, inside = [], ""
+    for line in (TOP / page).read_text().splitlines():
+        if not line.startswith("//!"):
+            break
+        line = re.sub(r"^//! ?", "", line)
+        if line.startswith("```"):
+            inside = "" if inside else line
+        elif inside == "```" and not line.startswith("use ") and statement(line):
+            found.append(statement(line))
+    return found
+
+
+def examples(tally: Tally) -> None:
+    """Each line of an example on a crate's first page is one of a program or a test that is proved."""
+    lines = {statement(line) for path in EXAMPLES for line in (TOP / path).read_text().splitlines()}
+    for crate in WITH_EXAMPLES:
+        page = f"crates/{crate}/src/lib.rt"
+        each(tally, page, "a line of a program", example_lines(page), lines.__contains__)
+
+
+def main() -> None:
+    """All checks, or the maps alone."""
+    code = Code(TOP)
+    unlike = map_of_crates(code) + map_of_page()
+    if sys.argv[1:] == ["map"]:
+        print("\n".join(unlike), end="\n" if unlike else "")
+        sys.exit(1 if unlike else 0)
+    tally = Tally()
+    links_and_tables(tally, [Page(TOP, str(path.relative_to(TOP))) for pattern in PAGES for path in sorted(TOP.glob(pattern))])
+    readme(tally, Page(TOP, "README.md"))
+    names_of_code(tally, code)
+    for what in unlike or [""]:
+        tally.holds(f"docs/ARCHITECTURE.md maps each file: {what}", not what)
+    promises(tally, code)
+    examples(tally)
+    tally.end()
+
+
+if __name__ == "__main__":
+    main()

@@ -1,0 +1,69 @@
+"""What stands in the repository, for the pages that name it: its words and files, the functions of the crates with their clauses."""
+import re
+from functools import cached_property
+from pathlib import Path
+
+# where a word that a page gives may stand
+FOLDERS = ("crates", "tests", "tools", "include", "python", "web")
+FUNCTION = re.compile(r' *(?:pub(?:\([a-z]+\))? )?(?:const )?(?:extern "C" )?fn (\w+)')
+CLAUSE = re.compile(r" *ensures ([a-z_]+) \{")
+# how a law, a record and so on are declared
+DECLARED = {"clause": r"ensures ({}) \{{", "law": r"pub fn ({})\(\)", "record": r"record ({}) ", "field": r"pub ({}) :"}
+
+
+class Code:
+    """The repository's files, each read once."""
+
+    def __init__(self, top: Path) -> None:
+        self.top = top
+
+    @cached_property
+    def texts(self) -> dict[str, str]:
+        """The text of each file below the folders, and of Makefile, by its path."""
+        paths = [path for folder in FOLDERS for path in (self.top / folder).rglob("*")]
+        paths = [path for path in paths if path.is_file() and not {"out", "__pycache__"} & set(path.parts)]
+        return {str(path.relative_to(self.top)): path.read_text("utf-8", "replace") for path in [*paths, self.top / "Makefile"]}
+
+    @cached_property
+    def words(self) -> set[str]:
+        """Each word of a text or of a path."""
+        return {word for path, text in self.texts.items() for word in re.findall(r"[A-Za-z_0-9]+", f"{path}\n{text}")}
+
+    @cached_property
+    def proved(self) -> str:
+        """The code and the definitions of the crates below the program, in one text."""
+        return "\n".join(text for path, text in self.texts.items() if re.match(r"crates/niss_.*\.(rt|antt)$", path))
+
+    @cached_property
+    def clauses(self) -> set[str]:
+        """The clauses of functions, each as the function's name and its own."""
+        found, function = set(), ""
+        for path, text in self.texts.items():
+            for line in text.splitlines() if re.match(r"crates/niss_[^/]*/src/.*\.rt$", path) else ():
+                if head := FUNCTION.match(line):
+                    function = head[1]
+                elif clause := CLAUSE.match(line):
+                    found.add(f"{function} {clause[1]}")
+        return found
+
+    def declares(self, kind: str, name: str) -> bool:
+        """Whether a clause, a law, a record or a field has this name."""
+        return bool(re.search(DECLARED[kind].format(re.escape(name)), self.proved))
+
+    def has(self, name: str) -> bool:
+        """Whether a name is a word of the repository; one with a slash a file of it, or of a crate as src/x.rt."""
+        if "/" not in name:
+            return name in self.words
+        return (self.top / name).exists() or (self.top / "crates" / name).exists() or any(self.top.glob(f"crates/*/{name}"))
+
+    def has_edit(self, name: str) -> bool:
+        """Whether the name is one of the wrong bodies."""
+        return any(self.top.glob(f"tests/wrong-bodies/*/{name}.edit")) or any(self.top.glob(f"tests/wrong-bodies/*/further/{name}.edit"))
+
+    def libraries(self) -> list[str]:
+        """Returns the crates that have definitions."""
+        return sorted(path.parent.name for path in self.top.glob("crates/*/specs"))
+
+    def stems(self, folder: str, ending: str) -> set[str]:
+        """Returns the names of files below a folder, without folders and ending."""
+        return {path.stem for path in (self.top / folder).rglob(f"*{ending}")}
