@@ -44,6 +44,10 @@ class LineFault(ValueError):
         self.column = column
         self.text = text
 
+    def __reduce__(self) -> tuple:
+        """What a copy is made of, as for another process: an exception is made again of its message, where nothing else is said."""
+        return type(self), (self.column, self.text)
+
 
 class _LineAnswer(ctypes.Structure):
     """`nissy_line_answer` of nissy.h."""

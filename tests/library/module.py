@@ -5,7 +5,9 @@
 
 The library is that of NISSY_LIBRARY. The last line is `N passed, M failed`, and the status is 1 where M isn't 0.
 """
+import copy
 import os
+import pickle
 import subprocess
 import sys
 import threading
@@ -52,7 +54,12 @@ def lines():
         for call in (nissy.invert, nissy.unniss, nissy.cleanup, nissy.facelets):
             fault = raised(nissy.LineFault, lambda: call(line))
             holds("%s refuses %r" % (call.__name__, line), fault and (fault.column, fault.text) == (column, text))
-    holds("a fault says its column and text", str(raised(ValueError, lambda: nissy.invert("R Q"))) == "column 3: not a move")
+    fault = raised(ValueError, lambda: nissy.invert("R Q"))
+    holds("a fault says its column and text", str(fault) == "column 3: not a move")
+    for name, again in (("to another process", lambda: pickle.loads(pickle.dumps(fault))), ("as a copy", lambda: copy.copy(fault))):
+        same = not raised(TypeError, again) and again()
+        holds("a fault comes whole " + name,
+              same and (type(same), str(same), same.column, same.text) == (nissy.LineFault, str(fault), 3, "not a move"))
     too_long = raised(ValueError, lambda: nissy.invert(b" " * (nissy.MOST_INPUT + 1)))
     holds("a line that is too long is a ValueError without a column", too_long and not isinstance(too_long, nissy.LineFault))
     holds("a line of 16,777,216 blanks is read", nissy.invert(b" " * nissy.MOST_INPUT) == "")
