@@ -92,7 +92,13 @@ _nissy.nissy_run.restype = _RunAnswer
 
 def _bytes_of(text: Text) -> bytes:
     """Text as the bytes that the library reads. A number is none, though `bytes` takes one."""
-    return text.encode("utf-8", "surrogateescape") if isinstance(text, str) else bytes(memoryview(text))
+    if not isinstance(text, str):
+        return bytes(memoryview(text))
+    try:
+        return text.encode("utf-8", "surrogateescape")
+    except UnicodeEncodeError:
+        # half of a surrogate pair, as JSON may hold one: in its place come bytes that are no text, for the library to refuse
+        return text.encode("utf-8", "surrogatepass")
 
 
 def _refuse(answer: _LineAnswer) -> NoReturn:

@@ -49,7 +49,7 @@ def lines():
         holds("%s of %r" % (call.__name__, line), call(line) == text)
     faults = [("R Q", 3, "not a move"), ("(R (U))", 4, "bracket inside a bracket"), ("R )", 3, "bracket closed that was not opened"),
               ("R (U", 3, "bracket not closed"), ("U" * 257, 257, "more than 256 moves"), ("\u2019", 1, "not a move"),
-              ("R\n", 2, "not a move"), ("\udcff", 1, "not a move")]
+              ("R\n", 2, "not a move"), ("\udcff", 1, "not a move"), ("R\ud800", 2, "not a move")]
     for line, column, text in faults:
         for call in (nissy.invert, nissy.unniss, nissy.cleanup, nissy.facelets):
             fault = raised(nissy.LineFault, lambda: call(line))
@@ -72,6 +72,7 @@ def runs():
             (("invert", "R"), b"q", (0, b"R'\n", b"")), ([b"solve", "eofb", "7"], b"F\n", (0, b"F (1)\nF' (1)\n\n", b"")),
             (["invert", "R '"], b"", (1, b"", b"nissy: line 1, column 3: not a move\n")),
             ([], b"", (2, b"", USAGE)), ([b"inver\xff"], b"", (2, b"", USAGE)), (["invert", "\udcff"], b"", (2, b"", USAGE)),
+            (["invert", "\ud800"], b"", (2, b"", USAGE)), (["invert"], "R\ud800", (1, b"", b"nissy: line 1, column 2: not a move\n")),
             (["invert"], b" " * (nissy.MOST_INPUT + 1), (3, b"", TOO_LONG)), (["invert"], b"", (0, b"", b""))]
     for words, data, wanted in rows:
         answer = nissy.run(words, data)
