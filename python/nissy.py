@@ -162,7 +162,8 @@ def _run_with_room(words: bytes, data: bytes, room: int) -> Answer:
     """One run with room for an output of so many bytes."""
     out, err = ctypes.create_string_buffer(room or 1), ctypes.create_string_buffer(_ERROR_ROOM)
     answer = _nissy.nissy_run(words, len(words), data, len(data), out, room, err, _ERROR_ROOM)
-    return Answer(answer.status, ctypes.string_at(out, answer.out_length), err.raw[:answer.err_length], answer.out_too_small)
+    # not by string_at, which takes the length as a C int
+    return Answer(answer.status, bytes(memoryview(out)[:answer.out_length]), err.raw[:answer.err_length], answer.out_too_small)
 
 
 def run(words: Iterable[Text], data: Text = b"", room: Optional[int] = None) -> Answer:

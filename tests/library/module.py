@@ -1,9 +1,10 @@
 #!/usr/bin/env python3
 """The Python module by itself: what it raises, how it takes text, room that grows, and threads.
 
-    tests/library/module.py
+    tests/library/module.py [large]
 
-The library is that of NISSY_LIBRARY. The last line is `N passed, M failed`, and the status is 1 where M isn't 0.
+The library is that of NISSY_LIBRARY. With `large` an output of more than 2 GiB is taken too: half a minute, and 5 GB of memory.
+The last line is `N passed, M failed`, and the status is 1 where M isn't 0.
 """
 import copy
 import os
@@ -101,6 +102,13 @@ def rooms():
     holds("55 bytes for each byte of the input come whole", printed.out == solved * 300_000)
 
 
+def large_output():
+    """An output whose length has more than 31 bits."""
+    room = 2**31 + 100
+    answer = nissy.run(["near", "eofb", "20", "20"], b"\n", room=room)
+    holds("an output of more than 2 GiB comes whole", answer.full and len(answer.out) == room and answer.out.startswith(b"(0)\nU (1)\n"))
+
+
 def threads():
     """Threads that call side by side, and one that goes on while another searches."""
     wrong = []
@@ -137,7 +145,8 @@ def library():
 
 def main():
     """All of it."""
-    for part in (lines, runs, rooms, threads, library):
+    large = (large_output,) if "large" in sys.argv[1:] else ()
+    for part in (lines, runs, rooms, threads, library) + large:
         part()
     print("%d passed, %d failed" % (counts[True], counts[False]))
     sys.exit(0 if counts[True] and not counts[False] else 1)
