@@ -44,6 +44,10 @@ class LineFault(ValueError):
         self.column = column
         self.text = text
 
+    def __reduce__(self) -> tuple:
+        """What a copy is made of, as for another process: an exception is made again of its message, where nothing else is said."""
+        return type(self), (self.column, self.text)
+
 
 class _LineAnswer(ctypes.Structure):
     """`nissy_line_answer` of nissy.h."""
@@ -88,7 +92,13 @@ _nissy.nissy_run.restype = _RunAnswer
 
 def _bytes_of(text: Text) -> bytes:
     """Text as the bytes that the library reads. A number is none, though `bytes` takes one."""
-    return text.encode("utf-8", "surrogateescape") if isinstance(text, str) else bytes(memoryview(text))
+    if not isinstance(text, str):
+        return bytes(memoryview(text))
+    try:
+        return text.encode("utf-8", "surrogateescape")
+    except UnicodeEncodeError:
+        # half of a surrogate pair, as JSON may hold one: in its place come bytes that are no text, for the library to refuse
+        return text.encode("utf-8", "surrogatepass")
 
 
 def _refuse(answer: _LineAnswer) -> NoReturn:
@@ -152,7 +162,8 @@ def _run_with_room(words: bytes, data: bytes, room: int) -> Answer:
     """One run with room for an output of so many bytes."""
     out, err = ctypes.create_string_buffer(room or 1), ctypes.create_string_buffer(_ERROR_ROOM)
     answer = _nissy.nissy_run(words, len(words), data, len(data), out, room, err, _ERROR_ROOM)
-    return Answer(answer.status, ctypes.string_at(out, answer.out_length), err.raw[:answer.err_length], answer.out_too_small)
+    # not by string_at, which takes the length as a C int
+    return Answer(answer.status, bytes(memoryview(out)[:answer.out_length]), err.raw[:answer.err_length], answer.out_too_small)
 
 
 def run(words: Iterable[Text], data: Text = b"", room: Optional[int] = None) -> Answer:

@@ -68,7 +68,9 @@ shared_one() {
 holds "runs.c compiles against the shared object" shared_one
 add "$room/shared_runs"
 if missing c++; then skips "there is no C++ compiler here"; else
-    holds "the header is C++ too" c++ -Wall -Wextra -Wpedantic -Werror -x c++ -fsyntax-only include/nissy.h
+    for standard in c++98 c++17; do
+        holds "the header is $standard too" c++ -std=$standard -Wall -Wextra -Wpedantic -Werror -x c++ -fsyntax-only include/nissy.h
+    done
 fi
 printf '#include "nissy.h"\nint main(void) { return nissy_invert("R", 1, 0).status; }\n' > "$room/other.c"
 holds "a call with too few arguments doesn't compile" refuses cc -std=c11 "${strict[@]}" -o "$room/other" "$room/other.c" "$folder/libnissy.a"

@@ -1,11 +1,14 @@
 #!/usr/bin/env python3
 """The Python module by itself: what it raises, how it takes text, room that grows, and threads.
 
-    tests/library/module.py
+    tests/library/module.py [large]
 
-The library is that of NISSY_LIBRARY. The last line is `N passed, M failed`, and the status is 1 where M isn't 0.
+The library is that of NISSY_LIBRARY. With `large` an output of more than 2 GiB is taken too: half a minute, and 5 GB of memory.
+The last line is `N passed, M failed`, and the status is 1 where M isn't 0.
 """
+import copy
 import os
+import pickle
 import subprocess
 import sys
 import threading
@@ -47,12 +50,17 @@ def lines():
         holds("%s of %r" % (call.__name__, line), call(line) == text)
     faults = [("R Q", 3, "not a move"), ("(R (U))", 4, "bracket inside a bracket"), ("R )", 3, "bracket closed that was not opened"),
               ("R (U", 3, "bracket not closed"), ("U" * 257, 257, "more than 256 moves"), ("\u2019", 1, "not a move"),
-              ("R\n", 2, "not a move"), ("\udcff", 1, "not a move")]
+              ("R\n", 2, "not a move"), ("\udcff", 1, "not a move"), ("R\ud800", 2, "not a move")]
     for line, column, text in faults:
         for call in (nissy.invert, nissy.unniss, nissy.cleanup, nissy.facelets):
             fault = raised(nissy.LineFault, lambda: call(line))
             holds("%s refuses %r" % (call.__name__, line), fault and (fault.column, fault.text) == (column, text))
-    holds("a fault says its column and text", str(raised(ValueError, lambda: nissy.invert("R Q"))) == "column 3: not a move")
+    fault = raised(ValueError, lambda: nissy.invert("R Q"))
+    holds("a fault says its column and text", str(fault) == "column 3: not a move")
+    for name, again in (("to another process", lambda: pickle.loads(pickle.dumps(fault))), ("as a copy", lambda: copy.copy(fault))):
+        same = not raised(TypeError, again) and again()
+        holds("a fault comes whole " + name,
+              same and (type(same), str(same), same.column, same.text) == (nissy.LineFault, str(fault), 3, "not a move"))
     too_long = raised(ValueError, lambda: nissy.invert(b" " * (nissy.MOST_INPUT + 1)))
     holds("a line that is too long is a ValueError without a column", too_long and not isinstance(too_long, nissy.LineFault))
     holds("a line of 16,777,216 blanks is read", nissy.invert(b" " * nissy.MOST_INPUT) == "")
@@ -65,6 +73,7 @@ def runs():
             (("invert", "R"), b"q", (0, b"R'\n", b"")), ([b"solve", "eofb", "7"], b"F\n", (0, b"F (1)\nF' (1)\n\n", b"")),
             (["invert", "R '"], b"", (1, b"", b"nissy: line 1, column 3: not a move\n")),
             ([], b"", (2, b"", USAGE)), ([b"inver\xff"], b"", (2, b"", USAGE)), (["invert", "\udcff"], b"", (2, b"", USAGE)),
+            (["invert", "\ud800"], b"", (2, b"", USAGE)), (["invert"], "R\ud800", (1, b"", b"nissy: line 1, column 2: not a move\n")),
             (["invert"], b" " * (nissy.MOST_INPUT + 1), (3, b"", TOO_LONG)), (["invert"], b"", (0, b"", b""))]
     for words, data, wanted in rows:
         answer = nissy.run(words, data)
@@ -91,6 +100,13 @@ def rooms():
     printed = nissy.run(["print"], b"\n" * 300_000)
     solved = b"".join(bytes([letter]) * 9 for letter in b"URFDLB") + b"\n"
     holds("55 bytes for each byte of the input come whole", printed.out == solved * 300_000)
+
+
+def large_output():
+    """An output whose length has more than 31 bits."""
+    room = 2**31 + 100
+    answer = nissy.run(["near", "eofb", "20", "20"], b"\n", room=room)
+    holds("an output of more than 2 GiB comes whole", answer.full and len(answer.out) == room and answer.out.startswith(b"(0)\nU (1)\n"))
 
 
 def threads():
@@ -129,7 +145,8 @@ def library():
 
 def main():
     """All of it."""
-    for part in (lines, runs, rooms, threads, library):
+    large = (large_output,) if "large" in sys.argv[1:] else ()
+    for part in (lines, runs, rooms, threads, library) + large:
         part()
     print("%d passed, %d failed" % (counts[True], counts[False]))
     sys.exit(0 if counts[True] and not counts[False] else 1)
