@@ -184,7 +184,8 @@ export class Page {
             const { solutions, whole } = await solutionsOf(this.#listCalls, list.step, list.slack, this.#now[list.side]);
             if (name !== this.#openList) return;
             this.#list.show(solutions, whole);
-            announce(`${titleOf(stepNamed(list.step))}, ${list.side} side: ${counted(solutions.length, "solution")}.`);
+            const all = `${whole ? "" : "more than "}${counted(solutions.length, "solution")}`;
+            announce(`${titleOf(stepNamed(list.step))}, ${list.side} side: ${all}.`);
             if (this.#focusNext === "list") this.#list.focus();
             this.#focusNext = null;
         } catch (fault) {

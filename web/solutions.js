@@ -32,7 +32,8 @@ function byLength(solutions) {
 export class SolutionList {
     #taken;
     #list = null;
-    #solutions = [];
+    /** @type {Solution[] | null} null where they aren't known */
+    #solutions = null;
     #whole = true;
     #groups = part("solutions-groups");
     #filter = part("filter");
@@ -50,8 +51,11 @@ export class SolutionList {
 
     /** Shows that a list is looked for, or that none is open. @param {List | null} list */
     open(list) {
+        // the filter stays for the same list with another slack, and what is typed while it is looked for stays too
+        const isLoosened = list?.step === this.#list?.step && list?.side === this.#list?.side && list?.slack !== this.#list?.slack;
+        if (!isLoosened) this.#filter.value = "";
         this.#list = list;
-        this.#solutions = [];
+        this.#solutions = null;
         this.#groups.replaceChildren();
         part("solutions").hidden = list === null;
         this.#setWorking(list !== null);
@@ -65,7 +69,6 @@ export class SolutionList {
     show(solutions, whole) {
         this.#solutions = solutions;
         this.#whole = whole;
-        this.#filter.value = "";
         this.#setWorking(false);
         this.#draw();
     }
@@ -86,6 +89,7 @@ export class SolutionList {
     }
 
     #draw() {
+        if (this.#solutions === null) return;
         const wanted = turnsOf(this.#filter.value);
         this.#filter.setAttribute("aria-invalid", String(wanted === null));
         const matching = wanted === null ? [] : this.#solutions.filter((solution) => hasTurns(solution, wanted));
@@ -100,7 +104,8 @@ export class SolutionList {
     #note(matching, shown, wanted) {
         const all = counted(this.#solutions.length, "solution");
         if (this.#solutions.length === 0) return "No solution within 20 moves.";
-        const sentences = [wanted === "" ? `${all}.` : `${matching.toLocaleString("en")} of ${all} with ${wanted}.`];
+        const of = `${matching.toLocaleString("en")} of ${this.#whole ? "" : "the first "}${all}`;
+        const sentences = [wanted === "" ? `${this.#whole ? "" : "More than "}${all}.` : `${of} with ${wanted}.`];
         if (shown < matching) sentences.push(`The list is cut: the first ${shown} are shown. Type moves to narrow it.`);
         if (!this.#whole) sentences.push("There are more than the page has room for.");
         return sentences.join(" ");
