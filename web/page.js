@@ -46,8 +46,10 @@ export class Page {
     constructor(newCalls) {
         this.#calls = newCalls();
         this.#listCalls = newCalls();
-        this.#scramble = new ScrambleField(this.#calls, (scramble, isNew) => this.#setScramble(scramble, isNew));
-        this.#skeleton = new Skeleton(this.#calls, (change) => this.#change(change));
+        // what is asked for by hand is never given up for another cube
+        const byHand = newCalls();
+        this.#scramble = new ScrambleField(byHand, (scramble, isNew) => this.#setScramble(scramble, isNew));
+        this.#skeleton = new Skeleton(byHand, (change) => this.#change(change));
         this.#table = new StepTable((step, side) => this.#open(step, side));
         this.#list = new SolutionList((moves) => this.#take(moves), (slack) => this.#loosen(slack));
         this.#best = new BestContinuations(newCalls(), (found, list) => this.#goOn(found, list));

@@ -6,6 +6,7 @@ import time
 from browser import Browser
 from tally import Tally
 from wanted import SIDES, Position
+from wanted import run as model_run
 
 SCRAMBLE = "F2 U2 L2 D2 R2 L2 U2 L B R2 B2 L2 D F B2 R2 U' F R L U R2 F' D2 R2"
 LONGER = "R' U' F D2 L2 F R2 U2 R2 B D2 L B2 D' B2 L' R' B' D2 B2 R' U' F"
@@ -147,6 +148,27 @@ def hasty(tally: Tally, browser: Browser) -> None:
     tally.equal("the last address is shown", browser.letters("normal"), Position("R U").letters("normal"))
 
 
+def impatient(tally: Tally, browser: Browser) -> None:
+    """Buttons that are pressed again before there is an answer, and another scramble before moves by hand are read."""
+    browser.open(address_of(LONGER))
+    browser.script("for (let at = 0; at < 5; at += 1) document.getElementById('random').click()")
+    browser.until("return document.getElementById('scramble').value !== arguments[0]", LONGER)
+    time.sleep(1)
+    browser.wait()
+    drawn = model_run(("scramble", browser.script("return document.getElementById('seed').value"), "1", "25", "1"), "")[0].strip()
+    tally.equal("of many scrambles the one of the seed is shown", browser.script("return document.getElementById('scramble').value"), drawn)
+    add = "const own = document.getElementById('own'); own.value = 'R'; for (let at = 0; at < 3; at += 1) own.form.requestSubmit();"
+    browser.script("document.querySelector('[data-example]').click();" + add)
+    browser.until("return document.querySelectorAll('#skeleton-list li').length > 0")
+    browser.wait()
+    tally.equal("moves that are sent three times at once", browser.text("bracketed"), "R")
+    tally.equal("with no fault", (browser.text("own-fault"), browser.script("return document.getElementById('own').value")), ("", ""))
+    browser.script(add + "document.querySelector('[data-example]').click(); document.getElementById('results').setAttribute('aria-busy', 'true')")
+    browser.wait()
+    tally.equal("moves by hand before another scramble", (browser.texts("#skeleton-list li"), browser.text("own-fault")), ([], ""))
+    tally.equal("they stay in their field", browser.script("return document.getElementById('own').value"), "R")
+
+
 def random(tally: Tally, browser: Browser) -> None:
     """Scrambles by a seed."""
     browser.open()
@@ -165,5 +187,5 @@ def random(tally: Tally, browser: Browser) -> None:
 
 def try_all(tally: Tally, browser: Browser) -> None:
     """All of them."""
-    for part in (best, stopped, long_list, unknown, hasty, random):
+    for part in (best, stopped, long_list, unknown, hasty, impatient, random):
         part(tally, browser)
