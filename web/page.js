@@ -32,6 +32,8 @@ export class Page {
     #turn = 0;
     #now = null;
     #openList = "";
+    #isReading = false;
+    /** @type {{to: "list" | "table", from: Element} | null} where the focus is to go, and from where */
     #focusNext = null;
     #calls;
     #listCalls;
@@ -65,12 +67,15 @@ export class Page {
     async begin(hash) {
         const turn = ++this.#turn;
         const { state, fault } = readAddress(hash);
+        this.#isReading = true;
+        this.#focusNext = null;
         setBusy("results", true);
         tell(part("alert"), fault);
         try {
             state.parts = await readSteps(this.#calls, state.parts);
         } catch (stop) {
             if (!(stop instanceof EngineFault)) return this.#refuse(stop);
+            if (turn !== this.#turn) return;
             tell(part("alert"), `The steps of this address can't be read: ${stop.words}.`);
             Object.assign(state, { parts: [], list: null });
         }
@@ -80,14 +85,18 @@ export class Page {
         await this.#refresh();
     }
 
-    /** Takes another state, or parts of it. @param {Partial<State>} change */
-    #change(change) {
+    /**
+     * Takes another state, or parts of it. Where an address is still read, what is done meanwhile on the page that is seen overtakes it.
+     * @param {Partial<State>} change @param {"list" | "table"} [focusNext] where the focus is to go with the answers
+     */
+    #change(change, focusNext) {
+        this.#focusNext = focusNext ? { to: focusNext, from: document.activeElement } : null;
         this.#state = { ...this.#state, ...change };
         const address = addressOf(this.#state);
         // what may be missed later can be had back by the browser
         if ("parts" in change && address !== (location.hash || "#")) history.pushState(null, "", address);
         else history.replaceState(null, "", address);
-        if ("scramble" in change || "parts" in change) {
+        if ("scramble" in change || "parts" in change || this.#isReading) {
             tell(part("alert"), "");
             this.#refresh();
             return;
@@ -104,6 +113,7 @@ export class Page {
     /** Shows all of the state anew. A later call overtakes an earlier one. */
     async #refresh() {
         const turn = ++this.#turn;
+        this.#isReading = false;
         this.#now = null;
         this.#calls.drop();
         this.#skeleton.show(this.#state.parts);
@@ -161,12 +171,19 @@ export class Page {
         part("choices").hidden = isBare;
         this.#table.show(offers, this.#state.list);
         this.#showList();
-        if (this.#focusNext === "table") this.#showTaken(isFinished);
+        if (this.#isFocusNext("table")) this.#showTaken(isFinished);
+    }
+
+    /** Whether the focus is to go there now: it stays where it went meanwhile. @param {"list" | "table"} to */
+    #isFocusNext(to) {
+        const next = this.#focusNext;
+        if (next?.to !== to) return false;
+        this.#focusNext = null;
+        return [next.from, document.body].includes(document.activeElement);
     }
 
     /** After a step the cube and the skeleton come into view, and the focus goes to what comes next. @param {boolean} isFinished */
     #showTaken(isFinished) {
-        this.#focusNext = null;
         if (isFinished) part("copy-bracketed").focus({ preventScroll: true });
         else this.#table.focus();
         showStart(isFinished);
@@ -188,17 +205,15 @@ export class Page {
             this.#list.show(solutions, whole);
             const all = `${whole ? "" : "more than "}${counted(solutions.length, "solution")}`;
             announce(`${titleOf(stepNamed(list.step))}, ${list.side} side: ${all}.`);
-            if (this.#focusNext === "list") this.#list.focus();
-            this.#focusNext = null;
+            if (this.#isFocusNext("list")) this.#list.focus();
         } catch (fault) {
             if (name === this.#openList) this.#list.refuse(fault instanceof Stopped ? "Stopped." : fault.message);
         }
     }
 
     #open(step, side) {
-        this.#focusNext = "list";
         this.#openList = "";
-        this.#change({ list: { step, side, slack: this.#state.list?.slack ?? 0 } });
+        this.#change({ list: { step, side, slack: this.#state.list?.slack ?? 0 } }, "list");
     }
 
     #loosen(slack) {
@@ -208,16 +223,14 @@ export class Page {
     #take(moves) {
         const { parts, list } = this.#state;
         const taken = { side: list.side, moves };
-        this.#focusNext = "table";
-        this.#change({ parts: [...parts, taken], side: list.side, list: null });
+        this.#change({ parts: [...parts, taken], side: list.side, list: null }, "table");
         announce(`${bracketed([taken])} is taken.`);
     }
 
     #goOn({ side, moves }, list) {
         const { parts } = this.#state;
-        this.#focusNext = "list";
         this.#openList = "";
-        this.#change({ parts: moves === "" ? parts : [...parts, { side, moves }], side: list.side, list: { ...list, slack: 0 } });
+        this.#change({ parts: moves === "" ? parts : [...parts, { side, moves }], side: list.side, list: { ...list, slack: 0 } }, "list");
     }
 
     /** Makes what rests on a readable scramble usable or not. @param {boolean} usable */

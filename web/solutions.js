@@ -1,5 +1,5 @@
 // The list of a step's solutions: grouped by length, filtered by typing, and cut where it is long.
-import { counted, element, part, setBusy, tell } from "./element.js";
+import { announce, counted, element, part, setBusy, tell } from "./element.js";
 import { roveWithin } from "./roving.js";
 import { stepNamed, titleOf } from "./steps.js";
 
@@ -77,6 +77,7 @@ export class SolutionList {
     refuse(text) {
         this.#setWorking(false);
         tell(part("solutions-note"), text);
+        announce(text);
     }
 
     focus() {
@@ -84,7 +85,10 @@ export class SolutionList {
     }
 
     #setWorking(isWorking) {
-        part("solutions-stop").hidden = !isWorking;
+        const stop = part("solutions-stop");
+        // what is hidden can't keep the focus
+        if (!isWorking && document.activeElement === stop) part("solutions-heading").focus();
+        stop.hidden = !isWorking;
         setBusy("solutions", isWorking);
     }
 
