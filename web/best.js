@@ -95,12 +95,15 @@ export class BestContinuations {
     }
 
     #working(isWorking) {
-        part("best-stop").hidden = !isWorking;
+        const [shown, taken] = isWorking ? ["best-stop", "best-find"] : ["best-find", "best-stop"];
+        // the focus stays where it went during a search
+        const hasFocus = document.activeElement === part(taken);
+        part(shown).hidden = false;
+        if (hasFocus) part(shown).focus({ preventScroll: true });
+        part(taken).hidden = true;
         part("best-progress").hidden = !isWorking;
-        part("best-find").hidden = isWorking;
         setBusy("best", isWorking);
         if (isWorking) part("best-progress").removeAttribute("value");
-        part(isWorking ? "best-stop" : "best-find").focus({ preventScroll: true });
     }
 
     #show(progress) {

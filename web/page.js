@@ -32,6 +32,8 @@ export class Page {
     #turn = 0;
     #now = null;
     #openList = "";
+    #isReading = false;
+    /** @type {{to: "list" | "table", from: Element} | null} where the focus is to go, and from where */
     #focusNext = null;
     #calls;
     #listCalls;
@@ -46,8 +48,10 @@ export class Page {
     constructor(newCalls) {
         this.#calls = newCalls();
         this.#listCalls = newCalls();
-        this.#scramble = new ScrambleField(this.#calls, (scramble, isNew) => this.#setScramble(scramble, isNew));
-        this.#skeleton = new Skeleton(this.#calls, (change) => this.#change(change));
+        // what is asked for by hand is never given up for another cube
+        const byHand = newCalls();
+        this.#scramble = new ScrambleField(byHand, (scramble, isNew) => this.#setScramble(scramble, isNew));
+        this.#skeleton = new Skeleton(byHand, (change) => this.#change(change));
         this.#table = new StepTable((step, side) => this.#open(step, side));
         this.#list = new SolutionList((moves) => this.#take(moves), (slack) => this.#loosen(slack));
         this.#best = new BestContinuations(newCalls(), (found, list) => this.#goOn(found, list));
@@ -63,12 +67,15 @@ export class Page {
     async begin(hash) {
         const turn = ++this.#turn;
         const { state, fault } = readAddress(hash);
+        this.#isReading = true;
+        this.#focusNext = null;
         setBusy("results", true);
         tell(part("alert"), fault);
         try {
             state.parts = await readSteps(this.#calls, state.parts);
         } catch (stop) {
             if (!(stop instanceof EngineFault)) return this.#refuse(stop);
+            if (turn !== this.#turn) return;
             tell(part("alert"), `The steps of this address can't be read: ${stop.words}.`);
             Object.assign(state, { parts: [], list: null });
         }
@@ -78,14 +85,18 @@ export class Page {
         await this.#refresh();
     }
 
-    /** Takes another state, or parts of it. @param {Partial<State>} change */
-    #change(change) {
+    /**
+     * Takes another state, or parts of it. Where an address is still read, what is done meanwhile on the page that is seen overtakes it.
+     * @param {Partial<State>} change @param {"list" | "table"} [focusNext] where the focus is to go with the answers
+     */
+    #change(change, focusNext) {
+        this.#focusNext = focusNext ? { to: focusNext, from: document.activeElement } : null;
         this.#state = { ...this.#state, ...change };
         const address = addressOf(this.#state);
         // what may be missed later can be had back by the browser
         if ("parts" in change && address !== (location.hash || "#")) history.pushState(null, "", address);
         else history.replaceState(null, "", address);
-        if ("scramble" in change || "parts" in change) {
+        if ("scramble" in change || "parts" in change || this.#isReading) {
             tell(part("alert"), "");
             this.#refresh();
             return;
@@ -102,6 +113,7 @@ export class Page {
     /** Shows all of the state anew. A later call overtakes an earlier one. */
     async #refresh() {
         const turn = ++this.#turn;
+        this.#isReading = false;
         this.#now = null;
         this.#calls.drop();
         this.#skeleton.show(this.#state.parts);
@@ -159,12 +171,19 @@ export class Page {
         part("choices").hidden = isBare;
         this.#table.show(offers, this.#state.list);
         this.#showList();
-        if (this.#focusNext === "table") this.#showTaken(isFinished);
+        if (this.#isFocusNext("table")) this.#showTaken(isFinished);
+    }
+
+    /** Whether the focus is to go there now: it stays where it went meanwhile. @param {"list" | "table"} to */
+    #isFocusNext(to) {
+        const next = this.#focusNext;
+        if (next?.to !== to) return false;
+        this.#focusNext = null;
+        return [next.from, document.body].includes(document.activeElement);
     }
 
     /** After a step the cube and the skeleton come into view, and the focus goes to what comes next. @param {boolean} isFinished */
     #showTaken(isFinished) {
-        this.#focusNext = null;
         if (isFinished) part("copy-bracketed").focus({ preventScroll: true });
         else this.#table.focus();
         showStart(isFinished);
@@ -184,18 +203,17 @@ export class Page {
             const { solutions, whole } = await solutionsOf(this.#listCalls, list.step, list.slack, this.#now[list.side]);
             if (name !== this.#openList) return;
             this.#list.show(solutions, whole);
-            announce(`${titleOf(stepNamed(list.step))}, ${list.side} side: ${counted(solutions.length, "solution")}.`);
-            if (this.#focusNext === "list") this.#list.focus();
-            this.#focusNext = null;
+            const all = `${whole ? "" : "more than "}${counted(solutions.length, "solution")}`;
+            announce(`${titleOf(stepNamed(list.step))}, ${list.side} side: ${all}.`);
+            if (this.#isFocusNext("list")) this.#list.focus();
         } catch (fault) {
             if (name === this.#openList) this.#list.refuse(fault instanceof Stopped ? "Stopped." : fault.message);
         }
     }
 
     #open(step, side) {
-        this.#focusNext = "list";
         this.#openList = "";
-        this.#change({ list: { step, side, slack: this.#state.list?.slack ?? 0 } });
+        this.#change({ list: { step, side, slack: this.#state.list?.slack ?? 0 } }, "list");
     }
 
     #loosen(slack) {
@@ -205,16 +223,14 @@ export class Page {
     #take(moves) {
         const { parts, list } = this.#state;
         const taken = { side: list.side, moves };
-        this.#focusNext = "table";
-        this.#change({ parts: [...parts, taken], side: list.side, list: null });
+        this.#change({ parts: [...parts, taken], side: list.side, list: null }, "table");
         announce(`${bracketed([taken])} is taken.`);
     }
 
     #goOn({ side, moves }, list) {
         const { parts } = this.#state;
-        this.#focusNext = "list";
         this.#openList = "";
-        this.#change({ parts: moves === "" ? parts : [...parts, { side, moves }], side: list.side, list: { ...list, slack: 0 } });
+        this.#change({ parts: moves === "" ? parts : [...parts, { side, moves }], side: list.side, list: { ...list, slack: 0 } }, "list");
     }
 
     /** Makes what rests on a readable scramble usable or not. @param {boolean} usable */

@@ -1,6 +1,5 @@
 // The field of the scramble, with examples and random scrambles from a seed.
 import { EngineFault, answersOf } from "./answers.js";
-import { Stopped } from "./calls.js";
 import { LONGEST_SCRAMBLE } from "./address.js";
 import { announce, part, tell } from "./element.js";
 import { showFault } from "./fault.js";
@@ -26,6 +25,7 @@ export class ScrambleField {
     #field = part("scramble");
     #seed = part("seed");
     #timer = 0;
+    #draws = 0;
 
     /**
      * @param {import("./calls.js").Calls} calls
@@ -73,13 +73,18 @@ export class ScrambleField {
 
     async #draw(seed) {
         this.#seed.value = seed;
+        // of several that are asked for at once the last one counts, whose seed is shown
+        const draw = ++this.#draws;
         try {
-            const [scramble] = await answersOf(this.#calls, ["scramble", seed, STREAM, LENGTH, "1"], [""]);
+            // a word can't hold a zero byte
+            const word = seed.replaceAll("\0", "?");
+            const [scramble] = await answersOf(this.#calls, ["scramble", word, STREAM, LENGTH, "1"], [""]);
+            if (draw !== this.#draws) return;
             showFault(part("seed-fault"), this.#seed, seed, null);
             this.#put(scramble);
             announce(`Scramble from seed ${seed}: ${scramble}`);
         } catch (fault) {
-            if (fault instanceof Stopped) return;
+            if (draw !== this.#draws) return;
             showFault(part("seed-fault"), this.#seed, seed, fault instanceof EngineFault ? new Error(SEEDS) : fault);
         }
     }

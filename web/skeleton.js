@@ -132,14 +132,17 @@ export class Skeleton {
     }
 
     async #add(text) {
-        const [where, field] = [part("own-fault"), part("own")];
+        const [where, field, parts] = [part("own-fault"), part("own"), this.#parts];
+        // what was sent twice, or changed since, isn't added; nor is it to another skeleton
+        const isStill = () => field.value === text && this.#parts === parts;
         try {
             const added = await readByHand(this.#calls, text, this.#side);
+            if (!isStill()) return;
             showFault(where, field, text, null);
             field.value = "";
-            if (added.length > 0) this.#change({ parts: [...this.#parts, ...added] });
+            if (added.length > 0) this.#change({ parts: [...parts, ...added] });
         } catch (fault) {
-            showFault(where, field, text, fault);
+            if (isStill()) showFault(where, field, text, fault);
         }
     }
 }

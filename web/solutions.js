@@ -1,5 +1,5 @@
 // The list of a step's solutions: grouped by length, filtered by typing, and cut where it is long.
-import { counted, element, part, setBusy, tell } from "./element.js";
+import { announce, counted, element, part, setBusy, tell } from "./element.js";
 import { roveWithin } from "./roving.js";
 import { stepNamed, titleOf } from "./steps.js";
 
@@ -32,7 +32,8 @@ function byLength(solutions) {
 export class SolutionList {
     #taken;
     #list = null;
-    #solutions = [];
+    /** @type {Solution[] | null} null where they aren't known */
+    #solutions = null;
     #whole = true;
     #groups = part("solutions-groups");
     #filter = part("filter");
@@ -50,8 +51,11 @@ export class SolutionList {
 
     /** Shows that a list is looked for, or that none is open. @param {List | null} list */
     open(list) {
+        // the filter stays for the same list with another slack, and what is typed while it is looked for stays too
+        const isLoosened = list?.step === this.#list?.step && list?.side === this.#list?.side && list?.slack !== this.#list?.slack;
+        if (!isLoosened) this.#filter.value = "";
         this.#list = list;
-        this.#solutions = [];
+        this.#solutions = null;
         this.#groups.replaceChildren();
         part("solutions").hidden = list === null;
         this.#setWorking(list !== null);
@@ -65,7 +69,6 @@ export class SolutionList {
     show(solutions, whole) {
         this.#solutions = solutions;
         this.#whole = whole;
-        this.#filter.value = "";
         this.#setWorking(false);
         this.#draw();
     }
@@ -74,6 +77,7 @@ export class SolutionList {
     refuse(text) {
         this.#setWorking(false);
         tell(part("solutions-note"), text);
+        announce(text);
     }
 
     focus() {
@@ -81,11 +85,15 @@ export class SolutionList {
     }
 
     #setWorking(isWorking) {
-        part("solutions-stop").hidden = !isWorking;
+        const stop = part("solutions-stop");
+        // what is hidden can't keep the focus
+        if (!isWorking && document.activeElement === stop) part("solutions-heading").focus();
+        stop.hidden = !isWorking;
         setBusy("solutions", isWorking);
     }
 
     #draw() {
+        if (this.#solutions === null) return;
         const wanted = turnsOf(this.#filter.value);
         this.#filter.setAttribute("aria-invalid", String(wanted === null));
         const matching = wanted === null ? [] : this.#solutions.filter((solution) => hasTurns(solution, wanted));
@@ -100,7 +108,8 @@ export class SolutionList {
     #note(matching, shown, wanted) {
         const all = counted(this.#solutions.length, "solution");
         if (this.#solutions.length === 0) return "No solution within 20 moves.";
-        const sentences = [wanted === "" ? `${all}.` : `${matching.toLocaleString("en")} of ${all} with ${wanted}.`];
+        const of = `${matching.toLocaleString("en")} of ${this.#whole ? "" : "the first "}${all}`;
+        const sentences = [wanted === "" ? `${this.#whole ? "" : "More than "}${all}.` : `${of} with ${wanted}.`];
         if (shown < matching) sentences.push(`The list is cut: the first ${shown} are shown. Type moves to narrow it.`);
         if (!this.#whole) sentences.push("There are more than the page has room for.");
         return sentences.join(" ");

@@ -89,6 +89,20 @@ def changed(tally: Tally, browser: Browser) -> None:
     tally.equal("any text comes back from the address", browser.script("return document.getElementById('scramble').value"), text)
 
 
+def overtaken(tally: Tally, browser: Browser) -> None:
+    """What is done on a page while another address is read belongs to what is seen: the address and the page say the same."""
+    act = "addEventListener('hashchange', () => document.querySelector(arguments[0]).click(), { once: true });"
+    for button, rest in (("#switch", "&side=inverse"), ('[data-cell="eofb.inverse"]', "&list=eofb.inverse.0")):
+        browser.open("#scramble=R_U_F")
+        browser.script(act + "document.getElementById('results').setAttribute('aria-busy', 'true'); location.hash = '#scramble=F_B&steps=inverse.R'", button)
+        browser.wait()
+        tally.equal(f"{button}: the address", browser.script("return location.hash"), "#scramble=R_U_F" + rest)
+        tally.equal(f"{button}: the scramble", browser.script("return document.getElementById('scramble').value"), "R U F")
+        tally.equal(f"{button}: the skeleton", browser.texts("#skeleton-list li"), [])
+        tally.equal(f"{button}: the cube", browser.letters("normal"), Position("R U F").letters("normal"))
+    tally.equal("and its list", browser.texts("#solutions-groups button"), Position("R U F").solutions("eofb", "inverse"))
+
+
 def try_all(tally: Tally, browser: Browser) -> None:
     """All of them."""
     browser.open("#scramble=q")
@@ -97,3 +111,4 @@ def try_all(tally: Tally, browser: Browser) -> None:
     browser.open()
     refused(tally, browser, browser.script(ELEMENTS))
     changed(tally, browser)
+    overtaken(tally, browser)

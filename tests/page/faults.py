@@ -74,7 +74,7 @@ def together(tally: Tally, browser: Browser) -> None:
 
 def seeds(tally: Tally, browser: Browser) -> None:
     """Seeds that are none, and one whose scramble is known."""
-    for seed in ("abc", "x", "-1", "18446744073709551616", "1 2"):
+    for seed in ("abc", "x", "-1", "18446744073709551616", "1 2", "1\0"):
         browser.submit("seed", seed)
         tally.holds(f"the seed {seed!r} is refused", browser.until("return !document.getElementById('seed-fault').hidden"))
         tally.equal("in one sentence", browser.text("seed-fault"), "A seed is a whole number from 0 to 18,446,744,073,709,551,615.")

@@ -1,14 +1,20 @@
 """Best continuations and long lists: their answers, their progress, and a stop in mid-search."""
+import re
 import subprocess
 import time
 
 from browser import Browser
 from tally import Tally
 from wanted import SIDES, Position
+from wanted import run as model_run
 
 SCRAMBLE = "F2 U2 L2 D2 R2 L2 U2 L B R2 B2 L2 D F B2 R2 U' F R L U R2 F' D2 R2"
 LONGER = "R' U' F D2 L2 F R2 U2 R2 B D2 L B2 D' B2 L' R' B' D2 B2 R' U' F"
+# every edge is flipped here, so the orientations are as long as any, and there are millions of longer ones
+FLIPPED = "U R2 F B R B2 R U2 L B2 R U' D' R2 F R' L B2 U2 F2"
 STEPS = ("eofb", "eorl", "eoud")
+CHOOSE = "const slack = document.getElementById('slack'); slack.value = arguments[0]; slack.dispatchEvent(new Event('change'));"
+TYPE = "const it = document.getElementById('filter'); it.value = arguments[1]; it.dispatchEvent(new Event('input'));"
 ROWS = "return [...document.querySelectorAll('#best-body tr')].map((row) => [...row.children].map((each) => each.firstChild.textContent))"
 
 
@@ -99,16 +105,34 @@ def long_list(tally: Tally, browser: Browser) -> None:
     browser.open(address_of(LONGER))
     browser.click('[data-cell="eoud.inverse"]')
     browser.wait()
-    choose = "const slack = document.getElementById('slack'); slack.value = arguments[0]; slack.dispatchEvent(new Event('change'))"
-    browser.script(choose + "; document.getElementById('solutions-stop').click()", "3")
+    browser.script(CHOOSE + "document.getElementById('solutions-stop').click()", "3")
     browser.wait()
     tally.equal("a list is stopped", browser.text("solutions-note"), "Stopped.")
-    browser.script(choose, "2")
+    browser.script(CHOOSE, "2")
     browser.wait()
     count = program_answers(browser.program, ["near", "eoud", "20", "2", f"({LONGER})"], [])
     wanted = sum(line.endswith(")") for line in count)
     tally.equal("a long one is counted whole", browser.text("solutions-note").split(".")[0], f"{wanted:,} solutions")
     tally.equal("and cut", len(browser.texts("#solutions-groups button")), 200)
+
+
+def unknown(tally: Tally, browser: Browser) -> None:
+    """What isn't known is never said to be none: while a list is looked for, after a stop, and where there is no room for all of it."""
+    browser.open(address_of(LONGER) + "&list=eoud.inverse.0")
+    note = "return document.getElementById('solutions-note').textContent"
+    tally.equal("a filter that is typed while a list is looked for", browser.script(CHOOSE + TYPE + note, "1", "B D R"), "Looking \u2026")
+    browser.wait()
+    wanted = [moves for moves in Position(LONGER).solutions("eoud", "inverse", 1) if " B D R " in f" {moves} "]
+    tally.equal("it is kept for the list", browser.texts("#solutions-groups button"), wanted)
+    browser.script(CHOOSE + "document.getElementById('solutions-stop').click()", "3")
+    browser.wait()
+    tally.equal("a filter that is typed after a stop", browser.script(TYPE + note, "", "F"), "Stopped.")
+    browser.open(address_of(FLIPPED) + "&list=eofb.normal.3")
+    said = browser.text("solutions-note")
+    fewer = program_answers(browser.program, ["near", "eofb", "20", "2", FLIPPED], [])
+    count = re.match("More than ([0-9,]+) solutions. The list is cut", said)
+    tally.holds(f"a list without room for all: {said}", count and int(count[1].replace(",", "")) > sum(line.endswith(")") for line in fewer))
+    tally.equal("its beginning", browser.texts("#solutions-groups button"), Position(FLIPPED).solutions("eofb", "normal")[:200])
 
 
 def hasty(tally: Tally, browser: Browser) -> None:
@@ -122,6 +146,27 @@ def hasty(tally: Tally, browser: Browser) -> None:
     browser.until("return document.getElementById('scramble').value === 'R U'")
     browser.wait()
     tally.equal("the last address is shown", browser.letters("normal"), Position("R U").letters("normal"))
+
+
+def impatient(tally: Tally, browser: Browser) -> None:
+    """Buttons that are pressed again before there is an answer, and another scramble before moves by hand are read."""
+    browser.open(address_of(LONGER))
+    browser.script("for (let at = 0; at < 5; at += 1) document.getElementById('random').click()")
+    browser.until("return document.getElementById('scramble').value !== arguments[0]", LONGER)
+    time.sleep(1)
+    browser.wait()
+    drawn = model_run(("scramble", browser.script("return document.getElementById('seed').value"), "1", "25", "1"), "")[0].strip()
+    tally.equal("of many scrambles the one of the seed is shown", browser.script("return document.getElementById('scramble').value"), drawn)
+    add = "const own = document.getElementById('own'); own.value = 'R'; for (let at = 0; at < 3; at += 1) own.form.requestSubmit();"
+    browser.script("document.querySelector('[data-example]').click();" + add)
+    browser.until("return document.querySelectorAll('#skeleton-list li').length > 0")
+    browser.wait()
+    tally.equal("moves that are sent three times at once", browser.text("bracketed"), "R")
+    tally.equal("with no fault", (browser.text("own-fault"), browser.script("return document.getElementById('own').value")), ("", ""))
+    browser.script(add + "document.querySelector('[data-example]').click(); document.getElementById('results').setAttribute('aria-busy', 'true')")
+    browser.wait()
+    tally.equal("moves by hand before another scramble", (browser.texts("#skeleton-list li"), browser.text("own-fault")), ([], ""))
+    tally.equal("they stay in their field", browser.script("return document.getElementById('own').value"), "R")
 
 
 def random(tally: Tally, browser: Browser) -> None:
@@ -142,5 +187,5 @@ def random(tally: Tally, browser: Browser) -> None:
 
 def try_all(tally: Tally, browser: Browser) -> None:
     """All of them."""
-    for part in (best, stopped, long_list, hasty, random):
+    for part in (best, stopped, long_list, unknown, hasty, impatient, random):
         part(tally, browser)

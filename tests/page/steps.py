@@ -1,10 +1,13 @@
 """The way on from step to step and back: the browser's history, undo, what is kept, what is dimmed, the filter, and where the focus goes."""
 from browser import Browser
+from selenium.webdriver.common.keys import Keys
 from tally import Tally
 from wanted import Position
 
 SCRAMBLE = "F2 U2 L2 D2 R2 L2 U2 L B R2 B2 L2 D F B2 R2 U' F R L U R2 F' D2 R2"
 ADDRESS = "#scramble=" + SCRAMBLE.replace(" ", "_").replace("'", "-")
+# here every edge is flipped: a list with longer ones takes a while
+FLIPPED = "#scramble=U_R2_F_B_R_B2_R_U2_L_B2_R_U-_D-_R2_F_R-_L_B2_U2_F2"
 EXAMPLE = "R' U' F D2 L2 F R2 U2 R2 B D2 L B2 D' B2 L' R' B' D2 B2 R' U' F"
 VALUE = "return document.getElementById('scramble').value"
 HELD = """const choices = document.getElementById("choices");
@@ -131,6 +134,34 @@ def ends(tally: Tally, browser: Browser) -> None:
     tally.equal("the line to copy has the focus", browser.focused(), "copy-bracketed")
 
 
+def stays(tally: Tally, browser: Browser) -> None:
+    """The focus stays where it went while something is looked for, and isn't lost with a button that goes."""
+    focus = "document.getElementById(arguments[0]).focus();"
+    slack = focus + "const it = document.getElementById('slack'); it.value = arguments[1]; it.dispatchEvent(new Event('change'))"
+    browser.open(FLIPPED)
+    cell = "const cell = document.querySelector('[data-cell=\"eofb.normal\"]'); cell.focus(); cell.click();"
+    browser.script(cell + focus, "own")
+    browser.wait()
+    tally.equal("a list that comes leaves the focus", browser.focused(), "own")
+    browser.script(slack + "; document.getElementById('solutions-stop').focus()", "slack", "3")
+    browser.press(Keys.ENTER)
+    browser.wait()
+    tally.equal("after a stop of a list", (browser.focused(), browser.texts("#status")), ("solutions-heading", ["Stopped."]))
+    browser.script(cell + "document.getElementById('solutions-stop').click()")
+    browser.script(slack, "slack", "1")
+    browser.wait()
+    tally.equal("another slack after a stop", browser.focused(), "slack")
+    browser.open(ADDRESS)
+    browser.script(focus + "document.activeElement.click(); document.getElementById('own').focus()", "best-find")
+    browser.wait()
+    tally.equal("continuations that come leave the focus", browser.focused(), "own")
+    for keys in ([Keys.ENTER], [Keys.ENTER, Keys.ENTER]):
+        browser.script(focus, "best-find")
+        browser.press(*keys)
+        browser.wait()
+        tally.equal(f"a search that is begun by the keyboard, {len(keys)} keys", browser.focused(), "best-find")
+
+
 def words(tally: Tally, browser: Browser) -> None:
     """What the tables and the fields are called."""
     browser.open(ADDRESS)
@@ -145,5 +176,5 @@ def words(tally: Tally, browser: Browser) -> None:
 
 def try_all(tally: Tally, browser: Browser) -> None:
     """All of them."""
-    for part in (history, undo, kept, dimmed, filters, solved, ends, words):
+    for part in (history, undo, kept, dimmed, filters, solved, ends, stays, words):
         part(tally, browser)
