@@ -67,7 +67,7 @@ shared_one() {
 }
 holds "runs.c compiles against the shared object" shared_one
 add "$room/shared_runs"
-if missing c++; then skips "there is no C++ compiler here"; else
+if missing c++; then echo "skipped: there is no C++ compiler here"; else
     holds "the header is C++ too" c++ -Wall -Wextra -Wpedantic -Werror -x c++ -fsyntax-only include/nissy.h
 fi
 printf '#include "nissy.h"\nint main(void) { return nissy_invert("R", 1, 0).status; }\n' > "$room/other.c"
