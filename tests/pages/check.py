@@ -85,26 +85,27 @@ def map_of_page() -> list[str]:
     return [f"gone: web: {it}" for it in sorted(on_map - there)] + [f"missing: web: {it}" for it in sorted(there - on_map)]
 
 
-def clauses_of_functions(page: Page) -> list[str]:
-    """Returns what rows say as '`f` and `T::g`, clauses `c`, `d`' or 'clause `c` of `f`': each function with each of its clauses."""
+def clauses_of_functions(texts: list[str]) -> list[str]:
+    """Returns what texts say as '`f` and `T::g`, clauses `c`, `d`' or 'clause `c` of `f`': each function with each of its clauses."""
     found = []
-    for line in page.lines:
-        for part in cells(line)[-1].split(";") if line.startswith("|") else ():
-            part = re.sub(r"`==` of `\w+`", "`eq`", part)
-            claims = [(of[2], of[1]) for of in re.finditer(rf"clauses? ({LIST}) of ({LIST})", part)]
-            claims = claims or [(of[1], of[2]) for of in re.finditer(rf"({LIST}),? clauses? ({LIST})", part)]
-            for functions, clauses in claims:
-                found += [f"{f.split('::')[-1]} {c}" for f in NAME.findall(functions) for c in NAME.findall(clauses)]
+    for part in (part for text in texts for part in re.split("[;()]", text)):
+        part = re.sub(r"`==` of `\w+`", "`eq`", " ".join(part.split()))
+        claims = [(of[2], of[1]) for of in re.finditer(rf"clauses? ({LIST}) of ({LIST})", part)]
+        claims = claims or [(of[1], of[2]) for of in re.finditer(rf"({LIST}),? clauses? ({LIST})", part)]
+        for functions, clauses in claims:
+            found += [f"{f.split('::')[-1]} {c}" for f in NAME.findall(functions) for c in NAME.findall(clauses)]
     return sorted(set(found))
 
 
 def promises(tally: Tally, code: Code) -> None:
-    """What docs/PROMISES.md names after the word of what it is, clauses of functions, and the edits of its table of wrong programs."""
+    """What docs/PROMISES.md names after the word of what it is, clauses of functions there and in README, the edits of the table of wrong programs."""
     page = Page(TOP, "docs/PROMISES.md")
     for kind in ("clause", "law", "record", "field"):
         named = page.quoted(rf"\b{kind}s? (`[a-z_A-Z]+`(, | and )?)+")
         each(tally, page.name, f"a {kind}", named, lambda name, kind=kind: code.declares(kind, name))
-    each(tally, page.name, "a clause of its function", clauses_of_functions(page), code.clauses.__contains__)
+    carried = [cells(line)[-1] for line in page.lines if line.startswith("|")]
+    for name, texts in ((page.name, carried), ("README.md", [Page(TOP, "README.md").text])):
+        each(tally, name, "a clause of its function", clauses_of_functions(texts), code.clauses.__contains__)
     wrong = [row[-1] for row in rows(page.section("Wrong programs, and what refuses them"))]
     for cell in wrong:
         tally.holds(f"{page.name}: a row of wrong programs names edits: {cell[:60]}", NAME.search(cell))

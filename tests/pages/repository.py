@@ -1,11 +1,15 @@
 """What stands in the repository, for the pages that name it: its words and files, the functions of the crates with their clauses."""
 import re
+import sys
 from functools import cached_property
 from pathlib import Path
 
+sys.path.insert(0, str(Path(__file__).resolve().parents[2] / "tools"))
+
+from edits import HEAD
+
 # where a word that a page gives may stand
 FOLDERS = ("crates", "tests", "tools", "include", "python", "web")
-FUNCTION = re.compile(r' *(?:pub(?:\([a-z]+\))? )?(?:const )?(?:extern "C" )?fn (\w+)')
 CLAUSE = re.compile(r" *ensures ([a-z_]+) \{")
 # how a law, a record and so on are declared
 DECLARED = {"clause": r"ensures ({}) \{{", "law": r"pub fn ({})\(\)", "record": r"record ({}) ", "field": r"pub ({}) :"}
@@ -40,8 +44,8 @@ class Code:
         found, function = set(), ""
         for path, text in self.texts.items():
             for line in text.splitlines() if re.match(r"crates/niss_[^/]*/src/.*\.rt$", path) else ():
-                if head := FUNCTION.match(line):
-                    function = head[1]
+                if head := HEAD.match(line):
+                    function = head[2]
                 elif clause := CLAUSE.match(line):
                     found.add(f"{function} {clause[1]}")
         return found
