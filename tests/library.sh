@@ -32,7 +32,7 @@ strict=(-O1 -g -Wall -Wextra -Wpedantic -Werror -Iinclude -Itests/library)
 sanitized=("-fsanitize=address,undefined" -fno-sanitize-recover=all)
 linked() { # NAME: what the test is linked with
     case $1 in
-        memory) echo "-Wl,--wrap=malloc,--wrap=realloc,--wrap=free" ;;
+        memory | fuzz) echo "-Wl,--wrap=malloc,--wrap=realloc,--wrap=free" ;;
         threads) echo -pthread ;;
     esac
 }
@@ -50,7 +50,7 @@ is_sanitized=no
 if has_sanitizers; then is_sanitized=yes; else skips "cc has no sanitizers here"; fi
 missing valgrind && skips "valgrind isn't installed"
 
-for name in lines runs memory threads; do
+for name in lines runs memory threads fuzz; do
     holds "$name.c compiles without a warning" compiled "$room/$name" "$name"
     add "$room/$name"
     if [ $is_sanitized = yes ]; then
@@ -58,7 +58,7 @@ for name in lines runs memory threads; do
         add "$room/$name.sanitized"
     fi
     # valgrind's own malloc takes no wraps, and threads are slow in it
-    case $name in memory | threads) continue ;; esac
+    case $name in memory | threads | fuzz) continue ;; esac
     # it makes each byte thirty times as slow: of the rooms of runs.c, which the others went through, one of seven, and no longest input
     missing valgrind || add valgrind -q --error-exitcode=99 --leak-check=full "$room/$name" 7
 done

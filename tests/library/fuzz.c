@@ -1,0 +1,232 @@
+/* Drawn calls that no row lists: any words and lines, in rooms of any size, with memory that is refused.
+ *
+ *     fuzz [SEED [SECONDS]]
+ *
+ * The draws are numbered from SEED on, for two seconds where none are said; `fuzz N 0` makes draw N alone. */
+#include "refused.h"
+#include "trial.h"
+
+#include "drawn.h"
+
+#include <signal.h>
+#include <time.h>
+
+enum { AREA = 1 << 17, ROOM = 1 << 16, MARGIN = 64, BLOCK = 4096, UNTOUCHED = '#', SLOW_SHARE = 40 };
+
+static char draw_name[64];
+
+static void is_so(int holding, const char *what) {
+    holds(holding, what, draw_name);
+}
+
+/* A page that can't be touched was touched: what was passed and failed until then isn't told. */
+static void on_fault(int number) {
+    static const char what[] = ": a byte beside a buffer was touched\n";
+    (void)number;
+    _exit(write(STDOUT_FILENO, draw_name, strlen(draw_name)) < 0 || write(STDOUT_FILENO, what, strlen(what)) < 0 ? 2 : 1);
+}
+
+/* A slice of an area: at its front, behind a page that can't be touched, or at its end, before one. */
+typedef struct slice {
+    uint8_t *bytes, *margin;
+    size_t size;
+} slice;
+
+static guarded areas[4];
+enum area { WORDS_AREA, INPUT_AREA, OUT_AREA, ERR_AREA };
+
+static slice slice_of(enum area area, size_t size, int is_front) {
+    uint8_t *from = areas[area].bytes, *bytes = is_front ? from : from + AREA - size;
+    slice made_here = {bytes, is_front ? bytes + size : bytes - MARGIN, size};
+    memset(made_here.margin, UNTOUCHED, MARGIN);
+    return made_here;
+}
+
+static slice read_slice(enum area area, text of, int is_front) {
+    slice made_here = slice_of(area, of.size, is_front);
+    if (of.size) memcpy(made_here.bytes, of.bytes, of.size);
+    return made_here;
+}
+
+static slice written_slice(enum area area, size_t size, int is_front) {
+    slice made_here = slice_of(area, size, is_front);
+    memset(made_here.bytes, UNTOUCHED, size);
+    return made_here;
+}
+
+static void was_read(slice of, text was) {
+    is_so(was.size == 0 || memcmp(of.bytes, was.bytes, was.size) == 0, "what is read stays as it was");
+    is_so(are_all(of.margin, MARGIN, UNTOUCHED), "so does what is beside it");
+}
+
+static void was_written(slice of, size_t size) {
+    is_so(size <= of.size && are_all(of.bytes + size, of.size - size, UNTOUCHED), "behind what is written a buffer is as it was");
+    is_so(are_all(of.margin, MARGIN, UNTOUCHED), "so is what is beside it");
+}
+
+/* What a run answered, with its texts. */
+typedef struct answer {
+    nissy_run_answer is;
+    uint8_t out[ROOM], err[NISSY_ERROR_ROOM + 16];
+    long allocations;
+} answer;
+
+/* One run in such rooms, each bit of `sides` the place of a buffer; from this allocation on memory is refused, 0: none is. */
+static void run(answer *to, text words, text input, size_t out_room, size_t err_room, uint32_t sides, long refused) {
+    slice w = read_slice(WORDS_AREA, words, sides & 1), i = read_slice(INPUT_AREA, input, sides & 2);
+    slice out = written_slice(OUT_AREA, out_room, sides & 4), err = written_slice(ERR_AREA, err_room, sides & 8);
+    made = 0, held = 0, refused_at = refused, onward = 1;
+    to->is = nissy_run(w.bytes, w.size, i.bytes, i.size, out.bytes, out.size, err.bytes, err.size);
+    refused_at = 0, to->allocations = made;
+    is_so(held == 0, "all memory is given back");
+    was_read(w, words), was_read(i, input), was_written(out, to->is.out_length), was_written(err, to->is.err_length);
+    memcpy(to->out, out.bytes, to->is.out_length), memcpy(to->err, err.bytes, to->is.err_length);
+}
+
+static int is_text(const uint8_t *bytes, size_t size, const void *wanted, size_t wanted_size) {
+    return size == wanted_size && (size == 0 || memcmp(bytes, wanted, size) == 0);
+}
+
+static size_t least(size_t one, size_t other) {
+    return one < other ? one : other;
+}
+
+static answer whole, got;
+
+/* The last answer is that of the whole run, as much as the rooms have place for. */
+static void is_whole_in(size_t out_room, size_t err_room, const char *what) {
+    static const char cut[] = "nissy: cannot write\n";
+    int is_cut = whole.is.out_too_small || whole.is.out_length > out_room;
+    const void *err = is_cut ? (const void *)cut : whole.err;
+    size_t err_length = is_cut ? strlen(cut) : whole.is.err_length;
+    is_so(got.is.status == (is_cut ? NISSY_STOPPED : whole.is.status) && got.is.out_too_small == is_cut, what);
+    is_so(is_text(got.out, got.is.out_length, whole.out, least(whole.is.out_length, out_room)), what);
+    is_so(is_text(got.err, got.is.err_length, err, least(err_length, err_room)) && got.is.err_too_small == (err_length > err_room), what);
+}
+
+/* Adds so many to the column of a fault in line 1. */
+static void move_column(answer *of, size_t by) {
+    static const char head[] = "nissy: line 1, column ";
+    char *err = (char *)of->err, rest[NISSY_ERROR_ROOM + 16], *end;
+    err[of->is.err_length] = 0;
+    if (strncmp(err, head, strlen(head)) != 0) return;
+    unsigned long column = strtoul(err + strlen(head), &end, 10);
+    strcpy(rest, end);
+    of->is.err_length = (size_t)snprintf(err, sizeof of->err, "%s%lu%s", head, column + by, rest);
+}
+
+/* Blanks before the input, so that a block of the reading ends within it: the same answer, with line 1 moved. */
+static void try_moved(text words, text input, uint32_t sides) {
+    static uint8_t bytes[AREA];
+    size_t blanks = BLOCK - draw((uint32_t)input.size + 1) % BLOCK;
+    memset(bytes, ' ', blanks);
+    memcpy(bytes + blanks, input.bytes, input.size);
+    text moved = {bytes, blanks + input.size, AREA};
+    run(&got, words, moved, ROOM, NISSY_ERROR_ROOM, sides, 0);
+    move_column(&whole, blanks);
+    is_whole_in(ROOM, NISSY_ERROR_ROOM, "the answer to an input behind blanks");
+}
+
+/* Whether these words begin with a command whose tables take a while. */
+static int is_slow(text words) {
+    return words.size > 6 && (memcmp(words.bytes + 5, "dr", 2) == 0 || memcmp(words.bytes + 6, "dr", 2) == 0);
+}
+
+/* Words alone with what belongs to their command, so that the lines come from the input. */
+static int reads_input(text words) {
+    size_t zeros = 0;
+    for (size_t at = 0; at < words.size; at++) zeros += words.bytes[at] == 0;
+    return words.size && words.bytes[words.size - 1] == 0 && zeros == (words.bytes[0] == 'n' ? 4 : memchr("sc", words.bytes[0], 2) ? 3 : 1);
+}
+
+/* A run whole, then in other rooms, with memory refused, without the last zero byte, and with its input moved. */
+static void try_run(text words, text input) {
+    uint32_t sides = draw(16);
+    run(&whole, words, input, ROOM, NISSY_ERROR_ROOM, sides, 0);
+    is_so(whole.is.status <= NISSY_STOPPED && !whole.is.err_too_small, "a status of four, and room for the error text");
+    size_t length = whole.is.out_length, rooms[] = {0, length ? length - 1 : 0, draw((uint32_t)length + 1), least(length + 1, ROOM)};
+    for (int at = 0; at < (is_slow(words) ? 1 : 4); at++) {
+        size_t room = rooms[(at + sides) % 4], err_room = draw(NISSY_ERROR_ROOM + 1);
+        run(&got, words, input, room, err_room, ~sides, 0);
+        is_whole_in(room, err_room, "the answer in other rooms");
+    }
+    if (whole.allocations) {
+        run(&got, words, input, ROOM, NISSY_ERROR_ROOM, sides, 1 + draw((uint32_t)whole.allocations));
+        is_so(got.is.status == NISSY_STOPPED && got.is.out_length == 0, "refused memory stops the run");
+        is_so(is_text(got.err, got.is.err_length, "nissy: out of memory\n", 21), "refused memory is said");
+    }
+    if (words.size > 1 && words.bytes[words.size - 1] == 0 && words.bytes[words.size - 2] != 0) {
+        text shorter = {words.bytes, words.size - 1, 0};
+        run(&got, shorter, input, ROOM, NISSY_ERROR_ROOM, sides, 0);
+        is_whole_in(ROOM, NISSY_ERROR_ROOM, "the answer without the last zero byte");
+    }
+    if (input.size && reads_input(words)) try_moved(words, input, ~sides);
+}
+
+typedef nissy_line_answer line_call(const uint8_t *, size_t, uint8_t *, size_t);
+
+/* A call on a line, which takes no memory. */
+static nissy_line_answer call(line_call *of, text line, size_t room, uint32_t sides, uint8_t *to) {
+    slice read = read_slice(INPUT_AREA, line, sides & 1), out = written_slice(OUT_AREA, room, sides & 2);
+    made = 0, refused_at = 1;
+    nissy_line_answer is = of(read.bytes, read.size, out.bytes, room);
+    refused_at = 0;
+    is_so(made == 0, "a call on a line takes no memory");
+    was_read(read, line), was_written(out, is.status == NISSY_DONE ? is.length : 0);
+    if (is.status == NISSY_DONE && is.length <= NISSY_LINE_ROOM) memcpy(to, out.bytes, is.length);
+    return is;
+}
+
+/* A line by its call in rooms of three sizes, and the same line by a run. */
+static void try_line(text line) {
+    static line_call *const calls[] = {nissy_invert, nissy_unniss, nissy_cleanup, nissy_print};
+    static const char *const faults[] = {"", "not a move", "bracket inside a bracket", "bracket closed that was not opened",
+                                         "bracket not closed", "more than 256 moves"};
+    static uint8_t first[NISSY_LINE_ROOM + 1], other[NISSY_LINE_ROOM + 1];
+    uint32_t which = draw(4), sides = draw(16);
+    nissy_line_answer is = call(calls[which], line, NISSY_LINE_ROOM, sides, first);
+    is_so(is.status == NISSY_DONE || (is.status == NISSY_FAULT && is.fault >= 1 && is.fault <= 5 && is.length == 0), "a line's status");
+    size_t rooms[] = {is.length, is.length ? is.length - 1 : 0, draw(300)};
+    for (int at = 0; at < 3; at++) {
+        nissy_line_answer again = call(calls[which], line, rooms[at], ~sides, other);
+        int fits = is.length <= rooms[at];
+        is_so(again.status == (fits ? is.status : NISSY_ROOM) && again.length == is.length, "the status of a line in another room");
+        is_so(again.fault == is.fault && again.column == is.column, "its fault");
+        is_so(again.status != NISSY_DONE || is_text(other, is.length, first, is.length), "its text");
+    }
+    if (line.size == 0 || memchr(line.bytes, '\n', line.size)) return;
+    text words = {(uint8_t *)COMMANDS[which], strlen(COMMANDS[which]), 0};
+    run(&got, words, line, ROOM, NISSY_ERROR_ROOM, sides, 0);
+    char fault[NISSY_ERROR_ROOM];
+    int fault_length = snprintf(fault, sizeof fault, "nissy: line 1, column %u: %s\n", is.column, faults[is.fault % 6]);
+    first[is.length] = '\n';
+    is_so(got.is.status == is.status, "a run has the status of the call on its line");
+    is_so(is_text(got.out, got.is.out_length, first, is.status ? 0 : is.length + 1), "a run has the text of the call on its line");
+    is_so(is_text(got.err, got.is.err_length, fault, is.status ? (size_t)fault_length : 0), "a run has the fault of the call on its line");
+}
+
+static void try_draw(unsigned long number) {
+    static uint8_t word_bytes[BLOCK], line_bytes[4 * BLOCK];
+    text words = {word_bytes, 0, sizeof word_bytes}, lines = {line_bytes, 0, sizeof line_bytes};
+    snprintf(draw_name, sizeof draw_name, "draw %lu", number);
+    begin_drawing(number);
+    if (draw(3) == 0) {
+        add_line(&lines, drawn_moves(), draw(3) == 0);
+        try_line(lines);
+        return;
+    }
+    add_words(&words);
+    add_lines(&lines);
+    if (!is_slow(words) || draw(SLOW_SHARE) == 0) try_run(words, lines);
+}
+
+int main(int count, char **words) {
+    unsigned long number = count > 1 ? strtoul(words[1], NULL, 10) : 1;
+    time_t seconds = count > 2 ? (time_t)strtoul(words[2], NULL, 10) : 2;
+    for (int at = 0; at < 4; at++) areas[at] = guard(AREA);
+    signal(SIGSEGV, on_fault);
+    clock_t end = clock() + (clock_t)seconds * CLOCKS_PER_SEC;
+    do try_draw(number++);
+    while (clock() < end);
+    return ended();
+}
