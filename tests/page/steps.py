@@ -60,6 +60,23 @@ def history(tally: Tally, browser: Browser) -> None:
     tally.equal("typing makes no entry", browser.script("return history.length"), entries)
 
 
+def refused(tally: Tally, browser: Browser) -> None:
+    """Where the browser refuses to have the address changed so often, the page goes on, and its address follows."""
+    often = """
+        const { pushState, replaceState } = History.prototype;
+        Object.assign(History.prototype, { pushState: () => { throw new Error("too often"); }, replaceState: () => {} });
+        setTimeout(() => Object.assign(History.prototype, { pushState, replaceState }), 500);
+        document.querySelector(arguments[0]).click()"""
+    browser.open("#scramble=R_U_F&steps=normal.R~inverse.U")
+    for button, side, address in (("#switch", "inverse side", "&steps=normal.R~inverse.U"), ("#undo-step", "inverse side", "&steps=normal.R")):
+        browser.script(often, button)
+        browser.wait()
+        tally.equal(f"{button}: the page", browser.text("side"), side)
+        wanted = f"#scramble=R_U_F{address}&side=inverse"
+        tally.holds(f"{button}: the address follows", browser.until("return location.hash === arguments[0]", wanted))
+    tally.equal("what is seen is what the address says", browser.texts("#skeleton-list .moves"), ["R"])
+
+
 def undo(tally: Tally, browser: Browser) -> None:
     """An undone step gives its side back."""
     browser.open("#scramble=R_U_F&steps=inverse.R~normal.U")
@@ -176,5 +193,5 @@ def words(tally: Tally, browser: Browser) -> None:
 
 def try_all(tally: Tally, browser: Browser) -> None:
     """All of them."""
-    for part in (history, undo, kept, dimmed, filters, solved, ends, stays, words):
+    for part in (history, refused, undo, kept, dimmed, filters, solved, ends, stays, words):
         part(tally, browser)
