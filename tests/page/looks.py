@@ -57,7 +57,7 @@ def is_named(tally: Tally, browser: Browser, what: str) -> None:
     tally.holds(f"{what}: there are controls", len(controls) > 30)
     tally.equal(f"{what}: controls without a name", nameless, [])
     texts = [node["name"]["value"] for node in nodes if not node.get("ignored") and node.get("role", {}).get("value") == "StaticText"]
-    tally.equal(f"{what}: letters of stickers that are read beside the label of their net", [text for text in texts if text in list("URFDLB")], [])
+    tally.equal(f"{what}: letters of stickers beside the label of their net", [text for text in texts if text in list("URFDLB")], [])
     tally.equal(f"{what}: what only explains a colour", [text for text in texts if text == "shortest"], [])
 
 
@@ -69,7 +69,8 @@ def fits(tally: Tally, browser: Browser, what: str) -> None:
 def is_told_apart(tally: Tally, browser: Browser) -> None:
     """Where the system forces its colours, the open cell and the shortest ones still differ from the others."""
     browser.command("Emulation.setEmulatedMedia", features=[{"name": "forced-colors", "value": "active"}])
-    seen = """return Object.fromEntries(["[aria-pressed=true]", ".least:not([aria-pressed=true])", ":not(.least, [aria-pressed=true])"].map((kind) => {
+    seen = """const kinds = ["[aria-pressed=true]", ".least:not([aria-pressed=true])", ":not(.least, [aria-pressed=true])"];
+    return Object.fromEntries(kinds.map((kind) => {
         const own = getComputedStyle(document.querySelector(`#steps-body .cell${kind}`));
         return [kind, [own.backgroundColor, own.outlineStyle].join()];
     }))"""

@@ -9,6 +9,9 @@ ADDRESS = "#scramble=" + SCRAMBLE.replace(" ", "_").replace("'", "-")
 # here every edge is flipped: a list with longer ones takes a while
 FLIPPED = "#scramble=U_R2_F_B_R_B2_R_U2_L_B2_R_U-_D-_R2_F_R-_L_B2_U2_F2"
 EXAMPLE = "R' U' F D2 L2 F R2 U2 R2 B D2 L B2 D' B2 L' R' B' D2 B2 R' U' F"
+TYPED = (("U", ["U"]), ("u2", ["U2"]), ("U'", ["U'"]), ("  R F2 ", ["R", "F2"]), ("l\u2019f", ["L'", "F"]), ("B2'", ["B2"]), ("", []))
+# turns of opposite faces change nothing by their order; of these the lists have U, R or F first
+OPPOSITE = (("D2 U", ["U", "D2"]), ("B2F2", ["F2", "B2"]), ("R' L2", ["R'", "L2"]), ("L2 R' U", ["R'", "L2", "U"]))
 VALUE = "return document.getElementById('scramble').value"
 HELD = """const choices = document.getElementById("choices");
     return [choices.inert, Number(getComputedStyle(choices).opacity) < 0.5]"""
@@ -68,11 +71,11 @@ def refused(tally: Tally, browser: Browser) -> None:
         setTimeout(() => Object.assign(History.prototype, { pushState, replaceState }), 500);
         document.querySelector(arguments[0]).click()"""
     browser.open("#scramble=R_U_F&steps=normal.R~inverse.U")
-    for button, side, address in (("#switch", "inverse side", "&steps=normal.R~inverse.U"), ("#undo-step", "inverse side", "&steps=normal.R")):
+    for button, steps in (("#switch", "normal.R~inverse.U"), ("#undo-step", "normal.R")):
         browser.script(often, button)
         browser.wait()
-        tally.equal(f"{button}: the page", browser.text("side"), side)
-        wanted = f"#scramble=R_U_F{address}&side=inverse"
+        tally.equal(f"{button}: the page", browser.text("side"), "inverse side")
+        wanted = f"#scramble=R_U_F&steps={steps}&side=inverse"
         tally.holds(f"{button}: the address follows", browser.until("return location.hash === arguments[0]", wanted))
     tally.equal("what is seen is what the address says", browser.texts("#skeleton-list .moves"), ["R"])
 
@@ -116,7 +119,7 @@ def filters(tally: Tally, browser: Browser) -> None:
     """The filter finds whole moves one after another, however they are typed."""
     browser.open(ADDRESS + "&list=eoud.normal.1")
     listed = [moves.split() for moves in Position(SCRAMBLE).solutions("eoud", "normal", 1)]
-    for typed, turns in (("U", ["U"]), ("u2", ["U2"]), ("U'", ["U'"]), ("  R F2 ", ["R", "F2"]), ("l\u2019f", ["L'", "F"]), ("B2'", ["B2"]), ("", [])):
+    for typed, turns in (*TYPED, *OPPOSITE):
         browser.script("const it = document.getElementById('filter'); it.value = arguments[0]; it.dispatchEvent(new Event('input'))", typed)
         places = [[moves[at : at + len(turns)] for at in range(len(moves))] for moves in listed]
         wanted = [" ".join(moves) for moves, found in zip(listed, places) if turns in found]
