@@ -182,6 +182,27 @@ def stays(tally: Tally, browser: Browser) -> None:
         tally.equal(f"a search that is begun by the keyboard, {len(keys)} keys", browser.focused(), "best-find")
 
 
+def one_stop(tally: Tally, browser: Browser) -> None:
+    """The best continuations are one stop of the Tab key, and what has the focus among them keeps it when more are found."""
+    browser.open(ADDRESS)
+    browser.act("#best-find")
+    moves = browser.texts("#best-body button")
+    tally.holds("there are some", len(moves) > 20)
+    tally.holds("the Tab key leads to the first", browser.tab_to(moves[0]))
+    browser.press(Keys.ARROW_DOWN, Keys.ARROW_DOWN)
+    tally.equal("arrows lead on", browser.script("return document.activeElement === document.querySelectorAll('#best-body button')[2]"), True)
+    browser.press(Keys.TAB)
+    tally.equal("the Tab key leaves them", browser.script("return document.activeElement.closest('#best-body') === null"), True)
+    browser.script("document.getElementById('best-find').click()")
+    seen = """const [bar, row] = [document.getElementById("best-progress"), document.querySelector("#best-body button")];
+        if (!(bar.value > 0 && bar.value < bar.max)) return false;
+        row.focus();
+        return document.activeElement === row"""
+    tally.holds("some come while others are looked for", browser.until(seen))
+    browser.wait()
+    tally.equal("the focus stays among them", browser.script("return document.activeElement.closest('#best-body') !== null"), True)
+
+
 def words(tally: Tally, browser: Browser) -> None:
     """What the tables and the fields are called."""
     browser.open(ADDRESS)
@@ -196,5 +217,5 @@ def words(tally: Tally, browser: Browser) -> None:
 
 def try_all(tally: Tally, browser: Browser) -> None:
     """All of them."""
-    for part in (history, refused, undo, kept, dimmed, filters, solved, ends, stays, words):
+    for part in (history, refused, undo, kept, dimmed, filters, solved, ends, stays, one_stop, words):
         part(tally, browser)
