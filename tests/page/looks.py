@@ -56,6 +56,8 @@ def is_named(tally: Tally, browser: Browser, what: str) -> None:
     nameless = [node["role"]["value"] for node in controls if not node.get("name", {}).get("value", "").strip()]
     tally.holds(f"{what}: there are controls", len(controls) > 30)
     tally.equal(f"{what}: controls without a name", nameless, [])
+    names = [node.get("name", {}).get("value", "") for node in controls]
+    tally.equal(f"{what}: buttons of one word", [name for name in names if name in ("Use", "Add", "Copy", "?")], [])
     texts = [node["name"]["value"] for node in nodes if not node.get("ignored") and node.get("role", {}).get("value") == "StaticText"]
     tally.equal(f"{what}: letters of stickers beside the label of their net", [text for text in texts if text in list("URFDLB")], [])
     tally.equal(f"{what}: what only explains a colour", [text for text in texts if text == "shortest"], [])
@@ -106,6 +108,8 @@ def helps(tally: Tally, browser: Browser) -> None:
         browser.press(Keys.ENTER)
         tally.holds(f"{name} opens", browser.until("return document.querySelectorAll('.popover:popover-open').length === 1"))
         fits(tally, browser, name)
+        said = " ".join(browser.texts(".popover:popover-open")[0].split())
+        tally.equal(f"{name} is said", browser.texts("#status"), [said])
         browser.press(Keys.ESCAPE)
         tally.holds(f"{name} closes", browser.until("return document.querySelector('.popover:popover-open') === null"))
 
