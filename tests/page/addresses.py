@@ -22,6 +22,8 @@ REFUSED = (
     "#__proto__=R",
     "#constructor=R",
     "#scramble=R&toString=1",
+    "#scramble=R&scramble=F",
+    "#side=inverse&steps=normal.R&side=normal",
     "#steps=R",
     "#steps=normal.",
     "#steps=normal.R~",
