@@ -74,9 +74,12 @@ const FIELDS = {
 /** @param {string} text */
 function readFields(text) {
     const state = emptyState();
+    const said = new Set();
     for (const field of text === "" ? [] : text.split("&")) {
         const [name, value, ...rest] = field.split("=");
         if (!Object.hasOwn(FIELDS, name) || value === undefined || rest.length > 0) throw new Error("this address says something unknown");
+        if (said.has(name)) throw new Error("this address says something twice");
+        said.add(name);
         FIELDS[name](state, value);
     }
     return state;

@@ -3,6 +3,7 @@ import { Stopped } from "./calls.js";
 import { MOST_KEPT, findContinuations } from "./continuations.js";
 import { announce, counted, element, part, setBusy, tell } from "./element.js";
 import { bracketed } from "./position.js";
+import { roveWithin } from "./roving.js";
 import { SIDES, eitherReduction, stepNamed, titleOf } from "./steps.js";
 
 /** @typedef {import("./continuations.js").Continuation} Continuation */
@@ -29,6 +30,7 @@ export class BestContinuations {
     constructor(calls, taken) {
         this.#calls = calls;
         this.#taken = taken;
+        roveWithin(part("best-body"), "button");
         part("best-find").addEventListener("click", () => this.#find());
         part("best-stop").addEventListener("click", () => this.#calls.stop());
         part("best-slack").addEventListener("change", () => {
@@ -114,13 +116,23 @@ export class BestContinuations {
         const cut = done > MOST_KEPT ? ` The list is cut: the best ${MOST_KEPT} are shown.` : "";
         tell(part("best-note"), `${done.toLocaleString("en")} of ${counted(all, "orientation")} tried.${cut}`);
         part("best-table").hidden = found.length === 0;
-        part("best-body").replaceChildren(...found.map((each) => this.#row(each)));
+        this.#showRows(found.map((each) => this.#row(each)));
+    }
+
+    /** Shows the rows in place of the last ones; the same orientation keeps the focus, if it is there. @param {HTMLElement[]} rows */
+    #showRows(rows) {
+        const body = part("best-body");
+        const focused = body.contains(document.activeElement) ? document.activeElement.textContent : null;
+        body.replaceChildren(...rows);
+        const buttons = [...body.querySelectorAll("button")];
+        buttons[0]?.setAttribute("tabindex", "0");
+        if (focused !== null) (buttons.find(({ textContent }) => textContent === focused) ?? buttons[0] ?? part("best-stop")).focus();
     }
 
     #row(each) {
         const line = each.moves === "" ? "no moves" : bracketed([each]);
         const sum = Number.isFinite(each.sum) ? String(each.sum) : "–";
-        const take = element("button", { type: "button", class: "moves", click: () => this.#take(each) }, line);
+        const take = element("button", { type: "button", class: "moves", tabindex: -1, click: () => this.#take(each) }, line);
         const lengths = SIDES.map((side) => {
             const best = each.lengths[side] !== null && each.lengths[side] === each.lengths[each.best];
             return element("td", best ? { class: "best" } : {}, each.lengths[side] === null ? "–" : String(each.lengths[side]));

@@ -1,4 +1,5 @@
-// Short help beside a word: the browser opens and closes it, and this puts it under its button.
+// Short help beside a word: the browser opens and closes it, and this puts it under its button, and says it.
+import { announce } from "./element.js";
 
 const MARGIN = 6;
 
@@ -16,7 +17,9 @@ export function placeHelp() {
         const text = document.getElementById(button.getAttribute("popovertarget"));
         text.addEventListener("toggle", (event) => {
             button.setAttribute("aria-expanded", String(event.newState === "open"));
-            if (event.newState === "open") placeUnder(text, button);
+            if (event.newState !== "open") return;
+            placeUnder(text, button);
+            announce(text.textContent.replace(/\s+/g, " ").trim());
         });
     }
 }

@@ -22,7 +22,8 @@ function shape(name, attributes) {
 }
 
 function stickerAt(x, y) {
-    const group = shape("g", { class: "sticker", transform: `translate(${x} ${y})` });
+    // the label of the net has all letters, by faces
+    const group = shape("g", { class: "sticker", transform: `translate(${x} ${y})`, "aria-hidden": "true" });
     group.append(shape("rect", { x: 0.4, y: 0.4, width: PITCH - 0.8, height: PITCH - 0.8, rx: 1.4 }));
     group.append(shape("text", { x: PITCH / 2, y: PITCH / 2 + 2, "text-anchor": "middle" }));
     return group;

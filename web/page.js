@@ -17,6 +17,7 @@ import { keepInView, showStart } from "./view.js";
 /** @typedef {import("./address.js").State} State */
 /** @typedef {import("./steps.js").Side} Side */
 
+const AGAIN_AFTER = 1000;
 const TOO_MANY = `more than ${MOST_MOVES} moves`;
 
 /** Why there is no answer. @param {Error & {words?: string}} fault */
@@ -33,6 +34,7 @@ export class Page {
     #now = null;
     #openList = "";
     #isReading = false;
+    #writing = 0;
     /** @type {{to: "list" | "table", from: Element} | null} where the focus is to go, and from where */
     #focusNext = null;
     #calls;
@@ -69,6 +71,7 @@ export class Page {
         const { state, fault } = readAddress(hash);
         this.#isReading = true;
         this.#focusNext = null;
+        clearTimeout(this.#writing);
         setBusy("results", true);
         tell(part("alert"), fault);
         try {
@@ -92,10 +95,7 @@ export class Page {
     #change(change, focusNext) {
         this.#focusNext = focusNext ? { to: focusNext, from: document.activeElement } : null;
         this.#state = { ...this.#state, ...change };
-        const address = addressOf(this.#state);
-        // what may be missed later can be had back by the browser
-        if ("parts" in change && address !== (location.hash || "#")) history.pushState(null, "", address);
-        else history.replaceState(null, "", address);
+        this.#writeAddress("parts" in change);
         if ("scramble" in change || "parts" in change || this.#isReading) {
             tell(part("alert"), "");
             this.#refresh();
@@ -104,6 +104,21 @@ export class Page {
         this.#skeleton.turnTo(this.#state.side);
         this.#table.mark(this.#state.list);
         this.#showList();
+    }
+
+    /** Puts the state into the address; a moment later where the browser has it done too often. @param {boolean} isStep */
+    #writeAddress(isStep) {
+        clearTimeout(this.#writing);
+        const address = addressOf(this.#state);
+        const isWritten = () => address === (location.hash || "#");
+        try {
+            // what may be missed later can be had back by the browser
+            if (isStep && !isWritten()) history.pushState(null, "", address);
+            else history.replaceState(null, "", address);
+        } catch {
+            // some browsers throw then, others do nothing
+        }
+        if (!isWritten()) this.#writing = setTimeout(() => this.#writeAddress(isStep), AGAIN_AFTER);
     }
 
     #setScramble(scramble, isNew) {

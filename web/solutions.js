@@ -9,11 +9,24 @@ import { stepNamed, titleOf } from "./steps.js";
 export const MOST_SHOWN = 200;
 const NOT_MOVES = "The text in the filter is not moves: type face turns such as F B'.";
 
+/** Of two turns of opposite faces, which may stand in either order, the lists have these first. */
+const FIRST_OF_AXIS = { D: "U", L: "R", B: "F" };
+
+/** Turns as the lists have them, where neighbours of opposite faces are the other way round. @param {string[]} turns */
+function inListOrder(turns) {
+    const ordered = [...turns];
+    for (let at = 1; at < ordered.length; at++) {
+        const [one, other] = [ordered[at - 1], ordered[at]];
+        if (FIRST_OF_AXIS[one[0]] === other[0]) ordered.splice(at - 1, 2, other, one);
+    }
+    return ordered;
+}
+
 /** The face turns that are typed, or null where the text isn't moves. @param {string} text @returns {string[] | null} */
 function turnsOf(text) {
     const plain = text.replace(/\u2019/g, "'").toUpperCase();
     if (!/^\s*(?:[UDRLFB](?:2'?|')?\s*)*$/.test(plain)) return null;
-    return (plain.match(/[UDRLFB][2']*/g) ?? []).map((turn) => turn.replace("2'", "2"));
+    return inListOrder((plain.match(/[UDRLFB][2']*/g) ?? []).map((turn) => turn.replace("2'", "2")));
 }
 
 /** Whether a solution has these turns one after another. @param {Solution} solution @param {string[]} wanted */

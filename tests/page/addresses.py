@@ -22,6 +22,8 @@ REFUSED = (
     "#__proto__=R",
     "#constructor=R",
     "#scramble=R&toString=1",
+    "#scramble=R&scramble=F",
+    "#side=inverse&steps=normal.R&side=normal",
     "#steps=R",
     "#steps=normal.",
     "#steps=normal.R~",
@@ -91,10 +93,12 @@ def changed(tally: Tally, browser: Browser) -> None:
 
 def overtaken(tally: Tally, browser: Browser) -> None:
     """What is done on a page while another address is read belongs to what is seen: the address and the page say the same."""
-    act = "addEventListener('hashchange', () => document.querySelector(arguments[0]).click(), { once: true });"
+    act = """addEventListener('hashchange', () => document.querySelector(arguments[0]).click(), { once: true });
+        document.getElementById('results').setAttribute('aria-busy', 'true');
+        location.hash = '#scramble=F_B&steps=inverse.R'"""
     for button, rest in (("#switch", "&side=inverse"), ('[data-cell="eofb.inverse"]', "&list=eofb.inverse.0")):
         browser.open("#scramble=R_U_F")
-        browser.script(act + "document.getElementById('results').setAttribute('aria-busy', 'true'); location.hash = '#scramble=F_B&steps=inverse.R'", button)
+        browser.script(act, button)
         browser.wait()
         tally.equal(f"{button}: the address", browser.script("return location.hash"), "#scramble=R_U_F" + rest)
         tally.equal(f"{button}: the scramble", browser.script("return document.getElementById('scramble').value"), "R U F")

@@ -56,11 +56,29 @@ def is_named(tally: Tally, browser: Browser, what: str) -> None:
     nameless = [node["role"]["value"] for node in controls if not node.get("name", {}).get("value", "").strip()]
     tally.holds(f"{what}: there are controls", len(controls) > 30)
     tally.equal(f"{what}: controls without a name", nameless, [])
+    names = [node.get("name", {}).get("value", "") for node in controls]
+    tally.equal(f"{what}: buttons of one word", [name for name in names if name in ("Use", "Add", "Copy", "?")], [])
+    texts = [node["name"]["value"] for node in nodes if not node.get("ignored") and node.get("role", {}).get("value") == "StaticText"]
+    tally.equal(f"{what}: letters of stickers beside the label of their net", [text for text in texts if text in list("URFDLB")], [])
+    tally.equal(f"{what}: what only explains a colour", [text for text in texts if text == "shortest"], [])
 
 
 def fits(tally: Tally, browser: Browser, what: str) -> None:
     """Nothing stands beyond the window."""
     tally.equal(f"{what}: it fits", browser.script(WIDE), [360, True, []])
+
+
+def is_told_apart(tally: Tally, browser: Browser) -> None:
+    """Where the system forces its colours, the open cell and the shortest ones still differ from the others."""
+    browser.command("Emulation.setEmulatedMedia", features=[{"name": "forced-colors", "value": "active"}])
+    seen = """const kinds = ["[aria-pressed=true]", ".least:not([aria-pressed=true])", ":not(.least, [aria-pressed=true])"];
+    return Object.fromEntries(kinds.map((kind) => {
+        const own = getComputedStyle(document.querySelector(`#steps-body .cell${kind}`));
+        return [kind, [own.backgroundColor, own.outlineStyle].join()];
+    }))"""
+    kinds = browser.script(seen)
+    tally.equal(f"kinds of cells that are told apart: {kinds}", len(set(kinds.values())), 3)
+    browser.command("Emulation.setEmulatedMedia", features=[{"name": "prefers-color-scheme", "value": "light"}])
 
 
 def shows_focus(tally: Tally, browser: Browser) -> None:
@@ -90,6 +108,8 @@ def helps(tally: Tally, browser: Browser) -> None:
         browser.press(Keys.ENTER)
         tally.holds(f"{name} opens", browser.until("return document.querySelectorAll('.popover:popover-open').length === 1"))
         fits(tally, browser, name)
+        said = " ".join(browser.texts(".popover:popover-open")[0].split())
+        tally.equal(f"{name} is said", browser.texts("#status"), [said])
         browser.press(Keys.ESCAPE)
         tally.holds(f"{name} closes", browser.until("return document.querySelector('.popover:popover-open') === null"))
 
@@ -135,6 +155,7 @@ def try_all(tally: Tally, browser: Browser) -> None:
         is_legible(tally, browser, colours)
         is_named(tally, browser, colours)
         fits(tally, browser, colours)
+    is_told_apart(tally, browser)
     for part in (helps, copies):
         part(tally, browser)
     shows_focus(tally, browser)

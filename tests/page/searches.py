@@ -131,7 +131,8 @@ def unknown(tally: Tally, browser: Browser) -> None:
     said = browser.text("solutions-note")
     fewer = program_answers(browser.program, ["near", "eofb", "20", "2", FLIPPED], [])
     count = re.match("More than ([0-9,]+) solutions. The list is cut", said)
-    tally.holds(f"a list without room for all: {said}", count and int(count[1].replace(",", "")) > sum(line.endswith(")") for line in fewer))
+    is_more = count and int(count[1].replace(",", "")) > sum(line.endswith(")") for line in fewer)
+    tally.holds(f"a list without room for all: {said}", is_more)
     tally.equal("its beginning", browser.texts("#solutions-groups button"), Position(FLIPPED).solutions("eofb", "normal")[:200])
 
 
@@ -163,7 +164,8 @@ def impatient(tally: Tally, browser: Browser) -> None:
     browser.wait()
     tally.equal("moves that are sent three times at once", browser.text("bracketed"), "R")
     tally.equal("with no fault", (browser.text("own-fault"), browser.script("return document.getElementById('own').value")), ("", ""))
-    browser.script(add + "document.querySelector('[data-example]').click(); document.getElementById('results').setAttribute('aria-busy', 'true')")
+    another = "document.querySelector('[data-example]').click(); document.getElementById('results').setAttribute('aria-busy', 'true')"
+    browser.script(add + another)
     browser.wait()
     tally.equal("moves by hand before another scramble", (browser.texts("#skeleton-list li"), browser.text("own-fault")), ([], ""))
     tally.equal("they stay in their field", browser.script("return document.getElementById('own').value"), "R")

@@ -9,6 +9,9 @@ ADDRESS = "#scramble=" + SCRAMBLE.replace(" ", "_").replace("'", "-")
 # here every edge is flipped: a list with longer ones takes a while
 FLIPPED = "#scramble=U_R2_F_B_R_B2_R_U2_L_B2_R_U-_D-_R2_F_R-_L_B2_U2_F2"
 EXAMPLE = "R' U' F D2 L2 F R2 U2 R2 B D2 L B2 D' B2 L' R' B' D2 B2 R' U' F"
+TYPED = (("U", ["U"]), ("u2", ["U2"]), ("U'", ["U'"]), ("  R F2 ", ["R", "F2"]), ("l\u2019f", ["L'", "F"]), ("B2'", ["B2"]), ("", []))
+# turns of opposite faces change nothing by their order; of these the lists have U, R or F first
+OPPOSITE = (("D2 U", ["U", "D2"]), ("B2F2", ["F2", "B2"]), ("R' L2", ["R'", "L2"]), ("L2 R' U", ["R'", "L2", "U"]))
 VALUE = "return document.getElementById('scramble').value"
 HELD = """const choices = document.getElementById("choices");
     return [choices.inert, Number(getComputedStyle(choices).opacity) < 0.5]"""
@@ -60,6 +63,23 @@ def history(tally: Tally, browser: Browser) -> None:
     tally.equal("typing makes no entry", browser.script("return history.length"), entries)
 
 
+def refused(tally: Tally, browser: Browser) -> None:
+    """Where the browser refuses to have the address changed so often, the page goes on, and its address follows."""
+    often = """
+        const { pushState, replaceState } = History.prototype;
+        Object.assign(History.prototype, { pushState: () => { throw new Error("too often"); }, replaceState: () => {} });
+        setTimeout(() => Object.assign(History.prototype, { pushState, replaceState }), 500);
+        document.querySelector(arguments[0]).click()"""
+    browser.open("#scramble=R_U_F&steps=normal.R~inverse.U")
+    for button, steps in (("#switch", "normal.R~inverse.U"), ("#undo-step", "normal.R")):
+        browser.script(often, button)
+        browser.wait()
+        tally.equal(f"{button}: the page", browser.text("side"), "inverse side")
+        wanted = f"#scramble=R_U_F&steps={steps}&side=inverse"
+        tally.holds(f"{button}: the address follows", browser.until("return location.hash === arguments[0]", wanted))
+    tally.equal("what is seen is what the address says", browser.texts("#skeleton-list .moves"), ["R"])
+
+
 def undo(tally: Tally, browser: Browser) -> None:
     """An undone step gives its side back."""
     browser.open("#scramble=R_U_F&steps=inverse.R~normal.U")
@@ -99,7 +119,7 @@ def filters(tally: Tally, browser: Browser) -> None:
     """The filter finds whole moves one after another, however they are typed."""
     browser.open(ADDRESS + "&list=eoud.normal.1")
     listed = [moves.split() for moves in Position(SCRAMBLE).solutions("eoud", "normal", 1)]
-    for typed, turns in (("U", ["U"]), ("u2", ["U2"]), ("U'", ["U'"]), ("  R F2 ", ["R", "F2"]), ("l\u2019f", ["L'", "F"]), ("B2'", ["B2"]), ("", [])):
+    for typed, turns in (*TYPED, *OPPOSITE):
         browser.script("const it = document.getElementById('filter'); it.value = arguments[0]; it.dispatchEvent(new Event('input'))", typed)
         places = [[moves[at : at + len(turns)] for at in range(len(moves))] for moves in listed]
         wanted = [" ".join(moves) for moves, found in zip(listed, places) if turns in found]
@@ -162,6 +182,27 @@ def stays(tally: Tally, browser: Browser) -> None:
         tally.equal(f"a search that is begun by the keyboard, {len(keys)} keys", browser.focused(), "best-find")
 
 
+def one_stop(tally: Tally, browser: Browser) -> None:
+    """The best continuations are one stop of the Tab key, and what has the focus among them keeps it when more are found."""
+    browser.open(ADDRESS)
+    browser.act("#best-find")
+    moves = browser.texts("#best-body button")
+    tally.holds("there are some", len(moves) > 20)
+    tally.holds("the Tab key leads to the first", browser.tab_to(moves[0]))
+    browser.press(Keys.ARROW_DOWN, Keys.ARROW_DOWN)
+    tally.equal("arrows lead on", browser.script("return document.activeElement === document.querySelectorAll('#best-body button')[2]"), True)
+    browser.press(Keys.TAB)
+    tally.equal("the Tab key leaves them", browser.script("return document.activeElement.closest('#best-body') === null"), True)
+    browser.script("document.getElementById('best-find').click()")
+    seen = """const [bar, row] = [document.getElementById("best-progress"), document.querySelector("#best-body button")];
+        if (!(bar.value > 0 && bar.value < bar.max)) return false;
+        row.focus();
+        return document.activeElement === row"""
+    tally.holds("some come while others are looked for", browser.until(seen))
+    browser.wait()
+    tally.equal("the focus stays among them", browser.script("return document.activeElement.closest('#best-body') !== null"), True)
+
+
 def words(tally: Tally, browser: Browser) -> None:
     """What the tables and the fields are called."""
     browser.open(ADDRESS)
@@ -176,5 +217,5 @@ def words(tally: Tally, browser: Browser) -> None:
 
 def try_all(tally: Tally, browser: Browser) -> None:
     """All of them."""
-    for part in (history, undo, kept, dimmed, filters, solved, ends, stays, words):
+    for part in (history, refused, undo, kept, dimmed, filters, solved, ends, stays, one_stop, words):
         part(tally, browser)
