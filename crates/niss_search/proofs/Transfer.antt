@@ -6,7 +6,7 @@ use Rattle.niss_search.proofs.Words.{reaches_at, reaching, unwrap_or, up_to, Has
 use Rattle.niss_search.proofs.Words.{lt-leb, PositionsFollowCubes, all_looks, distance, fold, is_looked_at, solution_lengths, solutions}
 use Rattle.niss_search.proofs.Words.{turned, All-contains_itself, All-head, All-push, All-tail, All-take, IsTrue, all_looks_at}
 use Rattle.niss_search.proofs.Words.{all_sequences, least_length_at, near_looks_of, near_solutions_of, reached, solutions_at, All-append}
-use Rattle.niss_search.proofs.Words.{All-cons, All-filter, All-map, distance_of, effect_of_turns, least_length_of, reaches, ◌↔◌}
+use Rattle.niss_search.proofs.Words.{All-cons, All-filter, All-map, distance_of, effect_of_turns, least_length_of, reaches, ◌↔◌, All-nil}
 use Rattle.niss_search.proofs.ListLemmas.{find-same, flat_map-same, sum_by-same}
 use Rattle.niss_search.proofs.DistanceLemmas.{reached_in}
 use Rattle.niss_search.proofs.LookLemmas.{distance_at-goal}
@@ -24,11 +24,8 @@ module _ {X : Type 0} where
   sum_by-each P p q [] g h = refl
   sum_by-each P p q (x ∷ xs) g h = omega (arith, sum_by-cons p x xs, sum_by-cons q x xs, g x (All-head P x xs h), sum_by-each P p q xs g (All-tail P x xs h))
 
-All-none : {X : Type 0} (P : X → Type 0) → All P []
-All-none P = λ k d l. absurd (omega arith)
-
 All-flat_map : {X Y : Type 0} (P : X → Type 0) (Q : Y → Type 0) (f : X → List Y) (xs : List X) → ((x : X) → P x → All Q (f x)) → All P xs → All Q (flat_map f xs)
-All-flat_map P Q f [] g h = All-none Q
+All-flat_map P Q f [] g h = All-nil Q
 All-flat_map P Q f (x ∷ xs) g h = All-append Q (f x) (flat_map f xs) (g x (All-head P x xs h)) (All-flat_map P Q f xs g (All-tail P x xs h))
 
 -- a sequence over the turns
@@ -37,7 +34,7 @@ IsOver turns s = All (Contains turns) s
 
 module _ (turns : List Turn) where
   only-empty : All (IsOver turns) ([] ∷ [])
-  only-empty = All-cons (IsOver turns) [] [] (All-none (Contains turns)) (All-none (IsOver turns))
+  only-empty = All-cons (IsOver turns) [] [] (All-nil (Contains turns)) (All-nil (IsOver turns))
 
   canonical-over : (k : ℕ) → All (IsOver turns) (all_canonical turns k)
   unfolding all_canonical

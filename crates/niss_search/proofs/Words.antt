@@ -14,7 +14,7 @@ pub use Rattle.std.proofs.lemmas.List.{get_or_read, length-replicate, length-tak
 pub use Rattle.std.proofs.lemmas.List.Concat.{length-flat_map}
 pub use Rattle.std.proofs.lemmas.List.Elements.{All-contains, Contains-get_or, All-contains_itself, All-head, All-push, All-tail, All-take}
 pub use Rattle.std.proofs.lemmas.List.Elements.{filter_passes, All-append, All-cons, All-drop, All-filter, All-map, All-more}
-pub use Rattle.std.proofs.lemmas.List.Elements.{Contains-append_right, filter-append, filter_more}
+pub use Rattle.std.proofs.lemmas.List.Elements.{Contains-append_right, filter-append, filter_more, All-nil}
 pub use Rattle.std.proofs.lemmas.List.Folds.{find-append, list_any-append, list_any_at}
 pub use Rattle.std.proofs.lemmas.List.FromFn.{length-map-range_with_len, length-range_with_len}
 pub use Rattle.std.proofs.lemmas.List.Sums.{sum_by-cons, sum_by-append, sum_by-le-sum_by, count_by-le-length, sum_by-le, length-filter}

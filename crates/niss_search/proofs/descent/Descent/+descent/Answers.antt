@@ -1,4 +1,4 @@
-use Rattle.niss_search.proofs.Words.{◌≡◌, arith, length, ◌+◌, ◌<◌, ◌∙◌, sym, ◌≤◌, [], refl, true, ◌-◌, ◌∷◌, ◌++◌, get_or, subst}
+use Rattle.niss_search.proofs.Words.{◌≡◌, arith, length, ◌+◌, ◌<◌, ◌∙◌, sym, ◌≤◌, [], refl, ◌-◌, ◌∷◌, ◌++◌, get_or, subst}
 use Rattle.niss_search.proofs.Words.{distance_at, position_after, ◌^◌, at_limit, IsFollower, looks_beyond, Err, Ok, state_of, Path}
 use Rattle.niss_search.proofs.Words.{All-drop, take_rest}
 use Rattle.std.proofs.lemmas.List.{length-drop}
