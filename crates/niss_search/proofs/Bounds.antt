@@ -1,17 +1,10 @@
 -- The looks are within the bound, and the bound is small.
-use Rattle.std.proofs.Common.{◌≡◌, ℕ, zero, suc, ◌+◌, ◌-◌, ◌*◌, ◌^◌, ◌≤◌, ◌<◌, Bool, true, false, cond, List, [], ◌∷◌, ◌++◌, length, get_or, filter, sum_by, count_by, refl, ap, subst, arith, find, unwrap_or, Option, None, Some}
-use Rattle.std.specs.Prelude.{flat_map}
-use Rattle.std.specs.List.{range_with_len, list_any}
-use Rattle.std.proofs.lemmas.List.Sums.{sum_by-cons, sum_by-le, sum_by-le-sum_by, length-filter, count_by-le-length}
-use Rattle.std.proofs.lemmas.List.{length-map}
-use Rattle.std.proofs.lemmas.List.Concat.{length-flat_map}
-use Rattle.std.proofs.Math.Nat.{pow-suc}
-use Rattle.niss_search.specs.Names.{Turn}
-use Rattle.niss_moves.specs.Canonical.{may_follow, last_turn, all_canonical, canonical_extensions}
-use Rattle.niss_search.specs.Solutions.{look_bound, least_length, last_length, solution_lengths, solutions, reaching, up_to, count_of_length}
-use Rattle.niss_search.specs.Looks.{is_looked_at, looks, all_looks}
-use Rattle.niss_cube.specs.Steps.{turns_of}
-use Rattle.niss_search.specs.Laws.{BoundIsSmall}
+use Rattle.niss_search.proofs.Words.{◌≡◌, arith, length, ◌+◌, ◌<◌, ℕ, ap, ◌≤◌, [], List, turns_of, true, ◌*◌, ◌-◌, ◌∷◌, Bool, Turn, false}
+use Rattle.niss_search.proofs.Words.{suc, cond, range_with_len, ◌++◌, zero, get_or, may_follow, flat_map, last_turn, subst, count_by}
+use Rattle.niss_search.proofs.Words.{filter, sum_by, sum_by-cons, None, list_any, Option, Some, ◌^◌, last_length, looks, reaching}
+use Rattle.niss_search.proofs.Words.{unwrap_or, up_to, all_canonical, canonical_extensions, find, least_length, length-flat_map, all_looks}
+use Rattle.niss_search.proofs.Words.{is_looked_at, length-map, look_bound, sum_by-le-sum_by, count_by-le-length, count_of_length, sum_by-le}
+use Rattle.niss_search.proofs.Words.{BoundIsSmall, length-filter, pow-suc}
 pub use Rattle.niss_cube.proofs.CallerLemmas.{turns_of-length, turns_of-oriented}
 
 -- the looks of a deepening are at most the canonical sequences of its lengths

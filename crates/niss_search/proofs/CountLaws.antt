@@ -1,16 +1,18 @@
 -- The laws over the counts.
-use Rattle.std.proofs.Common.{◌≡◌, ℕ, zero, suc, ◌+◌, ◌*◌, ◌≤◌, Bool, true, false, cond, List, [], ◌∷◌, ◌++◌, length, filter, sum_by, refl, sym, ap, ◌∙◌, arith, subst}
-use Rattle.std.proofs.lemmas.List.Sums.{sum_by-cons, sum_by-le-sum_by}
-use Rattle.std.proofs.lemmas.List.Concat.{length-flat_map}
-use Rattle.niss_search.specs.Names.{Turn, Face, U, D, R, L, F, B}
-use Rattle.niss_moves.specs.Turn.{goes_first}
-use Rattle.niss_moves.specs.Canonical.{may_follow, face_may_follow, turn_order, last_turn, canonical_extensions}
-use Rattle.niss_search.specs.Solutions.{count_of_length, look_bound, up_to}
-use Rattle.niss_cube.specs.StepLaws.{StepTurnsInOrder}
-use Rattle.niss_search.specs.Laws.{CountRecurrence, PartHasNoMore, StepBoundIsLess}
-use Rattle.niss_search.proofs.ListLemmas.{sum_by-kept, sum_by-same}
+use Rattle.niss_search.proofs.Words.{◌≡◌, arith, length, ◌+◌, ℕ, ap, ◌∙◌, sym, ◌≤◌, [], List, refl, true, ◌*◌, ◌∷◌, Bool, Turn, false, suc}
+use Rattle.niss_search.proofs.Words.{cond, ◌++◌, zero, may_follow, last_turn, subst, filter, sum_by, sum_by-cons, up_to}
+use Rattle.niss_search.proofs.Words.{canonical_extensions, length-flat_map, look_bound, sum_by-le-sum_by, B, D, F, Face, L, R, U}
+use Rattle.niss_search.proofs.Words.{count_of_length, face_may_follow, last_turn-push, turn_order, CountRecurrence, PartHasNoMore}
+use Rattle.niss_search.proofs.Words.{StepBoundIsLess, StepTurnsInOrder, goes_first, map}
+use Rattle.niss_search.proofs.ListLemmas.{sum_by-same}
 use Rattle.niss_search.proofs.DepthFirst.{below, below-all}
-use Rattle.niss_moves.proofs.CallerLemmas.{last_turn-push}
+
+sum_by-kept : {X Y : Type 0} (g : Y → ℕ) (h : X → Y) (m : X → Bool) (xs : List X) → sum_by g (map h (filter m xs)) ≡ sum_by (λ x. cond (m x) (g (h x)) 0) xs
+sum_by-kept g h m [] = refl
+sum_by-kept g h m (x ∷ xs) = by_test (m x) (sum_by-kept g h m xs) ∙ sym (sum_by-cons (λ y. cond (m y) (g (h y)) 0) x xs) where
+  by_test : (b : Bool) → sum_by g (map h (filter m xs)) ≡ sum_by (λ y. cond (m y) (g (h y)) 0) xs → sum_by g (map h (cond b (x ∷ filter m xs) (filter m xs))) ≡ cond b (g (h x)) 0 + sum_by (λ y. cond (m y) (g (h y)) 0) xs
+  by_test true e = sum_by-cons g (h x) (map h (filter m xs)) ∙ ap (λ n. g (h x) + n) e
+  by_test false e = omega arith
 
 length-below : (turns : List Turn) (k : ℕ) (p : List Turn) → length (below turns p (suc k)) ≡ sum_by (λ t. cond (may_follow (last_turn p) t) (length (below turns (p ++ t ∷ []) k)) 0) turns
 length-below turns k p =

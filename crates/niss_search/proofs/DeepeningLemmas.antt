@@ -1,57 +1,24 @@
 -- Deepenings one after another, and what they are for a cube.
-use Rattle.std.proofs.Common.{◌≡◌, ℕ, ◌+◌, ◌-◌, ◌^◌, ◌≤◌, ◌<◌, Bool, List, [], ◌∷◌, ◌++◌, length, length-append, Option, None, Some, sum_by, unwrap_or, min, nat_lt, refl, sym, ap, ◌∙◌, arith}
-use Rattle.std.specs.Prelude.{flat_map, Result, Ok, Err, IfOk, OnOk, OnErr}
-use Rattle.std.specs.List.{range_with_len}
-use Rattle.std.specs.Bool.{then_some}
-use Rattle.std.specs.Option.{option_map_or, option_or}
-use Rattle.std.proofs.lemmas.Grind.{flat_map-append}
-use Rattle.std.proofs.lemmas.List.{append-nil}
-use Rattle.std.proofs.lemmas.List.Sums.{sum_by-append, sum_by-cons}
-use Rattle.niss_moves.specs.Places.{Place}
-use Rattle.niss_search.specs.Names.{Turn, Step, Coordinates}
-use Rattle.niss_cube.specs.Steps.{turns_of}
-use Rattle.niss_search.specs.Solutions.{look_bound, from_to, up_to, last_length, solution_lengths, least_length, solutions, reaching}
-use Rattle.niss_search.specs.Looks.{looks, all_looks}
+use Rattle.niss_search.proofs.Words.{◌≡◌, arith, length, ◌+◌, ◌<◌, ℕ, ap, ◌∙◌, sym, ◌≤◌, [], List, turns_of, refl, ◌-◌, ◌∷◌, Bool, Turn}
+use Rattle.niss_search.proofs.Words.{range_with_len, ◌++◌, flat_map, Coordinates, sum_by, sum_by-cons, Step, None, Option, Some, ◌^◌, Place}
+use Rattle.niss_search.proofs.Words.{at_limit, flat_map-append, found_below, last_length, looks, min, reaches_at, reaching, unwrap_or}
+use Rattle.niss_search.proofs.Words.{up_to, HasPosition, append-nil, least_length, nat_lt, sum_by-append, Err, GoesThrough, Ok}
+use Rattle.niss_search.proofs.Words.{PositionsFollowCubes, Result, all_looks, descent_state, look_bound, looks_below, solution_lengths}
+use Rattle.niss_search.proofs.Words.{solutions, OnErr, OnOk, Path, StoppedIn, StopsIn, WentThrough, all_looks_at, far_at, from_to}
+use Rattle.niss_search.proofs.Words.{least_length_at, looks_at, near_looks_of, near_solutions_of, option_map_or, option_or, reaching_at}
+use Rattle.niss_search.proofs.Words.{solutions_at, then_some, Delivers, IfOk, NoSlackIsLeast}
 use Rattle.niss_search.specs.declared.outcome.Outcome.{Outcome}
-use Rattle.niss_search.specs.Cubes.{HasPosition, near_solutions_of, near_looks_of}
-use Rattle.niss_search.specs.Laws.{PositionsFollowCubes, NoSlackIsLeast}
-use Rattle.niss_search.specs.Path.{Path}
-use Rattle.niss_search.specs.Delivery.{WentThrough, StoppedIn, at_limit}
-use Rattle.niss_search.specs.Descent.{found_below, looks_below, GoesThrough, StopsIn, descent_state}
-use Rattle.niss_search.specs.Deepening.{Delivers, reaches_at, far_at, least_length_at, solutions_at, all_looks_at, reaching_at, looks_at}
 use Rattle.niss_search.proofs.Bounds.{least-within, all_looks-bound, looks-sum-small, reaching-small, turns_of-length}
-use Rattle.niss_search.proofs.DescentLemmas.{WentThrough-append, StoppedIn-after, StoppedIn-before}
+use Rattle.niss_search.proofs.DescentLemmas.{Descends-then, StopsIn-before}
 use Rattle.niss_search.proofs.Transfer.{solutions-cube, all_looks-cube}
-use Rattle.niss_search.proofs.Levels.{least_below, least_below-more, level-within, least_length-is, solutions-up_to, found_below-level, looks_below-level}
+use Rattle.niss_search.proofs.Levels.{least_below, least_below-more, level-within, least_length-is, solutions-up_to, found_below-level}
+use Rattle.niss_search.proofs.Levels.{looks_below-level}
 use Rattle.niss_search.proofs.ListLemmas.{range-push, range-split}
 
 from_to-one : (a b : ℕ) → b ≡ a → from_to a b ≡ a ∷ []
 from_to-one a b e =
     let one : b + 1 - a ≡ 1 = omega arith in
     ap (range_with_len a) one
-
-module _ {K : Type 0} {took refused : K → List Turn → K → Type 0} {ps : List (List Turn)} {l m0 m1 : ℕ} {s0 s1 : K} where
-  module _ {qs : List (List Turn)} {k m2 c : ℕ} {s2 : K} (went : GoesThrough took refused ps l (descent_state m0 0 s0) (descent_state m1 c s1)) where
-    pub GoesThrough-append : {d : ℕ} → GoesThrough took refused qs k (descent_state m1 0 s1) (descent_state m2 d s2) → GoesThrough took refused (ps ++ qs) (l + k) (descent_state m0 0 s0) (descent_state m2 (c + d) s2)
-    GoesThrough-append g = record {
-      delivered = WentThrough-append took refused s0 s1 s2 ps qs went.delivered g.delivered;
-      counted = omega (arith, went.counted, g.counted, length-append ps qs);
-      looked = omega (arith, went.looked, g.looked);
-    }
-
-    pub StopsIn-after : StopsIn took refused qs k (descent_state m1 0 s1) (descent_state m2 0 s2) → StopsIn took refused (ps ++ qs) (l + k) (descent_state m0 0 s0) (descent_state m2 0 s2)
-    StopsIn-after g = record {
-      stopped = StoppedIn-after took refused s0 s1 s2 ps qs went.delivered g.stopped;
-      rises = omega (arith, went.looked, g.rises);
-      looked = omega (arith, went.looked, g.looked);
-    }
-
-  pub StopsIn-before : (qs : List (List Turn)) (k : ℕ) → StopsIn took refused ps l (descent_state m0 0 s0) (descent_state m1 0 s1) → StopsIn took refused (ps ++ qs) (l + k) (descent_state m0 0 s0) (descent_state m1 0 s1)
-  StopsIn-before qs k h = record {
-    stopped = StoppedIn-before took refused s0 s1 ps qs h.stopped;
-    rises = h.rises;
-    looked = omega (arith, h.looked);
-  }
 
 -- no solution is longer than the least, without slack
 pub no-slack : NoSlackIsLeast
@@ -103,7 +70,9 @@ module _
     -- and may go on
     pub goes-on : {m2 e : ℕ} {s2 : K} → GoesThrough took refused (reaching_at step x (d ∷ [])) (looks_at step x (d ∷ [])) (descent_state m1 0 s1) (descent_state m2 e s2)
         → GoesThrough took refused (reaching_at step x (range_with_len 0 (d + 1))) (looks_at step x (range_with_len 0 (d + 1))) (descent_state m0 0 s0) (descent_state m2 (c + e) s2)
-    goes-on h = rw (reaching-push step x d, looks-push step x d) (GoesThrough-append went h)
+    goes-on {m2} {e} {s2} h = rw (reaching-push step x d, looks-push step x d)
+        (Descends-then took refused {F = Unit {0}} (Ok tt) (reaching_at step x (range_with_len 0 d)) (reaching_at step x (d ∷ [])) (looks_at step x (range_with_len 0 d)) (looks_at step x (d ∷ [])) (descent_state m0 0 s0) (descent_state m1 c s1) (descent_state m2 (c + e) s2) went
+        record { delivered = h.delivered; counted = omega (arith, h.counted); looked = h.looked })
 
     pub found-room : {m2 e : ℕ} {s2 : K} → GoesThrough took refused (reaching_at step x (d ∷ [])) (looks_at step x (d ∷ [])) (descent_state m1 0 s1) (descent_state m2 e s2)
         → d ≤ 20 → c + e < 2 ^ 128
@@ -115,7 +84,7 @@ module _
         → {m2 : ℕ} {s2 : K} → StopsIn took refused (reaching_at step x (d ∷ [])) (looks_at step x (d ∷ [])) (descent_state m1 0 s1) (descent_state m2 0 s2)
         → StopsIn took refused (solutions_at step x n slack) (all_looks_at step x n slack) (descent_state m0 0 s0) (descent_state m2 0 s2)
     unfolding all_looks
-    stops-here within h =
+    stops-here within {m2} {s2} h =
         let last = last_length (least_length_at step x n) n slack in
         let more = range_with_len (d + 1) (last + 1 - (d + 1)) in
         let parts = range-split (d + 1) (last + 1) (omega (arith, level-within (turns_of step) (reaches_at step x) n slack d within)) in
@@ -126,7 +95,10 @@ module _
         ∙ ap (λ ps. ps ++ reaching_at step x more) (reaching-push step x d) in
         let looked : looks_at step x (up_to last) ≡ looks_at step x (range_with_len 0 d) + looks_at step x (d ∷ []) + looks_at step x more =
         omega (arith, ap (looks_at step x) parts, sum_by-append (looks (turns_of step) (far_at step x)) (range_with_len 0 (d + 1)) more, looks-push step x d) in
-        rw (found, looked) (StopsIn-before (reaching_at step x more) (looks_at step x more) (StopsIn-after went h))
+        rw (found, looked)
+        (StopsIn-before took refused (reaching_at step x (range_with_len 0 d) ++ reaching_at step x (d ∷ [])) (reaching_at step x more) (looks_at step x (range_with_len 0 d) + looks_at step x (d ∷ [])) (looks_at step x more) (descent_state m0 0 s0) (descent_state m2 0 s2)
+        (Descends-then took refused {F = Unit {0}} (Err tt) (reaching_at step x (range_with_len 0 d)) (reaching_at step x (d ∷ [])) (looks_at step x (range_with_len 0 d)) (looks_at step x (d ∷ [])) (descent_state m0 0 s0) (descent_state m1 c s1) (descent_state m2 0 s2) went
+        record { stopped = h.stopped; rises = h.rises; looked = h.looked }))
 
     -- until the last
     pub all-done : d ≡ last_length (least_below (turns_of step) (reaches_at step x) d) n slack + 1

@@ -1,18 +1,12 @@
 -- A deepening finds exactly the canonical sequences that reach, and looks exactly where the definition of looks says, for
 -- every look that is 0 exactly at the goal and falls by at most one per turn.
-use Rattle.std.proofs.Common.{◌≡◌, ℕ, zero, suc, ◌+◌, ◌-◌, ◌≤◌, ◌<◌, nat_le, leb, Bool, true, false, cond, List, [], ◌∷◌, ◌++◌, length, length-append, filter, fold, sum_by, count_by, Contains, refl, sym, ap, ◌∙◌, arith, add-one}
-use Rattle.std.specs.Prelude.{flat_map}
-use Rattle.std.specs.List.{range_with_len}
-use Rattle.std.proofs.lemmas.Bool.{le-leb, lt-leb, leb-true, leb-false}
-use Rattle.std.proofs.lemmas.List.{take_at}
-use Rattle.std.proofs.lemmas.List.Sums.{sum_by-cons}
-use Rattle.std.proofs.lemmas.Grind.{fold-append}
-use Rattle.niss_search.specs.Names.{Turn}
-use Rattle.niss_moves.specs.Canonical.{may_follow, last_turn, all_canonical, canonical_extensions}
-use Rattle.niss_search.specs.Solutions.{reaching}
-use Rattle.niss_search.specs.Looks.{is_looked_at, looks}
-use Rattle.niss_search.specs.Descent.{found, visits}
-use Rattle.niss_search.proofs.ListLemmas.{flat_map-same, flat_map-none, filter-flat_map, sum_by-flat_map, flat_map-flat_map, flat_map-kept, sum_by-kept, sum_by-swap, sum_by-same, sum_by-shift, sum_by-none, sum_by-one, range-none}
+use Rattle.niss_search.proofs.Words.{◌≡◌, arith, length, ◌+◌, ◌<◌, ℕ, ap, ◌∙◌, sym, ◌≤◌, [], List, refl, true, ◌-◌, ◌∷◌, Bool, Turn, false}
+use Rattle.niss_search.proofs.Words.{suc, cond, range_with_len, ◌++◌, zero, may_follow, Contains, flat_map, last_turn, count_by, filter}
+use Rattle.niss_search.proofs.Words.{leb, sum_by, sum_by-cons, nat_le, looks, reaching, all_canonical, canonical_extensions, le-leb, lt-leb}
+use Rattle.niss_search.proofs.Words.{add-one, fold, is_looked_at, All-contains, All-contains_itself, All-filter, found, leb-true}
+use Rattle.niss_search.proofs.Words.{length-append, visits, fold-append, leb-false, take_at}
+use Rattle.niss_search.proofs.ListLemmas.{flat_map-same, flat_map-none, filter-flat_map, sum_by-flat_map, flat_map-flat_map, flat_map-map}
+use Rattle.niss_search.proofs.ListLemmas.{sum_by-map, sum_by-swap, sum_by-same, sum_by-shift, sum_by-none, sum_by-one, range-none}
 
 -- the canonical sequences that begin with p and have k turns more, in turn order
 abbrev pub below : List Turn → List Turn → ℕ → List (List Turn)
@@ -42,14 +36,6 @@ is_looked_at-push far d (u ∷ us) t =
     let e : length (u ∷ us) ≡ length (us ++ t ∷ []) = omega (arith, length-append us (t ∷ [])) in
     rw (take_at (u ∷ us) (t ∷ []) (length (us ++ t ∷ [])) e)
 
-cond-sum : {A : Type 0} (b : Bool) (v : ℕ) (w : A → ℕ) (xs : List A) → v ≡ sum_by w xs → cond b v 0 ≡ sum_by (λ x. cond b (w x) 0) xs
-cond-sum true v w xs e = e
-cond-sum false v w xs e = sym (sum_by-none (λ x. 0) xs (λ x m. refl))
-
-cond-none : {A : Type 0} (b : Bool) (x z : A) → x ≡ z → cond b x z ≡ z
-cond-none true x z e = e
-cond-none false x z e = refl
-
 module _ {P : Type 0} (turns : List Turn) (after : P → Turn → P) (look : P → ℕ) (goal : P → Bool) (start : P) where
   -- the position after a sequence, whether it reaches, and the look there
   abbrev pub here : List Turn → P
@@ -71,20 +57,26 @@ module _ {P : Type 0} (turns : List Turn) (after : P → Turn → P) (look : P �
   here-push : (p : List Turn) (t : Turn) → here (p ++ t ∷ []) ≡ after (here p) t
   here-push p t = fold-append after start p (t ∷ [])
 
+  -- the turns that may follow
+  abbrev nexts : List Turn → List Turn
+  nexts p = filter (may_follow (last_turn p)) turns
+
   -- what is found one turn further on
-  filter-below : (k : ℕ) (p : List Turn) → filter reach (below turns p (suc k)) ≡ flat_map (λ t. cond (may_follow (last_turn p) t) (filter reach (below turns (p ++ t ∷ []) k)) []) turns
+  filter-below : (k : ℕ) (p : List Turn) → filter reach (below turns p (suc k)) ≡ flat_map (λ t. filter reach (below turns (p ++ t ∷ []) k)) (nexts p)
   filter-below k p =
       filter-flat_map reach (λ q. below turns q k) (canonical_extensions turns p)
-      ∙ flat_map-kept (λ q. filter reach (below turns q k)) (λ t. p ++ t ∷ []) (may_follow (last_turn p)) turns
+      ∙ flat_map-map (λ q. filter reach (below turns q k)) (λ t. p ++ t ∷ []) (nexts p)
 
-  looked-below : (d k : ℕ) (p : List Turn) → sum_by (looked d) (below turns p (suc k)) ≡ sum_by (λ t. cond (may_follow (last_turn p) t) (sum_by (looked d) (below turns (p ++ t ∷ []) k)) 0) turns
+  looked-below : (d k : ℕ) (p : List Turn) → sum_by (looked d) (below turns p (suc k)) ≡ sum_by (λ t. sum_by (looked d) (below turns (p ++ t ∷ []) k)) (nexts p)
   looked-below d k p =
       sum_by-flat_map (looked d) (λ q. below turns q k) (canonical_extensions turns p)
-      ∙ sum_by-kept (λ q. sum_by (looked d) (below turns q k)) (λ t. p ++ t ∷ []) (may_follow (last_turn p)) turns
+      ∙ sum_by-map (λ q. sum_by (looked d) (below turns q k)) (λ t. p ++ t ∷ []) (nexts p)
 
   module _ (at_goal : (x : P) → leb (look x) 0 ≡ goal x) (by_turn : (x : P) (t : Turn) → Contains turns t → look x ≤ 1 + look (after x t)) where
-    falls : (p : List Turn) (t : Turn) → Contains turns t → far p ≤ 1 + far (p ++ t ∷ [])
-    falls p t m = rw (here-push p t) (by_turn (here p) t m)
+    falls : (p : List Turn) (t : Turn) → Contains (nexts p) t → far p ≤ 1 + far (p ++ t ∷ [])
+    falls p t m =
+        let all = All-filter (may_follow (last_turn p)) (Contains turns) turns (All-contains_itself turns) in
+        rw (here-push p t) (by_turn (here p) t (All-contains (Contains turns) (nexts p) t all m))
 
     -- nothing that is pruned reaches
     pruned : (k : ℕ) (p : List Turn) → k < far p → filter reach (below turns p k) ≡ []
@@ -93,18 +85,16 @@ module _ {P : Type 0} (turns : List Turn) (after : P → Turn → P) (look : P �
         ap (λ b. cond b (p ∷ []) []) away
     pruned (suc k) p h =
         filter-below k p
-        ∙ flat_map-none (λ t. cond (may_follow (last_turn p) t) (filter reach (below turns (p ++ t ∷ []) k)) []) turns (λ t m.
-        cond-none (may_follow (last_turn p) t) _ [] (pruned k (p ++ t ∷ []) (omega (arith, falls p t m))))
+        ∙ flat_map-none (λ t. filter reach (below turns (p ++ t ∷ []) k)) (nexts p) (λ t m. pruned k (p ++ t ∷ []) (omega (arith, falls p t m)))
 
     found_is : (k : ℕ) (p : List Turn) → found turns after look (here p) p k ≡ filter reach (below turns p k)
     unfolding found
     found_is zero p = ap (λ b. cond b (p ∷ []) []) (at_goal (here p))
     found_is (suc k) p = by_test (leb (far p) (suc k)) refl (λ t. found_is k (p ++ t ∷ [])) where
-      by_test : (b : Bool) → leb (far p) (suc k) ≡ b → ((t : Turn) → found turns after look (here (p ++ t ∷ [])) (p ++ t ∷ []) k ≡ filter reach (below turns (p ++ t ∷ []) k)) → cond b (flat_map (λ t. cond (may_follow (last_turn p) t) (found turns after look (after (here p) t) (p ++ t ∷ []) k) []) turns) [] ≡ filter reach (below turns p (suc k))
+      by_test : (b : Bool) → leb (far p) (suc k) ≡ b → ((t : Turn) → found turns after look (here (p ++ t ∷ [])) (p ++ t ∷ []) k ≡ filter reach (below turns (p ++ t ∷ []) k)) → cond b (flat_map (λ t. found turns after look (after (here p) t) (p ++ t ∷ []) k) (nexts p)) [] ≡ filter reach (below turns p (suc k))
       by_test true e rest =
-          flat_map-same (λ t. cond (may_follow (last_turn p) t) (found turns after look (after (here p) t) (p ++ t ∷ []) k) []) (λ t. cond (may_follow (last_turn p) t) (filter reach (below turns (p ++ t ∷ []) k)) []) turns (λ t.
-          ap (λ (v : List (List Turn)). cond (may_follow (last_turn p) t) v [])
-          (ap (λ x. found turns after look x (p ++ t ∷ []) k) (sym (here-push p t)) ∙ rest t))
+          flat_map-same (λ t. found turns after look (after (here p) t) (p ++ t ∷ []) k) (λ t. filter reach (below turns (p ++ t ∷ []) k)) (nexts p) (λ t.
+          ap (λ x. found turns after look x (p ++ t ∷ []) k) (sym (here-push p t)) ∙ rest t)
           ∙ sym (filter-below k p)
       by_test false e rest = sym (pruned (suc k) p (leb-false (far p) (suc k) e))
 
@@ -112,12 +102,12 @@ module _ {P : Type 0} (turns : List Turn) (after : P → Turn → P) (look : P �
     unlooked : (d n : ℕ) (p : List Turn) → length p + suc n ≤ d → d - length p < far p → sum_by (looked d) (below turns p (suc n)) ≡ 0
     unlooked d zero p h l =
         looked-below d zero p
-        ∙ sum_by-none (λ t. cond (may_follow (last_turn p) t) (sum_by (looked d) (below turns (p ++ t ∷ []) zero)) 0) turns (λ t m.
-        cond-none (may_follow (last_turn p) t) _ 0 (sum_by-one (looked d) (p ++ t ∷ []) ∙ looked-push d p t false (lt-leb (far p) (d - length p) l)))
+        ∙ sum_by-none (λ t. sum_by (looked d) (below turns (p ++ t ∷ []) zero)) (nexts p) (λ t m.
+        sum_by-one (looked d) (p ++ t ∷ []) ∙ looked-push d p t false (lt-leb (far p) (d - length p) l))
     unlooked d (suc n) p h l =
         looked-below d (suc n) p
-        ∙ sum_by-none (λ t. cond (may_follow (last_turn p) t) (sum_by (looked d) (below turns (p ++ t ∷ []) (suc n))) 0) turns (λ t m.
-        cond-none (may_follow (last_turn p) t) _ 0 (unlooked d n (p ++ t ∷ []) (omega (arith, length-append p (t ∷ []))) (omega (arith, length-append p (t ∷ []), falls p t m))))
+        ∙ sum_by-none (λ t. sum_by (looked d) (below turns (p ++ t ∷ []) (suc n))) (nexts p) (λ t m.
+        unlooked d n (p ++ t ∷ []) (omega (arith, length-append p (t ∷ []))) (omega (arith, length-append p (t ∷ []), falls p t m)))
 
     -- the looks below a sequence and at it: it, and those of each length more
     visits_is : (d k : ℕ) (p : List Turn) → d ≡ length p + k → visits turns after look (here p) p k ≡ 1 + sum_by (λ j. sum_by (looked d) (below turns p (suc j))) (range_with_len 0 k)
@@ -125,18 +115,18 @@ module _ {P : Type 0} (turns : List Turn) (after : P → Turn → P) (look : P �
     visits_is d zero p e = refl
     visits_is d (suc k) p e =
         ap (λ n. 1 + n) (by_test (leb (far p) (suc k)) refl (λ t. visits_is d k (p ++ t ∷ []) (omega (arith, length-append p (t ∷ []))))) where
-          by_test : (b : Bool) → leb (far p) (suc k) ≡ b → ((t : Turn) → visits turns after look (here (p ++ t ∷ [])) (p ++ t ∷ []) k ≡ 1 + sum_by (λ j. sum_by (looked d) (below turns (p ++ t ∷ []) (suc j))) (range_with_len 0 k)) → cond b (sum_by (λ t. cond (may_follow (last_turn p) t) (visits turns after look (after (here p) t) (p ++ t ∷ []) k) 0) turns) 0 ≡ sum_by (λ j. sum_by (looked d) (below turns p (suc j))) (range_with_len 0 (suc k))
+          by_test : (b : Bool) → leb (far p) (suc k) ≡ b → ((t : Turn) → visits turns after look (here (p ++ t ∷ [])) (p ++ t ∷ []) k ≡ 1 + sum_by (λ j. sum_by (looked d) (below turns (p ++ t ∷ []) (suc j))) (range_with_len 0 k)) → cond b (sum_by (λ t. visits turns after look (after (here p) t) (p ++ t ∷ []) k) (nexts p)) 0 ≡ sum_by (λ j. sum_by (looked d) (below turns p (suc j))) (range_with_len 0 (suc k))
           by_test true f rest =
-              sum_by-same (λ t. cond (may_follow (last_turn p) t) (visits turns after look (after (here p) t) (p ++ t ∷ []) k) 0) (λ t. sum_by (λ j. cond (may_follow (last_turn p) t) (sum_by (looked d) (below turns (p ++ t ∷ []) j)) 0) (range_with_len 0 (suc k))) turns (λ t.
+              sum_by-same (λ t. visits turns after look (after (here p) t) (p ++ t ∷ []) k) (λ t. sum_by (λ j. sum_by (looked d) (below turns (p ++ t ∷ []) j)) (range_with_len 0 (suc k))) (nexts p) (λ t.
               let W : ℕ → ℕ = λ j. sum_by (looked d) (below turns (p ++ t ∷ []) j) in
               let passes : nat_le (far p) (d - length p) ≡ true = le-leb (far p) (d - length p) (omega (arith, leb-true (far p) (suc k) f)) in
               let one = sum_by-one (looked d) (p ++ t ∷ []) ∙ looked-push d p t true passes in
               let moved = ap (λ x. visits turns after look x (p ++ t ∷ []) k) (sym (here-push p t)) ∙ rest t in
               let all : visits turns after look (after (here p) t) (p ++ t ∷ []) k ≡ sum_by W (range_with_len 0 (suc k)) =
               omega (arith, moved, one, sum_by-cons W 0 (range_with_len (0 + 1) k), sum_by-shift W 0 k) in
-              cond-sum (may_follow (last_turn p) t) _ W (range_with_len 0 (suc k)) all)
-              ∙ sum_by-swap (λ t j. cond (may_follow (last_turn p) t) (sum_by (looked d) (below turns (p ++ t ∷ []) j)) 0) turns (range_with_len 0 (suc k))
-              ∙ sum_by-same (λ j. sum_by (λ t. cond (may_follow (last_turn p) t) (sum_by (looked d) (below turns (p ++ t ∷ []) j)) 0) turns) (λ j. sum_by (looked d) (below turns p (suc j))) (range_with_len 0 (suc k)) (λ j. sym (looked-below d j p))
+              all)
+              ∙ sum_by-swap (λ t j. sum_by (looked d) (below turns (p ++ t ∷ []) j)) (nexts p) (range_with_len 0 (suc k))
+              ∙ sum_by-same (λ j. sum_by (λ t. sum_by (looked d) (below turns (p ++ t ∷ []) j)) (nexts p)) (λ j. sum_by (looked d) (below turns p (suc j))) (range_with_len 0 (suc k)) (λ j. sym (looked-below d j p))
           by_test false f rest =
               let fails = leb-false (far p) (suc k) f in
               sym (range-none (λ j. sum_by (looked d) (below turns p (suc j))) 0 (suc k) (λ j l. unlooked d j p (omega arith) (omega arith)))

@@ -1,12 +1,7 @@
 -- The distance: 0 exactly where the empty sequence reaches, and at most one more than after a turn.
-use Rattle.std.proofs.Common.{◌≡◌, ℕ, zero, suc, ◌+◌, ◌≤◌, ◌<◌, leb, Bool, true, false, ◌||◌, cond, List, [], ◌∷◌, map, find, unwrap_or, Some, Contains, refl, ap, ◌∙◌, arith, inl, inr, ◌⊎◌, min}
-use Rattle.std.specs.Prelude.{flat_map}
-use Rattle.std.specs.List.{range_with_len, list_any}
-use Rattle.std.proofs.lemmas.Bool.{le-leb, lt-leb}
-use Rattle.std.proofs.lemmas.List.Folds.{list_any-append, list_any_at}
-use Rattle.std.proofs.lemmas.Bool.Decides.{leb_tells}
-use Rattle.niss_search.specs.Names.{Turn}
-use Rattle.niss_search.specs.Distance.{all_sequences, distance}
+use Rattle.niss_search.proofs.Words.{◌≡◌, arith, ◌+◌, ◌<◌, ℕ, ap, ◌∙◌, ◌≤◌, [], List, refl, true, ◌∷◌, Bool, Turn, false, suc, cond}
+use Rattle.niss_search.proofs.Words.{range_with_len, zero, map, Contains, flat_map, leb, inl, inr, list_any, ◌⊎◌, Some, leb_tells, min}
+use Rattle.niss_search.proofs.Words.{unwrap_or, find, le-leb, lt-leb, distance, ◌||◌, all_sequences, list_any-append, list_any_at}
 use Rattle.niss_search.proofs.Bounds.{least-le}
 
 list_any-map : {X Y : Type 0} (p : Y → Bool) (f : X → Y) (xs : List X) → list_any p (map f xs) ≡ list_any (λ x. p (f x)) xs

@@ -1,13 +1,9 @@
 -- Drawing turn by turn.
-use Rattle.std.proofs.Common.{◌≡◌, ℕ, suc, ◌-◌, ◌*◌, ◌/◌, ◌^◌, ◌≤◌, ◌<◌, Bool, true, false, ◌&&◌, List, [], ◌∷◌, ◌++◌, length, filter, Option, Some, None, refl, ap, ◌∙◌, arith, lit<}
-use Rattle.std.specs.List.{last_or, slice_get}
-use Rattle.std.proofs.lemmas.List.Elements.{filter_passes}
-use Rattle.std.proofs.Math.Nat.{mul-le-mul_right}
-use Rattle.niss_moves.specs.Canonical.{may_follow, face_may_follow, turn_order, last_turn, is_canonical_after}
-use Rattle.niss_search.specs.Names.{Face, U, D, R, L, F, B, Turn, no_turn}
-use Rattle.rand_pcg.specs.Lcg.{Lcg, state_after}
-use Rattle.rand_pcg.specs.Pcg.{pcg32}
-use Rattle.niss_search.specs.Draw.{choices, choice, next_words, after_words, draw}
+use Rattle.niss_search.proofs.Words.{◌≡◌, arith, length, ◌<◌, ℕ, ap, ◌∙◌, ◌≤◌, [], List, refl, true, ◌*◌, ◌-◌, ◌∷◌, Bool, Turn, false, suc}
+use Rattle.niss_search.proofs.Words.{◌++◌, may_follow, last_turn, filter, None, ◌/◌, Option, Some, ◌^◌, no_turn, after_words, B, D, F, Face}
+use Rattle.niss_search.proofs.Words.{L, Lcg, R, U, choice, draw, face_may_follow, filter_passes, is_canonical_after, mul-le-mul_right}
+use Rattle.niss_search.proofs.Words.{next_words, pcg32, turn_order, ◌&&◌, choices, last_or, slice_get, lit<}
+use Rattle.rand_pcg.specs.Lcg.{state_after}
 
 some-after : (f : Face) → 0 < length (filter (λ t. face_may_follow f t.face) turn_order)
 some-after U = lit< tt

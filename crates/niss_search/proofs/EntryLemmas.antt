@@ -1,20 +1,12 @@
 -- The entries of a pruning table by number, and how the turns lead from one to another.
-use Rattle.std.proofs.Common.{◌≡◌, ℕ, zero, suc, ◌+◌, ◌-◌, ◌*◌, ◌/◌, ◌%◌, ◌≤◌, ◌<◌, leb, ◌==◌, ◌&&◌, true, false, List, [], ◌∷◌, map, Contains, refl, sym, ap, ◌∙◌, subst, arith, lit<, inl, inr, ◌⊎◌, length, get_or, slice_index, replicate}
-use Rattle.std.proofs.Math.Bool.{or-false}
-use Rattle.std.proofs.lemmas.Bool.Decides.{eqb_tells, leb_tells}
-use Rattle.niss_moves.specs.Places.{Place}
-use Rattle.niss_search.specs.Names.{Axis, Turn, Goal, Edges, Domino, Step, Coordinates}
-use Rattle.niss_moves.specs.Turn.{inverse_turn}
-use Rattle.niss_cube.specs.AfterTurn.{IsCube, AreCoordinates}
+use Rattle.niss_search.proofs.Words.{◌≡◌, arith, length, ◌+◌, ◌<◌, ℕ, ap, ◌∙◌, sym, ◌≤◌, [], List, turns_of, refl, true, ◌*◌, ◌-◌, ◌∷◌}
+use Rattle.niss_search.proofs.Words.{slice_index, Turn, false, suc, zero, get_or, map, Contains, subst, Coordinates, distance_at, leb, Step}
+use Rattle.niss_search.proofs.Words.{inl, inr, entry_distance, position_after, ◌/◌, ◌⊎◌, count_for, ◌==◌, Place, leb_tells, Alternative}
+use Rattle.niss_search.proofs.Words.{HasPosition, entry_after, is_reached_at, turn_at, Axis, Domino, Edges, Goal, IsFilled, are_zero}
+use Rattle.niss_search.proofs.Words.{coordinates_after, coordinates_of, eqb_tells, goals_of, replicate, ◌%◌, AreCoordinates, EntriesTurn}
+use Rattle.niss_search.proofs.Words.{IsCube, byte_at, entry_at, inverse_turn, number_after, or-false, ◌&&◌, AreEntries, ArePlaces}
+use Rattle.niss_search.proofs.Words.{AreStarts, InversesOfSteps, IsEntry, entry_number, place_after, row_length, lit<}
 use Rattle.niss_cube.specs.declared.cube.coordinate.Coordinate.TheVariants.{Flip, Twist, Slice}
-use Rattle.niss_cube.specs.NumberAfter.{number_after}
-use Rattle.niss_cube.specs.Steps.{goals_of, turns_of}
-use Rattle.niss_cube.specs.StepLaws.{InversesOfSteps}
-use Rattle.niss_search.specs.Positions.{coordinates_of, coordinates_after, are_zero, position_after, is_reached_at, distance_at}
-use Rattle.niss_search.specs.Cubes.{HasPosition}
-use Rattle.niss_search.specs.Entries.{count_for}
-use Rattle.niss_search.specs.Moves.{turn_at}
-use Rattle.niss_search.specs.Filling.{row_length, place_after, AreStarts, ArePlaces, entry_number, entry_at, entry_after, entry_distance, byte_at, Alternative, EntriesTurn, IsFilled, IsEntry, AreEntries}
 use Rattle.niss_search.proofs.PositionLemmas.{position_of-is}
 use Rattle.niss_search.proofs.LookLemmas.{distance_at-goal, distance_at-turn, distance_at-most, distance_at-nearer}
 

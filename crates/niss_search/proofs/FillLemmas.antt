@@ -1,18 +1,13 @@
 -- How a pruning table fills, level by level.
-use Rattle.std.proofs.Common.{◌≡◌, ℕ, zero, suc, ◌+◌, ◌≤◌, ◌<◌, ◌≢◌, leb, nat_le, nat_lt, ◌==◌, eqb, Bool, true, false, cond, List, [], ◌∷◌, length, set, slice_index, Contains, count_by, refl, sym, ap, ◌∙◌, subst, arith, inl, inr, ◌⊎◌, add-one, length-set, get_or-set_other, get_or-set_same, replicate, min}
-use Rattle.std.proofs.lemmas.Bool.{leb-true}
-use Rattle.std.specs.List.{range_with_len}
-use Rattle.std.proofs.lemmas.Bool.Decides.{leb_tells, eqb_tells, nat_tests}
-use Rattle.std.proofs.lemmas.List.Sums.{sum_by-cons, count_by-le-length}
-use Rattle.std.proofs.lemmas.List.FromFn.{length-range_with_len}
-use Rattle.std.proofs.lemmas.List.{length-replicate, get_or-replicate}
-use Rattle.niss_moves.specs.Turn.{inverse_turn}
-use Rattle.niss_search.specs.Names.{Turn}
-use Rattle.niss_cube.specs.Steps.{turns_of}
-use Rattle.niss_search.specs.Entries.{count_for}
-use Rattle.niss_search.specs.Filling.{entry_after, entry_distance, byte_at, Alternative, EntriesTurn, MayBeAt, IsFilled, IsFilling, IsExtended}
+use Rattle.niss_search.proofs.Words.{◌≡◌, arith, length, ◌+◌, ◌<◌, ℕ, ap, ◌∙◌, sym, ◌≤◌, [], List, turns_of, refl, true, ◌∷◌, slice_index}
+use Rattle.niss_search.proofs.Words.{Bool, Turn, false, suc, cond, range_with_len, zero, Contains, subst, ◌≢◌, count_by, leb, sum_by-cons}
+use Rattle.niss_search.proofs.Words.{inl, inr, entry_distance, ◌⊎◌, count_for, nat_le, ◌==◌, leb_tells, min, Alternative, IsFilling}
+use Rattle.niss_search.proofs.Words.{entry_after, nat_lt, IsExtended, IsFilled, add-one, eqb_tells, replicate, EntriesTurn, byte_at}
+use Rattle.niss_search.proofs.Words.{count_by-le-length, eqb, inverse_turn, leb-true, MayBeAt, get_or-replicate, get_or-set_other}
+use Rattle.niss_search.proofs.Words.{get_or-set_same, length-range_with_len, length-replicate, length-set, nat_tests, set}
 use Rattle.niss_search.proofs.ListLemmas.{sum_by-same, sum_by-none, sum_by-range_more}
-use Rattle.niss_search.proofs.EntryLemmas.{count_for-some, entry_distance-zero, entry_distance-turn, entry_distance-back, entry_distance-nearer}
+use Rattle.niss_search.proofs.EntryLemmas.{count_for-some, entry_distance-zero, entry_distance-turn, entry_distance-back}
+use Rattle.niss_search.proofs.EntryLemmas.{entry_distance-nearer}
 
 -- what a byte may be is the distance once it is met, or once the level is done
 may-meet : (level d byte : ℕ) → level < 20 → MayBeAt level d byte → d ≤ level + 1 → min byte (level + 1) ≡ d

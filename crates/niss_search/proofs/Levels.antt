@@ -1,19 +1,9 @@
 -- The search by levels: what those up to one say of the whole.
-use Rattle.std.proofs.Common.{◌≡◌, ℕ, ◌+◌, ◌-◌, ◌≤◌, ◌<◌, nat_le, Bool, true, false, cond, List, [], ◌∷◌, ◌++◌, length, find, unwrap_or, Option, Some, None, refl, sym, ap, ◌∙◌, arith}
-use Rattle.std.specs.Prelude.{flat_map}
-use Rattle.std.specs.List.{range_with_len, list_any}
-use Rattle.std.specs.Bool.{then_some}
-use Rattle.std.specs.Option.{option_or}
-use Rattle.std.proofs.lemmas.Grind.{flat_map-append}
-use Rattle.std.proofs.lemmas.List.Folds.{find-append}
-use Rattle.niss_search.specs.Names.{Turn, Step, Coordinates}
-use Rattle.niss_cube.specs.Steps.{turns_of}
-use Rattle.niss_moves.specs.Canonical.{all_canonical}
-use Rattle.niss_search.specs.Solutions.{from_to, up_to, least_length, last_length, solution_lengths, solutions, reaching}
-use Rattle.niss_search.specs.Looks.{looks}
-use Rattle.niss_search.specs.Descent.{found_below, looks_below}
-use Rattle.niss_search.specs.Deepening.{reaches_at, far_at}
-use Rattle.niss_search.specs.Positions.{position_after, is_reached_at, distance_at}
+use Rattle.niss_search.proofs.Words.{◌≡◌, arith, length, ◌+◌, ◌<◌, ℕ, ap, ◌∙◌, sym, ◌≤◌, [], List, turns_of, refl, true, ◌-◌, ◌∷◌, Bool}
+use Rattle.niss_search.proofs.Words.{Turn, false, cond, range_with_len, ◌++◌, flat_map, Coordinates, distance_at, Step, None, list_any}
+use Rattle.niss_search.proofs.Words.{position_after, Option, Some, nat_le, flat_map-append, found_below, last_length, looks, reaches_at}
+use Rattle.niss_search.proofs.Words.{reaching, unwrap_or, up_to, all_canonical, find, is_reached_at, least_length, looks_below}
+use Rattle.niss_search.proofs.Words.{solution_lengths, solutions, far_at, from_to, option_or, then_some, find-append}
 use Rattle.niss_search.proofs.Bounds.{least-le, least-within}
 use Rattle.niss_search.proofs.DistanceLemmas.{first_or-from, first_or-le}
 use Rattle.niss_search.proofs.ListLemmas.{list_any-filter, filter-none, flat_map-range_none, range-push, range-split}

@@ -1,3 +1,4 @@
+pub mod Words
 pub mod ListLemmas
 pub mod DescentLemmas
 pub mod DepthFirst

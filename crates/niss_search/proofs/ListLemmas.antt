@@ -1,11 +1,8 @@
 -- Lists joined, filtered and summed.
-use Rattle.std.proofs.Common.{◌≡◌, ℕ, zero, suc, ◌+◌, ◌-◌, ◌≤◌, ◌<◌, nat_le, Bool, true, false, ◌||◌, cond, List, [], ◌∷◌, ◌++◌, length, map, filter, sum_by, Contains, refl, sym, ap, ◌∙◌, arith, add-one, add-zero, find}
-use Rattle.std.specs.Prelude.{flat_map}
-use Rattle.std.specs.List.{range_with_len, list_any}
-use Rattle.std.proofs.lemmas.Bool.{le-leb}
-use Rattle.std.proofs.lemmas.List.Sums.{sum_by-cons, sum_by-append, sum_by_push}
-use Rattle.std.proofs.lemmas.List.Elements.{filter-append, Contains-append_right, Contains-get_or}
-use Rattle.std.proofs.lemmas.Grind.{flat_map-append}
+use Rattle.niss_search.proofs.Words.{◌≡◌, arith, length, ◌+◌, ◌<◌, ℕ, ap, ◌∙◌, sym, ◌≤◌, [], List, refl, true, ◌-◌, ◌∷◌, Bool, false, suc}
+use Rattle.niss_search.proofs.Words.{cond, range_with_len, ◌++◌, zero, map, Contains, flat_map, filter, sum_by, sum_by-cons, list_any}
+use Rattle.niss_search.proofs.Words.{nat_le, flat_map-append, find, le-leb, sum_by-append, Contains-get_or, add-one, ◌||◌}
+use Rattle.niss_search.proofs.Words.{Contains-append_right, add-zero, filter-append, sum_by_push}
 
 module _ {X : Type 0} where
   pub Contains-first : (x : X) (xs : List X) → Contains (x ∷ xs) x
@@ -42,20 +39,15 @@ module _ {X Y A : Type 0} where
   flat_map-flat_map g f [] = refl
   flat_map-flat_map g f (x ∷ xs) = rw (flat_map-append g (f x) (flat_map f xs), flat_map-flat_map g f xs)
 
-  pub flat_map-kept : (g : Y → List A) (h : X → Y) (m : X → Bool) (xs : List X) → flat_map g (map h (filter m xs)) ≡ flat_map (λ x. cond (m x) (g (h x)) []) xs
-  flat_map-kept g h m [] = refl
-  flat_map-kept g h m (x ∷ xs) = by_test (m x) (flat_map-kept g h m xs) where
-    by_test : (b : Bool) → flat_map g (map h (filter m xs)) ≡ flat_map (λ y. cond (m y) (g (h y)) []) xs → flat_map g (map h (cond b (x ∷ filter m xs) (filter m xs))) ≡ cond b (g (h x)) [] ++ flat_map (λ y. cond (m y) (g (h y)) []) xs
-    by_test true e = ap (λ (l : List A). g (h x) ++ l) e
-    by_test false e = e
+  pub flat_map-map : (g : Y → List A) (h : X → Y) (xs : List X) → flat_map g (map h xs) ≡ flat_map (λ x. g (h x)) xs
+  flat_map-map g h [] = refl
+  flat_map-map g h (x ∷ xs) = ap (λ (l : List A). g (h x) ++ l) (flat_map-map g h xs)
 
 module _ {X Y : Type 0} where
-  pub sum_by-kept : (g : Y → ℕ) (h : X → Y) (m : X → Bool) (xs : List X) → sum_by g (map h (filter m xs)) ≡ sum_by (λ x. cond (m x) (g (h x)) 0) xs
-  sum_by-kept g h m [] = refl
-  sum_by-kept g h m (x ∷ xs) = by_test (m x) (sum_by-kept g h m xs) ∙ sym (sum_by-cons (λ y. cond (m y) (g (h y)) 0) x xs) where
-    by_test : (b : Bool) → sum_by g (map h (filter m xs)) ≡ sum_by (λ y. cond (m y) (g (h y)) 0) xs → sum_by g (map h (cond b (x ∷ filter m xs) (filter m xs))) ≡ cond b (g (h x)) 0 + sum_by (λ y. cond (m y) (g (h y)) 0) xs
-    by_test true e = sum_by-cons g (h x) (map h (filter m xs)) ∙ ap (λ n. g (h x) + n) e
-    by_test false e = omega arith
+  pub sum_by-map : (g : Y → ℕ) (h : X → Y) (xs : List X) → sum_by g (map h xs) ≡ sum_by (λ x. g (h x)) xs
+  sum_by-map g h [] = refl
+  sum_by-map g h (x ∷ xs) =
+      omega (arith, sum_by-cons g (h x) (map h xs), sum_by-cons (λ y. g (h y)) x xs, sum_by-map g h xs)
 
   -- two sums may be taken in either order
   pub sum_by-swap : (f : X → Y → ℕ) (xs : List X) (ys : List Y) → sum_by (λ x. sum_by (f x) ys) xs ≡ sum_by (λ y. sum_by (λ x. f x y) xs) ys
@@ -142,19 +134,3 @@ filter-none p (x ∷ xs) e = by_test (p x) (filter-none p xs) e where
   by_test : (b : Bool) → (list_any p xs ≡ false → filter p xs ≡ []) → (b || list_any p xs) ≡ false → cond b (x ∷ filter p xs) (filter p xs) ≡ []
   by_test true rest h = absurd cc
   by_test false rest h = rest h
-
-module _ {X : Type 0} where
-  -- what has nothing where a test fails may leave those out
-  pub flat_map-filter : {A : Type 0} (f : X → List A) (m : X → Bool) (xs : List X) → ((x : X) → m x ≡ false → f x ≡ []) → flat_map f (filter m xs) ≡ flat_map f xs
-  flat_map-filter f m [] h = refl
-  flat_map-filter {A = A} f m (x ∷ xs) h = by_test (m x) refl (flat_map-filter f m xs h) where
-    by_test : (b : Bool) → m x ≡ b → flat_map f (filter m xs) ≡ flat_map f xs → flat_map f (cond b (x ∷ filter m xs) (filter m xs)) ≡ f x ++ flat_map f xs
-    by_test true e rest = ap (λ (l : List A). f x ++ l) rest
-    by_test false e rest = rw (h x e) rest
-
-  pub sum_by-filter : (f : X → ℕ) (m : X → Bool) (xs : List X) → ((x : X) → m x ≡ false → f x ≡ 0) → sum_by f (filter m xs) ≡ sum_by f xs
-  sum_by-filter f m [] h = refl
-  sum_by-filter f m (x ∷ xs) h = by_test (m x) refl (sum_by-filter f m xs h) where
-    by_test : (b : Bool) → m x ≡ b → sum_by f (filter m xs) ≡ sum_by f xs → sum_by f (cond b (x ∷ filter m xs) (filter m xs)) ≡ sum_by f (x ∷ xs)
-    by_test true e rest = omega (arith, sum_by-cons f x (filter m xs), sum_by-cons f x xs)
-    by_test false e rest = omega (arith, sum_by-cons f x xs, h x e)

@@ -1,14 +1,10 @@
 -- The distance of a position: 0 exactly at the goal, never more than one beyond that after a turn, and nearer after some.
-use Rattle.std.proofs.Common.{◌≡◌, ℕ, suc, ◌+◌, ◌≤◌, ◌<◌, leb, Bool, true, false, ◌||◌, List, [], ◌∷◌, fold, Contains, refl, sym, ap, ◌∙◌, arith, inl, inr, ◌⊎◌}
-use Rattle.std.specs.List.{list_any}
-use Rattle.std.proofs.Math.Bool.{or-false}
-use Rattle.niss_search.specs.Names.{Turn, Step, Coordinates}
-use Rattle.niss_cube.specs.Steps.{turns_of}
-use Rattle.niss_search.specs.Distance.{distance}
-use Rattle.niss_search.specs.Positions.{coordinates_after, are_zero, position_after, is_reached_at, distance_at}
-use Rattle.niss_search.specs.Laws.{DistanceIsLeast}
+use Rattle.niss_search.proofs.Words.{◌≡◌, arith, ◌+◌, ◌<◌, ℕ, ap, ◌∙◌, sym, ◌≤◌, [], List, turns_of, refl, true, ◌∷◌, Bool, Turn, false}
+use Rattle.niss_search.proofs.Words.{suc, Contains, Coordinates, distance_at, leb, Step, inl, inr, list_any, position_after, ◌⊎◌}
+use Rattle.niss_search.proofs.Words.{is_reached_at, are_zero, coordinates_after, distance, fold, ◌||◌, or-false, DistanceIsLeast}
 use Rattle.niss_search.proofs.ListLemmas.{Contains-first, Contains-later}
-use Rattle.niss_search.proofs.DistanceLemmas.{reached_in, reached_in-suc, distance-either, distance-le, distance-most, distance-reached, distance-zero, distance-turn}
+use Rattle.niss_search.proofs.DistanceLemmas.{reached_in, reached_in-suc, distance-either, distance-le, distance-most, distance-reached}
+use Rattle.niss_search.proofs.DistanceLemmas.{distance-zero, distance-turn}
 
 pub distance_at-goal : (step : Step) (x : List Coordinates) → leb (distance_at step x) 0 ≡ is_reached_at x
 unfolding distance_at

@@ -1,19 +1,11 @@
 -- What of a cube depends on its position alone, by the laws of the coordinates and of the steps.
-use Rattle.std.proofs.Common.{◌≡◌, true, List, [], ◌∷◌, map, Option, Contains, IsTrue, refl, sym, ap, ◌∙◌, subst}
-use Rattle.std.specs.List.{list_any}
-use Rattle.std.specs.Option.{option_map_or}
-use Rattle.niss_moves.specs.Places.{Place, SameMap}
-use Rattle.niss_moves.specs.Effects.{turned}
-use Rattle.niss_search.specs.Names.{Axis, Turn, Goal, Edges, Domino, Step, Coordinates, Flip}
-use Rattle.niss_cube.specs.AfterTurn.{IsCube, TurnedIsCube, AreCoordinates}
-use Rattle.niss_cube.specs.Coordinates.{flip_of, twist_of, slice_of}
-use Rattle.niss_cube.specs.Steps.{goals_of, may_start, reached, holds}
-use Rattle.niss_cube.specs.StepLaws.{StartIsKept, StepsSeePlaces, DominoKeepsStart}
-use Rattle.niss_cube.specs.declared.cube.coordinate.Coordinate.TheVariants as coordinate
-use Rattle.niss_cube.proofs.CallerLemmas.{alike_is_cube, zero_test}
-use Rattle.niss_search.specs.Positions.{coordinates_of, coordinates_after, are_zero, position_of, position_after, is_reached_at}
-use Rattle.niss_search.specs.Laws.{PositionsFollowCubes}
+use Rattle.niss_search.proofs.Words.{◌≡◌, ap, ◌∙◌, sym, [], List, refl, true, ◌∷◌, Turn, map, Contains, subst, Coordinates, Step, list_any}
+use Rattle.niss_search.proofs.Words.{position_after, Option, Place, Flip, is_reached_at, Axis, Domino, Edges, Goal, PositionsFollowCubes}
+use Rattle.niss_search.proofs.Words.{are_zero, coordinates_after, coordinates_of, goals_of, turned, AreCoordinates, DominoKeepsStart}
+use Rattle.niss_search.proofs.Words.{IsCube, IsTrue, option_map_or, reached, SameMap, StartIsKept, StepsSeePlaces, TurnedIsCube}
+use Rattle.niss_search.proofs.Words.{alike_is_cube, flip_of, holds, may_start, position_of, slice_of, twist_of, zero_test}
 use Rattle.niss_search.proofs.ListLemmas.{Contains-first, Contains-later}
+use Rattle.niss_cube.specs.declared.cube.coordinate.Coordinate.TheVariants as coordinate
 
 map_twice : {X Y Z : Type 0} (g : Y → Z) (f : X → Y) (h : X → Z) (xs : List X) → ((x : X) → h x ≡ g (f x)) → map h xs ≡ map g (map f xs)
 map_twice g f h [] same = refl

@@ -1,23 +1,13 @@
 -- How many turns the fill tries: those of the entries at a distance of at most 19, counted by their numbers.
-use Rattle.std.proofs.Common.{◌≡◌, ℕ, zero, suc, ◌+◌, ◌*◌, ◌/◌, ◌%◌, ◌^◌, ◌≤◌, ◌<◌, Bool, cond, List, [], ◌∷◌, ◌++◌, length, map, count_by, sum_by, refl, sym, ap, ◌∙◌, arith, lit≤, None, Contains, All}
-use Rattle.std.specs.Prelude.{flat_map, nat_le}
-use Rattle.std.specs.List.{range_with_len}
-use Rattle.std.proofs.lemmas.Nat.{div-mul-add, mod-mul-add}
-use Rattle.std.proofs.lemmas.List.{append-nil, map-append}
-use Rattle.std.proofs.lemmas.List.FromFn.{length-map-range_with_len}
-use Rattle.std.proofs.lemmas.List.Sums.{sum_by-cons, sum_by-append, sum_by-le}
-use Rattle.std.proofs.lemmas.List.Elements.{All-contains_itself}
-use Rattle.std.proofs.lemmas.List.Concat.{length-flat_map}
-use Rattle.std.proofs.lemmas.Grind.{flat_map-append}
-use Rattle.std.proofs.Math.Nat.{mul-le-mul, mul-le-mul_right, mul_comm, mul-add}
-use Rattle.niss_search.specs.Names.{Axis, Goal, Edges, Domino, Step, Coordinates, Flip, TwistAndSlice}
-use Rattle.niss_cube.specs.Steps.{start_of, goals_of, turns_of}
-use Rattle.niss_cube.specs.StepLaws.{DominoKeepsStart}
-use Rattle.niss_search.specs.Laws.{EntriesAreCounted, EdgeFillIsSmall, FillIsSmall}
-use Rattle.niss_search.specs.Positions.{distance_at}
-use Rattle.niss_search.specs.Entries.{flips_below, pairs_below, values_for, count_for, entries_of, entry_count, fill_ticks}
-use Rattle.niss_search.specs.Filling.{entry_at, entry_distance, Alternative, goal_ticks}
-use Rattle.niss_search.proofs.ListLemmas.{range_with_len-append, range_with_len-more, sum_by-same}
+use Rattle.niss_search.proofs.Words.{◌≡◌, arith, length, ◌+◌, ◌<◌, ℕ, ap, ◌∙◌, sym, ◌≤◌, [], List, turns_of, refl, ◌*◌, ◌∷◌, Bool, suc}
+use Rattle.niss_search.proofs.Words.{cond, range_with_len, ◌++◌, zero, map, Contains, flat_map, Coordinates, count_by, distance_at, sum_by}
+use Rattle.niss_search.proofs.Words.{sum_by-cons, Step, All, None, entry_distance, ◌/◌, count_for, nat_le, ◌^◌, flat_map-append}
+use Rattle.niss_search.proofs.Words.{Alternative, Flip, append-nil, length-flat_map, sum_by-append, Axis, Domino, Edges, Goal, goals_of}
+use Rattle.niss_search.proofs.Words.{mul-le-mul, ◌%◌, All-contains_itself, DominoKeepsStart, entry_at, goal_ticks, map-append, mul-add}
+use Rattle.niss_search.proofs.Words.{mul-le-mul_right, sum_by-le, EdgeFillIsSmall, EntriesAreCounted, FillIsSmall, TwistAndSlice}
+use Rattle.niss_search.proofs.Words.{div-mul-add, entries_of, entry_count, fill_ticks, flips_below, length-map-range_with_len, mod-mul-add}
+use Rattle.niss_search.proofs.Words.{mul_comm, pairs_below, start_of, values_for, lit≤}
+use Rattle.niss_search.proofs.ListLemmas.{range_with_len-append, range_with_len-more, sum_by-same, sum_by-map}
 use Rattle.niss_search.proofs.EntryLemmas.{count_for-bound}
 use Rattle.niss_search.proofs.FillLemmas.{count-range-le}
 use Rattle.niss_search.proofs.Bounds.{turns_of-length, turns_of-oriented}
@@ -70,17 +60,12 @@ entries-counted s = length-flat_map values_for (goals_of s) ∙ sum_by-same (λ 
   values-counted : (g : Goal) → length (values_for g) ≡ count_for g
   values-counted g = ap length (values-numbered g (count_for g) refl) ∙ length-map-range_with_len (entry_at g) 0 (count_for g)
 
-count-map : {X : Type 0} (p : X → Bool) (f : ℕ → X) (xs : List ℕ) → count_by p (map f xs) ≡ count_by (λ i. p (f i)) xs
-count-map p f [] = refl
-count-map p f (x ∷ xs) =
-    omega (arith, sum_by-cons (λ y. cond (p y) 1 0) (f x) (map f xs), sum_by-cons (λ i. cond (p (f i)) 1 0) x xs, count-map p f xs)
-
 -- counted by the numbers of the entries
 pub ticks-numbered : (alt : Alternative) → goal_ticks alt ≡ length (turns_of alt.step) * count_by (λ i. nat_le (entry_distance alt i) 19) (range_with_len 0 (count_for alt.goal))
 unfolding goal_ticks entry_distance
 ticks-numbered alt =
     let near : Coordinates → Bool = λ c. nat_le (distance_at alt.step (c ∷ [])) 19 in
-    ap (λ n. length (turns_of alt.step) * n) (ap (count_by near) (values-numbered alt.goal (count_for alt.goal) refl) ∙ count-map near (entry_at alt.goal) (range_with_len 0 (count_for alt.goal)))
+    ap (λ n. length (turns_of alt.step) * n) (ap (count_by near) (values-numbered alt.goal (count_for alt.goal) refl) ∙ sum_by-map (λ c. cond (near c) 1 0) (entry_at alt.goal) (range_with_len 0 (count_for alt.goal)))
 
 -- never more than entries times turns
 pub goal_ticks-at-most : (alt : Alternative) → goal_ticks alt ≤ count_for alt.goal * length (turns_of alt.step)

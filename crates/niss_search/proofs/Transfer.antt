@@ -1,22 +1,12 @@
 -- What holds of a position holds of every cube that has it.
-use Rattle.std.proofs.Common.{All, ◌≡◌, ℕ, zero, suc, ◌-◌, nat_le, Bool, cond, List, [], ◌∷◌, ◌++◌, length, take, map, filter, fold, sum_by, count_by, unwrap_or, Contains, refl, ap, arith, ◌∙◌, IsTrue, leb, sym}
-use Rattle.std.specs.Prelude.{flat_map, ◌↔◌}
-use Rattle.std.proofs.lemmas.Bool.{lt-leb}
-use Rattle.std.specs.List.{list_any}
-use Rattle.std.proofs.lemmas.List.Sums.{sum_by-cons}
-use Rattle.std.proofs.lemmas.List.Elements.{All-head, All-tail, All-append, All-push, All-cons, All-map, All-filter, All-take, All-contains_itself}
-use Rattle.niss_moves.specs.Places.{Place}
-use Rattle.niss_moves.specs.Effects.{turned, effect_of_turns}
-use Rattle.niss_moves.specs.Canonical.{may_follow, last_turn, all_canonical, canonical_extensions}
-use Rattle.niss_search.specs.Names.{Turn, Step, Coordinates}
-use Rattle.niss_cube.specs.Steps.{turns_of, reached}
-use Rattle.niss_search.specs.Solutions.{least_length, last_length, solution_lengths, solutions, reaching, up_to}
-use Rattle.niss_search.specs.Distance.{all_sequences, distance}
-use Rattle.niss_search.specs.Looks.{is_looked_at, looks, all_looks}
-use Rattle.niss_search.specs.Positions.{position_after, distance_at}
-use Rattle.niss_search.specs.Cubes.{HasPosition, distance_of, reaches, least_length_of, near_solutions_of, near_looks_of}
-use Rattle.niss_search.specs.Deepening.{reaches_at, least_length_at, solutions_at, all_looks_at}
-use Rattle.niss_search.specs.Laws.{PositionsFollowCubes}
+use Rattle.niss_search.proofs.Words.{◌≡◌, arith, length, ℕ, ap, ◌∙◌, sym, [], List, turns_of, refl, ◌-◌, ◌∷◌, Bool, Turn, suc, cond, ◌++◌}
+use Rattle.niss_search.proofs.Words.{zero, map, may_follow, Contains, flat_map, last_turn, Coordinates, count_by, distance_at, filter, leb}
+use Rattle.niss_search.proofs.Words.{sum_by, sum_by-cons, Step, All, list_any, position_after, take, nat_le, Place, last_length, looks}
+use Rattle.niss_search.proofs.Words.{reaches_at, reaching, unwrap_or, up_to, HasPosition, all_canonical, canonical_extensions, least_length}
+use Rattle.niss_search.proofs.Words.{lt-leb, PositionsFollowCubes, all_looks, distance, fold, is_looked_at, solution_lengths, solutions}
+use Rattle.niss_search.proofs.Words.{turned, All-contains_itself, All-head, All-push, All-tail, All-take, IsTrue, all_looks_at}
+use Rattle.niss_search.proofs.Words.{all_sequences, least_length_at, near_looks_of, near_solutions_of, reached, solutions_at, All-append}
+use Rattle.niss_search.proofs.Words.{All-cons, All-filter, All-map, distance_of, effect_of_turns, least_length_of, reaches, ◌↔◌, All-nil}
 use Rattle.niss_search.proofs.ListLemmas.{find-same, flat_map-same, sum_by-same}
 use Rattle.niss_search.proofs.DistanceLemmas.{reached_in}
 use Rattle.niss_search.proofs.LookLemmas.{distance_at-goal}
@@ -34,11 +24,8 @@ module _ {X : Type 0} where
   sum_by-each P p q [] g h = refl
   sum_by-each P p q (x ∷ xs) g h = omega (arith, sum_by-cons p x xs, sum_by-cons q x xs, g x (All-head P x xs h), sum_by-each P p q xs g (All-tail P x xs h))
 
-All-none : {X : Type 0} (P : X → Type 0) → All P []
-All-none P = λ k d l. absurd (omega arith)
-
 All-flat_map : {X Y : Type 0} (P : X → Type 0) (Q : Y → Type 0) (f : X → List Y) (xs : List X) → ((x : X) → P x → All Q (f x)) → All P xs → All Q (flat_map f xs)
-All-flat_map P Q f [] g h = All-none Q
+All-flat_map P Q f [] g h = All-nil Q
 All-flat_map P Q f (x ∷ xs) g h = All-append Q (f x) (flat_map f xs) (g x (All-head P x xs h)) (All-flat_map P Q f xs g (All-tail P x xs h))
 
 -- a sequence over the turns
@@ -47,7 +34,7 @@ IsOver turns s = All (Contains turns) s
 
 module _ (turns : List Turn) where
   only-empty : All (IsOver turns) ([] ∷ [])
-  only-empty = All-cons (IsOver turns) [] [] (All-none (Contains turns)) (All-none (IsOver turns))
+  only-empty = All-cons (IsOver turns) [] [] (All-nil (Contains turns)) (All-nil (IsOver turns))
 
   canonical-over : (k : ℕ) → All (IsOver turns) (all_canonical turns k)
   unfolding all_canonical

@@ -1,18 +1,13 @@
 -- Eight bytes as one number: which of them are a level, by one sum over all of them.
-use Rattle.std.proofs.Common.{◌≡◌, ℕ, zero, suc, ◌+◌, ◌*◌, ◌/◌, ◌%◌, ◌<◌, ◌≤◌, ◌==◌, not, cond, true, false, List, [], ◌∷◌, length, map, get_or, refl, sym, ap, ◌∙◌, inl, inr, ◌⊎◌, ap₂, Bool, eq-eqb, arith}
-use Rattle.std.proofs.lemmas.List.{length-map}
-use Rattle.std.specs.Prelude.{replicate}
-use Rattle.std.specs.Int.{w64, from_le_bytes}
+use Rattle.niss_search.proofs.Words.{◌≡◌, arith, length, ◌+◌, ◌<◌, ℕ, ap, ◌∙◌, sym, ◌≤◌, [], List, refl, true, ◌*◌, ◌∷◌, Bool, false, suc}
+use Rattle.niss_search.proofs.Words.{cond, zero, get_or, map, inl, inr, ◌/◌, ◌⊎◌, ◌==◌, eqb_tells, length-map, replicate, ◌%◌, eq-eqb, not}
+use Rattle.niss_search.proofs.Words.{prefix_len, and_block, and_le_l, and_le_r, and_mask, ap₂, bit_at, from_le_bytes, number_l, or_block}
+use Rattle.niss_search.proofs.Words.{or_lt, w64, xor_block, xor_lt}
 use Rattle.std.specs.Int.Bits.{bit_and, bit_or, bit_xor, xor_add_and, xor_self}
 use Rattle.std.specs.Int.Count.{count_trailing_zeros}
-use Rattle.std.specs.List.{prefix_len}
-use Rattle.std.proofs.lemmas.Nat.{and_block, or_block, xor_block, and_le_l, and_le_r, and_mask, xor_lt, or_lt}
 use Rattle.std.proofs.lemmas.Nat.Bits.{and_pow, bit_at_or}
-use Rattle.std.specs.Int.{bit_at}
 use Rattle.std.proofs.Math.Dec.{eqb}
 use lib.Count.{under}
-use Rattle.std.proofs.lemmas.Bool.Decides.{eqb_tells}
-use lib.Lanes.{number_l}
 
 -- 128 where a byte is the level, and else 0
 abbrev pub mark : ℕ → ℕ → ℕ

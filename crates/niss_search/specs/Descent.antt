@@ -1,6 +1,6 @@
 -- One deepening of the search, below a path: what it finds and how often it looks. (For the search's own functions.)
 use Rattle.std.specs.Prelude.{◌≡◌, ℕ, zero, suc, ◌+◌, ◌-◌, ◌≤◌, nat_le, Result, Ok, Err, if◌then◌else◌}
-use Rattle.std.specs.Prelude.{List, [], ◌∷◌, ◌++◌, length, flat_map, sum_by}
+use Rattle.std.specs.Prelude.{List, [], ◌∷◌, ◌++◌, length, filter, flat_map, sum_by}
 use Rattle.niss_search.specs.Names.{Turn, Step, Coordinates}
 use Rattle.niss_moves.specs.Canonical.{may_follow, last_turn}
 use Rattle.niss_cube.specs.Steps.{turns_of}
@@ -13,8 +13,7 @@ module _ {P : Type 0} (turns : List Turn) (after : P → Turn → P) (look : P �
   found x p zero = if nat_le (look x) 0 then p ∷ [] else []
   found x p (suc left) =
       if nat_le (look x) (suc left)
-      then
-      flat_map (λ t. if may_follow (last_turn p) t then found (after x t) (p ++ t ∷ []) left else []) turns
+      then flat_map (λ t. found (after x t) (p ++ t ∷ []) left) (filter (may_follow (last_turn p)) turns)
       else []
 
   -- the looks made there
@@ -22,7 +21,7 @@ module _ {P : Type 0} (turns : List Turn) (after : P → Turn → P) (look : P �
   visits x p zero = 1
   visits x p (suc left) =
       1 + (if nat_le (look x) (suc left)
-      then sum_by (λ t. if may_follow (last_turn p) t then visits (after x t) (p ++ t ∷ []) left else 0) turns
+      then sum_by (λ t. visits (after x t) (p ++ t ∷ []) left) (filter (may_follow (last_turn p)) turns)
       else 0)
 
 unfoldable pub found_below : Step → List Coordinates → List Turn → ℕ → List (List Turn)

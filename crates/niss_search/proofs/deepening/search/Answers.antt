@@ -1,6 +1,4 @@
-use Rattle.std.proofs.Common.{rules}
-use Rattle.niss_moves.specs.Places.{Place}
-use Rattle.niss_search.specs.Cubes.{HasPosition}
+use Rattle.niss_search.proofs.Words.{Place, HasPosition, rules}
 use Rattle.niss_search.proofs.Transfer.{least_length-cube}
 use Rattle.niss_search.proofs.DeepeningLemmas.{searched, looks-within}
 use Rattle.niss_search.proofs.deepening.search.Goals as goal

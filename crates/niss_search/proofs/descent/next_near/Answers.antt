@@ -1,8 +1,4 @@
-use Rattle.std.proofs.Common.{arith, ◌<◌, subst, All}
-use Rattle.std.proofs.lemmas.List.{take_all}
-use Rattle.std.proofs.lemmas.List.Elements.{All-more}
-use Rattle.niss_search.specs.Names.{Follower}
-use Rattle.niss_search.specs.Followers.{distance_after}
+use Rattle.niss_search.proofs.Words.{arith, ◌<◌, subst, All, Follower, distance_after, take_all, All-more}
 use Rattle.niss_search.proofs.DescentLemmas.{no_follower}
 use Rattle.niss_search.proofs.descent.next_near.Goals as goal
 

@@ -1,5 +1,4 @@
-use Rattle.std.proofs.Common.{◌≡◌, ◌+◌, ◌<◌, All, take}
-use Rattle.niss_search.specs.Followers.{distance_after}
+use Rattle.niss_search.proofs.Words.{◌≡◌, ◌+◌, ◌<◌, All, take, distance_after}
 use Rattle.niss_search.proofs.descent.next_near.Given as goal
 
 abbrev pub invariant-loop-index : goal.invariant-loop-index

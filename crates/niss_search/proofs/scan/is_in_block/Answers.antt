@@ -1,7 +1,5 @@
-use Rattle.std.proofs.Common.{arith, ◌≡◌, ◌≢◌, ◌+◌, ◌*◌, ◌<◌, ℕ, List, [], length, get_or, slice_index, ap, ◌∙◌}
-use Rattle.std.proofs.lemmas.Nat.{le_or_l, le_or_r}
-use Rattle.std.proofs.lemmas.Simd.{length-chunk}
-use lib.Lanes.{chunk}
+use Rattle.niss_search.proofs.Words.{◌≡◌, arith, length, ◌+◌, ◌<◌, ℕ, ap, ◌∙◌, [], List, ◌*◌, slice_index, get_or, ◌≢◌, chunk, le_or_l}
+use Rattle.niss_search.proofs.Words.{le_or_r, length-chunk}
 use Rattle.niss_search.proofs.ScanLemmas.{first_chunks-at, is-clear, joined}
 use Rattle.niss_search.proofs.WordLemmas.{none-marked}
 use Rattle.niss_search.proofs.scan.is_in_block.Goals as goal

@@ -1,5 +1,4 @@
-use Rattle.std.proofs.Common.{◌≡◌, ◌≢◌, ℕ, ◌*◌, ◌<◌, slice_index}
-use Rattle.std.specs.Simd.{first_chunks}
+use Rattle.niss_search.proofs.Words.{◌≡◌, ◌<◌, ℕ, ◌*◌, slice_index, ◌≢◌, first_chunks}
 use Rattle.niss_search.proofs.scan.is_in_block.Given as goal
 
 abbrev pub invariant-loop-word : goal.invariant-loop-word

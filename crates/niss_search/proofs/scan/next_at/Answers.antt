@@ -1,4 +1,4 @@
-use Rattle.std.proofs.Common.{arith, ◌≢◌, length, slice_index}
+use Rattle.niss_search.proofs.Words.{arith, length, slice_index, ◌≢◌}
 use Rattle.niss_search.proofs.ScanLemmas.{first-told, least-after, none-after}
 use Rattle.niss_search.proofs.scan.next_at.Goals as goal
 

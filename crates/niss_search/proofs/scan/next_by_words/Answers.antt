@@ -1,5 +1,4 @@
-use Rattle.std.proofs.Common.{arith, ◌≡◌, ◌≢◌, ◌+◌, ◌-◌, ℕ, List, drop, slice_index, get_or, sym, ap, ◌∙◌, subst}
-use Rattle.std.proofs.lemmas.List.{get_or-drop}
+use Rattle.niss_search.proofs.Words.{◌≡◌, arith, ◌+◌, ℕ, ap, ◌∙◌, sym, List, ◌-◌, slice_index, get_or, subst, ◌≢◌, drop, get_or-drop}
 use Rattle.niss_search.proofs.ScanLemmas.{is-told, joined}
 use Rattle.niss_search.proofs.scan.next_by_words.Goals as goal
 

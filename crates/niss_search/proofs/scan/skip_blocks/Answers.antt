@@ -1,4 +1,4 @@
-use Rattle.std.proofs.Common.{arith, ◌≢◌, ◌+◌, [], get_or, slice_index}
+use Rattle.niss_search.proofs.Words.{arith, ◌+◌, [], slice_index, get_or, ◌≢◌}
 use Rattle.niss_search.proofs.ScanLemmas.{block-is, is-clear, joined}
 use Rattle.niss_search.proofs.scan.skip_blocks.Goals as goal
 

@@ -1,5 +1,4 @@
-use Rattle.std.proofs.Common.{◌≡◌, ◌≢◌, ℕ, ◌+◌, ◌*◌, ◌/◌, ◌<◌, ◌≤◌, length, drop, slice_index}
-use Rattle.std.specs.Simd.{first_chunks}
+use Rattle.niss_search.proofs.Words.{◌≡◌, length, ◌+◌, ◌<◌, ℕ, ◌≤◌, ◌*◌, slice_index, ◌≢◌, ◌/◌, drop, first_chunks}
 use Rattle.niss_search.proofs.scan.skip_blocks.Given as goal
 
 abbrev pub invariant-loop-block : goal.invariant-loop-block

@@ -1,10 +1,5 @@
-use Rattle.std.proofs.Common.{arith, ◌≡◌, ◌-◌, ◌+◌, ℕ, suc, sym, ap, ◌∙◌, append_assoc, true}
-use Rattle.std.proofs.lemmas.List.{append-nil}
-use Rattle.niss_moves.specs.Canonical.{last_turn, may_follow}
-use Rattle.rand_pcg.specs.Lcg.{Lcg}
-use Rattle.rand_pcg.specs.Pcg.{pcg32}
-use Rattle.niss_search.specs.Draw.{after_words, choice}
-use Rattle.niss_moves.proofs.CallerLemmas.{last_turn-push}
+use Rattle.niss_search.proofs.Words.{◌≡◌, arith, ◌+◌, ℕ, ap, ◌∙◌, sym, true, ◌-◌, suc, may_follow, last_turn, append-nil, after_words, Lcg}
+use Rattle.niss_search.proofs.Words.{choice, last_turn-push, pcg32, append_assoc}
 use Rattle.niss_search.proofs.DrawLemmas.{draw-more, after_words-more, draw-none, after_words-none, choice-follows, canonical-push}
 use Rattle.niss_search.proofs.scramble.random_turns.Goals as goal
 

@@ -1,6 +1,4 @@
-use Rattle.std.proofs.Common.{◌≡◌, ◌-◌, ◌++◌, length, None, true}
-use Rattle.niss_moves.specs.Canonical.{last_turn, is_canonical_after}
-use Rattle.niss_search.specs.Draw.{next_words, after_words, draw}
+use Rattle.niss_search.proofs.Words.{◌≡◌, length, true, ◌-◌, ◌++◌, last_turn, None, after_words, draw, is_canonical_after, next_words}
 use Rattle.niss_search.proofs.scramble.random_turns.Given as goal
 
 abbrev pub invariant-drawing : goal.invariant-drawing

@@ -1,5 +1,4 @@
-use Rattle.std.proofs.Common.{◌≡◌, sym, ◌∙◌}
-use Rattle.std.proofs.lemmas.Result.{err_from_is_err_and}
+use Rattle.niss_search.proofs.Words.{◌≡◌, ◌∙◌, sym, err_from_is_err_and}
 use Rattle.niss_search.proofs.DeepeningLemmas.{found-level, looks-level}
 use Rattle.niss_search.proofs.deepening.Root.deepen.Goals as goal
 

@@ -1,7 +1,4 @@
-use Rattle.std.proofs.Common.{arith, ◌≡◌, ◌+◌, ◌≤◌, ◌∙◌, sym}
-use Rattle.std.proofs.lemmas.Result.{err_from_is_err_and}
-use Rattle.niss_cube.specs.Steps.{turns_of}
-use Rattle.niss_search.specs.Deepening.{reaches_at}
+use Rattle.niss_search.proofs.Words.{arith, ◌∙◌, sym, turns_of, reaches_at, err_from_is_err_and}
 use Rattle.niss_search.proofs.Levels.{level-next, least_length-is}
 use Rattle.niss_search.proofs.DeepeningLemmas.{looks-room, found-room, least-next, goes-on, stops-here, all-done}
 use Rattle.niss_search.proofs.deepening.Root.find.Goals as goal

@@ -1,10 +1,5 @@
-use Rattle.std.proofs.Common.{◌≡◌, ◌+◌, ◌-◌, ◌≤◌}
-use Rattle.std.specs.List.{range_with_len}
-use Rattle.niss_cube.specs.Steps.{turns_of}
-use Rattle.niss_search.specs.Delivery.{at_limit}
-use Rattle.niss_search.specs.Descent.{GoesThrough, descent_state}
-use Rattle.niss_search.specs.Deepening.{reaches_at, reaching_at, looks_at}
-use Rattle.niss_search.specs.Solutions.{last_length}
+use Rattle.niss_search.proofs.Words.{◌≡◌, ◌+◌, ◌≤◌, turns_of, ◌-◌, range_with_len, at_limit, last_length, reaches_at, GoesThrough}
+use Rattle.niss_search.proofs.Words.{descent_state, looks_at, reaching_at}
 use Rattle.niss_search.proofs.Levels.{least_below}
 use Rattle.niss_search.proofs.deepening.Root.find.Given as goal
 

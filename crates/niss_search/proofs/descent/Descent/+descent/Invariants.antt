@@ -1,14 +1,6 @@
-use Rattle.std.proofs.Common.{◌≡◌, ◌+◌, ◌-◌, ◌*◌, ◌<◌, ◌≤◌, ◌++◌, List, All, filter, length, map, sum_by}
-use Rattle.std.specs.Prelude.{flat_map}
-use Rattle.niss_search.specs.Followers.{IsFollower}
-use Rattle.niss_cube.specs.Steps.{turns_of}
-use Rattle.niss_search.specs.Names.{Turn}
-use Rattle.niss_search.specs.Delivery.{at_limit}
-use Rattle.niss_search.specs.Descending.{Keeps, state_of}
-use Rattle.niss_search.specs.Descent.{GoesThrough}
-use Rattle.niss_search.proofs.DescentLemmas.{found_after, looks_after}
-use Rattle.niss_search.specs.Positions.{distance_at}
-use Rattle.niss_moves.specs.Canonical.{may_follow, last_turn}
+use Rattle.niss_search.proofs.Words.{◌≡◌, length, ◌+◌, ◌<◌, ◌≤◌, ◌*◌, ◌-◌, flat_map, distance_at, sum_by, All, at_limit, found_below}
+use Rattle.niss_search.proofs.Words.{IsFollower, looks_beyond, Result, state_of, Descends, DescentState, Keeps}
+use Rattle.niss_search.proofs.DescentLemmas.{found_after, looks_after, turns_in}
 use Rattle.niss_search.proofs.descent.Descent.+descent.Given as goal
 
 abbrev pub decreases-extend : goal.decreases-extend
@@ -22,15 +14,21 @@ decreases-extend-loop-index g l = length l.rest
 
 abbrev pub invariant-extend-loop-index : goal.invariant-extend-loop-index
 invariant-extend-loop-index g l = record {
-  done : List Turn;
-  whole : done ++ map (λ f. f.turn) l.rest ≡ filter (may_follow (last_turn l.fn.self.path.now.turns)) (turns_of l.tables.step);
   columns : All (IsFollower l.tables.step) l.rest;
   few : length l.rest * 3 < 9223372036854775808;
   keeps : Keeps l.fn.self l.self;
   some_left : 0 < l.left;
   near : distance_at l.tables.step (g.S.StateSpace.seen l.tables.space l.state) ≤ l.left;
-  went : GoesThrough (at_limit g.K.Sink.took l.fn.self.path.now.limit) (at_limit g.K.Sink.refused l.fn.self.path.now.limit)
-      (flat_map (found_after l.tables.step (g.S.StateSpace.seen l.tables.space l.state) l.fn.self.path.now.turns (l.left - 1)) done)
-      (sum_by (looks_after l.tables.step (g.S.StateSpace.seen l.tables.space l.state) l.fn.self.path.now.turns (l.left - 1)) done)
-      (state_of l.fn.meter l.fn.self) (state_of l.meter l.self);
+  looked : l.meter + sum_by (looks_after l.tables.step (g.S.StateSpace.seen l.tables.space l.state) l.fn.self.path.now.turns (l.left - 1)) (turns_in l.rest)
+      ≡ l.fn.meter + looks_beyond l.tables.step (g.S.StateSpace.seen l.tables.space l.state) l.fn.self.path.now.turns l.left;
+  counted : l.self.count < l.meter;
+  whole : (r : Result (Unit {0}) (Unit {0})) (new : DescentState _) →
+      Descends (at_limit g.K.Sink.took l.fn.self.path.now.limit) (at_limit g.K.Sink.refused l.fn.self.path.now.limit)
+      (flat_map (found_after l.tables.step (g.S.StateSpace.seen l.tables.space l.state) l.fn.self.path.now.turns (l.left - 1)) (turns_in l.rest))
+      (sum_by (looks_after l.tables.step (g.S.StateSpace.seen l.tables.space l.state) l.fn.self.path.now.turns (l.left - 1)) (turns_in l.rest))
+      (state_of l.meter l.self) new r
+      → Descends (at_limit g.K.Sink.took l.fn.self.path.now.limit) (at_limit g.K.Sink.refused l.fn.self.path.now.limit)
+      (found_below l.tables.step (g.S.StateSpace.seen l.tables.space l.state) l.fn.self.path.now.turns l.left)
+      (looks_beyond l.tables.step (g.S.StateSpace.seen l.tables.space l.state) l.fn.self.path.now.turns l.left)
+      (state_of l.fn.meter l.fn.self) new r;
 }

@@ -1,9 +1,6 @@
-use Rattle.std.proofs.Common.{arith, ◌<◌}
-use Rattle.niss_search.specs.Delivery.{at_limit}
-use Rattle.niss_search.specs.Descending.{state_of}
-use Rattle.niss_search.specs.Descent.{found_below, looks_beyond}
-use Rattle.niss_search.specs.Positions.{distance_at}
-use Rattle.niss_search.proofs.DescentLemmas.{found_below-far, looks_below-far, looks_below-one, looks_below-some, GoesThrough-look, Descends-look}
+use Rattle.niss_search.proofs.Words.{arith, ◌<◌, distance_at, at_limit, found_below, looks_beyond, state_of}
+use Rattle.niss_search.proofs.DescentLemmas.{found_below-far, looks_below-far, looks_below-one, looks_below-some, GoesThrough-look}
+use Rattle.niss_search.proofs.DescentLemmas.{Descends-looks}
 use Rattle.niss_search.proofs.descent.Descent.visit_in.Goals as goal
 
 pub look-requires : goal.look-requires
@@ -30,4 +27,4 @@ returns-clause-finds g c =
     let took = at_limit g.K.Sink.took path.limit in
     let refused = at_limit g.K.Sink.refused path.limit in
     rw (looks_below-one step c.args.position.now path.turns c.args.left)
-    (Descends-look took refused c.extend.result.1 (found_below step c.args.position.now path.turns c.args.left) (looks_beyond step c.args.position.now path.turns c.args.left) c.args.meter c.look.new.meter c.args.self.now.count c.args.self.now.sink.now (state_of c.extend.result.0 c.extend.new.self) c.look.ensures.tick (rw c.state-state.ensures at c.extend.ensures.finds))
+    (Descends-looks took refused c.extend.result.1 (found_below step c.args.position.now path.turns c.args.left) 1 (looks_beyond step c.args.position.now path.turns c.args.left) c.args.meter c.look.new.meter c.args.self.now.count c.args.self.now.sink.now (state_of c.extend.result.0 c.extend.new.self) c.look.ensures.tick (rw c.state-state.ensures at c.extend.ensures.finds))

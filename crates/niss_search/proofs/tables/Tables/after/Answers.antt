@@ -1,4 +1,4 @@
-use Rattle.niss_moves.specs.Effects.{turned}
+use Rattle.niss_search.proofs.Words.{turned}
 use Rattle.niss_search.proofs.tables.Tables.after.Goals as goal
 
 pub returns-clause-turned : goal.returns-clause-turned

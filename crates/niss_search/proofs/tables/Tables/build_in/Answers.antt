@@ -1,4 +1,4 @@
-use Rattle.std.proofs.Common.{arith}
+use Rattle.niss_search.proofs.Words.{arith}
 use Rattle.niss_search.proofs.TickLemmas.{ticks-at-most}
 use Rattle.niss_search.proofs.tables.Tables.build_in.Goals as goal
 

@@ -1,4 +1,4 @@
-use Rattle.std.proofs.Common.{arith, sym, ◌∙◌}
+use Rattle.niss_search.proofs.Words.{arith, ◌∙◌, sym}
 use Rattle.niss_search.proofs.LookLemmas.{distance_at-most}
 use Rattle.niss_search.proofs.Transfer.{distance-cube, distance-reached-cube}
 use Rattle.niss_search.proofs.tables.Tables.look.Goals as goal

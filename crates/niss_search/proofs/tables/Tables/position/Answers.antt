@@ -1,6 +1,4 @@
-use Rattle.std.proofs.Common.{refl}
-use Rattle.niss_cube.specs.Map.{map_of}
-use Rattle.niss_cube.proofs.CallerLemmas.{cube-itself}
+use Rattle.niss_search.proofs.Words.{refl, map_of, cube-itself}
 use Rattle.niss_search.proofs.PositionLemmas.{position_of-is}
 use Rattle.niss_search.proofs.tables.Tables.position.Goals as goal
 

@@ -1,11 +1,6 @@
-use Rattle.std.proofs.Common.{arith, ◌≡◌, ◌≢◌, ◌+◌, ◌*◌, ◌^◌, ◌<◌, ◌≤◌, ◌==◌, length, ℕ, List, count_by, true, false, leb, inl, inr, ◌⊎◌, sym, ap, ◌∙◌, subst, slice_index, cond, eq-eqb}
-use Rattle.std.specs.List.{range_with_len}
-use Rattle.std.proofs.Math.Nat.{mul-add, mul-le-mul}
-use Rattle.std.proofs.lemmas.Bool.{ne_eqb}
-use Rattle.std.proofs.lemmas.Bool.Decides.{leb_tells}
-use Rattle.niss_cube.specs.Steps.{turns_of}
-use Rattle.niss_search.specs.Entries.{count_for}
-use Rattle.niss_search.specs.Filling.{Alternative, entry_distance, IsFilling, IsExtended}
+use Rattle.niss_search.proofs.Words.{◌≡◌, arith, length, ◌+◌, ◌<◌, ℕ, ap, ◌∙◌, sym, ◌≤◌, List, turns_of, true, ◌*◌, slice_index, false}
+use Rattle.niss_search.proofs.Words.{cond, range_with_len, subst, ◌≢◌, count_by, leb, inl, inr, entry_distance, ◌⊎◌, count_for, ◌==◌, ◌^◌}
+use Rattle.niss_search.proofs.Words.{leb_tells, Alternative, IsFilling, IsExtended, mul-le-mul, eq-eqb, mul-add, ne_eqb}
 use Rattle.niss_search.proofs.Bounds.{turns_of-length}
 use Rattle.niss_search.proofs.FillLemmas.{filled-next, count-more, count-skip, count-range-le}
 use Rattle.niss_search.proofs.tables.fill.extend_level.Goals as goal

@@ -1,7 +1,5 @@
-use Rattle.std.proofs.Common.{◌≡◌, ℕ, ◌+◌, ◌-◌, ◌*◌, ◌<◌, ◌≤◌, ◌==◌, length, count_by}
-use Rattle.std.specs.List.{range_with_len}
-use Rattle.niss_cube.specs.Steps.{turns_of}
-use Rattle.niss_search.specs.Filling.{entry_distance, IsFilling, IsExtended}
+use Rattle.niss_search.proofs.Words.{◌≡◌, length, ◌+◌, ◌<◌, ℕ, ◌≤◌, turns_of, ◌*◌, ◌-◌, range_with_len, count_by, entry_distance, ◌==◌}
+use Rattle.niss_search.proofs.Words.{IsFilling, IsExtended}
 use Rattle.niss_search.proofs.tables.fill.extend_level.Given as goal
 
 abbrev pub decreases-loop-entry : goal.decreases-loop-entry

@@ -1,9 +1,5 @@
-use Rattle.std.proofs.Common.{arith, ◌≡◌, ◌+◌, ◌*◌, length, ℕ, count_by, nat_lt, ap, sym, ◌∙◌}
-use Rattle.std.specs.List.{range_with_len}
-use Rattle.std.proofs.Math.Nat.{mul-le-mul}
-use Rattle.niss_cube.specs.Steps.{turns_of}
-use Rattle.niss_search.specs.Entries.{count_for}
-use Rattle.niss_search.specs.Filling.{goal_ticks, entry_distance}
+use Rattle.niss_search.proofs.Words.{◌≡◌, arith, length, ◌+◌, ℕ, ap, ◌∙◌, sym, turns_of, ◌*◌, range_with_len, count_by, entry_distance}
+use Rattle.niss_search.proofs.Words.{count_for, nat_lt, mul-le-mul, goal_ticks}
 use Rattle.niss_search.proofs.Bounds.{turns_of-length}
 use Rattle.niss_search.proofs.FillLemmas.{count-level, count-below-zero, count-twenty, count-range-le}
 use Rattle.niss_search.proofs.EntryLemmas.{count_for-bound}

@@ -1,8 +1,4 @@
-use Rattle.std.proofs.Common.{◌≡◌, ◌+◌, ◌*◌, nat_lt, length, count_by}
-use Rattle.std.specs.List.{range_with_len}
-use Rattle.niss_cube.specs.Steps.{turns_of}
-use Rattle.niss_search.specs.Entries.{count_for}
-use Rattle.niss_search.specs.Filling.{entry_distance, IsFilled}
+use Rattle.niss_search.proofs.Words.{◌≡◌, length, ◌+◌, turns_of, ◌*◌, range_with_len, count_by, entry_distance, count_for, nat_lt, IsFilled}
 use Rattle.niss_search.proofs.tables.fill.fill_table.Given as goal
 
 abbrev pub invariant-loop-level : goal.invariant-loop-level

@@ -1,12 +1,9 @@
-use Rattle.std.proofs.Common.{arith, ◌≡◌, ◌∙◌, ap, sym, refl, map, filter, take, get_or, length, List, [], ◌∷◌, ◌++◌, Bool, true, false, cond}
-use Rattle.std.proofs.lemmas.List.{map_push, append-nil}
-use Rattle.std.proofs.lemmas.List.Elements.{All-push, filter_more}
-use Rattle.niss_moves.specs.Canonical.{may_follow}
-use Rattle.niss_search.specs.Names.{Turn, no_turn, Follower}
-use Rattle.niss_search.specs.Followers.{IsFollower}
+use Rattle.niss_search.proofs.Words.{◌≡◌, arith, length, ap, ◌∙◌, sym, [], List, refl, true, ◌∷◌, Bool, Turn, false, cond, ◌++◌, get_or}
+use Rattle.niss_search.proofs.Words.{map, may_follow, filter, take, Follower, IsFollower, append-nil, no_turn, All-push, filter_more}
+use Rattle.niss_search.proofs.Words.{map_push}
 use Rattle.niss_search.proofs.Bounds.{turns_of-length}
-use Rattle.niss_search.proofs.tables.followers.followers_after.Goals as goal
 use Rattle.niss_search.proofs.tables.followers.followers_after.Goals.{then-allowed, else-allowed}
+use Rattle.niss_search.proofs.tables.followers.followers_after.Goals as goal
 
 pub loop-column-init : goal.loop-column-init
 loop-column-init c = record {

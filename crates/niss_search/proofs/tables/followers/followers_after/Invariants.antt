@@ -1,7 +1,4 @@
-use Rattle.std.proofs.Common.{◌≡◌, ◌≤◌, length, take, filter, map, All}
-use Rattle.niss_moves.specs.Canonical.{may_follow}
-use Rattle.niss_cube.specs.Steps.{turns_of}
-use Rattle.niss_search.specs.Followers.{IsFollower}
+use Rattle.niss_search.proofs.Words.{◌≡◌, length, ◌≤◌, turns_of, map, may_follow, filter, All, take, IsFollower}
 use Rattle.niss_search.proofs.tables.followers.followers_after.Given as goal
 
 abbrev pub invariant-loop-column : goal.invariant-loop-column

@@ -1,4 +1,4 @@
-use Rattle.std.proofs.Common.{arith}
+use Rattle.niss_search.proofs.Words.{arith}
 use Rattle.niss_search.proofs.TickLemmas.{ticks-listed, ticks-of-step}
 use Rattle.niss_search.proofs.tables.kind.fill_two.Goals as goal
 

@@ -1,5 +1,4 @@
-use Rattle.std.proofs.Common.{arith, ap, length, refl}
-use Rattle.niss_search.specs.Names.{Turn}
+use Rattle.niss_search.proofs.Words.{arith, length, ap, refl, Turn}
 use Rattle.niss_search.proofs.Bounds.{turns_of-length}
 use Rattle.niss_search.proofs.tables.move_table.row_of.Goals as goal
 

@@ -1,8 +1,4 @@
-use Rattle.std.proofs.Common.{◌≡◌, ℕ, ◌≤◌, ◌<◌, length, slice_index}
-use Rattle.niss_cube.specs.Steps.{turns_of}
-use Rattle.niss_cube.specs.Coordinates.{count_of}
-use Rattle.niss_cube.specs.NumberAfter.{number_after}
-use Rattle.niss_search.specs.Moves.{turn_at}
+use Rattle.niss_search.proofs.Words.{◌≡◌, length, ◌<◌, ℕ, ◌≤◌, turns_of, slice_index, turn_at, count_of, number_after}
 use Rattle.niss_search.proofs.tables.move_table.row_of.Given as goal
 
 abbrev pub invariant-loop-column : goal.invariant-loop-column

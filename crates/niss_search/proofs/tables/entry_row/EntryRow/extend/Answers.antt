@@ -1,9 +1,5 @@
-use Rattle.std.proofs.Common.{arith, ◌≡◌, ◌+◌, ◌<◌, ap, ◌∙◌, below_more, slice_index, min, length}
-use Rattle.std.proofs.lemmas.List.Elements.{Contains-get_or}
-use Rattle.niss_search.specs.Names.{no_turn}
-use Rattle.niss_cube.specs.Steps.{turns_of}
-use Rattle.niss_search.specs.Filling.{entry_after}
-use Rattle.niss_search.specs.Moves.{turn_at}
+use Rattle.niss_search.proofs.Words.{◌≡◌, arith, length, ◌+◌, ◌<◌, ap, ◌∙◌, turns_of, slice_index, min, entry_after, no_turn, turn_at}
+use Rattle.niss_search.proofs.Words.{Contains-get_or, below_more}
 use Rattle.niss_search.proofs.EntryLemmas.{row-entry}
 use Rattle.niss_search.proofs.FillLemmas.{least-filling, least-met, least-kept}
 use Rattle.niss_search.proofs.tables.entry_row.EntryRow.extend.Goals as goal

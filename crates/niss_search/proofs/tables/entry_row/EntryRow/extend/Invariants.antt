@@ -1,7 +1,4 @@
-use Rattle.std.proofs.Common.{◌≡◌, ℕ, ◌+◌, ◌<◌, slice_index, length}
-use Rattle.niss_cube.specs.Steps.{turns_of}
-use Rattle.niss_search.specs.Filling.{entry_after, IsFilling, KeepsMet}
-use Rattle.niss_search.specs.Moves.{turn_at}
+use Rattle.niss_search.proofs.Words.{◌≡◌, length, ◌+◌, ◌<◌, ℕ, turns_of, slice_index, IsFilling, entry_after, turn_at, KeepsMet}
 use Rattle.niss_search.proofs.tables.entry_row.EntryRow.extend.Given as goal
 
 abbrev pub invariant-loop-column : goal.invariant-loop-column

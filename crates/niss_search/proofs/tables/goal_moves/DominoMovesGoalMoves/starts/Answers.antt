@@ -1,4 +1,4 @@
-use Rattle.std.proofs.Common.{arith, ◌∙◌, ap, ◌*◌}
+use Rattle.niss_search.proofs.Words.{arith, ap, ◌∙◌, ◌*◌}
 use Rattle.niss_search.proofs.EntryLemmas.{row-domino}
 use Rattle.niss_search.proofs.tables.goal_moves.DominoMovesGoalMoves.starts.Goals as goal
 

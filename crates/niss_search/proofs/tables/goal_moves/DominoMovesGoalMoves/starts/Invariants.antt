@@ -1,5 +1,4 @@
-use Rattle.std.proofs.Common.{◌≡◌, ℕ, ◌*◌, ◌<◌, length, slice_index}
-use Rattle.niss_cube.specs.Steps.{turns_of}
+use Rattle.niss_search.proofs.Words.{◌≡◌, length, ◌<◌, ℕ, turns_of, ◌*◌, slice_index}
 use Rattle.niss_search.proofs.tables.goal_moves.DominoMovesGoalMoves.starts.Given as goal
 
 abbrev pub invariant-loop-column : goal.invariant-loop-column

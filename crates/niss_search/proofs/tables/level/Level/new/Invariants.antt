@@ -1,4 +1,4 @@
-use Rattle.std.proofs.Common.{◌≡◌, ℕ, ◌+◌, ◌<◌, slice_index, min, length}
+use Rattle.niss_search.proofs.Words.{◌≡◌, length, ◌+◌, ◌<◌, ℕ, slice_index, min}
 use Rattle.niss_search.proofs.tables.level.Level.new.Given as goal
 
 abbrev pub invariant-loop-byte : goal.invariant-loop-byte

@@ -1,4 +1,4 @@
-use Rattle.std.proofs.Common.{arith}
+use Rattle.niss_search.proofs.Words.{arith}
 use Rattle.niss_search.proofs.Bounds.{turns_of-length}
 use Rattle.niss_search.proofs.tables.move_table.MoveTable.after.Goals as goal
 

@@ -1,6 +1,4 @@
-use Rattle.std.proofs.Common.{◌≡◌, ℕ, ◌<◌, length, get_or, []}
-use Rattle.niss_cube.specs.Coordinates.{count_of}
-use Rattle.niss_search.specs.Moves.{IsMoveRow}
+use Rattle.niss_search.proofs.Words.{◌≡◌, length, ◌<◌, ℕ, [], get_or, count_of, IsMoveRow}
 use Rattle.niss_search.proofs.tables.move_table.MoveTable.build_in.Given as goal
 
 abbrev pub invariant-loop-number : goal.invariant-loop-number

@@ -1,6 +1,4 @@
-use Rattle.std.proofs.Common.{◌≡◌, ◌≤◌, map, take, length}
-use Rattle.niss_cube.specs.Map.{map_of}
-use Rattle.niss_search.specs.Positions.{coordinates_of}
+use Rattle.niss_search.proofs.Words.{◌≡◌, length, ◌≤◌, map, take, coordinates_of, map_of}
 use Rattle.niss_search.proofs.tables.position.Position.of.Given as goal
 
 abbrev pub invariant-loop-goal : goal.invariant-loop-goal

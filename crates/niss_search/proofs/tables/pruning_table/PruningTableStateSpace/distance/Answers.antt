@@ -1,5 +1,4 @@
-use Rattle.std.proofs.Common.{arith, ap, ◌∙◌, slice_index}
-use Rattle.std.proofs.lemmas.List.{get_or_read}
+use Rattle.niss_search.proofs.Words.{arith, ap, ◌∙◌, slice_index, get_or_read}
 use Rattle.niss_search.proofs.EntryLemmas.{table-answer}
 use Rattle.niss_search.proofs.tables.pruning_table.PruningTableStateSpace.distance.Goals as goal
 

@@ -1,5 +1,4 @@
-use Rattle.std.proofs.Common.{arith, sym, ap, length}
-use Rattle.niss_search.specs.Names.{Fb, Coordinates, Flip}
+use Rattle.niss_search.proofs.Words.{arith, length, ap, sym, Coordinates, Flip, Fb}
 use Rattle.niss_search.proofs.EntryLemmas.{entries-one}
 use Rattle.niss_search.proofs.tables.pruning_table.PruningTableStateSpace.state.Goals as goal
 

@@ -1,4 +1,4 @@
-use Rattle.std.proofs.Common.{ap}
+use Rattle.niss_search.proofs.Words.{ap}
 use Rattle.niss_search.specs.StepSpace.{StepSpace}
 use Rattle.niss_search.proofs.EntryLemmas.{position-is-entries}
 use Rattle.niss_search.proofs.tables.search_tables.SearchTables.state.Goals as goal

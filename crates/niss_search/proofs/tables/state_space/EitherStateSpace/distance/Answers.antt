@@ -1,4 +1,4 @@
-use Rattle.std.proofs.Common.{sym}
+use Rattle.niss_search.proofs.Words.{sym}
 use Rattle.niss_search.proofs.LookLemmas.{distance_at-least}
 use Rattle.niss_search.proofs.tables.state_space.EitherStateSpace.distance.Goals as goal
 
