@@ -136,7 +136,10 @@ static int is_slow(text words) {
 static int reads_input(text words) {
     size_t zeros = 0;
     for (size_t at = 0; at < words.size; at++) zeros += words.bytes[at] == 0;
-    return words.size && words.bytes[words.size - 1] == 0 && zeros == (words.bytes[0] == 'n' ? 4 : memchr("sc", words.bytes[0], 2) ? 3 : 1);
+    if (words.size == 0 || words.bytes[words.size - 1] != 0) return 0;
+    const char *command = (const char *)words.bytes;
+    int is_near = strcmp(command, "near") == 0, is_search = is_near || strcmp(command, "solve") == 0 || strcmp(command, "count") == 0;
+    return zeros == (is_near ? 4u : is_search ? 3u : 1u);
 }
 
 /* A run whole, then in other rooms, with memory refused, without the last zero byte, and with its input moved. */
