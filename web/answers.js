@@ -44,10 +44,11 @@ export async function countsOf(calls, step, lines) {
     return (await answersOf(calls, ["count", step, "20"], lines)).map(readCount);
 }
 
-/** @param {string} text @returns {Solution | null} */
+/** A line such as `F B' (2)`, which may be one of a million. @param {string} text @returns {Solution | null} */
 function readSolution(text) {
-    const found = /^(?:(.*) )?\((\d+)\)$/.exec(text);
-    return found && { moves: found[1] ?? "", length: Number(found[2]) };
+    const place = text.lastIndexOf("(");
+    if (place < 0 || !text.endsWith(")")) return null;
+    return { moves: text.slice(0, Math.max(0, place - 1)), length: Number(text.slice(place + 1, -1)) };
 }
 
 /**

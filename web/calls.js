@@ -54,14 +54,17 @@ export class Calls {
 
     #start() {
         const address = URL.createObjectURL(new Blob([this.#script], { type: "text/javascript" }));
-        this.#worker = new Worker(address);
+        const worker = new Worker(address);
         URL.revokeObjectURL(address);
-        this.#worker.addEventListener("message", ({ data }) => this.#take(data));
-        this.#worker.addEventListener("error", (event) => {
+        this.#worker = worker;
+        // one that was ended while it loaded says nothing of the next one
+        const end = (fault) => worker === this.#worker && this.#end(fault);
+        worker.addEventListener("message", ({ data }) => this.#take(data));
+        worker.addEventListener("error", (event) => {
             event.preventDefault();
-            this.#end(new EngineMissing(event.message || "the engine could not be started"));
+            end(new EngineMissing(event.message || "the engine could not be started"));
         });
-        this.#ask({ module: this.#module }).catch((fault) => this.#end(fault));
+        this.#ask({ module: this.#module }).catch(end);
     }
 
     #ask(message) {

@@ -30,7 +30,14 @@ function turnsOf(text) {
 }
 
 /** Whether a solution has these turns one after another. @param {Solution} solution @param {string[]} wanted */
-const hasTurns = ({ moves }, wanted) => ` ${moves} `.includes(` ${wanted.join(" ")} `) || wanted.length === 0;
+const hasTurns = ({ moves }, wanted) => wanted.length === 0 || ` ${moves} `.includes(` ${wanted.join(" ")} `);
+
+/** How many solutions there are of each length. @param {Solution[]} solutions @returns {Map<number, number>} */
+function countsOfLengths(solutions) {
+    const counts = new Map();
+    for (const { length } of solutions) counts.set(length, (counts.get(length) ?? 0) + 1);
+    return counts;
+}
 
 /** @param {Solution[]} solutions @returns {Map<number, Solution[]>} */
 function byLength(solutions) {
@@ -111,8 +118,8 @@ export class SolutionList {
         this.#filter.setAttribute("aria-invalid", String(wanted === null));
         const matching = wanted === null ? [] : this.#solutions.filter((solution) => hasTurns(solution, wanted));
         const shown = matching.slice(0, MOST_SHOWN);
-        const groups = byLength(matching);
-        const parts = [...byLength(shown)].map(([length, solutions]) => this.#group(length, solutions, groups.get(length).length));
+        const counts = countsOfLengths(matching);
+        const parts = [...byLength(shown)].map(([length, solutions]) => this.#group(length, solutions, counts.get(length)));
         this.#groups.replaceChildren(...parts);
         this.#groups.querySelector("button")?.setAttribute("tabindex", "0");
         tell(part("solutions-note"), wanted === null ? NOT_MOVES : this.#note(matching.length, shown.length, wanted.join(" ")));

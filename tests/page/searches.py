@@ -137,7 +137,12 @@ def unknown(tally: Tally, browser: Browser) -> None:
 
 
 def hasty(tally: Tally, browser: Browser) -> None:
-    """A cell that is chosen while another scramble is still looked at, and an address that is changed twice."""
+    """Another list before the engine has started, a cell while another scramble is looked at, and an address that is changed twice."""
+    browser.open(address_of(LONGER))
+    browser.script("document.querySelector('[data-cell=\"eoud.inverse\"]').click();" + CHOOSE, "1")
+    browser.wait()
+    longer = Position(LONGER).solutions("eoud", "inverse", 1)
+    tally.equal("another slack at once", browser.texts("#solutions-groups button"), longer[:200])
     browser.open(address_of(SCRAMBLE))
     browser.script("document.querySelector('[data-example]').click(); document.querySelector('[data-cell=\"eoud.inverse\"]').click()")
     browser.wait()
