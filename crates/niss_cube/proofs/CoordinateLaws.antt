@@ -4,10 +4,9 @@ use Rattle.niss_cube.proofs.Words.{turned, inverse_turn, Turn, Axis, Cube, Coord
 use Rattle.niss_cube.proofs.Words.{renamed_for, standard_axis, turn_for, number_after, IsCube, every_turn, every_face, every_power}
 use Rattle.niss_cube.proofs.Words.{TurnedIsCube, AreCoordinates}
 use Rattle.niss_cube.proofs.CubieKinds.{lists_of, cube_of, CubieLists, Valid, map_lists, map_place}
-use Rattle.niss_cube.proofs.KeptTests.{kept_same}
+use Rattle.niss_cube.proofs.KeptSets.{kept_same, cubies_for, renaming, sets_are_places, zero-kept}
 use Rattle.niss_cube.proofs.Codes.{code, number_of-code, code-below, cubies_with, cubies_with-valid, cubies_with-code, number_after-is}
 use Rattle.niss_cube.proofs.Codes.{code-turned, unrenamed}
-use Rattle.niss_cube.proofs.KeptSets.{cubies_for, renaming, sets_are_places, zero-kept}
 use Rattle.niss_cube.proofs.MovedCubies.{By, moved, moved-map, moved-valid}
 
 turned-inverse_turn : (t : Turn) (q : Place) → is_place q ≡ true → turned (inverse_turn t) (turned t q) ≡ q

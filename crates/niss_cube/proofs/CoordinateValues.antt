@@ -1,7 +1,7 @@
 -- The digits and the occupied places of a cube's cubies, and the range of their numbers.
 use Rattle.niss_cube.proofs.Words.{Equal, Numbers, holds, refl, sym, ◌∙◌, ap, subst, arith, ◌≡◌, ℕ, zero, suc, ◌+◌, ◌-◌, ◌*◌, ◌<◌, ◌≤◌}
-use Rattle.niss_cube.proofs.Words.{List, [], ◌∷◌, length, get_or, map, take, drop, reverse, Bool, true, false, nat_le, ◌==◌, get_or-reverse}
-use Rattle.niss_cube.proofs.Words.{length-reverse, length-map, get_or-map, get_or-take, length-take, drop-cons, choose, rank}
+use Rattle.niss_cube.proofs.Words.{List, [], ◌∷◌, length, get_or, map, take, reverse, Bool, true, false, nat_le, ◌==◌, get_or-reverse}
+use Rattle.niss_cube.proofs.Words.{length-reverse, length-map, get_or-map, get_or-take, length-take, choose, rank}
 use Rattle.niss_cube.proofs.CubieKinds.{CubieLists, Valid, Edges, once}
 use Rattle.niss_cube.proofs.Sums.{below, one_if, below_same, below_permuted, below_front}
 use Rattle.niss_cube.proofs.Numbers.{number_from, Digits, filled, rank-below}
@@ -78,7 +78,3 @@ number_from-least b a (d ∷ ds) h =
   where
     mul_least : (a b : ℕ) → 0 < b → a ≤ b * a
     mul_least a b h = grind arith
-
--- one more digit
-pub number_from-step : (b n i : ℕ) (ds : List ℕ) → i < length ds → number_from b n (drop i ds) ≡ number_from b (b * n + get_or ds i 0) (drop (suc i) ds)
-number_from-step b n i ds l = ap (number_from b n) (drop-cons ds i 0 l)

@@ -1,22 +1,36 @@
 -- How a coordinate on an axis is renamed, and that it is 0 exactly where its set of places is kept.
-use Rattle.niss_cube.proofs.Words.{ArePlaces, Fact, Equal, Numbers, Holds, Same, Places, holds, refl, sym, ◌∙◌, ap, arith, inl, inr, ◌≡◌, ℕ}
-use Rattle.niss_cube.proofs.Words.{◌+◌, ◌-◌, ◌%◌, ◌<◌, List, [], ◌∷◌, get_or, Option, None, Some, Bool, true, false, ◌&&◌, not, ◌==◌, ◌↔◌}
-use Rattle.niss_cube.proofs.Words.{nat_le, eqb-true, false_from_ne_true, eqb_tells, ext_get_or, Place, is_place, is_edge, SameMap}
-use Rattle.niss_cube.proofs.Words.{renamed_turn, Axis, Ud, Rl, Fb, Coordinate, Flip, Twist, Slice, Renaming, XCounter, XQuarter, YQuarter}
-use Rattle.niss_cube.proofs.Words.{ZCounter, rank, number_of, renamed_for, turn_for, flips_home, twists_home, Kept, is_kept, flip_set}
-use Rattle.niss_cube.proofs.Words.{twist_set, slice_set, set_of, and_left, renamed_if, face_if, rotated, rotated_back, renaming_for}
-use Rattle.niss_cube.proofs.Words.{SetsArePlaces, tested}
+use Rattle.niss_cube.proofs.Words.{false_from_ne_true, SetsArePlaces, renamed_turn, rotated_back, renaming_for, renamed_for, twists_home, ℕ}
+use Rattle.niss_cube.proofs.Words.{ext_get_or, Coordinate, flips_home, renamed_if, ArePlaces, eqb_tells, number_of, twist_set, slice_set}
+use Rattle.niss_cube.proofs.Words.{eqb-true, is_place, Renaming, XCounter, XQuarter, YQuarter, ZCounter, turn_for, flip_set, and_left, Fact}
+use Rattle.niss_cube.proofs.Words.{Numbers, is_edge, SameMap, is_kept, face_if, rotated, Places, get_or, Option, nat_le, set_of, tested, ap}
+use Rattle.niss_cube.proofs.Words.{Equal, Holds, holds, arith, false, Place, Twist, Slice, Same, refl, List, None, Some, Bool, true, ◌&&◌}
+use Rattle.niss_cube.proofs.Words.{◌==◌, Axis, Flip, rank, Kept, sym, ◌∙◌, inl, inr, ◌≡◌, ◌+◌, ◌-◌, ◌%◌, ◌<◌, ◌∷◌, not, ◌↔◌, [], Ud, Rl, Fb}
+use Rattle.niss_cube.proofs.Words.{Yes, When, ◌||◌, places, list_all-from_AllPass, KeptIsTested}
 use Rattle.niss_cube.proofs.Sums.{one_if-same, one_if, below_permuted, below_all_same, one_if-at_most, eqb-itself}
 use Rattle.niss_cube.proofs.CubieKinds.{CubieLists, Valid, map_lists, Kind, Corners, Edges, count, facelets, at, is_of, home_at, turn_at}
-use Rattle.niss_cube.proofs.CubieKinds.{place_of, stand, stands, stands-at, low, some_facelet, kind_place, Located, located, shown_at}
+use Rattle.niss_cube.proofs.CubieKinds.{place_of, stand, stands, stands-at, low, some_facelet, unturned, kind_place, Located, located, shown_at}
 use Rattle.niss_cube.proofs.CubieKinds.{map_place}
 use Rattle.niss_cube.proofs.Numbers.{rank-same}
 use Rattle.niss_cube.proofs.CoordinateValues.{edge-once, slice_occupied, slice_occupied-length, slice_occupied-at, slice_occupied-filled}
 use Rattle.niss_cube.proofs.AxisRenamings.{KeepsPlaces, IsRenaming, by_rotation, not_renamed, back-place, out-back, back-out}
 use Rattle.niss_cube.proofs.Orientations.{base_2, base_3, oriented_zero}
 use Rattle.niss_cube.proofs.Codes.{code, number_of-code, flips_home-are, twists_home-are}
-use Rattle.niss_cube.proofs.KeptTests.{kept_is_tested}
 use Rattle.niss_cube.proofs.MovedCubies.{Under, moved}
+
+implies : (a b : Bool) → (a ≡ true → b ≡ true) → (not a || b) ≡ true
+implies true b h = h refl
+implies false b h = refl
+
+pub kept_is_tested : KeptIsTested
+unfolding is_kept
+kept_is_tested set e inside = (
+  (λ h q m. holds (Places λ q. When (set q) (Yes (set (e q)))) h q (inside q m) m),
+  (λ k. list_all-from_AllPass (λ q. not (set q) || set (e q)) places (λ i q l. implies _ _ (k _))),
+)
+
+-- whether a set of places is kept depends on the places alone
+pub kept_same : (set : Place → Bool) (d e : Place → Place) → ArePlaces set → SameMap d e → Kept set d → Kept set e
+kept_same set d e inside s kept q m = ap set (sym (s q (inside q m))) ∙ kept q m
 
 -- the cubies from which a coordinate on an axis is read
 abbrev renamed_cubies_if : Option Renaming → CubieLists → CubieLists
@@ -101,10 +115,6 @@ none_turned : (k : Kind) (s t : ℕ) → s < facelets k → t < facelets k → (
 none_turned Corners s t ls lt e = omega arith
 none_turned Edges s t ls lt e = omega arith
 
-turned_by_none : (k : Kind) (s : ℕ) → s < facelets k → (s + 0) % facelets k ≡ s
-turned_by_none Corners s l = omega arith
-turned_by_none Edges s l = omega arith
-
 -- a set with one facelet in each row is kept where no cubie is turned
 module _ (k : Kind) (set : Place → Bool) (inside : (q : Place) → set q ≡ true → is_of k q ≡ true) (s : ℕ) (ls : s < facelets k) (in_set : Holds (row_fact k set s))
     (c : CubieLists) (v : Valid c) (e : Place → Place) (same : SameMap e (map_lists c)) where
@@ -123,7 +133,7 @@ module _ (k : Kind) (set : Place → Bool) (inside : (q : Place) → set q ≡ t
       let ln : n < count k = (stands k c v a.row a.row_below).0 in
       let first : a.index ≡ s = eqb-true _ _ (sym (in_set a.row a.row_below a.index a.index_below) ∙ ap set (sym a.is) ∙ q_in) in
       ap (λ z. set (e z)) (a.is ∙ ap (at k a.row) first)
-      ∙ ap set (shown_at k c e same a.row s a.row_below ls ∙ ap (λ t. at k n ((s + t) % facelets k)) (zeros n ln) ∙ ap (at k n) (turned_by_none k s ls))
+      ∙ ap set (shown_at k c e same a.row s a.row_below ls ∙ ap (λ t. at k n ((s + t) % facelets k)) (zeros n ln) ∙ ap (at k n) (unturned k s (s + 0) ls (omega arith)))
       ∙ in_set n ln s ls ∙ eqb-itself s
 
   turns_kept : Kept set e ↔ ((i : ℕ) → i < count k → turn_at k c i ≡ 0)

@@ -213,31 +213,31 @@ module _ (m : Motion) (c : CubieLists) (v : Valid c) where
         placed = record {
           places = b.homes_len;
           each = λ h l.
-            count_by-times (homes k d) h
-            ∙ ap (λ n. below n (λ i. one_if (home_at k d i == h))) b.homes_len
-            ∙ below_same (count k) (λ i. one_if (home_at k d i == h)) (λ i. one_if (home_at k c (from_at k m i) == was_at k m h)) (λ i li.
-            ap one_if (same_truth _ _
-            (λ e. eq-eqb _ _ (sym (home-was k i li) ∙ ap (was_at k m) (eqb-true _ _ e)))
-            (λ e. eq-eqb _ _ (b.home_is i li ∙ ap (to_at k m) (eqb-true _ _ e) ∙ t.to_was h l))))
-            ∙ below_permuted (count k) (from_at k m) (λ i. one_if (home_at k c i == was_at k m h)) t.from_below t.once
-            ∙ all_once (was_at k m h) (t.was_below h l);
+              count_by-times (homes k d) h
+              ∙ ap (λ n. below n (λ i. one_if (home_at k d i == h))) b.homes_len
+              ∙ below_same (count k) (λ i. one_if (home_at k d i == h)) (λ i. one_if (home_at k c (from_at k m i) == was_at k m h)) (λ i li.
+              ap one_if (same_truth _ _
+              (λ e. eq-eqb _ _ (sym (home-was k i li) ∙ ap (was_at k m) (eqb-true _ _ e)))
+              (λ e. eq-eqb _ _ (b.home_is i li ∙ ap (to_at k m) (eqb-true _ _ e) ∙ t.to_was h l))))
+              ∙ below_permuted (count k) (from_at k m) (λ i. one_if (home_at k c i == was_at k m h)) t.from_below t.once
+              ∙ all_once (was_at k m h) (t.was_below h l);
           range = λ i l. let s : new_home k m c i < count k = t.to_below _ (s.placed.range _ (t.from_below i l)) in rw (b.home_is i l) s;
         };
         oriented = record {
           places = b.turns_len;
           range = λ i l. rw (b.turn_is i l) (low k _);
           whole =
-            let sum_is : below (count k) (turned_sum k m c) ≡ sum (turns k c) + (below (count k) (inward_at k m) + below (count k) (outward_at k m)) =
-            below_add (count k) (λ i. turns_from (from_at k m i)) (outward_at k m)
-            ∙ ap (λ x. x + below (count k) (outward_at k m))
-            (below_permuted (count k) (from_at k m) turns_from t.from_below t.once
-            ∙ below_add (count k) (λ i. inward_at k m (home_at k c i)) (turn_at k c)
-            ∙ ap (λ x. x + below (count k) (turn_at k c)) (below_permuted (count k) (home_at k c) (inward_at k m) s.placed.range all_once))
-            ∙ omega (arith, sum_turns k c s.oriented.places) in
-            ap (λ x. x % facelets k) (sum_turns k d b.turns_len ∙ below_same (count k) (turn_at k d) (λ i. turned_sum k m c i % facelets k) b.turn_is)
-            ∙ below_mod (facelets k) (remainders k) (count k) (turned_sum k m c)
-            ∙ ap (λ x. x % facelets k) sum_is
-            ∙ (remainders k).zeros (sum (turns k c)) (below (count k) (inward_at k m) + below (count k) (outward_at k m)) s.oriented.whole t.whole;
+              let sum_is : below (count k) (turned_sum k m c) ≡ sum (turns k c) + (below (count k) (inward_at k m) + below (count k) (outward_at k m)) =
+              below_add (count k) (λ i. turns_from (from_at k m i)) (outward_at k m)
+              ∙ ap (λ x. x + below (count k) (outward_at k m))
+              (below_permuted (count k) (from_at k m) turns_from t.from_below t.once
+              ∙ below_add (count k) (λ i. inward_at k m (home_at k c i)) (turn_at k c)
+              ∙ ap (λ x. x + below (count k) (turn_at k c)) (below_permuted (count k) (home_at k c) (inward_at k m) s.placed.range all_once))
+              ∙ omega (arith, sum_turns k c s.oriented.places) in
+              ap (λ x. x % facelets k) (sum_turns k d b.turns_len ∙ below_same (count k) (turn_at k d) (λ i. turned_sum k m c i % facelets k) b.turn_is)
+              ∙ below_mod (facelets k) (remainders k) (count k) (turned_sum k m c)
+              ∙ ap (λ x. x % facelets k) sum_is
+              ∙ (remainders k).zeros (sum (turns k c)) (below (count k) (inward_at k m) + below (count k) (outward_at k m)) s.oriented.whole t.whole;
         };
       }
 

@@ -1,7 +1,7 @@
 -- Each number below the choices is that of its edges.
-use Rattle.niss_cube.proofs.Words.{refl, ◌∙◌, ap, arith, inl, inr, ◌≡◌, ℕ, zero, suc, ◌+◌, ◌-◌, ◌<◌, ◌≤◌, List, [], ◌∷◌, length, get_or, map}
-use Rattle.niss_cube.proofs.Words.{true, false, nat_le, ◌==◌, count_by, le-leb, leb-true, false_from_ne_true, leb_tells, sum_by-cons, length-map}
-use Rattle.niss_cube.proofs.Words.{Bool, subst, choose, rank, choices_with, edges_down}
+use Rattle.niss_cube.proofs.Words.{refl, ◌∙◌, ap, arith, inl, inr, ◌≡◌, ℕ, zero, suc, ◌+◌, ◌-◌, ◌<◌, ◌≤◌, List, [], ◌∷◌, length, get_or}
+use Rattle.niss_cube.proofs.Words.{map, true, false, nat_le, ◌==◌, count_by, le-leb, leb_tells, sum_by-cons, length-map, Bool, subst}
+use Rattle.niss_cube.proofs.Words.{choose, rank, choices_with, edges_down, lt-leb}
 use Rattle.niss_cube.proofs.Sums.{below, one_if}
 use Rattle.niss_cube.proofs.Numbers.{filled}
 
@@ -41,7 +41,7 @@ more_slice n k i xs few r =
 
 more_free : (n k i m : ℕ) (xs : List ℕ) → k ≤ n → n < 8 + k → i ≡ choices_with n k + m → Numbered n k m xs → Numbered (suc n) k i ((n - k) ∷ xs)
 more_free n k i m xs enough few e r =
-    let free : nat_le 8 (n - k) ≡ false = false_from_ne_true (nat_le 8 (n - k)) (λ e. let l : 8 ≤ n - k = leb-true 8 (n - k) e in omega arith) in
+    let free : nat_le 8 (n - k) ≡ false = lt-leb 8 (n - k) (omega arith) in
     let more : suc n - k ≡ suc (n - k) = omega arith in
     record {
       places = ap suc r.places;

@@ -1,8 +1,8 @@
 -- The orientations of pieces, flips or twists, by their number.
 use Rattle.niss_cube.proofs.Words.{refl, sym, ◌∙◌, ap, subst, arith, inl, inr, ◌≡◌, ℕ, zero, suc, ◌+◌, ◌-◌, ◌*◌, ◌/◌, ◌%◌, ◌<◌, List, []}
-use Rattle.niss_cube.proofs.Words.{◌∷◌, ◌++◌, length, get_or, take, ◌⊎◌, slice_index, sum, ◌↔◌, ext_get_or, get_or-take, length-take}
-use Rattle.niss_cube.proofs.Words.{take-length, eqb_tells, number, digits_of_number, orientations_of_number, length-append, min}
-use Rattle.niss_cube.proofs.Words.{fold-append, sum_by-append, take-suc, take-append_seam, AreOriented}
+use Rattle.niss_cube.proofs.Words.{◌∷◌, ◌++◌, length, get_or, take, ◌⊎◌, sum, ◌↔◌, ext_get_or, get_or-take, length-take, take-length}
+use Rattle.niss_cube.proofs.Words.{eqb_tells, number, digits_of_number, orientations_of_number, length-append, min, fold-append}
+use Rattle.niss_cube.proofs.Words.{sum_by-append, take-suc, take-append_seam, AreOriented}
 use Rattle.niss_cube.proofs.Numbers.{number_from, Digits, Splits, splits-2, splits-3, number-same, number-below, span}
 use Rattle.niss_cube.proofs.CoordinateValues.{digits_taken}
 

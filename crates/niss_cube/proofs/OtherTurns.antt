@@ -2,8 +2,7 @@
 use Rattle.niss_cube.proofs.Words.{Fact, Yes, When, Turns, Holds, holds, ◌≡◌, refl, ap, ◌∙◌, sym, true, Option, None, Some, Contains}
 use Rattle.niss_cube.proofs.Words.{IsTrue, Contains-from_any, turned, Axis, Ud, Rl, Fb, Turn, Cube, Flip, every_turn, every_face}
 use Rattle.niss_cube.proofs.Words.{every_power, map_of, Kept, is_kept, flip_set, start_of, turns_of, may_start, OtherTurnsLeaveStart}
-use Rattle.niss_cube.proofs.KeptSets.{sets_are_places}
-use Rattle.niss_cube.proofs.KeptTests.{kept_is_tested}
+use Rattle.niss_cube.proofs.KeptSets.{sets_are_places, kept_is_tested}
 use Rattle.niss_cube.proofs.Permutations.{cubes_permute_places, kept_is_equal}
 use Rattle.niss_cube.proofs.StepMaps.{starts}
 use Rattle.niss_cube.proofs.StepTurns.{turns_from, same_turn-is, is_among}

@@ -1,7 +1,7 @@
 -- The steps of the loop that places the edges of a slice.
-use Rattle.niss_cube.proofs.Words.{refl, sym, ◌∙◌, ap, subst, arith, ◌≡◌, ℕ, zero, suc, ◌+◌, ◌-◌, ◌<◌, ◌≤◌, List, [], ◌∷◌, ◌++◌, length, set}
-use Rattle.niss_cube.proofs.Words.{drop, reverse, append_assoc, length-set, drop-set_at, reverse-append, lt-ltb, ltb-true}
-use Rattle.niss_cube.proofs.Words.{false_from_ne_true, nat_lt, choose, choices_with, edges_down, edges_of_number}
+use Rattle.niss_cube.proofs.Words.{refl, sym, ◌∙◌, ap, subst, arith, ◌≡◌, ℕ, zero, suc, ◌+◌, ◌-◌, ◌<◌, ◌≤◌, List, [], ◌∷◌, ◌++◌, length}
+use Rattle.niss_cube.proofs.Words.{set, drop, reverse, append_assoc, length-set, drop-set_at, reverse-append, lt-ltb, choose, choices_with}
+use Rattle.niss_cube.proofs.Words.{edges_down, edges_of_number, le-ltb}
 use Rattle.niss_cube.proofs.NumberedEdges.{choosable}
 
 -- what the loop keeps: the edges still to come, and those placed, are the edges of the number
@@ -31,7 +31,7 @@ head_free n zero i l =
     let a : n - 0 ≡ n = omega arith in
     let b : i - 0 ≡ i = omega arith in
     cc
-head_free n (suc k) i l = rw (false_from_ne_true (nat_lt i (choose n k)) (λ t. let m : i < choose n k = ltb-true i (choose n k) t in omega arith)) refl
+head_free n (suc k) i l = rw (le-ltb i (choose n k) l) refl
 
 module _ (number met w r : ℕ) (edges edges' : List ℕ) (l : met < 12) (now : Placed number (12 - met) w r edges) where
   abbrev n : ℕ

@@ -63,7 +63,7 @@ module _ (k : Kind) (c : CubieLists) (v : Valid c) (e : Place → Place) (same :
   pub first_at : (h : ℕ) → h < count k → e (at k h 0) ≡ at k (place_of k c h) (turn_at k c (place_of k c h))
   first_at h l =
       shown_at k c e same h 0 l (some_facelet k)
-      ∙ ap (at k (place_of k c h)) (unturned k _ ((stand k c v).oriented.range _ (stands k c v h l).0))
+      ∙ ap (at k (place_of k c h)) (unturned k _ _ ((stand k c v).oriented.range _ (stands k c v h l).0) (omega arith))
 
   -- that of a home that is selected is brought to facelet j of place i
   brings_test : (sel : ℕ → Bool) (i j : ℕ) → i < count k → j < facelets k → any_below (count k) (λ h. sel h && same_place (e (at k h 0)) (at k i j)) ≡ (sel (home_at k c i) && (turn_at k c i == j))

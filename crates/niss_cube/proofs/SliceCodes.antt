@@ -1,8 +1,8 @@
 -- The edges of a slice by their number, and after a turn.
-use Rattle.niss_cube.proofs.Words.{Equal, Numbers, holds, refl, sym, ◌∙◌, ap, arith, ◌≡◌, ℕ, ◌-◌, ◌<◌, List, [], ◌∷◌, length, get_or}
-use Rattle.niss_cube.proofs.Words.{map, reverse, Bool, false, nat_le, ◌==◌, count_by, slice_index, ext_get_or, get_or-map, length-map}
-use Rattle.niss_cube.proofs.Words.{length-reverse, get_or-reverse, reverse-append, map-append, IsPermutation-reverse, Turn, turn_table}
-use Rattle.niss_cube.proofs.Words.{sum_by-IsPermutation, rank, edges_down, edges_of_number, reverse-reverse, ArePlaced}
+use Rattle.niss_cube.proofs.Words.{Equal, Numbers, holds, refl, sym, ◌∙◌, ap, arith, ◌≡◌, ℕ, ◌-◌, ◌<◌, List, [], ◌∷◌, length, get_or, map}
+use Rattle.niss_cube.proofs.Words.{reverse, Bool, false, nat_le, ◌==◌, ext_get_or, get_or-map, length-map, length-reverse, get_or-reverse}
+use Rattle.niss_cube.proofs.Words.{reverse-append, map-append, IsPermutation-reverse, Turn, turn_table, sum_by-IsPermutation, rank}
+use Rattle.niss_cube.proofs.Words.{edges_down, edges_of_number, reverse-reverse, ArePlaced}
 use Rattle.niss_cube.proofs.CubieKinds.{tabulated, tabulated-length, tabulated-at, brought, Edges}
 use Rattle.niss_cube.proofs.MovedCubies.{By, table}
 use Rattle.niss_cube.proofs.Sums.{one_if}

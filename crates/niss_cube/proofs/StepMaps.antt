@@ -5,8 +5,7 @@ use Rattle.niss_cube.proofs.Words.{flip_set, twist_set, slice_set, start_of, goa
 use Rattle.niss_cube.proofs.Words.{StartIsKept, StepsSeePlaces}
 use Rattle.niss_cube.specs.Names.{Edges}
 use Rattle.niss_cube.specs.Steps.{holds}
-use Rattle.niss_cube.proofs.KeptTests.{kept_is_tested, kept_same}
-use Rattle.niss_cube.proofs.KeptSets.{sets_are_places}
+use Rattle.niss_cube.proofs.KeptSets.{kept_is_tested, kept_same, sets_are_places}
 use Rattle.niss_cube.proofs.StepTurns.{turns_from, turn_keeps}
 
 -- the start is kept

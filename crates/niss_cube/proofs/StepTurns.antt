@@ -67,12 +67,9 @@ all_have_inverses (Some Ud) = holds (inverse_fact (Some Ud)) refl
 all_have_inverses (Some Rl) = holds (inverse_fact (Some Rl)) refl
 all_have_inverses (Some Fb) = holds (inverse_fact (Some Fb)) refl
 
-inverse_from : (start : Option Axis) (t : Turn) → Contains (turns_from start) t → Contains (turns_from start) (inverse_turn t)
-inverse_from start t m = Contains-from_any same_turn-is (inverse_turn t) (turns_from start) (all_have_inverses start t m)
-
 pub inverses_of_steps : InversesOfSteps
 unfolding turns_of
-inverses_of_steps s t m = inverse_from (start_of s) t m
+inverses_of_steps s t m = Contains-from_any same_turn-is (inverse_turn t) (turns_from (start_of s)) (all_have_inverses (start_of s) t m)
 
 -- they are some of the 18
 

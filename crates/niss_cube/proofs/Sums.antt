@@ -1,7 +1,6 @@
 -- Sums over the numbers below a bound, and over the places of a permutation.
-use Rattle.niss_cube.proofs.Words.{refl, sym, ◌∙◌, ap, arith, inl, inr, ◌≡◌, ℕ, zero, suc, ◌+◌, ◌*◌, ◌<◌, ◌≤◌, List, [], ◌∷◌, length}
-use Rattle.niss_cube.proofs.Words.{get_or, Bool, true, false, ◌==◌, sum_by-cons, eqb-true, eq-eqb, false_from_ne_true, eqb_tells, cond}
-use Rattle.niss_cube.proofs.Words.{sum_by}
+use Rattle.niss_cube.proofs.Words.{false_from_ne_true, sum_by-cons, eqb_tells, eqb-true, length, get_or, eq-eqb, sum_by, arith, false, refl}
+use Rattle.niss_cube.proofs.Words.{zero, List, Bool, true, ◌==◌, cond, sym, ◌∙◌, inl, inr, ◌≡◌, suc, ◌+◌, ◌*◌, ◌<◌, ◌≤◌, ◌∷◌, ap, [], ℕ}
 
 abbrev pub below : ℕ → (ℕ → ℕ) → ℕ
 below zero f = 0

@@ -4,7 +4,7 @@ pub use Rattle.std.proofs.Common.{subst, suc, ◌%◌, ◌≤◌, drop, inl, inr
 pub use Rattle.std.proofs.Common.{slice_index, ◌*◌, None, set, ◌⊎◌, append_assoc, rules, length-append, ◌≢◌}
 pub use Rattle.std.proofs.Math.Nat.{mul-le-mul_left}
 pub use Rattle.std.proofs.Math.Seq.{drop-cons, take-length, take-suc, take-append_seam, take-suc-set}
-pub use Rattle.std.proofs.lemmas.Bool.{eqb-true, ltb-true, eq-eqb, false_from_ne_true, le-leb, leb-true, true_from_ne_false, lt-ltb}
+pub use Rattle.std.proofs.lemmas.Bool.{eqb-true, lt-leb, le-ltb, eq-eqb, false_from_ne_true, le-leb, leb-true, true_from_ne_false, lt-ltb}
 pub use Rattle.std.proofs.lemmas.Bool.Decides.{eqb_tells, leb_tells}
 pub use Rattle.std.proofs.lemmas.Grind.{drop-set_at}
 pub use Rattle.std.proofs.lemmas.List.{ext_get_or, get_or-map, length-map, length-set, length-reverse, append-nil, at_drop_more, map-append}
@@ -22,14 +22,14 @@ pub use Rattle.std.specs.Option.{option_map_or}
 pub use Rattle.std.specs.Prelude.{nat_lt, nat_le, sum, ◌↔◌, Contains, IsTrue, count_by, if◌then◌else◌, ◌/◌, EachIndex, nat_eq, fold, min}
 pub use Rattle.std.specs.Prelude.{flat_map, filter, cond, IfNone, IfSome, MatchOption, slice_index_or}
 pub use lib.Pointwise.{pointwise}
-pub use Rattle.niss_moves.proofs.CallerLemmas.{same_place_is, at_turn, same_place_of, at_token, effect-append, inverse_after}
-pub use Rattle.niss_moves.proofs.CallerLemmas.{inverse_before, all_places, same_face_is, same_power, same_power_is, turn, inverse_last}
+pub use Rattle.niss_moves.proofs.CallerLemmas.{same_place_is, same_place_of, effect-append, inverse_after}
+pub use Rattle.niss_moves.proofs.CallerLemmas.{inverse_before, all_places, same_face_is, same_power, same_power_is, turn}
 pub use Rattle.niss_moves.proofs.CallerLemmas.{inverse_whole}
 unfoldable pub use Rattle.niss_moves.proofs.CallerLemmas.{every_face, every_power, every_turn, every_axis, every_slice, every_token}
 pub use Rattle.niss_moves.specs.Canonical.{face_order, turn_order}
-pub use Rattle.niss_moves.specs.Effects.{turned, effect, inverse, moved_by, effect_of_turns, inverse_token, moved, face_move}
+pub use Rattle.niss_moves.specs.Effects.{turned, effect, inverse, moved_by, effect_of_turns, inverse_token, moved}
 pub use Rattle.niss_moves.specs.Facelets.{places, facelet}
-pub use Rattle.niss_moves.specs.Indices.{token_index, face_index, power_index}
+pub use Rattle.niss_moves.specs.Indices.{token_index, power_index}
 pub use Rattle.niss_moves.specs.Letters.{letter_at}
 unfoldable pub use Rattle.niss_moves.specs.Letters.{letter_of, letters}
 pub use Rattle.niss_moves.specs.Places.{Place, is_place, same_place, SameMap, is_edge, is_corner}
@@ -39,7 +39,7 @@ pub use Rattle.niss_moves.specs.declared.rotation.Rotation.{Rotation}
 pub use Rattle.niss_cube.proofs.Each.{at_member, listed}
 pub use Rattle.niss_cube.proofs.Facts.{Fact, Yes, Same, Equal, Below, Alike, Both, When, Numbers, Places, Records, Turns, Among, Faces}
 pub use Rattle.niss_cube.proofs.Facts.{Tokens, Renamings, Holds, holds, tested}
-pub use Rattle.niss_cube.proofs.Logic.{and_left, and_right, same_truth, and_both, not_true, or_then, is_true}
+pub use Rattle.niss_cube.proofs.Logic.{and_left, and_right, same_truth, and_both, or_then, is_true}
 pub use Rattle.niss_cube.specs.AfterTurn.{IsCube, TurnedIsCube, AreCoordinates, IsCoordinate}
 pub use Rattle.niss_cube.specs.Coordinates.{rank, number_of, number, count_of, standard_axis, choose, renamed_for, turn_for, renaming_for}
 pub use Rattle.niss_cube.specs.Coordinates.{firsts, brings, orientations, occupied}
@@ -67,7 +67,6 @@ pub use Rattle.niss_cube.specs.Steps.{start_of, goals_of, powers_from, is_face_o
 unfoldable pub use Rattle.niss_cube.specs.Steps.{turns_of, may_start, reached}
 pub use Rattle.niss_cube.specs.TableRows.{AreRowsAt, IsQuarter, AreQuarters, IsAnyTurn, entry_at, AreRows}
 pub use Rattle.niss_cube.specs.declared.cubie_turns.CubieTurn.{CubieTurn}
-pub use Rattle.niss_cube.specs.declared.cubie_turns.TheConstants.{TWIST_SUMS}
 pub use Rattle.niss_cube.specs.declared.followed_places.TheConstants.{FIRST_FACELETS, CUBIES, FACELETS}
 pub use Rattle.niss_cube.specs.declared.letters.TheConstants.{CORNER_LETTERS, EDGE_LETTERS, CUBIE_LETTERS}
 pub use Rattle.niss_cube.specs.declared.place_positions.TheConstants.{POSITIONS_AFTER}

@@ -1,6 +1,6 @@
 -- The steps of the loop that writes the orientations with a number.
-use Rattle.niss_cube.proofs.Words.{number, sym, ◌∙◌, ap, subst, arith, append_assoc, ◌≡◌, ℕ, suc, ◌+◌, ◌-◌, ◌/◌, ◌%◌, ◌<◌, List, [], ◌∷◌}
-use Rattle.niss_cube.proofs.Words.{◌++◌, length, set, take, drop, sum, length-set, sum_by-cons, take-length, digits_of_number}
+use Rattle.niss_cube.proofs.Words.{number, sym, ◌∙◌, ap, arith, append_assoc, ◌≡◌, ℕ, suc, ◌+◌, ◌-◌, ◌/◌, ◌%◌, ◌<◌, List, [], ◌∷◌, ◌++◌}
+use Rattle.niss_cube.proofs.Words.{length, set, take, drop, sum, length-set, sum_by-cons, take-length, digits_of_number}
 use Rattle.niss_cube.proofs.Words.{orientations_of_number, drop-set_at, take-suc-set}
 use Rattle.niss_cube.proofs.Orientations.{Base}
 
@@ -37,13 +37,6 @@ written-step b n number met rest total base xs h w =
           ∙ base.added (sum (last_digits n met xs)) d
           ∙ ap (λ k. (k + d) % b) w.total_is;
     }
-
--- the same at other names of the base
-pub written-step-at : (b n number met rest total u v : ℕ) → Base b → (xs : List ℕ) → met < n → u ≡ b → v ≡ b → Written b n number met rest total xs → Written b n number (met + 1) (rest / v) ((total + rest % u) % b) (set xs (n - 1 - met) (rest % u))
-written-step-at b n number met rest total u v base xs h p q w =
-    let P : ℕ → Type 0 = λ k. Written b n number (met + 1) (rest / v) ((total + rest % k) % b) (set xs (n - 1 - met) (rest % k)) in
-    let Q : ℕ → Type 0 = λ k. Written b n number (met + 1) (rest / k) ((total + rest % b) % b) (set xs (n - 1 - met) (rest % b)) in
-    subst P (sym p) (subst Q (sym q) (written-step b n number met rest total base xs h w))
 
 set_last : (n : ℕ) (xs : List ℕ) (d : ℕ) → length xs ≡ suc n → set xs n d ≡ take n xs ++ d ∷ []
 set_last n xs d l =

@@ -1,5 +1,5 @@
 use Rattle.niss_cube.proofs.Words.{Option, Some, None, ◌≡◌, ◌∙◌, ap, subst, rules, arith, length, ◌≢◌, IfNone, IfSome, MatchOption}
-use Rattle.niss_cube.proofs.Words.{slice_index_or, Step, steps, name_of}
+use Rattle.niss_cube.proofs.Words.{slice_index_or, steps, name_of}
 use Rattle.niss_cube.proofs.StepGoals.{member}
 use Rattle.niss_cube.proofs.step.Step.from_name.Goals as goal
 
