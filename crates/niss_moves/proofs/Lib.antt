@@ -15,7 +15,6 @@ pub mod Symbols
 pub mod Completes
 pub mod Sound
 pub mod Whole
-pub mod Room
 pub mod Endings
 pub mod OneFault
 pub mod ReaderAnswers

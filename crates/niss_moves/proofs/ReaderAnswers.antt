@@ -3,7 +3,7 @@ use Rattle.std.proofs.Common.{◌≡◌, ℕ, ◌+◌, ◌-◌, ◌<◌, ◌≤�
 use Rattle.std.specs.Result.{result_err}
 use Rattle.niss_moves.specs.Line.{Moves, Spells, IsLine}
 use Rattle.niss_moves.specs.Faults.{Whole, cut_length, cut_ending, bracket_ending, CanContinue, Stops, Faults}
-use Rattle.niss_moves.specs.Machine.{State, start, settled, step, step_within, symbol_of, and_then, run, ended, ended_at, ended_in, answer_after, state_or, HasRoom, HasRoomUnless, IsStep}
+use Rattle.niss_moves.specs.Machine.{State, start, settled, step, step_within, symbol_of, and_then, run, ended, ended_at, ended_in, answer_after, state_or, HasRoomUnless, IsStep}
 use Rattle.niss_moves.specs.Reader.{Reader, IsFed, line_with, read_line}
 use Rattle.niss_moves.specs.Names.{Token, LastMove, ReadFault}
 use Rattle.niss_moves.specs.declared.partial_line.LastMove.TheVariants as last
@@ -11,7 +11,6 @@ use Rattle.niss_moves.proofs.Completes.{IsReady, state, and_then-assoc, run-appe
 use Rattle.niss_moves.proofs.Sound.{ready_whole, cut_of, cut_fits, is_open}
 use Rattle.niss_moves.proofs.Whole.{reads_all, run_stops, ends_whole, lacks_bracket, lacks_apostrophe}
 use Rattle.niss_moves.proofs.OneFault.{ended_whole, fault_ended}
-use Rattle.niss_moves.proofs.Room.{room_kept}
 
 -- what a caller gets of an outcome
 abbrev pub answer : Result State ReadFault → Result (Unit {0}) ReadFault
@@ -99,9 +98,9 @@ can_end s = by_last s.normal s.bracketed s.bracket s.last s.fed
 abbrev pub IsOutcome : Result State ReadFault → List ℕ → Type 0
 IsOutcome r bytes = (more : List ℕ) → answer_after r more ≡ read_line (bytes ++ more)
 
-pub outcome_of_more : (r next : Result State ReadFault) (bytes : List ℕ) (byte : ℕ) → next ≡ and_then r (λ s. step s byte) → IsOutcome r bytes → IsOutcome next (bytes ++ byte ∷ [])
-outcome_of_more r next bytes byte e h more =
-    ap (λ r. answer_after r more) e ∙ ap ended (sym (and_then-assoc r (λ s. step s byte) (λ s. run s more) (λ s. run s (byte ∷ more)) (λ t. refl))) ∙ h (byte ∷ more) ∙ ap read_line (sym (append_assoc bytes (byte ∷ []) more))
+pub outcome_of_run : (r next : Result State ReadFault) (bytes xs : List ℕ) → next ≡ and_then r (λ s. run s xs) → IsOutcome r bytes → IsOutcome next (bytes ++ xs)
+outcome_of_run r next bytes xs e h more =
+    ap (λ r. answer_after r more) e ∙ ap ended (sym (and_then-assoc r (λ s. run s xs) (λ s. run s more) (λ s. run s (xs ++ more)) (λ t. run-append 256 t xs more))) ∙ h (xs ++ more) ∙ ap read_line (sym (append_assoc bytes xs more))
 
 pub taken_iff : (r : Result State ReadFault) (bytes : List ℕ) → IsOutcome r bytes → IsOk (answer r) ↔ CanContinue bytes
 taken_iff (Ok s) bytes h =
@@ -148,10 +147,14 @@ ended_end r o e = sym (reader_line r ∙ ap (λ o. ended (state_or o r.so_far)) 
 pub line_of_fed : (r : Reader) (bytes : List ℕ) → IsFed r bytes → line_with r [] ≡ read_line bytes
 line_of_fed r bytes h = h.line [] ∙ ap read_line (append-nil bytes)
 
--- a byte fed to a reader
-pub record IsFedOn (old : Reader) (byte : ℕ) (new : Reader) (result : Result (Unit {0}) ReadFault) : Type 0 where
-  pub fed : new.fed ≡ old.fed + 1
-  pub outcome : state_or new.fault new.so_far ≡ and_then (state_or old.fault old.so_far) (λ s. step s byte)
+-- bytes fed to a reader
+pub record IsFedOn (old : Reader) (xs : List ℕ) (new : Reader) : Type 0 where
+  pub fed : new.fed ≡ old.fed + length xs
+  pub outcome : state_or new.fault new.so_far ≡ and_then (state_or old.fault old.so_far) (λ s. run s xs)
+
+-- a byte, and what is answered
+pub record IsAnswered (old : Reader) (byte : ℕ) (new : Reader) (result : Result (Unit {0}) ReadFault) : Type 0 where
+  pub on : IsFedOn old (byte ∷ []) new
   pub answered : result ≡ answer (state_or new.fault new.so_far)
   pub room : HasRoomUnless new.fault new.so_far
 
@@ -159,38 +162,39 @@ pub record IsFedOn (old : Reader) (byte : ℕ) (new : Reader) (result : Result (
 abbrev pub reader : Option ReadFault → State → Reader
 reader fault line = record { fed = line.fed; fault = fault; so_far = line }
 
-at_ok : (p q : State) (byte : ℕ) (r : Result (Unit {0}) ReadFault) → HasRoom p → IsStep (λ s. step s byte) p r q → q.fed ≡ p.fed + 1 → IsFedOn (reader None p) byte (reader (result_err r) q) r
-at_ok p q byte (Ok u) h e k = record { fed = k; outcome = sym e; answered = refl; room = room_kept p q byte h e }
-at_ok p q byte (Err f) h e k = record { fed = k; outcome = sym e; answered = refl; room = tt }
+at_ok : (p q : State) (byte : ℕ) (r : Result (Unit {0}) ReadFault) → IsStep (λ s. step s byte) p r q → q.fed ≡ p.fed + 1 → IsAnswered (reader None p) byte (reader (result_err r) q) r
+at_ok p q byte (Ok u) e k =
+    record { on = record { fed = k; outcome = sym (ap (λ r. and_then r (λ s. Ok s)) e.0) }; answered = refl; room = e.1 }
+at_ok p q byte (Err f) e k =
+    record { on = record { fed = k; outcome = sym (ap (λ r. and_then r (λ s. Ok s)) e) }; answered = refl; room = tt }
 
-pub fed_on : (fault next : Option ReadFault) (p q t : State) (byte : ℕ) (result r : Result (Unit {0}) ReadFault) → fault ≡ None → HasRoomUnless fault p → IsStep (λ s. step s byte) p r t → t.fed ≡ p.fed + 1 → result ≡ r → next ≡ result_err result → q ≡ t → IsFedOn (reader fault p) byte (reader next q) result
-fed_on fault next p q t byte result r none room h counts er en eq =
-    let here = subst (λ (o : Option ReadFault). HasRoomUnless o p) none room in
-    rw (none, en, er, eq) (at_ok p t byte r here h counts)
+pub fed_on : (fault next : Option ReadFault) (p q t : State) (byte : ℕ) (result r : Result (Unit {0}) ReadFault) → fault ≡ None → IsStep (λ s. step s byte) p r t → t.fed ≡ p.fed + 1 → result ≡ r → next ≡ result_err result → q ≡ t → IsAnswered (reader fault p) byte (reader next q) result
+fed_on fault next p q t byte result r none h counts er en eq = rw (none, en, er, eq) (at_ok p t byte r h counts)
 
-pub fed_again : (fault next : Option ReadFault) (p q t : State) (byte : ℕ) (result : Result (Unit {0}) ReadFault) (f : ReadFault) → fault ≡ Some f → t.fed ≡ p.fed + 1 → result ≡ Err f → next ≡ result_err result → q ≡ t → IsFedOn (reader fault p) byte (reader next q) result
+pub fed_again : (fault next : Option ReadFault) (p q t : State) (byte : ℕ) (result : Result (Unit {0}) ReadFault) (f : ReadFault) → fault ≡ Some f → t.fed ≡ p.fed + 1 → result ≡ Err f → next ≡ result_err result → q ≡ t → IsAnswered (reader fault p) byte (reader next q) result
 fed_again fault next p q t byte result f some counts er en eq =
-    rw (some, en, er, eq) (record { fed = counts; outcome = refl; answered = refl; room = tt })
+    rw (some, en, er, eq) (record { on = record { fed = counts; outcome = refl }; answered = refl; room = tt })
 
-fed_outcome : (old new : Reader) (byte : ℕ) (result : Result (Unit {0}) ReadFault) (bytes : List ℕ) → IsFedOn old byte new result → IsFed old bytes → IsOutcome (state_or new.fault new.so_far) (bytes ++ byte ∷ [])
+pub fed_moves : (fault : Option ReadFault) (p q : State) (xs : List ℕ) → fault ≡ None → q.fed ≡ p.fed + length xs → run p xs ≡ Ok q → IsFedOn (reader fault p) xs (reader fault q)
+fed_moves fault p q xs none k r =
+    record { fed = k; outcome = subst (λ (o : Option ReadFault). state_or o q ≡ and_then (state_or o p) (λ s. run s xs)) (sym none) (sym r) }
+
+outcome_on : (old new : Reader) (xs bytes : List ℕ) → IsFedOn old xs new → IsFed old bytes → IsOutcome (state_or new.fault new.so_far) (bytes ++ xs)
 unfolding line_with
-fed_outcome old new byte result bytes h k = outcome_of_more (state_or old.fault old.so_far) (state_or new.fault new.so_far) bytes byte h.outcome k.line
+outcome_on old new xs bytes h k = outcome_of_run (state_or old.fault old.so_far) (state_or new.fault new.so_far) bytes xs h.outcome k.line
 
-pub is_fed_on : (old new : Reader) (byte : ℕ) (result : Result (Unit {0}) ReadFault) (bytes : List ℕ) → IsFedOn old byte new result → IsFed old bytes → IsFed new (bytes ++ byte ∷ [])
+pub is_fed_on : (old new : Reader) (xs bytes : List ℕ) → IsFedOn old xs new → IsFed old bytes → IsFed new (bytes ++ xs)
 unfolding line_with
-is_fed_on old new byte result bytes h k =
-    record {
-      fed = let e = k.fed in omega (arith, h.fed, length-append bytes (byte ∷ []));
-      line = fed_outcome old new byte result bytes h k;
-    }
+is_fed_on old new xs bytes h k =
+    record { fed = (let e = k.fed in omega (arith, h.fed, length-append bytes xs)); line = outcome_on old new xs bytes h k }
 
-pub fed_taken : (old new : Reader) (byte : ℕ) (result : Result (Unit {0}) ReadFault) (bytes : List ℕ) → IsFedOn old byte new result → IsFed old bytes → IsOk result ↔ CanContinue (bytes ++ byte ∷ [])
+pub fed_taken : (old new : Reader) (byte : ℕ) (result : Result (Unit {0}) ReadFault) (bytes : List ℕ) → IsAnswered old byte new result → IsFed old bytes → IsOk result ↔ CanContinue (bytes ++ byte ∷ [])
 fed_taken old new byte result bytes h k =
-    subst (λ (x : Result (Unit {0}) ReadFault). IsOk x ↔ CanContinue (bytes ++ byte ∷ [])) (sym h.answered) (taken_iff (state_or new.fault new.so_far) (bytes ++ byte ∷ []) (fed_outcome old new byte result bytes h k))
+    subst (λ (x : Result (Unit {0}) ReadFault). IsOk x ↔ CanContinue (bytes ++ byte ∷ [])) (sym h.answered) (taken_iff (state_or new.fault new.so_far) (bytes ++ byte ∷ []) (outcome_on old new (byte ∷ []) bytes h.on k))
 
-pub fed_stops : (old new : Reader) (byte : ℕ) (result : Result (Unit {0}) ReadFault) (bytes : List ℕ) → IsFedOn old byte new result → IsFed old bytes → IfErr result (λ f. Stops (bytes ++ byte ∷ []) f)
+pub fed_stops : (old new : Reader) (byte : ℕ) (result : Result (Unit {0}) ReadFault) (bytes : List ℕ) → IsAnswered old byte new result → IsFed old bytes → IfErr result (λ f. Stops (bytes ++ byte ∷ []) f)
 fed_stops old new byte result bytes h k =
-    subst (λ (x : Result (Unit {0}) ReadFault). IfErr x (λ f. Stops (bytes ++ byte ∷ []) f)) (sym h.answered) (refused_stops (state_or new.fault new.so_far) (bytes ++ byte ∷ []) (fed_outcome old new byte result bytes h k))
+    subst (λ (x : Result (Unit {0}) ReadFault). IfErr x (λ f. Stops (bytes ++ byte ∷ []) f)) (sym h.answered) (refused_stops (state_or new.fault new.so_far) (bytes ++ byte ∷ []) (outcome_on old new (byte ∷ []) bytes h.on k))
 
 pub new_fed : (s : State) → s ≡ start → IsFed (reader None s) []
 unfolding line_with read_line

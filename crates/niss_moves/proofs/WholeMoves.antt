@@ -1,10 +1,10 @@
 -- What a move that is read at once does.
 use Rattle.niss_moves.proofs.Names.{◌≡◌, ℕ, ◌+◌, ◌<◌, ap, sym, ◌∙◌, subst, List, [], ◌∷◌, ◌++◌, length, take, take-add, drop}
-use Rattle.niss_moves.proofs.Names.{get_or, append_assoc, Result, Ok, Option, Some, None, arith, length-append, inl, inr, ap₂, ◌≢◌}
+use Rattle.niss_moves.proofs.Names.{get_or, Ok, Some, arith, length-append, inl, inr, ap₂, ◌≢◌}
 use Rattle.niss_moves.proofs.Names.{◌==◌, ◌||◌, ◌*◌, nat_lt, not, Bool, true, false, Gap, Spelled, token_of, base_bytes, Nothing}
-use Rattle.niss_moves.proofs.Names.{Two, Prime, TwoPrime, Blank, blank_byte, State, state_or, HasRoom, added, settled, with_last, count}
-use Rattle.niss_moves.proofs.Names.{run, and_then, ended, answer_after, IsFed, line_with, read_line, IsSuffix, IsMove, BeginsApostrophe}
-use Rattle.niss_moves.proofs.Names.{HasNoLineFeed, Power, Quarter, Half, Counter, Token, Base, ReadFault}
+use Rattle.niss_moves.proofs.Names.{Two, Prime, TwoPrime, Blank, blank_byte, State, HasRoom, added, settled, with_last, count}
+use Rattle.niss_moves.proofs.Names.{run, and_then, IsSuffix, IsMove, BeginsApostrophe}
+use Rattle.niss_moves.proofs.Names.{HasNoLineFeed, Power, Quarter, Half, Counter, Token, Base}
 use mir.Val.{bool_byte}
 use Rattle.std.proofs.lemmas.List.{take_more}
 use Rattle.std.proofs.lemmas.List.Elements.{All-append}
@@ -14,8 +14,7 @@ use Rattle.niss_moves.proofs.Finite.{and_right}
 use Rattle.niss_moves.proofs.Whole.{is_plain, plain_pieces}
 use Rattle.std.proofs.lemmas.Bool.{lt-ltb, eqb-true}
 use Rattle.niss_moves.specs.declared.partial_line.LastMove.TheVariants as last
-use Rattle.niss_moves.proofs.Completes.{IsReady, count_more, and_then-assoc, run-append, at_fed, run_move}
-use Rattle.niss_moves.proofs.ReaderAnswers.{IsOutcome, reader}
+use Rattle.niss_moves.proofs.Completes.{IsReady, count_more, run-append, at_fed, run_move}
 
 -- the first bytes
 pub take_one : (bytes : List ℕ) (x : ℕ) → 0 < length bytes → get_or bytes 0 0 ≡ x → take 1 bytes ≡ x ∷ []
@@ -44,19 +43,6 @@ move_at bytes b power i k blank t base suffix lt is token =
       blank = blank;
       bytes_are = take_more bytes (i + k) 0 lt ∙ ap₂ (λ (xs : List ℕ) (x : ℕ). xs ++ x ∷ []) (take-add i k bytes ∙ ap₂ (λ (x y : List ℕ). x ++ y) base suffix.bytes_are) is;
       token_is = token ∙ ap (token_of b) suffix.power_is;
-    }
-
--- the outcome after more bytes
-pub outcome_of_run : (r next : Result State ReadFault) (bytes xs : List ℕ) → next ≡ and_then r (λ s. run s xs) → IsOutcome r bytes → IsOutcome next (bytes ++ xs)
-outcome_of_run r next bytes xs e h more =
-    ap (λ r. answer_after r more) e ∙ ap ended (sym (and_then-assoc r (λ s. run s xs) (λ s. run s more) (λ s. run s (xs ++ more)) (λ t. run-append 256 t xs more))) ∙ h (xs ++ more) ∙ ap read_line (sym (append_assoc bytes xs more))
-
-pub fed_moves : (fault : Option ReadFault) (p q : State) (front xs : List ℕ) → fault ≡ None → q.fed ≡ p.fed + length xs → run p xs ≡ Ok q → IsFed (reader fault p) front → IsFed (reader fault q) (front ++ xs)
-unfolding line_with
-fed_moves fault p q front xs none k r h =
-    record {
-      fed = let e = h.fed in omega (arith, e, k, length-append front xs);
-      line = outcome_of_run (state_or fault p) (state_or fault q) front xs (subst (λ (o : Option ReadFault). state_or o q ≡ and_then (state_or o p) (λ s. run s xs)) (sym none) (sym r)) h.line;
     }
 
 settled_finished : (s : State) → s.last ≡ last.Finished → settled s ≡ s

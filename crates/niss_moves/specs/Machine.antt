@@ -157,12 +157,12 @@ step s byte = step_within 256 s byte
 abbrev pub run : State → List ℕ → Result State ReadFault
 run s bytes = run_within 256 s bytes
 
--- A step answers a fault, or leaves the next state.
-abbrev pub IsStep : (State → Result State ReadFault) → State → Result (Unit {0}) ReadFault → State → Type 0
-IsStep next old result new = MatchResult result (λ _. next old ≡ Ok new) (λ f. next old ≡ Err f)
-
 abbrev pub HasRoom : State → Type 0
 HasRoom s = count (settled s) ≤ 256
+
+-- A step answers a fault, or leaves the next state, which has room.
+abbrev pub IsStep : (State → Result State ReadFault) → State → Result (Unit {0}) ReadFault → State → Type 0
+IsStep next old result new = MatchResult result (λ _. (next old ≡ Ok new) × HasRoom new) (λ f. next old ≡ Err f)
 
 abbrev pub state_or : Option ReadFault → State → Result State ReadFault
 state_or None s = Ok s

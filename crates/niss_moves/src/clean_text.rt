@@ -2,7 +2,7 @@
 ghost use Rattle.std.specs.Prelude.{◌≡◌, ◌+◌, ◌*◌, ◌≤◌, length};
 ghost use Rattle.arrayvec.specs.ArrayVec.{array_vec_len};
 ghost use Rattle.niss_moves.specs.Text.{with_words};
-ghost use Rattle.niss_moves.specs.CleanText.{turn_words, rotation_words, cleaned_words};
+ghost use Rattle.niss_moves.specs.CleanText.{turn_words, rotation_words, cleaned_words, with_bracket};
 ghost use Rattle.niss_moves.specs.Helpers.{is_empty};
 ghost use Rattle.niss_moves.specs.CleanedLine.{with_clean_line};
 
@@ -55,6 +55,35 @@ fn have_no_word(turns: &[Turn], rotation: Rotation) -> bool
     turns.is_empty() && rotation == Rotation::IDENTITY
 }
 
+/// Appends the words of cleaned face turns and of the rotation after them.
+#[tactic(auto, using(crate::proofs::CleanWords::words_after))]
+fn put_cleaned(turns: &[Turn], rotation: Rotation, text: &mut LineText)
+    requires { array_vec_len text.old + 3 * length turns.now + 6 ≤ 2048 }
+    ensures items { text.new.items
+        ≡ with_words text.old.items (cleaned_words turns.now rotation) }
+    ensures len { array_vec_len text.new ≤ array_vec_len text.old + 3 * length turns.now + 6 }
+{
+    put_faces(turns, text);
+    put_rotation(rotation, text);
+}
+
+/// Appends them in a bracket, where there is any word.
+#[tactic(auto, using(crate::proofs::CleanWords::bracket_empty, crate::proofs::CleanWords::bracket_filled))]
+fn put_bracketed(turns: &[Turn], rotation: Rotation, text: &mut LineText)
+    requires { array_vec_len text.old + 3 * length turns.now + 9 ≤ 2048 }
+    ensures items { text.new.items
+        ≡ with_bracket text.old.items (cleaned_words turns.now rotation) }
+    ensures len { array_vec_len text.new ≤ array_vec_len text.old + 3 * length turns.now + 9 }
+{
+    if have_no_word(turns, rotation) {
+        return;
+    }
+    put_gap(text);
+    text.push(b'(');
+    put_cleaned(turns, rotation, text);
+    text.push(b')');
+}
+
 /// Appends the cleaned line, as `R (U2 x)`: the normal face turns and rotation, and then the bracketed ones in a bracket,
 /// where any word of these is left. The normal and the bracketed moves are cleaned each by itself. That takes at most
 /// three bytes for each of 512 face turns, six for each rotation and three for the bracket: the text needs 1,600 free bytes.
@@ -65,16 +94,8 @@ pub fn put_niss_clean(niss: &Niss, text: &mut LineText)
 {
     let mut turns = Faces::new();
     let rotation = clean_into(niss.normal(), &mut turns);
-    put_faces(&turns, text);
-    put_rotation(rotation, text);
+    put_cleaned(&turns, rotation, text);
     turns.clear();
     let rotation = clean_into(niss.inverse(), &mut turns);
-    if have_no_word(&turns, rotation) {
-        return;
-    }
-    put_gap(text);
-    text.push(b'(');
-    put_faces(&turns, text);
-    put_rotation(rotation, text);
-    text.push(b')');
+    put_bracketed(&turns, rotation, text);
 }

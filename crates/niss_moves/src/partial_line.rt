@@ -291,6 +291,7 @@ impl PartialLine {
     }
 
     fn widen(&mut self) -> Result<(), ReadFault>
+        requires { HasRoom self.old }
         ensures { IsStep (λ s. widened s.last s) self.old result self.new }
     {
         let LastMove::Bare(Base::Face(face)) = self.last else {
@@ -301,6 +302,7 @@ impl PartialLine {
     }
 
     fn double(&mut self) -> Result<(), ReadFault>
+        requires { HasRoom self.old }
         ensures { IsStep (λ s. doubled s.last s) self.old result self.new }
     {
         let LastMove::Bare(base) = self.last else {
@@ -325,6 +327,7 @@ impl PartialLine {
 
     /// Takes the first byte of U+2019.
     fn cut_apostrophe(&mut self) -> Result<(), ReadFault>
+        requires { HasRoom self.old }
         ensures { IsStep (λ s. cut s.last s) self.old result self.new }
     {
         self.last = match self.last {
