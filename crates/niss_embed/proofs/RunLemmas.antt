@@ -1,13 +1,14 @@
 -- From what a run did to its devices to what a call answers.
-use Rattle.std.proofs.Common.{◌≡◌, ℕ, ◌<◌, ◌≤◌, Bool, true, false, ◌||◌, Some, Result, Ok, Err, List, [], ◌∷◌, ◌++◌, length, refl, sym, ap, ◌∙◌, subst, append_assoc, append-nil, length-append, arith}
-use Rattle.niss_shell.specs.Device.{SourceState, TargetState, Appended}
-use Rattle.niss_shell.specs.Words.{Request, OnLines, ListSteps, DrawScrambles, request_of, reads_source, takes_memory}
-use Rattle.niss_shell.specs.Output.{Answer, Ending, More, End, ending, ending_of, out_of, answer_request, unsearched, error_text, status_of}
-use Rattle.niss_shell.specs.Run.{Devices, devices, ReachesEnd, Finishes, OutputRefused, MemoryRefused, EndsByFault, Ends, ReportsError, Runs}
+use Rattle.std.proofs.Common.{◌≡◌, ℕ, ◌<◌, Bool, true, false, Result, Ok, Err, List, [], ◌∷◌, ◌++◌, length, refl, sym, ap, ◌∙◌, subst, append_assoc, append-nil, length-append, arith}
+use Rattle.std.proofs.Math.Bool.{or-false}
+use Rattle.niss_shell.specs.Device.{Appended}
+use Rattle.niss_shell.specs.Words.{Request, OnLines, request_of, reads_source, takes_memory}
+use Rattle.niss_shell.specs.Output.{Answer, Ending, More, End, ending_of, out_of, answer_request, unsearched, error_text, status_of}
+use Rattle.niss_shell.specs.Run.{Devices, devices, Finishes, OutputRefused, MemoryRefused, EndsByFault, Ends, ReportsError, Runs}
 use Rattle.niss_shell.specs.MoreInput.{Begins, MoreInputKeepsAnswers}
-use Rattle.niss_embed.specs.Names.{Answer as Given, UsageFault, Stop, Line, Usage, InputTooLong, CannotRead, CannotWrite, OutOfMemory}
-use Rattle.niss_embed.specs.Memory.{Memory, memory, Puts, source_state, target_state}
-use Rattle.niss_embed.specs.Words.{AreWords, text_words, TakesWords}
+use Rattle.niss_embed.specs.Names.{Answer as Given, UsageFault, Stop, CannotWrite, OutOfMemory}
+use Rattle.niss_embed.specs.Memory.{Memory, memory, source_state, target_state}
+use Rattle.niss_embed.specs.Words.{text_words, TakesWords}
 use Rattle.niss_embed.specs.Run.{due, outcome_in, Answers, RunsBytes, RunsWords}
 use Rattle.niss_embed.proofs.WordLemmas.{no_words, all_words}
 use Rattle.niss_embed.proofs.TargetLemmas.{Filling, state_before, state_after, PutBy, puts_all, puts_front, puts_error}
@@ -34,10 +35,7 @@ begins law asked input given left false e at_end =
 unread_same : (asked : Result Request UsageFault) (input given : List ℕ) (m n : Ending) → reads_source asked ≡ false
     → answer_request asked input m ≡ answer_request asked given n
 unread_same (Ok (OnLines command [])) input given m n e = absurd (cc e)
-unread_same (Ok (OnLines command (word ∷ words))) input given m n e = refl
-unread_same (Ok ListSteps) input given m n e = refl
-unread_same (Ok (DrawScrambles state stream turns count)) input given m n e = refl
-unread_same (Err fault) input given m n e = refl
+unread_same _ input given m n e = refl
 
 -- the same is answered at the end
 same_at_end : (asked : Result Request UsageFault) (input given left : List ℕ) (ended : Bool)
@@ -55,14 +53,6 @@ same_at_end asked input given left ended e at_end whole = by_reading (reads_sour
 asks_words : (words : List (List ℕ)) → takes_memory (request_of words) ≡ true → 0 < length words
 asks_words [] e = absurd (cc e)
 asks_words (word ∷ words) e = omega arith
-
-fault_alone : (c : Bool) → (c || false) ≡ true → c ≡ true
-fault_alone true e = refl
-fault_alone false e = e
-
-no_fault_alone : (c : Bool) → (c || false) ≡ false → c ≡ false
-no_fault_alone true e = e
-no_fault_alone false e = refl
 
 -- A call: its two targets, what is left of its input, and its status.
 pub record Call : Type 0 where
@@ -102,13 +92,6 @@ module _ (c : Call) (meant : Answer) (outcome : Result (Unit {0}) Stop) (reports
   answered_whole works is took =
       answered (puts_all c.out meant.output took works) (sym is ∙ ap (λ r. outcome_in r meant.outcome) (sym works))
 
--- a beginning of it was written
-answered_cut : (c : Call) (meant : Answer) (part rest : List ℕ) → Reports c (Err CannotWrite) → c.status ≡ 3
-    → c.out.refused ≡ true → part ++ rest ≡ meant.output → 0 < length rest → Appended (state_before c.out) (state_after c.out) part → AnswersCall c meant
-answered_cut c meant part rest reports status refused whole some took =
-    answered c meant (Err CannotWrite) reports status (puts_front c.out part took rest meant.output refused whole some)
-    (ap (λ r. outcome_in r meant.outcome) (sym refused))
-
 abbrev pub old_devices : Call → List ℕ → Devices
 old_devices c input = devices (source_state input false) (state_before c.out) (state_before c.err)
 
@@ -125,30 +108,26 @@ module _ (law : MoreInputKeepsAnswers) (c : Call) (words : List (List ℕ)) (inp
   whole_begins : (given : List ℕ) → input ≡ given ++ c.left → Begins (part_of given) (due false words input)
   whole_begins given gave = begins law (request_of words) input given c.left c.ended gave c.at_end
 
+  known_answers : AnswersCall c (due false words input) → Known
+  known_answers x = record { refused = false; asked = λ h. absurd (cc h); answers = x }
+
   known_good : (given : List ℕ) → input ≡ given ++ c.left → Finishes (part_of given) (request_of words) (old_devices c input) (new_devices c)
       → Reports c (Ok tt) → c.status ≡ 0 → Known
   known_good given gave w reports status =
       let same : due false words input ≡ part_of given = same_at_end (request_of words) input given c.left c.ended gave c.at_end w.ends.read_whole in
-      record {
-        refused = false;
-        asked = λ h. absurd (cc h);
-        answers = answered_whole c (due false words input) (Ok tt) reports status (no_fault_alone c.out.refused w.works)
-            (ap (λ v. v.outcome) same ∙ w.ends.good)
-            (subst (λ v. Appended (state_before c.out) (state_after c.out) v.output) (sym same) w.written);
-      }
+      known_answers (answered_whole c (due false words input) (Ok tt) reports status (sym (or-false c.out.refused) ∙ w.works)
+      (ap (λ v. v.outcome) same ∙ w.ends.good) (subst (λ v. Appended (state_before c.out) (state_after c.out) v.output) (sym same) w.written))
 
   known_cut : (given : List ℕ) → input ≡ given ++ c.left → OutputRefused (part_of given) (request_of words) (old_devices c input) (new_devices c)
       → Reports c (Err CannotWrite) → c.status ≡ 3 → Known
   known_cut given gave w reports status =
       let more = whole_begins given gave in
-      let refused : c.out.refused ≡ true = fault_alone c.out.refused w.refused in
-      record {
-        refused = false;
-        asked = λ h. absurd (cc h);
-        answers = answered_cut c (due false words input) w.text (w.rest ++ more.rest) reports status refused
-            (sym (append_assoc w.text w.rest more.rest) ∙ ap (λ v. v ++ more.rest) w.beginning ∙ more.beginning)
-            (omega (arith, w.cut refused, length-append w.rest more.rest)) w.written;
-      }
+      let refused : c.out.refused ≡ true = sym (or-false c.out.refused) ∙ w.refused in
+      let whole : w.text ++ (w.rest ++ more.rest) ≡ (due false words input).output =
+      sym (append_assoc w.text w.rest more.rest) ∙ ap (λ v. v ++ more.rest) w.beginning ∙ more.beginning in
+      known_answers (answered c (due false words input) (Err CannotWrite) reports status
+      (puts_front c.out w.text w.written (w.rest ++ more.rest) _ refused whole (omega (arith, w.cut refused, length-append w.rest more.rest)))
+      (ap (λ r. outcome_in r (due false words input).outcome) (sym refused)))
 
   known_refused : MemoryRefused (request_of words) (old_devices c input) (new_devices c) → Reports c (Err OutOfMemory) → c.status ≡ 3 → Known
   known_refused w reports status = record {
@@ -161,25 +140,15 @@ module _ (law : MoreInputKeepsAnswers) (c : Call) (words : List (List ℕ)) (inp
       → Reports c (Err stop) → c.status ≡ status_of (Err stop) → Known
   known_fault stop given gave w reports status =
       let stays = (whole_begins given gave).stopped stop w.fault in
-      record {
-        refused = false;
-        asked = λ h. absurd (cc h);
-        answers = answered_whole c (due false words input) (Err stop) reports status w.unrefused stays.1
-            (subst (λ v. Appended (state_before c.out) (state_after c.out) v) (sym stays.0) w.written);
-      }
+      known_answers (answered_whole c (due false words input) (Err stop) reports status w.unrefused stays.1
+      (subst (λ v. Appended (state_before c.out) (state_after c.out) v) (sym stays.0) w.written))
 
   known : (outcome : Result (Unit {0}) Stop) (given : List ℕ) → input ≡ given ++ c.left
       → Ends outcome (part_of given) (request_of words) (old_devices c input) (new_devices c) → Reports c outcome → c.status ≡ status_of outcome → Known
   known (Ok u) given gave w reports status = known_good given gave w reports status
   known (Err CannotWrite) given gave w reports status = known_cut given gave w reports status
   known (Err OutOfMemory) given gave w reports status = known_refused w reports status
-  known (Err (Line n fault)) given gave w reports status = known_fault (Line n fault) given gave w reports status
-  known (Err Usage) given gave w reports status = known_fault Usage given gave w reports status
-  known (Err InputTooLong) given gave w reports status = known_fault InputTooLong given gave w reports status
-  known (Err CannotRead) given gave w reports status = known_fault CannotRead given gave w reports status
-
-  runs_words : (looks looks_now : ℕ) → Runs words (old_devices c input) (new_devices c) looks looks_now c.status → Known
-  runs_words looks looks_now x = known x.outcome x.input x.gave x.ends x.reports x.answers
+  known (Err stop) given gave w reports status = known_fault stop given gave w reports status
 
   -- what the devices began with is known by equations
   pub runs_call : (looks looks_now : ℕ) {n m : ℕ} {given out err : List ℕ} {began r s : Bool}
@@ -187,9 +156,11 @@ module _ (law : MoreInputKeepsAnswers) (c : Call) (words : List (List ℕ)) (inp
       → Runs words (devices (source_state given began) (target_state out c.out.reference n r c.out.flushed)
       (target_state err c.err.reference m s c.err.flushed)) (new_devices c) looks looks_now c.status → Known
   runs_call looks looks_now p q o n r e m s x =
-      runs_words looks looks_now (subst (λ v. Runs words v (new_devices c) looks looks_now c.status)
+      let y : Runs words (old_devices c input) (new_devices c) looks looks_now c.status =
+      subst (λ v. Runs words v (new_devices c) looks looks_now c.status)
       (λ i. devices (source_state (p i) (q i)) (target_state (o i) c.out.reference (n i) (r i) c.out.flushed)
-      (target_state (e i) c.err.reference (m i) (s i) c.err.flushed)) x)
+      (target_state (e i) c.err.reference (m i) (s i) c.err.flushed)) x in
+      known y.outcome y.input y.gave y.ends y.reports y.answers
 
 -- what the targets took, in the memory that they were lent
 
@@ -198,10 +169,7 @@ took_some : (outcome : Result (Unit {0}) Stop) (meant : Answer) (asked : Result 
 took_some (Ok u) meant asked old new w = (meant.output, w.written)
 took_some (Err CannotWrite) meant asked old new w = (w.text, w.written)
 took_some (Err OutOfMemory) meant asked old new w = ([], w.nothing)
-took_some (Err (Line n fault)) meant asked old new w = (meant.output, w.written)
-took_some (Err Usage) meant asked old new w = (meant.output, w.written)
-took_some (Err InputTooLong) meant asked old new w = (meant.output, w.written)
-took_some (Err CannotRead) meant asked old new w = (meant.output, w.written)
+took_some (Err stop) meant asked old new w = (meant.output, w.written)
 
 pub out_took : {words : List (List ℕ)} {old new : Devices} {looks looks_now status : ℕ} → Runs words old new looks looks_now status
     → (part : List ℕ) × Appended old.output new.output part

@@ -5,7 +5,7 @@ use Rattle.std.proofs.lemmas.List.{take_all, take_at, take-append-drop, drop_all
 use Rattle.std.proofs.lemmas.Grind.{common_steps}
 use Rattle.niss_shell.specs.Device.{TargetState, StaysSilentOf, Appended, TakesPiece, is_empty_answer}
 use Rattle.niss_shell.specs.Run.{ReportsError}
-use Rattle.niss_embed.specs.Memory.{Memory, memory, Puts, target_state}
+use Rattle.niss_embed.specs.Memory.{memory, Puts, target_state}
 
 silent : (f : Bool) (held held_now : List ℕ) → StaysSilentOf f (Some held) (Some held_now)
 silent true held held_now = tt

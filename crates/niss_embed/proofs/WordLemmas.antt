@@ -1,16 +1,16 @@
 -- The words of bytes, one after the other.
-use Rattle.std.proofs.Common.{◌≡◌, ◌≢◌, ℕ, ◌+◌, ◌<◌, ◌==◌, Bool, true, false, ◌&&◌, if◌then◌else◌, ◌⊎◌, inl, inr, List, [], ◌∷◌, ◌++◌, length, refl, sym, ap, ◌∙◌, subst, append_assoc, append-nil, arith}
+use Rattle.std.proofs.Common.{◌≡◌, ◌≢◌, ℕ, ◌<◌, ◌==◌, Bool, true, false, ◌&&◌, if◌then◌else◌, ◌⊎◌, inl, inr, List, [], ◌∷◌, ◌++◌, length, refl, sym, ap, ◌∙◌, subst, append_assoc, append-nil, arith}
 use Rattle.std.proofs.Common.{Result, Ok, Err, String, map, take, length-append}
-use Rattle.std.specs.Prelude.{All, flat_map, IsUtf8, OnErr, string_bytes}
+use Rattle.std.specs.Prelude.{flat_map, IsUtf8, OnErr, string_bytes}
 use Rattle.std.specs.List.{list_all}
 use Rattle.std.specs.Str.{is_utf8}
 use Rattle.std.proofs.lemmas.Str.{IsUtf8-from_is_utf8, is_utf8-from_IsUtf8}
-use Rattle.std.proofs.lemmas.Bool.{ne_eqb, eqb-true}
+use Rattle.std.proofs.lemmas.Bool.{eqb-true}
 use Rattle.std.proofs.lemmas.List.{map-append}
 use Rattle.std.proofs.lemmas.List.Elements.{All-nil, All-cons, All-head, All-tail}
 use Rattle.std.proofs.lemmas.List.Folds.{list_all-append}
 use Rattle.niss_shell.specs.Output.{line_with_bytes}
-use Rattle.niss_embed.specs.Words.{HasNoZero, ended_word, AreCutInto, AreWords, text_words, TakesWords, IsFirstWord}
+use Rattle.niss_embed.specs.Words.{HasNoZero, ended_word, AreCutInto, AreWords, TakesWords, IsFirstWord}
 
 abbrev pub IsNotZero : ℕ → Type 0
 IsNotZero byte = byte ≢ 0

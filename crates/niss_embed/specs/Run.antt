@@ -1,5 +1,5 @@
 -- What a call that runs a command in memory answers.
-use Rattle.std.specs.Prelude.{◌≡◌, ℕ, ◌<◌, Bool, true, false, Result, Ok, Err, List, [], length}
+use Rattle.std.specs.Prelude.{◌≡◌, ℕ, ◌<◌, Bool, true, false, Result, Err, List, [], length}
 use Rattle.niss_shell.specs.Words.{request_of}
 use Rattle.niss_shell.specs.Output.{Answer, End, answer_request, unsearched, error_text, status_of}
 use Rattle.niss_embed.specs.Names.{Answer as Given, Stop, CannotWrite, OutOfMemory}

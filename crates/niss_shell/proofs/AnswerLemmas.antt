@@ -1,16 +1,11 @@
 -- From the steps of the engine to the answers to a whole input.
-use Rattle.std.proofs.Common.{◌≡◌, ◌≢◌, ℕ, ◌+◌, ◌≤◌, ◌<◌, take, Bool, true, false, if◌then◌else◌, Result, Ok, Err, List, [], ◌∷◌, ◌++◌, length, refl, sym, ap, ◌∙◌, subst, append-nil, length-append, arith}
-use Rattle.std.specs.Prelude.{nat_lt}
-use Rattle.std.proofs.lemmas.Grind.{common_steps}
-use Rattle.std.proofs.lemmas.List.{take_all}
-use Rattle.std.proofs.Math.Seq.{take-append-add}
-use Rattle.niss_shell.specs.Device.{SourceState, has_fault, Gave, Reads}
-use Rattle.niss_shell.specs.Lines.{ended_lines, last_part}
-use Rattle.niss_moves.specs.Reader.{Reader, IsFed}
-use Rattle.niss_shell.specs.Words.{most_bytes}
-use Rattle.niss_shell.specs.Output.{Ending, More, End, Fail, ending, ending_of, LineAnswers, answer_at, answers_from, answer_lines, line_with_bytes, last_line, complete_lines, outcome_of, unsearched}
-use Rattle.niss_shell.specs.Engine.{AnswerState, Progress, TakesBytes, TakesEnd, TakesNext, TakesLast, IsAt, Answers, AnswersSource}
-use Rattle.niss_shell.specs.Names.{DeviceFault, Stop, InputTooLong, CannotRead}
+use Rattle.niss_shell.proofs.Names.{◌≡◌, ◌≢◌, ℕ, ◌+◌, ◌≤◌, ◌<◌, take, Bool, true, false, if◌then◌else◌, Result, Ok, Err, List, [], ◌∷◌}
+use Rattle.niss_shell.proofs.Names.{◌++◌, length, refl, sym, ap, ◌∙◌, subst, append-nil, length-append, arith, nat_lt, common_steps}
+use Rattle.niss_shell.proofs.Names.{take_all, take-append-add, SourceState, has_fault, Gave, Reads, ended_lines, last_part, Reader, IsFed}
+use Rattle.niss_shell.proofs.Names.{most_bytes, Ending, More, End, Fail, ending, ending_of, LineAnswers, answer_at, answers_from}
+use Rattle.niss_shell.proofs.Names.{answer_lines, line_with_bytes, last_line, complete_lines, outcome_of, unsearched, AnswerState, Progress}
+use Rattle.niss_shell.proofs.Names.{TakesBytes, TakesEnd, TakesNext, TakesLast, IsAt, Answers, AnswersSource, DeviceFault, Stop}
+use Rattle.niss_shell.proofs.Names.{InputTooLong, CannotRead}
 use Rattle.niss_shell.proofs.DeviceLemmas.{gave_nothing, gave_more, is_empty_answer-some, is_empty_answer-none}
 use Rattle.niss_shell.proofs.StateLemmas.{writes_nothing, answers_more, answers_stopped}
 use Rattle.niss_shell.proofs.LinesLemmas.{answers_from-append}

@@ -1,11 +1,7 @@
 -- The lines of a text are the one cut at its line feeds.
-use Rattle.std.proofs.Common.{◌≡◌, ◌≢◌, ℕ, ◌==◌, Bool, true, false, if◌then◌else◌, List, [], ◌∷◌, ◌++◌, refl, sym, ap, ◌∙◌, subst, append_assoc, append-nil}
-use Rattle.std.specs.Prelude.{All, flat_map}
-use Rattle.std.proofs.lemmas.Bool.{ne_eqb, eqb-true}
-use Rattle.std.proofs.lemmas.List.Elements.{All-nil, All-cons, All-head, All-tail, All-push}
-use Rattle.niss_shell.specs.Lines.{ended_lines, last_part}
-use Rattle.niss_moves.specs.WholeMoves.{HasNoLineFeed}
-use Rattle.niss_shell.specs.LinesLaws.{line_to_feed, IsCutInto, TextIsCut, OneCut}
+use Rattle.niss_shell.proofs.Names.{◌≡◌, ◌≢◌, ℕ, ◌==◌, Bool, true, false, if◌then◌else◌, List, [], ◌∷◌, ◌++◌, refl, sym, ap, ◌∙◌, subst}
+use Rattle.niss_shell.proofs.Names.{append_assoc, append-nil, All, flat_map, ne_eqb, eqb-true, All-nil, All-cons, All-head, All-tail}
+use Rattle.niss_shell.proofs.Names.{All-push, ended_lines, last_part, HasNoLineFeed, line_to_feed, IsCutInto, TextIsCut, OneCut}
 
 no_feed_after : {b : ℕ} → (b == 10) ≡ false → b ≢ 10
 no_feed_after e h = cc (e, ap (λ n. n == 10) h)

@@ -1,12 +1,9 @@
 -- How the bytes that several calls move join.
-use Rattle.std.proofs.Common.{◌≡◌, ℕ, ◌+◌, zero, suc, ◌≢◌, ◌<◌, ◌||◌, Bool, true, false, Option, Some, None, Result, Ok, Err, if◌then◌else◌, List, [], ◌∷◌, ◌++◌, take, drop, length, length-append, refl, sym, ap, ◌∙◌, subst, append_assoc, append-nil, arith}
-use Rattle.std.specs.Prelude.{is_err, IsErr, MatchResult}
-use Rattle.std.specs.Io.KnownBytes.{ReadConsumes}
-use Rattle.std.proofs.lemmas.List.{drop-drop, length-drop}
-use Rattle.std.proofs.Math.Bool.{or-false}
-use Rattle.std.proofs.lemmas.Bool.{or_parts}
-use Rattle.niss_shell.specs.Device.{SourceState, TargetState, Room, FilledOf, has_fault, GaveOf, Gave, AppendedOf, Appended, StaysSilentOf, StaysSilent, is_empty_answer, moved_bytes}
-use Rattle.niss_shell.specs.Names.{DeviceFault}
+use Rattle.niss_shell.proofs.Names.{◌≡◌, ℕ, ◌+◌, zero, suc, ◌≢◌, ◌<◌, ◌||◌, Bool, true, false, Option, Some, None, Result, Ok, Err}
+use Rattle.niss_shell.proofs.Names.{if◌then◌else◌, List, [], ◌∷◌, ◌++◌, take, drop, length, length-append, refl, sym, ap, ◌∙◌, subst}
+use Rattle.niss_shell.proofs.Names.{append_assoc, append-nil, arith, is_err, IsErr, MatchResult, ReadConsumes, drop-drop, length-drop}
+use Rattle.niss_shell.proofs.Names.{or-false, or_parts, SourceState, TargetState, Room, FilledOf, has_fault, GaveOf, Gave, AppendedOf}
+use Rattle.niss_shell.proofs.Names.{Appended, StaysSilentOf, StaysSilent, is_empty_answer, moved_bytes, DeviceFault}
 
 nothing_appended : (held : Option (List ℕ)) (failed : Bool) → AppendedOf held held failed []
 nothing_appended None failed = tt

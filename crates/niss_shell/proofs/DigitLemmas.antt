@@ -1,7 +1,6 @@
 -- The digits of a number.
-use Rattle.std.proofs.Common.{◌≡◌, ◌+◌, ◌/◌, ◌%◌, ◌≤◌, ◌<◌, ◌^◌, ◌++◌, ◌∷◌, [], ℕ, arith, ap, length-append}
-use Rattle.std.specs.Prelude.{decimal, length}
-use Rattle.std.proofs.lemmas.Fmt.{length-decimal-le_wide, decimal_step_wide, decimal_digit}
+use Rattle.niss_shell.proofs.Names.{◌≡◌, ◌+◌, ◌/◌, ◌%◌, ◌≤◌, ◌<◌, ◌^◌, ◌++◌, ◌∷◌, [], ℕ, arith, ap, length-append, decimal, length}
+use Rattle.niss_shell.proofs.Names.{length-decimal-le_wide, decimal_step_wide, decimal_digit}
 
 pub decimal_short : (n : ℕ) → n < 2 ^ 128 → length (decimal n) ≤ 39
 decimal_short n h = length-decimal-le_wide 39 n (omega arith) (omega arith) (omega arith)

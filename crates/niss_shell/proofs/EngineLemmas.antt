@@ -1,18 +1,8 @@
 -- How the engine's steps join.
-use Rattle.std.proofs.Common.{◌≡◌, ◌≢◌, ℕ, ◌+◌, ◌<◌, ◌≤◌, take, drop, get_or, false, Result, Ok, Err, List, [], ◌∷◌, ◌++◌, length, refl, sym, ap, ◌∙◌, subst, append-nil, length-append, arith}
-use Rattle.std.specs.Prelude.{OnOk}
-use Rattle.std.specs.List.{between}
-use Rattle.std.proofs.lemmas.Slice.{between_to_end}
-use Rattle.std.proofs.lemmas.List.{take_more, take-append-drop, length-drop}
-use Rattle.std.proofs.lemmas.List.Elements.{All-nil}
-use Rattle.niss_shell.specs.Device.{has_fault}
-use Rattle.niss_shell.specs.Lines.{ended_lines, last_part}
-use Rattle.std.proofs.Math.Seq.{take-add}
-use Rattle.niss_moves.specs.WholeMoves.{HasNoLineFeed}
-use Rattle.niss_moves.specs.Reader.{Reader, IsFed}
-use Rattle.niss_shell.specs.Output.{LineAnswers, answer_at, answers_from, then_answer}
-use Rattle.niss_shell.specs.Engine.{AnswerState, Progress, Answers, TakesBytes}
-use Rattle.niss_shell.specs.Names.{Stop}
+use Rattle.niss_shell.proofs.Names.{◌≡◌, ◌≢◌, ℕ, ◌+◌, ◌<◌, ◌≤◌, take, drop, get_or, false, Result, Ok, Err, List, [], ◌∷◌, ◌++◌, length}
+use Rattle.niss_shell.proofs.Names.{refl, sym, ap, ◌∙◌, subst, append-nil, length-append, arith, OnOk, between, between_to_end, take_more}
+use Rattle.niss_shell.proofs.Names.{take-append-drop, length-drop, All-nil, has_fault, ended_lines, last_part, HasNoLineFeed, Reader, IsFed}
+use Rattle.niss_shell.proofs.Names.{LineAnswers, answer_at, answers_from, then_answer, AnswerState, Progress, Answers, TakesBytes, Stop}
 use Rattle.niss_shell.proofs.CutLemmas.{ended_after, last_after}
 use Rattle.niss_shell.proofs.StateLemmas.{writes_nothing, then_nothing, answers_more, answers_stopped}
 use Rattle.niss_shell.proofs.LinesLemmas.{ended_lines-append, last_part-append, answers_from-append}
@@ -32,18 +22,12 @@ on_ok : {A B C : Type 0} (r : Result (Unit {0}) Stop) → (A → B → C) → On
 on_ok (Ok u) f a b = f a b
 on_ok (Err stop) f a b = tt
 
--- a line feed
-takes_line_feed : (f : LineAnswers) (front : List ℕ) (n : ℕ) (q : Progress) (r : Result (Unit {0}) Stop) (old new : AnswerState)
+-- a line feed, which ends the line
+pub takes_line_feed : (f : LineAnswers) (front : List ℕ) (n : ℕ) (q : Progress) (r : Result (Unit {0}) Stop) (old new : AnswerState)
     → Answers (answer_at f n front) r old new → OnOk r (IsFed q.reader []) → OnOk r (q.line ≡ n + 1) → TakesBytes f front (10 ∷ []) n q r old new
 unfolding ended_lines last_part
 takes_line_feed f front n q r old new answers reader line =
     (answered_line f n front r old new answers, on_ok r (λ at next. record { reader = at; line = next }) reader line)
-
-pub takes_end_of_line : (f : LineAnswers) (front : List ℕ) {byte : ℕ} (n : ℕ) (q : Progress) (r : Result (Unit {0}) Stop) (old new : AnswerState)
-    → byte ≡ 10 → Answers (answer_at f n front) r old new → OnOk r (IsFed q.reader []) → OnOk r (q.line ≡ n + 1)
-    → TakesBytes f front (byte ∷ []) n q r old new
-takes_end_of_line f front n q r old new e answers reader line =
-    subst (λ b. TakesBytes f front (b ∷ []) n q r old new) (sym e) (takes_line_feed f front n q r old new answers reader line)
 
 -- bytes inside a line
 inside_ended : (front xs : List ℕ) → HasNoLineFeed xs → ended_lines front xs ≡ []
@@ -89,18 +73,12 @@ takes_more f front xs ys n q s r a b c x y = (
   }) y.1 y.1,
 )
 
--- a run that was stopped within these bytes stays so, whatever comes after them
-pub takes_front : (f : LineAnswers) (front xs ys : List ℕ) (n : ℕ) (q : Progress) (stop : Stop) (a c : AnswerState)
-    → TakesBytes f front xs n q (Err stop) a c → TakesBytes f front (xs ++ ys) n q (Err stop) a c
-takes_front f front xs ys n q stop a c x =
-    (subst (λ d. Answers d (Err stop) a c) (sym (lines_joined f front xs ys n)) (answers_stopped _ _ stop a c x.0), tt)
-
 -- a block in which the run was stopped
 pub takes_stopped : (f : LineAnswers) (front bytes : List ℕ) (i n : ℕ) (q : Progress) (stop : Stop) (a c : AnswerState)
     → TakesBytes f front (take i bytes) n q (Err stop) a c → TakesBytes f front bytes n q (Err stop) a c
 takes_stopped f front bytes i n q stop a c x =
     subst (λ xs. TakesBytes f front xs n q (Err stop) a c) (take-append-drop i bytes)
-    (takes_front _ _ _ _ _ q _ _ _ x)
+    (subst (λ d. Answers d (Err stop) a c) (sym (lines_joined f front (take i bytes) (drop i bytes) n)) (answers_stopped _ _ stop a c x.0), tt)
 
 -- the first byte of a block
 
@@ -109,19 +87,8 @@ nothing_fed r front bytes k none at =
     let zero : k ≡ 0 = omega (arith, none) in
     subst (λ (xs : List ℕ). IsFed r xs) (ap (λ (i : ℕ). front ++ take i bytes) zero ∙ append-nil front) at
 
-pub first_piece : (f : LineAnswers) (front bytes : List ℕ) (n : ℕ) (q : Progress) (r : Result (Unit {0}) Stop) (a b : AnswerState)
-    → 0 < length bytes → TakesBytes f front (get_or bytes 0 0 ∷ []) n q r a b → TakesBytes f front (take 1 bytes) n q r a b
-first_piece f front bytes n q r a b h x = subst (λ (xs : List ℕ). TakesBytes f front xs n q r a b) (sym (take_more bytes 0 0 h)) x
-
--- one piece of a block more
-pub takes_piece : (f : LineAnswers) (front bytes : List ℕ) {rest : List ℕ} (i k n : ℕ) {q : Progress} (r : Progress) (result : Result (Unit {0}) Stop) (a : AnswerState) {b : AnswerState} (c : AnswerState)
-    → rest ≡ drop i bytes
-    → TakesBytes f front (take i bytes) n q (Ok tt) a b
-    → ((open_line : List ℕ) → IsFed q.reader open_line → TakesBytes f open_line (take k rest) q.line r result b c)
-    → TakesBytes f front (take (i + k) bytes) n r result a c
-takes_piece f front bytes i k n r result a c e x y =
-    subst (λ xs. TakesBytes f front xs n r result a c) (ap (λ t. take i bytes ++ take k t) e ∙ sym (take-add i k bytes))
-    (takes_more _ _ _ _ _ _ _ _ _ _ _ x (y (last_part front (take i bytes)) x.1.reader))
+pub first_byte : (bytes : List ℕ) {b : ℕ} → 0 < length bytes → get_or bytes 0 0 ≡ b → take 1 bytes ≡ b ∷ []
+first_byte bytes some e = take_more bytes 0 0 some ∙ ap (λ (c : ℕ). c ∷ []) e
 
 pub rest_is : (bytes : List ℕ) (i : ℕ) → between i (length bytes) bytes ≡ drop i bytes
 rest_is bytes i = between_to_end bytes i (length bytes) (omega arith)

@@ -1,3 +1,4 @@
+pub mod Names
 pub mod CutLemmas
 pub mod DeviceLemmas
 pub mod DigitLemmas

@@ -1,7 +1,6 @@
 -- Lines and answers of a text that comes in two parts.
-use Rattle.std.proofs.Common.{◌≡◌, ℕ, ◌+◌, ◌==◌, Bool, true, false, if◌then◌else◌, Ok, List, [], ◌∷◌, ◌++◌, length, refl, sym, ap, ◌∙◌, arith}
-use Rattle.niss_shell.specs.Lines.{ended_lines, last_part}
-use Rattle.niss_shell.specs.Output.{LineAnswers, answer_at, answers_from, then_answer, unsearched}
+use Rattle.niss_shell.proofs.Names.{◌≡◌, ℕ, ◌+◌, ◌==◌, Bool, true, false, if◌then◌else◌, Ok, List, [], ◌∷◌, ◌++◌, length, refl, sym, ap}
+use Rattle.niss_shell.proofs.Names.{◌∙◌, arith, ended_lines, last_part, LineAnswers, answer_at, answers_from, then_answer, unsearched}
 use Rattle.niss_shell.proofs.StateLemmas.{nothing_then, then_then}
 
 ended_step : (c : Bool) (front xs ys : List ℕ) (b : ℕ)

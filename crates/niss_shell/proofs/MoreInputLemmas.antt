@@ -1,13 +1,10 @@
 -- What is answered of a part of an input is a beginning of what is answered of the whole.
-use Rattle.std.proofs.Common.{◌≡◌, ℕ, zero, suc, ◌+◌, ◌≤◌, Bool, true, false, Result, Ok, Err, List, [], ◌∷◌, ◌++◌, take, length, length-append, refl, sym, ap, ◌∙◌, subst, append_assoc, append-nil, arith}
-use Rattle.std.specs.Prelude.{nat_lt}
-use Rattle.std.proofs.lemmas.List.{take_all, take-append-le}
-use Rattle.std.proofs.lemmas.Grind.{common_steps}
-use Rattle.niss_shell.specs.Lines.{ended_lines, last_part}
-use Rattle.niss_shell.specs.Words.{most_bytes, OnLines, ListSteps, DrawScrambles}
-use Rattle.niss_shell.specs.Output.{Answer, Ending, More, End, LineAnswers, complete_lines, last_line, line_with_bytes, outcome_of, joined_answer, then_answer, unsearched, line_answers, answers_from, answer_lines}
-use Rattle.niss_shell.specs.MoreInput.{Begins, MoreInputKeepsAnswers}
-use Rattle.niss_shell.specs.Names.{Stop, InputTooLong}
+use Rattle.niss_shell.proofs.Names.{◌≡◌, ℕ, zero, suc, ◌+◌, ◌≤◌, Bool, true, false, Result, Ok, Err, List, [], ◌∷◌, ◌++◌, take, length}
+use Rattle.niss_shell.proofs.Names.{length-append, refl, sym, ap, ◌∙◌, subst, append_assoc, append-nil, arith, nat_lt, take_all}
+use Rattle.niss_shell.proofs.Names.{take-append-le, common_steps, ended_lines, last_part, most_bytes, OnLines, ListSteps, DrawScrambles}
+use Rattle.niss_shell.proofs.Names.{Answer, Ending, More, End, LineAnswers, complete_lines, last_line, line_with_bytes, outcome_of}
+use Rattle.niss_shell.proofs.Names.{joined_answer, then_answer, unsearched, line_answers, answers_from, answer_lines, Begins}
+use Rattle.niss_shell.proofs.Names.{MoreInputKeepsAnswers, Stop, InputTooLong}
 use Rattle.niss_shell.proofs.AnswerLemmas.{choose_false, choose_true}
 use Rattle.niss_shell.proofs.StateLemmas.{then_then}
 use Rattle.niss_shell.proofs.LinesLemmas.{ended_lines-append, answers_from-append}

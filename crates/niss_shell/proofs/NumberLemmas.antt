@@ -1,15 +1,8 @@
 -- Numbers and names among words.
-use Rattle.std.proofs.Common.{◌≡◌, ◌≢◌, ℕ, ◌^◌, ◌<◌, ◌≤◌, Bool, true, false, ◌&&◌, if◌then◌else◌, Some, None, Result, Ok, Err, List, [], ◌∷◌, length, refl, rules, arith}
-use Rattle.std.specs.Prelude.{nat_lt, nat_le, find, bytes_eq}
-use Rattle.std.specs.Char.{is_ascii_digit}
-use Rattle.std.specs.List.{list_all}
-use Rattle.std.specs.Str.Parse.{digits_value, ParsesUnsigned}
-use Rattle.std.proofs.lemmas.Grind.{common_steps}
-use Rattle.std.proofs.lemmas.Slice.Eq.{bytes_eq-Decides}
-use Rattle.std.proofs.lemmas.Str.Parse.{IsDigitsTest, IsNumeralModel, numerals_by_value, parse_digits}
-use Rattle.niss_cube.specs.Steps.{name_of, steps}
-use Rattle.niss_shell.specs.Names.{Step}
-use Rattle.niss_shell.specs.Words.{number_of, step_named}
+use Rattle.niss_shell.proofs.Names.{◌≡◌, ◌≢◌, ℕ, ◌^◌, ◌<◌, ◌≤◌, Bool, true, false, ◌&&◌, if◌then◌else◌, Some, None, Result, Ok, Err, List}
+use Rattle.niss_shell.proofs.Names.{[], ◌∷◌, length, refl, rules, arith, nat_lt, nat_le, find, bytes_eq, is_ascii_digit, list_all}
+use Rattle.niss_shell.proofs.Names.{digits_value, ParsesUnsigned, common_steps, bytes_eq-Decides, IsDigitsTest, IsNumeralModel}
+use Rattle.niss_shell.proofs.Names.{numerals_by_value, parse_digits, name_of, steps, Step, number_of, step_named}
 
 -- numbers
 

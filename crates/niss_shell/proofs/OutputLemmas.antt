@@ -1,30 +1,25 @@
 -- What an output takes: a text, the lines of a search, and what stands after them.
-use Rattle.std.proofs.Common.{◌≡◌, ◌==◌, Bool, true, ℕ, ◌+◌, ◌≤◌, false, Option, Result, Ok, Err, List, [], ◌∷◌, ◌++◌, inl, inr, length, sym, ap, ◌∙◌, subst, append_assoc, arith}
-use Rattle.std.proofs.lemmas.Bool.{eqb-true}
-use Rattle.std.proofs.lemmas.List.{nil_from_length}
-use Rattle.std.specs.Prelude.{OnOk, OnErr, flat_map}
-use Rattle.niss_shell.specs.Names.{Turn, DeviceFault, Output}
-use Rattle.niss_search.specs.Delivery.{WentThrough, StoppedIn}
-use Rattle.niss_shell.specs.Device.{TargetState, has_fault}
-use Rattle.niss_shell.specs.Lines.{line_feed}
-use Rattle.niss_shell.specs.Output.{none_line, solution_line, solve_text, count_text}
-use Rattle.niss_shell.specs.Engine.{output_state, pending_state, Writes, Refuses, WritesOrRefuses, Delivers, TakesLine, RefusesLine}
+use Rattle.niss_shell.proofs.Names.{◌≡◌, ◌==◌, Bool, true, ℕ, ◌+◌, ◌≤◌, false, Option, Result, Ok, Err, List, [], ◌∷◌, ◌++◌, inl, inr}
+use Rattle.niss_shell.proofs.Names.{length, sym, ap, ◌∙◌, subst, append_assoc, arith, eqb-true, nil_from_length, OnOk, OnErr, flat_map}
+use Rattle.niss_shell.proofs.Names.{Turn, DeviceFault, Output, WentThrough, StoppedIn, TargetState, has_fault, line_feed, none_line}
+use Rattle.niss_shell.proofs.Names.{solution_line, solve_text, count_text, output_state, pending_state, Writes, Refuses, WritesOrRefuses}
+use Rattle.niss_shell.proofs.Names.{Delivers, TakesLine, RefusesLine}
 use Rattle.niss_shell.proofs.PendingLemmas.{then_sent, waits}
 use Rattle.niss_shell.proofs.StateLemmas.{writes_nothing, writes_more, writes_as, refuses_more, refuses_front, refuses_as}
 
 -- what a text does to an output, as a sink says it
 
-pub line_taken : {W : Type 0} (state : W → TargetState) (r : Result (Unit {0}) DeviceFault) {text line : List ℕ} (old new : Output W) (N : Type 0)
-    → text ≡ line → N → new.pending.items ≡ [] → Delivers state r text old new → OnOk r (N × TakesLine state line old new)
-line_taken state (Ok u) old new N e n none d =
-    (n, (none, λ works looks. subst (λ t. Writes t 0 (output_state state old looks) (output_state state new looks)) e (d works looks)))
-line_taken state (Err x) old new N e n none d = tt
+pub line_taken : {W : Type 0} (state : W → TargetState) (r : Result (Unit {0}) DeviceFault) {text line : List ℕ} (old new : Output W)
+    → text ≡ line → new.pending.items ≡ [] → Delivers state r text old new → OnOk r (TakesLine state line old new)
+line_taken state (Ok u) old new e none d =
+    (none, λ works looks. subst (λ t. Writes t 0 (output_state state old looks) (output_state state new looks)) e (d works looks))
+line_taken state (Err x) old new e none d = tt
 
-pub line_refused : {W : Type 0} (state : W → TargetState) (r : Result (Unit {0}) DeviceFault) {text line : List ℕ} (old new : Output W) (N : Type 0)
-    → text ≡ line → N → new.pending.items ≡ [] → Delivers state r text old new → OnErr r (N × RefusesLine state line old new)
-line_refused state (Ok u) old new N e n none d = tt
-line_refused state (Err x) old new N e n none d =
-    (n, (none, λ works looks. subst (λ t. Refuses t 0 (output_state state old looks) (output_state state new looks)) e (d works looks)))
+pub line_refused : {W : Type 0} (state : W → TargetState) (r : Result (Unit {0}) DeviceFault) {text line : List ℕ} (old new : Output W)
+    → text ≡ line → new.pending.items ≡ [] → Delivers state r text old new → OnErr r (RefusesLine state line old new)
+line_refused state (Ok u) old new e none d = tt
+line_refused state (Err x) old new e none d =
+    (none, λ works looks. subst (λ t. Refuses t 0 (output_state state old looks) (output_state state new looks)) e (d works looks))
 
 -- a text that was tested to be empty
 pub no_bytes : {empty : Bool} (bytes : List ℕ) → empty ≡ (length bytes == 0) → empty ≡ true → bytes ≡ []
@@ -34,7 +29,7 @@ no_bytes bytes e k = nil_from_length bytes (eqb-true (length bytes) 0 (sym e ∙
 pub line_sent : {W : Type 0} (state : W → TargetState) (r : Result (Unit {0}) DeviceFault) (line : List ℕ) {text : List ℕ} (old new : Output W)
     → text ≡ line → old.pending.items ≡ []
     → (has_fault (state old.target.now) ≡ false → (looks : ℕ) → WritesOrRefuses r [] 0
-    (pending_state (state old.target.now) text looks) (output_state state new looks))
+    (pending_state old.target.ghost_name (state old.target.now) text looks) (output_state state new looks))
     → Delivers state r line old new
 line_sent state r line old new e none then = λ works looks.
     then_sent _ _ _ _ _ _ (waits _ (e ∙ ap (λ p. p ++ line) (sym none)) works) (then works looks)
@@ -53,6 +48,7 @@ module _ {W : Type 0} (state : W → TargetState) where
       → Writes text 0 (output_state state old now) (output_state state new now)
       → Writes text looks (output_state state old before) (output_state state new after)
   looked_writes now old new exact w = record {
+    same_target = w.same_target;
     works = w.works;
     written = record { sent = w.written.sent; whole = w.written.whole; appended = w.written.appended };
     looked = exact;
@@ -62,7 +58,12 @@ module _ {W : Type 0} (state : W → TargetState) where
       → before ≤ after → after ≤ before + looks
       → Refuses text 0 (output_state state old now) (output_state state new now)
       → Refuses text looks (output_state state old before) (output_state state new after)
-  looked_refuses now old new rises most w = record { refused = w.refused; rises = rises; looked = most }
+  looked_refuses now old new rises most w = record {
+    same_target = w.same_target;
+    refused = w.refused;
+    rises = rises;
+    looked = most;
+  }
 
   pub reported_after : (r : Result (Unit {0}) DeviceFault) {piece text : List ℕ} (looks before after : ℕ) (old new : Output W)
       → piece ≡ text → after ≡ before + looks → Delivers state r piece old new

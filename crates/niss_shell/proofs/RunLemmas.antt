@@ -1,30 +1,20 @@
 -- From what was read and written to what a run says of it.
-use Rattle.std.proofs.Common.{◌≡◌, ◌≢◌, ℕ, ◌+◌, ◌≤◌, ◌<◌, Bool, true, false, ◌||◌, not, if◌then◌else◌, Option, Some, None, Result, Ok, Err, List, [], ◌∷◌, ◌++◌, length, refl, sym, ap, ◌∙◌, subst, append-nil, add-zero, arith}
-use Rattle.std.specs.Prelude.{OnOk, OnErr, IfSome, nat_lt, nat_le, flat_map}
-use Rattle.std.proofs.lemmas.Grind.{common_steps}
-use Rattle.rand_pcg.specs.Lcg.{Lcg}
-use Rattle.niss_shell.specs.Device.{SourceState, TargetState, has_fault, Appended, Flushes, WriteRefused}
-use Rattle.niss_shell.specs.Scrambles.{generator_of, scramble_text}
-use Rattle.niss_shell.specs.Words.{most_bytes, Request, OnLines, ListSteps, DrawScrambles, request_of, reads_source, has_step, joined}
-use Rattle.niss_shell.specs.Output.{Answer, Ending, More, End, Fail, ending, outcome_at_end, answer_to, looks_at, most_line_looks, home, where_it_starts, complete_lines, LineAnswers, line_answer, answer_at, answers_from, joined_answer, line_answers, answer_lines, answer_request, unsearched, step_line, outcome_of, out_of, error_text, status_of}
-use Rattle.niss_cube.specs.Steps.{steps, turns_of, may_start}
-use Rattle.niss_moves.specs.Line.{Moves}
-use Rattle.niss_moves.specs.Reader.{read_line}
-use Rattle.niss_shell.specs.Engine.{AnswerState, pending_state, AnswersSource, Answers, Writes, Refuses, EndsUnflushed, RunsUnflushed, flushed_outcome, FlushesLast}
-use Rattle.niss_shell.specs.Job.{IsInput}
-use Rattle.niss_shell.specs.Run.{Devices, devices, OutputRefused, EndsByFault, Ends, ReportsError, Looked, Runs}
-use Rattle.niss_shell.specs.Names.{DeviceFault, UsageFault, LineCommand, Rewrite, Search, LineFault, ReadFault, Step, Stop, Usage, InputTooLong, CannotWrite, OutOfMemory}
-use Rattle.niss_search.specs.Laws.{LooksWithinBound}
+use Rattle.niss_shell.proofs.Names.{◌≡◌, ◌≢◌, ℕ, ◌+◌, ◌≤◌, ◌<◌, Bool, true, false, ◌||◌, not, if◌then◌else◌, Option, Some, None, Result, Ok}
+use Rattle.niss_shell.proofs.Names.{Err, List, [], ◌∷◌, ◌++◌, length, refl, sym, ap, ◌∙◌, subst, append-nil, add-zero, arith, OnOk, OnErr}
+use Rattle.niss_shell.proofs.Names.{nat_lt, nat_le, flat_map, common_steps, Lcg, SourceState, TargetState, has_fault, Appended}
+use Rattle.niss_shell.proofs.Names.{Flushes, WriteRefused, generator_of, scramble_text, most_bytes, Request, OnLines, ListSteps}
+use Rattle.niss_shell.proofs.Names.{DrawScrambles, request_of, reads_source, has_step, joined, Answer, Ending, More, End, Fail, ending}
+use Rattle.niss_shell.proofs.Names.{outcome_at_end, answer_to, looks_at, most_line_looks, home, where_it_starts, complete_lines}
+use Rattle.niss_shell.proofs.Names.{LineAnswers, line_answer, answer_at, answers_from, joined_answer, line_answers, answer_lines}
+use Rattle.niss_shell.proofs.Names.{answer_request, unsearched, step_line, outcome_of, out_of, error_text, status_of, steps, turns_of}
+use Rattle.niss_shell.proofs.Names.{may_start, Moves, read_line, AnswerState, MayBegin, pending_state, AnswersSource, Answers, Writes}
+use Rattle.niss_shell.proofs.Names.{Refuses, EndsUnflushed, RunsUnflushed, flushed_outcome, FlushesLast, IsInput, Devices, devices}
+use Rattle.niss_shell.proofs.Names.{OutputRefused, EndsByFault, Ends, ReportsError, Looked, Runs, DeviceFault, UsageFault, LineCommand}
+use Rattle.niss_shell.proofs.Names.{Rewrite, Search, LineFault, ReadFault, Step, Stop, Usage, InputTooLong, CannotWrite, OutOfMemory}
+use Rattle.niss_shell.proofs.Names.{LooksWithinBound}
 use Rattle.niss_shell.proofs.DeviceLemmas.{appended_then, appended_after_failure, gave_nothing, fault_of_write, no_write_fault, no_flush_fault}
 use Rattle.niss_shell.proofs.StateLemmas.{writes_nothing, all_sent}
 use Rattle.niss_shell.proofs.AnswerLemmas.{short_test, long_test, choose_false, choose_true}
-
--- where words give the input, what holds without a read holds
-pub by_words : {T : Type 0} (bytes : T → List ℕ) (text : Option T) (command : LineCommand) (words : List (List ℕ)) (P : Type 0)
-    → IsInput bytes text words → reads_source (Ok (OnLines command words)) ≡ false → IfSome text (λ t. P) → P
-by_words bytes (Some text) command words P is h p = p
-by_words bytes None command [] P is h p = absurd (cc)
-by_words bytes None command (w ∷ ws) P is h p = absurd (omega arith)
 
 -- the error writer
 
@@ -91,89 +81,96 @@ ends_of_answers a asked _ source source_now h i n w = w
 
 -- The input comes from the source. What the run is of, by its command and its states, may be known by equations.
 pub runs_source : {command given : LineCommand} {ws : List (List ℕ)} {outcome : Result (Unit {0}) Stop} {a b : SourceState} {h k i j : AnswerState}
-    → given ≡ command → k ≡ h → j ≡ i → length ws ≡ 0 → AnswersSource (line_answers given) outcome a b k j
+    → given ≡ command → k ≡ h → j ≡ i → length ws ≡ 0 → AnswersSource (line_answers given) outcome a b k j → j.pending ≡ []
     → RunsUnflushed (Ok (OnLines command ws)) outcome a b h i
-runs_source {given = given} {ws = []} {b = b} e f g none x = rw (← e, ← f, ← g) (record {
+runs_source {given = given} {ws = []} {b = b} e f g none x empty = rw (← e, ← f, ← g) (record {
   input = x.input;
   gave = x.gave;
   ends = ends_of_answers (answer_lines (line_answers given) x.input (ending b)) _ _ _ b _ _ (is_not_memory (line_answers given) x.input (ending b)) x.answers;
   read_whole = λ d r. x.read_whole d;
+  unread = λ r. absurd (cc r);
+  empty = empty;
 })
-runs_source {ws = w ∷ ws} e f g none x = absurd (omega arith)
+runs_source {ws = w ∷ ws} e f g none x empty = absurd (omega arith)
 
 -- nothing is read
-unread_run : (asked : Result Request UsageFault) (outcome : Result (Unit {0}) Stop) (a : SourceState) (h i : AnswerState) → reads_source asked ≡ false
+unread_run : (asked : Result Request UsageFault) (outcome : Result (Unit {0}) Stop) (a : SourceState) (h i : AnswerState) → reads_source asked ≡ false → i.pending ≡ []
     → EndsUnflushed outcome (answer_request asked [] (ending a)) asked a a h i → RunsUnflushed asked outcome a a h i
-unread_run asked outcome a h i unread ends = record {
+unread_run asked outcome a h i unread empty ends = record {
   input = [];
   gave = gave_nothing a;
   ends = ends;
   read_whole = λ d r. absurd (cc (r, unread));
+  unread = λ r. refl;
+  empty = empty;
 }
 
 -- the input comes from the words
 
 pub runs_text : {command given : LineCommand} {ws : List (List ℕ)} {text : List ℕ} {outcome : Result (Unit {0}) Stop} {a : SourceState} {h k i j : AnswerState}
     → given ≡ command → k ≡ h → j ≡ i → 0 < length ws → text ≡ joined ws → length (joined ws) ≤ most_bytes
-    → Answers (answer_lines (line_answers given) text End) outcome k j → RunsUnflushed (Ok (OnLines command ws)) outcome a a h i
-runs_text {ws = []} e f g some whole fits x = absurd (omega arith)
-runs_text {given = given} {ws = v ∷ ws} {text = text} {outcome = outcome} {a = a} {k = k} {j = j} e f g some whole fits x =
-    rw (← e, ← f, ← g) (unread_run (Ok (OnLines given (v ∷ ws))) outcome a k j refl
+    → Answers (answer_lines (line_answers given) text End) outcome k j → j.pending ≡ [] → RunsUnflushed (Ok (OnLines command ws)) outcome a a h i
+runs_text {ws = []} e f g some whole fits x empty = absurd (omega arith)
+runs_text {given = given} {ws = v ∷ ws} {text = text} {outcome = outcome} {a = a} {k = k} {j = j} e f g some whole fits x empty =
+    rw (← e, ← f, ← g) (unread_run (Ok (OnLines given (v ∷ ws))) outcome a k j refl empty
     (subst (λ y. EndsUnflushed outcome y (Ok (OnLines given (v ∷ ws))) a a k j)
     (ap (λ t. answer_lines (line_answers given) t End) whole ∙ sym (choose_false _ _ _ (short_test fits)))
     (ends_of_answers (answer_lines (line_answers given) text End) (Ok (OnLines given (v ∷ ws))) _ a a k j (is_not_memory (line_answers given) text End) x)))
 
 pub runs_too_long : (command : LineCommand) (ws : List (List ℕ)) (a : SourceState) (h : AnswerState)
-    → 0 < length ws → has_fault h.target ≡ false → most_bytes < length (joined ws)
+    → 0 < length ws → MayBegin a h → most_bytes < length (joined ws)
     → RunsUnflushed (Ok (OnLines command ws)) (Err InputTooLong) a a h h
-runs_too_long command [] a h n works long = absurd (omega arith)
-runs_too_long command (v ∷ ws) a h n works long =
-    unread_run (Ok (OnLines command (v ∷ ws))) (Err InputTooLong) a h h refl
+runs_too_long command [] a h n begins long = absurd (omega arith)
+runs_too_long command (v ∷ ws) a h n begins long =
+    unread_run (Ok (OnLines command (v ∷ ws))) (Err InputTooLong) a h h refl begins.empty
     (subst (λ x. EndsUnflushed (Err InputTooLong) x (Ok (OnLines command (v ∷ ws))) a a h h)
-    (sym (choose_true _ _ _ (long_test long))) (refl, writes_nothing _ works))
+    (sym (choose_true _ _ _ (long_test long))) (refl, writes_nothing _ begins.works))
 
 fits_test : {n : ℕ} → n ≤ most_bytes → nat_le n most_bytes ≡ true
 fits_test h = grind (arith, common_steps)
 
 pub runs_memory : (command : LineCommand) (ws : List (List ℕ)) (a : SourceState) (h : AnswerState)
-    → 0 < length ws → has_fault h.target ≡ false → length (joined ws) ≤ most_bytes
+    → 0 < length ws → MayBegin a h → length (joined ws) ≤ most_bytes
     → RunsUnflushed (Ok (OnLines command ws)) (Err OutOfMemory) a a h h
-runs_memory command [] a h n works fits = absurd (omega arith)
-runs_memory command (v ∷ ws) a h n works fits =
-    unread_run (Ok (OnLines command (v ∷ ws))) (Err OutOfMemory) a h h refl (fits_test fits, refl, writes_nothing _ works)
+runs_memory command [] a h n begins fits = absurd (omega arith)
+runs_memory command (v ∷ ws) a h n begins fits =
+    unread_run (Ok (OnLines command (v ∷ ws))) (Err OutOfMemory) a h h refl begins.empty (fits_test fits, refl, writes_nothing _ begins.works)
 
 pub runs_memory_source : (command : LineCommand) (ws : List (List ℕ)) (a : SourceState) (h : AnswerState)
-    → length ws ≡ 0 → has_fault h.target ≡ false → has_step command ≡ true
+    → length ws ≡ 0 → MayBegin a h → has_step command ≡ true
     → RunsUnflushed (Ok (OnLines command ws)) (Err OutOfMemory) a a h h
-runs_memory_source command [] a h n works asks = record {
+runs_memory_source command [] a h n begins asks = record {
   input = [];
   gave = gave_nothing a;
-  ends = (asks, refl, writes_nothing _ works);
+  ends = (asks, refl, writes_nothing _ begins.works);
   read_whole = λ d r. absurd (cc d);
+  unread = λ r. refl;
+  empty = begins.empty;
 }
-runs_memory_source command (v ∷ ws) a h n works asks = absurd (omega arith)
+runs_memory_source command (v ∷ ws) a h n begins asks = absurd (omega arith)
 
 pub runs_tables : {T : Type 0} (bytes : T → List ℕ) (text : Option T) (command : LineCommand) (ws : List (List ℕ)) (a : SourceState) (h : AnswerState)
-    → IsInput bytes text ws → has_fault h.target ≡ false → has_step command ≡ true
+    → IsInput bytes text ws → MayBegin a h → has_step command ≡ true
     → RunsUnflushed (Ok (OnLines command ws)) (Err OutOfMemory) a a h h
-runs_tables bytes None command ws a h none works asks = runs_memory_source command ws a h none works asks
-runs_tables bytes (Some text) command ws a h (some, whole, fits) works asks = runs_memory command ws a h some works fits
+runs_tables bytes None command ws a h none begins asks = runs_memory_source command ws a h none begins asks
+runs_tables bytes (Some text) command ws a h (some, whole, fits) begins asks = runs_memory command ws a h some begins fits
 
 -- other requests
 
 pub runs_usage : {asked : Result Request UsageFault} {fault : UsageFault} (a : SourceState) (h : AnswerState)
-    → asked ≡ Err fault → has_fault h.target ≡ false → RunsUnflushed asked (Err Usage) a a h h
-runs_usage {fault = fault} a h e works = rw e (unread_run (Err fault) (Err Usage) a h h refl (refl, writes_nothing _ works))
+    → asked ≡ Err fault → MayBegin a h → RunsUnflushed asked (Err Usage) a a h h
+runs_usage {fault = fault} a h e begins = rw e (unread_run (Err fault) (Err Usage) a h h refl begins.empty (refl, writes_nothing _ begins.works))
 
 pub runs_steps : {asked : Result Request UsageFault} (outcome : Result (Unit {0}) Stop) (a : SourceState) (h i : AnswerState)
-    → asked ≡ Ok ListSteps → Answers (unsearched (flat_map step_line steps) (Ok tt)) outcome h i → RunsUnflushed asked outcome a a h i
-runs_steps outcome a h i e w = rw e (unread_run (Ok ListSteps) outcome a h i refl (ends_of_answers _ _ _ _ _ _ _ (λ n. cc n) w))
+    → asked ≡ Ok ListSteps → Answers (unsearched (flat_map step_line steps) (Ok tt)) outcome h i → i.pending ≡ []
+    → RunsUnflushed asked outcome a a h i
+runs_steps outcome a h i e w empty = rw e (unread_run (Ok ListSteps) outcome a h i refl empty (ends_of_answers _ _ _ _ _ _ _ (λ n. cc n) w))
 
 pub runs_scrambles : {asked : Result Request UsageFault} (state stream turns count : ℕ) {rng : Lcg} (outcome : Result (Unit {0}) Stop) (a : SourceState) (h i : AnswerState)
     → asked ≡ Ok (DrawScrambles state stream turns count) → rng ≡ generator_of state stream
-    → Answers (unsearched (scramble_text turns count rng) (Ok tt)) outcome h i → RunsUnflushed asked outcome a a h i
-runs_scrambles state stream turns count outcome a h i e f w =
-    rw e (unread_run (Ok (DrawScrambles state stream turns count)) outcome a h i refl
+    → Answers (unsearched (scramble_text turns count rng) (Ok tt)) outcome h i → i.pending ≡ [] → RunsUnflushed asked outcome a a h i
+runs_scrambles state stream turns count outcome a h i e f w empty =
+    rw e (unread_run (Ok (DrawScrambles state stream turns count)) outcome a h i refl empty
     (ends_of_answers _ _ _ _ _ _ _ (λ n. cc n) (subst (λ x. Answers (unsearched (scramble_text turns count x) (Ok tt)) outcome h i) f w)))
 
 -- the last flush
@@ -336,19 +333,19 @@ one_flush : {asked : Result Request UsageFault} {outcome outcome_now : Result (U
 one_flush works x flush = not_flushed _ _ _ flush.flush.flushed
     (flush.flush.flush_failed ∙ ap (λ v. v || flush.refused) (flushes_worked _ _ _ _ _ _ _ works x.ends))
 
-pub runs_flushed : LooksWithinBound → (words : List (List ℕ)) {status : ℕ} (outcome outcome_now : Result (Unit {0}) Stop) (a b : SourceState) (h : TargetState) {i : TargetState} (j : TargetState) {p q : List ℕ} (k l : TargetState) (looks looks_now : ℕ)
-    → has_fault h ≡ false → p ≡ [] → q ≡ [] → RunsUnflushed (request_of words) outcome a b (pending_state h p looks) (pending_state i q looks_now)
-    → (reads_source (request_of words) ≡ false → b ≡ a) → FlushesLast outcome outcome_now i j
+pub runs_flushed : LooksWithinBound → (words : List (List ℕ)) {status : ℕ} (outcome outcome_now : Result (Unit {0}) Stop) (a b : SourceState) (h : TargetState) {i : TargetState} (j : TargetState) {n m : ℕ} {p q : List ℕ} (k l : TargetState) (looks looks_now : ℕ)
+    → has_fault h ≡ false → p ≡ [] → RunsUnflushed (request_of words) outcome a b (pending_state n h p looks) (pending_state m i q looks_now)
+    → FlushesLast outcome outcome_now i j
     → ReportsError (error_text outcome_now) k l → status ≡ status_of outcome_now
     → Runs words (devices a h k) (devices b j l) looks looks_now status
-runs_flushed law words outcome outcome_now a b h j k l looks looks_now works none none_now x unread flush reports answers =
+runs_flushed law words outcome outcome_now a b h j k l looks looks_now works none x flush reports answers =
     record {
       input = x.input;
       gave = x.gave;
-      unread = unread;
+      unread = x.unread;
       outcome = outcome_now;
       ends = subst (λ v. Ends v (out_of words x.input b) (request_of words) (devices a h k) (devices b j l)) (sym flush.outcome_is)
-          (ends_flushed _ _ _ _ _ _ _ refl none none_now x.ends x.read_whole flush.flush);
+          (ends_flushed _ _ _ _ _ _ _ refl none x.empty x.ends x.read_whole flush.flush);
       tried = flush.flush.tried;
       one_flush = one_flush works x flush;
       looked = subst (λ v. Looked v j.write_failed (out_of words x.input b).looks looks looks_now) (sym flush.outcome_is)
@@ -357,6 +354,13 @@ runs_flushed law words outcome outcome_now a b h j k l looks looks_now works non
       reports = reports;
       answers = answers;
     }
+
+-- the target is the one that it was
+pub keeps_target : (a : Answer) (asked : Result Request UsageFault) (outcome : Result (Unit {0}) Stop) (source source_now : SourceState) (h i : AnswerState)
+    → EndsUnflushed outcome a asked source source_now h i → i.reference ≡ h.reference
+keeps_target a asked (Err CannotWrite) source source_now h i w = w.same_target
+keeps_target a asked (Err OutOfMemory) source source_now h i w = w.2.same_target
+keeps_target a asked _ source source_now h i w = w.1.same_target
 
 -- the target that the output lent
 pub lent_back : (words : List (List ℕ)) (status : ℕ) (a b : SourceState) (h : TargetState) {i j : TargetState} (k l : TargetState) (looks looks_now : ℕ)

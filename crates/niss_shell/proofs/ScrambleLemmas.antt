@@ -1,14 +1,8 @@
 -- Scrambles that are written one after another.
-use Rattle.std.proofs.Common.{◌≡◌, ℕ, zero, suc, ◌+◌, ◌*◌, ◌≤◌, ◌<◌, false, None, List, [], ◌∷◌, ◌++◌, take, drop, refl, sym, ap, ◌∙◌, subst, append-nil, arith}
-use Rattle.std.specs.Prelude.{flat_map}
-use Rattle.std.proofs.lemmas.Grind.{flat_map-append}
-use Rattle.std.proofs.lemmas.List.{take-append-drop}
-use Rattle.std.proofs.lemmas.List.FromFn.{map-range_with_len_more, take-map-range_with_len}
-use Rattle.niss_search.specs.Draw.{next_words, after_words, draw}
-use Rattle.rand_pcg.specs.Lcg.{Lcg, state_after}
-use Rattle.niss_shell.specs.Device.{has_fault}
-use Rattle.niss_shell.specs.Scrambles.{scramble, scrambles, turns_line, scramble_text}
-use Rattle.niss_shell.specs.Engine.{AnswerState, Writes, Refuses}
+use Rattle.niss_shell.proofs.Names.{◌≡◌, ℕ, zero, suc, ◌+◌, ◌*◌, ◌≤◌, ◌<◌, false, None, List, [], ◌∷◌, ◌++◌, take, drop, refl, sym, ap, ◌∙◌}
+use Rattle.niss_shell.proofs.Names.{subst, append-nil, arith, flat_map, flat_map-append, take-append-drop, map-range_with_len_more}
+use Rattle.niss_shell.proofs.Names.{take-map-range_with_len, next_words, after_words, draw, Lcg, state_after, has_fault, scramble}
+use Rattle.niss_shell.proofs.Names.{scrambles, turns_line, scramble_text, AnswerState, Writes, Refuses}
 use Rattle.niss_shell.proofs.StateLemmas.{writes_nothing, writes_more, writes_as, refuses_more, refuses_front, refuses_as}
 
 -- steps and more steps of a generator

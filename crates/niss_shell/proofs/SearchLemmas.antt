@@ -1,28 +1,8 @@
--- What a search keeps of its sink, and how the text of a line ends it.
-use Rattle.std.proofs.Common.{◌≡◌, ℕ, Bool, true, false, Result, Ok, Err, List, [], ◌∷◌, inl, inr, refl, sym, ap, ◌∙◌, subst}
-use Rattle.std.specs.Prelude.{IsTrue}
-use Rattle.niss_shell.specs.Names.{Turn, Step, LineCommand, Search, Query, Report, NoStart, Stop, CannotWrite}
-use Rattle.niss_search.specs.Delivery.{WentThrough, StoppedIn}
-use Rattle.niss_shell.specs.Engine.{AnswerState, Answers, Writes, Refuses, answer_at_moves}
-use Rattle.niss_cube.specs.Steps.{may_start}
-use Rattle.niss_moves.specs.Line.{Moves}
-use Rattle.niss_search.specs.Cubes.{near_looks_of}
-use Rattle.niss_shell.specs.Output.{line_answer, fault_answer, where_it_starts, search_text, home}
-use Rattle.niss_shell.specs.Words.{search_command}
-
--- What every path keeps, a walk through a list of paths keeps.
-
-pub walk_keeps : {K N : Type 0} (name : K → N) {took : K → List Turn → K → Type 0} → ((a : K) (p : List Turn) (b : K) → took a p b → name b ≡ name a)
-    → (ps : List (List Turn)) (a b : K) → WentThrough took a ps b → name b ≡ name a
-walk_keeps name keeps [] a b h = ap name (sym h)
-walk_keeps name keeps (p ∷ ps) a b h = walk_keeps _ keeps ps h.0 b h.1.1 ∙ keeps a p h.0 h.1.0
-
-pub stop_keeps : {K N : Type 0} {name : K → N} {took refused : K → List Turn → K → Type 0} → ((a : K) (p : List Turn) (b : K) → took a p b → name b ≡ name a)
-    → ((a : K) (p : List Turn) (b : K) → refused a p b → name b ≡ name a)
-    → (ps : List (List Turn)) (a b : K) → StoppedIn took refused a ps b → name b ≡ name a
-stop_keeps keeps last [] a b h = absurd h
-stop_keeps keeps last (p ∷ ps) a b (inl h) = last a p b h
-stop_keeps keeps last (p ∷ ps) a b (inr h) = stop_keeps keeps last ps h.0 b h.1.1 ∙ keeps a p h.0 h.1.0
+-- How what a search wrote answers a line.
+use Rattle.niss_shell.proofs.Names.{◌≡◌, ℕ, Bool, true, false, Result, Ok, Err, List, refl, sym, ap, ◌∙◌, subst, IsTrue, Step, LineCommand}
+use Rattle.niss_shell.proofs.Names.{Search, Query, Report, NoStart, Stop, CannotWrite, AnswerState, Answers, Writes, Refuses}
+use Rattle.niss_shell.proofs.Names.{answer_at_moves, may_start, Moves, near_looks_of, line_answer, fault_answer, where_it_starts}
+use Rattle.niss_shell.proofs.Names.{search_text, home, search_command}
 
 -- a line on whose cube the step may start, or may not
 

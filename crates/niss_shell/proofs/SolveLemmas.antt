@@ -1,12 +1,6 @@
 -- What `solve` promises of one line.
-use Rattle.std.proofs.Common.{◌≡◌, ℕ, Bool, true, false, Ok, List, refl, ap, ◌∙◌}
-use Rattle.std.specs.Prelude.{IsTrue}
-use Rattle.niss_cube.specs.Steps.{turns_of}
-use Rattle.niss_shell.specs.Names.{Step, Solutions}
-use Rattle.niss_search.specs.Laws.{LooksWithinBound}
-use Rattle.niss_shell.specs.Output.{answer_to, looks_at, where_it_starts}
-use Rattle.niss_shell.specs.SolveLaw.{AcceptedLinesAreSolved}
-use Rattle.niss_shell.specs.Words.{search_command}
+use Rattle.niss_shell.proofs.Names.{◌≡◌, ℕ, Bool, true, false, Ok, List, refl, ap, ◌∙◌, IsTrue, turns_of, Step, Solutions, LooksWithinBound}
+use Rattle.niss_shell.proofs.Names.{answer_to, looks_at, where_it_starts, AcceptedLinesAreSolved, search_command}
 
 starts : (step : Step) (b : Bool) (text : List ℕ) → IsTrue b → where_it_starts step b text ≡ Ok text
 starts step true text h = refl

@@ -1,14 +1,14 @@
 -- How what is written and looked at adds up.
-use Rattle.std.proofs.Common.{◌≡◌, ℕ, ◌+◌, ◌≤◌, false, Result, Ok, Err, List, [], ◌++◌, refl, sym, ap, ◌∙◌, subst, append_assoc, append-nil, length-append, arith}
-use Rattle.niss_shell.specs.Device.{TargetState, has_fault, Appended, IsCut, WriteRefused}
-use Rattle.niss_shell.specs.Output.{Answer, unsearched, joined_answer, then_answer}
-use Rattle.niss_shell.specs.Engine.{AnswerState, TakesIn, Writes, Refuses, Answers}
-use Rattle.niss_shell.specs.Names.{Stop, CannotWrite}
+use Rattle.niss_shell.proofs.Names.{◌≡◌, ℕ, ◌+◌, ◌≤◌, false, Result, Ok, Err, List, [], ◌++◌, refl, sym, ap, ◌∙◌, subst, append_assoc}
+use Rattle.niss_shell.proofs.Names.{append-nil, length-append, arith, TargetState, has_fault, Appended, IsCut, WriteRefused, Answer}
+use Rattle.niss_shell.proofs.Names.{unsearched, joined_answer, then_answer, AnswerState, TakesIn, Writes, Refuses, Answers, Stop}
+use Rattle.niss_shell.proofs.Names.{CannotWrite}
 use Rattle.niss_shell.proofs.DeviceLemmas.{appended_nothing, appended_more, no_flush_fault}
 
 -- Nothing was written, and nothing looked at.
 pub writes_nothing : (a : AnswerState) → has_fault a.target ≡ false → Writes [] 0 a a
 writes_nothing a works = record {
+  same_target = refl;
   works = works;
   written = record { sent = []; whole = sym (append-nil a.pending); appended = appended_nothing a.target };
   looked = omega arith;
@@ -34,6 +34,7 @@ all_sent text a b e f p =
 
 pub writes_more : {x y : List ℕ} {l k : ℕ} {a b c : AnswerState} → Writes x l a b → Writes y k b c → Writes (x ++ y) (l + k) a c
 writes_more p q = record {
+  same_target = q.same_target ∙ p.same_target;
   works = q.works;
   written = taken_more _ _ _ _ _ p.works p.written q.written;
   looked = omega (arith, p.looked, q.looked);
@@ -66,6 +67,7 @@ refused_front ys q = record {
 
 pub refuses_more : {x y : List ℕ} {l k : ℕ} {a b c : AnswerState} → Writes x l a b → Refuses y k b c → Refuses (x ++ y) (l + k) a c
 refuses_more {x = x} {y = y} {a = a} {b = b} {c = c} p q = record {
+  same_target = q.same_target ∙ p.same_target;
   refused = subst (λ t. WriteRefused t a.target c.target)
       (sym (append_assoc p.written.sent b.pending y) ∙ ap (λ v. v ++ y) p.written.whole ∙ append_assoc a.pending x y)
       (refused_more _ _ _ _ p.works p.written.appended q.refused);
@@ -75,6 +77,7 @@ refuses_more {x = x} {y = y} {a = a} {b = b} {c = c} p q = record {
 
 pub refuses_front : {x : List ℕ} (y : List ℕ) {l k : ℕ} {a c : AnswerState} → l ≤ k → Refuses x l a c → Refuses (x ++ y) k a c
 refuses_front {x = x} y {a = a} {c = c} p r = record {
+  same_target = r.same_target;
   refused = subst (λ t. WriteRefused t a.target c.target) (append_assoc a.pending x y) (refused_front _ r.refused);
   rises = r.rises;
   looked = omega (arith, r.looked, p);
@@ -84,6 +87,7 @@ refuses_front {x = x} y {a = a} {c = c} p r = record {
 
 pub writes_as : {x y : List ℕ} {l k : ℕ} {a b : AnswerState} → x ≡ y → l ≡ k → Writes x l a b → Writes y k a b
 writes_as {a = a} {b = b} e f p = record {
+  same_target = p.same_target;
   works = p.works;
   written = subst (λ t. TakesIn t a b) e p.written;
   looked = omega (arith, p.looked, f);
@@ -91,6 +95,7 @@ writes_as {a = a} {b = b} e f p = record {
 
 pub refuses_as : {x y : List ℕ} {l k : ℕ} {a b : AnswerState} → x ≡ y → l ≡ k → Refuses x l a b → Refuses y k a b
 refuses_as {a = a} {b = b} e f p = record {
+  same_target = p.same_target;
   refused = subst (λ t. WriteRefused (a.pending ++ t) a.target b.target) e p.refused;
   rises = p.rises;
   looked = omega (arith, p.looked, f);

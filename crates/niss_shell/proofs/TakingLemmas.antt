@@ -1,18 +1,10 @@
 -- What is taken of an input: bytes inside a line, a line feed, a block piece by piece, and what stands at its end.
-use Rattle.std.proofs.Common.{◌≡◌, ◌≢◌, ℕ, ◌+◌, ◌<◌, ◌≤◌, false, take, drop, get_or, Result, Ok, Err, List, [], ◌∷◌, ◌++◌, length, refl, ap, ◌∙◌, subst}
-use Rattle.std.specs.Prelude.{OnOk}
-use Rattle.std.proofs.lemmas.List.{take_all}
-use Rattle.std.proofs.lemmas.List.Elements.{All-nil, All-cons}
-use Rattle.niss_moves.specs.Reader.{Reader, IsFed}
-use Rattle.niss_moves.specs.WholeMoves.{HasNoLineFeed}
-use Rattle.niss_shell.specs.Device.{has_fault}
-use Rattle.niss_shell.specs.Lines.{ended_lines}
-use Rattle.niss_shell.specs.Output.{LineAnswers, line_answers, answer_at, answers_from, line_with_bytes}
-use Rattle.niss_shell.specs.Engine.{AnswerState, Progress, Answers, Writes, Refuses, TakesNext, TakesLast}
-use Rattle.niss_shell.specs.Job.{command_of}
-use Rattle.niss_shell.specs.Taking.{Keeps, answers_of}
-use Rattle.niss_shell.specs.Names.{Lines, Stop, CannotWrite}
-use Rattle.niss_shell.proofs.EngineLemmas.{takes_none, takes_inside, takes_end_of_line, nothing_fed, first_piece, takes_piece, takes_stopped}
+use Rattle.niss_shell.proofs.Names.{◌≡◌, ◌≢◌, ℕ, ◌+◌, ◌<◌, ◌≤◌, false, take, drop, get_or, Result, Ok, Err, List, [], ◌∷◌, ◌++◌, length}
+use Rattle.niss_shell.proofs.Names.{refl, sym, ap, ◌∙◌, subst, OnOk, take_all, take-add, All-nil, All-cons, Reader, IsFed, HasNoLineFeed}
+use Rattle.niss_shell.proofs.Names.{has_fault, ended_lines, last_part, LineAnswers, line_answers, answer_at, answers_from, line_with_bytes}
+use Rattle.niss_shell.proofs.Names.{AnswerState, Progress, Answers, Writes, Refuses, TakesBytes, TakesNext, TakesLast, command_of, Keeps}
+use Rattle.niss_shell.proofs.Names.{answers_of, Lines, Stop, CannotWrite}
+use Rattle.niss_shell.proofs.EngineLemmas.{takes_none, takes_inside, takes_line_feed, nothing_fed, first_byte, takes_more, takes_stopped}
 use Rattle.niss_shell.proofs.AnswerLemmas.{takes_no_line, takes_last_line}
 use Rattle.niss_shell.proofs.StateLemmas.{answers_sent, answers_unsent}
 
@@ -35,16 +27,17 @@ pub line_feed_taken : {f : LineAnswers} (bytes : List ℕ) {p q : Progress} {r :
     → 0 < length bytes → get_or bytes 0 0 ≡ 10
     → ((front : List ℕ) → IsFed p.reader front → Answers (answer_at f p.line front) r old new)
     → OnOk r (IsFed q.reader []) → OnOk r (q.line ≡ p.line + 1) → TakesNext f (take 1 bytes) p q r old new
-line_feed_taken bytes some feed answers reader line = record {
-  takes = λ front at. first_piece _ front bytes _ _ _ _ _ some (takes_end_of_line _ front _ _ _ _ _ feed (answers front at) reader line);
+line_feed_taken {f = f} bytes {p = p} {q = q} {r = r} {old = old} {new = new} some feed answers reader line = record {
+  takes = λ front at. subst (λ xs. TakesBytes f front xs p.line q r old new) (sym (first_byte bytes some feed))
+      (takes_line_feed f front p.line q r old new (answers front at) reader line);
 }
 
 pub byte_taken : {f : LineAnswers} (bytes : List ℕ) {p q : Progress} {out : AnswerState}
     → 0 < length bytes → get_or bytes 0 0 ≢ 10
     → ((front : List ℕ) → IsFed p.reader front → IsFed q.reader (front ++ get_or bytes 0 0 ∷ []))
     → q.line ≡ p.line → has_fault out.target ≡ false → TakesNext f (take 1 bytes) p q (Ok tt) out out
-byte_taken bytes {p = p} {q = q} {out = out} some other fed line works = record {
-  takes = λ front at. first_piece _ front bytes p.line q (Ok tt) out out some
+byte_taken {f = f} bytes {p = p} {q = q} {out = out} some other fed line works = record {
+  takes = λ front at. subst (λ xs. TakesBytes f front xs p.line q (Ok tt) out out) (sym (first_byte bytes some refl))
       (takes_inside _ front _ p.line q out (All-cons (λ b. b ≢ 10) _ [] other (All-nil (λ b. b ≢ 10))) (fed front at) line works);
 }
 
@@ -53,15 +46,19 @@ byte_taken bytes {p = p} {q = q} {out = out} some other fed line works = record 
 pub block_more : {f : LineAnswers} (bytes : List ℕ) {rest : List ℕ} (n k : ℕ) {p q s : Progress} {r : Result (Unit {0}) Stop} {h i j : AnswerState}
     → rest ≡ drop n bytes → TakesNext f (take n bytes) p q (Ok tt) h i → TakesNext f (take k rest) q s r i j
     → TakesNext f (take (n + k) bytes) p s r h j
-block_more bytes n k e x y = record { takes = λ front at. takes_piece _ front bytes n k _ _ _ _ _ e (x.takes front at) y.takes }
+block_more {f = f} bytes n k {p = p} {s = s} {r = r} {h = h} {j = j} e x y = record {
+  takes = λ front at.
+      let z = x.takes front at in
+      subst (λ xs. TakesBytes f front xs p.line s r h j) (ap (λ t. take n bytes ++ take k t) e ∙ sym (take-add n k bytes))
+      (takes_more _ _ _ _ _ _ _ _ _ _ _ z (y.takes (last_part front (take n bytes)) z.1.reader));
+}
 
 -- a block in which the run was stopped
 pub block_stopped : {f : LineAnswers} (bytes : List ℕ) {rest : List ℕ} (n k : ℕ) {p q s : Progress} {stop : Stop} {h i j : AnswerState}
     → rest ≡ drop n bytes → TakesNext f (take n bytes) p q (Ok tt) h i → TakesNext f (take k rest) q s (Err stop) i j
     → TakesNext f bytes p s (Err stop) h j
 block_stopped bytes n k {p = p} {s = s} {stop = stop} {h = h} {j = j} e x y = record {
-  takes = λ front at. takes_stopped _ front bytes (n + k) p.line s stop h j
-      (takes_piece _ front bytes n k p.line s (Err stop) h j e (x.takes front at) y.takes);
+  takes = λ front at. takes_stopped _ front bytes (n + k) p.line s stop h j ((block_more bytes n k e x y).takes front at);
 }
 
 -- all bytes of a block

@@ -9,19 +9,26 @@ use Rattle.niss_shell.specs.Output.{Answer, LineAnswers, answer_to_moves, looks_
 use Rattle.niss_shell.specs.Output.{answers_from, answer_lines, answer_request, line_with_bytes, ending}
 use Rattle.niss_shell.specs.Names.{LineCommand, UsageFault, DeviceFault, Stop, CannotWrite, OutOfMemory, Output}
 
--- What answers to lines change: the target that they are written to, the answers that wait to be written to it, and the
--- count of the looks.
+-- What answers to lines change: the target that they are written to, by the name of its reference, the answers that wait to
+-- be written to it, and the count of the looks.
 pub record AnswerState : Type 0 where
+  pub reference : ℕ
   pub target : TargetState
   pub pending : List ℕ
   pub looks : ℕ
 
-abbrev pub pending_state : TargetState → List ℕ → ℕ → AnswerState
-pending_state target pending looks = record { target = target; pending = pending; looks = looks }
+abbrev pub pending_state : ℕ → TargetState → List ℕ → ℕ → AnswerState
+pending_state reference target pending looks = record {
+  reference = reference;
+  target = target;
+  pending = pending;
+  looks = looks;
+}
 
 -- an output, by what a contract sees of its target
 abbrev pub output_state : {W : Type 0} → (W → TargetState) → Output W → ℕ → AnswerState
-output_state state output looks = pending_state (state output.target.now) output.pending.items looks
+output_state state output looks =
+    pending_state output.target.ghost_name (state output.target.now) output.pending.items looks
 
 -- A run may begin: the source can be read, the target works, no answer waits, and the meter has room for the looks of a run.
 pub record MayBegin (source : SourceState) (state : AnswerState) : Type 0 where
@@ -39,12 +46,14 @@ pub record TakesIn (text : List ℕ) (old new : AnswerState) : Type 0 where
 
 -- A text was written or waits, with so many looks.
 pub record Writes (text : List ℕ) (looks : ℕ) (old new : AnswerState) : Type 0 where
+  pub same_target : new.reference ≡ old.reference
   pub works : has_fault new.target ≡ false
   pub written : TakesIn text old new
   pub looked : new.looks ≡ old.looks + looks
 
 -- A write was refused before all of the text was written, with no more looks than the text takes.
 pub record Refuses (text : List ℕ) (looks : ℕ) (old new : AnswerState) : Type 0 where
+  pub same_target : new.reference ≡ old.reference
   pub refused : WriteRefused (old.pending ++ text) old.target new.target
   pub rises : old.looks ≤ new.looks
   pub looked : new.looks ≤ old.looks + looks
@@ -153,7 +162,7 @@ EndsUnflushed (Err OutOfMemory) a asked source source_now old new =
     (takes_memory asked ≡ true) × (source_now ≡ source) × Writes [] 0 old new
 EndsUnflushed outcome a asked source source_now old new = Answers a outcome old new
 
--- What a run does before its last flush.
+-- What a run does before its last flush. No answer waits then.
 pub record RunsUnflushed (asked : Result Request UsageFault) (outcome : Result (Unit {0}) Stop)
     (source source_now : SourceState) (old new : AnswerState) : Type 0 where
   pub input : List ℕ
@@ -161,11 +170,13 @@ pub record RunsUnflushed (asked : Result Request UsageFault) (outcome : Result (
   pub ends : EndsUnflushed outcome (answer_request asked input (ending source_now)) asked
       source source_now old new
   pub read_whole : outcome ≡ Ok tt → reads_source asked ≡ true → source_now.has_ended ≡ true
+  pub unread : reads_source asked ≡ false → source_now ≡ source
+  pub empty : new.pending ≡ []
 
 -- A run may stop so before anything was read or written.
 abbrev pub EndsAtOnce : Result Request UsageFault → Stop → Type 0
 EndsAtOnce asked stop =
-    (source : SourceState) (old : AnswerState) → has_fault old.target ≡ false →
+    (source : SourceState) (old : AnswerState) → MayBegin source old →
     RunsUnflushed asked (Err stop) source source old old
 
 -- a refused last flush ends a good run, and changes nothing otherwise

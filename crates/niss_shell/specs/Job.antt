@@ -2,7 +2,7 @@
 use Rattle.std.specs.Prelude.{◌≡◌, ℕ, ◌<◌, ◌≤◌, Option, Some, None, List, length}
 use Rattle.niss_shell.specs.Words.{most_bytes, joined}
 use Rattle.niss_shell.specs.Names.{LineCommand, Rewrite, Search, Work}
-use Rattle.niss_shell.specs.declared.job.Work.TheVariants as work
+use Rattle.niss_shell.specs.declared.lines.Work.TheVariants as work
 
 -- the command of the work on lines
 abbrev pub command_of : {A : Type 0} → Work A → LineCommand

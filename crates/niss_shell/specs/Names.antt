@@ -15,7 +15,7 @@ pub use Rattle.niss_shell.specs.declared.stop.LineFault.TheVariants.{Unread, NoS
 pub use Rattle.niss_shell.specs.declared.stop.Stop.{Stop}
 pub use Rattle.niss_shell.specs.declared.stop.Stop.TheVariants.{Line, Usage, InputTooLong, CannotRead, CannotWrite, OutOfMemory}
 pub use Rattle.niss_shell.specs.declared.output.Output.{Output}
-pub use Rattle.niss_shell.specs.declared.job.Work.{Work}
+pub use Rattle.niss_shell.specs.declared.lines.Work.{Work}
 pub use Rattle.niss_shell.specs.declared.lines.Lines.{Lines}
 pub use Rattle.niss_cube.specs.declared.step.Step.{Step}
 pub use Rattle.niss_moves.specs.declared.fault.ReadFault.{ReadFault}

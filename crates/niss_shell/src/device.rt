@@ -18,11 +18,11 @@ pub trait Source {
         requires goes_on { (state self.old).has_ended ≡ false }
         ensures reads { Reads result buf.new (state self.old) (state self.new) };
 
-    /// Whether a read failed.
+    /// Whether a read failed. A run never asks: it is for a caller that keeps the source, and looks at it after the run.
     fn failed(&self) -> bool
         ensures failed { result ≡ (state self.now).has_failed };
 
-    /// Whether a read found the end.
+    /// Whether a read found the end, for such a caller.
     fn ended(&self) -> bool
         ensures ended { result ≡ (state self.now).has_ended };
 }
@@ -41,7 +41,7 @@ pub trait Target {
     fn flush(&mut self) -> Result<(), DeviceFault>
         ensures flushes { Flushes (is_err result) (state self.old) (state self.new) };
 
-    /// Whether a write or a flush failed.
+    /// Whether a write or a flush failed. A run never asks: it is for a caller that keeps the target.
     fn failed(&self) -> bool
         ensures failed { result ≡ has_fault (state self.now) };
 }

@@ -1,25 +1,18 @@
 //! A command on lines with all that its run takes memory for, taken before the first byte is read or written.
-ghost use Rattle.std.specs.Prelude.{◌≡◌, ◌<◌, ◌≤◌, ◌++◌, false, Ok, List, [], ℕ, map, flat_map, string_bytes, length};
+ghost use Rattle.std.specs.Prelude.{◌≡◌, ◌<◌, ◌≤◌, ◌++◌, Ok, List, ℕ, map, flat_map, string_bytes, length};
 ghost use Rattle.std.specs.Prelude.{OnOk, OnErr, IfOk, IfErr, IfSome, MatchOption};
-ghost use Rattle.niss_shell.specs.Words.{most_bytes, joined, spaced_word, reads_source, OnLines};
+ghost use Rattle.niss_shell.specs.Words.{most_bytes, joined, spaced_word, OnLines};
 ghost use Rattle.niss_shell.specs.Engine.{MayBegin, RunsUnflushed, EndsAtOnce, output_state};
 ghost use Rattle.niss_shell.specs.Job.{IsInput, command_of};
 
 use crate::command::{LineCommand, LineRequest, Query, Rewriting};
 use crate::device::{Source, Target};
-use crate::lines::{Lines, MOST_BYTES};
+use crate::lines::{Lines, MOST_BYTES, Work};
 use crate::output::Output;
 use crate::search::Search;
 use crate::stop::Stop;
 use niss_search::{Meter, Tables};
 use std::alloc::{AllocError, Allocator};
-
-/// What is done with each line: a command, with the tables of its step where it has one.
-#[derive(Drop)]
-pub enum Work<A: Allocator> {
-    Rewrite(Rewriting),
-    Search(Search<A>),
-}
 
 /// The words that are the input, joined; nothing where the input comes from the source.
 #[derive(Drop)]
@@ -105,13 +98,10 @@ impl<A: Allocator> Input<A> {
     ) -> Result<(), Stop>
         requires begins { MayBegin (R.state source.old) (output_state W.state output.old looks.old) }
         requires fits { IfSome self.now.text (λ text. length text.items ≤ most_bytes) }
-        ensures same_target { output.new.target.ghost_name ≡ output.old.target.ghost_name }
-        ensures runs { (words : List (List ℕ)) → IsInput (λ text. text.items) self.now.text words →
+        ensures { (words : List (List ℕ)) → IsInput (λ text. text.items) self.now.text words →
             RunsUnflushed (Ok (OnLines (command_of work.now) words)) result
             (R.state source.old) (R.state source.new)
             (output_state W.state output.old looks.old) (output_state W.state output.new looks.new) }
-        ensures empty { output.new.pending.items ≡ [] }
-        ensures unread { IfSome self.now.text (λ text. R.state source.new ≡ R.state source.old) }
     {
         let mut lines = Lines::new(work, looks);
         match &self.text {
@@ -130,13 +120,10 @@ impl<A: Allocator> Input<A> {
     ) -> Result<(), Stop>
         requires begins { MayBegin (R.state source.old) (output_state W.state output.old looks.old) }
         requires fits { IfSome self.now.text (λ text. length text.items ≤ most_bytes) }
-        ensures same_target { output.new.target.ghost_name ≡ output.old.target.ghost_name }
-        ensures runs { (words : List (List ℕ)) → IsInput (λ text. text.items) self.now.text words →
+        ensures { (words : List (List ℕ)) → IsInput (λ text. text.items) self.now.text words →
             RunsUnflushed (Ok (OnLines (LineCommand.Rewrite rewriting) words)) result
             (R.state source.old) (R.state source.new)
             (output_state W.state output.old looks.old) (output_state W.state output.new looks.new) }
-        ensures empty { output.new.pending.items ≡ [] }
-        ensures unread { IfSome self.now.text (λ text. R.state source.new ≡ R.state source.old) }
     {
         self.answer(&Work::Rewrite(rewriting), source, output, looks)
     }
@@ -154,13 +141,10 @@ impl<A: Allocator> Input<A> {
         A: Copy,
         requires begins { MayBegin (R.state source.old) (output_state W.state output.old looks.old) }
         requires fits { IfSome self.now.text (λ text. length text.items ≤ most_bytes) }
-        ensures same_target { output.new.target.ghost_name ≡ output.old.target.ghost_name }
-        ensures runs { (words : List (List ℕ)) → IsInput (λ text. text.items) self.now.text words →
+        ensures { (words : List (List ℕ)) → IsInput (λ text. text.items) self.now.text words →
             RunsUnflushed (Ok (OnLines (LineCommand.Search query) words)) result
             (R.state source.old) (R.state source.new)
             (output_state W.state output.old looks.old) (output_state W.state output.new looks.new) }
-        ensures empty { output.new.pending.items ≡ [] }
-        ensures unread { IfSome self.now.text (λ text. R.state source.new ≡ R.state source.old) }
     {
         // what fills the tables is no look at a line
         let tables = Tables::build_in(alloc, query.step, &mut Meter::new())?;
@@ -181,15 +165,10 @@ pub fn answer_lines<A: Allocator + Copy, B: Allocator, R: Source, W: Target>(
     looks: &mut Meter,
 ) -> Result<(), Stop>
     requires { MayBegin (R.state source.old) (output_state W.state output.old looks.old) }
-    ensures same_target { output.new.target.ghost_name ≡ output.old.target.ghost_name }
-    ensures runs { RunsUnflushed
+    ensures { RunsUnflushed
         (Ok (OnLines request.entry.command (map string_bytes request.entry.words.now)))
         result (R.state source.old) (R.state source.new)
         (output_state W.state output.old looks.old) (output_state W.state output.new looks.new) }
-    ensures empty { output.new.pending.items ≡ [] }
-    ensures unread { reads_source
-        (Ok (OnLines request.entry.command (map string_bytes request.entry.words.now))) ≡ false →
-        R.state source.new ≡ R.state source.old }
 {
     let LineRequest { command, words } = request;
     let input = Input::new(alloc, words)?;

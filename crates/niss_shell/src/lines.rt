@@ -5,11 +5,11 @@ ghost use Rattle.niss_moves.specs.Reader.{IsFed};
 ghost use Rattle.niss_shell.specs.Words.{most_bytes};
 
 use crate::answer::rewrite;
-use crate::command::Report;
+use crate::command::{Report, Rewriting};
 use crate::device::{Source, Target};
-use crate::job::Work;
 use crate::line_cube::start_position;
 use crate::output::Output;
+use crate::search::Search;
 use crate::stop::{LineFault, Stop};
 use niss_moves::{LineReader, LineText};
 use niss_search::Meter;
@@ -21,6 +21,13 @@ pub const MOST_BYTES: usize = 16_777_216;
 
 /// How many bytes a read asks for.
 const BLOCK: usize = 4096;
+
+/// What is done with each line: a command, with the tables of its step where it has one.
+#[derive(Drop)]
+pub enum Work<A: Allocator> {
+    Rewrite(Rewriting),
+    Search(Search<A>),
+}
 
 /// The lines of a run: what is done with each, the looks, and the line that is being read, with its number.
 #[derive(Drop)]
@@ -62,7 +69,6 @@ impl<'a, A: Allocator> Lines<'a, A> {
     fn refuse<W: Target>(&mut self, fault: LineFault, output: &mut Output<W>) -> Result<(), Stop>
         requires works { has_fault (W.state output.old.target.now) ≡ false }
         ensures keeps { Keeps self.old self.new }
-        ensures same_target { output.new.target.ghost_name ≡ output.old.target.ghost_name }
         ensures refused { Answers (fault_answer self.old.line fault) result
             (lines_state W.state output.old self.old) (lines_state W.state output.new self.new) }
         ensures stops { OnOk result ⊥ }
@@ -84,7 +90,6 @@ impl<'a, A: Allocator> Lines<'a, A> {
         requires works { has_fault (W.state output.old.target.now) ≡ false }
         requires meter { self.old.looks.now ≤ 2 ^ 127 }
         ensures keeps { Keeps self.old self.new }
-        ensures same_target { output.new.target.ghost_name ≡ output.old.target.ghost_name }
         ensures answers { Answers
             (answer_at_moves (command_of self.old.work.now) self.old.line (moves_of self.old.reader)) result
             (lines_state W.state output.old self.old) (lines_state W.state output.new self.new) }
@@ -120,7 +125,6 @@ impl<'a, A: Allocator> Lines<'a, A> {
         requires lines { self.old.line ≤ most_bytes + 1 }
         requires meter { HasRoom self.old.line self.old.looks.now }
         ensures keeps { Keeps self.old self.new }
-        ensures same_target { output.new.target.ghost_name ≡ output.old.target.ghost_name }
         ensures answers { AnswersOpenLine result self.old
             (lines_state W.state output.old self.old) (lines_state W.state output.new self.new) }
         ensures works { OnOk result (has_fault (W.state output.new.target.now) ≡ false) }
@@ -147,7 +151,6 @@ impl<'a, A: Allocator> Lines<'a, A> {
         requires lines { self.old.line ≤ most_bytes }
         requires meter { HasRoom self.old.line self.old.looks.now }
         ensures keeps { Keeps self.old self.new }
-        ensures same_target { output.new.target.ghost_name ≡ output.old.target.ghost_name }
         ensures count { IfOk result (λ n. (0 < n) × (n ≤ length bytes.now)) }
         ensures takes { Takes (take (piece_of result) bytes.now) (only_stop result) self.old self.new
             (lines_state W.state output.old self.old) (lines_state W.state output.new self.new) }
@@ -177,7 +180,6 @@ impl<'a, A: Allocator> Lines<'a, A> {
         requires lines { self.old.line + length bytes.now ≤ most_bytes + 1 }
         requires meter { HasRoom self.old.line self.old.looks.now }
         ensures keeps { Keeps self.old self.new }
-        ensures same_target { output.new.target.ghost_name ≡ output.old.target.ghost_name }
         ensures takes { Takes bytes.now result self.old self.new
             (lines_state W.state output.old self.old) (lines_state W.state output.new self.new) }
         ensures works { OnOk result (has_fault (W.state output.new.target.now) ≡ false) }
@@ -200,7 +202,6 @@ impl<'a, A: Allocator> Lines<'a, A> {
         requires lines { self.old.line ≤ most_bytes + 1 }
         requires meter { HasRoom self.old.line self.old.looks.now }
         ensures keeps { Keeps self.old self.new }
-        ensures same_target { output.new.target.ghost_name ≡ output.old.target.ghost_name }
         ensures ends { Ends result self.old
             (lines_state W.state output.old self.old) (lines_state W.state output.new self.new) }
         ensures empty { output.new.pending.items ≡ [] }
@@ -223,7 +224,6 @@ impl<'a, A: Allocator> Lines<'a, A> {
         requires fed { self.old.reader.fed ≡ 0 }
         requires line { self.old.line ≡ 1 }
         ensures keeps { Keeps self.old self.new }
-        ensures same_target { output.new.target.ghost_name ≡ output.old.target.ghost_name }
         ensures answers { AnswersSource (answers_of self.old) result
             (S.state source.old) (S.state source.new)
             (lines_state W.state output.old self.old) (lines_state W.state output.new self.new) }
@@ -257,7 +257,6 @@ impl<'a, A: Allocator> Lines<'a, A> {
         requires line { self.old.line ≡ 1 }
         requires meter { self.old.looks.now ≤ 2 ^ 64 }
         ensures keeps { Keeps self.old self.new }
-        ensures same_target { output.new.target.ghost_name ≡ output.old.target.ghost_name }
         ensures answers { Answers (answer_lines (answers_of self.old) text.now End) result
             (lines_state W.state output.old self.old) (lines_state W.state output.new self.new) }
         ensures empty { output.new.pending.items ≡ [] }

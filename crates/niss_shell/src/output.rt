@@ -64,7 +64,6 @@ impl<'a, W: Target> Output<'a, W> {
 
     /// Writes what waits, and the text after it.
     pub fn write(&mut self, text: &LineText) -> Result<(), DeviceFault>
-        ensures same_target { self.new.target.ghost_name ≡ self.old.target.ghost_name }
         ensures written { Delivers W.state result text.now.items self.old self.new }
         ensures empty { self.new.pending.items ≡ [] }
     {
@@ -97,11 +96,9 @@ fn solution_text(path: &TurnPath) -> LineText
 impl<'a, W: Target> Sink for Output<'a, W> {
     type Fault = DeviceFault;
 
-    ghost took = { λ old path new. (new.target.ghost_name ≡ old.target.ghost_name)
-        × TakesLine W.state (solution_line path.turns) old new };
+    ghost took = { λ old path new. TakesLine W.state (solution_line path.turns) old new };
 
-    ghost refused = { λ old path new. (new.target.ghost_name ≡ old.target.ghost_name)
-        × RefusesLine W.state (solution_line path.turns) old new };
+    ghost refused = { λ old path new. RefusesLine W.state (solution_line path.turns) old new };
 
     fn take(&mut self, path: &TurnPath) -> Result<(), DeviceFault> {
         if !self.pending.is_empty() {

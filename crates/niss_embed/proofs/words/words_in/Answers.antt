@@ -1,4 +1,4 @@
-use Rattle.std.proofs.Common.{◌≡◌, ◌++◌, ◌∷◌, [], List, String, map, sym, ap, refl, ◌∙◌, subst, arith}
+use Rattle.std.proofs.Common.{map, sym, refl, ◌∙◌, subst, arith}
 use Rattle.std.specs.Prelude.{string_bytes}
 use Rattle.niss_embed.specs.Words.{TakesWords}
 use Rattle.niss_embed.proofs.WordLemmas.{WithRest, AreText, with_all, with_next, text_with_next, takes_all, takes_none, shorter_after, pushed_word, on_err}

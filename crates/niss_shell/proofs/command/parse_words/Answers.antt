@@ -1,4 +1,4 @@
-use Rattle.std.proofs.Common.{sym, ◌∙◌}
+use Rattle.niss_shell.proofs.Names.{sym, ◌∙◌}
 use Rattle.niss_shell.proofs.WordsLemmas.{named_request, first_word}
 use Rattle.niss_shell.proofs.command.parse_words.Goals as goal
 

@@ -1,5 +1,4 @@
-use Rattle.std.proofs.Common.{◌≡◌, length, get_or, ap, sym, arith}
-use Rattle.std.specs.Prelude.{string_bytes}
+use Rattle.niss_shell.proofs.Names.{◌≡◌, length, get_or, ap, sym, arith, string_bytes}
 use Rattle.niss_shell.proofs.WordsLemmas.{joined_from}
 use Rattle.niss_shell.proofs.job.joined_length.Goals as goal
 

@@ -1,7 +1,4 @@
-use Rattle.std.proofs.Common.{◌≡◌, ◌≤◌, length, map, take}
-use Rattle.std.specs.Prelude.{flat_map, string_bytes}
-use Rattle.niss_shell.specs.Words.{most_bytes}
-use Rattle.niss_shell.specs.Words.{spaced_word}
+use Rattle.niss_shell.proofs.Names.{◌≡◌, ◌≤◌, length, map, take, flat_map, string_bytes, most_bytes, spaced_word}
 use Rattle.niss_shell.proofs.job.joined_length.Given as goal
 
 abbrev pub invariant-loop-word : goal.invariant-loop-word

@@ -1,6 +1,4 @@
-use Rattle.std.proofs.Common.{◌≡◌, ◌++◌, map, take}
-use Rattle.std.specs.Prelude.{flat_map, string_bytes}
-use Rattle.niss_shell.specs.Words.{spaced_word}
+use Rattle.niss_shell.proofs.Names.{◌≡◌, ◌++◌, map, take, flat_map, string_bytes, spaced_word}
 use Rattle.niss_shell.proofs.job.push_more_words.Given as goal
 
 abbrev pub invariant-loop-word : goal.invariant-loop-word

@@ -1,8 +1,4 @@
-use Rattle.std.proofs.Common.{◌≡◌, ap, ◌∙◌}
-use Rattle.niss_moves.specs.Effects.{effect_of_turns}
-use Rattle.niss_moves.specs.Faces.{faces}
-use Rattle.niss_moves.specs.Line.{joined_moves}
-use Rattle.niss_cube.specs.Map.{map_of}
+use Rattle.niss_shell.proofs.Names.{◌≡◌, ap, ◌∙◌, effect_of_turns, faces, joined_moves, map_of}
 use Rattle.niss_shell.proofs.line_cube.cube_of.Goals as goal
 
 pub returns : goal.returns

@@ -1,7 +1,4 @@
-use Rattle.std.proofs.Common.{◌≡◌, false, sym, ◌∙◌, subst}
-use Rattle.niss_cube.specs.Map.{map_of}
-use Rattle.niss_cube.specs.Steps.{may_start}
-use Rattle.niss_shell.specs.Output.{home}
+use Rattle.niss_shell.proofs.Names.{◌≡◌, false, sym, ◌∙◌, subst, map_of, may_start, home}
 use Rattle.niss_shell.proofs.line_cube.start_position.Goals as goal
 
 pub returns-then-may_start : goal.returns-then-may_start

@@ -1,4 +1,4 @@
-use Rattle.std.proofs.Common.{rules}
+use Rattle.niss_shell.proofs.Names.{rules}
 use Rattle.niss_shell.proofs.NumberLemmas.{number_too_large}
 use Rattle.niss_shell.proofs.number.number_of.Goals as goal
 

@@ -1,8 +1,4 @@
-use Rattle.std.proofs.Common.{◌≡◌, Ok, Err, refl, ap, ◌∙◌, arith}
-use Rattle.std.proofs.lemmas.Result.{err_from_is_err_and}
-use Rattle.niss_search.specs.Draw.{after_words}
-use Rattle.niss_shell.specs.Engine.{output_state}
-use Rattle.niss_shell.specs.Scrambles.{scramble_text}
+use Rattle.niss_shell.proofs.Names.{◌≡◌, Ok, Err, refl, ap, ◌∙◌, arith, err_from_is_err_and, after_words, output_state, scramble_text}
 use Rattle.niss_shell.proofs.PendingLemmas.{then_sent}
 use Rattle.niss_shell.proofs.ScrambleLemmas.{no_scramble, after_scramble, line_of_next, none_written, written_more, all_written, refused_line}
 use Rattle.niss_shell.proofs.scrambles.write_scrambles.Goals as goal

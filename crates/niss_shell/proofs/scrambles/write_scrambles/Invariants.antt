@@ -1,7 +1,4 @@
-use Rattle.std.proofs.Common.{◌≡◌, ◌*◌, ℕ}
-use Rattle.niss_search.specs.Draw.{after_words}
-use Rattle.niss_shell.specs.Engine.{Writes, output_state}
-use Rattle.niss_shell.specs.Scrambles.{scramble_text}
+use Rattle.niss_shell.proofs.Names.{◌≡◌, ◌*◌, ℕ, after_words, Writes, output_state, scramble_text}
 use Rattle.niss_shell.proofs.scrambles.write_scrambles.Given as goal
 
 abbrev pub invariant-loop : goal.invariant-loop

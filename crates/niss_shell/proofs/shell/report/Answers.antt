@@ -1,4 +1,4 @@
-use Rattle.std.proofs.Common.{◌∙◌}
+use Rattle.niss_shell.proofs.Names.{◌∙◌}
 use Rattle.niss_shell.proofs.RunLemmas.{reported}
 use Rattle.niss_shell.proofs.shell.report.Goals as goal
 

@@ -1,11 +1,5 @@
-use Rattle.std.proofs.Common.{rules, ◌≡◌, take, length, refl, ap, ◌∙◌, subst, arith}
-use Rattle.std.specs.Prelude.{flat_map}
-use Rattle.std.proofs.lemmas.List.{take_all}
-use Rattle.std.proofs.lemmas.Result.{err_from_is_err_and}
-use Rattle.niss_cube.specs.Steps.{steps}
-use Rattle.niss_shell.specs.Names.{Step}
-use Rattle.niss_shell.specs.Output.{step_line}
-use Rattle.niss_shell.specs.Engine.{Writes, Refuses, output_state}
+use Rattle.niss_shell.proofs.Names.{rules, ◌≡◌, take, length, refl, ap, ◌∙◌, subst, arith, flat_map, take_all, err_from_is_err_and, steps}
+use Rattle.niss_shell.proofs.Names.{Step, step_line, Writes, Refuses, output_state}
 use Rattle.niss_shell.proofs.shell.write_steps.Goals as goal
 
 pub loop-step-init : goal.loop-step-init

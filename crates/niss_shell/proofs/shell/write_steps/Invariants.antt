@@ -1,7 +1,4 @@
-use Rattle.std.proofs.Common.{◌≡◌, ◌*◌, ◌≤◌, take, length}
-use Rattle.std.specs.Prelude.{flat_map}
-use Rattle.niss_cube.specs.Steps.{steps}
-use Rattle.niss_shell.specs.Output.{step_line}
+use Rattle.niss_shell.proofs.Names.{◌≡◌, ◌*◌, ◌≤◌, take, length, flat_map, steps, step_line}
 use Rattle.niss_shell.proofs.shell.write_steps.Given as goal
 
 abbrev pub invariant-loop-step : goal.invariant-loop-step

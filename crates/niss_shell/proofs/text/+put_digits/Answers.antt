@@ -1,5 +1,4 @@
-use Rattle.std.proofs.Common.{◌/◌, append_assoc, arith}
-use Rattle.std.specs.Prelude.{decimal}
+use Rattle.niss_shell.proofs.Names.{◌/◌, append_assoc, arith, decimal}
 use Rattle.niss_shell.proofs.DigitLemmas.{decimal_last}
 use Rattle.niss_shell.proofs.text.+put_digits.Goals as goal
 

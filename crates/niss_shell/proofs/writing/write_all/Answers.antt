@@ -1,7 +1,5 @@
-use Rattle.std.proofs.Common.{◌≡◌, ℕ, List, ◌++◌, take, drop, ap, ◌∙◌, append_assoc, arith}
-use Rattle.std.proofs.lemmas.List.{take-append-drop}
-use Rattle.std.proofs.lemmas.Grind.{common_steps}
-use Rattle.niss_shell.specs.Device.{has_fault, is_empty_answer}
+use Rattle.niss_shell.proofs.Names.{◌≡◌, ℕ, List, ◌++◌, take, drop, ap, ◌∙◌, append_assoc, arith, take-append-drop, common_steps, has_fault}
+use Rattle.niss_shell.proofs.Names.{is_empty_answer}
 use Rattle.niss_shell.proofs.DeviceLemmas.{appended_on, same_fault, is_empty_answer-some}
 use Rattle.niss_shell.proofs.writing.write_all.Goals as goal
 

@@ -1,5 +1,4 @@
-use Rattle.std.proofs.Common.{◌≡◌, List, ℕ, ◌++◌, length}
-use Rattle.niss_shell.specs.Device.{Appended, has_fault}
+use Rattle.niss_shell.proofs.Names.{◌≡◌, List, ℕ, ◌++◌, length, Appended, has_fault}
 use Rattle.niss_shell.proofs.writing.write_all.Given as goal
 
 abbrev pub invariant-loop-rest : goal.invariant-loop-rest

@@ -1,23 +1,18 @@
-use Rattle.std.proofs.Common.{◌≡◌, refl, sym, ap, ◌∙◌, subst}
-use Rattle.niss_shell.specs.Job.{IsInput, command_of}
-use Rattle.niss_shell.specs.Engine.{output_state}
+use Rattle.niss_shell.proofs.Names.{◌≡◌, sym, ap, ◌∙◌, subst, IsInput, command_of, output_state}
 use Rattle.niss_shell.proofs.RunLemmas.{runs_source, runs_text}
 use Rattle.niss_shell.proofs.job.Input.answer.Goals as goal
 
-pub returns-in-None-clause-runs : goal.returns-in-None-clause-runs
-returns-in-None-clause-runs g c = λ words input.
+pub returns-in-None : goal.returns-in-None
+returns-in-None g c = λ words input.
     let back : c.looks-1.given.0 ≡ c.read.new.self.looks.now = c.looks-1.given.1 (sym (c.read.ensures.keeps.looks ∙ c.new-lines.ensures.same_meter)) in
     runs_source (ap command_of c.new-lines.ensures.work) (ap (output_state g.W.Target.state c.args.output.now) c.new-lines.ensures.looks)
     (ap (output_state g.W.Target.state c.read.new.output) (sym back))
-    (subst (λ t. IsInput (λ v. v.items) t words) c.in-None.is input) c.read.ensures.answers
+    (subst (λ t. IsInput (λ v. v.items) t words) c.in-None.is input) c.read.ensures.answers c.read.ensures.empty
 
-pub returns-in-Some-clause-runs : goal.returns-in-Some-clause-runs
-returns-in-Some-clause-runs g c = λ words input.
+pub returns-in-Some : goal.returns-in-Some
+returns-in-Some g c = λ words input.
     let back : c.looks-in-Some-1.given.0 ≡ c.take_text.new.self.looks.now = c.looks-in-Some-1.given.1 (sym (c.take_text.ensures.keeps.looks ∙ c.new-lines.ensures.same_meter)) in
     let joins = subst (λ t. IsInput (λ v. v.items) t words) c.in-Some.is input in
     runs_text (ap command_of c.new-lines.ensures.work) (ap (output_state g.W.Target.state c.args.output.now) c.new-lines.ensures.looks)
     (ap (output_state g.W.Target.state c.take_text.new.output) (sym back))
-    joins.0 (c.as_slice.ensures.value ∙ joins.1) joins.2 c.take_text.ensures.answers
-
-pub returns-in-Some-clause-unread : goal.returns-in-Some-clause-unread
-returns-in-Some-clause-unread g c = rw c.in-Some.is refl
+    joins.0 (c.as_slice.ensures.value ∙ joins.1) joins.2 c.take_text.ensures.answers c.take_text.ensures.empty

@@ -1,8 +1,4 @@
-use Rattle.std.proofs.Common.{refl, ap}
-use Rattle.std.proofs.lemmas.Result.{err_from_is_err_and}
-use Rattle.niss_shell.specs.Output.{home}
-use Rattle.niss_shell.specs.Job.{command_of}
-use Rattle.niss_shell.specs.Names.{Solutions, Counts}
+use Rattle.niss_shell.proofs.Names.{refl, ap, err_from_is_err_and, home, command_of, Solutions, Counts}
 use Rattle.niss_shell.proofs.SearchLemmas.{all_reported, refusal_reported, not_started}
 use Rattle.niss_shell.proofs.lines.Lines.answer.Goals as goal
 

@@ -1,6 +1,4 @@
-use Rattle.std.proofs.Common.{◌≡◌, take, length, ◌-◌, ◌∙◌, refl, arith}
-use Rattle.niss_shell.specs.Words.{most_bytes}
-use Rattle.std.proofs.lemmas.Result.{err_from_is_err_and}
+use Rattle.niss_shell.proofs.Names.{◌≡◌, take, length, ◌-◌, ◌∙◌, arith, most_bytes, err_from_is_err_and}
 use Rattle.niss_shell.proofs.AnswerLemmas.{length_taken, at_start, at_more, at_failure, at_end, at_limit, at_stop}
 use Rattle.niss_shell.proofs.DeviceLemmas.{is_empty_answer-some}
 use Rattle.niss_shell.proofs.TakingLemmas.{keeps_same, keeps_more, kept, last_kept}
@@ -9,7 +7,6 @@ use Rattle.niss_shell.proofs.lines.Lines.read.Goals as goal
 pub loop-given-init : goal.loop-given-init
 loop-given-init g c = record {
   keeps = keeps_same;
-  same_target = refl;
   at = at_start _ _ _ c.requires.reader c.requires.line c.requires.begins.works;
   reads = c.requires.begins.reads;
   goes_on = c.requires.begins.goes_on;
@@ -56,7 +53,6 @@ loop-given-preserved g c =
     let e : length (take c.in-Ok.given c.read.new.buf) ≡ c.in-Ok.given = length_taken _ c.in-Ok.ensures.reads.bound in
     record {
       keeps = keeps_more c.loop-given.invariant.keeps c.in_ok-take_block-2.ensures.keeps;
-      same_target = c.in_ok-take_block-2.ensures.same_target ∙ c.loop-given.invariant.same_target;
       at = at_more c.loop-given.invariant.at c.loop-given.invariant.reads c.in-Ok.ensures.reads (kept c.loop-given.invariant.keeps c.in_ok-take_block-2.ensures.takes);
       reads = c.in-Ok.ensures.reads.failed;
       goes_on = c.in-Ok.ensures.reads.ended ∙ is_empty_answer-some _ _ c.if-given-eq0.false;

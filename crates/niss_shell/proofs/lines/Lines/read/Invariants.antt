@@ -1,14 +1,10 @@
-use Rattle.std.proofs.Common.{◌≡◌, ◌+◌, ◌-◌, ◌≤◌, ◌<◌, length, false, []}
-use Rattle.niss_shell.specs.Device.{has_fault}
-use Rattle.niss_shell.specs.Words.{most_bytes}
-use Rattle.niss_shell.specs.Engine.{IsAt, HasRoom}
-use Rattle.niss_shell.specs.Taking.{Keeps, answers_of, lines_state, progress_of}
+use Rattle.niss_shell.proofs.Names.{◌≡◌, ◌+◌, ◌-◌, ◌≤◌, ◌<◌, length, false, [], has_fault, most_bytes, IsAt, HasRoom, Keeps, answers_of}
+use Rattle.niss_shell.proofs.Names.{lines_state, progress_of}
 use Rattle.niss_shell.proofs.lines.Lines.read.Given as goal
 
 abbrev pub invariant-loop-given : goal.invariant-loop-given
 invariant-loop-given g l = record {
   keeps : Keeps l.initial.self l.self;
-  same_target : l.output.target.ghost_name ≡ l.initial.output.target.ghost_name;
   at : IsAt (answers_of l.initial.self) l.count (progress_of l.self) (g.S.Source.state l.initial.source) (g.S.Source.state l.source)
       (lines_state g.W.Target.state l.initial.output l.initial.self) (lines_state g.W.Target.state l.output l.self);
   reads : (g.S.Source.state l.source).has_failed ≡ false;

@@ -1,4 +1,4 @@
-use Rattle.std.proofs.lemmas.Result.{err_from_is_err_and}
+use Rattle.niss_shell.proofs.Names.{err_from_is_err_and}
 use Rattle.niss_shell.proofs.lines.Lines.refuse.Goals as goal
 
 pub returns-in_err-send-clause-refused : goal.returns-in_err-send-clause-refused

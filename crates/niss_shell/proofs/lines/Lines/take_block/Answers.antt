@@ -1,5 +1,4 @@
-use Rattle.std.proofs.Common.{◌∙◌, refl, arith}
-use Rattle.std.proofs.lemmas.Result.{err_from_is_err_and}
+use Rattle.niss_shell.proofs.Names.{arith, err_from_is_err_and}
 use Rattle.niss_shell.proofs.EngineLemmas.{rest_is, piece_within}
 use Rattle.niss_shell.proofs.TakingLemmas.{none_taken, block_more, block_stopped, block_whole, block_sent, block_unsent, keeps_same, keeps_more, kept}
 use Rattle.niss_shell.proofs.lines.Lines.take_block.Goals as goal
@@ -7,7 +6,6 @@ use Rattle.niss_shell.proofs.lines.Lines.take_block.Goals as goal
 pub loop-index-init : goal.loop-index-init
 loop-index-init g c = record {
   keeps = keeps_same;
-  same_target = refl;
   takes = none_taken c.requires.works;
   works = c.requires.works;
   column = omega arith;
@@ -19,7 +17,6 @@ loop-index-init g c = record {
 pub loop-index-preserved : goal.loop-index-preserved
 loop-index-preserved g c = record {
   keeps = keeps_more c.loop-index.invariant.keeps c.in_ok-index.ensures.keeps;
-  same_target = c.in_ok-index.ensures.same_target ∙ c.loop-index.invariant.same_target;
   takes = block_more c.args.bytes.now c.loop-index.index c.in_ok-index.field-0 (rest_is c.args.bytes.now c.loop-index.index)
       c.loop-index.invariant.takes (kept c.loop-index.invariant.keeps c.in_ok-index.ensures.takes);
   works = c.in_ok-index.ensures.works;

@@ -1,13 +1,9 @@
-use Rattle.std.proofs.Common.{◌≡◌, ◌+◌, ◌≤◌, ◌-◌, length, take, false, Ok}
-use Rattle.niss_shell.specs.Device.{has_fault}
-use Rattle.niss_shell.specs.Engine.{HasRoom}
-use Rattle.niss_shell.specs.Taking.{Keeps, Takes, lines_state}
+use Rattle.niss_shell.proofs.Names.{◌≡◌, ◌+◌, ◌≤◌, ◌-◌, length, take, false, Ok, has_fault, HasRoom, Keeps, Takes, lines_state}
 use Rattle.niss_shell.proofs.lines.Lines.take_block.Given as goal
 
 abbrev pub invariant-loop-index : goal.invariant-loop-index
 invariant-loop-index g l = record {
   keeps : Keeps l.initial.self l.self;
-  same_target : l.output.target.ghost_name ≡ l.initial.output.target.ghost_name;
   takes : Takes (take l.index l.bytes) (Ok tt) l.initial.self l.self
       (lines_state g.W.Target.state l.initial.output l.initial.self) (lines_state g.W.Target.state l.output l.self);
   works : has_fault (g.W.Target.state l.output.target.now) ≡ false;

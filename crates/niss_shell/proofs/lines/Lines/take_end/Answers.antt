@@ -1,5 +1,4 @@
-use Rattle.std.proofs.Common.{sym, ◌∙◌}
-use Rattle.std.proofs.lemmas.Result.{err_from_is_err_and}
+use Rattle.niss_shell.proofs.Names.{sym, ◌∙◌, err_from_is_err_and}
 use Rattle.niss_shell.proofs.TakingLemmas.{no_last, last_line, last_sent, last_unsent}
 use Rattle.niss_shell.proofs.lines.Lines.take_end.Goals as goal
 

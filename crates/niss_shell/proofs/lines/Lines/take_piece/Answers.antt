@@ -1,5 +1,4 @@
-use Rattle.std.proofs.Common.{refl}
-use Rattle.std.proofs.lemmas.Result.{err_from_is_err_and}
+use Rattle.niss_shell.proofs.Names.{refl, err_from_is_err_and}
 use Rattle.niss_shell.proofs.TakingLemmas.{inside_taken, still_fed, line_feed_taken, byte_taken}
 use Rattle.niss_shell.proofs.lines.Lines.take_piece.Goals as goal
 

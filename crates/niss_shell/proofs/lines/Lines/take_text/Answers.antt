@@ -1,4 +1,4 @@
-use Rattle.std.proofs.lemmas.Result.{err_from_is_err_and}
+use Rattle.niss_shell.proofs.Names.{err_from_is_err_and}
 use Rattle.niss_shell.proofs.AnswerLemmas.{text_stopped, text_done}
 use Rattle.niss_shell.proofs.TakingLemmas.{last_kept}
 use Rattle.niss_shell.proofs.lines.Lines.take_text.Goals as goal

@@ -1,4 +1,4 @@
-use Rattle.std.proofs.Common.{false, refl}
+use Rattle.niss_shell.proofs.Names.{false, refl}
 use Rattle.niss_shell.proofs.output.Output.finish.Goals as goal
 
 pub returns-clause-flushes : goal.returns-clause-flushes

@@ -1,5 +1,4 @@
-use Rattle.std.proofs.Common.{◌≡◌, ◌+◌, ◌-◌, ◌∙◌, length, arith, ap, subst}
-use Rattle.niss_search.specs.Cubes.{least_length_of, near_solutions_of, near_looks_of}
+use Rattle.niss_shell.proofs.Names.{◌≡◌, ◌+◌, ◌-◌, ◌∙◌, length, arith, ap, subst, least_length_of, near_solutions_of, near_looks_of}
 use Rattle.niss_shell.proofs.OutputLemmas.{reported_after, same_count}
 use Rattle.niss_shell.proofs.search.Search.count.Goals as goal
 

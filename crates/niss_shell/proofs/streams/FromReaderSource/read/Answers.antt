@@ -1,5 +1,4 @@
-use Rattle.std.proofs.Common.{rules, sym, subst}
-use Rattle.std.specs.Io.KnownBytes.{ReadConsumes}
+use Rattle.niss_shell.proofs.Names.{rules, sym, subst, ReadConsumes}
 use Rattle.niss_shell.proofs.DeviceLemmas.{gave_answer}
 use Rattle.niss_shell.proofs.streams.FromReaderSource.read.Goals as goal
 
