@@ -107,7 +107,7 @@ finds_another() { # FILE FROM TO
 }
 if missing python3; then skips "there is no python3 here"; else
     holds "each place names the version of CHANGELOG.md" tools/version --check
-    holds "make dist's archive has it in its name" test "$(make -n dist -o build/nissy -o build/libnissy.a)" = "tools/dist nissy-$version-x86_64-linux"
+    holds "make dist's archive has it in its name" test "$(make --no-print-directory -n dist -o build/nissy -o build/libnissy.a)" = "tools/dist nissy-$version-x86_64-linux"
     for file in include/nissy.pc include/nissy.h docs/nissy.1; do
         holds "another version in $file is found" finds_another "$file" "$version" 9.9.9
     done
