@@ -40,12 +40,13 @@ pub struct MemoryTarget<'a> {
 }
 
 impl<'a> MemoryTarget<'a> {
-    /// The target at the beginning of this memory. Nothing is written yet.
+    /// The target at the beginning of this memory. Nothing is written or flushed yet.
     pub fn new(bytes: &'a mut [u8]) -> MemoryTarget<'a>
         ensures same_reference { result.bytes.ghost_name ≡ bytes.entry.ghost_name }
         ensures unchanged { result.bytes.now ≡ bytes.old }
         ensures empty { result.written ≡ 0 }
         ensures works { result.refused ≡ false }
+        ensures unflushed { result.flushed ≡ false }
     {
         MemoryTarget {
             bytes,
