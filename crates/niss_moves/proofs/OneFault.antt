@@ -1,18 +1,60 @@
 -- A line has one fault.
 use Rattle.niss_moves.proofs.Names.{refl, ap, sym, ◌∙◌, subst, arith, inl, inr, ◌≡◌, ℕ, ◌+◌, ◌-◌, ◌<◌, Bool, true, false, List}
 use Rattle.niss_moves.proofs.Names.{[], ◌∷◌, ◌++◌, length, take, drop, Option, None, Some, Result, Ok, Err, suc, ◌==◌, ◌||◌, not}
-use Rattle.niss_moves.proofs.Names.{has_no_bracket, Cut, Whole, cut_length, Continues, CanContinue, BeginsBase}
-use Rattle.niss_moves.proofs.Names.{StopsAt, Stops, Lacks, Faults, symbol_of, State, start, step, and_then, run, ended, ended_at}
-use Rattle.niss_moves.proofs.Names.{ended_in, Symbol, LastMove, ReadFault, NotAMove, Nested, Unopened, Unclosed, TooLong}
+use Rattle.niss_moves.proofs.Names.{has_no_bracket, Cut, Whole, LacksOne, LacksTwo, cut_length, cut_ending, bracket_ending, Continues, CanContinue}
+use Rattle.niss_moves.proofs.Names.{BeginsBase, StopsAt, Stops, Lacks, Faults, symbol_of, State, start, step, step_within, and_then, run, ended}
+use Rattle.niss_moves.proofs.Names.{ended_at, ended_in, Token, Symbol, LastMove, ReadFault, NotAMove, Nested, Unopened, Unclosed, TooLong}
 use Rattle.std.proofs.lemmas.List.{take-append-drop, take_more, take_all, length-take-le}
 use Rattle.niss_moves.specs.declared.partial_line.LastMove.TheVariants as last
 use Rattle.niss_moves.specs.declared.symbol.Symbol.TheVariants as symbol
 use Rattle.niss_moves.proofs.Finite.{and_right}
-use Rattle.niss_moves.proofs.Completes.{run-append}
-use Rattle.niss_moves.proofs.Sound.{Reads, cut_of, is_open, fault_by, fault_at, Outcome, step_means}
+use Rattle.niss_moves.proofs.Completes.{cut_of, state, run-append, run_after, completes}
+use Rattle.niss_moves.proofs.Sound.{Reads, is_open, fault_by, fault_at, Outcome, step_means}
 use Rattle.niss_moves.proofs.Symbols.{IsSymbol, symbol_is, first_symbol}
 use Rattle.niss_moves.proofs.Whole.{reads_all, can_continue, continued_ok, opens_at}
-use Rattle.niss_moves.proofs.Endings.{one_ending}
+
+-- A beginning of a line ends in one cut, and a bracket is open or none is.
+no_fault : {f : ReadFault} {end : State} → ◌≡◌ {A = Result State ReadFault} (Err f) (Ok end) → ⊥
+no_fault e = cc
+
+none_open : {c : ℕ} → Some c ≡ None → ⊥
+none_open e = cc
+
+state_is : {s end : State} → ◌≡◌ {A = Result State ReadFault} (Ok s) (Ok end) → s ≡ end
+state_is e = cc
+
+-- with no cut apostrophe the ending is a bracket or nothing
+done_ending : (n b : List Token) (o : Option ℕ) (k : ℕ) (q : Bool) (end : State) → run (state n b o last.Finished k) (bracket_ending q) ≡ Ok end → end.bracket ≡ None → is_open o ≡ q
+unfolding step_within symbol_of state
+done_ending n b None k false end e h = refl
+done_ending n b (Some c) k false end e h = absurd (none_open (ap (λ (s : State). s.bracket) (state_is e) ∙ h))
+done_ending n b None k true end e h = absurd (no_fault e)
+done_ending n b (Some c) k true end e h = refl
+
+ready_ending : (n b : List Token) (o : Option ℕ) (t : LastMove) (k : ℕ) (q : Bool) (end : State) → run (state n b o t k) (bracket_ending q) ≡ Ok end → cut_of end.last ≡ Whole → end.bracket ≡ None → (cut_of t ≡ Whole) × (is_open o ≡ q)
+unfolding step_within symbol_of state
+ready_ending n b o t k false end e r h =
+    let x : state n b o t k ≡ end = state_is e in
+    (ap (λ (s : State). cut_of s.last) x ∙ r, ap (λ (s : State). is_open s.bracket) x ∙ ap is_open h)
+ready_ending n b (Some c) last.Finished k true end e r h = (refl, refl)
+ready_ending n b (Some c) (last.Bare x) k true end e r h = (refl, refl)
+ready_ending n b (Some c) (last.Doubled x) k true end e r h = (refl, refl)
+ready_ending n b None last.Finished k true end e r h = absurd (no_fault e)
+ready_ending n b _ _ k true end e r h = absurd (no_fault e)
+
+cut_ending_is : (n b : List Token) (o : Option ℕ) (t : LastMove) (k : ℕ) (c : Cut) (q : Bool) (end : State) → and_then (run (state n b o t k) (cut_ending c)) (λ u. run u (bracket_ending q)) ≡ Ok end → cut_of end.last ≡ Whole → end.bracket ≡ None → (cut_of t ≡ c) × (is_open o ≡ q)
+unfolding step_within symbol_of state
+cut_ending_is n b o t k Whole q end e r h = ready_ending n b o t k q end e r h
+cut_ending_is n b o (last.SecondByte t) k LacksOne q end e r h = (refl, done_ending _ _ o _ q end e h)
+cut_ending_is n b o (last.FirstByte t) k LacksTwo q end e r h = (refl, done_ending _ _ o _ q end e h)
+cut_ending_is n b o _ k _ q end e r h = absurd (no_fault e)
+
+one_ending : (bytes : List ℕ) (s : State) (c : Cut) (q : Bool) → run start bytes ≡ Ok s → Continues bytes c q → (cut_of s.last ≡ c) × (is_open s.bracket ≡ q)
+unfolding state
+one_ending bytes s c q e line =
+    let d = completes 256 _ _ _ line.spells line.fits in
+    let x : and_then (run s (cut_ending c)) (λ u. run u (bracket_ending q)) ≡ Ok d.end = sym (run-append 256 start (bytes ++ cut_ending c) (bracket_ending q) ∙ ap (λ r. and_then r (λ u. run u (bracket_ending q))) (run_after 256 start s bytes (cut_ending c) e)) ∙ d.ran in
+    cut_ending_is s.normal s.bracketed s.bracket s.last s.fed c q d.end x d.ready d.bracket
 
 -- Where bytes stop, the run has the fault of the byte there.
 stopped : (bytes : List ℕ) (column : ℕ) (c : Cut) (q : Bool) (byte : ℕ) → StopsAt bytes column c q byte → run start bytes ≡ Err (fault_at c q byte column)
@@ -22,7 +64,7 @@ stopped bytes column c q byte h =
     let one = one_ending _ w.0 c q w.1 h.ends_so in
     let lt : column - 1 < length bytes = omega (arith, h.positive, h.within) in
     let split : take column bytes ≡ front ++ byte ∷ [] = ap (λ n. take n bytes) (omega (arith, h.positive)) ∙ take_more bytes (column - 1) 0 lt ∙ ap (λ b. front ++ b ∷ []) (sym h.byte_is) in
-    let step_is : run start (take column bytes) ≡ and_then (step w.0 byte) (λ t. Ok t) = ap (run start) split ∙ run-append 256 start front (byte ∷ []) ∙ ap (λ r. and_then r (λ t. run t (byte ∷ []))) w.1 in
+    let step_is = ap (run start) split ∙ run_after 256 start w.0 front (byte ∷ []) w.1 in
     let reads = reads_all front w.0 w.1 in
     let at : w.0.fed + 1 ≡ column = (let long = length-take-le (column - 1) bytes (omega (arith, lt)) in omega (arith, reads.fed, long, h.positive)) in
     by_step _ _ (step w.0 byte) (step_means w.0 front byte reads) step_is ∙ (λ i. Err (fault_at (one.0 i) (one.1 i) byte (at i)))
@@ -52,8 +94,7 @@ stops_run bytes (NotAMove column) h =
 stops_run bytes (Nested column) h = stopped bytes column Whole true 40 h
 stops_run bytes (Unopened column) h = stopped bytes column Whole false 41 h
 stops_run bytes (TooLong column) h =
-    let w = first_symbol h.2.0 h.0 h.2.1 h.2.2 in
-    stopped bytes column Whole h.1 h.0 h.3 ∙ ap (λ x. Err (fault_by x h.1 column)) w.1
+    stopped bytes column Whole h.1 h.0 h.3 ∙ ap (λ x. Err (fault_by x h.1 column)) (first_symbol h.2.0 h.0 h.2.1 h.2.2)
 stops_run bytes (Unclosed column) h = absurd h
 
 -- the last opening bracket is one

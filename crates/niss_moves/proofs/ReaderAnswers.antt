@@ -7,8 +7,8 @@ use Rattle.niss_moves.specs.Machine.{State, start, settled, step, step_within, s
 use Rattle.niss_moves.specs.Reader.{Reader, IsFed, line_with, read_line}
 use Rattle.niss_moves.specs.Names.{Token, LastMove, ReadFault}
 use Rattle.niss_moves.specs.declared.partial_line.LastMove.TheVariants as last
-use Rattle.niss_moves.proofs.Completes.{IsReady, state, and_then-assoc, run-append, completes}
-use Rattle.niss_moves.proofs.Sound.{ready_whole, cut_of, cut_fits, is_open}
+use Rattle.niss_moves.proofs.Completes.{cut_of, state, and_then-assoc, run-append, completes}
+use Rattle.niss_moves.proofs.Sound.{cut_fits, is_open}
 use Rattle.niss_moves.proofs.Whole.{reads_all, run_stops, ends_whole, lacks_bracket, lacks_apostrophe}
 use Rattle.niss_moves.proofs.OneFault.{ended_whole, fault_ended}
 
@@ -33,11 +33,11 @@ final bytes (Ok s) e = by_last s.last refl
     by_last : (t : LastMove) → s.last ≡ t → Final bytes (ended_at t s)
     by_last (last.FirstByte x) t =
         let h = reads_all bytes s (sym e) in
-        inr (lacks_apostrophe bytes s s.fed (sym e) (subst (λ (x : LastMove). 0 < cut_length (cut_of x)) (sym t) (omega arith)) (λ r. subst (λ (x : LastMove). IsReady x) t r) (subst (λ (x : LastMove). s.fed + cut_length (cut_of x) ≡ length bytes + 1) (sym t) (omega (arith, h.fed))))
+        inr (lacks_apostrophe bytes s s.fed (sym e) (subst (λ (x : LastMove). 0 < cut_length (cut_of x)) (sym t) (omega arith)) (subst (λ (x : LastMove). s.fed + cut_length (cut_of x) ≡ length bytes + 1) (sym t) (omega (arith, h.fed))))
     by_last (last.SecondByte x) t =
         let h = reads_all bytes s (sym e) in
         let long = subst (λ (x : LastMove). cut_length (cut_of x) ≤ length bytes) t (cut_fits s bytes h) in
-        inr (lacks_apostrophe bytes s (s.fed - 1) (sym e) (subst (λ (x : LastMove). 0 < cut_length (cut_of x)) (sym t) (omega arith)) (λ r. subst (λ (x : LastMove). IsReady x) t r) (subst (λ (x : LastMove). s.fed - 1 + cut_length (cut_of x) ≡ length bytes + 1) (sym t) (omega (arith, h.fed))))
+        inr (lacks_apostrophe bytes s (s.fed - 1) (sym e) (subst (λ (x : LastMove). 0 < cut_length (cut_of x)) (sym t) (omega arith)) (subst (λ (x : LastMove). s.fed - 1 + cut_length (cut_of x) ≡ length bytes + 1) (sym t) (omega (arith, h.fed))))
     by_last _ t = by_bracket s.bracket (ap cut_of t) refl
 
 -- what the answer for all bytes says
@@ -57,7 +57,7 @@ pub spelled_line : (bytes : List ℕ) (n b : List Token) → Spells bytes n b �
 unfolding read_line
 spelled_line bytes n b h fits =
     let d = completes 256 bytes n b h fits in
-    ap ended d.ran ∙ ended_whole d.end d.end.last (ready_whole d.end.last d.ready) ∙ ap (λ o. ended_in o d.end) d.bracket ∙ (λ i. Ok (record { normal = d.normal i; bracketed = d.bracketed i }))
+    ap ended d.ran ∙ ended_whole d.end d.end.last d.ready ∙ ap (λ o. ended_in o d.end) d.bracket ∙ (λ i. Ok (record { normal = d.normal i; bracketed = d.bracketed i }))
 
 pub faulty_line : (bytes : List ℕ) (f : ReadFault) → Faults bytes f → read_line bytes ≡ Err f
 unfolding read_line

@@ -11,7 +11,7 @@ use Rattle.niss_moves.specs.Names.{Quarter, Half, Counter, Token, Base, Symbol, 
 use Rattle.niss_moves.specs.declared.base.Base.TheVariants as base
 use Rattle.niss_moves.specs.declared.partial_line.LastMove.TheVariants as last
 use Rattle.niss_moves.specs.declared.symbol.Symbol.TheVariants as symbol
-use Rattle.niss_moves.proofs.Completes.{IsReady, state, counted, count_more, outside_none, inside_none}
+use Rattle.niss_moves.proofs.Completes.{cut_of, state, counted, count_more, outside_none, inside_none}
 use Rattle.niss_moves.proofs.Symbols.{IsSymbol, symbol_is}
 
 -- the bytes so far as whole items, with these moves, and an open bracket with its pieces if there is one
@@ -78,11 +78,6 @@ reads_start =
       room = omega arith;
     }
 
-abbrev pub cut_of : LastMove → Cut
-cut_of (last.FirstByte t) = LacksTwo
-cut_of (last.SecondByte t) = LacksOne
-cut_of _ = Whole
-
 -- the bytes with the end of a cut U+2019, as whole pieces
 pub settled_front : (s : State) (bytes : List ℕ) → Reads s bytes → WholeItems s.bracket (bytes ++ cut_ending (cut_of s.last)) (settled s).normal (settled s).bracketed
 settled_front s bytes h = by_last s.last h.is_last
@@ -99,11 +94,6 @@ settled_front s bytes h = by_last s.last h.is_last
     by_last (last.Doubled b) e = ended (Spelled b Two) [] _ (append-nil _ ∙ e) refl
     by_last (last.FirstByte t) k = ended k.piece (cut_ending LacksTwo) _ k.bytes_are k.moves_are
     by_last (last.SecondByte t) k = ended k.piece (cut_ending LacksOne) _ k.bytes_are k.moves_are
-
-pub ready_whole : (t : LastMove) → IsReady t → cut_of t ≡ Whole
-ready_whole (last.FirstByte t) r = absurd r
-ready_whole (last.SecondByte t) r = absurd r
-ready_whole _ r = refl
 
 pub whole_front : (s : State) (bytes : List ℕ) → cut_of s.last ≡ Whole → Reads s bytes → WholeItems s.bracket bytes (settled s).normal (settled s).bracketed
 whole_front s bytes w h =

@@ -13,8 +13,8 @@ use Rattle.niss_moves.specs.declared.base.Base.TheVariants as base
 use Rattle.niss_moves.specs.declared.symbol.Symbol.TheVariants as symbol
 use Rattle.niss_moves.proofs.Symbols.{IsSymbol, symbol_is, symbol_of_open, symbol_of_close, first_symbol}
 use Rattle.niss_moves.proofs.Finite.{every_face, at_face, every_slice, at_slice, every_axis, at_axis, and_both, and_left, and_right}
-use Rattle.niss_moves.proofs.Completes.{IsReady, run-append, completes}
-use Rattle.niss_moves.proofs.Sound.{WholeItems, Closed, Opened, front_close, Reads, reads_start, settled_front, whole_front, cut_of, cut_fits, is_open, fault_by, fault_at, Outcome, step_means}
+use Rattle.niss_moves.proofs.Completes.{cut_of, run-append, run_after, completes}
+use Rattle.niss_moves.proofs.Sound.{WholeItems, Closed, Opened, front_close, Reads, reads_start, settled_front, whole_front, cut_fits, is_open, fault_by, fault_at, Outcome, step_means}
 
 -- the state after more bytes
 reads_run : (more bytes : List ℕ) (s t : State) → Reads s bytes → run s more ≡ Ok t → Reads t (bytes ++ more)
@@ -82,8 +82,7 @@ stop_at front rest byte s f e g =
       ends_so = subst (λ (x : List ℕ). Continues x (cut_of s.last) (is_open s.bracket)) (sym whole) (continues s front (reads_all front s e));
       stops = λ h.
           let w = continued_ok (front ++ byte ∷ []) (subst CanContinue (take-append-add front (byte ∷ rest) 1) h) in
-          let q : run start (front ++ byte ∷ []) ≡ and_then (step s byte) (λ t. Ok t) = run-append 256 start front (byte ∷ []) ∙ ap (λ r. and_then r (λ t. run t (byte ∷ []))) e in
-          let r : Err f ≡ Ok w.0 = sym (q ∙ ap (λ r. and_then r (λ t. Ok t)) g) ∙ w.1 in
+          let r : Err f ≡ Ok w.0 = sym (run_after 256 start s front (byte ∷ []) e ∙ ap (λ r. and_then r (λ t. Ok t)) g) ∙ w.1 in
           cc;
     }
 
@@ -103,7 +102,7 @@ fault_stops Whole o byte column bytes lt h = by_symbol (symbol_of byte) o refl (
     by_symbol symbol.Close false e i h = subst (λ (b : ℕ). StopsAt bytes column Whole false b) i h
     by_symbol (symbol.Base b) o e i h = (byte, o, (b, [], i), h)
     by_symbol x o e i h =
-        inl (byte, o, h, λ k. subst₂ IsOther (sym e ∙ ap symbol_of k.0 ∙ symbol_of_open) k.1 tt, λ k. subst₂ IsOther (sym e ∙ ap symbol_of k.0 ∙ symbol_of_close) k.1 tt, λ k. (let w = first_symbol k.0 byte k.1 k.2 in subst (λ (x : Symbol). IsOther x o) (sym e ∙ w.1) tt))
+        inl (byte, o, h, λ k. subst₂ IsOther (sym e ∙ ap symbol_of k.0 ∙ symbol_of_open) k.1 tt, λ k. subst₂ IsOther (sym e ∙ ap symbol_of k.0 ∙ symbol_of_close) k.1 tt, λ k. subst (λ (x : Symbol). IsOther x o) (sym e ∙ first_symbol k.0 byte k.1 k.2) tt)
 fault_stops c o byte column bytes lt h =
     inr (byte, o, c, omega arith, subst (λ (x : ℕ). StopsAt bytes x c o byte) (omega arith) h)
 
@@ -114,40 +113,18 @@ step_stops front rest byte s f e g =
     subst (λ (f : ReadFault). Stops (front ++ byte ∷ rest) f) (sym (is ∙ ap (λ n. fault_at (cut_of s.last) (is_open s.bracket) byte (n + 1)) h.fed))
     (fault_stops (cut_of s.last) (is_open s.bracket) byte (length front + 1) _ (let fits = cut_fits s front h in omega arith) (stop_at front rest byte s f e g))
 
--- where a run was refused
-pub record Refused (s : State) (bytes : List ℕ) (f : ReadFault) : Type 0 where
-  pub front : List ℕ
-  pub byte : ℕ
-  pub rest : List ℕ
-  pub before : State
-  pub bytes_are : bytes ≡ front ++ byte ∷ rest
-  pub reads : run s front ≡ Ok before
-  pub refuses : step before byte ≡ Err f
-
-pub refused_at : (bytes : List ℕ) (s : State) (f : ReadFault) → run s bytes ≡ Err f → Refused s bytes f
-refused_at [] s f e = cc
-refused_at (x ∷ bytes) s f e = by_step (step s x) refl e (λ t h. refused_at bytes t f h)
+-- Where a run was refused, it stops.
+stops_after : (rest front : List ℕ) (s : State) (f : ReadFault) → run start front ≡ Ok s → run s rest ≡ Err f → Stops (front ++ rest) f
+stops_after [] front s f e k = cc
+stops_after (x ∷ rest) front s f e k = by_step (step s x) refl k (λ t q. stops_after rest (front ++ x ∷ []) t f q)
   where
-    by_step : (r : Result State ReadFault) → step s x ≡ r → and_then r (λ t. run t bytes) ≡ Err f → ((t : State) → run t bytes ≡ Err f → Refused t bytes f) → Refused s (x ∷ bytes) f
-    by_step (Ok t) q e k =
-        let h = k t e in
-        record {
-          front = x ∷ h.front;
-          byte = h.byte;
-          rest = h.rest;
-          before = h.before;
-          bytes_are = ap (λ y. x ∷ y) h.bytes_are;
-          reads = ap (λ r. and_then r (λ t. run t h.front)) q ∙ h.reads;
-          refuses = h.refuses;
-        }
-    by_step (Err g) q e k =
-        let w : g ≡ f = cc in
-        record { front = []; byte = x; rest = bytes; before = s; bytes_are = refl; reads = refl; refuses = q ∙ e }
+    by_step : (r : Result State ReadFault) → step s x ≡ r → and_then r (λ t. run t rest) ≡ Err f → ((t : State) → run start (front ++ x ∷ []) ≡ Ok t → run t rest ≡ Err f → Stops ((front ++ x ∷ []) ++ rest) f) → Stops (front ++ x ∷ rest) f
+    by_step (Ok t) q k on =
+        subst (λ (y : List ℕ). Stops y f) (append_assoc front (x ∷ []) rest) (on t (run_after 256 start s front (x ∷ []) e ∙ ap (λ r. and_then r (λ t. Ok t)) q) k)
+    by_step (Err g) q k on = step_stops front rest x s f e (q ∙ k)
 
 pub run_stops : (bytes : List ℕ) (f : ReadFault) → run start bytes ≡ Err f → Stops bytes f
-run_stops bytes f e =
-    let h = refused_at bytes start f e in
-    subst (λ (x : List ℕ). Stops x f) (sym h.bytes_are) (step_stops h.front h.rest h.byte h.before f h.reads h.refuses)
+run_stops bytes f e = stops_after bytes [] start f refl e
 
 -- the end of a line
 pub ends_whole : (bytes : List ℕ) (s : State) → run start bytes ≡ Ok s → cut_of s.last ≡ Whole → s.bracket ≡ None → Spells bytes (settled s).normal (settled s).bracketed
@@ -155,13 +132,13 @@ ends_whole bytes s e c o =
     let h = reads_all bytes s e in
     front_spells _ _ _ (subst (λ (o : Option ℕ). WholeItems o bytes (settled s).normal (settled s).bracketed) o (whole_front s bytes c h))
 
-pub line_ends : (bytes : List ℕ) (s : State) → run start bytes ≡ Ok s → IsLine bytes → IsReady s.last × (s.bracket ≡ None)
+pub line_ends : (bytes : List ℕ) (s : State) → run start bytes ≡ Ok s → IsLine bytes → (cut_of s.last ≡ Whole) × (s.bracket ≡ None)
 line_ends bytes s e h =
     let r = completes 256 _ _ _ h.spells h.fits in
     let q : r.end ≡ s = (let w : Ok r.end ≡ Ok s = sym r.ran ∙ e in cc) in
-    (subst (λ (t : State). IsReady t.last) q r.ready, ap (λ t. t.bracket) (sym q) ∙ r.bracket)
+    (ap (λ t. cut_of t.last) (sym q) ∙ r.ready, ap (λ t. t.bracket) (sym q) ∙ r.bracket)
 
-ends_early : (bytes : List ℕ) (s : State) → run start bytes ≡ Ok s → (IsReady s.last × (s.bracket ≡ None) → ⊥) → EndsEarly bytes (cut_of s.last) (is_open s.bracket)
+ends_early : (bytes : List ℕ) (s : State) → run start bytes ≡ Ok s → ((cut_of s.last ≡ Whole) × (s.bracket ≡ None) → ⊥) → EndsEarly bytes (cut_of s.last) (is_open s.bracket)
 ends_early bytes s e n =
     record {
       before = λ k h.
@@ -214,6 +191,6 @@ lacks_bracket bytes s c e w o =
     let h = ends_early bytes s e (λ r. let q : Some c ≡ None = sym o ∙ r.1 in cc) in
     (subst₂ (λ (x : Cut) (y : Bool). EndsEarly bytes x y) w (ap is_open o) h, opens_at bytes s c w (reads_all bytes s e) o)
 
-pub lacks_apostrophe : (bytes : List ℕ) (s : State) (column : ℕ) → run start bytes ≡ Ok s → 0 < cut_length (cut_of s.last) → (IsReady s.last → ⊥) → column + cut_length (cut_of s.last) ≡ length bytes + 1 → Lacks bytes (NotAMove column)
-lacks_apostrophe bytes s column e w n c =
-    (is_open s.bracket, cut_of s.last, w, ends_early bytes s e (λ r. n r.0), c)
+pub lacks_apostrophe : (bytes : List ℕ) (s : State) (column : ℕ) → run start bytes ≡ Ok s → 0 < cut_length (cut_of s.last) → column + cut_length (cut_of s.last) ≡ length bytes + 1 → Lacks bytes (NotAMove column)
+lacks_apostrophe bytes s column e w c =
+    (is_open s.bracket, cut_of s.last, w, ends_early bytes s e (λ r. let n = ap cut_length r.0 in omega (arith, w)), c)

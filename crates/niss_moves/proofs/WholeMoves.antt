@@ -14,7 +14,7 @@ use Rattle.niss_moves.proofs.Finite.{and_right}
 use Rattle.niss_moves.proofs.Whole.{is_plain, plain_pieces}
 use Rattle.std.proofs.lemmas.Bool.{lt-ltb, eqb-true}
 use Rattle.niss_moves.specs.declared.partial_line.LastMove.TheVariants as last
-use Rattle.niss_moves.proofs.Completes.{IsReady, count_more, run-append, at_fed, run_move}
+use Rattle.niss_moves.proofs.Completes.{cut_of, count_more, run_after, at_fed, run_move}
 
 -- the first bytes
 pub take_one : (bytes : List ℕ) (x : ℕ) → 0 < length bytes → get_or bytes 0 0 ≡ x → take 1 bytes ≡ x ∷ []
@@ -51,7 +51,7 @@ settled_finished s e = ap (λ t. settled (with_last t s)) e ∙ ap (λ t. with_l
 move_run : (s : State) (bytes : List ℕ) (t : Token) → s.last ≡ last.Finished → count s < 256 → IsMove bytes t → run s bytes ≡ Ok (at_fed s t (s.fed + length bytes))
 move_run s bytes t e room h =
     let here = settled_finished s e in
-    ap (run s) h.bytes_are ∙ run_move 256 s h.base h.suffix h.blank (subst IsReady (sym e) tt) (subst (λ (x : State). count x < 256) (sym here) room)
+    ap (run s) h.bytes_are ∙ run_move 256 s h.base h.suffix h.blank (ap cut_of e) (subst (λ (x : State). count x < 256) (sym here) room)
     ∙ (λ i. Ok (at_fed (here i) (sym h.token_is i) (s.fed + length (sym h.bytes_are i))))
 
 -- no line feed stands in a move
@@ -76,7 +76,7 @@ taken_more old mid new a b t h few is pushed =
       runs =
           let here = record mid { fed = old.fed + length a } in
           let sum : old.fed + length a + length b ≡ old.fed + length (a ++ b) = omega (arith, length-append a b) in
-          run-append 256 old a b ∙ ap (λ r. and_then r (λ s. run s b)) h.runs ∙ move_run here b t h.finished few is
+          run_after 256 old _ a b h.runs ∙ move_run here b t h.finished few is
           ∙ (λ i. Ok (record (sym pushed i) { fed = sum i }));
       uncounted = ap (λ (s : State). s.fed) pushed ∙ h.uncounted;
       finished = ap (λ (s : State). s.last) pushed;
