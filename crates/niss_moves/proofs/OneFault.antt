@@ -2,9 +2,9 @@
 use Rattle.niss_moves.proofs.Names.{refl, ap, sym, ◌∙◌, subst, arith, inl, inr, ◌≡◌, ℕ, ◌+◌, ◌-◌, ◌<◌, Bool, true, false, List}
 use Rattle.niss_moves.proofs.Names.{[], ◌∷◌, ◌++◌, length, take, drop, Option, None, Some, Result, Ok, Err, suc, ◌==◌, ◌||◌, not}
 use Rattle.niss_moves.proofs.Names.{has_no_bracket, Cut, Whole, LacksOne, LacksTwo, cut_length, cut_ending, bracket_ending, Continues, CanContinue}
-use Rattle.niss_moves.proofs.Names.{BeginsBase, StopsAt, Stops, Lacks, Faults, symbol_of, State, start, step, step_within, and_then, run, ended}
-use Rattle.niss_moves.proofs.Names.{ended_at, ended_in, Token, Symbol, LastMove, ReadFault, NotAMove, Nested, Unopened, Unclosed, TooLong}
-use Rattle.std.proofs.lemmas.List.{take-append-drop, take_more, take_all, length-take-le}
+use Rattle.niss_moves.proofs.Names.{BeginsBase, StopsAt, Stops, Lacks, Faults, symbol_of, State, start, step, step_within, and_then, run}
+use Rattle.niss_moves.proofs.Names.{read_line, ended, ended_at, ended_in, Token, Symbol, LastMove, ReadFault, NotAMove, Nested, Unopened, Unclosed, TooLong}
+use Rattle.std.proofs.lemmas.List.{take-append-drop, take_more, length-take-le}
 use Rattle.niss_moves.specs.declared.partial_line.LastMove.TheVariants as last
 use Rattle.niss_moves.specs.declared.symbol.Symbol.TheVariants as symbol
 use Rattle.niss_moves.proofs.Finite.{and_right}
@@ -116,10 +116,14 @@ ended_whole s (last.FirstByte t) e = absurd (cc)
 ended_whole s (last.SecondByte t) e = absurd (cc)
 ended_whole s _ e = refl
 
+pub lacks_continue : (bytes : List ℕ) (f : ReadFault) → Lacks bytes f → CanContinue bytes
+lacks_continue bytes (NotAMove column) h = (h.1, h.0, h.3.ends_so)
+lacks_continue bytes (Unclosed column) h = (Whole, true, h.0.ends_so)
+lacks_continue bytes _ h = absurd h
+
 lacks_ended : (bytes : List ℕ) (f : ReadFault) → Lacks bytes f → ended (run start bytes) ≡ Err f
 lacks_ended bytes (NotAMove column) h =
-    let whole = h.3.before (length bytes) (omega arith) in
-    let w = continued_ok bytes (subst CanContinue (take_all (length bytes) bytes (omega arith)) whole) in
+    let w = continued_ok bytes (lacks_continue bytes (NotAMove column) h) in
     let one = one_ending bytes w.0 h.1 h.0 w.1 h.3.ends_so in
     ap ended w.1 ∙ by_last w.0 w.0.last one.0 (reads_all bytes w.0 w.1)
   where
@@ -130,8 +134,7 @@ lacks_ended bytes (NotAMove column) h =
         let l = ap cut_length e in ap (λ n. Err (NotAMove n)) (omega (arith, h.4, r.fed))
     by_last s _ e r = absurd (let l = ap cut_length e in omega (arith, h.2))
 lacks_ended bytes (Unclosed column) h =
-    let whole = h.0.before (length bytes) (omega arith) in
-    let w = continued_ok bytes (subst CanContinue (take_all (length bytes) bytes (omega arith)) whole) in
+    let w = continued_ok bytes (lacks_continue bytes (Unclosed column) h) in
     let one = one_ending bytes w.0 Whole true w.1 h.0.ends_so in
     ap ended w.1 ∙ ended_whole w.0 w.0.last one.0 ∙ by_bracket w.0 w.0.bracket refl one.1 one.0 (reads_all bytes w.0 w.1)
   where
@@ -144,7 +147,8 @@ lacks_ended bytes (Unclosed column) h =
         ap (λ n. Err (Unclosed n)) (omega (arith, x.4, y.4))
 lacks_ended bytes _ h = absurd h
 
-pub fault_ended : (bytes : List ℕ) (f : ReadFault) → Faults bytes f → ended (run start bytes) ≡ Err f
+pub fault_ended : (bytes : List ℕ) (f : ReadFault) → Faults bytes f → read_line bytes ≡ Err f
+unfolding read_line
 fault_ended bytes f h = elim h [ inl s ↦ ap ended (stops_run bytes f s) | inr l ↦ lacks_ended bytes f l ]
 
 pub one_fault : (bytes : List ℕ) (f g : ReadFault) → Faults bytes f → Faults bytes g → f ≡ g

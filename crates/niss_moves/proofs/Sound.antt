@@ -78,22 +78,23 @@ reads_start =
       room = omega arith;
     }
 
+-- the bytes with the end of their last piece
+piece_ends : (s : State) (bytes : List ℕ) (p : Piece) (ending : List ℕ) (ms : List Token) (h : Reads s bytes) → h.rest ++ ending ≡ piece_bytes p → piece_moves p ≡ ms → WholeItems s.bracket (bytes ++ ending) (outside s.bracket s.normal ms) (inside s.bracket s.bracketed ms)
+piece_ends s bytes p ending ms h same moves =
+    let is : bytes ++ ending ≡ h.front ++ piece_bytes p = ap (λ x. x ++ ending) h.bytes_are ∙ append_assoc h.front h.rest ending ∙ ap (λ x. h.front ++ x) same in
+    subst₂ (λ (x : List ℕ) (ms : List Token). WholeItems s.bracket x (outside s.bracket s.normal ms) (inside s.bracket s.bracketed ms)) (sym is) moves (front_piece _ _ _ _ p h.is_front)
+
 -- the bytes with the end of a cut U+2019, as whole pieces
 pub settled_front : (s : State) (bytes : List ℕ) → Reads s bytes → WholeItems s.bracket (bytes ++ cut_ending (cut_of s.last)) (settled s).normal (settled s).bracketed
 settled_front s bytes h = by_last s.last h.is_last
   where
-    ended : (p : Piece) (ending : List ℕ) (ms : List Token) → h.rest ++ ending ≡ piece_bytes p → piece_moves p ≡ ms → WholeItems s.bracket (bytes ++ ending) (outside s.bracket s.normal ms) (inside s.bracket s.bracketed ms)
-    ended p ending ms same moves =
-        let is : bytes ++ ending ≡ h.front ++ piece_bytes p = ap (λ x. x ++ ending) h.bytes_are ∙ append_assoc h.front h.rest ending ∙ ap (λ x. h.front ++ x) same in
-        subst₂ (λ (x : List ℕ) (ms : List Token). WholeItems s.bracket x (outside s.bracket s.normal ms) (inside s.bracket s.bracketed ms)) (sym is) moves (front_piece _ _ _ _ p h.is_front)
-
     by_last : (t : LastMove) → IsLast t h.rest → WholeItems s.bracket (bytes ++ cut_ending (cut_of t)) (settled (with_last t s)).normal (settled (with_last t s)).bracketed
     by_last last.Finished e =
         subst (λ (x : List ℕ). WholeItems s.bracket x s.normal s.bracketed) (sym (append-nil _ ∙ h.bytes_are ∙ ap (λ x. h.front ++ x) e ∙ append-nil _)) h.is_front
-    by_last (last.Bare b) e = ended (Spelled b Nothing) [] _ (ap (λ x. x ++ []) e) refl
-    by_last (last.Doubled b) e = ended (Spelled b Two) [] _ (append-nil _ ∙ e) refl
-    by_last (last.FirstByte t) k = ended k.piece (cut_ending LacksTwo) _ k.bytes_are k.moves_are
-    by_last (last.SecondByte t) k = ended k.piece (cut_ending LacksOne) _ k.bytes_are k.moves_are
+    by_last (last.Bare b) e = piece_ends s bytes (Spelled b Nothing) [] _ h (ap (λ x. x ++ []) e) refl
+    by_last (last.Doubled b) e = piece_ends s bytes (Spelled b Two) [] _ h (append-nil _ ∙ e) refl
+    by_last (last.FirstByte t) k = piece_ends s bytes k.piece (cut_ending LacksTwo) _ h k.bytes_are k.moves_are
+    by_last (last.SecondByte t) k = piece_ends s bytes k.piece (cut_ending LacksOne) _ h k.bytes_are k.moves_are
 
 pub whole_front : (s : State) (bytes : List ℕ) → cut_of s.last ≡ Whole → Reads s bytes → WholeItems s.bracket bytes (settled s).normal (settled s).bracketed
 whole_front s bytes w h =
@@ -151,12 +152,17 @@ close_means None s bytes byte e r h k = refl
 close_means (Some c) s bytes byte e r h k =
     front_reads _ _ (subst (λ (x : ℕ). WholeItems None (bytes ++ x ∷ []) (settled s).normal (settled s).bracketed) (sym k) (front_close _ c _ _ _ e (whole_front s bytes r h))) refl (fed_more _ _ _ h.fed) h.room
 
+-- a step that goes on where its test is true
+by_test : (c : Bool) (fault f : ReadFault) (bytes : List ℕ) (k : ℕ) (t : State) → (c ≡ true → Reads (record t { fed = k }) bytes) → f ≡ fault → Outcome fault bytes (fed_to k (cond c (Ok t) (Err f)))
+by_test true fault f bytes k t h e = h refl
+by_test false fault f bytes k t h e = e
+
 base_means : (s : State) (bytes : List ℕ) (byte : ℕ) (b : Base) → cut_of s.last ≡ Whole → Reads s bytes → base_bytes b ≡ byte ∷ [] → Outcome (TooLong (s.fed + 1)) (bytes ++ byte ∷ []) (fed_to (s.fed + 1) (begun 256 b s))
-base_means s bytes byte b r h k = chosen (nat_lt (count (settled s)) 256) refl
+base_means s bytes byte b r h k =
+    by_test (nat_lt (count (settled s)) 256) (TooLong (s.fed + 1)) (TooLong (s.fed + 1)) (bytes ++ byte ∷ []) (s.fed + 1) (with_last (last.Bare b) (settled s)) begins refl
   where
-    chosen : (c : Bool) → nat_lt (count (settled s)) 256 ≡ c → Outcome (TooLong (s.fed + 1)) (bytes ++ byte ∷ []) (fed_to (s.fed + 1) (cond c (Ok (with_last (last.Bare b) (settled s))) (Err (TooLong (s.fed + 1)))))
-    chosen true e =
-        let room : count (settled s) < 256 = ltb-true _ _ e in
+    begins : nat_lt (count (settled s)) 256 ≡ true → Reads (counted (with_last (last.Bare b) (settled s))) (bytes ++ byte ∷ [])
+    begins e =
         record {
           front = bytes;
           rest = byte ∷ [];
@@ -164,9 +170,8 @@ base_means s bytes byte b r h k = chosen (nat_lt (count (settled s)) 256) refl
           is_front = whole_front s bytes r h;
           is_last = sym k;
           fed = fed_more _ _ _ h.fed;
-          room = omega (arith, count_more s.bracket (settled s).normal (settled s).bracketed (token_of b Quarter ∷ []));
+          room = omega (arith, ltb-true _ _ e, count_more s.bracket (settled s).normal (settled s).bracketed (token_of b Quarter ∷ []));
         }
-    chosen false e = refl
 
 -- the last move goes on
 goes_on : (n b : List Token) (o : Option ℕ) (t u : LastMove) (k : ℕ) (bytes : List ℕ) (byte : ℕ) (h : Reads (state n b o t k) bytes) → IsLast u (h.rest ++ byte ∷ [])
@@ -188,8 +193,7 @@ ends_so : (n b : List Token) (o : Option ℕ) (t : LastMove) (k : ℕ) (bytes : 
     → length (outside o n (piece_moves p)) + length (inside o b (piece_moves p)) ≤ 256 → Reads (state (outside o n (piece_moves p)) (inside o b (piece_moves p)) o last.Finished (k + 1)) (bytes ++ byte ∷ [])
 unfolding state
 ends_so n b o t k bytes byte p h same room =
-    let is = ap (λ x. x ++ byte ∷ []) h.bytes_are ∙ append_assoc h.front h.rest (byte ∷ []) ∙ ap (λ x. h.front ++ x) same in
-    front_reads _ _ (subst (λ (z : List ℕ). WholeItems o z (outside o n (piece_moves p)) (inside o b (piece_moves p))) (sym is) (front_piece _ _ _ _ p h.is_front)) refl (fed_more _ _ _ h.fed) room
+    front_reads _ _ (piece_ends _ bytes p (byte ∷ []) _ h same refl) refl (fed_more _ _ _ h.fed) room
 
 -- a byte after bytes
 follows : {xs ys : List ℕ} {x y : ℕ} → xs ≡ ys → x ≡ y → xs ++ x ∷ [] ≡ ys ++ y ∷ []
@@ -226,7 +230,9 @@ symbol_means x n b o t k bytes byte i r h = refl
 
 first_means : (n b : List Token) (o : Option ℕ) (t : Token) (k : ℕ) (bytes : List ℕ) (byte : ℕ) → Reads (state n b o (last.FirstByte t) k) bytes → Outcome (NotAMove (k + 1 - 1)) (bytes ++ byte ∷ []) (fed_to (k + 1) (step_at 256 (last.FirstByte t) (state n b o (last.FirstByte t) k) byte))
 unfolding state
-first_means n b o t k bytes byte h = chosen (eqb byte 0x80) refl
+first_means n b o t k bytes byte h =
+    by_test (eqb byte 0x80) (NotAMove (k + 1 - 1)) (NotAMove k) (bytes ++ byte ∷ []) (k + 1) (with_last (last.SecondByte t) (state n b o (last.FirstByte t) k))
+    (λ e. goes_on n b o _ (last.SecondByte t) k bytes byte h (goes (eqb-true _ _ e)) h.room) (ap NotAMove (omega arith))
   where
     goes : byte ≡ 0x80 → IsCutMove t LacksOne (h.rest ++ byte ∷ [])
     goes e =
@@ -237,18 +243,12 @@ first_means n b o t k bytes byte h = chosen (eqb byte 0x80) refl
           long = omega (arith, h.is_last.long, length-append h.rest (byte ∷ []));
         }
 
-    chosen : (c : Bool) → eqb byte 0x80 ≡ c → Outcome (NotAMove (k + 1 - 1)) (bytes ++ byte ∷ []) (fed_to (k + 1) (cond c (Ok (with_last (last.SecondByte t) (state n b o (last.FirstByte t) k))) (Err (NotAMove k))))
-    chosen true e = goes_on n b o _ (last.SecondByte t) k bytes byte h (goes (eqb-true _ _ e)) h.room
-    chosen false e = ap NotAMove (omega arith)
-
 second_means : (n b : List Token) (o : Option ℕ) (t : Token) (k : ℕ) (bytes : List ℕ) (byte : ℕ) → Reads (state n b o (last.SecondByte t) k) bytes → Outcome (NotAMove (k + 1 - 2)) (bytes ++ byte ∷ []) (fed_to (k + 1) (step_at 256 (last.SecondByte t) (state n b o (last.SecondByte t) k) byte))
 unfolding state
-second_means n b o t k bytes byte h = chosen (eqb byte 0x99) refl
-  where
-    chosen : (c : Bool) → eqb byte 0x99 ≡ c → Outcome (NotAMove (k + 1 - 2)) (bytes ++ byte ∷ []) (fed_to (k + 1) (cond c (Ok (settled (state n b o (last.SecondByte t) k))) (Err (NotAMove (k - 1)))))
-    chosen true e =
-        front_reads _ _ (subst (λ (z : ℕ). WholeItems o (bytes ++ z ∷ []) (outside o n (t ∷ [])) (inside o b (t ∷ []))) (sym (eqb-true _ _ e)) (settled_front _ bytes h)) refl (fed_more _ _ _ h.fed) h.room
-    chosen false e = ap NotAMove (omega arith)
+second_means n b o t k bytes byte h =
+    by_test (eqb byte 0x99) (NotAMove (k + 1 - 2)) (NotAMove (k - 1)) (bytes ++ byte ∷ []) (k + 1) (settled (state n b o (last.SecondByte t) k))
+    (λ e. front_reads _ _ (subst (λ (z : ℕ). WholeItems o (bytes ++ z ∷ []) (outside o n (t ∷ [])) (inside o b (t ∷ []))) (sym (eqb-true _ _ e)) (settled_front _ bytes h)) refl (fed_more _ _ _ h.fed) h.room)
+    (ap NotAMove (omega arith))
 
 -- A step keeps what the state stands for, or refuses the byte by its fault there.
 pub step_means : (s : State) (bytes : List ℕ) (byte : ℕ) → Reads s bytes → Outcome (fault_at (cut_of s.last) (is_open s.bracket) byte (s.fed + 1)) (bytes ++ byte ∷ []) (step s byte)

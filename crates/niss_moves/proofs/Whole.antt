@@ -191,6 +191,7 @@ lacks_bracket bytes s c e w o =
     let h = ends_early bytes s e (λ r. let q : Some c ≡ None = sym o ∙ r.1 in cc) in
     (subst₂ (λ (x : Cut) (y : Bool). EndsEarly bytes x y) w (ap is_open o) h, opens_at bytes s c w (reads_all bytes s e) o)
 
-pub lacks_apostrophe : (bytes : List ℕ) (s : State) (column : ℕ) → run start bytes ≡ Ok s → 0 < cut_length (cut_of s.last) → column + cut_length (cut_of s.last) ≡ length bytes + 1 → Lacks bytes (NotAMove column)
-lacks_apostrophe bytes s column e w c =
-    (is_open s.bracket, cut_of s.last, w, ends_early bytes s e (λ r. let n = ap cut_length r.0 in omega (arith, w)), c)
+pub lacks_apostrophe : (bytes : List ℕ) (s : State) (c : Cut) (column : ℕ) → run start bytes ≡ Ok s → cut_of s.last ≡ c → 0 < cut_length c → column + cut_length c ≡ length bytes + 1 → Lacks bytes (NotAMove column)
+lacks_apostrophe bytes s c column e q w k =
+    let early = ends_early bytes s e (λ r. let n = ap cut_length (sym q ∙ r.0) in omega (arith, w)) in
+    (is_open s.bracket, c, w, subst (λ (x : Cut). EndsEarly bytes x (is_open s.bracket)) q early, k)

@@ -160,18 +160,13 @@ run s bytes = run_within 256 s bytes
 abbrev pub HasRoom : State → Type 0
 HasRoom s = count (settled s) ≤ 256
 
--- A step answers a fault, or leaves the next state, which has room.
+-- A step answers a fault, or leaves the next state.
 abbrev pub IsStep : (State → Result State ReadFault) → State → Result (Unit {0}) ReadFault → State → Type 0
-IsStep next old result new = MatchResult result (λ _. (next old ≡ Ok new) × HasRoom new) (λ f. next old ≡ Err f)
+IsStep next old result new = MatchResult result (λ _. next old ≡ Ok new) (λ f. next old ≡ Err f)
 
 abbrev pub state_or : Option ReadFault → State → Result State ReadFault
 state_or None s = Ok s
 state_or (Some f) s = Err f
-
--- A state has room, unless there was a fault.
-abbrev pub HasRoomUnless : Option ReadFault → State → Type 0
-HasRoomUnless None s = HasRoom s
-HasRoomUnless (Some f) s = Unit {0}
 
 -- the moves that are read, without the last one where it isn't whole
 abbrev pub whole_moves : State → Moves

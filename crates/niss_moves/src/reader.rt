@@ -15,14 +15,11 @@ pub struct LineReader {
 }
 
 impl Model for LineReader {
-    ghost use Rattle.niss_moves.specs.Machine.{HasRoomUnless};
     ghost use Rattle.niss_moves.specs.Reader.{Reader};
 
     ghost Value = { Reader };
 
     ghost view = { λ r. record { fed = r.line.fed; fault = r.fault; so_far = r.line } };
-
-    ghost invariant = { λ r. HasRoomUnless r.fault r.line };
 }
 
 impl LineReader {

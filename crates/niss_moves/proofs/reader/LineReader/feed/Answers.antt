@@ -11,9 +11,6 @@ on c =
       | in-None w ↦ fed_on _ _ _ _ w.step-taken.new.self _ _ w.step-taken.result w.in-None.is w.step-taken.ensures.steps w.step-taken.ensures.fed w.taken-is c.err-self-inside.ensures.value (ap (λ r. r.line) w.self-inside-is)
     ]
 
-pub invariant_of-self : goal.invariant_of-self
-invariant_of-self c = (on c).room
-
 pub returns-clause-bytes : goal.returns-clause-bytes
 returns-clause-bytes c bytes h =
     is_fed_on _ _ _ bytes (on c).on (subst (λ (r : Reader). IsFed r bytes) (sym c.self.view_is) h)
