@@ -11,13 +11,6 @@ with_words-append t (w ∷ a) b = with_words-append (with_word t w) a b
 pub words_after : (old mid new : List ℕ) (a b : List (List ℕ)) → mid ≡ with_words old a → new ≡ with_words mid b → new ≡ with_words old (a ++ b)
 words_after old mid new a b e f = f ∙ ap (λ t. with_words t b) e ∙ sym (with_words-append old a b)
 
--- the words of moves and then of the inverse of others
-pub words_joined : (old mid new : List ℕ) (a x y b : List Token) → mid ≡ with_words old (map word x) → new ≡ with_words mid (map word (inverse y)) → x ≡ a → y ≡ b
-    → new ≡ with_words old (map word (a ++ inverse b))
-words_joined old mid new a x y b p q e f =
-    q ∙ ap₂ (λ (t : List ℕ) (s : List Token). with_words t (map word (inverse s))) (p ∙ ap (λ s. with_words old (map word s)) e) f
-    ∙ sym (with_words-append old (map word a) (map word (inverse b))) ∙ ap (with_words old) (sym (map-append word a (inverse b)))
-
 pub bracket_empty : (t : List ℕ) (ws : List (List ℕ)) → is_empty ws ≡ true → with_bracket t ws ≡ t
 bracket_empty t [] e = refl
 bracket_empty t (w ∷ ws) e = cc

@@ -3,8 +3,8 @@ use Rattle.niss_moves.proofs.Names.{refl, ap, sym, ◌∙◌, append_assoc, appe
 use Rattle.niss_moves.proofs.Names.{◌∷◌, ◌++◌, length, flat_map, Option, None, Some, Result, Ok, Err, cond, face_letter, base_bytes, token_of}
 use Rattle.niss_moves.proofs.Names.{Cut, Whole, LacksOne, LacksTwo, Plain, Typographic, Suffix, Nothing, Two}
 use Rattle.niss_moves.proofs.Names.{Prime, TwoPrime, suffix_bytes, suffix_power, Blank, blank_byte, Piece, Gap, Spelled, piece_bytes}
-use Rattle.niss_moves.proofs.Names.{piece_moves, Item, Outside, Bracket, item_bytes, item_normal, item_bracketed, Spells, symbol_of}
-use Rattle.niss_moves.proofs.Names.{State, start, outside, inside, added, settled, opened, closed, count, with_last, fed_to, step_by}
+use Rattle.niss_moves.proofs.Names.{piece_moves, Item, Outside, Bracket, item_bytes, item_normal, item_bracketed, Spells, IsLine, Moves, symbol_of}
+use Rattle.niss_moves.proofs.Names.{State, start, with_more, added, settled, opened, closed, count, with_last, fed_to, step_by}
 use Rattle.niss_moves.proofs.Names.{step_at, step_within, and_then, run_within, Face, Half, Counter, Token, Base, LastMove, ReadFault}
 use Rattle.niss_moves.proofs.Names.{TooLong}
 use Rattle.std.proofs.lemmas.Bool.{lt-ltb}
@@ -32,8 +32,8 @@ cut_of (last.SecondByte t) = LacksOne
 cut_of _ = Whole
 
 -- a state by its parts
-unfoldable pub state : List Token → List Token → Option ℕ → LastMove → ℕ → State
-state n b o t k = record { normal = n; bracketed = b; bracket = o; last = t; fed = k }
+unfoldable pub state : Moves → Option ℕ → LastMove → ℕ → State
+state m o t k = record { moves = m; bracket = o; last = t; fed = k }
 
 -- one more byte was fed
 abbrev pub counted : State → State
@@ -117,66 +117,67 @@ run_move limit s b x k h room =
     run_after limit s one.end front (blank_byte k ∷ []) one.ran
     ∙ run_on limit one.end _ (blank_byte k) [] (step_blank limit one.end k one.ready) ∙ ap (λ t. Ok (counted t)) one.settles ∙ ap (λ n. Ok (at_fed (settled s) (token_of b (suffix_power x)) n)) sum
 
-pub outside_none : (o : Option ℕ) (n : List Token) → n ≡ outside o n []
-outside_none None n = sym (append-nil n)
-outside_none (Some c) n = refl
+pub more_none : (o : Option ℕ) (m : Moves) → m ≡ with_more o m []
+more_none None m = λ i. record m { normal = sym (append-nil m.normal) i }
+more_none (Some c) m = λ i. record m { bracketed = sym (append-nil m.bracketed) i }
 
-pub inside_none : (o : Option ℕ) (n : List Token) → n ≡ inside o n []
-inside_none None n = refl
-inside_none (Some c) n = sym (append-nil n)
+pub count_more : (o : Option ℕ) (m : Moves) (ts : List Token) → length (with_more o m ts).normal + length (with_more o m ts).bracketed ≡ length m.normal + length m.bracketed + length ts
+count_more None m ts = omega (arith, length-append m.normal ts)
+count_more (Some c) m ts = omega (arith, length-append m.bracketed ts)
 
-pub count_more : (o : Option ℕ) (n b m : List Token) → length (outside o n m) + length (inside o b m) ≡ length n + length b + length m
-count_more None n b m = omega (arith, length-append n m)
-count_more (Some c) n b m = omega (arith, length-append b m)
+-- moves and others after them
+abbrev joined : Moves → Moves → Moves
+joined m k = record { normal = m.normal ++ k.normal; bracketed = m.bracketed ++ k.bracketed }
 
--- what was read from a state on: these normal and these bracketed moves, and then a bracket is open or none is
-pub record Read (limit : ℕ) (s : State) (bytes : List ℕ) (n b : List Token) (o : Option ℕ) : Type 0 where
+abbrev no_moves : Moves
+no_moves = record { normal = []; bracketed = [] }
+
+more_is : (o : Option ℕ) (m : Moves) (ts : List Token) → with_more o m ts ≡ joined m (with_more o no_moves ts)
+more_is None m ts = λ i. record { normal = m.normal ++ ts; bracketed = sym (append-nil m.bracketed) i }
+more_is (Some c) m ts = λ i. record { normal = sym (append-nil m.normal) i; bracketed = m.bracketed ++ ts }
+
+-- the moves of items
+abbrev pub moves_in : List Item → Moves
+moves_in xs = record { normal = flat_map item_normal xs; bracketed = flat_map item_bracketed xs }
+
+-- what was read from a state on: these moves, and then a bracket is open or none is
+pub record Read (limit : ℕ) (s : State) (bytes : List ℕ) (m : Moves) (o : Option ℕ) : Type 0 where
   pub end : State
   pub ran : run_within limit s bytes ≡ Ok end
   pub ready : cut_of end.last ≡ Whole
-  pub normal : (settled end).normal ≡ (settled s).normal ++ n
-  pub bracketed : (settled end).bracketed ≡ (settled s).bracketed ++ b
+  pub moves : (settled end).moves ≡ joined (settled s).moves m
   pub bracket : end.bracket ≡ o
 
-read_none : (limit : ℕ) → (s : State) (o : Option ℕ) → cut_of s.last ≡ Whole → s.bracket ≡ o → Read limit s [] [] [] o
+read_none : (limit : ℕ) → (s : State) (o : Option ℕ) → cut_of s.last ≡ Whole → s.bracket ≡ o → Read limit s [] no_moves o
 read_none limit s o h e =
-    record { end = s; ran = refl; ready = h; normal = sym (append-nil _); bracketed = sym (append-nil _); bracket = e }
+    record { end = s; ran = refl; ready = h; moves = more_none None _ ∙ more_is None _ []; bracket = e }
 
-read_more : (limit : ℕ) → (s : State) (a b : List ℕ) (m k p q : List Token) (o r : Option ℕ) (h : Read limit s a m p o) → Read limit h.end b k q r → Read limit s (a ++ b) (m ++ k) (p ++ q) r
-read_more limit s a b m k p q o r h g =
+read_more : (limit : ℕ) → (s : State) (a b : List ℕ) (m k : Moves) (o r : Option ℕ) (h : Read limit s a m o) → Read limit h.end b k r → Read limit s (a ++ b) (joined m k) r
+read_more limit s a b m k o r h g =
+    let at = (settled s).moves in
+    let assoc : joined (joined at m) k ≡ joined at (joined m k) = λ i. record { normal = append_assoc at.normal m.normal k.normal i; bracketed = append_assoc at.bracketed m.bracketed k.bracketed i } in
     record {
       end = g.end;
       ran = run_after limit s h.end a b h.ran ∙ g.ran;
       ready = g.ready;
-      normal = g.normal ∙ ap (λ n. n ++ k) h.normal ∙ append_assoc (settled s).normal m k;
-      bracketed = g.bracketed ∙ ap (λ n. n ++ q) h.bracketed ∙ append_assoc (settled s).bracketed p q;
+      moves = g.moves ∙ ap (λ n. joined n k) h.moves ∙ assoc;
       bracket = g.bracket;
     }
 
-read_count : (limit : ℕ) → (s : State) (a : List ℕ) (m p : List Token) (o : Option ℕ) (h : Read limit s a m p o) → count (settled h.end) ≡ count (settled s) + length m + length p
-read_count limit s a m p o h =
-    let e = ap length h.normal in
-    let f = ap length h.bracketed in
-    omega (arith, length-append (settled s).normal m, length-append (settled s).bracketed p)
-
--- the moves of a piece, after others
-outside_is : (o : Option ℕ) (n m : List Token) → outside o n m ≡ n ++ outside o [] m
-outside_is None n m = refl
-outside_is (Some c) n m = sym (append-nil n)
-
-inside_is : (o : Option ℕ) (n m : List Token) → inside o n m ≡ n ++ inside o [] m
-inside_is None n m = sym (append-nil n)
-inside_is (Some c) n m = refl
+read_count : (limit : ℕ) → (s : State) (a : List ℕ) (m : Moves) (o : Option ℕ) (h : Read limit s a m o) → count (settled h.end) ≡ count (settled s) + length m.normal + length m.bracketed
+read_count limit s a m o h =
+    let e = ap (λ (m : Moves). length m.normal) h.moves in
+    let f = ap (λ (m : Moves). length m.bracketed) h.moves in
+    omega (arith, length-append (settled s).moves.normal m.normal, length-append (settled s).moves.bracketed m.bracketed)
 
 read_piece : (limit : ℕ) → (s : State) (p : Piece) (o : Option ℕ) → cut_of s.last ≡ Whole → s.bracket ≡ o → count (settled s) + length (piece_moves p) ≤ limit
-    → Read limit s (piece_bytes p) (outside o [] (piece_moves p)) (inside o [] (piece_moves p)) o
+    → Read limit s (piece_bytes p) (with_more o no_moves (piece_moves p)) o
 read_piece limit s (Gap b) o h e room =
     record {
       end = counted (settled s);
       ran = run_on limit s _ (blank_byte b) [] (step_blank limit s b h);
       ready = refl;
-      normal = outside_none o _ ∙ outside_is o _ [];
-      bracketed = inside_none o _ ∙ inside_is o _ [];
+      moves = more_none o _ ∙ more_is o _ [];
       bracket = e;
     }
 read_piece limit s (Spelled b x) o h e room =
@@ -186,18 +187,17 @@ read_piece limit s (Spelled b x) o h e room =
       end = one.end;
       ran = one.ran;
       ready = one.ready;
-      normal = ap (λ (t : State). t.normal) one.settles ∙ ap (λ o. outside o (settled s).normal t) e ∙ outside_is o _ t;
-      bracketed = ap (λ (t : State). t.bracketed) one.settles ∙ ap (λ o. inside o (settled s).bracketed t) e ∙ inside_is o _ t;
+      moves = ap (λ (t : State). t.moves) one.settles ∙ ap (λ o. with_more o (settled s).moves t) e ∙ more_is o _ t;
       bracket = ap (λ (t : State). t.bracket) one.settles ∙ e;
     }
 
 read_pieces : (limit : ℕ) → (s : State) (ps : List Piece) (c : ℕ) → cut_of s.last ≡ Whole → s.bracket ≡ Some c → count (settled s) + length (flat_map piece_moves ps) ≤ limit
-    → Read limit s (flat_map piece_bytes ps) [] (flat_map piece_moves ps) (Some c)
+    → Read limit s (flat_map piece_bytes ps) (with_more (Some c) no_moves (flat_map piece_moves ps)) (Some c)
 read_pieces limit s [] c h e room = read_none limit s (Some c) h e
 read_pieces limit s (p ∷ ps) c h e room =
     let l = length-append (piece_moves p) (flat_map piece_moves ps) in
     let one = read_piece limit s p (Some c) h e (omega arith) in
-    read_more limit s (piece_bytes p) (flat_map piece_bytes ps) [] [] _ _ _ _ one (read_pieces limit one.end ps c one.ready one.bracket (omega (arith, read_count limit s _ _ _ _ one)))
+    read_more limit s (piece_bytes p) (flat_map piece_bytes ps) _ _ _ _ one (read_pieces limit one.end ps c one.ready one.bracket (omega (arith, read_count limit s _ _ _ one)))
 
 entered : State → State
 entered s = counted (record (settled s) { bracket = Some (s.fed + 1) })
@@ -211,7 +211,7 @@ unfolding symbol_of
 step_close limit s c h o = step_ready limit s 41 h ∙ ap (λ b. fed_to (s.fed + 1) (closed b s)) o
 
 read_item : (limit : ℕ) → (s : State) (x : Item) → cut_of s.last ≡ Whole → s.bracket ≡ None → count (settled s) + length (item_normal x) + length (item_bracketed x) ≤ limit
-    → Read limit s (item_bytes x) (item_normal x) (item_bracketed x) None
+    → Read limit s (item_bytes x) (record { normal = item_normal x; bracketed = item_bracketed x }) None
 unfolding entered
 read_item limit s (Outside p) h o room = read_piece limit s p None h o (omega arith)
 read_item limit s (Bracket ps) h o room =
@@ -220,23 +220,22 @@ read_item limit s (Bracket ps) h o room =
       end = counted (record (settled r.end) { bracket = None });
       ran = run_on limit s (entered s) 40 (flat_map piece_bytes ps ++ 41 ∷ []) (step_open limit s h o) ∙ run_after limit (entered s) r.end (flat_map piece_bytes ps) (41 ∷ []) r.ran ∙ run_on limit r.end _ 41 [] (step_close limit r.end (s.fed + 1) r.ready r.bracket);
       ready = refl;
-      normal = r.normal;
-      bracketed = r.bracketed;
+      moves = r.moves;
       bracket = refl;
     }
 
 read_items : (limit : ℕ) → (s : State) (xs : List Item) → cut_of s.last ≡ Whole → s.bracket ≡ None → count (settled s) + length (flat_map item_normal xs) + length (flat_map item_bracketed xs) ≤ limit
-    → Read limit s (flat_map item_bytes xs) (flat_map item_normal xs) (flat_map item_bracketed xs) None
+    → Read limit s (flat_map item_bytes xs) (moves_in xs) None
 read_items limit s [] h o room = read_none limit s None h o
 read_items limit s (x ∷ xs) h o room =
     let l = length-append (item_normal x) (flat_map item_normal xs) in
     let k = length-append (item_bracketed x) (flat_map item_bracketed xs) in
     let one = read_item limit s x h o (omega arith) in
-    read_more limit s (item_bytes x) (flat_map item_bytes xs) _ _ _ _ _ _ one (read_items limit one.end xs one.ready one.bracket (omega (arith, read_count limit s _ _ _ _ one)))
+    read_more limit s (item_bytes x) (flat_map item_bytes xs) _ _ _ _ one (read_items limit one.end xs one.ready one.bracket (omega (arith, read_count limit s _ _ _ one)))
 
 -- A line that is spelled by at most 256 moves is read as these.
-pub completes : (limit : ℕ) → (bytes : List ℕ) (n b : List Token) → Spells bytes n b → length n + length b ≤ limit → Read limit start bytes n b None
-completes limit bytes n b h room =
+pub completes : (limit : ℕ) → (bytes : List ℕ) (m : Moves) → Spells bytes m.normal m.bracketed → length m.normal + length m.bracketed ≤ limit → Read limit start bytes m None
+completes limit bytes m h room =
     let e = ap length h.normal_are in
     let f = ap length h.bracketed_are in
     let r = read_items limit start h.items refl refl (omega arith) in
@@ -244,7 +243,9 @@ completes limit bytes n b h room =
       end = r.end;
       ran = ap (run_within limit start) h.bytes_are ∙ r.ran;
       ready = r.ready;
-      normal = r.normal ∙ sym h.normal_are;
-      bracketed = r.bracketed ∙ sym h.bracketed_are;
+      moves = r.moves ∙ (λ i. record { normal = sym h.normal_are i; bracketed = sym h.bracketed_are i });
       bracket = r.bracket;
     }
+
+pub read_line_of : (bytes : List ℕ) (line : IsLine bytes) → Read 256 start bytes (record { normal = line.normal; bracketed = line.bracketed }) None
+read_line_of bytes line = completes 256 bytes (record { normal = line.normal; bracketed = line.bracketed }) line.spells line.fits

@@ -1,5 +1,5 @@
 -- Words gathered after a text.
-use Rattle.niss_moves.proofs.Names.{refl, arith, ap, ap₂, sym, ◌∙◌, append_assoc, append-nil, ◌≡◌, ℕ, ◌+◌, ◌≤◌, ◌<◌, if◌then◌else◌, map}
+use Rattle.niss_moves.proofs.Names.{refl, arith, ap, sym, ◌∙◌, append_assoc, append-nil, ◌≡◌, ℕ, ◌+◌, ◌≤◌, ◌<◌, if◌then◌else◌, map}
 use Rattle.niss_moves.proofs.Names.{Bool, true, false, cond, List, [], ◌∷◌, ◌++◌, length, take, drop, word, gap, with_word, with_words}
 use Rattle.niss_moves.proofs.Names.{with_gathered, turn_words, Turn, Token}
 use Rattle.std.proofs.Math.Seq.{take-append-add}
@@ -45,14 +45,6 @@ nothing_gathered : (text : List ℕ) (no_gap : Bool) → with_gathered text no_g
 nothing_gathered text true = append-nil text
 nothing_gathered text false = append-nil text
 
--- a word more, after words that say the same as those before
-pub one_more : (text old all held taken w rest : List ℕ) (now before new : Bool) → new ≡ now → all ≡ taken ++ w
-    → ((r : List ℕ) → with_gathered text now (taken ++ r) ≡ with_gathered old before (held ++ r))
-    → with_gathered text new (all ++ rest) ≡ with_gathered old before ((held ++ w) ++ rest)
-one_more text old all held taken w rest now before new g e same =
-    ap₂ (λ (b : Bool) (x : List ℕ). with_gathered text b (x ++ rest)) g e ∙ ap (with_gathered text now) (append_assoc taken w rest)
-    ∙ same (w ++ rest) ∙ ap (with_gathered old before) (sym (append_assoc held w rest))
-
 -- what was gathered is written
 pub written : (text new bytes rest : List ℕ) (n : ℕ) (no_gap : Bool) → 0 < n → n ≤ length bytes → new ≡ text ++ between (cond no_gap 1 0) n bytes
     → with_gathered new false rest ≡ with_gathered text no_gap (take n bytes ++ rest)
@@ -96,3 +88,8 @@ gathers_all {text} {new} {first} {words} no_gap e wrote h =
 pub words_of_turns : (ts : List Turn) → map word (map token.Face ts) ≡ turn_words ts
 words_of_turns [] = refl
 words_of_turns (t ∷ ts) = ap (λ ws. word (token.Face t) ∷ ws) (words_of_turns ts)
+
+-- words after words
+pub words_more : (text : List ℕ) (ts us : List Token) → with_words (with_words text (map word ts)) (map word us) ≡ with_words text (map word (ts ++ us))
+words_more text [] us = refl
+words_more text (t ∷ ts) us = words_more (with_word text (word t)) ts us

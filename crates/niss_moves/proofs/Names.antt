@@ -24,8 +24,8 @@ pub use Rattle.niss_moves.specs.Indices.{token_index}
 pub use Rattle.niss_moves.specs.Letters.{face_letter, letter_at}
 unfoldable pub use Rattle.niss_moves.specs.Letters.{letter_of, letters}
 pub use Rattle.niss_moves.specs.Line.{Moves, Piece, Gap, Spelled, piece_bytes, piece_moves, Item, Outside, Bracket, item_bytes}
-pub use Rattle.niss_moves.specs.Line.{item_normal, item_bracketed, Spells, joined_moves}
-pub use Rattle.niss_moves.specs.Machine.{State, start, outside, inside, added, settled, opened, closed, count, with_last, fed_to}
+pub use Rattle.niss_moves.specs.Line.{item_normal, item_bracketed, Spells, IsLine, joined_moves}
+pub use Rattle.niss_moves.specs.Machine.{State, start, with_more, added, settled, opened, closed, count, with_last, fed_to}
 pub use Rattle.niss_moves.specs.Machine.{step_by, step_at, and_then, run_within, run, step, ended, ended_at, ended_in, bytes_of_a_line}
 pub use Rattle.niss_moves.specs.Machine.{look_up, state_or, HasRoom, answer_after}
 unfoldable pub use Rattle.niss_moves.specs.Machine.{symbol_of, step_within}

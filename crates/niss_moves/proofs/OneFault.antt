@@ -1,14 +1,14 @@
 -- A line has one fault.
-use Rattle.niss_moves.proofs.Names.{refl, ap, sym, ◌∙◌, subst, arith, inl, inr, ◌≡◌, ℕ, ◌+◌, ◌-◌, ◌<◌, Bool, true, false, List}
+use Rattle.niss_moves.proofs.Names.{refl, ap, sym, ◌∙◌, arith, inl, inr, ◌≡◌, ℕ, ◌+◌, ◌-◌, ◌<◌, Bool, true, false, List}
 use Rattle.niss_moves.proofs.Names.{[], ◌∷◌, ◌++◌, length, take, drop, Option, None, Some, Result, Ok, Err, suc, ◌==◌, ◌||◌, not}
 use Rattle.niss_moves.proofs.Names.{has_no_bracket, Cut, Whole, LacksOne, LacksTwo, cut_length, cut_ending, bracket_ending, Continues, CanContinue}
 use Rattle.niss_moves.proofs.Names.{BeginsBase, StopsAt, Stops, Lacks, Faults, symbol_of, State, start, step, step_within, and_then, run}
-use Rattle.niss_moves.proofs.Names.{read_line, ended, ended_at, ended_in, Token, Symbol, LastMove, ReadFault, NotAMove, Nested, Unopened, Unclosed, TooLong}
+use Rattle.niss_moves.proofs.Names.{read_line, ended, ended_at, ended_in, Moves, Symbol, LastMove, ReadFault, NotAMove, Nested, Unopened, Unclosed, TooLong}
 use Rattle.std.proofs.lemmas.List.{take-append-drop, take_more, length-take-le}
 use Rattle.niss_moves.specs.declared.partial_line.LastMove.TheVariants as last
 use Rattle.niss_moves.specs.declared.symbol.Symbol.TheVariants as symbol
 use Rattle.niss_moves.proofs.Finite.{and_right}
-use Rattle.niss_moves.proofs.Completes.{cut_of, state, run-append, run_after, completes}
+use Rattle.niss_moves.proofs.Completes.{cut_of, state, run-append, run_after, read_line_of}
 use Rattle.niss_moves.proofs.Sound.{Reads, is_open, fault_by, fault_at, Outcome, step_means}
 use Rattle.niss_moves.proofs.Symbols.{IsSymbol, symbol_is, first_symbol}
 use Rattle.niss_moves.proofs.Whole.{reads_all, can_continue, continued_ok, opens_at}
@@ -24,37 +24,30 @@ state_is : {s end : State} → ◌≡◌ {A = Result State ReadFault} (Ok s) (Ok
 state_is e = cc
 
 -- with no cut apostrophe the ending is a bracket or nothing
-done_ending : (n b : List Token) (o : Option ℕ) (k : ℕ) (q : Bool) (end : State) → run (state n b o last.Finished k) (bracket_ending q) ≡ Ok end → end.bracket ≡ None → is_open o ≡ q
+ready_ending : (m : Moves) (o : Option ℕ) (t : LastMove) (k : ℕ) (q : Bool) (end : State) → run (state m o t k) (bracket_ending q) ≡ Ok end → cut_of end.last ≡ Whole → end.bracket ≡ None → (cut_of t ≡ Whole) × (is_open o ≡ q)
 unfolding step_within symbol_of state
-done_ending n b None k false end e h = refl
-done_ending n b (Some c) k false end e h = absurd (none_open (ap (λ (s : State). s.bracket) (state_is e) ∙ h))
-done_ending n b None k true end e h = absurd (no_fault e)
-done_ending n b (Some c) k true end e h = refl
-
-ready_ending : (n b : List Token) (o : Option ℕ) (t : LastMove) (k : ℕ) (q : Bool) (end : State) → run (state n b o t k) (bracket_ending q) ≡ Ok end → cut_of end.last ≡ Whole → end.bracket ≡ None → (cut_of t ≡ Whole) × (is_open o ≡ q)
-unfolding step_within symbol_of state
-ready_ending n b o t k false end e r h =
-    let x : state n b o t k ≡ end = state_is e in
+ready_ending m o t k false end e r h =
+    let x : state m o t k ≡ end = state_is e in
     (ap (λ (s : State). cut_of s.last) x ∙ r, ap (λ (s : State). is_open s.bracket) x ∙ ap is_open h)
-ready_ending n b (Some c) last.Finished k true end e r h = (refl, refl)
-ready_ending n b (Some c) (last.Bare x) k true end e r h = (refl, refl)
-ready_ending n b (Some c) (last.Doubled x) k true end e r h = (refl, refl)
-ready_ending n b None last.Finished k true end e r h = absurd (no_fault e)
-ready_ending n b _ _ k true end e r h = absurd (no_fault e)
+ready_ending m (Some c) last.Finished k true end e r h = (refl, refl)
+ready_ending m (Some c) (last.Bare x) k true end e r h = (refl, refl)
+ready_ending m (Some c) (last.Doubled x) k true end e r h = (refl, refl)
+ready_ending m None last.Finished k true end e r h = absurd (no_fault e)
+ready_ending m _ _ k true end e r h = absurd (no_fault e)
 
-cut_ending_is : (n b : List Token) (o : Option ℕ) (t : LastMove) (k : ℕ) (c : Cut) (q : Bool) (end : State) → and_then (run (state n b o t k) (cut_ending c)) (λ u. run u (bracket_ending q)) ≡ Ok end → cut_of end.last ≡ Whole → end.bracket ≡ None → (cut_of t ≡ c) × (is_open o ≡ q)
+cut_ending_is : (m : Moves) (o : Option ℕ) (t : LastMove) (k : ℕ) (c : Cut) (q : Bool) (end : State) → and_then (run (state m o t k) (cut_ending c)) (λ u. run u (bracket_ending q)) ≡ Ok end → cut_of end.last ≡ Whole → end.bracket ≡ None → (cut_of t ≡ c) × (is_open o ≡ q)
 unfolding step_within symbol_of state
-cut_ending_is n b o t k Whole q end e r h = ready_ending n b o t k q end e r h
-cut_ending_is n b o (last.SecondByte t) k LacksOne q end e r h = (refl, done_ending _ _ o _ q end e h)
-cut_ending_is n b o (last.FirstByte t) k LacksTwo q end e r h = (refl, done_ending _ _ o _ q end e h)
-cut_ending_is n b o _ k _ q end e r h = absurd (no_fault e)
+cut_ending_is m o t k Whole q end e r h = ready_ending m o t k q end e r h
+cut_ending_is m o (last.SecondByte t) k LacksOne q end e r h = (refl, (ready_ending _ o last.Finished _ q end e r h).1)
+cut_ending_is m o (last.FirstByte t) k LacksTwo q end e r h = (refl, (ready_ending _ o last.Finished _ q end e r h).1)
+cut_ending_is m o _ k _ q end e r h = absurd (no_fault e)
 
 one_ending : (bytes : List ℕ) (s : State) (c : Cut) (q : Bool) → run start bytes ≡ Ok s → Continues bytes c q → (cut_of s.last ≡ c) × (is_open s.bracket ≡ q)
 unfolding state
 one_ending bytes s c q e line =
-    let d = completes 256 _ _ _ line.spells line.fits in
+    let d = read_line_of _ line in
     let x : and_then (run s (cut_ending c)) (λ u. run u (bracket_ending q)) ≡ Ok d.end = sym (run-append 256 start (bytes ++ cut_ending c) (bracket_ending q) ∙ ap (λ r. and_then r (λ u. run u (bracket_ending q))) (run_after 256 start s bytes (cut_ending c) e)) ∙ d.ran in
-    cut_ending_is s.normal s.bracketed s.bracket s.last s.fed c q d.end x d.ready d.bracket
+    cut_ending_is s.moves s.bracket s.last s.fed c q d.end x d.ready d.bracket
 
 -- Where bytes stop, the run has the fault of the byte there.
 stopped : (bytes : List ℕ) (column : ℕ) (c : Cut) (q : Bool) (byte : ℕ) → StopsAt bytes column c q byte → run start bytes ≡ Err (fault_at c q byte column)

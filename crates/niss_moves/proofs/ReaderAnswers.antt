@@ -1,5 +1,5 @@
 -- What the reader's answers mean.
-use Rattle.std.proofs.Common.{◌≡◌, ℕ, ◌+◌, ◌-◌, ◌<◌, ◌≤◌, ◌↔◌, refl, ap, sym, ◌∙◌, subst, List, [], ◌∷◌, ◌++◌, length, append_assoc, append-nil, Option, None, Some, Result, Ok, Err, IsOk, IfErr, arith, inl, inr, length-append}
+use Rattle.std.proofs.Common.{◌≡◌, ℕ, ◌+◌, ◌-◌, ◌≤◌, ◌↔◌, refl, ap, sym, ◌∙◌, subst, List, [], ◌∷◌, ◌++◌, length, append_assoc, append-nil, Option, None, Some, Result, Ok, Err, IsOk, IfErr, arith, inl, inr, length-append}
 use Rattle.std.specs.Result.{result_err}
 use Rattle.niss_moves.specs.Line.{Moves, Spells, IsLine}
 use Rattle.niss_moves.specs.Faults.{Whole, LacksOne, LacksTwo, cut_length, cut_ending, bracket_ending, CanContinue, Stops, Faults}
@@ -45,73 +45,74 @@ pub line_is : (bytes : List ℕ) (r : Result Moves ReadFault) → read_line byte
 unfolding read_line
 line_is bytes r e = subst (Final bytes) e (final bytes (run start bytes) refl)
 
-pub spelled_line : (bytes : List ℕ) (n b : List Token) → Spells bytes n b → length n + length b ≤ 256 → read_line bytes ≡ Ok (record { normal = n; bracketed = b })
+pub spelled_line : (bytes : List ℕ) (m : Moves) → Spells bytes m.normal m.bracketed → length m.normal + length m.bracketed ≤ 256 → read_line bytes ≡ Ok m
 unfolding read_line
-spelled_line bytes n b h fits =
-    let d = completes 256 bytes n b h fits in
-    ap ended d.ran ∙ ended_whole d.end d.end.last d.ready ∙ ap (λ o. ended_in o d.end) d.bracket ∙ (λ i. Ok (record { normal = d.normal i; bracketed = d.bracketed i }))
+spelled_line bytes m h fits =
+    let d = completes 256 bytes m h fits in
+    ap ended d.ran ∙ ended_whole d.end d.end.last d.ready ∙ ap (λ o. ended_in o d.end) d.bracket ∙ ap Ok d.moves
 
 pub no_line : (bytes : List ℕ) (f : ReadFault) → read_line bytes ≡ Err f → IsLine bytes → ⊥
-no_line bytes f e line = let h = spelled_line bytes line.normal line.bracketed line.spells line.fits in cc
+no_line bytes f e line = let h = spelled_line bytes (record { normal = line.normal; bracketed = line.bracketed }) line.spells line.fits in cc
 
 -- two readings are one
 pub one_reading : (bytes : List ℕ) (n b m c : List Token) → Spells bytes n b → Spells bytes m c → (n ≡ m) × (b ≡ c)
 one_reading bytes n b m c h k =
     let limit = length n + length b + (length m + length c) in
-    let x = completes limit bytes n b h (omega arith) in
-    let y = completes limit bytes m c k (omega arith) in
+    let x = completes limit bytes (record { normal = n; bracketed = b }) h (omega arith) in
+    let y = completes limit bytes (record { normal = m; bracketed = c }) k (omega arith) in
     let e : Ok x.end ≡ Ok y.end = sym x.ran ∙ y.ran in
     let q : x.end ≡ y.end = cc in
-    (sym x.normal ∙ ap (λ s. (settled s).normal) q ∙ y.normal, sym x.bracketed ∙ ap (λ s. (settled s).bracketed) q ∙ y.bracketed)
+    let same = sym x.moves ∙ ap (λ s. (settled s).moves) q ∙ y.moves in
+    (ap (λ (m : Moves). m.normal) same, ap (λ (m : Moves). m.bracketed) same)
 
 -- each state can be ended
 can_end : (s : State) → (m : Moves) × (answer_after (Ok s) (cut_ending (cut_of s.last) ++ bracket_ending (is_open s.bracket)) ≡ Ok m)
 unfolding step_within symbol_of state
-can_end s = by_last s.normal s.bracketed s.bracket s.last s.fed
+can_end s = by_last s.moves s.bracket s.last s.fed
   where
-    by_last : (n b : List Token) (o : Option ℕ) (t : LastMove) (k : ℕ) → (m : Moves) × (answer_after (Ok (state n b o t k)) (cut_ending (cut_of t) ++ bracket_ending (is_open o)) ≡ Ok m)
-    by_last n b None last.Finished k = (_, refl)
-    by_last n b None _ k = (_, refl)
-    by_last n b (Some c) last.Finished k = (_, refl)
-    by_last n b (Some c) _ k = (_, refl)
+    by_last : (n : Moves) (o : Option ℕ) (t : LastMove) (k : ℕ) → (m : Moves) × (answer_after (Ok (state n o t k)) (cut_ending (cut_of t) ++ bracket_ending (is_open o)) ≡ Ok m)
+    by_last n None last.Finished k = (_, refl)
+    by_last n None _ k = (_, refl)
+    by_last n (Some c) last.Finished k = (_, refl)
+    by_last n (Some c) _ k = (_, refl)
 
 -- The outcome is that of these bytes, whatever bytes follow.
 abbrev pub IsOutcome : Result State ReadFault → List ℕ → Type 0
 IsOutcome r bytes = (more : List ℕ) → answer_after r more ≡ read_line (bytes ++ more)
 
-pub outcome_of_run : (r next : Result State ReadFault) (bytes xs : List ℕ) → next ≡ and_then r (λ s. run s xs) → IsOutcome r bytes → IsOutcome next (bytes ++ xs)
-outcome_of_run r next bytes xs e h more =
-    ap (λ r. answer_after r more) e ∙ ap ended (sym (and_then-assoc r (λ s. run s xs) (λ s. run s more) (λ s. run s (xs ++ more)) (λ t. run-append 256 t xs more))) ∙ h (xs ++ more) ∙ ap read_line (sym (append_assoc bytes xs more))
-
 no_outcome : (f : ReadFault) (bytes : List ℕ) → IsOutcome (Err f) bytes → CanContinue bytes → ⊥
 no_outcome f bytes h k =
     no_line _ f (ap read_line (append_assoc bytes (cut_ending k.0) (bracket_ending k.1)) ∙ sym (h (cut_ending k.0 ++ bracket_ending k.1))) k.2
 
-taken_iff : (r : Result State ReadFault) (bytes : List ℕ) → IsOutcome r bytes → IsOk (answer r) ↔ CanContinue bytes
-taken_iff (Ok s) bytes h =
+-- A byte is taken where a line can go on, and else is where it stops.
+outcome_means : (r : Result State ReadFault) (bytes : List ℕ) → IsOutcome r bytes → (IsOk (answer r) ↔ CanContinue bytes) × IfErr (answer r) (λ f. Stops bytes f)
+outcome_means (Ok s) bytes h =
     let e = can_end s in
     let q : read_line (bytes ++ cut_ending (cut_of s.last) ++ bracket_ending (is_open s.bracket)) ≡ Ok e.0 = ap read_line (append_assoc bytes (cut_ending (cut_of s.last)) (bracket_ending (is_open s.bracket))) ∙ sym (h _) ∙ e.1 in
     let line = line_is _ (Ok e.0) q in
-    (λ _. (cut_of s.last, is_open s.bracket, record { normal = e.0.normal; bracketed = e.0.bracketed; spells = line.0; fits = line.1 }), λ _. refl)
-taken_iff (Err f) bytes h = (λ k. absurd (cc), λ k. absurd (no_outcome f bytes h k))
+    ((λ _. (cut_of s.last, is_open s.bracket, record { normal = e.0.normal; bracketed = e.0.bracketed; spells = line.0; fits = line.1 }), λ _. refl), tt)
+outcome_means (Err f) bytes h =
+    let faults = line_is bytes (Err f) (ap read_line (sym (append-nil bytes)) ∙ sym (h [])) in
+    ((λ k. absurd (cc), λ k. absurd (no_outcome f bytes h k)), elim faults [ inl s ↦ s | inr l ↦ absurd (no_outcome f bytes h (lacks_continue bytes f l)) ])
 
-refused_stops : (r : Result State ReadFault) (bytes : List ℕ) → IsOutcome r bytes → IfErr (answer r) (λ f. Stops bytes f)
-refused_stops (Ok s) bytes h = tt
-refused_stops (Err f) bytes h =
-    elim (line_is bytes (Err f) (ap read_line (sym (append-nil bytes)) ∙ sym (h []))) [
-      | inl s ↦ s
-      | inr l ↦ absurd (no_outcome f bytes h (lacks_continue bytes f l))
-    ]
-
--- what a reader answers at the end
-pub ended_end : (r : Reader) (o : Option ReadFault) → r.fault ≡ o → ended (state_or o r.so_far) ≡ line_with r []
+pub answer_means : (r : Reader) (result : Result (Unit {0}) ReadFault) (bytes : List ℕ) → result ≡ answer (state_or r.fault r.so_far) → IsFed r bytes → (IsOk result ↔ CanContinue bytes) × IfErr result (λ f. Stops bytes f)
 unfolding line_with
-ended_end r None e = ap (λ o. answer_after (state_or o r.so_far) []) (sym e)
-ended_end r _ e = ap (λ o. answer_after (state_or o r.so_far) []) (sym e)
+answer_means r result bytes e h =
+    subst (λ (x : Result (Unit {0}) ReadFault). (IsOk x ↔ CanContinue bytes) × IfErr x (λ f. Stops bytes f)) (sym e) (outcome_means (state_or r.fault r.so_far) bytes h.line)
 
--- That is the line of what was fed.
+-- what a reader answers at the end: the line of what was fed
+pub ended_well : (r : Reader) → r.fault ≡ None → line_with r [] ≡ ended (Ok r.so_far)
+unfolding line_with
+ended_well r e = ap (λ o. answer_after (state_or o r.so_far) []) e
+
+pub ended_ill : (r : Reader) (f : ReadFault) → r.fault ≡ Some f → line_with r [] ≡ Err f
+unfolding line_with
+ended_ill r f e = ap (λ o. answer_after (state_or o r.so_far) []) e
+
 pub line_of_fed : (r : Reader) (bytes : List ℕ) → IsFed r bytes → line_with r [] ≡ read_line bytes
 line_of_fed r bytes h = h.line [] ∙ ap read_line (append-nil bytes)
+
+pub ruleset at_the_end = (ended_well, ended_ill)
 
 -- bytes fed to a reader
 pub record IsFedOn (old : Reader) (xs : List ℕ) (new : Reader) : Type 0 where
@@ -144,22 +145,17 @@ pub fed_moves : (fault : Option ReadFault) (p q : State) (xs : List ℕ) → fau
 fed_moves fault p q xs none k r =
     record { fed = k; outcome = subst (λ (o : Option ReadFault). state_or o q ≡ and_then (state_or o p) (λ s. run s xs)) (sym none) (sym r) }
 
-outcome_on : (old new : Reader) (xs bytes : List ℕ) → IsFedOn old xs new → IsFed old bytes → IsOutcome (state_or new.fault new.so_far) (bytes ++ xs)
-unfolding line_with
-outcome_on old new xs bytes h k = outcome_of_run (state_or old.fault old.so_far) (state_or new.fault new.so_far) bytes xs h.outcome k.line
-
 pub is_fed_on : (old new : Reader) (xs bytes : List ℕ) → IsFedOn old xs new → IsFed old bytes → IsFed new (bytes ++ xs)
 unfolding line_with
 is_fed_on old new xs bytes h k =
-    record { fed = (let e = k.fed in omega (arith, h.fed, length-append bytes xs)); line = outcome_on old new xs bytes h k }
-
-pub fed_taken : (old new : Reader) (byte : ℕ) (result : Result (Unit {0}) ReadFault) (bytes : List ℕ) → IsAnswered old byte new result → IsFed old bytes → IsOk result ↔ CanContinue (bytes ++ byte ∷ [])
-fed_taken old new byte result bytes h k =
-    subst (λ (x : Result (Unit {0}) ReadFault). IsOk x ↔ CanContinue (bytes ++ byte ∷ [])) (sym h.answered) (taken_iff (state_or new.fault new.so_far) (bytes ++ byte ∷ []) (outcome_on old new (byte ∷ []) bytes h.on k))
-
-pub fed_stops : (old new : Reader) (byte : ℕ) (result : Result (Unit {0}) ReadFault) (bytes : List ℕ) → IsAnswered old byte new result → IsFed old bytes → IfErr result (λ f. Stops (bytes ++ byte ∷ []) f)
-fed_stops old new byte result bytes h k =
-    subst (λ (x : Result (Unit {0}) ReadFault). IfErr x (λ f. Stops (bytes ++ byte ∷ []) f)) (sym h.answered) (refused_stops (state_or new.fault new.so_far) (bytes ++ byte ∷ []) (outcome_on old new (byte ∷ []) bytes h.on k))
+    let before = state_or old.fault old.so_far in
+    record {
+      fed = let e = k.fed in omega (arith, h.fed, length-append bytes xs);
+      line = λ more.
+          ap (λ r. answer_after r more) h.outcome
+          ∙ ap ended (sym (and_then-assoc before (λ s. run s xs) (λ s. run s more) (λ s. run s (xs ++ more)) (λ t. run-append 256 t xs more)))
+          ∙ k.line (xs ++ more) ∙ ap read_line (sym (append_assoc bytes xs more));
+    }
 
 pub new_fed : (s : State) → s ≡ start → IsFed (reader None s) []
 unfolding line_with read_line

@@ -29,13 +29,9 @@ unfolding symbol_of
 symbol_of_blank Space = refl
 symbol_of_blank _ = refl
 
-pub symbol_of_open : symbol_of 40 ≡ symbol.Open
+pub symbol_of_brackets : (symbol_of 40 ≡ symbol.Open) × (symbol_of 41 ≡ symbol.Close)
 unfolding symbol_of
-symbol_of_open = refl
-
-pub symbol_of_close : symbol_of 41 ≡ symbol.Close
-unfolding symbol_of
-symbol_of_close = refl
+symbol_of_brackets = (refl, refl)
 
 pub first_symbol : (b : Base) (byte : ℕ) (more : List ℕ) → base_bytes b ≡ byte ∷ more → symbol_of byte ≡ symbol.Base (letter b)
 first_symbol b byte more e = ap (λ xs. symbol_of (get_or xs 0 0)) (sym e) ∙ symbol_of_letter b

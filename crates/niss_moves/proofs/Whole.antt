@@ -3,17 +3,18 @@ use Rattle.std.proofs.Common.{◌≡◌, ℕ, ◌+◌, ◌-◌, ◌<◌, ◌≤�
 use Rattle.std.proofs.lemmas.List.{take-append-le, take-append-drop}
 use Rattle.std.specs.List.{list_all}
 use Rattle.std.proofs.lemmas.List.Folds.{list_all-append}
+use Rattle.std.proofs.lemmas.List.Sums.{AllPass-from_list_all, list_all-from_AllPass}
 use Rattle.std.proofs.Math.Seq.{take-append_seam, take-append-add, get_or-append_seam}
-use Rattle.niss_moves.specs.Line.{Gap, Spelled, piece_bytes, Piece, item_bytes, Spells, IsLine}
+use Rattle.niss_moves.specs.Line.{Moves, Gap, Spelled, piece_bytes, Piece, item_bytes, Spells, IsLine}
 use Rattle.niss_moves.specs.Faults.{has_no_bracket, Cut, Whole, cut_ending, cut_length, bracket_ending, Continues, CanContinue, StopsAt, EndsEarly, OpensAt, Stops, Lacks}
 use Rattle.niss_moves.specs.Machine.{State, start, settled, symbol_of, step, and_then, run}
 use Rattle.niss_moves.specs.Notation.{base_bytes, Plain, Suffix, Prime, TwoPrime, suffix_bytes, Space}
-use Rattle.niss_moves.specs.Names.{Token, Base, Symbol, ReadFault, NotAMove, Unclosed}
+use Rattle.niss_moves.specs.Names.{U, Rl, M, Base, Symbol, ReadFault, NotAMove, Unclosed}
 use Rattle.niss_moves.specs.declared.base.Base.TheVariants as base
 use Rattle.niss_moves.specs.declared.symbol.Symbol.TheVariants as symbol
-use Rattle.niss_moves.proofs.Symbols.{IsSymbol, symbol_is, symbol_of_open, symbol_of_close, first_symbol}
-use Rattle.niss_moves.proofs.Finite.{every_face, at_face, every_slice, at_slice, every_axis, at_axis, and_both, and_left, and_right}
-use Rattle.niss_moves.proofs.Completes.{cut_of, run-append, run_after, completes}
+use Rattle.niss_moves.proofs.Symbols.{IsSymbol, symbol_is, symbol_of_brackets, first_symbol}
+use Rattle.niss_moves.proofs.Finite.{and_both, and_left}
+use Rattle.niss_moves.proofs.Completes.{cut_of, run-append, run_after, read_line_of}
 use Rattle.niss_moves.proofs.Sound.{WholeItems, Closed, Opened, front_close, Reads, reads_start, settled_front, whole_front, cut_fits, is_open, fault_by, fault_at, Outcome, step_means}
 
 -- the state after more bytes
@@ -32,19 +33,19 @@ pub reads_all : (bytes : List ℕ) (s : State) → run start bytes ≡ Ok s → 
 reads_all bytes s e = reads_run bytes [] start s reads_start e
 
 -- whole items spell a line
-front_spells : (bytes : List ℕ) (n b : List Token) → WholeItems None bytes n b → Spells bytes n b
-front_spells bytes n b (Closed items) = record { items = items; bytes_are = refl; normal_are = refl; bracketed_are = refl }
+front_spells : (bytes : List ℕ) (m : Moves) → WholeItems None bytes m → Spells bytes m.normal m.bracketed
+front_spells bytes m (Closed items) = record { items = items; bytes_are = refl; normal_are = refl; bracketed_are = refl }
 
-closed_front : (o : Option ℕ) (bytes : List ℕ) (n b : List Token) → WholeItems o bytes n b → WholeItems None (bytes ++ bracket_ending (is_open o)) n b
-closed_front None bytes n b h = subst (λ (x : List ℕ). WholeItems None x n b) (sym (append-nil bytes)) h
-closed_front (Some c) bytes n b h = front_close (Some c) c bytes n b refl h
+closed_front : (o : Option ℕ) (bytes : List ℕ) (m : Moves) → WholeItems o bytes m → WholeItems None (bytes ++ bracket_ending (is_open o)) m
+closed_front None bytes m h = subst (λ (x : List ℕ). WholeItems None x m) (sym (append-nil bytes)) h
+closed_front (Some c) bytes m h = front_close (Some c) c bytes m refl h
 
 pub continues : (s : State) (bytes : List ℕ) → Reads s bytes → Continues bytes (cut_of s.last) (is_open s.bracket)
 continues s bytes h =
     record {
-      normal = (settled s).normal;
-      bracketed = (settled s).bracketed;
-      spells = front_spells _ _ _ (closed_front s.bracket _ _ _ (settled_front s bytes h));
+      normal = (settled s).moves.normal;
+      bracketed = (settled s).moves.bracketed;
+      spells = front_spells _ _ (closed_front s.bracket _ _ (settled_front s bytes h));
       fits = h.room;
     }
 
@@ -62,7 +63,7 @@ run_front a b s t e = front_ok (run s a) (λ u. run u b) t (sym (run-append 256 
 pub continued_ok : (bytes : List ℕ) → CanContinue bytes → (s : State) × (run start bytes ≡ Ok s)
 continued_ok bytes h =
     let line = h.2 in
-    let r = completes 256 _ _ _ line.spells line.fits in
+    let r = read_line_of _ line in
     let one = run_front (bytes ++ cut_ending h.0) (bracket_ending h.1) start r.end r.ran in
     run_front bytes (cut_ending h.0) start one.0 one.1
 
@@ -102,7 +103,7 @@ fault_stops Whole o byte column bytes lt h = by_symbol (symbol_of byte) o refl (
     by_symbol symbol.Close false e i h = subst (λ (b : ℕ). StopsAt bytes column Whole false b) i h
     by_symbol (symbol.Base b) o e i h = (byte, o, (b, [], i), h)
     by_symbol x o e i h =
-        inl (byte, o, h, λ k. subst₂ IsOther (sym e ∙ ap symbol_of k.0 ∙ symbol_of_open) k.1 tt, λ k. subst₂ IsOther (sym e ∙ ap symbol_of k.0 ∙ symbol_of_close) k.1 tt, λ k. subst (λ (x : Symbol). IsOther x o) (sym e ∙ first_symbol k.0 byte k.1 k.2) tt)
+        inl (byte, o, h, λ k. subst₂ IsOther (sym e ∙ ap symbol_of k.0 ∙ symbol_of_brackets.0) k.1 tt, λ k. subst₂ IsOther (sym e ∙ ap symbol_of k.0 ∙ symbol_of_brackets.1) k.1 tt, λ k. subst (λ (x : Symbol). IsOther x o) (sym e ∙ first_symbol k.0 byte k.1 k.2) tt)
 fault_stops c o byte column bytes lt h =
     inr (byte, o, c, omega arith, subst (λ (x : ℕ). StopsAt bytes x c o byte) (omega arith) h)
 
@@ -127,14 +128,14 @@ pub run_stops : (bytes : List ℕ) (f : ReadFault) → run start bytes ≡ Err f
 run_stops bytes f e = stops_after bytes [] start f refl e
 
 -- the end of a line
-pub ends_whole : (bytes : List ℕ) (s : State) → run start bytes ≡ Ok s → cut_of s.last ≡ Whole → s.bracket ≡ None → Spells bytes (settled s).normal (settled s).bracketed
+pub ends_whole : (bytes : List ℕ) (s : State) → run start bytes ≡ Ok s → cut_of s.last ≡ Whole → s.bracket ≡ None → Spells bytes (settled s).moves.normal (settled s).moves.bracketed
 ends_whole bytes s e c o =
     let h = reads_all bytes s e in
-    front_spells _ _ _ (subst (λ (o : Option ℕ). WholeItems o bytes (settled s).normal (settled s).bracketed) o (whole_front s bytes c h))
+    front_spells _ _ (subst (λ (o : Option ℕ). WholeItems o bytes (settled s).moves) o (whole_front s bytes c h))
 
 pub line_ends : (bytes : List ℕ) (s : State) → run start bytes ≡ Ok s → IsLine bytes → (cut_of s.last ≡ Whole) × (s.bracket ≡ None)
 line_ends bytes s e h =
-    let r = completes 256 _ _ _ h.spells h.fits in
+    let r = read_line_of _ h in
     let q : r.end ≡ s = (let w : Ok r.end ≡ Ok s = sym r.ran ∙ e in cc) in
     (ap (λ t. cut_of t.last) (sym q) ∙ r.ready, ap (λ t. t.bracket) (sym q) ∙ r.bracket)
 
@@ -153,12 +154,12 @@ abbrev pub is_plain : ℕ → Bool
 is_plain b = not (b == 40 || b == 41) && not (b == 10)
 
 plain_base : (b : Base) → list_all is_plain (base_bytes b) ≡ true
-unfolding every_face every_slice every_axis
-plain_base (base.Face f) = at_face (λ f. list_all is_plain (base_bytes (base.Face f))) refl f
-plain_base (base.Wide f) = at_face (λ f. list_all is_plain (base_bytes (base.Wide f))) refl f
-plain_base (base.LowerCase f) = at_face (λ f. list_all is_plain (base_bytes (base.LowerCase f))) refl f
-plain_base (base.Slice l) = at_slice (λ l. list_all is_plain (base_bytes (base.Slice l))) refl l
-plain_base (base.Rotation a) = at_axis (λ a. list_all is_plain (base_bytes (base.Rotation a))) refl a
+plain_base (base.Face U) = refl
+plain_base (base.Wide U) = refl
+plain_base (base.LowerCase U) = refl
+plain_base (base.Slice M) = refl
+plain_base (base.Rotation Rl) = refl
+plain_base _ = refl
 
 plain_suffix : (s : Suffix) → list_all is_plain (suffix_bytes s) ≡ true
 plain_suffix (Prime Plain) = refl
@@ -173,17 +174,13 @@ plain_pieces (Spelled b s ∷ ps) =
     rw (list_all-append is_plain (base_bytes b ++ suffix_bytes s) (flat_map piece_bytes ps), list_all-append is_plain (base_bytes b) (suffix_bytes s))
     (and_both _ _ (and_both _ _ (plain_base b) (plain_suffix s)) (plain_pieces ps))
 
-plain_no_bracket : (bytes : List ℕ) → list_all is_plain bytes ≡ true → has_no_bracket bytes ≡ true
-plain_no_bracket [] e = refl
-plain_no_bracket (b ∷ bs) e = and_both _ _ (and_left _ _ (and_left _ _ e)) (plain_no_bracket bs (and_right (is_plain b) _ e))
-
-opens_front : (o : Option ℕ) (bytes : List ℕ) (n b : List Token) (c : ℕ) → WholeItems o bytes n b → o ≡ Some c → OpensAt bytes c
-opens_front o bytes n b c (Closed items) e = absurd (cc)
-opens_front o bytes n b c (Opened items ps) e =
-    (flat_map item_bytes items, flat_map piece_bytes ps, refl, plain_no_bracket (flat_map piece_bytes ps) (plain_pieces ps), (let k : c ≡ length (flat_map item_bytes items) + 1 = cc in k))
+opens_front : (o : Option ℕ) (bytes : List ℕ) (m : Moves) (c : ℕ) → WholeItems o bytes m → o ≡ Some c → OpensAt bytes c
+opens_front o bytes m c (Closed items) e = absurd (cc)
+opens_front o bytes m c (Opened items ps) e =
+    (flat_map item_bytes items, flat_map piece_bytes ps, refl, list_all-from_AllPass (λ b. not (b == 40 || b == 41)) (flat_map piece_bytes ps) (λ k d lt. and_left _ _ (AllPass-from_list_all is_plain (flat_map piece_bytes ps) (plain_pieces ps) k d lt)), (let k : c ≡ length (flat_map item_bytes items) + 1 = cc in k))
 
 pub opens_at : (bytes : List ℕ) (s : State) (c : ℕ) → cut_of s.last ≡ Whole → Reads s bytes → s.bracket ≡ Some c → OpensAt bytes c
-opens_at bytes s c w h o = opens_front s.bracket bytes _ _ c (whole_front s bytes w h) o
+opens_at bytes s c w h o = opens_front s.bracket bytes _ c (whole_front s bytes w h) o
 
 -- the faults of the end
 pub lacks_bracket : (bytes : List ℕ) (s : State) (c : ℕ) → run start bytes ≡ Ok s → cut_of s.last ≡ Whole → s.bracket ≡ Some c → Lacks bytes (Unclosed c)

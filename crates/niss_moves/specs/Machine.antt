@@ -33,31 +33,23 @@ symbol_of b = look_up bytes_of_a_line b
 
 -- what is read so far: the whole moves, the column of the open bracket, the last move as far as it goes
 pub record State : Type 0 where
-  pub normal : List Token
-  pub bracketed : List Token
+  pub moves : Moves
   pub bracket : Option ℕ
   pub last : LastMove
   pub fed : ℕ
 
 abbrev pub start : State
-start = record { normal = []; bracketed = []; bracket = None; last = last.Finished; fed = 0 }
+start = record { moves = record { normal = []; bracketed = [] }; bracket = None; last = last.Finished; fed = 0 }
 
-abbrev pub outside : Option ℕ → List Token → List Token → List Token
-outside None ts more = ts ++ more
-outside (Some c) ts more = ts
-
-abbrev pub inside : Option ℕ → List Token → List Token → List Token
-inside None ts more = ts
-inside (Some c) ts more = ts ++ more
+-- the moves with more of them, in the bracket where one is open
+abbrev pub with_more : Option ℕ → Moves → List Token → Moves
+with_more None m more = record m { normal = m.normal ++ more }
+with_more (Some c) m more = record m { bracketed = m.bracketed ++ more }
 
 -- the state with one more whole move, if there is one
 abbrev pub added : State → Option Token → State
 added s more =
-    record s {
-      normal = option_map_or (λ t. outside s.bracket s.normal (t ∷ [])) more s.normal;
-      bracketed = option_map_or (λ t. inside s.bracket s.bracketed (t ∷ [])) more s.bracketed;
-      last = last.Finished;
-    }
+    record s { moves = option_map_or (λ t. with_more s.bracket s.moves (t ∷ [])) more s.moves; last = last.Finished }
 
 -- the last move, if no more of it follows; no line asks for it after the first byte of U+2019 alone
 abbrev pub last_token : LastMove → Option Token
@@ -72,7 +64,7 @@ abbrev pub settled : State → State
 settled s = added s (last_token s.last)
 
 abbrev pub count : State → ℕ
-count s = length s.normal + length s.bracketed
+count s = length s.moves.normal + length s.moves.bracketed
 
 abbrev pub with_last : LastMove → State → State
 with_last l s = record s { last = l }
@@ -168,12 +160,8 @@ abbrev pub state_or : Option ReadFault → State → Result State ReadFault
 state_or None s = Ok s
 state_or (Some f) s = Err f
 
--- the moves that are read, without the last one where it isn't whole
-abbrev pub whole_moves : State → Moves
-whole_moves s = record { normal = s.normal; bracketed = s.bracketed }
-
 abbrev pub ended_in : Option ℕ → State → Result Moves ReadFault
-ended_in None s = Ok (whole_moves (settled s))
+ended_in None s = Ok (settled s).moves
 ended_in (Some c) s = Err (Unclosed c)
 
 abbrev pub ended_at : LastMove → State → Result Moves ReadFault

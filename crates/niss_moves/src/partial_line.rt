@@ -57,9 +57,9 @@ impl Model for PartialLine {
 
     ghost Value = { State };
 
-    ghost view = { λ p. record { normal = p.niss.normal; bracketed = p.niss.bracketed; bracket = p.bracket; last = p.last; fed = p.fed } };
+    ghost view = { λ p. record { moves = p.niss; bracket = p.bracket; last = p.last; fed = p.fed } };
 
-    ghost invariant = { λ p. (p.fed ≤ 16777216) × HasRoom (record { normal = p.niss.normal; bracketed = p.niss.bracketed; bracket = p.bracket; last = p.last; fed = p.fed }) };
+    ghost invariant = { λ p. (p.fed ≤ 16777216) × HasRoom (record { moves = p.niss; bracket = p.bracket; last = p.last; fed = p.fed }) };
 }
 
 impl PartialLine {
@@ -67,7 +67,7 @@ impl PartialLine {
     ghost use Rattle.niss_moves.specs.WholeMoves.{HasNoLineFeed};
     ghost use Rattle.niss_moves.specs.declared.fault.ReadFault.TheVariants.{NotAMove};
     ghost use Rattle.niss_moves.specs.Machine.{start, count, added, settled, opened, closed, begun, widened, doubled, primed};
-    ghost use Rattle.niss_moves.specs.Machine.{cut, step_at, step_by, step, run, whole_moves, ended, moves_if, IsStep};
+    ghost use Rattle.niss_moves.specs.Machine.{cut, step_at, step_by, step, run, ended, moves_if, IsStep};
 
     /// The line before its first byte.
     pub fn new() -> PartialLine
@@ -181,7 +181,7 @@ impl PartialLine {
 
     /// Ends the line: it is whole then, or has a fault.
     pub fn end(&mut self) -> Result<(), ReadFault>
-        ensures value { moves_if result (whole_moves self.new) ≡ ended (Ok self.old) }
+        ensures value { moves_if result self.new.moves ≡ ended (Ok self.old) }
         ensures again { ended (Ok self.new) ≡ ended (Ok self.old) }
         ensures fed { self.new.fed ≡ self.old.fed }
         ensures refused { OnErr result (self.new ≡ self.old) }
@@ -208,7 +208,7 @@ impl PartialLine {
 
     /// The moves of the line, once it is ended.
     pub fn moves(&self) -> &Niss
-        ensures { result.now ≡ whole_moves self.now }
+        ensures { result.now ≡ self.now.moves }
     {
         &self.niss
     }
