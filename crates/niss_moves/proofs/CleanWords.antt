@@ -1,8 +1,6 @@
 -- A cleaned line written out.
-use Rattle.niss_moves.proofs.Names.{◌≡◌, ℕ, refl, ap, sym, ◌∙◌, true, false, List, [], ◌∷◌, ◌++◌, length, map, ap₂, ◌==◌, inverse}
-use Rattle.niss_moves.proofs.Names.{word, with_word, with_words, cleaned_words, with_bracket}
-use Rattle.niss_moves.proofs.Names.{is_empty, Turn, Token, Rotation}
-use Rattle.std.proofs.lemmas.List.{map-append}
+use Rattle.niss_moves.proofs.Names.{◌≡◌, ℕ, refl, ap, sym, ◌∙◌, true, false, List, [], ◌∷◌, ◌++◌, length, ◌==◌, with_word, with_words}
+use Rattle.niss_moves.proofs.Names.{cleaned_words, with_bracket, is_empty, Turn, Rotation}
 
 with_words-append : (t : List ℕ) (a b : List (List ℕ)) → with_words t (a ++ b) ≡ with_words (with_words t a) b
 with_words-append t [] b = refl

@@ -1,12 +1,11 @@
 -- What is spelled is read.
 use Rattle.niss_moves.proofs.Names.{refl, ap, sym, ◌∙◌, append_assoc, append-nil, arith, length-append, ◌≡◌, ℕ, ◌+◌, ◌<◌, ◌≤◌, List, []}
-use Rattle.niss_moves.proofs.Names.{◌∷◌, ◌++◌, length, flat_map, Option, None, Some, Result, Ok, Err, cond, face_letter, base_bytes, token_of}
-use Rattle.niss_moves.proofs.Names.{Cut, Whole, LacksOne, LacksTwo, Plain, Typographic, Suffix, Nothing, Two}
-use Rattle.niss_moves.proofs.Names.{Prime, TwoPrime, suffix_bytes, suffix_power, Blank, blank_byte, Piece, Gap, Spelled, piece_bytes}
-use Rattle.niss_moves.proofs.Names.{piece_moves, Item, Outside, Bracket, item_bytes, item_normal, item_bracketed, Spells, IsLine, Moves, symbol_of}
-use Rattle.niss_moves.proofs.Names.{State, start, with_more, added, settled, opened, closed, count, with_last, fed_to, step_by}
-use Rattle.niss_moves.proofs.Names.{step_at, step_within, and_then, run_within, Face, Half, Counter, Token, Base, LastMove, ReadFault}
-use Rattle.niss_moves.proofs.Names.{TooLong}
+use Rattle.niss_moves.proofs.Names.{◌∷◌, ◌++◌, length, flat_map, Option, None, Some, Result, Ok, Err, cond, face_letter, base_bytes}
+use Rattle.niss_moves.proofs.Names.{token_of, cut_of, Whole, Plain, Typographic, Suffix, Nothing, Two, Prime, TwoPrime}
+use Rattle.niss_moves.proofs.Names.{suffix_bytes, suffix_power, Blank, blank_byte, Piece, Gap, Spelled, piece_bytes, piece_moves, Item}
+use Rattle.niss_moves.proofs.Names.{Outside, Bracket, item_bytes, item_normal, item_bracketed, Spells, IsLine, Moves, symbol_of, State}
+use Rattle.niss_moves.proofs.Names.{start, with_more, added, settled, opened, closed, count, with_last, fed_to, step_by, step_at}
+use Rattle.niss_moves.proofs.Names.{step_within, and_then, run_within, Face, Half, Counter, Token, Base, LastMove, ReadFault, TooLong}
 use Rattle.std.proofs.lemmas.Bool.{lt-ltb}
 use Rattle.niss_moves.proofs.Symbols.{symbol_of_letter, symbol_of_blank}
 use Rattle.niss_moves.specs.declared.base.Base.TheVariants as base
@@ -24,12 +23,6 @@ run-append limit s (x ∷ a) b =
 
 pub run_after : (limit : ℕ) → (s t : State) (a b : List ℕ) → run_within limit s a ≡ Ok t → run_within limit s (a ++ b) ≡ run_within limit t b
 run_after limit s t a b e = run-append limit s a b ∙ ap (λ r. and_then r (λ t. run_within limit t b)) e
-
--- the cut of U+2019 in which the bytes end
-abbrev pub cut_of : LastMove → Cut
-cut_of (last.FirstByte t) = LacksTwo
-cut_of (last.SecondByte t) = LacksOne
-cut_of _ = Whole
 
 -- a state by its parts
 unfoldable pub state : Moves → Option ℕ → LastMove → ℕ → State

@@ -1,6 +1,6 @@
 -- Words gathered after a text.
-use Rattle.niss_moves.proofs.Names.{refl, arith, ap, sym, ◌∙◌, append_assoc, append-nil, ◌≡◌, ℕ, ◌+◌, ◌≤◌, ◌<◌, if◌then◌else◌, map}
-use Rattle.niss_moves.proofs.Names.{Bool, true, false, cond, List, [], ◌∷◌, ◌++◌, length, take, drop, word, gap, with_word, with_words}
+use Rattle.niss_moves.proofs.Names.{refl, arith, ap, sym, ◌∙◌, append_assoc, append-nil, ◌≡◌, ℕ, ◌+◌, ◌≤◌, ◌<◌, if◌then◌else◌, map, Bool}
+use Rattle.niss_moves.proofs.Names.{true, false, cond, List, [], ◌∷◌, ◌++◌, length, take, drop, word, gap, with_word, with_words}
 use Rattle.niss_moves.proofs.Names.{with_gathered, turn_words, Turn, Token}
 use Rattle.std.proofs.Math.Seq.{take-append-add}
 use Rattle.std.proofs.lemmas.List.{take-append-le, length-take-le, drop-append-le}
@@ -16,10 +16,6 @@ pub copied : {X : Type 0} (a k n : ℕ) (xs ys : List X) → a ≤ length xs →
 copied a k n xs ys h l =
     ap (λ m. take (m + n) (put_mid a k xs ys)) (sym (length-take-le a xs h)) ∙ take-append-add (take a xs) (ys ++ post_of a k xs) n ∙ ap (λ t. take a xs ++ t) (take-append-le n ys (post_of a k xs) l)
 
--- the gap after a word
-gap_after_word : (old new : List ℕ) (t : Token) → new ≡ old ++ (32 ∷ word t) → gap new ≡ 32 ∷ []
-gap_after_word old new t e = ap gap (e ∙ sym (append_assoc old (32 ∷ []) (word t))) ∙ gap_word (old ++ 32 ∷ []) t
-
 -- the words of moves side by side, each after a space
 abbrev pub spaced : List Token → List ℕ
 spaced [] = []
@@ -29,7 +25,7 @@ after_word : (text : List ℕ) (ts : List Token) → gap text ≡ 32 ∷ [] → 
 after_word text [] g = append-nil text
 after_word text (t ∷ ts) g =
     let one : text ++ (32 ∷ word t) ≡ with_word text (word t) = sym (append_assoc text (32 ∷ []) (word t)) ∙ ap (λ x. (text ++ x) ++ word t) (sym g) in
-    sym (append_assoc text (32 ∷ word t) (spaced ts)) ∙ after_word (text ++ (32 ∷ word t)) ts (gap_after_word text _ t refl)
+    sym (append_assoc text (32 ∷ word t) (spaced ts)) ∙ after_word (text ++ (32 ∷ word t)) ts (ap gap (sym (append_assoc text (32 ∷ []) (word t))) ∙ gap_word (text ++ 32 ∷ []) t)
     ∙ ap (λ x. with_words x (map word ts)) one
 
 -- all words after a text, none of them written

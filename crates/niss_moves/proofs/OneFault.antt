@@ -1,15 +1,16 @@
 -- A line has one fault.
-use Rattle.niss_moves.proofs.Names.{refl, ap, sym, ◌∙◌, arith, inl, inr, ◌≡◌, ℕ, ◌+◌, ◌-◌, ◌<◌, Bool, true, false, List}
-use Rattle.niss_moves.proofs.Names.{[], ◌∷◌, ◌++◌, length, take, drop, Option, None, Some, Result, Ok, Err, suc, ◌==◌, ◌||◌, not}
-use Rattle.niss_moves.proofs.Names.{has_no_bracket, Cut, Whole, LacksOne, LacksTwo, cut_length, cut_ending, bracket_ending, Continues, CanContinue}
-use Rattle.niss_moves.proofs.Names.{BeginsBase, StopsAt, Stops, Lacks, Faults, symbol_of, State, start, step, step_within, and_then, run}
-use Rattle.niss_moves.proofs.Names.{read_line, ended, ended_at, ended_in, Moves, Symbol, LastMove, ReadFault, NotAMove, Nested, Unopened, Unclosed, TooLong}
+use Rattle.niss_moves.proofs.Names.{refl, ap, sym, ◌∙◌, arith, inl, inr, ◌≡◌, ℕ, ◌+◌, ◌-◌, ◌<◌, Bool, true, false, List, [], ◌∷◌, ◌++◌}
+use Rattle.niss_moves.proofs.Names.{length, take, drop, Option, None, Some, Result, Ok, Err, suc, ◌==◌, ◌||◌, not, has_no_bracket, Cut}
+use Rattle.niss_moves.proofs.Names.{Whole, LacksOne, LacksTwo, cut_length, cut_ending, bracket_ending, Continues, CanContinue, BeginsBase}
+use Rattle.niss_moves.proofs.Names.{StopsAt, Stops, Lacks, Faults, symbol_of, State, start, step, step_within, and_then, run, read_line}
+use Rattle.niss_moves.proofs.Names.{ended, ended_by, cut_of, is_some, ended_in, Moves, Symbol, LastMove, ReadFault, NotAMove, Nested, Unopened, Unclosed}
+use Rattle.niss_moves.proofs.Names.{TooLong}
 use Rattle.std.proofs.lemmas.List.{take-append-drop, take_more, length-take-le}
 use Rattle.niss_moves.specs.declared.partial_line.LastMove.TheVariants as last
 use Rattle.niss_moves.specs.declared.symbol.Symbol.TheVariants as symbol
 use Rattle.niss_moves.proofs.Finite.{and_right}
-use Rattle.niss_moves.proofs.Completes.{cut_of, state, run-append, run_after, read_line_of}
-use Rattle.niss_moves.proofs.Sound.{Reads, is_open, fault_by, fault_at, Outcome, step_means}
+use Rattle.niss_moves.proofs.Completes.{state, run-append, run_after, read_line_of}
+use Rattle.niss_moves.proofs.Sound.{Reads, fault_by, fault_at, Outcome, step_means}
 use Rattle.niss_moves.proofs.Symbols.{IsSymbol, symbol_is, first_symbol}
 use Rattle.niss_moves.proofs.Whole.{reads_all, can_continue, continued_ok, opens_at}
 
@@ -17,32 +18,29 @@ use Rattle.niss_moves.proofs.Whole.{reads_all, can_continue, continued_ok, opens
 no_fault : {f : ReadFault} {end : State} → ◌≡◌ {A = Result State ReadFault} (Err f) (Ok end) → ⊥
 no_fault e = cc
 
-none_open : {c : ℕ} → Some c ≡ None → ⊥
-none_open e = cc
-
 state_is : {s end : State} → ◌≡◌ {A = Result State ReadFault} (Ok s) (Ok end) → s ≡ end
 state_is e = cc
 
 -- with no cut apostrophe the ending is a bracket or nothing
-ready_ending : (m : Moves) (o : Option ℕ) (t : LastMove) (k : ℕ) (q : Bool) (end : State) → run (state m o t k) (bracket_ending q) ≡ Ok end → cut_of end.last ≡ Whole → end.bracket ≡ None → (cut_of t ≡ Whole) × (is_open o ≡ q)
+ready_ending : (m : Moves) (o : Option ℕ) (t : LastMove) (k : ℕ) (q : Bool) (end : State) → run (state m o t k) (bracket_ending q) ≡ Ok end → cut_of end.last ≡ Whole → end.bracket ≡ None → (cut_of t ≡ Whole) × (is_some o ≡ q)
 unfolding step_within symbol_of state
 ready_ending m o t k false end e r h =
     let x : state m o t k ≡ end = state_is e in
-    (ap (λ (s : State). cut_of s.last) x ∙ r, ap (λ (s : State). is_open s.bracket) x ∙ ap is_open h)
+    (ap (λ (s : State). cut_of s.last) x ∙ r, ap (λ (s : State). is_some s.bracket) x ∙ ap is_some h)
 ready_ending m (Some c) last.Finished k true end e r h = (refl, refl)
 ready_ending m (Some c) (last.Bare x) k true end e r h = (refl, refl)
 ready_ending m (Some c) (last.Doubled x) k true end e r h = (refl, refl)
 ready_ending m None last.Finished k true end e r h = absurd (no_fault e)
 ready_ending m _ _ k true end e r h = absurd (no_fault e)
 
-cut_ending_is : (m : Moves) (o : Option ℕ) (t : LastMove) (k : ℕ) (c : Cut) (q : Bool) (end : State) → and_then (run (state m o t k) (cut_ending c)) (λ u. run u (bracket_ending q)) ≡ Ok end → cut_of end.last ≡ Whole → end.bracket ≡ None → (cut_of t ≡ c) × (is_open o ≡ q)
+cut_ending_is : (m : Moves) (o : Option ℕ) (t : LastMove) (k : ℕ) (c : Cut) (q : Bool) (end : State) → and_then (run (state m o t k) (cut_ending c)) (λ u. run u (bracket_ending q)) ≡ Ok end → cut_of end.last ≡ Whole → end.bracket ≡ None → (cut_of t ≡ c) × (is_some o ≡ q)
 unfolding step_within symbol_of state
 cut_ending_is m o t k Whole q end e r h = ready_ending m o t k q end e r h
 cut_ending_is m o (last.SecondByte t) k LacksOne q end e r h = (refl, (ready_ending _ o last.Finished _ q end e r h).1)
 cut_ending_is m o (last.FirstByte t) k LacksTwo q end e r h = (refl, (ready_ending _ o last.Finished _ q end e r h).1)
 cut_ending_is m o _ k _ q end e r h = absurd (no_fault e)
 
-one_ending : (bytes : List ℕ) (s : State) (c : Cut) (q : Bool) → run start bytes ≡ Ok s → Continues bytes c q → (cut_of s.last ≡ c) × (is_open s.bracket ≡ q)
+one_ending : (bytes : List ℕ) (s : State) (c : Cut) (q : Bool) → run start bytes ≡ Ok s → Continues bytes c q → (cut_of s.last ≡ c) × (is_some s.bracket ≡ q)
 unfolding state
 one_ending bytes s c q e line =
     let d = read_line_of _ line in
@@ -104,10 +102,11 @@ one_opening (x ∷ a) b [] d e p q =
 one_opening (x ∷ a) b (y ∷ c) d e p q =
     let t : a ++ 40 ∷ b ≡ c ++ 40 ∷ d = cc in ap suc (one_opening a b c d t p q)
 
-pub ended_whole : (s : State) (t : LastMove) → cut_of t ≡ Whole → ended_at t s ≡ ended_in s.bracket s
-ended_whole s (last.FirstByte t) e = absurd (cc)
-ended_whole s (last.SecondByte t) e = absurd (cc)
-ended_whole s _ e = refl
+-- what a cut at the end is a fault of
+cut_ended : (c : Cut) (s : State) (column : ℕ) → 0 < cut_length c → column + cut_length c ≡ s.fed + 1 → ended_by c s ≡ Err (NotAMove column)
+cut_ended Whole s column p e = absurd (omega (arith, p))
+cut_ended LacksOne s column p e = ap (λ n. Err (NotAMove n)) (omega (arith, e))
+cut_ended _ s column p e = ap (λ n. Err (NotAMove n)) (omega (arith, e))
 
 pub lacks_continue : (bytes : List ℕ) (f : ReadFault) → Lacks bytes f → CanContinue bytes
 lacks_continue bytes (NotAMove column) h = (h.1, h.0, h.3.ends_so)
@@ -118,20 +117,14 @@ lacks_ended : (bytes : List ℕ) (f : ReadFault) → Lacks bytes f → ended (ru
 lacks_ended bytes (NotAMove column) h =
     let w = continued_ok bytes (lacks_continue bytes (NotAMove column) h) in
     let one = one_ending bytes w.0 h.1 h.0 w.1 h.3.ends_so in
-    ap ended w.1 ∙ by_last w.0 w.0.last one.0 (reads_all bytes w.0 w.1)
-  where
-    by_last : (s : State) (t : LastMove) → cut_of t ≡ h.1 → Reads s bytes → ended_at t s ≡ Err (NotAMove column)
-    by_last s (last.FirstByte t) e r =
-        let l = ap cut_length e in ap (λ n. Err (NotAMove n)) (omega (arith, h.4, r.fed))
-    by_last s (last.SecondByte t) e r =
-        let l = ap cut_length e in ap (λ n. Err (NotAMove n)) (omega (arith, h.4, r.fed))
-    by_last s _ e r = absurd (let l = ap cut_length e in omega (arith, h.2))
+    let r = reads_all bytes w.0 w.1 in
+    ap ended w.1 ∙ ap (λ c. ended_by c w.0) one.0 ∙ cut_ended h.1 w.0 column h.2 (omega (arith, h.4, r.fed))
 lacks_ended bytes (Unclosed column) h =
     let w = continued_ok bytes (lacks_continue bytes (Unclosed column) h) in
     let one = one_ending bytes w.0 Whole true w.1 h.0.ends_so in
-    ap ended w.1 ∙ ended_whole w.0 w.0.last one.0 ∙ by_bracket w.0 w.0.bracket refl one.1 one.0 (reads_all bytes w.0 w.1)
+    ap ended w.1 ∙ ap (λ c. ended_by c w.0) one.0 ∙ by_bracket w.0 w.0.bracket refl one.1 one.0 (reads_all bytes w.0 w.1)
   where
-    by_bracket : (s : State) (o : Option ℕ) → s.bracket ≡ o → is_open o ≡ true → cut_of s.last ≡ Whole → Reads s bytes → ended_in o s ≡ Err (Unclosed column)
+    by_bracket : (s : State) (o : Option ℕ) → s.bracket ≡ o → is_some o ≡ true → cut_of s.last ≡ Whole → Reads s bytes → ended_in o s ≡ Err (Unclosed column)
     by_bracket s None b e k r = absurd (cc)
     by_bracket s (Some c) b e k r =
         let x = opens_at bytes s c k r b in

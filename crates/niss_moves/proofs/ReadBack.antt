@@ -1,10 +1,13 @@
 -- What is written is spelled.
-use Rattle.niss_moves.proofs.Names.{refl, ap, sym, ◌∙◌, append_assoc, append-nil, arith, length-append, ◌≡◌, ℕ, ◌-◌, List, [], ◌∷◌}
-use Rattle.niss_moves.proofs.Names.{◌++◌, length, map, flat_map, Some, slice_get, face_letter, base_bytes, Suffix, Nothing, Two, Prime}
-use Rattle.niss_moves.proofs.Names.{Plain, suffix_bytes, suffix_power, Space, Gap, Spelled, Item, Outside, item_bytes, item_normal}
-use Rattle.niss_moves.proofs.Names.{item_bracketed, Spells, word, power_bytes, gap, gap_after, with_word, with_words, Face, U, Power}
-use Rattle.niss_moves.proofs.Names.{Quarter, Half, Counter, Rl, M, Token, Base, token_of, slice_letter, rotation_letter}
+use Rattle.niss_moves.proofs.Names.{refl, ap, sym, ◌∙◌, eqb, zero, suc, ◌+◌, ◌<◌, true, append_assoc, append-nil, arith, length-append, ◌≡◌, ℕ, ◌-◌}
+use Rattle.niss_moves.proofs.Names.{List, [], ◌∷◌, ◌++◌, length, map, flat_map, slice_get, face_letter, base_bytes, Suffix, Nothing, Two}
+use Rattle.niss_moves.proofs.Names.{Prime, Plain, suffix_bytes, suffix_power, Space, Gap, Spelled, Item, Outside, item_bytes, item_normal}
+use Rattle.niss_moves.proofs.Names.{item_bracketed, Spells, word, power_bytes, gap, gap_after, with_word, with_words, Face, Power, Quarter}
+use Rattle.niss_moves.proofs.Names.{Half, Counter, Token, Base, token_of}
+use lib.Pointwise.{pointwise}
+use Rattle.std.specs.Cmp.Lexicographic.{bytes_decides}
 use Rattle.std.specs.List.{join_with_byte}
+use Rattle.niss_moves.proofs.Finite.{every_face, every_power, every_axis, every_slice, every_token, at_token}
 use Rattle.niss_moves.specs.declared.token.Token.TheVariants as token
 use Rattle.niss_moves.specs.declared.base.Base.TheVariants as base
 
@@ -45,32 +48,23 @@ item_move (token.Face t) = ap (λ p. token.Face (record t { power = p }) ∷ [])
 item_move t = ap (λ p. token_of (base_of t) p ∷ []) (power_is (power_of t))
 
 -- after a word stands a space
-gap_snoc : (a : List ℕ) (b : ℕ) → gap (a ++ b ∷ []) ≡ gap_after (Some b)
-gap_snoc a b =
-    let n : length (a ++ b ∷ []) - 1 ≡ length a = omega (arith, length-append a (b ∷ [])) in
-    ap gap_after (ap (slice_get (a ++ b ∷ [])) n ∙ last a)
-  where
-    last : (a : List ℕ) → slice_get (a ++ b ∷ []) (length a) ≡ Some b
-    last [] = refl
-    last (x ∷ a) = last a
+past : (a w : List ℕ) (k n : ℕ) → n ≡ length a + k → slice_get (a ++ w) n ≡ slice_get w k
+past [] w k n e = ap (slice_get w) (omega (arith, e))
+past (x ∷ a) w k zero e = absurd (omega (arith, e))
+past (x ∷ a) w k (suc n) e = past a w k n (omega (arith, e))
 
-gap_two : (a : List ℕ) (b : ℕ) (p : Power) → gap_after (Some b) ≡ 32 ∷ [] → gap (a ++ b ∷ power_bytes p) ≡ 32 ∷ []
-gap_two a b Quarter e = gap_snoc a b ∙ e
-gap_two a b Half e = ap gap (sym (append_assoc a (b ∷ []) (50 ∷ []))) ∙ gap_snoc (a ++ b ∷ []) 50
-gap_two a b Counter e = ap gap (sym (append_assoc a (b ∷ []) (39 ∷ []))) ∙ gap_snoc (a ++ b ∷ []) 39
+long_word : (t : Token) → 0 < length (word t)
+long_word (token.Face t) = omega arith
+long_word _ = omega arith
 
-letter_gap : (f : Face) → gap_after (Some (face_letter f)) ≡ 32 ∷ []
-letter_gap U = refl
-letter_gap _ = refl
+words_gap : every_token (λ t. pointwise eqb (gap (word t)) (32 ∷ [])) ≡ true
+unfolding every_token every_power every_face every_slice every_axis
+words_gap = refl
 
 pub gap_word : (a : List ℕ) (t : Token) → gap (a ++ word t) ≡ 32 ∷ []
-gap_word a (token.Face t) = gap_two a (face_letter t.face) t.power (letter_gap t.face)
-gap_word a (token.Wide f p) =
-    ap gap (sym (append_assoc a (face_letter f ∷ []) (119 ∷ power_bytes p))) ∙ gap_two (a ++ face_letter f ∷ []) 119 p refl
-gap_word a (token.Slice M p) = gap_two a 77 p refl
-gap_word a (token.Slice l p) = gap_two a (slice_letter l) p refl
-gap_word a (token.Rotation Rl p) = gap_two a 120 p refl
-gap_word a (token.Rotation x p) = gap_two a (rotation_letter x) p refl
+gap_word a t =
+    ap gap_after (past a (word t) (length (word t) - 1) (length (a ++ word t) - 1) (omega (arith, length-append a (word t), long_word t)))
+    ∙ (bytes_decides _ _).0 (at_token (λ t. pointwise eqb (gap (word t)) (32 ∷ [])) words_gap t)
 
 abbrev spaced : List Token → List Item
 spaced [] = []

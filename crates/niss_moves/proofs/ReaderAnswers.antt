@@ -1,16 +1,16 @@
 -- What the reader's answers mean.
-use Rattle.std.proofs.Common.{◌≡◌, ℕ, ◌+◌, ◌-◌, ◌≤◌, ◌↔◌, refl, ap, sym, ◌∙◌, subst, List, [], ◌∷◌, ◌++◌, length, append_assoc, append-nil, Option, None, Some, Result, Ok, Err, IsOk, IfErr, arith, inl, inr, length-append}
+use Rattle.std.proofs.Common.{◌≡◌, ℕ, ◌+◌, ◌-◌, ◌≤◌, ◌↔◌, refl, ap, sym, ◌∙◌, subst, List, [], ◌∷◌, ◌++◌, length, append_assoc, append-nil, Option, None, Some, is_some, Result, Ok, Err, IsOk, IfErr, arith, inl, inr, length-append}
 use Rattle.std.specs.Result.{result_err}
 use Rattle.niss_moves.specs.Line.{Moves, Spells, IsLine}
-use Rattle.niss_moves.specs.Faults.{Whole, LacksOne, LacksTwo, cut_length, cut_ending, bracket_ending, CanContinue, Stops, Faults}
-use Rattle.niss_moves.specs.Machine.{State, start, settled, step, step_within, symbol_of, and_then, run, ended, ended_at, ended_in, answer_after, state_or, IsStep}
+use Rattle.niss_moves.specs.Faults.{Cut, Whole, cut_length, cut_ending, bracket_ending, CanContinue, Stops, Faults}
+use Rattle.niss_moves.specs.Machine.{State, start, settled, step, step_within, symbol_of, and_then, run, ended, ended_by, ended_in, cut_of, answer_after, state_or, IsStep}
 use Rattle.niss_moves.specs.Reader.{Reader, IsFed, line_with, read_line}
 use Rattle.niss_moves.specs.Names.{Token, LastMove, ReadFault}
 use Rattle.niss_moves.specs.declared.partial_line.LastMove.TheVariants as last
-use Rattle.niss_moves.proofs.Completes.{cut_of, state, and_then-assoc, run-append, completes}
-use Rattle.niss_moves.proofs.Sound.{cut_fits, is_open}
+use Rattle.niss_moves.proofs.Completes.{state, and_then-assoc, run-append, completes}
+use Rattle.niss_moves.proofs.Sound.{cut_fits}
 use Rattle.niss_moves.proofs.Whole.{reads_all, run_stops, ends_whole, lacks_bracket, lacks_apostrophe}
-use Rattle.niss_moves.proofs.OneFault.{ended_whole, lacks_continue}
+use Rattle.niss_moves.proofs.OneFault.{lacks_continue}
 
 -- what a caller gets of an outcome
 abbrev pub answer : Result State ReadFault → Result (Unit {0}) ReadFault
@@ -24,21 +24,17 @@ Final bytes (Err f) = Faults bytes f
 
 final : (bytes : List ℕ) (r : Result State ReadFault) → r ≡ run start bytes → Final bytes (ended r)
 final bytes (Err f) e = inl (run_stops bytes f (sym e))
-final bytes (Ok s) e = by_last s.last refl
+final bytes (Ok s) e = by_cut (cut_of s.last) refl
   where
     by_bracket : (o : Option ℕ) → cut_of s.last ≡ Whole → s.bracket ≡ o → Final bytes (ended_in o s)
     by_bracket None w o = (ends_whole bytes s (sym e) w o, (reads_all bytes s (sym e)).room)
     by_bracket (Some c) w o = inr (lacks_bracket bytes s c (sym e) w o)
 
-    by_last : (t : LastMove) → s.last ≡ t → Final bytes (ended_at t s)
-    by_last (last.FirstByte x) t =
+    by_cut : (c : Cut) → cut_of s.last ≡ c → Final bytes (ended_by c s)
+    by_cut Whole w = by_bracket s.bracket w refl
+    by_cut c w =
         let h = reads_all bytes s (sym e) in
-        inr (lacks_apostrophe bytes s LacksTwo s.fed (sym e) (ap cut_of t) (omega arith) (omega (arith, h.fed)))
-    by_last (last.SecondByte x) t =
-        let h = reads_all bytes s (sym e) in
-        let long = subst (λ (x : LastMove). cut_length (cut_of x) ≤ length bytes) t (cut_fits s bytes h) in
-        inr (lacks_apostrophe bytes s LacksOne (s.fed - 1) (sym e) (ap cut_of t) (omega arith) (omega (arith, h.fed)))
-    by_last _ t = by_bracket s.bracket (ap cut_of t) refl
+        inr (lacks_apostrophe bytes s c (s.fed - (cut_length c - 1)) (sym e) w (omega arith) (omega (arith, h.fed, cut_fits s bytes h, ap cut_length w)))
 
 -- what the answer for all bytes says
 pub line_is : (bytes : List ℕ) (r : Result Moves ReadFault) → read_line bytes ≡ r → Final bytes r
@@ -49,7 +45,7 @@ pub spelled_line : (bytes : List ℕ) (m : Moves) → Spells bytes m.normal m.br
 unfolding read_line
 spelled_line bytes m h fits =
     let d = completes 256 bytes m h fits in
-    ap ended d.ran ∙ ended_whole d.end d.end.last d.ready ∙ ap (λ o. ended_in o d.end) d.bracket ∙ ap Ok d.moves
+    ap ended d.ran ∙ ap (λ c. ended_by c d.end) d.ready ∙ ap (λ o. ended_in o d.end) d.bracket ∙ ap Ok d.moves
 
 pub no_line : (bytes : List ℕ) (f : ReadFault) → read_line bytes ≡ Err f → IsLine bytes → ⊥
 no_line bytes f e line = let h = spelled_line bytes (record { normal = line.normal; bracketed = line.bracketed }) line.spells line.fits in cc
@@ -66,11 +62,11 @@ one_reading bytes n b m c h k =
     (ap (λ (m : Moves). m.normal) same, ap (λ (m : Moves). m.bracketed) same)
 
 -- each state can be ended
-can_end : (s : State) → (m : Moves) × (answer_after (Ok s) (cut_ending (cut_of s.last) ++ bracket_ending (is_open s.bracket)) ≡ Ok m)
+can_end : (s : State) → (m : Moves) × (answer_after (Ok s) (cut_ending (cut_of s.last) ++ bracket_ending (is_some s.bracket)) ≡ Ok m)
 unfolding step_within symbol_of state
 can_end s = by_last s.moves s.bracket s.last s.fed
   where
-    by_last : (n : Moves) (o : Option ℕ) (t : LastMove) (k : ℕ) → (m : Moves) × (answer_after (Ok (state n o t k)) (cut_ending (cut_of t) ++ bracket_ending (is_open o)) ≡ Ok m)
+    by_last : (n : Moves) (o : Option ℕ) (t : LastMove) (k : ℕ) → (m : Moves) × (answer_after (Ok (state n o t k)) (cut_ending (cut_of t) ++ bracket_ending (is_some o)) ≡ Ok m)
     by_last n None last.Finished k = (_, refl)
     by_last n None _ k = (_, refl)
     by_last n (Some c) last.Finished k = (_, refl)
@@ -88,9 +84,9 @@ no_outcome f bytes h k =
 outcome_means : (r : Result State ReadFault) (bytes : List ℕ) → IsOutcome r bytes → (IsOk (answer r) ↔ CanContinue bytes) × IfErr (answer r) (λ f. Stops bytes f)
 outcome_means (Ok s) bytes h =
     let e = can_end s in
-    let q : read_line (bytes ++ cut_ending (cut_of s.last) ++ bracket_ending (is_open s.bracket)) ≡ Ok e.0 = ap read_line (append_assoc bytes (cut_ending (cut_of s.last)) (bracket_ending (is_open s.bracket))) ∙ sym (h _) ∙ e.1 in
+    let q : read_line (bytes ++ cut_ending (cut_of s.last) ++ bracket_ending (is_some s.bracket)) ≡ Ok e.0 = ap read_line (append_assoc bytes (cut_ending (cut_of s.last)) (bracket_ending (is_some s.bracket))) ∙ sym (h _) ∙ e.1 in
     let line = line_is _ (Ok e.0) q in
-    ((λ _. (cut_of s.last, is_open s.bracket, record { normal = e.0.normal; bracketed = e.0.bracketed; spells = line.0; fits = line.1 }), λ _. refl), tt)
+    ((λ _. (cut_of s.last, is_some s.bracket, record { normal = e.0.normal; bracketed = e.0.bracketed; spells = line.0; fits = line.1 }), λ _. refl), tt)
 outcome_means (Err f) bytes h =
     let faults = line_is bytes (Err f) (ap read_line (sym (append-nil bytes)) ∙ sym (h [])) in
     ((λ k. absurd (cc), λ k. absurd (no_outcome f bytes h k)), elim faults [ inl s ↦ s | inr l ↦ absurd (no_outcome f bytes h (lacks_continue bytes f l)) ])
@@ -128,14 +124,11 @@ pub record IsAnswered (old : Reader) (byte : ℕ) (new : Reader) (result : Resul
 abbrev pub reader : Option ReadFault → State → Reader
 reader fault line = record { fed = line.fed; fault = fault; so_far = line }
 
-at_ok : (p q : State) (byte : ℕ) (r : Result (Unit {0}) ReadFault) → IsStep (λ s. step s byte) p r q → q.fed ≡ p.fed + 1 → IsAnswered (reader None p) byte (reader (result_err r) q) r
-at_ok p q byte (Ok u) e k =
-    record { on = record { fed = k; outcome = sym (ap (λ r. and_then r (λ s. Ok s)) e) }; answered = refl }
-at_ok p q byte (Err f) e k =
-    record { on = record { fed = k; outcome = sym (ap (λ r. and_then r (λ s. Ok s)) e) }; answered = refl }
-
 pub fed_on : (fault next : Option ReadFault) (p q t : State) (byte : ℕ) (result r : Result (Unit {0}) ReadFault) → fault ≡ None → IsStep (λ s. step s byte) p r t → t.fed ≡ p.fed + 1 → result ≡ r → next ≡ result_err result → q ≡ t → IsAnswered (reader fault p) byte (reader next q) result
-fed_on fault next p q t byte result r none h counts er en eq = rw (none, en, er, eq) (at_ok p t byte r h counts)
+fed_on fault next p q t byte result (Ok u) none h counts er en eq =
+    rw (none, en, er, eq) (record { on = record { fed = counts; outcome = sym (ap (λ r. and_then r (λ s. Ok s)) h) }; answered = refl })
+fed_on fault next p q t byte result r none h counts er en eq =
+    rw (none, en, er, eq) (record { on = record { fed = counts; outcome = sym (ap (λ r. and_then r (λ s. Ok s)) h) }; answered = refl })
 
 pub fed_again : (fault next : Option ReadFault) (p q t : State) (byte : ℕ) (result : Result (Unit {0}) ReadFault) (f : ReadFault) → fault ≡ Some f → t.fed ≡ p.fed + 1 → result ≡ Err f → next ≡ result_err result → q ≡ t → IsAnswered (reader fault p) byte (reader next q) result
 fed_again fault next p q t byte result f some counts er en eq =

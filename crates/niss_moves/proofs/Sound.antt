@@ -1,17 +1,17 @@
 -- What is read is spelled.
-use Rattle.std.proofs.Common.{◌≡◌, ℕ, ◌+◌, ◌-◌, ◌≤◌, Bool, true, false, cond, nat_lt, eqb, refl, ap, sym, ◌∙◌, subst, subst₂, List, [], ◌∷◌, ◌++◌, length, flat_map, append_assoc, append-nil, Option, None, Some, Result, Ok, Err, arith, length-append}
+use Rattle.std.proofs.Common.{◌≡◌, ℕ, ◌+◌, ◌-◌, ◌≤◌, Bool, true, false, cond, nat_lt, eqb, refl, ap, sym, ◌∙◌, subst, subst₂, List, [], ◌∷◌, ◌++◌, length, flat_map, append_assoc, append-nil, Option, None, Some, is_some, Result, Ok, Err, arith, length-append}
 use Rattle.std.proofs.lemmas.Bool.{ltb-true, eqb-true}
 use Rattle.std.proofs.Math.Path.{subst₃}
 use Rattle.std.proofs.lemmas.List.Concat.{flat_map-append}
 use Rattle.niss_moves.specs.Notation.{token_of, base_bytes, Typographic, Plain, Nothing, Two, Prime, TwoPrime, blank_byte}
 use Rattle.niss_moves.specs.Line.{Moves, Piece, Gap, Spelled, piece_bytes, piece_moves, Item, Outside, Bracket, item_bytes, item_normal, item_bracketed}
 use Rattle.niss_moves.specs.Faults.{Cut, Whole, LacksOne, LacksTwo, cut_ending, cut_length}
-use Rattle.niss_moves.specs.Machine.{symbol_of, State, start, with_more, settled, opened, closed, begun, count, with_last, fed_to, step_by, step_at, step, step_within}
+use Rattle.niss_moves.specs.Machine.{cut_of, symbol_of, State, start, with_more, settled, opened, closed, begun, count, with_last, fed_to, step_by, step_at, step, step_within}
 use Rattle.niss_moves.specs.Names.{Quarter, Half, Counter, Token, Base, Symbol, LastMove, ReadFault, NotAMove, Nested, Unopened, TooLong}
 use Rattle.niss_moves.specs.declared.base.Base.TheVariants as base
 use Rattle.niss_moves.specs.declared.partial_line.LastMove.TheVariants as last
 use Rattle.niss_moves.specs.declared.symbol.Symbol.TheVariants as symbol
-use Rattle.niss_moves.proofs.Completes.{cut_of, state, counted, count_more, more_none, moves_in}
+use Rattle.niss_moves.proofs.Completes.{state, counted, count_more, more_none, moves_in}
 use Rattle.niss_moves.proofs.Symbols.{IsSymbol, symbol_is}
 
 -- the bytes so far as whole items, with these moves, and an open bracket with its pieces if there is one
@@ -66,18 +66,6 @@ pub record Reads (s : State) (bytes : List ℕ) : Type 0 where
   pub fed : s.fed ≡ length bytes
   pub room : count (settled s) ≤ 256
 
-pub reads_start : Reads start []
-reads_start =
-    record {
-      front = [];
-      rest = [];
-      bytes_are = refl;
-      is_front = Closed [];
-      is_last = refl;
-      fed = refl;
-      room = omega arith;
-    }
-
 -- the bytes with the end of their last piece
 piece_ends : (s : State) (bytes : List ℕ) (p : Piece) (ending : List ℕ) (ms : List Token) (h : Reads s bytes) → h.rest ++ ending ≡ piece_bytes p → piece_moves p ≡ ms → WholeItems s.bracket (bytes ++ ending) (with_more s.bracket s.moves ms)
 piece_ends s bytes p ending ms h same moves =
@@ -93,8 +81,7 @@ settled_front s bytes h = by_last s.last h.is_last
         subst (λ (x : List ℕ). WholeItems s.bracket x s.moves) (sym (append-nil _ ∙ h.bytes_are ∙ ap (λ x. h.front ++ x) e ∙ append-nil _)) h.is_front
     by_last (last.Bare b) e = piece_ends s bytes (Spelled b Nothing) [] _ h (ap (λ x. x ++ []) e) refl
     by_last (last.Doubled b) e = piece_ends s bytes (Spelled b Two) [] _ h (append-nil _ ∙ e) refl
-    by_last (last.FirstByte t) k = piece_ends s bytes k.piece (cut_ending LacksTwo) _ h k.bytes_are k.moves_are
-    by_last (last.SecondByte t) k = piece_ends s bytes k.piece (cut_ending LacksOne) _ h k.bytes_are k.moves_are
+    by_last t k = piece_ends s bytes k.piece (cut_ending (cut_of t)) _ h k.bytes_are k.moves_are
 
 pub whole_front : (s : State) (bytes : List ℕ) → cut_of s.last ≡ Whole → Reads s bytes → WholeItems s.bracket bytes (settled s).moves
 whole_front s bytes w h =
@@ -109,10 +96,6 @@ cut_fits s bytes h =
     by_last (last.FirstByte t) k = k.long
     by_last (last.SecondByte t) k = k.long
     by_last _ k = omega arith
-
-abbrev pub is_open : Option ℕ → Bool
-is_open None = false
-is_open (Some c) = true
 
 -- the fault of a symbol that can't stand at a column
 abbrev pub fault_by : Symbol → Bool → ℕ → ReadFault
@@ -135,6 +118,9 @@ front_reads : (s : State) (bytes : List ℕ) → WholeItems s.bracket bytes s.mo
 front_reads s bytes h e k r =
     record { front = bytes; rest = []; bytes_are = sym (append-nil bytes); is_front = h; is_last = subst (λ (t : LastMove). IsLast t []) (sym e) refl; fed = k; room = r }
 
+pub reads_start : Reads start []
+reads_start = front_reads start [] (Closed []) refl refl (omega arith)
+
 fed_more : (k byte : ℕ) (bytes : List ℕ) → k ≡ length bytes → k + 1 ≡ length (bytes ++ byte ∷ [])
 fed_more k byte bytes e = omega (arith, length-append bytes (byte ∷ []))
 
@@ -142,12 +128,12 @@ blank_means : (s : State) (bytes : List ℕ) (byte : ℕ) → cut_of s.last ≡ 
 blank_means s bytes byte r h k =
     front_reads (counted (settled s)) _ (subst (λ (x : ℕ). WholeItems s.bracket (bytes ++ x ∷ []) (settled s).moves) (sym k.1) (subst (λ (m : Moves). WholeItems s.bracket (bytes ++ blank_byte k.0 ∷ []) m) (sym (more_none s.bracket _)) (front_piece _ _ _ (Gap k.0) (whole_front s bytes r h)))) refl (fed_more _ _ _ h.fed) h.room
 
-open_means : (o : Option ℕ) (s : State) (bytes : List ℕ) (byte : ℕ) → s.bracket ≡ o → cut_of s.last ≡ Whole → Reads s bytes → byte ≡ 40 → Outcome (fault_by symbol.Open (is_open o) (s.fed + 1)) (bytes ++ byte ∷ []) (fed_to (s.fed + 1) (opened o s))
+open_means : (o : Option ℕ) (s : State) (bytes : List ℕ) (byte : ℕ) → s.bracket ≡ o → cut_of s.last ≡ Whole → Reads s bytes → byte ≡ 40 → Outcome (fault_by symbol.Open (is_some o) (s.fed + 1)) (bytes ++ byte ∷ []) (fed_to (s.fed + 1) (opened o s))
 open_means None s bytes byte e r h k =
     front_reads _ _ (subst (λ (x : ℕ). WholeItems (Some (s.fed + 1)) (bytes ++ x ∷ []) (settled s).moves) (sym k) (front_open _ (s.fed + 1) _ _ e (ap (λ n. n + 1) h.fed) (whole_front s bytes r h))) refl (fed_more _ _ _ h.fed) h.room
 open_means (Some c) s bytes byte e r h k = refl
 
-close_means : (o : Option ℕ) (s : State) (bytes : List ℕ) (byte : ℕ) → s.bracket ≡ o → cut_of s.last ≡ Whole → Reads s bytes → byte ≡ 41 → Outcome (fault_by symbol.Close (is_open o) (s.fed + 1)) (bytes ++ byte ∷ []) (fed_to (s.fed + 1) (closed o s))
+close_means : (o : Option ℕ) (s : State) (bytes : List ℕ) (byte : ℕ) → s.bracket ≡ o → cut_of s.last ≡ Whole → Reads s bytes → byte ≡ 41 → Outcome (fault_by symbol.Close (is_some o) (s.fed + 1)) (bytes ++ byte ∷ []) (fed_to (s.fed + 1) (closed o s))
 close_means None s bytes byte e r h k = refl
 close_means (Some c) s bytes byte e r h k =
     front_reads _ _ (subst (λ (x : ℕ). WholeItems None (bytes ++ x ∷ []) (settled s).moves) (sym k) (front_close _ c _ _ e (whole_front s bytes r h))) refl (fed_more _ _ _ h.fed) h.room
@@ -188,13 +174,6 @@ goes_on m o t u k bytes byte h is_last room =
       room = room;
     }
 
--- the last move is whole
-ends_so : (m : Moves) (o : Option ℕ) (t : LastMove) (k : ℕ) (bytes : List ℕ) (byte : ℕ) (p : Piece) (h : Reads (state m o t k) bytes) → h.rest ++ byte ∷ [] ≡ piece_bytes p
-    → length (with_more o m (piece_moves p)).normal + length (with_more o m (piece_moves p)).bracketed ≤ 256 → Reads (state (with_more o m (piece_moves p)) o last.Finished (k + 1)) (bytes ++ byte ∷ [])
-unfolding state
-ends_so m o t k bytes byte p h same room =
-    front_reads _ _ (piece_ends _ bytes p (byte ∷ []) _ h same refl) refl (fed_more _ _ _ h.fed) room
-
 -- a byte after bytes
 follows : {xs ys : List ℕ} {x y : ℕ} → xs ≡ ys → x ≡ y → xs ++ x ∷ [] ≡ ys ++ y ∷ []
 follows e k i = e i ++ k i ∷ []
@@ -208,7 +187,7 @@ begins_cut xs ys x p t e k same moves =
       long = omega (arith, length-append xs (x ∷ []));
     }
 
-symbol_means : (x : Symbol) (m : Moves) (o : Option ℕ) (t : LastMove) (k : ℕ) (bytes : List ℕ) (byte : ℕ) → IsSymbol x byte → cut_of t ≡ Whole → Reads (state m o t k) bytes → Outcome (fault_by x (is_open o) (k + 1)) (bytes ++ byte ∷ []) (fed_to (k + 1) (step_by 256 x (state m o t k)))
+symbol_means : (x : Symbol) (m : Moves) (o : Option ℕ) (t : LastMove) (k : ℕ) (bytes : List ℕ) (byte : ℕ) → IsSymbol x byte → cut_of t ≡ Whole → Reads (state m o t k) bytes → Outcome (fault_by x (is_some o) (k + 1)) (bytes ++ byte ∷ []) (fed_to (k + 1) (step_by 256 x (state m o t k)))
 unfolding state
 symbol_means symbol.Blank m o t k bytes byte i r h = blank_means _ bytes byte r h i
 symbol_means symbol.Open m o t k bytes byte i r h = open_means o _ bytes byte refl r h i
@@ -219,9 +198,9 @@ symbol_means symbol.Wide m o (last.Bare (base.Face f)) k bytes byte i r h =
 symbol_means symbol.Two m o (last.Bare f) k bytes byte i r h =
     goes_on m o _ (last.Doubled f) k bytes byte h (follows h.is_last i) (omega (arith, h.room, count_more o m (token_of f Quarter ∷ []), count_more o m (token_of f Half ∷ [])))
 symbol_means symbol.Apostrophe m o (last.Bare f) k bytes byte i r h =
-    ends_so m o _ k bytes byte (Spelled f (Prime Plain)) h (follows h.is_last i) (omega (arith, h.room, count_more o m (token_of f Quarter ∷ []), count_more o m (token_of f Counter ∷ [])))
+    front_reads _ _ (piece_ends _ bytes (Spelled f (Prime Plain)) (byte ∷ []) _ h (follows h.is_last i) refl) refl (fed_more _ _ _ h.fed) (omega (arith, h.room, count_more o m (token_of f Quarter ∷ []), count_more o m (token_of f Counter ∷ [])))
 symbol_means symbol.Apostrophe m o (last.Doubled f) k bytes byte i r h =
-    ends_so m o _ k bytes byte (Spelled f (TwoPrime Plain)) h (follows h.is_last i ∙ append_assoc (base_bytes f) (50 ∷ []) (39 ∷ [])) h.room
+    front_reads _ _ (piece_ends _ bytes (Spelled f (TwoPrime Plain)) (byte ∷ []) _ h (follows h.is_last i ∙ append_assoc (base_bytes f) (50 ∷ []) (39 ∷ [])) refl) refl (fed_more _ _ _ h.fed) h.room
 symbol_means symbol.Cut m o (last.Bare f) k bytes byte i r h =
     goes_on m o _ (last.FirstByte (token_of f Counter)) k bytes byte h (begins_cut _ _ _ (Spelled f (Prime Typographic)) _ h.is_last i refl refl) (omega (arith, h.room, count_more o m (token_of f Quarter ∷ []), count_more o m (token_of f Counter ∷ [])))
 symbol_means symbol.Cut m o (last.Doubled f) k bytes byte i r h =
@@ -251,11 +230,11 @@ second_means m o t k bytes byte h =
     (ap NotAMove (omega arith))
 
 -- A step keeps what the state stands for, or refuses the byte by its fault there.
-pub step_means : (s : State) (bytes : List ℕ) (byte : ℕ) → Reads s bytes → Outcome (fault_at (cut_of s.last) (is_open s.bracket) byte (s.fed + 1)) (bytes ++ byte ∷ []) (step s byte)
+pub step_means : (s : State) (bytes : List ℕ) (byte : ℕ) → Reads s bytes → Outcome (fault_at (cut_of s.last) (is_some s.bracket) byte (s.fed + 1)) (bytes ++ byte ∷ []) (step s byte)
 unfolding step_within state
 step_means s bytes byte h = by_last s.moves s.bracket s.last s.fed h
   where
-    by_last : (m : Moves) (o : Option ℕ) (t : LastMove) (k : ℕ) → Reads (state m o t k) bytes → Outcome (fault_at (cut_of t) (is_open o) byte (k + 1)) (bytes ++ byte ∷ []) (fed_to (k + 1) (step_at 256 t (state m o t k) byte))
+    by_last : (m : Moves) (o : Option ℕ) (t : LastMove) (k : ℕ) → Reads (state m o t k) bytes → Outcome (fault_at (cut_of t) (is_some o) byte (k + 1)) (bytes ++ byte ∷ []) (fed_to (k + 1) (step_at 256 t (state m o t k) byte))
     by_last m o (last.FirstByte t) k h = first_means m o t k bytes byte h
     by_last m o (last.SecondByte t) k h = second_means m o t k bytes byte h
     by_last m o t k h = symbol_means (symbol_of byte) m o t k bytes byte (symbol_is byte) refl h

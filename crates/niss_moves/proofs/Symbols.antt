@@ -1,7 +1,7 @@
 -- What each byte may be, by the letters of the grammar and in the table of the code.
 use Rattle.niss_moves.proofs.Names.{◌≡◌, ℕ, ◌<◌, Bool, true, false, cond, eqb, refl, ap, sym, ◌∙◌, subst, List, [], ◌∷◌, get_or, map, arith}
-use Rattle.niss_moves.proofs.Names.{base_bytes, Blank, Space, Tab, Return, blank_byte, bytes_of_a_line, look_up, symbol_of, U, Rl, M}
-use Rattle.niss_moves.proofs.Names.{Base, Symbol}
+use Rattle.niss_moves.proofs.Names.{base_bytes, Blank, Space, Tab, Return, blank_byte, bytes_of_a_line, look_up, symbol_of, U, Rl, M, Base}
+use Rattle.niss_moves.proofs.Names.{Symbol}
 use Rattle.std.specs.List.{range_with_len}
 use Rattle.std.proofs.lemmas.Bool.{eqb-true}
 use Rattle.std.proofs.lemmas.List.FromFn.{get_or-map-range_with_len}

@@ -1,21 +1,21 @@
 -- Whole lines: what is read of them, and which fault.
-use Rattle.std.proofs.Common.{◌≡◌, ℕ, ◌+◌, ◌-◌, ◌<◌, ◌≤◌, Bool, true, false, ◌&&◌, refl, ap, sym, ◌∙◌, subst, subst₂, List, [], ◌∷◌, ◌++◌, length, flat_map, append_assoc, append-nil, Option, None, Some, Result, Ok, Err, arith, length-append, take, drop, get_or, inl, inr, ◌==◌, ◌||◌, not}
+use Rattle.std.proofs.Common.{◌≡◌, ℕ, ◌+◌, ◌-◌, ◌<◌, ◌≤◌, Bool, true, false, ◌&&◌, refl, ap, sym, ◌∙◌, subst, subst₂, List, [], ◌∷◌, ◌++◌, length, flat_map, append_assoc, append-nil, Option, None, Some, is_some, Result, Ok, Err, arith, length-append, take, drop, get_or, inl, inr, ◌==◌, ◌||◌, not}
 use Rattle.std.proofs.lemmas.List.{take-append-le, take-append-drop}
 use Rattle.std.specs.List.{list_all}
 use Rattle.std.proofs.lemmas.List.Folds.{list_all-append}
 use Rattle.std.proofs.lemmas.List.Sums.{AllPass-from_list_all, list_all-from_AllPass}
 use Rattle.std.proofs.Math.Seq.{take-append_seam, take-append-add, get_or-append_seam}
 use Rattle.niss_moves.specs.Line.{Moves, Gap, Spelled, piece_bytes, Piece, item_bytes, Spells, IsLine}
-use Rattle.niss_moves.specs.Faults.{has_no_bracket, Cut, Whole, cut_ending, cut_length, bracket_ending, Continues, CanContinue, StopsAt, EndsEarly, OpensAt, Stops, Lacks}
-use Rattle.niss_moves.specs.Machine.{State, start, settled, symbol_of, step, and_then, run}
+use Rattle.niss_moves.specs.Faults.{Cut, Whole, cut_ending, cut_length, bracket_ending, Continues, CanContinue, StopsAt, EndsEarly, OpensAt, Stops, Lacks}
+use Rattle.niss_moves.specs.Machine.{cut_of, State, start, settled, symbol_of, step, and_then, run}
 use Rattle.niss_moves.specs.Notation.{base_bytes, Plain, Suffix, Prime, TwoPrime, suffix_bytes, Space}
 use Rattle.niss_moves.specs.Names.{U, Rl, M, Base, Symbol, ReadFault, NotAMove, Unclosed}
 use Rattle.niss_moves.specs.declared.base.Base.TheVariants as base
 use Rattle.niss_moves.specs.declared.symbol.Symbol.TheVariants as symbol
 use Rattle.niss_moves.proofs.Symbols.{IsSymbol, symbol_is, symbol_of_brackets, first_symbol}
 use Rattle.niss_moves.proofs.Finite.{and_both, and_left}
-use Rattle.niss_moves.proofs.Completes.{cut_of, run-append, run_after, read_line_of}
-use Rattle.niss_moves.proofs.Sound.{WholeItems, Closed, Opened, front_close, Reads, reads_start, settled_front, whole_front, cut_fits, is_open, fault_by, fault_at, Outcome, step_means}
+use Rattle.niss_moves.proofs.Completes.{run-append, run_after, read_line_of}
+use Rattle.niss_moves.proofs.Sound.{WholeItems, Closed, Opened, front_close, Reads, reads_start, settled_front, whole_front, cut_fits, fault_by, fault_at, Outcome, step_means}
 
 -- the state after more bytes
 reads_run : (more bytes : List ℕ) (s t : State) → Reads s bytes → run s more ≡ Ok t → Reads t (bytes ++ more)
@@ -25,7 +25,7 @@ reads_run [] bytes s t h e =
 reads_run (x ∷ more) bytes s t h e =
     by_step (step s x) (step_means s bytes x h) e (λ u k r. reads_run more (bytes ++ x ∷ []) u t k r)
   where
-    by_step : (r : Result State ReadFault) → Outcome (fault_at (cut_of s.last) (is_open s.bracket) x (s.fed + 1)) (bytes ++ x ∷ []) r → and_then r (λ u. run u more) ≡ Ok t → ((u : State) → Reads u (bytes ++ x ∷ []) → run u more ≡ Ok t → Reads t ((bytes ++ x ∷ []) ++ more)) → Reads t (bytes ++ x ∷ more)
+    by_step : (r : Result State ReadFault) → Outcome (fault_at (cut_of s.last) (is_some s.bracket) x (s.fed + 1)) (bytes ++ x ∷ []) r → and_then r (λ u. run u more) ≡ Ok t → ((u : State) → Reads u (bytes ++ x ∷ []) → run u more ≡ Ok t → Reads t ((bytes ++ x ∷ []) ++ more)) → Reads t (bytes ++ x ∷ more)
     by_step (Ok u) k e f = subst (λ (y : List ℕ). Reads t y) (append_assoc bytes (x ∷ []) more) (f u k e)
     by_step (Err g) k e f = cc
 
@@ -36,11 +36,11 @@ reads_all bytes s e = reads_run bytes [] start s reads_start e
 front_spells : (bytes : List ℕ) (m : Moves) → WholeItems None bytes m → Spells bytes m.normal m.bracketed
 front_spells bytes m (Closed items) = record { items = items; bytes_are = refl; normal_are = refl; bracketed_are = refl }
 
-closed_front : (o : Option ℕ) (bytes : List ℕ) (m : Moves) → WholeItems o bytes m → WholeItems None (bytes ++ bracket_ending (is_open o)) m
+closed_front : (o : Option ℕ) (bytes : List ℕ) (m : Moves) → WholeItems o bytes m → WholeItems None (bytes ++ bracket_ending (is_some o)) m
 closed_front None bytes m h = subst (λ (x : List ℕ). WholeItems None x m) (sym (append-nil bytes)) h
 closed_front (Some c) bytes m h = front_close (Some c) c bytes m refl h
 
-pub continues : (s : State) (bytes : List ℕ) → Reads s bytes → Continues bytes (cut_of s.last) (is_open s.bracket)
+pub continues : (s : State) (bytes : List ℕ) → Reads s bytes → Continues bytes (cut_of s.last) (is_some s.bracket)
 continues s bytes h =
     record {
       normal = (settled s).moves.normal;
@@ -50,7 +50,7 @@ continues s bytes h =
     }
 
 pub can_continue : (bytes : List ℕ) (s : State) → run start bytes ≡ Ok s → CanContinue bytes
-can_continue bytes s e = (cut_of s.last, is_open s.bracket, continues s bytes (reads_all bytes s e))
+can_continue bytes s e = (cut_of s.last, is_some s.bracket, continues s bytes (reads_all bytes s e))
 
 -- what can be continued is read without a fault
 front_ok : (r : Result State ReadFault) (f : State → Result State ReadFault) (t : State) → and_then r f ≡ Ok t → (s : State) × (r ≡ Ok s)
@@ -68,7 +68,7 @@ continued_ok bytes h =
     run_front bytes (cut_ending h.0) start one.0 one.1
 
 -- a byte that is refused
-pub stop_at : (front rest : List ℕ) (byte : ℕ) (s : State) (f : ReadFault) → run start front ≡ Ok s → step s byte ≡ Err f → StopsAt (front ++ byte ∷ rest) (length front + 1) (cut_of s.last) (is_open s.bracket) byte
+pub stop_at : (front rest : List ℕ) (byte : ℕ) (s : State) (f : ReadFault) → run start front ≡ Ok s → step s byte ≡ Err f → StopsAt (front ++ byte ∷ rest) (length front + 1) (cut_of s.last) (is_some s.bracket) byte
 stop_at front rest byte s f e g =
     let here : length front + 1 - 1 ≡ length front = omega arith in
     let whole : take (length front + 1 - 1) (front ++ byte ∷ rest) ≡ front = ap (λ n. take n (front ++ byte ∷ rest)) here ∙ take-append_seam front (byte ∷ rest) in
@@ -80,7 +80,7 @@ stop_at front rest byte s f e g =
           let le : k ≤ length front = omega arith in
           let t = run_front (take k front) (drop k front) start s (ap (run start) (take-append-drop k front) ∙ e) in
           subst CanContinue (sym (take-append-le k front (byte ∷ rest) le)) (can_continue (take k front) t.0 t.1);
-      ends_so = subst (λ (x : List ℕ). Continues x (cut_of s.last) (is_open s.bracket)) (sym whole) (continues s front (reads_all front s e));
+      ends_so = subst (λ (x : List ℕ). Continues x (cut_of s.last) (is_some s.bracket)) (sym whole) (continues s front (reads_all front s e));
       stops = λ h.
           let w = continued_ok (front ++ byte ∷ []) (subst CanContinue (take-append-add front (byte ∷ rest) 1) h) in
           let r : Err f ≡ Ok w.0 = sym (run_after 256 start s front (byte ∷ []) e ∙ ap (λ r. and_then r (λ t. Ok t)) g) ∙ w.1 in
@@ -110,9 +110,9 @@ fault_stops c o byte column bytes lt h =
 pub step_stops : (front rest : List ℕ) (byte : ℕ) (s : State) (f : ReadFault) → run start front ≡ Ok s → step s byte ≡ Err f → Stops (front ++ byte ∷ rest) f
 step_stops front rest byte s f e g =
     let h = reads_all front s e in
-    let is = subst (λ (r : Result State ReadFault). Outcome (fault_at (cut_of s.last) (is_open s.bracket) byte (s.fed + 1)) (front ++ byte ∷ []) r) g (step_means s front byte h) in
-    subst (λ (f : ReadFault). Stops (front ++ byte ∷ rest) f) (sym (is ∙ ap (λ n. fault_at (cut_of s.last) (is_open s.bracket) byte (n + 1)) h.fed))
-    (fault_stops (cut_of s.last) (is_open s.bracket) byte (length front + 1) _ (let fits = cut_fits s front h in omega arith) (stop_at front rest byte s f e g))
+    let is = subst (λ (r : Result State ReadFault). Outcome (fault_at (cut_of s.last) (is_some s.bracket) byte (s.fed + 1)) (front ++ byte ∷ []) r) g (step_means s front byte h) in
+    subst (λ (f : ReadFault). Stops (front ++ byte ∷ rest) f) (sym (is ∙ ap (λ n. fault_at (cut_of s.last) (is_some s.bracket) byte (n + 1)) h.fed))
+    (fault_stops (cut_of s.last) (is_some s.bracket) byte (length front + 1) _ (let fits = cut_fits s front h in omega arith) (stop_at front rest byte s f e g))
 
 -- Where a run was refused, it stops.
 stops_after : (rest front : List ℕ) (s : State) (f : ReadFault) → run start front ≡ Ok s → run s rest ≡ Err f → Stops (front ++ rest) f
@@ -139,7 +139,7 @@ line_ends bytes s e h =
     let q : r.end ≡ s = (let w : Ok r.end ≡ Ok s = sym r.ran ∙ e in cc) in
     (ap (λ t. cut_of t.last) (sym q) ∙ r.ready, ap (λ t. t.bracket) (sym q) ∙ r.bracket)
 
-ends_early : (bytes : List ℕ) (s : State) → run start bytes ≡ Ok s → ((cut_of s.last ≡ Whole) × (s.bracket ≡ None) → ⊥) → EndsEarly bytes (cut_of s.last) (is_open s.bracket)
+ends_early : (bytes : List ℕ) (s : State) → run start bytes ≡ Ok s → ((cut_of s.last ≡ Whole) × (s.bracket ≡ None) → ⊥) → EndsEarly bytes (cut_of s.last) (is_some s.bracket)
 ends_early bytes s e n =
     record {
       before = λ k h.
@@ -186,9 +186,9 @@ opens_at bytes s c w h o = opens_front s.bracket bytes _ c (whole_front s bytes 
 pub lacks_bracket : (bytes : List ℕ) (s : State) (c : ℕ) → run start bytes ≡ Ok s → cut_of s.last ≡ Whole → s.bracket ≡ Some c → Lacks bytes (Unclosed c)
 lacks_bracket bytes s c e w o =
     let h = ends_early bytes s e (λ r. let q : Some c ≡ None = sym o ∙ r.1 in cc) in
-    (subst₂ (λ (x : Cut) (y : Bool). EndsEarly bytes x y) w (ap is_open o) h, opens_at bytes s c w (reads_all bytes s e) o)
+    (subst₂ (λ (x : Cut) (y : Bool). EndsEarly bytes x y) w (ap is_some o) h, opens_at bytes s c w (reads_all bytes s e) o)
 
 pub lacks_apostrophe : (bytes : List ℕ) (s : State) (c : Cut) (column : ℕ) → run start bytes ≡ Ok s → cut_of s.last ≡ c → 0 < cut_length c → column + cut_length c ≡ length bytes + 1 → Lacks bytes (NotAMove column)
 lacks_apostrophe bytes s c column e q w k =
     let early = ends_early bytes s e (λ r. let n = ap cut_length (sym q ∙ r.0) in omega (arith, w)) in
-    (is_open s.bracket, c, w, subst (λ (x : Cut). EndsEarly bytes x (is_open s.bracket)) q early, k)
+    (is_some s.bracket, c, w, subst (λ (x : Cut). EndsEarly bytes x (is_some s.bracket)) q early, k)

@@ -1,10 +1,9 @@
 -- What a move that is read at once does.
-use Rattle.niss_moves.proofs.Names.{◌≡◌, ℕ, ◌+◌, ◌<◌, ap, sym, ◌∙◌, subst, List, [], ◌∷◌, ◌++◌, length, take, take-add, drop}
-use Rattle.niss_moves.proofs.Names.{get_or, Ok, Some, arith, length-append, inl, inr, ap₂, ◌≢◌}
-use Rattle.niss_moves.proofs.Names.{◌==◌, ◌||◌, ◌*◌, nat_lt, not, Bool, true, false, Gap, Spelled, token_of, base_bytes, Nothing}
-use Rattle.niss_moves.proofs.Names.{Two, Prime, TwoPrime, Blank, blank_byte, State, added, settled, with_last, count}
-use Rattle.niss_moves.proofs.Names.{run, IsSuffix, IsMove, BeginsApostrophe}
-use Rattle.niss_moves.proofs.Names.{HasNoLineFeed, Power, Quarter, Half, Counter, Token, Base}
+use Rattle.niss_moves.proofs.Names.{◌≡◌, ℕ, ◌+◌, ◌<◌, ap, sym, ◌∙◌, subst, List, [], ◌∷◌, ◌++◌, length, take, take-add, drop, get_or, Ok}
+use Rattle.niss_moves.proofs.Names.{Some, arith, length-append, inl, inr, ap₂, ◌≢◌, ◌==◌, ◌||◌, ◌*◌, nat_lt, not, Bool, true, false, Gap}
+use Rattle.niss_moves.proofs.Names.{Spelled, token_of, base_bytes, Nothing, Two, Prime, TwoPrime, Blank, blank_byte, State, added, settled}
+use Rattle.niss_moves.proofs.Names.{with_last, count, run, IsSuffix, IsMove, BeginsApostrophe, cut_of, HasNoLineFeed, Power, Quarter, Half, Counter}
+use Rattle.niss_moves.proofs.Names.{Token, Base}
 use mir.Val.{bool_byte}
 use Rattle.std.proofs.lemmas.List.{take_more}
 use Rattle.std.proofs.lemmas.List.Elements.{All-append}
@@ -14,7 +13,7 @@ use Rattle.niss_moves.proofs.Finite.{and_right}
 use Rattle.niss_moves.proofs.Whole.{is_plain, plain_pieces}
 use Rattle.std.proofs.lemmas.Bool.{lt-ltb, eqb-true}
 use Rattle.niss_moves.specs.declared.partial_line.LastMove.TheVariants as last
-use Rattle.niss_moves.proofs.Completes.{cut_of, run_after, at_fed, run_move}
+use Rattle.niss_moves.proofs.Completes.{run_after, at_fed, run_move}
 
 -- the first bytes
 pub take_one : (bytes : List ℕ) (x : ℕ) → 0 < length bytes → get_or bytes 0 0 ≡ x → take 1 bytes ≡ x ∷ []

@@ -7,6 +7,7 @@ use Rattle.niss_moves.specs.Letters.{face_letter}
 use Rattle.niss_moves.specs.Canonical.{face_order}
 use Rattle.niss_moves.specs.Notation.{token_of, lower_letter, slice_letter, rotation_letter, blank_byte, Space, Tab, Return}
 use Rattle.niss_moves.specs.Line.{Moves}
+use Rattle.niss_moves.specs.Faults.{Cut, Whole, LacksOne, LacksTwo, cut_length}
 use Rattle.niss_moves.specs.Names.{Quarter, Half, Counter, Ud, Rl, Fb, M, E, S, Token, Base}
 use Rattle.niss_moves.specs.Names.{Symbol, LastMove, ReadFault, NotAMove, Nested, Unopened, Unclosed, TooLong}
 use Rattle.niss_moves.specs.declared.base.Base.TheVariants as base
@@ -164,14 +165,20 @@ abbrev pub ended_in : Option ℕ → State → Result Moves ReadFault
 ended_in None s = Ok (settled s).moves
 ended_in (Some c) s = Err (Unclosed c)
 
-abbrev pub ended_at : LastMove → State → Result Moves ReadFault
-ended_at (last.FirstByte t) s = Err (NotAMove s.fed)
-ended_at (last.SecondByte t) s = Err (NotAMove (s.fed - 1))
-ended_at _ s = ended_in s.bracket s
+-- the cut of U+2019 in which what is read ends
+abbrev pub cut_of : LastMove → Cut
+cut_of (last.FirstByte t) = LacksTwo
+cut_of (last.SecondByte t) = LacksOne
+cut_of _ = Whole
+
+-- a cut U+2019 is a fault where its first byte stands
+abbrev pub ended_by : Cut → State → Result Moves ReadFault
+ended_by Whole s = ended_in s.bracket s
+ended_by c s = Err (NotAMove (s.fed - (cut_length c - 1)))
 
 -- what the end of the line makes of it
 abbrev pub ended : Result State ReadFault → Result Moves ReadFault
-ended (Ok s) = ended_at s.last s
+ended (Ok s) = ended_by (cut_of s.last) s
 ended (Err f) = Err f
 
 -- these moves, unless there is a fault
