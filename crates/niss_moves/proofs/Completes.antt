@@ -49,15 +49,14 @@ begun_ready limit s byte b h room e =
 run_on : (limit : ℕ) → (s t : State) (x : ℕ) (bs : List ℕ) → step_within limit s x ≡ Ok t → run_within limit s (x ∷ bs) ≡ run_within limit t bs
 run_on limit s t x bs e = ap (λ r. and_then r (λ s. run_within limit s bs)) e
 
-based : State → Base → ℕ → State
+abbrev based : State → Base → ℕ → State
 based s b n = record (settled s) { last = last.Bare b; fed = n }
 
 step_wide : (limit : ℕ) → (s : State) (f : Face) (n : ℕ) → step_within limit (based s (base.Face f) n) 119 ≡ Ok (based s (base.Wide f) (n + 1))
-unfolding step_within symbol_of based
+unfolding step_within symbol_of
 step_wide limit s f n = refl
 
 run_base : (limit : ℕ) → (s : State) (b : Base) → cut_of s.last ≡ Whole → count (settled s) < limit → run_within limit s (base_bytes b) ≡ Ok (based s b (s.fed + length (base_bytes b)))
-unfolding based
 run_base limit s (base.Wide f) h room =
     run_on limit s _ (face_letter f) (119 ∷ []) (begun_ready limit s _ (base.Face f) h room (symbol_of_letter (base.Face f)))
     ∙ run_on limit _ _ 119 [] (step_wide limit s f (s.fed + 1)) ∙ ap (λ n. Ok (based s (base.Wide f) n)) (omega arith)
@@ -76,7 +75,7 @@ pub record RanMove (limit : ℕ) (s : State) (bytes : List ℕ) (t : Token) : Ty
   pub settles : settled end ≡ at_fed (settled s) t end.fed
 
 run_suffix : (limit : ℕ) → (s : State) (b : Base) (n : ℕ) (x : Suffix) → (end : State) × (run_within limit (based s b n) (suffix_bytes x) ≡ Ok end) × cut_of end.last ≡ Whole × (end.fed ≡ n + length (suffix_bytes x)) × (settled end ≡ at_fed (settled s) (token_of b (suffix_power x)) end.fed)
-unfolding step_within symbol_of based
+unfolding step_within symbol_of
 run_suffix limit s b n Nothing = (based s b n, refl, refl, omega arith, refl)
 run_suffix limit s b n Two = (counted (with_last (last.Doubled b) (based s b n)), refl, refl, refl, refl)
 run_suffix limit s b n (Prime Plain) = (counted (added (based s b n) (Some (token_of b Counter))), refl, refl, refl, refl)
@@ -192,11 +191,11 @@ read_pieces limit s (p ∷ ps) c h e room =
     let one = read_piece limit s p (Some c) h e (omega arith) in
     read_more limit s (piece_bytes p) (flat_map piece_bytes ps) _ _ _ _ one (read_pieces limit one.end ps c one.ready one.bracket (omega (arith, read_count limit s _ _ _ one)))
 
-entered : State → State
+abbrev entered : State → State
 entered s = counted (record (settled s) { bracket = Some (s.fed + 1) })
 
 step_open : (limit : ℕ) → (s : State) → cut_of s.last ≡ Whole → s.bracket ≡ None → step_within limit s 40 ≡ Ok (entered s)
-unfolding symbol_of entered
+unfolding symbol_of
 step_open limit s h o = step_ready limit s 40 h ∙ ap (λ b. fed_to (s.fed + 1) (opened b s)) o
 
 step_close : (limit : ℕ) → (s : State) (c : ℕ) → cut_of s.last ≡ Whole → s.bracket ≡ Some c → step_within limit s 41 ≡ Ok (counted (record (settled s) { bracket = None }))
@@ -205,7 +204,6 @@ step_close limit s c h o = step_ready limit s 41 h ∙ ap (λ b. fed_to (s.fed +
 
 read_item : (limit : ℕ) → (s : State) (x : Item) → cut_of s.last ≡ Whole → s.bracket ≡ None → count (settled s) + length (item_normal x) + length (item_bracketed x) ≤ limit
     → Read limit s (item_bytes x) (record { normal = item_normal x; bracketed = item_bracketed x }) None
-unfolding entered
 read_item limit s (Outside p) h o room = read_piece limit s p None h o (omega arith)
 read_item limit s (Bracket ps) h o room =
     let r = read_pieces limit (entered s) ps (s.fed + 1) refl refl (omega arith) in

@@ -9,7 +9,6 @@ pub mod OneSpelling
 pub mod Disorder
 pub mod AllCanonical
 pub mod CallerLemmas
-pub mod WordTable
 pub mod Symbols
 pub mod Completes
 pub mod Sound

@@ -1,13 +1,16 @@
--- What is written is spelled.
-use Rattle.niss_moves.proofs.Names.{refl, ap, sym, ◌∙◌, eqb, zero, suc, ◌+◌, ◌<◌, true, append_assoc, append-nil, arith, length-append, ◌≡◌, ℕ, ◌-◌}
-use Rattle.niss_moves.proofs.Names.{List, [], ◌∷◌, ◌++◌, length, map, flat_map, slice_get, face_letter, base_bytes, Suffix, Nothing, Two}
-use Rattle.niss_moves.proofs.Names.{Prime, Plain, suffix_bytes, suffix_power, Space, Gap, Spelled, Item, Outside, item_bytes, item_normal}
-use Rattle.niss_moves.proofs.Names.{item_bracketed, Spells, word, power_bytes, gap, gap_after, with_word, with_words, Face, Power, Quarter}
-use Rattle.niss_moves.proofs.Names.{Half, Counter, Token, Base, token_of}
+-- What is written is spelled, and the table of the code has the words of the moves.
+use Rattle.niss_moves.proofs.Names.{◌≤◌, Bool, ◌&&◌, nat_le, take, get_or, token_index, refl, ap, sym, ◌∙◌, eqb, zero, suc, ◌+◌, ◌<◌, true}
+use Rattle.niss_moves.proofs.Names.{append_assoc, append-nil, arith, length-append, ◌≡◌, ℕ, ◌-◌, List, [], ◌∷◌, ◌++◌, length, map, flat_map}
+use Rattle.niss_moves.proofs.Names.{slice_get, face_letter, base_bytes, Suffix, Nothing, Two, Prime, Plain, suffix_bytes, suffix_power}
+use Rattle.niss_moves.proofs.Names.{Space, Gap, Spelled, Item, Outside, item_bytes, item_normal, item_bracketed, Spells, word, power_bytes}
+use Rattle.niss_moves.proofs.Names.{gap, gap_after, with_word, with_words, Face, Power, Quarter, Half, Counter, Token, Base, token_of}
 use lib.Pointwise.{pointwise}
+use Rattle.std.proofs.lemmas.Bool.{and_parts, leb-true}
 use Rattle.std.specs.Cmp.Lexicographic.{bytes_decides}
 use Rattle.std.specs.List.{join_with_byte}
 use Rattle.niss_moves.proofs.Finite.{every_face, every_power, every_axis, every_slice, every_token, at_token}
+use Rattle.niss_moves.specs.declared.gathering.Word.{Word}
+use Rattle.niss_moves.specs.declared.gathering.TheConstants.{WORDS}
 use Rattle.niss_moves.specs.declared.token.Token.TheVariants as token
 use Rattle.niss_moves.specs.declared.base.Base.TheVariants as base
 
@@ -65,6 +68,24 @@ pub gap_word : (a : List ℕ) (t : Token) → gap (a ++ word t) ≡ 32 ∷ []
 gap_word a t =
     ap gap_after (past a (word t) (length (word t) - 1) (length (a ++ word t) - 1) (omega (arith, length-append a (word t), long_word t)))
     ∙ (bytes_decides _ _).0 (at_token (λ t. pointwise eqb (gap (word t)) (32 ∷ [])) words_gap t)
+
+-- a space and a word, in at most four bytes
+pub record IsWord (w : List ℕ) (entry : Word) : Type 0 where
+  pub bytes : take entry.len entry.bytes ≡ 32 ∷ w
+  pub len : entry.len ≤ 4
+
+abbrev is_word : List ℕ → Word → Bool
+is_word w entry = pointwise eqb (take entry.len entry.bytes) (32 ∷ w) && nat_le entry.len 4
+
+words_test : (d : Word) → every_token (λ t. is_word (word t) (get_or WORDS (token_index t) d)) ≡ true
+unfolding every_token every_power every_face every_slice every_axis
+words_test d = refl
+
+pub word_at : (t : Token) (i : ℕ) (d : Word) → i ≡ token_index t → IsWord (word t) (get_or WORDS i d)
+word_at t i d e =
+    let entry = get_or WORDS (token_index t) d in
+    let both = and_parts (pointwise eqb (take entry.len entry.bytes) (32 ∷ word t)) (nat_le entry.len 4) (at_token _ (words_test d) t) in
+    rw e (record { bytes = (bytes_decides _ _).0 both.0; len = leb-true _ _ both.1 })
 
 abbrev spaced : List Token → List Item
 spaced [] = []

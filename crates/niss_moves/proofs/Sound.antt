@@ -124,20 +124,6 @@ reads_start = front_reads start [] (Closed []) refl refl (omega arith)
 fed_more : (k byte : ℕ) (bytes : List ℕ) → k ≡ length bytes → k + 1 ≡ length (bytes ++ byte ∷ [])
 fed_more k byte bytes e = omega (arith, length-append bytes (byte ∷ []))
 
-blank_means : (s : State) (bytes : List ℕ) (byte : ℕ) → cut_of s.last ≡ Whole → Reads s bytes → IsSymbol symbol.Blank byte → Reads (counted (settled s)) (bytes ++ byte ∷ [])
-blank_means s bytes byte r h k =
-    front_reads (counted (settled s)) _ (subst (λ (x : ℕ). WholeItems s.bracket (bytes ++ x ∷ []) (settled s).moves) (sym k.1) (subst (λ (m : Moves). WholeItems s.bracket (bytes ++ blank_byte k.0 ∷ []) m) (sym (more_none s.bracket _)) (front_piece _ _ _ (Gap k.0) (whole_front s bytes r h)))) refl (fed_more _ _ _ h.fed) h.room
-
-open_means : (o : Option ℕ) (s : State) (bytes : List ℕ) (byte : ℕ) → s.bracket ≡ o → cut_of s.last ≡ Whole → Reads s bytes → byte ≡ 40 → Outcome (fault_by symbol.Open (is_some o) (s.fed + 1)) (bytes ++ byte ∷ []) (fed_to (s.fed + 1) (opened o s))
-open_means None s bytes byte e r h k =
-    front_reads _ _ (subst (λ (x : ℕ). WholeItems (Some (s.fed + 1)) (bytes ++ x ∷ []) (settled s).moves) (sym k) (front_open _ (s.fed + 1) _ _ e (ap (λ n. n + 1) h.fed) (whole_front s bytes r h))) refl (fed_more _ _ _ h.fed) h.room
-open_means (Some c) s bytes byte e r h k = refl
-
-close_means : (o : Option ℕ) (s : State) (bytes : List ℕ) (byte : ℕ) → s.bracket ≡ o → cut_of s.last ≡ Whole → Reads s bytes → byte ≡ 41 → Outcome (fault_by symbol.Close (is_some o) (s.fed + 1)) (bytes ++ byte ∷ []) (fed_to (s.fed + 1) (closed o s))
-close_means None s bytes byte e r h k = refl
-close_means (Some c) s bytes byte e r h k =
-    front_reads _ _ (subst (λ (x : ℕ). WholeItems None (bytes ++ x ∷ []) (settled s).moves) (sym k) (front_close _ c _ _ e (whole_front s bytes r h))) refl (fed_more _ _ _ h.fed) h.room
-
 -- a step that goes on where its test is true
 by_test : (c : Bool) (fault f : ReadFault) (bytes : List ℕ) (k : ℕ) (t : State) → (c ≡ true → Reads (record t { fed = k }) bytes) → f ≡ fault → Outcome fault bytes (fed_to k (cond c (Ok t) (Err f)))
 by_test true fault f bytes k t h e = h refl
@@ -189,9 +175,12 @@ begins_cut xs ys x p t e k same moves =
 
 symbol_means : (x : Symbol) (m : Moves) (o : Option ℕ) (t : LastMove) (k : ℕ) (bytes : List ℕ) (byte : ℕ) → IsSymbol x byte → cut_of t ≡ Whole → Reads (state m o t k) bytes → Outcome (fault_by x (is_some o) (k + 1)) (bytes ++ byte ∷ []) (fed_to (k + 1) (step_by 256 x (state m o t k)))
 unfolding state
-symbol_means symbol.Blank m o t k bytes byte i r h = blank_means _ bytes byte r h i
-symbol_means symbol.Open m o t k bytes byte i r h = open_means o _ bytes byte refl r h i
-symbol_means symbol.Close m o t k bytes byte i r h = close_means o _ bytes byte refl r h i
+symbol_means symbol.Blank m o t k bytes byte i r h =
+    front_reads _ _ (subst₂ (λ (x : ℕ) (m : Moves). WholeItems o (bytes ++ x ∷ []) m) (sym i.1) (sym (more_none o _)) (front_piece _ _ _ (Gap i.0) (whole_front _ bytes r h))) refl (fed_more _ _ _ h.fed) h.room
+symbol_means symbol.Open m None t k bytes byte i r h =
+    front_reads _ _ (subst (λ (x : ℕ). WholeItems (Some (k + 1)) (bytes ++ x ∷ []) (settled (state m None t k)).moves) (sym i) (front_open _ (k + 1) _ _ refl (ap (λ n. n + 1) h.fed) (whole_front _ bytes r h))) refl (fed_more _ _ _ h.fed) h.room
+symbol_means symbol.Close m (Some c) t k bytes byte i r h =
+    front_reads _ _ (subst (λ (x : ℕ). WholeItems None (bytes ++ x ∷ []) (settled (state m (Some c) t k)).moves) (sym i) (front_close _ c _ _ refl (whole_front _ bytes r h))) refl (fed_more _ _ _ h.fed) h.room
 symbol_means (symbol.Base x) m o t k bytes byte i r h = base_means _ bytes byte x r h i
 symbol_means symbol.Wide m o (last.Bare (base.Face f)) k bytes byte i r h =
     goes_on m o _ (last.Bare (base.Wide f)) k bytes byte h (follows h.is_last i) (omega (arith, h.room, count_more o m (token_of (base.Face f) Quarter ∷ []), count_more o m (token_of (base.Wide f) Quarter ∷ [])))
@@ -207,27 +196,15 @@ symbol_means symbol.Cut m o (last.Doubled f) k bytes byte i r h =
     goes_on m o _ (last.FirstByte (token_of f Half)) k bytes byte h (begins_cut _ _ _ (Spelled f (TwoPrime Typographic)) _ h.is_last i (append_assoc (base_bytes f) (50 ∷ []) (0xE2 ∷ 0x80 ∷ 0x99 ∷ [])) refl) h.room
 symbol_means x m o t k bytes byte i r h = refl
 
-first_means : (m : Moves) (o : Option ℕ) (t : Token) (k : ℕ) (bytes : List ℕ) (byte : ℕ) → Reads (state m o (last.FirstByte t) k) bytes → Outcome (NotAMove (k + 1 - 1)) (bytes ++ byte ∷ []) (fed_to (k + 1) (step_at 256 (last.FirstByte t) (state m o (last.FirstByte t) k) byte))
-unfolding state
-first_means m o t k bytes byte h =
-    by_test (eqb byte 0x80) (NotAMove (k + 1 - 1)) (NotAMove k) (bytes ++ byte ∷ []) (k + 1) (with_last (last.SecondByte t) (state m o (last.FirstByte t) k))
-    (λ e. goes_on m o _ (last.SecondByte t) k bytes byte h (goes (eqb-true _ _ e)) h.room) (ap NotAMove (omega arith))
-  where
-    goes : byte ≡ 0x80 → IsCutMove t LacksOne (h.rest ++ byte ∷ [])
-    goes e =
-        record {
-          piece = h.is_last.piece;
-          bytes_are = append_assoc h.rest (byte ∷ []) (0x99 ∷ []) ∙ ap (λ z. h.rest ++ z ∷ 0x99 ∷ []) e ∙ h.is_last.bytes_are;
-          moves_are = h.is_last.moves_are;
-          long = omega (arith, h.is_last.long, length-append h.rest (byte ∷ []));
-        }
-
-second_means : (m : Moves) (o : Option ℕ) (t : Token) (k : ℕ) (bytes : List ℕ) (byte : ℕ) → Reads (state m o (last.SecondByte t) k) bytes → Outcome (NotAMove (k + 1 - 2)) (bytes ++ byte ∷ []) (fed_to (k + 1) (step_at 256 (last.SecondByte t) (state m o (last.SecondByte t) k) byte))
-unfolding state
-second_means m o t k bytes byte h =
-    by_test (eqb byte 0x99) (NotAMove (k + 1 - 2)) (NotAMove (k - 1)) (bytes ++ byte ∷ []) (k + 1) (settled (state m o (last.SecondByte t) k))
-    (λ e. front_reads _ _ (subst (λ (z : ℕ). WholeItems o (bytes ++ z ∷ []) (with_more o m (t ∷ []))) (sym (eqb-true _ _ e)) (settled_front _ bytes h)) refl (fed_more _ _ _ h.fed) h.room)
-    (ap NotAMove (omega arith))
+-- a U+2019 of which two bytes stand there
+goes_cut : (t : Token) (bytes : List ℕ) (byte : ℕ) → IsCutMove t LacksTwo bytes → byte ≡ 0x80 → IsCutMove t LacksOne (bytes ++ byte ∷ [])
+goes_cut t bytes byte h e =
+    record {
+      piece = h.piece;
+      bytes_are = append_assoc bytes (byte ∷ []) (0x99 ∷ []) ∙ ap (λ z. bytes ++ z ∷ 0x99 ∷ []) e ∙ h.bytes_are;
+      moves_are = h.moves_are;
+      long = omega (arith, h.long, length-append bytes (byte ∷ []));
+    }
 
 -- A step keeps what the state stands for, or refuses the byte by its fault there.
 pub step_means : (s : State) (bytes : List ℕ) (byte : ℕ) → Reads s bytes → Outcome (fault_at (cut_of s.last) (is_some s.bracket) byte (s.fed + 1)) (bytes ++ byte ∷ []) (step s byte)
@@ -235,6 +212,11 @@ unfolding step_within state
 step_means s bytes byte h = by_last s.moves s.bracket s.last s.fed h
   where
     by_last : (m : Moves) (o : Option ℕ) (t : LastMove) (k : ℕ) → Reads (state m o t k) bytes → Outcome (fault_at (cut_of t) (is_some o) byte (k + 1)) (bytes ++ byte ∷ []) (fed_to (k + 1) (step_at 256 t (state m o t k) byte))
-    by_last m o (last.FirstByte t) k h = first_means m o t k bytes byte h
-    by_last m o (last.SecondByte t) k h = second_means m o t k bytes byte h
+    by_last m o (last.FirstByte t) k h =
+        by_test (eqb byte 0x80) (NotAMove (k + 1 - 1)) (NotAMove k) (bytes ++ byte ∷ []) (k + 1) (with_last (last.SecondByte t) (state m o (last.FirstByte t) k))
+        (λ e. goes_on m o _ (last.SecondByte t) k bytes byte h (goes_cut t h.rest byte h.is_last (eqb-true _ _ e)) h.room) (ap NotAMove (omega arith))
+    by_last m o (last.SecondByte t) k h =
+        by_test (eqb byte 0x99) (NotAMove (k + 1 - 2)) (NotAMove (k - 1)) (bytes ++ byte ∷ []) (k + 1) (settled (state m o (last.SecondByte t) k))
+        (λ e. front_reads _ _ (subst (λ (z : ℕ). WholeItems o (bytes ++ z ∷ []) (with_more o m (t ∷ []))) (sym (eqb-true _ _ e)) (settled_front _ bytes h)) refl (fed_more _ _ _ h.fed) h.room)
+        (ap NotAMove (omega arith))
     by_last m o t k h = symbol_means (symbol_of byte) m o t k bytes byte (symbol_is byte) refl h
