@@ -102,7 +102,7 @@ one_opening (x ∷ a) b [] d e p q =
 one_opening (x ∷ a) b (y ∷ c) d e p q =
     let t : a ++ 40 ∷ b ≡ c ++ 40 ∷ d = cc in ap suc (one_opening a b c d t p q)
 
--- what a cut at the end is a fault of
+-- the fault of a cut at the end
 cut_ended : (c : Cut) (s : State) (column : ℕ) → 0 < cut_length c → column + cut_length c ≡ s.fed + 1 → ended_by c s ≡ Err (NotAMove column)
 cut_ended Whole s column p e = absurd (omega (arith, p))
 cut_ended LacksOne s column p e = ap (λ n. Err (NotAMove n)) (omega (arith, e))

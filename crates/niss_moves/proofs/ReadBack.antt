@@ -3,7 +3,7 @@ use Rattle.niss_moves.proofs.Names.{◌≤◌, Bool, ◌&&◌, nat_le, take, get
 use Rattle.niss_moves.proofs.Names.{append_assoc, append-nil, arith, length-append, ◌≡◌, ℕ, ◌-◌, List, [], ◌∷◌, ◌++◌, length, map, flat_map}
 use Rattle.niss_moves.proofs.Names.{slice_get, face_letter, base_bytes, Suffix, Nothing, Two, Prime, Plain, suffix_bytes, suffix_power}
 use Rattle.niss_moves.proofs.Names.{Space, Gap, Spelled, Item, Outside, item_bytes, item_normal, item_bracketed, Spells, word, power_bytes}
-use Rattle.niss_moves.proofs.Names.{gap, gap_after, with_word, with_words, Face, Power, Quarter, Half, Counter, Token, Base, token_of}
+use Rattle.niss_moves.proofs.Names.{gap, gap_after, with_word, with_words, Power, Quarter, Half, Counter, Token, Base, token_of}
 use lib.Pointwise.{pointwise}
 use Rattle.std.proofs.lemmas.Bool.{and_parts, leb-true}
 use Rattle.std.specs.Cmp.Lexicographic.{bytes_decides}
@@ -50,7 +50,7 @@ item_move : (t : Token) → item_normal (move_item t) ≡ t ∷ []
 item_move (token.Face t) = ap (λ p. token.Face (record t { power = p }) ∷ []) (power_is t.power)
 item_move t = ap (λ p. token_of (base_of t) p ∷ []) (power_is (power_of t))
 
--- after a word stands a space
+-- what stands past some bytes
 past : (a w : List ℕ) (k n : ℕ) → n ≡ length a + k → slice_get (a ++ w) n ≡ slice_get w k
 past [] w k n e = ap (slice_get w) (omega (arith, e))
 past (x ∷ a) w k zero e = absurd (omega (arith, e))
@@ -64,6 +64,7 @@ words_gap : every_token (λ t. pointwise eqb (gap (word t)) (32 ∷ [])) ≡ tru
 unfolding every_token every_power every_face every_slice every_axis
 words_gap = refl
 
+-- after a word stands a space
 pub gap_word : (a : List ℕ) (t : Token) → gap (a ++ word t) ≡ 32 ∷ []
 gap_word a t =
     ap gap_after (past a (word t) (length (word t) - 1) (length (a ++ word t) - 1) (omega (arith, length-append a (word t), long_word t)))

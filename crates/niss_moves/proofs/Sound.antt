@@ -3,10 +3,10 @@ use Rattle.std.proofs.Common.{◌≡◌, ℕ, ◌+◌, ◌-◌, ◌≤◌, Bool,
 use Rattle.std.proofs.lemmas.Bool.{ltb-true, eqb-true}
 use Rattle.std.proofs.Math.Path.{subst₃}
 use Rattle.std.proofs.lemmas.List.Concat.{flat_map-append}
-use Rattle.niss_moves.specs.Notation.{token_of, base_bytes, Typographic, Plain, Nothing, Two, Prime, TwoPrime, blank_byte}
+use Rattle.niss_moves.specs.Notation.{token_of, base_bytes, Typographic, Plain, Nothing, Two, Prime, TwoPrime}
 use Rattle.niss_moves.specs.Line.{Moves, Piece, Gap, Spelled, piece_bytes, piece_moves, Item, Outside, Bracket, item_bytes, item_normal, item_bracketed}
 use Rattle.niss_moves.specs.Faults.{Cut, Whole, LacksOne, LacksTwo, cut_ending, cut_length}
-use Rattle.niss_moves.specs.Machine.{cut_of, symbol_of, State, start, with_more, settled, opened, closed, begun, count, with_last, fed_to, step_by, step_at, step, step_within}
+use Rattle.niss_moves.specs.Machine.{cut_of, symbol_of, State, start, with_more, settled, count, with_last, fed_to, step_by, step_at, step, step_within}
 use Rattle.niss_moves.specs.Names.{Quarter, Half, Counter, Token, Base, Symbol, LastMove, ReadFault, NotAMove, Nested, Unopened, TooLong}
 use Rattle.niss_moves.specs.declared.base.Base.TheVariants as base
 use Rattle.niss_moves.specs.declared.partial_line.LastMove.TheVariants as last
@@ -129,21 +129,18 @@ by_test : (c : Bool) (fault f : ReadFault) (bytes : List ℕ) (k : ℕ) (t : Sta
 by_test true fault f bytes k t h e = h refl
 by_test false fault f bytes k t h e = e
 
-base_means : (s : State) (bytes : List ℕ) (byte : ℕ) (b : Base) → cut_of s.last ≡ Whole → Reads s bytes → base_bytes b ≡ byte ∷ [] → Outcome (TooLong (s.fed + 1)) (bytes ++ byte ∷ []) (fed_to (s.fed + 1) (begun 256 b s))
-base_means s bytes byte b r h k =
-    by_test (nat_lt (count (settled s)) 256) (TooLong (s.fed + 1)) (TooLong (s.fed + 1)) (bytes ++ byte ∷ []) (s.fed + 1) (with_last (last.Bare b) (settled s)) begins refl
-  where
-    begins : nat_lt (count (settled s)) 256 ≡ true → Reads (counted (with_last (last.Bare b) (settled s))) (bytes ++ byte ∷ [])
-    begins e =
-        record {
-          front = bytes;
-          rest = byte ∷ [];
-          bytes_are = refl;
-          is_front = whole_front s bytes r h;
-          is_last = sym k;
-          fed = fed_more _ _ _ h.fed;
-          room = omega (arith, ltb-true _ _ e, count_more s.bracket (settled s).moves (token_of b Quarter ∷ []));
-        }
+-- a move begins
+begins : (s : State) (bytes : List ℕ) (byte : ℕ) (b : Base) → cut_of s.last ≡ Whole → Reads s bytes → base_bytes b ≡ byte ∷ [] → nat_lt (count (settled s)) 256 ≡ true → Reads (counted (with_last (last.Bare b) (settled s))) (bytes ++ byte ∷ [])
+begins s bytes byte b r h k e =
+    record {
+      front = bytes;
+      rest = byte ∷ [];
+      bytes_are = refl;
+      is_front = whole_front s bytes r h;
+      is_last = sym k;
+      fed = fed_more _ _ _ h.fed;
+      room = omega (arith, ltb-true _ _ e, count_more s.bracket (settled s).moves (token_of b Quarter ∷ []));
+    }
 
 -- the last move goes on
 goes_on : (m : Moves) (o : Option ℕ) (t u : LastMove) (k : ℕ) (bytes : List ℕ) (byte : ℕ) (h : Reads (state m o t k) bytes) → IsLast u (h.rest ++ byte ∷ [])
@@ -181,7 +178,8 @@ symbol_means symbol.Open m None t k bytes byte i r h =
     front_reads _ _ (subst (λ (x : ℕ). WholeItems (Some (k + 1)) (bytes ++ x ∷ []) (settled (state m None t k)).moves) (sym i) (front_open _ (k + 1) _ _ refl (ap (λ n. n + 1) h.fed) (whole_front _ bytes r h))) refl (fed_more _ _ _ h.fed) h.room
 symbol_means symbol.Close m (Some c) t k bytes byte i r h =
     front_reads _ _ (subst (λ (x : ℕ). WholeItems None (bytes ++ x ∷ []) (settled (state m (Some c) t k)).moves) (sym i) (front_close _ c _ _ refl (whole_front _ bytes r h))) refl (fed_more _ _ _ h.fed) h.room
-symbol_means (symbol.Base x) m o t k bytes byte i r h = base_means _ bytes byte x r h i
+symbol_means (symbol.Base x) m o t k bytes byte i r h =
+    by_test (nat_lt (count (settled (state m o t k))) 256) (TooLong (k + 1)) (TooLong (k + 1)) (bytes ++ byte ∷ []) (k + 1) (with_last (last.Bare x) (settled (state m o t k))) (begins _ bytes byte x r h i) refl
 symbol_means symbol.Wide m o (last.Bare (base.Face f)) k bytes byte i r h =
     goes_on m o _ (last.Bare (base.Wide f)) k bytes byte h (follows h.is_last i) (omega (arith, h.room, count_more o m (token_of (base.Face f) Quarter ∷ []), count_more o m (token_of (base.Wide f) Quarter ∷ [])))
 symbol_means symbol.Two m o (last.Bare f) k bytes byte i r h =
