@@ -24,9 +24,9 @@ spaced (t ∷ ts) = (32 ∷ word t) ++ spaced ts
 after_word : (text : List ℕ) (ts : List Token) → gap text ≡ 32 ∷ [] → text ++ spaced ts ≡ with_words text (map word ts)
 after_word text [] g = append-nil text
 after_word text (t ∷ ts) g =
-    let one : text ++ (32 ∷ word t) ≡ with_word text (word t) = sym (append_assoc text (32 ∷ []) (word t)) ∙ ap (λ x. (text ++ x) ++ word t) (sym g) in
-    sym (append_assoc text (32 ∷ word t) (spaced ts)) ∙ after_word (text ++ (32 ∷ word t)) ts (ap gap (sym (append_assoc text (32 ∷ []) (word t))) ∙ gap_word (text ++ 32 ∷ []) t)
-    ∙ ap (λ x. with_words x (map word ts)) one
+    let at = text ++ 32 ∷ [] in
+    sym (append_assoc text (32 ∷ []) (word t ++ spaced ts)) ∙ sym (append_assoc at (word t) (spaced ts))
+    ∙ after_word (at ++ word t) ts (gap_word at t) ∙ ap (λ x. with_words ((text ++ x) ++ word t) (map word ts)) (sym g)
 
 -- all words after a text, none of them written
 all_gathered : (text : List ℕ) (no_gap : Bool) (ts : List Token) → gap text ≡ (if no_gap then [] else 32 ∷ []) → with_gathered text no_gap (spaced ts) ≡ with_words text (map word ts)

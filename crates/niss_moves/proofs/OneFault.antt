@@ -3,8 +3,8 @@ use Rattle.niss_moves.proofs.Names.{refl, ap, sym, ◌∙◌, arith, inl, inr, �
 use Rattle.niss_moves.proofs.Names.{length, take, drop, Option, None, Some, Result, Ok, Err, suc, ◌==◌, ◌||◌, not, has_no_bracket, Cut}
 use Rattle.niss_moves.proofs.Names.{Whole, LacksOne, LacksTwo, cut_length, cut_ending, bracket_ending, Continues, CanContinue, BeginsBase}
 use Rattle.niss_moves.proofs.Names.{StopsAt, Stops, Lacks, Faults, symbol_of, State, start, step, step_within, and_then, run, read_line}
-use Rattle.niss_moves.proofs.Names.{ended, ended_by, cut_of, is_some, ended_in, Moves, Symbol, LastMove, ReadFault, NotAMove, Nested, Unopened, Unclosed}
-use Rattle.niss_moves.proofs.Names.{TooLong}
+use Rattle.niss_moves.proofs.Names.{ended, ended_by, cut_of, is_some, ended_in, Moves, Symbol, LastMove, ReadFault, NotAMove, Nested}
+use Rattle.niss_moves.proofs.Names.{Unopened, Unclosed, TooLong}
 use Rattle.std.proofs.lemmas.List.{take-append-drop, take_more, length-take-le}
 use Rattle.niss_moves.specs.declared.partial_line.LastMove.TheVariants as last
 use Rattle.niss_moves.specs.declared.symbol.Symbol.TheVariants as symbol
@@ -105,7 +105,6 @@ one_opening (x ∷ a) b (y ∷ c) d e p q =
 -- the fault of a cut at the end
 cut_ended : (c : Cut) (s : State) (column : ℕ) → 0 < cut_length c → column + cut_length c ≡ s.fed + 1 → ended_by c s ≡ Err (NotAMove column)
 cut_ended Whole s column p e = absurd (omega (arith, p))
-cut_ended LacksOne s column p e = ap (λ n. Err (NotAMove n)) (omega (arith, e))
 cut_ended _ s column p e = ap (λ n. Err (NotAMove n)) (omega (arith, e))
 
 pub lacks_continue : (bytes : List ℕ) (f : ReadFault) → Lacks bytes f → CanContinue bytes
@@ -117,8 +116,7 @@ lacks_ended : (bytes : List ℕ) (f : ReadFault) → Lacks bytes f → ended (ru
 lacks_ended bytes (NotAMove column) h =
     let w = continued_ok bytes (lacks_continue bytes (NotAMove column) h) in
     let one = one_ending bytes w.0 h.1 h.0 w.1 h.3.ends_so in
-    let r = reads_all bytes w.0 w.1 in
-    ap ended w.1 ∙ ap (λ c. ended_by c w.0) one.0 ∙ cut_ended h.1 w.0 column h.2 (omega (arith, h.4, r.fed))
+    ap ended w.1 ∙ ap (λ c. ended_by c w.0) one.0 ∙ cut_ended h.1 w.0 column h.2 (omega (arith, h.4, (reads_all bytes w.0 w.1).fed))
 lacks_ended bytes (Unclosed column) h =
     let w = continued_ok bytes (lacks_continue bytes (Unclosed column) h) in
     let one = one_ending bytes w.0 Whole true w.1 h.0.ends_so in

@@ -62,8 +62,7 @@ run_front a b s t e = front_ok (run s a) (λ u. run u b) t (sym (run-append 256 
 
 pub continued_ok : (bytes : List ℕ) → CanContinue bytes → (s : State) × (run start bytes ≡ Ok s)
 continued_ok bytes h =
-    let line = h.2 in
-    let r = read_line_of _ line in
+    let r = read_line_of _ h.2 in
     let one = run_front (bytes ++ cut_ending h.0) (bracket_ending h.1) start r.end r.ran in
     run_front bytes (cut_ending h.0) start one.0 one.1
 
@@ -77,9 +76,8 @@ stop_at front rest byte s f e g =
       within = omega (arith, length-append front (byte ∷ rest));
       byte_is = sym (ap (λ n. get_or (front ++ byte ∷ rest) n 0) here ∙ get_or-append_seam front byte rest 0);
       before = λ k h.
-          let le : k ≤ length front = omega arith in
           let t = run_front (take k front) (drop k front) start s (ap (run start) (take-append-drop k front) ∙ e) in
-          subst CanContinue (sym (take-append-le k front (byte ∷ rest) le)) (can_continue (take k front) t.0 t.1);
+          subst CanContinue (sym (take-append-le k front (byte ∷ rest) (omega arith))) (can_continue (take k front) t.0 t.1);
       ends_so = subst (λ (x : List ℕ). Continues x (cut_of s.last) (is_some s.bracket)) (sym whole) (continues s front (reads_all front s e));
       stops = λ h.
           let w = continued_ok (front ++ byte ∷ []) (subst CanContinue (take-append-add front (byte ∷ rest) 1) h) in

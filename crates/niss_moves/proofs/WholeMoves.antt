@@ -2,8 +2,8 @@
 use Rattle.niss_moves.proofs.Names.{◌≡◌, ℕ, ◌+◌, ◌<◌, ap, sym, ◌∙◌, subst, List, [], ◌∷◌, ◌++◌, length, take, take-add, drop, get_or, Ok}
 use Rattle.niss_moves.proofs.Names.{Some, arith, length-append, inl, inr, ap₂, ◌≢◌, ◌==◌, ◌||◌, ◌*◌, nat_lt, not, Bool, true, false, Gap}
 use Rattle.niss_moves.proofs.Names.{Spelled, token_of, base_bytes, Nothing, Two, Prime, TwoPrime, Blank, blank_byte, State, added, settled}
-use Rattle.niss_moves.proofs.Names.{with_last, count, run, IsSuffix, IsMove, BeginsApostrophe, cut_of, HasNoLineFeed, Power, Quarter, Half, Counter}
-use Rattle.niss_moves.proofs.Names.{Token, Base}
+use Rattle.niss_moves.proofs.Names.{with_last, count, run, IsSuffix, IsMove, BeginsApostrophe, cut_of, HasNoLineFeed, Power, Quarter, Half}
+use Rattle.niss_moves.proofs.Names.{Counter, Token, Base}
 use mir.Val.{bool_byte}
 use Rattle.std.proofs.lemmas.List.{take_more}
 use Rattle.std.proofs.lemmas.List.Elements.{All-append}
@@ -74,12 +74,11 @@ taken_next old mid new bytes rest i k t e h few is pushed =
     let a = take i bytes in
     let b = take k rest in
     let same : a ++ b ≡ take (i + k) bytes = ap (λ (xs : List ℕ). a ++ take k xs) e ∙ sym (take-add i k bytes) in
-    let here = record mid { fed = old.fed + length a } in
     let sum : old.fed + length a + length b ≡ old.fed + length (a ++ b) = omega (arith, length-append a b) in
     subst (λ (xs : List ℕ). HasTaken old new xs) same
     (record {
       runs =
-          run_after 256 old _ a b h.runs ∙ move_run here b t h.finished few is ∙ (λ i. Ok (record (sym pushed i) { fed = sum i }));
+          run_after 256 old _ a b h.runs ∙ move_run (record mid { fed = old.fed + length a }) b t h.finished few is ∙ (λ i. Ok (record (sym pushed i) { fed = sum i }));
       uncounted = ap (λ (s : State). s.fed) pushed ∙ h.uncounted;
       finished = ap (λ (s : State). s.last) pushed;
       inside = All-append (λ b. b ≢ 10) a b h.inside (no_line_feed b t is);
