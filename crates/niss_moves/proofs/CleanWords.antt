@@ -1,8 +1,6 @@
 -- A cleaned line written out.
-use Rattle.niss_moves.proofs.Names.{◌≡◌, ℕ, refl, ap, sym, ◌∙◌, true, false, List, [], ◌∷◌, ◌++◌, length, map, ap₂, ◌==◌, inverse}
-use Rattle.niss_moves.proofs.Names.{word, with_word, with_words, cleaned_words, with_bracket}
-use Rattle.niss_moves.proofs.Names.{is_empty, Turn, Token, Rotation}
-use Rattle.std.proofs.lemmas.List.{map-append}
+use Rattle.niss_moves.proofs.Names.{◌≡◌, ℕ, refl, ap, sym, ◌∙◌, true, false, List, [], ◌∷◌, ◌++◌, length, ◌==◌, with_word, with_words}
+use Rattle.niss_moves.proofs.Names.{cleaned_words, with_bracket, is_empty, Turn, Rotation}
 
 with_words-append : (t : List ℕ) (a b : List (List ℕ)) → with_words t (a ++ b) ≡ with_words (with_words t a) b
 with_words-append t [] b = refl
@@ -10,13 +8,6 @@ with_words-append t (w ∷ a) b = with_words-append (with_word t w) a b
 
 pub words_after : (old mid new : List ℕ) (a b : List (List ℕ)) → mid ≡ with_words old a → new ≡ with_words mid b → new ≡ with_words old (a ++ b)
 words_after old mid new a b e f = f ∙ ap (λ t. with_words t b) e ∙ sym (with_words-append old a b)
-
--- the words of moves and then of the inverse of others
-pub words_joined : (old mid new : List ℕ) (a x y b : List Token) → mid ≡ with_words old (map word x) → new ≡ with_words mid (map word (inverse y)) → x ≡ a → y ≡ b
-    → new ≡ with_words old (map word (a ++ inverse b))
-words_joined old mid new a x y b p q e f =
-    q ∙ ap₂ (λ (t : List ℕ) (s : List Token). with_words t (map word (inverse s))) (p ∙ ap (λ s. with_words old (map word s)) e) f
-    ∙ sym (with_words-append old (map word a) (map word (inverse b))) ∙ ap (with_words old) (sym (map-append word a (inverse b)))
 
 pub bracket_empty : (t : List ℕ) (ws : List (List ℕ)) → is_empty ws ≡ true → with_bracket t ws ≡ t
 bracket_empty t [] e = refl

@@ -1,14 +1,13 @@
 -- What is spelled is read.
 use Rattle.niss_moves.proofs.Names.{refl, ap, sym, ◌∙◌, append_assoc, append-nil, arith, length-append, ◌≡◌, ℕ, ◌+◌, ◌<◌, ◌≤◌, List, []}
-use Rattle.niss_moves.proofs.Names.{◌∷◌, ◌++◌, length, flat_map, Option, None, Some, Result, Ok, Err, cond, face_letter, lower_letter}
-use Rattle.niss_moves.proofs.Names.{slice_letter, rotation_letter, base_bytes, token_of, Plain, Typographic, Suffix, Nothing, Two}
-use Rattle.niss_moves.proofs.Names.{Prime, TwoPrime, suffix_bytes, suffix_power, Blank, blank_byte, Piece, Gap, Spelled, piece_bytes}
-use Rattle.niss_moves.proofs.Names.{piece_moves, Item, Outside, Bracket, item_bytes, item_normal, item_bracketed, Spells, symbol_of}
-use Rattle.niss_moves.proofs.Names.{State, start, outside, inside, added, settled, opened, closed, count, with_last, fed_to, step_by}
-use Rattle.niss_moves.proofs.Names.{step_at, step_within, and_then, run_within, Face, Half, Counter, Token, Base, LastMove, ReadFault}
-use Rattle.niss_moves.proofs.Names.{TooLong}
+use Rattle.niss_moves.proofs.Names.{◌∷◌, ◌++◌, length, flat_map, Option, None, Some, Result, Ok, Err, cond, face_letter, base_bytes}
+use Rattle.niss_moves.proofs.Names.{token_of, cut_of, Whole, Plain, Typographic, Suffix, Nothing, Two, Prime, TwoPrime}
+use Rattle.niss_moves.proofs.Names.{suffix_bytes, suffix_power, Blank, blank_byte, Piece, Gap, Spelled, piece_bytes, piece_moves, Item}
+use Rattle.niss_moves.proofs.Names.{Outside, Bracket, item_bytes, item_normal, item_bracketed, Spells, IsLine, Moves, symbol_of, State}
+use Rattle.niss_moves.proofs.Names.{start, with_more, added, settled, opened, closed, count, with_last, fed_to, step_by, step_at}
+use Rattle.niss_moves.proofs.Names.{step_within, and_then, run_within, Face, Half, Counter, Token, Base, LastMove, ReadFault, TooLong}
 use Rattle.std.proofs.lemmas.Bool.{lt-ltb}
-use Rattle.niss_moves.proofs.Symbols.{symbol_of_face, symbol_of_lower, symbol_of_slice, symbol_of_rotation, symbol_of_blank}
+use Rattle.niss_moves.proofs.Symbols.{symbol_of_letter, symbol_of_blank}
 use Rattle.niss_moves.specs.declared.base.Base.TheVariants as base
 use Rattle.niss_moves.specs.declared.partial_line.LastMove.TheVariants as last
 use Rattle.niss_moves.specs.declared.symbol.Symbol.TheVariants as symbol
@@ -22,61 +21,46 @@ run-append limit s [] b = refl
 run-append limit s (x ∷ a) b =
     and_then-assoc (step_within limit s x) (λ t. run_within limit t a) (λ t. run_within limit t b) (λ t. run_within limit t (a ++ b)) (λ t. run-append limit t a b)
 
--- no U+2019 is cut
-abbrev pub IsReady : LastMove → Type 0
-IsReady (last.FirstByte t) = ⊥
-IsReady (last.SecondByte t) = ⊥
-IsReady _ = Unit {0}
+pub run_after : (limit : ℕ) → (s t : State) (a b : List ℕ) → run_within limit s a ≡ Ok t → run_within limit s (a ++ b) ≡ run_within limit t b
+run_after limit s t a b e = run-append limit s a b ∙ ap (λ r. and_then r (λ t. run_within limit t b)) e
 
 -- a state by its parts
-unfoldable pub state : List Token → List Token → Option ℕ → LastMove → ℕ → State
-state n b o t k = record { normal = n; bracketed = b; bracket = o; last = t; fed = k }
+unfoldable pub state : Moves → Option ℕ → LastMove → ℕ → State
+state m o t k = record { moves = m; bracket = o; last = t; fed = k }
 
 -- one more byte was fed
 abbrev pub counted : State → State
 counted s = record s { fed = s.fed + 1 }
 
-pub step_ready : (limit : ℕ) → (s : State) (byte : ℕ) → IsReady s.last → step_within limit s byte ≡ fed_to (s.fed + 1) (step_by limit (symbol_of byte) s)
+pub step_ready : (limit : ℕ) → (s : State) (byte : ℕ) → cut_of s.last ≡ Whole → step_within limit s byte ≡ fed_to (s.fed + 1) (step_by limit (symbol_of byte) s)
 unfolding step_within
 step_ready limit s byte h = ap (fed_to (s.fed + 1)) (at s.last h)
   where
-    at : (t : LastMove) → IsReady t → step_at limit t s byte ≡ step_by limit (symbol_of byte) s
-    at last.Finished h = refl
-    at (last.Bare b) h = refl
-    at (last.Doubled b) h = refl
-    at (last.FirstByte t) h = absurd h
-    at (last.SecondByte t) h = absurd h
+    at : (t : LastMove) → cut_of t ≡ Whole → step_at limit t s byte ≡ step_by limit (symbol_of byte) s
+    at (last.FirstByte t) h = absurd (cc)
+    at (last.SecondByte t) h = absurd (cc)
+    at _ h = refl
 
 -- a base is read
-begun_ready : (limit : ℕ) → (s : State) (byte : ℕ) (b : Base) → IsReady s.last → count (settled s) < limit → symbol_of byte ≡ symbol.Base b → step_within limit s byte ≡ Ok (counted (with_last (last.Bare b) (settled s)))
+begun_ready : (limit : ℕ) → (s : State) (byte : ℕ) (b : Base) → cut_of s.last ≡ Whole → count (settled s) < limit → symbol_of byte ≡ symbol.Base b → step_within limit s byte ≡ Ok (counted (with_last (last.Bare b) (settled s)))
 begun_ready limit s byte b h room e =
     step_ready limit s byte h ∙ ap (λ k. fed_to (s.fed + 1) (step_by limit k s)) e ∙ ap (λ c. fed_to (s.fed + 1) (cond c (Ok (with_last (last.Bare b) (settled s))) (Err (TooLong (s.fed + 1))))) (lt-ltb _ _ room)
-
-run_one : (limit : ℕ) → (s t : State) (x : ℕ) → step_within limit s x ≡ Ok t → run_within limit s (x ∷ []) ≡ Ok t
-run_one limit s t x e = ap (λ r. and_then r (λ s. run_within limit s [])) e
 
 run_on : (limit : ℕ) → (s t : State) (x : ℕ) (bs : List ℕ) → step_within limit s x ≡ Ok t → run_within limit s (x ∷ bs) ≡ run_within limit t bs
 run_on limit s t x bs e = ap (λ r. and_then r (λ s. run_within limit s bs)) e
 
-based : State → Base → ℕ → State
+abbrev based : State → Base → ℕ → State
 based s b n = record (settled s) { last = last.Bare b; fed = n }
 
 step_wide : (limit : ℕ) → (s : State) (f : Face) (n : ℕ) → step_within limit (based s (base.Face f) n) 119 ≡ Ok (based s (base.Wide f) (n + 1))
-unfolding step_within symbol_of based
+unfolding step_within symbol_of
 step_wide limit s f n = refl
 
-run_base : (limit : ℕ) → (s : State) (b : Base) → IsReady s.last → count (settled s) < limit → run_within limit s (base_bytes b) ≡ Ok (based s b (s.fed + length (base_bytes b)))
-unfolding based
-run_base limit s (base.Face f) h room =
-    run_one limit s _ (face_letter f) (begun_ready limit s _ (base.Face f) h room (symbol_of_face f))
+run_base : (limit : ℕ) → (s : State) (b : Base) → cut_of s.last ≡ Whole → count (settled s) < limit → run_within limit s (base_bytes b) ≡ Ok (based s b (s.fed + length (base_bytes b)))
 run_base limit s (base.Wide f) h room =
-    run_on limit s _ (face_letter f) (119 ∷ []) (begun_ready limit s _ (base.Face f) h room (symbol_of_face f)) ∙ run_one limit _ _ 119 (step_wide limit s f (s.fed + 1)) ∙ ap (λ n. Ok (based s (base.Wide f) n)) (omega arith)
-run_base limit s (base.LowerCase f) h room =
-    run_one limit s _ (lower_letter f) (begun_ready limit s _ (base.LowerCase f) h room (symbol_of_lower f))
-run_base limit s (base.Slice l) h room =
-    run_one limit s _ (slice_letter l) (begun_ready limit s _ (base.Slice l) h room (symbol_of_slice l))
-run_base limit s (base.Rotation a) h room =
-    run_one limit s _ (rotation_letter a) (begun_ready limit s _ (base.Rotation a) h room (symbol_of_rotation a))
+    run_on limit s _ (face_letter f) (119 ∷ []) (begun_ready limit s _ (base.Face f) h room (symbol_of_letter (base.Face f)))
+    ∙ run_on limit _ _ 119 [] (step_wide limit s f (s.fed + 1)) ∙ ap (λ n. Ok (based s (base.Wide f) n)) (omega arith)
+run_base limit s b h room = run_on limit s _ _ [] (begun_ready limit s _ b h room (symbol_of_letter b))
 
 -- the state after a move, with so many bytes fed
 abbrev pub at_fed : State → Token → ℕ → State
@@ -86,113 +70,106 @@ at_fed s t n = record (added s (Some t)) { fed = n }
 pub record RanMove (limit : ℕ) (s : State) (bytes : List ℕ) (t : Token) : Type 0 where
   pub end : State
   pub ran : run_within limit s bytes ≡ Ok end
-  pub ready : IsReady end.last
+  pub ready : cut_of end.last ≡ Whole
   pub fed : end.fed ≡ s.fed + length bytes
   pub settles : settled end ≡ at_fed (settled s) t end.fed
 
-run_suffix : (limit : ℕ) → (s : State) (b : Base) (n : ℕ) (x : Suffix) → (end : State) × (run_within limit (based s b n) (suffix_bytes x) ≡ Ok end) × IsReady end.last × (end.fed ≡ n + length (suffix_bytes x)) × (settled end ≡ at_fed (settled s) (token_of b (suffix_power x)) end.fed)
-unfolding step_within symbol_of based
-run_suffix limit s b n Nothing = (based s b n, refl, tt, omega arith, refl)
-run_suffix limit s b n Two = (counted (with_last (last.Doubled b) (based s b n)), refl, tt, refl, refl)
-run_suffix limit s b n (Prime Plain) = (counted (added (based s b n) (Some (token_of b Counter))), refl, tt, refl, refl)
+run_suffix : (limit : ℕ) → (s : State) (b : Base) (n : ℕ) (x : Suffix) → (end : State) × (run_within limit (based s b n) (suffix_bytes x) ≡ Ok end) × cut_of end.last ≡ Whole × (end.fed ≡ n + length (suffix_bytes x)) × (settled end ≡ at_fed (settled s) (token_of b (suffix_power x)) end.fed)
+unfolding step_within symbol_of
+run_suffix limit s b n Nothing = (based s b n, refl, refl, omega arith, refl)
+run_suffix limit s b n Two = (counted (with_last (last.Doubled b) (based s b n)), refl, refl, refl, refl)
+run_suffix limit s b n (Prime Plain) = (counted (added (based s b n) (Some (token_of b Counter))), refl, refl, refl, refl)
 run_suffix limit s b n (Prime Typographic) =
-    (counted (counted (counted (added (based s b n) (Some (token_of b Counter))))), refl, tt, omega arith, refl)
-run_suffix limit s b n (TwoPrime Plain) = (counted (counted (added (based s b n) (Some (token_of b Half)))), refl, tt, omega arith, refl)
+    (counted (counted (counted (added (based s b n) (Some (token_of b Counter))))), refl, refl, omega arith, refl)
+run_suffix limit s b n (TwoPrime Plain) = (counted (counted (added (based s b n) (Some (token_of b Half)))), refl, refl, omega arith, refl)
 run_suffix limit s b n (TwoPrime Typographic) =
-    (counted (counted (counted (counted (added (based s b n) (Some (token_of b Half)))))), refl, tt, omega arith, refl)
+    (counted (counted (counted (counted (added (based s b n) (Some (token_of b Half)))))), refl, refl, omega arith, refl)
 
-ran_move : (limit : ℕ) → (s : State) (b : Base) (x : Suffix) → IsReady s.last → count (settled s) < limit → RanMove limit s (base_bytes b ++ suffix_bytes x) (token_of b (suffix_power x))
+ran_move : (limit : ℕ) → (s : State) (b : Base) (x : Suffix) → cut_of s.last ≡ Whole → count (settled s) < limit → RanMove limit s (base_bytes b ++ suffix_bytes x) (token_of b (suffix_power x))
 ran_move limit s b x h room =
     let rest = run_suffix limit s b (s.fed + length (base_bytes b)) x in
     record {
       end = rest.0;
-      ran = run-append limit s (base_bytes b) (suffix_bytes x) ∙ ap (λ r. and_then r (λ t. run_within limit t (suffix_bytes x))) (run_base limit s b h room) ∙ rest.1;
+      ran = run_after limit s _ (base_bytes b) (suffix_bytes x) (run_base limit s b h room) ∙ rest.1;
       ready = rest.2;
       fed = let e = rest.3 in omega (arith, e, length-append (base_bytes b) (suffix_bytes x));
       settles = rest.4;
     }
 
-step_blank : (limit : ℕ) → (s : State) (b : Blank) → IsReady s.last → step_within limit s (blank_byte b) ≡ Ok (counted (settled s))
+step_blank : (limit : ℕ) → (s : State) (b : Blank) → cut_of s.last ≡ Whole → step_within limit s (blank_byte b) ≡ Ok (counted (settled s))
 step_blank limit s b h = step_ready limit s (blank_byte b) h ∙ ap (λ k. fed_to (s.fed + 1) (step_by limit k s)) (symbol_of_blank b)
 
 -- a move and a blank
-pub run_move : (limit : ℕ) → (s : State) (b : Base) (x : Suffix) (k : Blank) → IsReady s.last → count (settled s) < limit
+pub run_move : (limit : ℕ) → (s : State) (b : Base) (x : Suffix) (k : Blank) → cut_of s.last ≡ Whole → count (settled s) < limit
     → run_within limit s (base_bytes b ++ suffix_bytes x ++ blank_byte k ∷ []) ≡ Ok (at_fed (settled s) (token_of b (suffix_power x)) (s.fed + length (base_bytes b ++ suffix_bytes x ++ blank_byte k ∷ [])))
 run_move limit s b x k h room =
     let one = ran_move limit s b x h room in
     let front = base_bytes b ++ suffix_bytes x in
     let sum : one.end.fed + 1 ≡ s.fed + length (front ++ blank_byte k ∷ []) = omega (arith, one.fed, length-append front (blank_byte k ∷ [])) in
-    run-append limit s front (blank_byte k ∷ []) ∙ ap (λ r. and_then r (λ t. run_within limit t (blank_byte k ∷ []))) one.ran
-    ∙ run_one limit one.end _ (blank_byte k) (step_blank limit one.end k one.ready) ∙ ap (λ t. Ok (counted t)) one.settles ∙ ap (λ n. Ok (at_fed (settled s) (token_of b (suffix_power x)) n)) sum
+    run_after limit s one.end front (blank_byte k ∷ []) one.ran
+    ∙ run_on limit one.end _ (blank_byte k) [] (step_blank limit one.end k one.ready) ∙ ap (λ t. Ok (counted t)) one.settles ∙ ap (λ n. Ok (at_fed (settled s) (token_of b (suffix_power x)) n)) sum
 
-pub outside_none : (o : Option ℕ) (n : List Token) → n ≡ outside o n []
-outside_none None n = sym (append-nil n)
-outside_none (Some c) n = refl
+pub more_none : (o : Option ℕ) (m : Moves) → m ≡ with_more o m []
+more_none None m = λ i. record m { normal = sym (append-nil m.normal) i }
+more_none (Some c) m = λ i. record m { bracketed = sym (append-nil m.bracketed) i }
 
-pub inside_none : (o : Option ℕ) (n : List Token) → n ≡ inside o n []
-inside_none None n = refl
-inside_none (Some c) n = sym (append-nil n)
+pub count_more : (o : Option ℕ) (m : Moves) (ts : List Token) → length (with_more o m ts).normal + length (with_more o m ts).bracketed ≡ length m.normal + length m.bracketed + length ts
+count_more None m ts = omega (arith, length-append m.normal ts)
+count_more (Some c) m ts = omega (arith, length-append m.bracketed ts)
 
-pub count_more : (o : Option ℕ) (n b m : List Token) → length (outside o n m) + length (inside o b m) ≡ length n + length b + length m
-count_more None n b m = omega (arith, length-append n m)
-count_more (Some c) n b m = omega (arith, length-append b m)
+-- moves and others after them
+abbrev joined : Moves → Moves → Moves
+joined m k = record { normal = m.normal ++ k.normal; bracketed = m.bracketed ++ k.bracketed }
 
--- what was read from a state on: these normal and these bracketed moves, and then a bracket is open or none is
-pub record Read (limit : ℕ) (s : State) (bytes : List ℕ) (n b : List Token) (o : Option ℕ) : Type 0 where
+abbrev no_moves : Moves
+no_moves = record { normal = []; bracketed = [] }
+
+more_is : (o : Option ℕ) (m : Moves) (ts : List Token) → with_more o m ts ≡ joined m (with_more o no_moves ts)
+more_is None m ts = λ i. record { normal = m.normal ++ ts; bracketed = sym (append-nil m.bracketed) i }
+more_is (Some c) m ts = λ i. record { normal = sym (append-nil m.normal) i; bracketed = m.bracketed ++ ts }
+
+-- the moves of items
+abbrev pub moves_in : List Item → Moves
+moves_in xs = record { normal = flat_map item_normal xs; bracketed = flat_map item_bracketed xs }
+
+-- what was read from a state on: these moves, and then a bracket is open or none is
+pub record Read (limit : ℕ) (s : State) (bytes : List ℕ) (m : Moves) (o : Option ℕ) : Type 0 where
   pub end : State
   pub ran : run_within limit s bytes ≡ Ok end
-  pub ready : IsReady end.last
-  pub normal : (settled end).normal ≡ (settled s).normal ++ n
-  pub bracketed : (settled end).bracketed ≡ (settled s).bracketed ++ b
+  pub ready : cut_of end.last ≡ Whole
+  pub moves : (settled end).moves ≡ joined (settled s).moves m
   pub bracket : end.bracket ≡ o
 
-read_none : (limit : ℕ) → (s : State) (o : Option ℕ) → IsReady s.last → s.bracket ≡ o → Read limit s [] [] [] o
+read_none : (limit : ℕ) → (s : State) (o : Option ℕ) → cut_of s.last ≡ Whole → s.bracket ≡ o → Read limit s [] no_moves o
 read_none limit s o h e =
-    record { end = s; ran = refl; ready = h; normal = sym (append-nil _); bracketed = sym (append-nil _); bracket = e }
+    record { end = s; ran = refl; ready = h; moves = more_none None _ ∙ more_is None _ []; bracket = e }
 
-read_more : (limit : ℕ) → (s : State) (a b : List ℕ) (m k p q : List Token) (o r : Option ℕ) (h : Read limit s a m p o) → Read limit h.end b k q r → Read limit s (a ++ b) (m ++ k) (p ++ q) r
-read_more limit s a b m k p q o r h g =
+read_more : (limit : ℕ) → (s : State) (a b : List ℕ) (m k : Moves) (o r : Option ℕ) (h : Read limit s a m o) → Read limit h.end b k r → Read limit s (a ++ b) (joined m k) r
+read_more limit s a b m k o r h g =
+    let at = (settled s).moves in
+    let assoc : joined (joined at m) k ≡ joined at (joined m k) = λ i. record { normal = append_assoc at.normal m.normal k.normal i; bracketed = append_assoc at.bracketed m.bracketed k.bracketed i } in
     record {
       end = g.end;
-      ran = run-append limit s a b ∙ ap (λ r. and_then r (λ t. run_within limit t b)) h.ran ∙ g.ran;
+      ran = run_after limit s h.end a b h.ran ∙ g.ran;
       ready = g.ready;
-      normal = g.normal ∙ ap (λ n. n ++ k) h.normal ∙ append_assoc (settled s).normal m k;
-      bracketed = g.bracketed ∙ ap (λ n. n ++ q) h.bracketed ∙ append_assoc (settled s).bracketed p q;
+      moves = g.moves ∙ ap (λ n. joined n k) h.moves ∙ assoc;
       bracket = g.bracket;
     }
 
-read_count : (limit : ℕ) → (s : State) (a : List ℕ) (m p : List Token) (o : Option ℕ) (h : Read limit s a m p o) → count (settled h.end) ≡ count (settled s) + length m + length p
-read_count limit s a m p o h =
-    let e = ap length h.normal in
-    let f = ap length h.bracketed in
-    omega (arith, length-append (settled s).normal m, length-append (settled s).bracketed p)
+read_count : (limit : ℕ) → (s : State) (a : List ℕ) (m : Moves) (o : Option ℕ) (h : Read limit s a m o) → count (settled h.end) ≡ count (settled s) + length m.normal + length m.bracketed
+read_count limit s a m o h =
+    let e = ap (λ (m : Moves). length m.normal) h.moves in
+    let f = ap (λ (m : Moves). length m.bracketed) h.moves in
+    omega (arith, length-append (settled s).moves.normal m.normal, length-append (settled s).moves.bracketed m.bracketed)
 
--- the moves of a piece, where a bracket is open or none is
-abbrev normal_in : Option ℕ → List Token → List Token
-normal_in None m = m
-normal_in (Some c) m = []
-
-abbrev bracketed_in : Option ℕ → List Token → List Token
-bracketed_in None m = []
-bracketed_in (Some c) m = m
-
-outside_is : (o : Option ℕ) (n m : List Token) → outside o n m ≡ n ++ normal_in o m
-outside_is None n m = refl
-outside_is (Some c) n m = sym (append-nil n)
-
-inside_is : (o : Option ℕ) (n m : List Token) → inside o n m ≡ n ++ bracketed_in o m
-inside_is None n m = sym (append-nil n)
-inside_is (Some c) n m = refl
-
-read_piece : (limit : ℕ) → (s : State) (p : Piece) (o : Option ℕ) → IsReady s.last → s.bracket ≡ o → count (settled s) + length (piece_moves p) ≤ limit
-    → Read limit s (piece_bytes p) (normal_in o (piece_moves p)) (bracketed_in o (piece_moves p)) o
+read_piece : (limit : ℕ) → (s : State) (p : Piece) (o : Option ℕ) → cut_of s.last ≡ Whole → s.bracket ≡ o → count (settled s) + length (piece_moves p) ≤ limit
+    → Read limit s (piece_bytes p) (with_more o no_moves (piece_moves p)) o
 read_piece limit s (Gap b) o h e room =
     record {
       end = counted (settled s);
-      ran = run_one limit s _ (blank_byte b) (step_blank limit s b h);
-      ready = tt;
-      normal = outside_none o _ ∙ outside_is o _ [];
-      bracketed = inside_none o _ ∙ inside_is o _ [];
+      ran = run_on limit s _ (blank_byte b) [] (step_blank limit s b h);
+      ready = refl;
+      moves = more_none o _ ∙ more_is o _ [];
       bracket = e;
     }
 read_piece limit s (Spelled b x) o h e room =
@@ -202,65 +179,64 @@ read_piece limit s (Spelled b x) o h e room =
       end = one.end;
       ran = one.ran;
       ready = one.ready;
-      normal = ap (λ (t : State). t.normal) one.settles ∙ ap (λ o. outside o (settled s).normal t) e ∙ outside_is o _ t;
-      bracketed = ap (λ (t : State). t.bracketed) one.settles ∙ ap (λ o. inside o (settled s).bracketed t) e ∙ inside_is o _ t;
+      moves = ap (λ (t : State). t.moves) one.settles ∙ ap (λ o. with_more o (settled s).moves t) e ∙ more_is o _ t;
       bracket = ap (λ (t : State). t.bracket) one.settles ∙ e;
     }
 
-read_pieces : (limit : ℕ) → (s : State) (ps : List Piece) (c : ℕ) → IsReady s.last → s.bracket ≡ Some c → count (settled s) + length (flat_map piece_moves ps) ≤ limit
-    → Read limit s (flat_map piece_bytes ps) [] (flat_map piece_moves ps) (Some c)
+read_pieces : (limit : ℕ) → (s : State) (ps : List Piece) (c : ℕ) → cut_of s.last ≡ Whole → s.bracket ≡ Some c → count (settled s) + length (flat_map piece_moves ps) ≤ limit
+    → Read limit s (flat_map piece_bytes ps) (with_more (Some c) no_moves (flat_map piece_moves ps)) (Some c)
 read_pieces limit s [] c h e room = read_none limit s (Some c) h e
 read_pieces limit s (p ∷ ps) c h e room =
     let l = length-append (piece_moves p) (flat_map piece_moves ps) in
     let one = read_piece limit s p (Some c) h e (omega arith) in
-    read_more limit s (piece_bytes p) (flat_map piece_bytes ps) [] [] _ _ _ _ one (read_pieces limit one.end ps c one.ready one.bracket (omega (arith, read_count limit s _ _ _ _ one)))
+    read_more limit s (piece_bytes p) (flat_map piece_bytes ps) _ _ _ _ one (read_pieces limit one.end ps c one.ready one.bracket (omega (arith, read_count limit s _ _ _ one)))
 
-entered : State → State
+abbrev entered : State → State
 entered s = counted (record (settled s) { bracket = Some (s.fed + 1) })
 
-step_open : (limit : ℕ) → (s : State) → IsReady s.last → s.bracket ≡ None → step_within limit s 40 ≡ Ok (entered s)
-unfolding symbol_of entered
+step_open : (limit : ℕ) → (s : State) → cut_of s.last ≡ Whole → s.bracket ≡ None → step_within limit s 40 ≡ Ok (entered s)
+unfolding symbol_of
 step_open limit s h o = step_ready limit s 40 h ∙ ap (λ b. fed_to (s.fed + 1) (opened b s)) o
 
-step_close : (limit : ℕ) → (s : State) (c : ℕ) → IsReady s.last → s.bracket ≡ Some c → step_within limit s 41 ≡ Ok (counted (record (settled s) { bracket = None }))
+step_close : (limit : ℕ) → (s : State) (c : ℕ) → cut_of s.last ≡ Whole → s.bracket ≡ Some c → step_within limit s 41 ≡ Ok (counted (record (settled s) { bracket = None }))
 unfolding symbol_of
 step_close limit s c h o = step_ready limit s 41 h ∙ ap (λ b. fed_to (s.fed + 1) (closed b s)) o
 
-read_item : (limit : ℕ) → (s : State) (x : Item) → IsReady s.last → s.bracket ≡ None → count (settled s) + length (item_normal x) + length (item_bracketed x) ≤ limit
-    → Read limit s (item_bytes x) (item_normal x) (item_bracketed x) None
-unfolding entered
+read_item : (limit : ℕ) → (s : State) (x : Item) → cut_of s.last ≡ Whole → s.bracket ≡ None → count (settled s) + length (item_normal x) + length (item_bracketed x) ≤ limit
+    → Read limit s (item_bytes x) (record { normal = item_normal x; bracketed = item_bracketed x }) None
 read_item limit s (Outside p) h o room = read_piece limit s p None h o (omega arith)
 read_item limit s (Bracket ps) h o room =
-    let r = read_pieces limit (entered s) ps (s.fed + 1) tt refl (omega arith) in
+    let r = read_pieces limit (entered s) ps (s.fed + 1) refl refl (omega arith) in
     record {
       end = counted (record (settled r.end) { bracket = None });
-      ran = run_on limit s (entered s) 40 (flat_map piece_bytes ps ++ 41 ∷ []) (step_open limit s h o) ∙ run-append limit (entered s) (flat_map piece_bytes ps) (41 ∷ []) ∙ ap (λ q. and_then q (λ t. run_within limit t (41 ∷ []))) r.ran ∙ run_one limit r.end _ 41 (step_close limit r.end (s.fed + 1) r.ready r.bracket);
-      ready = tt;
-      normal = r.normal;
-      bracketed = r.bracketed;
+      ran = run_on limit s (entered s) 40 (flat_map piece_bytes ps ++ 41 ∷ []) (step_open limit s h o) ∙ run_after limit (entered s) r.end (flat_map piece_bytes ps) (41 ∷ []) r.ran ∙ run_on limit r.end _ 41 [] (step_close limit r.end (s.fed + 1) r.ready r.bracket);
+      ready = refl;
+      moves = r.moves;
       bracket = refl;
     }
 
-read_items : (limit : ℕ) → (s : State) (xs : List Item) → IsReady s.last → s.bracket ≡ None → count (settled s) + length (flat_map item_normal xs) + length (flat_map item_bracketed xs) ≤ limit
-    → Read limit s (flat_map item_bytes xs) (flat_map item_normal xs) (flat_map item_bracketed xs) None
+read_items : (limit : ℕ) → (s : State) (xs : List Item) → cut_of s.last ≡ Whole → s.bracket ≡ None → count (settled s) + length (flat_map item_normal xs) + length (flat_map item_bracketed xs) ≤ limit
+    → Read limit s (flat_map item_bytes xs) (moves_in xs) None
 read_items limit s [] h o room = read_none limit s None h o
 read_items limit s (x ∷ xs) h o room =
     let l = length-append (item_normal x) (flat_map item_normal xs) in
     let k = length-append (item_bracketed x) (flat_map item_bracketed xs) in
     let one = read_item limit s x h o (omega arith) in
-    read_more limit s (item_bytes x) (flat_map item_bytes xs) _ _ _ _ _ _ one (read_items limit one.end xs one.ready one.bracket (omega (arith, read_count limit s _ _ _ _ one)))
+    read_more limit s (item_bytes x) (flat_map item_bytes xs) _ _ _ _ one (read_items limit one.end xs one.ready one.bracket (omega (arith, read_count limit s _ _ _ one)))
 
 -- A line that is spelled by at most 256 moves is read as these.
-pub completes : (limit : ℕ) → (bytes : List ℕ) (n b : List Token) → Spells bytes n b → length n + length b ≤ limit → Read limit start bytes n b None
-completes limit bytes n b h room =
+pub completes : (limit : ℕ) → (bytes : List ℕ) (m : Moves) → Spells bytes m.normal m.bracketed → length m.normal + length m.bracketed ≤ limit → Read limit start bytes m None
+completes limit bytes m h room =
     let e = ap length h.normal_are in
     let f = ap length h.bracketed_are in
-    let r = read_items limit start h.items tt refl (omega arith) in
+    let r = read_items limit start h.items refl refl (omega arith) in
     record {
       end = r.end;
       ran = ap (run_within limit start) h.bytes_are ∙ r.ran;
       ready = r.ready;
-      normal = r.normal ∙ sym h.normal_are;
-      bracketed = r.bracketed ∙ sym h.bracketed_are;
+      moves = r.moves ∙ (λ i. record { normal = sym h.normal_are i; bracketed = sym h.bracketed_are i });
       bracket = r.bracket;
     }
+
+pub read_line_of : (bytes : List ℕ) (line : IsLine bytes) → Read 256 start bytes (record { normal = line.normal; bracketed = line.bracketed }) None
+read_line_of bytes line = completes 256 bytes (record { normal = line.normal; bracketed = line.bracketed }) line.spells line.fits

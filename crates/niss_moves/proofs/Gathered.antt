@@ -1,6 +1,6 @@
 -- Words gathered after a text.
-use Rattle.niss_moves.proofs.Names.{refl, arith, ap, ap₂, sym, ◌∙◌, append_assoc, append-nil, ◌≡◌, ℕ, ◌+◌, ◌≤◌, ◌<◌, if◌then◌else◌, map}
-use Rattle.niss_moves.proofs.Names.{Bool, true, false, cond, List, [], ◌∷◌, ◌++◌, length, take, drop, word, gap, with_word, with_words}
+use Rattle.niss_moves.proofs.Names.{refl, arith, ap, sym, ◌∙◌, append_assoc, append-nil, ◌≡◌, ℕ, ◌+◌, ◌≤◌, ◌<◌, if◌then◌else◌, map, Bool}
+use Rattle.niss_moves.proofs.Names.{true, false, cond, List, [], ◌∷◌, ◌++◌, length, take, drop, word, gap, with_word, with_words}
 use Rattle.niss_moves.proofs.Names.{with_gathered, turn_words, Turn, Token}
 use Rattle.std.proofs.Math.Seq.{take-append-add}
 use Rattle.std.proofs.lemmas.List.{take-append-le, length-take-le, drop-append-le}
@@ -16,10 +16,6 @@ pub copied : {X : Type 0} (a k n : ℕ) (xs ys : List X) → a ≤ length xs →
 copied a k n xs ys h l =
     ap (λ m. take (m + n) (put_mid a k xs ys)) (sym (length-take-le a xs h)) ∙ take-append-add (take a xs) (ys ++ post_of a k xs) n ∙ ap (λ t. take a xs ++ t) (take-append-le n ys (post_of a k xs) l)
 
--- the gap after a word
-gap_after_word : (old new : List ℕ) (t : Token) → new ≡ old ++ (32 ∷ word t) → gap new ≡ 32 ∷ []
-gap_after_word old new t e = ap gap (e ∙ sym (append_assoc old (32 ∷ []) (word t))) ∙ gap_word (old ++ 32 ∷ []) t
-
 -- the words of moves side by side, each after a space
 abbrev pub spaced : List Token → List ℕ
 spaced [] = []
@@ -28,9 +24,9 @@ spaced (t ∷ ts) = (32 ∷ word t) ++ spaced ts
 after_word : (text : List ℕ) (ts : List Token) → gap text ≡ 32 ∷ [] → text ++ spaced ts ≡ with_words text (map word ts)
 after_word text [] g = append-nil text
 after_word text (t ∷ ts) g =
-    let one : text ++ (32 ∷ word t) ≡ with_word text (word t) = sym (append_assoc text (32 ∷ []) (word t)) ∙ ap (λ x. (text ++ x) ++ word t) (sym g) in
-    sym (append_assoc text (32 ∷ word t) (spaced ts)) ∙ after_word (text ++ (32 ∷ word t)) ts (gap_after_word text _ t refl)
-    ∙ ap (λ x. with_words x (map word ts)) one
+    let at = text ++ 32 ∷ [] in
+    sym (append_assoc text (32 ∷ []) (word t ++ spaced ts)) ∙ sym (append_assoc at (word t) (spaced ts))
+    ∙ after_word (at ++ word t) ts (gap_word at t) ∙ ap (λ x. with_words ((text ++ x) ++ word t) (map word ts)) (sym g)
 
 -- all words after a text, none of them written
 all_gathered : (text : List ℕ) (no_gap : Bool) (ts : List Token) → gap text ≡ (if no_gap then [] else 32 ∷ []) → with_gathered text no_gap (spaced ts) ≡ with_words text (map word ts)
@@ -44,14 +40,6 @@ all_gathered text true (t ∷ ts) g =
 nothing_gathered : (text : List ℕ) (no_gap : Bool) → with_gathered text no_gap [] ≡ text
 nothing_gathered text true = append-nil text
 nothing_gathered text false = append-nil text
-
--- a word more, after words that say the same as those before
-pub one_more : (text old all held taken w rest : List ℕ) (now before new : Bool) → new ≡ now → all ≡ taken ++ w
-    → ((r : List ℕ) → with_gathered text now (taken ++ r) ≡ with_gathered old before (held ++ r))
-    → with_gathered text new (all ++ rest) ≡ with_gathered old before ((held ++ w) ++ rest)
-one_more text old all held taken w rest now before new g e same =
-    ap₂ (λ (b : Bool) (x : List ℕ). with_gathered text b (x ++ rest)) g e ∙ ap (with_gathered text now) (append_assoc taken w rest)
-    ∙ same (w ++ rest) ∙ ap (with_gathered old before) (sym (append_assoc held w rest))
 
 -- what was gathered is written
 pub written : (text new bytes rest : List ℕ) (n : ℕ) (no_gap : Bool) → 0 < n → n ≤ length bytes → new ≡ text ++ between (cond no_gap 1 0) n bytes
@@ -96,3 +84,8 @@ gathers_all {text} {new} {first} {words} no_gap e wrote h =
 pub words_of_turns : (ts : List Turn) → map word (map token.Face ts) ≡ turn_words ts
 words_of_turns [] = refl
 words_of_turns (t ∷ ts) = ap (λ ws. word (token.Face t) ∷ ws) (words_of_turns ts)
+
+-- words after words
+pub words_more : (text : List ℕ) (ts us : List Token) → with_words (with_words text (map word ts)) (map word us) ≡ with_words text (map word (ts ++ us))
+words_more text [] us = refl
+words_more text (t ∷ ts) us = words_more (with_word text (word t)) ts us

@@ -9,13 +9,10 @@ pub mod OneSpelling
 pub mod Disorder
 pub mod AllCanonical
 pub mod CallerLemmas
-pub mod SymbolTable
-pub mod WordTable
 pub mod Symbols
 pub mod Completes
 pub mod Sound
 pub mod Whole
-pub mod Endings
 pub mod OneFault
 pub mod ReaderAnswers
 pub mod ReadBack

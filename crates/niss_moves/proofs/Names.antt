@@ -1,8 +1,8 @@
 -- The words of std and of specs that proofs name, so that they take them by one line.
 pub use Rattle.std.proofs.Common.{inl, inr, refl, ap, sym, ◌∙◌, subst, length-append, arith, append_assoc, ◌≡◌, ℕ, zero, suc, ◌-◌, true}
-pub use Rattle.std.proofs.Common.{List, [], ◌∷◌, ◌++◌, length, Some, Bool, map, false, not, ◌&&◌, ◌⊎◌, ◌+◌, ◌*◌, ◌<◌, ◌≤◌, cond, Option}
-pub use Rattle.std.proofs.Common.{None, ap₂, ◌==◌, subst₂, append-nil, Result, Ok, Err, if◌then◌else◌, take, drop, reverse, eqb, get_or}
-pub use Rattle.std.proofs.Common.{codes, take-add, nat_le}
+pub use Rattle.std.proofs.Common.{List, [], ◌∷◌, ◌++◌, length, Some, is_some, Bool, map, false, not, ◌&&◌, ◌⊎◌, ◌+◌, ◌*◌, ◌<◌, ◌≤◌, cond}
+pub use Rattle.std.proofs.Common.{Option, None, ap₂, ◌==◌, subst₂, append-nil, Result, Ok, Err, if◌then◌else◌, take, drop, reverse, eqb}
+pub use Rattle.std.proofs.Common.{get_or, codes, take-add, nat_le}
 pub use Rattle.std.specs.Prelude.{IsTrue, IfSome, flat_map, unwrap_or, ◌||◌, slice_get, ◌≢◌, nat_lt}
 pub use Rattle.niss_moves.specs.Canonical.{may_follow, IsCanonical, last_turn, canonical_extensions, DiffersFirst, face_may_follow}
 pub use Rattle.niss_moves.specs.Canonical.{face_order, turn_order}
@@ -24,20 +24,19 @@ pub use Rattle.niss_moves.specs.Indices.{token_index}
 pub use Rattle.niss_moves.specs.Letters.{face_letter, letter_at}
 unfoldable pub use Rattle.niss_moves.specs.Letters.{letter_of, letters}
 pub use Rattle.niss_moves.specs.Line.{Moves, Piece, Gap, Spelled, piece_bytes, piece_moves, Item, Outside, Bracket, item_bytes}
-pub use Rattle.niss_moves.specs.Line.{item_normal, item_bracketed, Spells, joined_moves}
-pub use Rattle.niss_moves.specs.Machine.{State, start, outside, inside, added, settled, opened, closed, count, with_last, fed_to}
-pub use Rattle.niss_moves.specs.Machine.{step_by, step_at, and_then, run_within, run, step, ended, ended_at, ended_in, bytes_of_a_line}
-pub use Rattle.niss_moves.specs.Machine.{look_up, state_or, HasRoom, answer_after}
+pub use Rattle.niss_moves.specs.Line.{item_normal, item_bracketed, Spells, IsLine, joined_moves}
+pub use Rattle.niss_moves.specs.Machine.{State, start, with_more, added, settled, opened, closed, count, with_last, fed_to, step_by}
+pub use Rattle.niss_moves.specs.Machine.{step_at, and_then, run_within, run, step, ended, ended_by, ended_in, cut_of, bytes_of_a_line}
+pub use Rattle.niss_moves.specs.Machine.{look_up}
 unfoldable pub use Rattle.niss_moves.specs.Machine.{symbol_of, step_within}
 pub use Rattle.niss_moves.specs.Names.{Turn, Face, Power, Token, Rotation, U, D, R, L, F, B, Half, Counter, Base, LastMove, ReadFault}
 pub use Rattle.niss_moves.specs.Names.{TooLong, Quarter, Axis, Ud, Rl, Fb, Slice, M, E, S, Symbol, NotAMove, Nested, Unopened, Unclosed}
-pub use Rattle.niss_moves.specs.Notation.{lower_letter, slice_letter, rotation_letter, base_bytes, token_of, Plain, Typographic, Suffix}
-pub use Rattle.niss_moves.specs.Notation.{Nothing, Two, Prime, TwoPrime, suffix_bytes, suffix_power, Blank, blank_byte, Space, Tab}
-pub use Rattle.niss_moves.specs.Notation.{Return}
+pub use Rattle.niss_moves.specs.Notation.{base_bytes, token_of, Plain, Typographic, Suffix, Nothing, Two, Prime, TwoPrime, suffix_bytes}
+pub use Rattle.niss_moves.specs.Notation.{suffix_power, Blank, blank_byte, Space, Tab, Return}
 pub use Rattle.niss_moves.specs.Places.{Place, Coord, Neg, Zero, Pos, Vector, vector, same_coord, same_vector, same_place, is_place}
 pub use Rattle.niss_moves.specs.Places.{SameMap, negated, along}
 pub use Rattle.niss_moves.specs.Reader.{IsFed, Reader}
-unfoldable pub use Rattle.niss_moves.specs.Reader.{read_line, line_with}
+unfoldable pub use Rattle.niss_moves.specs.Reader.{read_line}
 pub use Rattle.niss_moves.specs.RewritingLaws.{CanonicalMembers, CanonicalGrows, CanonicalInOrder, CleaningEnds, OneCleanList}
 pub use Rattle.niss_moves.specs.RewritingLaws.{CanonicalStays, CleanTurnsAreClean, RewritingLowers, CentresComeHome, FacesAreHome}
 pub use Rattle.niss_moves.specs.RewritingLaws.{LineIsHome, FacesAndRotation, CleanedEffect, RotationIsLeft, OneSpelling}

@@ -1,18 +1,51 @@
 -- A line has one fault.
-use Rattle.niss_moves.proofs.Names.{refl, ap, sym, ◌∙◌, subst, arith, inl, inr, ◌≡◌, ℕ, ◌+◌, ◌-◌, ◌<◌, Bool, true, false, List}
-use Rattle.niss_moves.proofs.Names.{[], ◌∷◌, ◌++◌, length, take, drop, Option, None, Some, Result, Ok, Err, suc, ◌==◌, ◌||◌, not}
-use Rattle.niss_moves.proofs.Names.{has_no_bracket, Cut, Whole, cut_length, Continues, CanContinue, BeginsBase}
-use Rattle.niss_moves.proofs.Names.{StopsAt, Stops, Lacks, Faults, symbol_of, State, start, step, and_then, run, ended, ended_at}
-use Rattle.niss_moves.proofs.Names.{ended_in, Symbol, LastMove, ReadFault, NotAMove, Nested, Unopened, Unclosed, TooLong}
-use Rattle.std.proofs.lemmas.List.{take-append-drop, take_more, take_all, length-take-le}
+use Rattle.niss_moves.proofs.Names.{refl, ap, sym, ◌∙◌, arith, inl, inr, ◌≡◌, ℕ, ◌+◌, ◌-◌, ◌<◌, Bool, true, false, List, [], ◌∷◌, ◌++◌}
+use Rattle.niss_moves.proofs.Names.{length, take, drop, Option, None, Some, Result, Ok, Err, suc, ◌==◌, ◌||◌, not, has_no_bracket, Cut}
+use Rattle.niss_moves.proofs.Names.{Whole, LacksOne, LacksTwo, cut_length, cut_ending, bracket_ending, Continues, CanContinue, BeginsBase}
+use Rattle.niss_moves.proofs.Names.{StopsAt, Stops, Lacks, Faults, symbol_of, State, start, step, step_within, and_then, run, read_line}
+use Rattle.niss_moves.proofs.Names.{ended, ended_by, cut_of, is_some, ended_in, Moves, Symbol, LastMove, ReadFault, NotAMove, Nested}
+use Rattle.niss_moves.proofs.Names.{Unopened, Unclosed, TooLong}
+use Rattle.std.proofs.lemmas.List.{take-append-drop, take_more, length-take-le}
 use Rattle.niss_moves.specs.declared.partial_line.LastMove.TheVariants as last
 use Rattle.niss_moves.specs.declared.symbol.Symbol.TheVariants as symbol
 use Rattle.niss_moves.proofs.Finite.{and_right}
-use Rattle.niss_moves.proofs.Completes.{run-append}
-use Rattle.niss_moves.proofs.Sound.{Reads, cut_of, is_open, fault_by, fault_at, Outcome, step_means}
+use Rattle.niss_moves.proofs.Completes.{state, run-append, run_after, read_line_of}
+use Rattle.niss_moves.proofs.Sound.{Reads, fault_by, fault_at, Outcome, step_means}
 use Rattle.niss_moves.proofs.Symbols.{IsSymbol, symbol_is, first_symbol}
 use Rattle.niss_moves.proofs.Whole.{reads_all, can_continue, continued_ok, opens_at}
-use Rattle.niss_moves.proofs.Endings.{one_ending}
+
+-- A beginning of a line ends in one cut, and a bracket is open or none is.
+no_fault : {f : ReadFault} {end : State} → ◌≡◌ {A = Result State ReadFault} (Err f) (Ok end) → ⊥
+no_fault e = cc
+
+state_is : {s end : State} → ◌≡◌ {A = Result State ReadFault} (Ok s) (Ok end) → s ≡ end
+state_is e = cc
+
+-- with no cut apostrophe the ending is a bracket or nothing
+ready_ending : (m : Moves) (o : Option ℕ) (t : LastMove) (k : ℕ) (q : Bool) (end : State) → run (state m o t k) (bracket_ending q) ≡ Ok end → cut_of end.last ≡ Whole → end.bracket ≡ None → (cut_of t ≡ Whole) × (is_some o ≡ q)
+unfolding step_within symbol_of state
+ready_ending m o t k false end e r h =
+    let x : state m o t k ≡ end = state_is e in
+    (ap (λ (s : State). cut_of s.last) x ∙ r, ap (λ (s : State). is_some s.bracket) x ∙ ap is_some h)
+ready_ending m (Some c) last.Finished k true end e r h = (refl, refl)
+ready_ending m (Some c) (last.Bare x) k true end e r h = (refl, refl)
+ready_ending m (Some c) (last.Doubled x) k true end e r h = (refl, refl)
+ready_ending m None last.Finished k true end e r h = absurd (no_fault e)
+ready_ending m _ _ k true end e r h = absurd (no_fault e)
+
+cut_ending_is : (m : Moves) (o : Option ℕ) (t : LastMove) (k : ℕ) (c : Cut) (q : Bool) (end : State) → and_then (run (state m o t k) (cut_ending c)) (λ u. run u (bracket_ending q)) ≡ Ok end → cut_of end.last ≡ Whole → end.bracket ≡ None → (cut_of t ≡ c) × (is_some o ≡ q)
+unfolding step_within symbol_of state
+cut_ending_is m o t k Whole q end e r h = ready_ending m o t k q end e r h
+cut_ending_is m o (last.SecondByte t) k LacksOne q end e r h = (refl, (ready_ending _ o last.Finished _ q end e r h).1)
+cut_ending_is m o (last.FirstByte t) k LacksTwo q end e r h = (refl, (ready_ending _ o last.Finished _ q end e r h).1)
+cut_ending_is m o _ k _ q end e r h = absurd (no_fault e)
+
+one_ending : (bytes : List ℕ) (s : State) (c : Cut) (q : Bool) → run start bytes ≡ Ok s → Continues bytes c q → (cut_of s.last ≡ c) × (is_some s.bracket ≡ q)
+unfolding state
+one_ending bytes s c q e line =
+    let d = read_line_of _ line in
+    let x : and_then (run s (cut_ending c)) (λ u. run u (bracket_ending q)) ≡ Ok d.end = sym (run-append 256 start (bytes ++ cut_ending c) (bracket_ending q) ∙ ap (λ r. and_then r (λ u. run u (bracket_ending q))) (run_after 256 start s bytes (cut_ending c) e)) ∙ d.ran in
+    cut_ending_is s.moves s.bracket s.last s.fed c q d.end x d.ready d.bracket
 
 -- Where bytes stop, the run has the fault of the byte there.
 stopped : (bytes : List ℕ) (column : ℕ) (c : Cut) (q : Bool) (byte : ℕ) → StopsAt bytes column c q byte → run start bytes ≡ Err (fault_at c q byte column)
@@ -22,7 +55,7 @@ stopped bytes column c q byte h =
     let one = one_ending _ w.0 c q w.1 h.ends_so in
     let lt : column - 1 < length bytes = omega (arith, h.positive, h.within) in
     let split : take column bytes ≡ front ++ byte ∷ [] = ap (λ n. take n bytes) (omega (arith, h.positive)) ∙ take_more bytes (column - 1) 0 lt ∙ ap (λ b. front ++ b ∷ []) (sym h.byte_is) in
-    let step_is : run start (take column bytes) ≡ and_then (step w.0 byte) (λ t. Ok t) = ap (run start) split ∙ run-append 256 start front (byte ∷ []) ∙ ap (λ r. and_then r (λ t. run t (byte ∷ []))) w.1 in
+    let step_is = ap (run start) split ∙ run_after 256 start w.0 front (byte ∷ []) w.1 in
     let reads = reads_all front w.0 w.1 in
     let at : w.0.fed + 1 ≡ column = (let long = length-take-le (column - 1) bytes (omega (arith, lt)) in omega (arith, reads.fed, long, h.positive)) in
     by_step _ _ (step w.0 byte) (step_means w.0 front byte reads) step_is ∙ (λ i. Err (fault_at (one.0 i) (one.1 i) byte (at i)))
@@ -52,8 +85,7 @@ stops_run bytes (NotAMove column) h =
 stops_run bytes (Nested column) h = stopped bytes column Whole true 40 h
 stops_run bytes (Unopened column) h = stopped bytes column Whole false 41 h
 stops_run bytes (TooLong column) h =
-    let w = first_symbol h.2.0 h.0 h.2.1 h.2.2 in
-    stopped bytes column Whole h.1 h.0 h.3 ∙ ap (λ x. Err (fault_by x h.1 column)) w.1
+    stopped bytes column Whole h.1 h.0 h.3 ∙ ap (λ x. Err (fault_by x h.1 column)) (first_symbol h.2.0 h.0 h.2.1 h.2.2)
 stops_run bytes (Unclosed column) h = absurd h
 
 -- the last opening bracket is one
@@ -70,31 +102,27 @@ one_opening (x ∷ a) b [] d e p q =
 one_opening (x ∷ a) b (y ∷ c) d e p q =
     let t : a ++ 40 ∷ b ≡ c ++ 40 ∷ d = cc in ap suc (one_opening a b c d t p q)
 
-pub ended_whole : (s : State) (t : LastMove) → cut_of t ≡ Whole → ended_at t s ≡ ended_in s.bracket s
-ended_whole s (last.FirstByte t) e = absurd (cc)
-ended_whole s (last.SecondByte t) e = absurd (cc)
-ended_whole s _ e = refl
+-- the fault of a cut at the end
+cut_ended : (c : Cut) (s : State) (column : ℕ) → 0 < cut_length c → column + cut_length c ≡ s.fed + 1 → ended_by c s ≡ Err (NotAMove column)
+cut_ended Whole s column p e = absurd (omega (arith, p))
+cut_ended _ s column p e = ap (λ n. Err (NotAMove n)) (omega (arith, e))
+
+pub lacks_continue : (bytes : List ℕ) (f : ReadFault) → Lacks bytes f → CanContinue bytes
+lacks_continue bytes (NotAMove column) h = (h.1, h.0, h.3.ends_so)
+lacks_continue bytes (Unclosed column) h = (Whole, true, h.0.ends_so)
+lacks_continue bytes _ h = absurd h
 
 lacks_ended : (bytes : List ℕ) (f : ReadFault) → Lacks bytes f → ended (run start bytes) ≡ Err f
 lacks_ended bytes (NotAMove column) h =
-    let whole = h.3.before (length bytes) (omega arith) in
-    let w = continued_ok bytes (subst CanContinue (take_all (length bytes) bytes (omega arith)) whole) in
+    let w = continued_ok bytes (lacks_continue bytes (NotAMove column) h) in
     let one = one_ending bytes w.0 h.1 h.0 w.1 h.3.ends_so in
-    ap ended w.1 ∙ by_last w.0 w.0.last one.0 (reads_all bytes w.0 w.1)
-  where
-    by_last : (s : State) (t : LastMove) → cut_of t ≡ h.1 → Reads s bytes → ended_at t s ≡ Err (NotAMove column)
-    by_last s (last.FirstByte t) e r =
-        let l = ap cut_length e in ap (λ n. Err (NotAMove n)) (omega (arith, h.4, r.fed))
-    by_last s (last.SecondByte t) e r =
-        let l = ap cut_length e in ap (λ n. Err (NotAMove n)) (omega (arith, h.4, r.fed))
-    by_last s _ e r = absurd (let l = ap cut_length e in omega (arith, h.2))
+    ap ended w.1 ∙ ap (λ c. ended_by c w.0) one.0 ∙ cut_ended h.1 w.0 column h.2 (omega (arith, h.4, (reads_all bytes w.0 w.1).fed))
 lacks_ended bytes (Unclosed column) h =
-    let whole = h.0.before (length bytes) (omega arith) in
-    let w = continued_ok bytes (subst CanContinue (take_all (length bytes) bytes (omega arith)) whole) in
+    let w = continued_ok bytes (lacks_continue bytes (Unclosed column) h) in
     let one = one_ending bytes w.0 Whole true w.1 h.0.ends_so in
-    ap ended w.1 ∙ ended_whole w.0 w.0.last one.0 ∙ by_bracket w.0 w.0.bracket refl one.1 one.0 (reads_all bytes w.0 w.1)
+    ap ended w.1 ∙ ap (λ c. ended_by c w.0) one.0 ∙ by_bracket w.0 w.0.bracket refl one.1 one.0 (reads_all bytes w.0 w.1)
   where
-    by_bracket : (s : State) (o : Option ℕ) → s.bracket ≡ o → is_open o ≡ true → cut_of s.last ≡ Whole → Reads s bytes → ended_in o s ≡ Err (Unclosed column)
+    by_bracket : (s : State) (o : Option ℕ) → s.bracket ≡ o → is_some o ≡ true → cut_of s.last ≡ Whole → Reads s bytes → ended_in o s ≡ Err (Unclosed column)
     by_bracket s None b e k r = absurd (cc)
     by_bracket s (Some c) b e k r =
         let x = opens_at bytes s c k r b in
@@ -103,7 +131,8 @@ lacks_ended bytes (Unclosed column) h =
         ap (λ n. Err (Unclosed n)) (omega (arith, x.4, y.4))
 lacks_ended bytes _ h = absurd h
 
-pub fault_ended : (bytes : List ℕ) (f : ReadFault) → Faults bytes f → ended (run start bytes) ≡ Err f
+pub fault_ended : (bytes : List ℕ) (f : ReadFault) → Faults bytes f → read_line bytes ≡ Err f
+unfolding read_line
 fault_ended bytes f h = elim h [ inl s ↦ ap ended (stops_run bytes f s) | inr l ↦ lacks_ended bytes f l ]
 
 pub one_fault : (bytes : List ℕ) (f g : ReadFault) → Faults bytes f → Faults bytes g → f ≡ g

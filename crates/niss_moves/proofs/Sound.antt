@@ -1,45 +1,45 @@
 -- What is read is spelled.
-use Rattle.std.proofs.Common.{◌≡◌, ℕ, ◌+◌, ◌-◌, ◌<◌, ◌≤◌, Bool, true, false, cond, nat_lt, eqb, refl, ap, sym, ◌∙◌, subst, subst₂, List, [], ◌∷◌, ◌++◌, length, flat_map, append_assoc, append-nil, Option, None, Some, Result, Ok, Err, arith, length-append}
+use Rattle.std.proofs.Common.{◌≡◌, ℕ, ◌+◌, ◌-◌, ◌≤◌, Bool, true, false, cond, nat_lt, eqb, refl, ap, sym, ◌∙◌, subst, subst₂, List, [], ◌∷◌, ◌++◌, length, flat_map, append_assoc, append-nil, Option, None, Some, is_some, Result, Ok, Err, arith, length-append}
 use Rattle.std.proofs.lemmas.Bool.{ltb-true, eqb-true}
 use Rattle.std.proofs.Math.Path.{subst₃}
 use Rattle.std.proofs.lemmas.List.Concat.{flat_map-append}
-use Rattle.niss_moves.specs.Notation.{token_of, base_bytes, Typographic, Plain, Nothing, Two, Prime, TwoPrime, blank_byte}
-use Rattle.niss_moves.specs.Line.{Piece, Gap, Spelled, piece_bytes, piece_moves, Item, Outside, Bracket, item_bytes, item_normal, item_bracketed}
+use Rattle.niss_moves.specs.Notation.{token_of, base_bytes, Typographic, Plain, Nothing, Two, Prime, TwoPrime}
+use Rattle.niss_moves.specs.Line.{Moves, Piece, Gap, Spelled, piece_bytes, piece_moves, Item, Outside, Bracket, item_bytes, item_normal, item_bracketed}
 use Rattle.niss_moves.specs.Faults.{Cut, Whole, LacksOne, LacksTwo, cut_ending, cut_length}
-use Rattle.niss_moves.specs.Machine.{symbol_of, State, start, outside, inside, settled, opened, closed, begun, count, with_last, fed_to, step_by, step_at, step, step_within}
+use Rattle.niss_moves.specs.Machine.{cut_of, symbol_of, State, start, with_more, settled, count, with_last, fed_to, step_by, step_at, step, step_within}
 use Rattle.niss_moves.specs.Names.{Quarter, Half, Counter, Token, Base, Symbol, LastMove, ReadFault, NotAMove, Nested, Unopened, TooLong}
 use Rattle.niss_moves.specs.declared.base.Base.TheVariants as base
 use Rattle.niss_moves.specs.declared.partial_line.LastMove.TheVariants as last
 use Rattle.niss_moves.specs.declared.symbol.Symbol.TheVariants as symbol
-use Rattle.niss_moves.proofs.Completes.{IsReady, state, counted, count_more, outside_none, inside_none}
+use Rattle.niss_moves.proofs.Completes.{state, counted, count_more, more_none, moves_in}
 use Rattle.niss_moves.proofs.Symbols.{IsSymbol, symbol_is}
 
 -- the bytes so far as whole items, with these moves, and an open bracket with its pieces if there is one
-pub data WholeItems : Option ℕ → List ℕ → List Token → List Token → Type 0 where
-  Closed : (items : List Item) → WholeItems None (flat_map item_bytes items) (flat_map item_normal items) (flat_map item_bracketed items)
-  Opened : (items : List Item) (ps : List Piece) → WholeItems (Some (length (flat_map item_bytes items) + 1)) (flat_map item_bytes items ++ 40 ∷ flat_map piece_bytes ps) (flat_map item_normal items) (flat_map item_bracketed items ++ flat_map piece_moves ps)
+pub data WholeItems : Option ℕ → List ℕ → Moves → Type 0 where
+  Closed : (items : List Item) → WholeItems None (flat_map item_bytes items) (moves_in items)
+  Opened : (items : List Item) (ps : List Piece) → WholeItems (Some (length (flat_map item_bytes items) + 1)) (flat_map item_bytes items ++ 40 ∷ flat_map piece_bytes ps) (with_more (Some 0) (moves_in items) (flat_map piece_moves ps))
 
 flat_push : {X A : Type 0} (f : X → List A) (xs : List X) (x : X) → flat_map f (xs ++ x ∷ []) ≡ flat_map f xs ++ f x
 flat_push f xs x = flat_map-append f xs (x ∷ []) ∙ ap (λ y. flat_map f xs ++ y) (append-nil (f x))
 
-pub front_piece : (o : Option ℕ) (bytes : List ℕ) (n b : List Token) (p : Piece) → WholeItems o bytes n b → WholeItems o (bytes ++ piece_bytes p) (outside o n (piece_moves p)) (inside o b (piece_moves p))
-front_piece o bytes n b p (Closed items) =
-    subst₃ (λ (x : List ℕ) (n b : List Token). WholeItems None x n b) (flat_push item_bytes items (Outside p)) (flat_push item_normal items (Outside p)) (flat_push item_bracketed items (Outside p) ∙ append-nil _) (Closed (items ++ Outside p ∷ []))
-front_piece o bytes n b p (Opened items ps) =
+pub front_piece : (o : Option ℕ) (bytes : List ℕ) (m : Moves) (p : Piece) → WholeItems o bytes m → WholeItems o (bytes ++ piece_bytes p) (with_more o m (piece_moves p))
+front_piece o bytes m p (Closed items) =
+    subst₃ (λ (x : List ℕ) (n b : List Token). WholeItems None x (record { normal = n; bracketed = b })) (flat_push item_bytes items (Outside p)) (flat_push item_normal items (Outside p)) (flat_push item_bracketed items (Outside p) ∙ append-nil _) (Closed (items ++ Outside p ∷ []))
+front_piece o bytes m p (Opened items ps) =
     let bytes_are = ap (λ x. flat_map item_bytes items ++ 40 ∷ x) (flat_push piece_bytes ps p) ∙ sym (append_assoc (flat_map item_bytes items) (40 ∷ flat_map piece_bytes ps) (piece_bytes p)) in
     let moves_are = ap (λ x. flat_map item_bracketed items ++ x) (flat_push piece_moves ps p) ∙ sym (append_assoc (flat_map item_bracketed items) (flat_map piece_moves ps) (piece_moves p)) in
-    subst₂ (λ (x : List ℕ) (b : List Token). WholeItems o x n b) bytes_are moves_are (Opened items (ps ++ p ∷ []))
+    subst₂ (λ (x : List ℕ) (b : List Token). WholeItems o x (record (moves_in items) { bracketed = b })) bytes_are moves_are (Opened items (ps ++ p ∷ []))
 
-pub front_open : (o : Option ℕ) (c : ℕ) (bytes : List ℕ) (n b : List Token) → o ≡ None → c ≡ length bytes + 1 → WholeItems o bytes n b → WholeItems (Some c) (bytes ++ 40 ∷ []) n b
-front_open o c bytes n b none col (Closed items) =
-    subst₂ (λ (c : ℕ) (b : List Token). WholeItems (Some c) (bytes ++ 40 ∷ []) n b) (sym col) (append-nil _) (Opened items [])
-front_open o c bytes n b none col (Opened items ps) = absurd (cc)
+pub front_open : (o : Option ℕ) (c : ℕ) (bytes : List ℕ) (m : Moves) → o ≡ None → c ≡ length bytes + 1 → WholeItems o bytes m → WholeItems (Some c) (bytes ++ 40 ∷ []) m
+front_open o c bytes m none col (Closed items) =
+    subst₂ (λ (c : ℕ) (b : List Token). WholeItems (Some c) (bytes ++ 40 ∷ []) (record (moves_in items) { bracketed = b })) (sym col) (append-nil _) (Opened items [])
+front_open o c bytes m none col (Opened items ps) = absurd (cc)
 
-pub front_close : (o : Option ℕ) (c : ℕ) (bytes : List ℕ) (n b : List Token) → o ≡ Some c → WholeItems o bytes n b → WholeItems None (bytes ++ 41 ∷ []) n b
-front_close o c bytes n b some (Closed items) = absurd (cc)
-front_close o c bytes n b some (Opened items ps) =
+pub front_close : (o : Option ℕ) (c : ℕ) (bytes : List ℕ) (m : Moves) → o ≡ Some c → WholeItems o bytes m → WholeItems None (bytes ++ 41 ∷ []) m
+front_close o c bytes m some (Closed items) = absurd (cc)
+front_close o c bytes m some (Opened items ps) =
     let bytes_are = flat_push item_bytes items (Bracket ps) ∙ sym (append_assoc (flat_map item_bytes items) (40 ∷ flat_map piece_bytes ps) (41 ∷ [])) in
-    subst₃ (λ (x : List ℕ) (n b : List Token). WholeItems None x n b) bytes_are (flat_push item_normal items (Bracket ps) ∙ append-nil _) (flat_push item_bracketed items (Bracket ps)) (Closed (items ++ Bracket ps ∷ []))
+    subst₃ (λ (x : List ℕ) (n b : List Token). WholeItems None x (record { normal = n; bracketed = b })) bytes_are (flat_push item_normal items (Bracket ps) ∙ append-nil _) (flat_push item_bracketed items (Bracket ps)) (Closed (items ++ Bracket ps ∷ []))
 
 -- The bytes end in a cut U+2019, and with the rest of it they are this move.
 pub record IsCutMove (t : Token) (c : Cut) (bytes : List ℕ) : Type 0 where
@@ -61,53 +61,31 @@ pub record Reads (s : State) (bytes : List ℕ) : Type 0 where
   pub front : List ℕ
   pub rest : List ℕ
   pub bytes_are : bytes ≡ front ++ rest
-  pub is_front : WholeItems s.bracket front s.normal s.bracketed
+  pub is_front : WholeItems s.bracket front s.moves
   pub is_last : IsLast s.last rest
   pub fed : s.fed ≡ length bytes
   pub room : count (settled s) ≤ 256
 
-pub reads_start : Reads start []
-reads_start =
-    record {
-      front = [];
-      rest = [];
-      bytes_are = refl;
-      is_front = Closed [];
-      is_last = refl;
-      fed = refl;
-      room = omega arith;
-    }
-
-abbrev pub cut_of : LastMove → Cut
-cut_of (last.FirstByte t) = LacksTwo
-cut_of (last.SecondByte t) = LacksOne
-cut_of _ = Whole
+-- the bytes with the end of their last piece
+piece_ends : (s : State) (bytes : List ℕ) (p : Piece) (ending : List ℕ) (ms : List Token) (h : Reads s bytes) → h.rest ++ ending ≡ piece_bytes p → piece_moves p ≡ ms → WholeItems s.bracket (bytes ++ ending) (with_more s.bracket s.moves ms)
+piece_ends s bytes p ending ms h same moves =
+    let is : bytes ++ ending ≡ h.front ++ piece_bytes p = ap (λ x. x ++ ending) h.bytes_are ∙ append_assoc h.front h.rest ending ∙ ap (λ x. h.front ++ x) same in
+    subst₂ (λ (x : List ℕ) (ms : List Token). WholeItems s.bracket x (with_more s.bracket s.moves ms)) (sym is) moves (front_piece _ _ _ p h.is_front)
 
 -- the bytes with the end of a cut U+2019, as whole pieces
-pub settled_front : (s : State) (bytes : List ℕ) → Reads s bytes → WholeItems s.bracket (bytes ++ cut_ending (cut_of s.last)) (settled s).normal (settled s).bracketed
+pub settled_front : (s : State) (bytes : List ℕ) → Reads s bytes → WholeItems s.bracket (bytes ++ cut_ending (cut_of s.last)) (settled s).moves
 settled_front s bytes h = by_last s.last h.is_last
   where
-    ended : (p : Piece) (ending : List ℕ) (ms : List Token) → h.rest ++ ending ≡ piece_bytes p → piece_moves p ≡ ms → WholeItems s.bracket (bytes ++ ending) (outside s.bracket s.normal ms) (inside s.bracket s.bracketed ms)
-    ended p ending ms same moves =
-        let is : bytes ++ ending ≡ h.front ++ piece_bytes p = ap (λ x. x ++ ending) h.bytes_are ∙ append_assoc h.front h.rest ending ∙ ap (λ x. h.front ++ x) same in
-        subst₂ (λ (x : List ℕ) (ms : List Token). WholeItems s.bracket x (outside s.bracket s.normal ms) (inside s.bracket s.bracketed ms)) (sym is) moves (front_piece _ _ _ _ p h.is_front)
-
-    by_last : (t : LastMove) → IsLast t h.rest → WholeItems s.bracket (bytes ++ cut_ending (cut_of t)) (settled (with_last t s)).normal (settled (with_last t s)).bracketed
+    by_last : (t : LastMove) → IsLast t h.rest → WholeItems s.bracket (bytes ++ cut_ending (cut_of t)) (settled (with_last t s)).moves
     by_last last.Finished e =
-        subst (λ (x : List ℕ). WholeItems s.bracket x s.normal s.bracketed) (sym (append-nil _ ∙ h.bytes_are ∙ ap (λ x. h.front ++ x) e ∙ append-nil _)) h.is_front
-    by_last (last.Bare b) e = ended (Spelled b Nothing) [] _ (ap (λ x. x ++ []) e) refl
-    by_last (last.Doubled b) e = ended (Spelled b Two) [] _ (append-nil _ ∙ e) refl
-    by_last (last.FirstByte t) k = ended k.piece (cut_ending LacksTwo) _ k.bytes_are k.moves_are
-    by_last (last.SecondByte t) k = ended k.piece (cut_ending LacksOne) _ k.bytes_are k.moves_are
+        subst (λ (x : List ℕ). WholeItems s.bracket x s.moves) (sym (append-nil _ ∙ h.bytes_are ∙ ap (λ x. h.front ++ x) e ∙ append-nil _)) h.is_front
+    by_last (last.Bare b) e = piece_ends s bytes (Spelled b Nothing) [] _ h (ap (λ x. x ++ []) e) refl
+    by_last (last.Doubled b) e = piece_ends s bytes (Spelled b Two) [] _ h (append-nil _ ∙ e) refl
+    by_last t k = piece_ends s bytes k.piece (cut_ending (cut_of t)) _ h k.bytes_are k.moves_are
 
-pub ready_whole : (t : LastMove) → IsReady t → cut_of t ≡ Whole
-ready_whole (last.FirstByte t) r = absurd r
-ready_whole (last.SecondByte t) r = absurd r
-ready_whole _ r = refl
-
-pub whole_front : (s : State) (bytes : List ℕ) → cut_of s.last ≡ Whole → Reads s bytes → WholeItems s.bracket bytes (settled s).normal (settled s).bracketed
+pub whole_front : (s : State) (bytes : List ℕ) → cut_of s.last ≡ Whole → Reads s bytes → WholeItems s.bracket bytes (settled s).moves
 whole_front s bytes w h =
-    subst (λ (x : List ℕ). WholeItems s.bracket x (settled s).normal (settled s).bracketed) (ap (λ c. bytes ++ cut_ending c) w ∙ append-nil bytes) (settled_front s bytes h)
+    subst (λ (x : List ℕ). WholeItems s.bracket x (settled s).moves) (ap (λ c. bytes ++ cut_ending c) w ∙ append-nil bytes) (settled_front s bytes h)
 
 -- the bytes that a cut U+2019 has
 pub cut_fits : (s : State) (bytes : List ℕ) → Reads s bytes → cut_length (cut_of s.last) ≤ length bytes
@@ -118,10 +96,6 @@ cut_fits s bytes h =
     by_last (last.FirstByte t) k = k.long
     by_last (last.SecondByte t) k = k.long
     by_last _ k = omega arith
-
-abbrev pub is_open : Option ℕ → Bool
-is_open None = false
-is_open (Some c) = true
 
 -- the fault of a symbol that can't stand at a column
 abbrev pub fault_by : Symbol → Bool → ℕ → ReadFault
@@ -140,49 +114,39 @@ abbrev pub Outcome : ReadFault → List ℕ → Result State ReadFault → Type 
 Outcome fault bytes (Ok t) = Reads t bytes
 Outcome fault bytes (Err f) = f ≡ fault
 
-front_reads : (s : State) (bytes : List ℕ) → WholeItems s.bracket bytes s.normal s.bracketed → s.last ≡ last.Finished → s.fed ≡ length bytes → count (settled s) ≤ 256 → Reads s bytes
+front_reads : (s : State) (bytes : List ℕ) → WholeItems s.bracket bytes s.moves → s.last ≡ last.Finished → s.fed ≡ length bytes → count (settled s) ≤ 256 → Reads s bytes
 front_reads s bytes h e k r =
     record { front = bytes; rest = []; bytes_are = sym (append-nil bytes); is_front = h; is_last = subst (λ (t : LastMove). IsLast t []) (sym e) refl; fed = k; room = r }
+
+pub reads_start : Reads start []
+reads_start = front_reads start [] (Closed []) refl refl (omega arith)
 
 fed_more : (k byte : ℕ) (bytes : List ℕ) → k ≡ length bytes → k + 1 ≡ length (bytes ++ byte ∷ [])
 fed_more k byte bytes e = omega (arith, length-append bytes (byte ∷ []))
 
-blank_means : (s : State) (bytes : List ℕ) (byte : ℕ) → cut_of s.last ≡ Whole → Reads s bytes → IsSymbol symbol.Blank byte → Reads (counted (settled s)) (bytes ++ byte ∷ [])
-blank_means s bytes byte r h k =
-    front_reads (counted (settled s)) _ (subst (λ (x : ℕ). WholeItems s.bracket (bytes ++ x ∷ []) (settled s).normal (settled s).bracketed) (sym k.1) (subst₂ (λ (n b : List Token). WholeItems s.bracket (bytes ++ blank_byte k.0 ∷ []) n b) (sym (outside_none s.bracket _)) (sym (inside_none s.bracket _)) (front_piece _ _ _ _ (Gap k.0) (whole_front s bytes r h)))) refl (fed_more _ _ _ h.fed) h.room
+-- a step that goes on where its test is true
+by_test : (c : Bool) (fault f : ReadFault) (bytes : List ℕ) (k : ℕ) (t : State) → (c ≡ true → Reads (record t { fed = k }) bytes) → f ≡ fault → Outcome fault bytes (fed_to k (cond c (Ok t) (Err f)))
+by_test true fault f bytes k t h e = h refl
+by_test false fault f bytes k t h e = e
 
-open_means : (o : Option ℕ) (s : State) (bytes : List ℕ) (byte : ℕ) → s.bracket ≡ o → cut_of s.last ≡ Whole → Reads s bytes → byte ≡ 40 → Outcome (fault_by symbol.Open (is_open o) (s.fed + 1)) (bytes ++ byte ∷ []) (fed_to (s.fed + 1) (opened o s))
-open_means None s bytes byte e r h k =
-    front_reads _ _ (subst (λ (x : ℕ). WholeItems (Some (s.fed + 1)) (bytes ++ x ∷ []) (settled s).normal (settled s).bracketed) (sym k) (front_open _ (s.fed + 1) _ _ _ e (ap (λ n. n + 1) h.fed) (whole_front s bytes r h))) refl (fed_more _ _ _ h.fed) h.room
-open_means (Some c) s bytes byte e r h k = refl
-
-close_means : (o : Option ℕ) (s : State) (bytes : List ℕ) (byte : ℕ) → s.bracket ≡ o → cut_of s.last ≡ Whole → Reads s bytes → byte ≡ 41 → Outcome (fault_by symbol.Close (is_open o) (s.fed + 1)) (bytes ++ byte ∷ []) (fed_to (s.fed + 1) (closed o s))
-close_means None s bytes byte e r h k = refl
-close_means (Some c) s bytes byte e r h k =
-    front_reads _ _ (subst (λ (x : ℕ). WholeItems None (bytes ++ x ∷ []) (settled s).normal (settled s).bracketed) (sym k) (front_close _ c _ _ _ e (whole_front s bytes r h))) refl (fed_more _ _ _ h.fed) h.room
-
-base_means : (s : State) (bytes : List ℕ) (byte : ℕ) (b : Base) → cut_of s.last ≡ Whole → Reads s bytes → base_bytes b ≡ byte ∷ [] → Outcome (TooLong (s.fed + 1)) (bytes ++ byte ∷ []) (fed_to (s.fed + 1) (begun 256 b s))
-base_means s bytes byte b r h k = chosen (nat_lt (count (settled s)) 256) refl
-  where
-    chosen : (c : Bool) → nat_lt (count (settled s)) 256 ≡ c → Outcome (TooLong (s.fed + 1)) (bytes ++ byte ∷ []) (fed_to (s.fed + 1) (cond c (Ok (with_last (last.Bare b) (settled s))) (Err (TooLong (s.fed + 1)))))
-    chosen true e =
-        let room : count (settled s) < 256 = ltb-true _ _ e in
-        record {
-          front = bytes;
-          rest = byte ∷ [];
-          bytes_are = refl;
-          is_front = whole_front s bytes r h;
-          is_last = sym k;
-          fed = fed_more _ _ _ h.fed;
-          room = omega (arith, count_more s.bracket (settled s).normal (settled s).bracketed (token_of b Quarter ∷ []));
-        }
-    chosen false e = refl
+-- a move begins
+begins : (s : State) (bytes : List ℕ) (byte : ℕ) (b : Base) → cut_of s.last ≡ Whole → Reads s bytes → base_bytes b ≡ byte ∷ [] → nat_lt (count (settled s)) 256 ≡ true → Reads (counted (with_last (last.Bare b) (settled s))) (bytes ++ byte ∷ [])
+begins s bytes byte b r h k e =
+    record {
+      front = bytes;
+      rest = byte ∷ [];
+      bytes_are = refl;
+      is_front = whole_front s bytes r h;
+      is_last = sym k;
+      fed = fed_more _ _ _ h.fed;
+      room = omega (arith, ltb-true _ _ e, count_more s.bracket (settled s).moves (token_of b Quarter ∷ []));
+    }
 
 -- the last move goes on
-goes_on : (n b : List Token) (o : Option ℕ) (t u : LastMove) (k : ℕ) (bytes : List ℕ) (byte : ℕ) (h : Reads (state n b o t k) bytes) → IsLast u (h.rest ++ byte ∷ [])
-    → count (settled (state n b o u (k + 1))) ≤ 256 → Reads (state n b o u (k + 1)) (bytes ++ byte ∷ [])
+goes_on : (m : Moves) (o : Option ℕ) (t u : LastMove) (k : ℕ) (bytes : List ℕ) (byte : ℕ) (h : Reads (state m o t k) bytes) → IsLast u (h.rest ++ byte ∷ [])
+    → count (settled (state m o u (k + 1))) ≤ 256 → Reads (state m o u (k + 1)) (bytes ++ byte ∷ [])
 unfolding state
-goes_on n b o t u k bytes byte h is_last room =
+goes_on m o t u k bytes byte h is_last room =
     record {
       front = h.front;
       rest = h.rest ++ byte ∷ [];
@@ -192,14 +156,6 @@ goes_on n b o t u k bytes byte h is_last room =
       fed = fed_more _ _ _ h.fed;
       room = room;
     }
-
--- the last move is whole
-ends_so : (n b : List Token) (o : Option ℕ) (t : LastMove) (k : ℕ) (bytes : List ℕ) (byte : ℕ) (p : Piece) (h : Reads (state n b o t k) bytes) → h.rest ++ byte ∷ [] ≡ piece_bytes p
-    → length (outside o n (piece_moves p)) + length (inside o b (piece_moves p)) ≤ 256 → Reads (state (outside o n (piece_moves p)) (inside o b (piece_moves p)) o last.Finished (k + 1)) (bytes ++ byte ∷ [])
-unfolding state
-ends_so n b o t k bytes byte p h same room =
-    let is = ap (λ x. x ++ byte ∷ []) h.bytes_are ∙ append_assoc h.front h.rest (byte ∷ []) ∙ ap (λ x. h.front ++ x) same in
-    front_reads _ _ (subst (λ (z : List ℕ). WholeItems o z (outside o n (piece_moves p)) (inside o b (piece_moves p))) (sym is) (front_piece _ _ _ _ p h.is_front)) refl (fed_more _ _ _ h.fed) room
 
 -- a byte after bytes
 follows : {xs ys : List ℕ} {x y : ℕ} → xs ≡ ys → x ≡ y → xs ++ x ∷ [] ≡ ys ++ y ∷ []
@@ -214,58 +170,51 @@ begins_cut xs ys x p t e k same moves =
       long = omega (arith, length-append xs (x ∷ []));
     }
 
-symbol_means : (x : Symbol) (n b : List Token) (o : Option ℕ) (t : LastMove) (k : ℕ) (bytes : List ℕ) (byte : ℕ) → IsSymbol x byte → cut_of t ≡ Whole → Reads (state n b o t k) bytes → Outcome (fault_by x (is_open o) (k + 1)) (bytes ++ byte ∷ []) (fed_to (k + 1) (step_by 256 x (state n b o t k)))
+symbol_means : (x : Symbol) (m : Moves) (o : Option ℕ) (t : LastMove) (k : ℕ) (bytes : List ℕ) (byte : ℕ) → IsSymbol x byte → cut_of t ≡ Whole → Reads (state m o t k) bytes → Outcome (fault_by x (is_some o) (k + 1)) (bytes ++ byte ∷ []) (fed_to (k + 1) (step_by 256 x (state m o t k)))
 unfolding state
-symbol_means symbol.Blank n b o t k bytes byte i r h = blank_means _ bytes byte r h i
-symbol_means symbol.Open n b o t k bytes byte i r h = open_means o _ bytes byte refl r h i
-symbol_means symbol.Close n b o t k bytes byte i r h = close_means o _ bytes byte refl r h i
-symbol_means (symbol.Base x) n b o t k bytes byte i r h = base_means _ bytes byte x r h i
-symbol_means symbol.Wide n b o (last.Bare (base.Face f)) k bytes byte i r h =
-    goes_on n b o _ (last.Bare (base.Wide f)) k bytes byte h (follows h.is_last i) (omega (arith, h.room, count_more o n b (token_of (base.Face f) Quarter ∷ []), count_more o n b (token_of (base.Wide f) Quarter ∷ [])))
-symbol_means symbol.Two n b o (last.Bare f) k bytes byte i r h =
-    goes_on n b o _ (last.Doubled f) k bytes byte h (follows h.is_last i) (omega (arith, h.room, count_more o n b (token_of f Quarter ∷ []), count_more o n b (token_of f Half ∷ [])))
-symbol_means symbol.Apostrophe n b o (last.Bare f) k bytes byte i r h =
-    ends_so n b o _ k bytes byte (Spelled f (Prime Plain)) h (follows h.is_last i) (omega (arith, h.room, count_more o n b (token_of f Quarter ∷ []), count_more o n b (token_of f Counter ∷ [])))
-symbol_means symbol.Apostrophe n b o (last.Doubled f) k bytes byte i r h =
-    ends_so n b o _ k bytes byte (Spelled f (TwoPrime Plain)) h (follows h.is_last i ∙ append_assoc (base_bytes f) (50 ∷ []) (39 ∷ [])) h.room
-symbol_means symbol.Cut n b o (last.Bare f) k bytes byte i r h =
-    goes_on n b o _ (last.FirstByte (token_of f Counter)) k bytes byte h (begins_cut _ _ _ (Spelled f (Prime Typographic)) _ h.is_last i refl refl) (omega (arith, h.room, count_more o n b (token_of f Quarter ∷ []), count_more o n b (token_of f Counter ∷ [])))
-symbol_means symbol.Cut n b o (last.Doubled f) k bytes byte i r h =
-    goes_on n b o _ (last.FirstByte (token_of f Half)) k bytes byte h (begins_cut _ _ _ (Spelled f (TwoPrime Typographic)) _ h.is_last i (append_assoc (base_bytes f) (50 ∷ []) (0xE2 ∷ 0x80 ∷ 0x99 ∷ [])) refl) h.room
-symbol_means x n b o t k bytes byte i r h = refl
+symbol_means symbol.Blank m o t k bytes byte i r h =
+    front_reads _ _ (subst₂ (λ (x : ℕ) (m : Moves). WholeItems o (bytes ++ x ∷ []) m) (sym i.1) (sym (more_none o _)) (front_piece _ _ _ (Gap i.0) (whole_front _ bytes r h))) refl (fed_more _ _ _ h.fed) h.room
+symbol_means symbol.Open m None t k bytes byte i r h =
+    front_reads _ _ (subst (λ (x : ℕ). WholeItems (Some (k + 1)) (bytes ++ x ∷ []) (settled (state m None t k)).moves) (sym i) (front_open _ (k + 1) _ _ refl (ap (λ n. n + 1) h.fed) (whole_front _ bytes r h))) refl (fed_more _ _ _ h.fed) h.room
+symbol_means symbol.Close m (Some c) t k bytes byte i r h =
+    front_reads _ _ (subst (λ (x : ℕ). WholeItems None (bytes ++ x ∷ []) (settled (state m (Some c) t k)).moves) (sym i) (front_close _ c _ _ refl (whole_front _ bytes r h))) refl (fed_more _ _ _ h.fed) h.room
+symbol_means (symbol.Base x) m o t k bytes byte i r h =
+    by_test (nat_lt (count (settled (state m o t k))) 256) (TooLong (k + 1)) (TooLong (k + 1)) (bytes ++ byte ∷ []) (k + 1) (with_last (last.Bare x) (settled (state m o t k))) (begins _ bytes byte x r h i) refl
+symbol_means symbol.Wide m o (last.Bare (base.Face f)) k bytes byte i r h =
+    goes_on m o _ (last.Bare (base.Wide f)) k bytes byte h (follows h.is_last i) (omega (arith, h.room, count_more o m (token_of (base.Face f) Quarter ∷ []), count_more o m (token_of (base.Wide f) Quarter ∷ [])))
+symbol_means symbol.Two m o (last.Bare f) k bytes byte i r h =
+    goes_on m o _ (last.Doubled f) k bytes byte h (follows h.is_last i) (omega (arith, h.room, count_more o m (token_of f Quarter ∷ []), count_more o m (token_of f Half ∷ [])))
+symbol_means symbol.Apostrophe m o (last.Bare f) k bytes byte i r h =
+    front_reads _ _ (piece_ends _ bytes (Spelled f (Prime Plain)) (byte ∷ []) _ h (follows h.is_last i) refl) refl (fed_more _ _ _ h.fed) (omega (arith, h.room, count_more o m (token_of f Quarter ∷ []), count_more o m (token_of f Counter ∷ [])))
+symbol_means symbol.Apostrophe m o (last.Doubled f) k bytes byte i r h =
+    front_reads _ _ (piece_ends _ bytes (Spelled f (TwoPrime Plain)) (byte ∷ []) _ h (follows h.is_last i ∙ append_assoc (base_bytes f) (50 ∷ []) (39 ∷ [])) refl) refl (fed_more _ _ _ h.fed) h.room
+symbol_means symbol.Cut m o (last.Bare f) k bytes byte i r h =
+    goes_on m o _ (last.FirstByte (token_of f Counter)) k bytes byte h (begins_cut _ _ _ (Spelled f (Prime Typographic)) _ h.is_last i refl refl) (omega (arith, h.room, count_more o m (token_of f Quarter ∷ []), count_more o m (token_of f Counter ∷ [])))
+symbol_means symbol.Cut m o (last.Doubled f) k bytes byte i r h =
+    goes_on m o _ (last.FirstByte (token_of f Half)) k bytes byte h (begins_cut _ _ _ (Spelled f (TwoPrime Typographic)) _ h.is_last i (append_assoc (base_bytes f) (50 ∷ []) (0xE2 ∷ 0x80 ∷ 0x99 ∷ [])) refl) h.room
+symbol_means x m o t k bytes byte i r h = refl
 
-first_means : (n b : List Token) (o : Option ℕ) (t : Token) (k : ℕ) (bytes : List ℕ) (byte : ℕ) → Reads (state n b o (last.FirstByte t) k) bytes → Outcome (NotAMove (k + 1 - 1)) (bytes ++ byte ∷ []) (fed_to (k + 1) (step_at 256 (last.FirstByte t) (state n b o (last.FirstByte t) k) byte))
-unfolding state
-first_means n b o t k bytes byte h = chosen (eqb byte 0x80) refl
-  where
-    goes : byte ≡ 0x80 → IsCutMove t LacksOne (h.rest ++ byte ∷ [])
-    goes e =
-        record {
-          piece = h.is_last.piece;
-          bytes_are = append_assoc h.rest (byte ∷ []) (0x99 ∷ []) ∙ ap (λ z. h.rest ++ z ∷ 0x99 ∷ []) e ∙ h.is_last.bytes_are;
-          moves_are = h.is_last.moves_are;
-          long = omega (arith, h.is_last.long, length-append h.rest (byte ∷ []));
-        }
-
-    chosen : (c : Bool) → eqb byte 0x80 ≡ c → Outcome (NotAMove (k + 1 - 1)) (bytes ++ byte ∷ []) (fed_to (k + 1) (cond c (Ok (with_last (last.SecondByte t) (state n b o (last.FirstByte t) k))) (Err (NotAMove k))))
-    chosen true e = goes_on n b o _ (last.SecondByte t) k bytes byte h (goes (eqb-true _ _ e)) h.room
-    chosen false e = ap NotAMove (omega arith)
-
-second_means : (n b : List Token) (o : Option ℕ) (t : Token) (k : ℕ) (bytes : List ℕ) (byte : ℕ) → Reads (state n b o (last.SecondByte t) k) bytes → Outcome (NotAMove (k + 1 - 2)) (bytes ++ byte ∷ []) (fed_to (k + 1) (step_at 256 (last.SecondByte t) (state n b o (last.SecondByte t) k) byte))
-unfolding state
-second_means n b o t k bytes byte h = chosen (eqb byte 0x99) refl
-  where
-    chosen : (c : Bool) → eqb byte 0x99 ≡ c → Outcome (NotAMove (k + 1 - 2)) (bytes ++ byte ∷ []) (fed_to (k + 1) (cond c (Ok (settled (state n b o (last.SecondByte t) k))) (Err (NotAMove (k - 1)))))
-    chosen true e =
-        front_reads _ _ (subst (λ (z : ℕ). WholeItems o (bytes ++ z ∷ []) (outside o n (t ∷ [])) (inside o b (t ∷ []))) (sym (eqb-true _ _ e)) (settled_front _ bytes h)) refl (fed_more _ _ _ h.fed) h.room
-    chosen false e = ap NotAMove (omega arith)
+-- a U+2019 of which two bytes stand there
+goes_cut : (t : Token) (bytes : List ℕ) (byte : ℕ) → IsCutMove t LacksTwo bytes → byte ≡ 0x80 → IsCutMove t LacksOne (bytes ++ byte ∷ [])
+goes_cut t bytes byte h e =
+    record {
+      piece = h.piece;
+      bytes_are = append_assoc bytes (byte ∷ []) (0x99 ∷ []) ∙ ap (λ z. bytes ++ z ∷ 0x99 ∷ []) e ∙ h.bytes_are;
+      moves_are = h.moves_are;
+      long = omega (arith, h.long, length-append bytes (byte ∷ []));
+    }
 
 -- A step keeps what the state stands for, or refuses the byte by its fault there.
-pub step_means : (s : State) (bytes : List ℕ) (byte : ℕ) → Reads s bytes → Outcome (fault_at (cut_of s.last) (is_open s.bracket) byte (s.fed + 1)) (bytes ++ byte ∷ []) (step s byte)
+pub step_means : (s : State) (bytes : List ℕ) (byte : ℕ) → Reads s bytes → Outcome (fault_at (cut_of s.last) (is_some s.bracket) byte (s.fed + 1)) (bytes ++ byte ∷ []) (step s byte)
 unfolding step_within state
-step_means s bytes byte h = by_last s.normal s.bracketed s.bracket s.last s.fed h
+step_means s bytes byte h = by_last s.moves s.bracket s.last s.fed h
   where
-    by_last : (n b : List Token) (o : Option ℕ) (t : LastMove) (k : ℕ) → Reads (state n b o t k) bytes → Outcome (fault_at (cut_of t) (is_open o) byte (k + 1)) (bytes ++ byte ∷ []) (fed_to (k + 1) (step_at 256 t (state n b o t k) byte))
-    by_last n b o (last.FirstByte t) k h = first_means n b o t k bytes byte h
-    by_last n b o (last.SecondByte t) k h = second_means n b o t k bytes byte h
-    by_last n b o t k h = symbol_means (symbol_of byte) n b o t k bytes byte (symbol_is byte) refl h
+    by_last : (m : Moves) (o : Option ℕ) (t : LastMove) (k : ℕ) → Reads (state m o t k) bytes → Outcome (fault_at (cut_of t) (is_some o) byte (k + 1)) (bytes ++ byte ∷ []) (fed_to (k + 1) (step_at 256 t (state m o t k) byte))
+    by_last m o (last.FirstByte t) k h =
+        by_test (eqb byte 0x80) (NotAMove (k + 1 - 1)) (NotAMove k) (bytes ++ byte ∷ []) (k + 1) (with_last (last.SecondByte t) (state m o (last.FirstByte t) k))
+        (λ e. goes_on m o _ (last.SecondByte t) k bytes byte h (goes_cut t h.rest byte h.is_last (eqb-true _ _ e)) h.room) (ap NotAMove (omega arith))
+    by_last m o (last.SecondByte t) k h =
+        by_test (eqb byte 0x99) (NotAMove (k + 1 - 2)) (NotAMove (k - 1)) (bytes ++ byte ∷ []) (k + 1) (settled (state m o (last.SecondByte t) k))
+        (λ e. front_reads _ _ (subst (λ (z : ℕ). WholeItems o (bytes ++ z ∷ []) (with_more o m (t ∷ []))) (sym (eqb-true _ _ e)) (settled_front _ bytes h)) refl (fed_more _ _ _ h.fed) h.room)
+        (ap NotAMove (omega arith))
+    by_last m o t k h = symbol_means (symbol_of byte) m o t k bytes byte (symbol_is byte) refl h

@@ -1,51 +1,40 @@
--- What each byte may be, by the letters of the grammar.
-use Rattle.niss_moves.proofs.Names.{◌≡◌, ℕ, Bool, true, false, cond, eqb, refl, ap, sym, ◌∙◌, subst, List, [], ◌∷◌, face_letter}
-use Rattle.niss_moves.proofs.Names.{lower_letter, slice_letter, rotation_letter, base_bytes, Blank, Space, Tab, Return, blank_byte}
-use Rattle.niss_moves.proofs.Names.{bytes_of_a_line, look_up, symbol_of, Face, U, Axis, Rl, Slice, M, Base, Symbol}
+-- What each byte may be, by the letters of the grammar and in the table of the code.
+use Rattle.niss_moves.proofs.Names.{◌≡◌, ℕ, ◌<◌, Bool, true, false, cond, eqb, refl, ap, sym, ◌∙◌, subst, List, [], ◌∷◌, get_or, map, arith}
+use Rattle.niss_moves.proofs.Names.{base_bytes, Blank, Space, Tab, Return, blank_byte, bytes_of_a_line, look_up, symbol_of, U, Rl, M, Base}
+use Rattle.niss_moves.proofs.Names.{Symbol}
+use Rattle.std.specs.List.{range_with_len}
 use Rattle.std.proofs.lemmas.Bool.{eqb-true}
+use Rattle.std.proofs.lemmas.List.FromFn.{get_or-map-range_with_len}
 use Rattle.niss_moves.specs.declared.base.Base.TheVariants as base
 use Rattle.niss_moves.specs.declared.symbol.Symbol.TheVariants as symbol
+use Rattle.niss_moves.specs.declared.symbol.TheConstants.{SYMBOLS}
+
+-- the base that the first byte of a base is by itself
+abbrev pub letter : Base → Base
+letter (base.Wide f) = base.Face f
+letter b = b
 
 -- what each byte is
-pub symbol_of_face : (f : Face) → symbol_of (face_letter f) ≡ symbol.Base (base.Face f)
+pub symbol_of_letter : (b : Base) → symbol_of (get_or (base_bytes b) 0 0) ≡ symbol.Base (letter b)
 unfolding symbol_of
-symbol_of_face U = refl
-symbol_of_face _ = refl
-
-pub symbol_of_lower : (f : Face) → symbol_of (lower_letter f) ≡ symbol.Base (base.LowerCase f)
-unfolding symbol_of
-symbol_of_lower U = refl
-symbol_of_lower _ = refl
-
-pub symbol_of_slice : (l : Slice) → symbol_of (slice_letter l) ≡ symbol.Base (base.Slice l)
-unfolding symbol_of
-symbol_of_slice M = refl
-symbol_of_slice _ = refl
-
-pub symbol_of_rotation : (a : Axis) → symbol_of (rotation_letter a) ≡ symbol.Base (base.Rotation a)
-unfolding symbol_of
-symbol_of_rotation Rl = refl
-symbol_of_rotation _ = refl
+symbol_of_letter (base.Face U) = refl
+symbol_of_letter (base.Wide U) = refl
+symbol_of_letter (base.LowerCase U) = refl
+symbol_of_letter (base.Slice M) = refl
+symbol_of_letter (base.Rotation Rl) = refl
+symbol_of_letter _ = refl
 
 pub symbol_of_blank : (b : Blank) → symbol_of (blank_byte b) ≡ symbol.Blank
 unfolding symbol_of
 symbol_of_blank Space = refl
 symbol_of_blank _ = refl
 
-pub symbol_of_open : symbol_of 40 ≡ symbol.Open
+pub symbol_of_brackets : (symbol_of 40 ≡ symbol.Open) × (symbol_of 41 ≡ symbol.Close)
 unfolding symbol_of
-symbol_of_open = refl
+symbol_of_brackets = (refl, refl)
 
-pub symbol_of_close : symbol_of 41 ≡ symbol.Close
-unfolding symbol_of
-symbol_of_close = refl
-
-pub first_symbol : (b : Base) (byte : ℕ) (more : List ℕ) → base_bytes b ≡ byte ∷ more → (x : Base) × (symbol_of byte ≡ symbol.Base x)
-first_symbol (base.Face f) byte more e = let q : face_letter f ≡ byte = cc in (base.Face f, ap symbol_of (sym q) ∙ symbol_of_face f)
-first_symbol (base.Wide f) byte more e = let q : face_letter f ≡ byte = cc in (base.Face f, ap symbol_of (sym q) ∙ symbol_of_face f)
-first_symbol (base.LowerCase f) byte more e = let q : lower_letter f ≡ byte = cc in (base.LowerCase f, ap symbol_of (sym q) ∙ symbol_of_lower f)
-first_symbol (base.Slice l) byte more e = let q : slice_letter l ≡ byte = cc in (base.Slice l, ap symbol_of (sym q) ∙ symbol_of_slice l)
-first_symbol (base.Rotation a) byte more e = let q : rotation_letter a ≡ byte = cc in (base.Rotation a, ap symbol_of (sym q) ∙ symbol_of_rotation a)
+pub first_symbol : (b : Base) (byte : ℕ) (more : List ℕ) → base_bytes b ≡ byte ∷ more → symbol_of byte ≡ symbol.Base (letter b)
+first_symbol b byte more e = ap (λ xs. symbol_of (get_or xs 0 0)) (sym e) ∙ symbol_of_letter b
 
 -- what a symbol says of its byte
 abbrev pub IsSymbol : Symbol → ℕ → Type 0
@@ -83,3 +72,12 @@ base_is byte b e = subst (λ (x : Symbol). IsSymbol x byte) e (symbol_is byte)
 
 pub blank_is : (byte : ℕ) → symbol_of byte ≡ symbol.Blank → (x : Blank) × (byte ≡ blank_byte x)
 blank_is byte e = subst (λ (x : Symbol). IsSymbol x byte) e (symbol_is byte)
+
+-- the table of the code, by its 256 values
+symbols_are : SYMBOLS ≡ map symbol_of (range_with_len 0 256)
+unfolding symbol_of
+symbols_are = refl
+
+pub symbol_at : (b : ℕ) (d : Symbol) → b < 256 → get_or SYMBOLS b d ≡ symbol_of b
+symbol_at b d lt =
+    ap (λ (xs : List Symbol). get_or xs b d) symbols_are ∙ get_or-map-range_with_len symbol_of 0 256 b b d lt (omega arith)

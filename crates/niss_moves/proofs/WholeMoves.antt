@@ -1,10 +1,9 @@
 -- What a move that is read at once does.
-use Rattle.niss_moves.proofs.Names.{◌≡◌, ℕ, ◌+◌, ◌<◌, ap, sym, ◌∙◌, subst, List, [], ◌∷◌, ◌++◌, length, take, take-add, drop}
-use Rattle.niss_moves.proofs.Names.{get_or, Ok, Some, arith, length-append, inl, inr, ap₂, ◌≢◌}
-use Rattle.niss_moves.proofs.Names.{◌==◌, ◌||◌, ◌*◌, nat_lt, not, Bool, true, false, Gap, Spelled, token_of, base_bytes, Nothing}
-use Rattle.niss_moves.proofs.Names.{Two, Prime, TwoPrime, Blank, blank_byte, State, HasRoom, added, settled, with_last, count}
-use Rattle.niss_moves.proofs.Names.{run, and_then, IsSuffix, IsMove, BeginsApostrophe}
-use Rattle.niss_moves.proofs.Names.{HasNoLineFeed, Power, Quarter, Half, Counter, Token, Base}
+use Rattle.niss_moves.proofs.Names.{◌≡◌, ℕ, ◌+◌, ◌<◌, ap, sym, ◌∙◌, subst, List, [], ◌∷◌, ◌++◌, length, take, take-add, drop, get_or, Ok}
+use Rattle.niss_moves.proofs.Names.{Some, arith, length-append, inl, inr, ap₂, ◌≢◌, ◌==◌, ◌||◌, ◌*◌, nat_lt, not, Bool, true, false, Gap}
+use Rattle.niss_moves.proofs.Names.{Spelled, token_of, base_bytes, Nothing, Two, Prime, TwoPrime, Blank, blank_byte, State, added, settled}
+use Rattle.niss_moves.proofs.Names.{with_last, count, run, IsSuffix, IsMove, BeginsApostrophe, cut_of, HasNoLineFeed, Power, Quarter, Half}
+use Rattle.niss_moves.proofs.Names.{Counter, Token, Base}
 use mir.Val.{bool_byte}
 use Rattle.std.proofs.lemmas.List.{take_more}
 use Rattle.std.proofs.lemmas.List.Elements.{All-append}
@@ -14,12 +13,11 @@ use Rattle.niss_moves.proofs.Finite.{and_right}
 use Rattle.niss_moves.proofs.Whole.{is_plain, plain_pieces}
 use Rattle.std.proofs.lemmas.Bool.{lt-ltb, eqb-true}
 use Rattle.niss_moves.specs.declared.partial_line.LastMove.TheVariants as last
-use Rattle.niss_moves.proofs.Completes.{IsReady, count_more, run-append, at_fed, run_move}
+use Rattle.niss_moves.proofs.Completes.{run_after, at_fed, run_move}
 
 -- the first bytes
 pub take_one : (bytes : List ℕ) (x : ℕ) → 0 < length bytes → get_or bytes 0 0 ≡ x → take 1 bytes ≡ x ∷ []
-take_one [] x lt e = absurd (omega arith)
-take_one (a ∷ bytes) x lt e = ap (λ y. y ∷ []) e
+take_one bytes x lt e = take_more bytes 0 0 lt ∙ ap (λ y. y ∷ []) e
 
 -- a suffix, by whether a `2` stands there and how long the apostrophe after it is
 pub suffix_at : (two : Bool) (bytes : List ℕ) (n : ℕ) → 0 < length bytes → (get_or bytes 0 0 == 50) ≡ two → BeginsApostrophe (drop (bool_byte two) bytes) n
@@ -51,7 +49,7 @@ settled_finished s e = ap (λ t. settled (with_last t s)) e ∙ ap (λ t. with_l
 move_run : (s : State) (bytes : List ℕ) (t : Token) → s.last ≡ last.Finished → count s < 256 → IsMove bytes t → run s bytes ≡ Ok (at_fed s t (s.fed + length bytes))
 move_run s bytes t e room h =
     let here = settled_finished s e in
-    ap (run s) h.bytes_are ∙ run_move 256 s h.base h.suffix h.blank (subst IsReady (sym e) tt) (subst (λ (x : State). count x < 256) (sym here) room)
+    ap (run s) h.bytes_are ∙ run_move 256 s h.base h.suffix h.blank (ap cut_of e) (subst (λ (x : State). count x < 256) (sym here) room)
     ∙ (λ i. Ok (at_fed (here i) (sym h.token_is i) (s.fed + length (sym h.bytes_are i))))
 
 -- no line feed stands in a move
@@ -66,33 +64,22 @@ pub record HasTaken (old new : State) (bytes : List ℕ) : Type 0 where
   pub runs : run old bytes ≡ Ok (record new { fed = old.fed + length bytes })
   pub uncounted : new.fed ≡ old.fed
   pub finished : new.last ≡ last.Finished
-  pub room : HasRoom new
   pub inside : HasNoLineFeed bytes
-
-taken_more : (old mid new : State) (a b : List ℕ) (t : Token) → HasTaken old mid a → count mid < 256
-    → IsMove b t → new ≡ added mid (Some t) → HasTaken old new (a ++ b)
-taken_more old mid new a b t h few is pushed =
-    record {
-      runs =
-          let here = record mid { fed = old.fed + length a } in
-          let sum : old.fed + length a + length b ≡ old.fed + length (a ++ b) = omega (arith, length-append a b) in
-          run-append 256 old a b ∙ ap (λ r. and_then r (λ s. run s b)) h.runs ∙ move_run here b t h.finished few is
-          ∙ (λ i. Ok (record (sym pushed i) { fed = sum i }));
-      uncounted = ap (λ (s : State). s.fed) pushed ∙ h.uncounted;
-      finished = ap (λ (s : State). s.last) pushed;
-      room =
-          let more = count_more mid.bracket mid.normal mid.bracketed (t ∷ []) in
-          subst (λ (s : State). HasRoom s) (sym pushed) (omega (arith, more, few));
-      inside = All-append (λ b. b ≢ 10) a b h.inside (no_line_feed b t is);
-    }
 
 -- a move of a piece of the bytes
 pub taken_next : (old mid new : State) (bytes rest : List ℕ) (i k : ℕ) (t : Token) → rest ≡ drop i bytes → HasTaken old mid (take i bytes)
     → count mid < 256 → IsMove (take k rest) t → new ≡ added mid (Some t)
     → HasTaken old new (take (i + k) bytes)
 taken_next old mid new bytes rest i k t e h few is pushed =
-    subst (λ (xs : List ℕ). HasTaken old new xs) (ap (λ (xs : List ℕ). take i bytes ++ take k xs) e ∙ sym (take-add i k bytes)) (taken_more old mid new (take i bytes) (take k rest) t h few is pushed)
-
-pub one_more : (mid new : State) (t : Token) → new ≡ added mid (Some t)
-    → count new ≡ count mid + 1
-one_more mid new t e = ap count e ∙ count_more mid.bracket mid.normal mid.bracketed (t ∷ [])
+    let a = take i bytes in
+    let b = take k rest in
+    let same : a ++ b ≡ take (i + k) bytes = ap (λ (xs : List ℕ). a ++ take k xs) e ∙ sym (take-add i k bytes) in
+    let sum : old.fed + length a + length b ≡ old.fed + length (a ++ b) = omega (arith, length-append a b) in
+    subst (λ (xs : List ℕ). HasTaken old new xs) same
+    (record {
+      runs =
+          run_after 256 old _ a b h.runs ∙ move_run (record mid { fed = old.fed + length a }) b t h.finished few is ∙ (λ i. Ok (record (sym pushed i) { fed = sum i }));
+      uncounted = ap (λ (s : State). s.fed) pushed ∙ h.uncounted;
+      finished = ap (λ (s : State). s.last) pushed;
+      inside = All-append (λ b. b ≢ 10) a b h.inside (no_line_feed b t is);
+    })

@@ -7,6 +7,7 @@ use Rattle.niss_moves.specs.Letters.{face_letter}
 use Rattle.niss_moves.specs.Canonical.{face_order}
 use Rattle.niss_moves.specs.Notation.{token_of, lower_letter, slice_letter, rotation_letter, blank_byte, Space, Tab, Return}
 use Rattle.niss_moves.specs.Line.{Moves}
+use Rattle.niss_moves.specs.Faults.{Cut, Whole, LacksOne, LacksTwo, cut_length}
 use Rattle.niss_moves.specs.Names.{Quarter, Half, Counter, Ud, Rl, Fb, M, E, S, Token, Base}
 use Rattle.niss_moves.specs.Names.{Symbol, LastMove, ReadFault, NotAMove, Nested, Unopened, Unclosed, TooLong}
 use Rattle.niss_moves.specs.declared.base.Base.TheVariants as base
@@ -33,31 +34,23 @@ symbol_of b = look_up bytes_of_a_line b
 
 -- what is read so far: the whole moves, the column of the open bracket, the last move as far as it goes
 pub record State : Type 0 where
-  pub normal : List Token
-  pub bracketed : List Token
+  pub moves : Moves
   pub bracket : Option ℕ
   pub last : LastMove
   pub fed : ℕ
 
 abbrev pub start : State
-start = record { normal = []; bracketed = []; bracket = None; last = last.Finished; fed = 0 }
+start = record { moves = record { normal = []; bracketed = [] }; bracket = None; last = last.Finished; fed = 0 }
 
-abbrev pub outside : Option ℕ → List Token → List Token → List Token
-outside None ts more = ts ++ more
-outside (Some c) ts more = ts
-
-abbrev pub inside : Option ℕ → List Token → List Token → List Token
-inside None ts more = ts
-inside (Some c) ts more = ts ++ more
+-- the moves with more of them, in the bracket where one is open
+abbrev pub with_more : Option ℕ → Moves → List Token → Moves
+with_more None m more = record m { normal = m.normal ++ more }
+with_more (Some c) m more = record m { bracketed = m.bracketed ++ more }
 
 -- the state with one more whole move, if there is one
 abbrev pub added : State → Option Token → State
 added s more =
-    record s {
-      normal = option_map_or (λ t. outside s.bracket s.normal (t ∷ [])) more s.normal;
-      bracketed = option_map_or (λ t. inside s.bracket s.bracketed (t ∷ [])) more s.bracketed;
-      last = last.Finished;
-    }
+    record s { moves = option_map_or (λ t. with_more s.bracket s.moves (t ∷ [])) more s.moves; last = last.Finished }
 
 -- the last move, if no more of it follows; no line asks for it after the first byte of U+2019 alone
 abbrev pub last_token : LastMove → Option Token
@@ -72,7 +65,7 @@ abbrev pub settled : State → State
 settled s = added s (last_token s.last)
 
 abbrev pub count : State → ℕ
-count s = length s.normal + length s.bracketed
+count s = length s.moves.normal + length s.moves.bracketed
 
 abbrev pub with_last : LastMove → State → State
 with_last l s = record s { last = l }
@@ -160,35 +153,32 @@ run s bytes = run_within 256 s bytes
 abbrev pub HasRoom : State → Type 0
 HasRoom s = count (settled s) ≤ 256
 
--- A step answers a fault, or leaves the next state, which has room.
+-- A step answers a fault, or leaves the next state.
 abbrev pub IsStep : (State → Result State ReadFault) → State → Result (Unit {0}) ReadFault → State → Type 0
-IsStep next old result new = MatchResult result (λ _. (next old ≡ Ok new) × HasRoom new) (λ f. next old ≡ Err f)
+IsStep next old result new = MatchResult result (λ _. next old ≡ Ok new) (λ f. next old ≡ Err f)
 
 abbrev pub state_or : Option ReadFault → State → Result State ReadFault
 state_or None s = Ok s
 state_or (Some f) s = Err f
 
--- A state has room, unless there was a fault.
-abbrev pub HasRoomUnless : Option ReadFault → State → Type 0
-HasRoomUnless None s = HasRoom s
-HasRoomUnless (Some f) s = Unit {0}
-
--- the moves that are read, without the last one where it isn't whole
-abbrev pub whole_moves : State → Moves
-whole_moves s = record { normal = s.normal; bracketed = s.bracketed }
-
 abbrev pub ended_in : Option ℕ → State → Result Moves ReadFault
-ended_in None s = Ok (whole_moves (settled s))
+ended_in None s = Ok (settled s).moves
 ended_in (Some c) s = Err (Unclosed c)
 
-abbrev pub ended_at : LastMove → State → Result Moves ReadFault
-ended_at (last.FirstByte t) s = Err (NotAMove s.fed)
-ended_at (last.SecondByte t) s = Err (NotAMove (s.fed - 1))
-ended_at _ s = ended_in s.bracket s
+-- the cut of U+2019 in which what is read ends
+abbrev pub cut_of : LastMove → Cut
+cut_of (last.FirstByte t) = LacksTwo
+cut_of (last.SecondByte t) = LacksOne
+cut_of _ = Whole
+
+-- a cut U+2019 is a fault where its first byte stands
+abbrev pub ended_by : Cut → State → Result Moves ReadFault
+ended_by Whole s = ended_in s.bracket s
+ended_by c s = Err (NotAMove (s.fed - (cut_length c - 1)))
 
 -- what the end of the line makes of it
 abbrev pub ended : Result State ReadFault → Result Moves ReadFault
-ended (Ok s) = ended_at s.last s
+ended (Ok s) = ended_by (cut_of s.last) s
 ended (Err f) = Err f
 
 -- these moves, unless there is a fault

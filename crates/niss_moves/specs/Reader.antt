@@ -1,7 +1,7 @@
 -- What bytes are as a line, and what a reader stands for.
 use Rattle.std.specs.Prelude.{◌≡◌, ℕ, List, ◌++◌, length, Option, Result, Ok}
 use Rattle.niss_moves.specs.Line.{Moves}
-use Rattle.niss_moves.specs.Machine.{State, state_or, start, whole_moves, answer_after}
+use Rattle.niss_moves.specs.Machine.{State, state_or, start, answer_after}
 use Rattle.niss_moves.specs.Names.{ReadFault}
 
 -- The moves that the bytes spell, where they spell at most 256, and else the fault of the line. `LineIsSpelled` and
@@ -17,7 +17,7 @@ pub record Reader : Type 0 where
 
 -- the moves that were read, without the last one where it isn't whole
 abbrev pub moves_of : Reader → Moves
-moves_of reader = whole_moves reader.so_far
+moves_of reader = reader.so_far.moves
 
 -- the line of what a reader was fed and of these bytes after it
 unfoldable pub line_with : Reader → List ℕ → Result Moves ReadFault

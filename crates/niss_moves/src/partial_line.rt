@@ -53,13 +53,13 @@ pub struct PartialLine {
 
 impl Model for PartialLine {
     ghost use Rattle.std.specs.Prelude.{◌≤◌};
-    ghost use Rattle.niss_moves.specs.Machine.{State};
+    ghost use Rattle.niss_moves.specs.Machine.{State, HasRoom};
 
     ghost Value = { State };
 
-    ghost view = { λ p. record { normal = p.niss.normal; bracketed = p.niss.bracketed; bracket = p.bracket; last = p.last; fed = p.fed } };
+    ghost view = { λ p. record { moves = p.niss; bracket = p.bracket; last = p.last; fed = p.fed } };
 
-    ghost invariant = { λ p. p.fed ≤ 16777216 };
+    ghost invariant = { λ p. (p.fed ≤ 16777216) × HasRoom (record { moves = p.niss; bracket = p.bracket; last = p.last; fed = p.fed }) };
 }
 
 impl PartialLine {
@@ -67,7 +67,7 @@ impl PartialLine {
     ghost use Rattle.niss_moves.specs.WholeMoves.{HasNoLineFeed};
     ghost use Rattle.niss_moves.specs.declared.fault.ReadFault.TheVariants.{NotAMove};
     ghost use Rattle.niss_moves.specs.Machine.{start, count, added, settled, opened, closed, begun, widened, doubled, primed};
-    ghost use Rattle.niss_moves.specs.Machine.{cut, step_at, step_by, step, run, whole_moves, ended, moves_if, IsStep, HasRoom};
+    ghost use Rattle.niss_moves.specs.Machine.{cut, step_at, step_by, step, run, ended, moves_if, IsStep};
 
     /// The line before its first byte.
     pub fn new() -> PartialLine
@@ -98,7 +98,6 @@ impl PartialLine {
     /// Takes one more byte.
     #[tactic(auto, unfolding(crate::specs::Machine::step_within))]
     pub fn step(&mut self, byte: u8) -> Result<(), ReadFault>
-        requires room { HasRoom self.old }
         requires fits { self.old.fed < 16777216 }
         ensures steps { IsStep (λ s. step s byte) self.old result self.new }
         ensures fed { self.new.fed ≡ self.old.fed + 1 }
@@ -119,7 +118,6 @@ impl PartialLine {
 
     /// Takes one more byte, and doesn't count it.
     fn take(&mut self, byte: u8) -> Result<(), ReadFault>
-        requires { HasRoom self.old }
         ensures { IsStep (λ s. step_at 256 s.last s byte) self.old result self.new }
     {
         match self.last {
@@ -160,12 +158,10 @@ impl PartialLine {
 
     /// Takes the moves in front of the bytes that can be read at once, and answers how many bytes they have.
     pub fn take_moves(&mut self, bytes: &[u8]) -> usize
-        requires room { HasRoom self.old }
         requires fits { self.old.fed + length bytes.now ≤ 16777216 }
         ensures taken { result ≤ length bytes.now }
         ensures runs { run self.old (take result bytes.now) ≡ Ok self.new }
         ensures fed { self.new.fed ≡ self.old.fed + result }
-        ensures room { HasRoom self.new }
         ensures inside { HasNoLineFeed (take result bytes.now) }
     {
         let LastMove::Finished = self.last else {
@@ -185,10 +181,8 @@ impl PartialLine {
 
     /// Ends the line: it is whole then, or has a fault.
     pub fn end(&mut self) -> Result<(), ReadFault>
-        requires { HasRoom self.old }
-        ensures value { moves_if result (whole_moves self.new) ≡ ended (Ok self.old) }
+        ensures value { moves_if result self.new.moves ≡ ended (Ok self.old) }
         ensures again { ended (Ok self.new) ≡ ended (Ok self.old) }
-        ensures room { HasRoom self.new }
         ensures fed { self.new.fed ≡ self.old.fed }
         ensures refused { OnErr result (self.new ≡ self.old) }
     {
@@ -206,7 +200,6 @@ impl PartialLine {
 
     /// The line that ends here.
     pub fn finish(mut self) -> Result<Niss, ReadFault>
-        requires { HasRoom self }
         ensures { result ≡ ended (Ok self) }
     {
         self.end()?;
@@ -215,7 +208,7 @@ impl PartialLine {
 
     /// The moves of the line, once it is ended.
     pub fn moves(&self) -> &Niss
-        ensures { result.now ≡ whole_moves self.now }
+        ensures { result.now ≡ self.now.moves }
     {
         &self.niss
     }
@@ -232,7 +225,6 @@ impl PartialLine {
 
     /// Takes the next byte where no U+2019 is cut.
     fn step_by(&mut self, symbol: Symbol) -> Result<(), ReadFault>
-        requires { HasRoom self.old }
         ensures { IsStep (step_by 256 symbol) self.old result self.new }
     {
         match symbol {
@@ -252,7 +244,6 @@ impl PartialLine {
     }
 
     fn open_bracket(&mut self) -> Result<(), ReadFault>
-        requires { HasRoom self.old }
         ensures { IsStep (λ s. opened s.bracket s) self.old result self.new }
     {
         let column = self.column();
@@ -265,7 +256,6 @@ impl PartialLine {
     }
 
     fn close_bracket(&mut self) -> Result<(), ReadFault>
-        requires { HasRoom self.old }
         ensures { IsStep (λ s. closed s.bracket s) self.old result self.new }
     {
         if self.bracket.is_none() {
@@ -278,7 +268,6 @@ impl PartialLine {
     }
 
     fn begin_move(&mut self, base: Base) -> Result<(), ReadFault>
-        requires { HasRoom self.old }
         ensures { IsStep (begun 256 base) self.old result self.new }
     {
         self.settle();
@@ -291,7 +280,6 @@ impl PartialLine {
     }
 
     fn widen(&mut self) -> Result<(), ReadFault>
-        requires { HasRoom self.old }
         ensures { IsStep (λ s. widened s.last s) self.old result self.new }
     {
         let LastMove::Bare(Base::Face(face)) = self.last else {
@@ -302,7 +290,6 @@ impl PartialLine {
     }
 
     fn double(&mut self) -> Result<(), ReadFault>
-        requires { HasRoom self.old }
         ensures { IsStep (λ s. doubled s.last s) self.old result self.new }
     {
         let LastMove::Bare(base) = self.last else {
@@ -314,7 +301,6 @@ impl PartialLine {
 
     /// Takes the apostrophe that ends a move.
     fn finish_move(&mut self) -> Result<(), ReadFault>
-        requires { HasRoom self.old }
         ensures { IsStep (λ s. primed s.last s) self.old result self.new }
     {
         match self.last {
@@ -327,7 +313,6 @@ impl PartialLine {
 
     /// Takes the first byte of U+2019.
     fn cut_apostrophe(&mut self) -> Result<(), ReadFault>
-        requires { HasRoom self.old }
         ensures { IsStep (λ s. cut s.last s) self.old result self.new }
     {
         self.last = match self.last {
@@ -341,7 +326,6 @@ impl PartialLine {
     /// Makes the last move whole.
     #[inline(always)]
     fn settle(&mut self)
-        requires { HasRoom self.old }
         ensures { self.new ≡ settled self.old }
     {
         if let Some(token) = self.last.token() {

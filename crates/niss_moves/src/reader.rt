@@ -15,14 +15,11 @@ pub struct LineReader {
 }
 
 impl Model for LineReader {
-    ghost use Rattle.niss_moves.specs.Machine.{HasRoomUnless};
     ghost use Rattle.niss_moves.specs.Reader.{Reader};
 
     ghost Value = { Reader };
 
     ghost view = { λ r. record { fed = r.line.fed; fault = r.fault; so_far = r.line } };
-
-    ghost invariant = { λ r. HasRoomUnless r.fault r.line };
 }
 
 impl LineReader {
@@ -104,6 +101,7 @@ impl LineReader {
 
     /// Ends the line: the bytes spell `moves`, or have a fault, and then the reader stays as it was. Ended again it answers
     /// the same. Once the line is ended well, `clear` comes before the next byte.
+    #[tactic(auto, using(crate::proofs::ReaderAnswers::at_the_end))]
     pub fn end(&mut self) -> Result<(), ReadFault>
         ensures line { (bytes : List ℕ) → IsFed self.old bytes →
             moves_if result (moves_of self.new) ≡ read_line bytes }
@@ -139,6 +137,7 @@ impl LineReader {
     }
 
     /// The line that the bytes spell, or its fault: `read_line`, of which the law `line_is_read` says which it is.
+    #[tactic(auto, using(crate::proofs::ReaderAnswers::at_the_end))]
     pub fn finish(self) -> Result<Niss, ReadFault>
         ensures value { (bytes : List ℕ) → IsFed self bytes → result ≡ read_line bytes }
         ensures ends { result ≡ line_with self [] }

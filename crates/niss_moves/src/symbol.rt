@@ -6,6 +6,7 @@ use crate::axis::Axis;
 use crate::base::Base;
 use crate::token::Slice;
 use crate::turn::Face;
+use Symbol::{Apostrophe, Blank, Close, Cut, Open, Other, Two, Wide};
 
 /// What a byte may be where no U+2019 is cut.
 #[derive(Clone, Copy)]
@@ -21,22 +22,6 @@ pub enum Symbol {
     Cut,
     Other,
 }
-
-const OTHER: Symbol = Symbol::Other;
-
-const BLANK: Symbol = Symbol::Blank;
-
-const OPEN: Symbol = Symbol::Open;
-
-const CLOSE: Symbol = Symbol::Close;
-
-const WIDE: Symbol = Symbol::Wide;
-
-const TWO: Symbol = Symbol::Two;
-
-const APOSTROPHE: Symbol = Symbol::Apostrophe;
-
-const CUT: Symbol = Symbol::Cut;
 
 const U: Symbol = Symbol::Base(Base::Face(Face::U));
 
@@ -77,52 +62,52 @@ const Z: Symbol = Symbol::Base(Base::Rotation(Axis::Fb));
 /// What each byte may be, from 0 to 255: the letters stand at their ASCII codes.
 static SYMBOLS: [Symbol; 256] = [
     // 0x00
-    OTHER, OTHER, OTHER, OTHER, OTHER, OTHER, OTHER, OTHER, OTHER, BLANK, OTHER, OTHER, OTHER,
-    BLANK, OTHER, OTHER,
+    Other, Other, Other, Other, Other, Other, Other, Other, Other, Blank, Other, Other, Other,
+    Blank, Other, Other,
     // 0x10
-    OTHER, OTHER, OTHER, OTHER, OTHER, OTHER, OTHER, OTHER, OTHER, OTHER, OTHER, OTHER, OTHER,
-    OTHER, OTHER, OTHER,
+    Other, Other, Other, Other, Other, Other, Other, Other, Other, Other, Other, Other, Other,
+    Other, Other, Other,
     // 0x20
-    BLANK, OTHER, OTHER, OTHER, OTHER, OTHER, OTHER, APOSTROPHE, OPEN, CLOSE, OTHER, OTHER, OTHER,
-    OTHER, OTHER, OTHER,
+    Blank, Other, Other, Other, Other, Other, Other, Apostrophe, Open, Close, Other, Other, Other,
+    Other, Other, Other,
     // 0x30
-    OTHER, OTHER, TWO, OTHER, OTHER, OTHER, OTHER, OTHER, OTHER, OTHER, OTHER, OTHER, OTHER, OTHER,
-    OTHER, OTHER,
+    Other, Other, Two, Other, Other, Other, Other, Other, Other, Other, Other, Other, Other, Other,
+    Other, Other,
     // 0x40
-    OTHER, OTHER, B, OTHER, D, E, F, OTHER, OTHER, OTHER, OTHER, OTHER, L, M, OTHER, OTHER,
+    Other, Other, B, Other, D, E, F, Other, Other, Other, Other, Other, L, M, Other, Other,
     // 0x50
-    OTHER, OTHER, R, S, OTHER, U, OTHER, OTHER, OTHER, OTHER, OTHER, OTHER, OTHER, OTHER, OTHER,
-    OTHER,
+    Other, Other, R, S, Other, U, Other, Other, Other, Other, Other, Other, Other, Other, Other,
+    Other,
     // 0x60
-    OTHER, OTHER, LOW_B, OTHER, LOW_D, OTHER, LOW_F, OTHER, OTHER, OTHER, OTHER, OTHER, LOW_L,
-    OTHER, OTHER, OTHER,
+    Other, Other, LOW_B, Other, LOW_D, Other, LOW_F, Other, Other, Other, Other, Other, LOW_L,
+    Other, Other, Other,
     // 0x70
-    OTHER, OTHER, LOW_R, OTHER, OTHER, LOW_U, OTHER, WIDE, X, Y, Z, OTHER, OTHER, OTHER, OTHER,
-    OTHER,
+    Other, Other, LOW_R, Other, Other, LOW_U, Other, Wide, X, Y, Z, Other, Other, Other, Other,
+    Other,
     // 0x80
-    OTHER, OTHER, OTHER, OTHER, OTHER, OTHER, OTHER, OTHER, OTHER, OTHER, OTHER, OTHER, OTHER,
-    OTHER, OTHER, OTHER,
+    Other, Other, Other, Other, Other, Other, Other, Other, Other, Other, Other, Other, Other,
+    Other, Other, Other,
     // 0x90
-    OTHER, OTHER, OTHER, OTHER, OTHER, OTHER, OTHER, OTHER, OTHER, OTHER, OTHER, OTHER, OTHER,
-    OTHER, OTHER, OTHER,
+    Other, Other, Other, Other, Other, Other, Other, Other, Other, Other, Other, Other, Other,
+    Other, Other, Other,
     // 0xA0
-    OTHER, OTHER, OTHER, OTHER, OTHER, OTHER, OTHER, OTHER, OTHER, OTHER, OTHER, OTHER, OTHER,
-    OTHER, OTHER, OTHER,
+    Other, Other, Other, Other, Other, Other, Other, Other, Other, Other, Other, Other, Other,
+    Other, Other, Other,
     // 0xB0
-    OTHER, OTHER, OTHER, OTHER, OTHER, OTHER, OTHER, OTHER, OTHER, OTHER, OTHER, OTHER, OTHER,
-    OTHER, OTHER, OTHER,
+    Other, Other, Other, Other, Other, Other, Other, Other, Other, Other, Other, Other, Other,
+    Other, Other, Other,
     // 0xC0
-    OTHER, OTHER, OTHER, OTHER, OTHER, OTHER, OTHER, OTHER, OTHER, OTHER, OTHER, OTHER, OTHER,
-    OTHER, OTHER, OTHER,
+    Other, Other, Other, Other, Other, Other, Other, Other, Other, Other, Other, Other, Other,
+    Other, Other, Other,
     // 0xD0
-    OTHER, OTHER, OTHER, OTHER, OTHER, OTHER, OTHER, OTHER, OTHER, OTHER, OTHER, OTHER, OTHER,
-    OTHER, OTHER, OTHER,
+    Other, Other, Other, Other, Other, Other, Other, Other, Other, Other, Other, Other, Other,
+    Other, Other, Other,
     // 0xE0
-    OTHER, OTHER, CUT, OTHER, OTHER, OTHER, OTHER, OTHER, OTHER, OTHER, OTHER, OTHER, OTHER, OTHER,
-    OTHER, OTHER,
+    Other, Other, Cut, Other, Other, Other, Other, Other, Other, Other, Other, Other, Other, Other,
+    Other, Other,
     // 0xF0
-    OTHER, OTHER, OTHER, OTHER, OTHER, OTHER, OTHER, OTHER, OTHER, OTHER, OTHER, OTHER, OTHER,
-    OTHER, OTHER, OTHER,
+    Other, Other, Other, Other, Other, Other, Other, Other, Other, Other, Other, Other, Other,
+    Other, Other, Other,
 ];
 
 /// What a byte may be where no U+2019 is cut.

@@ -47,6 +47,7 @@ fn put_inverse(tokens: &[Token], text: &mut LineText)
 
 /// Appends the words of the moves that `unniss` gives, in the same way, and makes no list of them. The text needs 1,024
 /// free bytes.
+#[tactic(auto, using(crate::proofs::Gathered::words_more))]
 pub fn put_unniss(niss: &Niss, text: &mut LineText)
     requires { array_vec_len text.old + 1024 ≤ 2048 }
     ensures items { text.new.items ≡ with_words text.old.items (map word (joined_moves niss.now)) }
@@ -58,6 +59,7 @@ pub fn put_unniss(niss: &Niss, text: &mut LineText)
 
 /// Appends the words of the moves that `invert` gives, in the same way, and makes no list of them. The text needs 1,024
 /// free bytes.
+#[tactic(auto, using(crate::proofs::Gathered::words_more, crate::proofs::Inverses::inverse_whole))]
 pub fn put_inverted(niss: &Niss, text: &mut LineText)
     requires { array_vec_len text.old + 1024 ≤ 2048 }
     ensures items { text.new.items

@@ -1,5 +1,5 @@
 use Rattle.niss_moves.proofs.Names.{ap, sym, subst, Reader, IsFed}
-use Rattle.niss_moves.proofs.ReaderAnswers.{IsAnswered, reader, fed_on, fed_again, is_fed_on, fed_taken, fed_stops}
+use Rattle.niss_moves.proofs.ReaderAnswers.{IsAnswered, reader, fed_on, fed_again, is_fed_on, answer_means}
 use Rattle.niss_moves.proofs.reader.LineReader.feed.Goals as goal
 use Rattle.niss_moves.proofs.reader.LineReader.feed.Goals.{in-Some, in-None}
 
@@ -11,17 +11,12 @@ on c =
       | in-None w ↦ fed_on _ _ _ _ w.step-taken.new.self _ _ w.step-taken.result w.in-None.is w.step-taken.ensures.steps w.step-taken.ensures.fed w.taken-is c.err-self-inside.ensures.value (ap (λ r. r.line) w.self-inside-is)
     ]
 
-pub invariant_of-self : goal.invariant_of-self
-invariant_of-self c = (on c).room
-
 pub returns-clause-bytes : goal.returns-clause-bytes
 returns-clause-bytes c bytes h =
     is_fed_on _ _ _ bytes (on c).on (subst (λ (r : Reader). IsFed r bytes) (sym c.self.view_is) h)
 
 pub returns-clause-taken : goal.returns-clause-taken
-returns-clause-taken c bytes h =
-    fed_taken _ _ _ _ bytes (on c) (subst (λ (r : Reader). IsFed r bytes) (sym c.self.view_is) h)
+returns-clause-taken c bytes h = (answer_means _ _ _ (on c).answered (returns-clause-bytes c bytes h)).0
 
 pub returns-clause-fault : goal.returns-clause-fault
-returns-clause-fault c bytes h =
-    fed_stops _ _ _ _ bytes (on c) (subst (λ (r : Reader). IsFed r bytes) (sym c.self.view_is) h)
+returns-clause-fault c bytes h = (answer_means _ _ _ (on c).answered (returns-clause-bytes c bytes h)).1
