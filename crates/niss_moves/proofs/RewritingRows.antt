@@ -3,7 +3,7 @@ use Rattle.niss_moves.proofs.Names.{◌≡◌, true, refl, ℕ, List, [], ◌∷
 use Rattle.niss_moves.proofs.Names.{all_canonical, turn_order, rewritten_within, rewritten_once, clean_turns, rotation_left}
 use Rattle.niss_moves.proofs.Names.{with_clean_line, Moves, symbol_of, step_within, read_line, U, D, R, L, Half, ReadFault}
 use Rattle.niss_moves.proofs.Finite.{every_coord, every_vector, every_place}
-use Rattle.niss_moves.proofs.Rotations.{turn}
+use Rattle.niss_moves.proofs.Finite.{turn}
 
 -- counts of canonical sequences over the 18 turns
 counts : map (λ k. length (all_canonical turn_order k)) (1 ∷ 2 ∷ 3 ∷ []) ≡ 18 ∷ 243 ∷ 3240 ∷ []

@@ -89,7 +89,7 @@ fn push_before(turns: &mut Faces, turn: Turn)
 }
 
 /// Appends a turn to a clean list and cleans it again.
-#[tactic(auto, using(crate::proofs::AllCanonical::canonical_more))]
+#[tactic(auto, using(crate::proofs::CanonicalLists::canonical_more))]
 fn push_clean(turns: &mut Faces, turn: Turn)
     requires canonical { IsCanonical turns.old.items }
     requires room { array_vec_len turns.old < 512 }
