@@ -4,7 +4,7 @@ use Rattle.niss_moves.proofs.Names.{List, [], ◌∷◌, ◌++◌, length, Some,
 use Rattle.niss_moves.proofs.Names.{may_follow, IsCanonical, last_turn, canonical_extensions, DiffersFirst, face_may_follow}
 use Rattle.niss_moves.proofs.Names.{all_canonical, CanonicalMembers, CanonicalGrows, CanonicalInOrder, Turn, Face, opposite, same_face}
 use Rattle.niss_moves.proofs.Names.{goes_first}
-use Rattle.niss_moves.proofs.Finite.{every_face, at_face, implies, by_implies, not_true, and_both, and_left, and_right, same_face_is}
+use Rattle.niss_moves.proofs.Finite.{every_face, at_face, implies, by_implies, not_true, and_both, and_left, and_right}
 use Rattle.std.specs.List.{All, AllPairs, Contains, filter}
 use Rattle.std.proofs.lemmas.Bool.{and_parts, cond_both}
 use Rattle.std.proofs.lemmas.List.{length-map, get_or-map, nil_from_length}
@@ -13,13 +13,10 @@ use Rattle.std.proofs.lemmas.List.Elements.{All-pop, All-push, All-weaker, Conta
 use Rattle.std.proofs.lemmas.List.Elements.{Contains-append_right, filter_passes}
 use Rattle.std.proofs.lemmas.List.Kept.{AllPairs-cons, AllPairs-filter}
 
-canonical_after : (a : List Turn) (x : Turn) (b : List Turn) → IsCanonical (a ++ x ∷ b) → IsCanonical (x ∷ b)
-canonical_after [] x b h = h
-canonical_after (y ∷ []) x b h = and_right (face_may_follow y.face x.face) _ h
-canonical_after (y ∷ z ∷ a) x b h = canonical_after (z ∷ a) x b (and_right (face_may_follow y.face z.face) _ h)
-
 pub canonical_pair : (a : List Turn) (x y : Turn) (b : List Turn) → IsCanonical (a ++ x ∷ y ∷ b) → face_may_follow x.face y.face ≡ true
-canonical_pair a x y b h = and_left _ _ (canonical_after a x (y ∷ b) h)
+canonical_pair [] x y b h = and_left _ _ h
+canonical_pair (z ∷ []) x y b h = and_left (face_may_follow x.face y.face) _ (and_right (face_may_follow z.face x.face) _ h)
+canonical_pair (z ∷ w ∷ a) x y b h = canonical_pair (w ∷ a) x y b (and_right (face_may_follow z.face w.face) _ h)
 
 pub canonical_front : (a b : List Turn) → IsCanonical (a ++ b) → IsCanonical a
 canonical_front [] b h = refl
@@ -72,9 +69,6 @@ exchange f g h =
     let both = and_parts (face_may_follow g f) (goes_late f g && not (goes_late g f)) (by_implies _ _ (at_face _ (at_face _ exchange_test f) g) h) in
     let late = and_parts (goes_late f g) (not (goes_late g f)) both.1 in
     (both.0, late.0, not_true _ late.1)
-
-pub exchanged_opposite : (f g : Face) → are_exchanged f g ≡ true → opposite f ≡ g
-exchanged_opposite f g h = same_face_is _ _ (and_left _ _ (exchange f g h).1)
 
 skip_test : every_face (λ z. every_face (λ y. every_face (λ x. implies (face_may_follow z y && are_exchanged x y) (face_may_follow z x)))) ≡ true
 unfolding every_face

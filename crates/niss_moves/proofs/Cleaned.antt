@@ -17,8 +17,7 @@ use Rattle.niss_moves.proofs.Finite.{and_both, and_left, and_right, every_face, 
 use Rattle.niss_moves.proofs.Finite.{every_place, at_power, at_turn, at_place, turn, same_face_is, same_place_is}
 use Rattle.niss_moves.proofs.Rotations.{effect_of_turns-append}
 use Rattle.niss_moves.proofs.CanonicalLists.{canonical_pair, canonical_front, canonical_join, canonical_last, snoc_assoc, last_of}
-use Rattle.niss_moves.proofs.CanonicalLists.{are_exchanged, exchanged, exchange, pass_follows, skip_middle}
-use Rattle.niss_moves.proofs.CanonicalLists.{exchanged_opposite, last_turn-push}
+use Rattle.niss_moves.proofs.CanonicalLists.{are_exchanged, exchanged, exchange, pass_follows, skip_middle, last_turn-push}
 
 -- what a turn at the end leaves
 pub list_with_turn-last : (a : List Turn) (x t : Turn) → list_with_turn (a ++ x ∷ []) t ≡ a ++ pair_of_turns x t
@@ -54,45 +53,34 @@ summed_before b y x None h a = rw append-nil (skip_middle b y x h a)
 summed_before b y x (Some p) h a =
     rw snoc_assoc (canonical_join b (record y { power = p }) (x ∷ []) (canonical_last b y _ (λ z k. k) (canonical_front (b ++ y ∷ []) (x ∷ []) (rw snoc_assoc h))) (and_both _ _ (canonical_pair b y x [] h) refl))
 
+-- A turn more may be summed with the last one: what follows is cleaned alike.
+summed_cleans : (b : List Turn) (y t : Turn) (rest c : List Turn) → IsCanonical (b ++ y ∷ []) → (s : Bool) → same_face y.face t.face ≡ s
+    → Cleans ((b ++ pair_of_turns y t) ++ rest) c → Cleans (b ++ y ∷ t ∷ rest) c
+summed_cleans b y t rest c h true e d = one_rewriting b y t rest c h (rw e) (rw e (rw e at d))
+summed_cleans b y t rest c h false e d = rw append_assoc at (rw e at d)
+
+summed_canonical : (b : List Turn) (y x t : Turn) → IsCanonical (b ++ y ∷ x ∷ []) → are_exchanged x.face t.face ≡ true → (s : Bool) → same_face y.face t.face ≡ s
+    → IsCanonical ((b ++ pair_of_turns y t) ++ x ∷ [])
+summed_canonical b y x t h a true e =
+    rw e (summed_before b y x (sum_of_powers y.power t.power) h (subst (λ (f : Face). are_exchanged x.face f ≡ true) (sym (same_face_is _ _ e)) a))
+summed_canonical b y x t h a false e =
+    rw (e, append_assoc) (canonical_join b y (t ∷ x ∷ []) (canonical_front (b ++ y ∷ []) (x ∷ []) (rw snoc_assoc h)) (and_both _ _ (pass_follows y.face x.face t.face (canonical_pair b y x [] h) e a) (and_both _ _ (exchange x.face t.face a).0 refl)))
+
 -- A turn of the opposite face that goes first passes the last one, and may be summed with the one before.
-swap_same : (b : List Turn) (y x t : Turn) → IsCanonical (b ++ y ∷ x ∷ []) → same_face x.face t.face ≡ false → face_may_follow x.face t.face ≡ false → same_face y.face t.face ≡ true → Cleaned (b ++ y ∷ x ∷ []) t ((b ++ sum_of_turns y t) ++ x ∷ [])
-swap_same b y x t h n m e =
-    let f : t.face ≡ y.face = sym (same_face_is _ _ e) in
-    record {
-      canonical = summed_before b y x (sum_of_powers y.power t.power) h (subst (λ (f : Face). are_exchanged x.face f ≡ true) f (exchanged x.face t.face n m));
-      cleans = λ rest c d.
-          let split : (b ++ y ∷ x ∷ []) ++ t ∷ rest ≡ (b ++ y ∷ []) ++ x ∷ t ∷ rest = rw (append_assoc, append_assoc) refl in
-          let mid : ((b ++ y ∷ []) ++ rewritten_pair x t) ++ rest ≡ b ++ y ∷ t ∷ x ∷ rest = rw (n, append_assoc, append_assoc) refl in
-          let last : ((b ++ sum_of_turns y t) ++ x ∷ []) ++ rest ≡ (b ++ rewritten_pair y t) ++ x ∷ rest = rw (e, append_assoc) refl in
-          let front : IsCanonical (b ++ y ∷ []) = canonical_front (b ++ y ∷ []) (x ∷ []) (rw snoc_assoc h) in
-          rw split (one_rewriting (b ++ y ∷ []) x t rest c (rw snoc_assoc h) m (rw mid (one_rewriting b y t (x ∷ rest) c front (rw e) (rw last at d))));
-    }
-
-swap_other : (b : List Turn) (y x t : Turn) → IsCanonical (b ++ y ∷ x ∷ []) → same_face x.face t.face ≡ false → face_may_follow x.face t.face ≡ false → same_face y.face t.face ≡ false → Cleaned (b ++ y ∷ x ∷ []) t ((b ++ y ∷ t ∷ []) ++ x ∷ [])
-swap_other b y x t h n m e =
-    record {
-      canonical = rw append_assoc (canonical_join b y (t ∷ x ∷ []) (canonical_front (b ++ y ∷ []) (x ∷ []) (rw snoc_assoc h)) (and_both _ _ (pass_follows y.face x.face t.face (canonical_pair b y x [] h) e (exchanged x.face t.face n m)) (and_both _ _ ((exchange x.face t.face (exchanged x.face t.face n m)).0) refl)));
-      cleans = λ rest c d.
-          let split : (b ++ y ∷ x ∷ []) ++ t ∷ rest ≡ (b ++ y ∷ []) ++ x ∷ t ∷ rest = rw (append_assoc, append_assoc) refl in
-          let mid : ((b ++ y ∷ t ∷ []) ++ x ∷ []) ++ rest ≡ ((b ++ y ∷ []) ++ rewritten_pair x t) ++ rest = rw n (simp append_assoc) in
-          rw split (one_rewriting (b ++ y ∷ []) x t rest c (rw snoc_assoc h) m (rw mid at d));
-    }
-
 cleaned_swap : (a : List Turn) (x t : Turn) → IsCanonical (a ++ x ∷ []) → same_face x.face t.face ≡ false → face_may_follow x.face t.face ≡ false → Cleaned (a ++ x ∷ []) t (list_with_turn a t ++ x ∷ [])
 cleaned_swap a x t h n m =
     elim (last_of a) [
       | inl e ↦ subst (λ (a : List Turn). Cleaned (a ++ x ∷ []) t (list_with_turn a t ++ x ∷ [])) (sym e) (record { canonical = and_both _ _ ((exchange x.face t.face (exchanged x.face t.face n m)).0) refl; cleans = λ rest c d. one_rewriting [] x t rest c refl m (rw n d) })
-      | inr w ↦ subst (λ (a : List Turn). Cleaned (a ++ x ∷ []) t (list_with_turn a t ++ x ∷ [])) (sym w.2) (swap_after w.0 w.1 x t (subst (λ (a : List Turn). IsCanonical (a ++ x ∷ [])) w.2 h) n m)
+      | inr w ↦ subst (λ (a : List Turn). Cleaned (a ++ x ∷ []) t (list_with_turn a t ++ x ∷ [])) (sym w.2) (swap_after w.0 w.1 (subst (λ (a : List Turn). IsCanonical (a ++ x ∷ [])) w.2 h))
     ]
   where
-    swap_after : (b : List Turn) (y x t : Turn) → IsCanonical ((b ++ y ∷ []) ++ x ∷ []) → same_face x.face t.face ≡ false → face_may_follow x.face t.face ≡ false → Cleaned ((b ++ y ∷ []) ++ x ∷ []) t (list_with_turn (b ++ y ∷ []) t ++ x ∷ [])
-    swap_after b y x t h n m =
-        let k : IsCanonical (b ++ y ∷ x ∷ []) = rw snoc_assoc at h in
-        rw (list_with_turn-last b y t, snoc_assoc b y (x ∷ [])) (by_case b y x t k n m (same_face y.face t.face) refl)
-      where
-        by_case : (b : List Turn) (y x t : Turn) → IsCanonical (b ++ y ∷ x ∷ []) → same_face x.face t.face ≡ false → face_may_follow x.face t.face ≡ false → (s : Bool) → same_face y.face t.face ≡ s → Cleaned (b ++ y ∷ x ∷ []) t ((b ++ pair_of_turns y t) ++ x ∷ [])
-        by_case b y x t k n m true e = rw e (swap_same b y x t k n m e)
-        by_case b y x t k n m false e = rw e (swap_other b y x t k n m e)
+    swap_after : (b : List Turn) (y : Turn) → IsCanonical ((b ++ y ∷ []) ++ x ∷ []) → Cleaned ((b ++ y ∷ []) ++ x ∷ []) t (list_with_turn (b ++ y ∷ []) t ++ x ∷ [])
+    swap_after b y h =
+        rw (list_with_turn-last b y t) (record {
+          canonical = summed_canonical b y x t (rw snoc_assoc at h) (exchanged x.face t.face n m) (same_face y.face t.face) refl;
+          cleans = λ rest c d.
+              rw (snoc_assoc (b ++ y ∷ []) x (t ∷ rest)) (one_rewriting (b ++ y ∷ []) x t rest c h m (rw (n, append_assoc, append_assoc) (summed_cleans b y t (x ∷ rest) c (canonical_front (b ++ y ∷ []) (x ∷ []) h) (same_face y.face t.face) refl (rw (snoc_assoc (b ++ pair_of_turns y t) x rest) at d))));
+        })
 
 -- what the code knows
 pub same_faces : (f g : Face) → sameb the_type f g ≡ same_face f g
@@ -137,7 +125,7 @@ rewritten_effect x t h r = by_case (same_face x.face t.face) refl
     by_case true e =
         rw e (same_place_is _ _ (at_place _ (at_power _ (at_turn _ sums_test x) t.power) r) ∙ ap (λ f. turned (turn f t.power) (turned x r)) (same_face_is _ _ e))
     by_case false e =
-        rw e (subst (λ (f : Face). effect_of_turns (turn f t.power ∷ x ∷ []) r ≡ effect_of_turns (x ∷ turn f t.power ∷ []) r) (exchanged_opposite x.face t.face (exchanged x.face t.face e h)) (same_place_is _ _ (at_place _ (at_power _ (at_turn _ commutes_test x) t.power) r)))
+        rw e (subst (λ (f : Face). effect_of_turns (turn f t.power ∷ x ∷ []) r ≡ effect_of_turns (x ∷ turn f t.power ∷ []) r) (same_face_is _ _ (and_left _ _ (exchange x.face t.face (exchanged x.face t.face e h)).1)) (same_place_is _ _ (at_place _ (at_power _ (at_turn _ commutes_test x) t.power) r)))
 
 one_effect : (s t : List Turn) → IsRewriting s t → (r : Place) → effect_of_turns t r ≡ effect_of_turns s r
 one_effect s t w r =
@@ -178,22 +166,16 @@ shorter : (front : List Turn) (t u : Turn) (rest : List Turn) → same_face t.fa
 shorter front t u rest e =
     rw (e, length-append, length-append, length-append) (omega (arith, short t.face (sum_of_powers t.power u.power)))
 
-as_long : (front : List Turn) (t u : Turn) (rest : List Turn) → length (front ++ u ∷ t ∷ rest) ≡ length (front ++ t ∷ u ∷ rest)
-as_long front t u rest = length-append front (u ∷ t ∷ rest) ∙ sym (length-append front (t ∷ u ∷ rest))
-
 lowers_here : (front : List Turn) (t u : Turn) (rest : List Turn) → face_may_follow t.face u.face ≡ false → (b : Bool) → same_face t.face u.face ≡ b → (length (front ++ rewritten_pair t u ++ rest) < length (front ++ t ∷ u ∷ rest)) ⊎ ((length (front ++ rewritten_pair t u ++ rest) ≡ length (front ++ t ∷ u ∷ rest)) × (disorder (front ++ rewritten_pair t u ++ rest) < disorder (front ++ t ∷ u ∷ rest)))
 lowers_here front t u rest m true e = inl (shorter front t u rest e)
 lowers_here front t u rest m false e =
     let d = exchange t.face u.face (exchanged t.face u.face e m) in
     let s : front ++ rewritten_pair t u ++ rest ≡ front ++ u ∷ t ∷ rest = rw (e, append_assoc) refl in
-    inr (ap length s ∙ as_long front t u rest, subst (λ (x : List Turn). disorder x < disorder (front ++ t ∷ u ∷ rest)) (sym s) (fewer front t u rest d.1 d.2))
-
-abbrev Lowers : List Turn → List Turn → Type 0
-Lowers s t = (length t < length s) ⊎ ((length t ≡ length s) × (disorder t < disorder s))
+    inr (ap length s ∙ length-append front (u ∷ t ∷ rest) ∙ sym (length-append front (t ∷ u ∷ rest)), subst (λ (x : List Turn). disorder x < disorder (front ++ t ∷ u ∷ rest)) (sym s) (fewer front t u rest d.1 d.2))
 
 pub rewriting_lowers : RewritingLowers
 rewriting_lowers s t w =
-    subst₂ (λ (s t : List Turn). Lowers s t) (sym w.at) (sym w.result) (lowers_here w.front w.left w.right w.rest w.breaks (same_face w.left.face w.right.face) refl)
+    rw (w.at, w.result) (lowers_here w.front w.left w.right w.rest w.breaks (same_face w.left.face w.right.face) refl)
 
 -- Cleaning as a function is the relation, and has one result.
 

@@ -7,7 +7,7 @@ use Rattle.niss_moves.proofs.Names.{WholeRotation, expanded, token_of_basic, fac
 use Rattle.niss_moves.proofs.Names.{U, Half, Axis, Slice, Place, same_place, face_before, face_before_power, spelling, IsRotationOf}
 use Rattle.niss_moves.proofs.Names.{renamed_turn, opposite}
 use Rattle.niss_moves.specs.Helpers.{IsNext, Takes}
-use Rattle.niss_moves.proofs.Inverses.{effect-append, inverse_after, effect_of_expanded, meaning, one_meaning}
+use Rattle.niss_moves.proofs.Inverses.{effect-append, effect_of_expanded, meaning, one_meaning}
 use Rattle.niss_moves.proofs.Rotations.{next_rotation, is_next, effect_of_turns-append, turn_after, rotation_left_is, one_spelling}
 use Rattle.niss_moves.proofs.Cleaned.{cleans_effect}
 use Rattle.niss_moves.proofs.Finite.{turn, rotation, every_face, every_power, every_turn, every_rotation, at_face, at_turn, at_rotation, same_place_is}
@@ -106,20 +106,20 @@ keep_centre : (s : List Turn) (g : Face) → effect_of_turns s (centre g) ≡ ce
 keep_centre [] g = refl
 keep_centre (t ∷ s) g = ap (effect_of_turns s) (same_place_is _ _ (at_face _ (at_turn _ keeps_test t) g)) ∙ keep_centre s g
 
--- at the end of the sequence
-pub record LeftAtEnd (ts : List Token) (turns : List Turn) (r : Rotation) : Type 0 where
-  pub faces : turns ≡ faces ts
-  pub effect : (q : Place) → effect (spelling r) (effect_of_turns turns q) ≡ effect ts q
-  pub rotation : IsRotationOf ts r
+-- the same at the end of the sequence
+pub left_faces : (ts : List Token) (k : ℕ) (turns : List Turn) (r : Rotation) → length ts ≤ k → Left ts k turns r → turns ≡ faces ts
+left_faces ts k turns r le l =
+    sym (append-nil turns) ∙ ap (λ s. turns ++ map (before r) (faces s)) (sym (drop_all k ts le)) ∙ l.faces
 
-pub left_all : (ts : List Token) (k : ℕ) (turns : List Turn) (r : Rotation) → length ts ≤ k → Left ts k turns r → LeftAtEnd ts turns r
-left_all ts k turns r le l =
-    let same : (q : Place) → effect (spelling r) (effect_of_turns turns q) ≡ effect ts q = λ q. l.effect q ∙ ap (λ s. effect s q) (take_all k ts le) in
-    record {
-      faces = sym (append-nil turns) ∙ ap (λ s. turns ++ map (before r) (faces s)) (sym (drop_all k ts le)) ∙ l.faces;
-      effect = same;
-      rotation = λ f. ap (effect (spelling r)) (sym (keep_centre turns f)) ∙ same (centre f);
-    }
+pub left_effect : (ts : List Token) (k : ℕ) (turns : List Turn) (r : Rotation) → length ts ≤ k → Left ts k turns r
+    → (q : Place) → effect ts q ≡ effect (spelling r) (effect_of_turns turns q)
+left_effect ts k turns r le l q = ap (λ s. effect s q) (sym (take_all k ts le)) ∙ sym (l.effect q)
+
+pub left_rotation : (ts : List Token) (k : ℕ) (turns : List Turn) (r : Rotation) → length ts ≤ k → Left ts k turns r → IsRotationOf ts r
+left_rotation ts k turns r le l f =
+    ap (effect (spelling r)) (sym (keep_centre turns f)) ∙ sym (left_effect ts k turns r le l (centre f))
+
+pub ruleset of_taking = (left_none, left_faces, left_effect, left_rotation)
 
 -- Each sequence is some face turns and then a rotation.
 pushes_all : (moves : List BasicMove) (r : Rotation) → (turns : List Turn) × (n : Rotation) × Pushes r moves turns n
@@ -140,8 +140,11 @@ left_until ts (suc k) le =
 left_by : (s : List Token) → (r : Rotation) × ((q : Place) → effect (spelling r) (effect_of_turns (faces s) q) ≡ effect s q) × IsRotationOf s r
 left_by s =
     let w = left_until s (length s) (omega arith) in
-    let l = left_all s (length s) w.0 w.1 (omega arith) w.2 in
-    (w.1, λ q. ap (λ ts. effect (spelling w.1) (effect_of_turns ts q)) (sym l.faces) ∙ l.effect q, l.rotation)
+    let same = left_faces s (length s) w.0 w.1 (omega arith) w.2 in (
+      w.1,
+      λ q. ap (λ ts. effect (spelling w.1) (effect_of_turns ts q)) (sym same) ∙ sym (left_effect s (length s) w.0 w.1 (omega arith) w.2 q),
+      left_rotation s (length s) w.0 w.1 (omega arith) w.2,
+    )
 
 undone_test : every_rotation (λ r. every_face (λ f. same_place (effect (spelling (rotation_left (inverse (spelling r)))) (effect (spelling r) (centre f))) (centre f))) ≡ true
 unfolding every_rotation every_power every_face rotation_left

@@ -1,9 +1,10 @@
 -- The 24 rotations, computed: each has one spelling, and they rename the turns after them.
-use Rattle.niss_moves.proofs.Names.{refl, ap, sym, ◌∙◌, ◌≡◌, true, List, [], ◌∷◌, ◌++◌, Some, Bool, false, ◌&&◌, Option, None}
+use Rattle.niss_moves.proofs.Names.{refl, ap, sym, ◌∙◌, ◌≡◌, true, List, [], ◌∷◌, ◌++◌, Some, Bool, map, false, ◌&&◌, Option, None}
 use Rattle.niss_moves.proofs.Names.{if◌then◌else◌, unwrap_or, face_order, rotations, rotation_left, OneSpelling, turned, effect_of_turns}
 use Rattle.niss_moves.proofs.Names.{effect, moved_by, quarters, Move, moved, face_move, times, centre, rotation_by, Turn, Face, Power}
-use Rattle.niss_moves.proofs.Names.{Token, Rotation, U, F, Quarter, Axis, Place, Vector, same_vector, same_place, along, face_before}
-use Rattle.niss_moves.proofs.Names.{face_before_power, spelling, IsRotationOf, renamed_turn, to_top, about_vertical, same_face}
+use Rattle.niss_moves.proofs.Names.{Token, Rotation, U, D, R, L, F, B, Quarter, Axis, Place, Vector, same_vector, same_place, along}
+use Rattle.niss_moves.proofs.Names.{face_before, face_before_power, spelling, IsRotationOf, renamed_turn, to_top, about_vertical}
+use Rattle.niss_moves.proofs.Names.{same_face}
 use Rattle.niss_moves.specs.Helpers.{IsNext}
 use Rattle.niss_moves.proofs.Finite.{every_coord, every_vector, at_vector, same_vector_is, same_face_is, turn, rotation, every_turn}
 use Rattle.niss_moves.proofs.Finite.{at_turn, every_face, at_face, every_power, at_power, every_axis, at_axis, every_rotation, at_rotation}
@@ -59,6 +60,14 @@ pub by_next : (r : Rotation) (a : Axis) (p : Power) (top front : Face) (n : Rota
     → front ≡ face_before r (face_before_power a p F) → n ≡ rotation_by top front → IsNext r a p n
 unfolding next_rotation
 by_next r a p top front n t f e = rw (e, t, f) (is_next r a p)
+
+-- these six faces are brought to the places of U, D, R, L, F and B
+pub held : (r : Rotation) (a : Axis) (p : Power) (x1 x2 x3 x4 x5 x6 : Face) (n : Rotation) → IsNext r a p n → x1 ≡ face_before r (face_before_power a p U)
+    → x2 ≡ face_before r (face_before_power a p D) → x3 ≡ face_before r (face_before_power a p R) → x4 ≡ face_before r (face_before_power a p L)
+    → x5 ≡ face_before r (face_before_power a p F) → x6 ≡ face_before r (face_before_power a p B)
+    → (x1 ∷ x2 ∷ x3 ∷ x4 ∷ x5 ∷ x6 ∷ []) ≡ map (face_before n) face_order
+held r a p x1 x2 x3 x4 x5 x6 n h e1 e2 e3 e4 e5 e6 =
+    λ i. (e1 ∙ sym (h.faces U)) i ∷ (e2 ∙ sym (h.faces D)) i ∷ (e3 ∙ sym (h.faces R)) i ∷ (e4 ∙ sym (h.faces L)) i ∷ (e5 ∙ sym (h.faces F)) i ∷ (e6 ∙ sym (h.faces B)) i ∷ []
 
 -- A rotation and then a turn is the renamed turn and then the rotation.
 

@@ -5,7 +5,7 @@ use Rattle.niss_moves.specs.Turn.{same_face}
 use Rattle.niss_moves.specs.Cleaning.{sum_of_turns}
 use Rattle.niss_moves.specs.Effects.{effect, effect_of_turns, moved_by}
 use Rattle.niss_moves.specs.Faces.{expanded, faces_with}
-use Rattle.niss_moves.specs.Names.{Face, U, R, F, B, Power, Quarter, Half, Counter, Turn, Axis, Token, Rotation}
+use Rattle.niss_moves.specs.Names.{Face, U, R, L, F, B, Power, Quarter, Half, Counter, Turn, Axis, Token, Rotation}
 use Rattle.niss_moves.specs.Places.{Place}
 use Rattle.niss_moves.specs.Rotations.{to_top, face_before, face_before_if, face_before_power, renamed_turn, spelling}
 use Rattle.niss_moves.specs.declared.token.Token.TheVariants as token
@@ -27,12 +27,13 @@ abbrev pub is_empty : List (List ℕ) → Bool
 is_empty [] = true
 is_empty (w ∷ ws) = false
 
--- the rotation about the vertical axis that brings a face to the front, once another one is at the top
+-- the rotation about the vertical axis that brings a face to the front, once another one is at the top; none where none does
 abbrev pub vertical_of : Face → Face → Option Power
 vertical_of top front =
     if same_face front (face_before_if (to_top top) F) then None
     else (if same_face front (face_before_if (to_top top) R) then Some Quarter
-    else (if same_face front (face_before_if (to_top top) B) then Some Half else Some Counter))
+    else (if same_face front (face_before_if (to_top top) B) then Some Half
+    else (if same_face front (face_before_if (to_top top) L) then Some Counter else None)))
 
 -- the rotation that brings these two faces to the top and to the front
 abbrev pub rotation_by : Face → Face → Rotation

@@ -1,6 +1,5 @@
 //! Canonical sequences of face turns.
 ghost use Rattle.std.specs.Prelude.{◌≡◌, ◌<◌, ◌≤◌, ◌↔◌, [], ◌∷◌, ◌||◌, IsTrue, MatchOption, filter, length};
-ghost use Rattle.niss_moves.specs.Turn.{same_face};
 ghost use Rattle.niss_moves.specs.Canonical.{face_may_follow, may_follow, turn_order, IsCanonical};
 
 use crate::turn::{Face, Power, Turn};

@@ -125,6 +125,7 @@ fn push_clean_turns(turns: &mut Faces, more: MoveTurns)
 }
 
 /// Writes the cleaned face turns of a sequence into an empty list, and answers the rotation that is left at its end.
+#[tactic(auto, using(crate::proofs::Home::left_none))]
 pub(crate) fn clean_into(tokens: &[Token], turns: &mut Faces) -> Rotation
     requires moves { length tokens.now ≤ 256 }
     requires empty { turns.old.items ≡ [] }

@@ -107,6 +107,7 @@ fn push_turns(turns: &mut Faces, more: MoveTurns)
 /// The face turns of a sequence, and the rotation that is left at its end: `Rw U` is `L F` and then `x`. Wide turns and
 /// slices are written as face turns and rotations, and a rotation renames the face turns after it. The sequence has the
 /// effect of the face turns and then the rotation. It has at most 256 moves.
+#[tactic(auto, using(crate::proofs::Home::of_taking))]
 pub fn to_faces(tokens: &[Token]) -> (Faces, Rotation)
     requires { length tokens.now ≤ 256 }
     ensures len { array_vec_len result.0 ≤ 2 * length tokens.now }

@@ -65,6 +65,7 @@ impl HeldRotation {
     }
 
     /// Makes a rotation about an axis after this one.
+    #[tactic(auto, using(crate::proofs::Rotations::by_next))]
     pub fn rotate(&mut self, axis: Axis, power: Power)
         ensures { IsNext self.old axis power self.new }
     {

@@ -1,5 +1,5 @@
 //! The 24 rotations of the whole cube.
-ghost use Rattle.std.specs.Prelude.{◌≡◌, []};
+ghost use Rattle.std.specs.Prelude.{◌≡◌};
 ghost use Rattle.niss_moves.specs.Places.{Place};
 ghost use Rattle.niss_moves.specs.Facelets.{centre};
 ghost use Rattle.niss_moves.specs.Effects.{effect, moved_by};
@@ -47,14 +47,14 @@ static BEFORE: [[[Face; 6]; 3]; 3] = [
 ];
 
 /// By the faces that come to the top and to the front: the turn about the vertical axis. A face that comes to the top, and
-/// its opposite, can't come to the front: what stands there is never looked up.
+/// its opposite, can't come to the front.
 static VERTICAL: [[Option<Power>; 6]; 6] = [
-    [Some(Counter), Some(Counter), Some(Quarter), Some(Counter), None, Some(Half)],
-    [Some(Counter), Some(Counter), Some(Quarter), Some(Counter), Some(Half), None],
-    [Some(Counter), Some(Quarter), Some(Counter), Some(Counter), None, Some(Half)],
-    [Some(Quarter), Some(Counter), Some(Counter), Some(Counter), None, Some(Half)],
-    [Some(Half), None, Some(Quarter), Some(Counter), Some(Counter), Some(Counter)],
-    [None, Some(Half), Some(Quarter), Some(Counter), Some(Counter), Some(Counter)],
+    [None, None, Some(Quarter), Some(Counter), None, Some(Half)],
+    [None, None, Some(Quarter), Some(Counter), Some(Half), None],
+    [Some(Counter), Some(Quarter), None, None, None, Some(Half)],
+    [Some(Quarter), Some(Counter), None, None, None, Some(Half)],
+    [Some(Half), None, Some(Quarter), Some(Counter), None, None],
+    [None, Some(Half), Some(Quarter), Some(Counter), None, None],
 ];
 
 impl Face {

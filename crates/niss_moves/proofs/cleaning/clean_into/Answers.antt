@@ -1,12 +1,8 @@
-use Rattle.niss_moves.proofs.Names.{sym, ◌∙◌, subst, refl, arith, append_assoc, append-nil, List, [], ◌++◌, Cleans, Clean, turns_in, Turn}
+use Rattle.niss_moves.proofs.Names.{◌∙◌, sym, subst, arith, append_assoc, append-nil, List, [], ◌++◌, Cleans, Clean, turns_in, Turn}
 use Rattle.niss_moves.proofs.Cleaned.{clean_turns_are_clean, one_clean_list}
+use Rattle.niss_moves.proofs.Home.{left_more, left_faces, left_rotation}
 use Rattle.niss_moves.proofs.Rotations.{rotation_left_is}
-use Rattle.niss_moves.proofs.Home.{Left, left_none, left_more, LeftAtEnd, left_all}
 use Rattle.niss_moves.proofs.cleaning.clean_into.Goals as goal
-
-pub loop-token-init : goal.loop-token-init
-loop-token-init c =
-    rw (c.new-rotation.ensures, c.requires.empty) (record { room = omega arith; canonical = refl; taken = []; left = left_none _; cleans = λ rest s d. d })
 
 pub loop-token-preserved : goal.loop-token-preserved
 loop-token-preserved c =
@@ -21,14 +17,13 @@ loop-token-preserved c =
       cleans = λ rest s d. rw append_assoc (l.invariant.cleans (more ++ rest) s (c.push_clean_turns.ensures.cleans rest s d));
     }
 
-end : (c : goal.After-rotation) → LeftAtEnd c.args.tokens.now c.loop-token.invariant.taken c.loop-token.rotation
-end c = left_all c.args.tokens.now c.loop-token.token-index _ c.loop-token.rotation c.loop-token-test.false c.loop-token.invariant.left
-
 pub returns-clause-turns : goal.returns-clause-turns
 returns-clause-turns c =
     let l = c.loop-token in
     let cleaned : Cleans (l.invariant.taken ++ []) l.turns.items = l.invariant.cleans [] l.turns.items (rw append-nil (Clean l.invariant.canonical)) in
-    one_clean_list _ _ _ (subst (λ (s : List Turn). Cleans s l.turns.items) (append-nil l.invariant.taken ∙ (end c).faces) cleaned) (clean_turns_are_clean _)
+    one_clean_list _ _ _ (subst (λ (s : List Turn). Cleans s l.turns.items) (append-nil l.invariant.taken ∙ left_faces c.args.tokens.now l.token-index _ l.rotation c.loop-token-test.false l.invariant.left) cleaned) (clean_turns_are_clean _)
 
 pub returns-clause-rotation : goal.returns-clause-rotation
-returns-clause-rotation c = c.rotation.ensures ∙ sym (rotation_left_is c.args.tokens.now c.loop-token.rotation (end c).rotation)
+returns-clause-rotation c =
+    let l = c.loop-token in
+    c.rotation.ensures ∙ sym (rotation_left_is _ _ (left_rotation c.args.tokens.now l.token-index _ l.rotation c.loop-token-test.false l.invariant.left))
