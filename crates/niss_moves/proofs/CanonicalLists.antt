@@ -47,7 +47,6 @@ last_of [] = inl refl
 last_of (x ∷ a) =
     elim (last_of a) [ inl e ↦ inr ([], x, ap (λ s. x ∷ s) e) | inr w ↦ inr (x ∷ w.0, w.1, ap (λ s. x ∷ s) w.2) ]
 
--- facts on two or three faces
 -- neighbours of two faces that break the order
 abbrev pub are_exchanged : Face → Face → Bool
 are_exchanged f g = not (same_face f g) && not (face_may_follow f g)
