@@ -1,26 +1,27 @@
 -- Truth values, and facts over the finite types of the crate by a test that is computed over all values.
-use Rattle.niss_moves.proofs.Names.{◌≡◌, Bool, true, false, ◌&&◌, refl, subst, Option, None, Some, not, face_order, Coord, Neg, Zero}
-use Rattle.niss_moves.proofs.Names.{Pos, Vector, vector, Place, same_coord, same_vector, same_place, Face, U, D, R, L, F, B, Power}
-use Rattle.niss_moves.proofs.Names.{Quarter, Half, Counter, Axis, Ud, Rl, Fb, Slice, M, E, S, Token}
+use Rattle.niss_moves.proofs.Names.{refl, ap, sym, subst, arith, ◌≡◌, true, List, [], ◌∷◌, Some, Bool, map, false, ◌&&◌, Option, None}
+use Rattle.niss_moves.proofs.Names.{if◌then◌else◌, eqb, face_order, PlacesAreListed, PlacesDiffer, SameLetters, places, letter_at}
+use Rattle.niss_moves.proofs.Names.{letter_of, letters, Turn, Face, Power, Token, Rotation, U, Quarter, Axis, Ud, Rl, Fb, Slice, M, E, S}
+use Rattle.niss_moves.proofs.Names.{Place, Coord, Neg, Zero, Pos, Vector, vector, same_coord, same_vector, same_place, is_place, SameMap}
+use Rattle.niss_moves.proofs.Names.{same_face}
+use Rattle.niss_moves.specs.Canonical.{powers}
+use Rattle.niss_moves.specs.Indices.{face_index, power_index, axis_index, layer_index}
 use Rattle.std.proofs.lemmas.Bool.{and_parts}
-use Rattle.std.specs.List.{list_all}
+use Rattle.std.proofs.lemmas.List.Sums.{AllPass-from_list_all}
+use Rattle.std.specs.Cmp.{IsEquivalence}
+use Rattle.std.specs.List.{list_any, list_all}
+use Rattle.std.proofs.lemmas.Bool.Decides.{same_from_decides}
+use Rattle.std.proofs.lemmas.List.Elements.{All-contains}
+use Rattle.std.proofs.lemmas.Map.Made.{IsDistinct-from_count, AllPairs-from_IsDistinct}
+use Rattle.std.proofs.lemmas.Map.Views.{Contains-from_any}
 use Rattle.niss_moves.specs.declared.token.Token.TheVariants as token
-
-pub not_true : (b : Bool) → not b ≡ true → b ≡ false
-not_true true e = cc
-not_true false e = refl
+pub use Rattle.std.proofs.lemmas.Bool.{not-true as not_true, and_from as and_both}
 
 pub and_left : (a b : Bool) → (a && b) ≡ true → a ≡ true
-and_left true b e = refl
-and_left false b e = e
+and_left a b e = (and_parts a b e).0
 
 pub and_right : (a b : Bool) → (a && b) ≡ true → b ≡ true
-and_right true b e = e
-and_right false b e = cc
-
-pub and_both : (a b : Bool) → a ≡ true → b ≡ true → (a && b) ≡ true
-and_both true b h e = e
-and_both false b h e = h
+and_right a b e = (and_parts a b e).1
 
 unfoldable pub every_coord : (Coord → Bool) → Bool
 every_coord p = p Neg && (p Zero && p Pos)
@@ -37,38 +38,31 @@ every_face p = list_all p face_order
 pub at_face : (p : Face → Bool) → every_face p ≡ true → (f : Face) → p f ≡ true
 unfolding every_face
 at_face p e U = and_left _ _ e
-at_face p e D = and_left _ _ (and_right (p U) _ e)
-at_face p e R = and_left _ _ (and_right (p D) _ (and_right (p U) _ e))
-at_face p e L = and_left _ _ (and_right (p R) _ (and_right (p D) _ (and_right (p U) _ e)))
-at_face p e F = and_left _ _ (and_right (p L) _ (and_right (p R) _ (and_right (p D) _ (and_right (p U) _ e))))
-at_face p e B = and_left (p B) _ (and_right (p F) _ (and_right (p L) _ (and_right (p R) _ (and_right (p D) _ (and_right (p U) _ e)))))
+at_face p e f = AllPass-from_list_all p face_order e (face_index f) U (omega arith)
 
 unfoldable pub every_power : (Power → Bool) → Bool
-every_power p = p Quarter && (p Half && p Counter)
+every_power p = list_all p powers
 
-pub at_power : (p : Power → Bool) → every_power p ≡ true → (c : Power) → p c ≡ true
+pub at_power : (p : Power → Bool) → every_power p ≡ true → (n : Power) → p n ≡ true
 unfolding every_power
 at_power p e Quarter = and_left _ _ e
-at_power p e Half = and_left _ _ (and_right (p Quarter) _ e)
-at_power p e Counter = and_right (p Half) _ (and_right (p Quarter) _ e)
+at_power p e n = AllPass-from_list_all p powers e (power_index n) Quarter (omega arith)
 
 unfoldable pub every_axis : (Axis → Bool) → Bool
-every_axis p = p Ud && (p Rl && p Fb)
+every_axis p = list_all p (Ud ∷ Rl ∷ Fb ∷ [])
 
-pub at_axis : (p : Axis → Bool) → every_axis p ≡ true → (c : Axis) → p c ≡ true
+pub at_axis : (p : Axis → Bool) → every_axis p ≡ true → (a : Axis) → p a ≡ true
 unfolding every_axis
 at_axis p e Ud = and_left _ _ e
-at_axis p e Rl = and_left _ _ (and_right (p Ud) _ e)
-at_axis p e Fb = and_right (p Rl) _ (and_right (p Ud) _ e)
+at_axis p e a = AllPass-from_list_all p (Ud ∷ Rl ∷ Fb ∷ []) e (axis_index a) Ud (omega arith)
 
 unfoldable pub every_slice : (Slice → Bool) → Bool
-every_slice p = p M && (p E && p S)
+every_slice p = list_all p (M ∷ E ∷ S ∷ [])
 
-pub at_slice : (p : Slice → Bool) → every_slice p ≡ true → (c : Slice) → p c ≡ true
+pub at_slice : (p : Slice → Bool) → every_slice p ≡ true → (l : Slice) → p l ≡ true
 unfolding every_slice
 at_slice p e M = and_left _ _ e
-at_slice p e E = and_left _ _ (and_right (p M) _ e)
-at_slice p e S = and_right (p E) _ (and_right (p M) _ e)
+at_slice p e l = AllPass-from_list_all p (M ∷ E ∷ S ∷ []) e (layer_index l) M (omega arith)
 
 unfoldable pub every_vector : (Vector → Bool) → Bool
 every_vector p = every_coord (λ x. every_coord (λ y. every_coord (λ z. p (vector x y z))))
@@ -95,11 +89,45 @@ at_token p e (token.Wide f n) = (and_parts _ _ (at_face _ (and_parts _ _ (at_pow
 at_token p e (token.Slice l n) = at_slice _ (and_parts _ _ (and_parts _ _ (at_power _ e n)).1).0 l
 at_token p e (token.Rotation a n) = at_axis _ (and_parts _ _ (and_parts _ _ (at_power _ e n)).1).1 a
 
+abbrev pub turn : Face → Power → Turn
+turn f p = record { face = f; power = p }
+
+unfoldable pub every_turn : (Turn → Bool) → Bool
+every_turn p = every_face (λ f. every_power (λ n. p (turn f n)))
+
+pub at_turn : (p : Turn → Bool) → every_turn p ≡ true → (t : Turn) → p t ≡ true
+unfolding every_turn
+at_turn p e t = at_power _ (at_face _ e t.face) t.power
+
+abbrev pub rotation : Face → Option Power → Rotation
+rotation f o = record { top = f; vertical = o }
+
+unfoldable pub every_rotation : (Rotation → Bool) → Bool
+every_rotation p = every_face (λ f. p (rotation f None) && every_power (λ n. p (rotation f (Some n))))
+
+pub at_rotation : (p : Rotation → Bool) → every_rotation p ≡ true → (r : Rotation) → p r ≡ true
+unfolding every_rotation
+at_rotation p e r =
+    let h = and_parts _ _ (at_face _ e r.top) in
+    elim r.vertical as (λ o. p (rotation r.top o) ≡ true) [ None ↦ h.0 | Some n ↦ at_power _ h.1 n ]
+
 -- equal by the test, and the other way round
+pub same_face_is : (a b : Face) → same_face a b ≡ true → a ≡ b
+same_face_is U U e = refl
+same_face_is _ U e = cc
+same_face_is _ _ e = cc
+
+abbrev pub same_power : Power → Power → Bool
+same_power p q = eqb (power_index p) (power_index q)
+
+pub same_power_is : (a b : Power) → same_power a b ≡ true → a ≡ b
+same_power_is Quarter Quarter e = refl
+same_power_is _ Quarter e = cc
+same_power_is _ _ e = cc
+
 pub same_coord_is : (a b : Coord) → same_coord a b ≡ true → a ≡ b
 same_coord_is Neg Neg e = refl
-same_coord_is Zero Zero e = refl
-same_coord_is Pos Pos e = refl
+same_coord_is _ Neg e = cc
 same_coord_is _ _ e = cc
 
 pub same_vector_is : (v w : Vector) → same_vector v w ≡ true → v ≡ w
@@ -113,26 +141,12 @@ same_place_is q r e =
     let both = and_parts (same_vector q.cell r.cell) (same_vector q.direction r.direction) e in
     λ i. record { cell = same_vector_is q.cell r.cell both.0 i; direction = same_vector_is q.direction r.direction both.1 i }
 
-pub same_coord_self : (a : Coord) → same_coord a a ≡ true
-same_coord_self Neg = refl
-same_coord_self _ = refl
-
-pub same_vector_self : (v : Vector) → same_vector v v ≡ true
-same_vector_self v = and_both _ _ (and_both _ _ (same_coord_self v.x) (same_coord_self v.y)) (same_coord_self v.z)
-
 pub same_place_self : (q : Place) → same_place q q ≡ true
-same_place_self q = and_both _ _ (same_vector_self q.cell) (same_vector_self q.direction)
+unfolding every_place every_vector every_coord
+same_place_self q = at_place (λ q. same_place q q) refl q
 
 pub same_place_of : (q r : Place) → q ≡ r → same_place q r ≡ true
 same_place_of q r e = subst (λ (r : Place). same_place q r ≡ true) e (same_place_self q)
-
-unfoldable pub every_optional_power : (Option Power → Bool) → Bool
-every_optional_power p = p None && every_power (λ n. p (Some n))
-
-pub at_optional_power : (p : Option Power → Bool) → every_optional_power p ≡ true → (o : Option Power) → p o ≡ true
-unfolding every_optional_power
-at_optional_power p e None = (and_parts _ _ e).0
-at_optional_power p e (Some n) = at_power _ (and_parts _ _ e).1 n
 
 abbrev pub implies : Bool → Bool → Bool
 implies true b = b
@@ -142,7 +156,42 @@ pub by_implies : (a b : Bool) → implies a b ≡ true → a ≡ true → b ≡ 
 by_implies true b e h = e
 by_implies false b e h = cc
 
--- the other way round
-pub all_faces : (p : Face → Bool) → ((f : Face) → p f ≡ true) → every_face p ≡ true
-unfolding every_face
-all_faces p h = rw (h U, h D, h R, h L, h F, h B) refl
+-- The list of the sticker places, computed, and the facelet texts of maps on it.
+
+listed_test : every_place (λ q. implies (is_place q) (list_any (same_place q) places)) ≡ true
+unfolding every_place every_vector every_coord
+listed_test = refl
+
+pub all_places : list_all is_place places ≡ true
+all_places = refl
+
+pub places_are_listed : PlacesAreListed
+places_are_listed q =
+    (λ h. Contains-from_any same_place_is q places (by_implies _ _ (at_place _ listed_test q) h), λ h. All-contains (λ q. is_place q ≡ true) places q (AllPass-from_list_all is_place places all_places) h)
+
+-- none stands twice
+
+same_place_laws : IsEquivalence same_place
+same_place_laws =
+    record {
+      refl = same_place_self;
+      symm = λ x y. same_from_decides _ _ (same_place_is x y, same_place_of x y) (λ e. sym (same_place_is y x e), λ e. same_place_of y x (sym e));
+      congr = λ x y z e. ap (λ w. same_place w z) (same_place_is x y e);
+    }
+
+pub places_differ : PlacesDiffer
+places_differ =
+    AllPairs-from_IsDistinct (λ x y. (same_place_is x y, same_place_of x y)) places (IsDistinct-from_count same_place_laws places refl)
+
+-- Maps that are the same on the 54 places have the same facelet text.
+letter_of-same : (d e : Place → Place) → SameMap d e → (q : Place) (ps : List Place) → list_all is_place ps ≡ true → letter_of d ps q ≡ letter_of e ps q
+unfolding letter_of
+letter_of-same d e s q [] all = refl
+letter_of-same d e s q (p ∷ ps) all =
+    let at : d p ≡ e p = s p (and_left (is_place p) _ all) in
+    let rest : letter_of d ps q ≡ letter_of e ps q = letter_of-same d e s q ps (and_right (is_place p) _ all) in
+    λ i. if same_place (at i) q then letter_at p else rest i
+
+pub same_letters : SameLetters
+unfolding letters
+same_letters d e s = λ i. map (λ q. letter_of-same d e s q places all_places i) places

@@ -1,118 +1,179 @@
--- Rotations one after the other, sequences whose centres are brought home, and what is left of sequences and lines.
-use Rattle.niss_moves.proofs.Names.{◌≡◌, ◌++◌, refl, ap₂, subst, ap, sym, ◌∙◌, List, [], ◌∷◌, map, Option, None, Some, inl, inr, Bool}
-use Rattle.niss_moves.proofs.Names.{true, false, Place, same_place, centre, effect, effect_of_turns, inverse, turned, HasMeaning}
-use Rattle.niss_moves.proofs.Names.{face_before, face_before_power, spelling, IsRotationOf, rotation_by, face_order, joined_moves}
-use Rattle.niss_moves.proofs.Names.{BasicMove, FaceTurn, WholeRotation, expanded, faces, CentresComeHome, FacesAreHome, LineIsHome}
-use Rattle.niss_moves.proofs.Names.{FacesAndRotation, CleanedEffect, RotationIsLeft, Face, U, D, R, L, F, B, Power, Turn, Axis, Token}
-use Rattle.niss_moves.proofs.Names.{Rotation, TurnsAreMoves, OneMeaning, unwrap_or, rotations, moves_centres_as, rotation_left}
-use Rattle.niss_moves.proofs.Inverses.{inverse_after, effect_of_expanded, meaning, undone_by}
-use Rattle.niss_moves.proofs.Rotations.{turn, rotation, IsNext, next_rotation, is_next, effect_of_turns-append, every_rotation, at_rotation}
-use Rattle.niss_moves.proofs.Pushed.{before, Pushes, pushes_none, pushes_turn, pushes_rotation, map_none, keep_centre}
-use Rattle.niss_moves.proofs.OneSpelling.{one_spelling, same_rotation, same_rotation_is}
-use Rattle.niss_moves.proofs.CleanEffect.{cleans_effect}
-use Rattle.std.specs.List.{Contains, find, list_any}
-use Rattle.std.proofs.lemmas.Bool.{cases_Bool, cond-true, cond-false}
-use Rattle.std.proofs.lemmas.Map.Views.{Contains-from_any}
-use Rattle.niss_moves.proofs.Finite.{every_face, at_face, all_faces, every_power, every_optional_power, same_place_is, same_place_of}
-use Rattle.niss_moves.proofs.MadeLists.{none, first_or_later}
+-- Face turns taken from a sequence behind a rotation; sequences whose centres are brought home, and what is left of them.
+use Rattle.niss_moves.proofs.Names.{refl, ap, sym, ◌∙◌, subst, arith, append_assoc, ◌≡◌, ℕ, zero, suc, true, List, [], ◌∷◌, ◌++◌, length}
+use Rattle.niss_moves.proofs.Names.{Some, map, ◌+◌, ◌<◌, ◌≤◌, Option, None, append-nil, take, drop, get_or, rotation_left, TurnsAreMoves}
+use Rattle.niss_moves.proofs.Names.{CentresComeHome, FacesAreHome, LineIsHome, FacesAndRotation, CleanedEffect, RotationIsLeft, turned}
+use Rattle.niss_moves.proofs.Names.{effect_of_turns, inverse, effect, moved_by, inverse_power, centre, faces, BasicMove, FaceTurn}
+use Rattle.niss_moves.proofs.Names.{WholeRotation, expanded, token_of_basic, faces_with, joined_moves, Turn, Face, Power, Token, Rotation}
+use Rattle.niss_moves.proofs.Names.{U, Half, Axis, Slice, Place, same_place, face_before, face_before_power, spelling, IsRotationOf}
+use Rattle.niss_moves.proofs.Names.{renamed_turn, opposite}
+use Rattle.niss_moves.specs.Helpers.{IsNext, Takes}
+use Rattle.niss_moves.proofs.Inverses.{effect-append, effect_of_expanded, meaning, one_meaning}
+use Rattle.niss_moves.proofs.Rotations.{next_rotation, is_next, effect_of_turns-append, turn_after, rotation_left_is, one_spelling}
+use Rattle.niss_moves.proofs.Cleaned.{cleans_effect}
+use Rattle.niss_moves.proofs.Finite.{turn, rotation, every_face, every_power, every_turn, every_rotation, at_face, at_turn, at_rotation, same_place_is}
+use Rattle.std.proofs.Common.{add-one}
+use Rattle.std.proofs.lemmas.List.{take_more, take_all, drop_all, at_drop_more}
+use Rattle.niss_moves.specs.declared.token.Token.TheVariants as token
 
--- basic moves after a rotation and face turns
-pushes_all : (moves : List BasicMove) (r : Rotation) (old : List Turn) → (new : List Turn) × (n : Rotation) × Pushes r moves old new n
-pushes_all [] r old = (old, r, pushes_none r old)
-pushes_all (FaceTurn f p ∷ moves) r old =
-    let w = pushes_all moves r (old ++ before r (turn f p) ∷ []) in (w.0, w.1, pushes_turn r f p moves old _ w.0 w.1 refl w.2)
-pushes_all (WholeRotation a p ∷ moves) r old =
-    let w = pushes_all moves (next_rotation r a p) old in (w.0, w.1, pushes_rotation r a p _ moves old w.0 w.1 (is_next r a p) w.2)
+abbrev pub before : Rotation → Turn → Turn
+before r = renamed_turn (face_before r)
 
--- A rotation and then a sequence have the effect of the renamed face turns and then some rotation.
-left_from : (s : List Token) (r : Rotation) → (n : Rotation) × ((q : Place) → effect (spelling n) (effect_of_turns (map (before r) (faces s)) q) ≡ effect s (effect (spelling r) q))
-left_from [] r = (r, λ q. refl)
-left_from (t ∷ s) r =
-    let one = pushes_all (expanded t) r [] in
-    let w = left_from s one.1 in (
-      w.0,
-      λ q. ap (λ ts. effect (spelling w.0) (effect_of_turns ts q)) (sym (one.2.faces (faces s))) ∙ ap (effect (spelling w.0)) (effect_of_turns-append one.0 (map (before one.1) (faces s)) q) ∙ w.1 (effect_of_turns one.0 q)
-          ∙ ap (effect s) (one.2.effect q ∙ effect_of_expanded t (effect (spelling r) q)),
+-- After the rotation, these basic moves are these turns and then that rotation.
+record Pushes (r : Rotation) (moves : List BasicMove) (turns : List Turn) (n : Rotation) : Type 0 where
+  faces : (rest : List Turn) → turns ++ map (before n) rest ≡ map (before r) (faces_with moves rest)
+  effect : (q : Place) → effect (spelling n) (effect_of_turns turns q) ≡ effect (map token_of_basic moves) (effect (spelling r) q)
+
+pushes_none : (r : Rotation) → Pushes r [] [] r
+pushes_none r = record { faces = λ rest. refl; effect = λ q. refl }
+
+pushes_turn : (r : Rotation) (f : Face) (p : Power) (u : Turn) (moves : List BasicMove) (turns : List Turn) (n : Rotation) → u ≡ before r (turn f p)
+    → Pushes r moves turns n → Pushes r (FaceTurn f p ∷ moves) (u ∷ turns) n
+pushes_turn r f p u moves turns n e h =
+    rw e (record {
+      faces = λ rest. ap (λ s. before r (turn f p) ∷ s) (h.faces rest);
+      effect = λ q. h.effect (turned (before r (turn f p)) q) ∙ ap (effect (map token_of_basic moves)) (sym (turn_after r (turn f p) q));
+    })
+
+map_before : (r : Rotation) (a : Axis) (p : Power) (m : Rotation) → IsNext r a p m → (s : List Turn) → map (before m) s ≡ map (before r) (map (renamed_turn (face_before_power a p)) s)
+map_before r a p m h [] = refl
+map_before r a p m h (t ∷ s) = λ i. turn (h.faces t.face i) t.power ∷ map_before r a p m h s i
+
+pushes_rotation : (r : Rotation) (a : Axis) (p : Power) (m : Rotation) (moves : List BasicMove) (turns : List Turn) (n : Rotation) → IsNext r a p m → Pushes m moves turns n
+    → Pushes r (WholeRotation a p ∷ moves) turns n
+pushes_rotation r a p m moves turns n next h =
+    record {
+      faces = λ rest. h.faces rest ∙ map_before r a p m next (faces_with moves rest);
+      effect = λ q. h.effect q ∙ ap (effect (map token_of_basic moves)) (next.effect q);
+    }
+
+-- a rotation after which nothing follows
+pushes_last : (r : Rotation) (a : Axis) (p : Power) (n : Rotation) → IsNext r a p n → Pushes r (WholeRotation a p ∷ []) [] n
+pushes_last r a p n next = pushes_rotation r a p n [] [] n next (pushes_none n)
+
+-- the same for a move
+takes : (r : Rotation) (k : Token) (turns : List Turn) (n : Rotation) (moves : List BasicMove) → expanded k ≡ moves → Pushes r moves turns n → Takes r k turns n
+takes r k turns n moves e h =
+    let w : Pushes r (expanded k) turns n = rw e h in
+    record { faces = w.faces; effect = λ q. w.effect q ∙ effect_of_expanded k (effect (spelling r) q) }
+
+-- the arms of the code
+pub takes_face : (r : Rotation) (k : Token) (t u : Turn) → k ≡ token.Face t → u ≡ before r t → Takes r k (u ∷ []) r
+takes_face r k t u is e = takes r k (u ∷ []) r _ (ap expanded is) (pushes_turn r t.face t.power u [] [] r e (pushes_none r))
+
+pub takes_wide : (r : Rotation) (k : Token) (f o : Face) (p : Power) (u : Turn) (a : Axis) (b : Power) (n : Rotation) → k ≡ token.Wide f p → o ≡ opposite f
+    → u ≡ before r (turn o p) → expanded (token.Wide f p) ≡ FaceTurn (opposite f) p ∷ WholeRotation a b ∷ [] → IsNext r a b n → Takes r k (u ∷ []) n
+takes_wide r k f o p u a b n is eo e x next =
+    takes r k (u ∷ []) n _ (ap expanded is ∙ x) (pushes_turn r (opposite f) p u (WholeRotation a b ∷ []) [] n (e ∙ ap (λ (f : Face). before r (turn f p)) eo) (pushes_last r a b n next))
+
+pub takes_slice : (r : Rotation) (k : Token) (l : Slice) (p : Power) (t : Turn) (g : Face) (b : Power) (v w : Turn) (a : Axis) (n : Rotation) → k ≡ token.Slice l p
+    → expanded (token.Slice l p) ≡ FaceTurn t.face t.power ∷ FaceTurn (opposite t.face) (inverse_power t.power) ∷ WholeRotation a (inverse_power t.power) ∷ []
+    → g ≡ opposite t.face → b ≡ inverse_power t.power → v ≡ before r t → w ≡ before r (turn g b) → IsNext r a b n → Takes r k (v ∷ w ∷ []) n
+takes_slice r k l p t g b v w a n is x eg eb ev ew next =
+    let moves : expanded (token.Slice l p) ≡ FaceTurn t.face t.power ∷ FaceTurn g b ∷ WholeRotation a b ∷ [] = rw (eg, eb) x in
+    takes r k (v ∷ w ∷ []) n _ (ap expanded is ∙ moves) (pushes_turn r t.face t.power v (FaceTurn g b ∷ WholeRotation a b ∷ []) (w ∷ []) n ev (pushes_turn r g b w (WholeRotation a b ∷ []) [] n ew (pushes_last r a b n next)))
+
+pub takes_rotation : (r : Rotation) (k : Token) (a : Axis) (p : Power) (n : Rotation) → k ≡ token.Rotation a p → IsNext r a p n → Takes r k [] n
+takes_rotation r k a p n is next = takes r k [] n _ (ap expanded is) (pushes_last r a p n next)
+
+map_none : (s : List Turn) → map (before (rotation U None)) s ≡ s
+map_none [] = refl
+map_none (t ∷ s) = ap (λ u. t ∷ u) (map_none s)
+
+-- The first k moves of a sequence are these face turns and then that rotation.
+pub record Left (ts : List Token) (k : ℕ) (turns : List Turn) (r : Rotation) : Type 0 where
+  pub faces : turns ++ map (before r) (faces (drop k ts)) ≡ faces ts
+  pub effect : (q : Place) → effect (spelling r) (effect_of_turns turns q) ≡ effect (take k ts) q
+
+pub left_none : (ts : List Token) → Left ts 0 [] (rotation U None)
+left_none ts = record { faces = map_none (faces ts); effect = λ q. refl }
+
+pub left_more : (ts : List Token) (k : ℕ) (d : Token) (turns more : List Turn) (r n : Rotation) → k < length ts → Left ts k turns r → Takes r (get_or ts k d) more n
+    → Left ts (k + 1) (turns ++ more) n
+left_more ts k d turns more r n lt l h =
+    record {
+      faces = append_assoc turns more _ ∙ ap (λ s. turns ++ s) (h.faces (faces (drop (k + 1) ts))) ∙ sym (at_drop_more (λ s. turns ++ map (before r) (faces s)) ts k d lt) ∙ l.faces;
+      effect = λ q.
+          ap (effect (spelling n)) (effect_of_turns-append turns more q) ∙ h.effect (effect_of_turns turns q) ∙ ap (moved_by (get_or ts k d)) (l.effect q)
+          ∙ sym (effect-append (take k ts) (get_or ts k d ∷ []) q) ∙ ap (λ s. effect s q) (sym (take_more ts k d lt));
+    }
+
+-- Face turns keep the centres.
+keeps_test : every_turn (λ t. every_face (λ g. same_place (turned t (centre g)) (centre g))) ≡ true
+unfolding every_turn every_face every_power
+keeps_test = refl
+
+keep_centre : (s : List Turn) (g : Face) → effect_of_turns s (centre g) ≡ centre g
+keep_centre [] g = refl
+keep_centre (t ∷ s) g = ap (effect_of_turns s) (same_place_is _ _ (at_face _ (at_turn _ keeps_test t) g)) ∙ keep_centre s g
+
+-- the same at the end of the sequence
+pub left_faces : (ts : List Token) (k : ℕ) (turns : List Turn) (r : Rotation) → length ts ≤ k → Left ts k turns r → turns ≡ faces ts
+left_faces ts k turns r le l =
+    sym (append-nil turns) ∙ ap (λ s. turns ++ map (before r) (faces s)) (sym (drop_all k ts le)) ∙ l.faces
+
+pub left_effect : (ts : List Token) (k : ℕ) (turns : List Turn) (r : Rotation) → length ts ≤ k → Left ts k turns r
+    → (q : Place) → effect ts q ≡ effect (spelling r) (effect_of_turns turns q)
+left_effect ts k turns r le l q = ap (λ s. effect s q) (sym (take_all k ts le)) ∙ sym (l.effect q)
+
+pub left_rotation : (ts : List Token) (k : ℕ) (turns : List Turn) (r : Rotation) → length ts ≤ k → Left ts k turns r → IsRotationOf ts r
+left_rotation ts k turns r le l f =
+    ap (effect (spelling r)) (sym (keep_centre turns f)) ∙ sym (left_effect ts k turns r le l (centre f))
+
+pub ruleset of_taking = (left_none, left_faces, left_effect, left_rotation)
+
+-- Each sequence is some face turns and then a rotation.
+pushes_all : (moves : List BasicMove) (r : Rotation) → (turns : List Turn) × (n : Rotation) × Pushes r moves turns n
+pushes_all [] r = ([], r, pushes_none r)
+pushes_all (FaceTurn f p ∷ moves) r =
+    let w = pushes_all moves r in (before r (turn f p) ∷ w.0, w.1, pushes_turn r f p (before r (turn f p)) moves w.0 w.1 refl w.2)
+pushes_all (WholeRotation a p ∷ moves) r =
+    let w = pushes_all moves (next_rotation r a p) in (w.0, w.1, pushes_rotation r a p _ moves w.0 w.1 (is_next r a p) w.2)
+
+left_until : (ts : List Token) (k : ℕ) → k ≤ length ts → (turns : List Turn) × (r : Rotation) × Left ts k turns r
+left_until ts zero le = ([], rotation U None, left_none ts)
+left_until ts (suc k) le =
+    let w = left_until ts k (omega arith) in
+    let t = get_or ts k (token.Face (turn U Half)) in
+    let h = pushes_all (expanded t) w.1 in
+    (w.0 ++ h.0, h.1, rw add-one at (left_more ts k (token.Face (turn U Half)) w.0 h.0 w.1 h.1 (omega arith) w.2 (takes w.1 t h.0 h.1 (expanded t) refl h.2)))
+
+left_by : (s : List Token) → (r : Rotation) × ((q : Place) → effect (spelling r) (effect_of_turns (faces s) q) ≡ effect s q) × IsRotationOf s r
+left_by s =
+    let w = left_until s (length s) (omega arith) in
+    let same = left_faces s (length s) w.0 w.1 (omega arith) w.2 in (
+      w.1,
+      λ q. ap (λ ts. effect (spelling w.1) (effect_of_turns ts q)) (sym same) ∙ sym (left_effect s (length s) w.0 w.1 (omega arith) w.2 q),
+      left_rotation s (length s) w.0 w.1 (omega arith) w.2,
     )
 
-pub left_by : (s : List Token) → (n : Rotation) × ((q : Place) → effect (spelling n) (effect_of_turns (faces s) q) ≡ effect s q)
-left_by s =
-    let w = left_from s (rotation U None) in
-    (w.0, λ q. ap (λ ts. effect (spelling w.0) (effect_of_turns ts q)) (sym (map_none (faces s))) ∙ w.1 q)
+undone_test : every_rotation (λ r. every_face (λ f. same_place (effect (spelling (rotation_left (inverse (spelling r)))) (effect (spelling r) (centre f))) (centre f))) ≡ true
+unfolding every_rotation every_power every_face rotation_left
+undone_test = refl
 
--- a rotation and then a sequence of rotations
-rotated : (s : List Token) (r : Rotation) → faces s ≡ [] → (n : Rotation) × ((q : Place) → effect (spelling n) q ≡ effect s (effect (spelling r) q))
-rotated s r none =
-    let w = left_from s r in
-    (w.0, λ q. ap (λ ts. effect (spelling w.0) (effect_of_turns (map (before r) ts) q)) (sym none) ∙ w.1 q)
+pub centres_come_home : CentresComeHome
+centres_come_home s =
+    let w = left_by s in
+    let home = rotation_left (inverse (spelling w.0)) in
+    (home, λ f. ap (effect (spelling home)) (sym (w.2 f)) ∙ same_place_is _ _ (at_face _ (at_rotation _ undone_test w.0) f))
 
+-- A rotation at the end adds no face turn.
 no_faces : (f : Face) (o : Option Power) → faces (spelling (rotation f o)) ≡ []
 no_faces U None = refl
 no_faces U (Some p) = refl
 no_faces _ None = refl
 no_faces _ (Some p) = refl
 
--- Each rotation has one that undoes it.
-no_faces_back : (f : Face) (o : Option Power) → faces (inverse (spelling (rotation f o))) ≡ []
-no_faces_back U None = refl
-no_faces_back U (Some p) = refl
-no_faces_back _ None = refl
-no_faces_back _ (Some p) = refl
-
-undone : (r : Rotation) → (h : Rotation) × ((q : Place) → effect (spelling h) (effect (spelling r) q) ≡ q)
-undone r =
-    let h = rotated (inverse (spelling r)) (rotation U None) (no_faces_back r.top r.vertical) in
-    (h.0, λ q. h.1 (effect (spelling r) q) ∙ inverse_after (spelling r) q)
-
-pub centres_come_home : CentresComeHome
-centres_come_home s =
-    let r = left_by s in
-    let h = undone r.0 in
-    (h.0, λ f. ap (effect (spelling h.0)) (sym (r.1 (centre f))) ∙ h.1 (effect_of_turns (faces s) (centre f)) ∙ keep_centre (faces s) f)
+faces-append : (s t : List Token) → faces t ≡ [] → faces (s ++ t) ≡ faces s
+faces-append [] t e = e
+faces-append (k ∷ s) t e = ap (faces_with (expanded k)) (faces-append s t e)
 
 pub faces_are_home : FacesAreHome
 faces_are_home s home h q =
-    let r = left_by s in
-    let n = rotated (spelling home) r.0 (no_faces home.top home.vertical) in
-    let whole : (q : Place) → effect (spelling n.0) (effect_of_turns (faces s) q) ≡ effect (spelling home) (effect s q) = λ q. n.1 (effect_of_turns (faces s) q) ∙ ap (effect (spelling home)) (r.1 q) in
-    let none : n.0 ≡ rotation U None = one_spelling n.0 (rotation U None) (λ f. ap (effect (spelling n.0)) (sym (keep_centre (faces s) f)) ∙ whole (centre f) ∙ h f) in
-    sym (whole q) ∙ ap (λ n. effect (spelling n) (effect_of_turns (faces s) q)) none
-
--- Some rotation moves the six centres as a sequence does.
-pub some_rotation : (s : List Token) → (r : Rotation) × IsRotationOf s r
-some_rotation s =
-    let r = left_by s in (r.0, λ f. ap (effect (spelling r.0)) (sym (keep_centre (faces s) f)) ∙ r.1 (centre f))
-
--- a rotation held as six faces, and one more about an axis
-pub by_next : (r : Rotation) (a : Axis) (p : Power) (top front : Face) → top ≡ face_before r (face_before_power a p U)
-    → front ≡ face_before r (face_before_power a p F) → IsNext r a p (rotation_by top front)
-unfolding next_rotation
-by_next r a p top front t f = subst (λ (n : Rotation). IsNext r a p n) (sym (ap₂ rotation_by t f)) (is_next r a p)
-
--- these six faces are brought to the places of U, D, R, L, F and B
-pub held : (r : Rotation) (a : Axis) (p : Power) (x1 x2 x3 x4 x5 x6 : Face) (n : Rotation) → IsNext r a p n → x1 ≡ face_before r (face_before_power a p U)
-    → x2 ≡ face_before r (face_before_power a p D) → x3 ≡ face_before r (face_before_power a p R) → x4 ≡ face_before r (face_before_power a p L)
-    → x5 ≡ face_before r (face_before_power a p F) → x6 ≡ face_before r (face_before_power a p B)
-    → (x1 ∷ x2 ∷ x3 ∷ x4 ∷ x5 ∷ x6 ∷ []) ≡ map (face_before n) face_order
-held r a p x1 x2 x3 x4 x5 x6 n h e1 e2 e3 e4 e5 e6 =
-    λ i. (e1 ∙ sym (h.faces U)) i ∷ (e2 ∙ sym (h.faces D)) i ∷ (e3 ∙ sym (h.faces R)) i ∷ (e4 ∙ sym (h.faces L)) i ∷ (e5 ∙ sym (h.faces F)) i ∷ (e6 ∙ sym (h.faces B)) i ∷ []
-
--- The whole effect of sequences and lines, by their face turns and a rotation.
-pub turns_are_moves : TurnsAreMoves
-turns_are_moves [] q = refl
-turns_are_moves (t ∷ ts) q = turns_are_moves ts (turned t q)
-
--- the effect that a meaning comes to
-meaning_undone : (s n b : List Token) → HasMeaning s n b → (q : Place) → effect s q ≡ effect (inverse b) (effect n q)
-meaning_undone s n b h q = sym (inverse_after b (effect s q)) ∙ ap (effect (inverse b)) (h q)
-
-pub one_meaning : OneMeaning
-one_meaning s t n b h k q = meaning_undone s n b h q ∙ sym (meaning_undone t n b k q)
-
--- the inverse of a line, after any sequence of its meaning
-pub inverse_undoes_line : (m n b s : List Token) (q : Place) → HasMeaning s n b → m ≡ inverse (n ++ inverse b) → effect m (effect s q) ≡ q
-inverse_undoes_line m n b s q h e =
-    ap (effect m) (one_meaning s (n ++ inverse b) n b h (meaning n b) q) ∙ undone_by m (n ++ inverse b) q e
+    let z = s ++ spelling home in
+    let w = left_by z in
+    let none : w.0 ≡ rotation U None = one_spelling w.0 (rotation U None) (λ f. w.2 f ∙ effect-append s (spelling home) (centre f) ∙ h f) in
+    sym (effect-append s (spelling home) q) ∙ sym (w.1 q) ∙ ap (λ n. effect (spelling n) (effect_of_turns (faces z) q)) none
+    ∙ ap (λ ts. effect_of_turns ts q) (faces-append s (spelling home) (no_faces home.top home.vertical))
 
 pub line_is_home : LineIsHome
 line_is_home line s home h centres q =
@@ -122,41 +183,16 @@ line_is_home line s home h centres q =
 
 pub faces_and_rotation : FacesAndRotation
 faces_and_rotation s r h q =
-    let n = left_by s in
-    let one : n.0 ≡ r = one_spelling n.0 r (λ f. ap (effect (spelling n.0)) (sym (keep_centre (faces s) f)) ∙ n.1 (centre f) ∙ sym (h f)) in
-    sym (n.1 q) ∙ ap (λ n. effect (spelling n) (effect_of_turns (faces s) q)) one
+    let w = left_by s in
+    let one : w.0 ≡ r = one_spelling w.0 r (λ f. w.2 f ∙ sym (h f)) in
+    sym (w.1 q) ∙ ap (λ n. effect (spelling n) (effect_of_turns (faces s) q)) one
 
 pub cleaned_effect : CleanedEffect
 cleaned_effect s c r d h q = faces_and_rotation s r h q ∙ ap (effect (spelling r)) (sym (cleans_effect (faces s) c d q))
 
--- The rotation that is found among the 24 is the one that is left.
-found : {X : Type 0} (p : X → Bool) → (xs : List X) (x : X) → Contains xs x → p x ≡ true → (y : X) × (find p xs ≡ Some y) × (p y ≡ true)
-found p [] x h k = absurd (none x h)
-found p (z ∷ xs) x h k =
-    elim (cases_Bool (p z)) [
-      | inl e ↦ (z, cond-true (p z) _ _ e, e)
-      | inr e ↦
-          (elim (first_or_later z xs x h) [
-            | inl q ↦ absurd (let bad : true ≡ false = sym k ∙ sym (ap p q) ∙ e in cc)
-            | inr c ↦ (let w = found p xs x c k in (w.0, cond-false (p z) _ _ e ∙ w.1, w.2))
-          ])
-    ]
-
-rotations_test : every_rotation (λ r. list_any (same_rotation r) rotations) ≡ true
-unfolding every_rotation every_optional_power every_power every_face
-rotations_test = refl
-
-pub is_left_of_test : (s : List Token) (r : Rotation) → moves_centres_as s r ≡ true → IsRotationOf s r
-unfolding every_face
-is_left_of_test s r h f = same_place_is _ _ (at_face (λ f. same_place (effect (spelling r) (centre f)) (effect s (centre f))) h f)
-
-pub rotation_left_is : (s : List Token) (r : Rotation) → IsRotationOf s r → rotation_left s ≡ r
-unfolding rotation_left every_face
-rotation_left_is s r h =
-    let here = Contains-from_any same_rotation_is r rotations (at_rotation _ rotations_test r) in
-    let test : moves_centres_as s r ≡ true = all_faces (λ f. same_place (effect (spelling r) (centre f)) (effect s (centre f))) (λ f. same_place_of _ _ (h f)) in
-    let w = found (moves_centres_as s) rotations r here test in
-    ap (λ o. unwrap_or o (record { top = U; vertical = None })) w.1 ∙ one_spelling w.0 r (λ f. is_left_of_test s w.0 w.2 f ∙ sym (h f))
-
 pub rotation_is_left : RotationIsLeft
-rotation_is_left s = let w = some_rotation s in subst (λ (r : Rotation). IsRotationOf s r) (sym (rotation_left_is s w.0 w.1)) w.1
+rotation_is_left s = let w = left_by s in subst (λ (r : Rotation). IsRotationOf s r) (sym (rotation_left_is s w.0 w.2)) w.2
+
+pub turns_are_moves : TurnsAreMoves
+turns_are_moves [] q = refl
+turns_are_moves (t ∷ ts) q = turns_are_moves ts (turned t q)

@@ -8,18 +8,21 @@ pub use Rattle.niss_moves.specs.Canonical.{may_follow, IsCanonical, last_turn, c
 pub use Rattle.niss_moves.specs.Canonical.{face_order, turn_order}
 unfoldable pub use Rattle.niss_moves.specs.Canonical.{all_canonical}
 pub use Rattle.niss_moves.specs.CleanText.{turn_words, rotation_words, cleaned_words, with_bracket}
-pub use Rattle.niss_moves.specs.CleanedLine.{after_first, most_rewritings, clean_words, with_clean_line, rotations, moves_centres_as}
+pub use Rattle.niss_moves.specs.CleanedLine.{most_rewritings, clean_words, with_clean_line, rotations, moves_centres_as}
 unfoldable pub use Rattle.niss_moves.specs.CleanedLine.{rewritten_once, rewritten_within, clean_turns, rotation_left}
 pub use Rattle.niss_moves.specs.Cleaning.{sum_of_turns, rewritten_pair, IsRewriting, Cleans, Clean, Rewrite, are_disordered, disorder}
 pub use Rattle.niss_moves.specs.Cleaning.{turn_by, sum_of_powers}
-pub use Rattle.niss_moves.specs.EffectLaws.{TurnsAreMoves, OneMeaning, PlacesStay, PlacesAreListed, PlacesDiffer, SameLetters}
+pub use Rattle.niss_moves.specs.Laws.{TurnsAreMoves, OneMeaning, PlacesStay, PlacesAreListed, PlacesDiffer, SameLetters, CanonicalMembers}
+pub use Rattle.niss_moves.specs.Laws.{CanonicalGrows, CanonicalInOrder, CleaningEnds, OneCleanList, CanonicalStays, CleanTurnsAreClean}
+pub use Rattle.niss_moves.specs.Laws.{RewritingLowers, CentresComeHome, FacesAreHome, LineIsHome, FacesAndRotation, CleanedEffect}
+pub use Rattle.niss_moves.specs.Laws.{RotationIsLeft, OneSpelling}
 pub use Rattle.niss_moves.specs.Effects.{turned, effect_of_turns, inverse, effect, HasMeaning, moved_by, move_of, inverse_token}
 pub use Rattle.niss_moves.specs.Effects.{inverse_power, quarter, quarters, Move, moved, face_move, times}
 pub use Rattle.niss_moves.specs.Facelets.{centre, places}
 pub use Rattle.niss_moves.specs.Faces.{faces, BasicMove, FaceTurn, WholeRotation, expanded, token_of_basic, faces_with}
 pub use Rattle.niss_moves.specs.Faults.{Cut, Whole, LacksOne, LacksTwo, cut_ending, bracket_ending, Continues, has_no_bracket}
 pub use Rattle.niss_moves.specs.Faults.{cut_length, CanContinue, BeginsBase, StopsAt, Stops, Lacks, Faults}
-pub use Rattle.niss_moves.specs.Helpers.{is_empty, pair_of_turns, list_with_turn, with_gathered, rotation_by, is_beside, turns_in}
+pub use Rattle.niss_moves.specs.Helpers.{is_empty, pair_of_turns, list_with_turn, with_gathered, rotation_by, turns_in}
 pub use Rattle.niss_moves.specs.Indices.{token_index}
 pub use Rattle.niss_moves.specs.Letters.{face_letter, letter_at}
 unfoldable pub use Rattle.niss_moves.specs.Letters.{letter_of, letters}
@@ -37,9 +40,7 @@ pub use Rattle.niss_moves.specs.Places.{Place, Coord, Neg, Zero, Pos, Vector, ve
 pub use Rattle.niss_moves.specs.Places.{SameMap, negated, along}
 pub use Rattle.niss_moves.specs.Reader.{IsFed, Reader}
 unfoldable pub use Rattle.niss_moves.specs.Reader.{read_line}
-pub use Rattle.niss_moves.specs.RewritingLaws.{CanonicalMembers, CanonicalGrows, CanonicalInOrder, CleaningEnds, OneCleanList}
-pub use Rattle.niss_moves.specs.RewritingLaws.{CanonicalStays, CleanTurnsAreClean, RewritingLowers, CentresComeHome, FacesAreHome}
-pub use Rattle.niss_moves.specs.RewritingLaws.{LineIsHome, FacesAndRotation, CleanedEffect, RotationIsLeft, OneSpelling}
+unfoldable pub use Rattle.niss_moves.specs.Reader.{read_line}
 pub use Rattle.niss_moves.specs.Rotations.{face_before, face_before_power, spelling, IsRotationOf, renamed_turn, face_before_if, to_top}
 pub use Rattle.niss_moves.specs.Rotations.{about_vertical, rotation_if}
 pub use Rattle.niss_moves.specs.Text.{gap, word, with_word, with_words, power_bytes, gap_after}

@@ -2,7 +2,7 @@
 use Rattle.std.specs.Prelude.{ℕ, zero, suc, ◌+◌, ◌*◌, Bool, if◌then◌else◌}
 use Rattle.std.specs.Prelude.{List, [], ◌∷◌, ◌++◌, map, flat_map, length, find, Option, None, Some, unwrap_or}
 use Rattle.std.specs.List.{list_all}
-use Rattle.std.specs.Option.{option_map_or}
+use Rattle.std.specs.Option.{option_map, option_map_or}
 use Rattle.niss_moves.specs.Places.{same_place}
 use Rattle.niss_moves.specs.Facelets.{centre}
 use Rattle.niss_moves.specs.Effects.{effect}
@@ -15,17 +15,13 @@ use Rattle.niss_moves.specs.CleanText.{cleaned_words, with_bracket}
 use Rattle.niss_moves.specs.Text.{with_words}
 use Rattle.niss_moves.specs.Names.{U, Quarter, Half, Counter, Turn, Token, Rotation}
 
-abbrev pub after_first : Turn → Option (List Turn) → Option (List Turn)
-after_first t None = None
-after_first t (Some s) = Some (t ∷ s)
-
 -- the list with the leftmost neighbours rewritten that break the order, where there are any
 unfoldable pub rewritten_once : List Turn → Option (List Turn)
 rewritten_once [] = None
 rewritten_once (t ∷ []) = None
 rewritten_once (t ∷ u ∷ s) =
     if face_may_follow t.face u.face
-    then after_first t (rewritten_once (u ∷ s))
+    then option_map (λ s. t ∷ s) (rewritten_once (u ∷ s))
     else Some (rewritten_pair t u ++ s)
 
 -- the list after at most n rewritings

@@ -1,15 +1,16 @@
 -- What private functions of the code work out. No public contract names these.
-use Rattle.std.specs.Prelude.{ℕ, Bool, true, false, not, ◌&&◌, List, [], ◌∷◌, ◌++◌, drop, slice_index_or, if◌then◌else◌, Option, None, Some}
-use Rattle.niss_moves.specs.Turn.{opposite, same_face}
+use Rattle.std.specs.Prelude.{◌≡◌, ℕ, Bool, true, false, List, [], ◌∷◌, ◌++◌, map, drop, slice_index_or, if◌then◌else◌}
+use Rattle.std.specs.Prelude.{Option, None, Some}
+use Rattle.niss_moves.specs.Turn.{same_face}
 use Rattle.niss_moves.specs.Cleaning.{sum_of_turns}
-use Rattle.niss_moves.specs.Names.{Face, U, R, F, B, Power, Quarter, Half, Counter, Turn, Rotation}
-use Rattle.niss_moves.specs.Rotations.{to_top, face_before_if}
+use Rattle.niss_moves.specs.Effects.{effect, effect_of_turns, moved_by}
+use Rattle.niss_moves.specs.Faces.{expanded, faces_with}
+use Rattle.niss_moves.specs.Names.{Face, U, R, L, F, B, Power, Quarter, Half, Counter, Turn, Axis, Token, Rotation}
+use Rattle.niss_moves.specs.Places.{Place}
+use Rattle.niss_moves.specs.Rotations.{to_top, face_before, face_before_if, face_before_power, renamed_turn, spelling}
+use Rattle.niss_moves.specs.declared.token.Token.TheVariants as token
 use Rattle.niss_moves.specs.declared.faces.MoveTurns.{MoveTurns}
 use Rattle.niss_moves.specs.declared.faces.MoveTurns.TheVariants.{NoTurn, One, Two}
-
--- two faces with an edge in common
-abbrev pub is_beside : Face → Face → Bool
-is_beside f g = not (same_face f g) && not (same_face (opposite f) g)
 
 -- one turn after another: their sum where they are of one face, and else both
 abbrev pub pair_of_turns : Turn → Turn → List Turn
@@ -26,12 +27,13 @@ abbrev pub is_empty : List (List ℕ) → Bool
 is_empty [] = true
 is_empty (w ∷ ws) = false
 
--- the rotation about the vertical axis that brings a face to the front, once another one is at the top
+-- the rotation about the vertical axis that brings a face to the front, once another one is at the top; none where none does
 abbrev pub vertical_of : Face → Face → Option Power
 vertical_of top front =
     if same_face front (face_before_if (to_top top) F) then None
     else (if same_face front (face_before_if (to_top top) R) then Some Quarter
-    else (if same_face front (face_before_if (to_top top) B) then Some Half else Some Counter))
+    else (if same_face front (face_before_if (to_top top) B) then Some Half
+    else (if same_face front (face_before_if (to_top top) L) then Some Counter else None)))
 
 -- the rotation that brings these two faces to the top and to the front
 abbrev pub rotation_by : Face → Face → Rotation
@@ -40,6 +42,18 @@ rotation_by top front = record { top = top; vertical = vertical_of top front }
 -- the rotation that brings these six faces to the places of U, D, R, L, F and B
 abbrev pub rotation_of_faces : List Face → Rotation
 rotation_of_faces fs = rotation_by (slice_index_or fs 0 U) (slice_index_or fs 4 U)
+
+-- The rotation is another one and then one about an axis.
+pub record IsNext (r : Rotation) (axis : Axis) (p : Power) (next : Rotation) : Type 0 where
+  pub effect : (q : Place) → effect (spelling next) q ≡ moved_by (token.Rotation axis p) (effect (spelling r) q)
+  pub faces : (f : Face) → face_before next f ≡ face_before r (face_before_power axis p f)
+
+-- After a rotation a move is these face turns and then the next rotation.
+pub record Takes (r : Rotation) (t : Token) (turns : List Turn) (next : Rotation) : Type 0 where
+  pub effect : (q : Place) → effect (spelling next) (effect_of_turns turns q) ≡ moved_by t (effect (spelling r) q)
+  pub faces : (rest : List Turn) →
+      turns ++ map (renamed_turn (face_before next)) rest
+      ≡ map (renamed_turn (face_before r)) (faces_with (expanded t) rest)
 
 -- the face turns of one move
 abbrev pub turns_in : MoveTurns → List Turn

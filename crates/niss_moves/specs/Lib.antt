@@ -16,10 +16,9 @@ pub mod Machine
 pub mod Reader
 pub mod Text
 pub mod ReadingLaws
-pub mod EffectLaws
 pub mod CleanText
 pub mod CleanedLine
-pub mod RewritingLaws
+pub mod Laws
 pub mod Helpers
 pub mod WholeMoves
 pub mod FaultText

@@ -1,6 +1,5 @@
 //! Canonical sequences of face turns.
 ghost use Rattle.std.specs.Prelude.{◌≡◌, ◌<◌, ◌≤◌, ◌↔◌, [], ◌∷◌, ◌||◌, IsTrue, MatchOption, filter, length};
-ghost use Rattle.niss_moves.specs.Turn.{same_face};
 ghost use Rattle.niss_moves.specs.Canonical.{face_may_follow, may_follow, turn_order, IsCanonical};
 
 use crate::turn::{Face, Power, Turn};
@@ -48,17 +47,15 @@ pub fn allowed(last: Option<Turn>, turn: Turn) -> bool
     }
 }
 
-const AFTER_U: [Turn; 15] = turns_of!(D R L F B);
-
-const AFTER_D: [Turn; 12] = turns_of!(R L F B);
-
-const AFTER_R: [Turn; 15] = turns_of!(U D L F B);
-
-const AFTER_L: [Turn; 12] = turns_of!(U D F B);
-
-const AFTER_F: [Turn; 15] = turns_of!(U D R L B);
-
-const AFTER_B: [Turn; 12] = turns_of!(U D R L);
+/// The turns after one of each face.
+static AFTER: [&[Turn]; 6] = [
+    &turns_of!(D R L F B),
+    &turns_of!(R L F B),
+    &turns_of!(U D L F B),
+    &turns_of!(U D F B),
+    &turns_of!(U D R L B),
+    &turns_of!(U D R L),
+];
 
 /// The turns that may stand directly after the last one in a canonical sequence, in turn order.
 pub fn turns_after(last: Option<Turn>) -> &'static [Turn]
@@ -66,15 +63,8 @@ pub fn turns_after(last: Option<Turn>) -> &'static [Turn]
     ensures some { 0 < length result.now }
     ensures few { length result.now ≤ 18 }
 {
-    let Some(last) = last else {
-        return &TURN_ORDER;
-    };
-    match last.face {
-        Face::U => &AFTER_U,
-        Face::D => &AFTER_D,
-        Face::R => &AFTER_R,
-        Face::L => &AFTER_L,
-        Face::F => &AFTER_F,
-        Face::B => &AFTER_B,
+    match last {
+        None => &TURN_ORDER,
+        Some(last) => AFTER[last.face as usize],
     }
 }

@@ -89,7 +89,7 @@ fn push_before(turns: &mut Faces, turn: Turn)
 }
 
 /// Appends a turn to a clean list and cleans it again.
-#[tactic(auto, using(crate::proofs::AllCanonical::canonical_more))]
+#[tactic(auto, using(crate::proofs::CanonicalLists::canonical_more))]
 fn push_clean(turns: &mut Faces, turn: Turn)
     requires canonical { IsCanonical turns.old.items }
     requires room { array_vec_len turns.old < 512 }
@@ -125,6 +125,7 @@ fn push_clean_turns(turns: &mut Faces, more: MoveTurns)
 }
 
 /// Writes the cleaned face turns of a sequence into an empty list, and answers the rotation that is left at its end.
+#[tactic(auto, using(crate::proofs::Home::left_none))]
 pub(crate) fn clean_into(tokens: &[Token], turns: &mut Faces) -> Rotation
     requires moves { length tokens.now ≤ 256 }
     requires empty { turns.old.items ≡ [] }

@@ -1,8 +1,8 @@
 //! What holds of all moves and sequences. Each law is the contract of a function that does nothing.
 #![tactic(auto, using(crate::proofs::LawLemmas::of_effects))]
 
-ghost use Rattle.niss_moves.specs.EffectLaws.{PlacesStay, PlacesAreListed, PlacesDiffer, PlacesAre54, InverseUndoes};
-ghost use Rattle.niss_moves.specs.EffectLaws.{InverseIsUndone, EffectsCompose, TurnsAreMoves, OneMeaning, SameLetters};
+ghost use Rattle.niss_moves.specs.Laws.{PlacesStay, PlacesAreListed, PlacesDiffer, PlacesAre54, InverseUndoes};
+ghost use Rattle.niss_moves.specs.Laws.{InverseIsUndone, EffectsCompose, TurnsAreMoves, OneMeaning, SameLetters};
 
 /// A move brings places to places.
 pub fn places_stay()

@@ -6,7 +6,7 @@ ghost use Rattle.niss_moves.specs.Effects.{effect, effect_of_turns, inverse_powe
 ghost use Rattle.niss_moves.specs.Rotations.{spelling, IsRotationOf};
 ghost use Rattle.niss_moves.specs.Faces.{faces, expanded, FaceTurn, WholeRotation};
 ghost use Rattle.niss_moves.specs.Turn.{opposite};
-ghost use Rattle.niss_moves.specs.Helpers.{turns_in};
+ghost use Rattle.niss_moves.specs.Helpers.{turns_in, Takes};
 ghost use Rattle.niss_moves.specs.declared.token.Token.TheVariants as token;
 
 use crate::axis::Axis;
@@ -58,21 +58,10 @@ pub enum MoveTurns {
 }
 
 impl HeldRotation {
-    ghost use Rattle.std.specs.Prelude.{◌≡◌, List, ◌++◌, map};
-    ghost use Rattle.niss_moves.specs.Places.{Place};
-    ghost use Rattle.niss_moves.specs.Effects.{effect, effect_of_turns, moved_by};
-    ghost use Rattle.niss_moves.specs.Rotations.{spelling, face_before, renamed_turn};
-    ghost use Rattle.niss_moves.specs.Faces.{faces_with, expanded};
-    ghost use Rattle.niss_moves.specs.Helpers.{turns_in};
-
     /// The face turns of a move after this rotation, and the rotation after both.
+    #[tactic(auto, using(crate::proofs::Home::takes_face, crate::proofs::Home::takes_rotation))]
     pub(crate) fn take_move(&mut self, token: Token) -> MoveTurns
-        ensures faces { (rest : List Turn) →
-            turns_in result ++ map (renamed_turn (face_before self.new)) rest
-            ≡ map (renamed_turn (face_before self.old)) (faces_with (expanded token) rest) }
-        ensures effect { (q : Place) →
-            effect (spelling self.new) (effect_of_turns (turns_in result) q)
-            ≡ moved_by token (effect (spelling self.old) q) }
+        ensures { Takes self.old token (turns_in result) self.new }
     {
         match token {
             Token::Face(turn) => MoveTurns::One(self.turn_before(turn)),
@@ -118,6 +107,7 @@ fn push_turns(turns: &mut Faces, more: MoveTurns)
 /// The face turns of a sequence, and the rotation that is left at its end: `Rw U` is `L F` and then `x`. Wide turns and
 /// slices are written as face turns and rotations, and a rotation renames the face turns after it. The sequence has the
 /// effect of the face turns and then the rotation. It has at most 256 moves.
+#[tactic(auto, using(crate::proofs::Home::of_taking))]
 pub fn to_faces(tokens: &[Token]) -> (Faces, Rotation)
     requires { length tokens.now ≤ 256 }
     ensures len { array_vec_len result.0 ≤ 2 * length tokens.now }

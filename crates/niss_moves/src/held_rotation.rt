@@ -1,5 +1,8 @@
 //! A rotation that is carried along a sequence.
-ghost use Rattle.std.specs.Prelude.{◌≡◌};
+ghost use Rattle.std.specs.Prelude.{◌≡◌, None};
+ghost use Rattle.niss_moves.specs.Rotations.{face_before, face_before_power, renamed_turn};
+ghost use Rattle.niss_moves.specs.Helpers.{IsNext};
+ghost use Rattle.niss_moves.specs.declared.turn.Face.TheVariants.{U};
 
 use crate::axis::Axis;
 use crate::rotation::{Rotation, rotation_by};
@@ -28,13 +31,6 @@ impl Model for HeldRotation {
 }
 
 impl HeldRotation {
-    ghost use Rattle.std.specs.Prelude.{◌≡◌, None};
-    ghost use Rattle.niss_moves.specs.Effects.{effect, moved_by};
-    ghost use Rattle.niss_moves.specs.Rotations.{face_before, face_before_power, renamed_turn, spelling};
-    ghost use Rattle.niss_moves.specs.Places.{Place};
-    ghost use Rattle.niss_moves.specs.declared.token.Token.TheVariants as token;
-    ghost use Rattle.niss_moves.specs.declared.turn.Face.TheVariants.{U};
-
     /// No rotation.
     pub fn new() -> HeldRotation
         ensures { result ≡ record { top = U; vertical = None } }
@@ -69,12 +65,9 @@ impl HeldRotation {
     }
 
     /// Makes a rotation about an axis after this one.
+    #[tactic(auto, using(crate::proofs::Rotations::by_next))]
     pub fn rotate(&mut self, axis: Axis, power: Power)
-        ensures effect { (q : Place) →
-            effect (spelling self.new) q
-            ≡ moved_by (token.Rotation axis power) (effect (spelling self.old) q) }
-        ensures faces { (f : Face) →
-            face_before self.new f ≡ face_before self.old (face_before_power axis power f) }
+        ensures { IsNext self.old axis power self.new }
     {
         self.before = [
             self.face_before_both(axis, power, Face::U),

@@ -1,11 +1,11 @@
 //! Laws of rotations, canonical sequences and cleaning: each is the contract of a function that does nothing.
 #![tactic(auto, using(crate::proofs::LawLemmas::of_rewriting))]
 
-ghost use Rattle.niss_moves.specs.RewritingLaws.{OneSpelling, ExpandsAlike, RenamesAboutAxis, RenamesByRotation};
-ghost use Rattle.niss_moves.specs.RewritingLaws.{CentresComeHome, FacesAreHome, LineIsHome, FacesAndRotation};
-ghost use Rattle.niss_moves.specs.RewritingLaws.{CleanedEffect, CanonicalMembers, CanonicalInOrder, CanonicalGrows};
-ghost use Rattle.niss_moves.specs.RewritingLaws.{CleaningEnds, OneCleanList, CanonicalStays, RewritingLowers};
-ghost use Rattle.niss_moves.specs.RewritingLaws.{CleanTurnsAreClean, RotationIsLeft};
+ghost use Rattle.niss_moves.specs.Laws.{OneSpelling, ExpandsAlike, RenamesAboutAxis, RenamesByRotation};
+ghost use Rattle.niss_moves.specs.Laws.{CentresComeHome, FacesAreHome, LineIsHome, FacesAndRotation};
+ghost use Rattle.niss_moves.specs.Laws.{CleanedEffect, CanonicalMembers, CanonicalInOrder, CanonicalGrows};
+ghost use Rattle.niss_moves.specs.Laws.{CleaningEnds, OneCleanList, CanonicalStays, RewritingLowers};
+ghost use Rattle.niss_moves.specs.Laws.{CleanTurnsAreClean, RotationIsLeft};
 
 /// Two rotations that move the six centres alike are one. So each of the 24 has one spelling.
 pub fn one_spelling()

@@ -1,7 +1,12 @@
 //! The 24 rotations of the whole cube.
-ghost use Rattle.std.specs.Prelude.{◌≡◌, IsTrue};
-ghost use Rattle.niss_moves.specs.Rotations.{face_before_power};
-ghost use Rattle.niss_moves.specs.Helpers.{is_beside, rotation_by};
+ghost use Rattle.std.specs.Prelude.{◌≡◌};
+ghost use Rattle.niss_moves.specs.Places.{Place};
+ghost use Rattle.niss_moves.specs.Facelets.{centre};
+ghost use Rattle.niss_moves.specs.Effects.{effect, moved_by};
+ghost use Rattle.niss_moves.specs.Rotations.{to_top, rotation_if, spelling, face_before, face_before_power};
+ghost use Rattle.niss_moves.specs.Helpers.{rotation_by};
+ghost use Rattle.niss_moves.specs.declared.token.Token.TheVariants as token;
+ghost use Rattle.niss_moves.specs.declared.turn.Face.TheVariants.{U};
 
 use crate::axis::Axis;
 use crate::turn::Power::{Counter, Half, Quarter};
@@ -53,11 +58,6 @@ static VERTICAL: [[Option<Power>; 6]; 6] = [
 ];
 
 impl Face {
-    ghost use Rattle.niss_moves.specs.Facelets.{centre};
-    ghost use Rattle.niss_moves.specs.Effects.{effect};
-    ghost use Rattle.niss_moves.specs.Rotations.{to_top, rotation_if};
-    ghost use Rattle.niss_moves.specs.declared.turn.Face.TheVariants.{U};
-
     /// The rotation about an axis that brings this face to the top. `U` is there.
     pub fn to_top(self) -> Option<(Axis, Power)>
         ensures value { result ≡ to_top self }
@@ -75,10 +75,6 @@ impl Face {
 }
 
 impl Axis {
-    ghost use Rattle.niss_moves.specs.Facelets.{centre};
-    ghost use Rattle.niss_moves.specs.Effects.{moved_by};
-    ghost use Rattle.niss_moves.specs.declared.token.Token.TheVariants as token;
-
     /// The face that a rotation about this axis brings to the place of `face`: a quarter about `Rl` brings F to that of U.
     pub fn face_before(self, power: Power, face: Face) -> Face
         ensures renames { result ≡ face_before_power self power face }
@@ -90,7 +86,6 @@ impl Axis {
 
 /// The rotation that brings these faces to the top and to the front.
 pub(crate) fn rotation_by(top: Face, front: Face) -> Rotation
-    requires { IsTrue (is_beside top front) }
     ensures { result ≡ rotation_by top front }
 {
     Rotation {
@@ -100,13 +95,6 @@ pub(crate) fn rotation_by(top: Face, front: Face) -> Rotation
 }
 
 impl Rotation {
-    ghost use Rattle.std.specs.Prelude.{◌≡◌, []};
-    ghost use Rattle.niss_moves.specs.Facelets.{centre};
-    ghost use Rattle.niss_moves.specs.Effects.{effect, moved_by};
-    ghost use Rattle.niss_moves.specs.Rotations.{face_before, face_before_power, spelling};
-    ghost use Rattle.niss_moves.specs.Places.{Place};
-    ghost use Rattle.niss_moves.specs.declared.token.Token.TheVariants as token;
-
     /// No rotation.
     pub const IDENTITY: Rotation = Rotation {
         top: Face::U,

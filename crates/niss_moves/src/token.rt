@@ -1,6 +1,7 @@
 //! The moves of a line.
-ghost use Rattle.std.specs.Prelude.{◌≡◌};
+ghost use Rattle.std.specs.Prelude.{◌≡◌, ◌<◌};
 ghost use Rattle.niss_moves.specs.Effects.{inverse_token};
+ghost use Rattle.niss_moves.specs.Indices.{token_index};
 
 use crate::axis::Axis;
 use crate::turn::{Face, Power, Turn};
@@ -36,9 +37,6 @@ impl Default for Token {
 }
 
 impl Token {
-    ghost use Rattle.std.specs.Prelude.{◌≡◌, ◌<◌};
-    ghost use Rattle.niss_moves.specs.Indices.{token_index};
-
     /// Its number among the 54 moves, by which tables are looked up: face turns, wide turns, slices and rotations, those of
     /// one kind in the order of `Face`, `Slice` or `Axis`, each with its three powers.
     pub fn index(self) -> usize

@@ -1,4 +1,4 @@
-use Rattle.niss_moves.proofs.AllCanonical.{canonical_members}
+use Rattle.niss_moves.proofs.CanonicalLists.{canonical_members}
 use Rattle.niss_moves.proofs.rewriting_laws.canonical_members.Goals as goal
 
 pub returns-clause-members : goal.returns-clause-members

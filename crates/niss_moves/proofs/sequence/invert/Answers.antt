@@ -1,5 +1,4 @@
-use Rattle.niss_moves.proofs.Inverses.{joined, inverse_of}
-use Rattle.niss_moves.proofs.Home.{inverse_undoes_line}
+use Rattle.niss_moves.proofs.Inverses.{joined, inverse_of, inverse_undoes_line}
 use Rattle.niss_moves.proofs.sequence.invert.Goals as goal
 
 pub returns-clause-effect : goal.returns-clause-effect
