@@ -1,8 +1,8 @@
 -- A cube is determined by its map: cubes of one map are equal.
-use Rattle.niss_cube.proofs.Words.{◌≡◌, ℕ, ◌<◌, refl, sym, ◌∙◌, ap, List, Bool, true, ◌&&◌, arith, ext_get_or, ◌↔◌, SameMap, sticker_map}
-use Rattle.niss_cube.proofs.Words.{and_left, and_right, and_both, nat_eq, pointwise, same_text, other_text, true_from_ne_false}
-use Rattle.niss_cube.proofs.CubieKinds.{CubieLists, Valid, map_lists, lists_path, Kind, Corners, Edges, count, home_at, turn_at, place_of}
-use Rattle.niss_cube.proofs.CubieKinds.{stand, stands, stands-at, same_facelet}
+use Rattle.niss_cube.proofs.Words.{◌≡◌, ℕ, ◌<◌, refl, sym, ◌∙◌, ap, List, Bool, true, ◌&&◌, arith, ext_get_or, ◌↔◌, SameMap, and_left}
+use Rattle.niss_cube.proofs.Words.{and_right, and_both, nat_eq, pointwise, same_text, other_text, true_from_ne_false}
+use Rattle.niss_cube.proofs.CubieKinds.{CubieLists, Valid, map_lists, lists_path, Kind, Corners, Edges, count, homes, turns, home_at, turn_at}
+use Rattle.niss_cube.proofs.CubieKinds.{place_of, stand, Stand, stands, stands-at, same_facelet}
 use Rattle.niss_cube.proofs.ShownCubies.{first_at}
 
 -- two cubes with the same map have the same cubies at each place, turned alike
@@ -19,39 +19,40 @@ same_cubie k c d v w same i l =
       ap (turn_at k c) (sym p) ∙ f.1 ∙ ap (turn_at k d) (sym f.0 ∙ p),
     )
 
-lists-equal : (c d : CubieLists) → Valid c → Valid d → SameMap (map_lists c) (map_lists d) → c ≡ d
-lists-equal c d v w s =
-    lists_path c d
-    (ext_get_or 0 _ _ (v.corners_placed.places ∙ sym w.corners_placed.places) (λ i l. (corners i (omega (arith, l, v.corners_placed.places))).0))
-    (ext_get_or 0 _ _ (v.twists_oriented.places ∙ sym w.twists_oriented.places) (λ i l. (corners i (omega (arith, l, v.twists_oriented.places))).1))
-    (ext_get_or 0 _ _ (v.edges_placed.places ∙ sym w.edges_placed.places) (λ i l. (edges i (omega (arith, l, v.edges_placed.places))).0))
-    (ext_get_or 0 _ _ (v.flips_oriented.places ∙ sym w.flips_oriented.places) (λ i l. (edges i (omega (arith, l, v.flips_oriented.places))).1))
+same_rows : (k : Kind) (c d : CubieLists) → Valid c → Valid d → SameMap (map_lists c) (map_lists d) → (homes k c ≡ homes k d) × (turns k c ≡ turns k d)
+same_rows k c d v w same =
+    let s : Stand k c = stand k c v in
+    let t : Stand k d = stand k d w in (
+      ext_get_or 0 (homes k c) (homes k d) (s.placed.places ∙ sym t.placed.places) (λ i l. (same_cubie k c d v w same i (omega (arith, l, s.placed.places))).0),
+      ext_get_or 0 (turns k c) (turns k d) (s.oriented.places ∙ sym t.oriented.places) (λ i l. (same_cubie k c d v w same i (omega (arith, l, s.oriented.places))).1),
+    )
+
+-- a comparison of all four lists
+abbrev pub alike : CubieLists → CubieLists → Bool
+alike c d =
+    pointwise nat_eq c.corners d.corners
+    && (pointwise nat_eq c.twists d.twists && (pointwise nat_eq c.edges d.edges && pointwise nat_eq c.flips d.flips))
+
+alike-is : (c d : CubieLists) → alike c d ≡ true → c ≡ d
+alike-is c d t =
+    let rest = and_right (pointwise nat_eq c.corners d.corners) _ t in
+    let last = and_right (pointwise nat_eq c.twists d.twists) _ rest in
+    lists_path c d (same_text _ _ (sym (and_left _ _ t))) (same_text _ _ (sym (and_left _ _ rest)))
+    (same_text _ _ (sym (and_left _ _ last)))
+    (same_text _ _ (sym (and_right (pointwise nat_eq c.edges d.edges) _ last)))
+
+alike-self : (c : CubieLists) → alike c c ≡ true
+alike-self c = and_both _ _ (self c.corners) (and_both _ _ (self c.twists) (and_both _ _ (self c.edges) (self c.flips)))
   where
-    corners : (i : ℕ) → i < 8 → (home_at Corners c i ≡ home_at Corners d i) × (turn_at Corners c i ≡ turn_at Corners d i)
-    corners = same_cubie Corners c d v w s
+    self : (xs : List ℕ) → pointwise nat_eq xs xs ≡ true
+    self xs = true_from_ne_false (pointwise nat_eq xs xs) (λ n. other_text xs xs (sym n) refl)
 
-    edges : (i : ℕ) → i < 12 → (home_at Edges c i ≡ home_at Edges d i) × (turn_at Edges c i ≡ turn_at Edges d i)
-    edges = same_cubie Edges c d v w s
-
-pub texts_equal : (xs ys : List ℕ) → xs ≡ ys → pointwise nat_eq xs ys ≡ true
-texts_equal xs ys e = true_from_ne_false (pointwise nat_eq xs ys) (λ n. other_text xs ys (sym n) e)
-
--- what a comparison of all four lists says
-pub same_lists : (c d : CubieLists) → Valid c → Valid d → (b : Bool) → b ≡ (pointwise nat_eq c.corners d.corners && (pointwise nat_eq c.twists d.twists && (pointwise nat_eq c.edges d.edges && pointwise nat_eq c.flips d.flips))) →
-    (b ≡ true) ↔ SameMap (map_lists c) (map_lists d)
-same_lists c d v w b e = (
-  (λ t.
-      let all : (pointwise nat_eq c.corners d.corners && (pointwise nat_eq c.twists d.twists && (pointwise nat_eq c.edges d.edges && pointwise nat_eq c.flips d.flips))) ≡ true = sym e ∙ t in
-      let rest = and_right (pointwise nat_eq c.corners d.corners) _ all in
-      let last = and_right (pointwise nat_eq c.twists d.twists) _ rest in
-      let e1 : c.corners ≡ d.corners = same_text _ _ (sym (and_left _ _ all)) in
-      let e2 : c.twists ≡ d.twists = same_text _ _ (sym (and_left _ _ rest)) in
-      let e3 : c.edges ≡ d.edges = same_text _ _ (sym (and_left _ _ last)) in
-      let e4 : c.flips ≡ d.flips = same_text _ _ (sym (and_right (pointwise nat_eq c.edges d.edges) _ last)) in
-      λ q p i. sticker_map (e1 i) (e2 i) (e3 i) (e4 i) q),
+pub same_lists : (c d : CubieLists) → Valid c → Valid d → (alike c d ≡ true) ↔ SameMap (map_lists c) (map_lists d)
+same_lists c d v w = (
+  (λ t q p i. map_lists (alike-is c d t i) q),
   (λ s.
-      let same : c ≡ d = lists-equal c d v w s in
-      e ∙ and_both _ _ (texts_equal _ _ (ap (λ (l : CubieLists). l.corners) same))
-      (and_both _ _ (texts_equal _ _ (ap (λ (l : CubieLists). l.twists) same))
-      (and_both _ _ (texts_equal _ _ (ap (λ (l : CubieLists). l.edges) same)) (texts_equal _ _ (ap (λ (l : CubieLists). l.flips) same))))),
+      let corners = same_rows Corners c d v w s in
+      let edges = same_rows Edges c d v w s in
+      let same : c ≡ d = lists_path c d corners.0 corners.1 edges.0 edges.1 in
+      ap (alike c) (sym same) ∙ alike-self c),
 )

@@ -5,7 +5,6 @@ pub mod CoordinateLaws
 pub mod CoordinateValues
 pub mod Each
 pub mod EqualCubes
-pub mod FaceletLetters
 pub mod Facts
 pub mod FollowedLetters
 pub mod KeptSets
@@ -20,7 +19,6 @@ pub mod Orientations
 pub mod OtherTurns
 pub mod Permutations
 pub mod PlacedEdges
-pub mod RotatedLetters
 pub mod ShownCubies
 pub mod SliceCodes
 pub mod SliceSteps

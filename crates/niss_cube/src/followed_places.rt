@@ -1,15 +1,25 @@
-//! The facelet text after moves of any kind: from each place the sticker is followed back to where it began.
+//! The facelet text of a cube and after moves of any kind: from each place the sticker is followed back to where it began.
 ghost use Rattle.std.specs.Prelude.{◌≡◌, ℕ, ◌<◌, ◌++◌, slice_index};
 ghost use Rattle.niss_moves.specs.Effects.{effect, inverse};
 ghost use Rattle.niss_moves.specs.Letters.{letters};
+ghost use Rattle.niss_moves.specs.Rotations.{about_vertical};
 
-use crate::letters::CUBIE_LETTERS;
 use crate::place_positions::positions_after;
-use niss_moves::Token;
+use niss_moves::{Axis, Power, Token};
+
+/// The positions of the corners' facelets in the facelet text, three for each corner in the order of its facelets.
+pub const CORNER_POSITIONS: [u8; 24] = [
+    8, 9, 20, 6, 18, 38, 0, 36, 47, 2, 45, 11, 29, 26, 15, 27, 44, 24, 33, 53, 42, 35, 17, 51,
+];
+
+/// The same of the edges, two for each edge.
+pub const EDGE_POSITIONS: [u8; 24] = [
+    5, 10, 7, 19, 3, 37, 1, 46, 32, 16, 28, 25, 30, 43, 34, 52, 23, 12, 21, 41, 50, 39, 48, 14,
+];
 
 /// The first facelet of each corner and of each edge, and the centres, by their positions in the facelet text. The others
 /// follow them: a move keeps the order in which the facelets of a cubie stand.
-pub const FIRST_FACELETS: [u8; 26] = [
+const FIRST_FACELETS: [u8; 26] = [
     8, 6, 0, 2, 29, 27, 33, 35, 5, 7, 3, 1, 32, 28, 30, 34, 23, 21, 50, 48, 4, 13, 22, 31, 40, 49,
 ];
 
@@ -25,9 +35,20 @@ pub const FACELETS: [u8; 54] = [
     0, 0, 0, 0, 1, 1, 2, 1, 0, 1, 2, 1, 1, 1, 1, 2, 0, 0, 0, 2, 1, 1,
 ];
 
+/// For each position of the facelet text: the letter there on the solved cube, and those of the next facelets of its cubie,
+/// clockwise. The second facelet of an edge is followed by the first, and a centre by itself.
+const CUBIE_LETTERS: [[u8; 3]; 54] = [
+    *b"ULB", *b"UBU", *b"UBR", *b"ULU", *b"UUU", *b"URU", *b"UFL", *b"UFU", *b"URF", *b"RFU",
+    *b"RUR", *b"RUB", *b"RFR", *b"RRR", *b"RBR", *b"RDF", *b"RDR", *b"RBD", *b"FLU", *b"FUF",
+    *b"FUR", *b"FLF", *b"FFF", *b"FRF", *b"FDL", *b"FDF", *b"FRD", *b"DLF", *b"DFD", *b"DFR",
+    *b"DLD", *b"DDD", *b"DRD", *b"DBL", *b"DBD", *b"DRB", *b"LBU", *b"LUL", *b"LUF", *b"LBL",
+    *b"LLL", *b"LFL", *b"LDB", *b"LDL", *b"LFD", *b"BRU", *b"BUB", *b"BUL", *b"BRB", *b"BBB",
+    *b"BLB", *b"BDR", *b"BDB", *b"BLD",
+];
+
 /// Places that are followed through moves, by their positions in the facelet text.
 #[derive(Drop)]
-struct FollowedPlaces {
+pub struct FollowedPlaces {
     positions: [u8; 26],
     ghost in_range: { (k : ℕ) → k < 26 → slice_index positions k < 54 },
 }
@@ -46,13 +67,14 @@ fn replace_each(positions: &mut [u8; 26], table: &[u8; 54])
 }
 
 impl FollowedPlaces {
-    ghost use Rattle.std.specs.Prelude.{◌≡◌, ◌∷◌, [], List};
+    ghost use Rattle.std.specs.Prelude.{◌≡◌, ◌∷◌, []};
     ghost use Rattle.niss_moves.specs.Effects.{inverse};
-    ghost use Rattle.niss_moves.specs.declared.token.Token.{Token};
-    ghost use Rattle.niss_cube.specs.PlacePositions.{AreMoved};
+    ghost use Rattle.niss_moves.specs.Places.{Place};
+    ghost use Rattle.niss_moves.specs.Rotations.{rotation_if};
+    ghost use Rattle.niss_cube.specs.PlacePositions.{AreMoved, AreBrought, KeepsCubies};
 
     /// The first facelets.
-    fn new() -> FollowedPlaces
+    pub fn new() -> FollowedPlaces
         ensures { result.positions ≡ FIRST_FACELETS }
     {
         FollowedPlaces {
@@ -60,11 +82,20 @@ impl FollowedPlaces {
         }
     }
 
+    /// Replaces each position by the one that a table has for it.
+    pub fn follow_by(&mut self, table: &[u8; 54])
+        requires { (k : ℕ) → k < 54 → slice_index table.now k < 54 }
+        ensures { (k : ℕ) → k < 26 → slice_index self.new.positions k
+            ≡ slice_index table.now (slice_index self.old.positions k) }
+    {
+        replace_each(&mut self.positions, table);
+    }
+
     /// Follows the places through a move.
     fn follow(&mut self, token: Token)
         ensures { AreMoved self.old.positions self.new.positions (token ∷ []) }
     {
-        replace_each(&mut self.positions, positions_after(token));
+        self.follow_by(positions_after(token));
     }
 
     /// Follows the places through moves.
@@ -87,10 +118,19 @@ impl FollowedPlaces {
         }
     }
 
-    /// The facelet text of the inverse of the moves through which the first facelets were followed.
-    fn letters(&self) -> [u8; 54]
-        ensures { (s : List Token) → AreMoved FIRST_FACELETS self.now.positions s →
-            result ≡ letters (effect (inverse s)) }
+    /// Follows the places through the inverse of a rotation, if there is one.
+    pub fn follow_back_if(&mut self, rotation: Option<(Axis, Power)>)
+        ensures { AreMoved self.old.positions self.new.positions (inverse (rotation_if rotation)) }
+    {
+        if let Some((axis, power)) = rotation {
+            self.follow(Token::Rotation(axis, power.inverse()));
+        }
+    }
+
+    /// The facelet text of a map that brings what stands at these places to the first facelets.
+    pub fn letters(&self) -> [u8; 54]
+        ensures { (e : Place → Place) → KeepsCubies e →
+            AreBrought e self.now.positions FIRST_FACELETS → result ≡ letters e }
     {
         let mut text = [0; 54];
         for (position, letter) in text.iter_mut().enumerate() {
@@ -99,6 +139,13 @@ impl FollowedPlaces {
         }
         text
     }
+}
+
+/// A rotation about the vertical axis, if there is one.
+pub fn about_vertical(power: Option<Power>) -> Option<(Axis, Power)>
+    ensures { result ≡ about_vertical power }
+{
+    power.map(|power| (Axis::Ud, power))
 }
 
 /// The facelet text of the solved cube after moves, and then after the inverse of others: the faces in the order U, R, F,

@@ -6,4 +6,4 @@ pub returns-clause-map : goal.returns-clause-map
 returns-clause-map c =
     let a = c.args.self.now in
     let b = c.args.other.now in
-    same_lists (lists_of a) (lists_of b) a.are_cubies b.are_cubies c.has_same_cubies.result c.has_same_cubies.ensures
+    rw c.has_same_cubies.ensures (same_lists (lists_of a) (lists_of b) a.are_cubies b.are_cubies)
