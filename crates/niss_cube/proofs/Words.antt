@@ -38,14 +38,14 @@ pub use Rattle.niss_moves.specs.Turn.{inverse_turn, same_face}
 pub use Rattle.niss_moves.specs.declared.rotation.Rotation.{Rotation}
 pub use Rattle.niss_cube.proofs.Each.{at_member, listed}
 pub use Rattle.niss_cube.proofs.Facts.{Fact, Yes, Same, Equal, Below, Alike, Both, When, Numbers, Places, Records, Turns, Among, Faces}
-pub use Rattle.niss_cube.proofs.Facts.{Tokens, Renamings, Holds, holds, tested}
+pub use Rattle.niss_cube.proofs.Facts.{Tokens, Renamings, Digits, Truths, Holds, holds, tested}
 pub use Rattle.niss_cube.proofs.Logic.{and_left, and_right, same_truth, and_both, or_then, is_true}
 pub use Rattle.niss_cube.specs.AfterTurn.{IsCube, TurnedIsCube, AreCoordinates, IsCoordinate}
 pub use Rattle.niss_cube.specs.Coordinates.{rank, number_of, number, count_of, standard_axis, choose, renamed_for, turn_for, renaming_for}
 pub use Rattle.niss_cube.specs.Coordinates.{firsts, brings, orientations, occupied}
 unfoldable pub use Rattle.niss_cube.specs.Coordinates.{flip_of, slice_of, twist_of}
 pub use Rattle.niss_cube.specs.CubieFacelets.{index_in, edge_facelets, corner_facelets, facelet_at, row_at}
-pub use Rattle.niss_cube.specs.CubieTurns.{turn_table}
+pub use Rattle.niss_cube.specs.CubieTurns.{turn_table, IsInRange}
 pub use Rattle.niss_cube.specs.Cubies.{flips_home, twists_home, corners_home, edges_home, AreCubies, ArePlaced, AreOriented}
 pub use Rattle.niss_cube.specs.Map.{map_of, sticker_map, sticker_place}
 pub use Rattle.niss_cube.specs.Names.{Turn, U, Axis, Flip, Fb, Rl, Slice, Twist, Ud, Coordinate, D, F, Face, R, Token, Cube, Renaming, Step}

@@ -2,7 +2,7 @@
 ghost use Rattle.std.specs.Prelude.{◌≡◌, ◌<◌};
 ghost use Rattle.niss_cube.specs.Cubies.{AreCubies};
 
-use crate::cubie_turns::{turn_corners, turn_edges, turn_flips, turn_twists};
+use crate::cubie_turns::{cubie_turn, turn_homes, turn_orientations};
 use crate::letters::{CORNER_LETTERS, EDGE_LETTERS};
 use crate::renaming::Renaming;
 use crate::rotated_text::{bring_to_top, turn_about_vertical};
@@ -63,11 +63,12 @@ impl Cube {
     pub fn turn(&mut self, turn: Turn)
         ensures { SameMap (map_of self.new) (λ q. turned turn (map_of self.old q)) }
     {
+        let table = cubie_turn(turn);
         *self = Cube {
-            corners: turn_corners(&self.corners, turn),
-            twists: turn_twists(&self.twists, turn),
-            edges: turn_edges(&self.edges, turn),
-            flips: turn_flips(&self.flips, turn),
+            corners: turn_homes(&self.corners, &table.corners),
+            twists: turn_orientations::<8, 3>(&self.twists, &table.corners, &table.twists),
+            edges: turn_homes(&self.edges, &table.edges),
+            flips: turn_orientations::<12, 2>(&self.flips, &table.edges, &table.flips),
         };
     }
 
