@@ -1,5 +1,5 @@
 -- The cubies, the maps and the turns of the cube as it is renamed.
-use Rattle.niss_cube.proofs.Words.{◌≡◌, refl, sym, ◌∙◌, ap, true, Place, is_place, SameMap, turned, renamed_turn, inverse_turn, Turn}
+use Rattle.niss_cube.proofs.Words.{◌≡◌, refl, sym, ◌∙◌, ap, true, Place, is_place, SameMap, turned, renamed_turn, Turn}
 use Rattle.niss_cube.proofs.Words.{Renaming, renamed_by, every_turn, every_face, every_power, Yes, Alike, Renamings, Turns, Places, holds}
 use Rattle.niss_cube.proofs.Words.{face_by, rotated, rotated_back}
 use Rattle.niss_cube.proofs.CubieKinds.{CubieLists, Valid, map_lists, map_place}
@@ -14,7 +14,6 @@ pub record IsRenaming (rename : (Place → Place) → Place → Place) (turn : T
   pub map_is : (c : CubieLists) → Valid c → SameMap (map_lists (cubies c)) (rename (map_lists c))
   pub same : (d e : Place → Place) → SameMap d e → SameMap (rename d) (rename e)
   pub turned_is : (t : Turn) (e : Place → Place) → KeepsPlaces e → SameMap (rename (λ q. turned t (e q))) (λ q. turned (turn t) (rename e q))
-  pub back_is : (t : Turn) → turn (inverse_turn t) ≡ inverse_turn (turn t)
   pub onto : (c : CubieLists) → Valid c → (w : CubieLists) × Valid w × SameMap (map_lists c) (rename (map_lists w))
 
 -- a rotation of the whole cube keeps the places, and is taken back
@@ -63,9 +62,8 @@ by_rotation v = record {
   map_is = moved-map (Under v);
   same = λ d e s q p. ap (rotated v) (s (rotated_back v q) (back-place v q p));
   turned_is = λ t e keep q p. renamed-turn v t (e (rotated_back v q)) (keep (rotated_back v q) (back-place v q p));
-  back_is = λ t. refl;
   onto = renamed_from v;
 }
 
 pub not_renamed : IsRenaming (λ e. e) (λ t. t) (λ c. c)
-not_renamed = record { valid = λ c v. v; map_is = λ c v q p. refl; same = λ d e s. s; turned_is = λ t e keep q p. refl; back_is = λ t. refl; onto = λ c v. (c, v, λ q p. refl) }
+not_renamed = record { valid = λ c v. v; map_is = λ c v q p. refl; same = λ d e s. s; turned_is = λ t e keep q p. refl; onto = λ c v. (c, v, λ q p. refl) }

@@ -13,13 +13,6 @@ turned-inverse_turn : (t : Turn) (q : Place) → is_place q ≡ true → turned 
 unfolding every_turn every_face every_power
 turned-inverse_turn = holds (Turns λ t. Places λ q. Alike (turned (inverse_turn t) (turned t q)) q) refl
 
--- cubies turned and turned back have the map that they had
-turned_back-map : (t : Turn) (c : CubieLists) → Valid c → SameMap (map_lists (moved (By (inverse_turn t)) (moved (By t) c))) (map_lists c)
-turned_back-map t c v = λ q p.
-    moved-map (By (inverse_turn t)) (moved (By t) c) (moved-valid (By t) c v) q p
-    ∙ ap (turned (inverse_turn t)) (moved-map (By t) c v q p)
-    ∙ turned-inverse_turn t (map_lists c q) (map_place c v q p)
-
 pub cube-itself : (c : Cube) → IsCube (map_of c)
 cube-itself c = (c, λ q p. refl)
 
@@ -49,29 +42,6 @@ standard-turned k t c v =
 module _ (k : Coordinate) (a : Axis) where
   after_code : (i : ℕ) (t : Turn) → i < count_of k → number_after k a i t ≡ code k (moved (By (turn_for k a t)) (cubies_with k i))
   after_code i t l = number_after-is k a i t ∙ standard-turned k (turn_for k a t) (cubies_with k i) (cubies_with-valid k i l)
-
-  stays_below : (i : ℕ) (t : Turn) → i < count_of k → number_after k a i t < count_of k
-  stays_below i t l =
-      let P : ℕ → Type 0 = λ n. n < count_of k in
-      let s : Turn = turn_for k a t in
-      subst P (sym (after_code i t l)) (code-below k (moved (By s) (cubies_with k i)) (moved-valid (By s) (cubies_with k i) (cubies_with-valid k i l)))
-
-  goes_back : (i : ℕ) (t : Turn) → i < count_of k → number_after k a (number_after k a i t) (inverse_turn t) ≡ i
-  goes_back i t l =
-      let s : Turn = turn_for k a t in
-      let c : CubieLists = cubies_with k i in
-      let cv : Valid c = cubies_with-valid k i l in
-      let w : CubieLists = moved (By s) c in
-      let wv : Valid w = moved-valid (By s) c cv in
-      let u : CubieLists = moved (By (inverse_turn s)) w in
-      let j : ℕ = number_after k a i t in
-      let lj : j < count_of k = stays_below i t l in
-      after_code j (inverse_turn t) lj
-      ∙ ap (λ s. code k (moved (By s) (cubies_with k j))) ((renaming k a).back_is t)
-      ∙ code-turned k (inverse_turn s) (cubies_with k j) w (cubies_with-valid k j lj) wv (cubies_with-code k j lj ∙ after_code i t l)
-      ∙ sym (standard-code k u (moved-valid (By (inverse_turn s)) w wv))
-      ∙ number_of-code k (standard_axis k) (map_lists u) c cv (λ q p. sym (turned_back-map s c cv q p) ∙ sym (unrenamed k (map_lists u) q))
-      ∙ cubies_with-code k i l
 
   -- the cubies of a map, renamed for the axis
   module _ (c : CubieLists) (v : Valid c) (e : Place → Place) (same : SameMap (map_lists c) e) where
@@ -123,6 +93,31 @@ module _ (k : Coordinate) (a : Axis) where
   some i l =
       let w = (renaming k a).onto (cubies_with k i) (cubies_with-valid k i l) in
       (cube_of w.0 w.1, number_of-code k a (map_lists w.0) (cubies_with k i) (cubies_with-valid k i l) w.2 ∙ cubies_with-code k i l)
+
+  -- the number after a turn, and after two, is that of the turned cube
+  pub after_turn : (c : Cube) (t : Turn) → number_after k a (number_of k a (map_of c)) t ≡ number_of k a (λ q. turned t (map_of c q))
+  after_turn c t = sym (follow (lists_of c) c.are_cubies (map_of c) (λ q p. refl) t)
+
+  pub after_both : (c : Cube) (s t : Turn) → number_after k a (number_after k a (number_of k a (map_of c)) s) t ≡ number_of k a (λ q. turned t (turned s (map_of c q)))
+  after_both c s t =
+      let d = turned_is_cube (map_of c) s (cube-itself c) in
+      ap (λ i. number_after k a i t) (after_turn c s) ∙ sym (follow (lists_of d.0) d.0.are_cubies (λ q. turned s (map_of c q)) d.1 t)
+
+  stays_below : (i : ℕ) (t : Turn) → i < count_of k → number_after k a i t < count_of k
+  stays_below i t l =
+      let P : ℕ → Type 0 = λ n. n < count_of k in
+      let c = some i l in
+      let d = turned_is_cube (map_of c.0) t (cube-itself c.0) in
+      subst P (sym (after_turn c.0 t) ∙ ap (λ j. number_after k a j t) c.1) (number-below (lists_of d.0) d.0.are_cubies (λ q. turned t (map_of c.0 q)) d.1)
+
+  goes_back : (i : ℕ) (t : Turn) → i < count_of k → number_after k a (number_after k a i t) (inverse_turn t) ≡ i
+  goes_back i t l =
+      let c = some i l in
+      ap (λ j. number_after k a (number_after k a j t) (inverse_turn t)) (sym c.1)
+      ∙ after_both c.0 t (inverse_turn t)
+      ∙ sym (alike (map_of c.0) (λ q. turned (inverse_turn t) (turned t (map_of c.0 q))) (cube-itself c.0) (λ q p.
+      sym (turned-inverse_turn t (map_of c.0 q) (map_place (lists_of c.0) c.0.are_cubies q p))))
+      ∙ c.1
 
 pub are_coordinates : AreCoordinates
 are_coordinates k a = record {

@@ -4,7 +4,7 @@ use Rattle.niss_cube.proofs.Words.{ap, arith, inl, inr, ◌≡◌, ℕ, ◌+◌,
 use Rattle.niss_cube.proofs.Words.{Place, same_place, is_place, is_corner, is_edge, SameMap, index_in, row_at, facelet_at, corner_facelets}
 use Rattle.niss_cube.proofs.Words.{edge_facelets, sticker_place, is_true, ArePlaced, AreOriented, Cube, map, slice_index, range_with_len}
 use Rattle.niss_cube.proofs.Words.{ext_get_or, sticker_map, EachIndex, get_or-map-range_with_len, length-map-range_with_len, AreCubies}
-use Rattle.niss_cube.proofs.Once.{times_in, place_in, place_in-found, place_in-is, count_by-times}
+use Rattle.niss_cube.proofs.Sums.{times_in, place_in, place_in-found, place_in-is, count_by-times}
 
 pub record CubieLists : Type 0 where
   pub corners : List ℕ

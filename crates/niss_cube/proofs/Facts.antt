@@ -1,5 +1,5 @@
 -- Facts that computation decides: where the test of a fact passes, the fact holds.
-use Rattle.std.proofs.Common.{◌≡◌, ℕ, List, zero, suc, ◌<◌, ◌∙◌, ap, Bool, true, not, ◌&&◌, ◌||◌, ◌==◌, arith, inl, inr}
+use Rattle.std.proofs.Common.{◌≡◌, ℕ, List, [], ◌∷◌, length, get_or, zero, suc, ◌<◌, ◌∙◌, ap, Bool, true, false, not, ◌&&◌, ◌||◌, ◌==◌, arith, inl, inr}
 use Rattle.std.specs.Prelude.{nat_lt, Contains}
 use Rattle.std.specs.List.{list_all}
 use Rattle.std.proofs.lemmas.Bool.{eqb-true, ltb-true}
@@ -27,6 +27,8 @@ pub data Fact : Type 0 where
   Faces : (Face → Fact) → Fact
   Tokens : (Token → Fact) → Fact
   Renamings : (Renaming → Fact) → Fact
+  Digits : ℕ → ℕ → (List ℕ → Fact) → Fact
+  Truths : ℕ → (List Bool → Fact) → Fact
 
 abbrev pub Holds : Fact → Type 0
 Holds (Yes b) = b ≡ true
@@ -44,6 +46,8 @@ Holds (Among ts f) = (t : Turn) → Contains ts t → Holds (f t)
 Holds (Faces f) = (face : Face) → Holds (f face)
 Holds (Tokens f) = (m : Token) → Holds (f m)
 Holds (Renamings f) = (v : Renaming) → Holds (f v)
+Holds (Digits b n f) = (ds : List ℕ) → length ds ≡ n → ((i : ℕ) → i < n → get_or ds i 0 < b) → Holds (f ds)
+Holds (Truths n f) = (bs : List Bool) → length bs ≡ n → Holds (f bs)
 
 abbrev all_below : ℕ → (ℕ → Bool) → Bool
 all_below zero t = true
@@ -51,6 +55,15 @@ all_below (suc n) t = all_below n t && t n
 
 abbrev all_renamings : (Renaming → Bool) → Bool
 all_renamings t = t XCounter && (t XQuarter && (t YQuarter && t ZCounter))
+
+-- each list of n digits in base b, and of n truth values
+abbrev all_digits : ℕ → ℕ → (List ℕ → Bool) → Bool
+all_digits b zero t = t []
+all_digits b (suc n) t = all_below b (λ d. all_digits b n (λ ds. t (d ∷ ds)))
+
+abbrev all_truths : ℕ → (List Bool → Bool) → Bool
+all_truths zero t = t []
+all_truths (suc n) t = all_truths n (λ bs. t (true ∷ bs)) && all_truths n (λ bs. t (false ∷ bs))
 
 abbrev pub tested : Fact → Bool
 tested (Yes b) = b
@@ -68,6 +81,8 @@ tested (Among ts f) = list_all (λ t. tested (f t)) ts
 tested (Faces f) = every_face (λ face. tested (f face))
 tested (Tokens f) = every_token (λ m. tested (f m))
 tested (Renamings f) = all_renamings (λ v. tested (f v))
+tested (Digits b n f) = all_digits b n (λ ds. tested (f ds))
+tested (Truths n f) = all_truths n (λ bs. tested (f bs))
 
 at_below : (n : ℕ) (t : ℕ → Bool) → all_below n t ≡ true → (k : ℕ) → k < n → t k ≡ true
 at_below zero t h k l = absurd (omega arith)
@@ -81,6 +96,16 @@ at_renaming t h XCounter = and_left _ _ h
 at_renaming t h XQuarter = and_left _ _ (and_right (t XCounter) _ h)
 at_renaming t h YQuarter = and_left _ _ (and_right (t XQuarter) _ (and_right (t XCounter) _ h))
 at_renaming t h ZCounter = and_right (t YQuarter) _ (and_right (t XQuarter) _ (and_right (t XCounter) _ h))
+
+at_digits : (b : ℕ) (ds : List ℕ) (t : List ℕ → Bool) → all_digits b (length ds) t ≡ true → ((i : ℕ) → i < length ds → get_or ds i 0 < b) → t ds ≡ true
+at_digits b [] t h r = h
+at_digits b (d ∷ ds) t h r =
+    at_digits b ds (λ ds. t (d ∷ ds)) (at_below b (λ d. all_digits b (length ds) (λ ds. t (d ∷ ds))) h d (r 0 (omega arith))) (λ i l. r (suc i) (omega arith))
+
+at_truths : (bs : List Bool) (t : List Bool → Bool) → all_truths (length bs) t ≡ true → t bs ≡ true
+at_truths [] t h = h
+at_truths (true ∷ bs) t h = at_truths bs (λ bs. t (true ∷ bs)) (and_left _ _ h)
+at_truths (false ∷ bs) t h = at_truths bs (λ bs. t (false ∷ bs)) (and_right (all_truths (length bs) (λ bs. t (true ∷ bs))) _ h)
 
 pub holds : (f : Fact) → tested f ≡ true → Holds f
 holds (Yes b) h = h
@@ -98,3 +123,6 @@ holds (Among ts f) h = λ t m. holds (f t) (at_member (λ t. tested (f t)) ts t 
 holds (Faces f) h = λ face. holds (f face) (at_face (λ face. tested (f face)) h face)
 holds (Tokens f) h = λ m. holds (f m) (at_token _ h m)
 holds (Renamings f) h = λ v. holds (f v) (at_renaming (λ v. tested (f v)) h v)
+holds (Digits b n f) h = λ ds l r.
+    holds (f ds) (at_digits b ds (λ ds. tested (f ds)) (ap (λ n. all_digits b n (λ ds. tested (f ds))) l ∙ h) (λ i li. r i (omega (arith, l, li))))
+holds (Truths n f) h = λ bs l. holds (f bs) (at_truths bs (λ bs. tested (f bs)) (ap (λ n. all_truths n (λ bs. tested (f bs))) l ∙ h))

@@ -1,20 +1,20 @@
 -- How a coordinate on an axis is renamed, and that it is 0 exactly where its set of places is kept.
-use Rattle.niss_cube.proofs.Words.{false_from_ne_true, SetsArePlaces, renamed_turn, rotated_back, renaming_for, renamed_for, twists_home, ℕ}
-use Rattle.niss_cube.proofs.Words.{ext_get_or, Coordinate, flips_home, renamed_if, ArePlaces, eqb_tells, number_of, twist_set, slice_set}
+use Rattle.niss_cube.proofs.Words.{false_from_ne_true, SetsArePlaces, renamed_turn, rotated_back, renaming_for, renamed_for, ℕ}
+use Rattle.niss_cube.proofs.Words.{ext_get_or, Coordinate, renamed_if, ArePlaces, eqb_tells, number_of, twist_set, slice_set}
 use Rattle.niss_cube.proofs.Words.{eqb-true, is_place, Renaming, XCounter, XQuarter, YQuarter, ZCounter, turn_for, flip_set, and_left, Fact}
 use Rattle.niss_cube.proofs.Words.{Numbers, is_edge, SameMap, is_kept, face_if, rotated, Places, get_or, Option, nat_le, set_of, tested, ap}
-use Rattle.niss_cube.proofs.Words.{Equal, Holds, holds, arith, false, Place, Twist, Slice, Same, refl, List, None, Some, Bool, true, ◌&&◌}
-use Rattle.niss_cube.proofs.Words.{◌==◌, Axis, Flip, rank, Kept, sym, ◌∙◌, inl, inr, ◌≡◌, ◌+◌, ◌-◌, ◌%◌, ◌<◌, ◌∷◌, not, ◌↔◌, [], Ud, Rl, Fb}
-use Rattle.niss_cube.proofs.Words.{Yes, When, ◌||◌, places, list_all-from_AllPass, KeptIsTested}
+use Rattle.niss_cube.proofs.Words.{Holds, holds, arith, false, Place, Twist, Slice, Same, refl, List, None, Some, Bool, true, ◌&&◌}
+use Rattle.niss_cube.proofs.Words.{◌==◌, Axis, Flip, rank, Kept, sym, ◌∙◌, inl, inr, ◌≡◌, ◌+◌, ◌%◌, ◌<◌, not, ◌↔◌, Ud, Rl, Fb}
+use Rattle.niss_cube.proofs.Words.{map, reverse, length, edges_home, get_or-map, length-map, Yes, When, ◌||◌, places, list_all-from_AllPass}
+use Rattle.niss_cube.proofs.Words.{KeptIsTested}
 use Rattle.niss_cube.proofs.Sums.{one_if-same, one_if, below_permuted, below_all_same, one_if-at_most, eqb-itself}
 use Rattle.niss_cube.proofs.CubieKinds.{CubieLists, Valid, map_lists, Kind, Corners, Edges, count, facelets, at, is_of, home_at, turn_at}
-use Rattle.niss_cube.proofs.CubieKinds.{place_of, stand, stands, stands-at, low, some_facelet, unturned, kind_place, Located, located, shown_at}
-use Rattle.niss_cube.proofs.CubieKinds.{map_place}
-use Rattle.niss_cube.proofs.Numbers.{rank-same}
-use Rattle.niss_cube.proofs.CoordinateValues.{edge-once, slice_occupied, slice_occupied-length, slice_occupied-at, slice_occupied-filled}
+use Rattle.niss_cube.proofs.CubieKinds.{place_of, stand, stands, stands-at, low, some_facelet, unturned, kind_place, Located, located}
+use Rattle.niss_cube.proofs.CubieKinds.{shown_at, map_place}
+use Rattle.niss_cube.proofs.SliceEdges.{edge-once, slice_occupied, slice-same}
 use Rattle.niss_cube.proofs.AxisRenamings.{KeepsPlaces, IsRenaming, by_rotation, not_renamed, back-place, out-back, back-out}
-use Rattle.niss_cube.proofs.Orientations.{base_2, base_3, oriented_zero}
-use Rattle.niss_cube.proofs.Codes.{code, number_of-code, flips_home-are, twists_home-are}
+use Rattle.niss_cube.proofs.Orientations.{turns_number-zero}
+use Rattle.niss_cube.proofs.Codes.{code, number_of-code, home, home-valid}
 use Rattle.niss_cube.proofs.MovedCubies.{Under, moved}
 
 implies : (a b : Bool) → (a ≡ true → b ≡ true) → (not a || b) ≡ true
@@ -139,13 +139,6 @@ module _ (k : Kind) (set : Place → Bool) (inside : (q : Place) → set q ≡ t
   turns_kept : Kept set e ↔ ((i : ℕ) → i < count k → turn_at k c i ≡ 0)
   turns_kept = (kept-unturned, unturned-kept)
 
--- the places of the slice's edges at home, from the last place down
-abbrev home_occupied : List Bool
-home_occupied = true ∷ true ∷ true ∷ true ∷ false ∷ false ∷ false ∷ false ∷ false ∷ false ∷ false ∷ false ∷ []
-
-home_occupied-at : (k : ℕ) → k < 12 → get_or home_occupied k false ≡ nat_le 8 (11 - k)
-home_occupied-at = holds (Numbers 12 λ k. Same (get_or home_occupied k false) (nat_le 8 (11 - k))) refl
-
 slice_at : (h : ℕ) → h < 12 → (j : ℕ) → j < 2 → slice_set Ud (at Edges h j) ≡ nat_le 8 h
 slice_at = holds (Numbers 12 λ h. Numbers 2 λ j. Same (slice_set Ud (at Edges h j)) (nat_le 8 h)) refl
 
@@ -153,20 +146,17 @@ slice_at = holds (Numbers 12 λ h. Numbers 2 λ j. Same (slice_set Ud (at Edges 
 abbrev AtHome : List ℕ → Type 0
 AtHome edges = (i : ℕ) → i < 12 → nat_le 8 (get_or edges i 0) ≡ nat_le 8 i
 
+slice_home : (i : ℕ) → i < 12 → get_or (map (nat_le 8) edges_home) i false ≡ nat_le 8 i
+slice_home = holds (Numbers 12 λ i. Same (get_or (map (nat_le 8) edges_home) i false) (nat_le 8 i)) refl
+
 slice_number_zero : (c : CubieLists) → Valid c → (rank (slice_occupied c.edges) 4 ≡ 0) ↔ AtHome c.edges
-slice_number_zero c v = (
-  (λ e i l.
-      let same : slice_occupied c.edges ≡ home_occupied = rank-same (slice_occupied c.edges) home_occupied 4 (slice_occupied-length c.edges v.edges_placed.places) (slice_occupied-filled c v) refl e in
-      let back : 11 - (11 - i) ≡ i = omega arith in
-      ap (λ k. nat_le 8 (get_or c.edges k 0)) (sym back)
-      ∙ sym (slice_occupied-at c.edges v.edges_placed.places (11 - i) (omega arith))
-      ∙ ap (λ os. get_or os (11 - i) false) same
-      ∙ home_occupied-at (11 - i) (omega arith)
-      ∙ ap (nat_le 8) back),
-  (λ h. ap (λ os. rank os 4) (ext_get_or false (slice_occupied c.edges) home_occupied (slice_occupied-length c.edges v.edges_placed.places) (λ k l.
-      let lk : k < 12 = omega (arith, l, slice_occupied-length c.edges v.edges_placed.places) in
-      slice_occupied-at c.edges v.edges_placed.places k lk ∙ h (11 - k) (omega arith) ∙ sym (home_occupied-at k lk)))),
-)
+slice_number_zero c v =
+    let at : (i : ℕ) → i < 12 → get_or (map (nat_le 8) c.edges) i false ≡ nat_le 8 (get_or c.edges i 0) = λ i l. get_or-map (nat_le 8) c.edges i 0 false (omega (arith, l, v.edges_placed.places)) in
+    let len : length (map (nat_le 8) c.edges) ≡ 12 = length-map c.edges (nat_le 8) ∙ v.edges_placed.places in (
+      (λ e i l. sym (at i l) ∙ ap (λ os. get_or os i false) (slice-same c home v home-valid e) ∙ slice_home i l),
+      (λ h. ap (λ os. rank (reverse os) 4) (ext_get_or false (map (nat_le 8) c.edges) (map (nat_le 8) edges_home) len (λ i l.
+          at i (omega (arith, l, len)) ∙ h i (omega (arith, l, len)) ∙ sym (slice_home i (omega (arith, l, len)))))),
+    )
 
 -- the slice is kept where its edges stand in it
 module _ (c : CubieLists) (v : Valid c) (e : Place → Place) (same : SameMap e (map_lists c)) where
@@ -197,8 +187,8 @@ AtZero Twist c = (i : ℕ) → i < 8 → get_or c.twists i 0 ≡ 0
 AtZero Slice c = AtHome c.edges
 
 code_zero : (k : Coordinate) (c : CubieLists) → Valid c → (code k c ≡ 0) ↔ AtZero k c
-code_zero Flip c v = oriented_zero 2 base_2 11 c.flips flips_home v.flips_oriented flips_home-are refl (holds (Numbers 12 λ i. Equal (get_or flips_home i 0) 0) refl)
-code_zero Twist c v = oriented_zero 3 base_3 7 c.twists twists_home v.twists_oriented twists_home-are refl (holds (Numbers 8 λ i. Equal (get_or twists_home i 0) 0) refl)
+code_zero Flip c v = turns_number-zero Edges c.flips v.flips_oriented
+code_zero Twist c v = turns_number-zero Corners c.twists v.twists_oriented
 code_zero Slice c v = slice_number_zero c v
 
 kept_zero : (k : Coordinate) (a : Axis) (c : CubieLists) → Valid c → (e : Place → Place) → SameMap e (map_lists c) → Kept (standard_set k a) e ↔ AtZero k c

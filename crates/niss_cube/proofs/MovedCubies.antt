@@ -3,11 +3,10 @@ use Rattle.niss_cube.proofs.Words.{◌≡◌, ℕ, zero, suc, ◌+◌, ◌-◌, 
 use Rattle.niss_cube.proofs.Words.{inl, inr, Turn, Renaming, Place, SameMap, is_corner, is_edge, turned, turn_table, every_turn, every_face}
 use Rattle.niss_cube.proofs.Words.{every_power, eqb-true, eq-eqb, same_truth, Fact, Both, Below, Equal, Alike, Same, When, Numbers, Places}
 use Rattle.niss_cube.proofs.Words.{Turns, Renamings, Holds, holds, CubieTurn, rotated, rotated_back, renaming_table}
-use Rattle.niss_cube.proofs.CubieKinds.{CubieLists, Valid, map_lists, tabulated, tabulated-length, tabulated-at, Kind, Corners, Edges}
-use Rattle.niss_cube.proofs.CubieKinds.{count, facelets, at, home_at, turn_at, homes, turns, place_of, Stand, stand, standing-valid, stands, once}
-use Rattle.niss_cube.proofs.CubieKinds.{low, kind_of, Located, located, map_at, centre_stays}
-use Rattle.niss_cube.proofs.Once.{place_in-is, count_by-times}
-use Rattle.niss_cube.proofs.Sums.{below, one_if, below_same, below_add, below_permuted, sum_by-below}
+use Rattle.niss_cube.proofs.CubieKinds.{lists_path, CubieLists, Valid, map_lists, tabulated, tabulated-length, tabulated-at, Kind, Corners}
+use Rattle.niss_cube.proofs.CubieKinds.{Edges, count, facelets, at, home_at, turn_at, homes, turns, place_of, Stand, stand, standing-valid}
+use Rattle.niss_cube.proofs.CubieKinds.{stands, once, low, kind_of, Located, located, map_at, centre_stays}
+use Rattle.niss_cube.proofs.Sums.{place_in-is, count_by-times, below, one_if, below_same, below_add, below_permuted, sum_by-below}
 
 pub data Motion : Type 0 where
   By : Turn → Motion
@@ -116,19 +115,6 @@ table k m =
       whole = t.1;
     }
 
-abbrev ranges : Kind → Fact
-ranges k = Turns λ t. Numbers (count k) λ i. Below (added_by k (turn_table t.face t.power) i) (facelets k)
-
-added_below : (k : Kind) → Holds (ranges k)
-unfolding every_turn every_face every_power
-added_below Corners = holds (ranges Corners) refl
-added_below Edges = holds (ranges Edges) refl
-
-pub table_ranges : (k : Kind) (u : Turn) (t : CubieTurn) → t ≡ turn_table u.face u.power → (i : ℕ) → i < count k → (from_by k t i < count k) × (added_by k t i < facelets k)
-table_ranges k u t e i l =
-    let P : CubieTurn → Type 0 = λ t. (from_by k t i < count k) × (added_by k t i < facelets k) in
-    subst P (sym e) ((table k (By u)).from_below i l, added_below k u i l)
-
 -- remainders of sums
 record Mod (m : ℕ) : Type 0 where
   pub add : (a b c d : ℕ) → a % m ≡ c % m → b % m ≡ d % m → (a + b) % m ≡ (c + d) % m
@@ -146,7 +132,7 @@ below_mod m laws (suc n) f = laws.add (below n (λ i. f i % m)) (f n % m) (below
 
 -- how the cubies of a kind are turned, as a sum over the places
 sum_turns : (k : Kind) (c : CubieLists) → length (turns k c) ≡ count k → sum (turns k c) ≡ below (count k) (turn_at k c)
-sum_turns k c l = sum_by-below (λ x. x) (turns k c) ∙ ap (λ n. below n (turn_at k c)) l
+sum_turns k c l = sum_by-below (λ x. x) 0 (turns k c) ∙ ap (λ n. below n (turn_at k c)) l
 
 -- the cubies after a motion
 abbrev new_home : Kind → Motion → CubieLists → ℕ → ℕ
@@ -275,5 +261,9 @@ module _ (m : Motion) (c : CubieLists) (v : Valid c) where
   ]
 
 -- cubies that were written so
-pub made : (m : Motion) (c d : CubieLists) → Valid c → d ≡ moved m c → Valid d × SameMap (map_lists d) (λ q. out m (map_lists c (back m q)))
-made m c d v e = subst (λ w. Valid w × SameMap (map_lists w) (λ q. out m (map_lists c (back m q)))) (sym e) (moved-valid m c v, moved-map m c v)
+abbrev pub Made : Motion → (c d : CubieLists) → Type 0
+Made m c d = Valid d × SameMap (map_lists d) (λ q. out m (map_lists c (back m q)))
+
+pub made : (m : Motion) (c d : CubieLists) → Valid c → (let w : CubieLists = moved m c in
+    d.corners ≡ w.corners → d.twists ≡ w.twists → d.edges ≡ w.edges → d.flips ≡ w.flips → Made m c d)
+made m c d v p q r s = subst (Made m c) (sym (lists_path d (moved m c) p q r s)) (moved-valid m c v, moved-map m c v)

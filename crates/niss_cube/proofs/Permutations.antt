@@ -1,8 +1,9 @@
 -- The map of a cube permutes the places, and a set of places that it keeps is kept both ways.
+use Rattle.niss_cube.proofs.Words.{arith}
 use Rattle.niss_cube.proofs.Words.{Yes, Equal, Below, Alike, Both, Numbers, Places, holds, ◌≡◌, ℕ, ◌+◌, ◌-◌, ◌*◌, ◌%◌, ◌<◌, refl, sym, ◌∙◌}
-use Rattle.niss_cube.proofs.Words.{ap, get_or, Bool, true, false, inl, inr, ◌==◌, eq-eqb, eqb_tells, Place, same_place, is_place, places}
+use Rattle.niss_cube.proofs.Words.{ap, get_or, Bool, true, inl, inr, ◌==◌, eq-eqb, eqb-true, same_truth, Place, same_place, is_place, places}
 use Rattle.niss_cube.proofs.Words.{facelet, U, index_in, Kept, PermutesPlaces, CubesPermutePlaces, KeptIsEqual}
-use Rattle.niss_cube.proofs.Sums.{one_if-same, below, below_same, below_permuted, eqb-other, one_if, one_of, below_all_same, one_if-at_most}
+use Rattle.niss_cube.proofs.Sums.{one_if-same, below, below_same, below_permuted, one_if, one_of, below_all_same, one_if-at_most}
 use Rattle.niss_cube.proofs.CubieKinds.{lists_of, CubieLists, Valid, map_lists, Kind, facelets, at, home_at, turn_at, Stand, stand, low}
 use Rattle.niss_cube.proofs.CubieKinds.{rewound, kind_of, kind_place, facelet_kind, Located, located, origin, centre_stays, map_place}
 use Rattle.niss_cube.proofs.CubieKinds.{one_to_one}
@@ -55,16 +56,13 @@ module _ (n : ℕ) (at : ℕ → Place) (number : Place → ℕ) (numbers : (q :
       let p : Place = from.0 in
       let x : ℕ = number p in
       let px = numbers p from.1 in
-      below_same n (λ k. one_if (number (e (at k)) == h)) (λ k. one_if (x == k) * 1) (λ k lk. elim (eqb_tells x k) [
-        | inl w ↦
-            let there : number (e (at k)) ≡ h = ap (λ j. number (e (at j))) (sym w.1) ∙ ap (λ z. number (e z)) px.1 ∙ ap number from.2 ∙ (each h l).0 in
-            let t : (number (e (at k)) == h) ≡ true = eq-eqb (number (e (at k))) h there in
-            rw (t, w.0) refl
-        | inr w ↦
-            let t : (number (e (at k)) == h) ≡ false = eqb-other (number (e (at k))) h (λ z.
-            w.1 (ap number (sym (permuted.one_to_one (at k) p (each k lk).1 from.1 (sym (numbers (e (at k)) (after_place k lk)).1 ∙ ap at z ∙ sym from.2))) ∙ (each k lk).0)) in
-            rw (t, w.0) refl
-      ])
+      let there : number (e (at x)) ≡ h = ap (λ z. number (e z)) px.1 ∙ ap number from.2 ∙ (each h l).0 in
+      below_same n (λ k. one_if (number (e (at k)) == h)) (λ k. one_if (x == k) * 1) (λ k lk.
+      ap one_if (same_truth _ _
+      (λ t. eq-eqb x k (ap number (sym (permuted.one_to_one (at k) p (each k lk).1 from.1
+      (sym (numbers (e (at k)) (after_place k lk)).1 ∙ ap at (eqb-true _ h t) ∙ sym from.2))) ∙ (each k lk).0))
+      (λ t. eq-eqb _ h (ap (λ j. number (e (at j))) (sym (eqb-true x k t)) ∙ there)))
+      ∙ omega arith)
       ∙ one_of n x (λ _. 1) px.0
 
   sum_permuted : (f : Place → ℕ) → below n (λ k. f (e (at k))) ≡ below n (λ k. f (at k))

@@ -3,7 +3,8 @@ use Rattle.niss_cube.proofs.Words.{Fact, Yes, When, Places, Among, Holds, holds,
 use Rattle.niss_cube.proofs.Words.{length, Option, None, Some, arith, Contains, map, list_any, option_map_or, Contains-from_any, is_place}
 use Rattle.niss_cube.proofs.Words.{turned, inverse_turn, Axis, Ud, Rl, Fb, Half, Turn, Step, Kept, flip_set, start_of, turns_of, and_left}
 use Rattle.niss_cube.proofs.Words.{and_right, flat_map, filter, same_face, face_order, turn_order, powers_from, is_face_of, InversesOfSteps}
-use Rattle.niss_cube.proofs.Words.{StepTurnsInOrder, StepTurnsAreCounted, same_face_is, same_power, same_power_is}
+use Rattle.niss_cube.proofs.Words.{StepTurnsInOrder, StepTurnsAreCounted, same_face_is, same_power, same_power_is, Turns, every_turn}
+use Rattle.niss_cube.proofs.Words.{every_face, every_power, is_kept}
 
 -- the turns of a step from its start
 abbrev pub turns_from : Option Axis → List Turn
@@ -87,3 +88,17 @@ in_order (Some Fb) = refl
 pub step_turns_in_order : StepTurnsInOrder
 unfolding turns_of
 step_turns_in_order s = (part (start_of s), in_order (start_of s))
+
+-- a turn that keeps the flip set of an axis is one of those from it, and each turn is one of those from anywhere
+abbrev pub leaves_fact : Axis → Fact
+leaves_fact a = Turns λ t. When (is_kept (flip_set a) (turned t)) (Yes (is_among (turns_from (Some a)) t))
+
+pub leaves : (a : Axis) → Holds (leaves_fact a)
+unfolding every_turn every_face every_power is_kept
+leaves Ud = holds (leaves_fact Ud) refl
+leaves Rl = holds (leaves_fact Rl) refl
+leaves Fb = holds (leaves_fact Fb) refl
+
+pub anywhere : (t : Turn) → is_among (turns_from None) t ≡ true
+unfolding every_turn every_face every_power
+anywhere = holds (Turns λ t. Yes (is_among (turns_from None) t)) refl

@@ -2,10 +2,10 @@
 use Rattle.niss_cube.proofs.Words.{Alike, Both, Places, Faces, holds, refl, sym, ◌∙◌, ap, subst, arith, inl, inr, ◌≡◌, ℕ, ◌+◌, ◌<◌, List}
 use Rattle.niss_cube.proofs.Words.{[], ◌∷◌, length, get_or, set, true, slice_index, length-set, eqb_tells, Place, is_place, turned, Face}
 use Rattle.niss_cube.proofs.Words.{Quarter, Half, Counter, Turn, Cube, Coordinate, map_of, count_of, number_of, standard_axis, number_after}
-use Rattle.niss_cube.proofs.Words.{IsCube, AreRowsAt, AreQuarters, IsQuarter, every_face, get_or-set_same, get_or-set_other, power_index}
+use Rattle.niss_cube.proofs.Words.{AreRowsAt, AreQuarters, IsQuarter, every_face, get_or-set_same, get_or-set_other, power_index}
 use Rattle.niss_cube.proofs.Words.{Power, IsCoordinate, entry_at, turn}
 use Rattle.niss_cube.proofs.CubieKinds.{lists_of, map_place}
-use Rattle.niss_cube.proofs.CoordinateLaws.{are_coordinates, cube-itself, turned_is_cube}
+use Rattle.niss_cube.proofs.CoordinateLaws.{are_coordinates, after_both, after_turn, cube-itself, turned_is_cube}
 
 abbrev after_of : Coordinate → ℕ → Turn → ℕ
 after_of k = number_after k (standard_axis k)
@@ -21,13 +21,12 @@ after-both : (k : Coordinate) (s t u : Turn) → ((q : Place) → is_place q ≡
 after-both k s t u same i l =
     let c = (law k).some_cube i l in
     let e : Place → Place = map_of c.0 in
-    let once : IsCube (λ q. turned s (e q)) = turned_is_cube e s (cube-itself c.0) in
-    let number : (w : Turn) → coordinate_of k (λ q. turned w (e q)) ≡ after_of k i w = λ w. (law k).follows e w (cube-itself c.0) ∙ ap (λ j. after_of k j w) c.1 in
-    ap (λ j. after_of k j t) (sym (number s))
-    ∙ sym ((law k).follows (λ q. turned s (e q)) t once)
-    ∙ (law k).of_places (λ q. turned t (turned s (e q))) (λ q. turned u (e q)) (turned_is_cube (λ q. turned s (e q)) t once)
-    (λ q p. same (e q) (map_place (lists_of c.0) c.0.are_cubies q p))
-    ∙ number u
+    ap (λ j. after_of k (after_of k j s) t) (sym c.1)
+    ∙ after_both k (standard_axis k) c.0 s t
+    ∙ sym ((law k).of_places (λ q. turned u (e q)) (λ q. turned t (turned s (e q))) (turned_is_cube e u (cube-itself c.0))
+    (λ q p. sym (same (e q) (map_place (lists_of c.0) c.0.are_cubies q p))))
+    ∙ sym (after_turn k (standard_axis k) c.0 u)
+    ∙ ap (λ j. after_of k j u) c.1
 
 -- a half turn is two quarters, a counter turn three
 powers-hold : (f : Face) (q : Place) → is_place q ≡ true →

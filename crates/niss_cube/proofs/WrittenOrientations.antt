@@ -2,7 +2,7 @@
 use Rattle.niss_cube.proofs.Words.{number, sym, ◌∙◌, ap, arith, append_assoc, ◌≡◌, ℕ, suc, ◌+◌, ◌-◌, ◌/◌, ◌%◌, ◌<◌, List, [], ◌∷◌, ◌++◌}
 use Rattle.niss_cube.proofs.Words.{length, set, take, drop, sum, length-set, sum_by-cons, take-length, digits_of_number}
 use Rattle.niss_cube.proofs.Words.{orientations_of_number, drop-set_at, take-suc-set}
-use Rattle.niss_cube.proofs.Orientations.{Base}
+use Rattle.std.proofs.Math.Nat.{mod-add-mod}
 
 -- the last digits of n
 abbrev last_digits : (n met : ℕ) → List ℕ → List ℕ
@@ -20,8 +20,8 @@ pub record Written (b n number met rest total : ℕ) (xs : List ℕ) : Type 0 wh
   pub digits : digits_of_number b (n - met) rest ++ last_digits n met xs ≡ digits_of_number b n number
   pub total_is : sum (last_digits n met xs) % b ≡ total
 
-pub written-step : (b n number met rest total : ℕ) → Base b → (xs : List ℕ) → met < n → Written b n number met rest total xs → Written b n number (met + 1) (rest / b) ((total + rest % b) % b) (set xs (n - 1 - met) (rest % b))
-written-step b n number met rest total base xs h w =
+pub written-step : (b n number met rest total : ℕ) (xs : List ℕ) → met < n → Written b n number met rest total xs → Written b n number (met + 1) (rest / b) ((total + rest % b) % b) (set xs (n - 1 - met) (rest % b))
+written-step b n number met rest total xs h w =
     let d : ℕ = rest % b in
     let e : last_digits n (met + 1) (set xs (n - 1 - met) d) ≡ d ∷ last_digits n met xs = last_digits-set n met xs d h w.places in
     record {
@@ -34,7 +34,7 @@ written-step b n number met rest total base xs h w =
       total_is =
           ap (λ ys. sum ys % b) e
           ∙ ap (λ k. k % b) (sum_by-cons (λ x. x) d (last_digits n met xs))
-          ∙ base.added (sum (last_digits n met xs)) d
+          ∙ ap (λ k. k % b) (let a : d + sum (last_digits n met xs) ≡ sum (last_digits n met xs) + d = omega arith in a) ∙ sym (mod-add-mod (sum (last_digits n met xs)) b d)
           ∙ ap (λ k. (k + d) % b) w.total_is;
     }
 

@@ -1,14 +1,14 @@
 //! Cubes by their cubies.
 ghost use Rattle.std.specs.Prelude.{◌≡◌, ◌<◌};
+ghost use Rattle.niss_moves.specs.Rotations.{about_vertical};
 ghost use Rattle.niss_cube.specs.Cubies.{AreCubies};
 
-use crate::cubie_turns::{turn_corners, turn_edges, turn_flips, turn_twists};
-use crate::followed_places::{
-    CORNER_POSITIONS, CUBIES, EDGE_POSITIONS, FACELETS, FollowedPlaces, about_vertical,
-};
+use crate::cubie_turns::{cubie_turn, turn_homes, turn_orientations};
+use crate::followed_places::{CORNER_POSITIONS, CUBIE_LETTERS, CUBIES, EDGE_POSITIONS, FACELETS};
+use crate::place_positions::position_before;
 use crate::renaming::Renaming;
 use coordinate::Coordinate;
-use niss_moves::{Axis, Rotation, Turn};
+use niss_moves::{Axis, Power, Rotation, Turn};
 use std::alloc::AllocError;
 
 pub(crate) mod coordinate;
@@ -37,14 +37,14 @@ pub struct Cube {
 impl Cube {
     ghost use Rattle.std.specs.Prelude.{◌≡◌, ◌↔◌, ℕ, slice_index};
     ghost use Rattle.niss_moves.specs.Places.{SameMap};
-    ghost use Rattle.niss_moves.specs.Letters.{letters};
+    ghost use Rattle.niss_moves.specs.Letters.{letter_of, letters};
+    ghost use Rattle.niss_moves.specs.Facelets.{places};
     ghost use Rattle.niss_moves.specs.Effects.{effect, effect_of_turns, turned};
     ghost use Rattle.niss_moves.specs.Rotations.{spelling};
-    ghost use Rattle.niss_cube.specs.Map.{map_of};
-    ghost use Rattle.niss_cube.specs.SameCubies.{same_cubies};
+    ghost use Rattle.niss_cube.specs.Map.{map_of, same_cubies};
     ghost use Rattle.niss_cube.specs.Sets.{Kept, flip_set, twist_set, slice_set};
     ghost use Rattle.niss_cube.specs.Renamings.{renamed_by};
-    ghost use Rattle.niss_cube.specs.PlacePositions.{BeganAt};
+    ghost use Rattle.niss_cube.specs.PlacePositions.{BeganAt, place_at};
     ghost use Rattle.niss_cube.specs.Coordinates.{flip_of, twist_of, slice_of};
 
     /// The solved cube.
@@ -63,11 +63,12 @@ impl Cube {
     pub fn turn(&mut self, turn: Turn)
         ensures { SameMap (map_of self.new) (λ q. turned turn (map_of self.old q)) }
     {
+        let table = cubie_turn(turn);
         *self = Cube {
-            corners: turn_corners(&self.corners, turn),
-            twists: turn_twists(&self.twists, turn),
-            edges: turn_edges(&self.edges, turn),
-            flips: turn_flips(&self.flips, turn),
+            corners: turn_homes(&self.corners, &table.corners),
+            twists: turn_orientations::<8, 3>(&self.twists, &table.corners, &table.twists),
+            edges: turn_homes(&self.edges, &table.edges),
+            flips: turn_orientations::<12, 2>(&self.flips, &table.edges, &table.flips),
         };
     }
 
@@ -138,7 +139,7 @@ impl Cube {
     }
 
     /// The position in the facelet text at which the sticker at a position began.
-    fn origin(&self, position: usize) -> u8
+    fn origin(&self, position: usize) -> usize
         requires { position < 54 }
         ensures { BeganAt self.now position result }
     {
@@ -146,24 +147,24 @@ impl Cube {
         let facelet = FACELETS[position] as usize;
         if cubie < 8 {
             let turned_back = (3 - self.twists[cubie] as usize + facelet) % 3;
-            return CORNER_POSITIONS[3 * self.corners[cubie] as usize + turned_back];
+            return CORNER_POSITIONS[3 * self.corners[cubie] as usize + turned_back] as usize;
         }
         if cubie < 20 {
             let turned_back = (2 - self.flips[cubie - 8] as usize + facelet) % 2;
-            return EDGE_POSITIONS[2 * self.edges[cubie - 8] as usize + turned_back];
+            return EDGE_POSITIONS[2 * self.edges[cubie - 8] as usize + turned_back] as usize;
         }
-        position as u8
+        position
     }
 
-    /// For each position in the facelet text: the one at which the sticker there began.
-    fn origins(&self) -> [u8; 54]
-        ensures { (k : ℕ) → k < 54 → BeganAt self.now k (slice_index result k) }
+    /// The letter at a position of the facelet text of the cube, rotated as a whole.
+    fn letter(&self, rotation: Rotation, position: usize) -> u8
+        requires { position < 54 }
+        ensures { result ≡ letter_of (λ q. effect (spelling rotation) (map_of self.now q)) places
+            (place_at position) }
     {
-        let mut origins = [0; 54];
-        for (position, origin) in origins.iter_mut().enumerate() {
-            *origin = self.origin(position);
-        }
-        origins
+        let upright = position_before(about_vertical(rotation.vertical), position);
+        let before = position_before(rotation.top.to_top(), upright);
+        CUBIE_LETTERS[self.origin(before)][0]
     }
 
     /// The facelet text of the cube, then rotated as a whole: the faces in the order U, R, F, D, L, B with nine letters
@@ -171,12 +172,19 @@ impl Cube {
     pub fn facelets(&self, rotation: Rotation) -> [u8; 54]
         ensures { result ≡ letters (λ q. effect (spelling rotation) (map_of self.now q)) }
     {
-        let mut places = FollowedPlaces::new();
-        places.follow_back_if(about_vertical(rotation.vertical));
-        places.follow_back_if(rotation.top.to_top());
-        places.follow_by(&self.origins());
-        places.letters()
+        let mut text = [0; 54];
+        for (position, letter) in text.iter_mut().enumerate() {
+            *letter = self.letter(rotation, position);
+        }
+        text
     }
+}
+
+/// A rotation about the vertical axis, if there is one.
+fn about_vertical(power: Option<Power>) -> Option<(Axis, Power)>
+    ensures { result ≡ about_vertical power }
+{
+    power.map(|power| (Axis::Ud, power))
 }
 
 impl Clone for Cube {
@@ -194,13 +202,13 @@ impl PartialEq for Cube {
     ghost use Rattle.std.specs.Cmp.Rules.{comparing};
     ghost use Rattle.std.proofs.Common.{rules};
     ghost use Rattle.niss_moves.specs.Places.{SameMap};
-    ghost use Rattle.niss_cube.specs.Map.{map_of};
-    ghost use Rattle.niss_cube.specs.SameCubies.{same_cubies};
+    ghost use Rattle.niss_cube.specs.Map.{map_of, same_cubies};
 
     ghost eq = { same_cubies };
 
     ghost laws = { Prim.search (comparing, rules) };
 
+    #[tactic(auto, using(crate::proofs::ShownCubies::equal_cubes))]
     fn eq(&self, other: &Cube) -> bool
         ensures value { result ≡ same_cubies self.now other.now }
         ensures map { IsTrue result ↔ SameMap (map_of self.now) (map_of other.now) }

@@ -1,11 +1,10 @@
-//! The facelet text of a cube and after moves of any kind: from each place the sticker is followed back to where it began.
+//! The facelet text after moves of any kind: from each place the sticker is followed back to where it began.
 ghost use Rattle.std.specs.Prelude.{◌≡◌, ℕ, ◌<◌, ◌++◌, slice_index};
 ghost use Rattle.niss_moves.specs.Effects.{effect, inverse};
 ghost use Rattle.niss_moves.specs.Letters.{letters};
-ghost use Rattle.niss_moves.specs.Rotations.{about_vertical};
 
 use crate::place_positions::positions_after;
-use niss_moves::{Axis, Power, Token};
+use niss_moves::Token;
 
 /// The positions of the corners' facelets in the facelet text, three for each corner in the order of its facelets.
 pub const CORNER_POSITIONS: [u8; 24] = [
@@ -37,7 +36,7 @@ pub const FACELETS: [u8; 54] = [
 
 /// For each position of the facelet text: the letter there on the solved cube, and those of the next facelets of its cubie,
 /// clockwise. The second facelet of an edge is followed by the first, and a centre by itself.
-const CUBIE_LETTERS: [[u8; 3]; 54] = [
+pub const CUBIE_LETTERS: [[u8; 3]; 54] = [
     *b"ULB", *b"UBU", *b"UBR", *b"ULU", *b"UUU", *b"URU", *b"UFL", *b"UFU", *b"URF", *b"RFU",
     *b"RUR", *b"RUB", *b"RFR", *b"RRR", *b"RBR", *b"RDF", *b"RDR", *b"RBD", *b"FLU", *b"FUF",
     *b"FUR", *b"FLF", *b"FFF", *b"FRF", *b"FDL", *b"FDF", *b"FRD", *b"DLF", *b"DFD", *b"DFR",
@@ -48,7 +47,7 @@ const CUBIE_LETTERS: [[u8; 3]; 54] = [
 
 /// Places that are followed through moves, by their positions in the facelet text.
 #[derive(Drop)]
-pub struct FollowedPlaces {
+struct FollowedPlaces {
     positions: [u8; 26],
     ghost in_range: { (k : ℕ) → k < 26 → slice_index positions k < 54 },
 }
@@ -67,14 +66,13 @@ fn replace_each(positions: &mut [u8; 26], table: &[u8; 54])
 }
 
 impl FollowedPlaces {
-    ghost use Rattle.std.specs.Prelude.{◌≡◌, ◌∷◌, []};
+    ghost use Rattle.std.specs.Prelude.{◌≡◌, ◌∷◌, [], List};
     ghost use Rattle.niss_moves.specs.Effects.{inverse};
-    ghost use Rattle.niss_moves.specs.Places.{Place};
-    ghost use Rattle.niss_moves.specs.Rotations.{rotation_if};
-    ghost use Rattle.niss_cube.specs.PlacePositions.{AreMoved, AreBrought, KeepsCubies};
+    ghost use Rattle.niss_moves.specs.declared.token.Token.{Token};
+    ghost use Rattle.niss_cube.specs.PlacePositions.{AreMoved};
 
     /// The first facelets.
-    pub fn new() -> FollowedPlaces
+    fn new() -> FollowedPlaces
         ensures { result.positions ≡ FIRST_FACELETS }
     {
         FollowedPlaces {
@@ -82,20 +80,11 @@ impl FollowedPlaces {
         }
     }
 
-    /// Replaces each position by the one that a table has for it.
-    pub fn follow_by(&mut self, table: &[u8; 54])
-        requires { (k : ℕ) → k < 54 → slice_index table.now k < 54 }
-        ensures { (k : ℕ) → k < 26 → slice_index self.new.positions k
-            ≡ slice_index table.now (slice_index self.old.positions k) }
-    {
-        replace_each(&mut self.positions, table);
-    }
-
     /// Follows the places through a move.
     fn follow(&mut self, token: Token)
         ensures { AreMoved self.old.positions self.new.positions (token ∷ []) }
     {
-        self.follow_by(positions_after(token));
+        replace_each(&mut self.positions, positions_after(token));
     }
 
     /// Follows the places through moves.
@@ -118,19 +107,10 @@ impl FollowedPlaces {
         }
     }
 
-    /// Follows the places through the inverse of a rotation, if there is one.
-    pub fn follow_back_if(&mut self, rotation: Option<(Axis, Power)>)
-        ensures { AreMoved self.old.positions self.new.positions (inverse (rotation_if rotation)) }
-    {
-        if let Some((axis, power)) = rotation {
-            self.follow(Token::Rotation(axis, power.inverse()));
-        }
-    }
-
-    /// The facelet text of a map that brings what stands at these places to the first facelets.
-    pub fn letters(&self) -> [u8; 54]
-        ensures { (e : Place → Place) → KeepsCubies e →
-            AreBrought e self.now.positions FIRST_FACELETS → result ≡ letters e }
+    /// The facelet text of moves that bring what stands at these places to the first facelets.
+    fn letters(&self) -> [u8; 54]
+        ensures { (s : List Token) → AreMoved self.now.positions FIRST_FACELETS s →
+            result ≡ letters (effect s) }
     {
         let mut text = [0; 54];
         for (position, letter) in text.iter_mut().enumerate() {
@@ -139,13 +119,6 @@ impl FollowedPlaces {
         }
         text
     }
-}
-
-/// A rotation about the vertical axis, if there is one.
-pub fn about_vertical(power: Option<Power>) -> Option<(Axis, Power)>
-    ensures { result ≡ about_vertical power }
-{
-    power.map(|power| (Axis::Ud, power))
 }
 
 /// The facelet text of the solved cube after moves, and then after the inverse of others: the faces in the order U, R, F,
