@@ -1,5 +1,6 @@
 -- Corners and edges as two kinds of cubies: what holds of both, and where the map of cubies brings their facelets.
-use Rattle.niss_cube.proofs.Words.{Fact, Yes, Same, Equal, Below, Alike, Both, When, Numbers, Places, Records, Holds, holds, refl, sym, ◌∙◌}
+use Rattle.niss_cube.proofs.Words.{and_left}
+use Rattle.niss_cube.proofs.Words.{Fact, Yes, Same, Equal, Below, Alike, Both, When, Numbers, Places, Holds, holds, refl, sym, ◌∙◌}
 use Rattle.niss_cube.proofs.Words.{ap, arith, inl, inr, ◌≡◌, ℕ, ◌+◌, ◌-◌, ◌%◌, ◌<◌, List, length, get_or, Bool, true, false, ◌⊎◌, list_any}
 use Rattle.niss_cube.proofs.Words.{Place, same_place, is_place, is_corner, is_edge, SameMap, index_in, row_at, facelet_at, corner_facelets}
 use Rattle.niss_cube.proofs.Words.{edge_facelets, sticker_place, is_true, ArePlaced, AreOriented, Cube, map, slice_index, range_with_len}
@@ -133,14 +134,14 @@ some_facelet Edges = omega arith
 
 -- the sets of places of the kinds
 pub kind_place : (k : Kind) (q : Place) → is_of k q ≡ true → is_place q ≡ true
-kind_place Corners = holds (Records λ q. When (is_corner q) (Yes (is_place q))) refl
-kind_place Edges = holds (Records λ q. When (is_edge q) (Yes (is_place q))) refl
+kind_place Corners q h = and_left (is_place q) _ (and_left _ _ (and_left _ _ h))
+kind_place Edges q h = and_left (is_place q) _ h
 
 pub no_corner : (q : Place) → is_edge q ≡ true → is_corner q ≡ false
-no_corner = holds (Records λ q. When (is_edge q) (Same (is_corner q) false)) refl
+no_corner q h = holds (Places λ q. When (is_edge q) (Same (is_corner q) false)) refl q (kind_place Edges q h) h
 
 no_edge : (q : Place) → is_corner q ≡ true → is_edge q ≡ false
-no_edge = holds (Records λ q. When (is_corner q) (Same (is_edge q) false)) refl
+no_edge q h = holds (Places λ q. When (is_corner q) (Same (is_edge q) false)) refl q (kind_place Corners q h) h
 
 alike : (j k : Kind) (p q : Place) → is_of j p ≡ true → is_of j q ≡ true → is_of k p ≡ is_of k q
 alike Corners Corners p q a b = a ∙ sym b

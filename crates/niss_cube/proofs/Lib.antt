@@ -1,14 +1,11 @@
-pub mod AxisRenamings
 pub mod CallerLemmas
 pub mod Codes
 pub mod CoordinateLaws
 pub mod CubieKinds
-pub mod Each
 pub mod EqualCubes
 pub mod FaceletLetters
 pub mod Facts
 pub mod FollowedLetters
-pub mod KeptSets
 pub mod LawLemmas
 pub mod Logic
 pub mod MovedCubies
@@ -17,11 +14,8 @@ pub mod Permutations
 pub mod RotatedLetters
 pub mod ShownCubies
 pub mod SliceEdges
-pub mod SliceSteps
 pub mod StepGoals
 pub mod StepMaps
 pub mod StepTurns
 pub mod Sums
-pub mod TableSteps
 pub mod Words
-pub mod WrittenOrientations
