@@ -10,11 +10,9 @@ pub mod LawLemmas
 pub mod Logic
 pub mod MovedCubies
 pub mod Orientations
-pub mod Permutations
 pub mod RotatedLetters
 pub mod ShownCubies
 pub mod SliceEdges
-pub mod StepGoals
 pub mod StepMaps
 pub mod StepTurns
 pub mod Sums

@@ -7,7 +7,7 @@ use Rattle.niss_cube.specs.Names.{Edges}
 use Rattle.niss_cube.specs.Steps.{holds}
 use Rattle.niss_cube.proofs.Codes.{kept_is_tested, kept_same, sets_are_places}
 use Rattle.niss_cube.proofs.StepTurns.{turns_from, turn_keeps, same_turn-is, leaves, anywhere}
-use Rattle.niss_cube.proofs.Permutations.{cubes_permute_places, kept_is_equal}
+use Rattle.niss_cube.proofs.CubieKinds.{cubes_permute_places, kept_is_equal}
 
 -- the start is kept
 
