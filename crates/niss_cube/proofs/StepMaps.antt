@@ -2,13 +2,12 @@
 use Rattle.niss_cube.proofs.Words.{◌≡◌, refl, sym, Bool, true, ◌&&◌, ◌||◌, List, [], ◌∷◌, Option, None, Some, Contains, IsTrue, list_any}
 use Rattle.niss_cube.proofs.Words.{option_map_or, Place, SameMap, turned, Axis, Turn, Goal, Domino, Flip, Twist, Slice, ArePlaces, is_kept}
 use Rattle.niss_cube.proofs.Words.{flip_set, twist_set, slice_set, start_of, goals_of, turns_of, may_start, same_truth, reached}
-use Rattle.niss_cube.proofs.Words.{StartIsKept, StepsSeePlaces, ap, ◌∙◌, Contains-from_any, Cube, map_of, Kept}
-use Rattle.niss_cube.proofs.Words.{OtherTurnsLeaveStart}
+use Rattle.niss_cube.proofs.Words.{StartIsKept, StepsSeePlaces, ap, ◌∙◌, Contains-from_any, Cube, map_of, Kept, OtherTurnsLeaveStart}
 use Rattle.niss_cube.specs.Names.{Edges}
 use Rattle.niss_cube.specs.Steps.{holds}
-use Rattle.niss_cube.proofs.KeptSets.{kept_is_tested, kept_same, sets_are_places}
+use Rattle.niss_cube.proofs.Codes.{kept_is_tested, kept_same, sets_are_places}
 use Rattle.niss_cube.proofs.StepTurns.{turns_from, turn_keeps, same_turn-is, leaves, anywhere}
-use Rattle.niss_cube.proofs.Permutations.{cubes_permute_places, kept_is_equal}
+use Rattle.niss_cube.proofs.CubieKinds.{cubes_permute_places, kept_is_equal}
 
 -- the start is kept
 

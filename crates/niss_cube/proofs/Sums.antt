@@ -1,5 +1,6 @@
 -- Sums over the numbers below a bound, over the places of a permutation, and a number that stands once in a list.
-use Rattle.niss_cube.proofs.Words.{false_from_ne_true, sum_by-cons, eqb_tells, eqb-true, length, get_or, eq-eqb, sum_by, arith, false, refl}
+pub use Rattle.std.proofs.lemmas.Bool.{ne_eqb as eqb-other}
+use Rattle.niss_cube.proofs.Words.{sum_by-cons, eqb_tells, length, get_or, eq-eqb, sum_by, arith, false, refl}
 use Rattle.niss_cube.proofs.Words.{zero, List, Bool, true, ◌==◌, cond, sym, ◌∙◌, inl, inr, ◌≡◌, suc, ◌+◌, ◌*◌, ◌<◌, ◌≤◌, ◌∷◌, ap, [], ℕ}
 use Rattle.niss_cube.proofs.Words.{count_by, index_in}
 
@@ -35,9 +36,6 @@ below_times (suc n) f c = grind (arith, below_times n f c)
 
 pub eqb-itself : (x : ℕ) → (x == x) ≡ true
 eqb-itself x = eq-eqb x x refl
-
-pub eqb-other : (x y : ℕ) → (x ≡ y → ⊥) → (x == y) ≡ false
-eqb-other x y h = false_from_ne_true (x == y) (λ e. h (eqb-true x y e))
 
 pub one_above : (n x : ℕ) (f : ℕ → ℕ) → n ≤ x → below n (λ h. one_if (x == h) * f h) ≡ 0
 one_above zero x f l = refl

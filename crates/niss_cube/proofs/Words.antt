@@ -7,8 +7,8 @@ pub use Rattle.std.proofs.lemmas.Bool.{eqb-true, lt-leb, le-ltb, eq-eqb, false_f
 pub use Rattle.std.proofs.lemmas.Bool.Decides.{eqb_tells}
 pub use Rattle.std.proofs.lemmas.Grind.{drop-set_at}
 pub use Rattle.std.proofs.lemmas.List.{ext_get_or, get_or-map, length-map, length-set, length-reverse, append-nil, at_drop_more}
-pub use Rattle.std.proofs.lemmas.List.{get_or-reverse, get_or_default, reverse-reverse, length-drop}
-pub use Rattle.std.proofs.lemmas.List.{get_or-set_same, get_or-set_other, at_drop_all, reverse-append}
+pub use Rattle.std.proofs.lemmas.List.{get_or-reverse, get_or_default, reverse-reverse, length-drop, get_or-set_same, get_or-set_other}
+pub use Rattle.std.proofs.lemmas.List.{at_drop_all, reverse-append}
 pub use Rattle.std.proofs.lemmas.List.Folds.{Any-from_list_any, list_any_at}
 pub use Rattle.std.proofs.lemmas.List.FromFn.{get_or-map-range_with_len, length-map-range_with_len, get_or-range_with_len}
 pub use Rattle.std.proofs.lemmas.List.FromFn.{length-range_with_len}
@@ -20,8 +20,8 @@ pub use Rattle.std.specs.Option.{option_map_or}
 pub use Rattle.std.specs.Prelude.{nat_lt, nat_le, sum, ◌↔◌, Contains, IsTrue, count_by, ◌/◌, EachIndex, nat_eq, fold}
 pub use Rattle.std.specs.Prelude.{flat_map, filter, cond, IfNone, IfSome, MatchOption, slice_index_or}
 pub use lib.Pointwise.{pointwise}
-pub use Rattle.niss_moves.proofs.CallerLemmas.{same_place_is, same_place_of, effect-append, inverse_after}
-pub use Rattle.niss_moves.proofs.CallerLemmas.{inverse_before, same_face_is, same_power, same_power_is, turn}
+pub use Rattle.niss_moves.proofs.CallerLemmas.{same_place_is, same_place_of, effect-append, inverse_after, inverse_before}
+pub use Rattle.niss_moves.proofs.CallerLemmas.{same_face_is, same_power, same_power_is, turn}
 unfoldable pub use Rattle.niss_moves.proofs.CallerLemmas.{every_face, every_power, every_turn, every_axis, every_slice, every_token}
 pub use Rattle.niss_moves.specs.Canonical.{face_order, turn_order}
 pub use Rattle.niss_moves.specs.Effects.{turned, effect, inverse, moved_by, effect_of_turns}
@@ -32,9 +32,8 @@ unfoldable pub use Rattle.niss_moves.specs.Letters.{letter_of, letters}
 pub use Rattle.niss_moves.specs.Places.{Place, is_place, same_place, SameMap, is_edge, is_corner}
 pub use Rattle.niss_moves.specs.Rotations.{renamed_turn, rotation_if, to_top, about_vertical, spelling}
 pub use Rattle.niss_moves.specs.Turn.{inverse_turn, same_face}
-pub use Rattle.niss_cube.proofs.Each.{at_member}
-pub use Rattle.niss_cube.proofs.Facts.{Fact, Yes, Same, Equal, Below, Alike, Both, When, Numbers, Places, Records, Turns, Among, Faces}
-pub use Rattle.niss_cube.proofs.Facts.{Tokens, Renamings, Digits, Truths, Holds, holds, tested}
+pub use Rattle.niss_cube.proofs.Facts.{Fact, Yes, Same, Equal, Below, Alike, Both, When, Numbers, Places, Turns, Among, Faces, Tokens}
+pub use Rattle.niss_cube.proofs.Facts.{Renamings, Digits, Truths, Holds, holds, tested, at_member}
 pub use Rattle.niss_cube.proofs.Logic.{and_left, and_right, same_truth, and_both, is_true}
 pub use Rattle.niss_cube.specs.AfterTurn.{IsCube, TurnedIsCube, AreCoordinates, IsCoordinate}
 pub use Rattle.niss_cube.specs.Coordinates.{rank, number_of, number, count_of, standard_axis, choose, renamed_for, turn_for, renaming_for}

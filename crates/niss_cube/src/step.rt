@@ -61,9 +61,9 @@ const EDGES_ON_RL: Goal = Goal::Edges(Axis::Rl);
 
 const EDGES_ON_FB: Goal = Goal::Edges(Axis::Fb);
 
-// The domino reduction on an axis of a cube whose edges are oriented on another one.
+// A domino reduction: on the first axis, of a cube whose edges are oriented on the second.
 macro_rules! dr {
-    ($axis:ident from $edges:ident) => {
+    ($axis:ident, $edges:ident) => {
         Goal::Domino {
             edges: Axis::$edges,
             axis: Axis::$axis,
@@ -114,28 +114,16 @@ impl Step {
             Step::Eofb => ("eofb", None, &[EDGES_ON_FB]),
             Step::Eorl => ("eorl", None, &[EDGES_ON_RL]),
             Step::Eoud => ("eoud", None, &[EDGES_ON_UD]),
-            Step::DrudEofb => ("drud-eofb", Some(Axis::Fb), &[dr!(Ud from Fb)]),
-            Step::DrrlEofb => ("drrl-eofb", Some(Axis::Fb), &[dr!(Rl from Fb)]),
-            Step::DrudEorl => ("drud-eorl", Some(Axis::Rl), &[dr!(Ud from Rl)]),
-            Step::DrfbEorl => ("drfb-eorl", Some(Axis::Rl), &[dr!(Fb from Rl)]),
-            Step::DrrlEoud => ("drrl-eoud", Some(Axis::Ud), &[dr!(Rl from Ud)]),
-            Step::DrfbEoud => ("drfb-eoud", Some(Axis::Ud), &[dr!(Fb from Ud)]),
+            Step::DrudEofb => ("drud-eofb", Some(Axis::Fb), &[dr!(Ud, Fb)]),
+            Step::DrrlEofb => ("drrl-eofb", Some(Axis::Fb), &[dr!(Rl, Fb)]),
+            Step::DrudEorl => ("drud-eorl", Some(Axis::Rl), &[dr!(Ud, Rl)]),
+            Step::DrfbEorl => ("drfb-eorl", Some(Axis::Rl), &[dr!(Fb, Rl)]),
+            Step::DrrlEoud => ("drrl-eoud", Some(Axis::Ud), &[dr!(Rl, Ud)]),
+            Step::DrfbEoud => ("drfb-eoud", Some(Axis::Ud), &[dr!(Fb, Ud)]),
             Step::Eo => ("eo", None, &[EDGES_ON_FB, EDGES_ON_RL, EDGES_ON_UD]),
-            Step::DrEofb => (
-                "dr-eofb",
-                Some(Axis::Fb),
-                &[dr!(Ud from Fb), dr!(Rl from Fb)],
-            ),
-            Step::DrEorl => (
-                "dr-eorl",
-                Some(Axis::Rl),
-                &[dr!(Ud from Rl), dr!(Fb from Rl)],
-            ),
-            Step::DrEoud => (
-                "dr-eoud",
-                Some(Axis::Ud),
-                &[dr!(Rl from Ud), dr!(Fb from Ud)],
-            ),
+            Step::DrEofb => ("dr-eofb", Some(Axis::Fb), &[dr!(Ud, Fb), dr!(Rl, Fb)]),
+            Step::DrEorl => ("dr-eorl", Some(Axis::Rl), &[dr!(Ud, Rl), dr!(Fb, Rl)]),
+            Step::DrEoud => ("dr-eoud", Some(Axis::Ud), &[dr!(Rl, Ud), dr!(Fb, Ud)]),
         }
     }
 

@@ -1,5 +1,5 @@
 use Rattle.niss_cube.proofs.Words.{◌-◌, length, arith}
-use Rattle.niss_cube.proofs.WrittenOrientations.{written-step, written-end}
+use Rattle.niss_cube.proofs.Orientations.{written-step, written-end}
 use Rattle.niss_cube.proofs.digits.write_orientations.Goals as goal
 
 pub loop-met-preserved : goal.loop-met-preserved
