@@ -1,10 +1,13 @@
--- Corners and edges as two kinds of cubies: what holds of both, and where the map of cubies brings their facelets.
-use Rattle.niss_cube.proofs.Words.{Fact, Yes, Same, Equal, Below, Alike, Both, When, Numbers, Places, Records, Holds, holds, refl, sym, ◌∙◌}
-use Rattle.niss_cube.proofs.Words.{ap, arith, inl, inr, ◌≡◌, ℕ, ◌+◌, ◌-◌, ◌%◌, ◌<◌, List, length, get_or, Bool, true, false, ◌⊎◌, list_any}
-use Rattle.niss_cube.proofs.Words.{Place, same_place, is_place, is_corner, is_edge, SameMap, index_in, row_at, facelet_at, corner_facelets}
-use Rattle.niss_cube.proofs.Words.{edge_facelets, sticker_place, is_true, ArePlaced, AreOriented, Cube, map, slice_index, range_with_len}
-use Rattle.niss_cube.proofs.Words.{ext_get_or, sticker_map, EachIndex, get_or-map-range_with_len, length-map-range_with_len, AreCubies}
-use Rattle.niss_cube.proofs.Once.{times_in, place_in, place_in-found, place_in-is, count_by-times}
+-- Corners and edges as two kinds of cubies: what holds of both, and where the map of cubies brings their facelets, as a permutation.
+use Rattle.niss_cube.proofs.Words.{and_left, Fact, Yes, Same, Equal, Below, Alike, Both, When, Numbers, Places, Holds, holds, refl, sym}
+use Rattle.niss_cube.proofs.Words.{◌∙◌, ap, arith, inl, inr, ◌≡◌, ℕ, ◌+◌, ◌-◌, ◌%◌, ◌<◌, List, length, get_or, Bool, true, false, ◌⊎◌}
+use Rattle.niss_cube.proofs.Words.{list_any, Place, same_place, is_place, is_corner, is_edge, SameMap, index_in, row_at, facelet_at}
+use Rattle.niss_cube.proofs.Words.{corner_facelets, edge_facelets, sticker_place, is_true, ArePlaced, AreOriented, Cube, map, slice_index}
+use Rattle.niss_cube.proofs.Words.{range_with_len, ext_get_or, sticker_map, EachIndex, get_or-map-range_with_len, length-map-range_with_len}
+use Rattle.niss_cube.proofs.Words.{AreCubies, ◌*◌, ◌==◌, eq-eqb, eqb-true, same_truth, places, facelet, U, Kept, PermutesPlaces}
+use Rattle.niss_cube.proofs.Words.{CubesPermutePlaces, KeptIsEqual}
+use Rattle.niss_cube.proofs.Sums.{times_in, place_in, place_in-found, place_in-is, count_by-times, one_if-same, below, below_same}
+use Rattle.niss_cube.proofs.Sums.{below_permuted, one_if, one_of, below_all_same, one_if-at_most}
 
 pub record CubieLists : Type 0 where
   pub corners : List ℕ
@@ -133,14 +136,14 @@ some_facelet Edges = omega arith
 
 -- the sets of places of the kinds
 pub kind_place : (k : Kind) (q : Place) → is_of k q ≡ true → is_place q ≡ true
-kind_place Corners = holds (Records λ q. When (is_corner q) (Yes (is_place q))) refl
-kind_place Edges = holds (Records λ q. When (is_edge q) (Yes (is_place q))) refl
+kind_place Corners q h = and_left (is_place q) _ (and_left _ _ (and_left _ _ h))
+kind_place Edges q h = and_left (is_place q) _ h
 
 pub no_corner : (q : Place) → is_edge q ≡ true → is_corner q ≡ false
-no_corner = holds (Records λ q. When (is_edge q) (Same (is_corner q) false)) refl
+no_corner q h = holds (Places λ q. When (is_edge q) (Same (is_corner q) false)) refl q (kind_place Edges q h) h
 
 no_edge : (q : Place) → is_corner q ≡ true → is_edge q ≡ false
-no_edge = holds (Records λ q. When (is_corner q) (Same (is_edge q) false)) refl
+no_edge q h = holds (Places λ q. When (is_corner q) (Same (is_edge q) false)) refl q (kind_place Corners q h) h
 
 alike : (j k : Kind) (p q : Place) → is_of j p ≡ true → is_of j q ≡ true → is_of k p ≡ is_of k q
 alike Corners Corners p q a b = a ∙ sym b
@@ -286,3 +289,75 @@ module _ (c : CubieLists) (v : Valid c) where
         let other : (k : Kind) → is_of k p ≡ false → is_of k q ≡ false = λ k n. sym (same_kind k q) ∙ ap (is_of k) (sym e) ∙ same_kind k p ∙ n in
         sym (centre_stays c p w.0 w.1) ∙ e ∙ centre_stays c q (other Corners w.0) (other Edges w.1)
   ]
+
+module _ (c : CubieLists) (v : Valid c) where
+  onto : (q : Place) → is_place q ≡ true → (p : Place) × (is_place p ≡ true) × (map_lists c p ≡ q)
+  onto q l = elim (kind_of q) [
+    | inl w ↦
+        let k : Kind = w.0 in
+        let a : Located k q = located k q w.1 in
+        let s : Stand k c = stand k c v in
+        let h : ℕ = home_at k c a.row in
+        let t : ℕ = turn_at k c a.row in
+        let j : ℕ = (facelets k - t + a.index) % facelets k in (
+          at k h j,
+          kind_place k (at k h j) (facelet_kind k h j (s.placed.range a.row a.row_below) (low k _)),
+          origin k c v a.row a.index j a.row_below (low k _) (rewound k a.index t a.index_below (s.oriented.range a.row a.row_below)) ∙ sym a.is,
+        )
+    | inr w ↦ (q, l, centre_stays c q w.0 w.1)
+  ]
+
+  pub permutes : PermutesPlaces (map_lists c)
+  permutes = record { to_places = map_place c v; one_to_one = λ p q lp lq. one_to_one c v p q; onto = onto }
+
+pub cubes_permute_places : CubesPermutePlaces
+cubes_permute_places c = permutes (lists_of c) c.are_cubies
+
+-- the places by number
+abbrev place_at : ℕ → Place
+place_at k = get_or places k (facelet U 5)
+
+abbrev number_at : Place → ℕ
+number_at q = index_in (same_place q) places
+
+at_number : (q : Place) → is_place q ≡ true → (number_at q < 54) × (place_at (number_at q) ≡ q)
+at_number = holds (Places λ q. Both (Below (number_at q) 54) (Alike (place_at (number_at q)) q)) refl
+
+of_number : (k : ℕ) → k < 54 → (number_at (place_at k) ≡ k) × (is_place (place_at k) ≡ true)
+of_number = holds (Numbers 54 λ k. Both (Equal (number_at (place_at k)) k) (Yes (is_place (place_at k)))) refl
+
+-- a numbering of the places, and a map that permutes them
+module _ (n : ℕ) (nth : ℕ → Place) (number : Place → ℕ) (numbers : (q : Place) → is_place q ≡ true → (number q < n) × (nth (number q) ≡ q)) (each : (k : ℕ) → k < n → (number (nth k) ≡ k) × (is_place (nth k) ≡ true))
+    (e : Place → Place) (permuted : PermutesPlaces e) where
+  after_place : (k : ℕ) → k < n → is_place (e (nth k)) ≡ true
+  after_place k l = permuted.to_places (nth k) (each k l).1
+
+  after_once : (h : ℕ) → h < n → below n (λ k. one_if (number (e (nth k)) == h)) ≡ 1
+  after_once h l =
+      let from = permuted.onto (nth h) (each h l).1 in
+      let p : Place = from.0 in
+      let x : ℕ = number p in
+      let px = numbers p from.1 in
+      let there : number (e (nth x)) ≡ h = ap (λ z. number (e z)) px.1 ∙ ap number from.2 ∙ (each h l).0 in
+      below_same n (λ k. one_if (number (e (nth k)) == h)) (λ k. one_if (x == k) * 1) (λ k lk.
+      ap one_if (same_truth _ _
+      (λ t. eq-eqb x k (ap number (sym (permuted.one_to_one (nth k) p (each k lk).1 from.1
+      (sym (numbers (e (nth k)) (after_place k lk)).1 ∙ ap nth (eqb-true _ h t) ∙ sym from.2))) ∙ (each k lk).0))
+      (λ t. eq-eqb _ h (ap (λ j. number (e (nth j))) (sym (eqb-true x k t)) ∙ there)))
+      ∙ omega arith)
+      ∙ one_of n x (λ _. 1) px.0
+
+  sum_permuted : (f : Place → ℕ) → below n (λ k. f (e (nth k))) ≡ below n (λ k. f (nth k))
+  sum_permuted f =
+      below_same n (λ k. f (e (nth k))) (λ k. f (nth (number (e (nth k))))) (λ k l. ap f (sym (numbers (e (nth k)) (after_place k l)).1))
+      ∙ below_permuted n (λ k. number (e (nth k))) (λ k. f (nth k)) (λ k l. (numbers (e (nth k)) (after_place k l)).0) after_once
+
+  kept_back : (set : Place → Bool) → Kept set e → (q : Place) → is_place q ≡ true → set (e q) ≡ true → set q ≡ true
+  kept_back set kept q l m =
+      let at_q = numbers q l in
+      let same : one_if (set (nth (number q))) ≡ one_if (set (e (nth (number q)))) =
+      below_all_same n (λ k. one_if (set (nth k))) (λ k. one_if (set (e (nth k)))) (λ k lk. one_if-at_most (set (nth k)) (set (e (nth k))) (kept (nth k))) (sym (sum_permuted (λ z. one_if (set z)))) (number q) at_q.0 in
+      one_if-same (set q) true (ap (λ z. one_if (set z)) (sym at_q.1) ∙ same ∙ ap (λ z. one_if (set (e z))) at_q.1 ∙ ap one_if m)
+
+pub kept_is_equal : KeptIsEqual
+kept_is_equal c set kept q l m = kept_back 54 place_at number_at at_number of_number (map_lists (lists_of c)) (cubes_permute_places c) set kept q l m

@@ -2,12 +2,12 @@
 use Rattle.niss_cube.proofs.Words.{◌≡◌, ℕ, zero, suc, ◌+◌, ◌-◌, ◌%◌, ◌<◌, ◌==◌, refl, sym, ◌∙◌, ap, subst, get_or, length, not, sum, arith}
 use Rattle.niss_cube.proofs.Words.{inl, inr, Turn, Renaming, Place, SameMap, is_corner, is_edge, turned, turn_table, every_turn, every_face}
 use Rattle.niss_cube.proofs.Words.{every_power, eqb-true, eq-eqb, same_truth, Fact, Both, Below, Equal, Alike, Same, When, Numbers, Places}
-use Rattle.niss_cube.proofs.Words.{Turns, Renamings, Holds, holds, CubieTurn, rotated, rotated_back, renaming_table}
-use Rattle.niss_cube.proofs.CubieKinds.{CubieLists, Valid, map_lists, tabulated, tabulated-length, tabulated-at, Kind, Corners, Edges}
-use Rattle.niss_cube.proofs.CubieKinds.{count, facelets, at, home_at, turn_at, homes, turns, place_of, Stand, stand, standing-valid, stands, once}
-use Rattle.niss_cube.proofs.CubieKinds.{low, kind_of, Located, located, map_at, centre_stays}
-use Rattle.niss_cube.proofs.Once.{place_in-is, count_by-times}
-use Rattle.niss_cube.proofs.Sums.{below, one_if, below_same, below_add, below_permuted, sum_by-below}
+use Rattle.niss_cube.proofs.Words.{Turns, Renamings, Holds, holds, rotated, rotated_back, renaming_table, true, is_place}
+use Rattle.niss_cube.proofs.Words.{renamed_turn, renamed_by, Yes, face_by}
+use Rattle.niss_cube.proofs.CubieKinds.{lists_path, CubieLists, Valid, map_lists, tabulated, tabulated-length, tabulated-at, Kind, Corners}
+use Rattle.niss_cube.proofs.CubieKinds.{Edges, count, facelets, at, home_at, turn_at, homes, turns, place_of, Stand, stand, standing-valid}
+use Rattle.niss_cube.proofs.CubieKinds.{stands, once, low, kind_of, Located, located, map_at, centre_stays, map_place}
+use Rattle.niss_cube.proofs.Sums.{place_in-is, count_by-times, below, one_if, below_same, below_add, below_permuted, sum_by-below}
 
 pub data Motion : Type 0 where
   By : Turn → Motion
@@ -22,18 +22,10 @@ abbrev pub back : Motion → Place → Place
 back (By t) q = q
 back (Under v) q = rotated_back v q
 
--- the tables of a turn by the kind
-abbrev from_by : Kind → CubieTurn → ℕ → ℕ
-from_by Corners t i = get_or t.corners i 0
-from_by Edges t i = get_or t.edges i 0
-
-abbrev added_by : Kind → CubieTurn → ℕ → ℕ
-added_by Corners t i = get_or t.twists i 0
-added_by Edges t i = get_or t.flips i 0
-
 -- From which place a cubie comes, which one it becomes and was, and how it is turned: by its home and by its place.
 abbrev pub from_at : Kind → Motion → ℕ → ℕ
-from_at k (By t) i = from_by k (turn_table t.face t.power) i
+from_at Corners (By t) i = get_or (turn_table t.face t.power).corners i 0
+from_at Edges (By t) i = get_or (turn_table t.face t.power).edges i 0
 from_at Corners (Under v) i = get_or (renaming_table v).corners.from i 0
 from_at Edges (Under v) i = get_or (renaming_table v).edges.from i 0
 
@@ -52,7 +44,8 @@ inward_at Corners (Under v) h = get_or (renaming_table v).corners.inward h 0
 inward_at Edges (Under v) h = get_or (renaming_table v).edges.inward h 0
 
 abbrev outward_at : Kind → Motion → ℕ → ℕ
-outward_at k (By t) i = added_by k (turn_table t.face t.power) i
+outward_at Corners (By t) i = get_or (turn_table t.face t.power).twists i 0
+outward_at Edges (By t) i = get_or (turn_table t.face t.power).flips i 0
 outward_at k (Under v) i = facelets k - inward_at k (Under v) (from_at k (Under v) i)
 
 -- what computation shows of the tables: cubies are permuted, as the motion brings their facelets, and whole rounds are added
@@ -116,19 +109,6 @@ table k m =
       whole = t.1;
     }
 
-abbrev ranges : Kind → Fact
-ranges k = Turns λ t. Numbers (count k) λ i. Below (added_by k (turn_table t.face t.power) i) (facelets k)
-
-added_below : (k : Kind) → Holds (ranges k)
-unfolding every_turn every_face every_power
-added_below Corners = holds (ranges Corners) refl
-added_below Edges = holds (ranges Edges) refl
-
-pub table_ranges : (k : Kind) (u : Turn) (t : CubieTurn) → t ≡ turn_table u.face u.power → (i : ℕ) → i < count k → (from_by k t i < count k) × (added_by k t i < facelets k)
-table_ranges k u t e i l =
-    let P : CubieTurn → Type 0 = λ t. (from_by k t i < count k) × (added_by k t i < facelets k) in
-    subst P (sym e) ((table k (By u)).from_below i l, added_below k u i l)
-
 -- remainders of sums
 record Mod (m : ℕ) : Type 0 where
   pub add : (a b c d : ℕ) → a % m ≡ c % m → b % m ≡ d % m → (a + b) % m ≡ (c + d) % m
@@ -146,7 +126,7 @@ below_mod m laws (suc n) f = laws.add (below n (λ i. f i % m)) (f n % m) (below
 
 -- how the cubies of a kind are turned, as a sum over the places
 sum_turns : (k : Kind) (c : CubieLists) → length (turns k c) ≡ count k → sum (turns k c) ≡ below (count k) (turn_at k c)
-sum_turns k c l = sum_by-below (λ x. x) (turns k c) ∙ ap (λ n. below n (turn_at k c)) l
+sum_turns k c l = sum_by-below (λ x. x) 0 (turns k c) ∙ ap (λ n. below n (turn_at k c)) l
 
 -- the cubies after a motion
 abbrev new_home : Kind → Motion → CubieLists → ℕ → ℕ
@@ -275,5 +255,72 @@ module _ (m : Motion) (c : CubieLists) (v : Valid c) where
   ]
 
 -- cubies that were written so
-pub made : (m : Motion) (c d : CubieLists) → Valid c → d ≡ moved m c → Valid d × SameMap (map_lists d) (λ q. out m (map_lists c (back m q)))
-made m c d v e = subst (λ w. Valid w × SameMap (map_lists w) (λ q. out m (map_lists c (back m q)))) (sym e) (moved-valid m c v, moved-map m c v)
+abbrev pub Made : Motion → (c d : CubieLists) → Type 0
+Made m c d = Valid d × SameMap (map_lists d) (λ q. out m (map_lists c (back m q)))
+
+pub made : (m : Motion) (c d : CubieLists) → Valid c → (let w : CubieLists = moved m c in
+    d.corners ≡ w.corners → d.twists ≡ w.twists → d.edges ≡ w.edges → d.flips ≡ w.flips → Made m c d)
+made m c d v p q r s = subst (Made m c) (sym (lists_path d (moved m c) p q r s)) (moved-valid m c v, moved-map m c v)
+
+abbrev pub KeepsPlaces : (Place → Place) → Type 0
+KeepsPlaces e = (q : Place) → is_place q ≡ true → is_place (e q) ≡ true
+
+-- how the cube is renamed for a coordinate on an axis: its map, its turns and its cubies
+pub record IsRenaming (rename : (Place → Place) → Place → Place) (turn : Turn → Turn) (cubies : CubieLists → CubieLists) : Type 0 where
+  pub valid : (c : CubieLists) → Valid c → Valid (cubies c)
+  pub map_is : (c : CubieLists) → Valid c → SameMap (map_lists (cubies c)) (rename (map_lists c))
+  pub same : (d e : Place → Place) → SameMap d e → SameMap (rename d) (rename e)
+  pub turned_is : (t : Turn) (e : Place → Place) → KeepsPlaces e → SameMap (rename (λ q. turned t (e q))) (λ q. turned (turn t) (rename e q))
+  pub onto : (c : CubieLists) → Valid c → (w : CubieLists) × Valid w × SameMap (map_lists c) (rename (map_lists w))
+
+-- a rotation of the whole cube keeps the places, and is taken back
+pub back-place : (v : Renaming) (q : Place) → is_place q ≡ true → is_place (rotated_back v q) ≡ true
+back-place = holds (Renamings λ v. Places λ q. Yes (is_place (rotated_back v q))) refl
+
+pub out-back : (v : Renaming) (q : Place) → is_place q ≡ true → rotated v (rotated_back v q) ≡ q
+out-back = holds (Renamings λ v. Places λ q. Alike (rotated v (rotated_back v q)) q) refl
+
+pub back-out : (v : Renaming) (q : Place) → is_place q ≡ true → rotated_back v (rotated v q) ≡ q
+back-out = holds (Renamings λ v. Places λ q. Alike (rotated_back v (rotated v q)) q) refl
+
+-- under a renaming a turn becomes that of the face to which the face is brought
+renamed-turn : (v : Renaming) (t : Turn) (q : Place) → is_place q ≡ true → rotated v (turned t q) ≡ turned (renamed_turn (face_by v) t) (rotated v q)
+unfolding every_turn every_face every_power
+renamed-turn = holds (Renamings λ v. Turns λ t. Places λ q. Alike (rotated v (turned t q)) (turned (renamed_turn (face_by v) t) (rotated v q))) refl
+
+-- A rotation made three times takes it back: so the cubies that become c under a renaming are c renamed thrice.
+thrice : (v : Renaming) (q : Place) → is_place q ≡ true → rotated v (rotated v (rotated v q)) ≡ rotated_back v q
+thrice = holds (Renamings λ v. Places λ q. Alike (rotated v (rotated v (rotated v q))) (rotated_back v q)) refl
+
+thrice-back : (v : Renaming) (q : Place) → is_place q ≡ true → rotated_back v (rotated_back v (rotated_back v (rotated_back v q))) ≡ q
+thrice-back = holds (Renamings λ v. Places λ q. Alike (rotated_back v (rotated_back v (rotated_back v (rotated_back v q)))) q) refl
+
+renamed_from : (v : Renaming) (c : CubieLists) → Valid c → (w : CubieLists) × Valid w × SameMap (map_lists c) (renamed_by v (map_lists w))
+renamed_from v c h =
+    let m : Motion = Under v in
+    let r : Place → Place = rotated_back v in
+    let d : CubieLists = moved m c in
+    let dh : Valid d = moved-valid m c h in
+    let b : CubieLists = moved m d in
+    let bh : Valid b = moved-valid m d dh in (
+      moved m b,
+      moved-valid m b bh,
+      λ q p.
+          let q₁ = back-place v q p in
+          let q₂ = back-place v (r q) q₁ in
+          sym (ap (rotated v) (moved-map m b bh (r q) q₁ ∙ ap (rotated v) (moved-map m d dh (r (r q)) q₂ ∙ ap (rotated v) (moved-map m c h (r (r (r q))) (back-place v (r (r q)) q₂))))
+          ∙ ap (λ x. rotated v (rotated v (rotated v (rotated v (map_lists c x))))) (thrice-back v q p)
+          ∙ ap (rotated v) (thrice v (map_lists c q) (map_place c h q p)) ∙ out-back v (map_lists c q) (map_place c h q p)),
+    )
+
+pub by_rotation : (v : Renaming) → IsRenaming (renamed_by v) (renamed_turn (face_by v)) (λ c. moved (Under v) c)
+by_rotation v = record {
+  valid = moved-valid (Under v);
+  map_is = moved-map (Under v);
+  same = λ d e s q p. ap (rotated v) (s (rotated_back v q) (back-place v q p));
+  turned_is = λ t e keep q p. renamed-turn v t (e (rotated_back v q)) (keep (rotated_back v q) (back-place v q p));
+  onto = renamed_from v;
+}
+
+pub not_renamed : IsRenaming (λ e. e) (λ t. t) (λ c. c)
+not_renamed = record { valid = λ c v. v; map_is = λ c v q p. refl; same = λ d e s. s; turned_is = λ t e keep q p. refl; onto = λ c v. (c, v, λ q p. refl) }

@@ -1,127 +1,132 @@
--- The orientations of pieces, flips or twists, by their number.
-use Rattle.niss_cube.proofs.Words.{refl, sym, ◌∙◌, ap, subst, arith, inl, inr, ◌≡◌, ℕ, zero, suc, ◌+◌, ◌-◌, ◌*◌, ◌/◌, ◌%◌, ◌<◌, List, []}
-use Rattle.niss_cube.proofs.Words.{◌∷◌, ◌++◌, length, get_or, take, ◌⊎◌, sum, ◌↔◌, ext_get_or, get_or-take, length-take, take-length}
-use Rattle.niss_cube.proofs.Words.{eqb_tells, number, digits_of_number, orientations_of_number, length-append, min, fold-append}
-use Rattle.niss_cube.proofs.Words.{sum_by-append, take-suc, take-append_seam, AreOriented}
-use Rattle.niss_cube.proofs.Numbers.{number_from, Digits, Splits, splits-2, splits-3, number-same, number-below, span}
-use Rattle.niss_cube.proofs.CoordinateValues.{digits_taken}
+-- The orientations of cubies, flips or twists, by their number, and the steps of the loop that writes them.
+use Rattle.niss_cube.proofs.Words.{Fact, Yes, Equal, Below, Both, When, Numbers, Digits, Holds, holds, refl, sym, ◌∙◌, ap, arith, ◌≡◌, ℕ}
+use Rattle.niss_cube.proofs.Words.{◌%◌, ◌<◌, ◌==◌, List, length, get_or, take, sum, ◌↔◌, ext_get_or, eq-eqb, nat_eq, pointwise, same_text}
+use Rattle.niss_cube.proofs.Words.{number, orientations_of_number, AreOriented, append_assoc, suc, ◌+◌, ◌-◌, ◌/◌, [], ◌∷◌, ◌++◌, set, drop}
+use Rattle.niss_cube.proofs.Words.{length-set, sum_by-cons, take-length, digits_of_number, drop-set_at, take-suc-set}
+use Rattle.niss_cube.proofs.CubieKinds.{Kind, Corners, Edges, count, facelets}
+use Rattle.std.proofs.Math.Nat.{mod-add-mod}
 
--- what is used of a base
-pub record Base (b : ℕ) : Type 0 where
-  pub splits : Splits b
-  pub whole : (r : ℕ) → b * (r / b) + r % b ≡ r
-  pub small : (r : ℕ) → r % b < b
-  pub lower : (r s : ℕ) → r < s * b → r / b < s
-  pub completed : (s : ℕ) → (s + (b - s % b) % b) % b ≡ 0
-  pub none : 0 % b ≡ 0
-  pub added : (s d : ℕ) → (d + s) % b ≡ (s % b + d) % b
-  pub last_same : (s x y : ℕ) → x < b → y < b → (s + x) % b ≡ 0 → (s + y) % b ≡ 0 → x ≡ y
+-- how many orientations are free, since the last one follows, and how many numbers they have
+abbrev free : Kind → ℕ
+free Corners = 7
+free Edges = 11
 
-pub base_2 : Base 2
-base_2 = record { splits = splits-2; whole = λ r. omega arith; small = λ r. omega arith; lower = λ r s h. omega arith; completed = λ s. omega arith; none = refl; added = λ s d. omega arith; last_same = λ s x y a b p q. omega arith }
+abbrev pub numbers : Kind → ℕ
+numbers Corners = 2187
+numbers Edges = 2048
 
-pub base_3 : Base 3
-base_3 = record { splits = splits-3; whole = λ r. omega arith; small = λ r. omega arith; lower = λ r s h. omega arith; completed = λ s. omega arith; none = refl; added = λ s d. omega arith; last_same = λ s x y a b p q. omega arith }
+abbrev pub turns_number : Kind → List ℕ → ℕ
+turns_number k xs = number (facelets k) (take (free k) xs)
 
-pub base_of : (b : ℕ) → (b ≡ 2) ⊎ (b ≡ 3) → Base b
-base_of b (inl e) = subst Base (sym e) base_2
-base_of b (inr e) = subst Base (sym e) base_3
+abbrev pub of_number : Kind → ℕ → List ℕ
+of_number k i = orientations_of_number (facelets k) (free k) i
 
-length-more : (xs : List ℕ) (d : ℕ) → length (xs ++ d ∷ []) ≡ suc (length xs)
-length-more xs d = length-append xs (d ∷ []) ∙ omega arith
+-- orientations are those of their number
+abbrev list_fact : Kind → Fact
+list_fact k = Digits (facelets k) (count k) λ xs. When (sum xs % facelets k == 0)
+    (Both (Below (turns_number k xs) (numbers k)) (Yes (pointwise nat_eq xs (of_number k (turns_number k xs)))))
 
-sum-more : (xs : List ℕ) (d : ℕ) → sum (xs ++ d ∷ []) ≡ sum xs + d
-sum-more xs d = sum_by-append (λ x. x) xs (d ∷ []) ∙ omega arith
+all_lists : (k : Kind) → Holds (list_fact k)
+all_lists Corners = holds (list_fact Corners) refl
+all_lists Edges = holds (list_fact Edges) refl
 
-number-more : (b : ℕ) (xs : List ℕ) (a d : ℕ) → number_from b a (xs ++ d ∷ []) ≡ b * number_from b a xs + d
-number-more b xs a d = fold-append (λ n d. b * n + d) a xs (d ∷ [])
+-- each number is that of its orientations, and no cubie is turned at 0
+abbrev number_fact : Kind → Fact
+number_fact k = Both (Numbers (count k) λ j. Equal (get_or (of_number k 0) j 0) 0) (Numbers (numbers k) λ i.
+    Both (Equal (turns_number k (of_number k i)) i) (Both (Equal (length (of_number k i)) (count k)) (Both (Equal (sum (of_number k i) % facelets k) 0)
+    (Numbers (count k) λ j. Below (get_or (of_number k i) j 0) (facelets k)))))
 
-take-more : (xs : List ℕ) (d n : ℕ) → length xs ≡ n → take n (xs ++ d ∷ []) ≡ xs
-take-more xs d n l = ap (λ k. take k (xs ++ d ∷ [])) (sym l) ∙ take-append_seam xs (d ∷ [])
+all_numbers : (k : Kind) → Holds (number_fact k)
+all_numbers Corners = holds (number_fact Corners) refl
+all_numbers Edges = holds (number_fact Edges) refl
 
-digits-more : (b : ℕ) (xs : List ℕ) (d : ℕ) → Digits b xs → d < b → Digits b (xs ++ d ∷ [])
-digits-more b [] d p l = (l, tt)
-digits-more b (x ∷ xs) d p l = (p.0, digits-more b xs d p.1 l)
+pub of_number-are : (k : Kind) (i : ℕ) → i < numbers k → AreOriented (facelets k) (count k) (of_number k i)
+of_number-are k i l =
+    let t = (all_numbers k).1 i l in
+    record { places = t.1.0; range = t.1.1.1; whole = t.1.1.0 }
 
-digits-at : (b : ℕ) (xs : List ℕ) (i : ℕ) → Digits b xs → i < length xs → get_or xs i 0 < b
-digits-at b [] i d l = absurd (omega arith)
-digits-at b (x ∷ xs) zero d l = d.0
-digits-at b (x ∷ xs) (suc i) d l = digits-at b xs i d.1 (omega arith)
+pub of_number-number : (k : Kind) (i : ℕ) → i < numbers k → turns_number k (of_number k i) ≡ i
+of_number-number k i l = ((all_numbers k).1 i l).0
 
-pub digits_of_number-length : (b n i : ℕ) → length (digits_of_number b n i) ≡ n
-digits_of_number-length b zero i = refl
-digits_of_number-length b (suc n) i = length-more (digits_of_number b n (i / b)) (i % b) ∙ ap suc (digits_of_number-length b n (i / b))
+module _ (k : Kind) (xs : List ℕ) (o : AreOriented (facelets k) (count k) xs) where
+  pub turns_number-below : turns_number k xs < numbers k
+  turns_number-below = (all_lists k xs o.places o.range (eq-eqb _ 0 o.whole)).0
 
-digits_of_number-digits : (b : ℕ) → Base b → (n i : ℕ) → Digits b (digits_of_number b n i)
-digits_of_number-digits b base zero i = tt
-digits_of_number-digits b base (suc n) i = digits-more b (digits_of_number b n (i / b)) (i % b) (digits_of_number-digits b base n (i / b)) (base.small i)
-
-digits_of_number-number : (b : ℕ) → Base b → (n i : ℕ) → i < span b n → number_from b 0 (digits_of_number b n i) ≡ i
-digits_of_number-number b base zero i l = omega arith
-digits_of_number-number b base (suc n) i l =
-    number-more b (digits_of_number b n (i / b)) 0 (i % b)
-    ∙ ap (λ k. b * k + i % b) (digits_of_number-number b base n (i / b) (base.lower i (span b n) l))
-    ∙ base.whole i
-
-sum_taken : (n : ℕ) (xs : List ℕ) → length xs ≡ suc n → sum xs ≡ sum (take n xs) + get_or xs n 0
-sum_taken n xs l =
-    ap sum (sym (take-length xs) ∙ ap (λ k. take k xs) l ∙ take-suc xs n 0 (omega arith))
-    ∙ sum-more (take n xs) (get_or xs n 0)
-
--- each number is that of its orientations
-pub orientations_of_number-are : (b : ℕ) → Base b → (n i : ℕ) → AreOriented b (suc n) (orientations_of_number b n i)
-orientations_of_number-are b base n i =
-    let ds : List ℕ = digits_of_number b n i in
-    let last : ℕ = (b - sum ds % b) % b in
-    let l : length (ds ++ last ∷ []) ≡ suc n = length-more ds last ∙ ap suc (digits_of_number-length b n i) in
-    let d : Digits b (ds ++ last ∷ []) = digits-more b ds last (digits_of_number-digits b base n i) (base.small (b - sum ds % b)) in
-    record {
-      places = l;
-      range = λ k h. digits-at b (ds ++ last ∷ []) k d (omega (arith, l, h));
-      whole = ap (λ s. s % b) (sum-more ds last) ∙ base.completed (sum ds);
-    }
-
-pub orientations_of_number-number : (b : ℕ) → Base b → (n i : ℕ) → i < span b n → number b (take n (orientations_of_number b n i)) ≡ i
-orientations_of_number-number b base n i h =
-    let ds : List ℕ = digits_of_number b n i in
-    ap (number b) (take-more ds ((b - sum ds % b) % b) n (digits_of_number-length b n i)) ∙ digits_of_number-number b base n i h
-
-oriented-digits : (b n : ℕ) (xs : List ℕ) → AreOriented b (suc n) xs → Digits b (take n xs)
-oriented-digits b n xs r = digits_taken b n xs (omega (arith, r.places)) (λ i l. r.range i (omega (arith, l, r.places)))
-
-pub oriented-below : (b n : ℕ) (xs : List ℕ) → AreOriented b (suc n) xs → number b (take n xs) < span b n
-oriented-below b n xs r =
-    let P : ℕ → Type 0 = λ m. number b (take n xs) < span b m in
-    let len : length (take n xs) ≡ n = length-take n xs ∙ omega (arith, r.places) in
-    subst P len (number-below b (take n xs) (oriented-digits b n xs r))
+  pub turns_number-is : xs ≡ of_number k (turns_number k xs)
+  turns_number-is = same_text _ _ (sym (all_lists k xs o.places o.range (eq-eqb _ 0 o.whole)).1)
 
 -- orientations are determined by their number
-pub oriented-same : (b : ℕ) → Base b → (n : ℕ) (xs ys : List ℕ) → AreOriented b (suc n) xs → AreOriented b (suc n) ys → number b (take n xs) ≡ number b (take n ys) → xs ≡ ys
-oriented-same b base n xs ys p q e =
-    ext_get_or 0 xs ys (p.places ∙ sym q.places) (λ i li. go i (omega (arith, li, p.places)))
+pub turns_number-same : (k : Kind) (xs ys : List ℕ) → AreOriented (facelets k) (count k) xs → AreOriented (facelets k) (count k) ys → turns_number k xs ≡ turns_number k ys → xs ≡ ys
+turns_number-same k xs ys p q e = turns_number-is k xs p ∙ ap (of_number k) e ∙ sym (turns_number-is k ys q)
+
+-- their number is 0 exactly where no cubie is turned
+pub turns_number-zero : (k : Kind) (xs : List ℕ) → AreOriented (facelets k) (count k) xs → (turns_number k xs ≡ 0) ↔ ((i : ℕ) → i < count k → get_or xs i 0 ≡ 0)
+turns_number-zero k xs o =
+    let home : (i : ℕ) → i < count k → get_or (of_number k 0) i 0 ≡ 0 = (all_numbers k).0 in (
+      (λ e i l. ap (λ ys. get_or ys i 0) (turns_number-is k xs o ∙ ap (of_number k) e) ∙ home i l),
+      (λ h.
+          let some : 0 < numbers k = some_number k in
+          let none : xs ≡ of_number k 0 = ext_get_or 0 xs (of_number k 0) (o.places ∙ sym (of_number-are k 0 some).places) (λ i l. h i (omega (arith, l, o.places)) ∙ sym (home i (omega (arith, l, o.places)))) in
+          ap (turns_number k) none ∙ of_number-number k 0 some),
+    )
   where
-    front : take n xs ≡ take n ys
-    front = number-same b base.splits (take n xs) (take n ys)
-        (length-take n xs ∙ ap (λ k. min n k) (p.places ∙ sym q.places) ∙ sym (length-take n ys)) (oriented-digits b n xs p) (oriented-digits b n ys q) e
+    some_number : (k : Kind) → 0 < numbers k
+    some_number Corners = omega arith
+    some_number Edges = omega arith
 
-    last : get_or xs n 0 ≡ get_or ys n 0
-    last =
-        base.last_same (sum (take n xs)) (get_or xs n 0) (get_or ys n 0) (p.range n (omega arith)) (q.range n (omega arith))
-        (ap (λ s. s % b) (sym (sum_taken n xs p.places)) ∙ p.whole)
-        (ap (λ s. s % b) (ap (λ zs. sum zs + get_or ys n 0) front ∙ sym (sum_taken n ys q.places)) ∙ q.whole)
+-- the last digits of n
+abbrev last_digits : (n met : ℕ) → List ℕ → List ℕ
+last_digits n met xs = take met (drop (n - met) xs)
 
-    go : (i : ℕ) → i < suc n → get_or xs i 0 ≡ get_or ys i 0
-    go i l = elim (eqb_tells i n) [
-      | inl w ↦ ap (λ k. get_or xs k 0) w.1 ∙ last ∙ ap (λ k. get_or ys k 0) (sym w.1)
-      | inr w ↦
-          let li : i < n = grind (arith, w.1) in
-          sym (get_or-take n xs i 0 li) ∙ ap (λ zs. get_or zs i 0) front ∙ get_or-take n ys i 0 li
-    ]
+last_digits-set : (n met : ℕ) (xs : List ℕ) (d : ℕ) → met < n → length xs ≡ suc n → last_digits n (met + 1) (set xs (n - 1 - met) d) ≡ d ∷ last_digits n met xs
+last_digits-set n met xs d h l =
+    ap (λ k. take k (drop (n - (met + 1)) (set xs (n - 1 - met) d))) (let a : met + 1 ≡ suc met = omega arith in a)
+    ∙ ap (take (suc met)) (drop-set_at xs (n - 1 - met) (n - (met + 1)) d (omega arith) (omega arith))
+    ∙ ap (λ k. d ∷ take met (drop k xs)) (let a : (n - 1 - met) + 1 ≡ n - met = omega arith in a)
 
--- orientations have the number 0 exactly where no piece is turned, as in a list where none is
-pub oriented_zero : (b : ℕ) → Base b → (n : ℕ) (xs none : List ℕ) → AreOriented b (suc n) xs → AreOriented b (suc n) none → number b (take n none) ≡ 0 → ((i : ℕ) → i < suc n → get_or none i 0 ≡ 0) →
-    (number b (take n xs) ≡ 0) ↔ ((i : ℕ) → i < suc n → get_or xs i 0 ≡ 0)
-oriented_zero b base n xs none p z number_none at_none = (
-  (λ e i l. ap (λ ys. get_or ys i 0) (oriented-same b base n xs none p z (e ∙ sym number_none)) ∙ at_none i l),
-  (λ h. ap (λ ys. number b (take n ys)) (ext_get_or 0 xs none (p.places ∙ sym z.places) (λ i li. h i (omega (arith, li, p.places)) ∙ sym (at_none i (omega (arith, li, p.places))))) ∙ number_none),
-)
+-- what the loop keeps: the digits still to come and those written are those of the number, and the sum of those written
+pub record Written (b n number met rest total : ℕ) (xs : List ℕ) : Type 0 where
+  pub places : length xs ≡ suc n
+  pub digits : digits_of_number b (n - met) rest ++ last_digits n met xs ≡ digits_of_number b n number
+  pub total_is : sum (last_digits n met xs) % b ≡ total
+
+pub written-step : (b n number met rest total : ℕ) (xs : List ℕ) → met < n → Written b n number met rest total xs → Written b n number (met + 1) (rest / b) ((total + rest % b) % b) (set xs (n - 1 - met) (rest % b))
+written-step b n number met rest total xs h w =
+    let d : ℕ = rest % b in
+    let e : last_digits n (met + 1) (set xs (n - 1 - met) d) ≡ d ∷ last_digits n met xs = last_digits-set n met xs d h w.places in
+    record {
+      places = length-set xs (n - 1 - met) d ∙ w.places;
+      digits =
+          ap (λ ys. digits_of_number b (n - (met + 1)) (rest / b) ++ ys) e
+          ∙ sym (append_assoc (digits_of_number b (n - (met + 1)) (rest / b)) (d ∷ []) (last_digits n met xs))
+          ∙ ap (λ k. digits_of_number b k rest ++ last_digits n met xs) (let a : suc (n - (met + 1)) ≡ n - met = omega arith in a)
+          ∙ w.digits;
+      total_is =
+          ap (λ ys. sum ys % b) e
+          ∙ ap (λ k. k % b) (sum_by-cons (λ x. x) d (last_digits n met xs))
+          ∙ ap (λ k. k % b) (let a : d + sum (last_digits n met xs) ≡ sum (last_digits n met xs) + d = omega arith in a) ∙ sym (mod-add-mod (sum (last_digits n met xs)) b d)
+          ∙ ap (λ k. (k + d) % b) w.total_is;
+    }
+
+set_last : (n : ℕ) (xs : List ℕ) (d : ℕ) → length xs ≡ suc n → set xs n d ≡ take n xs ++ d ∷ []
+set_last n xs d l =
+    sym (take-length (set xs n d))
+    ∙ ap (λ k. take k (set xs n d)) (length-set xs n d ∙ l)
+    ∙ take-suc-set xs n d (omega arith)
+
+pub written-end : (b n number met rest total : ℕ) (xs : List ℕ) → met ≡ n → Written b n number met rest total xs → set xs n ((b - total) % b) ≡ orientations_of_number b n number
+written-end b n number met rest total xs e w =
+    let none : n - met ≡ 0 = omega arith in
+    let all : take n xs ≡ digits_of_number b n number =
+    ap (λ k. take k xs) (sym e)
+    ∙ ap (λ k. take met (drop k xs)) (sym none)
+    ∙ ap (λ k. digits_of_number b k rest ++ last_digits n met xs) (sym none)
+    ∙ w.digits in
+    let total_of : total ≡ sum (digits_of_number b n number) % b =
+    sym w.total_is
+    ∙ ap (λ k. sum (take met (drop k xs)) % b) none
+    ∙ ap (λ k. sum (take k xs) % b) e
+    ∙ ap (λ ys. sum ys % b) all in
+    set_last n xs ((b - total) % b) w.places
+    ∙ ap (λ ys. ys ++ ((b - total) % b) ∷ []) all
+    ∙ ap (λ k. digits_of_number b n number ++ ((b - k) % b) ∷ []) total_of

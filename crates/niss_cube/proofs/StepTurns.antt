@@ -1,9 +1,13 @@
--- The turns of the steps: parts of the turn order, which hold their inverses and keep the start.
+-- The turns of the steps: parts of the turn order, which hold their inverses and keep the start; and the goals, which keep the start too.
 use Rattle.niss_cube.proofs.Words.{Fact, Yes, When, Places, Among, Holds, holds, ◌≡◌, ◌≤◌, refl, ◌∙◌, ap, Bool, true, not, ◌&&◌, ◌||◌, List}
 use Rattle.niss_cube.proofs.Words.{length, Option, None, Some, arith, Contains, map, list_any, option_map_or, Contains-from_any, is_place}
 use Rattle.niss_cube.proofs.Words.{turned, inverse_turn, Axis, Ud, Rl, Fb, Half, Turn, Step, Kept, flip_set, start_of, turns_of, and_left}
 use Rattle.niss_cube.proofs.Words.{and_right, flat_map, filter, same_face, face_order, turn_order, powers_from, is_face_of, InversesOfSteps}
-use Rattle.niss_cube.proofs.Words.{StepTurnsInOrder, StepTurnsAreCounted, same_face_is, same_power, same_power_is}
+use Rattle.niss_cube.proofs.Words.{StepTurnsInOrder, StepTurnsAreCounted, same_face_is, same_power, same_power_is, Turns, every_turn}
+use Rattle.niss_cube.proofs.Words.{every_face, every_power, is_kept, false, list_all, Goal, Domino, Eofb, Eorl, Eoud, DrudEofb, DrrlEofb}
+use Rattle.niss_cube.proofs.Words.{DrudEorl, DrfbEorl, DrrlEoud, DrfbEoud, Eo, DrEofb, DrEorl, DrEoud, steps, goals_of, at_member}
+use Rattle.niss_cube.proofs.Words.{DominoKeepsStart}
+use Rattle.niss_cube.specs.Names.{Edges}
 
 -- the turns of a step from its start
 abbrev pub turns_from : Option Axis → List Turn
@@ -87,3 +91,52 @@ in_order (Some Fb) = refl
 pub step_turns_in_order : StepTurnsInOrder
 unfolding turns_of
 step_turns_in_order s = (part (start_of s), in_order (start_of s))
+
+-- a turn that keeps the flip set of an axis is one of those from it, and each turn is one of those from anywhere
+abbrev pub leaves_fact : Axis → Fact
+leaves_fact a = Turns λ t. When (is_kept (flip_set a) (turned t)) (Yes (is_among (turns_from (Some a)) t))
+
+pub leaves : (a : Axis) → Holds (leaves_fact a)
+unfolding every_turn every_face every_power is_kept
+leaves Ud = holds (leaves_fact Ud) refl
+leaves Rl = holds (leaves_fact Rl) refl
+leaves Fb = holds (leaves_fact Fb) refl
+
+pub anywhere : (t : Turn) → is_among (turns_from None) t ≡ true
+unfolding every_turn every_face every_power
+anywhere = holds (Turns λ t. Yes (is_among (turns_from None) t)) refl
+
+abbrev keeps : Option Axis → Goal → Bool
+keeps _ (Edges _) = true
+keeps (Some Ud) (Domino Ud _) = true
+keeps (Some Rl) (Domino Rl _) = true
+keeps (Some Fb) (Domino Fb _) = true
+keeps _ _ = false
+
+goals_keep : list_all (λ s. list_all (keeps (start_of s)) (goals_of s)) steps ≡ true
+goals_keep = refl
+
+pub member : (s : Step) → Contains steps s
+member Eofb = (0, omega arith, refl)
+member Eorl = (1, omega arith, refl)
+member Eoud = (2, omega arith, refl)
+member DrudEofb = (3, omega arith, refl)
+member DrrlEofb = (4, omega arith, refl)
+member DrudEorl = (5, omega arith, refl)
+member DrfbEorl = (6, omega arith, refl)
+member DrrlEoud = (7, omega arith, refl)
+member DrfbEoud = (8, omega arith, refl)
+member Eo = (9, omega arith, refl)
+member DrEofb = (10, omega arith, refl)
+member DrEorl = (11, omega arith, refl)
+member DrEoud = (12, omega arith, refl)
+
+starts_there : (start : Option Axis) (o a : Axis) → keeps start (Domino o a) ≡ true → start ≡ Some o
+starts_there (Some Ud) Ud a h = refl
+starts_there (Some Rl) Rl a h = refl
+starts_there (Some Fb) Fb a h = refl
+starts_there _ _ _ h = absurd (cc)
+
+pub domino_keeps_start : DominoKeepsStart
+domino_keeps_start s o a m =
+    starts_there (start_of s) o a (at_member (keeps (start_of s)) (goals_of s) (Domino o a) (at_member (λ s. list_all (keeps (start_of s)) (goals_of s)) steps s goals_keep (member s)) m)

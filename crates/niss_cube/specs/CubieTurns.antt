@@ -1,26 +1,16 @@
 -- The turns of the faces by their tables.
-use Rattle.niss_cube.specs.Names.{Face, U, D, R, L, F, B, Power, Quarter, Half, Counter}
+use Rattle.std.specs.Prelude.{◌<◌, [], get_or, EachIndex, slice_index}
+use Rattle.niss_moves.specs.Indices.{face_index, power_index}
+use Rattle.niss_cube.specs.Names.{Face, Power}
 use Rattle.niss_cube.specs.declared.cubie_turns.CubieTurn.{CubieTurn}
-use Rattle.niss_cube.specs.declared.cubie_turns.TheConstants.{UP, UP_HALF, UP_COUNTER, DOWN, DOWN_HALF, DOWN_COUNTER, RIGHT, RIGHT_HALF}
-use Rattle.niss_cube.specs.declared.cubie_turns.TheConstants.{RIGHT_COUNTER, LEFT, LEFT_HALF, LEFT_COUNTER, FRONT, FRONT_HALF}
-use Rattle.niss_cube.specs.declared.cubie_turns.TheConstants.{FRONT_COUNTER, BACK, BACK_HALF, BACK_COUNTER}
+use Rattle.niss_cube.specs.declared.cubie_turns.TheConstants.{CUBIE_TURNS}
 
 abbrev pub turn_table : Face → Power → CubieTurn
-turn_table U Quarter = UP
-turn_table U Half = UP_HALF
-turn_table U Counter = UP_COUNTER
-turn_table D Quarter = DOWN
-turn_table D Half = DOWN_HALF
-turn_table D Counter = DOWN_COUNTER
-turn_table R Quarter = RIGHT
-turn_table R Half = RIGHT_HALF
-turn_table R Counter = RIGHT_COUNTER
-turn_table L Quarter = LEFT
-turn_table L Half = LEFT_HALF
-turn_table L Counter = LEFT_COUNTER
-turn_table F Quarter = FRONT
-turn_table F Half = FRONT_HALF
-turn_table F Counter = FRONT_COUNTER
-turn_table B Quarter = BACK
-turn_table B Half = BACK_HALF
-turn_table B Counter = BACK_COUNTER
+turn_table f p = get_or (get_or CUBIE_TURNS (face_index f) []) (power_index p) record { corners = []; twists = []; edges = []; flips = [] }
+
+-- The cubies come from places that there are, and less than a round is added to their twists and flips.
+pub record IsInRange (t : CubieTurn) : Type 0 where
+  pub corners_below : EachIndex t.corners (λ k. slice_index t.corners k < 8)
+  pub twists_below : EachIndex t.twists (λ k. slice_index t.twists k < 3)
+  pub edges_below : EachIndex t.edges (λ k. slice_index t.edges k < 12)
+  pub flips_below : EachIndex t.flips (λ k. slice_index t.flips k < 2)

@@ -1,6 +1,6 @@
 //! Turns of the faces on cubies.
-ghost use Rattle.std.specs.Prelude.{◌≡◌, ◌<◌, ◌+◌, ◌%◌, length, EachIndex, slice_index};
-ghost use Rattle.niss_cube.specs.CubieTurns.{turn_table};
+ghost use Rattle.std.specs.Prelude.{◌≡◌, ◌<◌, ◌≤◌, ◌+◌, ◌%◌, EachIndex, slice_index};
+ghost use Rattle.niss_cube.specs.CubieTurns.{turn_table, IsInRange};
 
 use niss_moves::Turn;
 
@@ -13,237 +13,126 @@ pub struct CubieTurn {
     pub flips: [u8; 12],
 }
 
-pub const UP: CubieTurn = CubieTurn {
+// From which place the cubie of each place comes by two quarters.
+macro_rules! twice {
+    ($from:expr; $($place:literal)*) => { [$($from[$from[$place] as usize]),*] };
+}
+
+// The same by three.
+macro_rules! thrice {
+    ($from:expr; $($place:literal)*) => { [$($from[$from[$from[$place] as usize] as usize]),*] };
+}
+
+// The quarter, the half and the counter turn of a face. Two quarters add nothing to a twist or flip, so three add what one does.
+macro_rules! powers {
+    (corners: $corners:expr, twists: $twists:expr, edges: $edges:expr, flips: $flips:expr,) => {
+        [
+            CubieTurn {
+                corners: $corners,
+                twists: $twists,
+                edges: $edges,
+                flips: $flips,
+            },
+            CubieTurn {
+                corners: twice!($corners; 0 1 2 3 4 5 6 7),
+                twists: [0; 8],
+                edges: twice!($edges; 0 1 2 3 4 5 6 7 8 9 10 11),
+                flips: [0; 12],
+            },
+            CubieTurn {
+                corners: thrice!($corners; 0 1 2 3 4 5 6 7),
+                twists: $twists,
+                edges: thrice!($edges; 0 1 2 3 4 5 6 7 8 9 10 11),
+                flips: $flips,
+            },
+        ]
+    };
+}
+
+const UP: [CubieTurn; 3] = powers! {
     corners: [3, 0, 1, 2, 4, 5, 6, 7],
     twists: [0; 8],
     edges: [3, 0, 1, 2, 4, 5, 6, 7, 8, 9, 10, 11],
     flips: [0; 12],
 };
 
-pub const UP_HALF: CubieTurn = CubieTurn {
-    corners: [2, 3, 0, 1, 4, 5, 6, 7],
-    twists: [0; 8],
-    edges: [2, 3, 0, 1, 4, 5, 6, 7, 8, 9, 10, 11],
-    flips: [0; 12],
-};
-
-pub const UP_COUNTER: CubieTurn = CubieTurn {
-    corners: [1, 2, 3, 0, 4, 5, 6, 7],
-    twists: [0; 8],
-    edges: [1, 2, 3, 0, 4, 5, 6, 7, 8, 9, 10, 11],
-    flips: [0; 12],
-};
-
-pub const DOWN: CubieTurn = CubieTurn {
+const DOWN: [CubieTurn; 3] = powers! {
     corners: [0, 1, 2, 3, 5, 6, 7, 4],
     twists: [0; 8],
     edges: [0, 1, 2, 3, 5, 6, 7, 4, 8, 9, 10, 11],
     flips: [0; 12],
 };
 
-pub const DOWN_HALF: CubieTurn = CubieTurn {
-    corners: [0, 1, 2, 3, 6, 7, 4, 5],
-    twists: [0; 8],
-    edges: [0, 1, 2, 3, 6, 7, 4, 5, 8, 9, 10, 11],
-    flips: [0; 12],
-};
-
-pub const DOWN_COUNTER: CubieTurn = CubieTurn {
-    corners: [0, 1, 2, 3, 7, 4, 5, 6],
-    twists: [0; 8],
-    edges: [0, 1, 2, 3, 7, 4, 5, 6, 8, 9, 10, 11],
-    flips: [0; 12],
-};
-
-/// What a quarter adds to the twists, either way.
-const RIGHT_TWISTS: [u8; 8] = [2, 0, 0, 1, 1, 0, 0, 2];
-
-pub const RIGHT: CubieTurn = CubieTurn {
+const RIGHT: [CubieTurn; 3] = powers! {
     corners: [4, 1, 2, 0, 7, 5, 6, 3],
-    twists: RIGHT_TWISTS,
+    twists: [2, 0, 0, 1, 1, 0, 0, 2],
     edges: [8, 1, 2, 3, 11, 5, 6, 7, 4, 9, 10, 0],
     flips: [0; 12],
 };
 
-pub const RIGHT_HALF: CubieTurn = CubieTurn {
-    corners: [7, 1, 2, 4, 3, 5, 6, 0],
-    twists: [0; 8],
-    edges: [4, 1, 2, 3, 0, 5, 6, 7, 11, 9, 10, 8],
-    flips: [0; 12],
-};
-
-pub const RIGHT_COUNTER: CubieTurn = CubieTurn {
-    corners: [3, 1, 2, 7, 0, 5, 6, 4],
-    twists: RIGHT_TWISTS,
-    edges: [11, 1, 2, 3, 8, 5, 6, 7, 0, 9, 10, 4],
-    flips: [0; 12],
-};
-
-/// What a quarter adds to the twists, either way.
-const LEFT_TWISTS: [u8; 8] = [0, 1, 2, 0, 0, 2, 1, 0];
-
-pub const LEFT: CubieTurn = CubieTurn {
+const LEFT: [CubieTurn; 3] = powers! {
     corners: [0, 2, 6, 3, 4, 1, 5, 7],
-    twists: LEFT_TWISTS,
+    twists: [0, 1, 2, 0, 0, 2, 1, 0],
     edges: [0, 1, 10, 3, 4, 5, 9, 7, 8, 2, 6, 11],
     flips: [0; 12],
 };
 
-pub const LEFT_HALF: CubieTurn = CubieTurn {
-    corners: [0, 6, 5, 3, 4, 2, 1, 7],
-    twists: [0; 8],
-    edges: [0, 1, 6, 3, 4, 5, 2, 7, 8, 10, 9, 11],
-    flips: [0; 12],
-};
-
-pub const LEFT_COUNTER: CubieTurn = CubieTurn {
-    corners: [0, 5, 1, 3, 4, 6, 2, 7],
-    twists: LEFT_TWISTS,
-    edges: [0, 1, 9, 3, 4, 5, 10, 7, 8, 6, 2, 11],
-    flips: [0; 12],
-};
-
-/// What a quarter adds to the twists, either way.
-const FRONT_TWISTS: [u8; 8] = [1, 2, 0, 0, 2, 1, 0, 0];
-
-/// What a quarter adds to the flips, either way.
-const FRONT_FLIPS: [u8; 12] = [0, 1, 0, 0, 0, 1, 0, 0, 1, 1, 0, 0];
-
-pub const FRONT: CubieTurn = CubieTurn {
+const FRONT: [CubieTurn; 3] = powers! {
     corners: [1, 5, 2, 3, 0, 4, 6, 7],
-    twists: FRONT_TWISTS,
+    twists: [1, 2, 0, 0, 2, 1, 0, 0],
     edges: [0, 9, 2, 3, 4, 8, 6, 7, 1, 5, 10, 11],
-    flips: FRONT_FLIPS,
+    flips: [0, 1, 0, 0, 0, 1, 0, 0, 1, 1, 0, 0],
 };
 
-pub const FRONT_HALF: CubieTurn = CubieTurn {
-    corners: [5, 4, 2, 3, 1, 0, 6, 7],
-    twists: [0; 8],
-    edges: [0, 5, 2, 3, 4, 1, 6, 7, 9, 8, 10, 11],
-    flips: [0; 12],
-};
-
-pub const FRONT_COUNTER: CubieTurn = CubieTurn {
-    corners: [4, 0, 2, 3, 5, 1, 6, 7],
-    twists: FRONT_TWISTS,
-    edges: [0, 8, 2, 3, 4, 9, 6, 7, 5, 1, 10, 11],
-    flips: FRONT_FLIPS,
-};
-
-/// What a quarter adds to the twists, either way.
-const BACK_TWISTS: [u8; 8] = [0, 0, 1, 2, 0, 0, 2, 1];
-
-/// What a quarter adds to the flips, either way.
-const BACK_FLIPS: [u8; 12] = [0, 0, 0, 1, 0, 0, 0, 1, 0, 0, 1, 1];
-
-pub const BACK: CubieTurn = CubieTurn {
+const BACK: [CubieTurn; 3] = powers! {
     corners: [0, 1, 3, 7, 4, 5, 2, 6],
-    twists: BACK_TWISTS,
+    twists: [0, 0, 1, 2, 0, 0, 2, 1],
     edges: [0, 1, 2, 11, 4, 5, 6, 10, 8, 9, 3, 7],
-    flips: BACK_FLIPS,
-};
-
-pub const BACK_HALF: CubieTurn = CubieTurn {
-    corners: [0, 1, 7, 6, 4, 5, 3, 2],
-    twists: [0; 8],
-    edges: [0, 1, 2, 7, 4, 5, 6, 3, 8, 9, 11, 10],
-    flips: [0; 12],
-};
-
-pub const BACK_COUNTER: CubieTurn = CubieTurn {
-    corners: [0, 1, 6, 2, 4, 5, 7, 3],
-    twists: BACK_TWISTS,
-    edges: [0, 1, 2, 10, 4, 5, 6, 11, 8, 9, 7, 3],
-    flips: BACK_FLIPS,
+    flips: [0, 0, 0, 1, 0, 0, 0, 1, 0, 0, 1, 1],
 };
 
 /// The turns, by face (U, D, R, L, F, B) and by power (quarter, half, counter).
-static CUBIE_TURNS: [[CubieTurn; 3]; 6] = [
-    [UP, UP_HALF, UP_COUNTER],
-    [DOWN, DOWN_HALF, DOWN_COUNTER],
-    [RIGHT, RIGHT_HALF, RIGHT_COUNTER],
-    [LEFT, LEFT_HALF, LEFT_COUNTER],
-    [FRONT, FRONT_HALF, FRONT_COUNTER],
-    [BACK, BACK_HALF, BACK_COUNTER],
-];
-
-/// The remainders by 3 of the sums of two twists.
-const TWIST_SUMS: [u8; 5] = [0, 1, 2, 0, 1];
+static CUBIE_TURNS: [[CubieTurn; 3]; 6] = [UP, DOWN, RIGHT, LEFT, FRONT, BACK];
 
 /// The table of a turn.
-fn cubie_turn(turn: Turn) -> &'static CubieTurn
-    ensures { result.now ≡ turn_table turn.face turn.power }
+pub fn cubie_turn(turn: Turn) -> &'static CubieTurn
+    ensures value { result.now ≡ turn_table turn.face turn.power }
+    ensures in_range { IsInRange result.now }
 {
     &CUBIE_TURNS[turn.face as usize][turn.power as usize]
 }
 
-/// Writes which cubie stands at each place, after each came from the place that the table names.
-fn turn_homes(homes: &[u8], from: &[u8], new: &mut [u8])
-    requires from_len { length from.now ≡ length new.old }
-    requires from_range { EachIndex from.now (λ k. slice_index from.now k < length homes.now) }
-    ensures { EachIndex new.new (λ k. slice_index new.new k
+/// Which cubie stands at each place, after each came from the place that `from` names.
+pub fn turn_homes<const PLACES: usize>(homes: &[u8; PLACES], from: &[u8; PLACES]) -> [u8; PLACES]
+    requires { EachIndex from.now (λ k. slice_index from.now k < PLACES) }
+    ensures { EachIndex result (λ k. slice_index result k
         ≡ slice_index homes.now (slice_index from.now k)) }
 {
-    for (place, home) in new.iter_mut().enumerate() {
-        *home = homes[from[place] as usize];
-    }
-}
-
-/// Which corner stands at each place after a turn.
-pub fn turn_corners(corners: &[u8; 8], turn: Turn) -> [u8; 8]
-    ensures { EachIndex result (λ k. slice_index result k
-        ≡ slice_index corners.now (slice_index (turn_table turn.face turn.power).corners k)) }
-{
-    let mut turned = [0; 8];
-    turn_homes(corners, &cubie_turn(turn).corners, &mut turned);
-    turned
-}
-
-/// Which edge stands at each place after a turn.
-pub fn turn_edges(edges: &[u8; 12], turn: Turn) -> [u8; 12]
-    ensures { EachIndex result (λ k. slice_index result k
-        ≡ slice_index edges.now (slice_index (turn_table turn.face turn.power).edges k)) }
-{
-    let mut turned = [0; 12];
-    turn_homes(edges, &cubie_turn(turn).edges, &mut turned);
-    turned
-}
-
-/// The sum of two twists.
-fn twist_sum(twist: u8, added: u8) -> u8
-    requires twist { twist < 3 }
-    requires added { added < 3 }
-    ensures { result ≡ (twist + added) % 3 }
-{
-    TWIST_SUMS[(twist + added) as usize]
-}
-
-/// How the corner at each place is twisted after a turn.
-pub fn turn_twists(twists: &[u8; 8], turn: Turn) -> [u8; 8]
-    requires { EachIndex twists.now (λ k. slice_index twists.now k < 3) }
-    ensures { let t = turn_table turn.face turn.power in
-        EachIndex result (λ k. slice_index result k
-        ≡ (slice_index twists.now (slice_index t.corners k) + slice_index t.twists k) % 3) }
-{
-    let table = cubie_turn(turn);
-    let mut turned = [0; 8];
-    for (place, twist) in turned.iter_mut().enumerate() {
-        *twist = twist_sum(twists[table.corners[place] as usize], table.twists[place]);
+    let mut turned = [0; PLACES];
+    for place in 0..PLACES {
+        turned[place] = homes[from[place] as usize];
     }
     turned
 }
 
-/// How the edge at each place is flipped after a turn.
-pub fn turn_flips(flips: &[u8; 12], turn: Turn) -> [u8; 12]
-    requires { EachIndex flips.now (λ k. slice_index flips.now k < 2) }
-    ensures { let t = turn_table turn.face turn.power in
-        EachIndex result (λ k. slice_index result k
-        ≡ (slice_index flips.now (slice_index t.edges k) + slice_index t.flips k) % 2) }
+/// How the cubie at each place is twisted or flipped, after each came from the place that `from` names and was turned by
+/// what `added` names.
+pub fn turn_orientations<const PLACES: usize, const FACELETS: u8>(
+    orientations: &[u8; PLACES],
+    from: &[u8; PLACES],
+    added: &[u8; PLACES],
+) -> [u8; PLACES]
+    requires facelets { FACELETS ≤ 3 }
+    requires from_range { EachIndex from.now (λ k. slice_index from.now k < PLACES) }
+    requires added_range { EachIndex added.now (λ k. slice_index added.now k < FACELETS) }
+    requires orientation_range { EachIndex orientations.now (λ k.
+        slice_index orientations.now k < FACELETS) }
+    ensures { EachIndex result (λ k. slice_index result k
+        ≡ (slice_index orientations.now (slice_index from.now k) + slice_index added.now k) % FACELETS) }
 {
-    let table = cubie_turn(turn);
-    let mut turned = [0; 12];
-    for (place, flip) in turned.iter_mut().enumerate() {
-        *flip = (flips[table.edges[place] as usize] + table.flips[place]) % 2;
+    let mut turned = [0; PLACES];
+    for place in 0..PLACES {
+        turned[place] = (orientations[from[place] as usize] + added[place]) % FACELETS;
     }
     turned
 }

@@ -40,6 +40,7 @@ pub fn slice_number(edges: &[u8; 12]) -> u16
 }
 
 /// At a place with a number of places below, the choices that leave the last of the wanted edges to it.
+#[tactic(auto, using(crate::proofs::SliceEdges::choices_with_are))]
 fn choices_with(below: usize, wanted: usize) -> u16
     requires below { below < 12 }
     requires wanted { wanted ≤ 4 }

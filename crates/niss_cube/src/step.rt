@@ -61,35 +61,15 @@ const EDGES_ON_RL: Goal = Goal::Edges(Axis::Rl);
 
 const EDGES_ON_FB: Goal = Goal::Edges(Axis::Fb);
 
-const UD_FROM_FB: Goal = Goal::Domino {
-    edges: Axis::Fb,
-    axis: Axis::Ud,
-};
-
-const RL_FROM_FB: Goal = Goal::Domino {
-    edges: Axis::Fb,
-    axis: Axis::Rl,
-};
-
-const UD_FROM_RL: Goal = Goal::Domino {
-    edges: Axis::Rl,
-    axis: Axis::Ud,
-};
-
-const FB_FROM_RL: Goal = Goal::Domino {
-    edges: Axis::Rl,
-    axis: Axis::Fb,
-};
-
-const RL_FROM_UD: Goal = Goal::Domino {
-    edges: Axis::Ud,
-    axis: Axis::Rl,
-};
-
-const FB_FROM_UD: Goal = Goal::Domino {
-    edges: Axis::Ud,
-    axis: Axis::Fb,
-};
+// A domino reduction: on the first axis, of a cube whose edges are oriented on the second.
+macro_rules! dr {
+    ($axis:ident, $edges:ident) => {
+        Goal::Domino {
+            edges: Axis::$edges,
+            axis: Axis::$axis,
+        }
+    };
+}
 
 // The turns of the faces by the powers after each.
 macro_rules! turns {
@@ -134,16 +114,16 @@ impl Step {
             Step::Eofb => ("eofb", None, &[EDGES_ON_FB]),
             Step::Eorl => ("eorl", None, &[EDGES_ON_RL]),
             Step::Eoud => ("eoud", None, &[EDGES_ON_UD]),
-            Step::DrudEofb => ("drud-eofb", Some(Axis::Fb), &[UD_FROM_FB]),
-            Step::DrrlEofb => ("drrl-eofb", Some(Axis::Fb), &[RL_FROM_FB]),
-            Step::DrudEorl => ("drud-eorl", Some(Axis::Rl), &[UD_FROM_RL]),
-            Step::DrfbEorl => ("drfb-eorl", Some(Axis::Rl), &[FB_FROM_RL]),
-            Step::DrrlEoud => ("drrl-eoud", Some(Axis::Ud), &[RL_FROM_UD]),
-            Step::DrfbEoud => ("drfb-eoud", Some(Axis::Ud), &[FB_FROM_UD]),
+            Step::DrudEofb => ("drud-eofb", Some(Axis::Fb), &[dr!(Ud, Fb)]),
+            Step::DrrlEofb => ("drrl-eofb", Some(Axis::Fb), &[dr!(Rl, Fb)]),
+            Step::DrudEorl => ("drud-eorl", Some(Axis::Rl), &[dr!(Ud, Rl)]),
+            Step::DrfbEorl => ("drfb-eorl", Some(Axis::Rl), &[dr!(Fb, Rl)]),
+            Step::DrrlEoud => ("drrl-eoud", Some(Axis::Ud), &[dr!(Rl, Ud)]),
+            Step::DrfbEoud => ("drfb-eoud", Some(Axis::Ud), &[dr!(Fb, Ud)]),
             Step::Eo => ("eo", None, &[EDGES_ON_FB, EDGES_ON_RL, EDGES_ON_UD]),
-            Step::DrEofb => ("dr-eofb", Some(Axis::Fb), &[UD_FROM_FB, RL_FROM_FB]),
-            Step::DrEorl => ("dr-eorl", Some(Axis::Rl), &[UD_FROM_RL, FB_FROM_RL]),
-            Step::DrEoud => ("dr-eoud", Some(Axis::Ud), &[RL_FROM_UD, FB_FROM_UD]),
+            Step::DrEofb => ("dr-eofb", Some(Axis::Fb), &[dr!(Ud, Fb), dr!(Rl, Fb)]),
+            Step::DrEorl => ("dr-eorl", Some(Axis::Rl), &[dr!(Ud, Rl), dr!(Fb, Rl)]),
+            Step::DrEoud => ("dr-eoud", Some(Axis::Ud), &[dr!(Rl, Ud), dr!(Fb, Ud)]),
         }
     }
 

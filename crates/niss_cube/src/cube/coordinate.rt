@@ -8,7 +8,7 @@ ghost use Rattle.niss_cube.specs.Coordinates.{count_of, face_for, number_of, ren
 ghost use Rattle.niss_cube.specs.NumberAfter.{number_after};
 
 use super::{CORNERS_HOME, Cube, EDGES_HOME};
-use crate::cubie_turns::{turn_edges, turn_flips, turn_twists};
+use crate::cubie_turns::{cubie_turn, turn_homes, turn_orientations};
 use crate::digits::{number_from_digits, write_orientations};
 use crate::renaming::Renaming;
 use crate::slice_places::{edges_with_slice, slice_number};
@@ -117,10 +117,17 @@ impl Coordinate {
     pub(crate) fn standard_number_after(self, cube: &Cube, turn: Turn) -> u16
         ensures { result ≡ number_of self (standard_axis self) (λ q. turned turn (map_of cube.now q)) }
     {
+        let table = cubie_turn(turn);
         match self {
-            Coordinate::Flip => number_from_digits(2, &turn_flips(&cube.flips, turn)[..11]),
-            Coordinate::Twist => number_from_digits(3, &turn_twists(&cube.twists, turn)[..7]),
-            Coordinate::Slice => slice_number(&turn_edges(&cube.edges, turn)),
+            Coordinate::Flip => {
+                let flips = turn_orientations::<12, 2>(&cube.flips, &table.edges, &table.flips);
+                number_from_digits(2, &flips[..11])
+            }
+            Coordinate::Twist => {
+                let twists = turn_orientations::<8, 3>(&cube.twists, &table.corners, &table.twists);
+                number_from_digits(3, &twists[..7])
+            }
+            Coordinate::Slice => slice_number(&turn_homes(&cube.edges, &table.edges)),
         }
     }
 

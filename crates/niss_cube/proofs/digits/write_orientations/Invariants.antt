@@ -1,4 +1,4 @@
-use Rattle.niss_cube.proofs.WrittenOrientations.{Written}
+use Rattle.niss_cube.proofs.Orientations.{Written}
 use Rattle.niss_cube.proofs.digits.write_orientations.Given as goal
 
 abbrev pub invariant-loop-met : goal.invariant-loop-met

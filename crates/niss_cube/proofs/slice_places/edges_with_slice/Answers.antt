@@ -1,5 +1,5 @@
 use Rattle.niss_cube.proofs.Words.{refl, arith, edges_of_number, append-nil}
-use Rattle.niss_cube.proofs.PlacedEdges.{placed-slice, placed-free, placed-end, wanted-below}
+use Rattle.niss_cube.proofs.SliceEdges.{placed-slice, placed-free, placed-end, wanted-below}
 use Rattle.niss_cube.proofs.slice_places.edges_with_slice.Goals.{then-rest-with, else-rest-with}
 use Rattle.niss_cube.proofs.slice_places.edges_with_slice.Goals as goal
 

@@ -1,5 +1,5 @@
 use Rattle.niss_cube.proofs.Words.{◌-◌}
-use Rattle.niss_cube.proofs.PlacedEdges.{Placed}
+use Rattle.niss_cube.proofs.SliceEdges.{Placed}
 use Rattle.niss_cube.proofs.slice_places.edges_with_slice.Given as goal
 
 abbrev pub invariant-loop-met : goal.invariant-loop-met

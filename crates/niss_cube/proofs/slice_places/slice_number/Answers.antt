@@ -1,6 +1,5 @@
 use Rattle.niss_cube.proofs.Words.{refl, arith}
-use Rattle.niss_cube.proofs.CoordinateValues.{slice-at_most}
-use Rattle.niss_cube.proofs.SliceSteps.{counted_yes, counted_no}
+use Rattle.niss_cube.proofs.SliceEdges.{slice-at_most, counted_yes, counted_no}
 use Rattle.niss_cube.proofs.slice_places.slice_number.Goals.{then-edges-place-ge8, else-edges-place-ge8}
 use Rattle.niss_cube.proofs.slice_places.slice_number.Goals as goal
 

@@ -1,15 +1,12 @@
 use Rattle.niss_cube.proofs.Words.{Option, Some, None, ◌≡◌, ◌∙◌, ap, subst, rules, arith, length, ◌≢◌, IfNone, IfSome, MatchOption}
 use Rattle.niss_cube.proofs.Words.{slice_index_or, steps, name_of}
-use Rattle.niss_cube.proofs.StepGoals.{member}
+use Rattle.std.proofs.lemmas.Option.{IfSome_then}
+use Rattle.niss_cube.proofs.StepTurns.{member}
 use Rattle.niss_cube.proofs.step.Step.from_name.Goals as goal
 
 where_none : {X W Q : Type 0} (E : X → Type 0) (r : Option X) → MatchOption r W E → (W → Q) → IfNone r Q
 where_none E (Some x) m h = tt
 where_none E None m h = h m
-
-some_map : {X : Type 0} (P Q : X → Type 0) (o : Option X) → ((x : X) → P x → Q x) → IfSome o P → IfSome o Q
-some_map P Q (Some x) f h = f x h
-some_map P Q None f h = h
 
 pub returns-clause-unknown : goal.returns-clause-unknown
 returns-clause-unknown c =
@@ -21,4 +18,4 @@ returns-clause-unknown c =
     let m = member s in
     let here : u.at m.0 ≡ Some s =
     q.2.3 m.0 ∙ i.2 m.0 s (omega (arith, m.1, i.1 (q.2.0 ∙ w.0), ap length r)) ∙ ap (λ xs. Some (slice_index_or xs m.0 s)) r ∙ ap Some m.2 in
-    subst (λ o. IfSome o (λ s. name_of s ≢ c.args.name.now)) here (some_map _ (λ s. name_of s ≢ c.args.name.now) (u.at m.0) (λ s called. search rules) (w.1 (search rules) m.0)))
+    subst (λ o. IfSome o (λ s. name_of s ≢ c.args.name.now)) here (IfSome_then (u.at m.0) {Q = λ s. name_of s ≢ c.args.name.now} (w.1 (search rules) m.0) (λ s called. search rules)))

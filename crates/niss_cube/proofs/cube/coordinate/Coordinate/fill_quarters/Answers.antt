@@ -1,5 +1,5 @@
 use Rattle.niss_cube.proofs.Words.{arith, IsQuarter}
-use Rattle.niss_cube.proofs.TableSteps.{rows-step, quarter-row}
+use Rattle.niss_cube.proofs.CoordinateLaws.{rows-step, quarter-row}
 use Rattle.niss_cube.proofs.cube.coordinate.Coordinate.fill_quarters.Goals as goal
 
 pub loop-number-preserved : goal.loop-number-preserved

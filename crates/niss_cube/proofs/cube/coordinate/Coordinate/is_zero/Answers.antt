@@ -1,5 +1,5 @@
 use Rattle.niss_cube.proofs.Words.{map_of}
-use Rattle.niss_cube.proofs.KeptSets.{zero_test}
+use Rattle.niss_cube.proofs.Codes.{zero_test}
 use Rattle.niss_cube.proofs.cube.coordinate.Coordinate.is_zero.Goals as goal
 
 pub returns-clause-value : goal.returns-clause-value

@@ -1,5 +1,5 @@
 use Rattle.niss_cube.proofs.Words.{arith}
-use Rattle.niss_cube.proofs.TableSteps.{once-below, twice-below, numbers_after-are}
+use Rattle.niss_cube.proofs.CoordinateLaws.{once-below, twice-below, numbers_after-are}
 use Rattle.niss_cube.proofs.cube.coordinate.Coordinate.numbers_after.Goals as goal
 
 pub entry-twice-requires : goal.entry-twice-requires

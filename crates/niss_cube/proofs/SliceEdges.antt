@@ -1,0 +1,230 @@
+-- The edges of a slice and their number, which determines their places, also after a turn; and the steps of the loops over them.
+use Rattle.niss_cube.proofs.Words.{Fact, Equal, Below, Same, Both, When, Numbers, Truths, Holds, holds, refl, sym, ◌∙◌, ap, arith, ◌≡◌, ℕ}
+use Rattle.niss_cube.proofs.Words.{◌-◌, ◌<◌, List, length, get_or, map, reverse, Bool, false, nat_le, ◌==◌, sum_by, get_or-reverse}
+use Rattle.niss_cube.proofs.Words.{length-reverse, length-map, get_or-map, ext_get_or, eq-eqb, rank, edges_down, reverse-reverse, count_by}
+use Rattle.niss_cube.proofs.Words.{Turn, turn_table, edges_of_number, ArePlaced, suc, ◌+◌, ◌≤◌, [], ◌∷◌, drop, le-leb, drop-cons, choose}
+use Rattle.niss_cube.proofs.Words.{length-drop, zero, CHOICES, choices_with, lt-leb, Yes, leb-true, nat_lt, subst, ◌++◌, set, append_assoc}
+use Rattle.niss_cube.proofs.Words.{length-set, drop-set_at, reverse-append, lt-ltb, le-ltb}
+use Rattle.niss_cube.proofs.CubieKinds.{CubieLists, Valid, Edges, once, tabulated, tabulated-length, tabulated-at, brought}
+use Rattle.niss_cube.proofs.Sums.{below, one_if, below_same, below_permuted, sum_by-below}
+use Rattle.niss_cube.proofs.MovedCubies.{By, table}
+
+-- each edge stands at one place
+pub edge-once : (c : CubieLists) → Valid c → (h : ℕ) → h < 12 → below 12 (λ i. one_if (get_or c.edges i 0 == h)) ≡ 1
+edge-once c v h l = ap (λ n. below n (λ i. one_if (get_or c.edges i 0 == h))) (sym v.edges_placed.places) ∙ once Edges c v h l
+
+down-once : (h : ℕ) → h < 12 → below 12 (λ k. one_if (11 - k == h)) ≡ 1
+down-once = holds (Numbers 12 λ h. Equal (below 12 (λ k. one_if (11 - k == h))) 1) refl
+
+-- which places, from the last down, hold an edge of the slice
+abbrev pub slice_occupied : List ℕ → List Bool
+slice_occupied edges = reverse (map (nat_le 8) edges)
+
+pub slice_occupied-length : (edges : List ℕ) → length edges ≡ 12 → length (slice_occupied edges) ≡ 12
+slice_occupied-length edges l = length-reverse (map (nat_le 8) edges) ∙ length-map edges (nat_le 8) ∙ l
+
+pub slice_occupied-at : (edges : List ℕ) → length edges ≡ 12 → (k : ℕ) → k < 12 → get_or (slice_occupied edges) k false ≡ nat_le 8 (get_or edges (11 - k) 0)
+slice_occupied-at edges l k lk =
+    let m : length (map (nat_le 8) edges) ≡ 12 = length-map edges (nat_le 8) ∙ l in
+    get_or-reverse (map (nat_le 8) edges) k false (omega arith)
+    ∙ ap (λ n. get_or (map (nat_le 8) edges) (n - 1 - k) false) m
+    ∙ get_or-map (nat_le 8) edges (11 - k) 0 false (omega arith)
+
+-- how many places are occupied, which are four
+abbrev filled : List Bool → ℕ
+filled os = sum_by one_if os
+
+slice_occupied-filled : (c : CubieLists) → Valid c → filled (slice_occupied c.edges) ≡ 4
+slice_occupied-filled c v =
+    sum_by-below one_if false (slice_occupied c.edges)
+    ∙ ap (λ n. below n (λ k. one_if (get_or (slice_occupied c.edges) k false))) (slice_occupied-length c.edges v.edges_placed.places)
+    ∙ below_same 12 (λ k. one_if (get_or (slice_occupied c.edges) k false)) (λ k. one_if (nat_le 8 (get_or c.edges (11 - k) 0))) (λ k l. ap one_if (slice_occupied-at c.edges v.edges_placed.places k l))
+    ∙ below_permuted 12 (λ k. 11 - k) (λ k. one_if (nat_le 8 (get_or c.edges k 0))) (λ k l. omega arith) down-once
+    ∙ below_permuted 12 (λ k. get_or c.edges k 0) (λ h. one_if (nat_le 8 h)) v.edges_placed.range (edge-once c v)
+
+-- the number of any places, and that of four, which determines them
+all_occupied : Holds (Truths 12 λ os. Both (Below (rank os 4) 496) (When (filled os == 4)
+    (Both (Below (rank os 4) 495) (Numbers 12 λ k. Same (get_or os k false) (get_or (map (nat_le 8) (edges_down 12 4 (rank os 4))) k false)))))
+unfolding edges_down
+all_occupied = holds (Truths 12 λ os. Both (Below (rank os 4) 496) (When (filled os == 4)
+    (Both (Below (rank os 4) 495) (Numbers 12 λ k. Same (get_or os k false) (get_or (map (nat_le 8) (edges_down 12 4 (rank os 4))) k false))))) refl
+
+pub slice-at_most : (edges : List ℕ) → length edges ≡ 12 → rank (slice_occupied edges) 4 < 496
+slice-at_most edges l = (all_occupied (slice_occupied edges) (slice_occupied-length edges l)).0
+
+pub slice-below : (c : CubieLists) → Valid c → rank (slice_occupied c.edges) 4 < 495
+slice-below c v =
+    ((all_occupied (slice_occupied c.edges) (slice_occupied-length c.edges v.edges_placed.places)).1 (eq-eqb _ 4 (slice_occupied-filled c v))).0
+
+pub slice-same : (c d : CubieLists) → Valid c → Valid d → rank (slice_occupied c.edges) 4 ≡ rank (slice_occupied d.edges) 4 → map (nat_le 8) c.edges ≡ map (nat_le 8) d.edges
+slice-same c d v w e =
+    sym (reverse-reverse (map (nat_le 8) c.edges))
+    ∙ ap reverse (ext_get_or false (slice_occupied c.edges) (slice_occupied d.edges) (len c v ∙ sym (len d w)) (λ k l.
+    at c v k (omega (arith, l, len c v)) ∙ ap (λ i. get_or (map (nat_le 8) (edges_down 12 4 i)) k false) e ∙ sym (at d w k (omega (arith, l, len c v)))))
+    ∙ reverse-reverse (map (nat_le 8) d.edges)
+  where
+    len : (c : CubieLists) → Valid c → length (slice_occupied c.edges) ≡ 12
+    len c v = slice_occupied-length c.edges v.edges_placed.places
+
+    at : (c : CubieLists) (v : Valid c) (k : ℕ) → k < 12 → get_or (slice_occupied c.edges) k false ≡ get_or (map (nat_le 8) (edges_down 12 4 (rank (slice_occupied c.edges) 4))) k false
+    at c v = ((all_occupied (slice_occupied c.edges) (len c v)).1 (eq-eqb _ 4 (slice_occupied-filled c v))).1
+
+-- each number is that of its edges
+abbrev edges_fact : ℕ → List ℕ → Fact
+edges_fact i edges = Both (Equal (rank (slice_occupied edges) 4) i) (Both (Equal (length edges) 12) (Numbers 12 λ h.
+    Both (Equal (count_by (λ x. x == h) edges) 1) (Below (get_or edges h 0) 12)))
+
+all_edges : Holds (Numbers 495 λ i. edges_fact i (edges_of_number i))
+unfolding edges_of_number edges_down
+all_edges = holds (Numbers 495 λ i. edges_fact i (edges_of_number i)) refl
+
+pub of_number-placed : (i : ℕ) → i < 495 → ArePlaced 12 (edges_of_number i)
+of_number-placed i l =
+    let t = all_edges i l in
+    record { places = t.1.0; each = λ h lh. (t.1.1 h lh).0; range = λ n ln. (t.1.1 n ln).1 }
+
+pub of_number-rank : (i : ℕ) → i < 495 → rank (slice_occupied (edges_of_number i)) 4 ≡ i
+of_number-rank i l = (all_edges i l).0
+
+-- where the edges of the slice stand after a turn depends on where they stood
+turned-occupied : (t : Turn) (xs ys : List ℕ) → length xs ≡ 12 → length ys ≡ 12 → map (nat_le 8) xs ≡ map (nat_le 8) ys →
+    map (nat_le 8) (tabulated 12 (brought (turn_table t.face t.power).edges xs)) ≡ map (nat_le 8) (tabulated 12 (brought (turn_table t.face t.power).edges ys))
+turned-occupied t xs ys lx ly e =
+    ext_get_or false (map (nat_le 8) (tabulated 12 (brought from xs))) (map (nat_le 8) (tabulated 12 (brought from ys))) (len xs ∙ sym (len ys)) (λ i l.
+    let li : i < 12 = omega (arith, l, len xs) in
+    at xs lx i li ∙ ap (λ os. get_or os (get_or from i 0) false) e ∙ sym (at ys ly i li))
+  where
+    from : List ℕ
+    from = (turn_table t.face t.power).edges
+
+    len : (zs : List ℕ) → length (map (nat_le 8) (tabulated 12 (brought from zs))) ≡ 12
+    len zs = length-map (tabulated 12 (brought from zs)) (nat_le 8) ∙ tabulated-length 12 (brought from zs)
+
+    at : (zs : List ℕ) → length zs ≡ 12 → (i : ℕ) → i < 12 → get_or (map (nat_le 8) (tabulated 12 (brought from zs))) i false ≡ get_or (map (nat_le 8) zs) (get_or from i 0) false
+    at zs lz i l =
+        get_or-map (nat_le 8) (tabulated 12 (brought from zs)) i 0 false (omega (arith, l, tabulated-length 12 (brought from zs)))
+        ∙ ap (nat_le 8) (tabulated-at 12 (brought from zs) i l)
+        ∙ sym (get_or-map (nat_le 8) zs (get_or from i 0) 0 false (omega (arith, (table Edges (By t)).from_below i l, lz)))
+
+-- and so it depends on their number
+pub rank-turned : (t : Turn) (c d : CubieLists) → Valid c → Valid d → rank (slice_occupied c.edges) 4 ≡ rank (slice_occupied d.edges) 4 →
+    rank (slice_occupied (tabulated 12 (brought (turn_table t.face t.power).edges c.edges))) 4 ≡ rank (slice_occupied (tabulated 12 (brought (turn_table t.face t.power).edges d.edges))) 4
+rank-turned t c d v w e =
+    ap (λ os. rank (reverse os) 4) (turned-occupied t c.edges d.edges v.edges_placed.places w.edges_placed.places (slice-same c d v w e))
+
+choices-are : (n : ℕ) → n < 12 → (k : ℕ) → k < 4 → get_or (get_or CHOICES n []) k 0 ≡ choose n k
+choices-are = holds (Numbers 12 λ n. Numbers 4 λ k. Equal (get_or (get_or CHOICES n []) k 0) (choose n k)) refl
+
+pub choices_with_are : (n k : ℕ) → n < 12 → k ≤ 4 → 0 < k → get_or (get_or CHOICES n []) (k - 1) 0 ≡ choices_with n k
+choices_with_are n zero l few some = absurd (omega arith)
+choices_with_are n (suc k) l few some = let e : suc k - 1 ≡ k = omega arith in rw e (choices-are n l k (omega arith))
+
+module _ (edges : List ℕ) (l : length edges ≡ 12) (met n : ℕ) (lm : met < 12) where
+  next : drop met (slice_occupied edges) ≡ nat_le 8 (get_or edges (11 - met) 0) ∷ drop (suc met) (slice_occupied edges)
+  next =
+      drop-cons (slice_occupied edges) met false (omega (arith, slice_occupied-length edges l))
+      ∙ ap (λ b. b ∷ drop (suc met) (slice_occupied edges)) (slice_occupied-at edges l met lm)
+
+  left : length (drop (suc met) (slice_occupied edges)) ≡ 11 - met
+  left = omega (arith, length-drop (suc met) (slice_occupied edges), slice_occupied-length edges l)
+
+  step_yes : (w : ℕ) → 8 ≤ get_or edges (11 - met) 0 → rank (drop met (slice_occupied edges)) (suc w) ≡ rank (drop (suc met) (slice_occupied edges)) w
+  step_yes w h =
+      ap (λ os. rank os (suc w)) next
+      ∙ ap (λ b. rank (b ∷ drop (suc met) (slice_occupied edges)) (suc w)) (le-leb 8 (get_or edges (11 - met) 0) h)
+
+  step_no : (w : ℕ) → get_or edges (11 - met) 0 < 8 → rank (drop met (slice_occupied edges)) (suc w) ≡ choose (11 - met) w + rank (drop (suc met) (slice_occupied edges)) (suc w)
+  step_no w h =
+      ap (λ os. rank os (suc w)) next
+      ∙ ap (λ b. rank (b ∷ drop (suc met) (slice_occupied edges)) (suc w)) (lt-leb 8 (get_or edges (11 - met) 0) h)
+      ∙ ap (λ k. choose k w + rank (drop (suc met) (slice_occupied edges)) (suc w)) left
+
+  pub counted_yes : (w w' n' total : ℕ) → 0 < w → 8 ≤ get_or edges (11 - met) 0 → w' ≡ w - 1 → n' ≡ n → n + rank (drop met (slice_occupied edges)) w ≡ total → n' + rank (drop (met + 1) (slice_occupied edges)) w' ≡ total
+  counted_yes w w' n' total p h ew en e =
+      let some : w ≡ suc (w - 1) = omega arith in
+      let more : met + 1 ≡ suc met = omega arith in
+      let step = step_yes (w - 1) h in
+      let same : rank (drop met (slice_occupied edges)) w ≡ rank (drop (met + 1) (slice_occupied edges)) w' = cc in
+      omega (arith, same)
+
+  pub counted_no : (w w' n' total : ℕ) → 0 < w → w ≤ 4 → get_or edges (11 - met) 0 < 8 → w' ≡ w → n' ≡ n + get_or (get_or CHOICES (11 - met) []) (w - 1) 0 →
+      n + rank (drop met (slice_occupied edges)) w ≡ total → n' + rank (drop (met + 1) (slice_occupied edges)) w' ≡ total
+  counted_no w w' n' total p q h ew en e =
+      let some : w ≡ suc (w - 1) = omega arith in
+      let more : met + 1 ≡ suc met = omega arith in
+      let step = step_no (w - 1) h in
+      let same : rank (drop met (slice_occupied edges)) w ≡ choose (11 - met) (w - 1) + rank (drop (met + 1) (slice_occupied edges)) w' = cc in
+      omega (arith, same, choices-are (11 - met) (omega arith) (w - 1) (omega arith))
+
+-- what the loop keeps: the edges still to come, and those placed, are the edges of the number
+pub record Placed (number n wanted rest : ℕ) (edges : List ℕ) : Type 0 where
+  pub places : length edges ≡ 12
+  pub fits : rest < choose n wanted
+  pub few : wanted ≤ 4
+  pub is : reverse (edges_down n wanted rest) ++ drop n edges ≡ edges_of_number number
+
+-- the choices by which the last place is wanted, and those by which it isn't
+choices : (n k : ℕ) → choose (suc n) k ≡ choices_with n k + choose n k
+choices n zero = omega arith
+choices n (suc k) = refl
+
+choosable : (n k : ℕ) → n < 12 → k < 5 → 0 < choose n k → k ≤ n
+choosable n k ln lk some =
+    leb-true k n (holds (Numbers 12 λ n. Numbers 5 λ k. When (nat_lt 0 (choose n k)) (Yes (nat_le k n))) refl n ln k lk (lt-ltb 0 _ some))
+
+one_less : (n k i : ℕ) → i < choices_with n k → i < choose n (k - 1)
+one_less n zero i l = absurd (omega arith)
+one_less n (suc k) i l = let e : suc k - 1 ≡ k = omega arith in rw e l
+
+head_slice : (n k i : ℕ) → i < choices_with n k → edges_down (suc n) k i ≡ (8 + (k - 1)) ∷ edges_down n (k - 1) i
+unfolding edges_down
+head_slice n zero i l = absurd (omega arith)
+head_slice n (suc k) i l = let e : suc k - 1 ≡ k = omega arith in rw (lt-ltb i (choose n k) l, e) refl
+
+head_free : (n k i : ℕ) → choices_with n k ≤ i → edges_down (suc n) k i ≡ (n - k) ∷ edges_down n k (i - choices_with n k)
+unfolding edges_down
+head_free n zero i l =
+    let a : n - 0 ≡ n = omega arith in
+    let b : i - 0 ≡ i = omega arith in
+    cc
+head_free n (suc k) i l = rw (le-ltb i (choose n k) l) refl
+
+module _ (number met w r : ℕ) (edges edges' : List ℕ) (l : met < 12) (now : Placed number (12 - met) w r edges) where
+  abbrev n : ℕ
+  n = 11 - met
+
+  here : Placed number (suc n) w r edges
+  here = subst (λ n. Placed number n w r edges) (let e : 12 - met ≡ suc (11 - met) = omega arith in e) now
+
+  placed-step : (w' r' x : ℕ) → edges_down (suc n) w r ≡ x ∷ edges_down n w' r' → r' < choose n w' → w' ≤ 4 → edges' ≡ set edges n x → Placed number (12 - (met + 1)) w' r' edges'
+  placed-step w' r' x head fits few e =
+      let left : 12 - (met + 1) ≡ n = omega arith in
+      rw (e, left) record {
+        places = length-set edges n x ∙ now.places;
+        fits = fits;
+        few = few;
+        is =
+            ap (λ ys. reverse (edges_down n w' r') ++ ys) (drop-set_at edges n n x refl (omega (arith, now.places)) ∙ ap (λ k. x ∷ drop k edges) (let m : n + 1 ≡ suc n = omega arith in m))
+            ∙ sym (append_assoc (reverse (edges_down n w' r')) (x ∷ []) (drop (suc n) edges))
+            ∙ ap (λ ys. ys ++ drop (suc n) edges) (sym (reverse-append (x ∷ []) (edges_down n w' r')) ∙ ap reverse (sym head))
+            ∙ here.is;
+      }
+
+  -- the place is given to an edge of the slice, or to another one
+  pub placed-slice : r < choices_with n w → edges' ≡ set edges n (8 + (w - 1)) → Placed number (12 - (met + 1)) (w - 1) r edges'
+  placed-slice h e = placed-step (w - 1) r (8 + (w - 1)) (head_slice n w r h) (one_less n w r h) (omega (arith, now.few)) e
+
+  left_over : choices_with n w ≤ r → r - choices_with n w < choose n w
+  left_over h = omega (arith, here.fits, choices n w)
+
+  pub placed-free : choices_with n w ≤ r → edges' ≡ set edges n (n - w) → Placed number (12 - (met + 1)) w (r - choices_with n w) edges'
+  placed-free h e = placed-step w (r - choices_with n w) (n - w) (head_free n w r h) (left_over h) now.few e
+
+  pub wanted-below : choices_with n w ≤ r → w ≤ n
+  wanted-below h = choosable n w (omega arith) (omega (arith, now.few)) (omega (arith, left_over h))
+
+pub placed-end : (number met w r : ℕ) (edges : List ℕ) → met ≡ 12 → Placed number (12 - met) w r edges → edges ≡ edges_of_number number
+unfolding edges_down
+placed-end number met w r edges e h =
+    let none : 12 - met ≡ 0 = omega arith in
+    (subst (λ n. Placed number n w r edges) none h).is
