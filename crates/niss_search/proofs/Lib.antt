@@ -13,6 +13,5 @@ pub mod Transfer
 pub mod DrawLemmas
 pub mod EntryLemmas
 pub mod FillLemmas
-pub mod TickLemmas
 pub mod ScanLemmas
 pub mod WordLemmas

@@ -15,10 +15,10 @@ pub use Rattle.std.proofs.lemmas.List.Concat.{length-flat_map}
 pub use Rattle.std.proofs.lemmas.List.Elements.{All-contains, Contains-get_or, All-contains_itself, All-head, All-push, All-tail, All-take}
 pub use Rattle.std.proofs.lemmas.List.Elements.{filter_passes, All-append, All-cons, All-drop, All-filter, All-map, All-more}
 pub use Rattle.std.proofs.lemmas.List.Elements.{Contains-append_right, filter-append, filter_more, All-nil}
-pub use Rattle.std.proofs.lemmas.List.Folds.{find-append, list_any-append, list_any_at}
+pub use Rattle.std.proofs.lemmas.List.Folds.{find-append, list_any-append, list_any_at, prefix_len-append}
 pub use Rattle.std.proofs.lemmas.List.FromFn.{length-map-range_with_len, length-range_with_len}
 pub use Rattle.std.proofs.lemmas.List.Sums.{sum_by-cons, sum_by-append, sum_by-le-sum_by, count_by-le-length, sum_by-le, length-filter}
-pub use Rattle.std.proofs.lemmas.List.Sums.{sum_by_push}
+pub use Rattle.std.proofs.lemmas.List.Sums.{sum_by_push, prefix_len-le-length, prefix_len_passes, prefix_len_stops}
 pub use Rattle.std.proofs.lemmas.Nat.{and_block, and_le_l, and_le_r, and_mask, div-mul-add, le_or_l, le_or_r, mod-mul-add, or_block, or_lt}
 pub use Rattle.std.proofs.lemmas.Nat.{xor_block, xor_lt}
 pub use Rattle.std.proofs.lemmas.Result.{err_from_is_err_and}

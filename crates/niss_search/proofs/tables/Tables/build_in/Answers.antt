@@ -1,5 +1,5 @@
 use Rattle.niss_search.proofs.Words.{arith}
-use Rattle.niss_search.proofs.TickLemmas.{ticks-at-most}
+use Rattle.niss_search.proofs.FillLemmas.{ticks-at-most}
 use Rattle.niss_search.proofs.tables.Tables.build_in.Goals as goal
 
 pub returns-clause-at_most : goal.returns-clause-at_most
