@@ -5,10 +5,11 @@ use Rattle.niss_search.proofs.Words.{filter, sum_by, sum_by-cons, None, list_any
 use Rattle.niss_search.proofs.Words.{unwrap_or, up_to, all_canonical, canonical_extensions, find, least_length, length-flat_map, all_looks}
 use Rattle.niss_search.proofs.Words.{is_looked_at, length-map, look_bound, sum_by-le-sum_by, count_by-le-length, count_of_length, sum_by-le}
 use Rattle.niss_search.proofs.Words.{BoundIsSmall, length-filter, pow-suc}
+use Rattle.std.proofs.Math.Nat.{pow-le-pow_right}
 pub use Rattle.niss_cube.proofs.CallerLemmas.{turns_of-length, turns_of-oriented}
 
 -- the looks of a deepening are at most the canonical sequences of its lengths
-pub looks-le : (turns : List Turn) (far : List Turn → ℕ) (d : ℕ) → looks turns far d ≤ sum_by (count_of_length turns) (up_to d)
+looks-le : (turns : List Turn) (far : List Turn → ℕ) (d : ℕ) → looks turns far d ≤ sum_by (count_of_length turns) (up_to d)
 unfolding looks
 looks-le turns far d =
     sum_by-le-sum_by (λ k. count_by (is_looked_at far d) (all_canonical turns k)) (count_of_length turns) (up_to d) (λ k. count_by-le-length (is_looked_at far d) (all_canonical turns k))
@@ -21,38 +22,20 @@ range-le f m a (suc n) h =
 length-filter-le : {X : Type 0} (m : X → Bool) (xs : List X) → length (filter m xs) ≤ length xs
 length-filter-le m xs = omega (arith, length-filter m xs, count_by-le-length m xs)
 
-length-extensions : (turns s : List Turn) → length turns ≤ 18 → length (canonical_extensions turns s) ≤ 18
-length-extensions turns s h =
-    omega (arith, length-map (filter (may_follow (last_turn s)) turns) (λ t. s ++ t ∷ []), length-filter-le (may_follow (last_turn s)) turns)
-
 count-le : (turns : List Turn) (k : ℕ) → length turns ≤ 18 → count_of_length turns k ≤ 18 ^ k
 unfolding all_canonical
 count-le turns zero h = omega arith
 count-le turns (suc k) h =
-    let one = λ (s : List Turn). length-extensions turns s h in
-    omega (arith, length-flat_map (canonical_extensions turns) (all_canonical turns k), sum_by-le (λ s. length (canonical_extensions turns s)) 18 (all_canonical turns k) (λ i d l. one (get_or (all_canonical turns k) i d)), count-le turns k h, pow-suc 18 k)
+    let each : (s : List Turn) → length (canonical_extensions turns s) ≤ 18 = λ s.
+    omega (arith, length-map (filter (may_follow (last_turn s)) turns) (λ t. s ++ t ∷ []), length-filter-le (may_follow (last_turn s)) turns) in
+    omega (arith, length-flat_map (canonical_extensions turns) (all_canonical turns k), sum_by-le (λ s. length (canonical_extensions turns s)) 18 (all_canonical turns k) (λ i d l. each (get_or (all_canonical turns k) i d)), count-le turns k h, pow-suc 18 k)
 
-pow-le : (k m : ℕ) → 18 ^ k ≤ 18 ^ (m + k)
-pow-le k zero =
-    let e : 0 + k ≡ k = omega arith in
-    omega (arith, ap (λ n. 18 ^ n) e)
-pow-le k (suc m) =
-    let e : suc m + k ≡ suc (m + k) = omega arith in
-    omega (arith, pow-le k m, pow-suc 18 (m + k), ap (λ n. 18 ^ n) e)
-
--- a bound on the counts of every length up to 20
-pub count-small : (turns : List Turn) (k : ℕ) → length turns ≤ 18 → k ≤ 20 → count_of_length turns k ≤ 18 ^ 20
-count-small turns k h l =
-    let e : 20 - k + k ≡ 20 = omega arith in
-    omega (arith, count-le turns k h, pow-le k (20 - k), ap (λ n. 18 ^ n) e)
-
-pub looks-small : (turns : List Turn) (far : List Turn → ℕ) (d : ℕ) → length turns ≤ 18 → d ≤ 20 → looks turns far d ≤ 21 * 18 ^ 20
-looks-small turns far d h l =
-    omega (arith, looks-le turns far d, range-le (count_of_length turns) (18 ^ 20) 0 (d + 1) (λ j m. count-small turns j h (omega arith)))
-
-pub looks-sum-small : (turns : List Turn) (far : List Turn → ℕ) (d : ℕ) → length turns ≤ 18 → d ≤ 21 → sum_by (looks turns far) (range_with_len 0 d) ≤ 21 * (21 * 18 ^ 20)
-looks-sum-small turns far d h l =
-    omega (arith, range-le (looks turns far) (21 * 18 ^ 20) 0 d (λ j m. looks-small turns far j h (omega arith)))
+-- by a bound on the counts of every length
+look_bound-small : (turns : List Turn) (n : ℕ) → length turns ≤ 18 → n ≤ 20 → look_bound turns n ≤ 21 * (21 * 18 ^ 20)
+unfolding look_bound
+look_bound-small turns n h l =
+    let each : (j : ℕ) → j ≤ 20 → count_of_length turns j ≤ 18 ^ 20 = λ j m. omega (arith, count-le turns j h, pow-le-pow_right {n = 18} (omega arith) m) in
+    omega (arith, range-le (λ d. sum_by (count_of_length turns) (up_to d)) (21 * 18 ^ 20) 0 (n + 1) (λ d m. omega (arith, range-le (count_of_length turns) (18 ^ 20) 0 (d + 1) (λ j k. each j (omega arith)))))
 
 pub least-le : (p : ℕ → Bool) (a n d b : ℕ) → a + n ≤ b + 1 → d ≤ b → unwrap_or (find p (range_with_len a n)) d ≤ b
 least-le p a zero d b h l = l
@@ -61,13 +44,13 @@ least-le p a (suc n) d b h l = by_test (p a) (omega arith) (least-le p (a + 1) n
   by_test true k r = k
   by_test false k r = r
 
-pub prefix-le : (f g : ℕ → ℕ) (a m n : ℕ) → ((j : ℕ) → f j ≤ g j) → m ≤ n → sum_by f (range_with_len a m) ≤ sum_by g (range_with_len a n)
+prefix-le : (f g : ℕ → ℕ) (a m n : ℕ) → ((j : ℕ) → f j ≤ g j) → m ≤ n → sum_by f (range_with_len a m) ≤ sum_by g (range_with_len a n)
 prefix-le f g a zero n h l = omega arith
 prefix-le f g a (suc m) zero h l = absurd (omega arith)
 prefix-le f g a (suc m) (suc n) h l =
     omega (arith, sum_by-cons f a (range_with_len (a + 1) m), sum_by-cons g a (range_with_len (a + 1) n), h a, prefix-le f g (a + 1) m n h (omega arith))
 
-pub last-within : (o : Option ℕ) (n slack : ℕ) → last_length o n slack ≤ n
+last-within : (o : Option ℕ) (n slack : ℕ) → last_length o n slack ≤ n
 last-within None n slack = omega arith
 last-within (Some least) n slack = omega arith
 
@@ -77,10 +60,10 @@ unfolding all_looks look_bound
 all_looks-bound turns reaches far n slack =
     prefix-le (looks turns far) (λ d. sum_by (count_of_length turns) (up_to d)) 0 (last_length (least_length turns reaches n) n slack + 1) (n + 1) (looks-le turns far) (omega (arith, last-within (least_length turns reaches n) n slack))
 
--- no more is found than there are sequences
-pub reaching-small : (turns : List Turn) (reaches : List Turn → Bool) (a m : ℕ) → length turns ≤ 18 → a + m ≤ 21 → length (flat_map (reaching turns reaches) (range_with_len a m)) ≤ 21 * 18 ^ 20
-reaching-small turns reaches a m h l =
-    omega (arith, length-flat_map (reaching turns reaches) (range_with_len a m), range-le (λ k. length (reaching turns reaches k)) (18 ^ 20) a m (λ j k. omega (arith, length-filter-le reaches (all_canonical turns j), count-small turns j h (omega arith))))
+pub looks-sum-small : (turns : List Turn) (far : List Turn → ℕ) (d : ℕ) → length turns ≤ 18 → d ≤ 21 → sum_by (looks turns far) (range_with_len 0 d) ≤ 21 * (21 * 18 ^ 20)
+unfolding look_bound
+looks-sum-small turns far d h l =
+    omega (arith, prefix-le (looks turns far) (λ d. sum_by (count_of_length turns) (up_to d)) 0 d 21 (looks-le turns far) l, look_bound-small turns 20 h (omega arith))
 
 pub least-within : (turns : List Turn) (reaches : List Turn → Bool) (n d : ℕ) → least_length turns reaches n ≡ Some d → d ≤ n
 unfolding least_length
@@ -90,6 +73,4 @@ least-within turns reaches n d e =
 
 -- the bound of a step is small
 pub bound-small : BoundIsSmall
-unfolding look_bound
-bound-small s n h =
-    omega (arith, range-le (λ d. sum_by (count_of_length (turns_of s)) (up_to d)) (21 * 18 ^ 20) 0 (n + 1) (λ d l. omega (arith, range-le (count_of_length (turns_of s)) (18 ^ 20) 0 (d + 1) (λ j m. count-small (turns_of s) j (turns_of-length s) (omega arith)))))
+bound-small s n h = omega (arith, look_bound-small (turns_of s) n (turns_of-length s) h)

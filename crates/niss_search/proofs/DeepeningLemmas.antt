@@ -8,7 +8,7 @@ use Rattle.niss_search.proofs.Words.{solutions, OnErr, OnOk, Path, StoppedIn, St
 use Rattle.niss_search.proofs.Words.{least_length_at, looks_at, near_looks_of, near_solutions_of, option_map_or, option_or, reaching_at}
 use Rattle.niss_search.proofs.Words.{solutions_at, then_some, Delivers, IfOk, NoSlackIsLeast}
 use Rattle.niss_search.specs.declared.outcome.Outcome.{Outcome}
-use Rattle.niss_search.proofs.Bounds.{least-within, all_looks-bound, looks-sum-small, reaching-small, turns_of-length}
+use Rattle.niss_search.proofs.Bounds.{least-within, all_looks-bound, looks-sum-small, turns_of-length}
 use Rattle.niss_search.proofs.DescentLemmas.{Descends-then, StopsIn-before}
 use Rattle.niss_search.proofs.Transfer.{solutions-cube, all_looks-cube}
 use Rattle.niss_search.proofs.Levels.{least_below, least_below-more, level-within, least_length-is, solutions-up_to, found_below-level}
@@ -39,7 +39,7 @@ no-slack = record {
       let same : min n (d + 0) ≡ d = omega (arith, least-within turns reaches n d e) in
       rw e (ap (λ k. sum_by (looks turns far) (up_to k)) same)
 
--- one deepening
+-- one deepening, and one more
 module _ (step : Step) (x : List Coordinates) (d : ℕ) where
   pub found-level : found_below step x [] d ≡ reaching_at step x (d ∷ [])
   found-level =
@@ -49,7 +49,6 @@ module _ (step : Step) (x : List Coordinates) (d : ℕ) where
   looks-level =
       omega (arith, looks_below-level step x d, sum_by-cons (looks (turns_of step) (far_at step x)) d [])
 
-module _ (step : Step) (x : List Coordinates) (d : ℕ) where
   looks-push : looks_at step x (range_with_len 0 (d + 1)) ≡ looks_at step x (range_with_len 0 d) + looks_at step x (d ∷ [])
   looks-push = ap (looks_at step x) (range-push d) ∙ sum_by-append (looks (turns_of step) (far_at step x)) (range_with_len 0 d) (d ∷ [])
 
@@ -71,13 +70,8 @@ module _
     pub goes-on : {m2 e : ℕ} {s2 : K} → GoesThrough took refused (reaching_at step x (d ∷ [])) (looks_at step x (d ∷ [])) (descent_state m1 0 s1) (descent_state m2 e s2)
         → GoesThrough took refused (reaching_at step x (range_with_len 0 (d + 1))) (looks_at step x (range_with_len 0 (d + 1))) (descent_state m0 0 s0) (descent_state m2 (c + e) s2)
     goes-on {m2} {e} {s2} h = rw (reaching-push step x d, looks-push step x d)
-        (Descends-then took refused {F = Unit {0}} (Ok tt) (reaching_at step x (range_with_len 0 d)) (reaching_at step x (d ∷ [])) (looks_at step x (range_with_len 0 d)) (looks_at step x (d ∷ [])) (descent_state m0 0 s0) (descent_state m1 c s1) (descent_state m2 (c + e) s2) went
+        (Descends-then {F = Unit {0}} (Ok tt) (reaching_at step x (d ∷ [])) (looks_at step x (d ∷ [])) (descent_state m2 (c + e) s2) went
         record { delivered = h.delivered; counted = omega (arith, h.counted); looked = h.looked })
-
-    pub found-room : {m2 e : ℕ} {s2 : K} → GoesThrough took refused (reaching_at step x (d ∷ [])) (looks_at step x (d ∷ [])) (descent_state m1 0 s1) (descent_state m2 e s2)
-        → d ≤ 20 → c + e < 2 ^ 128
-    found-room h k =
-        omega (arith, (goes-on h).counted, reaching-small (turns_of step) (reaches_at step x) 0 (d + 1) (turns_of-length step) (omega arith))
 
     -- or stop
     pub stops-here : d ≤ last_length (least_below (turns_of step) (reaches_at step x) d) n slack
@@ -96,8 +90,8 @@ module _
         let looked : looks_at step x (up_to last) ≡ looks_at step x (range_with_len 0 d) + looks_at step x (d ∷ []) + looks_at step x more =
         omega (arith, ap (looks_at step x) parts, sum_by-append (looks (turns_of step) (far_at step x)) (range_with_len 0 (d + 1)) more, looks-push step x d) in
         rw (found, looked)
-        (StopsIn-before took refused (reaching_at step x (range_with_len 0 d) ++ reaching_at step x (d ∷ [])) (reaching_at step x more) (looks_at step x (range_with_len 0 d) + looks_at step x (d ∷ [])) (looks_at step x more) (descent_state m0 0 s0) (descent_state m2 0 s2)
-        (Descends-then took refused {F = Unit {0}} (Err tt) (reaching_at step x (range_with_len 0 d)) (reaching_at step x (d ∷ [])) (looks_at step x (range_with_len 0 d)) (looks_at step x (d ∷ [])) (descent_state m0 0 s0) (descent_state m1 c s1) (descent_state m2 0 s2) went
+        (StopsIn-before (reaching_at step x more) (looks_at step x more)
+        (Descends-then {F = Unit {0}} (Err tt) (reaching_at step x (d ∷ [])) (looks_at step x (d ∷ [])) (descent_state m2 0 s2) went
         record { stopped = h.stopped; rises = h.rises; looked = h.looked }))
 
     -- until the last
@@ -129,23 +123,9 @@ module _ {K F : Type 0} (took refused : K → Path → K → Type 0) (step : Ste
   searched law e at (Ok o) h =
       let found = solutions-cube law step e x at n slack in
       let looked = all_looks-cube law step e x at n slack in
-      record {
-        solutions = omega (arith, ap length found, h.counted);
-        ok = rw found h.delivered;
-        err = tt;
-        looks = omega (arith, looked, h.looked);
-        looks_at_most = omega (arith, looked, h.looked);
-      }
+      record { solutions = omega (arith, ap length found, h.counted); ok = rw found h.delivered; err = tt; looks = omega (arith, looked, h.looked); looks_at_most = omega (arith, looked, h.looked) }
   searched law e at (Err fault) h =
-      let found = solutions-cube law step e x at n slack in
-      let looked = all_looks-cube law step e x at n slack in
-      record {
-        solutions = tt;
-        ok = tt;
-        err = rw found h.stopped;
-        looks = tt;
-        looks_at_most = omega (arith, looked, h.looked);
-      }
+      record { solutions = tt; ok = tt; err = rw (solutions-cube law step e x at n slack) h.stopped; looks = tt; looks_at_most = omega (arith, all_looks-cube law step e x at n slack, h.looked) }
 
   -- by the position alone
   pub looks-within : (r : Result Outcome F) → Delivers took refused n (solutions_at step x n slack) (all_looks_at step x n slack) m m1 s s1 (λ o. o.solutions) r → m1 ≤ m + look_bound (turns_of step) n

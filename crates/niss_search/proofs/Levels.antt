@@ -2,7 +2,7 @@
 use Rattle.niss_search.proofs.Words.{◌≡◌, arith, length, ◌+◌, ◌<◌, ℕ, ap, ◌∙◌, sym, ◌≤◌, [], List, turns_of, refl, true, ◌-◌, ◌∷◌, Bool}
 use Rattle.niss_search.proofs.Words.{Turn, false, cond, range_with_len, ◌++◌, flat_map, Coordinates, distance_at, Step, None, list_any}
 use Rattle.niss_search.proofs.Words.{position_after, Option, Some, nat_le, flat_map-append, found_below, last_length, looks, reaches_at}
-use Rattle.niss_search.proofs.Words.{reaching, unwrap_or, up_to, all_canonical, find, is_reached_at, least_length, looks_below}
+use Rattle.niss_search.proofs.Words.{reaching, unwrap_or, up_to, all_canonical, find, is_reached_at, least_length, looks_beyond, looks_below}
 use Rattle.niss_search.proofs.Words.{solution_lengths, solutions, far_at, from_to, option_or, then_some, find-append}
 use Rattle.niss_search.proofs.Bounds.{least-le, least-within}
 use Rattle.niss_search.proofs.DistanceLemmas.{first_or-from, first_or-le}
@@ -15,7 +15,7 @@ unfolding found_below
 found_below-level step x d = found_all (turns_of step) position_after (distance_at step) is_reached_at x (distance_at-goal step) (distance_at-turn step) d
 
 pub looks_below-level : (step : Step) (x : List Coordinates) (d : ℕ) → looks_below step x [] d ≡ looks (turns_of step) (far_at step x) d
-unfolding looks_below
+unfolding looks_beyond
 looks_below-level step x d = visits_all (turns_of step) position_after (distance_at step) is_reached_at x (distance_at-goal step) (distance_at-turn step) d
 
 module _ (turns : List Turn) (reaches : List Turn → Bool) where
