@@ -4,9 +4,11 @@ use Rattle.niss_search.proofs.Words.{◌≡◌, arith, length, ◌+◌, ◌<◌,
 use Rattle.niss_search.proofs.Words.{suc, cond, range_with_len, ◌++◌, zero, may_follow, Contains, flat_map, last_turn, count_by, filter}
 use Rattle.niss_search.proofs.Words.{leb, sum_by, sum_by-cons, nat_le, looks, reaching, all_canonical, canonical_extensions, le-leb, lt-leb}
 use Rattle.niss_search.proofs.Words.{add-one, fold, is_looked_at, All-contains, All-contains_itself, All-filter, found, leb-true}
-use Rattle.niss_search.proofs.Words.{length-append, visits, fold-append, leb-false, take_at}
-use Rattle.niss_search.proofs.ListLemmas.{flat_map-same, flat_map-none, filter-flat_map, sum_by-flat_map, flat_map-flat_map, flat_map-map}
-use Rattle.niss_search.proofs.ListLemmas.{sum_by-map, sum_by-swap, sum_by-same, sum_by-shift, sum_by-none, sum_by-one, range-none}
+use Rattle.niss_search.proofs.Words.{length-append, visits, fold-append, leb-false, take_at, append-nil}
+use Rattle.niss_search.proofs.ListLemmas.{flat_map-same, flat_map-none, filter-flat_map, sum_by-flat_map, flat_map-flat_map}
+use Rattle.niss_search.proofs.ListLemmas.{sum_by-map, sum_by-swap, sum_by-same, sum_by-shift, sum_by-none, sum_by-one, in-range}
+use Rattle.std.proofs.lemmas.List.Folds.{flat_map-map, map_fixed}
+use Rattle.std.proofs.lemmas.List.Concat.{flat_map_single}
 
 -- the canonical sequences that begin with p and have k turns more, in turn order
 abbrev pub below : List Turn → List Turn → ℕ → List (List Turn)
@@ -15,10 +17,8 @@ below turns p (suc k) = flat_map (λ q. below turns q k) (canonical_extensions t
 
 module _ (turns : List Turn) where
   below-last : (k : ℕ) (p : List Turn) → below turns p (suc k) ≡ flat_map (canonical_extensions turns) (below turns p k)
-  below-last zero p = ap (λ (l : List (List Turn)). l) (singles (canonical_extensions turns p)) where
-    singles : (qs : List (List Turn)) → flat_map (λ q. q ∷ []) qs ≡ qs ++ []
-    singles [] = refl
-    singles (q ∷ qs) = ap (λ (l : List (List Turn)). q ∷ l) (singles qs)
+  below-last zero p =
+      flat_map_single (λ q. q) (canonical_extensions turns p) ∙ map_fixed (λ q. q) (canonical_extensions turns p) (λ k d l. refl) ∙ sym (append-nil (canonical_extensions turns p))
   below-last (suc k) p =
       flat_map-same (λ q. below turns q (suc k)) (λ q. flat_map (canonical_extensions turns) (below turns q k)) (canonical_extensions turns p) (λ q. below-last k q)
       ∙ sym (flat_map-flat_map (canonical_extensions turns) (λ q. below turns q k) (canonical_extensions turns p))
@@ -128,7 +128,7 @@ module _ {P : Type 0} (turns : List Turn) (after : P → Turn → P) (look : P �
           ∙ sum_by-same (λ j. sum_by (λ t. sum_by (looked d) (below turns (p ++ t ∷ []) j)) (nexts p)) (λ j. sum_by (looked d) (below turns p (suc j))) (range_with_len 0 (suc k)) (λ j. sym (looked-below d j p))
       by_test false f rest =
           let fails = leb-false (far p) (suc k) f in
-          sym (range-none (λ j. sum_by (looked d) (below turns p (suc j))) 0 (suc k) (λ j l. unlooked d j p (omega arith) (omega arith)))
+          sym (sum_by-none (λ j. sum_by (looked d) (below turns p (suc j))) (range_with_len 0 (suc k)) (λ j m. unlooked d j p (omega (arith, in-range 0 (suc k) j m)) (omega arith)))
 
     -- one deepening finds the canonical sequences of its length that reach, in turn order
     pub found_all : (d : ℕ) → found turns after look start [] d ≡ reaching turns reach d

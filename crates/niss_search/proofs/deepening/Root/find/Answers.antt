@@ -1,6 +1,5 @@
 use Rattle.niss_search.proofs.Words.{arith, ◌∙◌, sym, turns_of, reaches_at, err_from_is_err_and}
-use Rattle.niss_search.proofs.Levels.{level-next, least_length-is}
-use Rattle.niss_search.proofs.DeepeningLemmas.{looks-room, least-next, goes-on, stops-here, all-done}
+use Rattle.niss_search.proofs.DeepeningLemmas.{level-next, least_length-is, looks-room, least-next, goes-on, stops-here, all-done}
 use Rattle.niss_search.proofs.deepening.Root.find.Goals as goal
 
 pub deepen-requires-clause-meter : goal.deepen-requires-clause-meter

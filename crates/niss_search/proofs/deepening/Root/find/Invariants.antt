@@ -1,6 +1,6 @@
 use Rattle.niss_search.proofs.Words.{◌≡◌, ◌+◌, ◌≤◌, turns_of, ◌-◌, range_with_len, at_limit, last_length, reaches_at, GoesThrough}
 use Rattle.niss_search.proofs.Words.{descent_state, looks_at, reaching_at}
-use Rattle.niss_search.proofs.Levels.{least_below}
+use Rattle.niss_search.proofs.DeepeningLemmas.{least_below}
 use Rattle.niss_search.proofs.deepening.Root.find.Given as goal
 
 abbrev pub decreases-loop-length : goal.decreases-loop-length

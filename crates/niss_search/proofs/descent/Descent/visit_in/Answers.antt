@@ -11,9 +11,6 @@ returns-then-look-left-clause-finds g c =
     rw (found_below-far step c.args.position.now p c.args.left far, looks_beyond-far step c.args.position.now p c.args.left far)
     (GoesThrough-looks 1 c.args.meter c.look.new.meter c.args.self.now.count c.args.self.now.sink.now c.look.ensures.tick)
 
-pub extend-requires-clause-meter : goal.extend-requires-clause-meter
-extend-requires-clause-meter g c = rw c.state-state.ensures (omega (arith, c.requires.meter, c.look.ensures.tick))
-
 pub returns-clause-finds : goal.returns-clause-finds
 returns-clause-finds g c =
     let step = c.args.tables.now.step in
