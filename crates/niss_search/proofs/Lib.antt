@@ -4,10 +4,8 @@ pub mod DescentLemmas
 pub mod DepthFirst
 pub mod LookLemmas
 pub mod DistanceLemmas
-pub mod Levels
 pub mod Bounds
 pub mod DeepeningLemmas
-pub mod CountLaws
 pub mod PositionLemmas
 pub mod Transfer
 pub mod DrawLemmas

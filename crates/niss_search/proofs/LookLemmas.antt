@@ -1,8 +1,8 @@
 -- The distance of a position: 0 exactly at the goal, never more than one beyond that after a turn, and nearer after some.
-use Rattle.niss_search.proofs.Words.{◌≡◌, arith, ◌+◌, ◌<◌, ℕ, ap, ◌∙◌, sym, ◌≤◌, [], List, turns_of, refl, true, ◌∷◌, Bool, Turn, false}
+use Rattle.niss_search.proofs.Words.{◌≡◌, arith, ◌+◌, ◌<◌, ℕ, ap, ◌∙◌, sym, ◌≤◌, [], List, turns_of, refl, true, ◌∷◌, Bool, Turn}
 use Rattle.niss_search.proofs.Words.{suc, Contains, Coordinates, distance_at, leb, Step, inl, inr, list_any, position_after, ◌⊎◌}
 use Rattle.niss_search.proofs.Words.{is_reached_at, are_zero, coordinates_after, distance, fold, ◌||◌, or-false, DistanceIsLeast}
-use Rattle.niss_search.proofs.ListLemmas.{Contains-first, Contains-later}
+use Rattle.std.proofs.lemmas.List.Folds.{Any-from_list_any}
 use Rattle.niss_search.proofs.DistanceLemmas.{reached_in, reached_in-suc, distance-either, distance-le, distance-most, distance-reached}
 use Rattle.niss_search.proofs.DistanceLemmas.{distance-zero, distance-turn}
 
@@ -18,13 +18,6 @@ pub distance_at-most : (step : Step) (x : List Coordinates) → distance_at step
 unfolding distance_at
 distance_at-most step x = distance-most (turns_of step) (λ s. is_reached_at (fold position_after x s))
 
-list_any-found : {X : Type 0} (p : X → Bool) (xs : List X) → list_any p xs ≡ true → (x : X) × (Contains xs x × (p x ≡ true))
-list_any-found {X = X} p [] e = absurd (cc)
-list_any-found {X = X} p (x ∷ xs) e = by_test (p x) refl (list_any-found p xs) e where
-  by_test : (b : Bool) → p x ≡ b → (list_any p xs ≡ true → (y : X) × (Contains xs y × (p y ≡ true))) → (b || list_any p xs) ≡ true → (y : X) × (Contains (x ∷ xs) y × (p y ≡ true))
-  by_test true f rest h = (x, (Contains-first x xs, f))
-  by_test false f rest h = let r = rest h in (r.0, (Contains-later x xs r.0 r.1.0, r.1.1))
-
 -- from a position that isn't at the goal some turn leads nearer
 pub distance_at-nearer : (step : Step) (x : List Coordinates) (k : ℕ) → distance_at step x ≡ suc k → k < 20 → (t : Turn) × (Contains (turns_of step) t × (distance_at step (position_after x t) ≤ k))
 unfolding distance_at
@@ -38,8 +31,8 @@ distance_at-nearer step x k e l = by_reached (distance-reached turns reaches) wh
   by_reached : (reached_in turns reaches (distance turns reaches) ≡ true) ⊎ (distance turns reaches ≡ 21) → (t : Turn) × (Contains turns t × (distance turns (λ s. is_reached_at (fold position_after (position_after x t) s)) ≤ k))
   by_reached (inl r) =
       let here : reached_in turns reaches (suc k) ≡ true = ap (reached_in turns reaches) (sym e) ∙ r in
-      let found = list_any-found (λ t. reached_in turns (λ s. reaches (t ∷ s)) k) turns (sym (reached_in-suc turns reaches k) ∙ here) in
-      (found.0, (found.1.0, distance-le turns (λ s. reaches (found.0 ∷ s)) k (omega arith) found.1.1))
+      let some = Any-from_list_any (λ t. reached_in turns (λ s. reaches (t ∷ s)) k) turns (sym (reached_in-suc turns reaches k) ∙ here) in
+      (some.1, ((some.0, some.2, some.3), distance-le turns (λ s. reaches (some.1 ∷ s)) k (omega arith) some.4))
   by_reached (inr r) = absurd (omega arith)
 
 either : (s : List Turn) (c : Coordinates) (x : List Coordinates) → is_reached_at (fold position_after (c ∷ x) s) ≡ (is_reached_at (fold position_after (c ∷ []) s) || is_reached_at (fold position_after x s))

@@ -49,8 +49,8 @@ pub use Rattle.niss_search.specs.Deepening.{reaches_at, all_looks_at, far_at, le
 pub use Rattle.niss_search.specs.Deepening.{Delivers}
 pub use Rattle.niss_search.specs.Delivery.{at_limit, StoppedIn, WentThrough}
 pub use Rattle.niss_search.specs.Descending.{state_of, Keeps}
-pub use Rattle.niss_search.specs.Descent.{GoesThrough, descent_state, Descends, DescentState, StopsIn}
-unfoldable pub use Rattle.niss_search.specs.Descent.{found_below, looks_beyond, looks_below, found, visits}
+pub use Rattle.niss_search.specs.Descent.{GoesThrough, descent_state, Descends, DescentState, StopsIn, looks_below}
+unfoldable pub use Rattle.niss_search.specs.Descent.{found_below, looks_beyond, found, visits}
 unfoldable pub use Rattle.niss_search.specs.Distance.{distance, all_sequences}
 pub use Rattle.niss_search.specs.Draw.{after_words, choice, choices}
 unfoldable pub use Rattle.niss_search.specs.Draw.{draw, next_words}

@@ -1,5 +1,4 @@
-use Rattle.niss_search.proofs.CountLaws.{count-recurrence, part-has-no-more, step-bound}
-use Rattle.niss_search.proofs.Bounds.{all_looks-bound, bound-small}
+use Rattle.niss_search.proofs.Bounds.{count-recurrence, part-has-no-more, step-bound, all_looks-bound, bound-small}
 use Rattle.niss_search.proofs.LookLemmas.{distance_at-least}
 use Rattle.niss_search.proofs.FillLemmas.{entries-counted, edge-fill-small, fill-small}
 use Rattle.niss_search.proofs.laws.counts_and_bounds.Goals as goal
