@@ -9,10 +9,9 @@ use Rattle.niss_search.proofs.Words.{GoesThrough, Ok, PositionsFollowCubes, Resu
 use Rattle.niss_search.proofs.Words.{Path, StoppedIn, StopsIn, WentThrough, all_looks_at, least_length_at, looks_at, near_looks_of}
 use Rattle.niss_search.proofs.Words.{near_solutions_of, option_map_or, reaching_at, solutions_at, Delivers, IfOk, NoSlackIsLeast}
 use Rattle.niss_search.proofs.Bounds.{least-le, least-within, all_looks-bound, looks-sum-small, turns_of-length}
-use Rattle.niss_search.proofs.DistanceLemmas.{first_or-from, first_or-le}
 use Rattle.niss_search.proofs.ListLemmas.{list_any-filter, filter-none, flat_map-none, in-range, range-push, range-split}
 use Rattle.niss_search.proofs.DepthFirst.{found_all, visits_all}
-use Rattle.niss_search.proofs.LookLemmas.{distance_at-goal, distance_at-turn}
+use Rattle.niss_search.proofs.LookLemmas.{distance_at-goal, distance_at-turn, first_or-from, first_or-le}
 use Rattle.niss_search.specs.declared.outcome.Outcome.{Outcome}
 use Rattle.niss_search.proofs.DescentLemmas.{Descends-then, StopsIn-before}
 use Rattle.niss_search.proofs.Transfer.{solutions-cube, all_looks-cube}

@@ -3,10 +3,8 @@ pub mod ListLemmas
 pub mod DescentLemmas
 pub mod DepthFirst
 pub mod LookLemmas
-pub mod DistanceLemmas
 pub mod Bounds
 pub mod DeepeningLemmas
-pub mod PositionLemmas
 pub mod Transfer
 pub mod DrawLemmas
 pub mod EntryLemmas

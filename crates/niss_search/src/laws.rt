@@ -32,7 +32,7 @@ pub fn no_slack_is_least()
 {}
 
 /// What of a cube depends on its position alone.
-#[tactic(auto, using(crate::proofs::PositionLemmas::positions_follow_cubes))]
+#[tactic(auto, using(crate::proofs::Transfer::positions_follow_cubes))]
 pub fn positions_follow_cubes()
     ensures { PositionsFollowCubes }
 {

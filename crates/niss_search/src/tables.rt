@@ -167,10 +167,10 @@ impl<A: Allocator> Tables<A> {
         ensures value { result ≡ distance_at self.now position.now }
     {
         match &self.kind {
-            Kind::Edges(tables) => tables.look_at(position, meter),
-            Kind::AnyEdges(tables) => tables.look_at(position, meter),
-            Kind::Domino(tables) => tables.look_at(position, meter),
-            Kind::EitherDomino(tables) => tables.look_at(position, meter),
+            Kind::Edges(tables) => tables.look(tables.state(position), meter),
+            Kind::AnyEdges(tables) => tables.look(tables.state(position), meter),
+            Kind::Domino(tables) => tables.look(tables.state(position), meter),
+            Kind::EitherDomino(tables) => tables.look(tables.state(position), meter),
         }
     }
 }
