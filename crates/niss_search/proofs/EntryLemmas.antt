@@ -2,17 +2,13 @@
 use Rattle.niss_search.proofs.Words.{entry_distance, position_after, coordinates_after, coordinates_of, InversesOfSteps, get_or-replicate}
 use Rattle.niss_search.proofs.Words.{ℕ, slice_index, is_reached_at, AreCoordinates, inverse_turn, number_after, entry_number, TwistAndSlice}
 use Rattle.niss_search.proofs.Words.{Coordinates, distance_at, Alternative, HasPosition, entry_after, EntriesTurn, div-mul-add, mod-mul-add}
-use Rattle.niss_search.proofs.Words.{count_for, leb_tells, replicate, AreEntries, ArePlaces, AreStarts, row_length, nat_tests, position_of}
-use Rattle.niss_search.proofs.Words.{arith, turns_of, Contains, turn_at, IsFilled, are_zero, goals_of, byte_at, entry_at, or-false, IsEntry}
-use Rattle.niss_search.proofs.Words.{◌≡◌, length, ◌+◌, List, refl, Turn, subst, Step, ◌==◌, Place, Axis, Domino, Edges, Goal, IsCube, lit<}
-use Rattle.niss_search.proofs.Words.{◌<◌, ap, ◌∙◌, sym, ◌≤◌, [], ◌*◌, ◌-◌, ◌∷◌, suc, map, leb, inl, inr, ◌/◌, ◌%◌}
+use Rattle.niss_search.proofs.Words.{count_for, replicate, AreEntries, ArePlaces, AreStarts, row_length, nat_tests, position_of, arith}
+use Rattle.niss_search.proofs.Words.{turns_of, Contains, turn_at, IsFilled, are_zero, goals_of, byte_at, entry_at, or-false, IsEntry, ◌≡◌}
+use Rattle.niss_search.proofs.Words.{length, ◌+◌, List, refl, Turn, subst, Step, ◌==◌, Place, Axis, Domino, Edges, Goal, IsCube, lit<, ◌<◌}
+use Rattle.niss_search.proofs.Words.{ap, ◌∙◌, sym, ◌≤◌, [], ◌*◌, ◌-◌, ◌∷◌, suc, map, leb, ◌/◌, ◌%◌}
 use Rattle.niss_cube.specs.declared.cube.coordinate.Coordinate.TheVariants.{Flip, Twist, Slice}
 use Rattle.niss_search.proofs.Bounds.{turns_of-length}
 use Rattle.niss_search.proofs.LookLemmas.{distance_at-goal, distance_at-turn, distance_at-most, distance_at-nearer}
-
-pub count_for-some : (g : Goal) → 0 < count_for g
-count_for-some (Edges a) = lit< tt
-count_for-some (Domino o a) = lit< tt
 
 pub count_for-bound : (g : Goal) → count_for g < 1082566
 count_for-bound (Edges a) = lit< tt
@@ -64,7 +60,7 @@ table-answer alt bytes filled c h =
     ∙ byte_at-all (distance_at alt.step (entry_at alt.goal (entry_number c) ∷ [])) (distance_at-most alt.step _)
     ∙ ap (λ d. distance_at alt.step (d ∷ [])) h.1 where
       byte_at-all : (d : ℕ) → d ≤ 21 → byte_at 20 d ≡ d
-      byte_at-all d l = elim (leb_tells d 20) [ inl k ↦ rw k.0 refl | inr k ↦ rw k.0 (omega arith) ]
+      byte_at-all d l = grind (arith, nat_tests)
 
 -- the goal is entry 0
 zero-alone : (g : Goal) (i : ℕ) → are_zero (entry_at g i) ≡ (i == 0)

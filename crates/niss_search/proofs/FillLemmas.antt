@@ -6,12 +6,12 @@ use Rattle.niss_search.proofs.Words.{turns_of, sum_by-cons, Alternative, FillIsS
 use Rattle.niss_search.proofs.Words.{mul-le-mul, goal_ticks, flips_below, mod-mul-add, pairs_below, slice_index, entry_after, EntriesTurn}
 use Rattle.niss_search.proofs.Words.{Contains, count_for, map-append, sum_by-le, entries_of, fill_ticks, values_for, IsExtended, length-set}
 use Rattle.niss_search.proofs.Words.{flat_map, count_by, goals_of, entry_at, mul-add, leb_tells, IsFilling, eqb_tells, replicate, nat_tests}
-use Rattle.niss_search.proofs.Words.{◌≡◌, length, sum_by, nat_le, Domino, mul_comm, start_of, IsFilled, byte_at, leb-true, MayBeAt}
-use Rattle.niss_search.proofs.Words.{arith, List, refl, Bool, cond, ◌++◌, zero, Step, None, Flip, Axis, Edges, false, subst, nat_lt, ne_eqb}
-use Rattle.niss_search.proofs.Words.{◌+◌, ◌<◌, ◌∙◌, sym, ◌≤◌, [], ◌*◌, ◌∷◌, suc, map, All, ◌/◌, ◌^◌, Goal, ◌%◌, lit≤, true, Turn, ◌≢◌, ◌==◌}
-use Rattle.niss_search.proofs.Words.{ℕ, leb, inl, inr, ◌⊎◌, min, eqb, set, ◌-◌, ap₂}
+use Rattle.niss_search.proofs.Words.{◌≡◌, length, sum_by, nat_le, Domino, mul_comm, start_of, IsFilled, byte_at, leb-true, MayBeAt, arith}
+use Rattle.niss_search.proofs.Words.{List, refl, Bool, cond, ◌++◌, zero, Step, None, Flip, Axis, Edges, false, subst, nat_lt, ne_eqb, ◌+◌}
+use Rattle.niss_search.proofs.Words.{◌<◌, ◌∙◌, sym, ◌≤◌, [], ◌*◌, ◌∷◌, suc, map, All, ◌/◌, ◌^◌, Goal, ◌%◌, lit≤, true, Turn, ◌≢◌, ◌==◌, ℕ}
+use Rattle.niss_search.proofs.Words.{inl, inr, min, set, ◌-◌, ap₂}
 use Rattle.niss_search.proofs.ListLemmas.{range_with_len-append, sum_by-same, sum_by-map, sum_by-flat_map, sum_by-none, sum_by-range_more}
-use Rattle.niss_search.proofs.EntryLemmas.{count_for-some, count_for-bound, entry_distance-zero, entry_distance-turn, entry_distance-back}
+use Rattle.niss_search.proofs.EntryLemmas.{count_for-bound, entry_distance-zero, entry_distance-turn, entry_distance-back}
 use Rattle.niss_search.proofs.EntryLemmas.{entry_distance-nearer}
 use Rattle.niss_search.proofs.Bounds.{turns_of-length, turns_of-oriented}
 
@@ -63,13 +63,7 @@ may-meet level d byte small h near = elim (leb_tells d level) [
 ]
 
 may-end : (level d byte : ℕ) → MayBeAt level d byte → (d ≡ level + 1 → byte < 21) → byte ≡ byte_at (level + 1) d
-may-end level d byte h met = elim (leb_tells d (level + 1)) [
-  | inl e ↦ rw e.0 (elim (leb_tells d level) [
-    | inl n ↦ h.near n.1
-    | inr n ↦ h.met (λ q. absurd (omega (arith, met (omega arith))))
-  ])
-  | inr e ↦ rw e.0 (elim (eqb_tells byte 21) [ inl q ↦ q.1 | inr q ↦ absurd (omega (arith, h.met q.1, h.next q.1)) ])
-]
+may-end level d byte h met = grind (arith, nat_tests, h.near, h.met, h.next)
 
 -- what holds of the byte that is set and of each other as it was holds of each
 set-each : (P : ℕ → ℕ → Type 0) (xs : List ℕ) (j v : ℕ) → j < length xs → P j v → ((k : ℕ) → P k (slice_index xs k)) → (k : ℕ) → P k (slice_index (set xs j v) k)
@@ -142,19 +136,15 @@ module _ (alt : Alternative) (level : ℕ) (xs : List ℕ) (f : IsFilling alt le
 pub filled-start : (alt : Alternative) (n : ℕ) → n ≡ count_for alt.goal → IsFilled alt 0 (set (replicate n 21) 0 0)
 filled-start alt n e = record {
   size = length-set (replicate n 21) 0 0 ∙ length-replicate n 21 ∙ e;
-  bytes = λ i l. byte i l (eqb_tells i 0);
-} where
-  some : 0 < length {A = ℕ} (replicate n 21)
-  some = omega (arith, length-replicate {A = ℕ} n 21, count_for-some alt.goal)
-
-  byte : (i : ℕ) → i < count_for alt.goal → ((eqb i 0 ≡ true) × (i ≡ 0)) ⊎ ((eqb i 0 ≡ false) × (i ≢ 0)) → slice_index (set (replicate n 21) 0 0) i ≡ byte_at 0 (entry_distance alt i)
-  byte i l (inl q) =
-      let here : leb (entry_distance alt i) 0 ≡ true = entry_distance-zero alt i ∙ q.0 in
-      let zero : entry_distance alt i ≡ 0 = omega (arith, leb-true _ 0 here) in
-      rw zero (ap (slice_index (set (replicate n 21) 0 0)) q.1 ∙ get_or-set_same (replicate n 21) 0 0 0 some)
-  byte i l (inr q) =
-      let away : leb (entry_distance alt i) 0 ≡ false = entry_distance-zero alt i ∙ q.0 in
-      rw away (get_or-set_other (replicate n 21) 0 i 0 0 q.1 ∙ get_or-replicate n i 21 0 (omega arith))
+  bytes = λ i l. elim (eqb_tells i 0) [
+    | inl q ↦
+        let zero : entry_distance alt i ≡ 0 = omega (arith, leb-true _ 0 (entry_distance-zero alt i ∙ q.0)) in
+        let some : 0 < length {A = ℕ} (replicate n 21) = omega (arith, length-replicate {A = ℕ} n 21) in
+        rw zero (ap (slice_index (set (replicate n 21) 0 0)) q.1 ∙ get_or-set_same (replicate n 21) 0 0 0 some)
+    | inr q ↦
+        rw (entry_distance-zero alt i ∙ q.0) (get_or-set_other (replicate n 21) 0 i 0 0 q.1 ∙ get_or-replicate n i 21 0 (omega arith))
+  ];
+}
 
 module _ (axis : Axis) (n : ℕ) where
   -- a pair by its number
@@ -212,9 +202,9 @@ ticks-within : (s : Step) (entries : List Coordinates) (count : ℕ) → length 
 ticks-within s entries count e =
     omega (arith, mul-le-mul_left (length (turns_of s)) (count_by-le-length (near s) entries), ap (λ n. length (turns_of s) * n) e, mul_comm (length (turns_of s)) count)
 
-pub ticks-at-most : (s : Step) → fill_ticks s ≤ entry_count s * length (turns_of s)
+pub ticks_at_most : (s : Step) → fill_ticks s ≤ entry_count s * length (turns_of s)
 unfolding fill_ticks
-ticks-at-most s = ticks-within s (entries_of s) (entry_count s) (entries-counted s)
+ticks_at_most s = ticks-within s (entries_of s) (entry_count s) (entries-counted s)
 
 -- the turns that the fill of a step's tables tries are those of its goals
 ticks-of-goals : (s : Step) → fill_ticks s ≡ sum_by (λ g. goal_ticks record { step = s; goal = g }) (goals_of s)

@@ -150,8 +150,8 @@ either [] c x = ap (λ b. b || list_any are_zero x) (sym (or-false (are_zero c))
 either (t ∷ s) c x = either s (coordinates_after c t) (position_after x t)
 
 -- the distance of a position is the least of those of its coordinates
-pub distance_at-least : DistanceIsLeast
+pub distance_at_least : DistanceIsLeast
 unfolding distance_at
-distance_at-least step c x =
+distance_at_least step c x =
     ap (distance (turns_of step)) (λ i s. either s c x i)
     ∙ distance-either (turns_of step) (λ s. is_reached_at (fold position_after (c ∷ []) s)) (λ s. is_reached_at (fold position_after x s))

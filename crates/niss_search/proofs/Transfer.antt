@@ -8,9 +8,9 @@ use Rattle.niss_search.proofs.Words.{Coordinates, distance_at, last_length, unwr
 use Rattle.niss_search.proofs.Words.{length, may_follow, reaches_at, all_looks, solutions, All-append, All-filter, StartIsKept, position_of}
 use Rattle.niss_search.proofs.Words.{turns_of, Contains, flat_map, count_by, list_any, reaching, distance, All-head, may_start, zero_test}
 use Rattle.niss_search.proofs.Words.{List, All-push, All-tail, All-take, reached, All-cons, All-map, are_zero, goals_of, slice_of, twist_of}
-use Rattle.niss_search.proofs.Words.{ap, filter, nat_le, lt-leb, turned, IsTrue, reaches, All-nil, Option, Domino, IsCube, SameMap, flip_of}
-use Rattle.niss_search.proofs.Words.{arith, refl, Bool, Turn, ◌++◌, zero, Step, take, Place, looks, up_to, fold, true, subst, Edges, holds}
-use Rattle.niss_search.proofs.Words.{◌≡◌, ℕ, ◌∙◌, sym, [], ◌-◌, ◌∷◌, suc, map, leb, All, ◌↔◌, Flip, Axis, Goal}
+use Rattle.niss_search.proofs.Words.{ap, filter, nat_le, turned, IsTrue, reaches, All-nil, Option, Domino, IsCube, SameMap, flip_of, arith}
+use Rattle.niss_search.proofs.Words.{refl, Bool, Turn, ◌++◌, zero, Step, take, Place, looks, up_to, fold, true, subst, Edges, holds, ◌≡◌, ℕ}
+use Rattle.niss_search.proofs.Words.{◌∙◌, sym, [], ◌-◌, ◌∷◌, suc, map, leb, All, ◌↔◌, Flip, Axis, Goal, leb-true}
 use Rattle.niss_search.proofs.ListLemmas.{Contains-first, Contains-later, find-same, flat_map-same, sum_by-same, list_any-filter}
 use Rattle.niss_search.proofs.LookLemmas.{reached_in, distance_at-goal}
 use Rattle.niss_cube.specs.declared.cube.coordinate.Coordinate.TheVariants as coordinate
@@ -178,7 +178,5 @@ module _ (law : PositionsFollowCubes) (step : Step) where
     -- the distance is 0 exactly where the step is reached
     pub distance-reached-cube : (distance_at step x ≡ 0) ↔ IsTrue (reached step e)
     distance-reached-cube =
-        by_test (distance_at step x) (reached step e) (distance_at-goal step x ∙ sym (law.goal step e x h)) where
-          by_test : (n : ℕ) (r : Bool) → leb n 0 ≡ r → (n ≡ 0) ↔ IsTrue r
-          by_test zero r q = (λ z. sym q, λ k. refl)
-          by_test (suc n) r q = (λ z. absurd (omega (arith, z)), λ k. absurd (cc (k, q, lt-leb (suc n) 0 (omega arith))))
+        let same : leb (distance_at step x) 0 ≡ reached step e = distance_at-goal step x ∙ sym (law.goal step e x h) in
+        (λ z. sym same ∙ ap (λ n. leb n 0) z, λ k. omega (arith, leb-true (distance_at step x) 0 (same ∙ k)))
