@@ -1,14 +1,22 @@
--- The looks are within the bound, and the bound is small.
+-- How many canonical sequences there are, by the laws over their counts; the looks are within the bound, and the bound is small.
 use Rattle.niss_search.proofs.Words.{◌≡◌, arith, length, ◌+◌, ◌<◌, ℕ, ap, ◌≤◌, [], List, turns_of, true, ◌*◌, ◌-◌, ◌∷◌, Bool, Turn, false}
 use Rattle.niss_search.proofs.Words.{suc, cond, range_with_len, ◌++◌, zero, get_or, may_follow, flat_map, last_turn, subst, count_by}
 use Rattle.niss_search.proofs.Words.{filter, sum_by, sum_by-cons, None, list_any, Option, Some, ◌^◌, last_length, looks, reaching}
-use Rattle.niss_search.proofs.Words.{unwrap_or, up_to, all_canonical, canonical_extensions, find, least_length, length-flat_map, all_looks}
-use Rattle.niss_search.proofs.Words.{is_looked_at, length-map, look_bound, sum_by-le-sum_by, count_by-le-length, count_of_length, sum_by-le}
-use Rattle.niss_search.proofs.Words.{BoundIsSmall, length-filter, pow-suc}
+use Rattle.niss_search.proofs.Words.{unwrap_or, up_to, all_canonical, canonical_extensions, find, least_length, length-flat_map}
+use Rattle.niss_search.proofs.Words.{all_looks, is_looked_at, length-map, look_bound, sum_by-le-sum_by, count_by-le-length}
+use Rattle.niss_search.proofs.Words.{count_of_length, sum_by-le, BoundIsSmall, length-filter, pow-suc, ◌∙◌, sym, refl, B, D, F, Face, L}
+use Rattle.niss_search.proofs.Words.{R, U, face_may_follow, last_turn-push, turn_order, CountRecurrence, PartHasNoMore, StepBoundIsLess}
+use Rattle.niss_search.proofs.Words.{StepTurnsInOrder, goes_first, map, not}
+use Rattle.std.proofs.Math.Nat.{pow-le-pow_right}
+use Rattle.std.proofs.lemmas.List.Filters.{sum_by-filter_both}
+use Rattle.niss_search.proofs.ListLemmas.{sum_by-same}
+use Rattle.niss_search.proofs.DepthFirst.{below, below-all}
 pub use Rattle.niss_cube.proofs.CallerLemmas.{turns_of-length, turns_of-oriented}
 
+pub ruleset few_turns = (turns_of-length)
+
 -- the looks of a deepening are at most the canonical sequences of its lengths
-pub looks-le : (turns : List Turn) (far : List Turn → ℕ) (d : ℕ) → looks turns far d ≤ sum_by (count_of_length turns) (up_to d)
+looks-le : (turns : List Turn) (far : List Turn → ℕ) (d : ℕ) → looks turns far d ≤ sum_by (count_of_length turns) (up_to d)
 unfolding looks
 looks-le turns far d =
     sum_by-le-sum_by (λ k. count_by (is_looked_at far d) (all_canonical turns k)) (count_of_length turns) (up_to d) (λ k. count_by-le-length (is_looked_at far d) (all_canonical turns k))
@@ -21,38 +29,20 @@ range-le f m a (suc n) h =
 length-filter-le : {X : Type 0} (m : X → Bool) (xs : List X) → length (filter m xs) ≤ length xs
 length-filter-le m xs = omega (arith, length-filter m xs, count_by-le-length m xs)
 
-length-extensions : (turns s : List Turn) → length turns ≤ 18 → length (canonical_extensions turns s) ≤ 18
-length-extensions turns s h =
-    omega (arith, length-map (filter (may_follow (last_turn s)) turns) (λ t. s ++ t ∷ []), length-filter-le (may_follow (last_turn s)) turns)
-
 count-le : (turns : List Turn) (k : ℕ) → length turns ≤ 18 → count_of_length turns k ≤ 18 ^ k
 unfolding all_canonical
 count-le turns zero h = omega arith
 count-le turns (suc k) h =
-    let one = λ (s : List Turn). length-extensions turns s h in
-    omega (arith, length-flat_map (canonical_extensions turns) (all_canonical turns k), sum_by-le (λ s. length (canonical_extensions turns s)) 18 (all_canonical turns k) (λ i d l. one (get_or (all_canonical turns k) i d)), count-le turns k h, pow-suc 18 k)
+    let each : (s : List Turn) → length (canonical_extensions turns s) ≤ 18 = λ s.
+    omega (arith, length-map (filter (may_follow (last_turn s)) turns) (λ t. s ++ t ∷ []), length-filter-le (may_follow (last_turn s)) turns) in
+    omega (arith, length-flat_map (canonical_extensions turns) (all_canonical turns k), sum_by-le (λ s. length (canonical_extensions turns s)) 18 (all_canonical turns k) (λ i d l. each (get_or (all_canonical turns k) i d)), count-le turns k h, pow-suc 18 k)
 
-pow-le : (k m : ℕ) → 18 ^ k ≤ 18 ^ (m + k)
-pow-le k zero =
-    let e : 0 + k ≡ k = omega arith in
-    omega (arith, ap (λ n. 18 ^ n) e)
-pow-le k (suc m) =
-    let e : suc m + k ≡ suc (m + k) = omega arith in
-    omega (arith, pow-le k m, pow-suc 18 (m + k), ap (λ n. 18 ^ n) e)
-
--- a bound on the counts of every length up to 20
-pub count-small : (turns : List Turn) (k : ℕ) → length turns ≤ 18 → k ≤ 20 → count_of_length turns k ≤ 18 ^ 20
-count-small turns k h l =
-    let e : 20 - k + k ≡ 20 = omega arith in
-    omega (arith, count-le turns k h, pow-le k (20 - k), ap (λ n. 18 ^ n) e)
-
-pub looks-small : (turns : List Turn) (far : List Turn → ℕ) (d : ℕ) → length turns ≤ 18 → d ≤ 20 → looks turns far d ≤ 21 * 18 ^ 20
-looks-small turns far d h l =
-    omega (arith, looks-le turns far d, range-le (count_of_length turns) (18 ^ 20) 0 (d + 1) (λ j m. count-small turns j h (omega arith)))
-
-pub looks-sum-small : (turns : List Turn) (far : List Turn → ℕ) (d : ℕ) → length turns ≤ 18 → d ≤ 21 → sum_by (looks turns far) (range_with_len 0 d) ≤ 21 * (21 * 18 ^ 20)
-looks-sum-small turns far d h l =
-    omega (arith, range-le (looks turns far) (21 * 18 ^ 20) 0 d (λ j m. looks-small turns far j h (omega arith)))
+-- by a bound on the counts of every length
+look_bound-small : (turns : List Turn) (n : ℕ) → length turns ≤ 18 → n ≤ 20 → look_bound turns n ≤ 21 * (21 * 18 ^ 20)
+unfolding look_bound
+look_bound-small turns n h l =
+    let each : (j : ℕ) → j ≤ 20 → count_of_length turns j ≤ 18 ^ 20 = λ j m. omega (arith, count-le turns j h, pow-le-pow_right {n = 18} (omega arith) m) in
+    omega (arith, range-le (λ d. sum_by (count_of_length turns) (up_to d)) (21 * 18 ^ 20) 0 (n + 1) (λ d m. omega (arith, range-le (count_of_length turns) (18 ^ 20) 0 (d + 1) (λ j k. each j (omega arith)))))
 
 pub least-le : (p : ℕ → Bool) (a n d b : ℕ) → a + n ≤ b + 1 → d ≤ b → unwrap_or (find p (range_with_len a n)) d ≤ b
 least-le p a zero d b h l = l
@@ -61,13 +51,13 @@ least-le p a (suc n) d b h l = by_test (p a) (omega arith) (least-le p (a + 1) n
   by_test true k r = k
   by_test false k r = r
 
-pub prefix-le : (f g : ℕ → ℕ) (a m n : ℕ) → ((j : ℕ) → f j ≤ g j) → m ≤ n → sum_by f (range_with_len a m) ≤ sum_by g (range_with_len a n)
+prefix-le : (f g : ℕ → ℕ) (a m n : ℕ) → ((j : ℕ) → f j ≤ g j) → m ≤ n → sum_by f (range_with_len a m) ≤ sum_by g (range_with_len a n)
 prefix-le f g a zero n h l = omega arith
 prefix-le f g a (suc m) zero h l = absurd (omega arith)
 prefix-le f g a (suc m) (suc n) h l =
     omega (arith, sum_by-cons f a (range_with_len (a + 1) m), sum_by-cons g a (range_with_len (a + 1) n), h a, prefix-le f g (a + 1) m n h (omega arith))
 
-pub last-within : (o : Option ℕ) (n slack : ℕ) → last_length o n slack ≤ n
+last-within : (o : Option ℕ) (n slack : ℕ) → last_length o n slack ≤ n
 last-within None n slack = omega arith
 last-within (Some least) n slack = omega arith
 
@@ -77,10 +67,10 @@ unfolding all_looks look_bound
 all_looks-bound turns reaches far n slack =
     prefix-le (looks turns far) (λ d. sum_by (count_of_length turns) (up_to d)) 0 (last_length (least_length turns reaches n) n slack + 1) (n + 1) (looks-le turns far) (omega (arith, last-within (least_length turns reaches n) n slack))
 
--- no more is found than there are sequences
-pub reaching-small : (turns : List Turn) (reaches : List Turn → Bool) (a m : ℕ) → length turns ≤ 18 → a + m ≤ 21 → length (flat_map (reaching turns reaches) (range_with_len a m)) ≤ 21 * 18 ^ 20
-reaching-small turns reaches a m h l =
-    omega (arith, length-flat_map (reaching turns reaches) (range_with_len a m), range-le (λ k. length (reaching turns reaches k)) (18 ^ 20) a m (λ j k. omega (arith, length-filter-le reaches (all_canonical turns j), count-small turns j h (omega arith))))
+pub looks-sum-small : (turns : List Turn) (far : List Turn → ℕ) (d : ℕ) → length turns ≤ 18 → d ≤ 21 → sum_by (looks turns far) (range_with_len 0 d) ≤ 21 * (21 * 18 ^ 20)
+unfolding look_bound
+looks-sum-small turns far d h l =
+    omega (arith, prefix-le (looks turns far) (λ d. sum_by (count_of_length turns) (up_to d)) 0 d 21 (looks-le turns far) l, look_bound-small turns 20 h (omega arith))
 
 pub least-within : (turns : List Turn) (reaches : List Turn → Bool) (n d : ℕ) → least_length turns reaches n ≡ Some d → d ≤ n
 unfolding least_length
@@ -90,6 +80,86 @@ least-within turns reaches n d e =
 
 -- the bound of a step is small
 pub bound-small : BoundIsSmall
+bound-small s n h = omega (arith, look_bound-small (turns_of s) n (turns_of-length s) h)
+
+sum_by-kept : {X Y : Type 0} (g : Y → ℕ) (h : X → Y) (m : X → Bool) (xs : List X) → sum_by g (map h (filter m xs)) ≡ sum_by (λ x. cond (m x) (g (h x)) 0) xs
+sum_by-kept g h m [] = refl
+sum_by-kept g h m (x ∷ xs) = by_test (m x) (sum_by-kept g h m xs) ∙ sym (sum_by-cons (λ y. cond (m y) (g (h y)) 0) x xs) where
+  by_test : (b : Bool) → sum_by g (map h (filter m xs)) ≡ sum_by (λ y. cond (m y) (g (h y)) 0) xs → sum_by g (map h (cond b (x ∷ filter m xs) (filter m xs))) ≡ cond b (g (h x)) 0 + sum_by (λ y. cond (m y) (g (h y)) 0) xs
+  by_test true e = sum_by-cons g (h x) (map h (filter m xs)) ∙ ap (λ n. g (h x) + n) e
+  by_test false e = omega arith
+
+length-below : (turns : List Turn) (k : ℕ) (p : List Turn) → length (below turns p (suc k)) ≡ sum_by (λ t. cond (may_follow (last_turn p) t) (length (below turns (p ++ t ∷ []) k)) 0) turns
+length-below turns k p =
+    length-flat_map (λ q. below turns q k) (canonical_extensions turns p)
+    ∙ sum_by-kept (λ q. length (below turns q k)) (λ t. p ++ t ∷ []) (may_follow (last_turn p)) turns
+
+cond-le : (b : Bool) (x y : ℕ) → x ≤ y → cond b x 0 ≤ cond b y 0
+cond-le true x y h = h
+cond-le false x y h = omega arith
+
+part-below : (part : Turn → Bool) (turns : List Turn) (k : ℕ) (p : List Turn) → length (below (filter part turns) p k) ≤ length (below turns p k)
+part-below part turns zero p = omega arith
+part-below part turns (suc k) p =
+    let f : Turn → ℕ = λ t. cond (may_follow (last_turn p) t) (length (below (filter part turns) (p ++ t ∷ []) k)) 0 in
+    let g : Turn → ℕ = λ t. cond (may_follow (last_turn p) t) (length (below turns (p ++ t ∷ []) k)) 0 in
+    let each : (t : Turn) → f t ≤ g t = λ t. cond-le (may_follow (last_turn p) t) _ _ (part-below part turns k (p ++ t ∷ [])) in
+    omega (arith, length-below (filter part turns) k p, length-below turns k p, sum_by-filter_both part (λ t. not (part t)) (λ t. refl) f turns, sum_by-le-sum_by f g turns each)
+
+pub part-has-no-more : PartHasNoMore
+part-has-no-more part turns k =
+    omega (arith, part-below part turns k [], ap length (below-all (filter part turns) k), ap length (below-all turns k))
+
+-- how many sequences of k turns may follow a turn of U, R or F, and one of D, L or B
+abbrev afters : ℕ → ℕ × ℕ
+afters zero = (1, 1)
+afters (suc k) = let n = afters k in (6 * n.0 + 9 * n.1, 6 * n.0 + 6 * n.1)
+
+abbrev after_face : Face → ℕ → ℕ
+after_face f k = cond (goes_first f) (afters k).0 (afters k).1
+
+-- the sum over the 18 turns after a turn of a face, where each turn counts by its face
+sum-after : (f : Face) (k : ℕ) → sum_by (λ t. cond (face_may_follow f t.face) (after_face t.face k) 0) turn_order ≡ after_face f (suc k)
+sum-after U k = omega arith
+sum-after D k = omega arith
+sum-after R k = omega arith
+sum-after L k = omega arith
+sum-after F k = omega arith
+sum-after B k = omega arith
+
+below-after : (k : ℕ) (p : List Turn) (t : Turn) → length (below turn_order (p ++ t ∷ []) k) ≡ after_face t.face k
+below-after zero p t = one (goes_first t.face) where
+  one : (b : Bool) → ◌≡◌ {A = ℕ} 1 (cond b 1 1)
+  one true = refl
+  one false = refl
+below-after (suc k) p t =
+    length-below turn_order k (p ++ t ∷ [])
+    ∙ sum_by-same (λ u. cond (may_follow (last_turn (p ++ t ∷ [])) u) (length (below turn_order ((p ++ t ∷ []) ++ u ∷ []) k)) 0) (λ u. cond (face_may_follow t.face u.face) (after_face u.face k) 0) turn_order (λ u.
+    rw (last_turn-push p t, below-after k (p ++ t ∷ []) u))
+    ∙ sum-after t.face k
+
+count-suc : (k : ℕ) → count_of_length turn_order (suc k) ≡ 9 * (afters k).0 + 9 * (afters k).1
+count-suc k =
+    sym (ap length (below-all turn_order (suc k)))
+    ∙ length-below turn_order k []
+    ∙ sum_by-same (λ u. length (below turn_order ([] ++ u ∷ []) k)) (λ u. after_face u.face k) turn_order (λ u. below-after k [] u)
+    ∙ sums (afters k).0 (afters k).1 where
+      sums : (a b : ℕ) → sum_by (λ (u : Turn). cond (goes_first u.face) a b) turn_order ≡ 9 * a + 9 * b
+      sums a b = omega arith
+
+pub count-recurrence : CountRecurrence
+count-recurrence zero h = absurd (omega arith)
+count-recurrence (suc k) h =
+    let e₂ : suc k + 2 ≡ suc (suc (suc k)) = omega arith in
+    let e₁ : suc k + 1 ≡ suc (suc k) = omega arith in
+    omega (arith, ap (count_of_length turn_order) e₂, ap (count_of_length turn_order) e₁, count-suc (suc (suc k)), count-suc (suc k), count-suc k)
+
+-- a part of the turns has no larger bound
+part-bound : (part : Turn → Bool) (turns : List Turn) (n : ℕ) → look_bound (filter part turns) n ≤ look_bound turns n
 unfolding look_bound
-bound-small s n h =
-    omega (arith, range-le (λ d. sum_by (count_of_length (turns_of s)) (up_to d)) (21 * 18 ^ 20) 0 (n + 1) (λ d l. omega (arith, range-le (count_of_length (turns_of s)) (18 ^ 20) 0 (d + 1) (λ j m. count-small (turns_of s) j (turns_of-length s) (omega arith)))))
+part-bound part turns n =
+    sum_by-le-sum_by (λ d. sum_by (count_of_length (filter part turns)) (up_to d)) (λ d. sum_by (count_of_length turns) (up_to d)) (up_to n) (λ d. sum_by-le-sum_by (count_of_length (filter part turns)) (count_of_length turns) (up_to d) (part-has-no-more part turns))
+
+pub step-bound : StepTurnsInOrder → StepBoundIsLess
+step-bound in_order s n =
+    subst (λ (turns : List Turn). look_bound turns n ≤ look_bound turn_order n) (sym (in_order s).1) (part-bound (in_order s).0 turn_order n)

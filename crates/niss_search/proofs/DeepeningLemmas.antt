@@ -1,45 +1,120 @@
--- Deepenings one after another, and what they are for a cube.
-use Rattle.niss_search.proofs.Words.{◌≡◌, arith, length, ◌+◌, ◌<◌, ℕ, ap, ◌∙◌, sym, ◌≤◌, [], List, turns_of, refl, ◌-◌, ◌∷◌, Bool, Turn}
-use Rattle.niss_search.proofs.Words.{range_with_len, ◌++◌, flat_map, Coordinates, sum_by, sum_by-cons, Step, None, Option, Some, ◌^◌, Place}
-use Rattle.niss_search.proofs.Words.{at_limit, flat_map-append, found_below, last_length, looks, min, reaches_at, reaching, unwrap_or}
-use Rattle.niss_search.proofs.Words.{up_to, HasPosition, append-nil, least_length, nat_lt, sum_by-append, Err, GoesThrough, Ok}
-use Rattle.niss_search.proofs.Words.{PositionsFollowCubes, Result, all_looks, descent_state, look_bound, looks_below, solution_lengths}
-use Rattle.niss_search.proofs.Words.{solutions, OnErr, OnOk, Path, StoppedIn, StopsIn, WentThrough, all_looks_at, far_at, from_to}
-use Rattle.niss_search.proofs.Words.{least_length_at, looks_at, near_looks_of, near_solutions_of, option_map_or, option_or, reaching_at}
-use Rattle.niss_search.proofs.Words.{solutions_at, then_some, Delivers, IfOk, NoSlackIsLeast}
+-- The search by levels: deepenings one after another, what those up to one say of the whole, and what they are for a cube.
+use Rattle.niss_search.proofs.Words.{◌≡◌, arith, length, ◌+◌, ◌<◌, ℕ, ap, ◌∙◌, sym, ◌≤◌, [], List, turns_of, refl, true, ◌-◌, ◌∷◌, Bool}
+use Rattle.niss_search.proofs.Words.{Turn, false, cond, range_with_len, ◌++◌, flat_map, Coordinates, distance_at, Step, None, list_any}
+use Rattle.niss_search.proofs.Words.{position_after, Option, Some, nat_le, flat_map-append, found_below, last_length, looks, reaches_at}
+use Rattle.niss_search.proofs.Words.{reaching, unwrap_or, up_to, all_canonical, find, is_reached_at, least_length, looks_beyond}
+use Rattle.niss_search.proofs.Words.{looks_below, solution_lengths, solutions, far_at, from_to, option_or, then_some, find-append, sum_by}
+use Rattle.niss_search.proofs.Words.{sum_by-cons, ◌^◌, Place, at_limit, min, HasPosition, append-nil, nat_lt, sum_by-append, Err}
+use Rattle.niss_search.proofs.Words.{GoesThrough, Ok, PositionsFollowCubes, Result, all_looks, descent_state, look_bound, OnErr, OnOk}
+use Rattle.niss_search.proofs.Words.{Path, StoppedIn, StopsIn, WentThrough, all_looks_at, least_length_at, looks_at, near_looks_of}
+use Rattle.niss_search.proofs.Words.{near_solutions_of, option_map_or, reaching_at, solutions_at, Delivers, IfOk, NoSlackIsLeast}
+use Rattle.niss_search.proofs.Bounds.{least-le, least-within, all_looks-bound, looks-sum-small, turns_of-length}
+use Rattle.niss_search.proofs.ListLemmas.{list_any-filter, filter-none, flat_map-none, in-range, range-push, range-split}
+use Rattle.niss_search.proofs.DepthFirst.{found_all, visits_all}
+use Rattle.niss_search.proofs.LookLemmas.{distance_at-goal, distance_at-turn, first_or-from, first_or-le}
 use Rattle.niss_search.specs.declared.outcome.Outcome.{Outcome}
-use Rattle.niss_search.proofs.Bounds.{least-within, all_looks-bound, looks-sum-small, reaching-small, turns_of-length}
 use Rattle.niss_search.proofs.DescentLemmas.{Descends-then, StopsIn-before}
 use Rattle.niss_search.proofs.Transfer.{solutions-cube, all_looks-cube}
-use Rattle.niss_search.proofs.Levels.{least_below, least_below-more, level-within, least_length-is, solutions-up_to, found_below-level}
-use Rattle.niss_search.proofs.Levels.{looks_below-level}
-use Rattle.niss_search.proofs.ListLemmas.{range-push, range-split}
 
-from_to-one : (a b : ℕ) → b ≡ a → from_to a b ≡ a ∷ []
-from_to-one a b e =
-    let one : b + 1 - a ≡ 1 = omega arith in
-    ap (range_with_len a) one
+pub found_below-level : (step : Step) (x : List Coordinates) (d : ℕ) → found_below step x [] d ≡ reaching (turns_of step) (reaches_at step x) d
+unfolding found_below
+found_below-level step x d = found_all (turns_of step) position_after (distance_at step) is_reached_at x (distance_at-goal step) (distance_at-turn step) d
 
--- no solution is longer than the least, without slack
-pub no-slack : NoSlackIsLeast
+pub looks_below-level : (step : Step) (x : List Coordinates) (d : ℕ) → looks_below step x [] d ≡ looks (turns_of step) (far_at step x) d
+unfolding looks_beyond
+looks_below-level step x d = visits_all (turns_of step) position_after (distance_at step) is_reached_at x (distance_at-goal step) (distance_at-turn step) d
+
+module _ (turns : List Turn) (reaches : List Turn → Bool) where
+  -- Does a canonical sequence of k turns reach?
+  abbrev pub is_level : ℕ → Bool
+  is_level k = list_any reaches (all_canonical turns k)
+
+  -- the least length below d of one that reaches
+  abbrev pub least_below : ℕ → Option ℕ
+  least_below d = find is_level (range_with_len 0 d)
+
+  -- by what the deepening to d finds
+  pub least_below-more : (d : ℕ) → least_below (d + 1) ≡ option_or (least_below d) (then_some (nat_le 1 (length (reaching turns reaches d))) d)
+  least_below-more d =
+      ap (find is_level) (range-push d)
+      ∙ find-append is_level (range_with_len 0 d) (d ∷ [])
+      ∙ ap (option_or (least_below d)) (one (is_level d) ∙ ap (λ b. then_some b d) (list_any-filter reaches (all_canonical turns d))) where
+        one : (b : Bool) → cond b (Some d) None ≡ then_some b d
+        one true = refl
+        one false = refl
+
+  -- a length within the last one is so still when it was deepened to
+  pub level-next : (n slack d : ℕ) → d ≤ last_length (least_below d) n slack → d ≤ last_length (least_below (d + 1)) n slack
+  level-next n slack d h = rw (least_below-more d) (by_least (least_below d) (nat_le 1 (length (reaching turns reaches d))) h) where
+    by_least : (o : Option ℕ) (b : Bool) → d ≤ last_length o n slack → d ≤ last_length (option_or o (then_some b d)) n slack
+    by_least None true k = omega arith
+    by_least None false k = k
+    by_least (Some l) b k = k
+
+  module _ (n : ℕ) where
+    from-level : (d : ℕ) → d ≤ n + 1 → least_length turns reaches n ≡ option_or (least_below d) (find is_level (range_with_len d (n + 1 - d)))
+    unfolding least_length
+    from-level d h = ap (find is_level) (range-split d (n + 1) h) ∙ find-append is_level (range_with_len 0 d) (range_with_len d (n + 1 - d))
+
+    pub level-within : (slack d : ℕ) → d ≤ last_length (least_below d) n slack → d ≤ last_length (least_length turns reaches n) n slack
+    level-within slack d h = by_least (least_below d) refl h where
+      later : (o : Option ℕ) → d ≤ unwrap_or o (n + 1) → d ≤ n → d ≤ last_length o n slack
+      later None from within = within
+      later (Some e) from within = omega (arith, from)
+
+      by_least : (o : Option ℕ) → least_below d ≡ o → d ≤ last_length o n slack → d ≤ last_length (least_length turns reaches n) n slack
+      by_least None e k =
+          rw (from-level d (omega (arith, k)), e) (later _ (first_or-from is_level d (n + 1 - d) (n + 1) (omega (arith, k))) k)
+      by_least (Some l) e k = rw (from-level d (omega (arith, k)), e) k
+
+    pub least_length-is : (slack d : ℕ) → d ≡ last_length (least_below d) n slack + 1 → least_length turns reaches n ≡ least_below d
+    unfolding least_length
+    least_length-is slack d h = by_least (least_below d) refl h where
+      by_least : (o : Option ℕ) → least_below d ≡ o → d ≡ last_length o n slack + 1 → find is_level (range_with_len 0 (n + 1)) ≡ o
+      by_least None e k = ap least_below (sym k) ∙ e
+      by_least (Some l) e k = from-level d (omega (arith, k)) ∙ ap (λ o. option_or o (find is_level (range_with_len d (n + 1 - d)))) e
+
+    -- below the least length there is nothing
+    nothing-below : (k : ℕ) → k < unwrap_or (least_length turns reaches n) (n + 1) → reaching turns reaches k ≡ []
+    unfolding least_length
+    nothing-below k h = filter-none reaches (all_canonical turns k) (by_test (is_level k) refl) where
+      by_test : (b : Bool) → is_level k ≡ b → is_level k ≡ false
+      by_test true e =
+          let within : unwrap_or (least_below (n + 1)) (n + 1) ≤ n + 1 = least-le is_level 0 (n + 1) (n + 1) (n + 1) (omega arith) (omega arith) in
+          absurd (omega (arith, h, within, first_or-le is_level 0 (n + 1) (n + 1) k (omega arith) (omega (arith, h, within)) e))
+      by_test false e = e
+
+    -- so the solutions are all that reach, up to the last length
+    pub solutions-up_to : (slack : ℕ) → solutions turns reaches n slack ≡ flat_map (reaching turns reaches) (up_to (last_length (least_length turns reaches n) n slack))
+    unfolding solutions
+    solutions-up_to slack = by_least (least_length turns reaches n) nothing-below (least-within turns reaches n) where
+      by_least : (o : Option ℕ) → ((k : ℕ) → k < unwrap_or o (n + 1) → reaching turns reaches k ≡ []) → ((d : ℕ) → o ≡ Some d → d ≤ n)
+          → flat_map (reaching turns reaches) (solution_lengths o n slack) ≡ flat_map (reaching turns reaches) (up_to (last_length o n slack))
+      by_least None none within = sym (flat_map-none (reaching turns reaches) (range_with_len 0 (n + 1)) (λ k m. none k (omega (arith, in-range 0 (n + 1) k m))))
+      by_least (Some d) none within =
+          let top = last_length (Some d) n slack in
+          sym (ap (flat_map (reaching turns reaches)) (range-split d (top + 1) (omega (arith, within d refl)))
+          ∙ flat_map-append (reaching turns reaches) (range_with_len 0 d) (from_to d top)
+          ∙ ap (λ ps. ps ++ flat_map (reaching turns reaches) (from_to d top)) (flat_map-none (reaching turns reaches) (range_with_len 0 d) (λ k m. none k (omega (arith, in-range 0 d k m)))))
+
+-- without slack the last length is the least
+last-is : (o : Option ℕ) (n : ℕ) → ((d : ℕ) → o ≡ Some d → d ≤ n) → last_length o n 0 ≡ unwrap_or o n
+last-is None n h = refl
+last-is (Some d) n h = omega (arith, h d refl)
+
+pub no_slack : NoSlackIsLeast
 unfolding solutions all_looks
-no-slack = record {
-  listed = λ turns reaches n. listed turns reaches n (least_length turns reaches n) refl;
-  looked = λ turns reaches far n. looked turns reaches far n (least_length turns reaches n) refl;
+no_slack = record {
+  listed = λ turns reaches n. listed turns reaches n (least_length turns reaches n) (least-within turns reaches n);
+  looked = λ turns reaches far n. ap (λ k. sum_by (looks turns far) (up_to k)) (last-is (least_length turns reaches n) n (least-within turns reaches n));
 } where
-  listed : (turns : List Turn) (reaches : List Turn → Bool) (n : ℕ) (o : Option ℕ) → least_length turns reaches n ≡ o → flat_map (reaching turns reaches) (solution_lengths (least_length turns reaches n) n 0) ≡ option_map_or (reaching turns reaches) (least_length turns reaches n) []
-  listed turns reaches n None e = rw e refl
-  listed turns reaches n (Some d) e =
-      let same : min n (d + 0) ≡ d = omega (arith, least-within turns reaches n d e) in
-      rw e (ap (flat_map (reaching turns reaches)) (from_to-one d (min n (d + 0)) same) ∙ append-nil (reaching turns reaches d))
+  listed : (turns : List Turn) (reaches : List Turn → Bool) (n : ℕ) (o : Option ℕ) → ((d : ℕ) → o ≡ Some d → d ≤ n) → flat_map (reaching turns reaches) (solution_lengths o n 0) ≡ option_map_or (reaching turns reaches) o []
+  listed turns reaches n None h = refl
+  listed turns reaches n (Some d) h =
+      let one : min n (d + 0) + 1 - d ≡ 1 = omega (arith, h d refl) in
+      ap (λ k. flat_map (reaching turns reaches) (range_with_len d k)) one ∙ append-nil (reaching turns reaches d)
 
-  looked : (turns : List Turn) (reaches : List Turn → Bool) (far : List Turn → ℕ) (n : ℕ) (o : Option ℕ) → least_length turns reaches n ≡ o → sum_by (looks turns far) (up_to (last_length (least_length turns reaches n) n 0)) ≡ sum_by (looks turns far) (up_to (unwrap_or (least_length turns reaches n) n))
-  looked turns reaches far n None e = rw e refl
-  looked turns reaches far n (Some d) e =
-      let same : min n (d + 0) ≡ d = omega (arith, least-within turns reaches n d e) in
-      rw e (ap (λ k. sum_by (looks turns far) (up_to k)) same)
-
--- one deepening
+-- one deepening, and one more
 module _ (step : Step) (x : List Coordinates) (d : ℕ) where
   pub found-level : found_below step x [] d ≡ reaching_at step x (d ∷ [])
   found-level =
@@ -49,7 +124,6 @@ module _ (step : Step) (x : List Coordinates) (d : ℕ) where
   looks-level =
       omega (arith, looks_below-level step x d, sum_by-cons (looks (turns_of step) (far_at step x)) d [])
 
-module _ (step : Step) (x : List Coordinates) (d : ℕ) where
   looks-push : looks_at step x (range_with_len 0 (d + 1)) ≡ looks_at step x (range_with_len 0 d) + looks_at step x (d ∷ [])
   looks-push = ap (looks_at step x) (range-push d) ∙ sum_by-append (looks (turns_of step) (far_at step x)) (range_with_len 0 d) (d ∷ [])
 
@@ -71,13 +145,8 @@ module _
     pub goes-on : {m2 e : ℕ} {s2 : K} → GoesThrough took refused (reaching_at step x (d ∷ [])) (looks_at step x (d ∷ [])) (descent_state m1 0 s1) (descent_state m2 e s2)
         → GoesThrough took refused (reaching_at step x (range_with_len 0 (d + 1))) (looks_at step x (range_with_len 0 (d + 1))) (descent_state m0 0 s0) (descent_state m2 (c + e) s2)
     goes-on {m2} {e} {s2} h = rw (reaching-push step x d, looks-push step x d)
-        (Descends-then took refused {F = Unit {0}} (Ok tt) (reaching_at step x (range_with_len 0 d)) (reaching_at step x (d ∷ [])) (looks_at step x (range_with_len 0 d)) (looks_at step x (d ∷ [])) (descent_state m0 0 s0) (descent_state m1 c s1) (descent_state m2 (c + e) s2) went
+        (Descends-then {F = Unit {0}} (Ok tt) (reaching_at step x (d ∷ [])) (looks_at step x (d ∷ [])) (descent_state m2 (c + e) s2) went
         record { delivered = h.delivered; counted = omega (arith, h.counted); looked = h.looked })
-
-    pub found-room : {m2 e : ℕ} {s2 : K} → GoesThrough took refused (reaching_at step x (d ∷ [])) (looks_at step x (d ∷ [])) (descent_state m1 0 s1) (descent_state m2 e s2)
-        → d ≤ 20 → c + e < 2 ^ 128
-    found-room h k =
-        omega (arith, (goes-on h).counted, reaching-small (turns_of step) (reaches_at step x) 0 (d + 1) (turns_of-length step) (omega arith))
 
     -- or stop
     pub stops-here : d ≤ last_length (least_below (turns_of step) (reaches_at step x) d) n slack
@@ -96,8 +165,8 @@ module _
         let looked : looks_at step x (up_to last) ≡ looks_at step x (range_with_len 0 d) + looks_at step x (d ∷ []) + looks_at step x more =
         omega (arith, ap (looks_at step x) parts, sum_by-append (looks (turns_of step) (far_at step x)) (range_with_len 0 (d + 1)) more, looks-push step x d) in
         rw (found, looked)
-        (StopsIn-before took refused (reaching_at step x (range_with_len 0 d) ++ reaching_at step x (d ∷ [])) (reaching_at step x more) (looks_at step x (range_with_len 0 d) + looks_at step x (d ∷ [])) (looks_at step x more) (descent_state m0 0 s0) (descent_state m2 0 s2)
-        (Descends-then took refused {F = Unit {0}} (Err tt) (reaching_at step x (range_with_len 0 d)) (reaching_at step x (d ∷ [])) (looks_at step x (range_with_len 0 d)) (looks_at step x (d ∷ [])) (descent_state m0 0 s0) (descent_state m1 c s1) (descent_state m2 0 s2) went
+        (StopsIn-before (reaching_at step x more) (looks_at step x more)
+        (Descends-then {F = Unit {0}} (Err tt) (reaching_at step x (d ∷ [])) (looks_at step x (d ∷ [])) (descent_state m2 0 s2) went
         record { stopped = h.stopped; rises = h.rises; looked = h.looked }))
 
     -- until the last
@@ -129,23 +198,9 @@ module _ {K F : Type 0} (took refused : K → Path → K → Type 0) (step : Ste
   searched law e at (Ok o) h =
       let found = solutions-cube law step e x at n slack in
       let looked = all_looks-cube law step e x at n slack in
-      record {
-        solutions = omega (arith, ap length found, h.counted);
-        ok = rw found h.delivered;
-        err = tt;
-        looks = omega (arith, looked, h.looked);
-        looks_at_most = omega (arith, looked, h.looked);
-      }
+      record { solutions = omega (arith, ap length found, h.counted); ok = rw found h.delivered; err = tt; looks = omega (arith, looked, h.looked); looks_at_most = omega (arith, looked, h.looked) }
   searched law e at (Err fault) h =
-      let found = solutions-cube law step e x at n slack in
-      let looked = all_looks-cube law step e x at n slack in
-      record {
-        solutions = tt;
-        ok = tt;
-        err = rw found h.stopped;
-        looks = tt;
-        looks_at_most = omega (arith, looked, h.looked);
-      }
+      record { solutions = tt; ok = tt; err = rw (solutions-cube law step e x at n slack) h.stopped; looks = tt; looks_at_most = omega (arith, all_looks-cube law step e x at n slack, h.looked) }
 
   -- by the position alone
   pub looks-within : (r : Result Outcome F) → Delivers took refused n (solutions_at step x n slack) (all_looks_at step x n slack) m m1 s s1 (λ o. o.solutions) r → m1 ≤ m + look_bound (turns_of step) n

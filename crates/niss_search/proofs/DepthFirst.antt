@@ -4,9 +4,11 @@ use Rattle.niss_search.proofs.Words.{◌≡◌, arith, length, ◌+◌, ◌<◌,
 use Rattle.niss_search.proofs.Words.{suc, cond, range_with_len, ◌++◌, zero, may_follow, Contains, flat_map, last_turn, count_by, filter}
 use Rattle.niss_search.proofs.Words.{leb, sum_by, sum_by-cons, nat_le, looks, reaching, all_canonical, canonical_extensions, le-leb, lt-leb}
 use Rattle.niss_search.proofs.Words.{add-one, fold, is_looked_at, All-contains, All-contains_itself, All-filter, found, leb-true}
-use Rattle.niss_search.proofs.Words.{length-append, visits, fold-append, leb-false, take_at}
-use Rattle.niss_search.proofs.ListLemmas.{flat_map-same, flat_map-none, filter-flat_map, sum_by-flat_map, flat_map-flat_map, flat_map-map}
-use Rattle.niss_search.proofs.ListLemmas.{sum_by-map, sum_by-swap, sum_by-same, sum_by-shift, sum_by-none, sum_by-one, range-none}
+use Rattle.niss_search.proofs.Words.{length-append, visits, fold-append, leb-false, take_at, append-nil}
+use Rattle.niss_search.proofs.ListLemmas.{flat_map-same, flat_map-none, filter-flat_map, sum_by-flat_map, flat_map-flat_map}
+use Rattle.niss_search.proofs.ListLemmas.{sum_by-map, sum_by-swap, sum_by-same, sum_by-shift, sum_by-none, sum_by-one, in-range}
+use Rattle.std.proofs.lemmas.List.Folds.{flat_map-map, map_fixed}
+use Rattle.std.proofs.lemmas.List.Concat.{flat_map_single}
 
 -- the canonical sequences that begin with p and have k turns more, in turn order
 abbrev pub below : List Turn → List Turn → ℕ → List (List Turn)
@@ -15,10 +17,8 @@ below turns p (suc k) = flat_map (λ q. below turns q k) (canonical_extensions t
 
 module _ (turns : List Turn) where
   below-last : (k : ℕ) (p : List Turn) → below turns p (suc k) ≡ flat_map (canonical_extensions turns) (below turns p k)
-  below-last zero p = ap (λ (l : List (List Turn)). l) (singles (canonical_extensions turns p)) where
-    singles : (qs : List (List Turn)) → flat_map (λ q. q ∷ []) qs ≡ qs ++ []
-    singles [] = refl
-    singles (q ∷ qs) = ap (λ (l : List (List Turn)). q ∷ l) (singles qs)
+  below-last zero p =
+      flat_map_single (λ q. q) (canonical_extensions turns p) ∙ map_fixed (λ q. q) (canonical_extensions turns p) (λ k d l. refl) ∙ sym (append-nil (canonical_extensions turns p))
   below-last (suc k) p =
       flat_map-same (λ q. below turns q (suc k)) (λ q. flat_map (canonical_extensions turns) (below turns q k)) (canonical_extensions turns p) (λ q. below-last k q)
       ∙ sym (flat_map-flat_map (canonical_extensions turns) (λ q. below turns q k) (canonical_extensions turns p))
@@ -109,40 +109,38 @@ module _ {P : Type 0} (turns : List Turn) (after : P → Turn → P) (look : P �
         ∙ sum_by-none (λ t. sum_by (looked d) (below turns (p ++ t ∷ []) (suc n))) (nexts p) (λ t m.
         unlooked d n (p ++ t ∷ []) (omega (arith, length-append p (t ∷ []))) (omega (arith, length-append p (t ∷ []), falls p t m)))
 
-    -- the looks below a sequence and at it: it, and those of each length more
-    visits_is : (d k : ℕ) (p : List Turn) → d ≡ length p + k → visits turns after look (here p) p k ≡ 1 + sum_by (λ j. sum_by (looked d) (below turns p (suc j))) (range_with_len 0 k)
+    -- the looks below a sequence: those of each length more
+    visits_is : (d k : ℕ) (p : List Turn) → d ≡ length p + k → visits turns after look (here p) p k ≡ sum_by (λ j. sum_by (looked d) (below turns p (suc j))) (range_with_len 0 k)
     unfolding visits
     visits_is d zero p e = refl
-    visits_is d (suc k) p e =
-        ap (λ n. 1 + n) (by_test (leb (far p) (suc k)) refl (λ t. visits_is d k (p ++ t ∷ []) (omega (arith, length-append p (t ∷ []))))) where
-          by_test : (b : Bool) → leb (far p) (suc k) ≡ b → ((t : Turn) → visits turns after look (here (p ++ t ∷ [])) (p ++ t ∷ []) k ≡ 1 + sum_by (λ j. sum_by (looked d) (below turns (p ++ t ∷ []) (suc j))) (range_with_len 0 k)) → cond b (sum_by (λ t. visits turns after look (after (here p) t) (p ++ t ∷ []) k) (nexts p)) 0 ≡ sum_by (λ j. sum_by (looked d) (below turns p (suc j))) (range_with_len 0 (suc k))
-          by_test true f rest =
-              sum_by-same (λ t. visits turns after look (after (here p) t) (p ++ t ∷ []) k) (λ t. sum_by (λ j. sum_by (looked d) (below turns (p ++ t ∷ []) j)) (range_with_len 0 (suc k))) (nexts p) (λ t.
-              let W : ℕ → ℕ = λ j. sum_by (looked d) (below turns (p ++ t ∷ []) j) in
-              let passes : nat_le (far p) (d - length p) ≡ true = le-leb (far p) (d - length p) (omega (arith, leb-true (far p) (suc k) f)) in
-              let one = sum_by-one (looked d) (p ++ t ∷ []) ∙ looked-push d p t true passes in
-              let moved = ap (λ x. visits turns after look x (p ++ t ∷ []) k) (sym (here-push p t)) ∙ rest t in
-              let all : visits turns after look (after (here p) t) (p ++ t ∷ []) k ≡ sum_by W (range_with_len 0 (suc k)) =
-              omega (arith, moved, one, sum_by-cons W 0 (range_with_len (0 + 1) k), sum_by-shift W 0 k) in
-              all)
-              ∙ sum_by-swap (λ t j. sum_by (looked d) (below turns (p ++ t ∷ []) j)) (nexts p) (range_with_len 0 (suc k))
-              ∙ sum_by-same (λ j. sum_by (λ t. sum_by (looked d) (below turns (p ++ t ∷ []) j)) (nexts p)) (λ j. sum_by (looked d) (below turns p (suc j))) (range_with_len 0 (suc k)) (λ j. sym (looked-below d j p))
-          by_test false f rest =
-              let fails = leb-false (far p) (suc k) f in
-              sym (range-none (λ j. sum_by (looked d) (below turns p (suc j))) 0 (suc k) (λ j l. unlooked d j p (omega arith) (omega arith)))
+    visits_is d (suc k) p e = by_test (leb (far p) (suc k)) refl (λ t. visits_is d k (p ++ t ∷ []) (omega (arith, length-append p (t ∷ [])))) where
+      by_test : (b : Bool) → leb (far p) (suc k) ≡ b → ((t : Turn) → visits turns after look (here (p ++ t ∷ [])) (p ++ t ∷ []) k ≡ sum_by (λ j. sum_by (looked d) (below turns (p ++ t ∷ []) (suc j))) (range_with_len 0 k)) → cond b (sum_by (λ t. 1 + visits turns after look (after (here p) t) (p ++ t ∷ []) k) (nexts p)) 0 ≡ sum_by (λ j. sum_by (looked d) (below turns p (suc j))) (range_with_len 0 (suc k))
+      by_test true f rest =
+          sum_by-same (λ t. 1 + visits turns after look (after (here p) t) (p ++ t ∷ []) k) (λ t. sum_by (λ j. sum_by (looked d) (below turns (p ++ t ∷ []) j)) (range_with_len 0 (suc k))) (nexts p) (λ t.
+          let W : ℕ → ℕ = λ j. sum_by (looked d) (below turns (p ++ t ∷ []) j) in
+          let passes : nat_le (far p) (d - length p) ≡ true = le-leb (far p) (d - length p) (omega (arith, leb-true (far p) (suc k) f)) in
+          let one = sum_by-one (looked d) (p ++ t ∷ []) ∙ looked-push d p t true passes in
+          let moved = ap (λ x. visits turns after look x (p ++ t ∷ []) k) (sym (here-push p t)) ∙ rest t in
+          let all : 1 + visits turns after look (after (here p) t) (p ++ t ∷ []) k ≡ sum_by W (range_with_len 0 (suc k)) =
+          omega (arith, moved, one, sum_by-cons W 0 (range_with_len (0 + 1) k), sum_by-shift W 0 k) in
+          all)
+          ∙ sum_by-swap (λ t j. sum_by (looked d) (below turns (p ++ t ∷ []) j)) (nexts p) (range_with_len 0 (suc k))
+          ∙ sum_by-same (λ j. sum_by (λ t. sum_by (looked d) (below turns (p ++ t ∷ []) j)) (nexts p)) (λ j. sum_by (looked d) (below turns p (suc j))) (range_with_len 0 (suc k)) (λ j. sym (looked-below d j p))
+      by_test false f rest =
+          let fails = leb-false (far p) (suc k) f in
+          sym (sum_by-none (λ j. sum_by (looked d) (below turns p (suc j))) (range_with_len 0 (suc k)) (λ j m. unlooked d j p (omega (arith, in-range 0 (suc k) j m)) (omega arith)))
 
     -- one deepening finds the canonical sequences of its length that reach, in turn order
     pub found_all : (d : ℕ) → found turns after look start [] d ≡ reaching turns reach d
     found_all d = found_is d [] ∙ ap (filter reach) (below-all turns d)
 
     -- and makes the looks of its length
-    pub visits_all : (d : ℕ) → visits turns after look start [] d ≡ looks turns far d
+    pub visits_all : (d : ℕ) → 1 + visits turns after look start [] d ≡ looks turns far d
     unfolding looks
     visits_all d =
         let W : ℕ → ℕ = λ k. count_by (is_looked_at far d) (all_canonical turns k) in
         let V : ℕ → ℕ = λ k. sum_by (looked d) (below turns [] k) in
         let same = sum_by-same W V (range_with_len 0 (suc d)) (λ k. sym (ap (sum_by (looked d)) (below-all turns k))) in
-        let one = sum_by-one (looked d) [] in
-        let parts : sum_by V (range_with_len 0 (suc d)) ≡ 1 + sum_by (λ j. V (suc j)) (range_with_len 0 d) =
-        omega (arith, one, sum_by-cons V 0 (range_with_len (0 + 1) d), sum_by-shift V 0 d) in
-        visits_is d d [] (omega arith) ∙ sym parts ∙ sym same ∙ sym (ap (λ n. sum_by W (range_with_len 0 n)) (add-one d))
+        let all : 1 + visits turns after look start [] d ≡ sum_by V (range_with_len 0 (suc d)) =
+        omega (arith, visits_is d d [] (omega arith), sum_by-one (looked d) [], sum_by-cons V 0 (range_with_len (0 + 1) d), sum_by-shift V 0 d) in
+        all ∙ sym same ∙ sym (ap (λ n. sum_by W (range_with_len 0 n)) (add-one d))

@@ -3,16 +3,11 @@ pub mod ListLemmas
 pub mod DescentLemmas
 pub mod DepthFirst
 pub mod LookLemmas
-pub mod DistanceLemmas
-pub mod Levels
 pub mod Bounds
 pub mod DeepeningLemmas
-pub mod CountLaws
-pub mod PositionLemmas
 pub mod Transfer
 pub mod DrawLemmas
 pub mod EntryLemmas
 pub mod FillLemmas
-pub mod TickLemmas
 pub mod ScanLemmas
 pub mod WordLemmas

@@ -2,7 +2,9 @@
 use Rattle.niss_search.proofs.Words.{◌≡◌, arith, length, ◌+◌, ◌<◌, ℕ, ap, ◌∙◌, sym, ◌≤◌, [], List, refl, true, ◌-◌, ◌∷◌, Bool, false, suc}
 use Rattle.niss_search.proofs.Words.{cond, range_with_len, ◌++◌, zero, map, Contains, flat_map, filter, sum_by, sum_by-cons, list_any}
 use Rattle.niss_search.proofs.Words.{nat_le, flat_map-append, find, le-leb, sum_by-append, Contains-get_or, add-one, ◌||◌}
-use Rattle.niss_search.proofs.Words.{Contains-append_right, add-zero, filter-append, sum_by_push}
+use Rattle.niss_search.proofs.Words.{Contains-append_right, add-zero, filter-append, sum_by_push, length-range_with_len, leb-false}
+use Rattle.std.proofs.lemmas.List.{nil_from_length}
+use Rattle.std.proofs.lemmas.List.FromFn.{get_or-range_with_len}
 
 module _ {X : Type 0} where
   pub Contains-first : (x : X) (xs : List X) → Contains (x ∷ xs) x
@@ -38,10 +40,6 @@ module _ {X Y A : Type 0} where
   pub flat_map-flat_map : (g : Y → List A) (f : X → List Y) (xs : List X) → flat_map g (flat_map f xs) ≡ flat_map (λ x. flat_map g (f x)) xs
   flat_map-flat_map g f [] = refl
   flat_map-flat_map g f (x ∷ xs) = rw (flat_map-append g (f x) (flat_map f xs), flat_map-flat_map g f xs)
-
-  pub flat_map-map : (g : Y → List A) (h : X → Y) (xs : List X) → flat_map g (map h xs) ≡ flat_map (λ x. g (h x)) xs
-  flat_map-map g h [] = refl
-  flat_map-map g h (x ∷ xs) = ap (λ (l : List A). g (h x) ++ l) (flat_map-map g h xs)
 
 module _ {X Y : Type 0} where
   pub sum_by-map : (g : Y → ℕ) (h : X → Y) (xs : List X) → sum_by g (map h xs) ≡ sum_by (λ x. g (h x)) xs
@@ -81,22 +79,10 @@ sum_by-shift f a (suc n) =
 pub sum_by-one : {X : Type 0} (f : X → ℕ) (x : X) → sum_by f (x ∷ []) ≡ f x
 sum_by-one f x = omega (arith, sum_by-cons f x [])
 
-pub range-none : (f : ℕ → ℕ) (a n : ℕ) → ((j : ℕ) → j < a + n → f j ≡ 0) → sum_by f (range_with_len a n) ≡ 0
-range-none f a zero h = refl
-range-none f a (suc n) h =
-    omega (arith, sum_by-cons f a (range_with_len (a + 1) n), h a (omega arith), range-none f (a + 1) n (λ j l. h j (omega arith)))
-
-pub range_with_len-more : (a n : ℕ) → range_with_len a (suc n) ≡ range_with_len a n ++ (a + n) ∷ []
-range_with_len-more a zero = ap (λ k. k ∷ []) (sym (add-zero a))
-range_with_len-more a (suc n) =
-    let next : a + 1 + n ≡ a + suc n = omega arith in
-    ap (λ (l : List ℕ). a ∷ l) (range_with_len-more (a + 1) n ∙ ap (λ k. range_with_len (a + 1) n ++ k ∷ []) next)
-
--- one number more in a sum over a range
-pub sum_by-range_more : (f : ℕ → ℕ) (n : ℕ) → sum_by f (range_with_len 0 (n + 1)) ≡ sum_by f (range_with_len 0 n) + f n
-sum_by-range_more f n =
-    let e : 0 + n ≡ n = omega arith in
-    rw (add-one n, range_with_len-more 0 n, e) (sum_by_push f (range_with_len 0 n) n)
+-- the numbers of a range
+pub in-range : (a n j : ℕ) → Contains (range_with_len a n) j → j < a + n
+in-range a n j m =
+    omega (arith, m.1, m.2, length-range_with_len a n, get_or-range_with_len a n m.0 j (omega (arith, m.1, length-range_with_len a n)))
 
 pub range_with_len-append : (a m n : ℕ) → range_with_len a (m + n) ≡ range_with_len a m ++ range_with_len (a + m) n
 range_with_len-append a zero n =
@@ -108,11 +94,8 @@ range_with_len-append a (suc m) n =
     ap (range_with_len a) e
     ∙ ap (λ (l : List ℕ). a ∷ l) (range_with_len-append (a + 1) m n ∙ ap (λ k. range_with_len (a + 1) m ++ range_with_len k n) next)
 
--- one number more
-pub range-push : (d : ℕ) → range_with_len 0 (d + 1) ≡ range_with_len 0 d ++ d ∷ []
-range-push d =
-    let last : 0 + d ≡ d = omega arith in
-    ap (range_with_len 0) (add-one d) ∙ range_with_len-more 0 d ∙ ap (λ k. range_with_len 0 d ++ k ∷ []) last
+pub range_with_len-more : (a n : ℕ) → range_with_len a (suc n) ≡ range_with_len a n ++ (a + n) ∷ []
+range_with_len-more a n = ap (range_with_len a) (sym (add-one n)) ∙ range_with_len-append a n 1
 
 -- the numbers below m, and then those from m on
 pub range-split : (m n : ℕ) → m ≤ n → range_with_len 0 n ≡ range_with_len 0 m ++ range_with_len m (n - m)
@@ -123,14 +106,14 @@ range-split m n h =
     ∙ range_with_len-append 0 m (n - m)
     ∙ ap (λ k. range_with_len 0 m ++ range_with_len k (n - m)) start
 
-pub flat_map-range_none : {A : Type 0} (f : ℕ → List A) (a n : ℕ) → ((k : ℕ) → k < a + n → f k ≡ []) → flat_map f (range_with_len a n) ≡ []
-flat_map-range_none f a zero h = refl
-flat_map-range_none f a (suc n) h =
-    rw (h a (omega arith), flat_map-range_none f (a + 1) n (λ k l. h k (omega arith)))
+-- one number more, also in a sum
+pub range-push : (d : ℕ) → range_with_len 0 (d + 1) ≡ range_with_len 0 d ++ d ∷ []
+range-push d =
+    let last : 0 + d ≡ d = omega arith in
+    range_with_len-append 0 d 1 ∙ ap (λ k. range_with_len 0 d ++ k ∷ []) last
+
+pub sum_by-range_more : (f : ℕ → ℕ) (n : ℕ) → sum_by f (range_with_len 0 (n + 1)) ≡ sum_by f (range_with_len 0 n) + f n
+sum_by-range_more f n = rw (range-push n) (sum_by_push f (range_with_len 0 n) n)
 
 pub filter-none : {X : Type 0} (p : X → Bool) (xs : List X) → list_any p xs ≡ false → filter p xs ≡ []
-filter-none p [] e = refl
-filter-none p (x ∷ xs) e = by_test (p x) (filter-none p xs) e where
-  by_test : (b : Bool) → (list_any p xs ≡ false → filter p xs ≡ []) → (b || list_any p xs) ≡ false → cond b (x ∷ filter p xs) (filter p xs) ≡ []
-  by_test true rest h = absurd cc
-  by_test false rest h = rest h
+filter-none p xs e = nil_from_length (filter p xs) (omega (arith, leb-false 1 (length (filter p xs)) (sym (list_any-filter p xs) ∙ e)))

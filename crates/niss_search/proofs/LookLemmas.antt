@@ -1,10 +1,119 @@
--- The distance of a position: 0 exactly at the goal, never more than one beyond that after a turn, and nearer after some.
-use Rattle.niss_search.proofs.Words.{◌≡◌, arith, ◌+◌, ◌<◌, ℕ, ap, ◌∙◌, sym, ◌≤◌, [], List, turns_of, refl, true, ◌∷◌, Bool, Turn, false}
-use Rattle.niss_search.proofs.Words.{suc, Contains, Coordinates, distance_at, leb, Step, inl, inr, list_any, position_after, ◌⊎◌}
-use Rattle.niss_search.proofs.Words.{is_reached_at, are_zero, coordinates_after, distance, fold, ◌||◌, or-false, DistanceIsLeast}
-use Rattle.niss_search.proofs.ListLemmas.{Contains-first, Contains-later}
-use Rattle.niss_search.proofs.DistanceLemmas.{reached_in, reached_in-suc, distance-either, distance-le, distance-most, distance-reached}
-use Rattle.niss_search.proofs.DistanceLemmas.{distance-zero, distance-turn}
+-- How far a step is, by the sequences that reach and of a position: 0 exactly at the goal, at most one more than after a turn, and
+-- one more than after some.
+use Rattle.niss_search.proofs.Words.{◌≡◌, arith, ◌+◌, ◌<◌, ℕ, ap, ◌∙◌, ◌≤◌, [], List, refl, true, ◌∷◌, Bool, Turn, false, suc, cond}
+use Rattle.niss_search.proofs.Words.{range_with_len, zero, map, Contains, flat_map, leb, inl, inr, list_any, ◌⊎◌, Some, leb_tells, min}
+use Rattle.niss_search.proofs.Words.{unwrap_or, find, le-leb, lt-leb, distance, ◌||◌, all_sequences, list_any-append, list_any_at, sym}
+use Rattle.niss_search.proofs.Words.{turns_of, Coordinates, distance_at, Step, position_after, is_reached_at, are_zero, coordinates_after}
+use Rattle.niss_search.proofs.Words.{fold, or-false, DistanceIsLeast}
+use Rattle.std.proofs.lemmas.List.Folds.{Any-from_list_any}
+use Rattle.niss_search.proofs.Bounds.{least-le}
+
+list_any-map : {X Y : Type 0} (p : Y → Bool) (f : X → Y) (xs : List X) → list_any p (map f xs) ≡ list_any (λ x. p (f x)) xs
+list_any-map p f [] = refl
+list_any-map p f (x ∷ xs) = ap (λ b. p (f x) || b) (list_any-map p f xs)
+
+list_any-flat_map : {X Y : Type 0} (p : Y → Bool) (f : X → List Y) (xs : List X) → list_any p (flat_map f xs) ≡ list_any (λ x. list_any p (f x)) xs
+list_any-flat_map p f [] = refl
+list_any-flat_map p f (x ∷ xs) =
+    list_any-append p (f x) (flat_map f xs) ∙ ap (λ b. list_any p (f x) || b) (list_any-flat_map p f xs)
+
+-- whether some sequence of length k reaches
+abbrev pub reached_in : List Turn → (List Turn → Bool) → ℕ → Bool
+reached_in turns reaches k = list_any reaches (all_sequences turns k)
+
+-- by its first turn
+reached_in-suc : (turns : List Turn) (reaches : List Turn → Bool) (k : ℕ) → reached_in turns reaches (suc k) ≡ list_any (λ t. reached_in turns (λ s. reaches (t ∷ s)) k) turns
+unfolding all_sequences
+reached_in-suc turns reaches k =
+    list_any-flat_map reaches (λ t. map (λ s. t ∷ s) (all_sequences turns k)) turns
+    ∙ ap (λ (p : Turn → Bool). list_any p turns) (λ i t. list_any-map reaches (λ s. t ∷ s) (all_sequences turns k) i)
+
+-- the first number from a on, of n, that passes, or else d
+abbrev pub first_or : (ℕ → Bool) → ℕ → ℕ → ℕ → ℕ
+first_or p a n d = unwrap_or (find p (range_with_len a n)) d
+
+pub first_or-from : (p : ℕ → Bool) (a n d : ℕ) → a + n ≤ d → a ≤ first_or p a n d
+first_or-from p a zero d h = omega arith
+first_or-from p a (suc n) d h = by_test (p a) (first_or-from p (a + 1) n d (omega arith)) where
+  by_test : (b : Bool) → a + 1 ≤ first_or p (a + 1) n d → a ≤ unwrap_or (cond b (Some a) (find p (range_with_len (a + 1) n))) d
+  by_test true h = omega arith
+  by_test false h = omega arith
+
+pub first_or-le : (p : ℕ → Bool) (a n d k : ℕ) → a ≤ k → k < a + n → p k ≡ true → first_or p a n d ≤ k
+first_or-le p a zero d k low high e = absurd (omega arith)
+first_or-le p a (suc n) d k low high e = by_test (p a) refl (first_or-le p (a + 1) n d k) where
+  by_test : (b : Bool) → p a ≡ b → (a + 1 ≤ k → k < a + 1 + n → p k ≡ true → first_or p (a + 1) n d ≤ k) → unwrap_or (cond b (Some a) (find p (range_with_len (a + 1) n))) d ≤ k
+  by_test true f rest = low
+  by_test false f rest =
+      let other : (a ≡ k → ⊥) = λ q. absurd (cc (f, e, ap p q)) in
+      rest (omega arith) (omega arith) e
+
+first_or-passes : (p : ℕ → Bool) (a n d : ℕ) → (p (first_or p a n d) ≡ true) ⊎ (first_or p a n d ≡ d)
+first_or-passes p a zero d = inr refl
+first_or-passes p a (suc n) d = by_test (p a) refl (first_or-passes p (a + 1) n d) where
+  by_test : (b : Bool) → p a ≡ b → (p (first_or p (a + 1) n d) ≡ true) ⊎ (first_or p (a + 1) n d ≡ d) → (p (unwrap_or (cond b (Some a) (find p (range_with_len (a + 1) n))) d) ≡ true) ⊎ (unwrap_or (cond b (Some a) (find p (range_with_len (a + 1) n))) d ≡ d)
+  by_test true f rest = inl f
+  by_test false f rest = rest
+
+-- two tests by one
+list_any-either : {X : Type 0} (p q : X → Bool) (xs : List X) → list_any (λ x. p x || q x) xs ≡ (list_any p xs || list_any q xs)
+list_any-either p q [] = refl
+list_any-either p q (x ∷ xs) = by_tests (p x) (q x) (list_any p xs) (list_any q xs) (list_any-either p q xs) where
+  by_tests : (a b c d : Bool) → list_any (λ y. p y || q y) xs ≡ (c || d) → ((a || b) || list_any (λ y. p y || q y) xs) ≡ ((a || c) || (b || d))
+  by_tests true b c d e = refl
+  by_tests false true true d e = refl
+  by_tests false true false d e = refl
+  by_tests false false c d e = e
+
+first_or-either : (f g : ℕ → Bool) (a n d : ℕ) → a + n ≤ d → first_or (λ k. f k || g k) a n d ≡ min (first_or f a n d) (first_or g a n d)
+first_or-either f g a zero d h = omega arith
+first_or-either f g a (suc n) d h =
+    by_tests (f a) (g a) (first_or-from f (a + 1) n d (omega arith)) (first_or-from g (a + 1) n d (omega arith)) (first_or-either f g (a + 1) n d (omega arith)) where
+      by_tests : (b c : Bool) → a + 1 ≤ first_or f (a + 1) n d → a + 1 ≤ first_or g (a + 1) n d → first_or (λ k. f k || g k) (a + 1) n d ≡ min (first_or f (a + 1) n d) (first_or g (a + 1) n d) → unwrap_or (cond (b || c) (Some a) (find (λ k. f k || g k) (range_with_len (a + 1) n))) d ≡ min (unwrap_or (cond b (Some a) (find f (range_with_len (a + 1) n))) d) (unwrap_or (cond c (Some a) (find g (range_with_len (a + 1) n))) d)
+      by_tests true true l m e = omega arith
+      by_tests true false l m e = omega arith
+      by_tests false true l m e = omega arith
+      by_tests false false l m e = e
+
+-- where either of two tests is to be reached, the nearer one gives the distance
+distance-either : (turns : List Turn) (p q : List Turn → Bool) → distance turns (λ s. p s || q s) ≡ min (distance turns p) (distance turns q)
+unfolding distance
+distance-either turns p q =
+    ap (λ (f : ℕ → Bool). first_or f 0 21 21) (λ i k. list_any-either p q (all_sequences turns k) i)
+    ∙ first_or-either (reached_in turns p) (reached_in turns q) 0 21 21 (omega arith)
+
+module _ (turns : List Turn) (reaches : List Turn → Bool) where
+  distance-le : (k : ℕ) → k ≤ 20 → reached_in turns reaches k ≡ true → distance turns reaches ≤ k
+  unfolding distance
+  distance-le k h e = first_or-le (reached_in turns reaches) 0 21 21 k (omega arith) (omega arith) e
+
+  distance-most : distance turns reaches ≤ 21
+  unfolding distance
+  distance-most = least-le (reached_in turns reaches) 0 21 21 21 (omega arith) (omega arith)
+
+  distance-reached : (reached_in turns reaches (distance turns reaches) ≡ true) ⊎ (distance turns reaches ≡ 21)
+  unfolding distance
+  distance-reached = first_or-passes (reached_in turns reaches) 0 21 21
+
+  distance-zero : leb (distance turns reaches) 0 ≡ reaches []
+  unfolding distance all_sequences
+  distance-zero = by_test (reaches []) refl where
+    by_test : (b : Bool) → reaches [] ≡ b → leb (first_or (reached_in turns reaches) 0 21 21) 0 ≡ b
+    by_test true e = le-leb _ 0 (first_or-le (reached_in turns reaches) 0 21 21 0 (omega arith) (omega arith) (rw e))
+    by_test false e = lt-leb _ 0 (rw e (first_or-from (reached_in turns reaches) 1 20 21 (omega arith)))
+
+distance-turn : (turns : List Turn) (reaches : List Turn → Bool) (t : Turn) → Contains turns t → distance turns reaches ≤ 1 + distance turns (λ s. reaches (t ∷ s))
+distance-turn turns reaches t m =
+    let rest : List Turn → Bool = λ s. reaches (t ∷ s) in
+    elim (distance-reached turns rest) [
+      | inl e ↦
+          let further = reached_in-suc turns reaches (distance turns rest) ∙ list_any_at (λ u. reached_in turns (λ s. reaches (u ∷ s)) (distance turns rest)) turns m.0 t m.1 (ap (λ u. reached_in turns (λ s. reaches (u ∷ s)) (distance turns rest)) m.2 ∙ e) in
+          elim (leb_tells (distance turns rest) 19) [
+            | inl few ↦ omega (arith, distance-le turns reaches (suc (distance turns rest)) (omega arith) further)
+            | inr many ↦ omega (arith, distance-most turns reaches)
+          ]
+      | inr e ↦ omega (arith, distance-most turns reaches)
+    ]
 
 pub distance_at-goal : (step : Step) (x : List Coordinates) → leb (distance_at step x) 0 ≡ is_reached_at x
 unfolding distance_at
@@ -17,13 +126,6 @@ distance_at-turn step x t m = distance-turn (turns_of step) (λ s. is_reached_at
 pub distance_at-most : (step : Step) (x : List Coordinates) → distance_at step x ≤ 21
 unfolding distance_at
 distance_at-most step x = distance-most (turns_of step) (λ s. is_reached_at (fold position_after x s))
-
-list_any-found : {X : Type 0} (p : X → Bool) (xs : List X) → list_any p xs ≡ true → (x : X) × (Contains xs x × (p x ≡ true))
-list_any-found {X = X} p [] e = absurd (cc)
-list_any-found {X = X} p (x ∷ xs) e = by_test (p x) refl (list_any-found p xs) e where
-  by_test : (b : Bool) → p x ≡ b → (list_any p xs ≡ true → (y : X) × (Contains xs y × (p y ≡ true))) → (b || list_any p xs) ≡ true → (y : X) × (Contains (x ∷ xs) y × (p y ≡ true))
-  by_test true f rest h = (x, (Contains-first x xs, f))
-  by_test false f rest h = let r = rest h in (r.0, (Contains-later x xs r.0 r.1.0, r.1.1))
 
 -- from a position that isn't at the goal some turn leads nearer
 pub distance_at-nearer : (step : Step) (x : List Coordinates) (k : ℕ) → distance_at step x ≡ suc k → k < 20 → (t : Turn) × (Contains (turns_of step) t × (distance_at step (position_after x t) ≤ k))
@@ -38,8 +140,8 @@ distance_at-nearer step x k e l = by_reached (distance-reached turns reaches) wh
   by_reached : (reached_in turns reaches (distance turns reaches) ≡ true) ⊎ (distance turns reaches ≡ 21) → (t : Turn) × (Contains turns t × (distance turns (λ s. is_reached_at (fold position_after (position_after x t) s)) ≤ k))
   by_reached (inl r) =
       let here : reached_in turns reaches (suc k) ≡ true = ap (reached_in turns reaches) (sym e) ∙ r in
-      let found = list_any-found (λ t. reached_in turns (λ s. reaches (t ∷ s)) k) turns (sym (reached_in-suc turns reaches k) ∙ here) in
-      (found.0, (found.1.0, distance-le turns (λ s. reaches (found.0 ∷ s)) k (omega arith) found.1.1))
+      let some = Any-from_list_any (λ t. reached_in turns (λ s. reaches (t ∷ s)) k) turns (sym (reached_in-suc turns reaches k) ∙ here) in
+      (some.1, ((some.0, some.2, some.3), distance-le turns (λ s. reaches (some.1 ∷ s)) k (omega arith) some.4))
   by_reached (inr r) = absurd (omega arith)
 
 either : (s : List Turn) (c : Coordinates) (x : List Coordinates) → is_reached_at (fold position_after (c ∷ x) s) ≡ (is_reached_at (fold position_after (c ∷ []) s) || is_reached_at (fold position_after x s))
@@ -48,8 +150,8 @@ either [] c x = ap (λ b. b || list_any are_zero x) (sym (or-false (are_zero c))
 either (t ∷ s) c x = either s (coordinates_after c t) (position_after x t)
 
 -- the distance of a position is the least of those of its coordinates
-pub distance_at-least : DistanceIsLeast
+pub distance_at_least : DistanceIsLeast
 unfolding distance_at
-distance_at-least step c x =
+distance_at_least step c x =
     ap (distance (turns_of step)) (λ i s. either s c x i)
     ∙ distance-either (turns_of step) (λ s. is_reached_at (fold position_after (c ∷ []) s)) (λ s. is_reached_at (fold position_after x s))

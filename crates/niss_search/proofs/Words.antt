@@ -2,32 +2,31 @@
 pub use Rattle.std.proofs.Common.{◌≡◌, arith, length, ◌+◌, ◌<◌, ℕ, ap, ◌∙◌, sym, ◌≤◌, [], List, refl, true, ◌*◌, ◌-◌, ◌∷◌, slice_index}
 pub use Rattle.std.proofs.Common.{Bool, false, suc, cond, ◌++◌, zero, get_or, map, Contains, subst, ◌≢◌, count_by, filter, leb, sum_by, inl}
 pub use Rattle.std.proofs.Common.{inr, All, None, take, ◌/◌, ◌⊎◌, Option, Some, nat_le, ◌==◌, ◌^◌, drop, min, unwrap_or, find, nat_lt}
-pub use Rattle.std.proofs.Common.{add-one, fold, replicate, ◌%◌, ◌||◌, IsTrue, eq-eqb, eqb, length-append, length-drop, not, ◌&&◌, add-zero}
+pub use Rattle.std.proofs.Common.{add-one, fold, replicate, ◌%◌, ◌||◌, IsTrue, eq-eqb, eqb, length-append, length-drop, not, add-zero}
 pub use Rattle.std.proofs.Common.{append_assoc, ap₂, below_more, get_or-set_other, get_or-set_same, length-set, rules, set, lit<, lit≤}
 pub use Rattle.std.proofs.Math.Bool.{or-false}
-pub use Rattle.std.proofs.Math.Nat.{mul-le-mul, mul-add, mul-le-mul_right, mul-div-le, mul-le-mul_left, mul-suc, mul_comm, pow-suc}
-pub use Rattle.std.proofs.lemmas.Bool.{le-leb, lt-leb, leb-true, eqb-false, eqb-true, leb-false, ne_eqb}
+pub use Rattle.std.proofs.Math.Nat.{mul-le-mul, mul-add, mul-le-mul_right, mul-le-mul_left, mul_comm, pow-suc}
+pub use Rattle.std.proofs.lemmas.Bool.{le-leb, lt-leb, leb-true, leb-false, ne_eqb}
 pub use Rattle.std.proofs.lemmas.Bool.Decides.{leb_tells, eqb_tells, nat_tests}
 pub use Rattle.std.proofs.lemmas.Grind.{flat_map-append, fold-append}
 pub use Rattle.std.proofs.lemmas.List.{append-nil, length-map, map-append, take_all, drop-drop, drop_more, get_or-drop, get_or-replicate}
 pub use Rattle.std.proofs.lemmas.List.{get_or_read, length-replicate, length-take-le, map_push, take-append-drop, take_at, take_rest}
 pub use Rattle.std.proofs.lemmas.List.Concat.{length-flat_map}
 pub use Rattle.std.proofs.lemmas.List.Elements.{All-contains, Contains-get_or, All-contains_itself, All-head, All-push, All-tail, All-take}
-pub use Rattle.std.proofs.lemmas.List.Elements.{filter_passes, All-append, All-cons, All-drop, All-filter, All-map, All-more}
+pub use Rattle.std.proofs.lemmas.List.Elements.{filter_passes, All-append, All-cons, All-drop, All-filter, All-map}
 pub use Rattle.std.proofs.lemmas.List.Elements.{Contains-append_right, filter-append, filter_more, All-nil}
-pub use Rattle.std.proofs.lemmas.List.Folds.{find-append, list_any-append, list_any_at}
+pub use Rattle.std.proofs.lemmas.List.Folds.{find-append, list_any-append, list_any_at, prefix_len-append}
 pub use Rattle.std.proofs.lemmas.List.FromFn.{length-map-range_with_len, length-range_with_len}
 pub use Rattle.std.proofs.lemmas.List.Sums.{sum_by-cons, sum_by-append, sum_by-le-sum_by, count_by-le-length, sum_by-le, length-filter}
-pub use Rattle.std.proofs.lemmas.List.Sums.{sum_by_push}
+pub use Rattle.std.proofs.lemmas.List.Sums.{sum_by_push, prefix_len-le-length, prefix_len_passes, prefix_len_stops}
 pub use Rattle.std.proofs.lemmas.Nat.{and_block, and_le_l, and_le_r, and_mask, div-mul-add, le_or_l, le_or_r, mod-mul-add, or_block, or_lt}
 pub use Rattle.std.proofs.lemmas.Nat.{xor_block, xor_lt}
 pub use Rattle.std.proofs.lemmas.Result.{err_from_is_err_and}
-pub use Rattle.std.proofs.lemmas.Simd.{get_or-chunk, length-chunk, run_in_chunk_fails, run_in_chunk_stops}
 pub use Rattle.std.specs.Bool.{then_some}
 pub use Rattle.std.specs.Int.{bit_at, from_le_bytes, w64}
-pub use Rattle.std.specs.List.{range_with_len, list_any, prefix_len, last_or, slice_get}
+pub use Rattle.std.specs.List.{range_with_len, list_any, prefix_len}
 pub use Rattle.std.specs.Option.{option_map_or, option_or}
-pub use Rattle.std.specs.Prelude.{flat_map, Err, Ok, Result, OnErr, OnOk, IfNone, IfOk, IfSome, ◌↔◌}
+pub use Rattle.std.specs.Prelude.{flat_map, Err, Ok, Result, OnErr, OnOk, IfOk, ◌↔◌}
 pub use Rattle.std.specs.Simd.{first_chunks}
 pub use Rattle.niss_cube.proofs.CallerLemmas.{alike_is_cube, cube-itself, zero_test}
 pub use Rattle.niss_cube.specs.AfterTurn.{AreCoordinates, IsCube, TurnedIsCube}
@@ -49,15 +48,15 @@ pub use Rattle.niss_search.specs.Deepening.{reaches_at, all_looks_at, far_at, le
 pub use Rattle.niss_search.specs.Deepening.{Delivers}
 pub use Rattle.niss_search.specs.Delivery.{at_limit, StoppedIn, WentThrough}
 pub use Rattle.niss_search.specs.Descending.{state_of, Keeps}
-pub use Rattle.niss_search.specs.Descent.{GoesThrough, descent_state, Descends, DescentState, StopsIn}
-unfoldable pub use Rattle.niss_search.specs.Descent.{found_below, looks_beyond, looks_below, found, visits}
+pub use Rattle.niss_search.specs.Descent.{GoesThrough, descent_state, Descends, DescentState, StopsIn, looks_below}
+unfoldable pub use Rattle.niss_search.specs.Descent.{found_below, looks_beyond, found, visits}
 unfoldable pub use Rattle.niss_search.specs.Distance.{distance, all_sequences}
 pub use Rattle.niss_search.specs.Draw.{after_words, choice, choices}
 unfoldable pub use Rattle.niss_search.specs.Draw.{draw, next_words}
 pub use Rattle.niss_search.specs.Entries.{count_for, values_for}
 unfoldable pub use Rattle.niss_search.specs.Entries.{entries_of, entry_count, fill_ticks, flips_below, pairs_below}
 pub use Rattle.niss_search.specs.Filling.{Alternative, IsFilling, IsExtended, IsFilled, EntriesTurn, byte_at, entry_at, ArePlaces}
-pub use Rattle.niss_search.specs.Filling.{AreStarts, IsEntry, KeepsMet, MayBeAt, entry_number, place_after, row_length}
+pub use Rattle.niss_search.specs.Filling.{AreStarts, IsEntry, KeepsMet, MayBeAt, entry_number, row_length}
 unfoldable pub use Rattle.niss_search.specs.Filling.{entry_distance, entry_after, goal_ticks, AreEntries}
 pub use Rattle.niss_search.specs.Followers.{IsFollower, distance_after, AreFar, IsNextNear}
 pub use Rattle.niss_search.specs.Laws.{PositionsFollowCubes, BoundIsSmall, CountRecurrence, DistanceIsLeast, EdgeFillIsSmall}
@@ -66,7 +65,7 @@ pub use Rattle.niss_search.specs.Looks.{is_looked_at}
 unfoldable pub use Rattle.niss_search.specs.Looks.{looks, all_looks}
 pub use Rattle.niss_search.specs.Moves.{turn_at, IsMoveRow}
 pub use Rattle.niss_search.specs.Names.{Turn, Coordinates, Step, Flip, Follower, no_turn, Axis, Domino, Edges, Goal, B, D, F, Face, L, R, U}
-pub use Rattle.niss_search.specs.Names.{Fb, TwistAndSlice}
+pub use Rattle.niss_search.specs.Names.{TwistAndSlice}
 pub use Rattle.niss_search.specs.Path.{Path}
 pub use Rattle.niss_search.specs.Positions.{are_zero, coordinates_after, coordinates_of}
 unfoldable pub use Rattle.niss_search.specs.Positions.{distance_at, position_after, is_reached_at, position_of}
@@ -74,4 +73,4 @@ pub use Rattle.niss_search.specs.Solutions.{last_length, reaching, up_to, soluti
 unfoldable pub use Rattle.niss_search.specs.Solutions.{least_length, look_bound, solutions}
 pub use Rattle.rand_pcg.specs.Lcg.{Lcg}
 pub use Rattle.rand_pcg.specs.Pcg.{pcg32}
-pub use lib.Lanes.{chunk, number_l}
+pub use lib.Lanes.{number_l}

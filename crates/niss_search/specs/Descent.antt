@@ -1,5 +1,5 @@
 -- One deepening of the search, below a path: what it finds and how often it looks. (For the search's own functions.)
-use Rattle.std.specs.Prelude.{◌≡◌, ℕ, zero, suc, ◌+◌, ◌-◌, ◌≤◌, nat_le, Result, Ok, Err, if◌then◌else◌}
+use Rattle.std.specs.Prelude.{◌≡◌, ℕ, zero, suc, ◌+◌, ◌≤◌, nat_le, Result, Ok, Err, if◌then◌else◌}
 use Rattle.std.specs.Prelude.{List, [], ◌∷◌, ◌++◌, length, filter, flat_map, sum_by}
 use Rattle.niss_search.specs.Names.{Turn, Step, Coordinates}
 use Rattle.niss_moves.specs.Canonical.{may_follow, last_turn}
@@ -16,23 +16,22 @@ module _ {P : Type 0} (turns : List Turn) (after : P → Turn → P) (look : P �
       then flat_map (λ t. found (after x t) (p ++ t ∷ []) left) (filter (may_follow (last_turn p)) turns)
       else []
 
-  -- the looks made there
+  -- the looks made there, but for the one at x itself
   unfoldable pub visits : P → List Turn → ℕ → ℕ
-  visits x p zero = 1
+  visits x p zero = 0
   visits x p (suc left) =
-      1 + (if nat_le (look x) (suc left)
-      then sum_by (λ t. visits (after x t) (p ++ t ∷ []) left) (filter (may_follow (last_turn p)) turns)
-      else 0)
+      if nat_le (look x) (suc left)
+      then sum_by (λ t. 1 + visits (after x t) (p ++ t ∷ []) left) (filter (may_follow (last_turn p)) turns)
+      else 0
 
 unfoldable pub found_below : Step → List Coordinates → List Turn → ℕ → List (List Turn)
 found_below step x p left = found (turns_of step) position_after (distance_at step) x p left
 
-unfoldable pub looks_below : Step → List Coordinates → List Turn → ℕ → ℕ
-looks_below step x p left = visits (turns_of step) position_after (distance_at step) x p left
-
--- those but for the one at x itself
 unfoldable pub looks_beyond : Step → List Coordinates → List Turn → ℕ → ℕ
-looks_beyond step x p left = looks_below step x p left - 1
+looks_beyond step x p left = visits (turns_of step) position_after (distance_at step) x p left
+
+abbrev pub looks_below : Step → List Coordinates → List Turn → ℕ → ℕ
+looks_below step x p left = 1 + looks_beyond step x p left
 
 -- What a descent changes beside its path: the meter, the count of what was found, and the sink.
 pub record DescentState (K : Type 0) : Type 0 where

@@ -120,6 +120,7 @@ impl<A: Allocator> Root<'_, A> {
             (reaching_at self.now.tables.now self.now.position.now (length ∷ []))
             (looks_at self.now.tables.now self.now.position.now (length ∷ []))
             meter.old meter.new sink.old sink.new (λ count. count) result }
+        ensures counted { IfOk result (λ count. meter.old + count ≤ meter.new) }
     {
         // by value, as the descent takes it: what stands in its place meanwhile never ticks
         let held = mem::replace(meter, Meter::new());

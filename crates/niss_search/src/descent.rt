@@ -59,6 +59,7 @@ impl<'a, K: Sink> Descent<'a, K> {
         requires meter { meter + looks_below tables.now position.now (turns self.old) left < 2 ^ 128 }
         requires count { self.old.count ≤ meter }
         ensures keeps { Keeps self.old self.new }
+        ensures counted { self.new.count + meter ≤ self.old.count + result.0 }
         ensures finds { Finds K.took K.refused
             (found_below tables.now position.now (turns self.old) left)
             (looks_below tables.now position.now (turns self.old) left)
@@ -85,6 +86,7 @@ impl<'a, K: Sink> Descent<'a, K> {
         requires meter { meter + looks_below tables.now.step position.now (turns self.old) left < 2 ^ 128 }
         requires count { self.old.count ≤ meter }
         ensures keeps { Keeps self.old self.new }
+        ensures counted { self.new.count + meter ≤ self.old.count + result.0 }
         ensures finds { Finds K.took K.refused
             (found_below tables.now.step position.now (turns self.old) left)
             (looks_below tables.now.step position.now (turns self.old) left)
@@ -114,6 +116,7 @@ impl<'a, K: Sink> Descent<'a, K> {
             + looks_beyond tables.now.step (S.seen tables.now.space state) (turns self.old) left < 2 ^ 128 }
         requires count { self.old.count < meter }
         ensures keeps { Keeps self.old self.new }
+        ensures counted { self.new.count + meter ≤ self.old.count + result.0 + 1 }
         ensures finds { Finds K.took K.refused
             (found_below tables.now.step (S.seen tables.now.space state) (turns self.old) left)
             (looks_beyond tables.now.step (S.seen tables.now.space state) (turns self.old) left)
@@ -157,6 +160,7 @@ impl<'a, K: Sink> Descent<'a, K> {
             < 2 ^ 128 }
         requires count { self.old.count < meter }
         ensures keeps { Keeps self.old self.new }
+        ensures counted { self.new.count + meter ≤ self.old.count + result.0 + 1 }
         ensures finds { Finds K.took K.refused
             (found_below tables.now.step (S.seen tables.now.space state) (turns self.old ++ turn ∷ []) left)
             (looks_beyond tables.now.step (S.seen tables.now.space state) (turns self.old ++ turn ∷ []) left)

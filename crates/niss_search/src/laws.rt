@@ -26,11 +26,13 @@ pub fn counts_and_bounds()
 }
 
 /// A search without slack is for the solutions of least length alone.
+#[tactic(auto, using(crate::proofs::DeepeningLemmas::no_slack))]
 pub fn no_slack_is_least()
     ensures { NoSlackIsLeast }
 {}
 
 /// What of a cube depends on its position alone.
+#[tactic(auto, using(crate::proofs::Transfer::positions_follow_cubes))]
 pub fn positions_follow_cubes()
     ensures { PositionsFollowCubes }
 {
@@ -42,6 +44,7 @@ pub fn positions_follow_cubes()
 }
 
 /// How the turns of a step lead between the entries of its pruning table.
+#[tactic(auto, using(crate::proofs::EntryLemmas::entries_turn))]
 pub(crate) fn entries_turn()
     ensures { EntriesTurn }
 {

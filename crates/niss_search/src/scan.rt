@@ -1,5 +1,6 @@
 //! The bytes of a table that are at a level, found eight at a time as one number: quick also where a target has no vectors.
-ghost use Rattle.std.specs.Prelude.{◌≡◌, ◌≢◌, ℕ, ◌<◌, ◌≤◌, ◌==◌, length, map, not, slice_index, if◌then◌else◌, IfSome, IfNone, false};
+ghost use Rattle.std.specs.Prelude.{◌≡◌, ◌≢◌, ℕ, ◌+◌, ◌<◌, ◌≤◌, ◌==◌, length, drop, map, not, slice_index, if◌then◌else◌};
+ghost use Rattle.std.specs.Prelude.{IfSome, IfNone, false};
 ghost use Rattle.std.specs.Int.{w64, from_le_bytes};
 ghost use Rattle.std.specs.List.{prefix_len};
 
@@ -28,26 +29,23 @@ fn first_in_word(word: &[u8; 8], level: u8) -> usize
 
 /// Whether a block has the level.
 fn is_in_block(block: &[u8; 32], level: u8) -> bool
-    ensures { result ≡ false → (k : ℕ) → k < 32 → slice_index block.now k ≢ level }
+    ensures { result ≡ false → prefix_len (λ byte. not (byte == level)) block.now ≡ 32 }
 {
     let (words, _) = block.as_chunks::<8>();
-    let mut all = 0;
-    for word in words {
-        all |= marks(word, level);
-    }
-    all != 0
+    let first_half = marks(&words[0], level) | marks(&words[1], level);
+    let last_half = marks(&words[2], level) | marks(&words[3], level);
+    first_half | last_half != 0
 }
 
 /// Goes on from `from` by the blocks that don't have the level.
 fn skip_blocks(table: &[u8], from: usize, level: u8) -> usize
     requires { from ≤ length table.now }
-    ensures from { from ≤ result }
     ensures to { result ≤ length table.now }
-    ensures skipped { (k : ℕ) → from ≤ k → k < result → slice_index table.now k ≢ level }
+    ensures skipped { result + prefix_len (λ byte. not (byte == level)) (drop result table.now)
+        ≡ from + prefix_len (λ byte. not (byte == level)) (drop from table.now) }
 {
-    let (blocks, _) = table[from..].as_chunks::<32>();
     let mut at = from;
-    for block in blocks {
+    while let Some(block) = table[at..].first_chunk::<32>() {
         if is_in_block(block, level) {
             return at;
         }
@@ -56,31 +54,25 @@ fn skip_blocks(table: &[u8], from: usize, level: u8) -> usize
     at
 }
 
-/// What `next_at` answers, by eight bytes at a time.
-fn next_by_words(table: &[u8], from: usize, level: u8) -> Option<usize>
+/// The least index from `from` on, by eight bytes at a time; the table's length where there is none.
+fn next_by_words(table: &[u8], from: usize, level: u8) -> usize
     requires { from ≤ length table.now }
-    ensures found { IfSome result
-        (λ i. (from ≤ i) × (i < length table.now) × (slice_index table.now i ≡ level)) }
-    ensures least { IfSome result (λ i. (k : ℕ) → from ≤ k → k < i → slice_index table.now k ≢ level) }
-    ensures none { IfNone result
-        ((k : ℕ) → from ≤ k → k < length table.now → slice_index table.now k ≢ level) }
+    ensures { result ≡ from + prefix_len (λ byte. not (byte == level)) (drop from table.now) }
 {
-    let (words, rest) = table[from..].as_chunks::<8>();
     let mut at = from;
-    for word in words {
+    while let Some(word) = table[at..].first_chunk::<8>() {
         let place = first_in_word(word, level);
         if place < 8 {
-            return Some(at + place);
+            return at + place;
         }
         at += 8;
     }
-    for byte in rest {
-        if *byte == level {
-            return Some(at);
+    for index in at..table.len() {
+        if table[index] == level {
+            return index;
         }
-        at += 1;
     }
-    None
+    table.len()
 }
 
 /// The least index, from `from` on, at which the table has the level, if there is one. `from` is at most the table's
@@ -100,5 +92,9 @@ pub fn next_at(table: &[u8], from: usize, level: u8) -> Option<usize>
             return Some(from + place);
         }
     }
-    next_by_words(table, skip_blocks(table, from, level), level)
+    let next = next_by_words(table, skip_blocks(table, from, level), level);
+    if next < table.len() {
+        return Some(next);
+    }
+    None
 }

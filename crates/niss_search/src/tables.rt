@@ -75,6 +75,7 @@ impl<A: Allocator> Tables<A> {
     ghost use Rattle.niss_search.specs.KindOfStep.{IsOfStep};
 
     /// `build` over any allocator, for a caller that has a heap of its own, or that refuses growths.
+    #[tactic(auto, using(crate::proofs::FillLemmas::ticks_at_most))]
     pub fn build_in(alloc: A, step: Step, meter: &mut Meter) -> Result<Tables<A>, OutOfMemory>
     where
         A: Copy,
@@ -167,10 +168,10 @@ impl<A: Allocator> Tables<A> {
         ensures value { result ≡ distance_at self.now position.now }
     {
         match &self.kind {
-            Kind::Edges(tables) => tables.look_at(position, meter),
-            Kind::AnyEdges(tables) => tables.look_at(position, meter),
-            Kind::Domino(tables) => tables.look_at(position, meter),
-            Kind::EitherDomino(tables) => tables.look_at(position, meter),
+            Kind::Edges(tables) => tables.look(tables.state(position), meter),
+            Kind::AnyEdges(tables) => tables.look(tables.state(position), meter),
+            Kind::Domino(tables) => tables.look(tables.state(position), meter),
+            Kind::EitherDomino(tables) => tables.look(tables.state(position), meter),
         }
     }
 }

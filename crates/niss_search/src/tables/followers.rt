@@ -1,7 +1,8 @@
 //! The turns of a step that may follow a turn.
-ghost use Rattle.std.specs.Prelude.{◌≡◌, ◌<◌, length, Contains, None};
+ghost use Rattle.std.specs.Prelude.{◌≡◌, ◌<◌, length, get_or, Contains, None};
 ghost use Rattle.niss_moves.specs.Canonical.{may_follow, face_may_follow};
-ghost use Rattle.niss_search.specs.Names.{U, D, R, L, F, B};
+ghost use Rattle.niss_moves.specs.Indices.{face_index};
+ghost use Rattle.niss_search.specs.Names.{Face};
 ghost use Rattle.niss_cube.specs.Steps.{turns_of};
 ghost use Rattle.niss_search.specs.Followers.{AreFollowers};
 ghost use Rattle.niss_search.specs.Moves.{turn_at};
@@ -56,19 +57,10 @@ fn followers_after_face(step: Step, face: Face) -> FollowerList
 pub struct Followers {
     step: Step,
     first: FollowerList,
-    after_up: FollowerList,
-    after_down: FollowerList,
-    after_right: FollowerList,
-    after_left: FollowerList,
-    after_front: FollowerList,
-    after_back: FollowerList,
+    after_faces: [FollowerList; 6],
     ghost first_are: { AreFollowers step (may_follow None) first.items },
-    ghost up_are: { AreFollowers step (λ t. face_may_follow U t.face) after_up.items },
-    ghost down_are: { AreFollowers step (λ t. face_may_follow D t.face) after_down.items },
-    ghost right_are: { AreFollowers step (λ t. face_may_follow R t.face) after_right.items },
-    ghost left_are: { AreFollowers step (λ t. face_may_follow L t.face) after_left.items },
-    ghost front_are: { AreFollowers step (λ t. face_may_follow F t.face) after_front.items },
-    ghost back_are: { AreFollowers step (λ t. face_may_follow B t.face) after_back.items },
+    ghost after_are: { (face : Face) (none : _) →
+        AreFollowers step (λ t. face_may_follow face t.face) (get_or after_faces (face_index face) none).items },
 }
 
 impl Model for Followers {
@@ -87,12 +79,14 @@ impl Followers {
         Followers {
             step,
             first: followers_after(step, None),
-            after_up: followers_after_face(step, Face::U),
-            after_down: followers_after_face(step, Face::D),
-            after_right: followers_after_face(step, Face::R),
-            after_left: followers_after_face(step, Face::L),
-            after_front: followers_after_face(step, Face::F),
-            after_back: followers_after_face(step, Face::B),
+            after_faces: [
+                followers_after_face(step, Face::U),
+                followers_after_face(step, Face::D),
+                followers_after_face(step, Face::R),
+                followers_after_face(step, Face::L),
+                followers_after_face(step, Face::F),
+                followers_after_face(step, Face::B),
+            ],
         }
     }
 
@@ -110,16 +104,9 @@ impl Followers {
     pub(super) fn after(&self, last: Option<Turn>) -> &[Follower]
         ensures { AreFollowers self.now (may_follow last) result.now }
     {
-        let Some(last) = last else {
-            return self.first.as_slice();
-        };
-        match last.face {
-            Face::U => self.after_up.as_slice(),
-            Face::D => self.after_down.as_slice(),
-            Face::R => self.after_right.as_slice(),
-            Face::L => self.after_left.as_slice(),
-            Face::F => self.after_front.as_slice(),
-            Face::B => self.after_back.as_slice(),
+        match last {
+            Some(last) => self.after_faces[last.face as usize].as_slice(),
+            None => self.first.as_slice(),
         }
     }
 }

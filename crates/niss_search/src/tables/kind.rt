@@ -45,7 +45,7 @@ impl<A: Allocator + Copy> Kind<A> {
                 let flips = TurnTable::build_in(alloc, Coordinate::Flip)?;
                 let table = edge_table(alloc, step, axis, &flips)?;
                 drop(flips);
-                Ok(Kind::Edges(fill_one(step, table, meter)))
+                Ok(Kind::Edges(SearchTables::of(step, table.fill(meter))))
             }
             [Goal::Edges(first), Goal::Edges(second), Goal::Edges(third)] => {
                 let flips = TurnTable::build_in(alloc, Coordinate::Flip)?;
@@ -53,13 +53,17 @@ impl<A: Allocator + Copy> Kind<A> {
                 let second = edge_table(alloc, step, second, &flips)?;
                 let third = edge_table(alloc, step, third, &flips)?;
                 drop(flips);
-                Ok(Kind::AnyEdges(fill_three(step, first, second, third, meter)))
+                let space = Either::of(
+                    first.fill(meter),
+                    Either::of(second.fill(meter), third.fill(meter)),
+                );
+                Ok(Kind::AnyEdges(SearchTables::of(step, space)))
             }
             [Goal::Domino { edges, axis }] => {
                 let turns = DominoTurns::build_in(alloc)?;
                 let table = domino_table(alloc, step, edges, axis, &turns)?;
                 drop(turns);
-                Ok(Kind::Domino(fill_one(step, table, meter)))
+                Ok(Kind::Domino(SearchTables::of(step, table.fill(meter))))
             }
             [
                 Goal::Domino { edges, axis },
@@ -72,66 +76,12 @@ impl<A: Allocator + Copy> Kind<A> {
                 let first = domino_table(alloc, step, edges, axis, &turns)?;
                 let second = domino_table(alloc, step, other_edges, other_axis, &turns)?;
                 drop(turns);
-                Ok(Kind::EitherDomino(fill_two(step, first, second, meter)))
+                let space = Either::of(first.fill(meter), second.fill(meter));
+                Ok(Kind::EitherDomino(SearchTables::of(step, space)))
             }
             _ => unreachable!(),
         }
     }
-}
-
-/// Fills the table of a step with one goal.
-fn fill_one<M: GoalMoves, A: Allocator>(
-    step: Step,
-    table: EmptyTable<M, A>,
-    meter: &mut Meter,
-) -> OneGoal<M, A>
-    requires of_step { (M.alternative table).step ≡ step }
-    requires goals { goals_of step ≡ (M.alternative table).goal ∷ [] }
-    requires meter { meter.old ≤ 2 ^ 127 }
-    ensures step { result.step ≡ step }
-    ensures ticks { meter.new ≡ meter.old + fill_ticks step }
-{
-    SearchTables::of(step, table.fill(meter))
-}
-
-/// Fills those of a step with two.
-fn fill_two<M: GoalMoves, A: Allocator>(
-    step: Step,
-    first: EmptyTable<M, A>,
-    second: EmptyTable<M, A>,
-    meter: &mut Meter,
-) -> TwoGoals<M, A>
-    requires of_step { (M.alternative first).step ≡ step }
-    requires second_of_step { (M.alternative second).step ≡ step }
-    requires goals { goals_of step ≡ (M.alternative first).goal ∷ (M.alternative second).goal ∷ [] }
-    requires meter { meter.old ≤ 2 ^ 127 }
-    ensures step { result.step ≡ step }
-    ensures ticks { meter.new ≡ meter.old + fill_ticks step }
-{
-    let space = Either::of(first.fill(meter), second.fill(meter));
-    SearchTables::of(step, space)
-}
-
-/// Fills those of a step with three.
-fn fill_three<M: GoalMoves, A: Allocator>(
-    step: Step,
-    first: EmptyTable<M, A>,
-    second: EmptyTable<M, A>,
-    third: EmptyTable<M, A>,
-    meter: &mut Meter,
-) -> ThreeGoals<M, A>
-    requires of_step { (M.alternative first).step ≡ step }
-    requires second_of_step { (M.alternative second).step ≡ step }
-    requires third_of_step { (M.alternative third).step ≡ step }
-    requires goals { goals_of step
-        ≡ (M.alternative first).goal ∷ (M.alternative second).goal ∷ (M.alternative third).goal ∷ [] }
-    requires meter { meter.old ≤ 2 ^ 127 }
-    ensures step { result.step ≡ step }
-    ensures ticks { meter.new ≡ meter.old + fill_ticks step }
-{
-    let others = Either::of(second.fill(meter), third.fill(meter));
-    let space = Either::of(first.fill(meter), others);
-    SearchTables::of(step, space)
 }
 
 /// The pruning table of an edge orientation, still to be filled.
@@ -143,7 +93,7 @@ fn edge_table<A: Allocator + Copy>(
 ) -> Result<EmptyTable<EdgeMoves<A>, A>, OutOfMemory>
     requires { flips.now ≡ coordinate.Flip }
     ensures { IfOk result (λ t.
-        ⟦<EdgeMoves<A> as GoalMoves>⟧.alternative t ≡ record { step = step; goal = goals.Edges axis }) }
+        ⟦<EdgeMoves<A> as GoalMoves>⟧.alternative t.moves ≡ record { step = step; goal = goals.Edges axis }) }
 {
     let moves = EdgeMoves::build_in(alloc, step, axis, flips)?;
     EmptyTable::new_in(alloc, moves)
@@ -158,7 +108,7 @@ fn domino_table<A: Allocator + Copy>(
     turns: &DominoTurns<A>,
 ) -> Result<EmptyTable<DominoMoves<A>, A>, OutOfMemory>
     ensures { IfOk result (λ t.
-        ⟦<DominoMoves<A> as GoalMoves>⟧.alternative t
+        ⟦<DominoMoves<A> as GoalMoves>⟧.alternative t.moves
         ≡ record { step = step; goal = goals.Domino edges axis }) }
 {
     let moves = DominoMoves::build_in(alloc, step, edges, axis, turns)?;

@@ -1,7 +1,7 @@
 //! The counter of turns tried and of looks.
 use std::marker::Model;
 
-/// A counter, 0 at first, of the turns that a fill tried and of the looks at positions. Only `Tables` ticks it.
+/// A counter, 0 at first, of the turns that a fill tried and of the looks at positions. Only a fill and a look tick it.
 #[derive(Debug, Drop)]
 pub struct Meter {
     ticks: u128,

@@ -82,6 +82,7 @@ impl<A: Allocator> MoveTable<A> {
     }
 
     /// How many turns the step has.
+    #[tactic(auto, using(crate::proofs::Bounds::few_turns))]
     pub fn turns(&self) -> usize
         ensures value { result ≡ length (turns_of self.now.step) }
         ensures few { result ≤ 18 }
@@ -99,6 +100,7 @@ impl<A: Allocator> MoveTable<A> {
     }
 
     /// The number after the turn of a column.
+    #[tactic(auto, using(crate::proofs::Bounds::few_turns))]
     #[inline(always)]
     pub fn after(&self, number: u16, column: usize) -> u16
         requires in_range { number < count_of self.now.coordinate }

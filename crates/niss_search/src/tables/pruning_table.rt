@@ -2,7 +2,7 @@
 ghost use Rattle.std.specs.Prelude.{◌≡◌, ◌+◌, ◌<◌, ◌≤◌, ◌^◌, ◌∷◌, [], IfOk};
 ghost use Rattle.niss_cube.specs.Steps.{turns_of};
 ghost use Rattle.niss_search.specs.Entries.{count_for};
-ghost use Rattle.niss_search.specs.Filling.{goal_ticks, IsEntry, AreEntries};
+ghost use Rattle.niss_search.specs.Filling.{goal_ticks, IsEntry, IsFilled, AreEntries};
 ghost use Rattle.niss_search.specs.Positions.{distance_at};
 
 use super::entries::{FAR, GOAL_ENTRY};
@@ -21,22 +21,13 @@ use std::marker::Model;
 pub struct EmptyTable<M: GoalMoves, A: Allocator> {
     moves: M,
     distances: Vec<u8, A>,
-}
-
-impl<M: GoalMoves, A: Allocator> Model for EmptyTable<M, A> {
-    ghost use Rattle.niss_search.specs.Filling.{IsFilled};
-
-    ghost Value = { M };
-
-    ghost view = { λ t. t.moves };
-
-    ghost invariant = { λ t. IsFilled (M.alternative t.moves) 0 t.distances.items };
+    ghost is_empty: { IsFilled (M.alternative moves) 0 distances.items },
 }
 
 impl<M: GoalMoves + Drop, A: Allocator> EmptyTable<M, A> {
     /// That of one goal of a step.
     pub fn new_in(alloc: A, moves: M) -> Result<EmptyTable<M, A>, OutOfMemory>
-        ensures { IfOk result (λ t. t ≡ moves) }
+        ensures { IfOk result (λ t. t.moves ≡ moves) }
     {
         let Ok(mut distances) = Vec::from_elem(alloc, FAR, moves.entries()) else {
             return Err(OutOfMemory);
@@ -48,11 +39,11 @@ impl<M: GoalMoves + Drop, A: Allocator> EmptyTable<M, A> {
 
 impl<M: GoalMoves, A: Allocator> EmptyTable<M, A> {
     /// Fills it. The meter rises by one for each turn that is tried.
-    #[tactic(auto, using(crate::proofs::TickLemmas::goal_ticks_bound))]
+    #[tactic(auto, using(crate::proofs::FillLemmas::goal_ticks_bound))]
     pub fn fill(self, meter: &mut Meter) -> PruningTable<M, A>
         requires { meter.old + 2 ^ 32 < 2 ^ 128 }
-        ensures moves { result ≡ self }
-        ensures ticks { meter.new ≡ meter.old + goal_ticks (M.alternative self) }
+        ensures moves { result ≡ self.moves }
+        ensures ticks { meter.new ≡ meter.old + goal_ticks (M.alternative self.moves) }
         ensures few { meter.new ≤ meter.old + 2 ^ 32 }
     {
         let mut distances = self.distances;
@@ -100,8 +91,12 @@ impl<M: GoalMoves, A: Allocator> StateSpace for PruningTable<M, A> {
 
     ghost seen = { λ t x. M.coordinates t x ∷ [] };
 
+    #[tactic(auto, unfolding(crate::specs::Filling::AreEntries))]
     fn state(&self, position: &[Coordinates]) -> M::State {
-        self.state_of(position[0])
+        let Some((coordinates, _)) = position.split_first() else {
+            unreachable!()
+        };
+        self.state_of(*coordinates)
     }
 
     fn put_coordinates(&self, state: M::State, list: &mut ArrayVec<Coordinates, 3>) {

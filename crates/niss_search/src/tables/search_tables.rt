@@ -74,16 +74,6 @@ impl<S: StateSpace> SearchTables<S> {
         Position::from_coordinates(coordinates)
     }
 
-    /// The distance of a position of the step.
-    pub fn look_at(&self, position: &Position, meter: &mut Meter) -> u8
-        requires position { IsPosition self.now.step position.now }
-        requires meter { meter.old + 1 < 2 ^ 128 }
-        ensures tick { meter.new ≡ meter.old + 1 }
-        ensures value { result ≡ distance_at self.now.step position.now }
-    {
-        self.look(self.state(position), meter)
-    }
-
     /// The state after a turn of the step.
     #[inline(always)]
     pub fn after(&self, state: S::State, follower: Follower) -> S::State

@@ -107,6 +107,7 @@ impl<M: GoalMoves, A: Allocator, S: StateSpace> StateSpace for Either<M, A, S> {
         )
     }
 
+    #[tactic(auto, using(crate::proofs::LookLemmas::distance_at_least))]
     #[inline(always)]
     fn distance(&self, state: (M::State, S::State)) -> u8 {
         self.first

@@ -1,7 +1,6 @@
-use Rattle.niss_search.proofs.CountLaws.{count-recurrence, part-has-no-more, step-bound}
-use Rattle.niss_search.proofs.Bounds.{all_looks-bound, bound-small}
-use Rattle.niss_search.proofs.LookLemmas.{distance_at-least}
-use Rattle.niss_search.proofs.TickLemmas.{entries-counted, edge-fill-small, fill-small}
+use Rattle.niss_search.proofs.Bounds.{count-recurrence, part-has-no-more, step-bound, all_looks-bound, bound-small}
+use Rattle.niss_search.proofs.LookLemmas.{distance_at_least}
+use Rattle.niss_search.proofs.FillLemmas.{entries-counted, edge-fill-small, fill-small}
 use Rattle.niss_search.proofs.laws.counts_and_bounds.Goals as goal
 
 pub returns : goal.returns
@@ -14,5 +13,5 @@ returns c = record {
   entries = entries-counted;
   edge_fill = edge-fill-small c.domino_keeps_start.ensures;
   fill = fill-small c.domino_keeps_start.ensures;
-  least = distance_at-least;
+  least = distance_at_least;
 }

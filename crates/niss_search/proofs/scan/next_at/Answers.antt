@@ -1,23 +1,27 @@
-use Rattle.niss_search.proofs.Words.{arith, length, slice_index, ◌≢◌}
-use Rattle.niss_search.proofs.ScanLemmas.{first-told, least-after, none-after}
+use Rattle.niss_search.proofs.Words.{arith, ◌+◌, ap, ◌∙◌}
+use Rattle.niss_search.proofs.ScanLemmas.{told, next-found, next-least}
 use Rattle.niss_search.proofs.scan.next_at.Goals as goal
 
 pub returns-then-place-lt8-clause-found : goal.returns-then-place-lt8-clause-found
 returns-then-place-lt8-clause-found c =
     let word = c.in-Some.ensures.cases in
-    let told = first-told 8 c.args.table.now c.args.from c.first_in_word-place.result c.args.level c.in-Some.word.now c.requires word.enough word.same c.first_in_word-place.ensures in
-    (omega arith, omega (arith, told.room, c.if-place-lt8.true), told.stops c.if-place-lt8.true)
+    let first = told 8 c.args.table.now c.args.from c.args.level c.in-Some.word.now c.requires word.enough word.same in
+    next-found c.args.table.now c.args.from c.args.level _ (ap (λ k. c.args.from + k) c.first_in_word-place.ensures ∙ first.stops (omega arith)) (omega (arith, first.room))
 
 pub returns-then-place-lt8-clause-least : goal.returns-then-place-lt8-clause-least
 returns-then-place-lt8-clause-least c =
     let word = c.in-Some.ensures.cases in
-    let told = first-told 8 c.args.table.now c.args.from c.first_in_word-place.result c.args.level c.in-Some.word.now c.requires word.enough word.same c.first_in_word-place.ensures in
-    told.fails
+    let first = told 8 c.args.table.now c.args.from c.args.level c.in-Some.word.now c.requires word.enough word.same in
+    next-least c.args.table.now c.args.from c.args.level _ (ap (λ k. c.args.from + k) c.first_in_word-place.ensures ∙ first.stops (omega arith))
 
-pub returns-clause-least : goal.returns-clause-least
-returns-clause-least c =
-    least-after (λ k. slice_index c.args.table.now k ≢ c.args.level) c.args.from c.skip_blocks.result c.next_by_words.result c.skip_blocks.ensures.skipped c.next_by_words.ensures.least
+pub returns-then-next-table-clause-found : goal.returns-then-next-table-clause-found
+returns-then-next-table-clause-found c =
+    next-found c.args.table.now c.args.from c.args.level _ (c.next_by_words-next.ensures ∙ c.skip_blocks.ensures.skipped) c.if-next-table.true
+
+pub returns-then-next-table-clause-least : goal.returns-then-next-table-clause-least
+returns-then-next-table-clause-least c =
+    next-least c.args.table.now c.args.from c.args.level _ (c.next_by_words-next.ensures ∙ c.skip_blocks.ensures.skipped)
 
 pub returns-clause-none : goal.returns-clause-none
-returns-clause-none c =
-    none-after (λ k. slice_index c.args.table.now k ≢ c.args.level) c.args.from c.skip_blocks.result (length c.args.table.now) c.next_by_words.result c.skip_blocks.ensures.skipped c.next_by_words.ensures.none
+returns-clause-none c = λ k low high.
+    next-least c.args.table.now c.args.from c.args.level _ (c.next_by_words-next.ensures ∙ c.skip_blocks.ensures.skipped) k low (omega arith)

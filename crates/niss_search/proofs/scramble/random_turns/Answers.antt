@@ -1,37 +1,36 @@
-use Rattle.niss_search.proofs.Words.{◌≡◌, arith, ◌+◌, ℕ, ap, ◌∙◌, sym, true, ◌-◌, suc, may_follow, last_turn, append-nil, after_words, Lcg}
-use Rattle.niss_search.proofs.Words.{choice, last_turn-push, pcg32, append_assoc}
-use Rattle.niss_search.proofs.DrawLemmas.{draw-more, after_words-more, draw-none, after_words-none, choice-follows, canonical-push}
+use Rattle.niss_search.proofs.Words.{◌≡◌, arith, ◌+◌, [], ◌∷◌, ℕ, ap, ◌∙◌, sym, refl, true, zero, suc, may_follow, append-nil, after_words, Lcg}
+use Rattle.niss_search.proofs.Words.{choice, draw, next_words, pcg32, append_assoc, None}
+use Rattle.rand_pcg.specs.Lcg.{state_after}
+use Rattle.niss_search.proofs.DrawLemmas.{choice-follows}
 use Rattle.niss_search.proofs.scramble.random_turns.Goals as goal
 
 pub drawing-preserved : goal.drawing-preserved
+unfolding draw next_words state_after
 drawing-preserved c =
     let inv = c.drawing.invariant in
-    let items = c.drawing.turns.items in
-    let g = c.drawing.rng in
-    let n = c.args.count - c.drawing.counter in
-    let m = c.args.count - (c.drawing.counter + 1) in
-    let fewer : n ≡ suc m = omega arith in
-    let last = inv.last in
-    let word : c.next_word.result ≡ (pcg32 g).0 = ap (λ (q : ℕ × Lcg). q.0) c.next_word.ensures in
-    let next : c.next_word.new.self ≡ (pcg32 g).1 = ap (λ (q : ℕ × Lcg). q.1) c.next_word.ensures in
-    let picked : c.turn_of_word-turn.result ≡ choice (last_turn items) (pcg32 g).0 =
-    c.turn_of_word-turn.ensures ∙ ap (λ l. choice l c.next_word.result) last ∙ ap (choice (last_turn items)) word in
-    let follows : may_follow (last_turn items) c.turn_of_word-turn.result ≡ true =
-    rw (c.turn_of_word-turn.ensures, last) (choice-follows (last_turn items) c.next_word.result c.next_word.type_inv) in
+    let last = c.drawing.last in
+    let turn = c.turn_of_word-turn.result in
+    let word : c.next_word.result ≡ (pcg32 c.drawing.rng).0 = ap (λ (q : ℕ × Lcg). q.0) c.next_word.ensures in
+    let next : c.next_word.new.self ≡ (pcg32 c.drawing.rng).1 = ap (λ (q : ℕ × Lcg). q.1) c.next_word.ensures in
+    let picked : turn ≡ choice last (pcg32 c.drawing.rng).0 = c.turn_of_word-turn.ensures ∙ ap (choice last) word in
+    let follows : may_follow last turn ≡ true = rw c.turn_of_word-turn.ensures (choice-follows last c.next_word.result c.next_word.type_inv) in
+    let more : (k : ℕ) → c.drawing.counter + 1 + k ≡ c.drawing.counter + suc k = λ k. omega arith in
     record {
-      drawn = inv.drawn ∙ rw (draw-more n m (last_turn items) g fewer, c.push.ensures.items, last_turn-push items c.turn_of_word-turn.result, next, picked, append_assoc);
-      words = inv.words ∙ after_words-more n m g fewer ∙ ap (after_words m) (sym next);
-      last = rw c.push.ensures.items (sym (last_turn-push items c.turn_of_word-turn.result));
+      drawn = λ k. ap (λ n. draw None (next_words n c.args.rng.now)) (more k) ∙ inv.drawn (suc k) ∙ rw (c.push.ensures.items, next, picked, append_assoc) refl;
+      words = λ k. ap (λ n. after_words n c.args.rng.now) (more k) ∙ inv.words (suc k) ∙ ap (after_words k) (sym next);
+      canonical = λ rest h. rw (c.push.ensures.items, append_assoc) (inv.canonical (turn ∷ rest) (rw follows h));
       size = omega (arith, c.push.ensures.len);
-      canonical = rw c.push.ensures.items (canonical-push items c.turn_of_word-turn.result inv.canonical follows);
     }
 
-pub returns-clause-drawn : goal.returns-clause-drawn
-returns-clause-drawn c =
+pub returns : goal.returns
+unfolding draw next_words state_after
+returns c =
     let inv = c.drawing.invariant in
-    sym (inv.drawn ∙ rw (draw-none (c.args.count - c.drawing.counter) (last_turn c.drawing.turns.items) c.drawing.rng (omega arith)) (append-nil c.drawing.turns.items))
-
-pub returns-clause-words : goal.returns-clause-words
-returns-clause-words c =
-    let inv = c.drawing.invariant in
-    sym (inv.words ∙ after_words-none (c.args.count - c.drawing.counter) c.drawing.rng (omega arith))
+    let items = c.drawing.turns.items in
+    let all : c.args.count ≡ c.drawing.counter + zero = omega arith in
+    record {
+      drawn = sym (ap (λ n. draw None (next_words n c.args.rng.now)) all ∙ inv.drawn zero ∙ append-nil items);
+      canonical = rw append-nil at (inv.canonical [] refl);
+      length = omega arith;
+      words = sym (ap (λ n. after_words n c.args.rng.now) all ∙ inv.words zero);
+    }

@@ -1,11 +1,10 @@
-use Rattle.niss_search.proofs.Words.{◌≡◌, length, true, ◌-◌, ◌++◌, last_turn, None, after_words, draw, is_canonical_after, next_words}
+use Rattle.niss_search.proofs.Words.{◌≡◌, length, true, ℕ, ◌+◌, ◌++◌, List, Turn, None, after_words, draw, is_canonical_after, next_words}
 use Rattle.niss_search.proofs.scramble.random_turns.Given as goal
 
 abbrev pub invariant-drawing : goal.invariant-drawing
 invariant-drawing l = record {
-  drawn : draw None (next_words l.count l.fn.rng) ≡ l.turns.items ++ draw (last_turn l.turns.items) (next_words (l.count - l.counter) l.rng);
-  words : after_words l.count l.fn.rng ≡ after_words (l.count - l.counter) l.rng;
-  last : l.last ≡ last_turn l.turns.items;
+  drawn : (k : ℕ) → draw None (next_words (l.counter + k) l.fn.rng) ≡ l.turns.items ++ draw l.last (next_words k l.rng);
+  words : (k : ℕ) → after_words (l.counter + k) l.fn.rng ≡ after_words k l.rng;
+  canonical : (rest : List Turn) → is_canonical_after l.last rest ≡ true → is_canonical_after None (l.turns.items ++ rest) ≡ true;
   size : length l.turns.items ≡ l.counter;
-  canonical : is_canonical_after None l.turns.items ≡ true;
 }

@@ -1,6 +1,5 @@
 use Rattle.niss_search.proofs.Words.{arith, ◌∙◌, sym, turns_of, reaches_at, err_from_is_err_and}
-use Rattle.niss_search.proofs.Levels.{level-next, least_length-is}
-use Rattle.niss_search.proofs.DeepeningLemmas.{looks-room, found-room, least-next, goes-on, stops-here, all-done}
+use Rattle.niss_search.proofs.DeepeningLemmas.{level-next, least_length-is, looks-room, least-next, goes-on, stops-here, all-done}
 use Rattle.niss_search.proofs.deepening.Root.find.Goals as goal
 
 pub deepen-requires-clause-meter : goal.deepen-requires-clause-meter
@@ -14,12 +13,6 @@ returns-in_err-found-clause-delivers g c =
     let stops = rw (inv.path, c.in_err-found.was) at c.deepen.ensures.delivers in
     let last = rw (inv.least, c.limit-limit.ensures.value) at c.last_length.ensures.value in
     rw p.1 (stops-here c.args.self.now.tables.now c.args.self.now.position.now c.args.path.now.limit c.args.slack c.loop-length.length inv.went (omega (arith, last)) stops)
-
-pub overflow_add-solutions : goal.overflow_add-solutions
-overflow_add-solutions g c =
-    let inv = c.loop-length.invariant in
-    let went = rw (inv.path, c.in_ok-found.was) at c.deepen.ensures.delivers in
-    omega (arith, found-room c.args.self.now.tables.now c.args.self.now.position.now c.args.path.now.limit c.args.slack c.loop-length.length inv.went went (omega arith))
 
 pub loop-length-preserved : goal.loop-length-preserved
 loop-length-preserved g c =
@@ -35,6 +28,7 @@ loop-length-preserved g c =
       path = c.deepen.ensures.path ∙ inv.path;
       least = next;
       within = rw next (omega (arith, level-next (turns_of step) (reaches_at step x) n c.args.slack d (omega (arith, last))));
+      counted = omega (arith, inv.counted, c.in_ok-found.ensures.counted);
       went = goes-on step x n c.args.slack d inv.went went;
     }
 
@@ -51,3 +45,8 @@ returns-clause-delivers g c =
     let last = rw (inv.least, c.limit-limit.ensures.value) at c.last_length.ensures.value in
     let within = rw inv.least at inv.within in
     all-done c.args.self.now.tables.now c.args.self.now.position.now c.args.path.now.limit c.args.slack c.loop-length.length inv.went (omega (arith, last, within))
+
+pub overflow_add-solutions : goal.overflow_add-solutions
+overflow_add-solutions g c =
+    let went = rw (c.loop-length.invariant.path, c.in_ok-found.was) at c.deepen.ensures.delivers in
+    omega (arith, c.loop-length.invariant.counted, c.in_ok-found.ensures.counted, looks-room c.args.self.now.tables.now c.args.self.now.position.now c.args.path.now.limit c.args.slack c.loop-length.length c.loop-length.invariant.went c.requires.meter (omega arith), went.looked)

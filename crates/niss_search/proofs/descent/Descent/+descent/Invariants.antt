@@ -1,6 +1,5 @@
-use Rattle.niss_search.proofs.Words.{◌≡◌, length, ◌+◌, ◌<◌, ◌≤◌, ◌*◌, ◌-◌, flat_map, distance_at, sum_by, All, at_limit, found_below}
-use Rattle.niss_search.proofs.Words.{IsFollower, looks_beyond, Result, state_of, Descends, DescentState, Keeps}
-use Rattle.niss_search.proofs.DescentLemmas.{found_after, looks_after, turns_in}
+use Rattle.niss_search.proofs.Words.{length, ◌+◌, ◌<◌, ◌≤◌, ◌*◌, All, at_limit, IsFollower, state_of, Keeps}
+use Rattle.niss_search.proofs.DescentLemmas.{Remains}
 use Rattle.niss_search.proofs.descent.Descent.+descent.Given as goal
 
 abbrev pub decreases-extend : goal.decreases-extend
@@ -17,18 +16,8 @@ invariant-extend-loop-index g l = record {
   columns : All (IsFollower l.tables.step) l.rest;
   few : length l.rest * 3 < 9223372036854775808;
   keeps : Keeps l.fn.self l.self;
-  some_left : 0 < l.left;
-  near : distance_at l.tables.step (g.S.StateSpace.seen l.tables.space l.state) ≤ l.left;
-  looked : l.meter + sum_by (looks_after l.tables.step (g.S.StateSpace.seen l.tables.space l.state) l.fn.self.path.now.turns (l.left - 1)) (turns_in l.rest)
-      ≡ l.fn.meter + looks_beyond l.tables.step (g.S.StateSpace.seen l.tables.space l.state) l.fn.self.path.now.turns l.left;
-  counted : l.self.count < l.meter;
-  whole : (r : Result (Unit {0}) (Unit {0})) (new : DescentState _) →
-      Descends (at_limit g.K.Sink.took l.fn.self.path.now.limit) (at_limit g.K.Sink.refused l.fn.self.path.now.limit)
-      (flat_map (found_after l.tables.step (g.S.StateSpace.seen l.tables.space l.state) l.fn.self.path.now.turns (l.left - 1)) (turns_in l.rest))
-      (sum_by (looks_after l.tables.step (g.S.StateSpace.seen l.tables.space l.state) l.fn.self.path.now.turns (l.left - 1)) (turns_in l.rest))
-      (state_of l.meter l.self) new r
-      → Descends (at_limit g.K.Sink.took l.fn.self.path.now.limit) (at_limit g.K.Sink.refused l.fn.self.path.now.limit)
-      (found_below l.tables.step (g.S.StateSpace.seen l.tables.space l.state) l.fn.self.path.now.turns l.left)
-      (looks_beyond l.tables.step (g.S.StateSpace.seen l.tables.space l.state) l.fn.self.path.now.turns l.left)
-      (state_of l.fn.meter l.fn.self) new r;
+  counted : l.self.count + l.fn.meter ≤ l.fn.self.count + l.meter;
+  remains : Remains (at_limit g.K.Sink.took l.fn.self.path.now.limit) (at_limit g.K.Sink.refused l.fn.self.path.now.limit)
+      l.tables.step (g.S.StateSpace.seen l.tables.space l.state) l.fn.self.path.now.turns l.left l.rest
+      (state_of l.fn.meter l.fn.self) (state_of l.meter l.self);
 }

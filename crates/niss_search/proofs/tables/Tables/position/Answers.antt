@@ -1,10 +1,10 @@
-use Rattle.niss_search.proofs.Words.{refl, map_of, cube-itself}
-use Rattle.niss_search.proofs.PositionLemmas.{position_of-is}
+use Rattle.niss_search.proofs.Words.{refl, map_of, cube-itself, position_of}
 use Rattle.niss_search.proofs.tables.Tables.position.Goals as goal
 
 pub returns-clause-of_cube : goal.returns-clause-of_cube
+unfolding position_of
 returns-clause-of_cube g c = λ e same.
-    rw (c.of.ensures, c.goals.ensures, c.self.view_is, ← position_of-is c.args.self.now (map_of c.args.cube.now))
+    rw (c.of.ensures, c.goals.ensures, c.self.view_is)
     (c.positions_follow_cubes.ensures.alike c.args.self.now (map_of c.args.cube.now) e (cube-itself c.args.cube.now) same c.requires)
 
 pub returns-clause-position : goal.returns-clause-position

@@ -1,9 +1,8 @@
 use Rattle.niss_search.proofs.Words.{◌≡◌, arith, length, ◌+◌, ℕ, ap, ◌∙◌, sym, turns_of, ◌*◌, range_with_len, count_by, entry_distance}
 use Rattle.niss_search.proofs.Words.{count_for, nat_lt, mul-le-mul, goal_ticks}
 use Rattle.niss_search.proofs.Bounds.{turns_of-length}
-use Rattle.niss_search.proofs.FillLemmas.{count-level, count-below-zero, count-twenty, count-range-le}
+use Rattle.niss_search.proofs.FillLemmas.{count-level, count-below-zero, count-twenty, count-range-le, ticks-numbered}
 use Rattle.niss_search.proofs.EntryLemmas.{count_for-bound}
-use Rattle.niss_search.proofs.TickLemmas.{ticks-numbered}
 use Rattle.niss_search.proofs.tables.fill.fill_table.Goals as goal
 
 pub loop-level-init : goal.loop-level-init

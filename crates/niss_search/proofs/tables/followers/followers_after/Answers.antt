@@ -1,13 +1,11 @@
-use Rattle.niss_search.proofs.Words.{◌≡◌, arith, length, ap, ◌∙◌, sym, [], List, refl, true, ◌∷◌, Bool, Turn, false, cond, ◌++◌, get_or}
-use Rattle.niss_search.proofs.Words.{map, may_follow, filter, take, Follower, IsFollower, append-nil, no_turn, All-push, filter_more}
-use Rattle.niss_search.proofs.Words.{map_push}
+use Rattle.niss_search.proofs.Words.{length, get_or, may_follow, Follower, IsFollower, append-nil, no_turn, All-push, filter_more, map_push}
+use Rattle.niss_search.proofs.Words.{◌≡◌, arith, ap, ◌∙◌, sym, [], List, refl, true, ◌∷◌, Bool, Turn, false, cond, ◌++◌, map, filter, take}
 use Rattle.niss_search.proofs.Bounds.{turns_of-length}
 use Rattle.niss_search.proofs.tables.followers.followers_after.Goals.{then-allowed, else-allowed}
 use Rattle.niss_search.proofs.tables.followers.followers_after.Goals as goal
 
 pub loop-column-init : goal.loop-column-init
 loop-column-init c = record {
-  items = c.turns-turns.ensures;
   few = omega (arith, ap (length {A = Turn}) c.turns-turns.ensures, turns_of-length c.args.step);
   end = refl;
   kept = ap (map (λ (f : Follower). f.turn)) c.new-list.ensures;
@@ -30,17 +28,15 @@ loop-column-preserved c =
           let new : Follower = record { turn = t; column = i } in
           let yes : may t ≡ true = sym rule ∙ w.if-allowed.true in
           rw w.list-is (rw w.push.ensures.items record {
-            items = inv.items;
             few = inv.few;
             end = refl;
             kept = map_push (λ (f : Follower). f.turn) c.loop-column.list.items new ∙ ap (λ (ts : List Turn). ts ++ t ∷ []) inv.kept ∙ sym (more ∙ ap kept yes);
-            columns = All-push (IsFollower c.args.step) c.loop-column.list.items new inv.columns (omega (arith, c.loop-column-test.true, ap (length {A = Turn}) inv.items), ap (λ (ts : List Turn). get_or ts i no_turn) (sym inv.items));
+            columns = All-push (IsFollower c.args.step) c.loop-column.list.items new inv.columns (omega (arith, c.loop-column-test.true, ap (length {A = Turn}) c.turns-turns.ensures), ap (λ (ts : List Turn). get_or ts i no_turn) (sym c.turns-turns.ensures));
             long = omega (arith, inv.long, ap (length {A = Follower}) w.push.ensures.items, w.push.ensures.len);
           })
       | else-allowed w ↦
           let no : may t ≡ false = sym rule ∙ w.if-allowed.false in
           rw w.list-is record {
-            items = inv.items;
             few = inv.few;
             end = refl;
             kept = inv.kept ∙ sym (more ∙ ap kept no ∙ append-nil (filter may (take i turns)));

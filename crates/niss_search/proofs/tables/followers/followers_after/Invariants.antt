@@ -1,9 +1,8 @@
-use Rattle.niss_search.proofs.Words.{◌≡◌, length, ◌≤◌, turns_of, map, may_follow, filter, All, take, IsFollower}
+use Rattle.niss_search.proofs.Words.{◌≡◌, length, ◌≤◌, map, may_follow, filter, All, take, IsFollower}
 use Rattle.niss_search.proofs.tables.followers.followers_after.Given as goal
 
 abbrev pub invariant-loop-column : goal.invariant-loop-column
 invariant-loop-column l = record {
-  items : l.turns ≡ turns_of l.fn.step;
   few : length l.turns ≤ 18;
   end : l.column-end ≡ length l.turns;
   kept : map (λ f. f.turn) l.list.items ≡ filter (may_follow l.last) (take l.column l.turns);

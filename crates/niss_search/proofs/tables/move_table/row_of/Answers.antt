@@ -4,7 +4,6 @@ use Rattle.niss_search.proofs.tables.move_table.row_of.Goals as goal
 
 pub loop-column-init : goal.loop-column-init
 loop-column-init g c = record {
-  items = c.turns-turns.ensures;
   few = omega (arith, ap (length {A = Turn}) c.turns-turns.ensures, turns_of-length c.args.step);
   end = refl;
   size = refl;

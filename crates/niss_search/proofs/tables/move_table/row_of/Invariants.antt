@@ -1,9 +1,8 @@
-use Rattle.niss_search.proofs.Words.{◌≡◌, length, ◌<◌, ℕ, ◌≤◌, turns_of, slice_index, turn_at, count_of, number_after}
+use Rattle.niss_search.proofs.Words.{◌≡◌, length, ◌<◌, ℕ, ◌≤◌, slice_index, turn_at, count_of, number_after}
 use Rattle.niss_search.proofs.tables.move_table.row_of.Given as goal
 
 abbrev pub invariant-loop-column : goal.invariant-loop-column
 invariant-loop-column g l = record {
-  items : l.turns ≡ turns_of l.fn.step;
   few : length l.turns ≤ 18;
   end : l.column-end ≡ length l.turns;
   size : length l.row ≡ 18;
