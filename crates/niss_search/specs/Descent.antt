@@ -4,8 +4,10 @@ use Rattle.std.specs.Prelude.{List, [], ◌∷◌, ◌++◌, length, filter, fla
 use Rattle.niss_search.specs.Names.{Turn, Step, Coordinates}
 use Rattle.niss_moves.specs.Canonical.{may_follow, last_turn}
 use Rattle.niss_cube.specs.Steps.{turns_of}
-use Rattle.niss_search.specs.Delivery.{WentThrough, StoppedIn}
+use Rattle.niss_search.specs.Delivery.{at_limit, WentThrough, StoppedIn}
+use Rattle.niss_search.specs.Path.{Path}
 use Rattle.niss_search.specs.Positions.{position_after, distance_at}
+use Rattle.niss_search.specs.declared.descent.Descent.{Descent}
 
 module _ {P : Type 0} (turns : List Turn) (after : P → Turn → P) (look : P → ℕ) where
   -- the paths handed out below the path p at the position x, with `left` turns left
@@ -62,3 +64,28 @@ module _
     abbrev pub Descends : {F : Type 0} → Result (Unit {0}) F → Type 0
     Descends (Ok u) = GoesThrough
     Descends (Err e) = StopsIn
+
+-- The turns of the path of a descent, what it changes beside that, and what its functions keep and do.
+module _ {K : Type 0} where
+  -- the turns of its path
+  abbrev pub turns : Descent K → List Turn
+  turns descent = descent.path.now.turns
+
+  -- what a descent changes beside its path
+  abbrev pub state_of : ℕ → Descent K → DescentState K
+  state_of meter descent = descent_state meter descent.count descent.sink.now
+
+  -- The path is as it was, and what is lent is the same.
+  pub record Keeps (old new : Descent K) : Type 0 where
+    pub path : new.path.now ≡ old.path.now
+    pub same_path : new.path.ghost_name ≡ old.path.ghost_name
+    pub same_sink : new.sink.ghost_name ≡ old.sink.ghost_name
+
+  -- It finds these paths with so many looks.
+  abbrev pub Finds :
+      {F : Type 0} → (took refused : K → Path → K → Type 0) → List (List Turn) → (looks meter meter_now : ℕ)
+      → (old new : Descent K) → Result (Unit {0}) F → Type 0
+  Finds took refused paths looks meter meter_now old new =
+      let limit = old.path.now.limit in
+      Descends (at_limit took limit) (at_limit refused limit) paths looks
+      (state_of meter old) (state_of meter_now new)

@@ -3,8 +3,7 @@ ghost use Rattle.std.specs.Prelude.{◌≡◌, ◌+◌, ◌<◌, ◌≤◌, ◌^
 ghost use Rattle.niss_search.specs.Cubes.{IsPosition};
 ghost use Rattle.niss_search.specs.Followers.{IsFollower, IsNextNear, AreFar};
 ghost use Rattle.niss_search.specs.Positions.{distance_at};
-ghost use Rattle.niss_search.specs.Descent.{found_below, looks_below, looks_beyond};
-ghost use Rattle.niss_search.specs.Descending.{Keeps, Finds, turns};
+ghost use Rattle.niss_search.specs.Descent.{found_below, looks_below, looks_beyond, Keeps, Finds, turns};
 
 use crate::sink::Sink;
 use crate::tables::{Follower, Kind, Meter, Position, SearchTables, StateSpace, Tables};
