@@ -17,14 +17,6 @@ use Rattle.niss_search.specs.declared.outcome.Outcome.{Outcome}
 use Rattle.niss_search.proofs.DescentLemmas.{Descends-then, StopsIn-before}
 use Rattle.niss_search.proofs.Transfer.{solutions-cube, all_looks-cube}
 
-pub found_below-level : (step : Step) (x : List Coordinates) (d : ℕ) → found_below step x [] d ≡ reaching (turns_of step) (reaches_at step x) d
-unfolding found_below
-found_below-level step x d = found_all (turns_of step) position_after (distance_at step) is_reached_at x (distance_at-goal step) (distance_at-turn step) d
-
-pub looks_below-level : (step : Step) (x : List Coordinates) (d : ℕ) → looks_below step x [] d ≡ looks (turns_of step) (far_at step x) d
-unfolding looks_beyond
-looks_below-level step x d = visits_all (turns_of step) position_after (distance_at step) is_reached_at x (distance_at-goal step) (distance_at-turn step) d
-
 module _ (turns : List Turn) (reaches : List Turn → Bool) where
   -- Does a canonical sequence of k turns reach?
   abbrev pub is_level : ℕ → Bool
@@ -118,12 +110,14 @@ no_slack = record {
 -- one deepening, and one more
 module _ (step : Step) (x : List Coordinates) (d : ℕ) where
   pub found-level : found_below step x [] d ≡ reaching_at step x (d ∷ [])
+  unfolding found_below
   found-level =
-      found_below-level step x d ∙ sym (append-nil (reaching (turns_of step) (reaches_at step x) d))
+      found_all (turns_of step) position_after (distance_at step) is_reached_at x (distance_at-goal step) (distance_at-turn step) d ∙ sym (append-nil (reaching (turns_of step) (reaches_at step x) d))
 
   pub looks-level : looks_below step x [] d ≡ looks_at step x (d ∷ [])
+  unfolding looks_beyond
   looks-level =
-      omega (arith, looks_below-level step x d, sum_by-cons (looks (turns_of step) (far_at step x)) d [])
+      omega (arith, visits_all (turns_of step) position_after (distance_at step) is_reached_at x (distance_at-goal step) (distance_at-turn step) d, sum_by-cons (looks (turns_of step) (far_at step x)) d [])
 
   looks-push : looks_at step x (range_with_len 0 (d + 1)) ≡ looks_at step x (range_with_len 0 d) + looks_at step x (d ∷ [])
   looks-push = ap (looks_at step x) (range-push d) ∙ sum_by-append (looks (turns_of step) (far_at step x)) (range_with_len 0 d) (d ∷ [])

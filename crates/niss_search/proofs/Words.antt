@@ -48,8 +48,8 @@ pub use Rattle.niss_search.specs.Cubes.{HasPosition, near_looks_of, near_solutio
 pub use Rattle.niss_search.specs.Deepening.{reaches_at, all_looks_at, far_at, least_length_at, looks_at, reaching_at, solutions_at}
 pub use Rattle.niss_search.specs.Deepening.{Delivers}
 pub use Rattle.niss_search.specs.Delivery.{at_limit, StoppedIn, WentThrough}
-pub use Rattle.niss_search.specs.Descent.{state_of, Keeps, GoesThrough, descent_state, Descends, DescentState, StopsIn, looks_below}
-unfoldable pub use Rattle.niss_search.specs.Descent.{found_below, looks_beyond, found, visits}
+pub use Rattle.niss_search.specs.Deepening.{state_of, Keeps, GoesThrough, descent_state, Descends, DescentState, StopsIn, looks_below}
+unfoldable pub use Rattle.niss_search.specs.Deepening.{found_below, looks_beyond, found, visits}
 unfoldable pub use Rattle.niss_search.specs.Distance.{distance, all_sequences}
 pub use Rattle.niss_search.specs.Draw.{after_words, choice, choices}
 unfoldable pub use Rattle.niss_search.specs.Draw.{draw, next_words}

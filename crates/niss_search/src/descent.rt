@@ -1,9 +1,9 @@
 //! One deepening of the search, depth first.
-ghost use Rattle.std.specs.Prelude.{◌≡◌, ◌+◌, ◌<◌, ◌≤◌, ◌^◌, ◌++◌, ◌∷◌, [], length, All, IfSome, IfNone};
+ghost use Rattle.std.specs.Prelude.{◌≡◌, ◌+◌, ◌-◌, ◌<◌, ◌≤◌, ◌^◌, ◌++◌, ◌∷◌, [], length, All, IfSome, IfNone};
 ghost use Rattle.niss_search.specs.Cubes.{IsPosition};
 ghost use Rattle.niss_search.specs.Followers.{IsFollower, IsNextNear, AreFar};
 ghost use Rattle.niss_search.specs.Positions.{distance_at};
-ghost use Rattle.niss_search.specs.Descent.{found_below, looks_below, looks_beyond, Keeps, Finds, turns};
+ghost use Rattle.niss_search.specs.Deepening.{found_below, looks_below, looks_beyond, Keeps, Finds, turns};
 
 use crate::sink::Sink;
 use crate::tables::{Follower, Kind, Meter, Position, SearchTables, StateSpace, Tables};
@@ -57,8 +57,7 @@ impl<'a, K: Sink> Descent<'a, K> {
         requires room { length (turns self.old) + left ≤ self.old.path.now.limit }
         requires meter { meter + looks_below tables.now position.now (turns self.old) left < 2 ^ 128 }
         requires count { self.old.count ≤ meter }
-        ensures keeps { Keeps self.old self.new }
-        ensures counted { self.new.count + meter ≤ self.old.count + result.0 }
+        ensures keeps { Keeps self.old self.new meter result.0 }
         ensures finds { Finds K.took K.refused
             (found_below tables.now position.now (turns self.old) left)
             (looks_below tables.now position.now (turns self.old) left)
@@ -84,8 +83,7 @@ impl<'a, K: Sink> Descent<'a, K> {
         requires room { length (turns self.old) + left ≤ self.old.path.now.limit }
         requires meter { meter + looks_below tables.now.step position.now (turns self.old) left < 2 ^ 128 }
         requires count { self.old.count ≤ meter }
-        ensures keeps { Keeps self.old self.new }
-        ensures counted { self.new.count + meter ≤ self.old.count + result.0 }
+        ensures keeps { Keeps self.old self.new meter result.0 }
         ensures finds { Finds K.took K.refused
             (found_below tables.now.step position.now (turns self.old) left)
             (looks_below tables.now.step position.now (turns self.old) left)
@@ -114,8 +112,7 @@ impl<'a, K: Sink> Descent<'a, K> {
         requires meter { meter
             + looks_beyond tables.now.step (S.seen tables.now.space state) (turns self.old) left < 2 ^ 128 }
         requires count { self.old.count < meter }
-        ensures keeps { Keeps self.old self.new }
-        ensures counted { self.new.count + meter ≤ self.old.count + result.0 + 1 }
+        ensures keeps { Keeps self.old self.new (meter - 1) result.0 }
         ensures finds { Finds K.took K.refused
             (found_below tables.now.step (S.seen tables.now.space state) (turns self.old) left)
             (looks_beyond tables.now.step (S.seen tables.now.space state) (turns self.old) left)
@@ -158,8 +155,7 @@ impl<'a, K: Sink> Descent<'a, K> {
             + looks_beyond tables.now.step (S.seen tables.now.space state) (turns self.old ++ turn ∷ []) left
             < 2 ^ 128 }
         requires count { self.old.count < meter }
-        ensures keeps { Keeps self.old self.new }
-        ensures counted { self.new.count + meter ≤ self.old.count + result.0 + 1 }
+        ensures keeps { Keeps self.old self.new (meter - 1) result.0 }
         ensures finds { Finds K.took K.refused
             (found_below tables.now.step (S.seen tables.now.space state) (turns self.old ++ turn ∷ []) left)
             (looks_beyond tables.now.step (S.seen tables.now.space state) (turns self.old ++ turn ∷ []) left)
