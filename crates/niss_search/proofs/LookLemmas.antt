@@ -1,5 +1,5 @@
 -- The distance of a position: 0 exactly at the goal, never more than one beyond that after a turn, and nearer after some.
-use Rattle.niss_search.proofs.Words.{◌≡◌, arith, ◌+◌, ◌<◌, ℕ, ap, ◌∙◌, sym, ◌≤◌, [], List, turns_of, refl, true, ◌∷◌, Bool, Turn}
+use Rattle.niss_search.proofs.Words.{◌≡◌, arith, ◌+◌, ◌<◌, ℕ, ap, ◌∙◌, sym, ◌≤◌, [], List, turns_of, true, ◌∷◌, Bool, Turn}
 use Rattle.niss_search.proofs.Words.{suc, Contains, Coordinates, distance_at, leb, Step, inl, inr, list_any, position_after, ◌⊎◌}
 use Rattle.niss_search.proofs.Words.{is_reached_at, are_zero, coordinates_after, distance, fold, ◌||◌, or-false, DistanceIsLeast}
 use Rattle.std.proofs.lemmas.List.Folds.{Any-from_list_any}

@@ -16,34 +16,12 @@ use std::alloc::Allocator;
 /// The meter isn't in it, but goes in and comes back by value: through a borrow each look would write it to memory.
 #[derive(Drop)]
 pub(crate) struct Descent<'a, K> {
-    path: &'a mut TurnPath,
-    sink: &'a mut K,
-    count: u128,
+    pub path: &'a mut TurnPath,
+    pub sink: &'a mut K,
+    pub count: u128,
 }
 
-impl<'a, K: Sink> Descent<'a, K> {
-    /// One that has handed out nothing.
-    pub fn new(path: &'a mut TurnPath, sink: &'a mut K) -> Descent<'a, K>
-        ensures same_path { result.path.ghost_name ≡ path.entry.ghost_name }
-        ensures same_sink { result.sink.ghost_name ≡ sink.entry.ghost_name }
-        ensures path { result.path.now ≡ path.old }
-        ensures sink { result.sink.now ≡ sink.old }
-        ensures count { result.count ≡ 0 }
-    {
-        Descent {
-            path,
-            sink,
-            count: 0,
-        }
-    }
-
-    /// How many paths it handed out.
-    pub fn count(&self) -> u128
-        ensures { result ≡ self.now.count }
-    {
-        self.count
-    }
-
+impl<K: Sink> Descent<'_, K> {
     /// Looks at the position of the path and, where the look allows, goes on below it with `left` turns more. Hands what it
     /// finds to the sink, and counts it.
     pub fn visit<A: Allocator>(
