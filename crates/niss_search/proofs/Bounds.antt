@@ -1,7 +1,7 @@
 -- How many canonical sequences there are, by the laws over their counts; the looks are within the bound, and the bound is small.
-use Rattle.niss_search.proofs.Words.{◌≡◌, arith, length, ◌+◌, ◌<◌, ℕ, ap, ◌≤◌, [], List, turns_of, true, ◌*◌, ◌-◌, ◌∷◌, Bool, Turn, false}
-use Rattle.niss_search.proofs.Words.{suc, cond, range_with_len, ◌++◌, zero, get_or, may_follow, flat_map, last_turn, subst, count_by}
-use Rattle.niss_search.proofs.Words.{filter, sum_by, sum_by-cons, None, list_any, Option, Some, ◌^◌, last_length, looks, reaching}
+use Rattle.niss_search.proofs.Words.{◌≡◌, arith, length, ◌+◌, ◌<◌, ℕ, ap, ◌≤◌, [], List, turns_of, true, ◌*◌, ◌∷◌, Bool, Turn, false}
+use Rattle.niss_search.proofs.Words.{suc, cond, range_with_len, ◌++◌, zero, get_or, may_follow, last_turn, subst, count_by}
+use Rattle.niss_search.proofs.Words.{filter, sum_by, sum_by-cons, None, list_any, Option, Some, ◌^◌, last_length, looks}
 use Rattle.niss_search.proofs.Words.{unwrap_or, up_to, all_canonical, canonical_extensions, find, least_length, length-flat_map}
 use Rattle.niss_search.proofs.Words.{all_looks, is_looked_at, length-map, look_bound, sum_by-le-sum_by, count_by-le-length}
 use Rattle.niss_search.proofs.Words.{count_of_length, sum_by-le, BoundIsSmall, length-filter, pow-suc, ◌∙◌, sym, refl, B, D, F, Face, L}
@@ -26,15 +26,12 @@ range-le f m a zero h = omega arith
 range-le f m a (suc n) h =
     omega (arith, sum_by-cons f a (range_with_len (a + 1) n), h a (omega arith), range-le f m (a + 1) n (λ j l. h j (omega arith)))
 
-length-filter-le : {X : Type 0} (m : X → Bool) (xs : List X) → length (filter m xs) ≤ length xs
-length-filter-le m xs = omega (arith, length-filter m xs, count_by-le-length m xs)
-
 count-le : (turns : List Turn) (k : ℕ) → length turns ≤ 18 → count_of_length turns k ≤ 18 ^ k
 unfolding all_canonical
 count-le turns zero h = omega arith
 count-le turns (suc k) h =
     let each : (s : List Turn) → length (canonical_extensions turns s) ≤ 18 = λ s.
-    omega (arith, length-map (filter (may_follow (last_turn s)) turns) (λ t. s ++ t ∷ []), length-filter-le (may_follow (last_turn s)) turns) in
+    omega (arith, length-map (filter (may_follow (last_turn s)) turns) (λ t. s ++ t ∷ []), length-filter (may_follow (last_turn s)) turns, count_by-le-length (may_follow (last_turn s)) turns) in
     omega (arith, length-flat_map (canonical_extensions turns) (all_canonical turns k), sum_by-le (λ s. length (canonical_extensions turns s)) 18 (all_canonical turns k) (λ i d l. each (get_or (all_canonical turns k) i d)), count-le turns k h, pow-suc 18 k)
 
 -- by a bound on the counts of every length
@@ -57,7 +54,7 @@ prefix-le f g a (suc m) zero h l = absurd (omega arith)
 prefix-le f g a (suc m) (suc n) h l =
     omega (arith, sum_by-cons f a (range_with_len (a + 1) m), sum_by-cons g a (range_with_len (a + 1) n), h a, prefix-le f g (a + 1) m n h (omega arith))
 
-last-within : (o : Option ℕ) (n slack : ℕ) → last_length o n slack ≤ n
+pub last-within : (o : Option ℕ) (n slack : ℕ) → last_length o n slack ≤ n
 last-within None n slack = omega arith
 last-within (Some least) n slack = omega arith
 

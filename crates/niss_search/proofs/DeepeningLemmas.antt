@@ -8,7 +8,7 @@ use Rattle.niss_search.proofs.Words.{sum_by-cons, ◌^◌, Place, at_limit, min,
 use Rattle.niss_search.proofs.Words.{GoesThrough, Ok, PositionsFollowCubes, Result, all_looks, descent_state, look_bound, OnErr, OnOk}
 use Rattle.niss_search.proofs.Words.{Path, StoppedIn, StopsIn, WentThrough, all_looks_at, least_length_at, looks_at, near_looks_of}
 use Rattle.niss_search.proofs.Words.{near_solutions_of, option_map_or, reaching_at, solutions_at, Delivers, IfOk, NoSlackIsLeast}
-use Rattle.niss_search.proofs.Bounds.{least-le, least-within, all_looks-bound, looks-sum-small, turns_of-length}
+use Rattle.niss_search.proofs.Bounds.{last-within, least-le, least-within, all_looks-bound, looks-sum-small, turns_of-length}
 use Rattle.niss_search.proofs.ListLemmas.{list_any-filter, filter-none, flat_map-none, in-range, range-push, range-split}
 use Rattle.niss_search.proofs.DepthFirst.{found_all, visits_all}
 use Rattle.niss_search.proofs.LookLemmas.{distance_at-goal, distance_at-turn, first_or-from, first_or-le}
@@ -16,13 +16,11 @@ use Rattle.niss_search.specs.declared.outcome.Outcome.{Outcome}
 use Rattle.niss_search.proofs.DescentLemmas.{Descends-then, StopsIn-before}
 use Rattle.niss_search.proofs.Transfer.{solutions-cube, all_looks-cube}
 
-pub found_below-level : (step : Step) (x : List Coordinates) (d : ℕ) → found_below step x [] d ≡ reaching (turns_of step) (reaches_at step x) d
-unfolding found_below
-found_below-level step x d = found_all (turns_of step) position_after (distance_at step) is_reached_at x (distance_at-goal step) (distance_at-turn step) d
-
-pub looks_below-level : (step : Step) (x : List Coordinates) (d : ℕ) → looks_below step x [] d ≡ looks (turns_of step) (far_at step x) d
-unfolding looks_beyond
-looks_below-level step x d = visits_all (turns_of step) position_after (distance_at step) is_reached_at x (distance_at-goal step) (distance_at-turn step) d
+-- a length within the last one is so still where none is nearer than it
+within-or : (n slack d : ℕ) (o p : Option ℕ) → d ≤ unwrap_or p (n + 1) → d ≤ last_length o n slack → d ≤ last_length (option_or o p) n slack
+within-or n slack d None None from k = k
+within-or n slack d None (Some e) from k = omega (arith, from)
+within-or n slack d (Some l) p from k = k
 
 module _ (turns : List Turn) (reaches : List Turn → Bool) where
   -- Does a canonical sequence of k turns reach?
@@ -45,11 +43,11 @@ module _ (turns : List Turn) (reaches : List Turn → Bool) where
 
   -- a length within the last one is so still when it was deepened to
   pub level-next : (n slack d : ℕ) → d ≤ last_length (least_below d) n slack → d ≤ last_length (least_below (d + 1)) n slack
-  level-next n slack d h = rw (least_below-more d) (by_least (least_below d) (nat_le 1 (length (reaching turns reaches d))) h) where
-    by_least : (o : Option ℕ) (b : Bool) → d ≤ last_length o n slack → d ≤ last_length (option_or o (then_some b d)) n slack
-    by_least None true k = omega arith
-    by_least None false k = k
-    by_least (Some l) b k = k
+  level-next n slack d h =
+      rw (least_below-more d) (within-or n slack d (least_below d) _ (here (nat_le 1 (length (reaching turns reaches d)))) h) where
+        here : (b : Bool) → d ≤ unwrap_or (then_some b d) (n + 1)
+        here true = omega arith
+        here false = omega (arith, h, last-within (least_below d) n slack)
 
   module _ (n : ℕ) where
     from-level : (d : ℕ) → d ≤ n + 1 → least_length turns reaches n ≡ option_or (least_below d) (find is_level (range_with_len d (n + 1 - d)))
@@ -57,15 +55,9 @@ module _ (turns : List Turn) (reaches : List Turn → Bool) where
     from-level d h = ap (find is_level) (range-split d (n + 1) h) ∙ find-append is_level (range_with_len 0 d) (range_with_len d (n + 1 - d))
 
     pub level-within : (slack d : ℕ) → d ≤ last_length (least_below d) n slack → d ≤ last_length (least_length turns reaches n) n slack
-    level-within slack d h = by_least (least_below d) refl h where
-      later : (o : Option ℕ) → d ≤ unwrap_or o (n + 1) → d ≤ n → d ≤ last_length o n slack
-      later None from within = within
-      later (Some e) from within = omega (arith, from)
-
-      by_least : (o : Option ℕ) → least_below d ≡ o → d ≤ last_length o n slack → d ≤ last_length (least_length turns reaches n) n slack
-      by_least None e k =
-          rw (from-level d (omega (arith, k)), e) (later _ (first_or-from is_level d (n + 1 - d) (n + 1) (omega (arith, k))) k)
-      by_least (Some l) e k = rw (from-level d (omega (arith, k)), e) k
+    level-within slack d h =
+        let small : d ≤ n + 1 = omega (arith, h, last-within (least_below d) n slack) in
+        rw (from-level d small) (within-or n slack d (least_below d) _ (first_or-from is_level d (n + 1 - d) (n + 1) (omega (arith, small))) h)
 
     pub least_length-is : (slack d : ℕ) → d ≡ last_length (least_below d) n slack + 1 → least_length turns reaches n ≡ least_below d
     unfolding least_length
@@ -117,12 +109,14 @@ no_slack = record {
 -- one deepening, and one more
 module _ (step : Step) (x : List Coordinates) (d : ℕ) where
   pub found-level : found_below step x [] d ≡ reaching_at step x (d ∷ [])
+  unfolding found_below
   found-level =
-      found_below-level step x d ∙ sym (append-nil (reaching (turns_of step) (reaches_at step x) d))
+      found_all (turns_of step) position_after (distance_at step) is_reached_at x (distance_at-goal step) (distance_at-turn step) d ∙ sym (append-nil (reaching (turns_of step) (reaches_at step x) d))
 
   pub looks-level : looks_below step x [] d ≡ looks_at step x (d ∷ [])
+  unfolding looks_beyond
   looks-level =
-      omega (arith, looks_below-level step x d, sum_by-cons (looks (turns_of step) (far_at step x)) d [])
+      omega (arith, visits_all (turns_of step) position_after (distance_at step) is_reached_at x (distance_at-goal step) (distance_at-turn step) d, sum_by-cons (looks (turns_of step) (far_at step x)) d [])
 
   looks-push : looks_at step x (range_with_len 0 (d + 1)) ≡ looks_at step x (range_with_len 0 d) + looks_at step x (d ∷ [])
   looks-push = ap (looks_at step x) (range-push d) ∙ sum_by-append (looks (turns_of step) (far_at step x)) (range_with_len 0 d) (d ∷ [])

@@ -5,7 +5,7 @@ use Rattle.niss_search.proofs.Words.{distance_at, filter, sum_by, sum_by-cons, S
 use Rattle.niss_search.proofs.Words.{flat_map-append, found_below, Follower, le-leb, looks_beyond, lt-leb, no_turn}
 use Rattle.niss_search.proofs.Words.{sum_by-append, Err, GoesThrough, Ok, Result, descent_state, looks_below, All-head}
 use Rattle.niss_search.proofs.Words.{All-tail, Descends, DescentState, OnErr, OnOk, StoppedIn, StopsIn, WentThrough, found, length-append}
-use Rattle.niss_search.proofs.Words.{map-append, visits, AreFar, IsNextNear, drop_more, length-take-le, take-append-drop, leb}
+use Rattle.niss_search.proofs.Words.{map-append, visits, AreFar, IsNextNear, drop_more, length-take-le, take-append-drop}
 
 -- what a list of followers answers past its end
 abbrev pub no_follower : Follower

@@ -47,14 +47,8 @@ one-byte x level xs ls = by_test (eqb_tells x level) where
 flip : (x r : ℕ) → x + 256 * r ≡ r * 256 + x
 flip x r = omega arith
 
-xor-step : (x y r s : ℕ) → x < 256 → y < 256 → bit_xor (x + 256 * r) (y + 256 * s) ≡ bit_xor x y + 256 * bit_xor r s
-xor-step x y r s a b = ap₂ bit_xor (flip x r) (flip y s) ∙ xor_block 8 r s x y a b ∙ sym (flip (bit_xor x y) (bit_xor r s))
-
-and-step : (x y r s : ℕ) → x < 256 → y < 256 → bit_and (x + 256 * r) (y + 256 * s) ≡ bit_and x y + 256 * bit_and r s
-and-step x y r s a b = ap₂ bit_and (flip x r) (flip y s) ∙ and_block 8 r s x y a b ∙ sym (flip (bit_and x y) (bit_and r s))
-
-or-step : (x y r s : ℕ) → x < 256 → y < 256 → bit_or (x + 256 * r) (y + 256 * s) ≡ bit_or x y + 256 * bit_or r s
-or-step x y r s a b = ap₂ bit_or (flip x r) (flip y s) ∙ or_block 8 r s x y a b ∙ sym (flip (bit_or x y) (bit_or r s))
+block-step : (op : ℕ → ℕ → ℕ) → ((r s x y : ℕ) → x < 256 → y < 256 → op (r * 256 + x) (s * 256 + y) ≡ op r s * 256 + op x y) → (x y r s : ℕ) → x < 256 → y < 256 → op (x + 256 * r) (y + 256 * s) ≡ op x y + 256 * op r s
+block-step op block x y r s a b = ap₂ op (flip x r) (flip y s) ∙ block r s x y a b ∙ sym (flip (op x y) (op r s))
 
 marked-step : (x level r rest low high : ℕ) → x < 256 → level < 256 → marked (x + 256 * r) (level + 256 * rest) (127 + 256 * low) (128 + 256 * high) ≡ marked x level 127 128 + 256 * marked r rest low high
 marked-step x level r rest low high xs ls =
@@ -67,16 +61,12 @@ marked-step x level r rest low high xs ls =
     let hs : bit_and (bit_or e d) 128 < 256 = omega (arith, and_le_r (bit_or e d) 128) in
     let dr = bit_xor r rest in
     let er = bit_and dr low + low in
-    let at_d : bit_xor (x + 256 * r) (level + 256 * rest) ≡ d + 256 * dr = xor-step x level r rest xs ls in
-    let at_e : bit_and (d + 256 * dr) (127 + 256 * low) + (127 + 256 * low) ≡ e + 256 * er = omega (arith, and-step d 127 dr low ds (omega arith)) in
-    let at_o : bit_or (e + 256 * er) (d + 256 * dr) ≡ bit_or e d + 256 * bit_or er dr = or-step e d er dr es ds in
-    let at_h : bit_and (bit_or e d + 256 * bit_or er dr) (128 + 256 * high) ≡ bit_and (bit_or e d) 128 + 256 * bit_and (bit_or er dr) high = and-step (bit_or e d) 128 (bit_or er dr) high os (omega arith) in
-    let at_x = xor-step (bit_and (bit_or e d) 128) 128 (bit_and (bit_or er dr) high) high hs (omega arith) in
-    ap (λ n. bit_xor (bit_and (bit_or (bit_and n (127 + 256 * low) + (127 + 256 * low)) n) (128 + 256 * high)) (128 + 256 * high)) at_d
-    ∙ ap (λ n. bit_xor (bit_and (bit_or n (d + 256 * dr)) (128 + 256 * high)) (128 + 256 * high)) at_e
-    ∙ ap (λ n. bit_xor (bit_and n (128 + 256 * high)) (128 + 256 * high)) at_o
-    ∙ ap (λ n. bit_xor n (128 + 256 * high)) at_h
-    ∙ at_x
+    let at_d : bit_xor (x + 256 * r) (level + 256 * rest) ≡ d + 256 * dr = block-step bit_xor (xor_block 8) x level r rest xs ls in
+    let at_e : bit_and (d + 256 * dr) (127 + 256 * low) + (127 + 256 * low) ≡ e + 256 * er = omega (arith, block-step bit_and (and_block 8) d 127 dr low ds (omega arith)) in
+    let at_o : bit_or (e + 256 * er) (d + 256 * dr) ≡ bit_or e d + 256 * bit_or er dr = block-step bit_or (or_block 8) e d er dr es ds in
+    let at_h : bit_and (bit_or e d + 256 * bit_or er dr) (128 + 256 * high) ≡ bit_and (bit_or e d) 128 + 256 * bit_and (bit_or er dr) high = block-step bit_and (and_block 8) (bit_or e d) 128 (bit_or er dr) high os (omega arith) in
+    let at_x = block-step bit_xor (xor_block 8) (bit_and (bit_or e d) 128) 128 (bit_and (bit_or er dr) high) high hs (omega arith) in
+    rw (at_d, at_e, at_o, at_h) at_x
 
 -- ---- a list of bytes
 

@@ -45,11 +45,10 @@ pub use Rattle.niss_moves.specs.Places.{Place, SameMap}
 pub use Rattle.niss_moves.specs.Turn.{inverse_turn, goes_first}
 pub use Rattle.niss_search.specs.Cubes.{HasPosition, near_looks_of, near_solutions_of, distance_of, least_length_of, reaches}
 pub use Rattle.niss_search.specs.Deepening.{reaches_at, all_looks_at, far_at, least_length_at, looks_at, reaching_at, solutions_at}
-pub use Rattle.niss_search.specs.Deepening.{Delivers}
+pub use Rattle.niss_search.specs.Deepening.{Delivers, state_of, Keeps, GoesThrough, descent_state, Descends, DescentState, StopsIn}
+pub use Rattle.niss_search.specs.Deepening.{looks_below}
 pub use Rattle.niss_search.specs.Delivery.{at_limit, StoppedIn, WentThrough}
-pub use Rattle.niss_search.specs.Descending.{state_of, Keeps}
-pub use Rattle.niss_search.specs.Descent.{GoesThrough, descent_state, Descends, DescentState, StopsIn, looks_below}
-unfoldable pub use Rattle.niss_search.specs.Descent.{found_below, looks_beyond, found, visits}
+unfoldable pub use Rattle.niss_search.specs.Deepening.{found_below, looks_beyond, found, visits}
 unfoldable pub use Rattle.niss_search.specs.Distance.{distance, all_sequences}
 pub use Rattle.niss_search.specs.Draw.{after_words, choice, choices}
 unfoldable pub use Rattle.niss_search.specs.Draw.{draw, next_words}

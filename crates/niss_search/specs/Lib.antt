@@ -8,8 +8,6 @@ pub mod Cubes
 pub mod Delivery
 pub mod Entries
 pub mod Laws
-pub mod Descent
-pub mod Descending
 pub mod Deepening
 pub mod Followers
 pub mod Draw

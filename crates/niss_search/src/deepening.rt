@@ -124,9 +124,13 @@ impl<A: Allocator> Root<'_, A> {
     {
         // by value, as the descent takes it: what stands in its place meanwhile never ticks
         let held = mem::replace(meter, Meter::new());
-        let mut descent = Descent::new(path, sink);
+        let mut descent = Descent {
+            path,
+            sink,
+            count: 0,
+        };
         let (after, visited) = descent.visit(self.tables, self.position, length, held);
-        let solutions = descent.count();
+        let solutions = descent.count;
         *meter = after;
         visited?;
         Ok(solutions)

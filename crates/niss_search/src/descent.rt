@@ -1,10 +1,9 @@
 //! One deepening of the search, depth first.
-ghost use Rattle.std.specs.Prelude.{◌≡◌, ◌+◌, ◌<◌, ◌≤◌, ◌^◌, ◌++◌, ◌∷◌, [], length, All, IfSome, IfNone};
+ghost use Rattle.std.specs.Prelude.{◌≡◌, ◌+◌, ◌-◌, ◌<◌, ◌≤◌, ◌^◌, ◌++◌, ◌∷◌, [], length, All, IfSome, IfNone};
 ghost use Rattle.niss_search.specs.Cubes.{IsPosition};
 ghost use Rattle.niss_search.specs.Followers.{IsFollower, IsNextNear, AreFar};
 ghost use Rattle.niss_search.specs.Positions.{distance_at};
-ghost use Rattle.niss_search.specs.Descent.{found_below, looks_below, looks_beyond};
-ghost use Rattle.niss_search.specs.Descending.{Keeps, Finds, turns};
+ghost use Rattle.niss_search.specs.Deepening.{found_below, looks_below, looks_beyond, Keeps, Finds, turns};
 
 use crate::sink::Sink;
 use crate::tables::{Follower, Kind, Meter, Position, SearchTables, StateSpace, Tables};
@@ -17,34 +16,12 @@ use std::alloc::Allocator;
 /// The meter isn't in it, but goes in and comes back by value: through a borrow each look would write it to memory.
 #[derive(Drop)]
 pub(crate) struct Descent<'a, K> {
-    path: &'a mut TurnPath,
-    sink: &'a mut K,
-    count: u128,
+    pub path: &'a mut TurnPath,
+    pub sink: &'a mut K,
+    pub count: u128,
 }
 
-impl<'a, K: Sink> Descent<'a, K> {
-    /// One that has handed out nothing.
-    pub fn new(path: &'a mut TurnPath, sink: &'a mut K) -> Descent<'a, K>
-        ensures same_path { result.path.ghost_name ≡ path.entry.ghost_name }
-        ensures same_sink { result.sink.ghost_name ≡ sink.entry.ghost_name }
-        ensures path { result.path.now ≡ path.old }
-        ensures sink { result.sink.now ≡ sink.old }
-        ensures count { result.count ≡ 0 }
-    {
-        Descent {
-            path,
-            sink,
-            count: 0,
-        }
-    }
-
-    /// How many paths it handed out.
-    pub fn count(&self) -> u128
-        ensures { result ≡ self.now.count }
-    {
-        self.count
-    }
-
+impl<K: Sink> Descent<'_, K> {
     /// Looks at the position of the path and, where the look allows, goes on below it with `left` turns more. Hands what it
     /// finds to the sink, and counts it.
     pub fn visit<A: Allocator>(
@@ -58,8 +35,7 @@ impl<'a, K: Sink> Descent<'a, K> {
         requires room { length (turns self.old) + left ≤ self.old.path.now.limit }
         requires meter { meter + looks_below tables.now position.now (turns self.old) left < 2 ^ 128 }
         requires count { self.old.count ≤ meter }
-        ensures keeps { Keeps self.old self.new }
-        ensures counted { self.new.count + meter ≤ self.old.count + result.0 }
+        ensures keeps { Keeps self.old self.new meter result.0 }
         ensures finds { Finds K.took K.refused
             (found_below tables.now position.now (turns self.old) left)
             (looks_below tables.now position.now (turns self.old) left)
@@ -85,8 +61,7 @@ impl<'a, K: Sink> Descent<'a, K> {
         requires room { length (turns self.old) + left ≤ self.old.path.now.limit }
         requires meter { meter + looks_below tables.now.step position.now (turns self.old) left < 2 ^ 128 }
         requires count { self.old.count ≤ meter }
-        ensures keeps { Keeps self.old self.new }
-        ensures counted { self.new.count + meter ≤ self.old.count + result.0 }
+        ensures keeps { Keeps self.old self.new meter result.0 }
         ensures finds { Finds K.took K.refused
             (found_below tables.now.step position.now (turns self.old) left)
             (looks_below tables.now.step position.now (turns self.old) left)
@@ -115,8 +90,7 @@ impl<'a, K: Sink> Descent<'a, K> {
         requires meter { meter
             + looks_beyond tables.now.step (S.seen tables.now.space state) (turns self.old) left < 2 ^ 128 }
         requires count { self.old.count < meter }
-        ensures keeps { Keeps self.old self.new }
-        ensures counted { self.new.count + meter ≤ self.old.count + result.0 + 1 }
+        ensures keeps { Keeps self.old self.new (meter - 1) result.0 }
         ensures finds { Finds K.took K.refused
             (found_below tables.now.step (S.seen tables.now.space state) (turns self.old) left)
             (looks_beyond tables.now.step (S.seen tables.now.space state) (turns self.old) left)
@@ -159,8 +133,7 @@ impl<'a, K: Sink> Descent<'a, K> {
             + looks_beyond tables.now.step (S.seen tables.now.space state) (turns self.old ++ turn ∷ []) left
             < 2 ^ 128 }
         requires count { self.old.count < meter }
-        ensures keeps { Keeps self.old self.new }
-        ensures counted { self.new.count + meter ≤ self.old.count + result.0 + 1 }
+        ensures keeps { Keeps self.old self.new (meter - 1) result.0 }
         ensures finds { Finds K.took K.refused
             (found_below tables.now.step (S.seen tables.now.space state) (turns self.old ++ turn ∷ []) left)
             (looks_beyond tables.now.step (S.seen tables.now.space state) (turns self.old ++ turn ∷ []) left)

@@ -1,5 +1,5 @@
-use Rattle.niss_search.proofs.Words.{arith, ◌∙◌, sym, turns_of, reaches_at, err_from_is_err_and}
-use Rattle.niss_search.proofs.DeepeningLemmas.{level-next, least_length-is, looks-room, least-next, goes-on, stops-here, all-done}
+use Rattle.niss_search.proofs.Words.{◌≡◌, ◌+◌, arith, ◌∙◌, sym, turns_of, reaches_at, last_length, err_from_is_err_and}
+use Rattle.niss_search.proofs.DeepeningLemmas.{least_below, level-next, least_length-is, looks-room, least-next, goes-on, stops-here, all-done}
 use Rattle.niss_search.proofs.deepening.Root.find.Goals as goal
 
 pub deepen-requires-clause-meter : goal.deepen-requires-clause-meter
@@ -27,24 +27,24 @@ loop-length-preserved g c =
     record {
       path = c.deepen.ensures.path ∙ inv.path;
       least = next;
-      within = rw next (omega (arith, level-next (turns_of step) (reaches_at step x) n c.args.slack d (omega (arith, last))));
+      within = omega (arith, level-next (turns_of step) (reaches_at step x) n c.args.slack d (omega (arith, last)));
       counted = omega (arith, inv.counted, c.in_ok-found.ensures.counted);
       went = goes-on step x n c.args.slack d inv.went went;
     }
 
-pub returns-clause-length : goal.returns-clause-length
-returns-clause-length g c =
+pub returns : goal.returns
+returns g c =
+    let step = c.args.self.now.tables.now in
+    let x = c.args.self.now.position.now in
+    let n = c.args.path.now.limit in
     let inv = c.loop-length.invariant in
     let last = rw (inv.least, c.limit-limit.ensures.value) at c.last_length.ensures.value in
-    let within = rw inv.least at inv.within in
-    inv.least ∙ sym (least_length-is (turns_of c.args.self.now.tables.now) (reaches_at c.args.self.now.tables.now c.args.self.now.position.now) c.args.path.now.limit c.args.slack c.loop-length.length (omega (arith, last, within)))
-
-pub returns-clause-delivers : goal.returns-clause-delivers
-returns-clause-delivers g c =
-    let inv = c.loop-length.invariant in
-    let last = rw (inv.least, c.limit-limit.ensures.value) at c.last_length.ensures.value in
-    let within = rw inv.least at inv.within in
-    all-done c.args.self.now.tables.now c.args.self.now.position.now c.args.path.now.limit c.args.slack c.loop-length.length inv.went (omega (arith, last, within))
+    let end : c.loop-length.length ≡ last_length (least_below (turns_of step) (reaches_at step x) c.loop-length.length) n c.args.slack + 1 = omega (arith, last, inv.within) in
+    record {
+      path = inv.path;
+      length = inv.least ∙ sym (least_length-is (turns_of step) (reaches_at step x) n c.args.slack c.loop-length.length end);
+      delivers = all-done step x n c.args.slack c.loop-length.length inv.went end;
+    }
 
 pub overflow_add-solutions : goal.overflow_add-solutions
 overflow_add-solutions g c =

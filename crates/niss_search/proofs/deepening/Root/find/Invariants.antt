@@ -10,7 +10,7 @@ abbrev pub invariant-loop-length : goal.invariant-loop-length
 invariant-loop-length g l = record {
   path : l.path ≡ l.fn.path;
   least : l.least ≡ least_below (turns_of l.self.tables.now) (reaches_at l.self.tables.now l.self.position.now) l.length;
-  within : l.length ≤ last_length l.least l.fn.path.limit l.slack + 1;
+  within : l.length ≤ last_length (least_below (turns_of l.self.tables.now) (reaches_at l.self.tables.now l.self.position.now) l.length) l.fn.path.limit l.slack + 1;
   counted : l.fn.meter + l.solutions ≤ l.meter;
   went : GoesThrough (at_limit g.K.Sink.took l.fn.path.limit) (at_limit g.K.Sink.refused l.fn.path.limit)
       (reaching_at l.self.tables.now l.self.position.now (range_with_len 0 l.length))

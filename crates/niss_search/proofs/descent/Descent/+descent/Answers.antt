@@ -21,8 +21,7 @@ extend-loop-index-init g t c =
     record {
       columns = c.turns_after-rest.ensures.columns;
       few = c.turns_after-rest.type_inv.1;
-      keeps = record { path = refl; same_path = refl; same_sink = refl };
-      counted = omega arith;
+      keeps = record { path = refl; same_path = refl; same_sink = refl; counted = omega arith };
       remains = Remains-all c.args.left (c.args.left - 1) c.turns_after-rest.result.now (state_of c.args.meter c.args.self.now) left c.requires.near listed;
     }
 
@@ -39,7 +38,7 @@ extend-follow-counted-requires g t c κs within =
     let same = sym inv.keeps.path in
     let Room : Path → Type 0 = λ q. length q.turns + 1 + (c.args.left - 1) ≤ q.limit in
     let Metered : Path → Type 0 = λ q. c.next_near.new.meter + looks_beyond c.args.tables.now.step (position_after x turn) (q.turns ++ turn ∷ []) (c.args.left - 1) < 2 ^ 128 in
-    (omega arith, (within.0, (within.1.0, (within.1.1.0, (within.1.1.1, (rw c.after-after.ensures (next.near no_follower), (subst Room same (omega (arith, c.requires.room, c.if-left-eq0.false)), (rw c.after-after.ensures (subst Metered same (omega (arith, Remains-room_next inv.remains next, c.requires.meter))), omega (arith, inv.counted, c.requires.count, next.looked)))))))))
+    (omega arith, (within.0, (within.1.0, (within.1.1.0, (within.1.1.1, (rw c.after-after.ensures (next.near no_follower), (subst Room same (omega (arith, c.requires.room, c.if-left-eq0.false)), (rw c.after-after.ensures (subst Metered same (omega (arith, Remains-room_next inv.remains next, c.requires.meter))), omega (arith, inv.keeps.counted, c.requires.count, next.looked)))))))))
 
 pub extend-returns-in-Err-clause-finds : goal.extend-returns-in-Err-clause-finds
 extend-returns-in-Err-clause-finds g t c =
@@ -61,8 +60,8 @@ extend-loop-index-preserved g t c =
         path = kept.path ∙ inv.keeps.path;
         same_path = kept.same_path ∙ inv.keeps.same_path;
         same_sink = kept.same_sink ∙ inv.keeps.same_sink;
+        counted = omega (arith, inv.keeps.counted, next.looked, kept.counted);
       };
-      counted = omega (arith, inv.counted, next.looked, c.follow-counted.ensures.counted);
       remains = Remains-next inv.remains next went;
     }
 
