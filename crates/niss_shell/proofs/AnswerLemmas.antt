@@ -13,24 +13,15 @@ use Rattle.niss_shell.proofs.EngineLemmas.{answered_line, answered_none, takes_n
 
 -- the last line
 
-no_line : (front : List ℕ) → length front ≡ 0 → line_with_bytes front ≡ []
-no_line [] e = refl
-no_line (b ∷ bs) e = absurd (omega arith)
-
-one_line : (front : List ℕ) → length front ≢ 0 → line_with_bytes front ≡ front ∷ []
-one_line [] e = absurd (e refl)
-one_line (b ∷ bs) e = refl
-
 pub takes_no_line : (f : LineAnswers) (front : List ℕ) (n : ℕ) {r : Reader} (out : AnswerState)
     → IsFed r front → r.fed ≡ 0 → has_fault out.target ≡ false → TakesEnd f front n (Ok tt) out out
-takes_no_line f front n out at none works =
-    subst (λ ls. Answers (answers_from f n ls) (Ok tt) out out) (sym (no_line front (sym (at.fed) ∙ none))) (answered_none f n works)
+takes_no_line f [] n out at none works = answered_none f n works
+takes_no_line f (b ∷ bs) n out at none works = absurd (omega (arith, at.fed, none))
 
 pub takes_last_line : (f : LineAnswers) (front : List ℕ) (n : ℕ) {r : Reader} (result : Result (Unit {0}) Stop) (old new : AnswerState)
     → IsFed r front → r.fed ≢ 0 → Answers (answer_at f n front) result old new → TakesEnd f front n result old new
-takes_last_line f front n result old new at some answers =
-    subst (λ ls. Answers (answers_from f n ls) result old new) (sym (one_line front (λ z. some (at.fed ∙ z))))
-    (answered_line f n front result old new answers)
+takes_last_line f [] n result old new at some answers = absurd (some at.fed)
+takes_last_line f (b ∷ bs) n result old new at some answers = answered_line f n (b ∷ bs) result old new answers
 
 -- the complete lines of an input stopped the run, or have no fault
 
@@ -170,35 +161,36 @@ too_long_answers f input q h j (Ok u) long e x =
     faultless_answers f input More (Err InputTooLong) h j (begun_lines input e) x.0 (sym end, writes_nothing _ x.0.1.works)
 too_long_answers f input q h j (Err stop) long e x = stopped_answers f input More stop h j (begun_lines input e) x.0
 
+-- a block in which the run was stopped
+stopped_at : {f : LineAnswers} {count n : ℕ} {block : List ℕ} {p : Progress} {a b c : SourceState} {h i j : AnswerState} {stop : Stop} (x : IsAt f count p a b h i)
+    → b.has_failed ≡ false → Reads (Ok n) block b c → n ≢ 0
+    → Answers (answer_lines f (x.input ++ take n block) More) (Err stop) h j → AnswersSource f (Err stop) a c h j
+stopped_at {f = f} {n = n} {block = block} {a = a} {b = b} {c = c} {h = h} {j = j} {stop = stop} x good read some answers = record {
+  input = x.input ++ take n block;
+  gave = gave_more a b c _ _ good x.gave read.bytes;
+  answers = subst (λ m. Answers (answer_lines f (x.input ++ take n block) m) (Err stop) h j)
+      (sym (ending_is c _ read.failed (read.ended ∙ is_empty_answer-some _ _ some))) answers;
+  read_whole = λ d. absurd (cc d);
+}
+
 pub at_limit : {f : LineAnswers} {count n : ℕ} (room : ℕ) {block : List ℕ} {p q : Progress} {a b c : SourceState} {h i j : AnswerState} {r : Result (Unit {0}) Stop}
     → IsAt f count p a b h i → room + count ≡ most_bytes → room < n → b.has_failed ≡ false → Reads (Ok n) block b c
     → TakesNext f (take room block) p q r i j → AnswersSource f (Err (stop_unless r InputTooLong)) a c h j
-at_limit {f = f} {n = n} room {block = block} {a = a} {b = b} {c = c} {h = h} {j = j} {r = r} x sum long good read next =
+at_limit {n = n} room {block = block} {r = r} x sum long good read next =
     let y = takes_more _ [] x.input (take room block) 1 _ _ r _ _ _ x.takes (next.takes (last_part [] x.input) x.takes.1.reader) in
     let l : length (x.input ++ take n block) ≡ length x.input + length (take n block) = length-append x.input (take n block) in
     let k : length (take n block) ≡ n = length_taken _ read.bound in
-    record {
-      input = x.input ++ take n block;
-      gave = gave_more a b c _ _ good x.gave read.bytes;
-      answers = subst (λ m. Answers (answer_lines f (x.input ++ take n block) m) (Err (stop_unless r InputTooLong)) h j) (sym (ending_is c _ read.failed (read.ended ∙ is_empty_answer-some _ _ (λ e. omega (arith, e, long)))))
-          (too_long_answers _ _ _ _ _ _ (omega (arith, l, k, x.count_is, sum, long)) (cut_block _ _ _ _ x.count_is sum (omega (arith, long)) read.bound) y);
-      read_whole = λ d. absurd (cc d);
-    }
+    stopped_at x good read (λ e. omega (arith, e, long))
+    (too_long_answers _ _ _ _ _ _ (omega (arith, l, k, x.count_is, sum, long)) (cut_block _ _ _ _ x.count_is sum (omega (arith, long)) read.bound) y)
 
 pub at_stop : {f : LineAnswers} {count n : ℕ} {block : List ℕ} {p q : Progress} {a b c : SourceState} {h i j : AnswerState} {stop : Stop}
     → IsAt f count p a b h i → n + count ≤ most_bytes → b.has_failed ≡ false → Reads (Ok n) block b c → n ≢ 0
     → TakesNext f (take n block) p q (Err stop) i j → AnswersSource f (Err stop) a c h j
-at_stop {f = f} {n = n} {block = block} {q = q} {a = a} {b = b} {c = c} {h = h} {j = j} {stop = stop} x room good read some next =
+at_stop {f = f} {n = n} {block = block} {q = q} {h = h} {j = j} {stop = stop} x room good read some next =
     let y = takes_more _ [] x.input (take n block) 1 _ q (Err stop) _ _ j x.takes (next.takes (last_part [] x.input) x.takes.1.reader) in
     let l : length (x.input ++ take n block) ≡ length x.input + length (take n block) = length-append x.input (take n block) in
     let k : length (take n block) ≡ n = length_taken _ read.bound in
-    record {
-      input = x.input ++ take n block;
-      gave = gave_more a b c _ _ good x.gave read.bytes;
-      answers = subst (λ m. Answers (answer_lines f (x.input ++ take n block) m) (Err stop) h j) (sym (ending_is c _ read.failed (read.ended ∙ is_empty_answer-some _ _ some)))
-          (stopped_answers f _ More stop h j (begun_lines _ (whole_input _ (omega (arith, l, k, x.count_is, room)))) y.0);
-      read_whole = λ d. absurd (cc d);
-    }
+    stopped_at x good read some (stopped_answers f _ More stop h j (begun_lines _ (whole_input _ (omega (arith, l, k, x.count_is, room)))) y.0)
 
 -- a whole text at once
 

@@ -3,9 +3,8 @@ use Rattle.niss_shell.proofs.Names.{◌≡◌, ◌≢◌, ℕ, ◌+◌, ◌<◌,
 use Rattle.niss_shell.proofs.Names.{refl, sym, ap, ◌∙◌, subst, append-nil, length-append, arith, OnOk, between, between_to_end, take_more}
 use Rattle.niss_shell.proofs.Names.{take-append-drop, length-drop, All-nil, has_fault, ended_lines, last_part, HasNoLineFeed, Reader, IsFed}
 use Rattle.niss_shell.proofs.Names.{LineAnswers, answer_at, answers_from, then_answer, AnswerState, Progress, Answers, TakesBytes, Stop}
-use Rattle.niss_shell.proofs.CutLemmas.{ended_after, last_after}
 use Rattle.niss_shell.proofs.StateLemmas.{writes_nothing, then_nothing, answers_more, answers_stopped}
-use Rattle.niss_shell.proofs.LinesLemmas.{ended_lines-append, last_part-append, answers_from-append}
+use Rattle.niss_shell.proofs.LinesLemmas.{ended_after, last_after, ended_lines-append, last_part-append, answers_from-append}
 
 -- one line, and no line
 
@@ -90,10 +89,7 @@ nothing_fed r front bytes k none at =
 pub first_byte : (bytes : List ℕ) {b : ℕ} → 0 < length bytes → get_or bytes 0 0 ≡ b → take 1 bytes ≡ b ∷ []
 first_byte bytes some e = take_more bytes 0 0 some ∙ ap (λ (c : ℕ). c ∷ []) e
 
-pub rest_is : (bytes : List ℕ) (i : ℕ) → between i (length bytes) bytes ≡ drop i bytes
-rest_is bytes i = between_to_end bytes i (length bytes) (omega arith)
-
 pub piece_within : (bytes : List ℕ) (i : ℕ) {k : ℕ} → i < length bytes → k ≤ length (between i (length bytes) bytes) → i + k ≤ length bytes
 piece_within bytes i h l =
-    let e : length (between i (length bytes) bytes) ≡ length (drop i bytes) = ap length (rest_is bytes i) in
+    let e : length (between i (length bytes) bytes) ≡ length (drop i bytes) = ap length (between_to_end bytes i (length bytes) (omega arith)) in
     omega (arith, e, length-drop i bytes)

@@ -20,7 +20,7 @@ pub use Rattle.std.specs.Char.{is_ascii_digit}
 pub use Rattle.std.specs.Io.KnownBytes.{ReadConsumes}
 pub use Rattle.std.specs.List.{between, list_all}
 pub use Rattle.std.specs.Prelude.{flat_map, string_bytes, OnOk, nat_lt, OnErr, decimal, nat_le, IsTrue, All, is_err, IsErr, MatchResult}
-pub use Rattle.std.specs.Prelude.{find, bytes_eq, IfSome, slice_get}
+pub use Rattle.std.specs.Prelude.{find, bytes_eq, slice_get}
 pub use Rattle.std.specs.Str.Parse.{digits_value, ParsesUnsigned}
 pub use Rattle.rand_pcg.specs.Lcg.{Lcg}
 unfoldable pub use Rattle.rand_pcg.specs.Lcg.{state_after}

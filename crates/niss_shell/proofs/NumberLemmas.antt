@@ -1,8 +1,9 @@
 -- Numbers and names among words.
-use Rattle.niss_shell.proofs.Names.{◌≡◌, ◌≢◌, ℕ, ◌^◌, ◌<◌, ◌≤◌, Bool, true, false, ◌&&◌, if◌then◌else◌, Some, None, Result, Ok, Err, List}
-use Rattle.niss_shell.proofs.Names.{[], ◌∷◌, length, refl, rules, arith, nat_lt, nat_le, find, bytes_eq, is_ascii_digit, list_all}
+use Rattle.niss_shell.proofs.Names.{◌≡◌, ◌≢◌, ℕ, ◌^◌, ◌<◌, ◌≤◌, Bool, true, false, ◌&&◌, if◌then◌else◌, Some, None, Result, Ok, Err}
+use Rattle.niss_shell.proofs.Names.{List, [], ◌∷◌, length, refl, rules, arith, nat_lt, nat_le, find, bytes_eq, is_ascii_digit, list_all}
 use Rattle.niss_shell.proofs.Names.{digits_value, ParsesUnsigned, common_steps, bytes_eq-Decides, IsDigitsTest, IsNumeralModel}
-use Rattle.niss_shell.proofs.Names.{numerals_by_value, parse_digits, name_of, steps, Step, number_of, step_named}
+use Rattle.niss_shell.proofs.Names.{numerals_by_value, parse_digits, name_of, steps, Step, number_of, step_named, ap, ◌++◌, ◌+◌}
+use Rattle.niss_shell.proofs.Names.{length-append, ◌/◌, ◌%◌, length-decimal-le_wide, decimal_step_wide, decimal_digit, decimal}
 
 -- numbers
 
@@ -48,3 +49,19 @@ find_none name (step ∷ candidates) other = not_found _ _ _ (search (rules, byt
 
 pub step_unknown : {name : List ℕ} → ((step : Step) → name_of step ≢ name) → step_named name ≡ None
 step_unknown other = find_none _ steps other
+
+-- digits
+
+pub decimal_short : (n : ℕ) → n < 2 ^ 128 → length (decimal n) ≤ 39
+decimal_short n h = length-decimal-le_wide 39 n (omega arith) (omega arith) (omega arith)
+
+pub decimal_last : (n : ℕ) → 10 ≤ n → n < 2 ^ 128 → decimal n ≡ decimal (n / 10) ++ ((48 + n % 10) ∷ [])
+decimal_last n h k = decimal_step_wide n h (omega arith)
+
+pub decimal_room : (n : ℕ) → 10 ≤ n → n < 2 ^ 128 → length (decimal (n / 10)) + 1 ≡ length (decimal n)
+decimal_room n h k = omega (arith, ap length (decimal_last _ h k), length-append (decimal (n / 10)) ((48 + n % 10) ∷ []))
+
+pub decimal_one : (n : ℕ) → n < 10 → decimal n ≡ (48 + n) ∷ []
+decimal_one = decimal_digit
+
+pub ruleset digit_laws = (decimal_last, decimal_room, decimal_one)

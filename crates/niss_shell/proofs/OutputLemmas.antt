@@ -4,8 +4,7 @@ use Rattle.niss_shell.proofs.Names.{length, sym, ap, ◌∙◌, subst, append_as
 use Rattle.niss_shell.proofs.Names.{Turn, DeviceFault, Output, WentThrough, StoppedIn, TargetState, has_fault, line_feed, none_line}
 use Rattle.niss_shell.proofs.Names.{solution_line, solve_text, count_text, output_state, pending_state, Writes, Refuses, WritesOrRefuses}
 use Rattle.niss_shell.proofs.Names.{Delivers, TakesLine, RefusesLine}
-use Rattle.niss_shell.proofs.PendingLemmas.{then_sent, waits}
-use Rattle.niss_shell.proofs.StateLemmas.{writes_nothing, writes_more, writes_as, refuses_more, refuses_front, refuses_as}
+use Rattle.niss_shell.proofs.StateLemmas.{then_sent, waits, writes_nothing, writes_more, writes_as, refuses_more, refuses_front, refuses_as}
 
 -- what a text does to an output, as a sink says it
 

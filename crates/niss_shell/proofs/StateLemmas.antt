@@ -2,7 +2,7 @@
 use Rattle.niss_shell.proofs.Names.{◌≡◌, ℕ, ◌+◌, ◌≤◌, false, Result, Ok, Err, List, [], ◌++◌, refl, sym, ap, ◌∙◌, subst, append_assoc}
 use Rattle.niss_shell.proofs.Names.{append-nil, length-append, arith, TargetState, has_fault, Appended, IsCut, WriteRefused, Answer}
 use Rattle.niss_shell.proofs.Names.{unsearched, joined_answer, then_answer, AnswerState, TakesIn, Writes, Refuses, Answers, Stop}
-use Rattle.niss_shell.proofs.Names.{CannotWrite}
+use Rattle.niss_shell.proofs.Names.{CannotWrite, DeviceFault, pending_state, WritesOrRefuses}
 use Rattle.niss_shell.proofs.DeviceLemmas.{appended_nothing, appended_more, no_flush_fault}
 
 -- Nothing was written, and nothing looked at.
@@ -100,6 +100,22 @@ refuses_as {a = a} {b = b} e f p = record {
   rises = p.rises;
   looked = omega (arith, p.looked, f);
 }
+
+-- a text waits after what waited
+pub waits : {text pending rest : List ℕ} {n : ℕ} (a : TargetState) {looks : ℕ} → rest ≡ pending ++ text → has_fault a ≡ false
+    → Writes text 0 (pending_state n a pending looks) (pending_state n a rest looks)
+waits a e works = record {
+  same_target = refl;
+  works = works;
+  written = record { sent = []; whole = e; appended = appended_nothing a };
+  looked = omega arith;
+}
+
+-- what waits is written after a text
+pub then_sent : {T : Type 0} (r : Result T DeviceFault) (text : List ℕ) (looks : ℕ) (a b c : AnswerState)
+    → Writes text looks a b → WritesOrRefuses r [] 0 b c → WritesOrRefuses r text looks a c
+then_sent (Ok u) text looks a b c p q = writes_as (append-nil text) (omega arith) (writes_more p q)
+then_sent (Err x) text looks a b c p q = refuses_as (append-nil text) (omega arith) (refuses_more p q)
 
 -- an answer, and the one after it
 

@@ -1,6 +1,6 @@
 //! A command on lines with all that its run takes memory for, taken before the first byte is read or written.
 ghost use Rattle.std.specs.Prelude.{◌≡◌, ◌<◌, ◌≤◌, ◌++◌, Ok, List, ℕ, map, flat_map, string_bytes, length};
-ghost use Rattle.std.specs.Prelude.{OnOk, OnErr, IfOk, IfErr, IfSome, MatchOption};
+ghost use Rattle.std.specs.Prelude.{OnOk, IfOk, IfErr, IfSome, MatchOption};
 ghost use Rattle.niss_shell.specs.Words.{most_bytes, joined, spaced_word, OnLines};
 ghost use Rattle.niss_shell.specs.Engine.{MayBegin, RunsUnflushed, EndsAtOnce, output_state};
 ghost use Rattle.niss_shell.specs.Job.{IsInput, command_of};

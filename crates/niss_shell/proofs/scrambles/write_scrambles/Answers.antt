@@ -1,5 +1,5 @@
 use Rattle.niss_shell.proofs.Names.{◌≡◌, Ok, Err, refl, ap, ◌∙◌, arith, err_from_is_err_and, after_words, output_state, scramble_text}
-use Rattle.niss_shell.proofs.PendingLemmas.{then_sent}
+use Rattle.niss_shell.proofs.StateLemmas.{then_sent}
 use Rattle.niss_shell.proofs.ScrambleLemmas.{no_scramble, after_scramble, line_of_next, none_written, written_more, all_written, refused_line}
 use Rattle.niss_shell.proofs.scrambles.write_scrambles.Goals as goal
 

@@ -1,4 +1,4 @@
-use Rattle.niss_shell.proofs.PendingLemmas.{then_sent}
+use Rattle.niss_shell.proofs.StateLemmas.{then_sent}
 use Rattle.niss_shell.proofs.output.Output.write.Goals as goal
 
 pub returns-clause-written : goal.returns-clause-written
