@@ -1,27 +1,15 @@
 -- From the steps of the engine to the answers to a whole input.
-use Rattle.niss_shell.proofs.Names.{◌≡◌, ◌≢◌, ℕ, ◌+◌, ◌≤◌, ◌<◌, take, Bool, true, false, if◌then◌else◌, Result, Ok, Err, List, [], ◌∷◌}
-use Rattle.niss_shell.proofs.Names.{◌++◌, length, refl, sym, ap, ◌∙◌, subst, append-nil, length-append, arith, nat_lt, common_steps}
-use Rattle.niss_shell.proofs.Names.{take_all, take-append-add, SourceState, has_fault, Gave, Reads, ended_lines, last_part, Reader, IsFed}
-use Rattle.niss_shell.proofs.Names.{most_bytes, Ending, More, End, Fail, ending, ending_of, LineAnswers, answer_at, answers_from}
-use Rattle.niss_shell.proofs.Names.{answer_lines, line_with_bytes, last_line, complete_lines, outcome_of, unsearched, AnswerState, Progress}
+use Rattle.niss_shell.proofs.Names.{◌≡◌, ◌≢◌, ℕ, ◌+◌, ◌≤◌, ◌<◌, take, Bool, true, false, Result, Ok, Err, List, [], ◌++◌, length, refl}
+use Rattle.niss_shell.proofs.Names.{sym, ap, ◌∙◌, subst, append-nil, length-append, arith, nat_lt, common_steps, take_all}
+use Rattle.niss_shell.proofs.Names.{take-append-add, SourceState, has_fault, Gave, Reads, ended_lines, last_part, IsFed, most_bytes}
+use Rattle.niss_shell.proofs.Names.{Ending, More, End, Fail, ending, ending_of, LineAnswers, answers_from, answer_lines}
+use Rattle.niss_shell.proofs.Names.{line_with_bytes, last_line, complete_lines, outcome_of, unsearched, AnswerState, Progress}
 use Rattle.niss_shell.proofs.Names.{TakesBytes, TakesEnd, TakesNext, TakesLast, IsAt, Answers, AnswersSource, DeviceFault, Stop}
 use Rattle.niss_shell.proofs.Names.{InputTooLong, CannotRead}
-use Rattle.niss_shell.proofs.DeviceLemmas.{gave_nothing, gave_more, is_empty_answer-some, is_empty_answer-none}
-use Rattle.niss_shell.proofs.StateLemmas.{writes_nothing, answers_more, answers_stopped}
+use Rattle.niss_shell.proofs.StateLemmas.{gave_nothing, gave_more, is_empty_answer-some, is_empty_answer-none, writes_nothing}
+use Rattle.niss_shell.proofs.StateLemmas.{answers_more, answers_stopped, choose_false, choose_true}
 use Rattle.niss_shell.proofs.LinesLemmas.{answers_from-append}
-use Rattle.niss_shell.proofs.EngineLemmas.{answered_line, answered_none, takes_none, takes_more}
-
--- the last line
-
-pub takes_no_line : (f : LineAnswers) (front : List ℕ) (n : ℕ) {r : Reader} (out : AnswerState)
-    → IsFed r front → r.fed ≡ 0 → has_fault out.target ≡ false → TakesEnd f front n (Ok tt) out out
-takes_no_line f [] n out at none works = answered_none f n works
-takes_no_line f (b ∷ bs) n out at none works = absurd (omega (arith, at.fed, none))
-
-pub takes_last_line : (f : LineAnswers) (front : List ℕ) (n : ℕ) {r : Reader} (result : Result (Unit {0}) Stop) (old new : AnswerState)
-    → IsFed r front → r.fed ≢ 0 → Answers (answer_at f n front) result old new → TakesEnd f front n result old new
-takes_last_line f [] n result old new at some answers = absurd (some at.fed)
-takes_last_line f (b ∷ bs) n result old new at some answers = answered_line f n (b ∷ bs) result old new answers
+use Rattle.niss_shell.proofs.EngineLemmas.{takes_none, takes_more}
 
 -- the complete lines of an input stopped the run, or have no fault
 
@@ -43,14 +31,6 @@ short_test h = grind (arith, common_steps)
 
 pub long_test : {n : ℕ} → most_bytes < n → nat_lt most_bytes n ≡ true
 long_test h = grind (arith, common_steps)
-
-pub choose_false : {A : Type 0} (c : Bool) (x y : A) → c ≡ false → (if c then x else y) ≡ y
-choose_false true x y e = absurd (cc e)
-choose_false false x y e = refl
-
-pub choose_true : {A : Type 0} (c : Bool) (x y : A) → c ≡ true → (if c then x else y) ≡ x
-choose_true true x y e = refl
-choose_true false x y e = absurd (cc e)
 
 whole_input : (input : List ℕ) → length input ≤ most_bytes → take most_bytes input ≡ input
 whole_input input h = take_all most_bytes input h

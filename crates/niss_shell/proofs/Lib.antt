@@ -1,14 +1,11 @@
 pub mod Names
-pub mod DeviceLemmas
 pub mod StateLemmas
 pub mod LinesLemmas
 pub mod EngineLemmas
 pub mod ScrambleLemmas
 pub mod AnswerLemmas
-pub mod TakingLemmas
 pub mod SearchLemmas
 pub mod OutputLemmas
 pub mod RunLemmas
 pub mod MoreInputLemmas
-pub mod NumberLemmas
 pub mod WordsLemmas

@@ -88,31 +88,25 @@ one_cut text lines last p = (
 
 -- the lines and answers of a text that comes in two parts
 
-ended_step : (c : Bool) (front xs ys : List ℕ) (b : ℕ)
-    → ended_lines [] (xs ++ ys) ≡ ended_lines [] xs ++ ended_lines (last_part [] xs) ys
-    → ended_lines (front ++ b ∷ []) (xs ++ ys) ≡ ended_lines (front ++ b ∷ []) xs ++ ended_lines (last_part (front ++ b ∷ []) xs) ys
-    → (if c then front ∷ ended_lines [] (xs ++ ys) else ended_lines (front ++ b ∷ []) (xs ++ ys))
-    ≡ (if c then front ∷ ended_lines [] xs else ended_lines (front ++ b ∷ []) xs) ++ ended_lines (if c then last_part [] xs else last_part (front ++ b ∷ []) xs) ys
-ended_step true front xs ys b p q = ap (λ v. front ∷ v) p
-ended_step false front xs ys b p q = q
+by_test : (P : Bool → Type 0) (c : Bool) → P true → P false → P c
+by_test P true p q = p
+by_test P false p q = q
 
 pub ended_lines-append : (front xs ys : List ℕ) → ended_lines front (xs ++ ys) ≡ ended_lines front xs ++ ended_lines (last_part front xs) ys
 unfolding ended_lines last_part
 ended_lines-append front [] ys = refl
-ended_lines-append front (b ∷ xs) ys = ended_step (b == 10) front xs ys b (ended_lines-append [] xs ys) (ended_lines-append (front ++ b ∷ []) xs ys)
-
-unended_step : (c : Bool) (front xs ys : List ℕ) (b : ℕ)
-    → last_part [] (xs ++ ys) ≡ last_part (last_part [] xs) ys
-    → last_part (front ++ b ∷ []) (xs ++ ys) ≡ last_part (last_part (front ++ b ∷ []) xs) ys
-    → (if c then last_part [] (xs ++ ys) else last_part (front ++ b ∷ []) (xs ++ ys))
-    ≡ last_part (if c then last_part [] xs else last_part (front ++ b ∷ []) xs) ys
-unended_step true front xs ys b p q = p
-unended_step false front xs ys b p q = q
+ended_lines-append front (b ∷ xs) ys =
+    by_test (λ c. (if c then front ∷ ended_lines [] (xs ++ ys) else ended_lines (front ++ b ∷ []) (xs ++ ys))
+    ≡ (if c then front ∷ ended_lines [] xs else ended_lines (front ++ b ∷ []) xs) ++ ended_lines (if c then last_part [] xs else last_part (front ++ b ∷ []) xs) ys)
+    (b == 10) (ap (λ v. front ∷ v) (ended_lines-append [] xs ys)) (ended_lines-append (front ++ b ∷ []) xs ys)
 
 pub last_part-append : (front xs ys : List ℕ) → last_part front (xs ++ ys) ≡ last_part (last_part front xs) ys
 unfolding last_part
 last_part-append front [] ys = refl
-last_part-append front (b ∷ xs) ys = unended_step (b == 10) front xs ys b (last_part-append [] xs ys) (last_part-append (front ++ b ∷ []) xs ys)
+last_part-append front (b ∷ xs) ys =
+    by_test (λ c. (if c then last_part [] (xs ++ ys) else last_part (front ++ b ∷ []) (xs ++ ys))
+    ≡ last_part (if c then last_part [] xs else last_part (front ++ b ∷ []) xs) ys)
+    (b == 10) (last_part-append [] xs ys) (last_part-append (front ++ b ∷ []) xs ys)
 
 pub answers_from-append : (f : LineAnswers) (n : ℕ) (xs ys : List (List ℕ))
     → answers_from f n (xs ++ ys) ≡ then_answer (answers_from f n xs) (answers_from f (n + length xs) ys)

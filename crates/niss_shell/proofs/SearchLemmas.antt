@@ -1,9 +1,8 @@
 -- How what a search wrote answers a line.
 use Rattle.niss_shell.proofs.Names.{◌≡◌, ℕ, Bool, true, false, Result, Ok, Err, List, refl, sym, ap, ◌∙◌, subst, IsTrue, Step}
-use Rattle.niss_shell.proofs.Names.{LineCommand, Search, Query, Report, NoStart, Stop, CannotWrite, AnswerState, Answers, Writes}
-use Rattle.niss_shell.proofs.Names.{Refuses, answer_at_moves, may_start, Moves, near_looks_of, fault_answer, where_it_starts}
-use Rattle.niss_shell.proofs.Names.{search_text, home, search_command, turns_of, LooksWithinBound, Solutions, answer_to, looks_at}
-use Rattle.niss_shell.proofs.Names.{AcceptedLinesAreSolved}
+use Rattle.niss_shell.proofs.Names.{LineCommand, Search, Query, NoStart, Stop, AnswerState, Answers, Writes, answer_at_moves, may_start}
+use Rattle.niss_shell.proofs.Names.{Moves, near_looks_of, fault_answer, where_it_starts, search_text, home, search_command, turns_of}
+use Rattle.niss_shell.proofs.Names.{LooksWithinBound, Solutions, answer_to, looks_at, AcceptedLinesAreSolved}
 
 -- a line on whose cube the step may start, or may not
 
@@ -17,28 +16,21 @@ starts_not step false text h = refl
 
 -- the same of the command on the line
 
-module _ (command : LineCommand) (line given : Moves) (asked : Report) (query : Query) (step : Step) (n : ℕ) (old new : AnswerState)
-    (searches : command ≡ Search query) (of_step : step ≡ query.step) (reports : query.report ≡ asked) (same : given ≡ line) where
-  searched : search_command asked step query.limit query.slack ≡ command
-  searched =
-      ap (λ r. search_command r step query.limit query.slack) (sym reports)
-      ∙ ap (λ s. search_command query.report s query.limit query.slack) of_step ∙ sym searches
+module _ (command : LineCommand) (line given : Moves) (query : Query) (step : Step) (n : ℕ) (old new : AnswerState)
+    (searches : command ≡ Search query) (of_step : step ≡ query.step) (same : given ≡ line) where
+  searched : search_command query.report step query.limit query.slack ≡ command
+  searched = ap (λ s. search_command query.report s query.limit query.slack) of_step ∙ sym searches
 
-  answered : (r : Result (Unit {0}) Stop) → Answers (answer_at_moves (search_command asked step query.limit query.slack) n given) r old new
+  answered : (r : Result (Unit {0}) Stop) → Answers (answer_at_moves (search_command query.report step query.limit query.slack) n given) r old new
       → Answers (answer_at_moves command n line) r old new
   answered r x =
       subst (λ k. Answers (answer_at_moves k n line) r old new) searched
-      (subst (λ m. Answers (answer_at_moves (search_command asked step query.limit query.slack) n m) r old new) same x)
+      (subst (λ m. Answers (answer_at_moves (search_command query.report step query.limit query.slack) n m) r old new) same x)
 
   pub all_reported : IsTrue (may_start step (home given))
-      → Writes (search_text asked step query.limit query.slack (home given)) (near_looks_of step (home given) query.limit query.slack) old new
+      → Writes (search_text query.report step query.limit query.slack (home given)) (near_looks_of step (home given) query.limit query.slack) old new
       → Answers (answer_at_moves command n line) (Ok tt) old new
   all_reported e p = answered (Ok tt) (rw starts (refl, p))
-
-  pub refusal_reported : {stop : Stop} → IsTrue (may_start step (home given)) → stop ≡ CannotWrite
-      → Refuses (search_text asked step query.limit query.slack (home given)) (near_looks_of step (home given) query.limit query.slack) old new
-      → Answers (answer_at_moves command n line) (Err stop) old new
-  refusal_reported e f p = rw f (answered (Err CannotWrite) (rw starts p))
 
   pub not_started : (named : Step) (r : Result (Unit {0}) Stop) → may_start step (home given) ≡ false → named ≡ step
       → Answers (fault_answer n (NoStart named)) r old new → Answers (answer_at_moves command n line) r old new

@@ -144,7 +144,7 @@ impl<'a, B: Allocator> Command<'a, B> {
 }
 
 /// The step that the word names.
-#[tactic(auto, using(crate::proofs::NumberLemmas::step_unknown))]
+#[tactic(auto, using(crate::proofs::WordsLemmas::step_unknown))]
 fn step_of(word: &str) -> Option<Step>
     ensures { result ≡ step_named word.now }
 {
@@ -254,6 +254,7 @@ fn parse_scramble<B: Allocator>(words: &[String<B>]) -> Result<Command<'_, B>, U
 
 /// The command that the words name, or their first fault: of the command, then of the count of words, of the step, and of
 /// the numbers from left to right.
+#[tactic(auto, using(crate::proofs::WordsLemmas::named_request, crate::proofs::WordsLemmas::first_word))]
 pub fn parse_words<B: Allocator>(words: &[String<B>]) -> Result<Command<'_, B>, UsageFault>
     ensures command { MatchResult result
         (λ command. request_of (map string_bytes words.now) ≡ Ok (requested command))

@@ -5,7 +5,7 @@ ghost use Rattle.niss_shell.specs.Words.{most_bytes, joined, spaced_word, OnLine
 ghost use Rattle.niss_shell.specs.Engine.{MayBegin, RunsUnflushed, EndsAtOnce, output_state};
 ghost use Rattle.niss_shell.specs.Job.{IsInput, command_of};
 
-use crate::command::{LineCommand, LineRequest, Query, Rewriting};
+use crate::command::{LineCommand, LineRequest, Query};
 use crate::device::{Source, Target};
 use crate::lines::{Lines, MOST_BYTES, Work};
 use crate::output::Output;
@@ -110,25 +110,8 @@ impl<A: Allocator> Input<A> {
         }
     }
 
-    /// Answers them by a rewriting. Nothing of this work is moved: with its room for tables it is large.
-    fn rewrite<R: Source, W: Target>(
-        &self,
-        rewriting: Rewriting,
-        source: &mut R,
-        output: &mut Output<W>,
-        looks: &mut Meter,
-    ) -> Result<(), Stop>
-        requires begins { MayBegin (R.state source.old) (output_state W.state output.old looks.old) }
-        requires fits { IfSome self.now.text (λ text. length text.items ≤ most_bytes) }
-        ensures { (words : List (List ℕ)) → IsInput (λ text. text.items) self.now.text words →
-            RunsUnflushed (Ok (OnLines (LineCommand.Rewrite rewriting) words)) result
-            (R.state source.old) (R.state source.new)
-            (output_state W.state output.old looks.old) (output_state W.state output.new looks.new) }
-    {
-        self.answer(&Work::Rewrite(rewriting), source, output, looks)
-    }
-
     /// Answers them by a search, whose tables take memory before the first byte is read or written.
+    #[tactic(auto, using(crate::proofs::RunLemmas::runs_tables))]
     fn search<R: Source, W: Target>(
         &self,
         alloc: A,
@@ -173,7 +156,10 @@ pub fn answer_lines<A: Allocator + Copy, B: Allocator, R: Source, W: Target>(
     let LineRequest { command, words } = request;
     let input = Input::new(alloc, words)?;
     match command {
-        LineCommand::Rewrite(rewriting) => input.rewrite(rewriting, source, output, looks),
+        LineCommand::Rewrite(rewriting) => {
+            // nothing of this work is moved: with its room for tables it is large
+            input.answer(&Work::Rewrite(rewriting), source, output, looks)
+        }
         LineCommand::Search(query) => input.search(alloc, query, source, output, looks),
     }
 }

@@ -1,6 +1,5 @@
 use Rattle.niss_shell.proofs.Names.{arith, between_to_end, err_from_is_err_and}
-use Rattle.niss_shell.proofs.EngineLemmas.{piece_within}
-use Rattle.niss_shell.proofs.TakingLemmas.{none_taken, block_more, block_stopped, block_whole, block_sent, block_unsent, keeps_same, keeps_more, kept}
+use Rattle.niss_shell.proofs.EngineLemmas.{piece_within, none_taken, block_more, block_stopped, block_whole, block_sent, block_unsent, keeps_same, keeps_more, kept}
 use Rattle.niss_shell.proofs.lines.Lines.take_block.Goals as goal
 
 pub loop-index-init : goal.loop-index-init

@@ -1,5 +1,5 @@
 use Rattle.niss_shell.proofs.Names.{refl, err_from_is_err_and}
-use Rattle.niss_shell.proofs.TakingLemmas.{inside_taken, still_fed, line_feed_taken, byte_taken}
+use Rattle.niss_shell.proofs.EngineLemmas.{inside_taken, still_fed, line_feed_taken, byte_taken}
 use Rattle.niss_shell.proofs.lines.Lines.take_piece.Goals as goal
 
 pub returns-then-count-gt0-clause-takes : goal.returns-then-count-gt0-clause-takes
