@@ -26,7 +26,9 @@ pub use Rattle.rand_pcg.specs.Lcg.{Lcg}
 unfoldable pub use Rattle.rand_pcg.specs.Lcg.{state_after}
 pub use Rattle.niss_cube.specs.Map.{map_of}
 pub use Rattle.niss_cube.specs.Steps.{steps, may_start, turns_of, name_of}
-pub use Rattle.niss_moves.specs.Line.{Moves}
+pub use Rattle.niss_moves.specs.Effects.{effect_of_turns}
+pub use Rattle.niss_moves.specs.Faces.{faces}
+pub use Rattle.niss_moves.specs.Line.{Moves, joined_moves}
 pub use Rattle.niss_moves.specs.Reader.{Reader, IsFed, read_line}
 pub use Rattle.niss_moves.specs.WholeMoves.{HasNoLineFeed}
 pub use Rattle.niss_search.specs.Cubes.{near_looks_of, least_length_of, near_solutions_of}

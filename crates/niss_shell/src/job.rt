@@ -140,6 +140,7 @@ impl<A: Allocator> Input<A> {
 /// then for tables, before the first byte is read or written.
 ///
 /// It is a function of its own so that the input's drop, which is long, is proved apart from `answer_command`.
+#[tactic(auto, using(std::proofs::lemmas::Result::err_from_is_err_and))]
 pub fn answer_lines<A: Allocator + Copy, B: Allocator, R: Source, W: Target>(
     alloc: A,
     request: LineRequest<'_, B>,

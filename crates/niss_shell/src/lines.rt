@@ -141,6 +141,7 @@ impl<'a, A: Allocator> Lines<'a, A> {
     }
 
     /// Takes moves or a byte in front of the next bytes of the input, and answers how many bytes these are.
+    #[tactic(auto, using(crate::proofs::EngineLemmas::inside_taken))]
     fn take_piece<W: Target>(&mut self, bytes: &[u8], output: &mut Output<W>) -> Result<usize, Stop>
         requires some { 0 < length bytes.now }
         requires works { has_fault (W.state output.old.target.now) ≡ false }

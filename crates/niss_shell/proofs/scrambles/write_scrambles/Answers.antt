@@ -7,14 +7,12 @@ use Rattle.niss_shell.proofs.scrambles.write_scrambles.Goals as goal
 pub loop-init : goal.loop-init
 loop-init g c = record {
   generator = no_scramble _ _;
-  same_target = refl;
   written = λ looks. writes_nothing _ c.requires.works;
 }
 
 pub loop-preserved : goal.loop-preserved
 loop-preserved g c = record {
   generator = c.draw_line.ensures.words ∙ ap (after_words c.args.turns) c.loop.invariant.generator ∙ after_scramble _ _ _;
-  same_target = c.in_ok-put.ensures.same_target ∙ c.loop.invariant.same_target;
   written = λ looks. written_more _ _ _ _ _ _ _ (c.draw_line.ensures.line ∙ line_of_next _ _ _ c.loop.invariant.generator)
       (c.loop.invariant.written looks) (c.in_ok-put.ensures.taken (c.loop.invariant.written looks).works looks);
 }
