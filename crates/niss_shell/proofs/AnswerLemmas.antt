@@ -9,7 +9,7 @@ use Rattle.niss_shell.proofs.Names.{InputTooLong, CannotRead}
 use Rattle.niss_shell.proofs.StateLemmas.{gave_nothing, gave_more, is_empty_answer-some, is_empty_answer-none, writes_nothing}
 use Rattle.niss_shell.proofs.StateLemmas.{answers_more, answers_stopped, choose_false, choose_true}
 use Rattle.niss_shell.proofs.LinesLemmas.{answers_from-append}
-use Rattle.niss_shell.proofs.EngineLemmas.{takes_none, takes_more}
+use Rattle.niss_shell.proofs.EngineLemmas.{takes_none, takes_more, last_kept}
 
 -- the complete lines of an input stopped the run, or have no fault
 
@@ -191,3 +191,5 @@ pub text_done : {f : LineAnswers} {text : List ℕ} {p q : Progress} {r : Result
 text_done {f = f} {text = text} {q = q} {r = r} {h = h} {i = i} {j = j} fits reader line next last =
     let x = text_taken f text {q = q} (Ok tt) {h = h} {i = i} reader line next in
     input_ends f text q h i j r fits x (last.takes (last_part [] text) x.1.reader)
+
+pub ruleset text_laws = (text_stopped, text_done, last_kept)

@@ -39,8 +39,7 @@ module _ (command : LineCommand) (line given : Moves) (query : Query) (step : St
 -- what `solve` promises of one line
 pub accepted_lines : LooksWithinBound → AcceptedLinesAreSolved
 accepted_lines within step n bytes line e h = record {
-  text = ap (answer_to (search_command Solutions step n 0)) e
-      ∙ starts _ _ _ h;
+  text = ap (answer_to (search_command Solutions step n 0)) e ∙ starts _ _ _ h;
   looks = ap (looks_at (search_command Solutions step n 0)) e;
   within = within (turns_of step) _ _ n 0;
 }

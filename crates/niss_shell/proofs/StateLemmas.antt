@@ -7,18 +7,6 @@ use Rattle.niss_shell.proofs.Names.{Appended, StaysSilentOf, StaysSilent, is_emp
 use Rattle.niss_shell.proofs.Names.{WriteRefused, Answer, unsearched, joined_answer, then_answer, AnswerState, TakesIn, Writes, Refuses}
 use Rattle.niss_shell.proofs.Names.{Answers, Stop, CannotWrite, pending_state, WritesOrRefuses}
 
--- what is chosen by a test whose answer is known
-
-pub choose_false : {A : Type 0} (c : Bool) (x y : A) → c ≡ false → (if c then x else y) ≡ y
-choose_false true x y e = absurd (cc e)
-choose_false false x y e = refl
-
-pub choose_true : {A : Type 0} (c : Bool) (x y : A) → c ≡ true → (if c then x else y) ≡ x
-choose_true true x y e = refl
-choose_true false x y e = absurd (cc e)
-
--- bytes that are moved
-
 nothing_appended : (held : Option (List ℕ)) (failed : Bool) → AppendedOf held held failed []
 nothing_appended None failed = tt
 nothing_appended (Some all) failed = sym (append-nil all)
@@ -293,3 +281,13 @@ answers_sent a p q = (p.0, writes_as (append-nil _) (omega arith) (writes_more p
 
 pub answers_unsent : (a : Answer) {x y z : AnswerState} → Answers a (Ok tt) x y → Refuses [] 0 y z → Answers a (Err CannotWrite) x z
 answers_unsent a p q = refuses_as (append-nil _) (omega arith) (refuses_more p.1 q)
+
+-- what is chosen by a test whose answer is known
+
+pub choose_false : {A : Type 0} (c : Bool) (x y : A) → c ≡ false → (if c then x else y) ≡ y
+choose_false true x y e = absurd (cc e)
+choose_false false x y e = refl
+
+pub choose_true : {A : Type 0} (c : Bool) (x y : A) → c ≡ true → (if c then x else y) ≡ x
+choose_true true x y e = refl
+choose_true false x y e = absurd (cc e)

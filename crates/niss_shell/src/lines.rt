@@ -248,7 +248,7 @@ impl<'a, A: Allocator> Lines<'a, A> {
     }
 
     /// Writes the answer to each line of a text, from the first line on.
-    #[tactic(auto, using(crate::proofs::AnswerLemmas::text_stopped, crate::proofs::AnswerLemmas::text_done, crate::proofs::EngineLemmas::last_kept))]
+    #[tactic(auto, using(crate::proofs::AnswerLemmas::text_laws))]
     pub fn take_text<W: Target>(&mut self, text: &[u8], output: &mut Output<W>) -> Result<(), Stop>
         requires fits { length text.now ≤ most_bytes }
         requires works { has_fault (W.state output.old.target.now) ≡ false }
