@@ -1,36 +1,15 @@
 -- From the steps of the engine to the answers to a whole input.
-use Rattle.niss_shell.proofs.Names.{◌≡◌, ◌≢◌, ℕ, ◌+◌, ◌≤◌, ◌<◌, take, Bool, true, false, if◌then◌else◌, Result, Ok, Err, List, [], ◌∷◌}
-use Rattle.niss_shell.proofs.Names.{◌++◌, length, refl, sym, ap, ◌∙◌, subst, append-nil, length-append, arith, nat_lt, common_steps}
-use Rattle.niss_shell.proofs.Names.{take_all, take-append-add, SourceState, has_fault, Gave, Reads, ended_lines, last_part, Reader, IsFed}
-use Rattle.niss_shell.proofs.Names.{most_bytes, Ending, More, End, Fail, ending, ending_of, LineAnswers, answer_at, answers_from}
-use Rattle.niss_shell.proofs.Names.{answer_lines, line_with_bytes, last_line, complete_lines, outcome_of, unsearched, AnswerState, Progress}
+use Rattle.niss_shell.proofs.Names.{◌≡◌, ◌≢◌, ℕ, ◌+◌, ◌≤◌, ◌<◌, take, Bool, true, false, Result, Ok, Err, List, [], ◌++◌, length, refl}
+use Rattle.niss_shell.proofs.Names.{sym, ap, ◌∙◌, subst, append-nil, length-append, arith, nat_lt, common_steps, take_all}
+use Rattle.niss_shell.proofs.Names.{take-append-add, SourceState, has_fault, Gave, Reads, ended_lines, last_part, IsFed, most_bytes}
+use Rattle.niss_shell.proofs.Names.{Ending, More, End, Fail, ending, ending_of, LineAnswers, answers_from, answer_lines}
+use Rattle.niss_shell.proofs.Names.{line_with_bytes, last_line, complete_lines, outcome_of, unsearched, AnswerState, Progress}
 use Rattle.niss_shell.proofs.Names.{TakesBytes, TakesEnd, TakesNext, TakesLast, IsAt, Answers, AnswersSource, DeviceFault, Stop}
 use Rattle.niss_shell.proofs.Names.{InputTooLong, CannotRead}
-use Rattle.niss_shell.proofs.DeviceLemmas.{gave_nothing, gave_more, is_empty_answer-some, is_empty_answer-none}
-use Rattle.niss_shell.proofs.StateLemmas.{writes_nothing, answers_more, answers_stopped}
+use Rattle.niss_shell.proofs.StateLemmas.{gave_nothing, gave_more, is_empty_answer-some, is_empty_answer-none, writes_nothing}
+use Rattle.niss_shell.proofs.StateLemmas.{answers_more, answers_stopped, choose_false, choose_true}
 use Rattle.niss_shell.proofs.LinesLemmas.{answers_from-append}
-use Rattle.niss_shell.proofs.EngineLemmas.{answered_line, answered_none, takes_none, takes_more}
-
--- the last line
-
-no_line : (front : List ℕ) → length front ≡ 0 → line_with_bytes front ≡ []
-no_line [] e = refl
-no_line (b ∷ bs) e = absurd (omega arith)
-
-one_line : (front : List ℕ) → length front ≢ 0 → line_with_bytes front ≡ front ∷ []
-one_line [] e = absurd (e refl)
-one_line (b ∷ bs) e = refl
-
-pub takes_no_line : (f : LineAnswers) (front : List ℕ) (n : ℕ) {r : Reader} (out : AnswerState)
-    → IsFed r front → r.fed ≡ 0 → has_fault out.target ≡ false → TakesEnd f front n (Ok tt) out out
-takes_no_line f front n out at none works =
-    subst (λ ls. Answers (answers_from f n ls) (Ok tt) out out) (sym (no_line front (sym (at.fed) ∙ none))) (answered_none f n works)
-
-pub takes_last_line : (f : LineAnswers) (front : List ℕ) (n : ℕ) {r : Reader} (result : Result (Unit {0}) Stop) (old new : AnswerState)
-    → IsFed r front → r.fed ≢ 0 → Answers (answer_at f n front) result old new → TakesEnd f front n result old new
-takes_last_line f front n result old new at some answers =
-    subst (λ ls. Answers (answers_from f n ls) result old new) (sym (one_line front (λ z. some (at.fed ∙ z))))
-    (answered_line f n front result old new answers)
+use Rattle.niss_shell.proofs.EngineLemmas.{takes_none, takes_more, last_kept}
 
 -- the complete lines of an input stopped the run, or have no fault
 
@@ -52,14 +31,6 @@ short_test h = grind (arith, common_steps)
 
 pub long_test : {n : ℕ} → most_bytes < n → nat_lt most_bytes n ≡ true
 long_test h = grind (arith, common_steps)
-
-pub choose_false : {A : Type 0} (c : Bool) (x y : A) → c ≡ false → (if c then x else y) ≡ y
-choose_false true x y e = absurd (cc e)
-choose_false false x y e = refl
-
-pub choose_true : {A : Type 0} (c : Bool) (x y : A) → c ≡ true → (if c then x else y) ≡ x
-choose_true true x y e = refl
-choose_true false x y e = absurd (cc e)
 
 whole_input : (input : List ℕ) → length input ≤ most_bytes → take most_bytes input ≡ input
 whole_input input h = take_all most_bytes input h
@@ -170,35 +141,36 @@ too_long_answers f input q h j (Ok u) long e x =
     faultless_answers f input More (Err InputTooLong) h j (begun_lines input e) x.0 (sym end, writes_nothing _ x.0.1.works)
 too_long_answers f input q h j (Err stop) long e x = stopped_answers f input More stop h j (begun_lines input e) x.0
 
+-- a block in which the run was stopped
+stopped_at : {f : LineAnswers} {count n : ℕ} {block : List ℕ} {p : Progress} {a b c : SourceState} {h i j : AnswerState} {stop : Stop} (x : IsAt f count p a b h i)
+    → b.has_failed ≡ false → Reads (Ok n) block b c → n ≢ 0
+    → Answers (answer_lines f (x.input ++ take n block) More) (Err stop) h j → AnswersSource f (Err stop) a c h j
+stopped_at {f = f} {n = n} {block = block} {a = a} {b = b} {c = c} {h = h} {j = j} {stop = stop} x good read some answers = record {
+  input = x.input ++ take n block;
+  gave = gave_more a b c _ _ good x.gave read.bytes;
+  answers = subst (λ m. Answers (answer_lines f (x.input ++ take n block) m) (Err stop) h j)
+      (sym (ending_is c _ read.failed (read.ended ∙ is_empty_answer-some _ _ some))) answers;
+  read_whole = λ d. absurd (cc d);
+}
+
 pub at_limit : {f : LineAnswers} {count n : ℕ} (room : ℕ) {block : List ℕ} {p q : Progress} {a b c : SourceState} {h i j : AnswerState} {r : Result (Unit {0}) Stop}
     → IsAt f count p a b h i → room + count ≡ most_bytes → room < n → b.has_failed ≡ false → Reads (Ok n) block b c
     → TakesNext f (take room block) p q r i j → AnswersSource f (Err (stop_unless r InputTooLong)) a c h j
-at_limit {f = f} {n = n} room {block = block} {a = a} {b = b} {c = c} {h = h} {j = j} {r = r} x sum long good read next =
+at_limit {n = n} room {block = block} {r = r} x sum long good read next =
     let y = takes_more _ [] x.input (take room block) 1 _ _ r _ _ _ x.takes (next.takes (last_part [] x.input) x.takes.1.reader) in
     let l : length (x.input ++ take n block) ≡ length x.input + length (take n block) = length-append x.input (take n block) in
     let k : length (take n block) ≡ n = length_taken _ read.bound in
-    record {
-      input = x.input ++ take n block;
-      gave = gave_more a b c _ _ good x.gave read.bytes;
-      answers = subst (λ m. Answers (answer_lines f (x.input ++ take n block) m) (Err (stop_unless r InputTooLong)) h j) (sym (ending_is c _ read.failed (read.ended ∙ is_empty_answer-some _ _ (λ e. omega (arith, e, long)))))
-          (too_long_answers _ _ _ _ _ _ (omega (arith, l, k, x.count_is, sum, long)) (cut_block _ _ _ _ x.count_is sum (omega (arith, long)) read.bound) y);
-      read_whole = λ d. absurd (cc d);
-    }
+    stopped_at x good read (λ e. omega (arith, e, long))
+    (too_long_answers _ _ _ _ _ _ (omega (arith, l, k, x.count_is, sum, long)) (cut_block _ _ _ _ x.count_is sum (omega (arith, long)) read.bound) y)
 
 pub at_stop : {f : LineAnswers} {count n : ℕ} {block : List ℕ} {p q : Progress} {a b c : SourceState} {h i j : AnswerState} {stop : Stop}
     → IsAt f count p a b h i → n + count ≤ most_bytes → b.has_failed ≡ false → Reads (Ok n) block b c → n ≢ 0
     → TakesNext f (take n block) p q (Err stop) i j → AnswersSource f (Err stop) a c h j
-at_stop {f = f} {n = n} {block = block} {q = q} {a = a} {b = b} {c = c} {h = h} {j = j} {stop = stop} x room good read some next =
+at_stop {f = f} {n = n} {block = block} {q = q} {h = h} {j = j} {stop = stop} x room good read some next =
     let y = takes_more _ [] x.input (take n block) 1 _ q (Err stop) _ _ j x.takes (next.takes (last_part [] x.input) x.takes.1.reader) in
     let l : length (x.input ++ take n block) ≡ length x.input + length (take n block) = length-append x.input (take n block) in
     let k : length (take n block) ≡ n = length_taken _ read.bound in
-    record {
-      input = x.input ++ take n block;
-      gave = gave_more a b c _ _ good x.gave read.bytes;
-      answers = subst (λ m. Answers (answer_lines f (x.input ++ take n block) m) (Err stop) h j) (sym (ending_is c _ read.failed (read.ended ∙ is_empty_answer-some _ _ some)))
-          (stopped_answers f _ More stop h j (begun_lines _ (whole_input _ (omega (arith, l, k, x.count_is, room)))) y.0);
-      read_whole = λ d. absurd (cc d);
-    }
+    stopped_at x good read some (stopped_answers f _ More stop h j (begun_lines _ (whole_input _ (omega (arith, l, k, x.count_is, room)))) y.0)
 
 -- a whole text at once
 
@@ -219,3 +191,5 @@ pub text_done : {f : LineAnswers} {text : List ℕ} {p q : Progress} {r : Result
 text_done {f = f} {text = text} {q = q} {r = r} {h = h} {i = i} {j = j} fits reader line next last =
     let x = text_taken f text {q = q} (Ok tt) {h = h} {i = i} reader line next in
     input_ends f text q h i j r fits x (last.takes (last_part [] text) x.1.reader)
+
+pub ruleset text_laws = (text_stopped, text_done, last_kept)

@@ -1,11 +1,12 @@
--- How the engine's steps join.
+-- How the engine's steps join: bytes inside a line, a line feed, a block piece by piece, and what stands at its end.
 use Rattle.niss_shell.proofs.Names.{◌≡◌, ◌≢◌, ℕ, ◌+◌, ◌<◌, ◌≤◌, take, drop, get_or, false, Result, Ok, Err, List, [], ◌∷◌, ◌++◌, length}
-use Rattle.niss_shell.proofs.Names.{refl, sym, ap, ◌∙◌, subst, append-nil, length-append, arith, OnOk, between, between_to_end, take_more}
-use Rattle.niss_shell.proofs.Names.{take-append-drop, length-drop, All-nil, has_fault, ended_lines, last_part, HasNoLineFeed, Reader, IsFed}
-use Rattle.niss_shell.proofs.Names.{LineAnswers, answer_at, answers_from, then_answer, AnswerState, Progress, Answers, TakesBytes, Stop}
-use Rattle.niss_shell.proofs.CutLemmas.{ended_after, last_after}
-use Rattle.niss_shell.proofs.StateLemmas.{writes_nothing, then_nothing, answers_more, answers_stopped}
-use Rattle.niss_shell.proofs.LinesLemmas.{ended_lines-append, last_part-append, answers_from-append}
+use Rattle.niss_shell.proofs.Names.{refl, sym, ap, ◌∙◌, subst, append-nil, length-append, arith, OnOk, between, between_to_end}
+use Rattle.niss_shell.proofs.Names.{take_more, take-append-drop, length-drop, All-nil, has_fault, ended_lines, last_part, HasNoLineFeed}
+use Rattle.niss_shell.proofs.Names.{Reader, IsFed, LineAnswers, answer_at, answers_from, then_answer, AnswerState, Progress, Answers}
+use Rattle.niss_shell.proofs.Names.{TakesBytes, Stop, take_all, take-add, All-cons, line_answers, line_with_bytes, Writes, Refuses}
+use Rattle.niss_shell.proofs.Names.{TakesNext, TakesLast, command_of, Keeps, answers_of, Lines, CannotWrite, TakesEnd}
+use Rattle.niss_shell.proofs.LinesLemmas.{ended_after, last_after, ended_lines-append, last_part-append, answers_from-append}
+use Rattle.niss_shell.proofs.StateLemmas.{writes_nothing, then_nothing, answers_more, answers_stopped, answers_sent, answers_unsent}
 
 -- one line, and no line
 
@@ -21,13 +22,6 @@ answered_none f n works = (refl, writes_nothing _ works)
 on_ok : {A B C : Type 0} (r : Result (Unit {0}) Stop) → (A → B → C) → OnOk r A → OnOk r B → OnOk r C
 on_ok (Ok u) f a b = f a b
 on_ok (Err stop) f a b = tt
-
--- a line feed, which ends the line
-pub takes_line_feed : (f : LineAnswers) (front : List ℕ) (n : ℕ) (q : Progress) (r : Result (Unit {0}) Stop) (old new : AnswerState)
-    → Answers (answer_at f n front) r old new → OnOk r (IsFed q.reader []) → OnOk r (q.line ≡ n + 1) → TakesBytes f front (10 ∷ []) n q r old new
-unfolding ended_lines last_part
-takes_line_feed f front n q r old new answers reader line =
-    (answered_line f n front r old new answers, on_ok r (λ at next. record { reader = at; line = next }) reader line)
 
 -- bytes inside a line
 inside_ended : (front xs : List ℕ) → HasNoLineFeed xs → ended_lines front xs ≡ []
@@ -73,27 +67,135 @@ takes_more f front xs ys n q s r a b c x y = (
   }) y.1 y.1,
 )
 
--- a block in which the run was stopped
-pub takes_stopped : (f : LineAnswers) (front bytes : List ℕ) (i n : ℕ) (q : Progress) (stop : Stop) (a c : AnswerState)
-    → TakesBytes f front (take i bytes) n q (Err stop) a c → TakesBytes f front bytes n q (Err stop) a c
-takes_stopped f front bytes i n q stop a c x =
-    subst (λ xs. TakesBytes f front xs n q (Err stop) a c) (take-append-drop i bytes)
-    (subst (λ d. Answers d (Err stop) a c) (sym (lines_joined f front (take i bytes) (drop i bytes) n)) (answers_stopped _ _ stop a c x.0), tt)
-
 -- the first byte of a block
 
-pub nothing_fed : (r : Reader) (front bytes : List ℕ) (k : ℕ) → k ≤ 0 → IsFed r (front ++ take k bytes) → IsFed r front
-nothing_fed r front bytes k none at =
-    let zero : k ≡ 0 = omega (arith, none) in
-    subst (λ (xs : List ℕ). IsFed r xs) (ap (λ (i : ℕ). front ++ take i bytes) zero ∙ append-nil front) at
-
-pub first_byte : (bytes : List ℕ) {b : ℕ} → 0 < length bytes → get_or bytes 0 0 ≡ b → take 1 bytes ≡ b ∷ []
+first_byte : (bytes : List ℕ) {b : ℕ} → 0 < length bytes → get_or bytes 0 0 ≡ b → take 1 bytes ≡ b ∷ []
 first_byte bytes some e = take_more bytes 0 0 some ∙ ap (λ (c : ℕ). c ∷ []) e
-
-pub rest_is : (bytes : List ℕ) (i : ℕ) → between i (length bytes) bytes ≡ drop i bytes
-rest_is bytes i = between_to_end bytes i (length bytes) (omega arith)
 
 pub piece_within : (bytes : List ℕ) (i : ℕ) {k : ℕ} → i < length bytes → k ≤ length (between i (length bytes) bytes) → i + k ≤ length bytes
 piece_within bytes i h l =
-    let e : length (between i (length bytes) bytes) ≡ length (drop i bytes) = ap length (rest_is bytes i) in
+    let e : length (between i (length bytes) bytes) ≡ length (drop i bytes) = ap length (between_to_end bytes i (length bytes) (omega arith)) in
     omega (arith, e, length-drop i bytes)
+
+-- one piece
+
+pub none_taken : {f : LineAnswers} {p : Progress} {out : AnswerState} → has_fault out.target ≡ false → TakesNext f [] p p (Ok tt) out out
+none_taken works = record { takes = λ front at. takes_none _ front _ _ _ at refl works }
+
+pub inside_taken : {f : LineAnswers} {bytes : List ℕ} {p q : Progress} {out : AnswerState} → HasNoLineFeed bytes
+    → ((front : List ℕ) → IsFed p.reader front → IsFed q.reader (front ++ bytes)) → q.line ≡ p.line → has_fault out.target ≡ false
+    → TakesNext f bytes p q (Ok tt) out out
+inside_taken inside fed line works = record { takes = λ front at. takes_inside _ front _ _ _ _ inside (fed front at) line works }
+
+-- where no moves were taken first
+pub still_fed : {r s : Reader} (bytes : List ℕ) (k : ℕ) → k ≤ 0 → ((front : List ℕ) → IsFed r front → IsFed s (front ++ take k bytes))
+    → (front : List ℕ) → IsFed r front → IsFed s front
+still_fed {s = s} bytes k none fed front at =
+    let zero : k ≡ 0 = omega (arith, none) in
+    subst (λ (xs : List ℕ). IsFed s xs) (ap (λ (i : ℕ). front ++ take i bytes) zero ∙ append-nil front) (fed front at)
+
+pub line_feed_taken : {f : LineAnswers} (bytes : List ℕ) {p q : Progress} {r : Result (Unit {0}) Stop} {old new : AnswerState}
+    → 0 < length bytes → get_or bytes 0 0 ≡ 10
+    → ((front : List ℕ) → IsFed p.reader front → Answers (answer_at f p.line front) r old new)
+    → OnOk r (IsFed q.reader []) → OnOk r (q.line ≡ p.line + 1) → TakesNext f (take 1 bytes) p q r old new
+unfolding ended_lines last_part
+line_feed_taken {f = f} bytes {p = p} {q = q} {r = r} {old = old} {new = new} some feed answers reader line = record {
+  takes = λ front at. subst (λ xs. TakesBytes f front xs p.line q r old new) (sym (first_byte bytes some feed))
+      (answered_line f p.line front r old new (answers front at), on_ok r (λ fed next. record { reader = fed; line = next }) reader line);
+}
+
+pub byte_taken : {f : LineAnswers} (bytes : List ℕ) {p q : Progress} {out : AnswerState}
+    → 0 < length bytes → get_or bytes 0 0 ≢ 10
+    → ((front : List ℕ) → IsFed p.reader front → IsFed q.reader (front ++ get_or bytes 0 0 ∷ []))
+    → q.line ≡ p.line → has_fault out.target ≡ false → TakesNext f (take 1 bytes) p q (Ok tt) out out
+byte_taken {f = f} bytes {p = p} {q = q} {out = out} some other fed line works = record {
+  takes = λ front at. subst (λ xs. TakesBytes f front xs p.line q (Ok tt) out out) (sym (first_byte bytes some refl))
+      (takes_inside _ front _ p.line q out (All-cons (λ b. b ≢ 10) _ [] other (All-nil (λ b. b ≢ 10))) (fed front at) line works);
+}
+
+-- a block, piece by piece
+
+pub block_more : {f : LineAnswers} (bytes : List ℕ) {rest : List ℕ} (n k : ℕ) {p q s : Progress} {r : Result (Unit {0}) Stop} {h i j : AnswerState}
+    → rest ≡ drop n bytes → TakesNext f (take n bytes) p q (Ok tt) h i → TakesNext f (take k rest) q s r i j
+    → TakesNext f (take (n + k) bytes) p s r h j
+block_more {f = f} bytes n k {p = p} {s = s} {r = r} {h = h} {j = j} e x y = record {
+  takes = λ front at.
+      let z = x.takes front at in
+      subst (λ xs. TakesBytes f front xs p.line s r h j) (ap (λ t. take n bytes ++ take k t) e ∙ sym (take-add n k bytes))
+      (takes_more _ _ _ _ _ _ _ _ _ _ _ z (y.takes (last_part front (take n bytes)) z.1.reader));
+}
+
+-- a block in which the run was stopped
+pub block_stopped : {f : LineAnswers} (bytes : List ℕ) {rest : List ℕ} (n k : ℕ) {p q s : Progress} {stop : Stop} {h i j : AnswerState}
+    → rest ≡ drop n bytes → TakesNext f (take n bytes) p q (Ok tt) h i → TakesNext f (take k rest) q s (Err stop) i j
+    → TakesNext f bytes p s (Err stop) h j
+block_stopped {f = f} bytes n k {p = p} {s = s} {stop = stop} {h = h} {j = j} e x y = record {
+  takes = λ front at.
+      let z = (block_more bytes n k e x y).takes front at in
+      subst (λ xs. TakesBytes f front xs p.line s (Err stop) h j) (take-append-drop (n + k) bytes)
+      (subst (λ d. Answers d (Err stop) h j) (sym (lines_joined f front (take (n + k) bytes) (drop (n + k) bytes) p.line)) (answers_stopped _ _ stop h j z.0), tt);
+}
+
+-- all bytes of a block
+pub block_whole : {f : LineAnswers} (bytes : List ℕ) (n : ℕ) {p q : Progress} {r : Result (Unit {0}) Stop} {h i : AnswerState}
+    → length bytes ≤ n → TakesNext f (take n bytes) p q r h i → TakesNext f bytes p q r h i
+block_whole {f = f} bytes n {p = p} {q = q} {r = r} {h = h} {i = i} fits x = subst (λ v. TakesNext f v p q r h i) (take_all n bytes fits) x
+
+pub block_sent : {f : LineAnswers} {bytes : List ℕ} {p q : Progress} {h i j : AnswerState}
+    → TakesNext f bytes p q (Ok tt) h i → Writes [] 0 i j → TakesNext f bytes p q (Ok tt) h j
+block_sent {f = f} {bytes = bytes} {p = p} x w = record {
+  takes = λ front at. let y = x.takes front at in (answers_sent (answers_from f p.line (ended_lines front bytes)) y.0 w, y.1);
+}
+
+pub block_unsent : {f : LineAnswers} {bytes : List ℕ} {p q : Progress} {h i j : AnswerState}
+    → TakesNext f bytes p q (Ok tt) h i → Refuses [] 0 i j → TakesNext f bytes p q (Err CannotWrite) h j
+block_unsent {f = f} {bytes = bytes} {p = p} x w = record {
+  takes = λ front at. (answers_unsent (answers_from f p.line (ended_lines front bytes)) (x.takes front at).0 w, tt);
+}
+
+-- the end of an input
+
+takes_no_line : (f : LineAnswers) (front : List ℕ) (n : ℕ) {r : Reader} (out : AnswerState)
+    → IsFed r front → r.fed ≡ 0 → has_fault out.target ≡ false → TakesEnd f front n (Ok tt) out out
+takes_no_line f [] n out at none works = answered_none f n works
+takes_no_line f (b ∷ bs) n out at none works = absurd (omega (arith, at.fed, none))
+
+takes_last_line : (f : LineAnswers) (front : List ℕ) (n : ℕ) {r : Reader} (result : Result (Unit {0}) Stop) (old new : AnswerState)
+    → IsFed r front → r.fed ≢ 0 → Answers (answer_at f n front) result old new → TakesEnd f front n result old new
+takes_last_line f [] n result old new at some answers = absurd (some at.fed)
+takes_last_line f (b ∷ bs) n result old new at some answers = answered_line f n (b ∷ bs) result old new answers
+
+pub no_last : {f : LineAnswers} {p : Progress} {out : AnswerState} → p.reader.fed ≡ 0 → has_fault out.target ≡ false → TakesLast f p (Ok tt) out out
+no_last none works = record { takes = λ front at. takes_no_line _ front _ _ at none works }
+
+pub last_line : {f : LineAnswers} {p : Progress} {r : Result (Unit {0}) Stop} {old new : AnswerState}
+    → p.reader.fed ≢ 0 → ((front : List ℕ) → IsFed p.reader front → Answers (answer_at f p.line front) r old new) → TakesLast f p r old new
+last_line some answers = record { takes = λ front at. takes_last_line _ front _ _ _ _ at some (answers front at) }
+
+pub last_sent : {f : LineAnswers} {p : Progress} {h i j : AnswerState}
+    → TakesLast f p (Ok tt) h i → Writes [] 0 i j → TakesLast f p (Ok tt) h j
+last_sent {f = f} {p = p} x w = record { takes = λ front at. answers_sent (answers_from f p.line (line_with_bytes front)) (x.takes front at) w }
+
+pub last_unsent : {f : LineAnswers} {p : Progress} {h i j : AnswerState}
+    → TakesLast f p (Ok tt) h i → Refuses [] 0 i j → TakesLast f p (Err CannotWrite) h j
+last_unsent {f = f} {p = p} x w = record { takes = λ front at. answers_unsent (answers_from f p.line (line_with_bytes front)) (x.takes front at) w }
+
+-- what lines take that keep their work
+
+module _ {A : Type 0} where
+  pub keeps_same : {a : Lines A} → Keeps a a
+  keeps_same = record { work = refl; looks = refl }
+
+  pub keeps_more : {a b c : Lines A} → Keeps a b → Keeps b c → Keeps a c
+  keeps_more p q = record { work = q.work ∙ p.work; looks = q.looks ∙ p.looks }
+
+  same_answers : {a b : Lines A} → Keeps a b → answers_of b ≡ answers_of a
+  same_answers p = ap (λ w. line_answers (command_of w.now)) p.work
+
+  pub kept : {a b : Lines A} {bytes : List ℕ} {p q : Progress} {r : Result (Unit {0}) Stop} {i j : AnswerState}
+      → Keeps a b → TakesNext (answers_of b) bytes p q r i j → TakesNext (answers_of a) bytes p q r i j
+  kept {bytes = bytes} {p = p} {q = q} {r = r} {i = i} {j = j} same x = subst (λ f. TakesNext f bytes p q r i j) (same_answers same) x
+
+  pub last_kept : {a b : Lines A} {p : Progress} {r : Result (Unit {0}) Stop} {i j : AnswerState}
+      → Keeps a b → TakesLast (answers_of b) p r i j → TakesLast (answers_of a) p r i j
+  last_kept {p = p} {r = r} {i = i} {j = j} same x = subst (λ f. TakesLast f p r i j) (same_answers same) x

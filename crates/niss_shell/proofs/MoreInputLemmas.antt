@@ -5,8 +5,7 @@ use Rattle.niss_shell.proofs.Names.{take-append-le, common_steps, ended_lines, l
 use Rattle.niss_shell.proofs.Names.{Answer, Ending, More, End, LineAnswers, complete_lines, last_line, line_with_bytes, outcome_of}
 use Rattle.niss_shell.proofs.Names.{joined_answer, then_answer, unsearched, line_answers, answers_from, answer_lines, Begins}
 use Rattle.niss_shell.proofs.Names.{MoreInputKeepsAnswers, Stop, InputTooLong}
-use Rattle.niss_shell.proofs.AnswerLemmas.{choose_false, choose_true}
-use Rattle.niss_shell.proofs.StateLemmas.{then_then}
+use Rattle.niss_shell.proofs.StateLemmas.{choose_false, choose_true, then_then}
 use Rattle.niss_shell.proofs.LinesLemmas.{ended_lines-append, answers_from-append}
 
 -- the same is written, and it ends in the same way

@@ -15,12 +15,12 @@ pub use Rattle.std.proofs.lemmas.List.FromFn.{map-range_with_len_more, take-map-
 pub use Rattle.std.proofs.lemmas.Result.{err_from_is_err_and}
 pub use Rattle.std.proofs.lemmas.Slice.{between_to_end}
 pub use Rattle.std.proofs.lemmas.Slice.Eq.{bytes_eq-Decides}
-pub use Rattle.std.proofs.lemmas.Str.Parse.{IsDigitsTest, IsNumeralModel, numerals_by_value, parse_digits}
+pub use Rattle.std.proofs.lemmas.Str.Parse.{IsNumeralModel, numerals_by_value, parse_digits}
 pub use Rattle.std.specs.Char.{is_ascii_digit}
 pub use Rattle.std.specs.Io.KnownBytes.{ReadConsumes}
 pub use Rattle.std.specs.List.{between, list_all}
 pub use Rattle.std.specs.Prelude.{flat_map, string_bytes, OnOk, nat_lt, OnErr, decimal, nat_le, IsTrue, All, is_err, IsErr, MatchResult}
-pub use Rattle.std.specs.Prelude.{find, bytes_eq, IfSome, slice_get}
+pub use Rattle.std.specs.Prelude.{find, bytes_eq, slice_get}
 pub use Rattle.std.specs.Str.Parse.{digits_value, ParsesUnsigned}
 pub use Rattle.rand_pcg.specs.Lcg.{Lcg}
 unfoldable pub use Rattle.rand_pcg.specs.Lcg.{state_after}
@@ -37,27 +37,25 @@ pub use Rattle.niss_search.specs.Draw.{after_words, next_words, draw}
 pub use Rattle.niss_search.specs.Laws.{LooksWithinBound}
 pub use Rattle.niss_shell.specs.Device.{has_fault, TargetState, Appended, SourceState, WriteRefused, Gave, is_empty_answer, Reads, Room}
 pub use Rattle.niss_shell.specs.Device.{FilledOf, GaveOf, AppendedOf, StaysSilentOf, StaysSilent, moved_bytes, Flushes, IsCut}
-pub use Rattle.niss_shell.specs.Engine.{Writes, AnswerState, Refuses, Answers, output_state, Progress, TakesBytes, pending_state, TakesNext}
-pub use Rattle.niss_shell.specs.Engine.{TakesLast, IsAt, AnswersSource, WritesOrRefuses, HasRoom, TakesEnd, Delivers, TakesLine}
-pub use Rattle.niss_shell.specs.Engine.{RefusesLine, MayBegin, EndsUnflushed, RunsUnflushed, flushed_outcome, FlushesLast, answer_at_moves}
-pub use Rattle.niss_shell.specs.Engine.{TakesIn}
-pub use Rattle.niss_shell.specs.Job.{command_of, IsInput}
+pub use Rattle.niss_shell.specs.Engine.{Writes, AnswerState, Refuses, Answers, output_state, Progress, TakesBytes, pending_state}
+pub use Rattle.niss_shell.specs.Engine.{TakesNext, TakesLast, IsAt, AnswersSource, WritesOrRefuses, HasRoom, TakesEnd, Delivers}
+pub use Rattle.niss_shell.specs.Engine.{TakesLine, RefusesLine, MayBegin, EndsUnflushed, RunsUnflushed, flushed_outcome, FlushesLast}
+pub use Rattle.niss_shell.specs.Engine.{answer_at_moves, TakesIn}
+pub use Rattle.niss_shell.specs.Job.{command_of, IsInput, Keeps, answers_of, lines_state, progress_of, Takes}
 pub use Rattle.niss_shell.specs.Lines.{line_feed}
 unfoldable pub use Rattle.niss_shell.specs.Lines.{ended_lines, last_part}
 pub use Rattle.niss_shell.specs.LinesLaws.{line_to_feed, IsCutInto, TextIsCut, OneCut}
 pub use Rattle.niss_shell.specs.MoreInput.{Begins, MoreInputKeepsAnswers}
-pub use Rattle.niss_shell.specs.Names.{Stop, DeviceFault, Step, CannotWrite, InputTooLong, LineCommand, Search, Solutions, CannotRead, Turn}
-pub use Rattle.niss_shell.specs.Names.{Output, UsageFault, Rewrite, LineFault, ReadFault, Usage, OutOfMemory, Query, Report, NoStart, Lines}
-pub use Rattle.niss_shell.specs.Names.{Counts}
+pub use Rattle.niss_shell.specs.Names.{Stop, DeviceFault, Step, CannotWrite, InputTooLong, LineCommand, Search, Solutions, CannotRead}
+pub use Rattle.niss_shell.specs.Names.{Turn, Output, UsageFault, Rewrite, LineFault, ReadFault, Usage, OutOfMemory, Query, NoStart, Lines}
 pub use Rattle.niss_shell.specs.Output.{LineAnswers, answer_at, unsearched, then_answer, home, Ending, More, End, answer_lines}
 pub use Rattle.niss_shell.specs.Output.{line_with_bytes, complete_lines, outcome_of, Answer, joined_answer, line_answers, solution_line}
 pub use Rattle.niss_shell.specs.Output.{where_it_starts, step_line, Fail, ending, last_line, answer_to, looks_at, line_answer, ending_of}
 pub use Rattle.niss_shell.specs.Output.{none_line, solve_text, count_text, outcome_at_end, most_line_looks, answer_request, out_of}
 pub use Rattle.niss_shell.specs.Output.{error_text, status_of, fault_answer, search_text}
 unfoldable pub use Rattle.niss_shell.specs.Output.{answers_from}
-pub use Rattle.niss_shell.specs.Run.{devices, Runs, Devices, OutputRefused, EndsByFault, Ends, ReportsError, Looked}
-pub use Rattle.niss_shell.specs.Scrambles.{scramble_text, generator_of, scramble, scrambles, turns_line}
+pub use Rattle.niss_shell.specs.Run.{devices, Runs, Devices, Ends, ReportsError, Looked}
+pub use Rattle.niss_shell.specs.Scrambles.{scramble_text, scramble, scrambles, turns_line}
 pub use Rattle.niss_shell.specs.SolveLaw.{AcceptedLinesAreSolved}
-pub use Rattle.niss_shell.specs.Taking.{Keeps, answers_of, lines_state, progress_of, Takes}
 pub use Rattle.niss_shell.specs.Words.{most_bytes, spaced_word, OnLines, ListSteps, DrawScrambles, request_of, joined, search_command}
-pub use Rattle.niss_shell.specs.Words.{number_of, step_named, Request, reads_source, has_step, request_named, requested}
+pub use Rattle.niss_shell.specs.Words.{number_of, step_named, Request, reads_source, has_step, takes_memory, request_named, requested}

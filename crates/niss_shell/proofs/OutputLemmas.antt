@@ -2,10 +2,9 @@
 use Rattle.niss_shell.proofs.Names.{◌≡◌, ◌==◌, Bool, true, ℕ, ◌+◌, ◌≤◌, false, Option, Result, Ok, Err, List, [], ◌∷◌, ◌++◌, inl, inr}
 use Rattle.niss_shell.proofs.Names.{length, sym, ap, ◌∙◌, subst, append_assoc, arith, eqb-true, nil_from_length, OnOk, OnErr, flat_map}
 use Rattle.niss_shell.proofs.Names.{Turn, DeviceFault, Output, WentThrough, StoppedIn, TargetState, has_fault, line_feed, none_line}
-use Rattle.niss_shell.proofs.Names.{solution_line, solve_text, count_text, output_state, pending_state, Writes, Refuses, WritesOrRefuses}
-use Rattle.niss_shell.proofs.Names.{Delivers, TakesLine, RefusesLine}
-use Rattle.niss_shell.proofs.PendingLemmas.{then_sent, waits}
-use Rattle.niss_shell.proofs.StateLemmas.{writes_nothing, writes_more, writes_as, refuses_more, refuses_front, refuses_as}
+use Rattle.niss_shell.proofs.Names.{solution_line, solve_text, count_text, output_state, pending_state, Writes, Refuses}
+use Rattle.niss_shell.proofs.Names.{WritesOrRefuses, Delivers, TakesLine, RefusesLine, append-nil}
+use Rattle.niss_shell.proofs.StateLemmas.{then_written, waits, writes_nothing, writes_more, refuses_more, refuses_front}
 
 -- what a text does to an output, as a sink says it
 
@@ -32,7 +31,9 @@ pub line_sent : {W : Type 0} (state : W → TargetState) (r : Result (Unit {0}) 
     (pending_state old.target.ghost_name (state old.target.now) text looks) (output_state state new looks))
     → Delivers state r line old new
 line_sent state r line old new e none then = λ works looks.
-    then_sent _ _ _ _ _ _ (waits _ (e ∙ ap (λ p. p ++ line) (sym none)) works) (then works looks)
+    then_written r [] (output_state state new looks) (append-nil line) (waits _ (e ∙ ap (λ p. p ++ line) (sym none)) works) (then works looks)
+
+pub ruleset sink_laws = (line_taken, line_refused, line_sent, no_bytes)
 
 -- what is written of a search, by what it found
 pub same_count : {least : Option ℕ} (found : Option ℕ) (count solutions nodes : ℕ) {looks : ℕ} → least ≡ found → count ≡ solutions → nodes ≡ looks
@@ -76,67 +77,46 @@ module _ {W : Type 0} (state : W → TargetState) where
       subst (λ t. Refuses t looks (output_state state old before) (output_state state new after)) e
       (looked_refuses _ old new (omega (arith, exact)) (omega (arith, exact)) (d works after))
 
-  -- the lines of the paths are taken one after the other
-  module _ (line : List Turn → List ℕ) (took refused : Output W → List Turn → Output W → Type 0)
-      (wrote : (a : Output W) (p : List Turn) (b : Output W) → took a p b → TakesLine state (line p) a b)
-      (cut : (a : Output W) (p : List Turn) (b : Output W) → refused a p b → RefusesLine state (line p) a b) where
-    walk_writes : (ps : List (List Turn)) (a b : Output W) (looks : ℕ) → has_fault (state a.target.now) ≡ false → WentThrough took a ps b
-        → Writes (flat_map line ps) 0 (output_state state a looks) (output_state state b looks)
-    walk_writes [] a b looks works h =
-        subst (λ k. Writes [] 0 (output_state state a looks) (output_state state k looks)) h (writes_nothing _ works)
-    walk_writes (p ∷ ps) a b looks works h =
-        let one = (wrote a p h.0 h.1.0).1 works looks in
-        writes_more one (walk_writes ps h.0 b looks one.works h.1.1)
+  -- the lines of solutions are taken one after the other
 
-    stop_writes : (ps : List (List Turn)) (a b : Output W) (looks : ℕ) → has_fault (state a.target.now) ≡ false → StoppedIn took refused a ps b
-        → Refuses (flat_map line ps) 0 (output_state state a looks) (output_state state b looks)
-    stop_writes [] a b looks works h = absurd h
-    stop_writes (p ∷ ps) a b looks works (inl h) =
-        refuses_front _ (omega arith) ((cut a p b h).1 works looks)
-    stop_writes (p ∷ ps) a b looks works (inr h) =
-        let one = (wrote a p h.0 h.1.0).1 works looks in
-        refuses_more one (stop_writes ps h.0 b looks one.works h.1.1)
+  walk_writes : (ps : List (List Turn)) (a b : Output W) (looks : ℕ) → has_fault (state a.target.now) ≡ false
+      → WentThrough (λ old p new. TakesLine state (solution_line p) old new) a ps b
+      → Writes (flat_map solution_line ps) 0 (output_state state a looks) (output_state state b looks)
+  walk_writes [] a b looks works h =
+      subst (λ k. Writes [] 0 (output_state state a looks) (output_state state k looks)) h (writes_nothing _ works)
+  walk_writes (p ∷ ps) a b looks works h =
+      let one = h.1.0.1 works looks in
+      writes_more one (walk_writes ps h.0 b looks one.works h.1.1)
 
-    pub found_all : (ps : List (List Turn)) (a b : Output W) {looks before : ℕ} (after : ℕ) → has_fault (state a.target.now) ≡ false
-        → WentThrough took a ps b → after ≡ before + looks
-        → Writes (flat_map line ps) looks (output_state state a before) (output_state state b after)
-    found_all ps a b after works h exact =
-        looked_writes after a b exact (walk_writes _ _ _ _ works h)
+  abbrev Stopped : List (List Turn) → Output W → Output W → Type 0
+  Stopped ps a b = StoppedIn (λ old p new. TakesLine state (solution_line p) old new) (λ old p new. RefusesLine state (solution_line p) old new) a ps b
 
-    pub found_some : (ps : List (List Turn)) (rest : List ℕ) (a b : Output W) {looks before : ℕ} (after : ℕ) → has_fault (state a.target.now) ≡ false
-        → StoppedIn took refused a ps b → before ≤ after → after ≤ before + looks
-        → Refuses (flat_map line ps ++ rest) looks (output_state state a before) (output_state state b after)
-    found_some ps rest a b after works h rises most =
-        refuses_front _ (omega arith)
-        (looked_refuses after a b rises most (stop_writes _ _ _ _ works h))
+  stop_writes : (ps : List (List Turn)) (a b : Output W) (looks : ℕ) → has_fault (state a.target.now) ≡ false → Stopped ps a b
+      → Refuses (flat_map solution_line ps) 0 (output_state state a looks) (output_state state b looks)
+  stop_writes [] a b looks works h = absurd h
+  stop_writes (p ∷ ps) a b looks works (inl h) = refuses_front _ (omega arith) (h.1 works looks)
+  stop_writes (p ∷ ps) a b looks works (inr h) =
+      let one = h.1.0.1 works looks in
+      refuses_more one (stop_writes ps h.0 b looks one.works h.1.1)
 
-    pub unsolved : (n : ℕ) (ps : List (List Turn)) (a b : Output W) (looks before after : ℕ) → has_fault (state a.target.now) ≡ false
-        → StoppedIn took refused a ps b → before ≤ after → after ≤ before + looks
-        → Refuses (flat_map line ps ++ none_line n (length ps) ++ line_feed ∷ []) looks (output_state state a before) (output_state state b after)
-    unsolved n ps a b looks before after works h rises most =
-        subst (λ t. Refuses t looks (output_state state a before) (output_state state b after))
-        (sym (append_assoc (flat_map line ps) (none_line n (length ps)) (line_feed ∷ [])))
-        (found_some _ _ _ _ _ works h rises most)
+  pub unsolved : (n : ℕ) (ps : List (List Turn)) (a b : Output W) (looks before after : ℕ) → has_fault (state a.target.now) ≡ false
+      → Stopped ps a b → before ≤ after → after ≤ before + looks
+      → Refuses (solve_text n ps) looks (output_state state a before) (output_state state b after)
+  unsolved n ps a b looks before after works h rises most =
+      refuses_front (line_feed ∷ []) {l = looks} (omega arith) (refuses_front (none_line n (length ps)) {l = looks} (omega arith)
+      (looked_refuses after a b rises most (stop_writes ps a b after works h)))
 
-    pub nothing_waits : (ps : List (List Turn)) (a b : Output W) → StoppedIn took refused a ps b → b.pending.items ≡ []
-    nothing_waits [] a b h = absurd h
-    nothing_waits (p ∷ ps) a b (inl h) = (cut a p b h).0
-    nothing_waits (p ∷ ps) a b (inr h) = nothing_waits ps h.0 b h.1.1
+  pub nothing_waits : (ps : List (List Turn)) (a b : Output W) → Stopped ps a b → b.pending.items ≡ []
+  nothing_waits [] a b h = absurd h
+  nothing_waits (p ∷ ps) a b (inl h) = h.0
+  nothing_waits (p ∷ ps) a b (inr h) = nothing_waits ps h.0 b h.1.1
 
   -- the solutions, and what stands after them
-  pub solved : (r : Result (Unit {0}) DeviceFault) (n : ℕ) {count : ℕ} (solutions : List (List Turn)) (piece : List ℕ) (looks before after : ℕ) (a b c : Output W)
-      → count ≡ length solutions → piece ≡ none_line n count ++ line_feed ∷ []
-      → Writes (flat_map solution_line solutions) looks (output_state state a before) (output_state state b after)
-      → Delivers state r piece b c
+  pub solved : (r : Result (Unit {0}) DeviceFault) (n : ℕ) {count : ℕ} (solutions : List (List Turn)) {piece : List ℕ} (looks before after : ℕ) (a b c : Output W)
+      → has_fault (state a.target.now) ≡ false → WentThrough (λ old p new. TakesLine state (solution_line p) old new) a solutions b
+      → count ≡ length solutions → after ≡ before + looks → piece ≡ none_line n count ++ line_feed ∷ [] → Delivers state r piece b c
       → WritesOrRefuses r (solve_text n solutions) looks (output_state state a before) (output_state state c after)
-  solved r n solutions piece looks before after a b c e f p d = by_answer _ d
-    where
-      whole : flat_map solution_line solutions ++ piece ≡ solve_text n solutions
-      whole =
-          ap (λ t. flat_map solution_line solutions ++ t) (f ∙ ap (λ k. none_line n k ++ line_feed ∷ []) e)
-          ∙ sym (append_assoc (flat_map solution_line solutions) (none_line n (length solutions)) (line_feed ∷ []))
-
-      by_answer : (r : Result (Unit {0}) DeviceFault) → Delivers state r piece b c
-          → WritesOrRefuses r (solve_text n solutions) looks (output_state state a before) (output_state state c after)
-      by_answer (Ok u) d = writes_as whole (omega arith) (writes_more p (d p.works after))
-      by_answer (Err x) d = refuses_as whole (omega arith) (refuses_more p (d p.works after))
+  solved r n solutions {piece = piece} looks before after a b c works h e exact f d =
+      let p = looked_writes after a b exact (walk_writes solutions a b after works h) in
+      then_written r piece (output_state state c after) (ap (λ t. flat_map solution_line solutions ++ t) (f ∙ ap (λ k. none_line n k ++ line_feed ∷ []) e)
+      ∙ sym (append_assoc (flat_map solution_line solutions) (none_line n (length solutions)) (line_feed ∷ []))) p (d p.works after)

@@ -1,20 +1,19 @@
 -- From what was read and written to what a run says of it.
-use Rattle.niss_shell.proofs.Names.{◌≡◌, ◌≢◌, ℕ, ◌+◌, ◌≤◌, ◌<◌, Bool, true, false, ◌||◌, not, if◌then◌else◌, Option, Some, None, Result, Ok}
-use Rattle.niss_shell.proofs.Names.{Err, List, [], ◌∷◌, ◌++◌, length, refl, sym, ap, ◌∙◌, subst, append-nil, add-zero, arith, OnOk, OnErr}
-use Rattle.niss_shell.proofs.Names.{nat_lt, nat_le, flat_map, common_steps, Lcg, SourceState, TargetState, has_fault, Appended}
-use Rattle.niss_shell.proofs.Names.{Flushes, WriteRefused, generator_of, scramble_text, most_bytes, Request, OnLines, ListSteps}
-use Rattle.niss_shell.proofs.Names.{DrawScrambles, request_of, reads_source, has_step, joined, Answer, Ending, More, End, Fail, ending}
-use Rattle.niss_shell.proofs.Names.{outcome_at_end, answer_to, looks_at, most_line_looks, home, where_it_starts, complete_lines}
-use Rattle.niss_shell.proofs.Names.{LineAnswers, line_answer, answer_at, answers_from, joined_answer, line_answers, answer_lines}
-use Rattle.niss_shell.proofs.Names.{answer_request, unsearched, step_line, outcome_of, out_of, error_text, status_of, steps, turns_of}
-use Rattle.niss_shell.proofs.Names.{may_start, Moves, read_line, AnswerState, MayBegin, pending_state, AnswersSource, Answers, Writes}
-use Rattle.niss_shell.proofs.Names.{Refuses, EndsUnflushed, RunsUnflushed, flushed_outcome, FlushesLast, IsInput, Devices, devices}
-use Rattle.niss_shell.proofs.Names.{OutputRefused, EndsByFault, Ends, ReportsError, Looked, Runs, DeviceFault, UsageFault, LineCommand}
-use Rattle.niss_shell.proofs.Names.{Rewrite, Search, LineFault, ReadFault, Step, Stop, Usage, InputTooLong, CannotWrite, OutOfMemory}
-use Rattle.niss_shell.proofs.Names.{LooksWithinBound}
-use Rattle.niss_shell.proofs.DeviceLemmas.{appended_then, appended_after_failure, gave_nothing, fault_of_write, no_write_fault, no_flush_fault}
-use Rattle.niss_shell.proofs.StateLemmas.{writes_nothing, all_sent}
-use Rattle.niss_shell.proofs.AnswerLemmas.{short_test, long_test, choose_false, choose_true}
+use Rattle.niss_shell.proofs.Names.{◌≡◌, ◌≢◌, ℕ, ◌+◌, ◌≤◌, ◌<◌, Bool, true, false, ◌||◌, not, if◌then◌else◌, Option, Some, None, Result}
+use Rattle.niss_shell.proofs.Names.{Ok, Err, List, [], ◌∷◌, ◌++◌, length, refl, sym, ap, ◌∙◌, subst, append-nil, add-zero, arith, OnOk}
+use Rattle.niss_shell.proofs.Names.{OnErr, nat_lt, nat_le, common_steps, SourceState, TargetState, has_fault, Appended, Flushes}
+use Rattle.niss_shell.proofs.Names.{WriteRefused, most_bytes, Request, OnLines, request_of, reads_source, has_step, joined, Answer}
+use Rattle.niss_shell.proofs.Names.{Ending, More, End, Fail, ending, outcome_at_end, answer_to, looks_at, most_line_looks, home}
+use Rattle.niss_shell.proofs.Names.{where_it_starts, complete_lines, LineAnswers, line_answer, answer_at, answers_from, joined_answer}
+use Rattle.niss_shell.proofs.Names.{line_answers, answer_lines, answer_request, unsearched, outcome_of, out_of, error_text, status_of}
+use Rattle.niss_shell.proofs.Names.{turns_of, may_start, Moves, read_line, AnswerState, MayBegin, pending_state, AnswersSource, Answers}
+use Rattle.niss_shell.proofs.Names.{Writes, EndsUnflushed, RunsUnflushed, flushed_outcome, FlushesLast, IsInput, Devices, devices, Ends}
+use Rattle.niss_shell.proofs.Names.{ReportsError, Looked, Runs, DeviceFault, UsageFault, LineCommand, Rewrite, Search, LineFault}
+use Rattle.niss_shell.proofs.Names.{ReadFault, Step, Stop, Usage, InputTooLong, CannotWrite, OutOfMemory, LooksWithinBound}
+use Rattle.niss_shell.proofs.Names.{takes_memory}
+use Rattle.niss_shell.proofs.StateLemmas.{appended_then, appended_after_failure, gave_nothing, fault_of_write, no_write_fault}
+use Rattle.niss_shell.proofs.StateLemmas.{no_flush_fault, writes_nothing, all_sent, choose_false, choose_true}
+use Rattle.niss_shell.proofs.AnswerLemmas.{short_test, long_test}
 
 -- the error writer
 
@@ -94,13 +93,14 @@ runs_source {given = given} {ws = []} {b = b} e f g none x empty = rw (← e, �
 runs_source {ws = w ∷ ws} e f g none x empty = absurd (omega arith)
 
 -- nothing is read
-unread_run : (asked : Result Request UsageFault) (outcome : Result (Unit {0}) Stop) (a : SourceState) (h i : AnswerState) → reads_source asked ≡ false → i.pending ≡ []
+unread_run : (asked : Result Request UsageFault) (outcome : Result (Unit {0}) Stop) (a : SourceState) (h i : AnswerState)
+    → (outcome ≡ Ok tt → reads_source asked ≢ true) → i.pending ≡ []
     → EndsUnflushed outcome (answer_request asked [] (ending a)) asked a a h i → RunsUnflushed asked outcome a a h i
 unread_run asked outcome a h i unread empty ends = record {
   input = [];
   gave = gave_nothing a;
   ends = ends;
-  read_whole = λ d r. absurd (cc (r, unread));
+  read_whole = λ d r. absurd (unread d r);
   unread = λ r. refl;
   empty = empty;
 }
@@ -112,7 +112,7 @@ pub runs_text : {command given : LineCommand} {ws : List (List ℕ)} {text : Lis
     → Answers (answer_lines (line_answers given) text End) outcome k j → j.pending ≡ [] → RunsUnflushed (Ok (OnLines command ws)) outcome a a h i
 runs_text {ws = []} e f g some whole fits x empty = absurd (omega arith)
 runs_text {given = given} {ws = v ∷ ws} {text = text} {outcome = outcome} {a = a} {k = k} {j = j} e f g some whole fits x empty =
-    rw (← e, ← f, ← g) (unread_run (Ok (OnLines given (v ∷ ws))) outcome a k j refl empty
+    rw (← e, ← f, ← g) (unread_run (Ok (OnLines given (v ∷ ws))) outcome a k j (λ d r. cc r) empty
     (subst (λ y. EndsUnflushed outcome y (Ok (OnLines given (v ∷ ws))) a a k j)
     (ap (λ t. answer_lines (line_answers given) t End) whole ∙ sym (choose_false _ _ _ (short_test fits)))
     (ends_of_answers (answer_lines (line_answers given) text End) (Ok (OnLines given (v ∷ ws))) _ a a k j (is_not_memory (line_answers given) text End) x)))
@@ -122,56 +122,44 @@ pub runs_too_long : (command : LineCommand) (ws : List (List ℕ)) (a : SourceSt
     → RunsUnflushed (Ok (OnLines command ws)) (Err InputTooLong) a a h h
 runs_too_long command [] a h n begins long = absurd (omega arith)
 runs_too_long command (v ∷ ws) a h n begins long =
-    unread_run (Ok (OnLines command (v ∷ ws))) (Err InputTooLong) a h h refl begins.empty
+    unread_run (Ok (OnLines command (v ∷ ws))) (Err InputTooLong) a h h (λ d. cc d) begins.empty
     (subst (λ x. EndsUnflushed (Err InputTooLong) x (Ok (OnLines command (v ∷ ws))) a a h h)
     (sym (choose_true _ _ _ (long_test long))) (refl, writes_nothing _ begins.works))
 
 fits_test : {n : ℕ} → n ≤ most_bytes → nat_le n most_bytes ≡ true
 fits_test h = grind (arith, common_steps)
 
+no_memory : (asked : Result Request UsageFault) (a : SourceState) (h : AnswerState) → MayBegin a h → takes_memory asked ≡ true
+    → RunsUnflushed asked (Err OutOfMemory) a a h h
+no_memory asked a h begins asks = unread_run asked (Err OutOfMemory) a h h (λ d. cc d) begins.empty (asks, refl, writes_nothing _ begins.works)
+
 pub runs_memory : (command : LineCommand) (ws : List (List ℕ)) (a : SourceState) (h : AnswerState)
     → 0 < length ws → MayBegin a h → length (joined ws) ≤ most_bytes
     → RunsUnflushed (Ok (OnLines command ws)) (Err OutOfMemory) a a h h
 runs_memory command [] a h n begins fits = absurd (omega arith)
-runs_memory command (v ∷ ws) a h n begins fits =
-    unread_run (Ok (OnLines command (v ∷ ws))) (Err OutOfMemory) a h h refl begins.empty (fits_test fits, refl, writes_nothing _ begins.works)
-
-pub runs_memory_source : (command : LineCommand) (ws : List (List ℕ)) (a : SourceState) (h : AnswerState)
-    → length ws ≡ 0 → MayBegin a h → has_step command ≡ true
-    → RunsUnflushed (Ok (OnLines command ws)) (Err OutOfMemory) a a h h
-runs_memory_source command [] a h n begins asks = record {
-  input = [];
-  gave = gave_nothing a;
-  ends = (asks, refl, writes_nothing _ begins.works);
-  read_whole = λ d r. absurd (cc d);
-  unread = λ r. refl;
-  empty = begins.empty;
-}
-runs_memory_source command (v ∷ ws) a h n begins asks = absurd (omega arith)
+runs_memory command (v ∷ ws) a h n begins fits = no_memory (Ok (OnLines command (v ∷ ws))) a h begins (fits_test fits)
 
 pub runs_tables : {T : Type 0} (bytes : T → List ℕ) (text : Option T) (command : LineCommand) (ws : List (List ℕ)) (a : SourceState) (h : AnswerState)
     → IsInput bytes text ws → MayBegin a h → has_step command ≡ true
     → RunsUnflushed (Ok (OnLines command ws)) (Err OutOfMemory) a a h h
-runs_tables bytes None command ws a h none begins asks = runs_memory_source command ws a h none begins asks
+runs_tables bytes None command [] a h none begins asks = no_memory (Ok (OnLines command [])) a h begins asks
+runs_tables bytes None command (v ∷ ws) a h none begins asks = absurd (omega arith)
 runs_tables bytes (Some text) command ws a h (some, whole, fits) begins asks = runs_memory command ws a h some begins fits
 
 -- other requests
 
 pub runs_usage : {asked : Result Request UsageFault} {fault : UsageFault} (a : SourceState) (h : AnswerState)
     → asked ≡ Err fault → MayBegin a h → RunsUnflushed asked (Err Usage) a a h h
-runs_usage {fault = fault} a h e begins = rw e (unread_run (Err fault) (Err Usage) a h h refl begins.empty (refl, writes_nothing _ begins.works))
+runs_usage {fault = fault} a h e begins = rw e (unread_run (Err fault) (Err Usage) a h h (λ d. cc d) begins.empty (refl, writes_nothing _ begins.works))
 
-pub runs_steps : {asked : Result Request UsageFault} (outcome : Result (Unit {0}) Stop) (a : SourceState) (h i : AnswerState)
-    → asked ≡ Ok ListSteps → Answers (unsearched (flat_map step_line steps) (Ok tt)) outcome h i → i.pending ≡ []
-    → RunsUnflushed asked outcome a a h i
-runs_steps outcome a h i e w empty = rw e (unread_run (Ok ListSteps) outcome a h i refl empty (ends_of_answers _ _ _ _ _ _ _ (λ n. cc n) w))
-
-pub runs_scrambles : {asked : Result Request UsageFault} (state stream turns count : ℕ) {rng : Lcg} (outcome : Result (Unit {0}) Stop) (a : SourceState) (h i : AnswerState)
-    → asked ≡ Ok (DrawScrambles state stream turns count) → rng ≡ generator_of state stream
-    → Answers (unsearched (scramble_text turns count rng) (Ok tt)) outcome h i → i.pending ≡ [] → RunsUnflushed asked outcome a a h i
-runs_scrambles state stream turns count outcome a h i e f w empty =
-    rw e (unread_run (Ok (DrawScrambles state stream turns count)) outcome a h i refl empty
-    (ends_of_answers _ _ _ _ _ _ _ (λ n. cc n) (subst (λ x. Answers (unsearched (scramble_text turns count x) (Ok tt)) outcome h i) f w)))
+-- where nothing is read, and the text doesn't depend on what was
+pub runs_unread : {asked : Result Request UsageFault} (request : Request) {text : List ℕ} (outcome : Result (Unit {0}) Stop) (a : SourceState) (h i : AnswerState)
+    → asked ≡ Ok request → reads_source (Ok request) ≢ true → answer_request (Ok request) [] (ending a) ≡ unsearched text (Ok tt)
+    → Answers (unsearched text (Ok tt)) outcome h i → i.pending ≡ [] → RunsUnflushed asked outcome a a h i
+runs_unread request {text = text} outcome a h i e unread text_is w empty =
+    rw e (unread_run (Ok request) outcome a h i (λ d. unread) empty
+    (subst (λ x. EndsUnflushed outcome x (Ok request) a a h i) (sym text_is)
+    (ends_of_answers (unsearched text (Ok tt)) (Ok request) outcome a a h i (λ n. cc n) w)))
 
 -- the last flush
 
@@ -179,41 +167,33 @@ fault_after : (i j : TargetState) (f : Bool) → has_fault i ≡ false → j.wri
 fault_after i j f works same e =
     ap (λ v. v || j.flush_failed) (same ∙ no_write_fault i works) ∙ e ∙ ap (λ v. v || f) (no_flush_fault i works)
 
-ends_done : (a : Answer) (asked : Result Request UsageFault) (d e : Devices) (h i : AnswerState) (f : Bool)
-    → h.target ≡ d.output → h.pending ≡ [] → i.pending ≡ [] → Answers a (Ok tt) h i → (reads_source asked ≡ true → e.source.has_ended ≡ true)
+sent_flushed : (text : List ℕ) (d e : Devices) (h i : AnswerState) {f : Bool} {looks : ℕ}
+    → h.target ≡ d.output → h.pending ≡ [] → i.pending ≡ [] → Writes text looks h i → Flushes f i.target e.output → Appended d.output e.output text
+sent_flushed text d e h i at none none_now w flush =
+    appended_then d.output i.target e.output text w.works (subst (λ t. Appended t i.target text) at (all_sent _ _ _ none none_now w.written)) flush.bytes
+
+ends_flushed : (a : Answer) (asked : Result Request UsageFault) (outcome : Result (Unit {0}) Stop) (d e : Devices) (h i : AnswerState) (f : Bool)
+    → h.target ≡ d.output → h.pending ≡ [] → i.pending ≡ [] → EndsUnflushed outcome a asked d.source e.source h i → (outcome ≡ Ok tt → reads_source asked ≡ true → e.source.has_ended ≡ true)
     → Flushes f i.target e.output
-    → Ends (flushed_outcome (Ok tt) f) a asked d e
-ends_done a asked d e h i true at none none_now w whole flush = record {
+    → Ends (flushed_outcome outcome f) a asked d e
+ends_flushed a asked (Ok u) d e h i true at none none_now w whole flush = record {
   refused = fault_after i.target e.output _ w.1.works flush.write_failed flush.flush_failed;
   text = a.output;
   rest = [];
   beginning = append-nil a.output;
-  written = appended_then d.output i.target e.output a.output w.1.works (subst (λ t. Appended t i.target a.output) at (all_sent _ _ _ none none_now w.1.written)) flush.bytes;
+  written = sent_flushed a.output d e h i at none none_now w.1 flush;
   cut = λ bad. absurd (cc (bad, flush.write_failed ∙ no_write_fault i.target w.1.works));
   whole = λ good. refl;
-  last = λ good. record { good = sym w.0; read_whole = whole };
+  last = λ good. record { good = sym w.0; read_whole = whole refl };
   last_flush = λ good. flush.flushed;
 }
-ends_done a asked d e h i false at none none_now w whole flush = record {
-  ends = record { good = sym w.0; read_whole = whole };
+ends_flushed a asked (Ok u) d e h i false at none none_now w whole flush = record {
+  ends = record { good = sym w.0; read_whole = whole refl };
   works = fault_after i.target e.output _ w.1.works flush.write_failed flush.flush_failed;
-  written = appended_then d.output i.target e.output a.output w.1.works (subst (λ t. Appended t i.target a.output) at (all_sent _ _ _ none none_now w.1.written)) flush.bytes;
+  written = sent_flushed a.output d e h i at none none_now w.1 flush;
   flushed = flush.flushed;
 }
-
-ends_by_fault : (a : Answer) (d e : Devices) {h : AnswerState} (i : AnswerState) {stop : Stop} {f : Bool}
-    → h.target ≡ d.output → h.pending ≡ [] → i.pending ≡ [] → (Err stop ≡ a.outcome) × Writes a.output a.looks h i → Flushes f i.target e.output
-    → EndsByFault stop a d e
-ends_by_fault a d e i at none none_now w flush = record {
-  fault = sym w.0;
-  written = appended_then d.output i.target e.output a.output w.1.works (subst (λ t. Appended t i.target a.output) at (all_sent _ _ _ none none_now w.1.written)) flush.bytes;
-  unrefused = flush.write_failed ∙ no_write_fault i.target w.1.works;
-}
-
-ends_refused : (a : Answer) {asked : Result Request UsageFault} (d e : Devices) (h i : AnswerState) {f : Bool}
-    → h.target ≡ d.output → h.pending ≡ [] → Refuses a.output a.looks h i → Flushes f i.target e.output
-    → OutputRefused a asked d e
-ends_refused a d e h i at none w flush =
+ends_flushed a asked (Err CannotWrite) d e h i f at none none_now w whole flush =
     let r : WriteRefused a.output h.target i.target = subst (λ p. WriteRefused (p ++ a.output) h.target i.target) none w.refused in
     let bad : e.output.write_failed ≡ true = flush.write_failed ∙ r.refused in
     record {
@@ -228,48 +208,28 @@ ends_refused a d e h i at none w flush =
       last = λ good. absurd (cc (good, bad));
       last_flush = λ good. absurd (cc (good, bad));
     }
-
-ends_flushed : (a : Answer) (asked : Result Request UsageFault) (outcome : Result (Unit {0}) Stop) (d e : Devices) (h i : AnswerState) {f : Bool}
-    → h.target ≡ d.output → h.pending ≡ [] → i.pending ≡ [] → EndsUnflushed outcome a asked d.source e.source h i → (outcome ≡ Ok tt → reads_source asked ≡ true → e.source.has_ended ≡ true)
-    → Flushes f i.target e.output
-    → Ends (flushed_outcome outcome f) a asked d e
-ends_flushed a asked (Ok u) d e h i at none none_now w whole flush = ends_done _ _ _ _ _ _ _ at none none_now w (whole refl) flush
-ends_flushed a asked (Err CannotWrite) d e h i at none none_now w whole flush = ends_refused _ _ _ _ _ at none w flush
-ends_flushed a asked (Err OutOfMemory) d e h i at none none_now w whole flush = record {
+ends_flushed a asked (Err OutOfMemory) d e h i f at none none_now w whole flush = record {
   asks = w.0;
   unread = w.1;
-  nothing = appended_then d.output i.target e.output [] w.2.works (subst (λ t. Appended t i.target []) at (all_sent [] h i none none_now w.2.written)) flush.bytes;
+  nothing = sent_flushed [] d e h i at none none_now w.2 flush;
   unrefused = flush.write_failed ∙ no_write_fault i.target w.2.works;
 }
-ends_flushed a asked (Err stop) d e h i at none none_now w whole flush = ends_by_fault _ _ _ _ at none none_now w flush
+ends_flushed a asked (Err stop) d e h i f at none none_now w whole flush = record {
+  fault = sym w.0;
+  written = sent_flushed a.output d e h i at none none_now w.1 flush;
+  unrefused = flush.write_failed ∙ no_write_fault i.target w.1.works;
+}
 
 -- the looks
 
--- where no write was refused
-exact_looks : (outcome : Result (Unit {0}) Stop) (failed : Bool) (due looks looks_now : ℕ)
-    → outcome ≢ Err OutOfMemory → failed ≡ false → looks_now ≡ looks + due → Looked outcome failed due looks looks_now
-exact_looks outcome true due looks looks_now n e p = absurd (cc e)
-exact_looks (Err OutOfMemory) false due looks looks_now n e p = absurd (n refl)
-exact_looks _ false due looks looks_now n e p = p
-
-refused_looks : (failed : Bool) (due looks looks_now : ℕ) → failed ≡ true → looks ≤ looks_now → looks_now ≤ looks + due → Looked (Err CannotWrite) failed due looks looks_now
-refused_looks true due looks looks_now e p q = (p, q)
-refused_looks false due looks looks_now e p q = absurd (cc e)
-
-good_flushed : (f : Bool) → flushed_outcome (Ok tt) f ≢ Err OutOfMemory
-good_flushed true e = cc e
-good_flushed false e = cc e
-
-looked_flushed : (a : Answer) (asked : Result Request UsageFault) (outcome : Result (Unit {0}) Stop) (source source_now : SourceState) (h i : AnswerState) (j : TargetState) {f : Bool}
+looked_flushed : (a : Answer) (asked : Result Request UsageFault) (outcome : Result (Unit {0}) Stop) (source source_now : SourceState) (h i : AnswerState) (j : TargetState) (f : Bool)
     → EndsUnflushed outcome a asked source source_now h i → Flushes f i.target j
     → Looked (flushed_outcome outcome f) j.write_failed a.looks h.looks i.looks
-looked_flushed a asked (Ok u) source source_now h i j w flush =
-    exact_looks _ _ _ _ _ (good_flushed _) (flush.write_failed ∙ no_write_fault i.target w.1.works) w.1.looked
-looked_flushed a asked (Err CannotWrite) source source_now h i j w flush =
-    refused_looks _ _ _ _ (flush.write_failed ∙ w.refused.refused) w.rises w.looked
-looked_flushed a asked (Err OutOfMemory) source source_now h i j w flush = w.2.looked ∙ add-zero h.looks
-looked_flushed a asked (Err stop) source source_now h i j w flush =
-    exact_looks (Err stop) j.write_failed a.looks h.looks i.looks (λ e. cc e) (flush.write_failed ∙ no_write_fault i.target w.1.works) w.1.looked
+looked_flushed a asked (Ok u) source source_now h i j true w flush = rw (flush.write_failed ∙ no_write_fault i.target w.1.works) w.1.looked
+looked_flushed a asked (Ok u) source source_now h i j false w flush = rw (flush.write_failed ∙ no_write_fault i.target w.1.works) w.1.looked
+looked_flushed a asked (Err CannotWrite) source source_now h i j f w flush = rw (flush.write_failed ∙ w.refused.refused) (w.rises, w.looked)
+looked_flushed a asked (Err OutOfMemory) source source_now h i j f w flush = w.2.looked ∙ add-zero h.looks
+looked_flushed a asked (Err stop) source source_now h i j f w flush = rw (flush.write_failed ∙ no_write_fault i.target w.1.works) w.1.looked
 
 -- what is due takes no more looks than it may
 
@@ -345,11 +305,11 @@ runs_flushed law words outcome outcome_now a b h j k l looks looks_now works non
       unread = x.unread;
       outcome = outcome_now;
       ends = subst (λ v. Ends v (out_of words x.input b) (request_of words) (devices a h k) (devices b j l)) (sym flush.outcome_is)
-          (ends_flushed _ _ _ _ _ _ _ refl none x.empty x.ends x.read_whole flush.flush);
+          (ends_flushed _ _ _ _ _ _ _ _ refl none x.empty x.ends x.read_whole flush.flush);
       tried = flush.flush.tried;
       one_flush = one_flush works x flush;
       looked = subst (λ v. Looked v j.write_failed (out_of words x.input b).looks looks looks_now) (sym flush.outcome_is)
-          (looked_flushed _ _ _ _ _ _ _ _ x.ends flush.flush);
+          (looked_flushed _ _ _ _ _ _ _ _ _ x.ends flush.flush);
       within_bound = bounded_looks _ _ _ _ _ _ _ (answer_within law (request_of words) x.input (ending b)) x.ends;
       reports = reports;
       answers = answers;
@@ -361,8 +321,3 @@ pub keeps_target : (a : Answer) (asked : Result Request UsageFault) (outcome : R
 keeps_target a asked (Err CannotWrite) source source_now h i w = w.same_target
 keeps_target a asked (Err OutOfMemory) source source_now h i w = w.2.same_target
 keeps_target a asked _ source source_now h i w = w.1.same_target
-
--- the target that the output lent
-pub lent_back : (words : List (List ℕ)) (status : ℕ) (a b : SourceState) (h : TargetState) {i j : TargetState} (k l : TargetState) (looks looks_now : ℕ)
-    → i ≡ j → Runs words (devices a h k) (devices b i l) looks looks_now status → Runs words (devices a h k) (devices b j l) looks looks_now status
-lent_back words status a b h k l looks looks_now e x = subst (λ t. Runs words (devices a h k) (devices b t l) looks looks_now status) e x

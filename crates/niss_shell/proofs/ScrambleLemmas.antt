@@ -1,9 +1,9 @@
 -- Scrambles that are written one after another.
-use Rattle.niss_shell.proofs.Names.{◌≡◌, ℕ, zero, suc, ◌+◌, ◌*◌, ◌≤◌, ◌<◌, false, None, List, [], ◌∷◌, ◌++◌, take, drop, refl, sym, ap, ◌∙◌}
+use Rattle.niss_shell.proofs.Names.{◌≡◌, ℕ, zero, suc, ◌+◌, ◌*◌, ◌≤◌, ◌<◌, None, List, [], ◌∷◌, ◌++◌, take, drop, refl, sym, ap, ◌∙◌}
 use Rattle.niss_shell.proofs.Names.{subst, append-nil, arith, flat_map, flat_map-append, take-append-drop, map-range_with_len_more}
-use Rattle.niss_shell.proofs.Names.{take-map-range_with_len, next_words, after_words, draw, Lcg, state_after, has_fault, scramble}
-use Rattle.niss_shell.proofs.Names.{scrambles, turns_line, scramble_text, AnswerState, Writes, Refuses}
-use Rattle.niss_shell.proofs.StateLemmas.{writes_nothing, writes_more, writes_as, refuses_more, refuses_front, refuses_as}
+use Rattle.niss_shell.proofs.Names.{take-map-range_with_len, next_words, after_words, draw, Lcg, state_after, scramble, scrambles}
+use Rattle.niss_shell.proofs.Names.{turns_line, scramble_text, AnswerState, Writes, Refuses}
+use Rattle.niss_shell.proofs.StateLemmas.{writes_more, writes_as, refuses_more, refuses_front, refuses_as}
 
 -- steps and more steps of a generator
 state_after-add : (w k p m n s : ℕ) → state_after w k p n (state_after w k p m s) ≡ state_after w k p (m + n) s
@@ -44,9 +44,6 @@ text_front turns i count g h =
     ∙ ap (flat_map turns_line) (take-append-drop i (scrambles turns count g))
 
 -- what an output takes of it
-
-pub none_written : (turns : ℕ) (g : Lcg) {a : AnswerState} → has_fault a.target ≡ false → Writes (scramble_text turns 0 g) 0 a a
-none_written turns g works = writes_nothing _ works
 
 pub written_more : (turns i : ℕ) (g : Lcg) (line : List ℕ) (a b c : AnswerState)
     → line ≡ turns_line (scramble turns g i) → Writes (scramble_text turns i g) 0 a b → Writes line 0 b c

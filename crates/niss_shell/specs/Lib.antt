@@ -7,8 +7,6 @@ pub mod Scrambles
 pub mod Output
 pub mod Job
 pub mod Engine
-pub mod Search
-pub mod Taking
 pub mod Run
 pub mod SolveLaw
 pub mod MoreInput

@@ -1,8 +1,8 @@
 //! The commands, and how the words of a command line name them.
-ghost use Rattle.std.specs.Prelude.{◌≡◌, Ok, Err, Some, false, IfSome, IfOk, MatchOption, MatchResult};
+ghost use Rattle.std.specs.Prelude.{◌≡◌, Ok, Err, Some, false, IfOk, MatchOption, MatchResult};
 ghost use Rattle.std.specs.Prelude.{map, codes, slice_get, string_bytes};
-ghost use Rattle.niss_shell.specs.Words.{OnLines, ListSteps, search_command, step_named, number_of, most_state, most_turns};
-ghost use Rattle.niss_shell.specs.Words.{most_scrambles, search_words, near_words, scramble_with, scramble_words};
+ghost use Rattle.niss_shell.specs.Words.{OnLines, ListSteps, search_command, step_named};
+ghost use Rattle.niss_shell.specs.Words.{search_words, near_words, scramble_words};
 ghost use Rattle.niss_shell.specs.Words.{without_words, request_of, requested, name_of_command, name_of_report, takes_lines, IsInRange};
 
 use crate::number::{limit_of, number_of};
@@ -144,7 +144,7 @@ impl<'a, B: Allocator> Command<'a, B> {
 }
 
 /// The step that the word names.
-#[tactic(auto, using(crate::proofs::NumberLemmas::step_unknown))]
+#[tactic(auto, using(crate::proofs::WordsLemmas::step_unknown))]
 fn step_of(word: &str) -> Option<Step>
     ensures { result ≡ step_named word.now }
 {
@@ -204,32 +204,6 @@ fn parse_steps<B: Allocator>(words: &[String<B>]) -> Result<Command<'_, B>, Usag
     }
 }
 
-/// The command `scramble` by its four numbers, where each is one.
-fn scramble_of<'a, B: Allocator>(
-    state: &str,
-    stream: &str,
-    length: &str,
-    count: &str,
-) -> Option<Command<'a, B>>
-    ensures command { let asked =
-        scramble_with (number_of most_state state.now) (number_of most_state stream.now)
-        (number_of most_turns length.now) (number_of most_scrambles count.now) in
-        MatchOption result (asked ≡ Err UsageFault.BadNumber) (λ command. asked ≡ Ok (requested command)) }
-    ensures in_range { IfSome result (λ command. IsInRange (requested command)) }
-    ensures named { IfSome result (λ command. name_of_command command ≡ codes "scramble") }
-{
-    let state = number_of(state, u64::MAX)?;
-    let stream = number_of(stream, u64::MAX)?;
-    let length = number_of(length, MOST_TURNS)?;
-    let count = number_of(count, MOST_SCRAMBLES)?;
-    Some(Command::Scramble {
-        state,
-        stream,
-        length: length as usize,
-        count: count as usize,
-    })
-}
-
 /// The command `scramble`, which takes four numbers.
 fn parse_scramble<B: Allocator>(words: &[String<B>]) -> Result<Command<'_, B>, UsageFault>
     ensures command { MatchResult result
@@ -241,15 +215,16 @@ fn parse_scramble<B: Allocator>(words: &[String<B>]) -> Result<Command<'_, B>, U
     let [state, stream, length, count] = words else {
         return Err(UsageFault::WrongCount);
     };
-    match scramble_of(
-        state.as_str(),
-        stream.as_str(),
-        length.as_str(),
-        count.as_str(),
-    ) {
-        Some(command) => Ok(command),
-        None => Err(UsageFault::BadNumber),
-    }
+    let state = number_of(state.as_str(), u64::MAX).ok_or(UsageFault::BadNumber)?;
+    let stream = number_of(stream.as_str(), u64::MAX).ok_or(UsageFault::BadNumber)?;
+    let length = number_of(length.as_str(), MOST_TURNS).ok_or(UsageFault::BadNumber)?;
+    let count = number_of(count.as_str(), MOST_SCRAMBLES).ok_or(UsageFault::BadNumber)?;
+    Ok(Command::Scramble {
+        state,
+        stream,
+        length: length as usize,
+        count: count as usize,
+    })
 }
 
 /// The command that the words name, or their first fault: of the command, then of the count of words, of the step, and of

@@ -1,11 +1,11 @@
 //! A command on lines with all that its run takes memory for, taken before the first byte is read or written.
 ghost use Rattle.std.specs.Prelude.{◌≡◌, ◌<◌, ◌≤◌, ◌++◌, Ok, List, ℕ, map, flat_map, string_bytes, length};
-ghost use Rattle.std.specs.Prelude.{OnOk, OnErr, IfOk, IfErr, IfSome, MatchOption};
+ghost use Rattle.std.specs.Prelude.{OnOk, IfOk, IfErr, IfSome, MatchOption};
 ghost use Rattle.niss_shell.specs.Words.{most_bytes, joined, spaced_word, OnLines};
 ghost use Rattle.niss_shell.specs.Engine.{MayBegin, RunsUnflushed, EndsAtOnce, output_state};
 ghost use Rattle.niss_shell.specs.Job.{IsInput, command_of};
 
-use crate::command::{LineCommand, LineRequest, Query, Rewriting};
+use crate::command::{LineCommand, LineRequest, Query};
 use crate::device::{Source, Target};
 use crate::lines::{Lines, MOST_BYTES, Work};
 use crate::output::Output;
@@ -110,25 +110,8 @@ impl<A: Allocator> Input<A> {
         }
     }
 
-    /// Answers them by a rewriting. Nothing of this work is moved: with its room for tables it is large.
-    fn rewrite<R: Source, W: Target>(
-        &self,
-        rewriting: Rewriting,
-        source: &mut R,
-        output: &mut Output<W>,
-        looks: &mut Meter,
-    ) -> Result<(), Stop>
-        requires begins { MayBegin (R.state source.old) (output_state W.state output.old looks.old) }
-        requires fits { IfSome self.now.text (λ text. length text.items ≤ most_bytes) }
-        ensures { (words : List (List ℕ)) → IsInput (λ text. text.items) self.now.text words →
-            RunsUnflushed (Ok (OnLines (LineCommand.Rewrite rewriting) words)) result
-            (R.state source.old) (R.state source.new)
-            (output_state W.state output.old looks.old) (output_state W.state output.new looks.new) }
-    {
-        self.answer(&Work::Rewrite(rewriting), source, output, looks)
-    }
-
     /// Answers them by a search, whose tables take memory before the first byte is read or written.
+    #[tactic(auto, using(crate::proofs::RunLemmas::runs_tables))]
     fn search<R: Source, W: Target>(
         &self,
         alloc: A,
@@ -157,6 +140,7 @@ impl<A: Allocator> Input<A> {
 /// then for tables, before the first byte is read or written.
 ///
 /// It is a function of its own so that the input's drop, which is long, is proved apart from `answer_command`.
+#[tactic(auto, using(std::proofs::lemmas::Result::err_from_is_err_and))]
 pub fn answer_lines<A: Allocator + Copy, B: Allocator, R: Source, W: Target>(
     alloc: A,
     request: LineRequest<'_, B>,
@@ -173,7 +157,10 @@ pub fn answer_lines<A: Allocator + Copy, B: Allocator, R: Source, W: Target>(
     let LineRequest { command, words } = request;
     let input = Input::new(alloc, words)?;
     match command {
-        LineCommand::Rewrite(rewriting) => input.rewrite(rewriting, source, output, looks),
+        LineCommand::Rewrite(rewriting) => {
+            // nothing of this work is moved: with its room for tables it is large
+            input.answer(&Work::Rewrite(rewriting), source, output, looks)
+        }
         LineCommand::Search(query) => input.search(alloc, query, source, output, looks),
     }
 }

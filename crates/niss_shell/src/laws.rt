@@ -13,6 +13,7 @@ pub fn lines_are_cut()
 
 /// For a line that is read as moves, and a step that may start on its cube, `solve` answers all solutions of least length
 /// within the limit, in turn order, or that there are none, with no more looks than the bound.
+#[tactic(auto, using(crate::proofs::SearchLemmas::accepted_lines))]
 pub fn accepted_lines_are_solved()
     ensures { AcceptedLinesAreSolved }
 {
@@ -21,6 +22,7 @@ pub fn accepted_lines_are_solved()
 
 /// What is answered while more input is to come is a beginning of what is answered of the whole, and a fault stays. So a run
 /// of which the words and the whole input are known writes what these say, however much of the input it reads.
+#[tactic(auto, using(crate::proofs::MoreInputLemmas::more_input))]
 pub fn more_input_keeps_answers()
     ensures { MoreInputKeepsAnswers }
 {}

@@ -1,11 +1,11 @@
 //! The lines of a run, and how each is answered.
-ghost use Rattle.std.specs.Prelude.{◌≡◌, ◌+◌, ◌^◌, ◌<◌, ◌≤◌, false, Err, ℕ, [], length, take, OnOk, OnErr, IfOk};
+ghost use Rattle.std.specs.Prelude.{◌≡◌, ◌+◌, ◌^◌, ◌<◌, ◌≤◌, false, Err, [], length, take, OnOk, OnErr, IfOk};
 ghost use Rattle.niss_shell.specs.Device.{has_fault};
 ghost use Rattle.niss_moves.specs.Reader.{IsFed};
 ghost use Rattle.niss_shell.specs.Words.{most_bytes};
 
 use crate::answer::rewrite;
-use crate::command::{Report, Rewriting};
+use crate::command::Rewriting;
 use crate::device::{Source, Target};
 use crate::line_cube::start_position;
 use crate::output::Output;
@@ -44,8 +44,7 @@ impl<'a, A: Allocator> Lines<'a, A> {
     ghost use Rattle.niss_moves.specs.Reader.{moves_of};
     ghost use Rattle.niss_shell.specs.Engine.{MayBegin, Answers, AnswersSource, HasRoom, answer_at_moves, piece_of, only_stop};
     ghost use Rattle.niss_shell.specs.Output.{answer_lines, fault_answer, End};
-    ghost use Rattle.niss_shell.specs.Job.{command_of};
-    ghost use Rattle.niss_shell.specs.Taking.{Keeps, AnswersOpenLine, Takes, Ends, answers_of, lines_state};
+    ghost use Rattle.niss_shell.specs.Job.{command_of, Keeps, AnswersOpenLine, Takes, Ends, answers_of, lines_state};
 
     /// The first line, of which nothing was read.
     pub fn new(work: &'a Work<A>, looks: &'a mut Meter) -> Lines<'a, A>
@@ -66,6 +65,7 @@ impl<'a, A: Allocator> Lines<'a, A> {
     }
 
     /// Writes what waits, and stops the run by a fault of the line.
+    #[tactic(auto, using(std::proofs::lemmas::Result::err_from_is_err_and))]
     fn refuse<W: Target>(&mut self, fault: LineFault, output: &mut Output<W>) -> Result<(), Stop>
         requires works { has_fault (W.state output.old.target.now) ≡ false }
         ensures keeps { Keeps self.old self.new }
@@ -111,10 +111,7 @@ impl<'a, A: Allocator> Lines<'a, A> {
                 let Some(position) = start_position(&search.tables, self.reader.moves()) else {
                     return self.refuse(LineFault::NoStart(search.tables.step()), output);
                 };
-                match search.query.report {
-                    Report::Solutions => Ok(search.solve(&position, output, self.looks)?),
-                    Report::Counts => Ok(search.count(&position, output, self.looks)?),
-                }
+                Ok(search.answer(&position, output, self.looks)?)
             }
         }
     }
@@ -144,6 +141,7 @@ impl<'a, A: Allocator> Lines<'a, A> {
     }
 
     /// Takes moves or a byte in front of the next bytes of the input, and answers how many bytes these are.
+    #[tactic(auto, using(crate::proofs::EngineLemmas::inside_taken))]
     fn take_piece<W: Target>(&mut self, bytes: &[u8], output: &mut Output<W>) -> Result<usize, Stop>
         requires some { 0 < length bytes.now }
         requires works { has_fault (W.state output.old.target.now) ≡ false }
@@ -196,6 +194,7 @@ impl<'a, A: Allocator> Lines<'a, A> {
     }
 
     /// Takes the end of the input. A last line counts where it has a byte.
+    #[tactic(auto, using(crate::proofs::EngineLemmas::no_last, crate::proofs::EngineLemmas::last_line))]
     fn take_end<W: Target>(&mut self, output: &mut Output<W>) -> Result<(), Stop>
         requires works { has_fault (W.state output.old.target.now) ≡ false }
         requires empty { output.old.pending.items ≡ [] }
@@ -249,6 +248,7 @@ impl<'a, A: Allocator> Lines<'a, A> {
     }
 
     /// Writes the answer to each line of a text, from the first line on.
+    #[tactic(auto, using(crate::proofs::AnswerLemmas::text_laws))]
     pub fn take_text<W: Target>(&mut self, text: &[u8], output: &mut Output<W>) -> Result<(), Stop>
         requires fits { length text.now ≤ most_bytes }
         requires works { has_fault (W.state output.old.target.now) ≡ false }

@@ -14,6 +14,7 @@ fn has_digits_alone(word: &str) -> bool
 }
 
 /// The number that the word spells in decimal digits, where it is at most `most`. Zeros may lead it.
+#[tactic(auto, using(crate::proofs::WordsLemmas::number_too_large))]
 pub fn number_of(word: &str, most: u64) -> Option<u64>
     ensures { result ≡ number_of most word.now }
 {

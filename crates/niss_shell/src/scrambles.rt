@@ -33,7 +33,6 @@ pub fn write_scrambles<W: Target>(
 ) -> Result<(), Stop>
     requires works { has_fault (W.state output.old.target.now) ≡ false }
     requires turns { turns ≤ 256 }
-    ensures same_target { output.new.target.ghost_name ≡ output.old.target.ghost_name }
     ensures answers { (looks : ℕ) →
         Answers (unsearched (scramble_text turns count rng) (Ok tt)) result
         (output_state W.state output.old looks) (output_state W.state output.new looks) }

@@ -5,7 +5,7 @@ ghost use Rattle.niss_cube.specs.Steps.{turns_of};
 ghost use Rattle.niss_search.specs.Cubes.{IsPosition, HasPosition};
 ghost use Rattle.niss_search.specs.Solutions.{look_bound};
 
-use crate::command::Query;
+use crate::command::{Query, Report};
 use crate::device::{DeviceFault, Target};
 use crate::output::Output;
 use crate::search_text::{put_count, put_end};
@@ -39,11 +39,11 @@ impl Sink for Uncollected {
 }
 
 impl<A: Allocator> Search<A> {
-    ghost use Rattle.niss_shell.specs.Names.{Solutions, Counts};
-    ghost use Rattle.niss_shell.specs.Search.{Reported};
+    ghost use Rattle.niss_shell.specs.Job.{Reported};
 
-    /// Writes each solution from a position as it is found. That there are none, and the empty line, wait.
-    pub fn solve<W: Target>(
+    /// Takes what is written of the search from a position. Each solution is written as it is found; that there are none, the
+    /// empty line, and the counts wait.
+    pub fn answer<W: Target>(
         &self,
         position: &Position,
         output: &mut Output<W>,
@@ -53,46 +53,28 @@ impl<A: Allocator> Search<A> {
         requires meter { looks.old ≤ 2 ^ 127 }
         ensures empty { OnErr result (output.new.pending.items ≡ []) }
         ensures reported { (e : Place → Place) → HasPosition self.now.tables e position.now →
-            Reported W.state result Solutions self.now e output.old output.new looks.old looks.new }
+            Reported W.state result self.now e output.old output.new looks.old looks.new }
         ensures bound { looks.new ≤ looks.old + look_bound (turns_of self.now.tables) self.now.query.limit }
     {
         let Query { limit, slack, .. } = self.query;
         let mut path = TurnPath::new(limit);
-        let outcome = search(&self.tables, position, slack, &mut path, looks, output)?;
         let mut text = LineText::new();
-        put_end(outcome.solutions, limit, &mut text);
-        output.put(&text)
-    }
-
-    /// Takes the length of the solutions from a position, how many they are, and the looks that the search made.
-    pub fn count<W: Target>(
-        &self,
-        position: &Position,
-        output: &mut Output<W>,
-        looks: &mut Meter,
-    ) -> Result<(), DeviceFault>
-        requires position { IsPosition self.now.tables position.now }
-        requires meter { looks.old ≤ 2 ^ 127 }
-        ensures empty { OnErr result (output.new.pending.items ≡ []) }
-        ensures reported { (e : Place → Place) → HasPosition self.now.tables e position.now →
-            Reported W.state result Counts self.now e output.old output.new looks.old looks.new }
-        ensures bound { looks.new ≤ looks.old + look_bound (turns_of self.now.tables) self.now.query.limit }
-    {
-        let before = looks.count();
-        let mut path = TurnPath::new(self.query.limit);
-        let outcome = match search(
-            &self.tables,
-            position,
-            self.query.slack,
-            &mut path,
-            looks,
-            &mut Uncollected,
-        ) {
-            Ok(outcome) => outcome,
-            Err(never) => match never {},
-        };
-        let mut text = LineText::new();
-        put_count(outcome, looks.count() - before, &mut text);
-        output.put(&text)
+        match self.query.report {
+            Report::Solutions => {
+                let outcome = search(&self.tables, position, slack, &mut path, looks, output)?;
+                put_end(outcome.solutions, limit, &mut text);
+                output.put(&text)
+            }
+            Report::Counts => {
+                let before = looks.count();
+                let sink = &mut Uncollected;
+                let outcome = match search(&self.tables, position, slack, &mut path, looks, sink) {
+                    Ok(outcome) => outcome,
+                    Err(never) => match never {},
+                };
+                put_count(outcome, looks.count() - before, &mut text);
+                output.put(&text)
+            }
+        }
     }
 }

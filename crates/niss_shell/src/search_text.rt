@@ -7,7 +7,7 @@ use crate::text::{put_number, put_text};
 use niss_moves::{LineText, Turn, put_faces};
 use niss_search::{Limit, Outcome};
 
-/// Appends a solution: its turns, their number in brackets, and a line feed.
+/// Writes a solution into the empty text: its turns, their number in brackets, and a line feed.
 pub fn put_solution(turns: &[Turn], text: &mut LineText)
     requires empty { length text.old.items ≡ 0 }
     requires short { length turns.now ≤ 20 }
@@ -22,7 +22,8 @@ pub fn put_solution(turns: &[Turn], text: &mut LineText)
     put_text(b")\n", text);
 }
 
-/// Appends what stands after so many solutions: where they are none, a line that says so; and an empty line.
+/// Writes what stands after so many solutions into the empty text: where they are none, a line that says so; and an empty
+/// line.
 pub fn put_end(solutions: u128, limit: Limit, text: &mut LineText)
     requires { length text.old.items ≡ 0 }
     ensures { text.new.items ≡ none_line limit solutions ++ line_feed ∷ [] }
@@ -47,7 +48,7 @@ fn put_length(least: Option<u8>, text: &mut LineText)
     }
 }
 
-/// Appends what a search found, and how often it looked at a position, and a line feed.
+/// Writes what a search found, and how often it looked at a position, and a line feed into the empty text.
 pub fn put_count(outcome: Outcome, looks: u128, text: &mut LineText)
     requires { length text.old.items ≡ 0 }
     ensures { text.new.items ≡ count_text outcome.length outcome.solutions looks }

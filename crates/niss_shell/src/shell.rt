@@ -71,6 +71,7 @@ fn answer_command<A: Allocator + Copy, B: Allocator, R: Source, W: Target>(
 }
 
 /// Writes what went wrong, or as much of it as the error writer takes, and answers the exit status.
+#[tactic(auto, using(crate::proofs::RunLemmas::reported))]
 fn report<E: Target>(outcome: Result<(), Stop>, err: &mut E) -> u8
     ensures reports { ReportsError (error_text outcome) (E.state err.old) (E.state err.new) }
     ensures status { result ≡ status_of outcome }

@@ -58,7 +58,7 @@ fn put_start_fault(step: Step, text: &mut LineText)
     put_text(b" does not hold\n", text);
 }
 
-/// Appends the number of the line, and what is wrong with it.
+/// Writes the number of the line, and what is wrong with it, into the empty text.
 fn put_line_fault(line: u32, fault: LineFault, text: &mut LineText)
     requires { length text.old.items ≡ 0 }
     ensures { text.new.items ≡ line_fault_text line fault }

@@ -58,6 +58,7 @@ impl<R: io::Read> Source for FromReader<R> {
       has_ended = s.ended;
     } };
 
+    #[tactic(auto, using(crate::proofs::StateLemmas::gave_answer))]
     fn read(&mut self, buf: &mut [u8]) -> Result<usize, DeviceFault>
         requires works { (⟦<FromReader<R> as Source>⟧.state self.old).has_failed ≡ false }
         requires goes_on { (⟦<FromReader<R> as Source>⟧.state self.old).has_ended ≡ false }

@@ -4,7 +4,7 @@ ghost use Rattle.std.specs.Prelude.{◌≡◌, ◌+◌, ◌≤◌, ◌++◌, dec
 use niss_moves::LineText;
 
 /// Appends the number in decimal digits, from the first.
-#[tactic(auto, using(crate::proofs::DigitLemmas::digit_laws))]
+#[tactic(auto, using(crate::proofs::WordsLemmas::digit_laws))]
 fn put_digits(number: u128, text: &mut LineText)
     requires { length text.old.items + length (decimal number) ≤ 2048 }
     ensures words { text.new.items ≡ text.old.items ++ decimal number }
@@ -19,7 +19,7 @@ fn put_digits(number: u128, text: &mut LineText)
 }
 
 /// Appends the number in decimal digits, of which there are at most 39.
-#[tactic(auto, using(crate::proofs::DigitLemmas::decimal_short))]
+#[tactic(auto, using(crate::proofs::WordsLemmas::decimal_short))]
 pub fn put_number(number: u128, text: &mut LineText)
     requires { length text.old.items ≤ 2000 }
     ensures words { text.new.items ≡ text.old.items ++ decimal number }

@@ -1,4 +1,4 @@
-use Rattle.niss_shell.proofs.CutLemmas.{text_is_cut, one_cut}
+use Rattle.niss_shell.proofs.LinesLemmas.{text_is_cut, one_cut}
 use Rattle.niss_shell.proofs.laws.lines_are_cut.Goals as goal
 
 pub returns-clause-cut : goal.returns-clause-cut

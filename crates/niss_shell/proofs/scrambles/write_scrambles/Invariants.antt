@@ -4,7 +4,6 @@ use Rattle.niss_shell.proofs.scrambles.write_scrambles.Given as goal
 abbrev pub invariant-loop : goal.invariant-loop
 invariant-loop g l = record {
   generator : l.rng ≡ after_words (l.turns * l.counter) l.fn.rng;
-  same_target : l.output.target.ghost_name ≡ l.initial.output.target.ghost_name;
   written : (looks : ℕ) → Writes (scramble_text l.turns l.counter l.fn.rng) 0
       (output_state g.W.Target.state l.initial.output looks) (output_state g.W.Target.state l.output looks);
 }

@@ -1,5 +1,5 @@
 use Rattle.niss_shell.proofs.Names.{◌/◌, append_assoc, arith, decimal}
-use Rattle.niss_shell.proofs.DigitLemmas.{decimal_last}
+use Rattle.niss_shell.proofs.WordsLemmas.{decimal_last}
 use Rattle.niss_shell.proofs.text.+put_digits.Goals as goal
 
 pub returns-clause-words : goal.returns-clause-words

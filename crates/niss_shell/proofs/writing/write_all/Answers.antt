@@ -1,6 +1,6 @@
 use Rattle.niss_shell.proofs.Names.{◌≡◌, ℕ, List, ◌++◌, take, drop, ap, ◌∙◌, append_assoc, arith, take-append-drop, common_steps, has_fault}
 use Rattle.niss_shell.proofs.Names.{is_empty_answer}
-use Rattle.niss_shell.proofs.DeviceLemmas.{appended_on, same_fault, is_empty_answer-some}
+use Rattle.niss_shell.proofs.StateLemmas.{appended_on, same_fault, is_empty_answer-some}
 use Rattle.niss_shell.proofs.writing.write_all.Goals as goal
 
 -- what is gone and what is left after n more bytes

@@ -1,5 +1,5 @@
-use Rattle.niss_shell.proofs.Names.{refl, ap, err_from_is_err_and, home, command_of, Solutions, Counts}
-use Rattle.niss_shell.proofs.SearchLemmas.{all_reported, refusal_reported, not_started}
+use Rattle.niss_shell.proofs.Names.{refl, ap, err_from_is_err_and, home, command_of}
+use Rattle.niss_shell.proofs.SearchLemmas.{all_reported, not_started}
 use Rattle.niss_shell.proofs.lines.Lines.answer.Goals as goal
 
 pub returns-in_err-put-in-Rewrite-clause-answers : goal.returns-in_err-put-in-Rewrite-clause-answers
@@ -16,32 +16,12 @@ returns-in_ok-put-in-Rewrite-clause-works g c = (c.in_ok-put-in-Rewrite.ensures.
 
 pub returns-in_default-clause-answers : goal.returns-in_default-clause-answers
 returns-in_default-clause-answers g c =
-    not_started _ _ _ _ c.in-Search.search.query _ _ _ _
-    (ap command_of c.in-Search.is) c.in-Search.search.of_step refl c.moves-in-Search.ensures c.step.result c.refuse.result
+    not_started _ _ _ c.in-Search.search.query _ _ _ _
+    (ap command_of c.in-Search.is) c.in-Search.search.of_step c.moves-in-Search.ensures c.step.result c.refuse.result
     c.in_default.ensures c.step.ensures c.refuse.ensures.refused
 
-pub returns-in_err-solve-in-Solutions-clause-answers : goal.returns-in_err-solve-in-Solutions-clause-answers
-returns-in_err-solve-in-Solutions-clause-answers g c =
-    let p = err_from_is_err_and c.from_residual-in_err-solve-in-Solutions.result c.from_residual-in_err-solve-in-Solutions.ensures.1 in
-    rw p.1 (refusal_reported _ _ c.moves-in-Search.result.now Solutions c.in-Search.search.query _ _ _ _
-    (ap command_of c.in-Search.is) c.in-Search.search.of_step c.in-Solutions.is c.moves-in-Search.ensures
-    c.in-Some.ensures.starts p.2 (c.in_err-solve-in-Solutions.ensures.reported (home c.moves-in-Search.result.now) c.in-Some.ensures c.requires.works))
-
-pub returns-in_ok-solve-in-Solutions-clause-answers : goal.returns-in_ok-solve-in-Solutions-clause-answers
-returns-in_ok-solve-in-Solutions-clause-answers g c =
-    all_reported _ _ c.moves-in-Search.result.now Solutions c.in-Search.search.query _ _ _ _
-    (ap command_of c.in-Search.is) c.in-Search.search.of_step c.in-Solutions.is c.moves-in-Search.ensures
-    c.in-Some.ensures.starts (c.in_ok-solve-in-Solutions.ensures.reported (home c.moves-in-Search.result.now) c.in-Some.ensures c.requires.works)
-
-pub returns-in_err-count-in-Counts-clause-answers : goal.returns-in_err-count-in-Counts-clause-answers
-returns-in_err-count-in-Counts-clause-answers g c =
-    let p = err_from_is_err_and c.from_residual-in_err-count-in-Counts.result c.from_residual-in_err-count-in-Counts.ensures.1 in
-    rw p.1 (refusal_reported _ _ c.moves-in-Search.result.now Counts c.in-Search.search.query _ _ _ _
-    (ap command_of c.in-Search.is) c.in-Search.search.of_step c.in-Counts.is c.moves-in-Search.ensures
-    c.in-Some.ensures.starts p.2 (c.in_err-count-in-Counts.ensures.reported (home c.moves-in-Search.result.now) c.in-Some.ensures c.requires.works))
-
-pub returns-in_ok-count-in-Counts-clause-answers : goal.returns-in_ok-count-in-Counts-clause-answers
-returns-in_ok-count-in-Counts-clause-answers g c =
-    all_reported _ _ c.moves-in-Search.result.now Counts c.in-Search.search.query _ _ _ _
-    (ap command_of c.in-Search.is) c.in-Search.search.of_step c.in-Counts.is c.moves-in-Search.ensures
-    c.in-Some.ensures.starts (c.in_ok-count-in-Counts.ensures.reported (home c.moves-in-Search.result.now) c.in-Some.ensures c.requires.works)
+pub returns-in_ok-answer-in-Search-clause-answers : goal.returns-in_ok-answer-in-Search-clause-answers
+returns-in_ok-answer-in-Search-clause-answers g c =
+    all_reported _ _ c.moves-in-Search.result.now c.in-Search.search.query _ _ _ _
+    (ap command_of c.in-Search.is) c.in-Search.search.of_step c.moves-in-Search.ensures
+    c.in-Some.ensures.starts (c.in_ok-answer-in-Search.ensures.reported (home c.moves-in-Search.result.now) c.in-Some.ensures c.requires.works)

@@ -1,7 +1,7 @@
 use Rattle.niss_shell.proofs.Names.{◌≡◌, take, length, ◌-◌, ◌∙◌, arith, most_bytes, err_from_is_err_and}
 use Rattle.niss_shell.proofs.AnswerLemmas.{length_taken, at_start, at_more, at_failure, at_end, at_limit, at_stop}
-use Rattle.niss_shell.proofs.DeviceLemmas.{is_empty_answer-some}
-use Rattle.niss_shell.proofs.TakingLemmas.{keeps_same, keeps_more, kept, last_kept}
+use Rattle.niss_shell.proofs.StateLemmas.{is_empty_answer-some}
+use Rattle.niss_shell.proofs.EngineLemmas.{keeps_same, keeps_more, kept, last_kept}
 use Rattle.niss_shell.proofs.lines.Lines.read.Goals as goal
 
 pub loop-given-init : goal.loop-given-init

@@ -1,6 +1,5 @@
-use Rattle.niss_shell.proofs.Names.{arith, err_from_is_err_and}
-use Rattle.niss_shell.proofs.EngineLemmas.{rest_is, piece_within}
-use Rattle.niss_shell.proofs.TakingLemmas.{none_taken, block_more, block_stopped, block_whole, block_sent, block_unsent, keeps_same, keeps_more, kept}
+use Rattle.niss_shell.proofs.Names.{arith, between_to_end, err_from_is_err_and}
+use Rattle.niss_shell.proofs.EngineLemmas.{piece_within, none_taken, block_more, block_stopped, block_whole, block_sent, block_unsent, keeps_same, keeps_more, kept}
 use Rattle.niss_shell.proofs.lines.Lines.take_block.Goals as goal
 
 pub loop-index-init : goal.loop-index-init
@@ -17,7 +16,7 @@ loop-index-init g c = record {
 pub loop-index-preserved : goal.loop-index-preserved
 loop-index-preserved g c = record {
   keeps = keeps_more c.loop-index.invariant.keeps c.in_ok-index.ensures.keeps;
-  takes = block_more c.args.bytes.now c.loop-index.index c.in_ok-index.field-0 (rest_is c.args.bytes.now c.loop-index.index)
+  takes = block_more c.args.bytes.now c.loop-index.index c.in_ok-index.field-0 (between_to_end c.args.bytes.now c.loop-index.index _ (omega arith))
       c.loop-index.invariant.takes (kept c.loop-index.invariant.keeps c.in_ok-index.ensures.takes);
   works = c.in_ok-index.ensures.works;
   column = omega (arith, c.in_ok-index.ensures.column, c.loop-index.invariant.column);
@@ -29,7 +28,7 @@ loop-index-preserved g c = record {
 pub returns-in_err-index-clause-takes : goal.returns-in_err-index-clause-takes
 returns-in_err-index-clause-takes g c =
     let p = err_from_is_err_and c.from_residual.result c.from_residual.ensures.1 in
-    rw (p.1, p.2) (block_stopped c.args.bytes.now c.loop-index.index 1 (rest_is c.args.bytes.now c.loop-index.index)
+    rw (p.1, p.2) (block_stopped c.args.bytes.now c.loop-index.index 1 (between_to_end c.args.bytes.now c.loop-index.index _ (omega arith))
     c.loop-index.invariant.takes (kept c.loop-index.invariant.keeps c.in_err-index.ensures.takes))
 
 pub returns-in_err-send-clause-takes : goal.returns-in_err-send-clause-takes

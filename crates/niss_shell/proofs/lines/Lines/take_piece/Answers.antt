@@ -1,10 +1,6 @@
 use Rattle.niss_shell.proofs.Names.{refl, err_from_is_err_and}
-use Rattle.niss_shell.proofs.TakingLemmas.{inside_taken, still_fed, line_feed_taken, byte_taken}
+use Rattle.niss_shell.proofs.EngineLemmas.{still_fed, line_feed_taken, byte_taken}
 use Rattle.niss_shell.proofs.lines.Lines.take_piece.Goals as goal
-
-pub returns-then-count-gt0-clause-takes : goal.returns-then-count-gt0-clause-takes
-returns-then-count-gt0-clause-takes g c =
-    inside_taken c.feed_moves-count.ensures.inside c.feed_moves-count.ensures.bytes refl c.requires.works
 
 pub returns-in_err-end_line-clause-takes : goal.returns-in_err-end_line-clause-takes
 returns-in_err-end_line-clause-takes g c =

@@ -1,5 +1,0 @@
-use Rattle.niss_shell.proofs.SolveLemmas.{accepted_lines}
-use Rattle.niss_shell.proofs.laws.accepted_lines_are_solved.Goals as goal
-
-pub returns : goal.returns
-returns c = accepted_lines c.counts_and_bounds.ensures.within

@@ -1,0 +1,39 @@
+use Rattle.niss_shell.proofs.Names.{◌≡◌, ◌+◌, ◌-◌, ◌∙◌, length, arith, ap, subst, err_from_is_err_and, least_length_of}
+use Rattle.niss_shell.proofs.Names.{near_solutions_of, near_looks_of}
+use Rattle.niss_shell.proofs.OutputLemmas.{unsolved, nothing_waits, solved, reported_after, same_count}
+use Rattle.niss_shell.proofs.search.Search.answer.Goals as goal
+
+pub returns-in_err-outcome-in-Solutions-clause-empty : goal.returns-in_err-outcome-in-Solutions-clause-empty
+returns-in_err-outcome-in-Solutions-clause-empty g c =
+    let p = err_from_is_err_and c.from_residual.result c.from_residual.ensures.1 in
+    rw p.1 (nothing_waits g.W.Target.state
+    _ _ _ (c.in_err-outcome-in-Solutions.ensures.err c.requires.position.0 c.requires.position.1))
+
+pub returns-in_err-outcome-in-Solutions-clause-reported : goal.returns-in_err-outcome-in-Solutions-clause-reported
+returns-in_err-outcome-in-Solutions-clause-reported g c =
+    let limit_is : c.new-path.result.limit ≡ c.args.self.now.query.limit = ap (λ p. p.limit) c.new-path.ensures in
+    let p = err_from_is_err_and c.from_residual.result c.from_residual.ensures.1 in
+    rw (p.1, ← limit_is, c.in-Solutions.is) (λ e at works. unsolved g.W.Target.state _ _ _ _ _ _ _ works
+    (c.in_err-outcome-in-Solutions.ensures.err e at) c.in_err-outcome-in-Solutions.ensures.rises (c.in_err-outcome-in-Solutions.ensures.looks_at_most e at))
+
+pub returns-in_ok-outcome-in-Solutions-clause-reported : goal.returns-in_ok-outcome-in-Solutions-clause-reported
+returns-in_ok-outcome-in-Solutions-clause-reported g c =
+    let limit_is : c.new-path.result.limit ≡ c.args.self.now.query.limit = ap (λ p. p.limit) c.new-path.ensures in
+    rw (← limit_is, c.in-Solutions.is) (λ e at works. solved g.W.Target.state _ _ _ _ _ _ c.args.output.now c.search.new.sink c.put.new.self works
+    (c.in_ok-outcome-in-Solutions.ensures.ok e at) (c.in_ok-outcome-in-Solutions.ensures.solutions e at) (c.in_ok-outcome-in-Solutions.ensures.looks e at)
+    (rw limit_is c.put_end.ensures) c.put.ensures.taken)
+
+pub returns-in-Ok-clause-reported : goal.returns-in-Ok-clause-reported
+returns-in-Ok-clause-reported g c = λ e at works.
+    let limit_is : c.new-path.result.limit ≡ c.args.self.now.query.limit = ap (λ p. p.limit) c.new-path.ensures in
+    let length_is : c.in-Ok.outcome.length ≡ least_length_of c.args.self.now.tables e c.args.self.now.query.limit =
+    subst (λ n. c.in-Ok.outcome.length ≡ least_length_of c.args.self.now.tables e n) limit_is (c.in-Ok.ensures.length e at) in
+    let solutions_are : c.in-Ok.outcome.solutions ≡ length (near_solutions_of c.args.self.now.tables e c.args.self.now.query.limit c.args.self.now.query.slack) =
+    subst (λ n. c.in-Ok.outcome.solutions ≡ length (near_solutions_of c.args.self.now.tables e n c.args.self.now.query.slack)) limit_is (c.in-Ok.ensures.solutions e at) in
+    let looked : c.search-in-Counts.new.meter ≡ c.args.looks.now + near_looks_of c.args.self.now.tables e c.args.self.now.query.limit c.args.self.now.query.slack =
+    subst (λ n. c.search-in-Counts.new.meter ≡ c.args.looks.now + near_looks_of c.args.self.now.tables e n c.args.self.now.query.slack) limit_is (c.in-Ok.ensures.looks e at) in
+    let nodes_are : c.count.result - c.count-before.result ≡ near_looks_of c.args.self.now.tables e c.args.self.now.query.limit c.args.self.now.query.slack =
+    omega (arith, c.count.ensures, c.count-before.ensures, looked) in
+    rw c.in-Counts.is (reported_after g.W.Target.state _ _ _ _ c.args.output.now c.put-in-Counts.new.self
+    (c.put_count.ensures ∙ same_count _ _ _ _ length_is solutions_are nodes_are)
+    looked c.put-in-Counts.ensures.taken works)
