@@ -7,6 +7,8 @@ LIBRARY ?= yes
 # asked for by `make dist` alone
 VERSION = $(shell tools/version)
 SONAME := libnissy.so.1
+# What is built is proved first: where the kit isn't there, a build says so.
+NEEDS_KIT = @command -v rt > /dev/null || { echo "no rt on the PATH: nissy is built by the Rattle kit that README.md names" >&2; exit 1; }
 
 # What program and library are made of, without the crates that only test them or show the libraries' use.
 SOURCES := HANDLES crates.txt $(shell find crates \( -name out -o -name niss_tests -o -name eo_axes \) -prune \
@@ -41,6 +43,7 @@ lib: build/libnissy.a
 page: build/nissy.html
 
 build/nissy: $(SOURCES)
+	$(NEEDS_KIT)
 	@echo "Proving and building. The first time this takes some ten minutes; later, seconds."
 	cd crates/nissy && rt run -- invert "" > /dev/null
 	mkdir -p build
@@ -48,9 +51,11 @@ build/nissy: $(SOURCES)
 
 # the shared object and its link come with it
 build/libnissy.a: $(SOURCES) tools/static-library
+	$(NEEDS_KIT)
 	tools/static-library niss_c build/libnissy.a $(SONAME)
 
 build/nissy.wasm: $(SOURCES) tools/web-module
+	$(NEEDS_KIT)
 	tools/web-module build/nissy.wasm
 
 # one file, with the engine's module in it
