@@ -24,6 +24,7 @@ LIBRARY_FILES := \
 	include/nissy.pc:lib/pkgconfig/nissy.pc \
 	python/nissy.py:lib/python3/dist-packages/nissy.py \
 	docs/EMBEDDING.md:share/doc/nissy/EMBEDDING.md
+LIBRARY_INSTALLED := $(if $(filter no,$(LIBRARY)),,$(LIBRARY_FILES))
 INSTALLED := \
 	build/nissy:bin/nissy \
 	docs/nissy.1:share/man/man1/nissy.1 \
@@ -32,7 +33,7 @@ INSTALLED := \
 	completions/nissy.bash:share/bash-completion/completions/nissy \
 	completions/_nissy:share/zsh/site-functions/_nissy \
 	completions/nissy.fish:share/fish/vendor_completions.d/nissy.fish \
-	$(if $(filter no,$(LIBRARY)),,$(LIBRARY_FILES))
+	$(LIBRARY_INSTALLED)
 
 .PHONY: all lib page check test install uninstall dist clean bench
 
@@ -66,9 +67,10 @@ check: build/nissy build/nissy.html $(if $(filter no,$(LIBRARY)),,$(if $(shell c
 	tests/run built
 
 test:
+	$(NEEDS_KIT)
 	tests/run
 
-install: build/nissy $(if $(filter no,$(LIBRARY)),,build/libnissy.a)
+install: build/nissy $(if $(LIBRARY_INSTALLED),build/libnissy.a)
 	@set -e; for pair in $(INSTALLED); do \
 		from=$${pair%%:*}; to="$(DESTDIR)$(PREFIX)/$${pair#*:}"; \
 		case $$from in \
@@ -84,7 +86,7 @@ uninstall:
 	@rmdir "$(DESTDIR)$(PREFIX)/share/doc/nissy" 2> /dev/null || true
 
 # One archive for machines without the kit, the same bytes each time on one commit.
-dist: build/nissy build/libnissy.a
+dist: build/nissy $(if $(LIBRARY_INSTALLED),build/libnissy.a)
 	tools/dist nissy-$(VERSION)-x86_64-linux
 
 bench: build/nissy

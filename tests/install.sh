@@ -33,7 +33,7 @@ without_kit() { # where there is no rt, a build says what is missing
     mkdir -p "$room/tools" && ln -sf "$(command -v find)" "$room/tools" && ! said=$(PATH=$room/tools "$make" -C "$top" -B "$1" 2>&1) &&
         grep -q 'no rt on the PATH: .* Rattle kit' <<< "$said"
 }
-for target in all lib page; do holds "make $target names the kit where there is none" without_kit $target; done
+for target in all lib page test; do holds "make $target names the kit where there is none" without_kit $target; done
 
 # The mode and the place of each file, and where it comes from.
 wanted="755 bin/nissy build/nissy
