@@ -7,6 +7,8 @@ LIBRARY ?= yes
 # asked for by `make dist` alone
 VERSION = $(shell tools/version)
 SONAME := libnissy.so.1
+# What is built is proved first: where the kit isn't there, a build says so.
+NEEDS_KIT = @command -v rt > /dev/null || { echo "no rt on the PATH: nissy is built by the Rattle kit that README.md names" >&2; exit 1; }
 
 # What program and library are made of, without the crates that only test them or show the libraries' use.
 SOURCES := HANDLES crates.txt $(shell find crates \( -name out -o -name niss_tests -o -name eo_axes \) -prune \
@@ -22,6 +24,7 @@ LIBRARY_FILES := \
 	include/nissy.pc:lib/pkgconfig/nissy.pc \
 	python/nissy.py:lib/python3/dist-packages/nissy.py \
 	docs/EMBEDDING.md:share/doc/nissy/EMBEDDING.md
+LIBRARY_INSTALLED := $(if $(filter no,$(LIBRARY)),,$(LIBRARY_FILES))
 INSTALLED := \
 	build/nissy:bin/nissy \
 	docs/nissy.1:share/man/man1/nissy.1 \
@@ -30,7 +33,7 @@ INSTALLED := \
 	completions/nissy.bash:share/bash-completion/completions/nissy \
 	completions/_nissy:share/zsh/site-functions/_nissy \
 	completions/nissy.fish:share/fish/vendor_completions.d/nissy.fish \
-	$(if $(filter no,$(LIBRARY)),,$(LIBRARY_FILES))
+	$(LIBRARY_INSTALLED)
 
 .PHONY: all lib page check test install uninstall dist clean bench
 
@@ -41,6 +44,7 @@ lib: build/libnissy.a
 page: build/nissy.html
 
 build/nissy: $(SOURCES)
+	$(NEEDS_KIT)
 	@echo "Proving and building. The first time this takes some ten minutes; later, seconds."
 	cd crates/nissy && rt run -- invert "" > /dev/null
 	mkdir -p build
@@ -48,9 +52,11 @@ build/nissy: $(SOURCES)
 
 # the shared object and its link come with it
 build/libnissy.a: $(SOURCES) tools/static-library
+	$(NEEDS_KIT)
 	tools/static-library niss_c build/libnissy.a $(SONAME)
 
 build/nissy.wasm: $(SOURCES) tools/web-module
+	$(NEEDS_KIT)
 	tools/web-module build/nissy.wasm
 
 # one file, with the engine's module in it
@@ -61,9 +67,10 @@ check: build/nissy build/nissy.html $(if $(filter no,$(LIBRARY)),,$(if $(shell c
 	tests/run built
 
 test:
+	$(NEEDS_KIT)
 	tests/run
 
-install: build/nissy $(if $(filter no,$(LIBRARY)),,build/libnissy.a)
+install: build/nissy $(if $(LIBRARY_INSTALLED),build/libnissy.a)
 	@set -e; for pair in $(INSTALLED); do \
 		from=$${pair%%:*}; to="$(DESTDIR)$(PREFIX)/$${pair#*:}"; \
 		case $$from in \
@@ -79,7 +86,7 @@ uninstall:
 	@rmdir "$(DESTDIR)$(PREFIX)/share/doc/nissy" 2> /dev/null || true
 
 # One archive for machines without the kit, the same bytes each time on one commit.
-dist: build/nissy build/libnissy.a
+dist: build/nissy $(if $(LIBRARY_INSTALLED),build/libnissy.a)
 	tools/dist nissy-$(VERSION)-x86_64-linux
 
 bench: build/nissy

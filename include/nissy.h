@@ -7,7 +7,7 @@
  *
  * Threads. There is no state between calls. Any threads may call at the same time, with written buffers of their own.
  *
- * Link with -lnissy (pkg-config: nissy). docs/EMBEDDING.md has examples. */
+ * Link with -lnissy (pkg-config: nissy). EMBEDDING.md (docs/, or share/doc/nissy/) has examples. */
 #ifndef NISSY_H
 #define NISSY_H
 

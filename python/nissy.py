@@ -15,6 +15,7 @@ lets go of Python's lock, so calls of several threads run side by side.
 from __future__ import annotations
 
 import ctypes
+import operator
 import os
 from dataclasses import dataclass
 from typing import Callable, Iterable, NoReturn, Optional, Union
@@ -175,7 +176,7 @@ def run(words: Iterable[Text], data: Text = b"", room: Optional[int] = None) -> 
     """
     joined, given = _joined(words), _bytes_of(data)
     if room is not None:
-        return _run_with_room(joined, given, room)
+        return _run_with_room(joined, given, operator.index(room))
     wanted = _FIRST_ROOM + 8 * len(given)
     while True:
         answer = _run_with_room(joined, given, wanted)

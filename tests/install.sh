@@ -27,6 +27,13 @@ with_program() {
 holds "the files are there" with_program
 cd "$room/source" || exit 2
 holds "make install succeeds" install_at install
+without_kit() { # where there is no rt, a build says what is missing
+    local make said
+    make=$(command -v make)
+    mkdir -p "$room/tools" && ln -sf "$(command -v find)" "$room/tools" && ! said=$(PATH=$room/tools "$make" -C "$top" -B "$1" 2>&1) &&
+        grep -q 'no rt on the PATH: .* Rattle kit' <<< "$said"
+}
+for target in all lib page test; do holds "make $target names the kit where there is none" without_kit $target; done
 
 # The mode and the place of each file, and where it comes from.
 wanted="755 bin/nissy build/nissy
@@ -87,7 +94,8 @@ if [ $library = yes ]; then
     mkdir "$room/unpacked"
     holds "the archive is unpacked" tar -C "$room/unpacked" -xpf "$archive"
     unpacked=$(echo "$room"/unpacked/*)
-    holds "the archive has what is installed" test "$(stands "$unpacked")" = "$(stands "$usr")"
+    holds "the archive has what is installed, and a README" test "$(stands "$unpacked" | grep -v '^644 README$')" = "$(stands "$usr")"
+    holds "its README is the one that is kept" cmp "$unpacked/README" docs/archive.txt
     holds "the program of the archive runs" test "$("$unpacked/bin/nissy" invert "R U' F2")" = "F2 U R'"
 fi
 mv docs/MANUAL.md docs/elsewhere
@@ -139,6 +147,13 @@ all_named() { # each step is named in the file
         named_in "$1" "$name" || { echo "$name isn't named"; return 1; }
     done
 }
+dead_links() { # of the pages that are installed
+    local page
+    (cd "$share/doc/nissy" && grep -ohE '\]\([^)# ]+' ./*.md | cut -c 3- | sort -u) | while read -r page; do
+        [[ $page == http* || -e $share/doc/nissy/$page ]] || echo "$page"
+    done
+}
+holds "each link of the installed pages leads to one of them" test -z "$(dead_links)"
 for page in zsh/site-functions/_nissy fish/vendor_completions.d/nissy.fish doc/nissy/MANUAL.md man/man1/nissy.1; do
     holds "$page lists the commands" test "$(listed_in "$share/$page" | in_order)" = "$(in_order <<< "$commands")"
     holds "$page names each step" all_named "$share/$page"

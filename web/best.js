@@ -8,6 +8,8 @@ import { SIDES, eitherReduction, stepNamed, titleOf } from "./steps.js";
 
 /** @typedef {import("./continuations.js").Continuation} Continuation */
 
+const LOOKING_FOR_BEST = "Looking for the orientations …";
+
 /** Of how many searches what was found is kept. */
 const MOST_KEPT_SEARCHES = 8;
 
@@ -77,7 +79,7 @@ export class BestContinuations {
         const now = this.#now;
         const slack = slackNow();
         this.#working(true);
-        tell(part("best-note"), "Looking for the orientations …");
+        tell(part("best-note"), LOOKING_FOR_BEST);
         try {
             await findContinuations(this.#calls, now, Number(slack), (progress) => this.#show(progress));
             this.#keep(now, slack);
@@ -104,7 +106,7 @@ export class BestContinuations {
         if (hasFocus) part(shown).focus({ preventScroll: true });
         part(taken).hidden = true;
         part("best-progress").hidden = !isWorking;
-        setBusy("best", isWorking);
+        setBusy("best", isWorking, LOOKING_FOR_BEST);
         if (isWorking) part("best-progress").removeAttribute("value");
     }
 

@@ -30,14 +30,22 @@ export function tell(where, text) {
     where.hidden = text === "";
 }
 
-/** Says of a part of the page whether it waits for answers. @param {string} id @param {boolean} isBusy */
-export function setBusy(id, isBusy) {
-    part(id).setAttribute("aria-busy", String(isBusy));
-}
-
 /** Says something to screen readers. @param {string} text */
 export function announce(text) {
     part("status").textContent = text;
+}
+
+const LONG_WAIT = 500;
+const waiting = new Map();
+
+/**
+ * Says of a part of the page whether it waits for answers, and to screen readers what it waits for, where that takes a while.
+ * @param {string} id @param {boolean} isBusy @param {string} [text] what is said
+ */
+export function setBusy(id, isBusy, text = "") {
+    part(id).setAttribute("aria-busy", String(isBusy));
+    clearTimeout(waiting.get(id));
+    if (isBusy && text !== "") waiting.set(id, setTimeout(announce, LONG_WAIT, text));
 }
 
 /** Words in a row: `one`, `one and another`, `one, another and a third`. @param {string[]} words */

@@ -77,8 +77,8 @@ export class Page {
         try {
             state.parts = await readSteps(this.#calls, state.parts);
         } catch (stop) {
-            if (!(stop instanceof EngineFault)) return this.#refuse(stop);
             if (turn !== this.#turn) return;
+            if (!(stop instanceof EngineFault)) return this.#showUnread(state, stop);
             tell(part("alert"), `The steps of this address can't be read: ${stop.words}.`);
             Object.assign(state, { parts: [], list: null });
         }
@@ -86,6 +86,14 @@ export class Page {
         this.#state = state;
         this.#scramble.show(state.scramble);
         await this.#refresh();
+    }
+
+    /** Shows what an address says as it stands there, where no engine reads it. @param {State} state @param {Error} fault */
+    #showUnread({ scramble, parts }, fault) {
+        this.#scramble.show(scramble);
+        this.#skeleton.show(parts);
+        this.#setUsable(false);
+        this.#refuse(fault);
     }
 
     /**
@@ -133,8 +141,8 @@ export class Page {
         this.#calls.drop();
         this.#skeleton.show(this.#state.parts);
         this.#skeleton.turnTo(this.#state.side);
-        this.#best.reset(null);
         this.#table.hold();
+        this.#best.reset(null);
         setBusy("results", true);
         try {
             await this.#answer(turn);
@@ -187,6 +195,8 @@ export class Page {
         this.#table.show(offers, this.#state.list);
         this.#showList();
         if (this.#isFocusNext("table")) this.#showTaken(isFinished);
+        // a list that is looked for takes the focus itself
+        if (!this.#focusNext) this.#table.giveBack();
     }
 
     /** Whether the focus is to go there now: it stays where it went meanwhile. @param {"list" | "table"} to */

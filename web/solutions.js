@@ -7,6 +7,7 @@ import { stepNamed, titleOf } from "./steps.js";
 /** @typedef {import("./answers.js").Solution} Solution */
 
 export const MOST_SHOWN = 200;
+const LOOKING = "Looking …";
 const NOT_MOVES = "The text in the filter is not moves: type face turns such as F B'.";
 
 /** Of two turns of opposite faces, which may stand in either order, the lists have these first. */
@@ -82,7 +83,7 @@ export class SolutionList {
         if (list === null) return;
         part("solutions-heading").textContent = `${titleOf(stepNamed(list.step))}, ${list.side} side`;
         part("slack").value = String(list.slack);
-        tell(part("solutions-note"), "Looking …");
+        tell(part("solutions-note"), LOOKING);
     }
 
     /** Shows the solutions of the open list. @param {Solution[]} solutions @param {boolean} whole */
@@ -109,7 +110,7 @@ export class SolutionList {
         // what is hidden can't keep the focus
         if (!isWorking && document.activeElement === stop) part("solutions-heading").focus();
         stop.hidden = !isWorking;
-        setBusy("solutions", isWorking);
+        setBusy("solutions", isWorking, LOOKING);
     }
 
     #draw() {

@@ -37,7 +37,8 @@ export class StepTable {
     /** Dims the offers of the last cube, with all that rests on them, until those of the next one are there. */
     hold() {
         const { activeElement } = document;
-        if (part("choices").contains(activeElement)) this.#focused = activeElement.getAttribute("data-cell");
+        if (part("choices").contains(activeElement)) this.#focused = activeElement;
+        else if (activeElement !== document.body) this.#focused = null;
         part("choices").inert = true;
     }
 
@@ -46,12 +47,19 @@ export class StepTable {
         const groups = [offers.filter(({ step }) => step.needs === null), offers.filter(({ step }) => step.needs !== null)];
         this.#body.replaceChildren(...groups.flatMap((group) => this.#rows(group, list)));
         part("choices").inert = false;
-        if (this.#focused && document.activeElement === document.body) {
-            this.#body.querySelector(`[data-cell="${this.#focused}"]`)?.focus({ preventScroll: true });
-        }
-        this.#focused = null;
         part("no-reduction").hidden = groups[1].length > 0;
         part("steps-table").hidden = false;
+    }
+
+    /** Gives the focus back that `hold` took: to the same cell or control, or to the heading where that is gone. */
+    giveBack() {
+        const held = this.#focused;
+        this.#focused = null;
+        // it stays where it went meanwhile; what is hidden may have it for a moment longer
+        if (!held || ![held, document.body].includes(document.activeElement)) return;
+        const same = held.dataset.cell ? this.#body.querySelector(`[data-cell="${held.dataset.cell}"]`) : held;
+        const places = [same, part("steps-heading"), part("skeleton-heading")];
+        places.find((place) => place?.checkVisibility() && !place.disabled)?.focus({ preventScroll: true });
     }
 
     /** Shows which list is open. @param {import("./address.js").List | null} list */

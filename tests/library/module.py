@@ -94,6 +94,8 @@ def rooms():
     small = nissy.Answer(3, b"eofb\neo", b"nissy: cannot write\n", True)
     holds("a room that is too small is full", answer == small)
     holds("a room of nothing", nissy.run(["steps"], room=0).full)
+    for room in (b"abc", "7", 7.0, [7]):
+        holds("%r is no room" % (room,), raised(TypeError, lambda: nissy.run(["steps"], room=room)))
     few = nissy.run(["scramble", "7", "9", "256", "3"])
     many = nissy.run(["scramble", "7", "9", "256", "10000"])
     holds("an output of 7 MB comes whole", many.status == 0 and many.out.count(b"\n") == 10_000 and many.out.startswith(few.out))

@@ -93,10 +93,15 @@ def starts(tally: Tally, browser: Browser) -> None:
 
 def without_memories(tally: Tally, browser: Browser) -> None:
     """The page where the engine can't start."""
-    browser.driver.get(browser.page_without_engine)
-    tally.holds("a missing engine is said", browser.until("return !document.getElementById('alert').hidden"))
-    said = browser.text("alert")
-    tally.holds("with the browsers that have it", all(word in said for word in ("64-bit memories", "Chrome", "133", "Firefox", "134")))
+    for address, steps in (("", []), ("#scramble=R_U-_q", []), ("#scramble=R_U-_q&steps=normal.F~inverse.B2", ["F", "(B2)"])):
+        browser.driver.get("about:blank")
+        browser.driver.get(browser.page_without_engine + address)
+        tally.holds(f"{address}: a missing engine is said", browser.until("return !document.getElementById('alert').hidden"))
+        said = browser.text("alert")
+        tally.holds("with the browsers that have it", all(word in said for word in ("64-bit memories", "Chrome", "133", "Firefox", "134")))
+        wanted = "R U' q" if address else ""
+        tally.equal("what was sent is shown", browser.script("return document.getElementById('scramble').value"), wanted)
+        tally.equal("with its steps", browser.texts("#skeleton-list .moves"), steps)
 
 
 def try_all(tally: Tally, browser: Browser) -> None:

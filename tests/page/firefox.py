@@ -45,9 +45,14 @@ class Firefox:
         words = [shutil.which("firefox") or "firefox-esr", "--headless", "--no-remote", "--marionette", "--profile", room]
         self.process = subprocess.Popen(words, stdout=subprocess.DEVNULL, stderr=subprocess.DEVNULL)
         self.count = 0
-        self.stream = self.connect(port).makefile("rwb")
-        self.receive()
-        self.command("WebDriver:NewSession", {})
+        try:
+            self.stream = self.connect(port).makefile("rwb")
+            self.receive()
+            self.command("WebDriver:NewSession", {})
+        except BaseException:
+            # one that doesn't answer isn't left behind
+            self.end()
+            raise
 
     def connect(self, port: int) -> socket.socket:
         """The connection, once Firefox listens."""

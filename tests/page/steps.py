@@ -182,6 +182,49 @@ def stays(tally: Tally, browser: Browser) -> None:
         tally.equal(f"a search that is begun by the keyboard, {len(keys)} keys", browser.focused(), "best-find")
 
 
+def waits(tally: Tally, browser: Browser) -> None:
+    """What is looked for is said to screen readers where it takes a while."""
+    slow = """
+        const { postMessage } = Worker.prototype;
+        Worker.prototype.postMessage = function (...words) { setTimeout(() => postMessage.apply(this, words), 1000); };
+        const status = document.getElementById("status");
+        window.said = [];
+        new MutationObserver(() => said.push(status.textContent)).observe(status, { childList: true })"""
+    browser.open(ADDRESS)
+    browser.script(slow)
+    browser.act('[data-cell="eofb.normal"]')
+    count = len(Position(SCRAMBLE).solutions("eofb", "normal"))
+    tally.equal("a list", browser.script("return said"), ["Looking …", f"EO on F/B, normal side: {count} solutions."])
+    browser.script("said.length = 0; document.getElementById('best-find').click()")
+    tally.holds("the best", browser.until("return said.length > 0"))
+    browser.act("#best-stop")
+    tally.equal("and their end", browser.script("return said"), ["Looking for the orientations …", "Stopped."])
+
+
+def comes_back(tally: Tally, browser: Browser) -> None:
+    """By the browser's Back no focus is lost with what it closes or dims."""
+    begin = "const it = document.getElementById(arguments[0]); it.focus(); it.click()"
+    stop = "document.getElementById(arguments[0]).focus()"
+    for keys in ([], [Keys.ENTER]):
+        browser.open(FLIPPED)
+        browser.submit("own", "R R'")
+        browser.until("return document.querySelectorAll('#skeleton-list li').length === 1")
+        browser.wait()
+        browser.click('[data-cell="eofb.normal"]')
+        browser.script("const it = document.getElementById('slack'); it.value = '3'; it.dispatchEvent(new Event('change'))")
+        browser.script(stop, "solutions-stop")
+        browser.press(*keys)
+        back(browser)
+        tally.equal(f"Back from a list, {len(keys)} keys on its stop", browser.focused(), "steps-heading")
+        browser.open(ADDRESS + "&list=eofb.normal.0")
+        browser.act("#solutions-groups button")
+        browser.script(begin, "best-find")
+        browser.press(*keys)
+        back(browser)
+        wanted = "best-find" if keys else "steps-heading"
+        tally.equal(f"Back from the best, {len(keys)} keys on their stop", browser.focused(), wanted)
+
+
 def one_stop(tally: Tally, browser: Browser) -> None:
     """The best continuations are one stop of the Tab key, and what has the focus among them keeps it when more are found."""
     browser.open(ADDRESS)
@@ -217,5 +260,5 @@ def words(tally: Tally, browser: Browser) -> None:
 
 def try_all(tally: Tally, browser: Browser) -> None:
     """All of them."""
-    for part in (history, refused, undo, kept, dimmed, filters, solved, ends, stays, one_stop, words):
+    for part in (history, refused, undo, kept, dimmed, filters, solved, ends, stays, waits, comes_back, one_stop, words):
         part(tally, browser)
