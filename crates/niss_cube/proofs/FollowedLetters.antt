@@ -1,94 +1,93 @@
 -- Moves keep the facelets of a cubie in their order, so the facelet text follows from where the stickers that stand at the
 -- first facelets began.
-use Rattle.niss_cube.proofs.Words.{moved, Fact, Yes, Equal, Below, Alike, Both, Numbers, Holds, holds, ◌≡◌, ℕ, ◌<◌, refl, sym, ◌∙◌, ap}
-use Rattle.niss_cube.proofs.Words.{List, [], ◌++◌, length, get_or, true, slice_index, Place, is_place, places, effect, inverse, letter_at}
-use Rattle.niss_cube.proofs.Words.{letter_of, letters, Token, place_at, AreMoved, effect-append, inverse_after, inverse_before}
-use Rattle.niss_cube.proofs.Words.{FIRST_FACELETS, CUBIES, FACELETS, CUBIE_LETTERS, Places, Tokens, zero, suc, ◌+◌, ◌%◌, ◌∷◌, if◌then◌else◌}
-use Rattle.niss_cube.proofs.Words.{is_corner, is_edge, moved_by, facelet_at, corner_facelets, edge_facelets, every_token, every_face}
-use Rattle.niss_cube.proofs.Words.{every_power, every_slice, every_axis}
-use Rattle.niss_cube.proofs.FaceletLetters.{letters-is, letter_of-is}
-use Rattle.niss_cube.proofs.CubieKinds.{Corners, Edges, row_of, index_of}
+use Rattle.niss_cube.proofs.Words.{Fact, Yes, Equal, Below, Alike, Both, Numbers, Places, Tokens, Holds, holds, ◌≡◌, ℕ, zero, suc, ◌<◌}
+use Rattle.niss_cube.proofs.Words.{refl, sym, ◌∙◌, ap, arith, List, [], ◌∷◌, length, map, get_or, true, slice_index, ext_get_or, get_or-map}
+use Rattle.niss_cube.proofs.Words.{length-map, same_truth, U, facelet, Place, is_place, same_place, same_place_is, same_place_of, places}
+use Rattle.niss_cube.proofs.Words.{effect, inverse, moved_by, inverse_after, letter_at, letter_of, letters, Token, place_at, AreMoved}
+use Rattle.niss_cube.proofs.Words.{corners_home, edges_home, sticker_map, FIRST_FACELETS, CUBIES, FACELETS, CUBIE_LETTERS, every_token}
+use Rattle.niss_cube.proofs.Words.{every_face, every_power, every_slice, every_axis}
 
+-- the place of the next facelet of the cubie, clockwise: where its sticker stands once each cubie is turned at its home
 unfoldable pub next : Place → Place
-next q =
-    if is_corner q
-    then facelet_at corner_facelets (row_of Corners q) ((index_of Corners q + 1) % 3)
-    else (if is_edge q then facelet_at edge_facelets (row_of Edges q) ((index_of Edges q + 1) % 2) else q)
+next = sticker_map corners_home (map (λ _. 1) corners_home) edges_home (map (λ _. 1) edges_home)
 
-kept : (m : Token) (q : Place) → is_place q ≡ true → (is_place (moved_by m q) ≡ true) × (next (moved_by m q) ≡ moved_by m (next q))
+move_kept : (m : Token) (q : Place) → is_place q ≡ true → (is_place (moved_by m q) ≡ true) × (next (moved_by m q) ≡ moved_by m (next q))
 unfolding next every_token every_face every_power every_slice every_axis
-kept = holds (Tokens λ m. Places λ q. Both (Yes (is_place (moved_by m q))) (Alike (next (moved_by m q)) (moved_by m (next q)))) refl
+move_kept = holds (Tokens λ m. Places λ q. Both (Yes (is_place (moved_by m q))) (Alike (next (moved_by m q)) (moved_by m (next q)))) refl
 
-pub effect-place : (s : List Token) (q : Place) → is_place q ≡ true → is_place (effect s q) ≡ true
-effect-place [] q h = h
-effect-place (m ∷ s) q h = effect-place s (moved_by m q) (kept m q h).0
-
-pub effect-next : (s : List Token) (q : Place) → is_place q ≡ true → next (effect s q) ≡ effect s (next q)
-effect-next [] q h = refl
-effect-next (m ∷ s) q h = effect-next s (moved_by m q) (kept m q h).0 ∙ ap (effect s) (kept m q h).1
-
-next-place : (q : Place) → is_place q ≡ true → is_place (next q) ≡ true
-unfolding next
-next-place = holds (Places λ q. Yes (is_place (next q))) refl
+next_kept : (s : List Token) (q : Place) → is_place q ≡ true → next (effect s q) ≡ effect s (next q)
+next_kept [] q h = refl
+next_kept (m ∷ s) q h = next_kept s (moved_by m q) (move_kept m q h).0 ∙ ap (effect s) (move_kept m q h).1
 
 -- the k-th facelet after that of a place
-abbrev pub after : ℕ → Place → Place
+abbrev after : ℕ → Place → Place
 after zero q = q
 after (suc k) q = next (after k q)
 
-pub after-place : (k : ℕ) (q : Place) → is_place q ≡ true → is_place (after k q) ≡ true
-after-place zero q h = h
-after-place (suc k) q h = next-place (after k q) (after-place k q h)
+next_place : (q : Place) → is_place q ≡ true → is_place (next q) ≡ true
+unfolding next
+next_place = holds (Places λ q. Yes (is_place (next q))) refl
 
-pub effect-after : (s : List Token) (k : ℕ) (q : Place) → is_place q ≡ true → after k (effect s q) ≡ effect s (after k q)
-effect-after s zero q h = refl
-effect-after s (suc k) q h = ap next (effect-after s k q h) ∙ effect-next s (after k q) (after-place k q h)
+after_kept : (s : List Token) (k : ℕ) (q : Place) → is_place q ≡ true → (is_place (after k q) ≡ true) × (after k (effect s q) ≡ effect s (after k q))
+after_kept s zero q h = (h, refl)
+after_kept s (suc k) q h =
+    let r = after_kept s k q h in
+    (next_place (after k q) r.0, ap next r.1 ∙ next_kept s (after k q) r.0)
 
--- the letter that a sequence brings to a place is that of the place to which its inverse brings this one
-letter-back : (s : List Token) (q : Place) → is_place q ≡ true → letter_of (effect (inverse s)) places q ≡ letter_at (effect s q)
-letter-back s q h =
-    letter_of-is (effect (inverse s)) q (effect s q) (effect-place s q h) (inverse_after s q)
-    (λ p l e. sym (inverse_before s p) ∙ ap (effect s) e)
+pub effect_one_to_one : (s : List Token) (p q : Place) → effect s p ≡ effect s q → p ≡ q
+effect_one_to_one s p q h = sym (inverse_after s p) ∙ ap (effect (inverse s)) h ∙ inverse_after s q
+
+-- The letter at the place to which a map brings the sticker of a place, and of no other one.
+letter_of-is : (e : Place → Place) (q p : Place) → ((x : Place) → same_place (e x) q ≡ same_place x p) → (ps : List Place) → letter_of e ps q ≡ letter_of (λ x. x) ps p
+unfolding letter_of
+letter_of-is e q p h [] = refl
+letter_of-is e q p h (x ∷ ps) = rw (h x, letter_of-is e q p h ps) refl
+
+own_letter : (q : Place) → is_place q ≡ true → letter_of (λ x. x) places q ≡ letter_at q
+unfolding letter_of
+own_letter = holds (Places λ q. Equal (letter_of (λ x. x) places q) (letter_at q)) refl
+
+pub brought_letter : (e : Place → Place) → ((p q : Place) → e p ≡ e q → p ≡ q) → (p : Place) → is_place p ≡ true → letter_of e places (e p) ≡ letter_at p
+brought_letter e one p l =
+    letter_of-is e (e p) p (λ x. same_truth _ _
+    (λ h. same_place_of x p (one x p (same_place_is (e x) (e p) h)))
+    (λ h. same_place_of (e x) (e p) (ap e (same_place_is x p h)))) places
+    ∙ own_letter p l
 
 -- what computation shows of each position of the text
-letter-is : (i : ℕ) → i < 54 → (k : ℕ) → k < 3 → get_or (get_or CUBIE_LETTERS i []) k 0 ≡ letter_at (after k (place_at i))
+abbrev letters_fact : ℕ → Fact
+letters_fact i = Both (Yes (is_place (place_at i))) (Numbers 3 λ k. Equal (get_or (get_or CUBIE_LETTERS i []) k 0) (letter_at (after k (place_at i))))
+
+pub letters_are : (i : ℕ) → i < 54 → Holds (letters_fact i)
 unfolding place_at next
-letter-is = holds (Numbers 54 λ i. Numbers 3 λ k. Equal (get_or (get_or CUBIE_LETTERS i []) k 0) (letter_at (after k (place_at i)))) refl
+letters_are = holds (Numbers 54 letters_fact) refl
 
-abbrev first_of : ℕ → Place
-first_of j = place_at (get_or FIRST_FACELETS (get_or CUBIES j 0) 0)
-
-abbrev pub facelet_fact : ℕ → Fact
+abbrev facelet_fact : ℕ → Fact
 facelet_fact j =
-    Both (Below (get_or CUBIES j 0) 26) (Both (Below (get_or FACELETS j 0) 3) (Both (Yes (is_place (first_of j)))
-    (Both (Yes (is_place (place_at j))) (Alike (after (get_or FACELETS j 0) (first_of j)) (place_at j)))))
+    Both (Below (get_or CUBIES j 0) 26) (Both (Below (get_or FACELETS j 0) 3)
+    (Alike (after (get_or FACELETS j 0) (place_at (get_or FIRST_FACELETS (get_or CUBIES j 0) 0))) (place_at j)))
 
 pub is_facelet : (j : ℕ) → j < 54 → Holds (facelet_fact j)
 unfolding place_at next
 is_facelet = holds (Numbers 54 facelet_fact) refl
 
--- The letters at the places to which the first facelets were followed make the text of the inverse.
-pub followed_letters : (s : List Token) (now text : List ℕ) → length text ≡ 54 → ((k : ℕ) → k < 26 → slice_index now k < 54) → AreMoved FIRST_FACELETS now s →
-    ((j : ℕ) → j < 54 → get_or text j 0 ≡ get_or (get_or CUBIE_LETTERS (get_or now (get_or CUBIES j 0) 0) []) (get_or FACELETS j 0) 0) →
-    text ≡ letters (effect (inverse s))
-unfolding place_at
-followed_letters s now text lt range moved written = letters-is (effect (inverse s)) text lt at
-  where
-    at : (j : ℕ) → j < 54 → get_or text j 0 ≡ letter_of (effect (inverse s)) places (place_at j)
-    at j l =
-        let f = is_facelet j l in
-        let c : ℕ = get_or CUBIES j 0 in
-        let k : ℕ = get_or FACELETS j 0 in
-        written j l
-        ∙ letter-is (get_or now c 0) (range c f.0) k f.1.0
-        ∙ ap (λ q. letter_at (after k q)) (moved c f.0)
-        ∙ ap letter_at (effect-after s k (first_of j) f.1.1.0)
-        ∙ ap (λ q. letter_at (effect s q)) f.1.1.1.1
-        ∙ sym (letter-back s (place_at j) f.1.1.1.0)
+-- the text, letter by letter
+pub text-is : (e : Place → Place) (text : List ℕ) → length text ≡ 54 → ((j : ℕ) → j < 54 → get_or text j 0 ≡ letter_of e places (place_at j)) → text ≡ letters e
+unfolding place_at letters
+text-is e text long h =
+    ext_get_or 0 text (map (letter_of e places) places) (long ∙ sym (length-map places (letter_of e places))) (λ j lj.
+    let l : j < 54 = omega (arith, lj, long) in
+    h j l ∙ sym (get_or-map (letter_of e places) places j (facelet U 5) 0 l))
 
--- positions that were moved by two sequences
-pub moved-twice : (old between new : List ℕ) (s t : List Token) → AreMoved old between s → AreMoved between new t → AreMoved old new (s ++ t)
-moved-twice old between new s t first second k l =
-    second k l
-    ∙ ap (effect t) (first k l)
-    ∙ sym (effect-append s t (place_at (slice_index old k)))
+-- The letters at the places from which moves bring the first facelets make their text.
+pub followed_letter : (s : List Token) (now : List ℕ) → ((k : ℕ) → k < 26 → slice_index now k < 54) → AreMoved now FIRST_FACELETS s → (j : ℕ) → j < 54 →
+    get_or (get_or CUBIE_LETTERS (get_or now (get_or CUBIES j 0) 0) []) (get_or FACELETS j 0) 0 ≡ letter_of (effect s) places (place_at j)
+followed_letter s now range moved j l =
+    let f = is_facelet j l in
+    let k : ℕ = get_or FACELETS j 0 in
+    let n : ℕ = get_or now (get_or CUBIES j 0) 0 in
+    let from = letters_are n (range _ f.0) in
+    let kept = after_kept s k (place_at n) from.0 in
+    from.1 k f.1.0
+    ∙ sym (brought_letter (effect s) (effect_one_to_one s) (after k (place_at n)) kept.0)
+    ∙ ap (letter_of (effect s) places) (sym kept.1 ∙ ap (after k) (sym (moved (get_or CUBIES j 0) f.0)) ∙ f.1.1)

@@ -2,15 +2,12 @@ pub mod CallerLemmas
 pub mod Codes
 pub mod CoordinateLaws
 pub mod CubieKinds
-pub mod EqualCubes
-pub mod FaceletLetters
 pub mod Facts
 pub mod FollowedLetters
 pub mod LawLemmas
 pub mod Logic
 pub mod MovedCubies
 pub mod Orientations
-pub mod RotatedLetters
 pub mod ShownCubies
 pub mod SliceEdges
 pub mod StepMaps

@@ -1,32 +1,14 @@
--- The flips and twists that a cube's map shows are those of its cubies.
-use Rattle.niss_cube.proofs.Words.{corner_facelets, Equal, Numbers, holds, refl, sym, ◌∙◌, ap, arith, inl, inr, ◌≡◌, ℕ, zero, suc, ◌<◌}
-use Rattle.niss_cube.proofs.Words.{List, [], ◌∷◌, length, get_or, map, drop, Bool, true, false, ◌&&◌, ◌==◌, nat_le, list_any}
-use Rattle.niss_cube.proofs.Words.{range_with_len, eqb-true, eq-eqb, eqb_tells, ext_get_or, get_or-map, length-map, Any-from_list_any}
-use Rattle.niss_cube.proofs.Words.{Place, same_place, SameMap, U, facelet, index_in, row_at, edge_facelets, and_left, and_right, and_both}
-use Rattle.niss_cube.proofs.Words.{same_truth, same_place_is, same_place_of, get_or_default, list_any_at, get_or-range_with_len}
-use Rattle.niss_cube.proofs.Words.{length-range_with_len, firsts, brings, orientations, occupied}
-use Rattle.niss_cube.proofs.CubieKinds.{CubieLists, Valid, map_lists, Kind, Corners, Edges, count, facelets, rows, at, home_at, turn_at}
-use Rattle.niss_cube.proofs.CubieKinds.{turns, place_of, stand, stands, stands-at, unturned, some_facelet, same_facelet, shown_at}
-use Rattle.niss_cube.proofs.Sums.{eqb-itself, eqb-other}
-
--- whether a test passes at a number below n
-abbrev any_below : ℕ → (ℕ → Bool) → Bool
-any_below n t = list_any t (range_with_len 0 n)
-
-any_below-some : (n : ℕ) (t : ℕ → Bool) (k : ℕ) → k < n → t k ≡ true → any_below n t ≡ true
-any_below-some n t k l h = list_any_at t (range_with_len 0 n) k 0 (omega (arith, length-range_with_len 0 n)) (ap t (get_or-range_with_len 0 n k 0 l ∙ omega arith) ∙ h)
-
-any_below-found : (n : ℕ) (t : ℕ → Bool) → any_below n t ≡ true → (k : ℕ) × (k < n) × (t k ≡ true)
-any_below-found n t h =
-    let m = Any-from_list_any t (range_with_len 0 n) h in
-    let l : m.0 < n = omega (arith, m.2, length-range_with_len 0 n) in
-    (m.1, omega (arith, l, m.3, get_or-range_with_len 0 n m.0 m.1 l), m.4)
-
-eqb-next : (a b : ℕ) → (suc a == suc b) ≡ (a == b)
-eqb-next a b = elim (eqb_tells a b) [
-  | inl w ↦ eq-eqb (suc a) (suc b) (ap suc w.1) ∙ sym w.0
-  | inr w ↦ eqb-other (suc a) (suc b) (λ e. w.1 (omega arith)) ∙ sym w.0
-]
+-- What the map of a cube shows: the flips and twists are those of its cubies, and cubes of one map are equal.
+use Rattle.niss_cube.proofs.Words.{corner_facelets, Equal, Numbers, holds, refl, sym, ◌∙◌, ap, arith, ◌≡◌, ℕ, zero, suc, ◌<◌, ◌↔◌, List, []}
+use Rattle.niss_cube.proofs.Words.{◌∷◌, length, get_or, map, drop, Bool, true, false, ◌&&◌, ◌==◌, nat_le, nat_eq, list_any, range_with_len}
+use Rattle.niss_cube.proofs.Words.{eqb-true, eq-eqb, ext_get_or, get_or-map, length-map, Any-from_list_any, Place, same_place, SameMap, U}
+use Rattle.niss_cube.proofs.Words.{facelet, index_in, row_at, edge_facelets, and_left, and_right, and_both, same_truth, same_place_is}
+use Rattle.niss_cube.proofs.Words.{same_place_of, get_or_default, list_any_at, get_or-range_with_len, length-range_with_len, firsts, brings}
+use Rattle.niss_cube.proofs.Words.{orientations, occupied, Cube, map_of, same_cubies, pointwise, same_text, other_text, true_from_ne_false, false_from_ne_true}
+use Rattle.niss_cube.proofs.CubieKinds.{CubieLists, Valid, map_lists, lists_of, lists_path, Kind, Corners, Edges, count, facelets, rows, at, homes}
+use Rattle.niss_cube.proofs.CubieKinds.{turns, home_at, turn_at, place_of, stand, stands, stands-at, unturned, some_facelet, same_facelet}
+use Rattle.niss_cube.proofs.CubieKinds.{shown_at}
+use Rattle.niss_cube.proofs.Sums.{eqb-itself}
 
 -- a test that passes at one index at most passes where it does there
 list_any-is : {A : Type 0} (test : A → Bool) (xs : List A) (d : A) (s : Bool) (t : ℕ) → t < length xs → ((k : ℕ) → k < length xs → test (get_or xs k d) ≡ (s && (t == k))) → list_any test xs ≡ s
@@ -37,13 +19,23 @@ list_any-is test xs d s t l h =
     and_left _ _ (sym (h m.0 m.2) ∙ ap test (get_or_default xs m.0 d m.1 m.2 ∙ m.3) ∙ m.4))
     (λ b. list_any_at test xs t d l (h t l ∙ and_both _ _ b (eqb-itself t)))
 
+-- whether a test passes at a number below n
+abbrev any_below : ℕ → (ℕ → Bool) → Bool
+any_below n t = list_any t (range_with_len 0 n)
+
+any_below-is : (n : ℕ) (test : ℕ → Bool) (s : Bool) (t : ℕ) → t < n → ((k : ℕ) → k < n → test k ≡ (s && (t == k))) → any_below n test ≡ s
+any_below-is n test s t l h =
+    list_any-is test (range_with_len 0 n) 0 s t (omega (arith, l, length-range_with_len 0 n)) (λ k lk.
+    let below : k < n = omega (arith, lk, length-range_with_len 0 n) in
+    ap test (get_or-range_with_len 0 n k 0 below ∙ omega arith) ∙ h k below)
+
 -- index_in finds the one index that passes
-index_in-is : {A : Type 0} (test : A → Bool) (xs : List A) (d : A) (t : ℕ) → t < length xs → ((k : ℕ) → k < length xs → test (get_or xs k d) ≡ (t == k)) → index_in test xs ≡ t
-index_in-is test [] d t l h = absurd (omega arith)
-index_in-is test (x ∷ xs) d zero l h = rw (h 0 (omega arith)) refl
-index_in-is test (x ∷ xs) d (suc t) l h =
-    let e : test x ≡ false = h 0 (omega arith) ∙ eqb-other (suc t) 0 (λ q. omega arith) in
-    rw e (ap suc (index_in-is test xs d t (omega arith) (λ k lk. h (suc k) (omega arith) ∙ eqb-next t k)))
+index_in-is : {A : Type 0} (test : A → Bool) (xs : List A) (d : A) (t : ℕ) → t < length xs → test (get_or xs t d) ≡ true → ((k : ℕ) → k < length xs → test (get_or xs k d) ≡ true → k ≡ t) → index_in test xs ≡ t
+index_in-is test [] d t l passes only = absurd (omega arith)
+index_in-is test (x ∷ xs) d zero l passes only = rw passes refl
+index_in-is test (x ∷ xs) d (suc t) l passes only =
+    let e : test x ≡ false = false_from_ne_true (test x) (λ y. let n : 0 ≡ suc t = only 0 (omega arith) y in omega arith) in
+    rw e (ap suc (index_in-is test xs d t (omega arith) passes (λ k lk y. let n : suc k ≡ suc t = only (suc k) (omega arith) y in omega arith)))
 
 rows_len : (k : Kind) → length (rows k) ≡ count k
 rows_len Corners = refl
@@ -60,7 +52,7 @@ brought_first Edges e q = refl
 -- a map that is that of the cubies on the places
 module _ (k : Kind) (c : CubieLists) (v : Valid c) (e : Place → Place) (same : SameMap e (map_lists c)) where
   -- the sticker at the first facelet of a home
-  pub first_at : (h : ℕ) → h < count k → e (at k h 0) ≡ at k (place_of k c h) (turn_at k c (place_of k c h))
+  first_at : (h : ℕ) → h < count k → e (at k h 0) ≡ at k (place_of k c h) (turn_at k c (place_of k c h))
   first_at h l =
       shown_at k c e same h 0 l (some_facelet k)
       ∙ ap (at k (place_of k c h)) (unturned k _ _ ((stand k c v).oriented.range _ (stands k c v h l).0) (omega arith))
@@ -68,19 +60,20 @@ module _ (k : Kind) (c : CubieLists) (v : Valid c) (e : Place → Place) (same :
   -- that of a home that is selected is brought to facelet j of place i
   brings_test : (sel : ℕ → Bool) (i j : ℕ) → i < count k → j < facelets k → any_below (count k) (λ h. sel h && same_place (e (at k h 0)) (at k i j)) ≡ (sel (home_at k c i) && (turn_at k c i == j))
   brings_test sel i j li lj =
+      any_below-is (count k) (λ h. sel h && same_place (e (at k h 0)) (at k i j)) (sel (home_at k c i) && (turn_at k c i == j)) (home_at k c i) ((stand k c v).placed.range i li) (λ h lh.
       same_truth _ _
       (λ a.
-      let r : (h : ℕ) × (h < count k) × ((sel h && same_place (e (at k h 0)) (at k i j)) ≡ true) = any_below-found (count k) (λ h. sel h && same_place (e (at k h 0)) (at k i j)) a in
-      let w = stands k c v r.0 r.1 in
-      let s = same_facelet k (place_of k c r.0) (turn_at k c (place_of k c r.0)) i j w.0 ((stand k c v).oriented.range _ w.0) li lj
-      (sym (first_at r.0 r.1) ∙ same_place_is _ _ (and_right (sel r.0) _ r.2)) in
-      and_both _ _ (ap sel (ap (home_at k c) (sym s.0) ∙ w.1) ∙ and_left (sel r.0) _ r.2) (eq-eqb (turn_at k c i) j (ap (turn_at k c) (sym s.0) ∙ s.1)))
+      let w = stands k c v h lh in
+      let s = same_facelet k (place_of k c h) (turn_at k c (place_of k c h)) i j w.0 ((stand k c v).oriented.range _ w.0) li lj
+      (sym (first_at h lh) ∙ same_place_is _ _ (and_right (sel h) _ a)) in
+      let here : home_at k c i ≡ h = ap (home_at k c) (sym s.0) ∙ w.1 in
+      and_both _ _ (and_both _ _ (ap sel here ∙ and_left (sel h) _ a) (eq-eqb _ j (ap (turn_at k c) (sym s.0) ∙ s.1))) (eq-eqb _ h here))
       (λ b.
-      let h : ℕ = home_at k c i in
-      let lh : h < count k = (stand k c v).placed.range i li in
-      any_below-some (count k) (λ h. sel h && same_place (e (at k h 0)) (at k i j)) h lh
-      (and_both _ _ (and_left (sel h) _ b)
-      (same_place_of _ _ (first_at h lh ∙ ap (λ n. at k n (turn_at k c n)) (stands-at k c v i li) ∙ ap (at k i) (eqb-true _ _ (and_right (sel h) _ b))))))
+      let t = and_left (sel (home_at k c i) && (turn_at k c i == j)) _ b in
+      let here : home_at k c i ≡ h = eqb-true _ h (and_right (sel (home_at k c i) && (turn_at k c i == j)) _ b) in
+      let p : place_of k c h ≡ i = ap (place_of k c) (sym here) ∙ stands-at k c v i li in
+      and_both _ _ (ap sel (sym here) ∙ and_left (sel (home_at k c i)) _ t)
+      (same_place_of _ _ (first_at h lh ∙ ap (λ n. at k n (turn_at k c n)) p ∙ ap (at k i) (eqb-true _ _ (and_right (sel (home_at k c i)) _ t))))))
 
   -- the digits of the map are how the cubies are turned
   pub turns_shown : orientations e (rows k) ≡ turns k c
@@ -91,7 +84,11 @@ module _ (k : Kind) (c : CubieLists) (v : Valid c) (e : Place → Place) (same :
       let li : i < count k = omega (arith, l, len) in
       get_or-map (index_in test) (rows k) i [] 0 (omega (arith, li, rows_len k))
       ∙ index_in-is test (row_at (rows k) i) (facelet U 5) (turn_at k c i) (omega (arith, (stand k c v).oriented.range i li, row_len k i li))
-      (λ j lj. brought_first k e (at k i j) ∙ brings_test (λ h. true) i j li (omega (arith, lj, row_len k i li))))
+      (brought i (turn_at k c i) li ((stand k c v).oriented.range i li) ∙ eqb-itself (turn_at k c i))
+      (λ j lj y. sym (eqb-true (turn_at k c i) j (sym (brought i j li (omega (arith, lj, row_len k i li))) ∙ y))))
+    where
+      brought : (i j : ℕ) → i < count k → j < facelets k → brings e (firsts (rows k)) (at k i j) ≡ (turn_at k c i == j)
+      brought i j li lj = brought_first k e (at k i j) ∙ brings_test (λ h. true) i j li lj
 
 -- where the edges 8 to 11 stand
 pub slice_shown : (c : CubieLists) (v : Valid c) (e : Place → Place) → SameMap e (map_lists c) → occupied e ≡ map (nat_le 8) c.edges
@@ -103,3 +100,39 @@ slice_shown c v e same =
     ∙ list_any-is test (row_at edge_facelets i) (facelet U 5) (nat_le 8 (get_or c.edges i 0)) (get_or c.flips i 0) (omega (arith, v.flips_oriented.range i li, row_len Edges i li))
     (λ j lj. brings_test Edges c v e same (nat_le 8) i j li (omega (arith, lj, row_len Edges i li)))
     ∙ sym (get_or-map (nat_le 8) c.edges i 0 false (omega (arith, v.edges_placed.places))))
+
+-- two cubes with the same map have the same cubies at each place, turned alike
+same_home : (k : Kind) (c d : CubieLists) → Valid c → Valid d → SameMap (map_lists c) (map_lists d) → (i : ℕ) → i < count k → home_at k c i ≡ home_at k d i
+same_home k c d v w same i l =
+    let h : ℕ = home_at k c i in
+    let lh : h < count k = (stand k c v).placed.range i l in
+    let here = stands k c v h lh in
+    let there = stands k d w h lh in
+    let f = same_facelet k (place_of k c h) (turn_at k c (place_of k c h)) (place_of k d h) (turn_at k d (place_of k d h)) here.0 ((stand k c v).oriented.range _ here.0) there.0 ((stand k d w).oriented.range _ there.0)
+    (sym (first_at k c v (map_lists c) (λ q p. refl) h lh) ∙ first_at k d w (map_lists c) same h lh) in
+    sym there.1 ∙ ap (home_at k d) (sym f.0 ∙ stands-at k c v i l)
+
+same_rows : (k : Kind) (c d : CubieLists) → Valid c → Valid d → SameMap (map_lists c) (map_lists d) → (homes k c ≡ homes k d) × (turns k c ≡ turns k d)
+same_rows k c d v w same =
+    let len = (stand k c v).placed.places in (
+      ext_get_or 0 (homes k c) (homes k d) (len ∙ sym (stand k d w).placed.places) (λ i l. same_home k c d v w same i (omega (arith, l, len))),
+      sym (turns_shown k c v (map_lists c) (λ q p. refl)) ∙ turns_shown k d w (map_lists c) same,
+    )
+
+equal_texts : (xs ys : List ℕ) → xs ≡ ys → pointwise nat_eq xs ys ≡ true
+equal_texts xs ys e = true_from_ne_false (pointwise nat_eq xs ys) (λ n. other_text xs ys (sym n) e)
+
+pub equal_cubes : (c d : Cube) → (same_cubies c d ≡ true) ↔ SameMap (map_of c) (map_of d)
+equal_cubes c d = (
+  (λ t.
+      let rest = and_right (pointwise nat_eq c.corners d.corners) _ t in
+      let last = and_right (pointwise nat_eq c.twists d.twists) _ rest in
+      let same = lists_path (lists_of c) (lists_of d) (same_text _ _ (sym (and_left _ _ t))) (same_text _ _ (sym (and_left _ _ rest)))
+      (same_text _ _ (sym (and_left _ _ last))) (same_text _ _ (sym (and_right (pointwise nat_eq c.edges d.edges) _ last))) in
+      λ q p i. map_lists (same i) q),
+  (λ s.
+      let corners = same_rows Corners (lists_of c) (lists_of d) c.are_cubies d.are_cubies s in
+      let edges = same_rows Edges (lists_of c) (lists_of d) c.are_cubies d.are_cubies s in
+      and_both _ _ (equal_texts _ _ corners.0)
+      (and_both _ _ (equal_texts _ _ corners.1) (and_both _ _ (equal_texts _ _ edges.0) (equal_texts _ _ edges.1)))),
+)

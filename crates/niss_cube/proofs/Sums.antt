@@ -13,10 +13,7 @@ one_if b = cond b 1 0
 
 pub below_same : (n : ℕ) (f g : ℕ → ℕ) → ((k : ℕ) → k < n → f k ≡ g k) → below n f ≡ below n g
 below_same zero f g h = refl
-below_same (suc n) f g h =
-    let a : below n f ≡ below n g = below_same n f g (λ k l. h k (omega arith)) in
-    let b : f n ≡ g n = h n (omega arith) in
-    cc
+below_same (suc n) f g h = omega (arith, below_same n f g (λ k l. h k (omega arith)), h n (omega arith))
 
 pub below_zero : (n : ℕ) → below n (λ _. 0) ≡ 0
 below_zero zero = refl
@@ -43,21 +40,14 @@ eqb-itself x = eq-eqb x x refl
 pub one_above : (n x : ℕ) (f : ℕ → ℕ) → n ≤ x → below n (λ h. one_if (x == h) * f h) ≡ 0
 one_above zero x f l = refl
 one_above (suc n) x f l =
-    let e : (x == n) ≡ false = eqb-other x n (λ q. omega arith) in
-    let a : below n (λ h. one_if (x == h) * f h) ≡ 0 = one_above n x f (omega arith) in
-    rw (e, a) (omega arith)
+    rw (eqb-other x n (λ q. omega arith), one_above n x f (omega arith)) (omega arith)
 
 -- the one term of a sum that a test picks
 pub one_of : (n x : ℕ) (f : ℕ → ℕ) → x < n → below n (λ h. one_if (x == h) * f h) ≡ f x
 one_of zero x f l = absurd (omega arith)
 one_of (suc n) x f l = elim (eqb_tells x n) [
-  | inl w ↦
-      let a : below n (λ h. one_if (x == h) * f h) ≡ 0 = one_above n x f (omega (arith, w.1)) in
-      let e : f n ≡ f x = ap f (sym w.1) in
-      rw (w.0, a) (omega (arith, e))
-  | inr w ↦
-      let a : below n (λ h. one_if (x == h) * f h) ≡ f x = one_of n x f (grind (arith, w.1)) in
-      rw (w.0, a) (omega arith)
+  | inl w ↦ rw (w.0, one_above n x f (omega (arith, w.1))) (omega (arith, ap f w.1))
+  | inr w ↦ rw (w.0, one_of n x f (grind (arith, w.1))) (omega arith)
 ]
 
 -- What each number below n is taken by once, sums as these numbers do.
@@ -67,9 +57,7 @@ below_permuted n home f small once =
     ∙ below_swap n n (λ k h. one_if (home k == h) * f h)
     ∙ below_same n (λ h. below n (λ k. one_if (home k == h) * f h)) f
     (λ h l.
-    let a : below n (λ k. one_if (home k == h)) ≡ 1 = once h l in
-    let b : below n (λ k. one_if (home k == h) * f h) ≡ below n (λ k. one_if (home k == h)) * f h = below_times n (λ k. one_if (home k == h)) (f h) in
-    b ∙ rw a (omega arith))
+    below_times n (λ k. one_if (home k == h)) (f h) ∙ rw (once h l) (omega arith))
 
 pub below_front : (n : ℕ) (f : ℕ → ℕ) → below (suc n) f ≡ f 0 + below n (λ k. f (suc k))
 below_front zero f = omega arith
@@ -84,8 +72,7 @@ sum_by-below f d (x ∷ xs) =
 pub below_at_most : (n : ℕ) (f g : ℕ → ℕ) → ((k : ℕ) → k < n → f k ≤ g k) → below n f ≤ below n g
 below_at_most zero f g h = omega arith
 below_at_most (suc n) f g h =
-    let r : below n f ≤ below n g = below_at_most n f g (λ k l. h k (omega arith)) in
-    omega (arith, h n (omega arith))
+    omega (arith, below_at_most n f g (λ k l. h k (omega arith)), h n (omega arith))
 
 -- terms that are at most others, and sum as these do, are these
 pub below_all_same : (n : ℕ) (f g : ℕ → ℕ) → ((k : ℕ) → k < n → f k ≤ g k) → below n f ≡ below n g → (k : ℕ) → k < n → f k ≡ g k
@@ -104,9 +91,8 @@ one_if-at_most false b h = omega arith
 
 pub one_if-same : (a b : Bool) → one_if a ≡ one_if b → a ≡ b
 one_if-same true true h = refl
-one_if-same true false h = absurd (omega arith)
-one_if-same false true h = absurd (omega arith)
 one_if-same false false h = refl
+one_if-same _ _ h = absurd (omega arith)
 
 -- how often h stands in xs, by the places
 abbrev pub times_in : List ℕ → ℕ → ℕ

@@ -9,7 +9,7 @@ pub use Rattle.std.proofs.lemmas.Grind.{drop-set_at}
 pub use Rattle.std.proofs.lemmas.List.{ext_get_or, get_or-map, length-map, length-set, length-reverse, append-nil, at_drop_more}
 pub use Rattle.std.proofs.lemmas.List.{get_or-reverse, get_or_default, reverse-reverse, length-drop, get_or-set_same, get_or-set_other}
 pub use Rattle.std.proofs.lemmas.List.{at_drop_all, reverse-append}
-pub use Rattle.std.proofs.lemmas.List.Folds.{Any-from_list_any, list_any-from_Any, list_any_at}
+pub use Rattle.std.proofs.lemmas.List.Folds.{Any-from_list_any, list_any_at}
 pub use Rattle.std.proofs.lemmas.List.FromFn.{get_or-map-range_with_len, length-map-range_with_len, get_or-range_with_len}
 pub use Rattle.std.proofs.lemmas.List.FromFn.{length-range_with_len}
 pub use Rattle.std.proofs.lemmas.List.Sums.{sum_by-cons, list_all-from_AllPass}
@@ -17,14 +17,14 @@ pub use Rattle.std.proofs.lemmas.Map.Views.{Contains-from_any}
 pub use Rattle.std.specs.Cmp.Lexicographic.{same_text, other_text}
 pub use Rattle.std.specs.List.{list_all, list_any, range_with_len, sum_by}
 pub use Rattle.std.specs.Option.{option_map_or}
-pub use Rattle.std.specs.Prelude.{nat_lt, nat_le, sum, ◌↔◌, Contains, IsTrue, count_by, if◌then◌else◌, ◌/◌, EachIndex, nat_eq, fold}
+pub use Rattle.std.specs.Prelude.{nat_lt, nat_le, sum, ◌↔◌, Contains, IsTrue, count_by, ◌/◌, EachIndex, nat_eq, fold}
 pub use Rattle.std.specs.Prelude.{flat_map, filter, cond, IfNone, IfSome, MatchOption, slice_index_or}
 pub use lib.Pointwise.{pointwise}
-pub use Rattle.niss_moves.proofs.CallerLemmas.{same_place_is, same_place_of, effect-append, inverse_after, inverse_before, all_places}
-pub use Rattle.niss_moves.proofs.CallerLemmas.{same_face_is, same_power, same_power_is, turn, inverse_whole}
+pub use Rattle.niss_moves.proofs.CallerLemmas.{same_place_is, same_place_of, effect-append, inverse_after, inverse_before}
+pub use Rattle.niss_moves.proofs.CallerLemmas.{same_face_is, same_power, same_power_is, turn}
 unfoldable pub use Rattle.niss_moves.proofs.CallerLemmas.{every_face, every_power, every_turn, every_axis, every_slice, every_token}
 pub use Rattle.niss_moves.specs.Canonical.{face_order, turn_order}
-pub use Rattle.niss_moves.specs.Effects.{turned, effect, inverse, moved_by, effect_of_turns, inverse_token, moved}
+pub use Rattle.niss_moves.specs.Effects.{turned, effect, inverse, moved_by, effect_of_turns}
 pub use Rattle.niss_moves.specs.Facelets.{places, facelet}
 pub use Rattle.niss_moves.specs.Indices.{token_index, power_index}
 pub use Rattle.niss_moves.specs.Letters.{letter_at}
@@ -32,9 +32,8 @@ unfoldable pub use Rattle.niss_moves.specs.Letters.{letter_of, letters}
 pub use Rattle.niss_moves.specs.Places.{Place, is_place, same_place, SameMap, is_edge, is_corner}
 pub use Rattle.niss_moves.specs.Rotations.{renamed_turn, rotation_if, to_top, about_vertical, spelling}
 pub use Rattle.niss_moves.specs.Turn.{inverse_turn, same_face}
-pub use Rattle.niss_moves.specs.declared.rotation.Rotation.{Rotation}
 pub use Rattle.niss_cube.proofs.Facts.{Fact, Yes, Same, Equal, Below, Alike, Both, When, Numbers, Places, Turns, Among, Faces, Tokens}
-pub use Rattle.niss_cube.proofs.Facts.{Renamings, Digits, Truths, Holds, holds, tested, at_member, listed}
+pub use Rattle.niss_cube.proofs.Facts.{Renamings, Digits, Truths, Holds, holds, tested, at_member}
 pub use Rattle.niss_cube.proofs.Logic.{and_left, and_right, same_truth, and_both, is_true}
 pub use Rattle.niss_cube.specs.AfterTurn.{IsCube, TurnedIsCube, AreCoordinates, IsCoordinate}
 pub use Rattle.niss_cube.specs.Coordinates.{rank, number_of, number, count_of, standard_axis, choose, renamed_for, turn_for, renaming_for}
@@ -43,7 +42,7 @@ unfoldable pub use Rattle.niss_cube.specs.Coordinates.{flip_of, slice_of, twist_
 pub use Rattle.niss_cube.specs.CubieFacelets.{index_in, edge_facelets, corner_facelets, facelet_at, row_at}
 pub use Rattle.niss_cube.specs.CubieTurns.{turn_table, IsInRange}
 pub use Rattle.niss_cube.specs.Cubies.{flips_home, twists_home, corners_home, edges_home, AreCubies, ArePlaced, AreOriented}
-pub use Rattle.niss_cube.specs.Map.{map_of, sticker_map, sticker_place}
+pub use Rattle.niss_cube.specs.Map.{map_of, sticker_map, sticker_place, same_cubies}
 pub use Rattle.niss_cube.specs.Names.{Turn, U, Axis, Flip, Fb, Rl, Slice, Twist, Ud, Coordinate, D, F, Face, R, Token, Cube, Renaming, Step}
 pub use Rattle.niss_cube.specs.Names.{B, Counter, Domino, DrEofb, DrEorl, DrEoud, DrfbEorl, DrfbEoud, DrrlEofb, DrrlEoud, DrudEofb}
 pub use Rattle.niss_cube.specs.Names.{DrudEorl, Eo, Eofb, Eorl, Eoud, Goal, Half, L, Quarter, XCounter, XQuarter, YQuarter, ZCounter, Power}
@@ -63,7 +62,6 @@ pub use Rattle.niss_cube.specs.Steps.{start_of, goals_of, powers_from, is_face_o
 unfoldable pub use Rattle.niss_cube.specs.Steps.{turns_of, may_start, reached}
 pub use Rattle.niss_cube.specs.TableRows.{AreRowsAt, IsQuarter, AreQuarters, IsAnyTurn, entry_at, AreRows}
 pub use Rattle.niss_cube.specs.declared.cubie_turns.CubieTurn.{CubieTurn}
-pub use Rattle.niss_cube.specs.declared.followed_places.TheConstants.{FIRST_FACELETS, CUBIES, FACELETS}
-pub use Rattle.niss_cube.specs.declared.letters.TheConstants.{CORNER_LETTERS, EDGE_LETTERS, CUBIE_LETTERS}
+pub use Rattle.niss_cube.specs.declared.followed_places.TheConstants.{FIRST_FACELETS, CUBIES, FACELETS, CORNER_POSITIONS, EDGE_POSITIONS, CUBIE_LETTERS}
 pub use Rattle.niss_cube.specs.declared.place_positions.TheConstants.{POSITIONS_AFTER}
 pub use Rattle.niss_cube.specs.declared.slice_places.TheConstants.{CHOICES}

@@ -5,7 +5,6 @@ pub mod Map
 pub mod Sets
 pub mod Permutations
 pub mod Coordinates
-pub mod SameCubies
 pub mod CubieTurns
 pub mod Renamings
 pub mod NumberedCubies

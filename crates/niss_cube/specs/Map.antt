@@ -1,8 +1,9 @@
--- A cube as a map of the sticker places.
-use Rattle.std.specs.Prelude.{ℕ, ◌+◌, ◌%◌, if◌then◌else◌, List, slice_index, ◌==◌}
+-- A cube as a map of the sticker places, and when two cubes are equal.
+use Rattle.std.specs.Prelude.{ℕ, ◌+◌, ◌%◌, if◌then◌else◌, List, slice_index, ◌==◌, Bool, ◌&&◌, nat_eq}
 use Rattle.std.specs.List.{list_any}
 use Rattle.niss_cube.specs.Names.{Place, same_place, is_corner, is_edge, Cube}
 use Rattle.niss_cube.specs.CubieFacelets.{index_in, row_at, facelet_at, corner_facelets, edge_facelets}
+use lib.Pointwise.{pointwise}
 
 -- Where the sticker that began at p stands: p is facelet k of the home of cubie h, which stands at place n.
 abbrev pub sticker_place : (facelets : ℕ) → List (List Place) → (homes orientations : List ℕ) → Place → Place
@@ -22,3 +23,10 @@ sticker_map corners twists edges flips p =
 -- where the cube has the sticker that began at a place
 abbrev pub map_of : Cube → Place → Place
 map_of c = sticker_map c.corners c.twists c.edges c.flips
+
+-- the same cubies at the same places, turned alike
+abbrev pub same_cubies : Cube → Cube → Bool
+same_cubies c d =
+    pointwise nat_eq c.corners d.corners
+    && (pointwise nat_eq c.twists d.twists
+    && (pointwise nat_eq c.edges d.edges && pointwise nat_eq c.flips d.flips))

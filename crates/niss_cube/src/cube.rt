@@ -1,13 +1,14 @@
 //! Cubes by their cubies.
 ghost use Rattle.std.specs.Prelude.{◌≡◌, ◌<◌};
+ghost use Rattle.niss_moves.specs.Rotations.{about_vertical};
 ghost use Rattle.niss_cube.specs.Cubies.{AreCubies};
 
 use crate::cubie_turns::{cubie_turn, turn_homes, turn_orientations};
-use crate::letters::{CORNER_LETTERS, EDGE_LETTERS};
+use crate::followed_places::{CORNER_POSITIONS, CUBIE_LETTERS, CUBIES, EDGE_POSITIONS, FACELETS};
+use crate::place_positions::position_before;
 use crate::renaming::Renaming;
-use crate::rotated_text::{bring_to_top, turn_about_vertical};
 use coordinate::Coordinate;
-use niss_moves::{Axis, Rotation, Turn};
+use niss_moves::{Axis, Power, Rotation, Turn};
 use std::alloc::AllocError;
 
 pub(crate) mod coordinate;
@@ -36,15 +37,14 @@ pub struct Cube {
 impl Cube {
     ghost use Rattle.std.specs.Prelude.{◌≡◌, ◌↔◌, ℕ, slice_index};
     ghost use Rattle.niss_moves.specs.Places.{SameMap};
-    ghost use Rattle.niss_moves.specs.Facelets.{places};
     ghost use Rattle.niss_moves.specs.Letters.{letter_of, letters};
+    ghost use Rattle.niss_moves.specs.Facelets.{places};
     ghost use Rattle.niss_moves.specs.Effects.{effect, effect_of_turns, turned};
     ghost use Rattle.niss_moves.specs.Rotations.{spelling};
-    ghost use Rattle.niss_cube.specs.Map.{map_of};
-    ghost use Rattle.niss_cube.specs.SameCubies.{same_cubies};
+    ghost use Rattle.niss_cube.specs.Map.{map_of, same_cubies};
     ghost use Rattle.niss_cube.specs.Sets.{Kept, flip_set, twist_set, slice_set};
     ghost use Rattle.niss_cube.specs.Renamings.{renamed_by};
-    ghost use Rattle.niss_cube.specs.CubieFacelets.{facelet_at, corner_facelets, edge_facelets};
+    ghost use Rattle.niss_cube.specs.PlacePositions.{BeganAt, place_at};
     ghost use Rattle.niss_cube.specs.Coordinates.{flip_of, twist_of, slice_of};
 
     /// The solved cube.
@@ -138,66 +138,33 @@ impl Cube {
                 && (self.edges == other.edges && self.flips == other.flips))
     }
 
-    /// The letters at a corner place, in the order of its facelets.
-    fn corner_letters(&self, place: usize) -> [u8; 3]
-        requires { place < 8 }
-        ensures { (k : ℕ) → k < 3 → slice_index result k
-            ≡ letter_of (map_of self.now) places (facelet_at corner_facelets place k) }
+    /// The position in the facelet text at which the sticker at a position began.
+    fn origin(&self, position: usize) -> usize
+        requires { position < 54 }
+        ensures { BeganAt self.now position result }
     {
-        let letters = &CORNER_LETTERS[self.corners[place] as usize];
-        let first = 3 - self.twists[place] as usize;
-        [letters[first], letters[first + 1], letters[first + 2]]
+        let cubie = CUBIES[position] as usize;
+        let facelet = FACELETS[position] as usize;
+        if cubie < 8 {
+            let turned_back = (3 - self.twists[cubie] as usize + facelet) % 3;
+            return CORNER_POSITIONS[3 * self.corners[cubie] as usize + turned_back] as usize;
+        }
+        if cubie < 20 {
+            let turned_back = (2 - self.flips[cubie - 8] as usize + facelet) % 2;
+            return EDGE_POSITIONS[2 * self.edges[cubie - 8] as usize + turned_back] as usize;
+        }
+        position
     }
 
-    /// The letters at an edge place, in the order of its facelets.
-    fn edge_letters(&self, place: usize) -> [u8; 2]
-        requires { place < 12 }
-        ensures { (k : ℕ) → k < 2 → slice_index result k
-            ≡ letter_of (map_of self.now) places (facelet_at edge_facelets place k) }
+    /// The letter at a position of the facelet text of the cube, rotated as a whole.
+    fn letter(&self, rotation: Rotation, position: usize) -> u8
+        requires { position < 54 }
+        ensures { result ≡ letter_of (λ q. effect (spelling rotation) (map_of self.now q)) places
+            (place_at position) }
     {
-        let letters = &EDGE_LETTERS[self.edges[place] as usize];
-        let first = 2 - self.flips[place] as usize;
-        [letters[first], letters[first + 1]]
-    }
-
-    /// The facelet text of the cube as it stands.
-    fn letters(&self) -> [u8; 54]
-        ensures { result ≡ letters (map_of self.now) }
-    {
-        let urf = self.corner_letters(0);
-        let ufl = self.corner_letters(1);
-        let ulb = self.corner_letters(2);
-        let ubr = self.corner_letters(3);
-        let dfr = self.corner_letters(4);
-        let dlf = self.corner_letters(5);
-        let dbl = self.corner_letters(6);
-        let drb = self.corner_letters(7);
-        let ur = self.edge_letters(0);
-        let uf = self.edge_letters(1);
-        let ul = self.edge_letters(2);
-        let ub = self.edge_letters(3);
-        let dr = self.edge_letters(4);
-        let df = self.edge_letters(5);
-        let dl = self.edge_letters(6);
-        let db = self.edge_letters(7);
-        let fr = self.edge_letters(8);
-        let fl = self.edge_letters(9);
-        let bl = self.edge_letters(10);
-        let br = self.edge_letters(11);
-        [
-            // U
-            ulb[0], ub[0], ubr[0], ul[0], b'U', ur[0], ufl[0], uf[0], urf[0],
-            // R
-            urf[1], ur[1], ubr[2], fr[1], b'R', br[1], dfr[2], dr[1], drb[1],
-            // F
-            ufl[1], uf[1], urf[2], fl[0], b'F', fr[0], dlf[2], df[1], dfr[1],
-            // D
-            dlf[0], df[0], dfr[0], dl[0], b'D', dr[0], dbl[0], db[0], drb[0],
-            // L
-            ulb[1], ul[1], ufl[2], bl[1], b'L', fl[1], dbl[2], dl[1], dlf[1],
-            // B
-            ubr[1], ub[1], ulb[2], br[0], b'B', bl[0], drb[2], db[1], dbl[1],
-        ]
+        let upright = position_before(about_vertical(rotation.vertical), position);
+        let before = position_before(rotation.top.to_top(), upright);
+        CUBIE_LETTERS[self.origin(before)][0]
     }
 
     /// The facelet text of the cube, then rotated as a whole: the faces in the order U, R, F, D, L, B with nine letters
@@ -205,9 +172,19 @@ impl Cube {
     pub fn facelets(&self, rotation: Rotation) -> [u8; 54]
         ensures { result ≡ letters (λ q. effect (spelling rotation) (map_of self.now q)) }
     {
-        let upright = bring_to_top(&self.letters(), rotation.top);
-        turn_about_vertical(&upright, rotation.vertical)
+        let mut text = [0; 54];
+        for (position, letter) in text.iter_mut().enumerate() {
+            *letter = self.letter(rotation, position);
+        }
+        text
     }
+}
+
+/// A rotation about the vertical axis, if there is one.
+fn about_vertical(power: Option<Power>) -> Option<(Axis, Power)>
+    ensures { result ≡ about_vertical power }
+{
+    power.map(|power| (Axis::Ud, power))
 }
 
 impl Clone for Cube {
@@ -225,13 +202,13 @@ impl PartialEq for Cube {
     ghost use Rattle.std.specs.Cmp.Rules.{comparing};
     ghost use Rattle.std.proofs.Common.{rules};
     ghost use Rattle.niss_moves.specs.Places.{SameMap};
-    ghost use Rattle.niss_cube.specs.Map.{map_of};
-    ghost use Rattle.niss_cube.specs.SameCubies.{same_cubies};
+    ghost use Rattle.niss_cube.specs.Map.{map_of, same_cubies};
 
     ghost eq = { same_cubies };
 
     ghost laws = { Prim.search (comparing, rules) };
 
+    #[tactic(auto, using(crate::proofs::ShownCubies::equal_cubes))]
     fn eq(&self, other: &Cube) -> bool
         ensures value { result ≡ same_cubies self.now other.now }
         ensures map { IsTrue result ↔ SameMap (map_of self.now) (map_of other.now) }

@@ -3,13 +3,22 @@ ghost use Rattle.std.specs.Prelude.{◌≡◌, ℕ, ◌<◌, ◌++◌, slice_ind
 ghost use Rattle.niss_moves.specs.Effects.{effect, inverse};
 ghost use Rattle.niss_moves.specs.Letters.{letters};
 
-use crate::letters::CUBIE_LETTERS;
 use crate::place_positions::positions_after;
 use niss_moves::Token;
 
+/// The positions of the corners' facelets in the facelet text, three for each corner in the order of its facelets.
+pub const CORNER_POSITIONS: [u8; 24] = [
+    8, 9, 20, 6, 18, 38, 0, 36, 47, 2, 45, 11, 29, 26, 15, 27, 44, 24, 33, 53, 42, 35, 17, 51,
+];
+
+/// The same of the edges, two for each edge.
+pub const EDGE_POSITIONS: [u8; 24] = [
+    5, 10, 7, 19, 3, 37, 1, 46, 32, 16, 28, 25, 30, 43, 34, 52, 23, 12, 21, 41, 50, 39, 48, 14,
+];
+
 /// The first facelet of each corner and of each edge, and the centres, by their positions in the facelet text. The others
 /// follow them: a move keeps the order in which the facelets of a cubie stand.
-pub const FIRST_FACELETS: [u8; 26] = [
+const FIRST_FACELETS: [u8; 26] = [
     8, 6, 0, 2, 29, 27, 33, 35, 5, 7, 3, 1, 32, 28, 30, 34, 23, 21, 50, 48, 4, 13, 22, 31, 40, 49,
 ];
 
@@ -23,6 +32,17 @@ pub const CUBIES: [u8; 54] = [
 pub const FACELETS: [u8; 54] = [
     0, 0, 0, 0, 0, 0, 0, 0, 0, 1, 1, 2, 1, 0, 1, 2, 1, 1, 1, 1, 2, 0, 0, 0, 2, 1, 1, 0, 0, 0, 0, 0,
     0, 0, 0, 0, 1, 1, 2, 1, 0, 1, 2, 1, 1, 1, 1, 2, 0, 0, 0, 2, 1, 1,
+];
+
+/// For each position of the facelet text: the letter there on the solved cube, and those of the next facelets of its cubie,
+/// clockwise. The second facelet of an edge is followed by the first, and a centre by itself.
+pub const CUBIE_LETTERS: [[u8; 3]; 54] = [
+    *b"ULB", *b"UBU", *b"UBR", *b"ULU", *b"UUU", *b"URU", *b"UFL", *b"UFU", *b"URF", *b"RFU",
+    *b"RUR", *b"RUB", *b"RFR", *b"RRR", *b"RBR", *b"RDF", *b"RDR", *b"RBD", *b"FLU", *b"FUF",
+    *b"FUR", *b"FLF", *b"FFF", *b"FRF", *b"FDL", *b"FDF", *b"FRD", *b"DLF", *b"DFD", *b"DFR",
+    *b"DLD", *b"DDD", *b"DRD", *b"DBL", *b"DBD", *b"DRB", *b"LBU", *b"LUL", *b"LUF", *b"LBL",
+    *b"LLL", *b"LFL", *b"LDB", *b"LDL", *b"LFD", *b"BRU", *b"BUB", *b"BUL", *b"BRB", *b"BBB",
+    *b"BLB", *b"BDR", *b"BDB", *b"BLD",
 ];
 
 /// Places that are followed through moves, by their positions in the facelet text.
@@ -87,10 +107,10 @@ impl FollowedPlaces {
         }
     }
 
-    /// The facelet text of the inverse of the moves through which the first facelets were followed.
+    /// The facelet text of moves that bring what stands at these places to the first facelets.
     fn letters(&self) -> [u8; 54]
-        ensures { (s : List Token) → AreMoved FIRST_FACELETS self.now.positions s →
-            result ≡ letters (effect (inverse s)) }
+        ensures { (s : List Token) → AreMoved self.now.positions FIRST_FACELETS s →
+            result ≡ letters (effect s) }
     {
         let mut text = [0; 54];
         for (position, letter) in text.iter_mut().enumerate() {

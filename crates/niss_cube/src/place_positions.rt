@@ -1,9 +1,10 @@
 //! The places to which moves bring the stickers, by their positions in the facelet text.
 ghost use Rattle.std.specs.Prelude.{◌≡◌, ℕ, ◌+◌, ◌<◌, slice_index};
-ghost use Rattle.niss_moves.specs.Effects.{moved_by};
+ghost use Rattle.niss_moves.specs.Effects.{effect, inverse, moved_by};
+ghost use Rattle.niss_moves.specs.Rotations.{rotation_if};
 ghost use Rattle.niss_cube.specs.PlacePositions.{place_at};
 
-use niss_moves::Token;
+use niss_moves::{Axis, Power, Token};
 
 /// For each move, by its number, and each position of the facelet text: the position to which the move brings the sticker
 /// that stands there.
@@ -341,4 +342,18 @@ pub fn positions_after(token: Token) -> &'static [u8; 54]
         place_at (slice_index result.now k) ≡ moved_by token (place_at k) }
 {
     &POSITIONS_AFTER[token.index()]
+}
+
+/// The position from which a rotation, if there is one, brings the sticker to a position.
+pub fn position_before(rotation: Option<(Axis, Power)>, position: usize) -> usize
+    requires { position < 54 }
+    ensures in_range { result < 54 }
+    ensures moves { place_at result ≡ effect (inverse (rotation_if rotation)) (place_at position) }
+{
+    match rotation {
+        None => position,
+        Some((axis, power)) => {
+            positions_after(Token::Rotation(axis, power.inverse()))[position] as usize
+        }
+    }
 }

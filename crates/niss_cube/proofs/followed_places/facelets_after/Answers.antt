@@ -1,12 +1,13 @@
-use Rattle.niss_cube.proofs.Words.{ap, sym, subst, ◌∙◌, ◌++◌, List, ℕ, effect, inverse, letters, AreMoved, inverse_whole}
-use Rattle.niss_cube.proofs.FollowedLetters.{moved-twice}
+use Rattle.niss_cube.proofs.Words.{sym, ap, ◌∙◌, ◌++◌, effect, inverse, place_at, slice_index, effect-append, inverse_after, inverse_before}
 use Rattle.niss_cube.proofs.followed_places.facelets_after.Goals as goal
 
 pub returns : goal.returns
 returns c =
     let made = c.args.made.now in
     let undone = c.args.undone.now in
-    let P : List ℕ → Type 0 = λ old. AreMoved old c.follow_back.new.self.positions (undone ++ inverse made) in
-    c.letters.ensures (undone ++ inverse made)
-    (subst P c.new-places.ensures (moved-twice c.new-places.result.positions c.follow_all.new.self.positions c.follow_back.new.self.positions undone (inverse made) c.follow_all.ensures c.follow_back.ensures))
-    ∙ ap (λ s. letters (effect s)) (sym (inverse_whole undone made))
+    c.letters.ensures (made ++ inverse undone) (λ k l. sym
+    (ap (effect (made ++ inverse undone)) (c.follow_back.ensures k l)
+    ∙ effect-append made (inverse undone) _
+    ∙ ap (effect (inverse undone)) (inverse_before made _ ∙ c.follow_all.ensures k l)
+    ∙ inverse_after undone _
+    ∙ ap (λ ps. place_at (slice_index ps k)) c.new-places.ensures))
