@@ -246,7 +246,8 @@ slice_home = holds (Numbers 12 λ i. Same (get_or (map (nat_le 8) edges_home) i 
 
 slice_number_zero : (c : CubieLists) → Valid c → (rank (slice_occupied c.edges) 4 ≡ 0) ↔ AtHome c.edges
 slice_number_zero c v =
-    let at : (i : ℕ) → i < 12 → get_or (map (nat_le 8) c.edges) i false ≡ nat_le 8 (get_or c.edges i 0) = λ i l. get_or-map (nat_le 8) c.edges i 0 false (omega (arith, l, v.edges_placed.places)) in
+    let at : (i : ℕ) → i < 12 → get_or (map (nat_le 8) c.edges) i false ≡ nat_le 8 (get_or c.edges i 0) =
+    λ i l. get_or-map (nat_le 8) c.edges i 0 false (omega (arith, l, v.edges_placed.places)) in
     let len : length (map (nat_le 8) c.edges) ≡ 12 = length-map c.edges (nat_le 8) ∙ v.edges_placed.places in (
       (λ e i l. sym (at i l) ∙ ap (λ os. get_or os i false) (slice-same c home v home-valid e) ∙ slice_home i l),
       (λ h. ap (λ os. rank (reverse os) 4) (ext_get_or false (map (nat_le 8) c.edges) (map (nat_le 8) edges_home) len (λ i l.

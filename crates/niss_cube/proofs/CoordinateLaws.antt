@@ -99,7 +99,8 @@ module _ (k : Coordinate) (a : Axis) where
   pub after_turn : (c : Cube) (t : Turn) → number_after k a (number_of k a (map_of c)) t ≡ number_of k a (λ q. turned t (map_of c q))
   after_turn c t = sym (follow (lists_of c) c.are_cubies (map_of c) (λ q p. refl) t)
 
-  pub after_both : (c : Cube) (s t : Turn) → number_after k a (number_after k a (number_of k a (map_of c)) s) t ≡ number_of k a (λ q. turned t (turned s (map_of c q)))
+  pub after_both : (c : Cube) (s t : Turn) →
+      number_after k a (number_after k a (number_of k a (map_of c)) s) t ≡ number_of k a (λ q. turned t (turned s (map_of c q)))
   after_both c s t =
       let d = turned_is_cube (map_of c) s (cube-itself c) in
       ap (λ i. number_after k a i t) (after_turn c s) ∙ sym (follow (lists_of d.0) d.0.are_cubies (λ q. turned s (map_of c q)) d.1 t)
@@ -109,7 +110,8 @@ module _ (k : Coordinate) (a : Axis) where
       let P : ℕ → Type 0 = λ n. n < count_of k in
       let c = some i l in
       let d = turned_is_cube (map_of c.0) t (cube-itself c.0) in
-      subst P (sym (after_turn c.0 t) ∙ ap (λ j. number_after k a j t) c.1) (number-below (lists_of d.0) d.0.are_cubies (λ q. turned t (map_of c.0 q)) d.1)
+      subst P (sym (after_turn c.0 t) ∙ ap (λ j. number_after k a j t) c.1)
+      (number-below (lists_of d.0) d.0.are_cubies (λ q. turned t (map_of c.0 q)) d.1)
 
   goes_back : (i : ℕ) (t : Turn) → i < count_of k → number_after k a (number_after k a i t) (inverse_turn t) ≡ i
   goes_back i t l =
@@ -181,7 +183,8 @@ module _ (k : Coordinate) (rows : List (List (List ℕ))) (h : AreQuarters k row
     pub twice-below : twice < count_of k
     twice-below = let P : ℕ → Type 0 = λ n. n < count_of k in subst P (sym twice-is) ((law k).after_below i (turn f Half) l)
 
-    pub numbers_after-are : (thrice : ℕ) → thrice ≡ entry_at (get_or rows twice []) (turn f Quarter) → (p : Power) → slice_index (once ∷ twice ∷ thrice ∷ []) (power_index p) ≡ after_of k i (turn f p)
+    pub numbers_after-are : (thrice : ℕ) → thrice ≡ entry_at (get_or rows twice []) (turn f Quarter) →
+        (p : Power) → slice_index (once ∷ twice ∷ thrice ∷ []) (power_index p) ≡ after_of k i (turn f p)
     numbers_after-are thrice z Quarter = once-is
     numbers_after-are thrice z Half = twice-is
     numbers_after-are thrice z Counter = z ∙ h.entries twice (turn f Quarter) refl twice-below ∙ ap (λ j. after_of k j (turn f Quarter)) twice-is ∙ after-thrice k f i l

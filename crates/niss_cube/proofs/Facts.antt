@@ -134,10 +134,12 @@ at_renaming t h XQuarter = and_left _ _ (and_right (t XCounter) _ h)
 at_renaming t h YQuarter = and_left _ _ (and_right (t XQuarter) _ (and_right (t XCounter) _ h))
 at_renaming t h ZCounter = and_right (t YQuarter) _ (and_right (t XQuarter) _ (and_right (t XCounter) _ h))
 
-at_digits : (b : ℕ) (ds : List ℕ) (t : List ℕ → Bool) → all_digits b (length ds) t ≡ true → ((i : ℕ) → i < length ds → get_or ds i 0 < b) → t ds ≡ true
+at_digits : (b : ℕ) (ds : List ℕ) (t : List ℕ → Bool) → all_digits b (length ds) t ≡ true →
+    ((i : ℕ) → i < length ds → get_or ds i 0 < b) → t ds ≡ true
 at_digits b [] t h r = h
 at_digits b (d ∷ ds) t h r =
-    at_digits b ds (λ ds. t (d ∷ ds)) (at_below b (λ d. all_digits b (length ds) (λ ds. t (d ∷ ds))) h d (r 0 (omega arith))) (λ i l. r (suc i) (omega arith))
+    let first = at_below b (λ d. all_digits b (length ds) (λ ds. t (d ∷ ds))) h d (r 0 (omega arith)) in
+    at_digits b ds (λ ds. t (d ∷ ds)) first (λ i l. r (suc i) (omega arith))
 
 at_truths : (bs : List Bool) (t : List Bool → Bool) → all_truths (length bs) t ≡ true → t bs ≡ true
 at_truths [] t h = h
@@ -160,5 +162,6 @@ holds (Faces f) h = λ face. holds (f face) (at_face (λ face. tested (f face)) 
 holds (Tokens f) h = λ m. holds (f m) (at_token _ h m)
 holds (Renamings f) h = λ v. holds (f v) (at_renaming (λ v. tested (f v)) h v)
 holds (Digits b n f) h = λ ds l r.
-    holds (f ds) (at_digits b ds (λ ds. tested (f ds)) (ap (λ n. all_digits b n (λ ds. tested (f ds))) l ∙ h) (λ i li. r i (omega (arith, l, li))))
+    let all = ap (λ n. all_digits b n (λ ds. tested (f ds))) l ∙ h in
+    holds (f ds) (at_digits b ds (λ ds. tested (f ds)) all (λ i li. r i (omega (arith, l, li))))
 holds (Truths n f) h = λ bs l. holds (f bs) (at_truths bs (λ bs. tested (f bs)) (ap (λ n. all_truths n (λ bs. tested (f bs))) l ∙ h))

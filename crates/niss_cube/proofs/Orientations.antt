@@ -33,7 +33,8 @@ all_lists Edges = holds (list_fact Edges) refl
 -- each number is that of its orientations, and no cubie is turned at 0
 abbrev number_fact : Kind → Fact
 number_fact k = Both (Numbers (count k) λ j. Equal (get_or (of_number k 0) j 0) 0) (Numbers (numbers k) λ i.
-    Both (Equal (turns_number k (of_number k i)) i) (Both (Equal (length (of_number k i)) (count k)) (Both (Equal (sum (of_number k i) % facelets k) 0)
+    Both (Equal (turns_number k (of_number k i)) i)
+    (Both (Equal (length (of_number k i)) (count k)) (Both (Equal (sum (of_number k i) % facelets k) 0)
     (Numbers (count k) λ j. Below (get_or (of_number k i) j 0) (facelets k)))))
 
 all_numbers : (k : Kind) → Holds (number_fact k)
@@ -56,17 +57,21 @@ module _ (k : Kind) (xs : List ℕ) (o : AreOriented (facelets k) (count k) xs) 
   turns_number-is = same_text _ _ (sym (all_lists k xs o.places o.range (eq-eqb _ 0 o.whole)).1)
 
 -- orientations are determined by their number
-pub turns_number-same : (k : Kind) (xs ys : List ℕ) → AreOriented (facelets k) (count k) xs → AreOriented (facelets k) (count k) ys → turns_number k xs ≡ turns_number k ys → xs ≡ ys
+pub turns_number-same : (k : Kind) (xs ys : List ℕ) → AreOriented (facelets k) (count k) xs → AreOriented (facelets k) (count k) ys →
+    turns_number k xs ≡ turns_number k ys → xs ≡ ys
 turns_number-same k xs ys p q e = turns_number-is k xs p ∙ ap (of_number k) e ∙ sym (turns_number-is k ys q)
 
 -- their number is 0 exactly where no cubie is turned
-pub turns_number-zero : (k : Kind) (xs : List ℕ) → AreOriented (facelets k) (count k) xs → (turns_number k xs ≡ 0) ↔ ((i : ℕ) → i < count k → get_or xs i 0 ≡ 0)
+pub turns_number-zero : (k : Kind) (xs : List ℕ) → AreOriented (facelets k) (count k) xs →
+    (turns_number k xs ≡ 0) ↔ ((i : ℕ) → i < count k → get_or xs i 0 ≡ 0)
 turns_number-zero k xs o =
     let home : (i : ℕ) → i < count k → get_or (of_number k 0) i 0 ≡ 0 = (all_numbers k).0 in (
       (λ e i l. ap (λ ys. get_or ys i 0) (turns_number-is k xs o ∙ ap (of_number k) e) ∙ home i l),
       (λ h.
           let some : 0 < numbers k = some_number k in
-          let none : xs ≡ of_number k 0 = ext_get_or 0 xs (of_number k 0) (o.places ∙ sym (of_number-are k 0 some).places) (λ i l. h i (omega (arith, l, o.places)) ∙ sym (home i (omega (arith, l, o.places)))) in
+          let len : length xs ≡ length (of_number k 0) = o.places ∙ sym (of_number-are k 0 some).places in
+          let none : xs ≡ of_number k 0 = ext_get_or 0 xs (of_number k 0) len (λ i l.
+          let li : i < count k = omega (arith, l, o.places) in h i li ∙ sym (home i li)) in
           ap (turns_number k) none ∙ of_number-number k 0 some),
     )
   where
@@ -104,7 +109,8 @@ written-step b n number met rest total xs h w =
       total_is =
           ap (λ ys. sum ys % b) e
           ∙ ap (λ k. k % b) (sum_by-cons (λ x. x) d (last_digits n met xs))
-          ∙ ap (λ k. k % b) (let a : d + sum (last_digits n met xs) ≡ sum (last_digits n met xs) + d = omega arith in a) ∙ sym (mod-add-mod (sum (last_digits n met xs)) b d)
+          ∙ ap (λ k. k % b) (let a : d + sum (last_digits n met xs) ≡ sum (last_digits n met xs) + d = omega arith in a)
+          ∙ sym (mod-add-mod (sum (last_digits n met xs)) b d)
           ∙ ap (λ k. (k + d) % b) w.total_is;
     }
 

@@ -43,30 +43,39 @@ slice_occupied-filled c v =
     ∙ below_permuted 12 (λ k. get_or c.edges k 0) (λ h. one_if (nat_le 8 h)) v.edges_placed.range (edge-once c v)
 
 -- the number of any places, and that of four, which determines them
-all_occupied : Holds (Truths 12 λ os. Both (Below (rank os 4) 496) (When (filled os == 4)
-    (Both (Below (rank os 4) 495) (Numbers 12 λ k. Same (get_or os k false) (get_or (map (nat_le 8) (edges_down 12 4 (rank os 4))) k false)))))
+abbrev of_slice : ℕ → ℕ → Bool
+of_slice i k = get_or (map (nat_le 8) (edges_down 12 4 i)) k false
+
+abbrev occupied_fact : List Bool → Fact
+occupied_fact os =
+    Both (Below (rank os 4) 496) (When (filled os == 4)
+    (Both (Below (rank os 4) 495) (Numbers 12 λ k. Same (get_or os k false) (of_slice (rank os 4) k))))
+
+all_occupied : Holds (Truths 12 occupied_fact)
 unfolding edges_down
-all_occupied = holds (Truths 12 λ os. Both (Below (rank os 4) 496) (When (filled os == 4)
-    (Both (Below (rank os 4) 495) (Numbers 12 λ k. Same (get_or os k false) (get_or (map (nat_le 8) (edges_down 12 4 (rank os 4))) k false))))) refl
+all_occupied = holds (Truths 12 occupied_fact) refl
 
 pub slice-at_most : (edges : List ℕ) → length edges ≡ 12 → rank (slice_occupied edges) 4 < 496
 slice-at_most edges l = (all_occupied (slice_occupied edges) (slice_occupied-length edges l)).0
 
 pub slice-below : (c : CubieLists) → Valid c → rank (slice_occupied c.edges) 4 < 495
 slice-below c v =
-    ((all_occupied (slice_occupied c.edges) (slice_occupied-length c.edges v.edges_placed.places)).1 (eq-eqb _ 4 (slice_occupied-filled c v))).0
+    let all = all_occupied (slice_occupied c.edges) (slice_occupied-length c.edges v.edges_placed.places) in
+    (all.1 (eq-eqb _ 4 (slice_occupied-filled c v))).0
 
-pub slice-same : (c d : CubieLists) → Valid c → Valid d → rank (slice_occupied c.edges) 4 ≡ rank (slice_occupied d.edges) 4 → map (nat_le 8) c.edges ≡ map (nat_le 8) d.edges
+pub slice-same : (c d : CubieLists) → Valid c → Valid d → rank (slice_occupied c.edges) 4 ≡ rank (slice_occupied d.edges) 4 →
+    map (nat_le 8) c.edges ≡ map (nat_le 8) d.edges
 slice-same c d v w e =
     sym (reverse-reverse (map (nat_le 8) c.edges))
     ∙ ap reverse (ext_get_or false (slice_occupied c.edges) (slice_occupied d.edges) (len c v ∙ sym (len d w)) (λ k l.
-    at c v k (omega (arith, l, len c v)) ∙ ap (λ i. get_or (map (nat_le 8) (edges_down 12 4 i)) k false) e ∙ sym (at d w k (omega (arith, l, len c v)))))
+    let lk : k < 12 = omega (arith, l, len c v) in
+    at c v k lk ∙ ap (λ i. of_slice i k) e ∙ sym (at d w k lk)))
     ∙ reverse-reverse (map (nat_le 8) d.edges)
   where
     len : (c : CubieLists) → Valid c → length (slice_occupied c.edges) ≡ 12
     len c v = slice_occupied-length c.edges v.edges_placed.places
 
-    at : (c : CubieLists) (v : Valid c) (k : ℕ) → k < 12 → get_or (slice_occupied c.edges) k false ≡ get_or (map (nat_le 8) (edges_down 12 4 (rank (slice_occupied c.edges) 4))) k false
+    at : (c : CubieLists) (v : Valid c) (k : ℕ) → k < 12 → get_or (slice_occupied c.edges) k false ≡ of_slice (rank (slice_occupied c.edges) 4) k
     at c v = ((all_occupied (slice_occupied c.edges) (len c v)).1 (eq-eqb _ 4 (slice_occupied-filled c v))).1
 
 -- each number is that of its edges
@@ -108,7 +117,8 @@ turned-occupied t xs ys lx ly e =
 
 -- and so it depends on their number
 pub rank-turned : (t : Turn) (c d : CubieLists) → Valid c → Valid d → rank (slice_occupied c.edges) 4 ≡ rank (slice_occupied d.edges) 4 →
-    rank (slice_occupied (tabulated 12 (brought (turn_table t.face t.power).edges c.edges))) 4 ≡ rank (slice_occupied (tabulated 12 (brought (turn_table t.face t.power).edges d.edges))) 4
+    rank (slice_occupied (tabulated 12 (brought (turn_table t.face t.power).edges c.edges))) 4
+    ≡ rank (slice_occupied (tabulated 12 (brought (turn_table t.face t.power).edges d.edges))) 4
 rank-turned t c d v w e =
     ap (λ os. rank (reverse os) 4) (turned-occupied t c.edges d.edges v.edges_placed.places w.edges_placed.places (slice-same c d v w e))
 

@@ -1,5 +1,5 @@
-use Rattle.niss_cube.proofs.Words.{ℕ, List, length, get_or, refl, sym, subst, rules, Turn, turn_table, every_turn, every_face, every_power, CubieTurn, IsInRange}
-use Rattle.niss_cube.proofs.Words.{Fact, Both, Below, Numbers, Turns, holds}
+use Rattle.niss_cube.proofs.Words.{ℕ, List, length, get_or, refl, sym, subst, rules, Turn, turn_table, every_turn, every_face, every_power}
+use Rattle.niss_cube.proofs.Words.{CubieTurn, IsInRange, Fact, Both, Below, Numbers, Turns, holds}
 use Rattle.niss_cube.proofs.cubie_turns.cubie_turn.Goals as goal
 
 abbrev within : List ℕ → ℕ → Fact

@@ -18,4 +18,5 @@ returns-clause-unknown c =
     let m = member s in
     let here : u.at m.0 ≡ Some s =
     q.2.3 m.0 ∙ i.2 m.0 s (omega (arith, m.1, i.1 (q.2.0 ∙ w.0), ap length r)) ∙ ap (λ xs. Some (slice_index_or xs m.0 s)) r ∙ ap Some m.2 in
-    subst (λ o. IfSome o (λ s. name_of s ≢ c.args.name.now)) here (IfSome_then (u.at m.0) {Q = λ s. name_of s ≢ c.args.name.now} (w.1 (search rules) m.0) (λ s called. search rules)))
+    subst (λ o. IfSome o (λ s. name_of s ≢ c.args.name.now)) here
+    (IfSome_then (u.at m.0) {Q = λ s. name_of s ≢ c.args.name.now} (w.1 (search rules) m.0) (λ s called. search rules)))

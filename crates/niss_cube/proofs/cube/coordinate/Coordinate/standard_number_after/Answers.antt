@@ -8,24 +8,30 @@ use Rattle.niss_cube.proofs.cube.coordinate.Coordinate.standard_number_after.Goa
 use Rattle.niss_cube.proofs.cube.coordinate.Coordinate.standard_number_after.Goals.{After-turn_orientations-twists}
 use Rattle.niss_cube.proofs.cube.coordinate.Coordinate.standard_number_after.Goals as goal
 
-flips-are : (c : After-turn_orientations-flips) → number 2 (take 11 c.turn_orientations-flips.result) ≡ code Flip (moved (By c.args.turn) (lists_of c.args.cube.now))
+flips-are : (c : After-turn_orientations-flips) →
+    number 2 (take 11 c.turn_orientations-flips.result) ≡ code Flip (moved (By c.args.turn) (lists_of c.args.cube.now))
 flips-are c =
-    ap (λ xs. number 2 (take 11 xs)) (tabulated-is 12 _ _ (omega (arith, c.turn_orientations-flips.type_inv)) (rw c.cubie_turn-table.ensures.value at c.turn_orientations-flips.ensures))
+    ap (λ xs. number 2 (take 11 xs))
+    (tabulated-is 12 _ _ (omega (arith, c.turn_orientations-flips.type_inv))
+    (rw c.cubie_turn-table.ensures.value at c.turn_orientations-flips.ensures))
 
-twists-are : (c : After-turn_orientations-twists) → number 3 (take 7 c.turn_orientations-twists.result) ≡ code Twist (moved (By c.args.turn) (lists_of c.args.cube.now))
+twists-are : (c : After-turn_orientations-twists) →
+    number 3 (take 7 c.turn_orientations-twists.result) ≡ code Twist (moved (By c.args.turn) (lists_of c.args.cube.now))
 twists-are c =
-    ap (λ xs. number 3 (take 7 xs)) (tabulated-is 8 _ _ (omega (arith, c.turn_orientations-twists.type_inv)) (rw c.cubie_turn-table.ensures.value at c.turn_orientations-twists.ensures))
+    ap (λ xs. number 3 (take 7 xs))
+    (tabulated-is 8 _ _ (omega (arith, c.turn_orientations-twists.type_inv))
+    (rw c.cubie_turn-table.ensures.value at c.turn_orientations-twists.ensures))
 
 pub number_from_digits-requires-clause-fits : goal.number_from_digits-requires-clause-fits
 number_from_digits-requires-clause-fits c =
-    let a = lists_of c.args.cube.now in
-    let l : code Flip (moved (By c.args.turn) a) < 2048 = code-below Flip (moved (By c.args.turn) a) (moved-valid (By c.args.turn) a c.args.cube.now.are_cubies) in
+    let m = moved (By c.args.turn) (lists_of c.args.cube.now) in
+    let l : code Flip m < 2048 = code-below Flip m (moved-valid (By c.args.turn) (lists_of c.args.cube.now) c.args.cube.now.are_cubies) in
     omega (arith, l, flips-are (goal.at.number_from_digits-requires-clause-fits c).After-turn_orientations-flips)
 
 pub number_from_digits-requires-in-Twist-clause-fits : goal.number_from_digits-requires-in-Twist-clause-fits
 number_from_digits-requires-in-Twist-clause-fits c =
-    let a = lists_of c.args.cube.now in
-    let l : code Twist (moved (By c.args.turn) a) < 2187 = code-below Twist (moved (By c.args.turn) a) (moved-valid (By c.args.turn) a c.args.cube.now.are_cubies) in
+    let m = moved (By c.args.turn) (lists_of c.args.cube.now) in
+    let l : code Twist m < 2187 = code-below Twist m (moved-valid (By c.args.turn) (lists_of c.args.cube.now) c.args.cube.now.are_cubies) in
     omega (arith, l, twists-are (goal.at.number_from_digits-requires-in-Twist-clause-fits c).After-turn_orientations-twists)
 
 pub returns-in-Flip : goal.returns-in-Flip
@@ -40,5 +46,6 @@ returns-in-Twist c = rw c.in-Twist.is (c.number_from_digits-in-Twist.ensures
 
 pub returns-in-Slice : goal.returns-in-Slice
 returns-in-Slice c = rw c.in-Slice.is (c.slice_number.ensures
-    ∙ ap (λ xs. rank (slice_occupied xs) 4) (tabulated-is 12 _ _ (omega (arith, c.turn_homes.type_inv)) (rw c.cubie_turn-table.ensures.value at c.turn_homes.ensures))
+    ∙ ap (λ xs. rank (slice_occupied xs) 4)
+    (tabulated-is 12 _ _ (omega (arith, c.turn_homes.type_inv)) (rw c.cubie_turn-table.ensures.value at c.turn_homes.ensures))
     ∙ sym (standard-turned Slice c.args.turn (lists_of c.args.cube.now) c.args.cube.now.are_cubies))
