@@ -2,10 +2,10 @@
 use Rattle.niss_cube.proofs.Words.{and_left, Fact, Yes, Same, Equal, Below, Alike, Both, When, Numbers, Places, Holds, holds, refl, sym}
 use Rattle.niss_cube.proofs.Words.{◌∙◌, ap, arith, inl, inr, ◌≡◌, ℕ, ◌+◌, ◌-◌, ◌%◌, ◌<◌, List, length, get_or, Bool, true, false, ◌⊎◌}
 use Rattle.niss_cube.proofs.Words.{list_any, Place, same_place, is_place, is_corner, is_edge, SameMap, index_in, row_at, facelet_at}
-use Rattle.niss_cube.proofs.Words.{corner_facelets, edge_facelets, sticker_place, is_true, ArePlaced, AreOriented, Cube, map, slice_index}
-use Rattle.niss_cube.proofs.Words.{range_with_len, ext_get_or, sticker_map, EachIndex, get_or-map-range_with_len, length-map-range_with_len}
-use Rattle.niss_cube.proofs.Words.{AreCubies, ◌*◌, ◌==◌, eq-eqb, eqb-true, same_truth, places, facelet, U, Kept, PermutesPlaces}
-use Rattle.niss_cube.proofs.Words.{CubesPermutePlaces, KeptIsEqual}
+use Rattle.niss_cube.proofs.Words.{corner_facelets, edge_facelets, sticker_place, cases_Bool, ArePlaced, AreOriented, Cube, map}
+use Rattle.niss_cube.proofs.Words.{slice_index, range_with_len, ext_get_or, sticker_map, EachIndex, get_or-map-range_with_len}
+use Rattle.niss_cube.proofs.Words.{length-map-range_with_len, AreCubies, ◌*◌, ◌==◌, eq-eqb, eqb-true, same_truth, places, facelet, U, Kept}
+use Rattle.niss_cube.proofs.Words.{PermutesPlaces, CubesPermutePlaces, KeptIsEqual}
 use Rattle.niss_cube.proofs.Sums.{times_in, place_in, place_in-found, place_in-is, count_by-times, one_if-same, below, below_same}
 use Rattle.niss_cube.proofs.Sums.{below_permuted, one_if, one_of, below_all_same, one_if-at_most}
 
@@ -153,9 +153,9 @@ alike Edges Edges p q a b = a ∙ sym b
 
 -- a place is of a kind, or a centre
 pub kind_of : (q : Place) → ((k : Kind) × (is_of k q ≡ true)) ⊎ ((is_corner q ≡ false) × (is_edge q ≡ false))
-kind_of q = elim (is_true (is_corner q)) [
+kind_of q = elim (cases_Bool (is_corner q)) [
   | inl w ↦ inl (Corners, w)
-  | inr w ↦ elim (is_true (is_edge q)) [
+  | inr w ↦ elim (cases_Bool (is_edge q)) [
     | inl u ↦ inl (Edges, u)
     | inr u ↦ inr (w, u)
   ]

@@ -72,9 +72,9 @@ unfolding place_at next
 is_facelet = holds (Numbers 54 facelet_fact) refl
 
 -- the text, letter by letter
-pub text-is : (e : Place → Place) (text : List ℕ) → length text ≡ 54 → ((j : ℕ) → j < 54 → get_or text j 0 ≡ letter_of e places (place_at j)) → text ≡ letters e
+pub text_is : (e : Place → Place) (text : List ℕ) → length text ≡ 54 → ((j : ℕ) → j < 54 → get_or text j 0 ≡ letter_of e places (place_at j)) → text ≡ letters e
 unfolding place_at letters
-text-is e text long h =
+text_is e text long h =
     ext_get_or 0 text (map (letter_of e places) places) (long ∙ sym (length-map places (letter_of e places))) (λ j lj.
     let l : j < 54 = omega (arith, lj, long) in
     h j l ∙ sym (get_or-map (letter_of e places) places j (facelet U 5) 0 l))

@@ -1,11 +1,6 @@
 -- Truth values, and the tests made of them.
-use Rattle.std.proofs.Common.{◌≡◌, refl, sym, Bool, true, false, ◌||◌, not, inl, inr}
-use Rattle.std.specs.Prelude.{◌⊎◌}
+use Rattle.std.proofs.Common.{◌≡◌, refl, sym, Bool, true, false, ◌||◌, not}
 pub use Rattle.niss_moves.proofs.CallerLemmas.{not_true, and_left, and_right, and_both}
-
-pub is_true : (b : Bool) → (b ≡ true) ⊎ (b ≡ false)
-is_true true = inl refl
-is_true false = inr refl
 
 pub or_then : (a b : Bool) → (not a || b) ≡ true → a ≡ true → b ≡ true
 or_then true b h e = h

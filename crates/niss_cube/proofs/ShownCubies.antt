@@ -4,10 +4,11 @@ use Rattle.niss_cube.proofs.Words.{◌∷◌, length, get_or, map, drop, Bool, t
 use Rattle.niss_cube.proofs.Words.{eqb-true, eq-eqb, ext_get_or, get_or-map, length-map, Any-from_list_any, Place, same_place, SameMap, U}
 use Rattle.niss_cube.proofs.Words.{facelet, index_in, row_at, edge_facelets, and_left, and_right, and_both, same_truth, same_place_is}
 use Rattle.niss_cube.proofs.Words.{same_place_of, get_or_default, list_any_at, get_or-range_with_len, length-range_with_len, firsts, brings}
-use Rattle.niss_cube.proofs.Words.{orientations, occupied, Cube, map_of, same_cubies, pointwise, same_text, other_text, true_from_ne_false, false_from_ne_true}
-use Rattle.niss_cube.proofs.CubieKinds.{CubieLists, Valid, map_lists, lists_of, lists_path, Kind, Corners, Edges, count, facelets, rows, at, homes}
-use Rattle.niss_cube.proofs.CubieKinds.{turns, home_at, turn_at, place_of, stand, stands, stands-at, unturned, some_facelet, same_facelet}
-use Rattle.niss_cube.proofs.CubieKinds.{shown_at}
+use Rattle.niss_cube.proofs.Words.{orientations, occupied, Cube, map_of, same_cubies, pointwise, same_text, other_text, true_from_ne_false}
+use Rattle.niss_cube.proofs.Words.{false_from_ne_true}
+use Rattle.niss_cube.proofs.CubieKinds.{CubieLists, Valid, map_lists, lists_of, lists_path, Kind, Corners, Edges, count, facelets, rows, at}
+use Rattle.niss_cube.proofs.CubieKinds.{homes, turns, home_at, turn_at, place_of, stand, stands, stands-at, unturned, some_facelet}
+use Rattle.niss_cube.proofs.CubieKinds.{same_facelet, shown_at}
 use Rattle.niss_cube.proofs.Sums.{eqb-itself}
 
 -- a test that passes at one index at most passes where it does there

@@ -3,7 +3,8 @@ pub use Rattle.std.proofs.Common.{◌≡◌, ℕ, ◌<◌, ◌∙◌, ap, refl, 
 pub use Rattle.std.proofs.Common.{subst, suc, ◌%◌, ◌≤◌, drop, inl, inr, ◌-◌, zero, take, not, reverse, ◌||◌, map, ◌++◌, Option, Some}
 pub use Rattle.std.proofs.Common.{slice_index, ◌*◌, None, set, ◌⊎◌, append_assoc, rules, ◌≢◌}
 pub use Rattle.std.proofs.Math.Seq.{drop-cons, take-length, take-suc-set}
-pub use Rattle.std.proofs.lemmas.Bool.{eqb-true, lt-leb, le-ltb, eq-eqb, false_from_ne_true, le-leb, leb-true, true_from_ne_false, lt-ltb}
+pub use Rattle.std.proofs.lemmas.Bool.{cases_Bool, eqb-true, lt-leb, le-ltb, eq-eqb, false_from_ne_true, le-leb, leb-true}
+pub use Rattle.std.proofs.lemmas.Bool.{true_from_ne_false, lt-ltb}
 pub use Rattle.std.proofs.lemmas.Bool.Decides.{eqb_tells}
 pub use Rattle.std.proofs.lemmas.Grind.{drop-set_at}
 pub use Rattle.std.proofs.lemmas.List.{ext_get_or, get_or-map, length-map, length-set, length-reverse, append-nil, at_drop_more}
@@ -17,11 +18,11 @@ pub use Rattle.std.proofs.lemmas.Map.Views.{Contains-from_any}
 pub use Rattle.std.specs.Cmp.Lexicographic.{same_text, other_text}
 pub use Rattle.std.specs.List.{list_all, list_any, range_with_len, sum_by}
 pub use Rattle.std.specs.Option.{option_map_or}
-pub use Rattle.std.specs.Prelude.{nat_lt, nat_le, sum, ◌↔◌, Contains, IsTrue, count_by, ◌/◌, EachIndex, nat_eq, fold}
-pub use Rattle.std.specs.Prelude.{flat_map, filter, cond, IfNone, IfSome, MatchOption, slice_index_or}
+pub use Rattle.std.specs.Prelude.{nat_lt, nat_le, sum, ◌↔◌, Contains, IsTrue, count_by, ◌/◌, EachIndex, nat_eq, fold, flat_map, filter}
+pub use Rattle.std.specs.Prelude.{cond, IfNone, IfSome, MatchOption, slice_index_or}
 pub use lib.Pointwise.{pointwise}
-pub use Rattle.niss_moves.proofs.CallerLemmas.{same_place_is, same_place_of, effect-append, inverse_after, inverse_before}
-pub use Rattle.niss_moves.proofs.CallerLemmas.{same_face_is, same_power, same_power_is, turn}
+pub use Rattle.niss_moves.proofs.CallerLemmas.{same_place_is, same_place_of, effect-append, inverse_after, inverse_before, same_face_is}
+pub use Rattle.niss_moves.proofs.CallerLemmas.{same_power, same_power_is, turn}
 unfoldable pub use Rattle.niss_moves.proofs.CallerLemmas.{every_face, every_power, every_turn, every_axis, every_slice, every_token}
 pub use Rattle.niss_moves.specs.Canonical.{face_order, turn_order}
 pub use Rattle.niss_moves.specs.Effects.{turned, effect, inverse, moved_by, effect_of_turns}
@@ -34,7 +35,7 @@ pub use Rattle.niss_moves.specs.Rotations.{renamed_turn, rotation_if, to_top, ab
 pub use Rattle.niss_moves.specs.Turn.{inverse_turn, same_face}
 pub use Rattle.niss_cube.proofs.Facts.{Fact, Yes, Same, Equal, Below, Alike, Both, When, Numbers, Places, Turns, Among, Faces, Tokens}
 pub use Rattle.niss_cube.proofs.Facts.{Renamings, Digits, Truths, Holds, holds, tested, at_member}
-pub use Rattle.niss_cube.proofs.Logic.{and_left, and_right, same_truth, and_both, is_true}
+pub use Rattle.niss_cube.proofs.Logic.{and_left, and_right, same_truth, and_both}
 pub use Rattle.niss_cube.specs.AfterTurn.{IsCube, TurnedIsCube, AreCoordinates, IsCoordinate}
 pub use Rattle.niss_cube.specs.Coordinates.{rank, number_of, number, count_of, standard_axis, choose, renamed_for, turn_for, renaming_for}
 pub use Rattle.niss_cube.specs.Coordinates.{firsts, brings, orientations, occupied}
@@ -62,6 +63,7 @@ pub use Rattle.niss_cube.specs.Steps.{start_of, goals_of, powers_from, is_face_o
 unfoldable pub use Rattle.niss_cube.specs.Steps.{turns_of, may_start, reached}
 pub use Rattle.niss_cube.specs.TableRows.{AreRowsAt, IsQuarter, AreQuarters, IsAnyTurn, entry_at, AreRows}
 pub use Rattle.niss_cube.specs.declared.cubie_turns.CubieTurn.{CubieTurn}
-pub use Rattle.niss_cube.specs.declared.followed_places.TheConstants.{FIRST_FACELETS, CUBIES, FACELETS, CORNER_POSITIONS, EDGE_POSITIONS, CUBIE_LETTERS}
+pub use Rattle.niss_cube.specs.declared.followed_places.TheConstants.{FIRST_FACELETS, CUBIES, FACELETS, CORNER_POSITIONS, EDGE_POSITIONS}
+pub use Rattle.niss_cube.specs.declared.followed_places.TheConstants.{CUBIE_LETTERS}
 pub use Rattle.niss_cube.specs.declared.place_positions.TheConstants.{POSITIONS_AFTER}
 pub use Rattle.niss_cube.specs.declared.slice_places.TheConstants.{CHOICES}

@@ -169,6 +169,7 @@ impl Cube {
 
     /// The facelet text of the cube, then rotated as a whole: the faces in the order U, R, F, D, L, B with nine letters
     /// each, row by row as one looks at the face. The letter at a place names the face on which its sticker began.
+    #[tactic(auto, using(crate::proofs::FollowedLetters::text_is))]
     pub fn facelets(&self, rotation: Rotation) -> [u8; 54]
         ensures { result ≡ letters (λ q. effect (spelling rotation) (map_of self.now q)) }
     {
