@@ -1,5 +1,5 @@
 -- Sums over the numbers below a bound, over the places of a permutation, and a number that stands once in a list.
-pub use Rattle.std.proofs.lemmas.Bool.{ne_eqb as eqb-other}
+use Rattle.std.proofs.lemmas.Bool.{ne_eqb}
 use Rattle.niss_cube.proofs.Words.{sum_by-cons, eqb_tells, length, get_or, eq-eqb, sum_by, arith, false, refl}
 use Rattle.niss_cube.proofs.Words.{zero, List, Bool, true, ◌==◌, cond, sym, ◌∙◌, inl, inr, ◌≡◌, suc, ◌+◌, ◌*◌, ◌<◌, ◌≤◌, ◌∷◌, ap, [], ℕ}
 use Rattle.niss_cube.proofs.Words.{count_by, index_in}
@@ -40,7 +40,7 @@ eqb-itself x = eq-eqb x x refl
 pub one_above : (n x : ℕ) (f : ℕ → ℕ) → n ≤ x → below n (λ h. one_if (x == h) * f h) ≡ 0
 one_above zero x f l = refl
 one_above (suc n) x f l =
-    rw (eqb-other x n (λ q. omega arith), one_above n x f (omega arith)) (omega arith)
+    rw (ne_eqb x n (λ q. omega arith), one_above n x f (omega arith)) (omega arith)
 
 -- the one term of a sum that a test picks
 pub one_of : (n x : ℕ) (f : ℕ → ℕ) → x < n → below n (λ h. one_if (x == h) * f h) ≡ f x
