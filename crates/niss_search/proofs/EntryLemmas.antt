@@ -96,9 +96,9 @@ module _ (law : EntriesTurn) (alt : Alternative) where
       (r.0, (r.1.0, subst (λ x. distance_at alt.step x ≤ k) (after-entry i r.0 h) r.1.1))
 
 -- a turn leads the entries of a row into one row again
-pub row-edges : (step : Step) (axis : Axis) (row : ℕ) → row * row_length (Edges axis) < count_for (Edges axis) → AreStarts record { step = step; goal = Edges axis } (row * row_length (Edges axis)) (replicate 18 0)
+pub row_edges : (step : Step) (axis : Axis) (row : ℕ) → row * row_length (Edges axis) < count_for (Edges axis) → AreStarts record { step = step; goal = Edges axis } (row * row_length (Edges axis)) (replicate 18 0)
 unfolding entry_after
-row-edges step axis row h k place l r =
+row_edges step axis row h k place l r =
     let first : row * 2048 + place ≡ place = omega arith in
     rw (get_or-replicate {A = ℕ} 18 k 0 0 (omega (arith, turns_of-length step)), first) (omega arith)
 

@@ -1,9 +1,9 @@
 //! The fill of a pruning table, breadth first.
-ghost use Rattle.std.specs.Prelude.{◌≡◌, ◌+◌, ◌*◌, ◌<◌, ◌≤◌, ◌^◌, ◌==◌, length, count_by};
+ghost use Rattle.std.specs.Prelude.{◌≡◌, ◌+◌, ◌*◌, ◌<◌, ◌^◌, ◌==◌, length, count_by};
 ghost use Rattle.std.specs.List.{range_with_len};
 ghost use Rattle.niss_cube.specs.Steps.{turns_of};
 ghost use Rattle.niss_search.specs.Entries.{count_for};
-ghost use Rattle.niss_search.specs.Filling.{goal_ticks, entry_distance, IsFilled, IsFilling, IsExtended, KeepsMet};
+ghost use Rattle.niss_search.specs.Filling.{goal_ticks, entry_distance, IsFilled};
 
 use super::entries::GOAL_ENTRY;
 use super::entry_row::EntryRow;

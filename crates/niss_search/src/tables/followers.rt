@@ -24,6 +24,7 @@ pub struct Follower {
 type FollowerList = ArrayVec<Follower, MOST_TURNS>;
 
 /// The turns of a step that may stand directly after the last one, in turn order.
+#[tactic(auto, using(crate::proofs::Bounds::few_turns))]
 fn followers_after(step: Step, last: Option<Turn>) -> FollowerList
     ensures { AreFollowers step (may_follow last) result.items }
 {

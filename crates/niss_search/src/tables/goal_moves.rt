@@ -122,6 +122,7 @@ impl<A: Allocator> GoalMoves for EdgeMoves<A> {
         Coordinate::Flip.count()
     }
 
+    #[tactic(auto, using(crate::proofs::EntryLemmas::row_edges))]
     fn starts(&self, _row: usize) -> Starts {
         [0; MOST_TURNS]
     }

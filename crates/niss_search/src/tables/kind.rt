@@ -1,9 +1,7 @@
 //! The tables of a step, by what it looks at.
-ghost use Rattle.std.specs.Prelude.{◌≡◌, ◌+◌, ◌≤◌, ◌^◌, ◌∷◌, [], IfOk};
+ghost use Rattle.std.specs.Prelude.{◌≡◌, ◌≤◌, ◌^◌, IfOk};
 ghost use Rattle.niss_cube.specs.declared.cube.coordinate.Coordinate.TheVariants as coordinate;
 ghost use Rattle.niss_cube.specs.declared.step.Goal.TheVariants as goals;
-ghost use Rattle.niss_cube.specs.Steps.{goals_of};
-ghost use Rattle.niss_search.specs.Entries.{fill_ticks};
 ghost use Rattle.niss_search.specs.KindOfStep.{IsOfStep};
 ghost use Rattle.niss_search.specs.StepSpace.{IsBuilt};
 

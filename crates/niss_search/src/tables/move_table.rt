@@ -16,6 +16,7 @@ pub const MOST_TURNS: usize = 18;
 pub type Row = [u16; MOST_TURNS];
 
 /// The row of a number.
+#[tactic(auto, using(crate::proofs::Bounds::few_turns))]
 fn row_of<A: Allocator>(turn_table: &TurnTable<A>, axis: Axis, step: Step, number: u16) -> Row
     requires { number < count_of turn_table.now }
     ensures { IsMoveRow record { coordinate = turn_table.now; axis = axis; step = step } number result }

@@ -1,9 +1,6 @@
 //! The pruning table of a goal.
 ghost use Rattle.std.specs.Prelude.{◌≡◌, ◌+◌, ◌<◌, ◌≤◌, ◌^◌, ◌∷◌, [], IfOk};
-ghost use Rattle.niss_cube.specs.Steps.{turns_of};
-ghost use Rattle.niss_search.specs.Entries.{count_for};
 ghost use Rattle.niss_search.specs.Filling.{goal_ticks, IsEntry, IsFilled, AreEntries};
-ghost use Rattle.niss_search.specs.Positions.{distance_at};
 
 use super::entries::{FAR, GOAL_ENTRY};
 use super::fill::fill_table;

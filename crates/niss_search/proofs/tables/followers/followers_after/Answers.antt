@@ -1,12 +1,10 @@
 use Rattle.niss_search.proofs.Words.{length, get_or, may_follow, Follower, IsFollower, append-nil, no_turn, All-push, filter_more, map_push}
 use Rattle.niss_search.proofs.Words.{◌≡◌, arith, ap, ◌∙◌, sym, [], List, refl, true, ◌∷◌, Bool, Turn, false, cond, ◌++◌, map, filter, take}
-use Rattle.niss_search.proofs.Bounds.{turns_of-length}
 use Rattle.niss_search.proofs.tables.followers.followers_after.Goals.{then-allowed, else-allowed}
 use Rattle.niss_search.proofs.tables.followers.followers_after.Goals as goal
 
 pub loop-column-init : goal.loop-column-init
 loop-column-init c = record {
-  few = omega (arith, ap (length {A = Turn}) c.turns-turns.ensures, turns_of-length c.args.step);
   end = refl;
   kept = ap (map (λ (f : Follower). f.turn)) c.new-list.ensures;
   columns = λ k d l. absurd (omega (arith, ap (length {A = Follower}) c.new-list.ensures));
@@ -28,7 +26,6 @@ loop-column-preserved c =
           let new : Follower = record { turn = t; column = i } in
           let yes : may t ≡ true = sym rule ∙ w.if-allowed.true in
           rw w.list-is (rw w.push.ensures.items record {
-            few = inv.few;
             end = refl;
             kept = map_push (λ (f : Follower). f.turn) c.loop-column.list.items new ∙ ap (λ (ts : List Turn). ts ++ t ∷ []) inv.kept ∙ sym (more ∙ ap kept yes);
             columns = All-push (IsFollower c.args.step) c.loop-column.list.items new inv.columns (omega (arith, c.loop-column-test.true, ap (length {A = Turn}) c.turns-turns.ensures), ap (λ (ts : List Turn). get_or ts i no_turn) (sym c.turns-turns.ensures));
@@ -37,7 +34,6 @@ loop-column-preserved c =
       | else-allowed w ↦
           let no : may t ≡ false = sym rule ∙ w.if-allowed.false in
           rw w.list-is record {
-            few = inv.few;
             end = refl;
             kept = inv.kept ∙ sym (more ∙ ap kept no ∙ append-nil (filter may (take i turns)));
             columns = inv.columns;

@@ -3,7 +3,6 @@ use Rattle.niss_search.proofs.tables.followers.followers_after.Given as goal
 
 abbrev pub invariant-loop-column : goal.invariant-loop-column
 invariant-loop-column l = record {
-  few : length l.turns ≤ 18;
   end : l.column-end ≡ length l.turns;
   kept : map (λ f. f.turn) l.list.items ≡ filter (may_follow l.last) (take l.column l.turns);
   columns : All (IsFollower l.fn.step) l.list.items;
