@@ -33,8 +33,6 @@ pub line_sent : {W : Type 0} (state : W → TargetState) (r : Result (Unit {0}) 
 line_sent state r line old new e none then = λ works looks.
     then_written r [] (output_state state new looks) (append-nil line) (waits _ (e ∙ ap (λ p. p ++ line) (sym none)) works) (then works looks)
 
-pub ruleset sink_laws = (line_taken, line_refused, line_sent, no_bytes)
-
 -- what is written of a search, by what it found
 pub same_count : {least : Option ℕ} (found : Option ℕ) (count solutions nodes : ℕ) {looks : ℕ} → least ≡ found → count ≡ solutions → nodes ≡ looks
     → count_text least count nodes ≡ count_text found solutions looks

@@ -100,7 +100,7 @@ impl<'a, W: Target> Sink for Output<'a, W> {
 
     ghost refused = { λ old path new. RefusesLine W.state (solution_line path.turns) old new };
 
-    #[tactic(auto, using(crate::proofs::OutputLemmas::sink_laws))]
+    #[tactic(auto, using(crate::proofs::OutputLemmas::line_taken, crate::proofs::OutputLemmas::line_refused))]
     fn take(&mut self, path: &TurnPath) -> Result<(), DeviceFault> {
         if !self.pending.is_empty() {
             return self.write(&solution_text(path));
