@@ -15,8 +15,6 @@ pub use Rattle.niss_cube.proofs.CallerLemmas.{turns_of-length, turns_of-oriented
 
 pub ruleset few_turns = (turns_of-length)
 
-pub ruleset few_turns = (turns_of-length)
-
 -- the looks of a deepening are at most the canonical sequences of its lengths
 looks-le : (turns : List Turn) (far : List Turn → ℕ) (d : ℕ) → looks turns far d ≤ sum_by (count_of_length turns) (up_to d)
 unfolding looks
