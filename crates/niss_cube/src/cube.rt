@@ -138,7 +138,8 @@ impl Cube {
                 && (self.edges == other.edges && self.flips == other.flips))
     }
 
-    /// The position in the facelet text at which the sticker at a position began.
+    /// The position in the facelet text at which the sticker at a position began. `CUBIES` has the corners below 8, the edges
+    /// below 20, and then the centres, which no turn moves.
     fn origin(&self, position: usize) -> usize
         requires { position < 54 }
         ensures { BeganAt self.now position result }

@@ -116,7 +116,7 @@ pub fn turn_homes<const PLACES: usize>(homes: &[u8; PLACES], from: &[u8; PLACES]
 }
 
 /// How the cubie at each place is twisted or flipped, after each came from the place that `from` names and was turned by
-/// what `added` names.
+/// what `added` names. Corners have three `FACELETS`, edges two.
 pub fn turn_orientations<const PLACES: usize, const FACELETS: u8>(
     orientations: &[u8; PLACES],
     from: &[u8; PLACES],

@@ -47,7 +47,7 @@ pub fn allowed(last: Option<Turn>, turn: Turn) -> bool
     }
 }
 
-/// The turns after one of each face.
+/// The turns after one of each face, U, D, R, L, F, B as `Face` lists them.
 static AFTER: [&[Turn]; 6] = [
     &turns_of!(D R L F B),
     &turns_of!(R L F B),
