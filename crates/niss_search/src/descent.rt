@@ -1,5 +1,5 @@
 //! One deepening of the search, depth first.
-ghost use Rattle.std.specs.Prelude.{◌≡◌, ◌+◌, ◌-◌, ◌<◌, ◌≤◌, ◌^◌, ◌++◌, ◌∷◌, [], length, All, IfSome, IfNone};
+ghost use Rattle.std.specs.Prelude.{◌+◌, ◌-◌, ◌<◌, ◌≤◌, ◌^◌, ◌++◌, ◌∷◌, [], length, All, IfSome, IfNone};
 ghost use Rattle.niss_search.specs.Cubes.{IsPosition};
 ghost use Rattle.niss_search.specs.Followers.{IsFollower, IsNextNear, AreFar};
 ghost use Rattle.niss_search.specs.Positions.{distance_at};
