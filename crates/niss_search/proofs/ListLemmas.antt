@@ -94,9 +94,6 @@ range_with_len-append a (suc m) n =
     ap (range_with_len a) e
     ∙ ap (λ (l : List ℕ). a ∷ l) (range_with_len-append (a + 1) m n ∙ ap (λ k. range_with_len (a + 1) m ++ range_with_len k n) next)
 
-pub range_with_len-more : (a n : ℕ) → range_with_len a (suc n) ≡ range_with_len a n ++ (a + n) ∷ []
-range_with_len-more a n = ap (range_with_len a) (sym (add-one n)) ∙ range_with_len-append a n 1
-
 -- the numbers below m, and then those from m on
 pub range-split : (m n : ℕ) → m ≤ n → range_with_len 0 n ≡ range_with_len 0 m ++ range_with_len m (n - m)
 range-split m n h =
