@@ -1,7 +1,7 @@
 -- How far a step is, by the sequences that reach and of a position: 0 exactly at the goal, at most one more than after a turn, and
 -- one more than after some.
 use Rattle.niss_search.proofs.Words.{◌≡◌, arith, ◌+◌, ◌<◌, ℕ, ap, ◌∙◌, ◌≤◌, [], List, refl, true, ◌∷◌, Bool, Turn, false, suc, cond}
-use Rattle.niss_search.proofs.Words.{range_with_len, zero, map, Contains, flat_map, leb, inl, inr, list_any, ◌⊎◌, Some, leb_tells, min}
+use Rattle.niss_search.proofs.Words.{range_with_len, zero, map, Contains, flat_map, leb, inl, inr, list_any, ◌⊎◌, Some, leb_tells, eqb_tells, min}
 use Rattle.niss_search.proofs.Words.{unwrap_or, find, le-leb, lt-leb, distance, ◌||◌, all_sequences, list_any-append, list_any_at, sym}
 use Rattle.niss_search.proofs.Words.{turns_of, Coordinates, distance_at, Step, position_after, is_reached_at, are_zero, coordinates_after}
 use Rattle.niss_search.proofs.Words.{fold, or-false, DistanceIsLeast}
@@ -32,26 +32,25 @@ reached_in-suc turns reaches k =
 abbrev pub first_or : (ℕ → Bool) → ℕ → ℕ → ℕ → ℕ
 first_or p a n d = unwrap_or (find p (range_with_len a n)) d
 
+first_or-suc : (p : ℕ → Bool) (a n d : ℕ) → first_or p a (suc n) d ≡ cond (p a) a (first_or p (a + 1) n d)
+first_or-suc p a n d = by_test (p a) where
+  by_test : (b : Bool) → unwrap_or (cond b (Some a) (find p (range_with_len (a + 1) n))) d ≡ cond b a (first_or p (a + 1) n d)
+  by_test true = refl
+  by_test false = refl
+
 pub first_or-from : (p : ℕ → Bool) (a n d : ℕ) → a + n ≤ d → a ≤ first_or p a n d
 first_or-from p a zero d h = omega arith
-first_or-from p a (suc n) d h = by_test (p a) (first_or-from p (a + 1) n d (omega arith)) where
-  by_test : (b : Bool) → a + 1 ≤ first_or p (a + 1) n d → a ≤ unwrap_or (cond b (Some a) (find p (range_with_len (a + 1) n))) d
-  by_test true h = omega arith
-  by_test false h = omega arith
+first_or-from p a (suc n) d h = grind (arith, first_or-suc p a n d, first_or-from p (a + 1) n d (omega arith))
 
 pub first_or-le : (p : ℕ → Bool) (a n d k : ℕ) → a ≤ k → k < a + n → p k ≡ true → first_or p a n d ≤ k
 first_or-le p a zero d k low high e = absurd (omega arith)
-first_or-le p a (suc n) d k low high e = by_test (p a) refl (first_or-le p (a + 1) n d k) where
-  by_test : (b : Bool) → p a ≡ b → (a + 1 ≤ k → k < a + 1 + n → p k ≡ true → first_or p (a + 1) n d ≤ k) → unwrap_or (cond b (Some a) (find p (range_with_len (a + 1) n))) d ≤ k
-  by_test true f rest = low
-  by_test false f rest =
-      let other : (a ≡ k → ⊥) = λ q. absurd (cc (f, e, ap p q)) in
-      rest (omega arith) (omega arith) e
+first_or-le p a (suc n) d k low high e = grind (arith, first_or-suc p a n d, first_or-le p (a + 1) n d k, e)
 
 first_or-passes : (p : ℕ → Bool) (a n d : ℕ) → (p (first_or p a n d) ≡ true) ⊎ (first_or p a n d ≡ d)
 first_or-passes p a zero d = inr refl
-first_or-passes p a (suc n) d = by_test (p a) refl (first_or-passes p (a + 1) n d) where
-  by_test : (b : Bool) → p a ≡ b → (p (first_or p (a + 1) n d) ≡ true) ⊎ (first_or p (a + 1) n d ≡ d) → (p (unwrap_or (cond b (Some a) (find p (range_with_len (a + 1) n))) d) ≡ true) ⊎ (unwrap_or (cond b (Some a) (find p (range_with_len (a + 1) n))) d ≡ d)
+first_or-passes p a (suc n) d = rw (first_or-suc p a n d) (by_test (p a) refl (first_or-passes p (a + 1) n d)) where
+  by_test : (b : Bool) → p a ≡ b → (p (first_or p (a + 1) n d) ≡ true) ⊎ (first_or p (a + 1) n d ≡ d)
+      → (p (cond b a (first_or p (a + 1) n d)) ≡ true) ⊎ (cond b a (first_or p (a + 1) n d) ≡ d)
   by_test true f rest = inl f
   by_test false f rest = rest
 
@@ -68,8 +67,9 @@ list_any-either p q (x ∷ xs) = by_tests (p x) (q x) (list_any p xs) (list_any 
 first_or-either : (f g : ℕ → Bool) (a n d : ℕ) → a + n ≤ d → first_or (λ k. f k || g k) a n d ≡ min (first_or f a n d) (first_or g a n d)
 first_or-either f g a zero d h = omega arith
 first_or-either f g a (suc n) d h =
-    by_tests (f a) (g a) (first_or-from f (a + 1) n d (omega arith)) (first_or-from g (a + 1) n d (omega arith)) (first_or-either f g (a + 1) n d (omega arith)) where
-      by_tests : (b c : Bool) → a + 1 ≤ first_or f (a + 1) n d → a + 1 ≤ first_or g (a + 1) n d → first_or (λ k. f k || g k) (a + 1) n d ≡ min (first_or f (a + 1) n d) (first_or g (a + 1) n d) → unwrap_or (cond (b || c) (Some a) (find (λ k. f k || g k) (range_with_len (a + 1) n))) d ≡ min (unwrap_or (cond b (Some a) (find f (range_with_len (a + 1) n))) d) (unwrap_or (cond c (Some a) (find g (range_with_len (a + 1) n))) d)
+    rw (first_or-suc f a n d, first_or-suc g a n d, first_or-suc (λ k. f k || g k) a n d)
+    (by_tests (f a) (g a) (first_or-from f (a + 1) n d (omega arith)) (first_or-from g (a + 1) n d (omega arith)) (first_or-either f g (a + 1) n d (omega arith))) where
+      by_tests : (b c : Bool) {l m n : ℕ} → a + 1 ≤ l → a + 1 ≤ m → n ≡ min l m → cond (b || c) a n ≡ min (cond b a l) (cond c a m)
       by_tests true true l m e = omega arith
       by_tests true false l m e = omega arith
       by_tests false true l m e = omega arith
