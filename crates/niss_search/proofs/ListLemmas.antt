@@ -1,7 +1,7 @@
 -- Lists joined, filtered and summed.
 use Rattle.niss_search.proofs.Words.{◌≡◌, arith, length, ◌+◌, ◌<◌, ℕ, ap, ◌∙◌, sym, ◌≤◌, [], List, refl, true, ◌-◌, ◌∷◌, Bool, false, suc}
 use Rattle.niss_search.proofs.Words.{cond, range_with_len, ◌++◌, zero, map, Contains, flat_map, filter, sum_by, sum_by-cons, list_any}
-use Rattle.niss_search.proofs.Words.{nat_le, flat_map-append, find, le-leb, sum_by-append, Contains-get_or, add-one, ◌||◌}
+use Rattle.niss_search.proofs.Words.{nat_le, nat_tests, flat_map-append, find, le-leb, sum_by-append, Contains-get_or, add-one, ◌||◌}
 use Rattle.niss_search.proofs.Words.{Contains-append_right, add-zero, filter-append, sum_by_push, length-range_with_len, leb-false}
 use Rattle.std.proofs.lemmas.List.{nil_from_length}
 use Rattle.std.proofs.lemmas.List.FromFn.{get_or-range_with_len}
@@ -66,10 +66,7 @@ module _ {X : Type 0} where
   -- some element passes exactly where the filtered list is not empty
   pub list_any-filter : (p : X → Bool) (xs : List X) → list_any p xs ≡ nat_le 1 (length (filter p xs))
   list_any-filter p [] = refl
-  list_any-filter p (x ∷ xs) = by_test (p x) (list_any-filter p xs) where
-    by_test : (b : Bool) → list_any p xs ≡ nat_le 1 (length (filter p xs)) → (b || list_any p xs) ≡ nat_le 1 (length (cond b (x ∷ filter p xs) (filter p xs)))
-    by_test true e = sym (le-leb 1 (length (x ∷ filter p xs)) (omega arith))
-    by_test false e = e
+  list_any-filter p (x ∷ xs) = grind (arith, nat_tests, list_any-filter p xs)
 
 pub sum_by-shift : (f : ℕ → ℕ) (a n : ℕ) → sum_by f (range_with_len (a + 1) n) ≡ sum_by (λ j. f (suc j)) (range_with_len a n)
 sum_by-shift f a zero = refl

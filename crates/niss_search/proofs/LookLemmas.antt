@@ -6,7 +6,6 @@ use Rattle.niss_search.proofs.Words.{unwrap_or, find, le-leb, lt-leb, distance, 
 use Rattle.niss_search.proofs.Words.{turns_of, Coordinates, distance_at, Step, position_after, is_reached_at, are_zero, coordinates_after}
 use Rattle.niss_search.proofs.Words.{fold, or-false, DistanceIsLeast, nat_tests}
 use Rattle.std.proofs.lemmas.List.Folds.{Any-from_list_any}
-use Rattle.niss_search.proofs.Bounds.{least-le}
 
 list_any-map : {X Y : Type 0} (p : Y → Bool) (f : X → Y) (xs : List X) → list_any p (map f xs) ≡ list_any (λ x. p (f x)) xs
 list_any-map p f [] = refl
@@ -43,6 +42,10 @@ pub first_or-le : (p : ℕ → Bool) (a n d k : ℕ) → a ≤ k → k < a + n �
 first_or-le p a zero d k low high e = absurd (omega arith)
 first_or-le p a (suc n) d k low high e = grind (arith, first_or-suc p a n d, first_or-le p (a + 1) n d k, e)
 
+pub first_or-within : (p : ℕ → Bool) (a n d b : ℕ) → a + n ≤ b + 1 → d ≤ b → first_or p a n d ≤ b
+first_or-within p a zero d b h l = l
+first_or-within p a (suc n) d b h l = grind (arith, first_or-suc p a n d, first_or-within p (a + 1) n d b (omega arith) l)
+
 first_or-passes : (p : ℕ → Bool) (a n d : ℕ) → (p (first_or p a n d) ≡ true) ⊎ (first_or p a n d ≡ d)
 first_or-passes p a zero d = inr refl
 first_or-passes p a (suc n) d = grind (arith, first_or-suc p a n d, first_or-passes p (a + 1) n d)
@@ -55,8 +58,7 @@ list_any-either p q (x ∷ xs) = grind (arith, list_any-either p q xs)
 first_or-either : (f g : ℕ → Bool) (a n d : ℕ) → a + n ≤ d → first_or (λ k. f k || g k) a n d ≡ min (first_or f a n d) (first_or g a n d)
 first_or-either f g a zero d h = omega arith
 first_or-either f g a (suc n) d h =
-    let parts = first_or-either f g (a + 1) n d (omega arith) in
-    grind (arith, first_or-suc f a n d, first_or-suc g a n d, first_or-suc (λ k. f k || g k) a n d, first_or-from f (a + 1) n d (omega arith), first_or-from g (a + 1) n d (omega arith), parts)
+    grind (arith, first_or-suc, first_or-from f (a + 1) n d, first_or-from g (a + 1) n d, first_or-either f g (a + 1) n d)
 
 -- where either of two tests is to be reached, the nearer one gives the distance
 distance-either : (turns : List Turn) (p q : List Turn → Bool) → distance turns (λ s. p s || q s) ≡ min (distance turns p) (distance turns q)
@@ -72,7 +74,7 @@ module _ (turns : List Turn) (reaches : List Turn → Bool) where
 
   distance-most : distance turns reaches ≤ 21
   unfolding distance
-  distance-most = least-le (reached_in turns reaches) 0 21 21 21 (omega arith) (omega arith)
+  distance-most = first_or-within (reached_in turns reaches) 0 21 21 21 (omega arith) (omega arith)
 
   distance-reached : (reached_in turns reaches (distance turns reaches) ≡ true) ⊎ (distance turns reaches ≡ 21)
   unfolding distance

@@ -34,13 +34,14 @@ positive : (n : ℕ) → (n ≡ 0 → ⊥) → 0 < n
 positive n h = grind arith
 
 one-byte : (x level : ℕ) → x < 256 → level < 256 → marked x level 127 128 ≡ mark level x
-one-byte x level xs ls = by_test (eqb_tells x level) where
-  by_test : ((eqb x level ≡ true) × (x ≡ level)) ⊎ ((eqb x level ≡ false) × (x ≡ level → ⊥)) → marked x level 127 128 ≡ mark level x
-  by_test (inl e) =
-      ap (λ d. bit_xor (bit_and (bit_or (bit_and d 127 + 127) d) 128) 128) (ap (λ y. bit_xor x y) (sym e.1) ∙ xor_self x) ∙ ap (λ b. cond {A = ℕ} b 128 0) (sym e.0)
-  by_test (inr e) =
+one-byte x level xs ls = elim (eqb_tells x level) [
+  | inl e ↦
+      let none = ap (λ y. bit_xor x y) (sym e.1) ∙ xor_self x in
+      ap (λ d. bit_xor (bit_and (bit_or (bit_and d 127 + 127) d) 128) 128) none ∙ ap (λ b. cond {A = ℕ} b 128 0) (sym e.0)
+  | inr e ↦
       let some : 0 < bit_xor x level = positive _ (λ z. e.1 (xor-zero-same x level z)) in
       ap (λ n. bit_xor n 128) (high-of (bit_xor x level) (xor_lt 8 x level xs ls) some) ∙ ap (λ b. cond {A = ℕ} b 128 0) (sym e.0)
+]
 
 -- ---- a byte and the rest
 
