@@ -83,16 +83,12 @@ length-below turns k p =
     length-flat_map (λ q. below turns q k) (canonical_extensions turns p)
     ∙ sum_by-kept (λ q. length (below turns q k)) (λ t. p ++ t ∷ []) (may_follow (last_turn p)) turns
 
-cond-le : (b : Bool) (x y : ℕ) → x ≤ y → cond b x 0 ≤ cond b y 0
-cond-le true x y h = h
-cond-le false x y h = omega arith
-
 part-below : (part : Turn → Bool) (turns : List Turn) (k : ℕ) (p : List Turn) → length (below (filter part turns) p k) ≤ length (below turns p k)
 part-below part turns zero p = omega arith
 part-below part turns (suc k) p =
     let f : Turn → ℕ = λ t. cond (may_follow (last_turn p) t) (length (below (filter part turns) (p ++ t ∷ []) k)) 0 in
     let g : Turn → ℕ = λ t. cond (may_follow (last_turn p) t) (length (below turns (p ++ t ∷ []) k)) 0 in
-    let each : (t : Turn) → f t ≤ g t = λ t. cond-le (may_follow (last_turn p) t) _ _ (part-below part turns k (p ++ t ∷ [])) in
+    let each : (t : Turn) → f t ≤ g t = λ t. grind (arith, part-below part turns k (p ++ t ∷ [])) in
     omega (arith, length-below (filter part turns) k p, length-below turns k p, sum_by-filter_both part (λ t. not (part t)) (λ t. refl) f turns, sum_by-le-sum_by f g turns each)
 
 pub part-has-no-more : PartHasNoMore

@@ -20,33 +20,30 @@ module _ (p : ℕ → Bool) where
   count-range-le n = omega (arith, count_by-le-length p (range_with_len 0 n), length-range_with_len 0 n)
 
   -- places that don't pass add nothing to a count, and one that passes adds one
-  count-skip : (a k : ℕ) → ((j : ℕ) → a ≤ j → j < a + k → p j ≡ false) → count_by p (range_with_len 0 (a + k)) ≡ count_by p (range_with_len 0 a)
-  count-skip a zero none =
-      let e : a + 0 ≡ a = omega arith in
-      ap (λ n. count_by p (range_with_len 0 n)) e
-  count-skip a (suc k) none =
-      let e : a + suc k ≡ a + k + 1 = omega arith in
-      ap (λ n. count_by p (range_with_len 0 n)) e
-      ∙ sum_by-range_more (λ j. cond (p j) 1 0) (a + k)
-      ∙ omega (arith, ap (λ b. cond {A = ℕ} b 1 0) (none (a + k) (omega arith) (omega arith)), count-skip a k (λ j low high. none j low (omega arith)))
-
   pub count-to : (a b : ℕ) → a ≤ b → ((j : ℕ) → a ≤ j → j < b → p j ≡ false) → count_by p (range_with_len 0 b) ≡ count_by p (range_with_len 0 a)
-  count-to a b l none =
-      let e : a + (b - a) ≡ b = omega arith in
-      ap (λ n. count_by p (range_with_len 0 n)) (sym e) ∙ count-skip a (b - a) (λ j low high. none j low (omega arith))
+  count-to a zero l none =
+      let same : 0 ≡ a = omega arith in
+      ap (λ n. count_by p (range_with_len 0 n)) same
+  count-to a (suc b) l none = elim (eqb_tells a (suc b)) [
+    | inl e ↦ ap (λ n. count_by p (range_with_len 0 n)) (sym e.1)
+    | inr e ↦
+        let number : suc b ≡ b + 1 = omega arith in
+        let last = ap (λ n. count_by p (range_with_len 0 n)) number ∙ sum_by-range_more (λ j. cond (p j) 1 0) b in
+        let rest = count-to a b (omega (arith, e.1)) (λ j low high. none j low (omega arith)) in
+        grind (arith, last, rest, none b (omega (arith, e.1)) (omega arith))
+  ]
 
   pub count-past : (a b : ℕ) → a ≤ b → ((j : ℕ) → a ≤ j → j < b → p j ≡ false) → p b ≡ true → count_by p (range_with_len 0 (b + 1)) ≡ count_by p (range_with_len 0 a) + 1
   count-past a b l none here =
-      sum_by-range_more (λ j. cond (p j) 1 0) b
-      ∙ omega (arith, count-to a b l none, ap (λ t. cond {A = ℕ} t 1 0) here)
+      grind (arith, sum_by-range_more (λ j. cond (p j) 1 0) b, count-to a b l none, here)
 
-split-at : (a l : ℕ) → cond (nat_lt a (l + 1)) 1 0 ≡ cond (nat_lt a l) 1 0 + cond (a == l) 1 0
-split-at a l = grind (arith, nat_tests)
-
-pub count-level : (f : ℕ → ℕ) (l : ℕ) (xs : List ℕ) → count_by (λ x. nat_lt (f x) (l + 1)) xs ≡ count_by (λ x. nat_lt (f x) l) xs + count_by (λ x. f x == l) xs
+pub count-level : (f : ℕ → ℕ) (l : ℕ) (xs : List ℕ)
+    → count_by (λ x. nat_lt (f x) (l + 1)) xs ≡ count_by (λ x. nat_lt (f x) l) xs + count_by (λ x. f x == l) xs
 count-level f l [] = refl
 count-level f l (x ∷ xs) =
-    omega (arith, sum_by-cons (λ y. cond (nat_lt (f y) (l + 1)) 1 0) x xs, sum_by-cons (λ y. cond (nat_lt (f y) l) 1 0) x xs, sum_by-cons (λ y. cond (f y == l) 1 0) x xs, split-at (f x) l, count-level f l xs)
+    let to = sum_by-cons (λ y. cond (nat_lt (f y) (l + 1)) 1 0) x xs in
+    let below = sum_by-cons (λ y. cond (nat_lt (f y) l) 1 0) x xs in
+    grind (arith, nat_tests, to, below, sum_by-cons (λ y. cond (f y == l) 1 0) x xs, count-level f l xs)
 
 pub count-below-zero : (f : ℕ → ℕ) (xs : List ℕ) → count_by (λ x. nat_lt (f x) 0) xs ≡ 0
 count-below-zero f xs = sum_by-none (λ x. cond (nat_lt (f x) 0) 1 0) xs (λ x m. grind (arith, nat_tests))
@@ -57,10 +54,7 @@ count-twenty f xs =
 
 -- what a byte may be is the distance once it is met, or once the level is done
 may-meet : (level d byte : ℕ) → level < 20 → MayBeAt level d byte → d ≤ level + 1 → min byte (level + 1) ≡ d
-may-meet level d byte small h near = elim (leb_tells d level) [
-  | inl e ↦ omega (arith, h.near e.1)
-  | inr e ↦ elim (eqb_tells byte 21) [ inl q ↦ omega arith | inr q ↦ omega (arith, h.met q.1) ]
-]
+may-meet level d byte small h near = grind (arith, nat_tests, h.near, h.met)
 
 may-end : (level d byte : ℕ) → MayBeAt level d byte → (d ≡ level + 1 → byte < 21) → byte ≡ byte_at (level + 1) d
 may-end level d byte h met = grind (arith, nat_tests, h.near, h.met, h.next)

@@ -1,6 +1,6 @@
 -- Lists joined, filtered and summed.
 use Rattle.niss_search.proofs.Words.{◌≡◌, arith, length, ◌+◌, ◌<◌, ℕ, ap, ◌∙◌, sym, ◌≤◌, [], List, refl, true, ◌-◌, ◌∷◌, Bool, false, suc}
-use Rattle.niss_search.proofs.Words.{cond, range_with_len, ◌++◌, zero, map, Contains, flat_map, filter, sum_by, sum_by-cons, list_any}
+use Rattle.niss_search.proofs.Words.{cond, range_with_len, ◌++◌, zero, map, Contains, flat_map, filter, sum_by, sum_by-cons, sum_by-le, list_any}
 use Rattle.niss_search.proofs.Words.{nat_le, nat_tests, flat_map-append, find, le-leb, sum_by-append, Contains-get_or, add-one, ◌||◌}
 use Rattle.niss_search.proofs.Words.{Contains-append_right, add-zero, filter-append, sum_by_push, length-range_with_len, leb-false}
 use Rattle.std.proofs.lemmas.List.{nil_from_length}
@@ -14,9 +14,7 @@ module _ {X : Type 0} where
   Contains-later x xs y h = Contains-append_right (x ∷ []) xs y h
 
 pub sum_by-none : {X : Type 0} (f : X → ℕ) (xs : List X) → ((x : X) → Contains xs x → f x ≡ 0) → sum_by f xs ≡ 0
-sum_by-none f [] h = refl
-sum_by-none f (x ∷ xs) h =
-    omega (arith, sum_by-cons f x xs, h x (Contains-first x xs), sum_by-none f xs (λ y m. h y (Contains-later x xs y m)))
+sum_by-none f xs h = omega (arith, sum_by-le f 0 xs (λ k d l. omega (arith, h _ (Contains-get_or xs k d l))))
 
 module _ {X A : Type 0} where
   pub flat_map-same : (f g : X → List A) (xs : List X) → ((x : X) → f x ≡ g x) → flat_map f xs ≡ flat_map g xs
@@ -54,7 +52,8 @@ module _ {X Y : Type 0} where
     both : (zs : List Y) → sum_by (f x) zs + sum_by (λ y. sum_by (λ z. f z y) xs) zs ≡ sum_by (λ y. sum_by (λ z. f z y) (x ∷ xs)) zs
     both [] = refl
     both (z ∷ zs) =
-        omega (arith, both zs, sum_by-cons (f x) z zs, sum_by-cons (λ y. sum_by (λ w. f w y) xs) z zs, sum_by-cons (λ y. sum_by (λ w. f w y) (x ∷ xs)) z zs, sum_by-cons (λ w. f w z) x xs)
+        let here = sum_by-cons (λ w. f w z) x xs in
+        omega (arith, both zs, here, sum_by-cons (f x) z zs, sum_by-cons (λ y. sum_by (λ w. f w y) xs) z zs, sum_by-cons (λ y. sum_by (λ w. f w y) (x ∷ xs)) z zs)
 
 module _ {X : Type 0} where
   pub sum_by-same : (f g : X → ℕ) (xs : List X) → ((x : X) → f x ≡ g x) → sum_by f xs ≡ sum_by g xs

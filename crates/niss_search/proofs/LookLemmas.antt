@@ -92,10 +92,7 @@ distance-turn turns reaches t m =
     elim (distance-reached turns rest) [
       | inl e ↦
           let further = reached_in-suc turns reaches (distance turns rest) ∙ list_any_at (λ u. reached_in turns (λ s. reaches (u ∷ s)) (distance turns rest)) turns m.0 t m.1 (ap (λ u. reached_in turns (λ s. reaches (u ∷ s)) (distance turns rest)) m.2 ∙ e) in
-          elim (leb_tells (distance turns rest) 19) [
-            | inl few ↦ omega (arith, distance-le turns reaches (suc (distance turns rest)) (omega arith) further)
-            | inr many ↦ omega (arith, distance-most turns reaches)
-          ]
+          grind (arith, distance-most turns reaches, distance-le turns reaches (suc (distance turns rest)), further)
       | inr e ↦ omega (arith, distance-most turns reaches)
     ]
 

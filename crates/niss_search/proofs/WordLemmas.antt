@@ -30,16 +30,13 @@ high-of d small some =
 xor-zero-same : (a b : ℕ) → bit_xor a b ≡ 0 → a ≡ b
 xor-zero-same a b e = omega (arith, xor_add_and a b, and_le_l a b, and_le_r a b)
 
-positive : (n : ℕ) → (n ≡ 0 → ⊥) → 0 < n
-positive n h = grind arith
-
 one-byte : (x level : ℕ) → x < 256 → level < 256 → marked x level 127 128 ≡ mark level x
 one-byte x level xs ls = elim (eqb_tells x level) [
   | inl e ↦
       let none = ap (λ y. bit_xor x y) (sym e.1) ∙ xor_self x in
       ap (λ d. bit_xor (bit_and (bit_or (bit_and d 127 + 127) d) 128) 128) none ∙ ap (λ b. cond {A = ℕ} b 128 0) (sym e.0)
   | inr e ↦
-      let some : 0 < bit_xor x level = positive _ (λ z. e.1 (xor-zero-same x level z)) in
+      let some : 0 < bit_xor x level = grind (arith, e.1, xor-zero-same x level) in
       ap (λ n. bit_xor n 128) (high-of (bit_xor x level) (xor_lt 8 x level xs ls) some) ∙ ap (λ b. cond {A = ℕ} b 128 0) (sym e.0)
 ]
 
