@@ -201,9 +201,9 @@ unfolding fill_ticks
 ticks_at_most s = ticks-within s (entries_of s) (entry_count s) (entries-counted s)
 
 -- the turns that the fill of a step's tables tries are those of its goals
-ticks-of-goals : (s : Step) → fill_ticks s ≡ sum_by (λ g. goal_ticks record { step = s; goal = g }) (goals_of s)
+pub ticks_of_goals : (s : Step) → fill_ticks s ≡ sum_by (λ g. goal_ticks record { step = s; goal = g }) (goals_of s)
 unfolding fill_ticks goal_ticks entries_of
-ticks-of-goals s =
+ticks_of_goals s =
     ap (λ n. length (turns_of s) * n) (sum_by-flat_map (λ c. cond (near s c) 1 0) values_for (goals_of s))
     ∙ times-sum (length (turns_of s)) (λ g. count_by (near s) (values_for g)) (goals_of s) where
       times-sum : (n : ℕ) (f : Goal → ℕ) (gs : List Goal) → n * sum_by f gs ≡ sum_by (λ g. n * f g) gs
@@ -213,10 +213,6 @@ ticks-of-goals s =
           ∙ mul-add n (f g) (sum_by f gs)
           ∙ ap (λ k. n * f g + k) (times-sum n f gs)
           ∙ sym (sum_by-cons (λ h. n * f h) g gs)
-
--- by its list of goals
-pub ticks-listed : (s : Step) (gs : List Goal) → goals_of s ≡ gs → fill_ticks s ≡ sum_by (λ g. goal_ticks record { step = s; goal = g }) gs
-ticks-listed s gs e = ticks-of-goals s ∙ ap (sum_by (λ g. goal_ticks record { step = s; goal = g })) e
 
 -- a bound for each goal
 goal-within : (alt : Alternative) (entries turns : ℕ) → count_for alt.goal ≤ entries → length (turns_of alt.step) ≤ turns → goal_ticks alt ≤ entries * turns
@@ -232,7 +228,7 @@ by-goals : (s : Step) (most : ℕ) → ((g : Goal) → Contains (goals_of s) g �
 by-goals s most each =
     let ticks : Goal → ℕ = λ g. goal_ticks record { step = s; goal = g } in
     let all : All (λ g. ticks g ≤ most) (goals_of s) = λ k d l. each _ (All-contains_itself (goals_of s) k d l) in
-    omega (arith, ticks-of-goals s, sum_by-le ticks most (goals_of s) all)
+    omega (arith, ticks_of_goals s, sum_by-le ticks most (goals_of s) all)
 
 -- 18 turns from each flip, or 14 from each pair of a twist and a slice
 module _ (begins : DominoKeepsStart) (s : Step) where

@@ -48,6 +48,7 @@ pub(crate) use with_kind;
 
 impl<A: Allocator + Copy> Kind<A> {
     /// Builds the tables of a step. Whatever its goals, it takes all memory, gives back the turn tables, then fills.
+    #[tactic(auto, using(crate::proofs::FillLemmas::ticks_of_goals))]
     pub(super) fn build_in(alloc: A, step: Step, meter: &mut Meter) -> Result<Kind<A>, OutOfMemory>
         requires { meter.old ≤ 2 ^ 127 }
         ensures { IsBuilt (λ kind. IsOfStep kind step) step meter.old meter.new result }
