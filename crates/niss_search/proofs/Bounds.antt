@@ -11,6 +11,7 @@ use Rattle.std.proofs.Math.Nat.{pow-le-pow_right}
 use Rattle.std.proofs.lemmas.List.Filters.{sum_by-filter_both}
 use Rattle.niss_search.proofs.ListLemmas.{sum_by-same}
 use Rattle.niss_search.proofs.DepthFirst.{below, below-all}
+use Rattle.niss_search.proofs.LookLemmas.{first_or-within}
 pub use Rattle.niss_cube.proofs.CallerLemmas.{turns_of-length, turns_of-oriented}
 
 pub ruleset few_turns = (turns_of-length)
@@ -41,13 +42,6 @@ look_bound-small turns n h l =
     let each : (j : ℕ) → j ≤ 20 → count_of_length turns j ≤ 18 ^ 20 = λ j m. omega (arith, count-le turns j h, pow-le-pow_right {n = 18} (omega arith) m) in
     omega (arith, range-le (λ d. sum_by (count_of_length turns) (up_to d)) (21 * 18 ^ 20) 0 (n + 1) (λ d m. omega (arith, range-le (count_of_length turns) (18 ^ 20) 0 (d + 1) (λ j k. each j (omega arith)))))
 
-pub least-le : (p : ℕ → Bool) (a n d b : ℕ) → a + n ≤ b + 1 → d ≤ b → unwrap_or (find p (range_with_len a n)) d ≤ b
-least-le p a zero d b h l = l
-least-le p a (suc n) d b h l = by_test (p a) (omega arith) (least-le p (a + 1) n d b (omega arith) l) where
-  by_test : (t : Bool) → a ≤ b → unwrap_or (find p (range_with_len (a + 1) n)) d ≤ b → unwrap_or (cond t (Some a) (find p (range_with_len (a + 1) n))) d ≤ b
-  by_test true k r = k
-  by_test false k r = r
-
 prefix-le : (f g : ℕ → ℕ) (a m n : ℕ) → ((j : ℕ) → f j ≤ g j) → m ≤ n → sum_by f (range_with_len a m) ≤ sum_by g (range_with_len a n)
 prefix-le f g a zero n h l = omega arith
 prefix-le f g a (suc m) zero h l = absurd (omega arith)
@@ -73,7 +67,7 @@ pub least-within : (turns : List Turn) (reaches : List Turn → Bool) (n d : ℕ
 unfolding least_length
 least-within turns reaches n d e =
     let P : Option ℕ → Type 0 = λ o. unwrap_or o n ≤ n in
-    subst P e (least-le (λ k. list_any reaches (all_canonical turns k)) 0 (n + 1) n n (omega arith) (omega arith))
+    subst P e (first_or-within (λ k. list_any reaches (all_canonical turns k)) 0 (n + 1) n n (omega arith) (omega arith))
 
 -- the bound of a step is small
 pub bound-small : BoundIsSmall
@@ -81,26 +75,20 @@ bound-small s n h = omega (arith, look_bound-small (turns_of s) n (turns_of-leng
 
 sum_by-kept : {X Y : Type 0} (g : Y → ℕ) (h : X → Y) (m : X → Bool) (xs : List X) → sum_by g (map h (filter m xs)) ≡ sum_by (λ x. cond (m x) (g (h x)) 0) xs
 sum_by-kept g h m [] = refl
-sum_by-kept g h m (x ∷ xs) = by_test (m x) (sum_by-kept g h m xs) ∙ sym (sum_by-cons (λ y. cond (m y) (g (h y)) 0) x xs) where
-  by_test : (b : Bool) → sum_by g (map h (filter m xs)) ≡ sum_by (λ y. cond (m y) (g (h y)) 0) xs → sum_by g (map h (cond b (x ∷ filter m xs) (filter m xs))) ≡ cond b (g (h x)) 0 + sum_by (λ y. cond (m y) (g (h y)) 0) xs
-  by_test true e = sum_by-cons g (h x) (map h (filter m xs)) ∙ ap (λ n. g (h x) + n) e
-  by_test false e = omega arith
+sum_by-kept g h m (x ∷ xs) =
+    grind (arith, sum_by-kept g h m xs, sum_by-cons (λ y. cond (m y) (g (h y)) 0) x xs, sum_by-cons g (h x) (map h (filter m xs)))
 
 length-below : (turns : List Turn) (k : ℕ) (p : List Turn) → length (below turns p (suc k)) ≡ sum_by (λ t. cond (may_follow (last_turn p) t) (length (below turns (p ++ t ∷ []) k)) 0) turns
 length-below turns k p =
     length-flat_map (λ q. below turns q k) (canonical_extensions turns p)
     ∙ sum_by-kept (λ q. length (below turns q k)) (λ t. p ++ t ∷ []) (may_follow (last_turn p)) turns
 
-cond-le : (b : Bool) (x y : ℕ) → x ≤ y → cond b x 0 ≤ cond b y 0
-cond-le true x y h = h
-cond-le false x y h = omega arith
-
 part-below : (part : Turn → Bool) (turns : List Turn) (k : ℕ) (p : List Turn) → length (below (filter part turns) p k) ≤ length (below turns p k)
 part-below part turns zero p = omega arith
 part-below part turns (suc k) p =
     let f : Turn → ℕ = λ t. cond (may_follow (last_turn p) t) (length (below (filter part turns) (p ++ t ∷ []) k)) 0 in
     let g : Turn → ℕ = λ t. cond (may_follow (last_turn p) t) (length (below turns (p ++ t ∷ []) k)) 0 in
-    let each : (t : Turn) → f t ≤ g t = λ t. cond-le (may_follow (last_turn p) t) _ _ (part-below part turns k (p ++ t ∷ [])) in
+    let each : (t : Turn) → f t ≤ g t = λ t. grind (arith, part-below part turns k (p ++ t ∷ [])) in
     omega (arith, length-below (filter part turns) k p, length-below turns k p, sum_by-filter_both part (λ t. not (part t)) (λ t. refl) f turns, sum_by-le-sum_by f g turns each)
 
 pub part-has-no-more : PartHasNoMore
@@ -125,10 +113,7 @@ sum-after F k = omega arith
 sum-after B k = omega arith
 
 below-after : (k : ℕ) (p : List Turn) (t : Turn) → length (below turn_order (p ++ t ∷ []) k) ≡ after_face t.face k
-below-after zero p t = one (goes_first t.face) where
-  one : (b : Bool) → ◌≡◌ {A = ℕ} 1 (cond b 1 1)
-  one true = refl
-  one false = refl
+below-after zero p t = grind arith
 below-after (suc k) p t =
     length-below turn_order k (p ++ t ∷ [])
     ∙ sum_by-same (λ u. cond (may_follow (last_turn (p ++ t ∷ [])) u) (length (below turn_order ((p ++ t ∷ []) ++ u ∷ []) k)) 0) (λ u. cond (face_may_follow t.face u.face) (after_face u.face k) 0) turn_order (λ u.

@@ -8,10 +8,10 @@ use Rattle.niss_search.proofs.Words.{sum_by-cons, ◌^◌, Place, at_limit, min,
 use Rattle.niss_search.proofs.Words.{GoesThrough, Ok, PositionsFollowCubes, Result, all_looks, descent_state, look_bound, OnErr, OnOk}
 use Rattle.niss_search.proofs.Words.{Path, StoppedIn, StopsIn, WentThrough, all_looks_at, least_length_at, looks_at, near_looks_of}
 use Rattle.niss_search.proofs.Words.{near_solutions_of, option_map_or, reaching_at, solutions_at, Delivers, IfOk, NoSlackIsLeast}
-use Rattle.niss_search.proofs.Bounds.{last-within, least-le, least-within, all_looks-bound, looks-sum-small, turns_of-length}
+use Rattle.niss_search.proofs.Bounds.{last-within, least-within, all_looks-bound, looks-sum-small, turns_of-length}
 use Rattle.niss_search.proofs.ListLemmas.{list_any-filter, filter-none, flat_map-none, in-range, range-push, range-split}
 use Rattle.niss_search.proofs.DepthFirst.{found_all, visits_all}
-use Rattle.niss_search.proofs.LookLemmas.{distance_at-goal, distance_at-turn, first_or-from, first_or-le}
+use Rattle.niss_search.proofs.LookLemmas.{distance_at-goal, distance_at-turn, first_or-from, first_or-le, first_or-within}
 use Rattle.niss_search.specs.declared.outcome.Outcome.{Outcome}
 use Rattle.niss_search.proofs.DescentLemmas.{Descends-then, StopsIn-before}
 use Rattle.niss_search.proofs.Transfer.{solutions-cube, all_looks-cube}
@@ -69,12 +69,9 @@ module _ (turns : List Turn) (reaches : List Turn → Bool) where
     -- below the least length there is nothing
     nothing-below : (k : ℕ) → k < unwrap_or (least_length turns reaches n) (n + 1) → reaching turns reaches k ≡ []
     unfolding least_length
-    nothing-below k h = filter-none reaches (all_canonical turns k) (by_test (is_level k) refl) where
-      by_test : (b : Bool) → is_level k ≡ b → is_level k ≡ false
-      by_test true e =
-          let within : unwrap_or (least_below (n + 1)) (n + 1) ≤ n + 1 = least-le is_level 0 (n + 1) (n + 1) (n + 1) (omega arith) (omega arith) in
-          absurd (omega (arith, h, within, first_or-le is_level 0 (n + 1) (n + 1) k (omega arith) (omega (arith, h, within)) e))
-      by_test false e = e
+    nothing-below k h =
+        let within = first_or-within is_level 0 (n + 1) (n + 1) (n + 1) (omega arith) (omega arith) in
+        filter-none reaches (all_canonical turns k) (grind (arith, h, within, first_or-le is_level 0 (n + 1) (n + 1) k))
 
     -- so the solutions are all that reach, up to the last length
     pub solutions-up_to : (slack : ℕ) → solutions turns reaches n slack ≡ flat_map (reaching turns reaches) (up_to (last_length (least_length turns reaches n) n slack))

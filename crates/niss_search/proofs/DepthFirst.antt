@@ -61,16 +61,27 @@ module _ {P : Type 0} (turns : List Turn) (after : P → Turn → P) (look : P �
   abbrev nexts : List Turn → List Turn
   nexts p = filter (may_follow (last_turn p)) turns
 
-  -- what is found one turn further on
-  filter-below : (k : ℕ) (p : List Turn) → filter reach (below turns p (suc k)) ≡ flat_map (λ t. filter reach (below turns (p ++ t ∷ []) k)) (nexts p)
+  -- of the sequences that begin with p and have k turns more those that reach, and how many are looked at
+  abbrev reaching_in : ℕ → List Turn → List (List Turn)
+  reaching_in k p = filter reach (below turns p k)
+
+  abbrev looked_in : (d k : ℕ) → List Turn → ℕ
+  looked_in d k p = sum_by (looked d) (below turns p k)
+
+  -- how many are looked at that have fewer turns more
+  abbrev looked_to : (d k : ℕ) → List Turn → ℕ
+  looked_to d k p = sum_by (λ j. looked_in d j p) (range_with_len 0 k)
+
+  -- those with one turn more, by that turn
+  filter-below : (k : ℕ) (p : List Turn) → reaching_in (suc k) p ≡ flat_map (λ t. reaching_in k (p ++ t ∷ [])) (nexts p)
   filter-below k p =
       filter-flat_map reach (λ q. below turns q k) (canonical_extensions turns p)
-      ∙ flat_map-map (λ q. filter reach (below turns q k)) (λ t. p ++ t ∷ []) (nexts p)
+      ∙ flat_map-map (reaching_in k) (λ t. p ++ t ∷ []) (nexts p)
 
-  looked-below : (d k : ℕ) (p : List Turn) → sum_by (looked d) (below turns p (suc k)) ≡ sum_by (λ t. sum_by (looked d) (below turns (p ++ t ∷ []) k)) (nexts p)
+  looked-below : (d k : ℕ) (p : List Turn) → looked_in d (suc k) p ≡ sum_by (λ t. looked_in d k (p ++ t ∷ [])) (nexts p)
   looked-below d k p =
       sum_by-flat_map (looked d) (λ q. below turns q k) (canonical_extensions turns p)
-      ∙ sum_by-map (λ q. sum_by (looked d) (below turns q k)) (λ t. p ++ t ∷ []) (nexts p)
+      ∙ sum_by-map (looked_in d k) (λ t. p ++ t ∷ []) (nexts p)
 
   module _ (at_goal : (x : P) → leb (look x) 0 ≡ goal x) (by_turn : (x : P) (t : Turn) → Contains turns t → look x ≤ 1 + look (after x t)) where
     falls : (p : List Turn) (t : Turn) → Contains (nexts p) t → far p ≤ 1 + far (p ++ t ∷ [])
@@ -79,56 +90,64 @@ module _ {P : Type 0} (turns : List Turn) (after : P → Turn → P) (look : P �
         rw (here-push p t) (by_turn (here p) t (All-contains (Contains turns) (nexts p) t all m))
 
     -- nothing that is pruned reaches
-    pruned : (k : ℕ) (p : List Turn) → k < far p → filter reach (below turns p k) ≡ []
+    pruned : (k : ℕ) (p : List Turn) → k < far p → reaching_in k p ≡ []
     pruned zero p h =
         let away : reach p ≡ false = sym (at_goal (here p)) ∙ lt-leb (far p) 0 h in
         ap (λ b. cond b (p ∷ []) []) away
     pruned (suc k) p h =
         filter-below k p
-        ∙ flat_map-none (λ t. filter reach (below turns (p ++ t ∷ []) k)) (nexts p) (λ t m. pruned k (p ++ t ∷ []) (omega (arith, falls p t m)))
+        ∙ flat_map-none (λ t. reaching_in k (p ++ t ∷ [])) (nexts p) (λ t m. pruned k (p ++ t ∷ []) (omega (arith, falls p t m)))
 
-    found_is : (k : ℕ) (p : List Turn) → found turns after look (here p) p k ≡ filter reach (below turns p k)
+    found_is : (k : ℕ) (p : List Turn) → found turns after look (here p) p k ≡ reaching_in k p
     unfolding found
     found_is zero p = ap (λ b. cond b (p ∷ []) []) (at_goal (here p))
     found_is (suc k) p = by_test (leb (far p) (suc k)) refl (λ t. found_is k (p ++ t ∷ [])) where
-      by_test : (b : Bool) → leb (far p) (suc k) ≡ b → ((t : Turn) → found turns after look (here (p ++ t ∷ [])) (p ++ t ∷ []) k ≡ filter reach (below turns (p ++ t ∷ []) k)) → cond b (flat_map (λ t. found turns after look (after (here p) t) (p ++ t ∷ []) k) (nexts p)) [] ≡ filter reach (below turns p (suc k))
+      after_turn : Turn → P → List (List Turn)
+      after_turn t x = found turns after look x (p ++ t ∷ []) k
+
+      by_test : (b : Bool) → leb (far p) (suc k) ≡ b → ((t : Turn) → after_turn t (here (p ++ t ∷ [])) ≡ reaching_in k (p ++ t ∷ []))
+          → cond b (flat_map (λ t. after_turn t (after (here p) t)) (nexts p)) [] ≡ reaching_in (suc k) p
       by_test true e rest =
-          flat_map-same (λ t. found turns after look (after (here p) t) (p ++ t ∷ []) k) (λ t. filter reach (below turns (p ++ t ∷ []) k)) (nexts p) (λ t.
-          ap (λ x. found turns after look x (p ++ t ∷ []) k) (sym (here-push p t)) ∙ rest t)
+          flat_map-same (λ t. after_turn t (after (here p) t)) (λ t. reaching_in k (p ++ t ∷ [])) (nexts p) (λ t. ap (after_turn t) (sym (here-push p t)) ∙ rest t)
           ∙ sym (filter-below k p)
       by_test false e rest = sym (pruned (suc k) p (leb-false (far p) (suc k) e))
 
     -- nothing below a sequence that fails the test is looked at
-    unlooked : (d n : ℕ) (p : List Turn) → length p + suc n ≤ d → d - length p < far p → sum_by (looked d) (below turns p (suc n)) ≡ 0
+    unlooked : (d n : ℕ) (p : List Turn) → length p + suc n ≤ d → d - length p < far p → looked_in d (suc n) p ≡ 0
     unlooked d zero p h l =
         looked-below d zero p
-        ∙ sum_by-none (λ t. sum_by (looked d) (below turns (p ++ t ∷ []) zero)) (nexts p) (λ t m.
+        ∙ sum_by-none (λ t. looked_in d zero (p ++ t ∷ [])) (nexts p) (λ t m.
         sum_by-one (looked d) (p ++ t ∷ []) ∙ looked-push d p t false (lt-leb (far p) (d - length p) l))
     unlooked d (suc n) p h l =
         looked-below d (suc n) p
-        ∙ sum_by-none (λ t. sum_by (looked d) (below turns (p ++ t ∷ []) (suc n))) (nexts p) (λ t m.
+        ∙ sum_by-none (λ t. looked_in d (suc n) (p ++ t ∷ [])) (nexts p) (λ t m.
         unlooked d n (p ++ t ∷ []) (omega (arith, length-append p (t ∷ []))) (omega (arith, length-append p (t ∷ []), falls p t m)))
 
-    -- the looks below a sequence: those of each length more
-    visits_is : (d k : ℕ) (p : List Turn) → d ≡ length p + k → visits turns after look (here p) p k ≡ sum_by (λ j. sum_by (looked d) (below turns p (suc j))) (range_with_len 0 k)
+    -- where a sequence itself is looked at, the looks below it are those of each length more
+    visits_is : (d k : ℕ) (p : List Turn) → d ≡ length p + k → visits turns after look (here p) p k ≡ sum_by (λ j. looked_in d (suc j) p) (range_with_len 0 k)
     unfolding visits
     visits_is d zero p e = refl
     visits_is d (suc k) p e = by_test (leb (far p) (suc k)) refl (λ t. visits_is d k (p ++ t ∷ []) (omega (arith, length-append p (t ∷ [])))) where
-      by_test : (b : Bool) → leb (far p) (suc k) ≡ b → ((t : Turn) → visits turns after look (here (p ++ t ∷ [])) (p ++ t ∷ []) k ≡ sum_by (λ j. sum_by (looked d) (below turns (p ++ t ∷ []) (suc j))) (range_with_len 0 k)) → cond b (sum_by (λ t. 1 + visits turns after look (after (here p) t) (p ++ t ∷ []) k) (nexts p)) 0 ≡ sum_by (λ j. sum_by (looked d) (below turns p (suc j))) (range_with_len 0 (suc k))
+      after_turn : Turn → P → ℕ
+      after_turn t x = visits turns after look x (p ++ t ∷ []) k
+
+      by_test : (b : Bool) → leb (far p) (suc k) ≡ b
+          → ((t : Turn) → after_turn t (here (p ++ t ∷ [])) ≡ sum_by (λ j. looked_in d (suc j) (p ++ t ∷ [])) (range_with_len 0 k))
+          → cond b (sum_by (λ t. 1 + after_turn t (after (here p) t)) (nexts p)) 0 ≡ sum_by (λ j. looked_in d (suc j) p) (range_with_len 0 (suc k))
       by_test true f rest =
-          sum_by-same (λ t. 1 + visits turns after look (after (here p) t) (p ++ t ∷ []) k) (λ t. sum_by (λ j. sum_by (looked d) (below turns (p ++ t ∷ []) j)) (range_with_len 0 (suc k))) (nexts p) (λ t.
-          let W : ℕ → ℕ = λ j. sum_by (looked d) (below turns (p ++ t ∷ []) j) in
+          sum_by-same (λ t. 1 + after_turn t (after (here p) t)) (λ t. looked_to d (suc k) (p ++ t ∷ [])) (nexts p) (λ t.
+          let W : ℕ → ℕ = λ j. looked_in d j (p ++ t ∷ []) in
           let passes : nat_le (far p) (d - length p) ≡ true = le-leb (far p) (d - length p) (omega (arith, leb-true (far p) (suc k) f)) in
           let one = sum_by-one (looked d) (p ++ t ∷ []) ∙ looked-push d p t true passes in
-          let moved = ap (λ x. visits turns after look x (p ++ t ∷ []) k) (sym (here-push p t)) ∙ rest t in
-          let all : 1 + visits turns after look (after (here p) t) (p ++ t ∷ []) k ≡ sum_by W (range_with_len 0 (suc k)) =
+          let moved = ap (after_turn t) (sym (here-push p t)) ∙ rest t in
+          let all : 1 + after_turn t (after (here p) t) ≡ looked_to d (suc k) (p ++ t ∷ []) =
           omega (arith, moved, one, sum_by-cons W 0 (range_with_len (0 + 1) k), sum_by-shift W 0 k) in
           all)
-          ∙ sum_by-swap (λ t j. sum_by (looked d) (below turns (p ++ t ∷ []) j)) (nexts p) (range_with_len 0 (suc k))
-          ∙ sum_by-same (λ j. sum_by (λ t. sum_by (looked d) (below turns (p ++ t ∷ []) j)) (nexts p)) (λ j. sum_by (looked d) (below turns p (suc j))) (range_with_len 0 (suc k)) (λ j. sym (looked-below d j p))
+          ∙ sum_by-swap (λ t j. looked_in d j (p ++ t ∷ [])) (nexts p) (range_with_len 0 (suc k))
+          ∙ sum_by-same (λ j. sum_by (λ t. looked_in d j (p ++ t ∷ [])) (nexts p)) (λ j. looked_in d (suc j) p) (range_with_len 0 (suc k)) (λ j. sym (looked-below d j p))
       by_test false f rest =
           let fails = leb-false (far p) (suc k) f in
-          sym (sum_by-none (λ j. sum_by (looked d) (below turns p (suc j))) (range_with_len 0 (suc k)) (λ j m. unlooked d j p (omega (arith, in-range 0 (suc k) j m)) (omega arith)))
+          sym (sum_by-none (λ j. looked_in d (suc j) p) (range_with_len 0 (suc k)) (λ j m. unlooked d j p (omega (arith, in-range 0 (suc k) j m)) (omega arith)))
 
     -- one deepening finds the canonical sequences of its length that reach, in turn order
     pub found_all : (d : ℕ) → found turns after look start [] d ≡ reaching turns reach d
@@ -139,8 +158,8 @@ module _ {P : Type 0} (turns : List Turn) (after : P → Turn → P) (look : P �
     unfolding looks
     visits_all d =
         let W : ℕ → ℕ = λ k. count_by (is_looked_at far d) (all_canonical turns k) in
-        let V : ℕ → ℕ = λ k. sum_by (looked d) (below turns [] k) in
+        let V : ℕ → ℕ = λ k. looked_in d k [] in
         let same = sum_by-same W V (range_with_len 0 (suc d)) (λ k. sym (ap (sum_by (looked d)) (below-all turns k))) in
-        let all : 1 + visits turns after look start [] d ≡ sum_by V (range_with_len 0 (suc d)) =
+        let all : 1 + visits turns after look start [] d ≡ looked_to d (suc d) [] =
         omega (arith, visits_is d d [] (omega arith), sum_by-one (looked d) [], sum_by-cons V 0 (range_with_len (0 + 1) d), sum_by-shift V 0 d) in
         all ∙ sym same ∙ sym (ap (λ n. sum_by W (range_with_len 0 n)) (add-one d))

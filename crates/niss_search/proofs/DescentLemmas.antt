@@ -57,7 +57,8 @@ module _ {K : Type 0} (took refused : K → List Turn → K → Type 0) where
       elim h [ inl r ↦ inl r | inr m ↦ inr (m.0, (m.1.0, StoppedIn-before m.0 c ps qs m.1.1)) ]
 
   -- a path that is handed out
-  pub Descends-take : {F : Type 0} (r : Result (Unit {0}) F) (m c : ℕ) (s t : K) (p : List Turn) → OnOk r (took s p t) → OnErr r (refused s p t) → Descends took refused (p ∷ []) 0 (descent_state m c s) (descent_state m (c + 1) t) r
+  pub Descends-take : {F : Type 0} (r : Result (Unit {0}) F) (m c : ℕ) (s t : K) (p : List Turn) → OnOk r (took s p t)
+      → OnErr r (refused s p t) → Descends took refused (p ∷ []) 0 (descent_state m c s) (descent_state m (c + 1) t) r
   Descends-take (Ok u) m c s t p ok err =
       record { delivered = (t, (ok, refl)); counted = omega arith; looked = omega arith }
   Descends-take (Err e) m c s t p ok err =
@@ -70,7 +71,8 @@ module _ {K : Type 0} {took refused : K → List Turn → K → Type 0} where
 
   module _ {ps : List (List Turn)} {k : ℕ} {a b : DescentState K} where
     -- paths, and then more
-    pub Descends-then : {F : Type 0} (r : Result (Unit {0}) F) (qs : List (List Turn)) (l : ℕ) (c : DescentState K) → GoesThrough took refused ps k a b → Descends took refused qs l b c r → Descends took refused (ps ++ qs) (k + l) a c r
+    pub Descends-then : {F : Type 0} (r : Result (Unit {0}) F) (qs : List (List Turn)) (l : ℕ) (c : DescentState K)
+        → GoesThrough took refused ps k a b → Descends took refused qs l b c r → Descends took refused (ps ++ qs) (k + l) a c r
     Descends-then (Ok u) qs l c h g = record {
       delivered = WentThrough-append took refused a.sink b.sink c.sink ps qs h.delivered g.delivered;
       counted = omega (arith, h.counted, g.counted, length-append ps qs);
@@ -102,7 +104,8 @@ module _ (step : Step) (x : List Coordinates) (p : List Turn) (left : ℕ) where
   looks_after-far : (fs : List Follower) → All Far fs → sum_by (looks_after step x p left) (turns_in fs) ≡ length fs
   looks_after-far [] b = refl
   looks_after-far (f ∷ fs) b =
-      omega (arith, sum_by-cons (looks_after step x p left) f.turn (turns_in fs), looks_beyond-far step (position_after x f.turn) (p ++ f.turn ∷ []) left (All-head Far f fs b), looks_after-far fs (All-tail Far f fs b))
+      let none = looks_beyond-far step (position_after x f.turn) (p ++ f.turn ∷ []) left (All-head Far f fs b) in
+      omega (arith, sum_by-cons (looks_after step x p left) f.turn (turns_in fs), none, looks_after-far fs (All-tail Far f fs b))
 
   -- a look after each
   looks_after-some : (fs : List Follower) → length fs ≤ sum_by (looks_after step x p left) (turns_in fs)
@@ -112,7 +115,9 @@ module _ (step : Step) (x : List Coordinates) (p : List Turn) (left : ℕ) where
 
 -- A descent with `left` turns more has come from a state to this one; what it finds is what it found, and what is below the
 -- followers `rest`.
-pub record Remains {K : Type 0} (took refused : K → List Turn → K → Type 0) (step : Step) (x : List Coordinates) (p : List Turn) (left : ℕ) (rest : List Follower) (start now : DescentState K) : Type 0 where
+pub record Remains
+    {K : Type 0} (took refused : K → List Turn → K → Type 0) (step : Step) (x : List Coordinates) (p : List Turn) (left : ℕ)
+    (rest : List Follower) (start now : DescentState K) : Type 0 where
   paths : List (List Turn)
   looks : ℕ
   went : GoesThrough took refused paths looks start now
@@ -120,7 +125,8 @@ pub record Remains {K : Type 0} (took refused : K → List Turn → K → Type 0
   all_looks : looks_beyond step x p left ≡ looks + sum_by (looks_after step x p (left - 1)) (turns_in rest)
 
 module _ {K : Type 0} {took refused : K → List Turn → K → Type 0} {step : Step} {x : List Coordinates} {p : List Turn} where
-  pub Remains-all : (left more : ℕ) (rest : List Follower) (start : DescentState K) → left ≡ suc more → distance_at step x ≤ left → turns_in rest ≡ filter (may_follow (last_turn p)) (turns_of step) → Remains took refused step x p left rest start start
+  pub Remains-all : (left more : ℕ) (rest : List Follower) (start : DescentState K) → left ≡ suc more → distance_at step x ≤ left
+      → turns_in rest ≡ filter (may_follow (last_turn p)) (turns_of step) → Remains took refused step x p left rest start start
   unfolding found found_below visits looks_beyond
   Remains-all zero more rest start e near all = absurd (omega arith)
   Remains-all (suc k) more rest start e near all =
@@ -139,15 +145,22 @@ module _ {K : Type 0} {took refused : K → List Turn → K → Type 0} {step : 
         omega (arith, remains.went.looked, remains.all_looks, looks_after-some step x p (left - 1) rest)
 
     -- none of them is near
-    pub Remains-far : {n : ℕ} → AreFar step x (left - 1) rest now.meter n → GoesThrough took refused (found_below step x p left) (looks_beyond step x p left) start (descent_state n now.count now.sink)
+    pub Remains-far : {n : ℕ} → AreFar step x (left - 1) rest now.meter n
+        → GoesThrough took refused (found_below step x p left) (looks_beyond step x p left) start (descent_state n now.count now.sink)
     Remains-far {n} are =
-        rw (remains.all_paths, remains.all_looks, found_after-far step x p (left - 1) rest are.far, looks_after-far step x p (left - 1) rest are.far)
-        (Descends-then {F = Unit {0}} (Ok tt) [] (length rest) _ remains.went (GoesThrough-looks (length rest) now.meter n now.count now.sink are.looked))
+        let none = found_after-far step x p (left - 1) rest are.far in
+        rw (remains.all_paths, remains.all_looks, none, looks_after-far step x p (left - 1) rest are.far)
+        (Descends-then {F = Unit {0}} (Ok tt) [] (length rest) _ remains.went
+        (GoesThrough-looks (length rest) now.meter n now.count now.sink are.looked))
 
     -- from the first on after which a look allows so many turns
     module _ {n i : ℕ} (next : IsNextNear step x (left - 1) rest now.meter n i) where
       abbrev t : Turn
       t = (get_or rest i no_follower).turn
+
+      -- the turns behind it
+      abbrev behind : List Turn
+      behind = turns_in (drop (i + 1) rest)
 
       -- what is found after it and the looks beyond it, and what is found after those behind it and the looks there
       abbrev below : List (List Turn)
@@ -157,43 +170,58 @@ module _ {K : Type 0} {took refused : K → List Turn → K → Type 0} {step : 
       beyond = looks_beyond step (position_after x t) (p ++ t ∷ []) (left - 1)
 
       abbrev others : List (List Turn)
-      others = flat_map (found_after step x p (left - 1)) (turns_in (drop (i + 1) rest))
+      others = flat_map (found_after step x p (left - 1)) behind
 
       abbrev other_looks : ℕ
-      other_looks = sum_by (looks_after step x p (left - 1)) (turns_in (drop (i + 1) rest))
+      other_looks = sum_by (looks_after step x p (left - 1)) behind
 
-      split : turns_in rest ≡ turns_in (take i rest) ++ t ∷ turns_in (drop (i + 1) rest)
+      -- the descent once it was looked at
+      abbrev there : DescentState K
+      there = descent_state n now.count now.sink
+
+      looked : GoesThrough took refused [] (i + 1) now there
+      looked = GoesThrough-looks (i + 1) now.meter n now.count now.sink (omega (arith, next.looked))
+
+      split : turns_in rest ≡ turns_in (take i rest) ++ t ∷ behind
       split =
           ap turns_in (sym (take-append-drop i rest) ∙ ap (λ fs. take i rest ++ fs) (drop_more rest i no_follower next.inside))
           ∙ map-append (λ (f : Follower). f.turn) (take i rest) (get_or rest i no_follower ∷ drop (i + 1) rest)
 
       next-paths : found_below step x p left ≡ remains.paths ++ (below ++ others)
       next-paths =
+          let each = found_after step x p (left - 1) in
           remains.all_paths
-          ∙ ap (λ ts. remains.paths ++ flat_map (found_after step x p (left - 1)) ts) split
-          ∙ ap (λ ps. remains.paths ++ ps) (flat_map-append (found_after step x p (left - 1)) (turns_in (take i rest)) (t ∷ turns_in (drop (i + 1) rest))
+          ∙ ap (λ ts. remains.paths ++ flat_map each ts) split
+          ∙ ap (λ ps. remains.paths ++ ps) (flat_map-append each (turns_in (take i rest)) (t ∷ behind)
           ∙ ap (λ ps. ps ++ (below ++ others)) (found_after-far step x p (left - 1) (take i rest) next.far))
 
       next-looks : looks_beyond step x p left ≡ remains.looks + (i + 1 + (beyond + other_looks))
       next-looks =
-          omega (arith, remains.all_looks, ap (sum_by (looks_after step x p (left - 1))) split, sum_by-append (looks_after step x p (left - 1)) (turns_in (take i rest)) (t ∷ turns_in (drop (i + 1) rest)), sum_by-cons (looks_after step x p (left - 1)) t (turns_in (drop (i + 1) rest)), looks_after-far step x p (left - 1) (take i rest) next.far, length-take-le i rest (omega (arith, next.inside)))
+          let each = looks_after step x p (left - 1) in
+          let joined = ap (sum_by each) split ∙ sum_by-append each (turns_in (take i rest)) (t ∷ behind) in
+          let one_each = looks_after-far step x p (left - 1) (take i rest) next.far in
+          let passed = length-take-le i rest (omega (arith, next.inside)) in
+          omega (arith, remains.all_looks, joined, one_each, passed, sum_by-cons each t behind)
 
       pub Remains-room_next : n + beyond ≤ start.meter + looks_beyond step x p left
       Remains-room_next = omega (arith, remains.went.looked, next-looks, next.looked)
 
       -- what it does after that one: it goes on with those behind it, or it stops
-      pub Remains-next : {mid : DescentState K} → GoesThrough took refused below beyond (descent_state n now.count now.sink) mid → Remains took refused step x p left (drop (i + 1) rest) start mid
+      pub Remains-next : {mid : DescentState K} → GoesThrough took refused below beyond there mid
+          → Remains took refused step x p left (drop (i + 1) rest) start mid
       Remains-next {mid} h = record {
         paths = remains.paths ++ below;
         looks = remains.looks + (i + 1 + beyond);
-        went = Descends-then {F = Unit {0}} (Ok tt) below (i + 1 + beyond) mid remains.went (Descends-then {F = Unit {0}} (Ok tt) below beyond mid (GoesThrough-looks (i + 1) now.meter n now.count now.sink (omega (arith, next.looked))) h);
+        went = Descends-then {F = Unit {0}} (Ok tt) below (i + 1 + beyond) mid remains.went
+            (Descends-then {F = Unit {0}} (Ok tt) below beyond mid looked h);
         all_paths = next-paths ∙ sym (append_assoc remains.paths below others);
         all_looks = omega (arith, next-looks);
       }
 
-      pub Remains-stops : {new : DescentState K} → StopsIn took refused below beyond (descent_state n now.count now.sink) new → StopsIn took refused (found_below step x p left) (looks_beyond step x p left) start new
+      pub Remains-stops : {new : DescentState K} → StopsIn took refused below beyond there new
+          → StopsIn took refused (found_below step x p left) (looks_beyond step x p left) start new
       Remains-stops {new} h =
+          let after = Descends-then {F = Unit {0}} (Err tt) (below ++ others) (beyond + other_looks) new looked in
           rw (next-paths, next-looks)
           (Descends-then {F = Unit {0}} (Err tt) (below ++ others) (i + 1 + (beyond + other_looks)) new remains.went
-          (Descends-then {F = Unit {0}} (Err tt) (below ++ others) (beyond + other_looks) new (GoesThrough-looks (i + 1) now.meter n now.count now.sink (omega (arith, next.looked)))
-          (StopsIn-before others other_looks h)))
+          (after (StopsIn-before others other_looks h)))

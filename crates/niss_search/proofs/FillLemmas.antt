@@ -20,33 +20,30 @@ module _ (p : ℕ → Bool) where
   count-range-le n = omega (arith, count_by-le-length p (range_with_len 0 n), length-range_with_len 0 n)
 
   -- places that don't pass add nothing to a count, and one that passes adds one
-  count-skip : (a k : ℕ) → ((j : ℕ) → a ≤ j → j < a + k → p j ≡ false) → count_by p (range_with_len 0 (a + k)) ≡ count_by p (range_with_len 0 a)
-  count-skip a zero none =
-      let e : a + 0 ≡ a = omega arith in
-      ap (λ n. count_by p (range_with_len 0 n)) e
-  count-skip a (suc k) none =
-      let e : a + suc k ≡ a + k + 1 = omega arith in
-      ap (λ n. count_by p (range_with_len 0 n)) e
-      ∙ sum_by-range_more (λ j. cond (p j) 1 0) (a + k)
-      ∙ omega (arith, ap (λ b. cond {A = ℕ} b 1 0) (none (a + k) (omega arith) (omega arith)), count-skip a k (λ j low high. none j low (omega arith)))
-
   pub count-to : (a b : ℕ) → a ≤ b → ((j : ℕ) → a ≤ j → j < b → p j ≡ false) → count_by p (range_with_len 0 b) ≡ count_by p (range_with_len 0 a)
-  count-to a b l none =
-      let e : a + (b - a) ≡ b = omega arith in
-      ap (λ n. count_by p (range_with_len 0 n)) (sym e) ∙ count-skip a (b - a) (λ j low high. none j low (omega arith))
+  count-to a zero l none =
+      let same : 0 ≡ a = omega arith in
+      ap (λ n. count_by p (range_with_len 0 n)) same
+  count-to a (suc b) l none = elim (eqb_tells a (suc b)) [
+    | inl e ↦ ap (λ n. count_by p (range_with_len 0 n)) (sym e.1)
+    | inr e ↦
+        let number : suc b ≡ b + 1 = omega arith in
+        let last = ap (λ n. count_by p (range_with_len 0 n)) number ∙ sum_by-range_more (λ j. cond (p j) 1 0) b in
+        let rest = count-to a b (omega (arith, e.1)) (λ j low high. none j low (omega arith)) in
+        grind (arith, last, rest, none b (omega (arith, e.1)) (omega arith))
+  ]
 
   pub count-past : (a b : ℕ) → a ≤ b → ((j : ℕ) → a ≤ j → j < b → p j ≡ false) → p b ≡ true → count_by p (range_with_len 0 (b + 1)) ≡ count_by p (range_with_len 0 a) + 1
   count-past a b l none here =
-      sum_by-range_more (λ j. cond (p j) 1 0) b
-      ∙ omega (arith, count-to a b l none, ap (λ t. cond {A = ℕ} t 1 0) here)
+      grind (arith, sum_by-range_more (λ j. cond (p j) 1 0) b, count-to a b l none, here)
 
-split-at : (a l : ℕ) → cond (nat_lt a (l + 1)) 1 0 ≡ cond (nat_lt a l) 1 0 + cond (a == l) 1 0
-split-at a l = grind (arith, nat_tests)
-
-pub count-level : (f : ℕ → ℕ) (l : ℕ) (xs : List ℕ) → count_by (λ x. nat_lt (f x) (l + 1)) xs ≡ count_by (λ x. nat_lt (f x) l) xs + count_by (λ x. f x == l) xs
+pub count-level : (f : ℕ → ℕ) (l : ℕ) (xs : List ℕ)
+    → count_by (λ x. nat_lt (f x) (l + 1)) xs ≡ count_by (λ x. nat_lt (f x) l) xs + count_by (λ x. f x == l) xs
 count-level f l [] = refl
 count-level f l (x ∷ xs) =
-    omega (arith, sum_by-cons (λ y. cond (nat_lt (f y) (l + 1)) 1 0) x xs, sum_by-cons (λ y. cond (nat_lt (f y) l) 1 0) x xs, sum_by-cons (λ y. cond (f y == l) 1 0) x xs, split-at (f x) l, count-level f l xs)
+    let to = sum_by-cons (λ y. cond (nat_lt (f y) (l + 1)) 1 0) x xs in
+    let below = sum_by-cons (λ y. cond (nat_lt (f y) l) 1 0) x xs in
+    grind (arith, nat_tests, to, below, sum_by-cons (λ y. cond (f y == l) 1 0) x xs, count-level f l xs)
 
 pub count-below-zero : (f : ℕ → ℕ) (xs : List ℕ) → count_by (λ x. nat_lt (f x) 0) xs ≡ 0
 count-below-zero f xs = sum_by-none (λ x. cond (nat_lt (f x) 0) 1 0) xs (λ x m. grind (arith, nat_tests))
@@ -57,10 +54,7 @@ count-twenty f xs =
 
 -- what a byte may be is the distance once it is met, or once the level is done
 may-meet : (level d byte : ℕ) → level < 20 → MayBeAt level d byte → d ≤ level + 1 → min byte (level + 1) ≡ d
-may-meet level d byte small h near = elim (leb_tells d level) [
-  | inl e ↦ omega (arith, h.near e.1)
-  | inr e ↦ elim (eqb_tells byte 21) [ inl q ↦ omega arith | inr q ↦ omega (arith, h.met q.1) ]
-]
+may-meet level d byte small h near = grind (arith, nat_tests, h.near, h.met)
 
 may-end : (level d byte : ℕ) → MayBeAt level d byte → (d ≡ level + 1 → byte < 21) → byte ≡ byte_at (level + 1) d
 may-end level d byte h met = grind (arith, nat_tests, h.near, h.met, h.next)
@@ -207,9 +201,9 @@ unfolding fill_ticks
 ticks_at_most s = ticks-within s (entries_of s) (entry_count s) (entries-counted s)
 
 -- the turns that the fill of a step's tables tries are those of its goals
-ticks-of-goals : (s : Step) → fill_ticks s ≡ sum_by (λ g. goal_ticks record { step = s; goal = g }) (goals_of s)
+pub ticks_of_goals : (s : Step) → fill_ticks s ≡ sum_by (λ g. goal_ticks record { step = s; goal = g }) (goals_of s)
 unfolding fill_ticks goal_ticks entries_of
-ticks-of-goals s =
+ticks_of_goals s =
     ap (λ n. length (turns_of s) * n) (sum_by-flat_map (λ c. cond (near s c) 1 0) values_for (goals_of s))
     ∙ times-sum (length (turns_of s)) (λ g. count_by (near s) (values_for g)) (goals_of s) where
       times-sum : (n : ℕ) (f : Goal → ℕ) (gs : List Goal) → n * sum_by f gs ≡ sum_by (λ g. n * f g) gs
@@ -219,10 +213,6 @@ ticks-of-goals s =
           ∙ mul-add n (f g) (sum_by f gs)
           ∙ ap (λ k. n * f g + k) (times-sum n f gs)
           ∙ sym (sum_by-cons (λ h. n * f h) g gs)
-
--- by its list of goals
-pub ticks-listed : (s : Step) (gs : List Goal) → goals_of s ≡ gs → fill_ticks s ≡ sum_by (λ g. goal_ticks record { step = s; goal = g }) gs
-ticks-listed s gs e = ticks-of-goals s ∙ ap (sum_by (λ g. goal_ticks record { step = s; goal = g })) e
 
 -- a bound for each goal
 goal-within : (alt : Alternative) (entries turns : ℕ) → count_for alt.goal ≤ entries → length (turns_of alt.step) ≤ turns → goal_ticks alt ≤ entries * turns
@@ -238,7 +228,7 @@ by-goals : (s : Step) (most : ℕ) → ((g : Goal) → Contains (goals_of s) g �
 by-goals s most each =
     let ticks : Goal → ℕ = λ g. goal_ticks record { step = s; goal = g } in
     let all : All (λ g. ticks g ≤ most) (goals_of s) = λ k d l. each _ (All-contains_itself (goals_of s) k d l) in
-    omega (arith, ticks-of-goals s, sum_by-le ticks most (goals_of s) all)
+    omega (arith, ticks_of_goals s, sum_by-le ticks most (goals_of s) all)
 
 -- 18 turns from each flip, or 14 from each pair of a twist and a slice
 module _ (begins : DominoKeepsStart) (s : Step) where

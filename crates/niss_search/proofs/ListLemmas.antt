@@ -1,7 +1,7 @@
 -- Lists joined, filtered and summed.
 use Rattle.niss_search.proofs.Words.{◌≡◌, arith, length, ◌+◌, ◌<◌, ℕ, ap, ◌∙◌, sym, ◌≤◌, [], List, refl, true, ◌-◌, ◌∷◌, Bool, false, suc}
-use Rattle.niss_search.proofs.Words.{cond, range_with_len, ◌++◌, zero, map, Contains, flat_map, filter, sum_by, sum_by-cons, list_any}
-use Rattle.niss_search.proofs.Words.{nat_le, flat_map-append, find, le-leb, sum_by-append, Contains-get_or, add-one, ◌||◌}
+use Rattle.niss_search.proofs.Words.{cond, range_with_len, ◌++◌, zero, map, Contains, flat_map, filter, sum_by, sum_by-cons, sum_by-le, list_any}
+use Rattle.niss_search.proofs.Words.{nat_le, nat_tests, flat_map-append, find, le-leb, sum_by-append, Contains-get_or, add-one, ◌||◌}
 use Rattle.niss_search.proofs.Words.{Contains-append_right, add-zero, filter-append, sum_by_push, length-range_with_len, leb-false}
 use Rattle.std.proofs.lemmas.List.{nil_from_length}
 use Rattle.std.proofs.lemmas.List.FromFn.{get_or-range_with_len}
@@ -14,9 +14,7 @@ module _ {X : Type 0} where
   Contains-later x xs y h = Contains-append_right (x ∷ []) xs y h
 
 pub sum_by-none : {X : Type 0} (f : X → ℕ) (xs : List X) → ((x : X) → Contains xs x → f x ≡ 0) → sum_by f xs ≡ 0
-sum_by-none f [] h = refl
-sum_by-none f (x ∷ xs) h =
-    omega (arith, sum_by-cons f x xs, h x (Contains-first x xs), sum_by-none f xs (λ y m. h y (Contains-later x xs y m)))
+sum_by-none f xs h = omega (arith, sum_by-le f 0 xs (λ k d l. omega (arith, h _ (Contains-get_or xs k d l))))
 
 module _ {X A : Type 0} where
   pub flat_map-same : (f g : X → List A) (xs : List X) → ((x : X) → f x ≡ g x) → flat_map f xs ≡ flat_map g xs
@@ -54,7 +52,8 @@ module _ {X Y : Type 0} where
     both : (zs : List Y) → sum_by (f x) zs + sum_by (λ y. sum_by (λ z. f z y) xs) zs ≡ sum_by (λ y. sum_by (λ z. f z y) (x ∷ xs)) zs
     both [] = refl
     both (z ∷ zs) =
-        omega (arith, both zs, sum_by-cons (f x) z zs, sum_by-cons (λ y. sum_by (λ w. f w y) xs) z zs, sum_by-cons (λ y. sum_by (λ w. f w y) (x ∷ xs)) z zs, sum_by-cons (λ w. f w z) x xs)
+        let here = sum_by-cons (λ w. f w z) x xs in
+        omega (arith, both zs, here, sum_by-cons (f x) z zs, sum_by-cons (λ y. sum_by (λ w. f w y) xs) z zs, sum_by-cons (λ y. sum_by (λ w. f w y) (x ∷ xs)) z zs)
 
 module _ {X : Type 0} where
   pub sum_by-same : (f g : X → ℕ) (xs : List X) → ((x : X) → f x ≡ g x) → sum_by f xs ≡ sum_by g xs
@@ -66,10 +65,7 @@ module _ {X : Type 0} where
   -- some element passes exactly where the filtered list is not empty
   pub list_any-filter : (p : X → Bool) (xs : List X) → list_any p xs ≡ nat_le 1 (length (filter p xs))
   list_any-filter p [] = refl
-  list_any-filter p (x ∷ xs) = by_test (p x) (list_any-filter p xs) where
-    by_test : (b : Bool) → list_any p xs ≡ nat_le 1 (length (filter p xs)) → (b || list_any p xs) ≡ nat_le 1 (length (cond b (x ∷ filter p xs) (filter p xs)))
-    by_test true e = sym (le-leb 1 (length (x ∷ filter p xs)) (omega arith))
-    by_test false e = e
+  list_any-filter p (x ∷ xs) = grind (arith, nat_tests, list_any-filter p xs)
 
 pub sum_by-shift : (f : ℕ → ℕ) (a n : ℕ) → sum_by f (range_with_len (a + 1) n) ≡ sum_by (λ j. f (suc j)) (range_with_len a n)
 sum_by-shift f a zero = refl
@@ -93,9 +89,6 @@ range_with_len-append a (suc m) n =
     let next : a + 1 + m ≡ a + suc m = omega arith in
     ap (range_with_len a) e
     ∙ ap (λ (l : List ℕ). a ∷ l) (range_with_len-append (a + 1) m n ∙ ap (λ k. range_with_len (a + 1) m ++ range_with_len k n) next)
-
-pub range_with_len-more : (a n : ℕ) → range_with_len a (suc n) ≡ range_with_len a n ++ (a + n) ∷ []
-range_with_len-more a n = ap (range_with_len a) (sym (add-one n)) ∙ range_with_len-append a n 1
 
 -- the numbers below m, and then those from m on
 pub range-split : (m n : ℕ) → m ≤ n → range_with_len 0 n ≡ range_with_len 0 m ++ range_with_len m (n - m)

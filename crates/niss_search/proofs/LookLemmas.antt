@@ -1,12 +1,11 @@
 -- How far a step is, by the sequences that reach and of a position: 0 exactly at the goal, at most one more than after a turn, and
 -- one more than after some.
 use Rattle.niss_search.proofs.Words.{◌≡◌, arith, ◌+◌, ◌<◌, ℕ, ap, ◌∙◌, ◌≤◌, [], List, refl, true, ◌∷◌, Bool, Turn, false, suc, cond}
-use Rattle.niss_search.proofs.Words.{range_with_len, zero, map, Contains, flat_map, leb, inl, inr, list_any, ◌⊎◌, Some, leb_tells, min}
+use Rattle.niss_search.proofs.Words.{range_with_len, zero, map, Contains, flat_map, leb, inl, inr, list_any, ◌⊎◌, Some, leb_tells, eqb_tells, min}
 use Rattle.niss_search.proofs.Words.{unwrap_or, find, le-leb, lt-leb, distance, ◌||◌, all_sequences, list_any-append, list_any_at, sym}
 use Rattle.niss_search.proofs.Words.{turns_of, Coordinates, distance_at, Step, position_after, is_reached_at, are_zero, coordinates_after}
-use Rattle.niss_search.proofs.Words.{fold, or-false, DistanceIsLeast}
+use Rattle.niss_search.proofs.Words.{fold, or-false, DistanceIsLeast, nat_tests}
 use Rattle.std.proofs.lemmas.List.Folds.{Any-from_list_any}
-use Rattle.niss_search.proofs.Bounds.{least-le}
 
 list_any-map : {X Y : Type 0} (p : Y → Bool) (f : X → Y) (xs : List X) → list_any p (map f xs) ≡ list_any (λ x. p (f x)) xs
 list_any-map p f [] = refl
@@ -32,48 +31,34 @@ reached_in-suc turns reaches k =
 abbrev pub first_or : (ℕ → Bool) → ℕ → ℕ → ℕ → ℕ
 first_or p a n d = unwrap_or (find p (range_with_len a n)) d
 
+first_or-suc : (p : ℕ → Bool) (a n d : ℕ) → first_or p a (suc n) d ≡ cond (p a) a (first_or p (a + 1) n d)
+first_or-suc p a n d = grind arith
+
 pub first_or-from : (p : ℕ → Bool) (a n d : ℕ) → a + n ≤ d → a ≤ first_or p a n d
 first_or-from p a zero d h = omega arith
-first_or-from p a (suc n) d h = by_test (p a) (first_or-from p (a + 1) n d (omega arith)) where
-  by_test : (b : Bool) → a + 1 ≤ first_or p (a + 1) n d → a ≤ unwrap_or (cond b (Some a) (find p (range_with_len (a + 1) n))) d
-  by_test true h = omega arith
-  by_test false h = omega arith
+first_or-from p a (suc n) d h = grind (arith, first_or-suc p a n d, first_or-from p (a + 1) n d (omega arith))
 
 pub first_or-le : (p : ℕ → Bool) (a n d k : ℕ) → a ≤ k → k < a + n → p k ≡ true → first_or p a n d ≤ k
 first_or-le p a zero d k low high e = absurd (omega arith)
-first_or-le p a (suc n) d k low high e = by_test (p a) refl (first_or-le p (a + 1) n d k) where
-  by_test : (b : Bool) → p a ≡ b → (a + 1 ≤ k → k < a + 1 + n → p k ≡ true → first_or p (a + 1) n d ≤ k) → unwrap_or (cond b (Some a) (find p (range_with_len (a + 1) n))) d ≤ k
-  by_test true f rest = low
-  by_test false f rest =
-      let other : (a ≡ k → ⊥) = λ q. absurd (cc (f, e, ap p q)) in
-      rest (omega arith) (omega arith) e
+first_or-le p a (suc n) d k low high e = grind (arith, first_or-suc p a n d, first_or-le p (a + 1) n d k, e)
+
+pub first_or-within : (p : ℕ → Bool) (a n d b : ℕ) → a + n ≤ b + 1 → d ≤ b → first_or p a n d ≤ b
+first_or-within p a zero d b h l = l
+first_or-within p a (suc n) d b h l = grind (arith, first_or-suc p a n d, first_or-within p (a + 1) n d b (omega arith) l)
 
 first_or-passes : (p : ℕ → Bool) (a n d : ℕ) → (p (first_or p a n d) ≡ true) ⊎ (first_or p a n d ≡ d)
 first_or-passes p a zero d = inr refl
-first_or-passes p a (suc n) d = by_test (p a) refl (first_or-passes p (a + 1) n d) where
-  by_test : (b : Bool) → p a ≡ b → (p (first_or p (a + 1) n d) ≡ true) ⊎ (first_or p (a + 1) n d ≡ d) → (p (unwrap_or (cond b (Some a) (find p (range_with_len (a + 1) n))) d) ≡ true) ⊎ (unwrap_or (cond b (Some a) (find p (range_with_len (a + 1) n))) d ≡ d)
-  by_test true f rest = inl f
-  by_test false f rest = rest
+first_or-passes p a (suc n) d = grind (arith, first_or-suc p a n d, first_or-passes p (a + 1) n d)
 
 -- two tests by one
 list_any-either : {X : Type 0} (p q : X → Bool) (xs : List X) → list_any (λ x. p x || q x) xs ≡ (list_any p xs || list_any q xs)
 list_any-either p q [] = refl
-list_any-either p q (x ∷ xs) = by_tests (p x) (q x) (list_any p xs) (list_any q xs) (list_any-either p q xs) where
-  by_tests : (a b c d : Bool) → list_any (λ y. p y || q y) xs ≡ (c || d) → ((a || b) || list_any (λ y. p y || q y) xs) ≡ ((a || c) || (b || d))
-  by_tests true b c d e = refl
-  by_tests false true true d e = refl
-  by_tests false true false d e = refl
-  by_tests false false c d e = e
+list_any-either p q (x ∷ xs) = grind (arith, list_any-either p q xs)
 
 first_or-either : (f g : ℕ → Bool) (a n d : ℕ) → a + n ≤ d → first_or (λ k. f k || g k) a n d ≡ min (first_or f a n d) (first_or g a n d)
 first_or-either f g a zero d h = omega arith
 first_or-either f g a (suc n) d h =
-    by_tests (f a) (g a) (first_or-from f (a + 1) n d (omega arith)) (first_or-from g (a + 1) n d (omega arith)) (first_or-either f g (a + 1) n d (omega arith)) where
-      by_tests : (b c : Bool) → a + 1 ≤ first_or f (a + 1) n d → a + 1 ≤ first_or g (a + 1) n d → first_or (λ k. f k || g k) (a + 1) n d ≡ min (first_or f (a + 1) n d) (first_or g (a + 1) n d) → unwrap_or (cond (b || c) (Some a) (find (λ k. f k || g k) (range_with_len (a + 1) n))) d ≡ min (unwrap_or (cond b (Some a) (find f (range_with_len (a + 1) n))) d) (unwrap_or (cond c (Some a) (find g (range_with_len (a + 1) n))) d)
-      by_tests true true l m e = omega arith
-      by_tests true false l m e = omega arith
-      by_tests false true l m e = omega arith
-      by_tests false false l m e = e
+    grind (arith, first_or-suc, first_or-from f (a + 1) n d, first_or-from g (a + 1) n d, first_or-either f g (a + 1) n d)
 
 -- where either of two tests is to be reached, the nearer one gives the distance
 distance-either : (turns : List Turn) (p q : List Turn → Bool) → distance turns (λ s. p s || q s) ≡ min (distance turns p) (distance turns q)
@@ -89,7 +74,7 @@ module _ (turns : List Turn) (reaches : List Turn → Bool) where
 
   distance-most : distance turns reaches ≤ 21
   unfolding distance
-  distance-most = least-le (reached_in turns reaches) 0 21 21 21 (omega arith) (omega arith)
+  distance-most = first_or-within (reached_in turns reaches) 0 21 21 21 (omega arith) (omega arith)
 
   distance-reached : (reached_in turns reaches (distance turns reaches) ≡ true) ⊎ (distance turns reaches ≡ 21)
   unfolding distance
@@ -97,10 +82,9 @@ module _ (turns : List Turn) (reaches : List Turn → Bool) where
 
   distance-zero : leb (distance turns reaches) 0 ≡ reaches []
   unfolding distance all_sequences
-  distance-zero = by_test (reaches []) refl where
-    by_test : (b : Bool) → reaches [] ≡ b → leb (first_or (reached_in turns reaches) 0 21 21) 0 ≡ b
-    by_test true e = le-leb _ 0 (first_or-le (reached_in turns reaches) 0 21 21 0 (omega arith) (omega arith) (rw e))
-    by_test false e = lt-leb _ 0 (rw e (first_or-from (reached_in turns reaches) 1 20 21 (omega arith)))
+  distance-zero =
+      let nearest = first_or-suc (reached_in turns reaches) 0 20 21 in
+      grind (arith, nat_tests, nearest, first_or-from (reached_in turns reaches) 1 20 21 (omega arith))
 
 distance-turn : (turns : List Turn) (reaches : List Turn → Bool) (t : Turn) → Contains turns t → distance turns reaches ≤ 1 + distance turns (λ s. reaches (t ∷ s))
 distance-turn turns reaches t m =
@@ -108,10 +92,7 @@ distance-turn turns reaches t m =
     elim (distance-reached turns rest) [
       | inl e ↦
           let further = reached_in-suc turns reaches (distance turns rest) ∙ list_any_at (λ u. reached_in turns (λ s. reaches (u ∷ s)) (distance turns rest)) turns m.0 t m.1 (ap (λ u. reached_in turns (λ s. reaches (u ∷ s)) (distance turns rest)) m.2 ∙ e) in
-          elim (leb_tells (distance turns rest) 19) [
-            | inl few ↦ omega (arith, distance-le turns reaches (suc (distance turns rest)) (omega arith) further)
-            | inr many ↦ omega (arith, distance-most turns reaches)
-          ]
+          grind (arith, distance-most turns reaches, distance-le turns reaches (suc (distance turns rest)), further)
       | inr e ↦ omega (arith, distance-most turns reaches)
     ]
 
@@ -130,19 +111,16 @@ distance_at-most step x = distance-most (turns_of step) (λ s. is_reached_at (fo
 -- from a position that isn't at the goal some turn leads nearer
 pub distance_at-nearer : (step : Step) (x : List Coordinates) (k : ℕ) → distance_at step x ≡ suc k → k < 20 → (t : Turn) × (Contains (turns_of step) t × (distance_at step (position_after x t) ≤ k))
 unfolding distance_at
-distance_at-nearer step x k e l = by_reached (distance-reached turns reaches) where
-  turns : List Turn
-  turns = turns_of step
-
-  reaches : List Turn → Bool
-  reaches s = is_reached_at (fold position_after x s)
-
-  by_reached : (reached_in turns reaches (distance turns reaches) ≡ true) ⊎ (distance turns reaches ≡ 21) → (t : Turn) × (Contains turns t × (distance turns (λ s. is_reached_at (fold position_after (position_after x t) s)) ≤ k))
-  by_reached (inl r) =
-      let here : reached_in turns reaches (suc k) ≡ true = ap (reached_in turns reaches) (sym e) ∙ r in
-      let some = Any-from_list_any (λ t. reached_in turns (λ s. reaches (t ∷ s)) k) turns (sym (reached_in-suc turns reaches k) ∙ here) in
-      (some.1, ((some.0, some.2, some.3), distance-le turns (λ s. reaches (some.1 ∷ s)) k (omega arith) some.4))
-  by_reached (inr r) = absurd (omega arith)
+distance_at-nearer step x k e l =
+    let turns = turns_of step in
+    let reaches = λ (s : List Turn). is_reached_at (fold position_after x s) in
+    elim (distance-reached turns reaches) [
+      | inl r ↦
+          let here : reached_in turns reaches (suc k) ≡ true = ap (reached_in turns reaches) (sym e) ∙ r in
+          let some = Any-from_list_any (λ t. reached_in turns (λ s. reaches (t ∷ s)) k) turns (sym (reached_in-suc turns reaches k) ∙ here) in
+          (some.1, ((some.0, some.2, some.3), distance-le turns (λ s. reaches (some.1 ∷ s)) k (omega arith) some.4))
+      | inr r ↦ absurd (omega arith)
+    ]
 
 either : (s : List Turn) (c : Coordinates) (x : List Coordinates) → is_reached_at (fold position_after (c ∷ x) s) ≡ (is_reached_at (fold position_after (c ∷ []) s) || is_reached_at (fold position_after x s))
 unfolding position_after is_reached_at

@@ -15,7 +15,7 @@ mod state_space;
 
 use crate::laws::positions_follow_cubes;
 pub(crate) use followers::Follower;
-pub(crate) use kind::Kind;
+pub(crate) use kind::{Kind, with_kind};
 pub use meter::Meter;
 use niss_cube::{Cube, OutOfMemory, Step, Turn};
 pub use position::Position;
@@ -134,12 +134,7 @@ impl<A: Allocator> Tables<A> {
         requires of_step { Contains (turns_of self.now) turn }
         ensures { result ≡ position_after position.now turn }
     {
-        match &self.kind {
-            Kind::Edges(tables) => tables.position_after(position, turn),
-            Kind::AnyEdges(tables) => tables.position_after(position, turn),
-            Kind::Domino(tables) => tables.position_after(position, turn),
-            Kind::EitherDomino(tables) => tables.position_after(position, turn),
-        }
+        with_kind!(&self.kind, tables => tables.position_after(position, turn))
     }
 
     /// The distance to the step: the least number of its turns that reach it, 0 to 20, or 21 for more or never. The
@@ -167,11 +162,6 @@ impl<A: Allocator> Tables<A> {
         ensures tick { meter.new ≡ meter.old + 1 }
         ensures value { result ≡ distance_at self.now position.now }
     {
-        match &self.kind {
-            Kind::Edges(tables) => tables.look(tables.state(position), meter),
-            Kind::AnyEdges(tables) => tables.look(tables.state(position), meter),
-            Kind::Domino(tables) => tables.look(tables.state(position), meter),
-            Kind::EitherDomino(tables) => tables.look(tables.state(position), meter),
-        }
+        with_kind!(&self.kind, tables => tables.look(tables.state(position), meter))
     }
 }

@@ -32,8 +32,23 @@ pub enum Kind<A: Allocator> {
     EitherDomino(TwoGoals<DominoMoves<A>, A>),
 }
 
+/// Evaluates an expression with the tables of the one kind that is there. Inlined as it is, it asks for the kind once.
+macro_rules! with_kind {
+    ($kind:expr, $tables:ident => $result:expr) => {
+        match $kind {
+            $crate::tables::Kind::Edges($tables) => $result,
+            $crate::tables::Kind::AnyEdges($tables) => $result,
+            $crate::tables::Kind::Domino($tables) => $result,
+            $crate::tables::Kind::EitherDomino($tables) => $result,
+        }
+    };
+}
+
+pub(crate) use with_kind;
+
 impl<A: Allocator + Copy> Kind<A> {
     /// Builds the tables of a step. Whatever its goals, it takes all memory, gives back the turn tables, then fills.
+    #[tactic(auto, using(crate::proofs::FillLemmas::ticks_of_goals))]
     pub(super) fn build_in(alloc: A, step: Step, meter: &mut Meter) -> Result<Kind<A>, OutOfMemory>
         requires { meter.old ≤ 2 ^ 127 }
         ensures { IsBuilt (λ kind. IsOfStep kind step) step meter.old meter.new result }
@@ -51,10 +66,8 @@ impl<A: Allocator + Copy> Kind<A> {
                 let second = edge_table(alloc, step, second, &flips)?;
                 let third = edge_table(alloc, step, third, &flips)?;
                 drop(flips);
-                let space = Either::of(
-                    first.fill(meter),
-                    Either::of(second.fill(meter), third.fill(meter)),
-                );
+                let others = Either::of(second.fill(meter), third.fill(meter));
+                let space = Either::of(first.fill(meter), others);
                 Ok(Kind::AnyEdges(SearchTables::of(step, space)))
             }
             [Goal::Domino { edges, axis }] => {

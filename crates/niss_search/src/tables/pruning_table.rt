@@ -90,11 +90,10 @@ impl<M: GoalMoves, A: Allocator> StateSpace for PruningTable<M, A> {
 
     #[tactic(auto, unfolding(crate::specs::Filling::AreEntries))]
     fn state(&self, position: &[Coordinates]) -> M::State {
-        // the first by a pattern: that there is one is then found by the prover, as the bound of an index isn't
-        let Some((coordinates, _)) = position.split_first() else {
+        let [coordinates] = *position else {
             unreachable!()
         };
-        self.state_of(*coordinates)
+        self.state_of(coordinates)
     }
 
     fn put_coordinates(&self, state: M::State, list: &mut ArrayVec<Coordinates, 3>) {

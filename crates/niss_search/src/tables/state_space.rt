@@ -87,7 +87,7 @@ impl<M: GoalMoves, A: Allocator, S: StateSpace> StateSpace for Either<M, A, S> {
 
     #[tactic(auto, unfolding(crate::specs::Filling::AreEntries))]
     fn state(&self, position: &[Coordinates]) -> (M::State, S::State) {
-        let Some((first, others)) = position.split_first() else {
+        let [first, others @ ..] = position else {
             unreachable!()
         };
         (self.first.state_of(*first), self.others.state(others))

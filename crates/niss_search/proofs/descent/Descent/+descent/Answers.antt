@@ -12,7 +12,8 @@ extend-returns-then-left-eq0-clause-finds g t c =
     let path = c.args.self.now.path.now in
     let near : distance_at step x ≤ 0 = omega (arith, c.requires.near, c.if-left-eq0.true) in
     rw (c.if-left-eq0.true, found_below-end step x path.turns near, looks_beyond-end step x path.turns)
-    (Descends-take (at_limit g.K.Sink.took path.limit) (at_limit g.K.Sink.refused path.limit) c.take.result c.args.meter c.args.self.now.count c.args.self.now.sink.now c.take.new.self path.turns c.take.ensures.ok c.take.ensures.err)
+    (Descends-take (at_limit g.K.Sink.took path.limit) (at_limit g.K.Sink.refused path.limit) c.take.result c.args.meter
+    c.args.self.now.count c.args.self.now.sink.now c.take.new.self path.turns c.take.ensures.ok c.take.ensures.err)
 
 pub extend-loop-index-init : goal.extend-loop-index-init
 extend-loop-index-init g t c =
@@ -37,8 +38,30 @@ extend-follow-counted-requires g t c κs within =
     let turn = (get_or c.loop-index.rest.now c.in-Some.index no_follower).turn in
     let same = sym inv.keeps.path in
     let Room : Path → Type 0 = λ q. length q.turns + 1 + (c.args.left - 1) ≤ q.limit in
-    let Metered : Path → Type 0 = λ q. c.next_near.new.meter + looks_beyond c.args.tables.now.step (position_after x turn) (q.turns ++ turn ∷ []) (c.args.left - 1) < 2 ^ 128 in
-    (omega arith, (within.0, (within.1.0, (within.1.1.0, (within.1.1.1, (rw c.after-after.ensures (next.near no_follower), (subst Room same (omega (arith, c.requires.room, c.if-left-eq0.false)), (rw c.after-after.ensures (subst Metered same (omega (arith, Remains-room_next inv.remains next, c.requires.meter))), omega (arith, inv.keeps.counted, c.requires.count, next.looked)))))))))
+    let beyond = λ (q : Path). looks_beyond c.args.tables.now.step (position_after x turn) (q.turns ++ turn ∷ []) (c.args.left - 1) in
+    let Metered : Path → Type 0 = λ q. c.next_near.new.meter + beyond q < 2 ^ 128 in
+    let near = next.near no_follower in
+    let room = subst Room same (omega (arith, c.requires.room, c.if-left-eq0.false)) in
+    let metered = subst Metered same (omega (arith, Remains-room_next inv.remains next, c.requires.meter)) in
+    let counted = inv.keeps.counted in (
+      omega arith,
+      (
+        within.0,
+        (
+          within.1.0,
+          (
+            within.1.1.0,
+            (
+              within.1.1.1,
+              (
+                rw c.after-after.ensures near,
+                (room, (rw c.after-after.ensures metered, omega (arith, counted, c.requires.count, next.looked))),
+              ),
+            ),
+          ),
+        ),
+      ),
+    )
 
 pub extend-returns-in-Err-clause-finds : goal.extend-returns-in-Err-clause-finds
 extend-returns-in-Err-clause-finds g t c =
