@@ -13,15 +13,12 @@ use rand_pcg::Lcg64Xsh32;
 fn choice_index(last: Option<Turn>, word: u32) -> usize
     ensures { result ≡ word * length (choices last) / 2 ^ 32 }
 {
-    let word = u64::from(word);
-    // worked out for each number of choices: so it doesn't wait for the last turn to be known
-    let (of_12, of_15) = (word * 12 / (1 << 32), word * 15 / (1 << 32));
-    let index = match last {
-        None => word * 18 / (1 << 32),
-        Some(last) if last.face.goes_first() => of_15,
-        Some(_) => of_12,
+    let choices = match last {
+        None => 18,
+        // three fewer after D, L and B, whose numbers are odd: reckoned, they are known before a length could be read
+        Some(last) => 15 - 3 * (last.face as u64 % 2),
     };
-    index as usize
+    (u64::from(word) * choices / (1 << 32)) as usize
 }
 
 /// The turn that the generator's next word picks among those that may follow the last one.
