@@ -9,3 +9,5 @@ pub use Rattle.niss_moves.proofs.Finite.{turn, at_face, at_token, at_turn}
 -- sequences one after the other
 pub use Rattle.niss_moves.proofs.Inverses.{effect-append, inverse_after, inverse_before, inverse_whole}
 pub use Rattle.niss_moves.proofs.CanonicalLists.{last_turn-push}
+-- the words of face turns, each after a space
+pub use Rattle.niss_moves.proofs.Gathered.{spaced_turns, spaced_line}

@@ -85,6 +85,14 @@ pub words_of_turns : (ts : List Turn) → map word (map token.Face ts) ≡ turn_
 words_of_turns [] = refl
 words_of_turns (t ∷ ts) = ap (λ ws. word (token.Face t) ∷ ws) (words_of_turns ts)
 
+-- the words of face turns, each after a space
+abbrev pub spaced_turns : List Turn → List ℕ
+spaced_turns ts = spaced (map token.Face ts)
+
+-- without the first space they are a line
+pub spaced_line : (ts : List Turn) → drop 1 (spaced_turns ts) ≡ with_words [] (turn_words ts)
+spaced_line ts = all_gathered [] true (map token.Face ts) refl ∙ ap (with_words []) (words_of_turns ts)
+
 -- words after words
 pub words_more : (text : List ℕ) (ts us : List Token) → with_words (with_words text (map word ts)) (map word us) ≡ with_words text (map word (ts ++ us))
 words_more text [] us = refl

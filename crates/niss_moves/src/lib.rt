@@ -59,6 +59,7 @@ pub use clean_text::{put_faces, put_niss_clean, put_rotation};
 pub use cleaning::cleanup;
 pub use faces::{Faces, to_faces};
 pub use fault::ReadFault;
+pub use gathering::write_turn;
 pub use niss::Niss;
 pub use reader::{LineReader, read};
 pub use rotation::Rotation;

@@ -1,20 +1,25 @@
 -- Drawing turn by turn.
 use Rattle.niss_search.proofs.Words.{◌≡◌, arith, length, ◌<◌, ℕ, ◌≤◌, true, ◌*◌, ◌-◌, Turn, may_follow, filter, None, ◌/◌, Option, Some}
 use Rattle.niss_search.proofs.Words.{◌^◌, no_turn, B, D, F, Face, L, R, U, choice, face_may_follow, filter_passes, mul-le-mul_right}
-use Rattle.niss_search.proofs.Words.{turn_order, choices, lit<}
+use Rattle.niss_search.proofs.Words.{turn_order, choices, lit<, refl, cond, goes_first, Bool, false}
 
-some-after : (f : Face) → 0 < length (filter (λ t. face_may_follow f t.face) turn_order)
-some-after U = lit< tt
-some-after D = lit< tt
-some-after R = lit< tt
-some-after L = lit< tt
-some-after F = lit< tt
-some-after B = lit< tt
+-- how many turns may follow one of a face
+pub after_face : (f : Face) → length (filter (λ t. face_may_follow f t.face) turn_order) ≡ cond {A = ℕ} (goes_first f) 15 12
+after_face U = refl
+after_face D = refl
+after_face R = refl
+after_face L = refl
+after_face F = refl
+after_face B = refl
+
+some : (first : Bool) → 0 < cond {A = ℕ} first 15 12
+some true = lit< tt
+some false = lit< tt
 
 -- some turn may always follow
 choices-some : (last : Option Turn) → 0 < length (choices last)
 choices-some None = lit< tt
-choices-some (Some t) = some-after t.face
+choices-some (Some t) = rw (after_face t.face) (some (goes_first t.face))
 
 -- a word's index is that of a choice
 pub choice-index : (last : Option Turn) (w : ℕ) → w < 2 ^ 32 → w * length (choices last) / 2 ^ 32 < length (choices last)

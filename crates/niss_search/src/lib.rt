@@ -65,7 +65,7 @@ pub use deepening::search;
 pub use limit::Limit;
 pub use outcome::Outcome;
 pub use scan::next_at;
-pub use scramble::random_turns;
+pub use scramble::{random_turn, random_turns};
 pub use sink::Sink;
 pub use tables::{Meter, Position, Tables};
 pub use turn_path::TurnPath;

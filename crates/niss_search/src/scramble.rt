@@ -1,19 +1,34 @@
 //! Random sequences of turns, drawn from the words of a generator.
-ghost use Rattle.std.specs.Prelude.{◌≡◌, ◌≤◌, None, length};
-ghost use Rattle.niss_moves.specs.Canonical.{IsCanonical};
-ghost use Rattle.niss_search.specs.Draw.{choice, next_words, after_words, draw};
+ghost use Rattle.std.specs.Prelude.{◌≡◌, ◌≤◌, ◌*◌, ◌/◌, ◌^◌, None, true, length};
+ghost use Rattle.niss_moves.specs.Canonical.{IsCanonical, may_follow};
+ghost use Rattle.niss_search.specs.Draw.{choice, choices, next_words, after_words, draw};
+ghost use Rattle.rand_pcg.specs.Pcg.{pcg32};
 
 use niss_moves::{Faces, Turn, turns_after};
 use rand_core::utils::NextWord;
 use rand_pcg::Lcg64Xsh32;
 
-/// The turn that a word picks among those that may follow the last one.
-fn turn_of_word(last: Option<Turn>, word: u32) -> Turn
-    ensures { result ≡ choice last word }
+/// The index that a word picks among the turns that may follow the last one.
+#[tactic(auto, using(crate::proofs::DrawLemmas::after_face))]
+fn choice_index(last: Option<Turn>, word: u32) -> usize
+    ensures { result ≡ word * length (choices last) / 2 ^ 32 }
 {
-    let turns = turns_after(last);
-    let index = u64::from(word) * turns.len() as u64 / (1 << 32);
-    turns[index as usize]
+    let choices = match last {
+        None => 18,
+        // three fewer after D, L and B, whose numbers are odd: reckoned, they are known before a length could be read
+        Some(last) => 15 - 3 * (last.face as u64 % 2),
+    };
+    (u64::from(word) * choices / (1 << 32)) as usize
+}
+
+/// The turn that the generator's next word picks among those that may follow the last one.
+pub fn random_turn(rng: &mut Lcg64Xsh32, last: Option<Turn>) -> Turn
+    ensures turn { result ≡ choice last (pcg32 rng.old).0 }
+    ensures follows { may_follow last result ≡ true }
+    ensures word { rng.new ≡ (pcg32 rng.old).1 }
+{
+    let index = choice_index(last, rng.next_word());
+    turns_after(last)[index]
 }
 
 /// A canonical sequence of `count` turns, at most 256, by that many words of the generator. Each word picks among the turns
@@ -30,7 +45,7 @@ pub fn random_turns(rng: &mut Lcg64Xsh32, count: usize) -> Faces
     // held beside the list: read back from its end, each turn would wait for the one before to be stored
     let mut last = None;
     'drawing: for _ in 0..count {
-        let turn = turn_of_word(last, rng.next_word());
+        let turn = random_turn(rng, last);
         turns.push(turn);
         last = Some(turn);
     }

@@ -9,16 +9,13 @@ unfolding draw next_words state_after
 drawing-preserved c =
     let inv = c.drawing.invariant in
     let last = c.drawing.last in
-    let turn = c.turn_of_word-turn.result in
-    let word : c.next_word.result ≡ (pcg32 c.drawing.rng).0 = ap (λ (q : ℕ × Lcg). q.0) c.next_word.ensures in
-    let next : c.next_word.new.self ≡ (pcg32 c.drawing.rng).1 = ap (λ (q : ℕ × Lcg). q.1) c.next_word.ensures in
-    let picked : turn ≡ choice last (pcg32 c.drawing.rng).0 = c.turn_of_word-turn.ensures ∙ ap (choice last) word in
-    let follows : may_follow last turn ≡ true = rw c.turn_of_word-turn.ensures (choice-follows last c.next_word.result c.next_word.type_inv) in
+    let turn = c.random_turn-turn.result in
+    let step = c.random_turn-turn.ensures in
     let more : (k : ℕ) → c.drawing.counter + 1 + k ≡ c.drawing.counter + suc k = λ k. omega arith in
     record {
-      drawn = λ k. ap (λ n. draw None (next_words n c.args.rng.now)) (more k) ∙ inv.drawn (suc k) ∙ rw (c.push.ensures.items, next, picked, append_assoc) refl;
-      words = λ k. ap (λ n. after_words n c.args.rng.now) (more k) ∙ inv.words (suc k) ∙ ap (after_words k) (sym next);
-      canonical = λ rest h. rw (c.push.ensures.items, append_assoc) (inv.canonical (turn ∷ rest) (rw follows h));
+      drawn = λ k. ap (λ n. draw None (next_words n c.args.rng.now)) (more k) ∙ inv.drawn (suc k) ∙ rw (c.push.ensures.items, step.turn, step.word, append_assoc) refl;
+      words = λ k. ap (λ n. after_words n c.args.rng.now) (more k) ∙ inv.words (suc k) ∙ ap (after_words k) (sym step.word);
+      canonical = λ rest h. rw (c.push.ensures.items, append_assoc) (inv.canonical (turn ∷ rest) (rw step.follows h));
       size = omega (arith, c.push.ensures.len);
     }
 

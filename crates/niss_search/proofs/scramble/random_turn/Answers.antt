@@ -1,0 +1,8 @@
+use Rattle.niss_search.proofs.DrawLemmas.{choice-index, choice-follows}
+use Rattle.niss_search.proofs.scramble.random_turn.Goals as goal
+
+pub bounds-turns_after-index : goal.bounds-turns_after-index
+bounds-turns_after-index c = rw (c.choice_index-index.ensures, c.turns_after.ensures.turns) (choice-index c.args.last c.next_word.result c.next_word.type_inv)
+
+pub returns-clause-follows : goal.returns-clause-follows
+returns-clause-follows c = rw (c.choice_index-index.ensures, c.turns_after.ensures.turns) (choice-follows c.args.last c.next_word.result c.next_word.type_inv)
