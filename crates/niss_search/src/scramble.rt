@@ -13,12 +13,16 @@ use rand_pcg::Lcg64Xsh32;
 fn choice_index(last: Option<Turn>, word: u32) -> usize
     ensures { result ≡ word * length (choices last) / 2 ^ 32 }
 {
-    let choices = match last {
-        None => 18,
-        // three fewer after D, L and B, whose numbers are odd: reckoned, they are known before a length could be read
-        Some(last) => 15 - 3 * (last.face as u64 % 2),
+    let word = u64::from(word);
+    let index = match last {
+        None => word * 18 / (1 << 32),
+        // D, L and B, whose numbers are odd, have 12 turns after them. The products don't wait for the last turn
+        Some(last) => {
+            let (of_15, of_12) = (word * 15 / (1 << 32), word * 12 / (1 << 32));
+            of_15 - (of_15 - of_12) * (last.face as u64 % 2)
+        }
     };
-    (u64::from(word) * choices / (1 << 32)) as usize
+    index as usize
 }
 
 /// The turn that the generator's next word picks among those that may follow the last one.

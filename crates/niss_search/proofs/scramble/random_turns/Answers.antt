@@ -1,7 +1,6 @@
-use Rattle.niss_search.proofs.Words.{◌≡◌, arith, ◌+◌, [], ◌∷◌, ℕ, ap, ◌∙◌, sym, refl, true, zero, suc, may_follow, append-nil, after_words, Lcg}
-use Rattle.niss_search.proofs.Words.{choice, draw, next_words, pcg32, append_assoc, None}
+use Rattle.niss_search.proofs.Words.{◌≡◌, arith, ◌+◌, [], ◌∷◌, ℕ, ap, ◌∙◌, sym, refl, zero, suc, append-nil, after_words}
+use Rattle.niss_search.proofs.Words.{draw, next_words, append_assoc, None}
 use Rattle.rand_pcg.specs.Lcg.{state_after}
-use Rattle.niss_search.proofs.DrawLemmas.{choice-follows}
 use Rattle.niss_search.proofs.scramble.random_turns.Goals as goal
 
 pub drawing-preserved : goal.drawing-preserved

@@ -1,4 +1,4 @@
-use Rattle.niss_shell.proofs.Names.{◌≡◌, ◌∙◌, ◌+◌, ◌++◌, ◌∷◌, [], ℕ, zero, suc, ap, arith, append-nil, append_assoc, sym, refl, drop, None, Lcg}
+use Rattle.niss_shell.proofs.Names.{◌≡◌, ◌∙◌, ◌+◌, ◌++◌, ◌∷◌, [], ℕ, zero, suc, ap, arith, append-nil, append_assoc, sym, refl, drop, None}
 use Rattle.niss_shell.proofs.Names.{state_after, after_words, take}
 use Rattle.niss_search.specs.Draw.{draw, next_words}
 use Rattle.niss_moves.proofs.CallerLemmas.{spaced_turns, spaced_line}
