@@ -1,6 +1,5 @@
 //! Face turns, rotations and cleaned lines written out.
 ghost use Rattle.std.specs.Prelude.{◌≡◌, ◌+◌, ◌*◌, ◌≤◌, length};
-ghost use Rattle.arrayvec.specs.ArrayVec.{array_vec_len};
 ghost use Rattle.niss_moves.specs.Text.{with_words};
 ghost use Rattle.niss_moves.specs.CleanText.{turn_words, rotation_words, cleaned_words, with_bracket};
 ghost use Rattle.niss_moves.specs.Helpers.{is_empty};
@@ -19,9 +18,9 @@ use crate::turn::Turn;
 /// `(`. A turn takes at most three bytes.
 #[tactic(auto, using(crate::proofs::Gathered::gathers_none))]
 pub fn put_faces(turns: &[Turn], text: &mut LineText)
-    requires { array_vec_len text.old + 3 * length turns.now ≤ 2048 }
+    requires { length text.old.items + 3 * length turns.now ≤ 2048 }
     ensures items { text.new.items ≡ with_words text.old.items (turn_words turns.now) }
-    ensures len { array_vec_len text.new ≤ array_vec_len text.old + 3 * length turns.now }
+    ensures len { length text.new.items ≤ length text.old.items + 3 * length turns.now }
 {
     let mut words = Words::after(text);
     for turn in turns {
@@ -33,9 +32,9 @@ pub fn put_faces(turns: &[Turn], text: &mut LineText)
 /// Appends the one spelling of the rotation, as `x2 y2`, with one space before each word, but not at the beginning of the
 /// text or after `(`. The identity has no word. The text needs six free bytes.
 pub fn put_rotation(rotation: Rotation, text: &mut LineText)
-    requires { array_vec_len text.old + 6 ≤ 2048 }
+    requires { length text.old.items + 6 ≤ 2048 }
     ensures items { text.new.items ≡ with_words text.old.items (rotation_words rotation) }
-    ensures len { array_vec_len text.new ≤ array_vec_len text.old + 6 }
+    ensures len { length text.new.items ≤ length text.old.items + 6 }
 {
     let mut words = Words::after(text);
     if let Some((axis, power)) = rotation.top.to_top() {
@@ -58,10 +57,10 @@ fn have_no_word(turns: &[Turn], rotation: Rotation) -> bool
 /// Appends the words of cleaned face turns and of the rotation after them.
 #[tactic(auto, using(crate::proofs::CleanWords::words_after))]
 fn put_cleaned(turns: &[Turn], rotation: Rotation, text: &mut LineText)
-    requires { array_vec_len text.old + 3 * length turns.now + 6 ≤ 2048 }
+    requires { length text.old.items + 3 * length turns.now + 6 ≤ 2048 }
     ensures items { text.new.items
         ≡ with_words text.old.items (cleaned_words turns.now rotation) }
-    ensures len { array_vec_len text.new ≤ array_vec_len text.old + 3 * length turns.now + 6 }
+    ensures len { length text.new.items ≤ length text.old.items + 3 * length turns.now + 6 }
 {
     put_faces(turns, text);
     put_rotation(rotation, text);
@@ -70,10 +69,10 @@ fn put_cleaned(turns: &[Turn], rotation: Rotation, text: &mut LineText)
 /// Appends them in a bracket, where there is any word.
 #[tactic(auto, using(crate::proofs::CleanWords::bracket_empty, crate::proofs::CleanWords::bracket_filled))]
 fn put_bracketed(turns: &[Turn], rotation: Rotation, text: &mut LineText)
-    requires { array_vec_len text.old + 3 * length turns.now + 9 ≤ 2048 }
+    requires { length text.old.items + 3 * length turns.now + 9 ≤ 2048 }
     ensures items { text.new.items
         ≡ with_bracket text.old.items (cleaned_words turns.now rotation) }
-    ensures len { array_vec_len text.new ≤ array_vec_len text.old + 3 * length turns.now + 9 }
+    ensures len { length text.new.items ≤ length text.old.items + 3 * length turns.now + 9 }
 {
     if have_no_word(turns, rotation) {
         return;
@@ -88,9 +87,9 @@ fn put_bracketed(turns: &[Turn], rotation: Rotation, text: &mut LineText)
 /// where any word of these is left. The normal and the bracketed moves are cleaned each by itself. That takes at most
 /// three bytes for each of 512 face turns, six for each rotation and three for the bracket: the text needs 1,600 free bytes.
 pub fn put_niss_clean(niss: &Niss, text: &mut LineText)
-    requires { array_vec_len text.old + 1600 ≤ 2048 }
+    requires { length text.old.items + 1600 ≤ 2048 }
     ensures items { text.new.items ≡ with_clean_line text.old.items niss.now }
-    ensures len { array_vec_len text.new ≤ array_vec_len text.old + 1600 }
+    ensures len { length text.new.items ≤ length text.old.items + 1600 }
 {
     let mut turns = Faces::new();
     let rotation = clean_into(niss.normal(), &mut turns);

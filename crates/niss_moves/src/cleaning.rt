@@ -1,6 +1,5 @@
 //! Face turns made canonical.
 ghost use Rattle.std.specs.Prelude.{◌≡◌, ◌+◌, ◌*◌, ◌<◌, ◌≤◌, List, [], ◌∷◌, ◌++◌, length, false, IfSome};
-ghost use Rattle.arrayvec.specs.ArrayVec.{array_vec_len};
 ghost use Rattle.niss_moves.specs.Places.{Place};
 ghost use Rattle.niss_moves.specs.Effects.{effect, effect_of_turns};
 ghost use Rattle.niss_moves.specs.Rotations.{spelling, IsRotationOf};
@@ -35,8 +34,8 @@ impl Power {
 
 /// Appends the sum of two turns of one face.
 fn push_sum(turns: &mut Faces, first: Turn, second: Turn)
-    requires { array_vec_len turns.old < 512 }
-    ensures len { array_vec_len turns.new ≤ array_vec_len turns.old + 1 }
+    requires { length turns.old.items < 512 }
+    ensures len { length turns.new.items ≤ length turns.old.items + 1 }
     ensures items { turns.new.items ≡ turns.old.items ++ sum_of_turns first second }
 {
     if let Some(power) = first.power.plus(second.power) {
@@ -49,8 +48,8 @@ fn push_sum(turns: &mut Faces, first: Turn, second: Turn)
 
 /// Appends a turn, or sums it with the last one where that is of its face.
 fn push_summed(turns: &mut Faces, turn: Turn)
-    requires { array_vec_len turns.old < 512 }
-    ensures len { array_vec_len turns.new ≤ array_vec_len turns.old + 1 }
+    requires { length turns.old.items < 512 }
+    ensures len { length turns.new.items ≤ length turns.old.items + 1 }
     ensures items { turns.new.items ≡ list_with_turn turns.old.items turn }
 {
     let Some(last) = turns.pop() else {
@@ -70,8 +69,8 @@ fn push_summed(turns: &mut Faces, turn: Turn)
 fn push_before(turns: &mut Faces, turn: Turn)
     requires breaks { IfSome (last_turn turns.old.items) (λ t. face_may_follow t.face turn.face ≡ false) }
     requires canonical { IsCanonical turns.old.items }
-    requires room { array_vec_len turns.old < 512 }
-    ensures len { array_vec_len turns.new ≤ array_vec_len turns.old + 1 }
+    requires room { length turns.old.items < 512 }
+    ensures len { length turns.new.items ≤ length turns.old.items + 1 }
     ensures canonical { IsCanonical turns.new.items }
     ensures cleans { (rest c : List Turn) →
         Cleans (turns.new.items ++ rest) c → Cleans (turns.old.items ++ turn ∷ rest) c }
@@ -92,8 +91,8 @@ fn push_before(turns: &mut Faces, turn: Turn)
 #[tactic(auto, using(crate::proofs::CanonicalLists::canonical_more))]
 fn push_clean(turns: &mut Faces, turn: Turn)
     requires canonical { IsCanonical turns.old.items }
-    requires room { array_vec_len turns.old < 512 }
-    ensures len { array_vec_len turns.new ≤ array_vec_len turns.old + 1 }
+    requires room { length turns.old.items < 512 }
+    ensures len { length turns.new.items ≤ length turns.old.items + 1 }
     ensures canonical { IsCanonical turns.new.items }
     ensures cleans { (rest c : List Turn) →
         Cleans (turns.new.items ++ rest) c → Cleans (turns.old.items ++ turn ∷ rest) c }
@@ -108,8 +107,8 @@ fn push_clean(turns: &mut Faces, turn: Turn)
 /// Appends the face turns of one move to a clean list and cleans it again.
 fn push_clean_turns(turns: &mut Faces, more: MoveTurns)
     requires canonical { IsCanonical turns.old.items }
-    requires room { array_vec_len turns.old ≤ 510 }
-    ensures len { array_vec_len turns.new ≤ array_vec_len turns.old + 2 }
+    requires room { length turns.old.items ≤ 510 }
+    ensures len { length turns.new.items ≤ length turns.old.items + 2 }
     ensures canonical { IsCanonical turns.new.items }
     ensures cleans { (rest c : List Turn) →
         Cleans (turns.new.items ++ rest) c → Cleans (turns.old.items ++ (turns_in more ++ rest)) c }
@@ -129,7 +128,7 @@ fn push_clean_turns(turns: &mut Faces, more: MoveTurns)
 pub(crate) fn clean_into(tokens: &[Token], turns: &mut Faces) -> Rotation
     requires moves { length tokens.now ≤ 256 }
     requires empty { turns.old.items ≡ [] }
-    ensures len { array_vec_len turns.new ≤ 2 * length tokens.now }
+    ensures len { length turns.new.items ≤ 2 * length tokens.now }
     ensures turns { turns.new.items ≡ clean_turns (faces tokens.now) }
     ensures canonical { IsCanonical turns.new.items }
     ensures rotation { result ≡ rotation_left tokens.now }
@@ -148,7 +147,7 @@ pub(crate) fn clean_into(tokens: &[Token], turns: &mut Faces) -> Rotation
 #[tactic(auto, using(crate::proofs::LawLemmas::of_cleaning))]
 pub fn cleanup(tokens: &[Token]) -> (Faces, Rotation)
     requires { length tokens.now ≤ 256 }
-    ensures len { array_vec_len result.0 ≤ 2 * length tokens.now }
+    ensures len { length result.0.items ≤ 2 * length tokens.now }
     ensures clean { Cleans (faces tokens.now) result.0.items }
     ensures canonical { IsCanonical result.0.items }
     ensures rotation { IsRotationOf tokens.now result.1 }

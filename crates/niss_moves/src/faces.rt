@@ -1,6 +1,5 @@
 //! Sequences as face turns.
 ghost use Rattle.std.specs.Prelude.{◌≡◌, ◌+◌, ◌*◌, ◌≤◌, [], ◌∷◌, ◌++◌, length};
-ghost use Rattle.arrayvec.specs.ArrayVec.{array_vec_len};
 ghost use Rattle.niss_moves.specs.Places.{Place};
 ghost use Rattle.niss_moves.specs.Effects.{effect, effect_of_turns, inverse_power};
 ghost use Rattle.niss_moves.specs.Rotations.{spelling, IsRotationOf};
@@ -90,8 +89,8 @@ impl HeldRotation {
 
 /// Appends the face turns of one move.
 fn push_turns(turns: &mut Faces, more: MoveTurns)
-    requires { array_vec_len turns.old ≤ 510 }
-    ensures len { array_vec_len turns.new ≤ array_vec_len turns.old + 2 }
+    requires { length turns.old.items ≤ 510 }
+    ensures len { length turns.new.items ≤ length turns.old.items + 2 }
     ensures items { turns.new.items ≡ turns.old.items ++ turns_in more }
 {
     match more {
@@ -110,7 +109,7 @@ fn push_turns(turns: &mut Faces, more: MoveTurns)
 #[tactic(auto, using(crate::proofs::Home::of_taking))]
 pub fn to_faces(tokens: &[Token]) -> (Faces, Rotation)
     requires { length tokens.now ≤ 256 }
-    ensures len { array_vec_len result.0 ≤ 2 * length tokens.now }
+    ensures len { length result.0.items ≤ 2 * length tokens.now }
     ensures faces { result.0.items ≡ faces tokens.now }
     ensures rotation { IsRotationOf tokens.now result.1 }
     ensures effect { (q : Place) →

@@ -1,6 +1,5 @@
 //! The one sequence of a line.
 ghost use Rattle.std.specs.Prelude.{◌≡◌, ◌+◌, ◌≤◌, List, ◌++◌, length};
-ghost use Rattle.arrayvec.specs.ArrayVec.{array_vec_len};
 ghost use Rattle.niss_moves.specs.Places.{Place};
 ghost use Rattle.niss_moves.specs.Effects.{effect, inverse, HasMeaning};
 ghost use Rattle.niss_moves.specs.Line.{joined_moves};
@@ -36,7 +35,7 @@ pub fn invert(niss: &Niss) -> ArrayVec<Token, 256>
 }
 
 fn push_all(moves: &mut ArrayVec<Token, 256>, tokens: &[Token])
-    requires { array_vec_len moves.old + length tokens.now ≤ 256 }
+    requires { length moves.old.items + length tokens.now ≤ 256 }
     ensures { moves.new.items ≡ moves.old.items ++ tokens.now }
 {
     for token in tokens {
@@ -45,7 +44,7 @@ fn push_all(moves: &mut ArrayVec<Token, 256>, tokens: &[Token])
 }
 
 fn push_inverse(moves: &mut ArrayVec<Token, 256>, tokens: &[Token])
-    requires { array_vec_len moves.old + length tokens.now ≤ 256 }
+    requires { length moves.old.items + length tokens.now ≤ 256 }
     ensures { moves.new.items ≡ moves.old.items ++ inverse tokens.now }
 {
     let mut rest = tokens;

@@ -1,6 +1,5 @@
 //! Moves written out.
 ghost use Rattle.std.specs.Prelude.{◌≡◌, ◌+◌, ◌*◌, ◌≤◌, ◌<◌, [], ◌∷◌, ◌++◌, length, map, if◌then◌else◌};
-ghost use Rattle.arrayvec.specs.ArrayVec.{array_vec_len};
 ghost use Rattle.niss_moves.specs.Effects.{inverse};
 ghost use Rattle.niss_moves.specs.Line.{joined_moves};
 ghost use Rattle.niss_moves.specs.Text.{word, with_words, gap};
@@ -18,9 +17,9 @@ pub type LineText = ArrayVec<u8, 2048>;
 /// four free bytes for each move.
 #[tactic(auto, using(crate::proofs::Gathered::gathers_none))]
 pub fn put_tokens(tokens: &[Token], text: &mut LineText)
-    requires { array_vec_len text.old + 4 * length tokens.now ≤ 2048 }
+    requires { length text.old.items + 4 * length tokens.now ≤ 2048 }
     ensures items { text.new.items ≡ with_words text.old.items (map word tokens.now) }
-    ensures len { array_vec_len text.new ≤ array_vec_len text.old + 4 * length tokens.now }
+    ensures len { length text.new.items ≤ length text.old.items + 4 * length tokens.now }
 {
     let mut words = Words::after(text);
     for token in tokens {
@@ -32,9 +31,9 @@ pub fn put_tokens(tokens: &[Token], text: &mut LineText)
 /// Appends the words of the inverse of the moves, in the same way.
 #[tactic(auto, using(crate::proofs::Gathered::gathers_none))]
 fn put_inverse(tokens: &[Token], text: &mut LineText)
-    requires { array_vec_len text.old + 4 * length tokens.now ≤ 2048 }
+    requires { length text.old.items + 4 * length tokens.now ≤ 2048 }
     ensures items { text.new.items ≡ with_words text.old.items (map word (inverse tokens.now)) }
-    ensures len { array_vec_len text.new ≤ array_vec_len text.old + 4 * length tokens.now }
+    ensures len { length text.new.items ≤ length text.old.items + 4 * length tokens.now }
 {
     let mut words = Words::after(text);
     let mut rest = tokens;
@@ -49,9 +48,9 @@ fn put_inverse(tokens: &[Token], text: &mut LineText)
 /// free bytes.
 #[tactic(auto, using(crate::proofs::Gathered::words_more))]
 pub fn put_unniss(niss: &Niss, text: &mut LineText)
-    requires { array_vec_len text.old + 1024 ≤ 2048 }
+    requires { length text.old.items + 1024 ≤ 2048 }
     ensures items { text.new.items ≡ with_words text.old.items (map word (joined_moves niss.now)) }
-    ensures len { array_vec_len text.new ≤ array_vec_len text.old + 1024 }
+    ensures len { length text.new.items ≤ length text.old.items + 1024 }
 {
     put_tokens(niss.normal(), text);
     put_inverse(niss.inverse(), text);
@@ -61,10 +60,10 @@ pub fn put_unniss(niss: &Niss, text: &mut LineText)
 /// free bytes.
 #[tactic(auto, using(crate::proofs::Gathered::words_more, crate::proofs::Inverses::inverse_whole))]
 pub fn put_inverted(niss: &Niss, text: &mut LineText)
-    requires { array_vec_len text.old + 1024 ≤ 2048 }
+    requires { length text.old.items + 1024 ≤ 2048 }
     ensures items { text.new.items
         ≡ with_words text.old.items (map word (inverse (joined_moves niss.now))) }
-    ensures len { array_vec_len text.new ≤ array_vec_len text.old + 1024 }
+    ensures len { length text.new.items ≤ length text.old.items + 1024 }
 {
     put_tokens(niss.inverse(), text);
     put_inverse(niss.normal(), text);
@@ -82,9 +81,9 @@ pub(crate) fn has_no_gap(text: &LineText) -> bool
 
 /// Appends the space that stands before a word, if one does.
 pub(crate) fn put_gap(text: &mut LineText)
-    requires { array_vec_len text.old < 2048 }
+    requires { length text.old.items < 2048 }
     ensures items { text.new.items ≡ text.old.items ++ gap text.old.items }
-    ensures len { array_vec_len text.new ≤ array_vec_len text.old + 1 }
+    ensures len { length text.new.items ≤ length text.old.items + 1 }
 {
     if !has_no_gap(text) {
         text.push(b' ');

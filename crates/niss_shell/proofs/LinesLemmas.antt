@@ -88,7 +88,7 @@ one_cut text lines last p = (
 
 -- the lines and answers of a text that comes in two parts
 
-by_test : (P : Bool → Type 0) (c : Bool) → P true → P false → P c
+pub by_test : (P : Bool → Type 0) (c : Bool) → P true → P false → P c
 by_test P true p q = p
 by_test P false p q = q
 

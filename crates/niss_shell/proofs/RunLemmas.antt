@@ -3,7 +3,7 @@ use Rattle.niss_shell.proofs.Names.{◌≡◌, ◌≢◌, ℕ, ◌+◌, ◌≤�
 use Rattle.niss_shell.proofs.Names.{Ok, Err, List, [], ◌∷◌, ◌++◌, length, refl, sym, ap, ◌∙◌, subst, append-nil, add-zero, arith, OnOk}
 use Rattle.niss_shell.proofs.Names.{OnErr, nat_lt, nat_le, common_steps, SourceState, TargetState, has_fault, Appended, Flushes}
 use Rattle.niss_shell.proofs.Names.{WriteRefused, most_bytes, Request, OnLines, request_of, reads_source, has_step, joined, Answer}
-use Rattle.niss_shell.proofs.Names.{Ending, More, End, Fail, ending, outcome_at_end, answer_to, looks_at, most_line_looks, home}
+use Rattle.niss_shell.proofs.Names.{Ending, End, Fail, ending, outcome_at_end, answer_to, looks_at, most_line_looks, home}
 use Rattle.niss_shell.proofs.Names.{where_it_starts, complete_lines, LineAnswers, line_answer, answer_at, answers_from, joined_answer}
 use Rattle.niss_shell.proofs.Names.{line_answers, answer_lines, answer_request, unsearched, outcome_of, out_of, error_text, status_of}
 use Rattle.niss_shell.proofs.Names.{turns_of, may_start, Moves, read_line, AnswerState, MayBegin, pending_state, AnswersSource, Answers}
@@ -14,6 +14,7 @@ use Rattle.niss_shell.proofs.Names.{takes_memory}
 use Rattle.niss_shell.proofs.StateLemmas.{appended_then, appended_after_failure, gave_nothing, fault_of_write, no_write_fault}
 use Rattle.niss_shell.proofs.StateLemmas.{no_flush_fault, writes_nothing, all_sent, choose_false, choose_true}
 use Rattle.niss_shell.proofs.AnswerLemmas.{short_test, long_test}
+use Rattle.niss_shell.proofs.LinesLemmas.{by_test}
 
 -- the error writer
 
@@ -39,38 +40,41 @@ reported text (Err x) a b e whole same refused unflushed = record {
   unflushed = unflushed;
 }
 
+-- what holds of the answer to each line, to none, and of two that are joined, holds of that to an input
+
+module _ (P : Answer → Type 0) (joins : (a b : Answer) (o : Result (Unit {0}) Stop) → P a → P b → P (joined_answer o a b))
+    (f : LineAnswers) (one : (n : ℕ) (line : List ℕ) → P (answer_at f n line)) (none : P (unsearched [] (Ok tt))) where
+  lines_have : (n : ℕ) (lines : List (List ℕ)) → P (answers_from f n lines)
+  unfolding answers_from
+  lines_have n [] = none
+  lines_have n (line ∷ lines) = joins (answer_at f n line) (answers_from f (n + 1) lines) _ (one n line) (lines_have (n + 1) lines)
+
+  input_has : (input : List ℕ) (m : Ending) → P (unsearched [] (outcome_of input m)) → P (answer_lines f input m)
+  input_has input m end =
+      joins (answers_from f 1 (complete_lines input m)) (unsearched [] (outcome_of input m)) _ (lines_have 1 (complete_lines input m)) end
+
 -- no answer is that memory was refused
 
-either : {A : Type 0} (P : A → Type 0) (c : Bool) (x y : A) → P x → P y → P (if c then x else y)
-either P true x y p q = p
-either P false x y p q = q
+abbrev IsNotMemory : Answer → Type 0
+IsNotMemory due = due.outcome ≢ Err OutOfMemory
 
-abbrev IsNotMemory : Result (Unit {0}) Stop → Type 0
-IsNotMemory outcome = outcome ≢ Err OutOfMemory
+joins_without_memory : (a b : Answer) (o : Result (Unit {0}) Stop) → IsNotMemory a → IsNotMemory b → IsNotMemory (joined_answer o a b)
+joins_without_memory a b (Ok u) p q = q
+joins_without_memory a b (Err stop) p q = p
 
-joined_is_not_memory : (a b : Answer) (o : Result (Unit {0}) Stop) → a.outcome ≡ o → IsNotMemory a.outcome → IsNotMemory b.outcome → IsNotMemory (joined_answer o a b).outcome
-joined_is_not_memory a b (Ok u) e p q = q
-joined_is_not_memory a b (Err stop) e p q = p
-
-line_is_not_memory : (n looks most : ℕ) (r : Result (List ℕ) LineFault) → IsNotMemory (line_answer n looks most r).outcome
+line_is_not_memory : (n looks most : ℕ) (r : Result (List ℕ) LineFault) → IsNotMemory (line_answer n looks most r)
 line_is_not_memory n looks most (Ok text) = λ e. cc e
 line_is_not_memory n looks most (Err fault) = λ e. cc e
 
-lines_are_not_memory : (f : LineAnswers) (n : ℕ) (lines : List (List ℕ)) → IsNotMemory (answers_from f n lines).outcome
-unfolding answers_from
-lines_are_not_memory f n [] = λ e. cc e
-lines_are_not_memory f n (line ∷ lines) =
-    joined_is_not_memory (answer_at f n line) (answers_from f (n + 1) lines) _ refl (line_is_not_memory n _ _ (f.answer_of line)) (lines_are_not_memory f (n + 1) lines)
+end_is_not_memory : (long : Bool) (m : Ending) → (if long then Err InputTooLong else outcome_at_end m) ≢ Err OutOfMemory
+end_is_not_memory true m = λ e. cc e
+end_is_not_memory false Fail = λ e. cc e
+end_is_not_memory false m = λ e. cc e
 
-end_is_not_memory : (m : Ending) → IsNotMemory (outcome_at_end m)
-end_is_not_memory Fail = λ e. cc e
-end_is_not_memory End = λ e. cc e
-end_is_not_memory More = λ e. cc e
-
-is_not_memory : (f : LineAnswers) (input : List ℕ) (m : Ending) → IsNotMemory (answer_lines f input m).outcome
+is_not_memory : (f : LineAnswers) (input : List ℕ) (m : Ending) → IsNotMemory (answer_lines f input m)
 is_not_memory f input m =
-    joined_is_not_memory (answers_from f 1 (complete_lines input m)) (unsearched [] (outcome_of input m)) _ refl (lines_are_not_memory f 1 (complete_lines input m))
-    (either IsNotMemory (nat_lt most_bytes (length input)) (Err InputTooLong) (outcome_at_end m) (λ e. cc e) (end_is_not_memory m))
+    input_has IsNotMemory joins_without_memory f (λ n line. line_is_not_memory n _ _ (f.answer_of line)) (λ e. cc e) input m
+    (end_is_not_memory (nat_lt most_bytes (length input)) m)
 
 ends_of_answers : (a : Answer) (asked : Result Request UsageFault) (outcome : Result (Unit {0}) Stop) (source source_now : SourceState) (h i : AnswerState)
     → a.outcome ≢ Err OutOfMemory → Answers a outcome h i → EndsUnflushed outcome a asked source source_now h i
@@ -253,22 +257,16 @@ module _ (law : LooksWithinBound) where
       start_within query.step (may_start query.step (home line)) _ n (law (turns_of query.step) _ _ query.limit query.slack)
   line_within command n (Err fault) = omega arith
 
-  lines_within : (command : LineCommand) (n : ℕ) (lines : List (List ℕ)) → IsWithin (answers_from (line_answers command) n lines)
-  unfolding answers_from
-  lines_within command n [] = omega arith
-  lines_within command n (line ∷ lines) =
-      joined_within (answer_at (line_answers command) n line) (answers_from (line_answers command) (n + 1) lines) _
-      (line_within command n (read_line line)) (lines_within command (n + 1) lines)
-
   input_within : (command : LineCommand) (input : List ℕ) (m : Ending) → IsWithin (answer_lines (line_answers command) input m)
   input_within command input m =
-      joined_within (answers_from (line_answers command) 1 (complete_lines input m)) (unsearched [] (outcome_of input m)) _
-      (lines_within command 1 (complete_lines input m)) (omega arith)
+      input_has IsWithin joined_within (line_answers command) (λ n line. line_within command n (read_line line)) (omega arith) input m (omega arith)
 
   answer_within : (asked : Result Request UsageFault) (input : List ℕ) (m : Ending) → IsWithin (answer_request asked input m)
   answer_within (Ok (OnLines command [])) input m = input_within command input m
   answer_within (Ok (OnLines command (word ∷ words))) input m =
-      either IsWithin (nat_lt most_bytes (length (joined (word ∷ words)))) _ _ (omega arith) (input_within command (joined (word ∷ words)) End)
+      let answered = answer_lines (line_answers command) (joined (word ∷ words)) End in
+      by_test (λ long. IsWithin (if long then unsearched [] (Err InputTooLong) else answered))
+      (nat_lt most_bytes (length (joined (word ∷ words)))) (omega arith) (input_within command (joined (word ∷ words)) End)
   answer_within _ input m = omega arith
 
 bounded_looks : (a : Answer) (asked : Result Request UsageFault) (outcome : Result (Unit {0}) Stop) (source source_now : SourceState) (h i : AnswerState)

@@ -38,9 +38,9 @@ pub fn put_end(solutions: u128, limit: Limit, text: &mut LineText)
 
 /// Appends the least length of a solution, or `none`.
 fn put_length(least: Option<u8>, text: &mut LineText)
-    requires { length text.old.items ≤ 100 }
+    requires { length text.old.items + 40 ≤ 2048 }
     ensures words { text.new.items ≡ text.old.items ++ length_text least }
-    ensures room { length text.new.items ≤ length text.old.items + 40 }
+    ensures len { length text.new.items ≤ length text.old.items + 40 }
 {
     match least {
         Some(length) => put_number(length as u128, text),

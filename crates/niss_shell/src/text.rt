@@ -8,7 +8,7 @@ use niss_moves::LineText;
 fn put_digits(number: u128, text: &mut LineText)
     requires { length text.old.items + length (decimal number) ≤ 2048 }
     ensures words { text.new.items ≡ text.old.items ++ decimal number }
-    ensures room { length text.new.items ≡ length text.old.items + length (decimal number) }
+    ensures len { length text.new.items ≡ length text.old.items + length (decimal number) }
 {
     if number < 10 {
         text.push(b'0' + number as u8);
@@ -21,9 +21,9 @@ fn put_digits(number: u128, text: &mut LineText)
 /// Appends the number in decimal digits, of which there are at most 39.
 #[tactic(auto, using(crate::proofs::WordsLemmas::decimal_short))]
 pub fn put_number(number: u128, text: &mut LineText)
-    requires { length text.old.items ≤ 2000 }
+    requires { length text.old.items + 40 ≤ 2048 }
     ensures words { text.new.items ≡ text.old.items ++ decimal number }
-    ensures room { length text.new.items ≤ length text.old.items + 40 }
+    ensures len { length text.new.items ≤ length text.old.items + 40 }
 {
     put_digits(number, text);
 }
@@ -32,7 +32,7 @@ pub fn put_number(number: u128, text: &mut LineText)
 pub fn put_text(part: &[u8], text: &mut LineText)
     requires { length text.old.items + length part.now ≤ 2048 }
     ensures words { text.new.items ≡ text.old.items ++ part.now }
-    ensures room { length text.new.items ≡ length text.old.items + length part.now }
+    ensures len { length text.new.items ≡ length text.old.items + length part.now }
 {
     text.try_extend_from_slice(part).unwrap();
 }

@@ -1,11 +1,10 @@
-use Rattle.std.proofs.Common.{◌+◌, ◌*◌, ◌≤◌, map, drop}
-use Rattle.arrayvec.specs.ArrayVec.{array_vec_len}
+use Rattle.std.proofs.Common.{◌+◌, ◌*◌, ◌≤◌, map, drop, length}
 use Rattle.niss_moves.specs.declared.token.Token.TheVariants as token
 use Rattle.niss_moves.proofs.Gathered.{Gathers}
 use Rattle.niss_moves.proofs.clean_text.put_faces.Given as goal
 
 abbrev pub invariant-loop-turn : goal.invariant-loop-turn
 invariant-loop-turn l = record {
-  room : array_vec_len l.text + l.words.len ≤ array_vec_len l.initial.text + 3 * l.turn-index;
+  room : length l.text.items + l.words.len ≤ length l.initial.text.items + 3 * l.turn-index;
   gathers : Gathers l.text.items l.words (map token.Face (drop l.turn-index l.turns)) l.initial.text.items (map token.Face l.turns);
 }

@@ -1,10 +1,9 @@
-use Rattle.niss_moves.proofs.Names.{◌*◌, ◌≤◌}
-use Rattle.arrayvec.specs.ArrayVec.{array_vec_len}
+use Rattle.niss_moves.proofs.Names.{◌*◌, ◌≤◌, length}
 use Rattle.niss_moves.proofs.Home.{Left}
 use Rattle.niss_moves.proofs.faces.to_faces.Given as goal
 
 abbrev pub invariant-loop-token : goal.invariant-loop-token
 invariant-loop-token l = record {
-  room : array_vec_len l.turns ≤ 2 * l.token-index;
+  room : length l.turns.items ≤ 2 * l.token-index;
   left : Left l.tokens l.token-index l.turns.items l.rotation;
 }

@@ -1,10 +1,9 @@
 use Rattle.niss_moves.proofs.Names.{◌≡◌, ◌+◌, ◌≤◌, ◌++◌, length, inverse}
-use Rattle.arrayvec.specs.ArrayVec.{array_vec_len}
 use Rattle.niss_moves.proofs.sequence.push_inverse.Given as goal
 
 abbrev pub invariant-loop-last : goal.invariant-loop-last
 invariant-loop-last l = record {
-  room : array_vec_len l.moves + length l.rest ≤ 256;
+  room : length l.moves.items + length l.rest ≤ 256;
   moves : l.moves.items ++ inverse l.rest ≡ l.initial.moves.items ++ inverse l.tokens;
 }
 
