@@ -56,8 +56,8 @@ def build(crate: str) -> None:
 
 
 def begin(crate: str, kept: str) -> None:
-    """Has a check of a crate that goes over a folder of kept work begin with the proofs that the crate's library carries, as `rt ci` made them, and
-    with what checks of the crate kept. It takes what is of the same text and of the same kit, and makes the rest."""
+    """Has a check of a crate that goes over a folder of kept work begin with what checks of the crate kept, and with the proofs that its library
+    carries. A library that `rt ci` made carries statements alone. It takes what is of the same text and of the same kit, and makes the rest."""
     if os.path.isfile(f"{built(crate)}/toolchain/checked.json"):
         unpack(built(crate), kept)
     if os.path.isdir(f"{TOP}/crates/{crate}/out/incremental"):
