@@ -48,7 +48,7 @@ def function_at(lines: list[str], at: int) -> Span | None:
         if not head:
             continue
         indent = head[1]
-        last = next((k for k in range(first, len(lines)) if lines[k].startswith(f"{indent}}}")), first)
+        last = next((k for k in range(first, len(lines)) if lines[k].startswith((f"{indent}}}", f"{indent}{{}}"))), first)
         if lines[first].endswith(("}", ";")):
             last = first
         if last < at:
@@ -74,6 +74,10 @@ class WrongBody:
         return self.name.split(os.sep)[0]
 
     @property
+    def folder(self) -> str:
+        return f"{TOP}/crates/{self.crate}"
+
+    @property
     def files(self) -> set[str]:
         return {it.file for it in self.changes}
 
@@ -86,21 +90,27 @@ class WrongBody:
             made[change.file] = change.made_in(made[change.file])
         return made
 
-    def touched(self, texts: dict[str, str]) -> set[str] | None:
-        """Returns what the body turns beside imports, each function by the file and line of its head; nothing where it turns more than functions'
-        bodies, as a constant, a type or a contract, which others can see."""
-        made, found = dict(texts), {self.refused}
+    def turned(self) -> list[tuple[str, Span | None, bool]]:
+        """Returns for each change that is no import its file, the function in which it is, and whether that is its body."""
+        made, found = sources(self.folder, self.files), []
         for change in self.changes:
             text = made[change.file]
             place = change.place(text)
-            at = text.count("\n", 0, place)
-            span = function_at(text.split("\n"), at)
-            if span and (at > span.body or at == span.body and text[:place].rstrip().endswith("{")):
-                found.add(f"{change.file}:{span.first}")
-            elif not text.split("\n")[at].startswith("use "):
-                return None
+            at, lines = text.count("\n", 0, place), text.split("\n")
+            span = function_at(lines, at)
+            is_body = bool(span) and (at > span.body or at == span.body and text[:place].rstrip().endswith("{"))
+            if is_body or not lines[at].startswith("use "):
+                found.append((change.file, span, is_body))
             made[change.file] = change.made_in(text)
         return found
+
+    def functions(self) -> set[str]:
+        """Returns the function that it names, and by the file and line of its head each one that it turns."""
+        return {self.refused, *(f"{file}:{span.first}" for file, span, _ in self.turned() if span)}
+
+    def touched(self) -> set[str] | None:
+        """Returns its functions, or nothing where it turns more than their bodies, as a constant, a type or a contract, which others can see."""
+        return self.functions() if all(is_body for _, _, is_body in self.turned()) else None
 
 
 def read(path: str) -> WrongBody:
@@ -128,7 +138,7 @@ def read(path: str) -> WrongBody:
     return body
 
 
-def sources(crate: str, files: set[str]) -> dict[str, str]:
-    """Returns the texts of files of a crate, those that are there."""
-    paths = {file: f"{TOP}/crates/{crate}/{file}" for file in sorted(files)}
+def sources(folder: str, files: set[str]) -> dict[str, str]:
+    """Returns the texts of files of a crate in a folder, those that are there."""
+    paths = {file: f"{folder}/{file}" for file in sorted(files)}
     return {file: open(path, encoding="utf-8").read() for file, path in paths.items() if os.path.isfile(path)}

@@ -1,6 +1,5 @@
 """What the Python tools of this folder share: the crates of the repository, and how the kit's checker is called on one of them."""
 
-import json
 import os
 import shutil
 import subprocess
@@ -56,27 +55,10 @@ def build(crate: str) -> None:
 
 
 def begin(crate: str, kept: str) -> None:
-    """Has a check of a crate that goes over a folder of kept work begin with what checks of the crate kept, and with the proofs that its library
-    carries. A library that `rt ci` made carries statements alone. It takes what is of the same text and of the same kit, and makes the rest."""
-    if os.path.isfile(f"{built(crate)}/toolchain/checked.json"):
-        unpack(built(crate), kept)
+    """Has a check of a crate that goes over a folder of kept work begin with what checks of the crate kept: the checker takes what is of the same
+    text and of the same kit, and makes the rest."""
     if os.path.isdir(f"{TOP}/crates/{crate}/out/incremental"):
         shutil.copytree(f"{TOP}/crates/{crate}/out/incremental", kept, dirs_exist_ok=True)
-
-
-def unpack(library: str, kept: str) -> None:
-    """Writes the checked modules of a library as kept work: a file each, in the folder of the checker that made them."""
-    with open(f"{library}/format", encoding="utf-8") as it:
-        made_by = next(line.split()[1] for line in it if line.startswith("rattle-build "))
-    folder = f"{kept}/{made_by.replace('/', '_')}"
-    os.makedirs(folder, exist_ok=True)
-    with open(f"{library}/toolchain/checked.a", "rb") as archive, open(f"{library}/toolchain/checked.json", encoding="utf-8") as index:
-        for module, at, size in map(json.loads, index):
-            archive.seek(at)
-            # the sum of all is no module
-            if "/" not in module:
-                with open(f"{folder}/{module}.oantt", "wb") as it:
-                    it.write(archive.read(size))
 
 
 def words_on(crate: str, folder_of_kit: str) -> list[str]:

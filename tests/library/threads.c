@@ -3,7 +3,7 @@
 
 #include <pthread.h>
 
-enum { THREADS = 8, ROUNDS = 40, STACK = 64 * 1024 };
+enum { THREADS = 8, ROUNDS = 12, STACK = 64 * 1024 };
 
 /* The sanitizers themselves take more stack. */
 static int is_sanitized(void) {

@@ -6,6 +6,8 @@
 The last line is `N passed, M failed`, and the status is 1 where M isn't 0.
 """
 import re
+import shutil
+import subprocess
 import sys
 from pathlib import Path
 
@@ -47,9 +49,13 @@ def links_and_tables(tally: Tally, pages: list[Page]) -> None:
 
 
 def readme(tally: Tally, page: Page) -> None:
-    """README has links, and is short."""
+    """README has links, is short, and names the logic of the kit that is here, where one is."""
     tally.holds("README.md has links", page.links())
     tally.holds(f"README.md has at most {MOST_LINES} lines", len(page.lines) <= MOST_LINES)
+    if shutil.which("rt"):
+        kit = subprocess.run(["rt", "version"], capture_output=True, text=True, check=True).stdout
+        logic = kit[kit.index("logic ") :].strip()
+        tally.holds(f"README.md names the kit's {logic}", any(line.endswith(logic) for line in page.lines))
 
 
 def names_of_code(tally: Tally, code: Code) -> None:
