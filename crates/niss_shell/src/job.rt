@@ -141,7 +141,7 @@ impl<A: Allocator> Input<A> {
 ///
 /// It is a function of its own so that the input's drop, which is long, is proved apart from `answer_command`.
 #[tactic(auto, using(std::proofs::lemmas::Result::err_from_is_err_and))]
-pub fn answer_lines<A: Allocator + Copy, B: Allocator, R: Source, W: Target>(
+pub fn run_on_lines<A: Allocator + Copy, B: Allocator, R: Source, W: Target>(
     alloc: A,
     request: LineRequest<'_, B>,
     source: &mut R,

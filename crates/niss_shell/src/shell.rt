@@ -9,7 +9,7 @@ ghost use Rattle.niss_shell.specs.Run.{Runs, ReportsError, devices};
 
 use crate::command::{Command, parse_words};
 use crate::device::{Source, Target};
-use crate::job::answer_lines;
+use crate::job::run_on_lines;
 use crate::output::Output;
 use crate::scrambles::write_scrambles;
 use crate::stop::Stop;
@@ -55,7 +55,7 @@ fn answer_command<A: Allocator + Copy, B: Allocator, R: Source, W: Target>(
         return Err(Stop::Usage);
     };
     if let Some(request) = command.on_lines() {
-        return answer_lines(alloc, request, source, output, looks);
+        return run_on_lines(alloc, request, source, output, looks);
     }
     match command {
         Command::Scramble {
