@@ -52,7 +52,6 @@ impl<'a, A: Allocator> Lines<'a, A> {
         ensures same_meter { result.looks.ghost_name ≡ looks.entry.ghost_name }
         ensures looks { result.looks.now ≡ looks.old }
         ensures reader { IsFed result.reader [] }
-        ensures fed { result.reader.fed ≡ 0 }
         ensures line { result.line ≡ 1 }
     {
         Lines {
@@ -127,7 +126,6 @@ impl<'a, A: Allocator> Lines<'a, A> {
         ensures works { OnOk result (has_fault (W.state output.new.target.now) ≡ false) }
         ensures empty { OnErr result (output.new.pending.items ≡ []) }
         ensures reader { OnOk result (IsFed self.new.reader []) }
-        ensures fed { OnOk result (self.new.reader.fed ≡ 0) }
         ensures line { OnOk result (self.new.line ≡ self.old.line + 1) }
         ensures meter { OnOk result (HasRoom self.new.line self.new.looks.now) }
     {
@@ -220,7 +218,6 @@ impl<'a, A: Allocator> Lines<'a, A> {
     ) -> Result<(), Stop>
         requires begins { MayBegin (S.state source.old) (lines_state W.state output.old self.old) }
         requires reader { IsFed self.old.reader [] }
-        requires fed { self.old.reader.fed ≡ 0 }
         requires line { self.old.line ≡ 1 }
         ensures keeps { Keeps self.old self.new }
         ensures answers { AnswersSource (answers_of self.old) result
@@ -253,7 +250,6 @@ impl<'a, A: Allocator> Lines<'a, A> {
         requires fits { length text.now ≤ most_bytes }
         requires works { has_fault (W.state output.old.target.now) ≡ false }
         requires reader { IsFed self.old.reader [] }
-        requires fed { self.old.reader.fed ≡ 0 }
         requires line { self.old.line ≡ 1 }
         requires meter { self.old.looks.now ≤ 2 ^ 64 }
         ensures keeps { Keeps self.old self.new }
