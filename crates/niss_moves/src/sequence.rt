@@ -38,9 +38,7 @@ fn push_all(moves: &mut ArrayVec<Token, 256>, tokens: &[Token])
     requires { length moves.old.items + length tokens.now ≤ 256 }
     ensures { moves.new.items ≡ moves.old.items ++ tokens.now }
 {
-    for token in tokens {
-        moves.push(*token);
-    }
+    moves.try_extend_from_slice(tokens).unwrap();
 }
 
 fn push_inverse(moves: &mut ArrayVec<Token, 256>, tokens: &[Token])
