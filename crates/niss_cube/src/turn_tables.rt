@@ -158,7 +158,7 @@ impl<A: Allocator> TurnTable<A> {
         self.coordinate
     }
 
-    /// The number on an axis after a turn of any cube that has this number before it.
+    /// The number on an axis after a turn of any cube that has this number before it; both are below the coordinate's `count`.
     #[inline(always)]
     pub fn next(&self, axis: Axis, number: u16, turn: Turn) -> u16
         requires { number < count_of self.now }

@@ -82,7 +82,8 @@ impl LineReader {
     }
 
     /// Takes whole moves in front of the bytes, each with the blank after it, and answers how many bytes these are. How many
-    /// moves it takes is a matter of speed and may be none: `feed` takes what is left. After a fault it takes none.
+    /// moves it takes is a matter of speed and may be none: `feed` takes what is left. After a fault it takes none. With those fed
+    /// before, the bytes are at most 16,777,216.
     pub fn feed_moves(&mut self, bytes: &[u8]) -> usize
         requires { self.old.fed + length bytes.now ≤ 16777216 }
         ensures taken { result ≤ length bytes.now }

@@ -101,11 +101,12 @@ pub enum Command<'a, B: Allocator = Global> {
     Solve(Step, Limit, &'a [String<B>]),
     /// Their length, how many they are, and how often the search looks at a position, for each line.
     Count(Step, Limit, &'a [String<B>]),
-    /// The solutions of a step for each line, of at most so many turns, and of at most so many more than the shortest.
+    /// The solutions of a step for each line, of at most so many turns (the first limit), and of at most so many more than the
+    /// shortest (the second).
     Near(Step, Limit, Limit, &'a [String<B>]),
     /// The names of the steps.
     Steps,
-    /// So many scrambles of so many turns, at most 256, by one generator of a state and a stream.
+    /// So many scrambles, at most 10,000, of so many turns, at most 256, by one generator of a state and a stream.
     Scramble {
         state: u64,
         stream: u64,

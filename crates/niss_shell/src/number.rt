@@ -13,7 +13,7 @@ fn has_digits_alone(word: &str) -> bool
     word.as_bytes().iter().all(|byte| byte.is_ascii_digit())
 }
 
-/// The number that the word spells in decimal digits, where it is at most `most`. Zeros may lead it.
+/// The number that the word spells in decimal digits, where it is at most `most`; `None` for any other word. Zeros may lead it.
 #[tactic(auto, using(crate::proofs::WordsLemmas::number_too_large))]
 pub fn number_of(word: &str, most: u64) -> Option<u64>
     ensures { result ≡ number_of most word.now }
@@ -29,7 +29,7 @@ pub fn number_of(word: &str, most: u64) -> Option<u64>
     Some(number)
 }
 
-/// The limit that the word spells.
+/// The limit that the word spells in decimal digits, 0 to 20; `None` for any other word.
 pub fn limit_of(word: &str) -> Option<Limit>
     ensures { result ≡ number_of most_limit word.now }
 {

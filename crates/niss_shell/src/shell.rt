@@ -110,12 +110,14 @@ pub fn run_in<A: Allocator + Copy, B: Allocator, R: Source, W: Target, E: Target
     report(outcome, err)
 }
 
-/// Runs a command, and answers its exit status.
+/// Runs a command, and answers its exit status: 0 where all was written, 1 for a fault of a line, 2 for words that are no
+/// command, 3 for an input that is too long, and where a read, a write, a flush or memory was refused.
 ///
-/// The words are those after the program's name. The input, where no words give it, comes from `input`. The answers go
-/// to `out` and what went wrong to `err`. `looks` counts the looks at positions of the searches for the lines; it stands
-/// at 2^64 or below. Memory is taken only to join words that give the input, and for the tables of a step, and before
-/// anything is read or written; `nissy: out of memory` comes only where the command takes memory.
+/// The words are those after the program's name. The input, where no words give it, comes from `input`, of which no read has
+/// failed or found the end yet. The answers go to `out`, of which no write or flush has failed yet, and what went wrong to
+/// `err`. `looks` counts the looks at positions of the searches for the lines; it stands at 2^64 or below. Memory is taken
+/// only to join words that give the input, and for the tables of a step, and before anything is read or written;
+/// `nissy: out of memory` comes only where the command takes memory.
 pub fn run<R: Source, W: Target, E: Target>(
     alloc: Global,
     words: &[String],

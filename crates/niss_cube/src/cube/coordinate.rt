@@ -26,7 +26,7 @@ pub enum Coordinate {
 }
 
 impl Coordinate {
-    /// How many numbers it has.
+    /// How many numbers it has: 2,048, 2,187 or 495.
     pub fn count(self) -> usize
         ensures { result ≡ count_of self }
     {
@@ -37,7 +37,7 @@ impl Coordinate {
         }
     }
 
-    /// The number of a cube on an axis. It is 0 exactly where the cube keeps the coordinate's set of places.
+    /// The number of a cube on an axis, below `count`. It is 0 exactly where the cube keeps the coordinate's set of places.
     pub fn number(self, axis: Axis, cube: &Cube) -> u16
         ensures value { result ≡ number_of self axis (map_of cube.now) }
         ensures in_range { result < count_of self }
