@@ -104,7 +104,6 @@ mv docs/elsewhere docs/MANUAL.md
 
 share=$usr/share
 steps=$("$program" steps)
-commands="invert unniss cleanup print solve count near scramble steps"
 # the number that CHANGELOG.md closed, wherever one is named
 finds_another() { # FILE FROM TO
     cp "$1" "$room/kept" && sed -i "s/$2/$3/" "$1" && ! cmp -s "$1" "$room/kept" || return
@@ -126,7 +125,6 @@ completed() { # the words that bash offers after these
     bash -c '. "$0"; COMP_WORDS=("$@" ""); COMP_CWORD=$#; _nissy; printf "%s\n" "${COMPREPLY[@]}"' \
         "$share/bash-completion/completions/nissy" "$@"
 }
-holds "bash completes the commands" test "$(completed nissy | xargs)" = "$commands"
 for command in solve count near; do
     holds "bash completes the steps of $command" test "$(completed nissy "$command")" = "$steps"
 done
@@ -139,7 +137,9 @@ listed_in() { # PAGE: the commands that it offers or explains
         *.1) sed -n '/^\.SS Commands/,/^\.SS Steps/s/^\.BI\{0,1\} \([a-z][a-z]*\).*/\1/p' "$1" ;;
     esac
 }
-in_order() { tr ' ' '\n' | LC_ALL=C sort; }
+commands=$(listed_in docs/MANUAL.md | LC_ALL=C sort)
+holds "the manual lists the commands" test -n "$commands"
+holds "bash completes the commands" test "$(completed nissy | LC_ALL=C sort)" = "$commands"
 named_in() { sed 's/\\-/-/g' "$1" | tr -cs 'a-z-' '\n' | grep -Fx -e "$2" > /dev/null; }
 all_named() { # each step is named in the file
     local name
@@ -155,7 +155,7 @@ dead_links() { # of the pages that are installed
 }
 holds "each link of the installed pages leads to one of them" test -z "$(dead_links)"
 for page in zsh/site-functions/_nissy fish/vendor_completions.d/nissy.fish doc/nissy/MANUAL.md man/man1/nissy.1; do
-    holds "$page lists the commands" test "$(listed_in "$share/$page" | in_order)" = "$(in_order <<< "$commands")"
+    holds "$page lists the commands" test "$(listed_in "$share/$page" | LC_ALL=C sort)" = "$commands"
     holds "$page names each step" all_named "$share/$page"
 done
 
