@@ -1,4 +1,4 @@
-"""nissy for Python: moves and searches of the 3x3x3 cube, by the proved library libnissy.
+r"""nissy for Python: moves and searches of the 3x3x3 cube, by the proved library libnissy.
 
     >>> import nissy
     >>> nissy.invert("R U' F2")

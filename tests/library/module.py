@@ -7,6 +7,7 @@ The library is that of NISSY_LIBRARY. With `large` an output of more than 2 GiB 
 The last line is `N passed, M failed`, and the status is 1 where M isn't 0.
 """
 import copy
+import doctest
 import os
 import pickle
 import subprocess
@@ -88,6 +89,13 @@ def runs():
     holds("each function says what it does", all(function.__doc__ for function in public))
 
 
+def examples():
+    """The examples in the module's own text, as `help` shows them."""
+    tried = []
+    raised(ValueError, lambda: tried.append(doctest.testmod(nissy)))
+    holds("the examples of the module's own text hold", tried and tried[0].attempted and not tried[0].failed)
+
+
 def rooms():
     """Room that is given, and room that grows."""
     answer = nissy.run(["steps"], room=7)
@@ -148,7 +156,7 @@ def library():
 def main():
     """All of it."""
     large = (large_output,) if "large" in sys.argv[1:] else ()
-    for part in (lines, runs, rooms, threads, library) + large:
+    for part in (lines, runs, examples, rooms, threads, library) + large:
         part()
     print("%d passed, %d failed" % (counts[True], counts[False]))
     sys.exit(0 if counts[True] and not counts[False] else 1)
