@@ -83,7 +83,11 @@ install: build/nissy $(if $(LIBRARY_INSTALLED),build/libnissy.a)
 
 uninstall:
 	@set -e; for pair in $(INSTALLED); do rm -f "$(DESTDIR)$(PREFIX)/$${pair#*:}"; done
-	@rmdir "$(DESTDIR)$(PREFIX)/share/doc/nissy" 2> /dev/null || true
+	@# what Python keeps of the module that it read
+	@rm -f "$(DESTDIR)$(PREFIX)"/lib/python3/dist-packages/__pycache__/nissy.*.pyc
+	@for folder in share/doc/nissy lib/python3/dist-packages/__pycache__; do \
+		rmdir "$(DESTDIR)$(PREFIX)/$$folder" 2> /dev/null || true; \
+	done
 
 # One archive for machines without the kit, the same bytes each time on one commit.
 dist: build/nissy $(if $(LIBRARY_INSTALLED),build/libnissy.a)

@@ -177,6 +177,10 @@ else
     skips "mandoc isn't installed"
 fi
 
+if [ $library = yes ] && ! missing python3; then
+    holds "Python reads the module, and keeps its bytes beside it" \
+        env -u PYTHONDONTWRITEBYTECODE PYTHONPATH="$usr/lib/python3/dist-packages" python3 -c 'import nissy'
+fi
 holds "make uninstall succeeds" install_at uninstall
 holds "nothing is left" test -z "$(find "$packed" ! -type d)"
 holds "no folder of its own is left" test ! -e "$share/doc/nissy"
