@@ -26,6 +26,9 @@ needed() { objdump -p "$folder/libnissy.so.1" | awk '$1 == "NEEDED" { print $2 }
 holds "it needs the C library alone" test "$(needed)" = libc.so.6
 has_no_runnable_stack() { objdump -p "$folder/libnissy.so.1" | grep -A 1 STACK | grep -q 'flags rw-$'; }
 holds "it asks for no stack that can be run" has_no_runnable_stack
+names_level() { readelf -n "$1" | grep -q 'x86 ISA needed: .*x86-64-v2'; }
+holds "it names the processors that it is for" names_level "$folder/libnissy.so.1"
+holds "so does the archive" names_level "$folder/libnissy.a"
 
 # each test in C, plain by the archive and by the shared object, with the sanitizers, and by valgrind
 strict=(-O1 -g -Wall -Wextra -Wpedantic -Werror -Iinclude -Itests/library)
