@@ -82,8 +82,8 @@ typedef struct nissy_run_answer {
  * and `solve eofb 20` is "solve\0eofb\0" "20".
  *
  * It takes memory for the words, and for the tables of a step, from the program's malloc, realloc and free, and has given all of it
- * back when it returns. These align a block to each power of two up to 16 that divides its size. It isn't to be called from a signal
- * handler, or in a forked child of a process with threads. It needs 64 KiB of stack. */
+ * back when it returns. Where a program brings its own, they must align a block to each power of two up to 16 that divides its size. It
+ * isn't to be called from a signal handler, or in a forked child of a process with threads. It needs 64 KiB of stack. */
 nissy_run_answer nissy_run(const uint8_t *words, size_t words_length, const uint8_t *input, size_t input_length, uint8_t *out,
                            size_t out_room, uint8_t *err, size_t err_room);
 
