@@ -26,8 +26,8 @@ static const char *const SUFFIXES[] = {"", "", "", "2", "'", "2'", "\xe2\x80\x99
 static const char *const BLANKS[] = {" ", " ", " ", "", "\t", "\r", "  ", " \t\r "};
 static const char *const DAMAGES[] = {"w", "3",  "''", "22", "'2", "((", "))", "()", "(", ")", "\n", "Q", "[R,U]", "\x1a", "\x7f", "\xc3",
                                       "\xff", "\xe2", "\x99", "\xe2\x80", "\xe2\x80\x98", "\xef\xbb\xbf"};
-static const char *const COMMANDS[] = {"invert", "unniss", "cleanup", "print", "solve",  "count",  "near",      "solve", "count",
-                                       "near",   "steps",  "Invert",  "help",  "--help", "stepsx", "inver\xff", ""};
+static const char *const COMMANDS[] = {"invert", "unniss", "cleanup", "print", "solve", "count",  "near",   "solve",     "count",
+                                       "near",   "scramble", "steps", "Invert", "help", "--help", "stepsx", "inver\xff", ""};
 static const char *const STEPS[] = {"eofb", "eorl", "eoud", "eo", "eofb", "eo", "dr-eofb", "drud-eofb", "drfb-eorl", "EO", "htr", ""};
 static const char *const NUMBERS[] = {"0", "1", "2", "3", "5", "20", "0", "1", "2", "20", "021", "21", "-1", " 1", "", "0x1", "1_0",
                                       "\xd9\xa1", "18446744073709551616", "0000000000000000000000000000007"};
@@ -79,11 +79,12 @@ static void add_word(text *to, const char *word) {
 
 /* A command with what belongs to it, or with too little or too much; now and then cut. */
 static void add_words(text *to) {
-    const char *command = draw(15) ? COMMANDS[draw(10)] : ONE_OF(COMMANDS);
+    const char *command = draw(15) ? COMMANDS[draw(11)] : ONE_OF(COMMANDS);
     int is_near = strcmp(command, "near") == 0, is_search = is_near || strcmp(command, "solve") == 0 || strcmp(command, "count") == 0;
     add_word(to, command);
     if (is_search) add_word(to, ONE_OF(STEPS)), add_word(to, ONE_OF(NUMBERS));
     if (is_near) add_word(to, ONE_OF(NUMBERS));
+    for (int numbers = strcmp(command, "scramble") == 0 ? 4 : 0; numbers > 0; numbers--) add_word(to, ONE_OF(NUMBERS));
     for (uint32_t words = draw(4) ? 0 : draw(5); words > 0; words--) add_line(to, draw(4), draw(6) == 0), add_bytes(to, "", 1);
     if (draw(20) == 0) to->size -= draw((uint32_t)to->size + 1);
 }
