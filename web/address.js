@@ -24,6 +24,9 @@ function written(text) {
         .replace(/'/g, "-");
 }
 
+/** A text as the one line that the engine reads of it. @param {string} text */
+export const oneLine = (text) => text.replace(/[\r\n]/g, " ");
+
 const spelled = (text) => decodeURIComponent(text.replace(/_/g, "%20").replace(/-/g, "'"));
 
 /** @param {State} state */
@@ -55,7 +58,7 @@ function readList(text) {
 /** What each field of an address puts into the state. @type {Record<string, (state: State, text: string) => void>} */
 const FIELDS = {
     scramble: (state, text) => {
-        state.scramble = spelled(text);
+        state.scramble = oneLine(spelled(text));
         if (state.scramble.length > LONGEST_SCRAMBLE) throw new Error("the scramble of this address is too long");
     },
     steps: (state, text) => {

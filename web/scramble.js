@@ -1,6 +1,6 @@
 // The field of the scramble, with examples and random scrambles from a seed.
 import { EngineFault, answersOf } from "./answers.js";
-import { LONGEST_SCRAMBLE } from "./address.js";
+import { LONGEST_SCRAMBLE, oneLine } from "./address.js";
 import { announce, part, tell } from "./element.js";
 import { showFault } from "./fault.js";
 
@@ -9,9 +9,6 @@ const STREAM = "1";
 const PAUSE = 150;
 const SEEDS = "A seed is a whole number from 0 to 18,446,744,073,709,551,615.";
 const LEFT_OUT = "the turns of the whole cube are left out, so U stays the face that was U.";
-
-/** What the engine reads of the field: one line. @param {string} text */
-export const oneLine = (text) => text.replace(/[\r\n]/g, " ");
 
 /** A seed that nobody chose. */
 function freshSeed() {

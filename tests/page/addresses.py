@@ -91,6 +91,19 @@ def changed(tally: Tally, browser: Browser) -> None:
     tally.equal("any text comes back from the address", browser.script("return document.getElementById('scramble').value"), text)
 
 
+def line_ends(tally: Tally, browser: Browser) -> None:
+    """Line ends in an address are blanks, as they are in the field: nothing behind them is left out, and a fault is on one line."""
+    for end in ("%0A", "%0D", "%0D%0A", "_%0A%0A_"):
+        browser.open(f"#scramble=R{end}U{end}F2{end}&steps=inverse.D")
+        for side in SIDES:
+            tally.equal(f"{end}: the {side} side", browser.letters(side), Position("R U F2", "", "D").letters(side))
+        tally.equal(f"{end}: the field", browser.script("return document.getElementById('scramble').value").split(), ["R", "U", "F2"])
+        browser.open(f"#scramble=R{end}q")
+        text = "R" + end.replace("%0D", " ").replace("%0A", " ").replace("_", " ") + "q"
+        tally.equal(f"{end}: a fault behind it", browser.texts("#scramble-fault p"), [fault(text)])
+        tally.equal(f"{end}: its sign", browser.texts("#scramble-fault mark"), ["q"])
+
+
 def overtaken(tally: Tally, browser: Browser) -> None:
     """What is done on a page while another address is read belongs to what is seen: the address and the page say the same."""
     act = """addEventListener('hashchange', () => document.querySelector(arguments[0]).click(), { once: true });
@@ -115,4 +128,5 @@ def try_all(tally: Tally, browser: Browser) -> None:
     browser.open()
     refused(tally, browser, browser.script(ELEMENTS))
     changed(tally, browser)
+    line_ends(tally, browser)
     overtaken(tally, browser)
