@@ -17,6 +17,9 @@ export function placeOfColumn(text, column) {
     return place;
 }
 
+/** A text in which each sign has its place: blanks have one width, and what isn't seen is told by a sign. @param {string} text */
+const visible = (text) => text.replace(/\s/g, " ").replace(/[\p{Cc}\p{Cf}]/gu, "\uFFFD");
+
 /** The text around a column, with a mark at it and a sign under it. @param {string} text @param {number} column */
 function marked(text, column) {
     const place = placeOfColumn(text, column);
@@ -25,8 +28,9 @@ function marked(text, column) {
     const before = (from > 0 ? "…" : "") + text.slice(from, place);
     const after = text.slice(place + sign.length, place + AROUND);
     const cut = place + AROUND < text.length ? "…" : "";
-    const line = element("span", {}, before, element("mark", {}, sign), after + cut);
-    return element("pre", { "aria-hidden": "true" }, line, `\n${" ".repeat([...before].length)}^`);
+    const line = element("span", {}, visible(before), element("mark", {}, visible(sign)), visible(after + cut));
+    // it may be scrolled, and is no stop of the Tab key for that
+    return element("pre", { "aria-hidden": "true", tabindex: -1 }, line, `\n${" ".repeat([...before].length)}^`);
 }
 
 /**

@@ -9,6 +9,7 @@ import { otherSide, stateOf, stepNamed } from "./steps.js";
 /** @typedef {import("./steps.js").Side} Side */
 
 const MOMENT = 1500;
+const UNKNOWN = "…";
 
 /** The parts without their last move. @param {Part[]} parts @returns {Part[]} */
 export function withoutLastMove(parts) {
@@ -32,6 +33,7 @@ function sayOn(button, word) {
 }
 
 async function copy(text, shownIn, button) {
+    if (text === "") return;
     try {
         await navigator.clipboard.writeText(text);
         announce(`Copied: ${text}`);
@@ -80,14 +82,14 @@ export class Skeleton {
         tell(part("finished"), "");
         part("skeleton-list").replaceChildren(...parts.map((each) => this.#item(each)));
         part("skeleton-empty").hidden = parts.length > 0;
+        // where the engine can't read them, no line of other parts stays to be copied
+        if (bracketed(parts) !== part("bracketed").textContent) this.#showWhole(bracketed(parts), "", UNKNOWN);
         for (const name of ["skeleton-list", "whole", "undo"]) part(name).hidden = parts.length === 0;
     }
 
     /** Shows the counts and the whole. @param {{line: string, joined: string, turns: number, turnsOfParts: number[]}} skeleton */
     describe({ line, joined, turns, turnsOfParts }) {
-        part("bracketed").textContent = line;
-        part("joined").textContent = joined;
-        part("total").textContent = counted(turns, "move");
+        this.#showWhole(line, joined, counted(turns, "move"));
         this.#items().forEach((item, index) => {
             item.querySelector(".count").textContent = counted(turnsOfParts[index], "move");
         });
@@ -106,6 +108,12 @@ export class Skeleton {
         const isFinished = states.length > 0 && !(isSolved && this.#parts.length === 0);
         tell(part("finished"), isFinished ? text : "");
         return isFinished;
+    }
+
+    /** @param {string} line @param {string} joined @param {string} total */
+    #showWhole(line, joined, total) {
+        const texts = { bracketed: line, joined, total };
+        for (const [name, text] of Object.entries(texts)) part(name).textContent = text;
     }
 
     #items() {

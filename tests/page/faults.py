@@ -1,11 +1,13 @@
 """What the page says of what can't be read, typed or sent: the engine's own words, and a mark under the column that they name."""
 import re
+import unicodedata
 
 from browser import Browser
 from tally import Tally
 from wanted import fault
 
-# a line and the sign that the fault's column names; the words come from the model, and the signs stand here
+# a line and the sign that the fault's column names, one that isn't seen by a sign for it; the words come from the model, and the signs
+# stand here
 LINES = (
     ("R q", "q"),
     ("R U\u2019 F2 ?", "?"),
@@ -17,6 +19,10 @@ LINES = (
     ("R2 3Rw", "3"),
     ("R <b>U</b>", "<"),
     ("R' U'\U0001f9e9", "\U0001f9e9"),
+    ("R\tU2\tq", "q"),
+    ("R U \u202eF2", "\ufffd"),
+    ("R U \u200bF2", "\ufffd"),
+    ("R U \0F2", "\ufffd"),
 )
 # of a long line 24 signs before the fault are shown, and a sign for those before them
 MOST_BEFORE = 25
@@ -31,7 +37,8 @@ def shows_fault(tally: Tally, browser: Browser, name: str, text: str, sign: str)
     tally.equal(f"the sign that is marked in {text[-30:]!r}", browser.texts(f"{where} mark"), [sign])
     column = int(re.search(r"column (\d+)", fault(text))[1])
     before = len(text.encode()[: column - 1].decode())
-    under = browser.texts(f"{where} pre")[0].split("\n")[1]
+    line, under = browser.texts(f"{where} pre")[0].split("\n")
+    tally.equal(f"signs that aren't seen in {line!r}", [sign for sign in line if unicodedata.category(sign) in ("Cc", "Cf")], [])
     tally.equal(f"the sign under {text[-30:]!r}", under, " " * min(before, MOST_BEFORE) + "^")
     tally.equal(f"{name} is said to be at fault", browser.script("return document.getElementById(arguments[0]).ariaInvalid", name), "true")
 
@@ -72,6 +79,21 @@ def together(tally: Tally, browser: Browser) -> None:
     tally.equal("and can be undone", browser.text("alert"), "")
 
 
+def stale(tally: Tally, browser: Browser) -> None:
+    """Where the steps of a skeleton can't be read with the scramble, no line and count of an earlier one stands below them."""
+    shown = ("bracketed", "joined", "total")
+    for address in ("#scramble=q&steps=normal.R~inverse.U2", "#scramble=" + "R_U_" * 128 + "&steps=normal.R~inverse.U2"):
+        browser.open("#scramble=R_U&steps=normal.F_D")
+        tally.equal("a line before", tuple(map(browser.text, shown)), ("F D", "F D", "2 moves"))
+        browser.script("document.getElementById('results').setAttribute('aria-busy', 'true'); location.hash = arguments[0]", address)
+        browser.wait()
+        tally.equal("the steps", browser.texts("#skeleton-list .moves"), ["R", "(U2)"])
+        tally.equal("their line, which isn't read", tuple(map(browser.text, shown)), ("R (U2)", "", "…"))
+        tally.equal("their counts", browser.texts("#skeleton-list .count"), ["", ""])
+    browser.click("#copy-joined")
+    tally.holds("what isn't known isn't copied", not browser.texts("#status")[0].startswith("Copied"))
+
+
 def seeds(tally: Tally, browser: Browser) -> None:
     """Seeds that are none, and one whose scramble is known."""
     for seed in ("abc", "x", "-1", "18446744073709551616", "1 2", "1\0"):
@@ -107,5 +129,5 @@ def without_memories(tally: Tally, browser: Browser) -> None:
 def try_all(tally: Tally, browser: Browser) -> None:
     """All of them."""
     browser.open()
-    for part in (scrambles, by_hand, together, seeds, starts, without_memories):
+    for part in (scrambles, by_hand, together, stale, seeds, starts, without_memories):
         part(tally, browser)
