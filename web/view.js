@@ -4,6 +4,18 @@ import { part } from "./element.js";
 const EDGE = 16;
 
 /**
+ * Scrolls to where a column that stays shows what has the focus. The browser scrolls to where that is, and the column goes along.
+ * @param {HTMLElement} column @param {Element} focused
+ */
+function showFocused(column, focused) {
+    // a button that is clicked stays under the mouse
+    if (focused.getBoundingClientRect().top >= 0 || !focused.matches(":focus-visible")) return;
+    const start = column.parentElement.getBoundingClientRect().top + scrollY;
+    const within = focused.getBoundingClientRect().top - column.getBoundingClientRect().top;
+    scrollTo({ top: start + within - EDGE });
+}
+
+/**
  * Lets a column stay while the other one is scrolled; of one that is higher than the window the lower end stays.
  * @param {HTMLElement} column
  */
@@ -13,6 +25,8 @@ export function keepInView(column) {
     };
     new ResizeObserver(place).observe(column);
     addEventListener("resize", place);
+    // the browser scrolls after the event, and would undo what is done in it
+    column.addEventListener("focusin", ({ target }) => requestAnimationFrame(() => showFocused(column, target)));
 }
 
 /**

@@ -98,6 +98,42 @@ def shows_focus(tally: Tally, browser: Browser) -> None:
         tally.holds(f"the Tab key comes to {wanted}", wanted in stops)
 
 
+def shows_focus_below(tally: Tally, browser: Browser) -> None:
+    """In a low window that is scrolled to its end the Tab key brings the focus into view, in the column that stays there too."""
+    browser.command("Emulation.setDeviceMetricsOverride", width=1280, height=560, deviceScaleFactor=1, mobile=False)
+    browser.open(ADDRESS)
+    # the window has the focus again, which the key took out of it
+    browser.click("h1")
+    browser.script("document.getElementById('best-find').scrollIntoView()")
+    is_higher = "return document.getElementById('left').offsetHeight > innerHeight && scrollY > document.getElementById('left').offsetHeight / 2"
+    tally.holds("the column is higher than the window", browser.script(is_higher))
+    seen = """const [done] = arguments;
+        const end = performance.now() + 1000;
+        const look = () => {
+            const { top, bottom } = document.activeElement.getBoundingClientRect();
+            const isSeen = top >= -1 && bottom <= innerHeight + 1;
+            if (isSeen || performance.now() > end) done(isSeen);
+            else setTimeout(look, 20);
+        };
+        look()"""
+    for begin, press, keys in (("scramble", browser.press, [Keys.TAB]), ("own", browser.press_back, [])):
+        browser.script("document.getElementById(arguments[0]).focus()", begin)
+        while browser.script("return document.activeElement.closest('#left') !== null"):
+            tally.holds(f"the focus is in view at {browser.focused()!r}, from {begin}", browser.driver.execute_async_script(seen))
+            browser.script("scrollTo(0, document.documentElement.scrollHeight)")
+            press(*keys)
+    browser.command("Emulation.setDeviceMetricsOverride", width=360, height=800, deviceScaleFactor=1, mobile=False)
+
+
+def has_no_more_stops(tally: Tally, browser: Browser) -> None:
+    """What assistive technology isn't told of is no stop of the Tab key: a long line at fault, which may be scrolled, is none."""
+    browser.fill("scramble", "R U F " * 8 + "q " + "F2 " * 20)
+    tally.holds("the line may be scrolled", browser.script("const it = document.querySelector('.fault pre'); return it.scrollWidth > it.clientWidth"))
+    browser.script("document.getElementById('scramble').focus()")
+    browser.press(Keys.TAB)
+    tally.equal("after the field", browser.focused(), "random")
+
+
 def helps(tally: Tally, browser: Browser) -> None:
     """Each help opens by the keyboard, fits, and closes."""
     seen = "[...document.querySelectorAll('.help')].filter((each) => each.checkVisibility())"
@@ -159,8 +195,10 @@ def try_all(tally: Tally, browser: Browser) -> None:
     for part in (helps, copies):
         part(tally, browser)
     shows_focus(tally, browser)
+    shows_focus_below(tally, browser)
     for width, height in ((1200, 900), (360, 800)):
         places(tally, browser, width, height)
     browser.fill("scramble", "R U q " + "F" * 300)
     is_legible(tally, browser, "with a fault")
     fits(tally, browser, "with a fault")
+    has_no_more_stops(tally, browser)
