@@ -7,6 +7,7 @@ import { stepNamed, titleOf } from "./steps.js";
 /** @typedef {import("./answers.js").Solution} Solution */
 
 export const MOST_SHOWN = 200;
+const TYPING = 700;
 const LOOKING = "Looking …";
 const NOT_MOVES = "The text in the filter is not moves: type face turns such as F B'.";
 
@@ -58,6 +59,7 @@ export class SolutionList {
     #whole = true;
     #groups = part("solutions-groups");
     #filter = part("filter");
+    #saying = 0;
 
     /**
      * @param {(moves: string) => void} taken what to do with a solution
@@ -65,7 +67,7 @@ export class SolutionList {
      */
     constructor(taken, loosened) {
         this.#taken = taken;
-        this.#filter.addEventListener("input", () => this.#draw());
+        this.#filter.addEventListener("input", () => this.#typed());
         part("slack").addEventListener("change", (event) => loosened(Number(event.target.value)));
         roveWithin(this.#groups, "button");
     }
@@ -77,6 +79,7 @@ export class SolutionList {
         if (!isLoosened) this.#filter.value = "";
         this.#list = list;
         this.#solutions = null;
+        clearTimeout(this.#saying);
         this.#groups.replaceChildren();
         part("solutions").hidden = list === null;
         this.#setWorking(list !== null);
@@ -111,6 +114,13 @@ export class SolutionList {
         if (!isWorking && document.activeElement === stop) part("solutions-heading").focus();
         stop.hidden = !isWorking;
         setBusy("solutions", isWorking, LOOKING);
+    }
+
+    /** Shows what the filter leaves, and says it once nothing more is typed. */
+    #typed() {
+        this.#draw();
+        clearTimeout(this.#saying);
+        if (this.#solutions !== null) this.#saying = setTimeout(() => announce(part("solutions-note").textContent), TYPING);
     }
 
     #draw() {

@@ -1,4 +1,6 @@
 """The way on from step to step and back: the browser's history, undo, what is kept, what is dimmed, the filter, and where the focus goes."""
+import time
+
 from browser import Browser
 from selenium.webdriver.common.keys import Keys
 from tally import Tally
@@ -201,6 +203,20 @@ def waits(tally: Tally, browser: Browser) -> None:
     tally.equal("and their end", browser.script("return said"), ["Looking for the orientations …", "Stopped."])
 
 
+def says_filtered(tally: Tally, browser: Browser) -> None:
+    """What a filter leaves is said to screen readers, once for what is typed in a row."""
+    browser.open(ADDRESS + "&list=eoud.normal.1")
+    browser.script("""
+        const status = document.getElementById("status");
+        window.said = [];
+        new MutationObserver(() => said.push(status.textContent)).observe(status, { childList: true })
+        document.getElementById("filter").focus()""")
+    for typed in ("u r", "x"):
+        browser.press(typed)
+        time.sleep(1.5)
+        tally.equal(f"what is said of {typed!r}", browser.script("return said.splice(0)"), [browser.text("solutions-note")])
+
+
 def comes_back(tally: Tally, browser: Browser) -> None:
     """By the browser's Back no focus is lost with what it closes or dims."""
     begin = "const it = document.getElementById(arguments[0]); it.focus(); it.click()"
@@ -260,5 +276,5 @@ def words(tally: Tally, browser: Browser) -> None:
 
 def try_all(tally: Tally, browser: Browser) -> None:
     """All of them."""
-    for part in (history, refused, undo, kept, dimmed, filters, solved, ends, stays, waits, comes_back, one_stop, words):
+    for part in (history, refused, undo, kept, dimmed, filters, solved, ends, stays, waits, says_filtered, comes_back, one_stop, words):
         part(tally, browser)
