@@ -7,6 +7,7 @@ import { Page } from "./page.js";
 const script = part("worker-script").textContent;
 const module = Uint8Array.from(atob(part("engine-module").textContent.trim()), (sign) => sign.charCodeAt(0));
 
+part("unstarted").remove();
 placeHelp();
 const page = new Page(() => new Calls(script, module));
 addEventListener("hashchange", () => page.begin(location.hash));

@@ -1,6 +1,8 @@
 """What the page says of what can't be read, typed or sent: the engine's own words, and a mark under the column that they name."""
 import re
 import unicodedata
+from pathlib import Path
+from urllib.parse import unquote, urlparse
 
 from browser import Browser
 from tally import Tally
@@ -126,8 +128,24 @@ def without_memories(tally: Tally, browser: Browser) -> None:
         tally.equal("with its steps", browser.texts("#skeleton-list .moves"), steps)
 
 
+def unstarted(tally: Tally, browser: Browser) -> None:
+    """Where the script may not run, the page says so; where it runs, it doesn't."""
+    browser.open()
+    tally.equal("the page has started", browser.texts("#unstarted"), [])
+    joined = Path(unquote(urlparse(browser.page_without_engine).path))
+    forbidden = joined.with_name(f"{joined.name}-forbidden.html")
+    forbidden.write_text(re.sub(r"script-src 'sha256-[^']*'", "script-src 'self'", joined.read_text()))
+    earlier = browser.complaints()
+    browser.driver.get(forbidden.as_uri())
+    seen = "return document.getElementById('unstarted')?.checkVisibility({ visibilityProperty: true }) === true"
+    tally.holds("a page that may not start says so", browser.until(seen))
+    tally.holds("in words", all(word in browser.text("unstarted") for word in ("JavaScript", "133", "134", "policy")))
+    late = [said for said in browser.complaints() if "Content Security Policy" not in said]
+    tally.equal("the console, but for the policy", earlier + late, [])
+
+
 def try_all(tally: Tally, browser: Browser) -> None:
     """All of them."""
     browser.open()
-    for part in (scrambles, by_hand, together, stale, seeds, starts, without_memories):
+    for part in (scrambles, by_hand, together, stale, seeds, starts, without_memories, unstarted):
         part(tally, browser)
