@@ -7,7 +7,8 @@ import { SIDES, stepNamed } from "./steps.js";
 /** @typedef {{scramble: string, parts: Part[], side: import("./steps.js").Side, list: List | null}} State */
 
 export const LONGEST_ADDRESS = 20000;
-export const LONGEST_SCRAMBLE = 1500;
+// 256 moves, each of as many signs as one may have and in brackets, are half of it
+export const LONGEST_SCRAMBLE = 4096;
 export const GREATEST_SLACK = 3;
 const MOST_PARTS = 256;
 const MOVES = /^[UDRLFBMESxyzw2']+( [UDRLFBMESxyzw2']+)*$/;

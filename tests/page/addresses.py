@@ -43,7 +43,7 @@ REFUSED = (
     "#list=toString.normal.0",
     "#list=eofb.constructor.0",
     "#list=eofb.normal.0.0",
-    "#scramble=" + "R_" * 1000,
+    "#scramble=" + "R_" * 2100,
     "#scramble=" + "R_" * 500_000,
     "#" + "&" * 1_000_000,
 )
@@ -104,6 +104,13 @@ def line_ends(tally: Tally, browser: Browser) -> None:
         tally.equal(f"{end}: its sign", browser.texts("#scramble-fault mark"), ["q"])
 
 
+def longest(tally: Tally, browser: Browser) -> None:
+    """As many moves as a line may have, each by itself in brackets, come back from the address."""
+    browser.open("#scramble=" + "(Rw2-)_" * 255 + "(F)")
+    tally.equal("the longest scramble: nothing is refused", (browser.text("alert"), browser.text("scramble-fault")), ("", ""))
+    tally.equal("the longest scramble: its cube", browser.letters("normal"), Position("(Rw2') " * 255 + "(F)").letters("normal"))
+
+
 def overtaken(tally: Tally, browser: Browser) -> None:
     """What is done on a page while another address is read belongs to what is seen: the address and the page say the same."""
     act = """addEventListener('hashchange', () => document.querySelector(arguments[0]).click(), { once: true });
@@ -129,4 +136,5 @@ def try_all(tally: Tally, browser: Browser) -> None:
     refused(tally, browser, browser.script(ELEMENTS))
     changed(tally, browser)
     line_ends(tally, browser)
+    longest(tally, browser)
     overtaken(tally, browser)
