@@ -5,7 +5,7 @@ use Rattle.niss_moves.proofs.Names.{with_gathered, turn_words, Turn, Token}
 use Rattle.std.proofs.Math.Seq.{take-append-add}
 use Rattle.std.proofs.lemmas.List.{take-append-le, length-take-le, drop-append-le}
 use Rattle.std.specs.List.{between}
-use Rattle.std.proofs.lemmas.Slice.{between_is, between_from_start}
+use Rattle.std.proofs.lemmas.Slice.{between_is, between_from_start, drop-put_mid}
 use borrow.Rule.Slice.PartMut.{put_mid, post_of}
 use Rattle.niss_moves.specs.declared.token.Token.TheVariants as token
 use Rattle.niss_moves.specs.declared.gathering.Words.{Words}
@@ -15,6 +15,11 @@ use Rattle.niss_moves.proofs.ReadBack.{gap_word}
 pub copied : {X : Type 0} (a k n : ℕ) (xs ys : List X) → a ≤ length xs → n ≤ length ys → take (a + n) (put_mid a k xs ys) ≡ take a xs ++ take n ys
 copied a k n xs ys h l =
     ap (λ m. take (m + n) (put_mid a k xs ys)) (sym (length-take-le a xs h)) ∙ take-append-add (take a xs) (ys ++ post_of a k xs) n ∙ ap (λ t. take a xs ++ t) (take-append-le n ys (post_of a k xs) l)
+
+-- what stands behind it stays
+pub kept_behind : {X : Type 0} (a k n : ℕ) (xs ys : List X) → a + k ≤ n → a ≤ length xs → length ys ≡ k
+    → drop n (put_mid a k xs ys) ≡ drop n xs
+kept_behind a k n xs ys p q r = drop-put_mid a k xs ys n p q r
 
 -- the words of moves side by side, each after a space
 abbrev pub spaced : List Token → List ℕ

@@ -1,5 +1,5 @@
 //! Words side by side, each after a space, but the first of a text or a bracket.
-ghost use Rattle.std.specs.Prelude.{◌≡◌, ℕ, ◌+◌, ◌≤◌, List, [], ◌∷◌, ◌++◌, length, take, if◌then◌else◌};
+ghost use Rattle.std.specs.Prelude.{◌≡◌, ℕ, ◌+◌, ◌≤◌, List, [], ◌∷◌, ◌++◌, length, take, drop, if◌then◌else◌};
 ghost use Rattle.arrayvec.specs.ArrayVec.{array_vec_len};
 ghost use Rattle.niss_moves.specs.Text.{word, gap};
 ghost use Rattle.niss_moves.specs.Helpers.{with_gathered};
@@ -70,14 +70,14 @@ macro_rules! words_of {
 static WORDS: [Word; 54] = words_of!(b'U' b'D' b'R' b'L' b'F' b'B'; b'M' b'E' b'S' b'y' b'x' b'z');
 
 /// Writes a space and the word of a face turn over the bytes from `start` on, of which there are four or more, and answers
-/// where the word ends. What stands after it isn't kept: four bytes are written, since a piece of fixed length is copied
-/// fastest.
-#[tactic(auto, using(crate::proofs::Gathered::copied))]
+/// where the word ends. Of the four bytes those after it aren't kept: a piece of fixed length is copied fastest.
+#[tactic(auto, using(crate::proofs::Gathered::copied, crate::proofs::Gathered::kept_behind))]
 pub fn write_turn(turn: Turn, bytes: &mut [u8], start: usize) -> usize
     requires { start + 4 ≤ length bytes.old }
     ensures word { take result bytes.new ≡ take start bytes.old ++ 32 ∷ word (token.Face turn) }
     ensures end { result ≤ start + 3 }
     ensures length { length bytes.new ≡ length bytes.old }
+    ensures rest { drop (start + 4) bytes.new ≡ drop (start + 4) bytes.old }
 {
     let word = Word::of_turn(turn);
     bytes[start..start + 4].copy_from_slice(&word.bytes);
