@@ -25,6 +25,9 @@
 
 const PAGE = 65_536;
 
+/** No engine's `grow` takes more, whatever number it asks for. */
+const MOST_PAGES = 0xffff_ffff;
+
 /** How many bytes are lent for the tables of a step at first: those of any step fit. Longer words take more. */
 const FIRST_LENT = 3 * 1_048_576;
 const MOST_LENT = 1_024 * 1_048_576;
@@ -90,6 +93,7 @@ function joined(words) {
  * @param {number} pages
  */
 function grow(memory, pages) {
+  if (pages > MOST_PAGES) throw new RangeError("no engine has so much memory");
   try {
     memory.grow(/** @type {any} */ (BigInt(pages)));
   } catch (error) {
@@ -156,7 +160,11 @@ export class Nissy {
    */
   run(words, input = "", room = undefined) {
     const given = { words: joined(words), input: bytesOf(input) };
-    if (room !== undefined) return this.#runWithRoom(given, room);
+    if (room !== undefined) {
+      // the module would take a negative one as 2^64 less so much, and write behind the memory
+      if (!Number.isSafeInteger(room) || room < 0) throw new RangeError("the room is no number of bytes");
+      return this.#runWithRoom(given, room);
+    }
     const first = FIRST_ROOM + 8 * given.input.length;
     return withEnough(first, MOST_ROOM, (more) => this.#runWithRoom(given, more), (answer) => answer.full);
   }
