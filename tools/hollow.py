@@ -5,7 +5,7 @@ import re
 import shutil
 from dataclasses import dataclass
 
-from edits import HEAD, Span, function_at
+from edits import HEAD, Span, function_at, sources
 
 # what a function keeps that can't do without its body: a value that a type needs, a cycle of calls, what is known by its symbol
 NEEDS_ITS_BODY = re.compile(r"#\[(?:cycle|unsafe)\b|\b(?:const|unsafe|extern) ")
@@ -25,40 +25,54 @@ class Function:
     head: str
 
 
-def owner_named(header: str) -> str:
-    """Returns what a check calls the owner of the methods of an `impl`: a type, and then the trait where there is one."""
-    plain = header.removeprefix("impl")
-    while "<" in plain:
-        plain = re.sub(r"<[^<>]*>", "", plain)
-    words = [it.strip().split("::")[-1] for it in re.split(r" where\b| \{", plain)[0].split(" for ")]
-    return "".join(reversed(words))
+def after_list(text: str) -> str:
+    """Returns what stands behind the list in angle brackets with which a text begins, if it does."""
+    depth = 0
+    for at, sign in enumerate(text):
+        depth += (sign == "<") - (sign == ">")
+        if depth == 0:
+            return text[at + 1 :] if at else text
+    return text
 
 
-def module_of(file: str) -> list[str]:
+def owner_named(header: str) -> tuple[str, str]:
+    """Returns the type that an `impl` is of, and what a check calls the owner of its methods: type and trait, as `StopFromDeviceFault`."""
+    trait, _, of = after_list(header.removeprefix("unsafe ").removeprefix("impl")).rpartition(" for ")
+    name = re.match(r"\s*(?:\w+::)*(\w+)", of)[1]
+    return name, name + "".join(re.findall(r"\w+", trait.split("::")[-1]))
+
+
+def module_of(file: str) -> tuple[str, ...]:
     """Returns the module that a file of src/ is."""
-    *folders, name = file.removeprefix("src/").removesuffix(".rt").split("/")
-    return folders if name in ("lib", "main") and not folders else [*folders, name]
+    parts = tuple(file.removeprefix("src/").removesuffix(".rt").split("/"))
+    return parts if parts not in (("lib",), ("main",)) else ()
 
 
-def functions_of(crate: str, file: str, lines: list[str]) -> list[Function]:
+def modules_of_types(texts: dict[str, str]) -> dict[str, tuple[str, ...]]:
+    """Returns for each type of a crate the module that has it, by which a check names its methods, wherever they stand."""
+    types = re.compile(r"^(?:pub(?:\([a-z]+\))? )?(?:struct|enum) (\w+)", re.MULTILINE)
+    return {name: module_of(file) for file, text in texts.items() for name in types.findall(text)}
+
+
+def functions_of(crate: str, file: str, lines: list[str], modules: dict[str, tuple[str, ...]]) -> list[Function]:
     """Returns the functions of a file that have a body of lines, but those of traits and macros."""
-    found, owner = [], ""
+    found, module, owner = [], module_of(file), ""
     for at, line in enumerate(lines):
-        if line.startswith("impl"):
-            last = next(k for k in range(at, len(lines)) if lines[k].endswith(("{", "{}")))
-            owner = owner_named(" ".join(it.strip() for it in lines[at : last + 1]))
+        if re.match(r"(?:unsafe )?impl\b", line):
+            of, owner = owner_named(line)
+            module = modules.get(of, module_of(file))
         elif re.match(r"(?:pub(?:\([a-z]+\))? )?(?:trait\b|macro_rules!)", line):
             # a trait's own methods are promises, and a macro's are no functions
             owner = "?"
         elif line.startswith("}"):
-            owner = ""
+            module, owner = module_of(file), ""
         head = HEAD.match(line)
         if not head or owner == "?" or len(head[1]) > 4:
             continue
         span = function_at(lines, at)
-        if span and span.last > span.body or span and lines[span.body] == f"{head[1]}{{}}":
+        if span and (span.last > span.body or lines[span.body] == f"{head[1]}{{}}"):
             first = next(k for k in range(at - 1, -2, -1) if k < 0 or not lines[k].lstrip().startswith("#["))
-            path = [crate, *module_of(file), *([owner] if head[1] else []), head[2]]
+            path = [crate, *module, *([owner] if head[1] else []), head[2]]
             found.append(Function("::".join(path), span, "\n".join(lines[first + 1 : at + 1])))
     return found
 
@@ -74,26 +88,26 @@ def without_body(lines: list[str], span: Span) -> None:
 def hollow(crate: str, folder: str, kept: set[str]) -> None:
     """Takes the bodies of a crate's functions away, and leaves a hole for each proof of them, but those that are kept: a function by its name or,
     as `src/lib.rt:7`, by the line of its head, counted from 0."""
-    for at, _, names in os.walk(f"{folder}/src"):
-        for path in (f"{at}/{name}" for name in names):
-            file = os.path.relpath(path, folder)
-            with open(path, encoding="utf-8") as it:
-                lines = it.read().split("\n")
-            for function in functions_of(crate, file, lines):
-                is_kept = function.name in kept or f"{file}:{function.span.first}" in kept
-                if is_kept or NEEDS_ITS_BODY.search(function.head):
-                    continue
+    files = {f"{at}/{name}" for at, _, names in os.walk(f"{folder}/src") for name in names}
+    texts = sources(folder, {os.path.relpath(file, folder) for file in files})
+    modules = modules_of_types(texts)
+    for file, text in texts.items():
+        lines = text.split("\n")
+        for function in functions_of(crate, file, lines, modules):
+            is_kept = function.name in kept or f"{file}:{function.span.first}" in kept
+            if not is_kept and not NEEDS_ITS_BODY.search(function.head):
                 without_body(lines, function.span)
                 leave_a_hole(folder, function.name.split("::"))
-            with open(path, "w", encoding="utf-8") as it:
-                it.write("\n".join(lines))
+        with open(f"{folder}/{file}", "w", encoding="utf-8") as it:
+            it.write("\n".join(lines))
 
 
 def leave_a_hole(folder: str, path: list[str]) -> None:
-    """Leaves a hole in the place of a function's proof."""
-    crate, *below = path
-    proof = f"{folder}/proofs/{'/'.join(below)}"
-    shutil.rmtree(proof, ignore_errors=True)
-    os.makedirs(proof)
-    with open(f"{proof}/Proof.antt", "w", encoding="utf-8") as it:
-        it.write(PROOF.format(path=".".join([crate, "proofs", *below]), name=below[-1]))
+    """Leaves a hole in the place of a function's proof, or of its cycle's, where it calls itself."""
+    crate, *owner, name = path
+    of_owner = "/".join([folder, "proofs", *owner])
+    for proof in (name, f"+{name}"):
+        shutil.rmtree(f"{of_owner}/{proof}", ignore_errors=True)
+    os.makedirs(f"{of_owner}/{name}")
+    with open(f"{of_owner}/{name}/Proof.antt", "w", encoding="utf-8") as it:
+        it.write(PROOF.format(path=".".join([crate, "proofs", *owner, name]), name=name))
