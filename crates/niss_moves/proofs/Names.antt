@@ -7,8 +7,8 @@ pub use Rattle.std.specs.Prelude.{IsTrue, IfSome, flat_map, unwrap_or, ◌||◌,
 pub use Rattle.niss_moves.specs.Canonical.{may_follow, IsCanonical, last_turn, canonical_extensions, DiffersFirst, face_may_follow}
 pub use Rattle.niss_moves.specs.Canonical.{face_order, turn_order}
 unfoldable pub use Rattle.niss_moves.specs.Canonical.{all_canonical}
-pub use Rattle.niss_moves.specs.CleanText.{turn_words, rotation_words, cleaned_words, with_bracket}
-pub use Rattle.niss_moves.specs.CleanedLine.{most_rewritings, clean_words, with_clean_line, rotations, moves_centres_as}
+pub use Rattle.niss_moves.specs.CleanText.{turn_words, cleaned_words, with_bracket}
+pub use Rattle.niss_moves.specs.CleanedLine.{most_rewritings, with_clean_line, rotations}
 unfoldable pub use Rattle.niss_moves.specs.CleanedLine.{rewritten_once, rewritten_within, clean_turns, rotation_left}
 pub use Rattle.niss_moves.specs.Cleaning.{sum_of_turns, rewritten_pair, IsRewriting, Cleans, Clean, Rewrite, are_disordered, disorder}
 pub use Rattle.niss_moves.specs.Cleaning.{turn_by, sum_of_powers}
@@ -17,7 +17,7 @@ pub use Rattle.niss_moves.specs.Laws.{CanonicalGrows, CanonicalInOrder, Cleaning
 pub use Rattle.niss_moves.specs.Laws.{RewritingLowers, CentresComeHome, FacesAreHome, LineIsHome, FacesAndRotation, CleanedEffect}
 pub use Rattle.niss_moves.specs.Laws.{RotationIsLeft, OneSpelling}
 pub use Rattle.niss_moves.specs.Effects.{turned, effect_of_turns, inverse, effect, HasMeaning, moved_by, move_of, inverse_token}
-pub use Rattle.niss_moves.specs.Effects.{inverse_power, quarter, quarters, Move, moved, face_move, times}
+pub use Rattle.niss_moves.specs.Effects.{inverse_power, quarters, Move, moved, face_move, times}
 pub use Rattle.niss_moves.specs.Facelets.{centre, places}
 pub use Rattle.niss_moves.specs.Faces.{faces, BasicMove, FaceTurn, WholeRotation, expanded, token_of_basic, faces_with}
 pub use Rattle.niss_moves.specs.Faults.{Cut, Whole, LacksOne, LacksTwo, cut_ending, bracket_ending, Continues, has_no_bracket}
@@ -37,11 +37,11 @@ pub use Rattle.niss_moves.specs.Names.{TooLong, Quarter, Axis, Ud, Rl, Fb, Slice
 pub use Rattle.niss_moves.specs.Notation.{base_bytes, token_of, Plain, Typographic, Suffix, Nothing, Two, Prime, TwoPrime, suffix_bytes}
 pub use Rattle.niss_moves.specs.Notation.{suffix_power, Blank, blank_byte, Space, Tab, Return}
 pub use Rattle.niss_moves.specs.Places.{Place, Coord, Neg, Zero, Pos, Vector, vector, same_coord, same_vector, same_place, is_place}
-pub use Rattle.niss_moves.specs.Places.{SameMap, negated, along}
+pub use Rattle.niss_moves.specs.Places.{SameMap, along}
 pub use Rattle.niss_moves.specs.Reader.{IsFed, Reader}
 unfoldable pub use Rattle.niss_moves.specs.Reader.{read_line}
 unfoldable pub use Rattle.niss_moves.specs.Reader.{read_line}
-pub use Rattle.niss_moves.specs.Rotations.{face_before, face_before_power, spelling, IsRotationOf, renamed_turn, face_before_if, to_top}
+pub use Rattle.niss_moves.specs.Rotations.{face_before, face_before_power, spelling, IsRotationOf, renamed_turn, to_top}
 pub use Rattle.niss_moves.specs.Rotations.{about_vertical, rotation_if}
 pub use Rattle.niss_moves.specs.Text.{gap, word, with_word, with_words, power_bytes, gap_after}
 pub use Rattle.niss_moves.specs.Turn.{opposite, same_face, goes_first}

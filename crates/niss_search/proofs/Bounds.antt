@@ -1,8 +1,8 @@
 -- How many canonical sequences there are, by the laws over their counts; the looks are within the bound, and the bound is small.
-use Rattle.niss_search.proofs.Words.{◌≡◌, arith, length, ◌+◌, ◌<◌, ℕ, ap, ◌≤◌, [], List, turns_of, true, ◌*◌, ◌∷◌, Bool, Turn, false}
+use Rattle.niss_search.proofs.Words.{◌≡◌, arith, length, ◌+◌, ◌<◌, ℕ, ap, ◌≤◌, [], List, turns_of, ◌*◌, ◌∷◌, Bool, Turn}
 use Rattle.niss_search.proofs.Words.{suc, cond, range_with_len, ◌++◌, zero, get_or, may_follow, last_turn, subst, count_by}
 use Rattle.niss_search.proofs.Words.{filter, sum_by, sum_by-cons, None, list_any, Option, Some, ◌^◌, last_length, looks}
-use Rattle.niss_search.proofs.Words.{unwrap_or, up_to, all_canonical, canonical_extensions, find, least_length, length-flat_map}
+use Rattle.niss_search.proofs.Words.{unwrap_or, up_to, all_canonical, canonical_extensions, least_length, length-flat_map}
 use Rattle.niss_search.proofs.Words.{all_looks, is_looked_at, length-map, look_bound, sum_by-le-sum_by, count_by-le-length}
 use Rattle.niss_search.proofs.Words.{count_of_length, sum_by-le, BoundIsSmall, length-filter, pow-suc, ◌∙◌, sym, refl, B, D, F, Face, L}
 use Rattle.niss_search.proofs.Words.{R, U, face_may_follow, last_turn-push, turn_order, CountRecurrence, PartHasNoMore, StepBoundIsLess}

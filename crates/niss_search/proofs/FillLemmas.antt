@@ -9,7 +9,7 @@ use Rattle.niss_search.proofs.Words.{flat_map, count_by, goals_of, entry_at, mul
 use Rattle.niss_search.proofs.Words.{◌≡◌, length, sum_by, nat_le, Domino, mul_comm, start_of, IsFilled, byte_at, leb-true, MayBeAt, arith}
 use Rattle.niss_search.proofs.Words.{List, refl, Bool, cond, ◌++◌, zero, Step, None, Flip, Axis, Edges, false, subst, nat_lt, ne_eqb, ◌+◌}
 use Rattle.niss_search.proofs.Words.{◌<◌, ◌∙◌, sym, ◌≤◌, [], ◌*◌, ◌∷◌, suc, map, All, ◌/◌, ◌^◌, Goal, ◌%◌, lit≤, true, Turn, ◌≢◌, ◌==◌, ℕ}
-use Rattle.niss_search.proofs.Words.{inl, inr, min, set, ◌-◌, ap₂}
+use Rattle.niss_search.proofs.Words.{inl, inr, min, set, ap₂}
 use Rattle.niss_search.proofs.ListLemmas.{range_with_len-append, sum_by-same, sum_by-map, sum_by-flat_map, sum_by-none, sum_by-range_more}
 use Rattle.niss_search.proofs.EntryLemmas.{count_for-bound, entry_distance-zero, entry_distance-turn, entry_distance-back}
 use Rattle.niss_search.proofs.EntryLemmas.{entry_distance-nearer}

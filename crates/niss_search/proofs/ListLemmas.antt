@@ -1,7 +1,7 @@
 -- Lists joined, filtered and summed.
-use Rattle.niss_search.proofs.Words.{◌≡◌, arith, length, ◌+◌, ◌<◌, ℕ, ap, ◌∙◌, sym, ◌≤◌, [], List, refl, true, ◌-◌, ◌∷◌, Bool, false, suc}
-use Rattle.niss_search.proofs.Words.{cond, range_with_len, ◌++◌, zero, map, Contains, flat_map, filter, sum_by, sum_by-cons, sum_by-le, list_any}
-use Rattle.niss_search.proofs.Words.{nat_le, nat_tests, flat_map-append, find, le-leb, sum_by-append, Contains-get_or, add-one, ◌||◌}
+use Rattle.niss_search.proofs.Words.{◌≡◌, arith, length, ◌+◌, ◌<◌, ℕ, ap, ◌∙◌, sym, ◌≤◌, [], List, refl, ◌-◌, ◌∷◌, Bool, false, suc}
+use Rattle.niss_search.proofs.Words.{range_with_len, ◌++◌, zero, map, Contains, flat_map, filter, sum_by, sum_by-cons, sum_by-le, list_any}
+use Rattle.niss_search.proofs.Words.{nat_le, nat_tests, flat_map-append, find, sum_by-append, Contains-get_or, add-one}
 use Rattle.niss_search.proofs.Words.{Contains-append_right, add-zero, filter-append, sum_by_push, length-range_with_len, leb-false}
 use Rattle.std.proofs.lemmas.List.{nil_from_length}
 use Rattle.std.proofs.lemmas.List.FromFn.{get_or-range_with_len}

@@ -1,8 +1,8 @@
 -- How far a step is, by the sequences that reach and of a position: 0 exactly at the goal, at most one more than after a turn, and
 -- one more than after some.
-use Rattle.niss_search.proofs.Words.{◌≡◌, arith, ◌+◌, ◌<◌, ℕ, ap, ◌∙◌, ◌≤◌, [], List, refl, true, ◌∷◌, Bool, Turn, false, suc, cond}
-use Rattle.niss_search.proofs.Words.{range_with_len, zero, map, Contains, flat_map, leb, inl, inr, list_any, ◌⊎◌, Some, leb_tells, eqb_tells, min}
-use Rattle.niss_search.proofs.Words.{unwrap_or, find, le-leb, lt-leb, distance, ◌||◌, all_sequences, list_any-append, list_any_at, sym}
+use Rattle.niss_search.proofs.Words.{◌≡◌, arith, ◌+◌, ◌<◌, ℕ, ap, ◌∙◌, ◌≤◌, [], List, refl, true, ◌∷◌, Bool, Turn, suc, cond}
+use Rattle.niss_search.proofs.Words.{range_with_len, zero, map, Contains, flat_map, leb, inl, inr, list_any, ◌⊎◌, min}
+use Rattle.niss_search.proofs.Words.{unwrap_or, find, distance, ◌||◌, all_sequences, list_any-append, list_any_at, sym}
 use Rattle.niss_search.proofs.Words.{turns_of, Coordinates, distance_at, Step, position_after, is_reached_at, are_zero, coordinates_after}
 use Rattle.niss_search.proofs.Words.{fold, or-false, DistanceIsLeast, nat_tests}
 use Rattle.std.proofs.lemmas.List.Folds.{Any-from_list_any}

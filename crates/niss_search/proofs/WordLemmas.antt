@@ -1,12 +1,11 @@
 -- Eight bytes as one number: which of them are a level, by one sum over all of them.
 use Rattle.niss_search.proofs.Words.{◌≡◌, arith, length, ◌+◌, ◌<◌, ℕ, ap, ◌∙◌, sym, ◌≤◌, [], List, refl, true, ◌*◌, ◌∷◌, Bool, false, suc}
-use Rattle.niss_search.proofs.Words.{cond, zero, get_or, map, inl, inr, ◌/◌, ◌⊎◌, ◌==◌, eqb_tells, length-map, replicate, ◌%◌, eq-eqb, not}
+use Rattle.niss_search.proofs.Words.{cond, zero, get_or, map, inl, inr, ◌/◌, ◌==◌, eqb_tells, length-map, replicate, ◌%◌, not}
 use Rattle.niss_search.proofs.Words.{prefix_len, and_block, and_le_l, and_le_r, and_mask, ap₂, bit_at, from_le_bytes, number_l, or_block}
 use Rattle.niss_search.proofs.Words.{or_lt, w64, xor_block, xor_lt}
 use Rattle.std.specs.Int.Bits.{bit_and, bit_or, bit_xor, xor_add_and, xor_self}
 use Rattle.std.specs.Int.Count.{count_trailing_zeros}
 use Rattle.std.proofs.lemmas.Nat.Bits.{and_pow, bit_at_or}
-use Rattle.std.proofs.Math.Dec.{eqb}
 use lib.Count.{under}
 
 -- 128 where a byte is the level, and else 0

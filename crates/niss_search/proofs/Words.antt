@@ -71,5 +71,4 @@ unfoldable pub use Rattle.niss_search.specs.Positions.{distance_at, position_aft
 pub use Rattle.niss_search.specs.Solutions.{last_length, reaching, up_to, solution_lengths, count_of_length, from_to}
 unfoldable pub use Rattle.niss_search.specs.Solutions.{least_length, look_bound, solutions}
 pub use Rattle.rand_pcg.specs.Lcg.{Lcg}
-pub use Rattle.rand_pcg.specs.Pcg.{pcg32}
 pub use lib.Lanes.{number_l}

@@ -1,7 +1,8 @@
 //! The tables of a step, by what it looks at.
-ghost use Rattle.std.specs.Prelude.{◌≡◌, ◌≤◌, ◌^◌, IfOk};
+ghost use Rattle.std.specs.Prelude.{◌≡◌, ◌≤◌, ◌^◌, Some, IfOk, slice_get};
 ghost use Rattle.niss_cube.specs.declared.cube.coordinate.Coordinate.TheVariants as coordinate;
 ghost use Rattle.niss_cube.specs.declared.step.Goal.TheVariants as goals;
+ghost use Rattle.niss_cube.specs.Steps.{goals_of};
 ghost use Rattle.niss_search.specs.KindOfStep.{IsOfStep};
 ghost use Rattle.niss_search.specs.StepSpace.{IsBuilt};
 
@@ -48,21 +49,39 @@ pub(crate) use with_kind;
 
 impl<A: Allocator + Copy> Kind<A> {
     /// Builds the tables of a step. Whatever its goals, it takes all memory, gives back the turn tables, then fills.
-    #[tactic(auto, using(crate::proofs::FillLemmas::ticks_of_goals))]
     pub(super) fn build_in(alloc: A, step: Step, meter: &mut Meter) -> Result<Kind<A>, OutOfMemory>
         requires { meter.old ≤ 2 ^ 127 }
         ensures { IsBuilt (λ kind. IsOfStep kind step) step meter.old meter.new result }
     {
         match *step.goals() {
-            [Goal::Edges(axis)] => {
-                let flips = TurnTable::build_in(alloc, Coordinate::Flip)?;
-                let table = edge_table(alloc, step, axis, &flips)?;
-                drop(flips);
-                Ok(Kind::Edges(SearchTables::of(step, table.fill(meter))))
+            [Goal::Edges(axis), ..] => Kind::of_edges_in(alloc, step, axis, meter),
+            [Goal::Domino { edges, axis }, ..] => {
+                Kind::of_domino_in(alloc, step, edges, axis, meter)
             }
-            [Goal::Edges(first), Goal::Edges(second), Goal::Edges(third)] => {
-                let flips = TurnTable::build_in(alloc, Coordinate::Flip)?;
-                let first = edge_table(alloc, step, first, &flips)?;
+            [] => unreachable!(),
+        }
+    }
+
+    /// Those of a step that orients edges: on an axis alone, or first on it and then on two more.
+    #[tactic(auto, using(crate::proofs::FillLemmas::ticks_of_goals))]
+    fn of_edges_in(
+        alloc: A,
+        step: Step,
+        axis: Axis,
+        meter: &mut Meter,
+    ) -> Result<Kind<A>, OutOfMemory>
+        requires first { slice_get (goals_of step) 0 ≡ Some (goals.Edges axis) }
+        requires meter { meter.old ≤ 2 ^ 127 }
+        ensures { IsBuilt (λ kind. IsOfStep kind step) step meter.old meter.new result }
+    {
+        let flips = TurnTable::build_in(alloc, Coordinate::Flip)?;
+        let first = edge_table(alloc, step, axis, &flips)?;
+        match *step.goals() {
+            [_] => {
+                drop(flips);
+                Ok(Kind::Edges(SearchTables::of(step, first.fill(meter))))
+            }
+            [_, Goal::Edges(second), Goal::Edges(third)] => {
                 let second = edge_table(alloc, step, second, &flips)?;
                 let third = edge_table(alloc, step, third, &flips)?;
                 drop(flips);
@@ -70,22 +89,32 @@ impl<A: Allocator + Copy> Kind<A> {
                 let space = Either::of(first.fill(meter), others);
                 Ok(Kind::AnyEdges(SearchTables::of(step, space)))
             }
-            [Goal::Domino { edges, axis }] => {
-                let turns = DominoTurns::build_in(alloc)?;
-                let table = domino_table(alloc, step, edges, axis, &turns)?;
+            _ => unreachable!(),
+        }
+    }
+
+    /// Those of a step that reduces to a domino: by a pair of axes alone, or first by it and then by another.
+    #[tactic(auto, using(crate::proofs::FillLemmas::ticks_of_goals))]
+    fn of_domino_in(
+        alloc: A,
+        step: Step,
+        edges: Axis,
+        axis: Axis,
+        meter: &mut Meter,
+    ) -> Result<Kind<A>, OutOfMemory>
+        requires first { slice_get (goals_of step) 0 ≡ Some (goals.Domino edges axis) }
+        requires meter { meter.old ≤ 2 ^ 127 }
+        ensures { IsBuilt (λ kind. IsOfStep kind step) step meter.old meter.new result }
+    {
+        let turns = DominoTurns::build_in(alloc)?;
+        let first = domino_table(alloc, step, edges, axis, &turns)?;
+        match *step.goals() {
+            [_] => {
                 drop(turns);
-                Ok(Kind::Domino(SearchTables::of(step, table.fill(meter))))
+                Ok(Kind::Domino(SearchTables::of(step, first.fill(meter))))
             }
-            [
-                Goal::Domino { edges, axis },
-                Goal::Domino {
-                    edges: other_edges,
-                    axis: other_axis,
-                },
-            ] => {
-                let turns = DominoTurns::build_in(alloc)?;
-                let first = domino_table(alloc, step, edges, axis, &turns)?;
-                let second = domino_table(alloc, step, other_edges, other_axis, &turns)?;
+            [_, Goal::Domino { edges, axis }] => {
+                let second = domino_table(alloc, step, edges, axis, &turns)?;
                 drop(turns);
                 let space = Either::of(first.fill(meter), second.fill(meter));
                 Ok(Kind::EitherDomino(SearchTables::of(step, space)))
