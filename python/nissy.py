@@ -20,6 +20,8 @@ import os
 from dataclasses import dataclass
 from typing import Callable, Iterable, NoReturn, Optional, Union
 
+__all__ = ["DONE", "FAULT", "MOST_INPUT", "STOPPED", "USAGE", "Answer", "LineFault", "cleanup", "facelets", "invert", "run", "unniss"]
+
 Text = Union[str, bytes]
 
 MOST_INPUT = 16_777_216

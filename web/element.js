@@ -30,9 +30,19 @@ export function tell(where, text) {
     where.hidden = text === "";
 }
 
-/** Says something to screen readers. @param {string} text */
+const QUIET = 700;
+let later = 0;
+
+/** Says something to screen readers, in place of what would be said later. @param {string} text */
 export function announce(text) {
+    clearTimeout(later);
     part("status").textContent = text;
+}
+
+/** Says something to screen readers once nothing else changes for a moment; an empty text takes back what would be said. @param {string} text */
+export function announceLater(text) {
+    clearTimeout(later);
+    if (text !== "") later = setTimeout(announce, QUIET, text);
 }
 
 const LONG_WAIT = 500;

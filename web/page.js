@@ -3,7 +3,7 @@ import { addressOf, emptyState, readAddress } from "./address.js";
 import { EngineFault, solutionsOf } from "./answers.js";
 import { BestContinuations } from "./best.js";
 import { EngineMissing, Stopped } from "./calls.js";
-import { announce, counted, part, setBusy, tell } from "./element.js";
+import { announce, announceLater, counted, part, setBusy, tell } from "./element.js";
 import { MOST_MOVES, readScramble, readSteps } from "./lines.js";
 import { emptyNet, showCube } from "./net.js";
 import { bracketed, examine, offersAfter } from "./position.js";
@@ -143,6 +143,7 @@ export class Page {
         this.#skeleton.turnTo(this.#state.side);
         this.#table.hold();
         this.#best.reset(null);
+        announceLater("");
         setBusy("results", true);
         try {
             await this.#answer(turn);
@@ -194,9 +195,11 @@ export class Page {
         part("choices").hidden = isBare;
         this.#table.show(offers, this.#state.list);
         this.#showList();
+        // a list that is looked for takes the focus itself, and says what it has
+        if (this.#focusNext?.to === "list") return;
         if (this.#isFocusNext("table")) this.#showTaken(isFinished);
-        // a list that is looked for takes the focus itself
-        if (!this.#focusNext) this.#table.giveBack();
+        else if (!isBare) announceLater(this.#table.summary());
+        this.#table.giveBack();
     }
 
     /** Whether the focus is to go there now: it stays where it went meanwhile. @param {"list" | "table"} to */

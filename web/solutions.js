@@ -1,5 +1,5 @@
 // The list of a step's solutions: grouped by length, filtered by typing, and cut where it is long.
-import { announce, counted, element, part, setBusy, tell } from "./element.js";
+import { announce, announceLater, counted, element, part, setBusy, tell } from "./element.js";
 import { roveWithin } from "./roving.js";
 import { stepNamed, titleOf } from "./steps.js";
 
@@ -7,7 +7,6 @@ import { stepNamed, titleOf } from "./steps.js";
 /** @typedef {import("./answers.js").Solution} Solution */
 
 export const MOST_SHOWN = 200;
-const TYPING = 700;
 const LOOKING = "Looking …";
 const NOT_MOVES = "The text in the filter is not moves: type face turns such as F B'.";
 
@@ -59,7 +58,6 @@ export class SolutionList {
     #whole = true;
     #groups = part("solutions-groups");
     #filter = part("filter");
-    #saying = 0;
 
     /**
      * @param {(moves: string) => void} taken what to do with a solution
@@ -79,7 +77,7 @@ export class SolutionList {
         if (!isLoosened) this.#filter.value = "";
         this.#list = list;
         this.#solutions = null;
-        clearTimeout(this.#saying);
+        announceLater("");
         this.#groups.replaceChildren();
         part("solutions").hidden = list === null;
         this.#setWorking(list !== null);
@@ -119,8 +117,7 @@ export class SolutionList {
     /** Shows what the filter leaves, and says it once nothing more is typed. */
     #typed() {
         this.#draw();
-        clearTimeout(this.#saying);
-        if (this.#solutions !== null) this.#saying = setTimeout(() => announce(part("solutions-note").textContent), TYPING);
+        if (this.#solutions !== null) announceLater(part("solutions-note").textContent);
     }
 
     #draw() {

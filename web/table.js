@@ -51,6 +51,12 @@ export class StepTable {
         part("steps-table").hidden = false;
     }
 
+    /** What is said of the offers: the first of the shortest steps that are left, if there is one. */
+    summary() {
+        const least = this.#body.querySelector(".least");
+        return least ? `Shortest next step: ${least.getAttribute("aria-label")}.` : "";
+    }
+
     /** Gives the focus back that `hold` took: to the same cell or control, or to the heading where that is gone. */
     giveBack() {
         const held = this.#focused;

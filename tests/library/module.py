@@ -89,6 +89,15 @@ def runs():
     holds("each function says what it does", all(function.__doc__ for function in public))
 
 
+def names():
+    """What an import of all names brings."""
+    brought = {}
+    exec("from nissy import *", brought)
+    del brought["__builtins__"]
+    wanted = {"invert", "unniss", "cleanup", "facelets", "run", "Answer", "LineFault", "MOST_INPUT", "DONE", "FAULT", "USAGE", "STOPPED"}
+    holds("an import of all brings what the module is for, and no more", set(brought) == wanted)
+
+
 def examples():
     """The examples in the module's own text, as `help` shows them."""
     tried = []
@@ -156,7 +165,7 @@ def library():
 def main():
     """All of it."""
     large = (large_output,) if "large" in sys.argv[1:] else ()
-    for part in (lines, runs, examples, rooms, threads, library) + large:
+    for part in (lines, runs, names, examples, rooms, threads, library) + large:
         part()
     print("%d passed, %d failed" % (counts[True], counts[False]))
     sys.exit(0 if counts[True] and not counts[False] else 1)

@@ -4,7 +4,7 @@ import time
 from browser import Browser
 from selenium.webdriver.common.keys import Keys
 from tally import Tally
-from wanted import Position
+from wanted import SIDES, Position
 
 SCRAMBLE = "F2 U2 L2 D2 R2 L2 U2 L B R2 B2 L2 D F B2 R2 U' F R L U R2 F' D2 R2"
 ADDRESS = "#scramble=" + SCRAMBLE.replace(" ", "_").replace("'", "-")
@@ -17,6 +17,11 @@ OPPOSITE = (("D2 U", ["U", "D2"]), ("B2F2", ["F2", "B2"]), ("R' L2", ["R'", "L2"
 VALUE = "return document.getElementById('scramble').value"
 HELD = """const choices = document.getElementById("choices");
     return [choices.inert, Number(getComputedStyle(choices).opacity) < 0.5]"""
+# keeps what is said to screen readers
+LISTEN = """
+    const status = document.getElementById("status");
+    window.said = [];
+    new MutationObserver(() => said.push(status.textContent)).observe(status, { childList: true })"""
 
 
 def back(browser: Browser) -> None:
@@ -188,12 +193,10 @@ def waits(tally: Tally, browser: Browser) -> None:
     """What is looked for is said to screen readers where it takes a while."""
     slow = """
         const { postMessage } = Worker.prototype;
-        Worker.prototype.postMessage = function (...words) { setTimeout(() => postMessage.apply(this, words), 1000); };
-        const status = document.getElementById("status");
-        window.said = [];
-        new MutationObserver(() => said.push(status.textContent)).observe(status, { childList: true })"""
+        Worker.prototype.postMessage = function (...words) { setTimeout(() => postMessage.apply(this, words), 1000); }"""
     browser.open(ADDRESS)
     browser.script(slow)
+    browser.script(LISTEN)
     browser.act('[data-cell="eofb.normal"]')
     count = len(Position(SCRAMBLE).solutions("eofb", "normal"))
     tally.equal("a list", browser.script("return said"), ["Looking …", f"EO on F/B, normal side: {count} solutions."])
@@ -206,15 +209,25 @@ def waits(tally: Tally, browser: Browser) -> None:
 def says_filtered(tally: Tally, browser: Browser) -> None:
     """What a filter leaves is said to screen readers, once for what is typed in a row."""
     browser.open(ADDRESS + "&list=eoud.normal.1")
-    browser.script("""
-        const status = document.getElementById("status");
-        window.said = [];
-        new MutationObserver(() => said.push(status.textContent)).observe(status, { childList: true })
-        document.getElementById("filter").focus()""")
+    browser.script(LISTEN)
+    browser.script("document.getElementById('filter').focus()")
     for typed in ("u r", "x"):
         browser.press(typed)
         time.sleep(1.5)
         tally.equal(f"what is said of {typed!r}", browser.script("return said.splice(0)"), [browser.text("solutions-note")])
+
+
+def says_shortest(tally: Tally, browser: Browser) -> None:
+    """The first of the shortest steps is said to screen readers, and nothing where there is no scramble."""
+    browser.open()
+    browser.script(LISTEN)
+    position = Position(SCRAMBLE)
+    cells = [position.cell(step, side) for step in ("eofb", "eorl", "eoud") for side in SIDES]
+    shortest = min(cells, key=lambda cell: int(cell.split(": ")[1].split()[0]))
+    for scramble, said in ((SCRAMBLE, [f"Shortest next step: {shortest}."]), ("", [])):
+        browser.fill("scramble", scramble)
+        time.sleep(1.5)
+        tally.equal(f"what is said of the scramble {scramble!r}", browser.script("return said.splice(0)"), said)
 
 
 def comes_back(tally: Tally, browser: Browser) -> None:
@@ -276,5 +289,6 @@ def words(tally: Tally, browser: Browser) -> None:
 
 def try_all(tally: Tally, browser: Browser) -> None:
     """All of them."""
-    for part in (history, refused, undo, kept, dimmed, filters, solved, ends, stays, waits, says_filtered, comes_back, one_stop, words):
+    said = (waits, says_filtered, says_shortest)
+    for part in (history, refused, undo, kept, dimmed, filters, solved, ends, stays, *said, comes_back, one_stop, words):
         part(tally, browser)
