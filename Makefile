@@ -63,7 +63,7 @@ build/nissy.wasm: $(SOURCES) tools/web-module
 build/nissy.html: build/nissy.wasm tools/page $(wildcard web/*.html web/*.css web/*.js)
 	tools/page web build/nissy.wasm build/nissy.html
 
-check: build/nissy build/nissy.html $(if $(filter no,$(LIBRARY)),,$(if $(shell command -v cc),build/libnissy.a))
+check: build/nissy $(if $(shell command -v wasm-opt),build/nissy.html) $(if $(filter no,$(LIBRARY)),,$(if $(shell command -v cc),build/libnissy.a))
 	tests/run built
 
 test:
@@ -91,7 +91,7 @@ uninstall:
 
 # One archive for machines without the kit, the same bytes each time on one commit.
 dist: build/nissy $(if $(LIBRARY_INSTALLED),build/libnissy.a)
-	tools/dist nissy-$(VERSION)-x86_64-linux
+	tools/dist nissy-$(VERSION)-x86_64-linux$(if $(LIBRARY_INSTALLED),,-program)
 
 bench: build/nissy
 	bench/run

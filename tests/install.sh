@@ -84,7 +84,7 @@ if [ $library = yes ]; then
     fi
     # the archive, twice, by other file modes and another day
     export SOURCE_DATE_EPOCH=1000000000
-    archive=build/nissy-$version-x86_64-linux.tar.gz
+    archive=build/nissy-$version-x86_64-linux.tar.gz bare=nissy-$version-x86_64-linux-program
     holds "make dist packs an archive" by_make dist
     mv "$archive" "$room/first.tar.gz"
     find docs include python build -type f -exec touch -d 2001-01-01 {} +
@@ -96,6 +96,12 @@ if [ $library = yes ]; then
     unpacked=$(echo "$room"/unpacked/*)
     holds "the archive has what is installed, and a README" test "$(stands "$unpacked" | grep -v '^644 README$')" = "$(stands "$usr")"
     holds "its README is the one that is kept" cmp "$unpacked/README" docs/archive.txt
+    without_library() { sed '/^The library and the Python module/,$d' docs/archive.txt; }
+    holds "make dist LIBRARY=no packs an archive without the library" by_make LIBRARY=no dist
+    holds "it is unpacked" tar -C "$room/unpacked" -xpf "build/$bare.tar.gz"
+    holds "it has program and manuals" test "$(stands "$room/unpacked/$bare" | grep -v '^644 README$')" = \
+        "$(stands "$usr" | grep -vE '(include|lib)/|/EMBEDDING')"
+    holds "its README says nothing of the library" cmp "$room/unpacked/$bare/README" <(without_library)
     holds "the program of the archive runs" test "$("$unpacked/bin/nissy" invert "R U' F2")" = "F2 U R'"
 fi
 mv docs/MANUAL.md docs/elsewhere

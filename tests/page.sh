@@ -1,5 +1,5 @@
 #!/usr/bin/env bash
-# Tries the page that `make page` built, and drives it in Chromium and Firefox:
+# Tries the page that `make page` built, drives it in Chromium, and shows it in Firefox and WebKit:
 #
 #     tests/page.sh [PAGE [PROGRAM]]
 #
@@ -28,5 +28,10 @@ if missing firefox && missing firefox-esr; then
     skips "the page in Firefox, which isn't installed"
 else
     add python3 tests/page/firefox.py "$page"
+fi
+if missing WebKitWebDriver || missing xvfb-run || ! $python -c "import selenium" 2> /dev/null; then
+    skips "the page in WebKit, since webkit2gtk-driver, xvfb or python3-selenium isn't installed"
+else
+    add xvfb-run -a $python tests/page/webkit.py "$page"
 fi
 ended

@@ -25,8 +25,8 @@
 
 const PAGE = 65_536;
 
-/** No engine's `grow` takes more, whatever number it asks for. */
-const MOST_PAGES = 0xffff_ffff;
+/** A memory of 32-bit addresses has no more. */
+const MOST_PAGES = 65_536;
 
 /** How many bytes are lent for the tables of a step at first: those of any step fit. Longer words take more. */
 const FIRST_LENT = 3 * 1_048_576;
@@ -50,19 +50,19 @@ const ROOM = { bytes: 16, block: 0, size: 8 };
 
 const OUT_OF_MEMORY = "nissy: out of memory\n";
 
-/** A module that has a 64-bit memory and nothing else. */
-const WIDE_MEMORY = Uint8Array.of(0, 0x61, 0x73, 0x6d, 1, 0, 0, 0, 5, 3, 1, 4, 0);
-
 const encoder = new TextEncoder();
 const decoder = new TextDecoder();
 
-/** This engine can't run the module. */
-export class NoWideMemory extends Error {
+/** This engine runs no module at all. */
+export class NoWebAssembly extends Error {
   constructor() {
-    super("This browser has no 64-bit memories for WebAssembly. Chrome and Edge have them from version 133 on, Firefox from 134 on.");
-    this.name = "NoWideMemory";
+    super("This browser runs no WebAssembly. Each one of the last years does, but not where it was switched off, as in Safari's Lockdown Mode.");
+    this.name = "NoWebAssembly";
   }
 }
+
+/** What it was called while the module needed 64-bit memories. @deprecated */
+export const NoWideMemory = NoWebAssembly;
 
 /**
  * @param {string | Uint8Array} text
@@ -86,21 +86,6 @@ function joined(words) {
     at += word.length + 1;
   }
   return bytes;
-}
-
-/**
- * @param {WebAssembly.Memory} memory
- * @param {number} pages
- */
-function grow(memory, pages) {
-  if (pages > MOST_PAGES) throw new RangeError("no engine has so much memory");
-  try {
-    memory.grow(/** @type {any} */ (BigInt(pages)));
-  } catch (error) {
-    // engines that had 64-bit memories before they were settled take a number here
-    if (!(error instanceof TypeError)) throw error;
-    memory.grow(pages);
-  }
 }
 
 /**
@@ -140,12 +125,12 @@ export class Nissy {
   }
 
   /**
-   * Loads the module `nissy.wasm`. Rejects with `NoWideMemory` where the engine can't run it.
+   * Loads the module `nissy.wasm`. Rejects with `NoWebAssembly` where the engine runs none.
    * @param {ArrayBuffer | Uint8Array} bytes those of the module
    * @returns {Promise<Nissy>}
    */
   static async load(bytes) {
-    if (!globalThis.WebAssembly?.validate(WIDE_MEMORY)) throw new NoWideMemory();
+    if (!globalThis.WebAssembly) throw new NoWebAssembly();
     const { instance } = await WebAssembly.instantiate(bytes, {});
     return new Nissy(instance.exports);
   }
@@ -218,8 +203,17 @@ export class Nissy {
       end = place + size;
       return place;
     });
-    const missing = end - this.#memory.buffer.byteLength;
-    if (missing > 0) grow(this.#memory, Math.ceil(missing / PAGE));
+    this.#grow(end);
     return places;
+  }
+
+  /**
+   * Sees to it that the memory has so many bytes.
+   * @param {number} size
+   */
+  #grow(size) {
+    const missing = Math.ceil((size - this.#memory.buffer.byteLength) / PAGE);
+    if (missing > MOST_PAGES) throw new RangeError("no memory has so many bytes");
+    if (missing > 0) this.#memory.grow(missing);
   }
 }

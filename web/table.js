@@ -51,9 +51,14 @@ export class StepTable {
         part("steps-table").hidden = false;
     }
 
+    /** The cell of the first of the shortest steps that are left, or null. */
+    #least() {
+        return this.#body.querySelector(".least");
+    }
+
     /** What is said of the offers: the first of the shortest steps that are left, if there is one. */
     summary() {
-        const least = this.#body.querySelector(".least");
+        const least = this.#least();
         return least ? `Shortest next step: ${least.getAttribute("aria-label")}.` : "";
     }
 
@@ -78,7 +83,7 @@ export class StepTable {
 
     /** Puts the focus on the first of the shortest steps that are left. */
     focus() {
-        (this.#body.querySelector(".least") ?? part("steps-heading")).focus({ preventScroll: true });
+        (this.#least() ?? part("steps-heading")).focus({ preventScroll: true });
     }
 
     #rows(group, list) {

@@ -26,14 +26,14 @@ from tally import Tally
 PARTS = (keyboard, faults, addresses, searches, turned, steps, looks)
 
 TOP = Path(__file__).resolve().parent.parent.parent
-NO_MEMORIES = "WebAssembly.validate = () => false;\n"
+NO_ENGINE = "globalThis.WebAssembly = undefined;\n"
 
 
 def page_without_engine(room: Path) -> str:
-    """The page as a browser without 64-bit memories has it: no module with one is valid."""
+    """The page as a browser has it that runs no WebAssembly."""
     shutil.copytree(TOP / "web", room / "web")
     engine = room / "web/nissy.js"
-    engine.write_text(NO_MEMORIES + engine.read_text())
+    engine.write_text(NO_ENGINE + engine.read_text())
     (room / "module").write_bytes(b"none")
     subprocess.run([TOP / "tools/page", room / "web", room / "module", room / "page.html"], check=True)
     return (room / "page.html").as_uri()

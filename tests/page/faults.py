@@ -115,14 +115,14 @@ def starts(tally: Tally, browser: Browser) -> None:
     tally.equal("the engine's words on the start", browser.text("solutions-note"), "nissy: line 1: eofb does not hold")
 
 
-def without_memories(tally: Tally, browser: Browser) -> None:
+def without_engine(tally: Tally, browser: Browser) -> None:
     """The page where the engine can't start."""
     for address, steps in (("", []), ("#scramble=R_U-_q", []), ("#scramble=R_U-_q&steps=normal.F~inverse.B2", ["F", "(B2)"])):
         browser.driver.get("about:blank")
         browser.driver.get(browser.page_without_engine + address)
         tally.holds(f"{address}: a missing engine is said", browser.until("return !document.getElementById('alert').hidden"))
         said = browser.text("alert")
-        tally.holds("with the browsers that have it", all(word in said for word in ("64-bit memories", "Chrome", "133", "Firefox", "134")))
+        tally.holds("and why it may be", all(word in said for word in ("no WebAssembly", "switched off", "Lockdown Mode")))
         wanted = "R U' q" if address else ""
         tally.equal("what was sent is shown", browser.script("return document.getElementById('scramble').value"), wanted)
         tally.equal("with its steps", browser.texts("#skeleton-list .moves"), steps)
@@ -139,7 +139,7 @@ def unstarted(tally: Tally, browser: Browser) -> None:
     browser.driver.get(forbidden.as_uri())
     seen = "return document.getElementById('unstarted')?.checkVisibility({ visibilityProperty: true }) === true"
     tally.holds("a page that may not start says so", browser.until(seen))
-    tally.holds("in words", all(word in browser.text("unstarted") for word in ("JavaScript", "133", "134", "policy")))
+    tally.holds("in words", all(word in browser.text("unstarted") for word in ("JavaScript", "Chrome", "Firefox", "Safari", "policy")))
     late = [said for said in browser.complaints() if "Content Security Policy" not in said]
     tally.equal("the console, but for the policy", earlier + late, [])
 
@@ -147,5 +147,5 @@ def unstarted(tally: Tally, browser: Browser) -> None:
 def try_all(tally: Tally, browser: Browser) -> None:
     """All of them."""
     browser.open()
-    for part in (scrambles, by_hand, together, stale, seeds, starts, without_memories, unstarted):
+    for part in (scrambles, by_hand, together, stale, seeds, starts, without_engine, unstarted):
         part(tally, browser)

@@ -14,17 +14,8 @@ import tempfile
 import time
 from pathlib import Path
 
-from net import letters_of, stickers_of
+from anywhere import PATIENCE, Window, try_all
 from tally import Tally
-from wanted import SIDES, Position
-
-PATIENCE = 90
-SCRAMBLE, FIRST = "R U F", "R"
-ADDRESS = "#scramble=R_U_F&steps=inverse.R&list=eofb.normal.1"
-DONE = """
-    return document.querySelector("#results[aria-busy=false]") !== null
-        && document.querySelector("[aria-busy=true]") === null"""
-REFUSALS = "const said = []; addEventListener('securitypolicyviolation', (event) => said.push(event.blockedURI)); window.said = said"
 
 
 def free_port() -> int:
@@ -34,8 +25,8 @@ def free_port() -> int:
         return probe.getsockname()[1]
 
 
-class Firefox:
-    """A Firefox without a window, and a connection to it."""
+class Firefox(Window):
+    """A Firefox that is seen nowhere, and a connection to it."""
 
     def __init__(self, room: str) -> None:
         port = free_port()
@@ -83,21 +74,13 @@ class Firefox:
             raise RuntimeError(fault)
         return answer
 
+    def open(self, address: str) -> None:
+        self.command("WebDriver:Navigate", {"url": address})
+
     def script(self, text: str) -> object:
-        """What a script of the page answers."""
         return self.command("WebDriver:ExecuteScript", {"script": text, "args": []})["value"]
 
-    def until(self, text: str) -> bool:
-        """Waits until a script answers with true, and says whether it did in time."""
-        end = time.monotonic() + PATIENCE
-        while not self.script(text):
-            if time.monotonic() > end:
-                return False
-            time.sleep(0.05)
-        return True
-
     def end(self) -> None:
-        """Ends this Firefox."""
         self.process.terminate()
         try:
             self.process.wait(20)
@@ -106,38 +89,13 @@ class Firefox:
             self.process.wait()
 
 
-def texts(firefox: Firefox, selector: str) -> list[str]:
-    """The texts of all elements that a selector finds."""
-    return firefox.script(f"return [...document.querySelectorAll({json.dumps(selector)})].map((each) => each.textContent)")
-
-
-def try_all(tally: Tally, firefox: Firefox, page: str) -> None:
-    """A scramble with a step on the inverse side, its list, a fault, and a search for the best."""
-    firefox.command("WebDriver:Navigate", {"url": page + ADDRESS})
-    tally.holds("the page answers", firefox.until(DONE))
-    firefox.script(REFUSALS)
-    position = Position(SCRAMBLE, "", FIRST)
-    for side in SIDES:
-        tally.equal(f"the net of the {side} side", letters_of(firefox.script(stickers_of(side))), position.letters(side))
-    cells = firefox.script("return [...document.querySelectorAll('#steps-body .cell')].map((each) => each.ariaLabel)")
-    wanted = [position.cell(step, side) for step in ("eofb", "eorl", "eoud") for side in SIDES]
-    tally.equal("the orientations", cells[:6], wanted)
-    tally.equal("the list", texts(firefox, "#solutions-groups button"), position.solutions("eofb", "normal", 1)[:200])
-    firefox.script("document.getElementById('best-find').click()")
-    tally.holds("the best are found", firefox.until(DONE) and len(texts(firefox, "#best-body tr")) > 0)
-    firefox.script("const field = document.getElementById('scramble'); field.value = 'R q'; field.dispatchEvent(new Event('input'))")
-    tally.holds("a fault is shown", firefox.until("return document.querySelector('#scramble-fault mark') !== null"))
-    tally.equal("its words", texts(firefox, "#scramble-fault p"), ["nissy: line 1, column 3: not a move"])
-    tally.equal("what the policy refused", firefox.script("return window.said"), [])
-
-
 def main() -> None:
     """Begins and ends a Firefox with a profile of its own."""
     tally = Tally()
     with tempfile.TemporaryDirectory(ignore_cleanup_errors=True) as room:
         firefox = Firefox(room)
         try:
-            try_all(tally, firefox, Path(sys.argv[1]).resolve().as_uri())
+            try_all(tally, firefox, Path(sys.argv[1]))
         finally:
             firefox.end()
     tally.end()

@@ -1,9 +1,9 @@
 #!/usr/bin/env python3
 """Drawn calls of every command, by the module for pages in node and by the built program: both answer the same.
 
-    tests/page_model/beside_program.py PROGRAM MODULE SEED SCALE NODE..
+    tests/page_model/beside_program.py PROGRAM MODULE SEED SCALE
 
-NODE is the command that runs node with 64-bit memories. The draws are those by which the program is compared with the independent model
+The draws are those by which the program is compared with the independent model
 (tests/model/against.py), some 4,000 at scale 0.25, each called with room that grows and with room of a drawn size. The last line is
 `N passed, M failed`, by kinds of calls, and the status is 1 where M isn't 0.
 """
@@ -29,9 +29,9 @@ def to_base64(data):
 class BesideModule(Beside):
     """Calls of the module, compared with the program's answers."""
 
-    def __init__(self, program, seed, module, node):
+    def __init__(self, program, seed, module):
         super().__init__(program, seed)
-        self.node = subprocess.Popen([*node, os.path.join(HERE, "calls.mjs"), module], stdin=subprocess.PIPE, stdout=subprocess.PIPE, text=True)
+        self.node = subprocess.Popen(["node", os.path.join(HERE, "calls.mjs"), module], stdin=subprocess.PIPE, stdout=subprocess.PIPE, text=True)
 
     def call(self, words, data, room=None):
         asked = {"words": [to_base64(word.encode("utf-8", "surrogateescape")) for word in words], "input": to_base64(data), "room": room}
@@ -42,10 +42,10 @@ class BesideModule(Beside):
 
 def main():
     """Draws all kinds and reports."""
-    if len(sys.argv) < 6:
+    if len(sys.argv) != 5:
         sys.exit(__doc__)
-    program, module, seed, scale, *node = sys.argv[1:]
-    trial = BesideModule(program, int(seed), module, node)
+    program, module, seed, scale = sys.argv[1:]
+    trial = BesideModule(program, int(seed), module)
     print("drawn calls, seed %s, scale %s" % (seed, scale))
     against.all_kinds(trial, Drawing(int(seed)), float(scale))
     trial.node.stdin.close()

@@ -5,7 +5,7 @@
 // The last line is `N passed, M failed`, and the status is 1 where M isn't 0.
 import { deepStrictEqual } from "node:assert";
 import { readFileSync } from "node:fs";
-import { NoWideMemory, Nissy } from "../../web/nissy.js";
+import { NoWebAssembly, NoWideMemory, Nissy } from "../../web/nissy.js";
 
 const SOLVED = "UUUUUUUUURRRRRRRRRFFFFFFFFFDDDDDDDDDLLLLLLLLLBBBBBBBBB\n";
 const USAGE = "usage: nissy COMMAND [ARGUMENTS]\n";
@@ -93,12 +93,13 @@ async function tryRefusals(nissy) {
   }
   same("a run after these", text(nissy.run(["invert", "R"]).out), "R'\n");
   same("bytes that are no module", (await thrown(() => Nissy.load(module.subarray(1))))[0], "CompileError");
-  const { validate } = WebAssembly;
-  WebAssembly.validate = () => false;
+  const { WebAssembly: whole } = globalThis;
+  globalThis.WebAssembly = undefined;
   const [name, message] = await thrown(() => Nissy.load(module));
-  WebAssembly.validate = validate;
-  same("an engine without 64-bit memories", [name, message], ["NoWideMemory", new NoWideMemory().message]);
-  same("it says so in words", /64-bit memories/.test(message), true);
+  globalThis.WebAssembly = whole;
+  same("an engine without WebAssembly", [name, message], ["NoWebAssembly", new NoWebAssembly().message]);
+  same("it says so in words", /no WebAssembly/.test(message), true);
+  same("its name of before", NoWideMemory, NoWebAssembly);
 }
 
 /** After many calls the memory is as large as after a few. */
@@ -121,12 +122,7 @@ async function tryMemory() {
 async function tryPlainCalls() {
   const { instance } = await WebAssembly.instantiate(module, {});
   const { memory, nissy_run: run, __heap_base: heap } = instance.exports;
-  const pages = 64;
-  try {
-    memory.grow(BigInt(pages));
-  } catch {
-    memory.grow(pages);
-  }
+  same("its memory has addresses of 32 bits", typeof memory.grow(64), "number");
   const base = Math.ceil(Number(heap.value) / 16) * 16;
   const [answerAt, roomAt, wordsAt, inputAt, outAt, errAt, lentAt] = [0, 64, 128, 192, 256, 512, 1024].map((at) => base + at);
   const call = (words, input, outRoom, errRoom, lent) => {
