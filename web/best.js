@@ -10,6 +10,9 @@ import { SIDES, eitherReduction, stepNamed, titleOf } from "./steps.js";
 
 const LOOKING_FOR_BEST = "Looking for the orientations …";
 
+/** How far a search has come. @param {{done: number, all: number}} progress */
+const reachedBy = ({ done, all }) => `${done.toLocaleString("en")} of ${counted(all, "orientation")} tried.`;
+
 /** Of how many searches what was found is kept. */
 const MOST_KEPT_SEARCHES = 8;
 
@@ -92,7 +95,7 @@ export class BestContinuations {
     }
 
     #brokenOff(fault) {
-        const seen = this.#progress ? ` ${this.#progress.done} of ${this.#progress.all} orientations were tried.` : "";
+        const seen = this.#progress ? ` ${reachedBy(this.#progress)}` : "";
         const text = fault instanceof Stopped ? `Stopped.${seen}` : fault.message;
         tell(part("best-note"), text);
         announce(text);
@@ -116,7 +119,7 @@ export class BestContinuations {
         part("best-progress").max = Math.max(all, 1);
         part("best-progress").value = done;
         const cut = done > MOST_KEPT ? ` The list is cut: the best ${MOST_KEPT} are shown.` : "";
-        tell(part("best-note"), `${done.toLocaleString("en")} of ${counted(all, "orientation")} tried.${cut}`);
+        tell(part("best-note"), `${reachedBy(progress)}${cut}`);
         part("best-table").hidden = found.length === 0;
         this.#showRows(found.map((each) => this.#row(each)));
     }

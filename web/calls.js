@@ -55,7 +55,8 @@ export class Calls {
     #start() {
         const address = URL.createObjectURL(new Blob([this.#script], { type: "text/javascript" }));
         const worker = new Worker(address);
-        URL.revokeObjectURL(address);
+        // not before it was read
+        worker.addEventListener("message", () => URL.revokeObjectURL(address), { once: true });
         this.#worker = worker;
         // one that was ended while it loaded says nothing of the next one
         const end = (fault) => worker === this.#worker && this.#end(fault);

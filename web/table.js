@@ -18,10 +18,16 @@ function leastOf(offers) {
     return Math.min(...lengths) || null;
 }
 
+/** A text that ends with an axis, which isn't broken at its stroke. @param {string} text */
+function withWholeAxis(text) {
+    const at = text.lastIndexOf(" ") + 1;
+    return [text.slice(0, at), element("span", { class: "axis" }, text.slice(at))];
+}
+
 /** @param {import("./steps.js").OfferedStep} step */
 function headOf(step) {
-    const after = step.needs === null ? [] : [element("small", {}, ` after ${titleOf(stepNamed(step.needs))}`)];
-    return element("th", { scope: "row" }, stateOf(step), ...after);
+    const after = step.needs === null ? [] : [element("small", {}, ...withWholeAxis(` after ${titleOf(stepNamed(step.needs))}`))];
+    return element("th", { scope: "row" }, ...withWholeAxis(stateOf(step)), ...after);
 }
 
 export class StepTable {

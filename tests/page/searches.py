@@ -89,8 +89,9 @@ def stopped(tally: Tally, browser: Browser) -> None:
         time.sleep(0.1)
     tally.equal("a stop ends its worker", browser.workers(), workers - 1)
     note = browser.text("best-note")
-    done, _, all_of_them = note.removeprefix("Stopped. ").split()[:3]
-    tally.holds(f"it stops: {note}", note.startswith("Stopped.") and int(done.replace(",", "")) < int(all_of_them.replace(",", "")))
+    done, all_of_them = (int(number.replace(",", "")) for number in re.findall("[0-9,]+", note))
+    tally.equal("what it says", note, f"Stopped. {done:,} of {all_of_them:,} orientations tried.")
+    tally.holds("it stops before the end", done < all_of_them)
     tally.holds("what was found stays", len(browser.script(ROWS)) > 0)
     browser.script("document.getElementById('best-slack').value = '0'")
     browser.act("#best-find")
