@@ -38,20 +38,13 @@ def built(crate: str) -> str:
     return f"{TOP}/crates/{crate}/out/rlib/{crate}.rlib"
 
 
-def is_fresh(crate: str) -> bool:
-    """Whether a library was built after the last change of its sources and of those below. Where `rt lib` built it, that one knows better."""
-    if not os.path.isdir(built(crate)) or os.path.isfile(f"{os.path.dirname(built(crate))}/stamp"):
-        return False
-    made = os.stat(built(crate)).st_mtime
-    folders = [f"{TOP}/crates/{it}/{part}" for it in (crate, *below(crate)) for part in PARTS]
-    files = [f"{at}/{name}" for folder in folders for at, _, names in os.walk(folder) for name in names]
-    return all(os.stat(file).st_mtime <= made for file in files)
-
-
-def build(crate: str) -> None:
-    """Proves and builds a library where what an earlier run left is not of these sources."""
-    if not is_fresh(crate):
-        subprocess.run(["rt", "lib"], cwd=f"{TOP}/crates/{crate}", stdout=subprocess.DEVNULL, check=True)
+def build(*crates_above: str) -> None:
+    """Proves and builds the libraries below these crates, but those that `rt lib` built of the same texts: it compares the texts and the kit, and
+    not times. What `rt ci` left has no mark of `rt lib`, and is built anew: a library fits only those below it that it was built over."""
+    for name in {use: None for crate in crates_above for use in crates()[crate] if use in crates()}:
+        ran = subprocess.run(["rt", "lib"], cwd=f"{TOP}/crates/{name}", stdout=subprocess.PIPE, stderr=subprocess.STDOUT, text=True, check=False)
+        if ran.returncode:
+            sys.exit(f"{ran.stdout}{name} is not proved")
 
 
 def begin(crate: str, kept: str) -> None:
@@ -83,11 +76,8 @@ def check_words(crate: str, kept: str, functions: list[str]) -> list[str]:
 
 
 def build_archive(crate: str, archive: str, target: str) -> None:
-    """Proves a crate that crates.txt lists as a static library, and compiles it for a target. The libraries below it are taken as a gate left
-    them, whose work `rt lib` would make anew."""
-    for name in crates()[crate]:
-        if name in crates():
-            build(name)
+    """Proves a crate that crates.txt lists as a static library, and compiles it for a target."""
+    build(crate)
     words = [f"{kit()}/bin/rattle", "build", *words_on(crate, kit()), "--jobs", "2", "--crate-type", "staticlib", "--target", target]
     words += ["--toolchain", f"{kit()}/toolchain", "--backend", "llvm", "-o", archive]
     with tempfile.TemporaryDirectory() as kept:

@@ -1,0 +1,104 @@
+#!/usr/bin/env bash
+# Tries Makefile and tools in one order after another, also after edits, checks that were killed and a checkout of another commit, on a small
+# workspace of its own, with one function in each of five crates, named as ours are:
+#
+#     tests/builds.sh
+#
+# Where there is no Rattle kit nothing is tried. The last line is `N passed, M failed`, and the status is 1 where M isn't 0.
+set -u
+cd "$(dirname "$0")/.." || exit 2
+# shellcheck source=tests/shared
+. tests/shared
+if missing rt; then skips_all "there is no Rattle kit here, so nothing can be built"; fi
+top=$PWD
+here=$room/workspace
+
+number() { # CRATE NAME BODY: a library with a function that returns 7
+    mkdir -p "$here/crates/$1/src"
+    cat > "$here/crates/$1/src/lib.rt" << END
+//! A number.
+#![tactic(auto)]
+
+ghost use Rattle.std.specs.Prelude.{◌≡◌};
+
+${4:+$4
+
+}/// The number.
+$2() -> u8
+    ensures { result ≡ 7 }
+{
+    $3
+}
+END
+}
+exported() { number "$1" $'#[unsafe(no_mangle)]\npub extern "C" fn nissy_number' 'second()' 'use niss_embed::second;'; }
+program() {
+    mkdir -p "$here/crates/nissy/src"
+    echo 7 > "$here/crates/nissy/stdout"
+    cat > "$here/crates/nissy/src/main.rt" << END
+//! A program.
+#![tactic(auto)]
+
+use niss_moves::first;
+use std::io;
+
+fn main(rt: HostRuntime) -> io::Result<()> {
+    println!(rt; "{}", first())
+}
+END
+}
+by_git() { git -c user.name=tests -c user.email=tests@localhost "$@"; }
+workspace() {
+    number niss_moves 'pub fn first' 7
+    number niss_embed 'pub fn second' 'first()' 'use niss_moves::first;'
+    exported niss_c
+    exported niss_page
+    program
+    cp -R "$top"/{Makefile,HANDLES,tools} "$here" && cd "$here" || return
+    cat > crates.txt << END
+niss_moves:
+niss_embed: niss_moves
+niss_c staticlib: niss_embed
+niss_page staticlib: niss_embed
+nissy: niss_moves
+END
+    printf '%s\n' out build > .gitignore
+    git init -q && by_git add -A && by_git commit -qm one
+}
+edit() { sed -i "s/$2/$3/" "$here/crates/$1/src/lib.rt"; } # CRATE FROM TO: in its source
+killed_after() { timeout -s KILL "$1" "${@:2}" > /dev/null 2>&1; [ $? -eq 137 ]; } # SECONDS COMMAND..
+is_built() { make --no-print-directory all lib; }
+is_first() { cmp build/libnissy.a "$room/first.a"; }
+
+workspace || { fails "a workspace is made"; ended; exit; }
+holds "make builds the program" make --no-print-directory
+holds "the program runs" test "$(build/nissy)" = 7
+holds "the gate passes after make" rt ci
+holds "the library is built after make and the gate" make --no-print-directory lib
+cp build/libnissy.a "$room/first.a"
+if missing wasm-opt; then skips "the module, since there is no binaryen"; else
+    holds "so is the module" make --no-print-directory build/nissy.wasm
+fi
+
+edit niss_moves 'A number' 'One number'
+holds "all is built after an edit of a comment in the lowest crate" is_built
+holds "the library is the same" is_first
+for crate in niss_moves niss_embed niss_c niss_page; do edit $crate '7' '9'; done
+by_git commit -qam two
+holds "all is built after an edit of each function" is_built
+holds "the library is another" refuses is_first
+by_git checkout -q HEAD~1
+holds "all is built in the commit before" is_built
+holds "the library is the first one again" is_first
+holds "the program is, too" test "$(build/nissy)" = 7
+
+edit niss_embed 'A number' 'One number'
+holds "a check is killed" killed_after 1 env -C crates/niss_embed rt lib
+holds "all is built after a check that was killed" is_built
+edit niss_embed 'One number' 'The number'
+holds "a gate is killed" killed_after 3 rt ci
+holds "all is built after a gate that was killed" is_built
+holds "the gate passes after all of these" rt ci
+holds "all is built after it" is_built
+holds "the library is the first one once more" is_first
+ended
