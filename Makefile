@@ -36,6 +36,8 @@ INSTALLED := \
 	$(LIBRARY_INSTALLED)
 
 .PHONY: all lib page check test install uninstall dist clean bench
+# what a recipe left in part is no file that a later one takes
+.DELETE_ON_ERROR:
 
 all: build/nissy
 
@@ -48,14 +50,14 @@ build/nissy: $(SOURCES)
 	@echo "Proving and building. The first time this takes some ten minutes; later, seconds."
 	cd crates/nissy && rt run -- invert "" > /dev/null
 	mkdir -p build
-	cp crates/nissy/out/nissy build/nissy
+	cp crates/nissy/out/nissy build/nissy.part && mv build/nissy.part build/nissy
 
-# the shared object and its link come with it
-build/libnissy.a: $(SOURCES) tools/static-library
+# the shared object comes with it, under both of its names
+build/libnissy.a: $(SOURCES) tools/static-library tools/kit.py
 	$(NEEDS_KIT)
 	tools/static-library niss_c build/libnissy.a $(SONAME)
 
-build/nissy.wasm: $(SOURCES) tools/web-module
+build/nissy.wasm: $(SOURCES) tools/web-module tools/kit.py
 	$(NEEDS_KIT)
 	tools/web-module build/nissy.wasm
 
