@@ -5,7 +5,7 @@ import re
 import shutil
 from dataclasses import dataclass
 
-from edits import HEAD, Span, function_at, sources
+from bodies import HEAD, Span, function_at, sources
 
 # what a function keeps that can't do without its body: a value that a type needs, a cycle of calls, what is known by its symbol
 NEEDS_ITS_BODY = re.compile(r"#\[(?:cycle|unsafe)\b|\b(?:const|unsafe|extern) ")
@@ -38,7 +38,7 @@ def after_list(text: str) -> str:
 def owner_named(header: str) -> tuple[str, str]:
     """Returns the type that an `impl` is of, and what a check calls the owner of its methods: type and trait, as `StopFromDeviceFault`."""
     trait, _, of = after_list(header.removeprefix("unsafe ").removeprefix("impl")).rpartition(" for ")
-    name = re.match(r"\s*(?:\w+::)*(\w+)", of)[1]
+    name: str = re.findall(r"^\s*(?:\w+::)*(\w+)", of)[0]
     return name, name + "".join(re.findall(r"\w+", trait.split("::")[-1]))
 
 
@@ -85,11 +85,23 @@ def without_body(lines: list[str], span: Span) -> None:
         lines[span.body + 1 : span.last] = ["unreachable!()", *[""] * (span.last - span.body - 2)]
 
 
+def texts_of(folder: str) -> dict[str, str]:
+    """Returns the texts of all files of a crate's code."""
+    files = {f"{at}/{name}" for at, _, names in os.walk(f"{folder}/src") for name in names}
+    return sources(folder, {os.path.relpath(file, folder) for file in files})
+
+
+def names_of(crate: str, folder: str) -> set[str]:
+    """Returns the names by which a check knows the functions of a crate."""
+    texts = texts_of(folder)
+    modules = modules_of_types(texts)
+    return {it.name for file, text in texts.items() for it in functions_of(crate, file, text.split("\n"), modules)}
+
+
 def hollow(crate: str, folder: str, kept: set[str]) -> None:
     """Takes the bodies of a crate's functions away, and leaves a hole for each proof of them, but those that are kept: a function by its name or,
     as `src/lib.rt:7`, by the line of its head, counted from 0."""
-    files = {f"{at}/{name}" for at, _, names in os.walk(f"{folder}/src") for name in names}
-    texts = sources(folder, {os.path.relpath(file, folder) for file in files})
+    texts = texts_of(folder)
     modules = modules_of_types(texts)
     for file, text in texts.items():
         lines = text.split("\n")

@@ -104,7 +104,7 @@ def clauses_of_functions(texts: list[str]) -> list[str]:
 
 
 def promises(tally: Tally, code: Code) -> None:
-    """What docs/PROMISES.md names after the word of what it is, clauses of functions there and in README, the edits of the table of wrong programs."""
+    """What docs/PROMISES.md names after the word of what it is, clauses of functions there and in README, the table of wrong programs."""
     page = Page(TOP, "docs/PROMISES.md")
     for kind in ("clause", "law", "record", "field"):
         named = page.quoted(rf"\b{kind}s? (`[a-z_A-Z]+`(, | and )?)+")
@@ -114,8 +114,9 @@ def promises(tally: Tally, code: Code) -> None:
         each(tally, name, "a clause of its function", clauses_of_functions(texts), code.clauses.__contains__)
     wrong = [row[-1] for row in rows(page.section("Wrong programs, and what refuses them"))]
     for cell in wrong:
-        tally.holds(f"{page.name}: a row of wrong programs names edits: {cell[:60]}", NAME.search(cell))
-    each(tally, page.name, "an edit", sorted({name for cell in wrong for name in NAME.findall(cell)}), code.has_edit)
+        tally.holds(f"{page.name}: a row of wrong programs names bodies: {cell[:60]}", NAME.search(cell))
+    named = sorted({name for cell in wrong for name in NAME.findall(cell)})
+    each(tally, page.name, "a wrong body", named, code.wrong_bodies.__contains__)
 
 
 def statement(line: str) -> str:

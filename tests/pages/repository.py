@@ -6,7 +6,7 @@ from pathlib import Path
 
 sys.path.insert(0, str(Path(__file__).resolve().parents[2] / "tools"))
 
-from edits import HEAD
+from bodies import HEAD, NAMED
 
 # where a word that a page gives may stand
 FOLDERS = ("crates", "tests", "tools", "include", "python", "web")
@@ -60,9 +60,11 @@ class Code:
             return name in self.words
         return (self.top / name).exists() or (self.top / "crates" / name).exists() or any(self.top.glob(f"crates/*/{name}"))
 
-    def has_edit(self, name: str) -> bool:
-        """Whether the name is one of the wrong bodies."""
-        return any(self.top.glob(f"tests/wrong-bodies/*/{name}.edit")) or any(self.top.glob(f"tests/wrong-bodies/*/further/{name}.edit"))
+    @cached_property
+    def wrong_bodies(self) -> set[str]:
+        """The names of the wrong bodies."""
+        lines = (line for path, text in self.texts.items() if path.startswith("tests/wrong-bodies/") for line in text.splitlines())
+        return {named[2] for line in lines if (named := NAMED.fullmatch(line))}
 
     def libraries(self) -> list[str]:
         """Returns the crates that have definitions."""

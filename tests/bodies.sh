@@ -1,0 +1,67 @@
+#!/usr/bin/env bash
+# Reads the wrong bodies of tests/wrong-bodies and makes each in the text of its crate, which needs no prover; and sees that one which is
+# written wrongly, or which no longer fits its crate, is refused by its name.
+# The last line is `N passed, M failed`, and the status is 1 where M isn't 0. Where there is no python3 nothing is tried.
+set -u
+cd "$(dirname "$0")/.." || exit 2
+# shellcheck source=tests/shared
+. tests/shared
+if missing python3; then skips_all "there is no python3 here, so the wrong bodies are not read"; fi
+copy=$room/copy
+bodies=$copy/tests/wrong-bodies
+
+copied() { # a copy of what the tool reads
+    rm -rf "$copy"
+    mkdir -p "$copy/tests" && cp -R tools crates.txt "$copy" && cp -R tests/wrong-bodies "$copy/tests" || return
+    for crate in crates/*/src; do mkdir -p "$copy/$crate" && cp -R "$crate" "${copy:?}/${crate%/src}" || return; done
+}
+says() { # MESSAGE COMMAND..: the tool fails and says this, once the command was run beside the bodies of the copy
+    copied && (cd "$bodies" && "${@:2}") || return
+    refuses "$copy/tools/wrong-bodies" --read niss_moves > "$room/said" || { echo "it fails nothing"; return 1; }
+    grep -qF -- "$1" "$room/said" || { cat "$room/said"; return 1; }
+}
+is_sound() { copied && "$copy/tools/wrong-bodies" --read niss_moves; }
+turned() { sed -i "$1" niss_moves/turn.txt; } # SCRIPT: changes a file of bodies
+own() { turned "/_opposite_is_itself/,/^\$/{$1}"; } # SCRIPT: changes a body of it
+
+holds "each wrong body can be made, and names a function of its crate" tools/wrong-bodies --read
+holds "the copy has no fault of its own" is_sound
+body=niss_moves/turn_opposite_is_itself
+holds "a function that is gone is named" says "NOT MADE: $body: the crate has no function niss_moves::turn::Face::gone" \
+    own 's/^\(refused: .*\)::opposite$/\1::gone/'
+holds "a function of another crate is named" says "NOT MADE: $body: the crate has no function niss_cube::cube::Cube::turn" \
+    own 's/^refused: .*/refused: niss_cube::cube::Cube::turn/'
+holds "old lines that are gone are shown" says "NOT MADE: $body: this stands 0 times in src/turn.rt, and not once: Face::U => Face::X," \
+    own 's/^- .*/- Face::U => Face::X,/'
+holds "old lines that stand several times are shown" says "NOT MADE: $body: this stands 3 times in src/turn.rt, and not once: match self {" \
+    own 's/^- .*/- match self {/'
+holds "a file that is gone is named" says "NOT MADE: $body: the crate has no src/gone.rt" own '/^refused/afile: src/gone.rt
+'
+holds "a name that another body has is told" says "NOT MADE: $body: another body of the crate has this name" \
+    turned 's/^gate: turn_undone_by_itself$/gate: turn_opposite_is_itself/'
+holds "a name that a body of another file has is told" says "NOT MADE: $body: another body of the crate has this name" \
+    sed -i 's/^gate: niss_normal_lends_bracketed$/gate: turn_opposite_is_itself/' niss_moves/niss.txt
+file=tests/wrong-bodies/niss_moves/turn.txt
+own="NOT READ: $file: turn_opposite_is_itself"
+holds "a body that doesn't say what it does wrong is named" says "$own: no line says what it does wrong" own '2d'
+holds "an empty line says nothing" says "$own: no line says what it does wrong" own '2s/.*//'
+holds "a body without a function is named" says "$own: this line doesn't belong where it stands: - Face::U => Face::D," own '/^refused/d'
+holds "a body with two functions is named" says "$own: this line doesn't belong where it stands: refused: x" own '/^refused/arefused: x
+'
+holds "a body without changes is named" says "$own: it needs a line 'refused: FUNCTION', and then lines after '- '" own '/^[-+]/d'
+holds "a body that changes nothing is named" says "$own: it needs a line 'refused: FUNCTION', and then lines after '- '" \
+    own 's/^+ .*/+ Face::U => Face::D,/'
+holds "new lines without old ones are shown" says "$own: this line doesn't belong where it stands: + Face::U => Face::U," own '/^- /d'
+holds "a comment in new lines is shown" says "$own: a comment hides what follows it" own 's|^+ .*|& // as before|'
+holds "a line of no kind is shown" says "$own: this line doesn't belong where it stands: Face::U" own 's/^+ /+ Face::U =>\n/'
+holds "a line before the first name is shown" says \
+    "NOT READ: $file: a line 'gate: NAME' or 'further: NAME' is to stand before this one: never: turn_opposite_is_itself" turned '1s/gate/never/'
+holds "a file of another kind is named" says "NOT READ: tests/wrong-bodies/niss_moves/turn.edit: it is no .txt with the name of a .rt" \
+    cp niss_moves/turn.txt niss_moves/turn.edit
+holds "a file of no source is named" says "NOT READ: tests/wrong-bodies/niss_moves/gone.txt: it is no .txt with the name of a .rt" \
+    mv niss_moves/turn.txt niss_moves/gone.txt
+holds "a crate of which the gate tries nothing is named" says "tests/wrong-bodies/niss_page has no body that the gate tries" \
+    sed -i 's/^gate:/further:/' niss_page/run_call.txt
+holds "a crate without bodies is named" says "tests/wrong-bodies/eo_axes has no body" rm -r eo_axes/main.txt
+holds "a folder of no crate is named" says "tests/wrong-bodies/other: crates.txt lists no such crate" mkdir other
+ended
