@@ -54,6 +54,9 @@ workspace() {
     exported niss_c
     exported niss_page
     program
+    mkdir -p "$here/tests/wrong-bodies/niss_embed"
+    printf '%s\n' 'gate: second_is_eight' 'Returns 8.' 'refused: niss_embed::second' '- first()' '+ first() + 1' \
+        > "$here/tests/wrong-bodies/niss_embed/lib.txt"
     cp -R "$top"/{Makefile,HANDLES,tools} "$here" && cd "$here" || return
     cat > crates.txt << END
 niss_moves:
@@ -66,7 +69,12 @@ END
     git init -q && by_git add -A && by_git commit -qm one
 }
 edit() { sed -i "s/$2/$3/" "$here/crates/$1/src/lib.rt"; } # CRATE FROM TO: in its source
-killed_after() { timeout -s KILL "$1" "${@:2}" > /dev/null 2>&1; [ $? -eq 137 ]; } # SECONDS COMMAND..
+killed_after() { # SECONDS COMMAND..
+    local status
+    timeout -s KILL "$1" "${@:2}" > "$room/said" 2>&1
+    status=$?
+    [ $status -eq 137 ] || { echo "it ended with status $status:" && tail -n 3 "$room/said" && return 1; }
+}
 is_built() { make --no-print-directory all lib; }
 is_first() { cmp build/libnissy.a "$room/first.a"; }
 
@@ -79,6 +87,8 @@ cp build/libnissy.a "$room/first.a"
 if missing wasm-opt; then skips "the module, since there is no binaryen"; else
     holds "so is the module" make --no-print-directory build/nissy.wasm
 fi
+is_refused() { tools/wrong-bodies --show second_is_eight; }
+holds "a wrong body is refused after these" is_refused
 
 edit niss_moves 'A number' 'One number'
 holds "all is built after an edit of a comment in the lowest crate" is_built
@@ -98,6 +108,7 @@ holds "all is built after a check that was killed" is_built
 edit niss_embed 'One number' 'The number'
 holds "a gate is killed" killed_after 3 rt ci
 holds "all is built after a gate that was killed" is_built
+holds "a wrong body is refused after it" is_refused
 holds "the gate passes after all of these" rt ci
 holds "all is built after it" is_built
 holds "the library is the first one once more" is_first
