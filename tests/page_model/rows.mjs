@@ -13,21 +13,22 @@ const OUT_OF_ROOM = "nissy: cannot write\n";
 const OUT_OF_MEMORY = "nissy: out of memory\n";
 const CALLS = 10_000;
 
-// The least room of a call, its words and its input, and its status in that room. A room of at most 4,160 bytes is given whole where a call
-// first asks for memory: a block of 2^k - 16 bytes, of which 48 are the arena's own, for a first word of at most 2^k - 64. Of a larger one
-// the arena takes whole pages of 4,096 bytes at once, less 16, and leaves 4,096 bytes and a few of the room: a step takes the memory of its turns,
-// moves and distances, 149,504 bytes (36.5 pages) for an orientation on one axis and 301,056 (73.5) for one on any, 1,275,669 (311.4) for a domino
-// reduction and 2,454,786 (599.3) for one of two, and its words less than half a page.
+// The least room of a call, its words, its input, and its status in that room. A room of at most 4,160 bytes is given whole where a call
+// first asks for memory: a block of 2^k - 16 bytes, of which 48 are the arena's own, for a first word of at most 2^k - 64. Of a larger room
+// the arena takes whole pages of 4,096 bytes at once, less 16, and leaves 4,096 bytes and a few. A step takes the memory of its turns, moves
+// and distances, 149,504 bytes (36.5 pages) for an orientation on one axis, 301,056 (73.5) for one on any, 1,275,669 (311.4) for a domino
+// reduction, and 2,454,786 (599.3) for one of two; its words take less than half a page.
+const built = (pages, ...steps) => steps.map((step) => [pages * 4096 + 16, `count\0${step}\0` + "1\0", "\n", 0]);
 const LEAST_ROOMS = [
   [512 - 16, "invert\0", "R\n", 0],
   [512 - 16, `${"q".repeat(300)}\0`, "", 2],
   [1024 - 16, `${"q".repeat(600)}\0`, "", 2],
   [2048 - 16, `${"q".repeat(1500)}\0`, "", 2],
   [4096 - 16, `${"q".repeat(3000)}\0`, "", 2],
-  ...["eofb", "eorl", "eoud"].map((step) => [37 * 4096 + 16, `count\0${step}\0` + "1\0", "\n", 0]),
-  [74 * 4096 + 16, "count\0eo\0" + "1\0", "\n", 0],
-  ...["drud-eofb", "drrl-eofb", "drud-eorl", "drfb-eorl", "drrl-eoud", "drfb-eoud"].map((step) => [312 * 4096 + 16, `count\0${step}\0` + "1\0", "\n", 0]),
-  ...["dr-eofb", "dr-eorl", "dr-eoud"].map((step) => [600 * 4096 + 16, `count\0${step}\0` + "1\0", "\n", 0]),
+  ...built(37, "eofb", "eorl", "eoud"),
+  ...built(74, "eo"),
+  ...built(312, "drud-eofb", "drrl-eofb", "drud-eorl", "drfb-eorl", "drrl-eoud", "drfb-eoud"),
+  ...built(600, "dr-eofb", "dr-eorl", "dr-eoud"),
 ];
 
 // what a row shows, the arguments of `run`, and what is wanted: the status, the output, the error text, and whether it was full
