@@ -8,7 +8,7 @@ void *__real_malloc(size_t size);
 void *__real_realloc(void *old, size_t size);
 void __real_free(void *block);
 
-static long made, refused_at, held;
+static long made, refused_at, held, most_held;
 static int onward;
 
 /* Whether this allocation is refused, by its number from 1. */
@@ -17,15 +17,21 @@ static int is_refused(void) {
     return refused_at && (made == refused_at || (onward && made > refused_at));
 }
 
+/* Counts a block that was handed out. */
+static void take(void) {
+    held++;
+    if (held > most_held) most_held = held;
+}
+
 void *__wrap_malloc(size_t size) {
     void *block = is_refused() ? NULL : __real_malloc(size);
-    held += block != NULL;
+    if (block) take();
     return block;
 }
 
 void *__wrap_realloc(void *old, size_t size) {
     void *block = is_refused() ? NULL : __real_realloc(old, size);
-    held += block != NULL && old == NULL;
+    if (block && !old) take();
     return block;
 }
 

@@ -31,30 +31,30 @@ def refusing_library(trial):
 
 
 def allocating(trial, library, words, data, refused):
-    """What the program answers, how many bytes it read, and how many allocations it made."""
+    """What the program answers, how many bytes it read, how many allocations it made, and how many blocks it hasn't given back."""
     with trial.input_file(data) as file, open(trial.path("count"), "wb") as count:
         environment = {"LD_PRELOAD": library, "REFUSE": refused, "REFUSE_COUNT": str(count.fileno())}
         answer = ran([trial.program] + words, stdin=file, pass_fds=[count.fileno()], env=environment)
         read = os.lseek(file.fileno(), 0, os.SEEK_CUR)
     with open(trial.path("count"), encoding="ascii") as count:
-        text = count.read().strip()
-    return *answer, read, int(text) if text else -1
+        made, held = map(int, count.read().split() or (-1, -1))
+    return *answer, read, made, held
 
 
 def allocations(trial):
-    """Each allocation of a run refused, once and from then on: out of memory, nothing read and nothing written."""
+    """Each allocation of a run refused, once and from then on: out of memory, nothing read, nothing written and nothing kept."""
     library = refusing_library(trial)
     if library is None:
         print("skipped: no cc makes a library here, so no allocation is refused")
         return
     trial.awaits("an allocation refused")
     for words, data in ALLOCATING:
-        *got, _, made = allocating(trial, library, words, data, "0")
-        trial.check("allocations counted", words, data, (tuple(got), made >= 0), (model.run(words, data), True))
+        *got, _, made, held = allocating(trial, library, words, data, "0")
+        trial.check("allocations counted", words, data, (tuple(got), made >= 0, held), (model.run(words, data), True, 0))
         for nth in range(1, made + 1):
             for refused in ("%d" % nth, "%d+" % nth):
-                got = allocating(trial, library, words, data, refused)[:4]
-                trial.check("an allocation refused", words + [refused], data, got, (b"", NO_MEMORY, 3, 0))
+                *got, _, held = allocating(trial, library, words, data, refused)
+                trial.check("an allocation refused", words + [refused], data, (*got, held), (b"", NO_MEMORY, 3, 0, 0))
 
 
 def run_within(trial, kilobytes, words, data=b"", environment=None):

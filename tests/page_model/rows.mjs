@@ -10,7 +10,26 @@ import { NoWebAssembly, NoWideMemory, Nissy } from "../../web/nissy.js";
 const SOLVED = "UUUUUUUUURRRRRRRRRFFFFFFFFFDDDDDDDDDLLLLLLLLLBBBBBBBBB\n";
 const USAGE = "usage: nissy COMMAND [ARGUMENTS]\n";
 const OUT_OF_ROOM = "nissy: cannot write\n";
+const OUT_OF_MEMORY = "nissy: out of memory\n";
 const CALLS = 10_000;
+
+// The least room of a call, its words, its input, and its status in that room. A room of at most 4,160 bytes is given whole where a call
+// first asks for memory: a block of 2^k - 16 bytes, of which 48 are the arena's own, for a first word of at most 2^k - 64. Of a larger room
+// the arena takes whole pages of 4,096 bytes at once, less 16, and leaves 4,096 bytes and a few. A step takes the memory of its turns, moves
+// and distances, 149,504 bytes (36.5 pages) for an orientation on one axis, 301,056 (73.5) for one on any, 1,275,669 (311.4) for a domino
+// reduction, and 2,454,786 (599.3) for one of two; its words take less than half a page.
+const built = (pages, ...steps) => steps.map((step) => [pages * 4096 + 16, `count\0${step}\0` + "1\0", "\n", 0]);
+const LEAST_ROOMS = [
+  [512 - 16, "invert\0", "R\n", 0],
+  [512 - 16, `${"q".repeat(300)}\0`, "", 2],
+  [1024 - 16, `${"q".repeat(600)}\0`, "", 2],
+  [2048 - 16, `${"q".repeat(1500)}\0`, "", 2],
+  [4096 - 16, `${"q".repeat(3000)}\0`, "", 2],
+  ...built(37, "eofb", "eorl", "eoud"),
+  ...built(74, "eo"),
+  ...built(312, "drud-eofb", "drrl-eofb", "drud-eorl", "drfb-eorl", "drrl-eoud", "drfb-eoud"),
+  ...built(600, "dr-eofb", "dr-eorl", "dr-eoud"),
+];
 
 // what a row shows, the arguments of `run`, and what is wanted: the status, the output, the error text, and whether it was full
 const ROWS = [
@@ -124,7 +143,7 @@ async function tryPlainCalls() {
   const { memory, nissy_run: run, __heap_base: heap } = instance.exports;
   same("its memory has addresses of 32 bits", typeof memory.grow(64), "number");
   const base = Math.ceil(Number(heap.value) / 16) * 16;
-  const [answerAt, roomAt, wordsAt, inputAt, outAt, errAt, lentAt] = [0, 64, 128, 192, 256, 512, 1024].map((at) => base + at);
+  const [answerAt, roomAt, inputAt, outAt, errAt, wordsAt, lentAt] = [0, 64, 128, 192, 512, 1024, 8192].map((at) => base + at);
   const call = (words, input, outRoom, errRoom, lent) => {
     const bytes = new Uint8Array(memory.buffer);
     bytes.fill(0x23, base, lentAt);
@@ -144,8 +163,8 @@ async function tryPlainCalls() {
       small: [bytes[answerAt + 24], bytes[answerAt + 25]],
       room: [number(roomAt) - lentAt, number(roomAt + 8)],
       kept:
-        is(answerAt + 32, roomAt) && is(roomAt + 16, wordsAt) && is(outAt + number(answerAt + 8), errAt) &&
-        is(errAt + number(answerAt + 16), lentAt) && is(lentAt + lent, lentAt + lent + 64),
+        is(answerAt + 32, roomAt) && is(roomAt + 16, inputAt) && is(outAt + number(answerAt + 8), errAt) &&
+        is(errAt + number(answerAt + 16), wordsAt) && is(lentAt + lent, lentAt + lent + 64),
     };
   };
   const lent = 3_145_728;
@@ -158,6 +177,14 @@ async function tryPlainCalls() {
   for (const size of [0, 16, 32, 256, 480, 496, 512, 1024, 4096, 4160, 4176, 8192, 65536]) {
     const { status, room, kept } = call("solve\0eofb\0" + "7\0F", "", 256, 128, size);
     same(`a room of ${size} bytes comes back`, [room, kept, status === 0 || status === 3], [[0, size], true, true]);
+  }
+  for (const [least, words, input, status] of LEAST_ROOMS) {
+    const what = JSON.stringify(words.slice(0, 24));
+    const wanted = { status, err: status === 2 ? USAGE : "", room: [0, least], kept: true };
+    const short = { status: 3, err: OUT_OF_MEMORY, room: [0, least - 16], kept: true };
+    const seen = ({ status, err, room, kept }) => ({ status, err, room, kept });
+    same(`${what} in a room of ${least} bytes`, seen(call(words, input, 256, 128, least)), wanted);
+    same(`${what} in 16 bytes fewer`, seen(call(words, input, 256, 128, least - 16)), short);
   }
 }
 

@@ -46,13 +46,13 @@ impl OneBlock {
     fn take(&self, size: usize) -> Option<Block>
         ensures { IfSome result (λ block. (block.size ≡ self.now.size) × (size ≤ block.size) × (0 < block.size)) }
     {
-        let room = self.room.replace(None)?;
         // no clause says which room the cell holds
-        if room.size == self.size && size <= room.size && room.size > 0 {
-            Some(room.block)
-        } else {
-            self.room.set(Some(room));
-            None
+        match self.room.replace(None)?.into_block(self.size, size) {
+            Ok(block) => Some(block),
+            Err(room) => {
+                self.room.set(Some(room));
+                None
+            }
         }
     }
 

@@ -1,5 +1,5 @@
 //! The memory that a host lends for a call.
-ghost use Rattle.std.specs.Prelude.{◌≡◌, ℕ};
+ghost use Rattle.std.specs.Prelude.{◌≡◌, ◌<◌, ◌≤◌, ℕ, IsOk, IfOk, IfErr};
 ghost use Rattle.niss_page.specs.Room.{IsRoomSize, block_owns};
 
 use std::marker::Model;
@@ -45,6 +45,20 @@ impl Room {
         Room {
             block: Block::none(),
             size: 0,
+        }
+    }
+
+    /// Its block, where it has so many bytes in all, and room for those that are asked for; else the room as it was.
+    pub(crate) fn into_block(self, all: usize, asked: usize) -> Result<Block, Room>
+        ensures block { IfOk result (λ block. (block.size ≡ all) × (asked ≤ block.size) × (0 < block.size)) }
+        // What is there is given, to the last byte.
+        ensures given { self.size ≡ all → asked ≤ all → 0 < all → IsOk result }
+        ensures kept { IfErr result (λ room. room ≡ self) }
+    {
+        if self.size == all && asked <= all && all > 0 {
+            Ok(self.block)
+        } else {
+            Err(self)
         }
     }
 }

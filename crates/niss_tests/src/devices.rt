@@ -75,6 +75,7 @@ impl Devices<'_> {
             flush_fails: self.flush_fails,
             error: self.stream_error.unwrap_or(io::ErrorKind::Other),
             writes: 0,
+            least_brought: usize::MAX,
             flushes: 0,
             write_failed: false,
             flush_failed: false,
@@ -158,7 +159,8 @@ impl io::Read for Bytes<'_> {
     }
 }
 
-/// A target in memory. After a write that failed it takes what later ones bring.
+/// A target in memory, which notes the least that a write brought. After a write that failed it takes what later ones
+/// bring.
 #[derive(Drop)]
 pub struct Held {
     pub bytes: Vec<u8>,
@@ -167,6 +169,7 @@ pub struct Held {
     flush_fails: bool,
     error: io::ErrorKind,
     pub writes: usize,
+    pub least_brought: usize,
     pub flushes: usize,
     write_failed: bool,
     flush_failed: bool,
@@ -187,6 +190,7 @@ impl Target for Held {
 
     fn write(&mut self, piece: &[u8]) -> Result<usize, DeviceFault> {
         self.writes = self.writes.saturating_add(1);
+        self.least_brought = self.least_brought.min(piece.len());
         self.flush_tried = false;
         self.flushed = false;
         if self.fails_at == Some(self.writes) {

@@ -61,14 +61,15 @@ pub struct Outcome<'a> {
 }
 
 impl Outcome<'_> {
-    /// Compares it with what a run answered and what its targets hold. However a run ends, its last call of the output is
-    /// its one flush.
+    /// Compares it with what a run answered and what its targets hold. However a run ends, it writes no empty piece, and
+    /// its last call of the output is its one flush.
     pub fn compare(self, rt: &impl Abort, status: u8, out: &Held, err: &Held) {
         check_bytes(rt, out.bytes.as_slice(), self.output);
         check_bytes(rt, err.bytes.as_slice(), self.error);
         check_count(rt, "status", usize::from(status), usize::from(self.status));
         check_count(rt, "flushes", out.flushes, 1);
         assert!(rt; out.flush_tried, "a write after the flush");
+        assert!(rt; out.least_brought.min(err.least_brought) > 0, "an empty write");
         check_count(rt, "flushes of the error writer", err.flushes, 0);
     }
 }
