@@ -69,7 +69,10 @@ impl Outcome<'_> {
         check_count(rt, "status", usize::from(status), usize::from(self.status));
         check_count(rt, "flushes", out.flushes, 1);
         assert!(rt; out.flush_tried, "a write after the flush");
-        assert!(rt; out.least_brought.min(err.least_brought) > 0, "an empty write");
+        assert!(rt;
+            out.least_brought.min(err.least_brought) > 0,
+            "an empty write"
+        );
         check_count(rt, "flushes of the error writer", err.flushes, 0);
     }
 }
