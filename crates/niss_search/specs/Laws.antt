@@ -1,5 +1,5 @@
 -- Laws over counts and looks, and over positions.
-use Rattle.std.specs.Prelude.{◌≡◌, ℕ, ◌+◌, ◌*◌, ◌^◌, ◌≤◌, ◌<◌, min, Bool, IsTrue, None, unwrap_or}
+use Rattle.std.specs.Prelude.{◌≡◌, ℕ, ◌+◌, ◌*◌, ◌^◌, ◌≤◌, ◌<◌, min, Bool, IsTrue, None, Some, unwrap_or}
 use Rattle.std.specs.Prelude.{List, [], ◌∷◌, filter, length, sum_by, Contains}
 use Rattle.std.specs.Option.{option_map_or}
 use Rattle.niss_moves.specs.Places.{Place, SameMap}
@@ -42,6 +42,13 @@ pub record NoSlackIsLeast : Type 0 where
       (turns : List Turn) (reaches : List Turn → Bool) (far : List Turn → ℕ) (n : ℕ) →
       all_looks turns reaches far n 0
       ≡ sum_by (looks turns far) (up_to (unwrap_or (least_length turns reaches n) n))
+
+-- The first solution has the least length.
+abbrev pub FirstIsLeast : Type 0
+FirstIsLeast =
+    (turns : List Turn) (reaches : List Turn → Bool) (n slack : ℕ) (first : List Turn) (rest : List (List Turn)) →
+    solutions turns reaches n slack ≡ first ∷ rest →
+    least_length turns reaches n ≡ Some (length first)
 
 -- The bound of a step is at most that over the 18 turns.
 abbrev pub StepBoundIsLess : Type 0
