@@ -1,2 +1,1 @@
-pub mod LineCalls
 pub mod RunCall

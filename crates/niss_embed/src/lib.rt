@@ -14,9 +14,17 @@
 
 mod answer;
 mod call;
+mod line_answer;
+mod line_reading;
+mod line_search;
+mod line_texts;
+mod solution_lines;
 mod source;
 mod target;
 mod words;
 
 pub use answer::Answer;
 pub use call::run_bytes;
+pub use line_answer::LineAnswer;
+pub use line_search::{CountAnswer, SolveAnswer, count_line, solve_line};
+pub use line_texts::{fault_text, rewrite_line, scramble, start_name, step_names};

@@ -32,7 +32,7 @@ pub fn no_slack_is_least()
     ensures { NoSlackIsLeast }
 {}
 
-/// The first solution that a search hands out has the least length.
+/// The least length is that of the first solution that a search hands out.
 #[tactic(auto, using(crate::proofs::DeepeningLemmas::first_least))]
 pub fn first_is_least()
     ensures { FirstIsLeast }

@@ -34,9 +34,9 @@ text_more turns i g =
     ∙ flat_map-append turns_line (scrambles turns i g) (scramble turns g i ∷ [])
     ∙ ap (λ t. scramble_text turns i g ++ t) (append-nil (turns_line (scramble turns g i)))
 
--- the text of one
-pub one_scramble : (turns : ℕ) (g : Lcg) → turns_line (draw None (next_words turns g)) ≡ scramble_text turns 1 g
-one_scramble turns g = line_of_next turns 0 g (no_scramble turns g) ∙ sym (append-nil (turns_line (scramble turns g 0)))
+-- the line of the first one
+pub one_scramble : (turns : ℕ) (g : Lcg) → turns_line (draw None (next_words turns g)) ≡ turns_line (scramble turns g 0)
+one_scramble turns g = line_of_next turns 0 g (no_scramble turns g)
 
 -- the text begins with that of the first scrambles
 text_front : (turns i count : ℕ) (g : Lcg) → i ≤ count

@@ -3,7 +3,7 @@ use Rattle.niss_shell.proofs.Names.{◌≡◌, ℕ, Bool, true, false, Result, O
 use Rattle.niss_shell.proofs.Names.{LineCommand, Search, Query, NoStart, Stop, AnswerState, Answers, Writes, answer_at_moves, may_start}
 use Rattle.niss_shell.proofs.Names.{Moves, near_looks_of, fault_answer, where_it_starts, search_text, home, search_command, turns_of}
 use Rattle.niss_shell.proofs.Names.{LooksWithinBound, Solutions, answer_to, looks_at, AcceptedLinesAreSolved, SearchesBeginAtCubes, search_answer}
-use Rattle.niss_shell.proofs.Names.{start_cube, Report, ReadFault, read_line, Place}
+use Rattle.niss_shell.proofs.Names.{start_cube, ReadFault, read_line, Place}
 
 -- a line on whose cube the step may start, or may not
 

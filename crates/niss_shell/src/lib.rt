@@ -39,7 +39,7 @@ mod text;
 mod writing;
 
 pub use answer::rewrite;
-pub use command::{Command, Rewriting, UsageFault, parse_words};
+pub use command::{Command, Rewriting, UsageFault, parse_words, step_named};
 pub use counting::count_solutions;
 pub use device::{DeviceFault, Source, Target};
 pub use laws::{

@@ -1,4 +1,4 @@
-use Rattle.niss_shell.proofs.Names.{rules, ◌≡◌, take, length, ap, ◌∙◌, arith, flat_map, take_all, steps, Step, step_line, nil_from_length}
+use Rattle.niss_shell.proofs.Names.{◌≡◌, take, length, ap, ◌∙◌, arith, flat_map, take_all, steps, Step, step_line, nil_from_length}
 use Rattle.niss_shell.proofs.shell.put_steps.Goals as goal
 
 pub loop-step-init : goal.loop-step-init

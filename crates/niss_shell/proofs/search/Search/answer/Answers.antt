@@ -1,5 +1,5 @@
-use Rattle.niss_shell.proofs.Names.{◌≡◌, ◌+◌, ◌-◌, ◌∙◌, length, arith, ap, subst, err_from_is_err_and, least_length_of}
-use Rattle.niss_shell.proofs.Names.{near_solutions_of, near_looks_of}
+use Rattle.niss_shell.proofs.Names.{◌≡◌, ◌-◌, ◌∙◌, arith, ap, err_from_is_err_and}
+use Rattle.niss_shell.proofs.Names.{near_looks_of}
 use Rattle.niss_shell.proofs.OutputLemmas.{unsolved, nothing_waits, solved, reported_after, same_count}
 use Rattle.niss_shell.proofs.search.Search.answer.Goals as goal
 
