@@ -1,1 +1,3 @@
 pub mod RunCall
+pub mod TableCalls
+pub mod Version
