@@ -23,7 +23,7 @@ pub extern "C" fn nissy_steps(out: &mut [u8]) -> LineAnswer
     step_names(out)
 }
 
-/// Writes the name of the step that must hold before the step of this name: nothing where none must.
+/// Writes the name of the step that must hold before the step of this name, and nothing if none must.
 #[unsafe(no_mangle)]
 pub extern "C" fn nissy_start(name: &[u8], out: &mut [u8]) -> LineAnswer
     ensures { Does (outcome_of_start (length out.old) name.now) out.old out.new result }

@@ -1,4 +1,4 @@
--- What a call on one line answers, and what it leaves in the caller's buffer.
+-- What a call that writes a short text returns, and what it leaves in the caller's buffer.
 use Rattle.std.specs.Prelude.{ℕ, zero, suc, ◌≡◌, nat_le, nat_lt, if◌then◌else◌, codes, Option, None, Some, Result, Ok, Err}
 use Rattle.std.specs.Prelude.{List, [], ◌∷◌, ◌++◌, drop, length, flat_map, slice_get}
 use Rattle.niss_moves.specs.declared.fault.ReadFault.{ReadFault}

@@ -1,4 +1,4 @@
--- What a search on one line hands out and answers.
+-- What a search on one line hands out and returns.
 use Rattle.std.specs.Prelude.{◌≡◌, ◌⊎◌, ℕ, ◌+◌, ◌<◌, ◌≤◌, min, nat_lt, Bool, true, false, unwrap_or, Result, Ok, Err}
 use Rattle.std.specs.Prelude.{List, flat_map, take, length}
 use Rattle.niss_moves.specs.FaultText.{fault_column}
@@ -50,7 +50,7 @@ uncounted status fault column = record {
   looks = 0;
 }
 
--- The memory is as it was, and this was answered.
+-- The memory is as it was, and this was returned.
 pub record Only (due : SolveAnswer) (out : Memory) (told : SolveAnswer) : Type 0 where
   pub unwritten : out.after ≡ out.before
   pub told_is : told ≡ due
@@ -77,7 +77,7 @@ pub record Hands (all : List (List Turn)) (most : ℕ) (out : Memory) (told : So
 pub record SolvesCube (step : Step) (n slack most : ℕ) (e : Place → Place) (out : Memory) (told : SolveAnswer) : Type 0 where
   pub hands : Hands (near_solutions_of step e n slack) most out told
   pub least : told.least ≡ unwrap_or (least_length_of step e n) 0
-  -- the looks are those of the whole search where no solution is left, and else at most these
+  -- the looks are those of the whole search if no solution is left, and else at most these
   pub looked : told.more ≡ false → told.looks ≡ capped (near_looks_of step e n slack)
   pub looks_at_most : told.looks ≤ capped (near_looks_of step e n slack)
   pub no_fault : told.fault ≡ 0

@@ -1,11 +1,11 @@
-//! What a call on one line answers, and how its text comes into the caller's buffer.
+//! What a call that writes a short text returns, and how the text comes into the caller's buffer.
 ghost use Rattle.std.specs.Prelude.{◌≡◌, ◌≤◌, length};
 ghost use Rattle.niss_moves.specs.FaultText.{fault_column};
 ghost use Rattle.niss_embed.specs.LineCalls.{Does, Unread, TooLong, Misused, answer_for, fault_number, outcome_of_text};
 
 use niss_moves::ReadFault;
 
-/// What a call that writes a short text answers: a status, and with it the fault of the line or the length of the text.
+/// What a call that writes a short text returns: a status, and with it the fault of the line or the length of the text.
 #[repr(C)]
 #[derive(Clone, Copy)]
 pub struct LineAnswer {

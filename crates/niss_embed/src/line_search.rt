@@ -18,40 +18,40 @@ use niss_search::{Limit, Meter, Position, Tables, TurnPath, search};
 use niss_shell::{LineFault, count_solutions, start_position};
 use std::alloc::Allocator;
 
-/// What a search on one line answers that hands its solutions out.
+/// What a search on one line returns that hands its solutions out.
 #[repr(C)]
 #[derive(Clone, Copy, Debug, PartialEq, Eq)]
 pub struct SolveAnswer {
     /// 0: the solutions are written. 1: the line has a fault. 2: there is no such search. 3: the line has more than 16,777,216
     /// bytes. 4: the next solution has no room.
     pub status: u8,
-    /// What is wrong with the line, 1 to 5 in the order of `ReadFault`; 6 where the step may not start; 0 where nothing is.
+    /// What is wrong with the line, 1 to 5 in the order of `ReadFault`; 6 if the step may not start there; else 0.
     pub fault: u8,
-    /// The least length of a solution where there is one.
+    /// The least length of a solution, or 0 if there is none.
     pub least: u8,
     /// There are more solutions than were handed out.
     pub more: bool,
-    /// The column of the fault in bytes, from 1; 0 where there is none.
+    /// The column of the fault in bytes, from 1; 0 if it has none.
     pub column: u32,
     /// How many bytes were written, from the beginning of the memory.
     pub out_length: usize,
     /// How many solutions were written.
     pub solutions: u64,
-    /// How often the search looked at a position, or 2^64 - 1 where more often.
+    /// How often the search looked at a position, or 2^64 - 1 if more often.
     pub looks: u64,
 }
 
-/// What a search on one line answers that counts its solutions.
+/// What a search on one line returns that counts its solutions.
 #[repr(C)]
 #[derive(Clone, Copy, Debug, PartialEq, Eq)]
 pub struct CountAnswer {
     /// As in `SolveAnswer`.
     pub status: u8,
     pub fault: u8,
-    /// The least length of a solution where there is one.
+    /// The least length of a solution, or 0 if there is none.
     pub least: u8,
     pub column: u32,
-    /// How many solutions there are, or 2^64 - 1 where there are more.
+    /// How many solutions there are, or 2^64 - 1 if there are more.
     pub solutions: u64,
     pub looks: u64,
 }
@@ -73,7 +73,7 @@ impl SolveAnswer {
         }
     }
 
-    /// The answer where there is no such search.
+    /// The answer if there is no such search.
     pub fn misused() -> SolveAnswer
         ensures { result ≡ unsolved 2 0 0 }
     {
@@ -104,7 +104,7 @@ impl CountAnswer {
         }
     }
 
-    /// The answer where there is no such search.
+    /// The answer if there is no such search.
     pub fn misused() -> CountAnswer
         ensures { result ≡ uncounted 2 0 0 }
     {
@@ -120,7 +120,7 @@ impl CountAnswer {
     }
 }
 
-/// The number of a line's fault, and its column where it has one.
+/// The number of a line's fault, and its column, or 0 if it has none.
 fn number_and_column(fault: LineFault) -> (u8, u32)
     ensures number { result.0 ≡ number_of_fault fault }
     ensures column { result.1 ≡ column_of_fault fault }
@@ -138,7 +138,8 @@ fn capped(number: u128) -> u64
     number.min(u64::MAX as u128) as u64
 }
 
-/// The position that the search begins at: that of the line's cube, where the line is read and the step may start there.
+/// The position that the search begins at: that of the line's cube, if the line is read and the step
+/// may start there.
 fn begin<A: Allocator>(tables: &Tables<A>, line: &[u8]) -> Result<Position, LineFault>
     requires { length line.now ≤ 16777216 }
     ensures { MatchResult result
@@ -177,7 +178,7 @@ fn solve_position<A: Allocator>(
     ensures { (e : Place → Place) → HasPosition tables.now e position.now →
         SolvesCube tables.now limit slack most e (memory out.old out.new) result }
 {
-    // the first solution has the least length, also where the search is stopped
+    // so the first solution tells the least length, also if the search is stopped
     first_is_least();
     let mut path = TurnPath::new(limit);
     let mut looks = Meter::new();
@@ -246,7 +247,7 @@ fn count_position<A: Allocator>(
     }
 }
 
-/// Counts the solutions for a line that `solve_line` writes where it may write all of them.
+/// Counts the solutions for a line that `solve_line` writes if it may write all of them.
 pub fn count_line<A: Allocator>(
     tables: &Tables<A>,
     line: &[u8],

@@ -51,10 +51,10 @@ pub fn scramble(state: u64, stream: u64, turns: u32, out: &mut [u8]) -> LineAnsw
     if turns > MOST_TURNS {
         return LineAnswer::misused();
     }
-    let mut text = LineText::new();
-    put_scramble(state, stream, turns as usize, &mut text);
-    text.pop();
-    LineAnswer::put(text.as_slice(), out)
+    let mut line = LineText::new();
+    put_scramble(state, stream, turns as usize, &mut line);
+    line.pop();
+    LineAnswer::put(line.as_slice(), out)
 }
 
 /// Writes the names of the steps, each with its line feed.
@@ -67,7 +67,7 @@ pub fn step_names(out: &mut [u8]) -> LineAnswer
     LineAnswer::put(text.as_slice(), out)
 }
 
-/// Writes the name of the step that must hold before the step of this name: nothing where none must.
+/// Writes the name of the step that must hold before the step of this name, and nothing if none must.
 pub fn start_name(name: &[u8], out: &mut [u8]) -> LineAnswer
     ensures { Does (outcome_of_start (length out.old) name.now) out.old out.new result }
 {
