@@ -1,2 +1,3 @@
-pub mod LineCalls
 pub mod RunCall
+pub mod TableCalls
+pub mod Version

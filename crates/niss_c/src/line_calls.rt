@@ -1,43 +1,10 @@
 //! The calls on the moves of one line.
 ghost use Rattle.std.specs.Prelude.{◌≢◌, ◌≤◌, length};
 ghost use Rattle.niss_shell.specs.declared.command.Rewriting.TheVariants.{Invert, Unniss, Cleanup, Print};
-ghost use Rattle.niss_shell.specs.Output.{line_text};
-ghost use Rattle.niss_c.specs.LineCalls.{Does, Rewrites, outcome_of_text};
+ghost use Rattle.niss_embed.specs.LineCalls.{Rewrites};
 
-use crate::line_answer::LineAnswer;
-use crate::line_reading::feed_line;
-use niss_moves::{LineReader, LineText, Niss};
-use niss_shell::{Rewriting, rewrite};
-
-/// The most bytes of a line.
-const MOST_BYTES: usize = 16_777_216;
-
-/// Writes the text of a line's moves, without the line feed.
-fn put_rewritten(rewriting: Rewriting, line: &Niss, out: &mut [u8]) -> LineAnswer
-    ensures does { Does (outcome_of_text (length out.old) (line_text rewriting line.now)) out.old out.new result }
-    ensures room { 2048 ≤ length out.old → result.status ≢ 4 }
-{
-    let mut text = LineText::new();
-    rewrite(rewriting, line, &mut text);
-    text.pop();
-    LineAnswer::put(text.as_slice(), out)
-}
-
-/// Writes the text of a line, without the line feed.
-fn rewrite_line(rewriting: Rewriting, line: &[u8], out: &mut [u8]) -> LineAnswer
-    ensures does { Rewrites rewriting line.now out.old out.new result }
-    ensures room { 2048 ≤ length out.old → result.status ≢ 4 }
-{
-    if line.len() > MOST_BYTES {
-        return LineAnswer::too_long();
-    }
-    let mut reader = LineReader::new();
-    feed_line(&mut reader, line);
-    match reader.end() {
-        Ok(()) => put_rewritten(rewriting, reader.moves(), out),
-        Err(fault) => LineAnswer::unread(fault),
-    }
-}
+use niss_embed::{LineAnswer, rewrite_line};
+use niss_shell::Rewriting;
 
 /// Writes the inverse of a line's moves.
 #[unsafe(no_mangle)]

@@ -59,7 +59,7 @@ after_part : (before after part : List ℕ) (count : ℕ) → take count after �
 after_part before after part count e l =
     sym (take-append-drop count after) ∙ ap (λ v. v ++ drop count after) e ∙ ap (λ v. part ++ v) l
 
-puts_whole : (before after text : List ℕ) (count : ℕ) → take count after ≡ text → drop count after ≡ drop (length text) before
+pub puts_whole : (before after text : List ℕ) (count : ℕ) → take count after ≡ text → drop count after ≡ drop (length text) before
     → length text ≤ length before → count ≤ length after → Puts text (memory before after) count false
 puts_whole before after text count e l fits within =
     let whole : take (length before) text ≡ text = take_all (length before) text fits in
@@ -96,11 +96,11 @@ puts_cut before after part rest count e l fits full some =
 
 -- the same of a target, by what it took since it was new
 
-no_front : (bytes : List ℕ) → take 0 bytes ≡ []
+pub no_front : (bytes : List ℕ) → take 0 bytes ≡ []
 no_front [] = refl
 no_front (b ∷ bytes) = refl
 
-all_left : (bytes : List ℕ) → drop 0 bytes ≡ bytes
+pub all_left : (bytes : List ℕ) → drop 0 bytes ≡ bytes
 all_left [] = refl
 all_left (b ∷ bytes) = refl
 

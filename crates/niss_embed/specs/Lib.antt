@@ -2,3 +2,6 @@ pub mod Names
 pub mod Words
 pub mod Memory
 pub mod Run
+pub mod LineCalls
+pub mod SolutionLines
+pub mod LineSearch

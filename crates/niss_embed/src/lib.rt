@@ -1,4 +1,5 @@
-//! `nissy` in other programs: one call that runs a command on bytes in memory. In crates.txt: `app: niss_embed`.
+//! `nissy` in other programs: a call that runs a command on bytes in memory, and calls on one line. In crates.txt:
+//! `app: niss_embed`.
 //!
 //! `run_bytes` is handed what the program `nissy` is given: the words of a command line, the input, and memory for the output
 //! and for the error text. It answers the exit status and how much of that memory it wrote. Its contract says each byte of
@@ -10,13 +11,27 @@
 //! let answer = run_bytes(rt.alloc(), b"invert\0", b"R U' F2\n", &mut out, &mut err);
 //! // `answer.status` is 0, and `out[..answer.out_length]` is `F2 U R'` and a line feed
 //! ```
+//!
+//! `solve_line` and `count_line` search for one line by tables that the caller keeps, and take no memory:
+//!
+//! ```
+//! let answer = solve_line(&tables, b"R U' F2", 20, 0, 10, &mut out);   // at most 10 solutions
+//! ```
 #![tactic(auto)]
 
 mod answer;
 mod call;
+mod line_answer;
+mod line_reading;
+mod line_search;
+mod line_texts;
+mod solution_lines;
 mod source;
 mod target;
 mod words;
 
 pub use answer::Answer;
 pub use call::run_bytes;
+pub use line_answer::LineAnswer;
+pub use line_search::{CountAnswer, SolveAnswer, count_line, solve_line};
+pub use line_texts::{fault_text, rewrite_line, scramble, start_name, step_names};

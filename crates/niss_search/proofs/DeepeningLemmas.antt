@@ -8,6 +8,10 @@ use Rattle.niss_search.proofs.Words.{sum_by-cons, ◌^◌, Place, at_limit, min,
 use Rattle.niss_search.proofs.Words.{GoesThrough, Ok, PositionsFollowCubes, Result, all_looks, descent_state, look_bound, OnErr, OnOk}
 use Rattle.niss_search.proofs.Words.{Path, StoppedIn, StopsIn, WentThrough, all_looks_at, least_length_at, looks_at, near_looks_of}
 use Rattle.niss_search.proofs.Words.{near_solutions_of, option_map_or, reaching_at, solutions_at, Delivers, IfOk, NoSlackIsLeast}
+use Rattle.std.specs.Prelude.{option_map, slice_get}
+use Rattle.niss_search.proofs.Words.{suc, Contains, All, All-head, All-filter, All-contains_itself, subst}
+use Rattle.niss_search.specs.Laws.{FirstIsLeast}
+use Rattle.niss_moves.specs.Laws.{CanonicalMembers}
 use Rattle.niss_search.proofs.Bounds.{last-within, least-within, all_looks-bound, looks-sum-small, turns_of-length}
 use Rattle.niss_search.proofs.ListLemmas.{list_any-filter, filter-none, flat_map-none, in-range, range-push, range-split}
 use Rattle.niss_search.proofs.DepthFirst.{found_all, visits_all}
@@ -102,6 +106,39 @@ no_slack = record {
   listed turns reaches n (Some d) h =
       let one : min n (d + 0) + 1 - d ≡ 1 = omega (arith, h d refl) in
       ap (λ k. flat_map (reaching turns reaches) (range_with_len d k)) one ∙ append-nil (reaching turns reaches d)
+
+-- what is found passes
+find-passes : {X : Type 0} (p : X → Bool) (xs : List X) (x : X) → find p xs ≡ Some x → p x ≡ true
+find-passes p [] x h = absurd (cc h)
+find-passes {X} p (y ∷ ys) x h = by_test (p y) refl h (λ k. find-passes p ys x k) where
+  by_test : (b : Bool) → p y ≡ b → cond b (Some y) (find p ys) ≡ Some x → (find p ys ≡ Some x → p x ≡ true) → p x ≡ true
+  by_test true e k rec = subst (λ (z : X). p z ≡ true) (ap (λ o. unwrap_or o y) k) e
+  by_test false e k rec = rec k
+
+-- the first of the sequences that reach at the least length is the first of them all
+pub first_least : CanonicalMembers → FirstIsLeast
+unfolding solutions least_length
+first_least members turns reaches n slack = by_least (least_length turns reaches n) refl (least-within turns reaches n) where
+  has_length : (d : ℕ) (p : List Turn) (ps : List (List Turn)) → reaching turns reaches d ≡ p ∷ ps → length p ≡ d
+  has_length d p ps same =
+      let all = all_canonical turns d in
+      ((members turns d p).0 (All-head (Contains all) p ps (subst (All (Contains all)) same (All-filter reaches (Contains all) all (All-contains_itself all))))).0
+
+  of_level : (d : ℕ) (found others : List (List Turn)) → reaching turns reaches d ≡ found → nat_le 1 (length found) ≡ true
+      → Some d ≡ option_map (length {A = Turn}) (slice_get (found ++ others) 0)
+  of_level d [] others same some = absurd (cc some)
+  of_level d (p ∷ ps) others same some = ap Some (sym (has_length d p ps same))
+
+  by_least : (o : Option ℕ) → least_length turns reaches n ≡ o → ((d : ℕ) → o ≡ Some d → d ≤ n)
+      → o ≡ option_map (length {A = Turn}) (slice_get (flat_map (reaching turns reaches) (solution_lengths o n slack)) 0)
+  by_least None same within = refl
+  by_least (Some d) same within =
+      let count = min n (d + slack) - d in
+      let more : min n (d + slack) + 1 - d ≡ suc count = omega (arith, within d refl) in
+      let some : nat_le 1 (length (reaching turns reaches d)) ≡ true =
+      sym (list_any-filter reaches (all_canonical turns d)) ∙ find-passes (is_level turns reaches) (up_to n) d same in
+      of_level d (reaching turns reaches d) (flat_map (reaching turns reaches) (range_with_len (d + 1) count)) refl some
+      ∙ ap (λ k. option_map (length {A = Turn}) (slice_get (flat_map (reaching turns reaches) (range_with_len d k)) 0)) (sym more)
 
 -- one deepening, and one more
 module _ (step : Step) (x : List Coordinates) (d : ℕ) where

@@ -1,6 +1,6 @@
 -- Laws over counts and looks, and over positions.
-use Rattle.std.specs.Prelude.{◌≡◌, ℕ, ◌+◌, ◌*◌, ◌^◌, ◌≤◌, ◌<◌, min, Bool, IsTrue, None, unwrap_or}
-use Rattle.std.specs.Prelude.{List, [], ◌∷◌, filter, length, sum_by, Contains}
+use Rattle.std.specs.Prelude.{◌≡◌, ℕ, ◌+◌, ◌*◌, ◌^◌, ◌≤◌, ◌<◌, min, Bool, IsTrue, None, option_map, unwrap_or}
+use Rattle.std.specs.Prelude.{List, [], ◌∷◌, filter, length, slice_get, sum_by, Contains}
 use Rattle.std.specs.Option.{option_map_or}
 use Rattle.niss_moves.specs.Places.{Place, SameMap}
 use Rattle.niss_moves.specs.Effects.{turned}
@@ -42,6 +42,12 @@ pub record NoSlackIsLeast : Type 0 where
       (turns : List Turn) (reaches : List Turn → Bool) (far : List Turn → ℕ) (n : ℕ) →
       all_looks turns reaches far n 0
       ≡ sum_by (looks turns far) (up_to (unwrap_or (least_length turns reaches n) n))
+
+-- The least length is that of the first solution, and there is none where there is no solution.
+abbrev pub FirstIsLeast : Type 0
+FirstIsLeast =
+    (turns : List Turn) (reaches : List Turn → Bool) (n slack : ℕ) →
+    least_length turns reaches n ≡ option_map length (slice_get (solutions turns reaches n slack) 0)
 
 -- The bound of a step is at most that over the 18 turns.
 abbrev pub StepBoundIsLess : Type 0

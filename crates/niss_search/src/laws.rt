@@ -1,5 +1,5 @@
 //! Laws over the definitions, each as a contract.
-ghost use Rattle.niss_search.specs.Laws.{CountRecurrence, PartHasNoMore, LooksWithinBound, NoSlackIsLeast, StepBoundIsLess, BoundIsSmall};
+ghost use Rattle.niss_search.specs.Laws.{CountRecurrence, PartHasNoMore, LooksWithinBound, NoSlackIsLeast, FirstIsLeast, StepBoundIsLess, BoundIsSmall};
 ghost use Rattle.niss_search.specs.Laws.{EntriesAreCounted, EdgeFillIsSmall, FillIsSmall, DistanceIsLeast, PositionsFollowCubes};
 ghost use Rattle.niss_search.specs.Filling.{EntriesTurn};
 
@@ -7,6 +7,7 @@ use niss_cube::laws::{
     are_coordinates, domino_keeps_start, inverses_of_steps, start_is_kept, step_turns_in_order,
     steps_see_places, turned_is_cube,
 };
+use niss_moves::rewriting_laws::canonical_members;
 
 /// How many canonical sequences there are, how often a search looks, how many entries a pruning table has, and how many
 /// turns its fill tries; and that the distance of a position is the least over its goals.
@@ -30,6 +31,14 @@ pub fn counts_and_bounds()
 pub fn no_slack_is_least()
     ensures { NoSlackIsLeast }
 {}
+
+/// The least length is that of the first solution that a search hands out.
+#[tactic(auto, using(crate::proofs::DeepeningLemmas::first_least))]
+pub fn first_is_least()
+    ensures { FirstIsLeast }
+{
+    canonical_members();
+}
 
 /// What of a cube depends on its position alone.
 #[tactic(auto, using(crate::proofs::Transfer::positions_follow_cubes))]

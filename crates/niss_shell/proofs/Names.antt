@@ -29,6 +29,7 @@ pub use Rattle.niss_cube.specs.Steps.{steps, may_start, turns_of, name_of}
 pub use Rattle.niss_moves.specs.Effects.{effect_of_turns}
 pub use Rattle.niss_moves.specs.Faces.{faces}
 pub use Rattle.niss_moves.specs.Line.{Moves, joined_moves}
+pub use Rattle.niss_moves.specs.Places.{Place}
 pub use Rattle.niss_moves.specs.Reader.{Reader, IsFed, read_line}
 pub use Rattle.niss_moves.specs.WholeMoves.{HasNoLineFeed}
 pub use Rattle.niss_search.specs.Cubes.{near_looks_of, least_length_of, near_solutions_of}
@@ -46,16 +47,17 @@ pub use Rattle.niss_shell.specs.Lines.{line_feed}
 unfoldable pub use Rattle.niss_shell.specs.Lines.{ended_lines, last_part}
 pub use Rattle.niss_shell.specs.LinesLaws.{line_to_feed, IsCutInto, TextIsCut, OneCut}
 pub use Rattle.niss_shell.specs.MoreInput.{Begins, MoreInputKeepsAnswers}
+pub use Rattle.niss_shell.specs.Names.{Report}
 pub use Rattle.niss_shell.specs.Names.{Stop, DeviceFault, Step, CannotWrite, InputTooLong, LineCommand, Search, Solutions, CannotRead}
 pub use Rattle.niss_shell.specs.Names.{Turn, Output, UsageFault, Rewrite, LineFault, ReadFault, Usage, OutOfMemory, Query, NoStart, Lines}
 pub use Rattle.niss_shell.specs.Output.{LineAnswers, answer_at, unsearched, then_answer, home, Ending, More, End, answer_lines}
 pub use Rattle.niss_shell.specs.Output.{line_with_bytes, complete_lines, outcome_of, Answer, joined_answer, line_answers, solution_line}
 pub use Rattle.niss_shell.specs.Output.{where_it_starts, step_line, Fail, ending, last_line, answer_to, looks_at, line_answer, ending_of}
 pub use Rattle.niss_shell.specs.Output.{none_line, solve_text, count_text, outcome_at_end, most_line_looks, answer_request, out_of}
-pub use Rattle.niss_shell.specs.Output.{error_text, status_of, fault_answer, search_text}
+pub use Rattle.niss_shell.specs.Output.{error_text, status_of, fault_answer, search_text, start_cube}
 unfoldable pub use Rattle.niss_shell.specs.Output.{answers_from}
 pub use Rattle.niss_shell.specs.Run.{devices, Runs, Devices, Ends, ReportsError, Looked}
 pub use Rattle.niss_shell.specs.Scrambles.{scramble_text, scramble, scrambles, turns_line}
-pub use Rattle.niss_shell.specs.SolveLaw.{AcceptedLinesAreSolved}
+pub use Rattle.niss_shell.specs.SolveLaw.{AcceptedLinesAreSolved, SearchesBeginAtCubes, search_answer}
 pub use Rattle.niss_shell.specs.Words.{most_bytes, spaced_word, OnLines, ListSteps, DrawScrambles, request_of, joined, search_command}
 pub use Rattle.niss_shell.specs.Words.{number_of, step_named, Request, reads_source, has_step, takes_memory, request_named, requested}

@@ -34,6 +34,10 @@ text_more turns i g =
     ∙ flat_map-append turns_line (scrambles turns i g) (scramble turns g i ∷ [])
     ∙ ap (λ t. scramble_text turns i g ++ t) (append-nil (turns_line (scramble turns g i)))
 
+-- the line of the first one
+pub one_scramble : (turns : ℕ) (g : Lcg) → turns_line (draw None (next_words turns g)) ≡ turns_line (scramble turns g 0)
+one_scramble turns g = line_of_next turns 0 g (no_scramble turns g)
+
 -- the text begins with that of the first scrambles
 text_front : (turns i count : ℕ) (g : Lcg) → i ≤ count
     → scramble_text turns i g ++ flat_map turns_line (drop i (scrambles turns count g)) ≡ scramble_text turns count g

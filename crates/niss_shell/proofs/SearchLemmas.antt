@@ -2,7 +2,8 @@
 use Rattle.niss_shell.proofs.Names.{◌≡◌, ℕ, Bool, true, false, Result, Ok, Err, List, refl, sym, ap, ◌∙◌, subst, IsTrue, Step}
 use Rattle.niss_shell.proofs.Names.{LineCommand, Search, Query, NoStart, Stop, AnswerState, Answers, Writes, answer_at_moves, may_start}
 use Rattle.niss_shell.proofs.Names.{Moves, near_looks_of, fault_answer, where_it_starts, search_text, home, search_command, turns_of}
-use Rattle.niss_shell.proofs.Names.{LooksWithinBound, Solutions, answer_to, looks_at, AcceptedLinesAreSolved}
+use Rattle.niss_shell.proofs.Names.{LooksWithinBound, Solutions, answer_to, looks_at, AcceptedLinesAreSolved, SearchesBeginAtCubes, search_answer}
+use Rattle.niss_shell.proofs.Names.{start_cube, ReadFault, read_line, Place}
 
 -- a line on whose cube the step may start, or may not
 
@@ -35,6 +36,19 @@ module _ (command : LineCommand) (line given : Moves) (query : Query) (step : St
   pub not_started : (named : Step) (r : Result (Unit {0}) Stop) → may_start step (home given) ≡ false → named ≡ step
       → Answers (fault_answer n (NoStart named)) r old new → Answers (answer_at_moves command n line) r old new
   not_started named r e f h = answered r (rw starts_not (subst (λ s. Answers (fault_answer n (NoStart s)) r old new) f h))
+
+-- what a search answers, by the cube that it begins at
+pub begin_at_cubes : SearchesBeginAtCubes
+begin_at_cubes report step n slack bytes = by_line (read_line bytes) where
+  by_start : (b : Bool) (e : Place → Place)
+      → where_it_starts step b (search_text report step n slack e) ≡ search_answer report step n slack (where_it_starts step b e)
+  by_start true e = refl
+  by_start false e = refl
+
+  by_line : (line : Result Moves ReadFault)
+      → answer_to (search_command report step n slack) line ≡ search_answer report step n slack (start_cube step line)
+  by_line (Ok line) = by_start (may_start step (home line)) (home line)
+  by_line (Err fault) = refl
 
 -- what `solve` promises of one line
 pub accepted_lines : LooksWithinBound → AcceptedLinesAreSolved

@@ -1,5 +1,5 @@
 -- What a run is to write and to answer.
-use Rattle.std.specs.Prelude.{ℕ, zero, suc, ◌+◌, nat_lt, Bool, true, false, if◌then◌else◌, codes, decimal}
+use Rattle.std.specs.Prelude.{◌≡◌, ℕ, zero, suc, ◌+◌, nat_lt, Bool, true, false, if◌then◌else◌, codes, decimal}
 use Rattle.std.specs.Prelude.{Option, Some, None, Result, Ok, Err, List, [], ◌∷◌, ◌++◌, map, flat_map, take, length, unwrap_or}
 use Rattle.niss_shell.specs.Device.{SourceState}
 use Rattle.niss_shell.specs.Lines.{line_feed, space, ended_lines, last_part}
@@ -16,6 +16,7 @@ use Rattle.niss_moves.specs.Reader.{read_line}
 use Rattle.niss_moves.specs.Text.{word, with_words}
 use Rattle.niss_search.specs.Cubes.{least_length_of, near_solutions_of, near_looks_of}
 use Rattle.niss_search.specs.Solutions.{look_bound}
+use Rattle.niss_search.specs.declared.outcome.Outcome.{Outcome}
 use Rattle.niss_shell.specs.Scrambles.{generator_of, scramble_text}
 use Rattle.niss_shell.specs.Words.{most_bytes, Request, OnLines, ListSteps, DrawScrambles, request_of, joined}
 use Rattle.niss_shell.specs.Names.{UsageFault, LineCommand, Rewrite, Search, Report, Solutions, Counts, Rewriting}
@@ -111,10 +112,15 @@ search_text Counts step n slack e =
     count_text (least_length_of step e n) (length (near_solutions_of step e n slack))
     (near_looks_of step e n slack)
 
--- what a search writes where the step may start on the cube, and else the fault
-abbrev pub where_it_starts : Step → Bool → List ℕ → Result (List ℕ) LineFault
-where_it_starts step true text = Ok text
-where_it_starts step false text = Err (NoStart step)
+-- A search from a cube found this: the least length of a solution, and how many there are.
+pub record Finds (step : Step) (n slack : ℕ) (e : Place → Place) (outcome : Outcome) : Type 0 where
+  pub length_is : outcome.length ≡ least_length_of step e n
+  pub solutions_are : outcome.solutions ≡ length (near_solutions_of step e n slack)
+
+-- this where the step may start on the cube, and else the fault
+abbrev pub where_it_starts : {X : Type 0} → Step → Bool → X → Result X LineFault
+where_it_starts step true x = Ok x
+where_it_starts step false x = Err (NoStart step)
 
 -- what a command writes for the moves of a line, or why it can't
 abbrev pub answer_to_moves : LineCommand → Moves → Result (List ℕ) LineFault
@@ -131,6 +137,11 @@ answer_to command (Err fault) = Err (Unread fault)
 -- what a command answers to the bytes of a line: what it writes, or the fault of the line
 abbrev pub answer : LineCommand → List ℕ → Result (List ℕ) LineFault
 answer command line = answer_to command (read_line line)
+
+-- the cube that a search for a step begins at where a line was read so: that of the line, or the fault of the line
+abbrev pub start_cube : Step → Result Moves ReadFault → Result (Place → Place) LineFault
+start_cube step (Ok line) = where_it_starts step (may_start step (home line)) (home line)
+start_cube step (Err fault) = Err (Unread fault)
 
 -- the looks of a command at the moves of a line
 abbrev pub looks_at_moves : LineCommand → Moves → ℕ

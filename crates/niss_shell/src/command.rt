@@ -144,12 +144,12 @@ impl<'a, B: Allocator> Command<'a, B> {
     }
 }
 
-/// The step that the word names.
+/// The step of this name.
 #[tactic(auto, using(crate::proofs::WordsLemmas::step_unknown))]
-fn step_of(word: &str) -> Option<Step>
-    ensures { result ≡ step_named word.now }
+pub fn step_named(name: &[u8]) -> Option<Step>
+    ensures { result ≡ step_named name.now }
 {
-    Step::from_name(word.as_bytes())
+    Step::from_name(name)
 }
 
 /// The command that searches each line for a report, by its step, its limit and the words that are the input.
@@ -166,7 +166,7 @@ fn parse_search<B: Allocator>(
     let [step, most, rest @ ..] = words else {
         return Err(UsageFault::WrongCount);
     };
-    let step = step_of(step.as_str()).ok_or(UsageFault::UnknownStep)?;
+    let step = step_named(step.as_bytes()).ok_or(UsageFault::UnknownStep)?;
     let limit = limit_of(most.as_str()).ok_or(UsageFault::BadNumber)?;
     match report {
         Report::Solutions => Ok(Command::Solve(step, limit, rest)),
@@ -185,7 +185,7 @@ fn parse_near<B: Allocator>(words: &[String<B>]) -> Result<Command<'_, B>, Usage
     let [name, most, slack, rest @ ..] = words else {
         return Err(UsageFault::WrongCount);
     };
-    let step = step_of(name.as_str()).ok_or(UsageFault::UnknownStep)?;
+    let step = step_named(name.as_bytes()).ok_or(UsageFault::UnknownStep)?;
     let limit = limit_of(most.as_str()).ok_or(UsageFault::BadNumber)?;
     let slack = limit_of(slack.as_str()).ok_or(UsageFault::BadNumber)?;
     Ok(Command::Near(step, limit, slack, rest))

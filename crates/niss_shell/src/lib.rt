@@ -21,6 +21,7 @@
 
 mod answer;
 mod command;
+mod counting;
 mod device;
 mod job;
 mod laws;
@@ -38,10 +39,17 @@ mod text;
 mod writing;
 
 pub use answer::rewrite;
-pub use command::{Command, Rewriting, UsageFault, parse_words};
+pub use command::{Command, Rewriting, UsageFault, parse_words, step_named};
+pub use counting::count_solutions;
 pub use device::{DeviceFault, Source, Target};
-pub use laws::{accepted_lines_are_solved, lines_are_cut, more_input_keeps_answers};
+pub use laws::{
+    accepted_lines_are_solved, lines_are_cut, more_input_keeps_answers, searches_begin_at_cubes,
+};
+pub use line_cube::start_position;
 pub use niss_cube::Step;
 pub use niss_search::{Limit, Meter};
-pub use shell::{run, run_in};
+pub use output::solution_text;
+pub use scrambles::put_scramble;
+pub use shell::{put_steps, run, run_in};
+pub use stop::LineFault;
 pub use streams::{FromReader, ToWriter};

@@ -85,7 +85,7 @@ impl<'a, W: Target> Output<'a, W> {
 }
 
 /// A solution on a line.
-fn solution_text(path: &TurnPath) -> LineText
+pub fn solution_text(path: &TurnPath) -> LineText
     ensures { result.items ≡ solution_line path.now.turns }
 {
     let mut text = LineText::new();

@@ -5,7 +5,7 @@ ghost use Rattle.niss_shell.specs.Device.{has_fault};
 ghost use Rattle.niss_shell.specs.Engine.{Answers, output_state};
 ghost use Rattle.niss_shell.specs.Lines.{line_feed};
 ghost use Rattle.niss_shell.specs.Output.{unsearched};
-ghost use Rattle.niss_shell.specs.Scrambles.{turns_line, scramble_text};
+ghost use Rattle.niss_shell.specs.Scrambles.{turns_line, scramble, scramble_text, generator_of};
 
 use crate::device::Target;
 use crate::output::Output;
@@ -43,6 +43,15 @@ fn draw_line(rng: &mut Lcg64Xsh32, turns: usize, line: &mut LineText)
         last = Some(turn);
     }
     set_line(&spaced[..len], line);
+}
+
+/// Sets the text to the first scramble of `turns` turns by the generator of a state and a stream, on a line.
+#[tactic(auto, using(crate::proofs::ScrambleLemmas::one_scramble))]
+pub fn put_scramble(state: u64, stream: u64, turns: usize, line: &mut LineText)
+    requires { turns ≤ 256 }
+    ensures { line.new.items ≡ turns_line (scramble turns (generator_of state stream) 0) }
+{
+    draw_line(&mut Lcg64Xsh32::new(state, stream), turns, line);
 }
 
 /// Writes `count` scrambles of `turns` turns, each on a line, all by one generator.

@@ -6,13 +6,13 @@ ghost use Rattle.niss_search.specs.Cubes.{IsPosition, HasPosition};
 ghost use Rattle.niss_search.specs.Solutions.{look_bound};
 
 use crate::command::{Query, Report};
+use crate::counting::count_solutions;
 use crate::device::{DeviceFault, Target};
 use crate::output::Output;
 use crate::search_text::{put_count, put_end};
 use niss_moves::LineText;
-use niss_search::{Meter, Position, Sink, Tables, TurnPath, search};
+use niss_search::{Meter, Position, Tables, TurnPath, search};
 use std::alloc::Allocator;
-use std::convert::Infallible;
 
 /// A search, with the tables of its step.
 #[derive(Drop)]
@@ -20,22 +20,6 @@ pub struct Search<A: Allocator> {
     pub query: Query,
     pub tables: Tables<A>,
     ghost of_step: { tables ≡ query.step },
-}
-
-/// Lets each solution go.
-#[derive(Drop)]
-struct Uncollected;
-
-impl Sink for Uncollected {
-    type Fault = Infallible;
-
-    ghost took = { λ old path new. Unit {0} };
-
-    ghost refused = { λ old path new. ⊥ };
-
-    fn take(&mut self, _path: &TurnPath) -> Result<(), Infallible> {
-        Ok(())
-    }
 }
 
 impl<A: Allocator> Search<A> {
@@ -57,21 +41,17 @@ impl<A: Allocator> Search<A> {
         ensures bound { looks.new ≤ looks.old + look_bound (turns_of self.now.tables) self.now.query.limit }
     {
         let Query { limit, slack, .. } = self.query;
-        let mut path = TurnPath::new(limit);
         let mut text = LineText::new();
         match self.query.report {
             Report::Solutions => {
+                let mut path = TurnPath::new(limit);
                 let outcome = search(&self.tables, position, slack, &mut path, looks, output)?;
                 put_end(outcome.solutions, limit, &mut text);
                 output.put(&text)
             }
             Report::Counts => {
                 let before = looks.count();
-                let sink = &mut Uncollected;
-                let outcome = match search(&self.tables, position, slack, &mut path, looks, sink) {
-                    Ok(outcome) => outcome,
-                    Err(never) => match never {},
-                };
+                let outcome = count_solutions(&self.tables, position, limit, slack, looks);
                 put_count(outcome, looks.count() - before, &mut text);
                 output.put(&text)
             }

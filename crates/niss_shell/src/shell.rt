@@ -1,5 +1,5 @@
 //! A run, from the words of a command line to the exit status.
-ghost use Rattle.std.specs.Prelude.{◌≡◌, ◌≤◌, ◌^◌, false, [], ℕ, Ok, map, flat_map, string_bytes};
+ghost use Rattle.std.specs.Prelude.{◌≡◌, ◌≤◌, ◌^◌, false, [], ℕ, Ok, length, map, flat_map, string_bytes};
 ghost use Rattle.niss_shell.specs.Device.{has_fault};
 ghost use Rattle.niss_shell.specs.Words.{request_of};
 ghost use Rattle.niss_shell.specs.Output.{error_text, status_of, step_line, unsearched};
@@ -22,6 +22,17 @@ use niss_search::laws::counts_and_bounds;
 use rand_pcg::Lcg64Xsh32;
 use std::alloc::{Allocator, Global};
 
+/// Writes the names of the steps into the empty text, each on a line.
+pub fn put_steps(text: &mut LineText)
+    requires { length text.old.items ≡ 0 }
+    ensures { text.new.items ≡ flat_map step_line steps }
+{
+    for step in Step::all() {
+        put_text(step.name().as_bytes(), text);
+        text.push(b'\n');
+    }
+}
+
 /// Writes the names of the steps, each on a line.
 fn write_steps<W: Target>(output: &mut Output<W>) -> Result<(), Stop>
     requires works { has_fault (W.state output.old.target.now) ≡ false }
@@ -31,10 +42,7 @@ fn write_steps<W: Target>(output: &mut Output<W>) -> Result<(), Stop>
     ensures empty { output.new.pending.items ≡ [] }
 {
     let mut text = LineText::new();
-    for step in Step::all() {
-        put_text(step.name().as_bytes(), &mut text);
-        text.push(b'\n');
-    }
+    put_steps(&mut text);
     Ok(output.write(&text)?)
 }
 

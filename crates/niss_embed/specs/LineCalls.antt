@@ -1,16 +1,23 @@
--- What a call on one line answers, and what it leaves in the caller's buffer.
-use Rattle.std.specs.Prelude.{ℕ, ◌≡◌, nat_le, nat_lt, if◌then◌else◌, Result, Ok, Err, List, ◌++◌, drop, length}
+-- What a call that writes a short text returns, and what it leaves in the caller's buffer.
+use Rattle.std.specs.Prelude.{ℕ, zero, suc, ◌≡◌, nat_le, nat_lt, if◌then◌else◌, codes, Option, None, Some, Result, Ok, Err}
+use Rattle.std.specs.Prelude.{List, [], ◌∷◌, ◌++◌, drop, length, flat_map, slice_get}
 use Rattle.niss_moves.specs.declared.fault.ReadFault.{ReadFault}
 use Rattle.niss_moves.specs.declared.fault.ReadFault.TheVariants as fault
 use Rattle.niss_moves.specs.FaultText.{fault_column}
 use Rattle.niss_moves.specs.Line.{Moves}
 use Rattle.niss_moves.specs.Reader.{read_line}
 use Rattle.niss_shell.specs.declared.command.Rewriting.{Rewriting}
-use Rattle.niss_shell.specs.Words.{most_bytes}
-use Rattle.niss_shell.specs.Output.{line_text}
-use Rattle.niss_c.specs.declared.line_answer.LineAnswer.{LineAnswer}
+use Rattle.niss_moves.specs.FaultText.{fault_text}
+use Rattle.niss_moves.specs.Text.{with_words}
+use Rattle.niss_moves.specs.CleanText.{turn_words}
+use Rattle.niss_cube.specs.Steps.{steps}
+use Rattle.niss_shell.specs.Names.{Step}
+use Rattle.niss_shell.specs.Words.{most_bytes, most_turns, step_named}
+use Rattle.niss_shell.specs.Output.{line_text, step_line, start_text}
+use Rattle.niss_shell.specs.Scrambles.{generator_of, scramble}
+use Rattle.niss_embed.specs.declared.line_answer.LineAnswer.{LineAnswer}
 
--- how a call on a line can end
+-- how a call that writes a short text can end
 pub data Outcome : Type 0 where
   -- its text is written
   Written : List ℕ → Outcome
@@ -20,6 +27,8 @@ pub data Outcome : Type 0 where
   Unread : ReadFault → Outcome
   -- it has too many bytes
   TooLong : Outcome
+  -- what it asks for isn't there: a number out of range, or no step of a name
+  Misused : Outcome
 
 abbrev pub fault_number : ReadFault → ℕ
 fault_number (fault.NotAMove column) = 1
@@ -35,6 +44,7 @@ answer_for (ShortOfRoom text) = record { status = 4; fault = 0; column = 0; leng
 answer_for (Unread fault) =
     record { status = 1; fault = fault_number fault; column = fault_column fault; length = 0 }
 answer_for TooLong = record { status = 3; fault = 0; column = 0; length = 0 }
+answer_for Misused = record { status = 2; fault = 0; column = 0; length = 0 }
 
 -- the buffer afterwards: the text and what stood behind it, or what it was
 abbrev pub buffer_after : Outcome → List ℕ → List ℕ
@@ -42,6 +52,7 @@ buffer_after (Written text) out = text ++ drop (length text) out
 buffer_after (ShortOfRoom text) out = out
 buffer_after (Unread fault) out = out
 buffer_after TooLong out = out
+buffer_after Misused out = out
 
 -- What a call that ends so answers, and what it does to the buffer.
 pub record Does (outcome : Outcome) (out out_now : List ℕ) (answer : LineAnswer) : Type 0 where
@@ -65,3 +76,38 @@ outcome_of rewriting room line =
 abbrev pub Rewrites : Rewriting → (line out out_now : List ℕ) → LineAnswer → Type 0
 Rewrites rewriting line out out_now answer =
     Does (outcome_of rewriting (length out) line) out out_now answer
+
+-- how a call ends that writes the first scramble of so many turns by the generator of a state and a stream
+abbrev pub outcome_of_scramble : (room state stream turns : ℕ) → Outcome
+outcome_of_scramble room state stream turns =
+    if nat_le turns most_turns
+    then outcome_of_text room (with_words [] (turn_words (scramble turns (generator_of state stream) 0)))
+    else Misused
+
+-- how a call ends that writes the names of the steps
+abbrev pub outcome_of_steps : ℕ → Outcome
+outcome_of_steps room = outcome_of_text room (flat_map step_line steps)
+
+-- how a call ends that writes which step must hold before this one, or before that of a name
+abbrev pub outcome_of_start_of : ℕ → Option Step → Outcome
+outcome_of_start_of room None = Misused
+outcome_of_start_of room (Some step) = outcome_of_text room (start_text step)
+
+abbrev pub outcome_of_start : ℕ → List ℕ → Outcome
+outcome_of_start room name = outcome_of_start_of room (step_named name)
+
+-- what the faults are called, from number 1 on
+abbrev pub fault_texts : List (List ℕ)
+fault_texts =
+    fault_text (fault.NotAMove 0) ∷ fault_text (fault.Nested 0) ∷ fault_text (fault.Unopened 0)
+    ∷ fault_text (fault.Unclosed 0) ∷ fault_text (fault.TooLong 0) ∷ codes "does not hold" ∷ []
+
+-- what the fault of a number is called
+abbrev pub fault_text_of : ℕ → Option (List ℕ)
+fault_text_of zero = None
+fault_text_of (suc n) = slice_get fault_texts n
+
+-- how a call ends that writes a text which may not be there
+abbrev pub outcome_of_some : ℕ → Option (List ℕ) → Outcome
+outcome_of_some room None = Misused
+outcome_of_some room (Some text) = outcome_of_text room text

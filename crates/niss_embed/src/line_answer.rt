@@ -1,15 +1,16 @@
-//! What a call on one line answers, and how its text comes into the caller's buffer.
+//! What a call that writes a short text returns, and how the text comes into the caller's buffer.
 ghost use Rattle.std.specs.Prelude.{◌≡◌, ◌≤◌, length};
 ghost use Rattle.niss_moves.specs.FaultText.{fault_column};
-ghost use Rattle.niss_c.specs.LineCalls.{Does, Unread, TooLong, answer_for, fault_number, outcome_of_text};
+ghost use Rattle.niss_embed.specs.LineCalls.{Does, Unread, TooLong, Misused, answer_for, fault_number, outcome_of_text};
 
 use niss_moves::ReadFault;
 
-/// What a call on one line answers: a status, and with it the fault of the line or the length of its text.
+/// What a call that writes a short text returns: a status, and with it the fault of the line or the length of the text.
 #[repr(C)]
 #[derive(Clone, Copy)]
 pub struct LineAnswer {
-    /// 0: the text was written. 1: the line has a fault. 3: it has more than 16,777,216 bytes. 4: the buffer is too small.
+    /// 0: the text was written. 1: the line has a fault. 2: what is asked for isn't there. 3: the line has more than 16,777,216
+    /// bytes. 4: the buffer is too small.
     pub status: u16,
     /// What is wrong with the line, 1 to 5 in the order of `ReadFault`; 0 where nothing is.
     pub fault: u16,
@@ -20,7 +21,7 @@ pub struct LineAnswer {
 }
 
 /// The number of a fault.
-fn number_of(fault: ReadFault) -> u16
+pub(crate) fn fault_number(fault: ReadFault) -> u8
     ensures { result ≡ fault_number fault }
 {
     match fault {
@@ -39,7 +40,7 @@ impl LineAnswer {
     {
         LineAnswer {
             status: 1,
-            fault: number_of(fault),
+            fault: fault_number(fault) as u16,
             column: fault.column(),
             length: 0,
         }
@@ -51,6 +52,18 @@ impl LineAnswer {
     {
         LineAnswer {
             status: 3,
+            fault: 0,
+            column: 0,
+            length: 0,
+        }
+    }
+
+    /// The answer to a call that asks for what isn't there.
+    pub fn misused() -> LineAnswer
+        ensures { result ≡ answer_for Misused }
+    {
+        LineAnswer {
+            status: 2,
             fault: 0,
             column: 0,
             length: 0,

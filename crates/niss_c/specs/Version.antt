@@ -1,0 +1,5 @@
+-- The version of the library as one number.
+use Rattle.std.specs.Prelude.{ℕ}
+
+abbrev pub version : ℕ
+version = 10200

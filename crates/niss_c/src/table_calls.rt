@@ -1,0 +1,55 @@
+//! The calls by the tables of a step, which are built once, stay, and are asked many times, by any threads at once.
+ghost use Rattle.niss_embed.specs.Memory.{memory};
+ghost use Rattle.niss_embed.specs.LineSearch.{SolvesWith, CountsWith};
+ghost use Rattle.niss_c.specs.TableCalls.{Builds};
+
+use niss_cube::Step;
+use niss_embed::{CountAnswer, SolveAnswer, count_line, solve_line};
+use niss_kept::Held;
+use std::alloc::Global;
+
+/// Builds the tables of the step of this name, which stay. 0: there are tables of this step. 2: no step has this name. 3: memory
+/// was refused. After 2 and 3 there are no tables, so that a caller who ignores it never asks those of another step.
+#[unsafe(no_mangle)]
+pub extern "C" fn nissy_build(alloc: Global, tables: &mut Held, name: &[u8]) -> u8
+    ensures { Builds name.now tables.new.built tables.new.kept.step result }
+{
+    let Some(step) = Step::from_name(name) else {
+        *tables = Held::none();
+        return 2;
+    };
+    match tables.build(alloc, step) {
+        Ok(()) => 0,
+        Err(_) => 3,
+    }
+}
+
+/// Writes the solutions for a line by the tables, as `solve_line` of `niss_embed`.
+#[unsafe(no_mangle)]
+pub extern "C" fn nissy_solve(
+    tables: &Held,
+    line: &[u8],
+    limit: u8,
+    slack: u8,
+    most: u64,
+    out: &mut [u8],
+) -> SolveAnswer
+    ensures { SolvesWith tables.now.built tables.now.kept.step limit slack most line.now
+        (memory out.old out.new) result }
+{
+    match tables.tables() {
+        Some(tables) => solve_line(tables, line, limit, slack, most, out),
+        None => SolveAnswer::misused(),
+    }
+}
+
+/// Counts the solutions for a line by the tables, as `count_line` of `niss_embed`.
+#[unsafe(no_mangle)]
+pub extern "C" fn nissy_count(tables: &Held, line: &[u8], limit: u8, slack: u8) -> CountAnswer
+    ensures { CountsWith tables.now.built tables.now.kept.step limit slack line.now result }
+{
+    match tables.tables() {
+        Some(tables) => count_line(tables, line, limit, slack),
+        None => CountAnswer::misused(),
+    }
+}

@@ -1,0 +1,107 @@
+//! Short texts for a caller's buffer: what is written of one line without a search, a scramble, and what things are called.
+ghost use Rattle.std.specs.Prelude.{◌≡◌, ◌≢◌, ◌≤◌, length};
+ghost use Rattle.std.specs.Option.{option_copied};
+ghost use Rattle.niss_shell.specs.Output.{line_text};
+ghost use Rattle.niss_embed.specs.LineCalls.{Does, Rewrites, outcome_of_text, outcome_of_scramble};
+ghost use Rattle.niss_embed.specs.LineCalls.{outcome_of_steps, outcome_of_start, outcome_of_some, fault_text_of};
+
+use crate::line_answer::LineAnswer;
+use crate::line_reading::feed_line;
+use niss_moves::{LineReader, LineText, Niss, ReadFault};
+use niss_shell::{Rewriting, put_scramble, put_steps, rewrite, step_named};
+
+/// The most bytes of a line.
+pub(crate) const MOST_BYTES: usize = 16_777_216;
+
+/// The most turns of a scramble.
+const MOST_TURNS: u32 = 256;
+
+/// Writes the text of a line's moves, without the line feed.
+fn put_rewritten(rewriting: Rewriting, line: &Niss, out: &mut [u8]) -> LineAnswer
+    ensures does { Does (outcome_of_text (length out.old) (line_text rewriting line.now)) out.old out.new result }
+    ensures room { 2048 ≤ length out.old → result.status ≢ 4 }
+{
+    let mut text = LineText::new();
+    rewrite(rewriting, line, &mut text);
+    text.pop();
+    LineAnswer::put(text.as_slice(), out)
+}
+
+/// Writes what the program writes of a line's moves, without the line feed.
+pub fn rewrite_line(rewriting: Rewriting, line: &[u8], out: &mut [u8]) -> LineAnswer
+    ensures does { Rewrites rewriting line.now out.old out.new result }
+    ensures room { 2048 ≤ length out.old → result.status ≢ 4 }
+{
+    if line.len() > MOST_BYTES {
+        return LineAnswer::too_long();
+    }
+    let mut reader = LineReader::new();
+    feed_line(&mut reader, line);
+    match reader.end() {
+        Ok(()) => put_rewritten(rewriting, reader.moves(), out),
+        Err(fault) => LineAnswer::unread(fault),
+    }
+}
+
+/// Writes the first scramble of so many turns, at most 256, by the generator of a state and a stream, without the line feed.
+pub fn scramble(state: u64, stream: u64, turns: u32, out: &mut [u8]) -> LineAnswer
+    ensures does { Does (outcome_of_scramble (length out.old) state stream turns) out.old out.new result }
+    ensures room { 2048 ≤ length out.old → result.status ≢ 4 }
+{
+    if turns > MOST_TURNS {
+        return LineAnswer::misused();
+    }
+    let mut line = LineText::new();
+    put_scramble(state, stream, turns as usize, &mut line);
+    line.pop();
+    LineAnswer::put(line.as_slice(), out)
+}
+
+/// Writes the names of the steps, each with its line feed.
+pub fn step_names(out: &mut [u8]) -> LineAnswer
+    ensures does { Does (outcome_of_steps (length out.old)) out.old out.new result }
+    ensures room { 2048 ≤ length out.old → result.status ≢ 4 }
+{
+    let mut text = LineText::new();
+    put_steps(&mut text);
+    LineAnswer::put(text.as_slice(), out)
+}
+
+/// Writes the name of the step that must hold before the step of this name, and nothing if none must.
+pub fn start_name(name: &[u8], out: &mut [u8]) -> LineAnswer
+    ensures { Does (outcome_of_start (length out.old) name.now) out.old out.new result }
+{
+    let Some(step) = step_named(name) else {
+        return LineAnswer::misused();
+    };
+    match step.start_name() {
+        Some(start) => LineAnswer::put(start.as_bytes(), out),
+        None => LineAnswer::put(&[], out),
+    }
+}
+
+/// What the fault of a number is called: those of reading moves by the numbers of `LineAnswer`, and 6, a step whose start
+/// doesn't hold.
+fn text_of_fault(number: u8) -> Option<&'static str>
+    ensures { option_copied result ≡ fault_text_of number }
+{
+    match number {
+        1 => Some(ReadFault::NotAMove { column: 0 }.text()),
+        2 => Some(ReadFault::Nested { column: 0 }.text()),
+        3 => Some(ReadFault::Unopened { column: 0 }.text()),
+        4 => Some(ReadFault::Unclosed { column: 0 }.text()),
+        5 => Some(ReadFault::TooLong { column: 0 }.text()),
+        6 => Some("does not hold"),
+        _ => None,
+    }
+}
+
+/// Writes what the fault of a number is called.
+pub fn fault_text(number: u8, out: &mut [u8]) -> LineAnswer
+    ensures { Does (outcome_of_some (length out.old) (fault_text_of number)) out.old out.new result }
+{
+    match text_of_fault(number) {
+        Some(text) => LineAnswer::put(text.as_bytes(), out),
+        None => LineAnswer::misused(),
+    }
+}

@@ -1,0 +1,10 @@
+use Rattle.niss_shell.proofs.Names.{◌≡◌, take, length, ap, ◌∙◌, arith, flat_map, take_all, steps, Step, step_line, nil_from_length}
+use Rattle.niss_shell.proofs.shell.put_steps.Goals as goal
+
+pub loop-step-init : goal.loop-step-init
+loop-step-init c = record { names = nil_from_length _ c.requires; room = omega (arith, c.requires); items = c.all-step-items.ensures }
+
+pub returns : goal.returns
+returns c =
+    let all : take c.loop-step.step-index steps ≡ steps = take_all c.loop-step.step-index steps (omega (arith, c.loop-step-test.false, ap (length {A = Step}) c.all-step-items.ensures)) in
+    c.loop-step.invariant.names ∙ ap (flat_map step_line) all
