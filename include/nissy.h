@@ -1,11 +1,12 @@
 /* nissy for other programs: moves and searches of the 3x3x3 cube, by bytes in memory.
  *
- * Memory. The caller owns every buffer: no call keeps a pointer after it returned, and none hands memory out. A pointer comes with the
- * bytes that it may reach; it is not null, not even where these are 0, and so many bytes (below 2^63) are there. No alignment is
- * asked for. Buffers that are written (`out`, `err`) overlap no other buffer of the call; those that are read may overlap each other.
- * No text ends with a zero byte. Bytes may be anything: none makes a call crash, or reach beyond a buffer.
+ * Memory. The caller owns every buffer: no call keeps a pointer to one after it returned. A pointer comes with the bytes that it may
+ * reach: so many bytes (below 2^63) are there, and if these are 0, it may be null. No alignment is asked for. Buffers that are written
+ * (`out`, `err`) overlap no other buffer of the call; those that are read may overlap each other. No text ends with a zero byte. Bytes
+ * may be anything: none makes a call crash, or reach beyond a buffer.
  *
- * Threads. There is no state between calls. Any threads may call at the same time, with written buffers of their own.
+ * Threads. The one state between calls is that of the tables which a caller has built (nissy_tables below). Any threads may call at the
+ * same time, with written buffers of their own.
  *
  * Link with -lnissy (pkg-config: nissy). EMBEDDING.md (docs/, or share/doc/nissy/) has examples. */
 #ifndef NISSY_H
@@ -25,20 +26,22 @@ extern "C" {
 /* How a call ended. The first four are the exit statuses of the program. */
 enum nissy_status {
     NISSY_DONE = 0,    /* all is written */
-    NISSY_FAULT = 1,   /* a line has a fault */
-    NISSY_USAGE = 2,   /* nissy_run alone: the words are no command */
-    NISSY_STOPPED = 3, /* the input has more than NISSY_MOST_INPUT bytes; nissy_run also: the room was too small, or memory was refused */
-    NISSY_ROOM = 4     /* the calls on one line alone: the room is too small */
+    NISSY_FAULT = 1,   /* a line has a fault, or a step may not start on its cube */
+    NISSY_USAGE = 2,   /* the words are no command; there is no such step or number; no tables were built */
+    NISSY_STOPPED = 3, /* a line or an input has more than NISSY_MOST_INPUT bytes, or memory was refused; nissy_run also: the room was too
+                          small */
+    NISSY_ROOM = 4     /* all calls but nissy_run: the room is too small */
 };
 
-/* What is wrong with a line of moves. */
+/* What is wrong with a line. */
 enum nissy_fault {
     NISSY_NO_FAULT = 0,
     NISSY_NOT_A_MOVE = 1, /* a byte that can't go on there; also a line feed */
     NISSY_NESTED = 2,     /* a bracket inside a bracket */
     NISSY_UNOPENED = 3,   /* a bracket closed that was not opened */
     NISSY_UNCLOSED = 4,   /* a bracket not closed; the column is that of the bracket */
-    NISSY_TOO_LONG = 5    /* more than 256 moves; the column is that of the 257th */
+    NISSY_TOO_LONG = 5,   /* more than 256 moves; the column is that of the 257th */
+    NISSY_START = 6       /* nissy_solve and nissy_count alone: the step may not start on the cube of the line; there is no column */
 };
 
 /* The most bytes of a line or of an input. */
@@ -86,6 +89,72 @@ typedef struct nissy_run_answer {
  * isn't to be called from a signal handler, or in a forked child of a process with threads. It needs 64 KiB of stack. */
 nissy_run_answer nissy_run(const uint8_t *words, size_t words_length, const uint8_t *input, size_t input_length, uint8_t *out,
                            size_t out_room, uint8_t *err, size_t err_room);
+
+/* The tables of a step, or none. Its fields are the library's. Begin with NISSY_NO_TABLES, let nissy_build alone write to it, and copy it
+ * as you like: a copy has the same tables. Any threads may ask it and its copies (nissy_solve, nissy_count) at the same time. None may
+ * ask a struct, copy it or build into it while nissy_build runs on it.
+ *
+ * Tables stay for as long as the process runs: there is no release, and so no use after one. So build those of a step once, and keep
+ * them: each nissy_build into a struct without them takes their memory anew, 0.2 million bytes for an edge orientation, 1.3 million for a
+ * domino reduction, and as much for each axis of a step that has several (all thirteen steps together: some 15 million). */
+typedef struct nissy_tables {
+    void *tables;
+    bool built;
+} nissy_tables;
+
+#define NISSY_NO_TABLES {NULL, false}
+
+/* Builds the tables of the step of this name, such as "dr-eofb" (7 bytes; nissy_steps writes all names). It takes memory from the
+ * program's malloc, as nissy_run does, and 64 KiB of stack.
+ *
+ * NISSY_DONE: the struct has them. If it had those of this step before, the call returns at once. NISSY_USAGE: no step has this name, and
+ * the struct has no tables. NISSY_STOPPED: memory was refused, what was taken is given back, and the struct has no tables. */
+uint8_t nissy_build(nissy_tables *tables, const uint8_t *step, size_t step_length);
+
+/* What nissy_solve answers. */
+typedef struct nissy_solve_answer {
+    uint8_t status;      /* NISSY_DONE, NISSY_FAULT, NISSY_USAGE, NISSY_STOPPED or NISSY_ROOM */
+    uint8_t fault;       /* one of nissy_fault */
+    uint8_t least;       /* the turns of the shortest solution; 0 too if there is none, and `solutions` is 0 */
+    bool more;           /* `most` or the room stopped the search: there may be solutions that aren't written */
+    uint32_t column;     /* the place of the fault in bytes, from 1; 0 where there is none */
+    size_t out_length;   /* how many bytes of `out` are written: whole solutions */
+    uint64_t solutions;  /* how many solutions are written */
+    uint64_t looks;      /* at how many positions the search looked, 2^64 - 1 for all numbers above */
+} nissy_solve_answer;
+
+/* Writes the solutions of a line's cube by the step of the tables: those of at most `limit` turns that are at most `slack` turns longer
+ * than the shortest (0: the shortest alone), by length and then in turn order, but no more than `most` of them. Each is a line as the
+ * program's `near` writes it, "F B' (2)" and a line feed, 65 bytes or fewer. If there are none, nothing is written. It takes no memory. */
+nissy_solve_answer nissy_solve(const nissy_tables *tables, const uint8_t *line, size_t line_length, uint8_t limit, uint8_t slack,
+                               uint64_t most, uint8_t *out, size_t out_room);
+
+/* What nissy_count answers. */
+typedef struct nissy_count_answer {
+    uint8_t status;     /* NISSY_DONE, NISSY_FAULT, NISSY_USAGE or NISSY_STOPPED */
+    uint8_t fault;      /* one of nissy_fault */
+    uint8_t least;      /* the turns of the shortest solution; 0 too if there is none, and `solutions` is 0 */
+    uint32_t column;    /* the place of the fault in bytes, from 1; 0 where there is none */
+    uint64_t solutions; /* how many solutions there are, 2^64 - 1 for all numbers above */
+    uint64_t looks;     /* at how many positions the search looked, 2^64 - 1 for all numbers above */
+} nissy_count_answer;
+
+/* Counts what nissy_solve writes if it is stopped by nothing. With the slack 0 these are the numbers of the program's `count`. */
+nissy_count_answer nissy_count(const nissy_tables *tables, const uint8_t *line, size_t line_length, uint8_t limit, uint8_t slack);
+
+/* The calls below write to `out` as those on one line do, and take no memory. */
+
+/* the first scramble of this length, at most 256 turns, of the generator that begins with this state and stream */
+nissy_line_answer nissy_scramble(uint64_t state, uint64_t stream, uint32_t length, uint8_t *out, size_t out_room);
+/* the names of the steps, each with a line feed */
+nissy_line_answer nissy_steps(uint8_t *out, size_t out_room);
+/* the step that must hold before this one may start, such as "eofb" of "dr-eofb"; nothing of one that starts on any cube */
+nissy_line_answer nissy_start(const uint8_t *step, size_t step_length, uint8_t *out, size_t out_room);
+/* the program's words for a fault, such as "not a move" */
+nissy_line_answer nissy_fault_text(uint8_t fault, uint8_t *out, size_t out_room);
+
+/* the version of the library: 10200 for 1.2.0 */
+uint32_t nissy_version(void);
 
 #ifdef __cplusplus
 }
