@@ -110,7 +110,8 @@ inline std::uint8_t turns(int number, const char *name) {
 // The tables of a step, which are built when they are first asked for, and stay.
 inline nissy_tables kept(std::string_view step) {
     static std::mutex mutex;
-    static std::map<std::string, nissy_tables, std::less<>> built;
+    // never destroyed, since threads may ask until the process ends
+    static auto &built = *new std::map<std::string, nissy_tables, std::less<>>;
     const std::lock_guard<std::mutex> alone(mutex);
     if (const auto found = built.find(step); found != built.end()) return found->second;
     nissy_tables tables = NISSY_NO_TABLES;

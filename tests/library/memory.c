@@ -35,19 +35,19 @@ static void builds_nothing(const char *step, nissy_tables tables, long number, i
 
 /* A build takes memory once, and what asks its tables takes none. */
 static void builds(const search_row *row, nissy_tables before) {
-    nissy_tables tables = NISSY_NO_TABLES, kept;
     const uint8_t *step = (const uint8_t *)row->step, *line = (const uint8_t *)row->line;
     uint8_t out[256];
     made = 0, refused_at = 0, held = 0;
-    holds(nissy_build(&tables, step, strlen(row->step)) == NISSY_DONE && held > 0, "tables are built, and stay", row->step);
+    nissy_tables tables = built(row->step), copy = tables;
+    holds(held > 0, "tables stay", row->step);
     long count = made;
     for (long number = 1; number <= count; number++) {
         builds_nothing(row->step, (nissy_tables)NISSY_NO_TABLES, number, 0);
         builds_nothing(row->step, before, number, 1);
     }
-    kept = tables, made = 0, refused_at = 1, onward = 1;
+    made = 0, refused_at = 1, onward = 1;
     holds(nissy_build(&tables, step, strlen(row->step)) == NISSY_DONE && made == 0, "they aren't built again", row->step);
-    nissy_solve_answer got = nissy_solve(&kept, line, strlen(row->line), row->limit, row->slack, UINT64_MAX, out, sizeof out);
+    nissy_solve_answer got = nissy_solve(&copy, line, strlen(row->line), row->limit, row->slack, UINT64_MAX, out, sizeof out);
     holds(got.status == NISSY_DONE && got.out_length == strlen(row->text) && made == 0, "a search takes no memory", row->step);
     nissy_count_answer counted = nissy_count(&tables, line, strlen(row->line), row->limit, row->slack);
     holds(counted.status == NISSY_DONE && made == 0, "nor does a count", row->step);
@@ -56,8 +56,7 @@ static void builds(const search_row *row, nissy_tables before) {
 
 /* Each step of the rows once, with tables of another step or none before. */
 static void all_builds(void) {
-    nissy_tables before = NISSY_NO_TABLES;
-    holds(nissy_build(&before, (const uint8_t *)"eoud", 4) == NISSY_DONE, "tables are built", "eoud");
+    nissy_tables before = built("eoud");
     for (size_t at = 0; at < SEARCH_COUNT; at++)
         if (at == 0 || strcmp(SEARCHES[at].step, SEARCHES[at - 1].step) != 0) builds(&SEARCHES[at], before);
     holds(nissy_count(&before, (const uint8_t *)"U", 1, 20, 0).least == 1, "a copy has what it had", "eoud");

@@ -32,4 +32,17 @@ static const search_row SEARCHES[] = {
 
 enum { SEARCH_COUNT = sizeof SEARCHES / sizeof *SEARCHES };
 
+/* All tables that a test built: they stay, and a checker for leaks finds them here. */
+static nissy_tables kept[128];
+
+/* The tables of a step, built anew. */
+static inline nissy_tables built(const char *step) {
+    static size_t count;
+    nissy_tables *tables = &kept[count++];
+    guarded name = copied(step, strlen(step));
+    holds(count <= sizeof kept / sizeof *kept && nissy_build(tables, name.bytes, name.size) == NISSY_DONE, "its tables are built", step);
+    let_go(name);
+    return *tables;
+}
+
 #endif

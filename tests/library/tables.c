@@ -51,14 +51,6 @@ static void counts(const nissy_tables *tables, const search_row *row, guarded li
     if (row->looks) holds(got.looks == row->looks, "positions looked at by a count", row->line);
 }
 
-static nissy_tables built(const char *step) {
-    nissy_tables tables = NISSY_NO_TABLES;
-    guarded name = copied(step, strlen(step));
-    holds(nissy_build(&tables, name.bytes, name.size) == NISSY_DONE, "its tables are built", step);
-    let_go(name);
-    return tables;
-}
-
 static void solves(const nissy_tables *tables, const search_row *row) {
     guarded line = copied(row->line, strlen(row->line));
     size_t whole = strlen(row->text);
@@ -73,8 +65,10 @@ static void solves(const nissy_tables *tables, const search_row *row) {
 
 /* A copy answers as the struct did, also once another step was built into that. */
 static void copies_stay(void) {
-    nissy_tables tables = built("eofb"), copy = tables;
+    nissy_tables copy = built("eofb");
+    static nissy_tables tables;
     const search_row *row = &SEARCHES[0];
+    tables = copy;
     solves(&copy, row);
     holds(nissy_build(&tables, (const uint8_t *)"eorl", 4) == NISSY_DONE, "another step is built", "a struct with tables");
     solves(&copy, row);

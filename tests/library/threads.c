@@ -15,11 +15,18 @@ static int is_sanitized(void) {
 #endif
 }
 
-/* How many answers of a thread were other ones; it begins with another row than its neighbours. */
-static void *call_all(void *first) {
+/* What a thread has: the row that it begins with, another one than its neighbours, and tables that it builds itself. */
+typedef struct part {
+    int first;
+    nissy_tables own;
+} part;
+
+/* How many answers of a thread were other ones. */
+static void *call_all(void *of) {
+    const part *part = of;
     long wrong = 0;
     for (int round = 0; round < ROUNDS * RUN_COUNT; round++) {
-        const run_row *row = &RUNS[(round + *(int *)first) % RUN_COUNT];
+        const run_row *row = &RUNS[(round + part->first) % RUN_COUNT];
         uint8_t out[256], err[NISSY_ERROR_ROOM], line[NISSY_LINE_ROOM];
         nissy_run_answer got = nissy_run((const uint8_t *)row->words, row->words_length, (const uint8_t *)row->input, strlen(row->input),
                                          out, sizeof out, err, sizeof err);
@@ -34,12 +41,6 @@ static void *call_all(void *first) {
 /* the tables of each row's step, which all threads ask */
 static nissy_tables shared[SEARCH_COUNT];
 
-static int builds_shared(void) {
-    for (size_t at = 0; at < SEARCH_COUNT; at++)
-        if (nissy_build(&shared[at], (const uint8_t *)SEARCHES[at].step, strlen(SEARCHES[at].step)) != NISSY_DONE) return 0;
-    return 1;
-}
-
 /* Whether a search and a count of a row are answered as it says. */
 static int is_answered(const search_row *row, const nissy_tables *tables) {
     uint8_t out[256];
@@ -50,27 +51,27 @@ static int is_answered(const search_row *row, const nissy_tables *tables) {
            got.least == row->least && told.status == NISSY_DONE && told.solutions == got.solutions && told.looks == got.looks;
 }
 
-/* How many answers by the shared tables, by a copy, and by tables that the thread builds itself, were other ones. */
-static void *search_all(void *first) {
+/* How many answers by the shared tables, by a copy, and by tables of the thread's own, were other ones. */
+static void *search_all(void *of) {
+    part *part = of;
     long wrong = 0;
     for (int round = 0; round < SEARCH_ROUNDS * (int)SEARCH_COUNT; round++) {
-        size_t at = (size_t)(round + *(int *)first) % SEARCH_COUNT;
+        size_t at = (size_t)(round + part->first) % SEARCH_COUNT;
         nissy_tables copy = shared[at];
         wrong += !is_answered(&SEARCHES[at], &shared[at]) + !is_answered(&SEARCHES[at], &copy);
     }
-    nissy_tables own = NISSY_NO_TABLES;
-    uint8_t status = nissy_build(&own, (const uint8_t *)SEARCHES[0].step, strlen(SEARCHES[0].step));
-    wrong += status != NISSY_DONE || !is_answered(&SEARCHES[0], &own);
+    uint8_t status = nissy_build(&part->own, (const uint8_t *)SEARCHES[0].step, strlen(SEARCHES[0].step));
+    wrong += status != NISSY_DONE || !is_answered(&SEARCHES[0], &part->own);
     return (void *)wrong;
 }
 
 /* Runs one of these in each thread. */
 static int all_threads(void *(*work)(void *), const pthread_attr_t *with) {
+    static part parts[THREADS];
     pthread_t threads[THREADS];
-    int first[THREADS];
     for (int at = 0; at < THREADS; at++) {
-        first[at] = at * 3;
-        if (pthread_create(&threads[at], with, work, &first[at])) return 0;
+        parts[at].first = at * 3;
+        if (pthread_create(&threads[at], with, work, &parts[at])) return 0;
     }
     for (int at = 0; at < THREADS; at++) {
         void *wrong;
@@ -83,6 +84,7 @@ static int all_threads(void *(*work)(void *), const pthread_attr_t *with) {
 int main(void) {
     pthread_attr_t small;
     if (pthread_attr_init(&small) || (!is_sanitized() && pthread_attr_setstacksize(&small, STACK))) return 2;
-    if (!all_threads(call_all, &small) || !builds_shared() || !all_threads(search_all, &small)) return 2;
+    for (size_t at = 0; at < SEARCH_COUNT; at++) shared[at] = built(SEARCHES[at].step);
+    if (!all_threads(call_all, &small) || !all_threads(search_all, &small)) return 2;
     return ended();
 }

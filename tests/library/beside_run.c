@@ -1,6 +1,6 @@
 /* Drawn lines by the tables of each step, beside nissy_run: it writes the same of them, byte for byte, and has the same faults.
  *
- *     drawn [SEED [BATCHES]]
+ *     beside_run [SEED [BATCHES]]
  *
  * A batch is some lines up to the first that has a fault, which one run answers with a limit and a slack. Each step gets so many. */
 #include "trial.h"
@@ -11,7 +11,7 @@ enum { ROOM = 1 << 24, MOST_LINES = 40, LINE_ROOM = 1 << 13, MOST_LIMIT = 20 };
 
 static const char *step, *const EACH_STEP[] = {"eofb",      "eorl",      "eoud", "drud-eofb", "drrl-eofb", "drud-eorl", "drfb-eorl",
                                               "drrl-eoud", "drfb-eoud", "eo",   "dr-eofb",   "dr-eorl",   "dr-eoud"};
-static nissy_tables tables;
+static nissy_tables each_tables[sizeof EACH_STEP / sizeof *EACH_STEP], *tables;
 static uint8_t limit, slack;
 static unsigned long lines, faults;
 
@@ -42,7 +42,7 @@ static void is_beginning(text line, nissy_solve_answer whole) {
     uint64_t most = draw(4) ? draw((uint32_t)whole.solutions + 2) : UINT64_MAX, wanted = most < whole.solutions ? most : whole.solutions;
     size_t length = length_of_lines(out, wanted), room = draw(2) ? length : draw((uint32_t)length + 1);
     memset(first, '#', length + 1);
-    nissy_solve_answer is = nissy_solve(&tables, line.bytes, line.size, limit, slack, most, first, room);
+    nissy_solve_answer is = nissy_solve(tables, line.bytes, line.size, limit, slack, most, first, room);
     is_so(is.status == (room < length ? NISSY_ROOM : NISSY_DONE), "the status of a search that is stopped");
     is_so(is.solutions <= wanted && is.out_length == length_of_lines(out, is.solutions) && is.out_length <= room, "whole solutions");
     is_so(room >= length ? is.solutions == wanted : length_of_lines(out, is.solutions + 1) > room, "as many as there may be");
@@ -57,14 +57,14 @@ static void add_answers(text line, nissy_solve_answer whole) {
     char sentence[128];
     if (!whole.solutions) snprintf(sentence, sizeof sentence, "no solution within %d moves\n", limit), add(&near, sentence);
     add_bytes(&near, (const char *)out, whole.out_length), add(&near, "\n");
-    nissy_count_answer told = nissy_count(&tables, line.bytes, line.size, limit, 0);
+    nissy_count_answer told = nissy_count(tables, line.bytes, line.size, limit, 0);
     char least[8] = "none";
     if (told.solutions) snprintf(least, sizeof least, "%d", told.least);
     snprintf(sentence, sizeof sentence, "length %s solutions %llu nodes %llu\n", least, (unsigned long long)told.solutions,
              (unsigned long long)told.looks);
     add(&counts, sentence);
     is_so(told.status == NISSY_DONE && told.fault == 0 && told.column == 0, "a count has the status of a search");
-    told = nissy_count(&tables, line.bytes, line.size, limit, slack);
+    told = nissy_count(tables, line.bytes, line.size, limit, slack);
     is_so(told.solutions == whole.solutions && told.least == whole.least && told.looks == whole.looks, "a count has a search's numbers");
 }
 
@@ -79,7 +79,7 @@ static void has_fault(text line, nissy_solve_answer is, unsigned long number) {
     else
         snprintf(fault, sizeof fault, "nissy: line %lu, column %u: %s\n", number, is.column, words);
     is_so(is.out_length == 0 && is.solutions == 0 && !is.more && is.least == 0 && is.looks == 0, "nothing is told beside a fault");
-    nissy_count_answer told = nissy_count(&tables, line.bytes, line.size, limit, slack);
+    nissy_count_answer told = nissy_count(tables, line.bytes, line.size, limit, slack);
     is_so(told.status == NISSY_FAULT && told.fault == is.fault && told.column == is.column, "a count has the fault of a search");
     faults++;
 }
@@ -87,7 +87,7 @@ static void has_fault(text line, nissy_solve_answer is, unsigned long number) {
 /* A line with a line feed in it is no line: the fault is that of the bytes before it, if that comes first, or the line feed. */
 static void has_line_feed(text line) {
     size_t column = (size_t)((uint8_t *)memchr(line.bytes, '\n', line.size) - line.bytes) + 1;
-    nissy_solve_answer is = nissy_solve(&tables, line.bytes, line.size, limit, slack, 0, NULL, 0);
+    nissy_solve_answer is = nissy_solve(tables, line.bytes, line.size, limit, slack, 0, NULL, 0);
     is_so(is.status == NISSY_FAULT && is.fault != NISSY_START && is.column <= column, "a line feed is a fault");
     is_so(is.column < column || is.fault == NISSY_NOT_A_MOVE, "a line feed is no move");
 }
@@ -134,7 +134,7 @@ static void try_batch(void) {
             has_line_feed(line);
             line.size = 0;
         }
-        nissy_solve_answer whole = nissy_solve(&tables, line.bytes, line.size, limit, slack, UINT64_MAX, out, sizeof out);
+        nissy_solve_answer whole = nissy_solve(tables, line.bytes, line.size, limit, slack, UINT64_MAX, out, sizeof out);
         lines++;
         add_bytes(&input, (const char *)line.bytes, line.size), add(&input, "\n");
         is_so(whole.status == NISSY_DONE || whole.status == NISSY_FAULT, "a search is answered, or has a fault");
@@ -154,8 +154,8 @@ int main(int count, char **words) {
     unsigned long seed = count > 1 ? strtoul(words[1], NULL, 10) : 1, batches = count > 2 ? strtoul(words[2], NULL, 10) : 20;
     for (size_t at = 0; at < sizeof EACH_STEP / sizeof *EACH_STEP; at++) {
         step = EACH_STEP[at];
-        tables = (nissy_tables)NISSY_NO_TABLES;
-        is_so(nissy_build(&tables, (const uint8_t *)step, strlen(step)) == NISSY_DONE, "its tables are built");
+        tables = &each_tables[at];
+        is_so(nissy_build(tables, (const uint8_t *)step, strlen(step)) == NISSY_DONE, "its tables are built");
         for (unsigned long batch = 0; batch < batches; batch++) {
             begin_drawing(seed * 1000 + at * 100 + batch);
             try_batch();
