@@ -62,9 +62,8 @@ struct search {
 // What the calls of this header share. Its names are no part of the interface.
 namespace detail {
 
-// The bytes of a text, at an address that isn't null also if there are none.
 inline const std::uint8_t *bytes(std::string_view text) {
-    return reinterpret_cast<const std::uint8_t *>(text.empty() ? "" : text.data());
+    return reinterpret_cast<const std::uint8_t *>(text.data());
 }
 
 inline std::uint8_t *bytes(std::string &text) {
