@@ -7,7 +7,7 @@
 
 #include "drawn.h"
 
-enum { ROOM = 1 << 24, MOST_LINES = 40, LINE_ROOM = 1 << 13, MOST_LIMIT = 20 };
+enum { ROOM = 1 << 24, MOST_LINES = 80, LINE_ROOM = 1 << 13, MOST_LIMIT = 20 };
 
 static const char *step, *const EACH_STEP[] = {"eofb",      "eorl",      "eoud", "drud-eofb", "drrl-eofb", "drud-eorl", "drfb-eorl",
                                               "drrl-eoud", "drfb-eoud", "eo",   "dr-eofb",   "dr-eorl",   "dr-eoud"};
@@ -92,22 +92,21 @@ static void has_line_feed(text line) {
     is_so(is.column < column || is.fault == NISSY_NOT_A_MOVE, "a line feed is no move");
 }
 
-/* Draws a line for a step: any moves, or few enough turns that keep its start. */
+/* Draws a line for a step: mostly turns that keep its start, else any moves, now and then damaged. */
 static void draw_line(text *line) {
-    static const char *const KEPT[] = {"U2", "D2", "R2", "L2", "F2", "B2"};
+    static const char *const TURNS[] = {"U", "D'", "R", "L'", "F", "B'", "U2", "D2", "R2", "L2", "F2", "B2"};
+    const char *start = strchr(step, '-');
+    /* the quarter turns that don't keep it, as two of TURNS */
+    uint32_t shut = !start ? 12 : strcmp(start, "-eoud") == 0 ? 0 : strcmp(start, "-eorl") == 0 ? 2 : 4;
     line->size = 0;
-    if (draw(3) == 0) {
-        for (uint32_t moves = draw(9); moves > 0; moves--) add(line, ONE_OF(KEPT)), add(line, " ");
-        const char *axis = strchr(step, '-');
-        static const char *const QUARTERS[] = {"U ", "D' ", "R ", "L' ", "F ", "B' "};
-        int shut = !axis ? 6 : strcmp(axis, "-eoud") == 0 ? 0 : strcmp(axis, "-eorl") == 0 ? 2 : 4;
-        for (uint32_t moves = draw(5); moves > 0; moves--) {
-            uint32_t which = draw(6);
-            if ((int)which / 2 * 2 != shut) add(line, QUARTERS[which]);
-        }
+    if (draw(start ? 20 : 3) == 0) {
+        add_line(line, draw(8) ? draw(12) : drawn_moves(), draw(5) == 0);
         return;
     }
-    add_line(line, draw(8) ? draw(12) : drawn_moves(), draw(8) == 0);
+    for (uint32_t moves = draw(14); moves > 0; moves--) {
+        uint32_t which = draw(12);
+        if (which / 2 * 2 != shut) add(line, TURNS[which]), add(line, draw(3) ? " " : "");
+    }
 }
 
 /* One run with these words on the input of the batch. */
@@ -151,7 +150,7 @@ static void try_batch(void) {
 }
 
 int main(int count, char **words) {
-    unsigned long seed = count > 1 ? strtoul(words[1], NULL, 10) : 1, batches = count > 2 ? strtoul(words[2], NULL, 10) : 20;
+    unsigned long seed = count > 1 ? strtoul(words[1], NULL, 10) : 1, batches = count > 2 ? strtoul(words[2], NULL, 10) : 8;
     for (size_t at = 0; at < sizeof EACH_STEP / sizeof *EACH_STEP; at++) {
         step = EACH_STEP[at];
         tables = &each_tables[at];
