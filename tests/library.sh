@@ -53,7 +53,7 @@ is_sanitized=no sees_races=no
 if has_sanitizer "${sanitized[@]}"; then is_sanitized=yes; else skips "cc has no sanitizers here"; fi
 if has_sanitizer -fsanitize=thread; then sees_races=yes; else skips "cc has no sanitizer for threads here"; fi
 missing valgrind && skips "valgrind isn't installed"
-valgrinds() { missing valgrind || add valgrind -q --error-exitcode=99 --leak-check=full "$@"; } # PROGRAM WORD..
+valgrinds() { missing valgrind || add valgrind -q --error-exitcode=99 "$@"; } # WORD..
 
 for name in lines runs tables beside_run memory threads fuzz; do
     holds "$name.c compiles without a warning" compiled "$room/$name" "$name"
@@ -67,11 +67,13 @@ for name in lines runs tables beside_run memory threads fuzz; do
         add "$room/$name.raced"
     fi
     case $name in
-        # valgrind's own malloc takes no wraps, and threads are slow in it
-        memory | threads | fuzz) ;;
-        beside_run) valgrinds "$room/$name" 2 1 ;;
+        # valgrind's own malloc takes no wraps
+        memory | fuzz) ;;
+        # unlike the sanitizer it sees what the library itself reads and writes; searches alone, since a run takes it seconds
+        threads) valgrinds --tool=helgrind "$room/$name" 0 20 ;;
+        beside_run) valgrinds --leak-check=full "$room/$name" 2 1 ;;
         # it makes each byte thirty times as slow: of the rooms, which the others went through, one of seven, and no longest input
-        *) valgrinds "$room/$name" 7 ;;
+        *) valgrinds --leak-check=full "$room/$name" 7 ;;
     esac
 done
 shared_one() {

@@ -1,10 +1,14 @@
-/* Threads that call side by side, on the stack that the header asks for, also by the same tables: each gets its own calls' answers. */
+/* Threads that call side by side, on the stack that the header asks for, also by the same tables: each gets its own calls' answers.
+
+       threads [RUNS [SEARCHES]]      so many rounds of the rows; a tool that watches for races makes each slow */
 #include "rows.h"
 #include "searches.h"
 
 #include <pthread.h>
 
-enum { THREADS = 8, ROUNDS = 12, SEARCH_ROUNDS = 500, STACK = 64 * 1024 };
+enum { THREADS = 8, STACK = 64 * 1024 };
+
+static int run_rounds = 12, search_rounds = 500;
 
 /* The sanitizers themselves take more stack. */
 static int is_sanitized(void) {
@@ -25,7 +29,7 @@ typedef struct part {
 static void *call_all(void *of) {
     const part *part = of;
     long wrong = 0;
-    for (int round = 0; round < ROUNDS * RUN_COUNT; round++) {
+    for (int round = 0; round < run_rounds * RUN_COUNT; round++) {
         const run_row *row = &RUNS[(round + part->first) % RUN_COUNT];
         uint8_t out[256], err[NISSY_ERROR_ROOM], line[NISSY_LINE_ROOM];
         nissy_run_answer got = nissy_run((const uint8_t *)row->words, row->words_length, (const uint8_t *)row->input, strlen(row->input),
@@ -55,7 +59,7 @@ static int is_answered(const search_row *row, const nissy_tables *tables) {
 static void *search_all(void *of) {
     part *part = of;
     long wrong = 0;
-    for (int round = 0; round < SEARCH_ROUNDS * (int)SEARCH_COUNT; round++) {
+    for (int round = 0; round < search_rounds * (int)SEARCH_COUNT; round++) {
         size_t at = (size_t)(round + part->first) % SEARCH_COUNT;
         nissy_tables copy = shared[at];
         wrong += !is_answered(&SEARCHES[at], &shared[at]) + !is_answered(&SEARCHES[at], &copy);
@@ -81,8 +85,10 @@ static int all_threads(void *(*work)(void *), const pthread_attr_t *with) {
     return 1;
 }
 
-int main(void) {
+int main(int count, char **words) {
     pthread_attr_t small;
+    if (count > 1) run_rounds = atoi(words[1]);
+    if (count > 2) search_rounds = atoi(words[2]);
     if (pthread_attr_init(&small) || (!is_sanitized() && pthread_attr_setstacksize(&small, STACK))) return 2;
     for (size_t at = 0; at < SEARCH_COUNT; at++) shared[at] = built(SEARCHES[at].step);
     if (!all_threads(call_all, &small) || !all_threads(search_all, &small)) return 2;
