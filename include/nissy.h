@@ -93,6 +93,8 @@ nissy_run_answer nissy_run(const uint8_t *words, size_t words_length, const uint
 /* The tables of a step, or none. Its fields are the library's: begin with NISSY_NO_TABLES (all bytes 0 is the same), let nissy_build alone
  * write to it, and copy it as you like: a copy has the same tables. Any threads may ask it and its copies (nissy_solve, nissy_count) at
  * the same time. While nissy_build runs on a struct, no other call and no copy may read or write that struct; its copies may be asked.
+ * What no call can see is undefined: fields that something else wrote, and a struct into which another thread builds meanwhile. Such a
+ * call may find no tables, use those of either step, or end the program by a signal.
  *
  * Tables stay for as long as the process runs: there is no release, and so no use after one. So build those of a step once, and keep
  * them: a nissy_build into a struct without them takes their memory anew, 0.2 million bytes for an edge orientation, 1.3 million for a
