@@ -1,9 +1,12 @@
 /* Times calls of the library: bench/calls compiles and runs it with a command, the file of its lines, and the words before a line.
  *
- *     calls line NAME FILE        one of the calls on a line, for each line of the file
- *     calls run FILE WORD..       nissy_run with these words, for each line of the file, and once for all of them
+ *     calls line NAME FILE             one of the calls on a line, for each line of the file
+ *     calls run FILE WORD..            nissy_run with these words, for each line of the file, and once for all of them
+ *     calls tables NAME STEP FILE      nissy_solve or nissy_count by tables that are there, for each line, and nissy_run beside it
  *
- * It prints the nanoseconds of processor time a line, the least of five rounds: by a call each, and for `run` by one call for all. */
+ * It prints the nanoseconds of processor time a line, the least of several rounds: by a call each, and for `run` by one call for all. For
+ * `tables` these are: of nissy_build, of a call by tables, of a run of one line, of a run of 1,000 lines, and of a run of all lines without
+ * the time of a run of no line. */
 #define _GNU_SOURCE
 #include <stdio.h>
 #include <stdlib.h>
@@ -12,7 +15,7 @@
 
 #include "nissy.h"
 
-enum { ROUNDS = 5, ROOM = 1 << 26, MOST_LINES = 1 << 20 };
+enum { ROUNDS = 5, TABLE_ROUNDS = 25, SLOW_LINES = 20, THOUSAND = 1000, LIMIT = 20, ROOM = 1 << 26, MOST_LINES = 1 << 20 };
 
 typedef nissy_line_answer line_call(const uint8_t *, size_t, uint8_t *, size_t);
 
@@ -88,10 +91,79 @@ static double least(void (*round)(line_call *), line_call *call) {
     return best / (double)lines;
 }
 
+static nissy_tables tables;
+static const char *step;
+
+static void build(size_t none) {
+    nissy_tables made = NISSY_NO_TABLES;
+    (void)none;
+    end_unless(nissy_build(&made, (const uint8_t *)step, strlen(step)) == NISSY_DONE);
+    tables = made;
+}
+
+/* The first lines by a call each. */
+static void solve_each(size_t count) {
+    for (size_t at = 0; at < count; at++) {
+        const uint8_t *line = input + begins[at];
+        nissy_solve_answer got = nissy_solve(&tables, line, begins[at + 1] - begins[at] - 1, LIMIT, 0, UINT64_MAX, out, sizeof out);
+        end_unless(got.status == NISSY_DONE);
+    }
+}
+
+static void count_each(size_t count) {
+    for (size_t at = 0; at < count; at++) {
+        nissy_count_answer got = nissy_count(&tables, input + begins[at], begins[at + 1] - begins[at] - 1, LIMIT, 0);
+        end_unless(got.status == NISSY_DONE);
+    }
+}
+
+/* The first lines by a run each, and by one run. */
+static void run_first_each(size_t count) {
+    for (size_t at = 0; at < count; at++) run_on(input + begins[at], begins[at + 1] - begins[at]);
+}
+
+static void run_first(size_t count) {
+    run_on(input, begins[count]);
+}
+
+/* The nanoseconds of the quickest of so many rounds on the first lines. */
+static double quickest(void (*round)(size_t), size_t count, int rounds) {
+    double best = 0;
+    for (int at = 0; at < rounds; at++) {
+        double begun = now();
+        round(count);
+        double took = now() - begun;
+        if (at == 0 || took < best) best = took;
+    }
+    return best;
+}
+
+static size_t at_most(size_t count) {
+    return lines < count ? lines : count;
+}
+
+/* A search with tables that are there, and the same by runs. */
+static void time_tables(const char *name) {
+    size_t few = at_most(SLOW_LINES), thousand = at_most(THOUSAND);
+    int is_count = strcmp(name, "count") == 0;
+    words_length = (size_t)snprintf((char *)words, sizeof words, "%s%c%s%c%d", name, 0, step, 0, LIMIT);
+    double built = quickest(build, 0, ROUNDS), each = quickest(is_count ? count_each : solve_each, lines, TABLE_ROUNDS);
+    double alone = quickest(run_first_each, few, ROUNDS), together = quickest(run_first, thousand, ROUNDS);
+    double none = quickest(run_first, 0, TABLE_ROUNDS), all = quickest(run_first, lines, TABLE_ROUNDS);
+    printf("%.0f %.0f %.0f %.0f %.0f\n", built, each / (double)lines, alone / (double)few, together / (double)thousand,
+           (all - none) / (double)lines);
+}
+
 int main(int count, char **arguments) {
     if (count == 4 && strcmp(arguments[1], "line") == 0) {
         read_lines(arguments[3]);
         printf("%.0f\n", least(call_each, call_named(arguments[2])));
+        return 0;
+    }
+    if (count == 5 && strcmp(arguments[1], "tables") == 0) {
+        step = arguments[3];
+        read_lines(arguments[4]);
+        time_tables(arguments[2]);
         return 0;
     }
     if (count < 4 || strcmp(arguments[1], "run") != 0) return 2;

@@ -18,7 +18,7 @@ holds "the library has its files" test -s "$folder/libnissy.a" -a -s "$folder/li
 
 # what it shows to others
 exported() { nm "$@" | awk '$2 ~ /[A-Z]/ && $2 != "U" && $2 != "w" { print $3 }' | sort; }
-declared() { grep -oE '\bnissy_[a-z]+\(' include/nissy.h | tr -d '(' | sort -u; }
+declared() { grep -oE '\bnissy_[a-z_]+\(' include/nissy.h | tr -d '(' | sort -u; }
 holds "the shared object exports what the header declares" test "$(exported -D --defined-only "$folder/libnissy.so.1")" = "$(declared)"
 holds "so does the archive" test "$(exported --defined-only "$folder/libnissy.a" | grep .)" = "$(declared)"
 holds "its soname" test "$(objdump -p "$folder/libnissy.so.1" | awk '$1 == "SONAME" { print $2 }')" = libnissy.so.1
@@ -45,35 +45,63 @@ compiled() { # PROGRAM NAME WORD..: compiles the test of this name against the a
     # shellcheck disable=SC2046 # no word or one
     cc -std=c11 "${strict[@]}" "$@" $(linked "$name") -o "$made" "tests/library/$name.c" "$folder/libnissy.a"
 }
-has_sanitizers() {
+has_sanitizer() { # WORD..: programs that are compiled with these words run here
     echo 'int main(void) { return 0; }' > "$room/empty.c"
-    cc "${sanitized[@]}" -o "$room/empty" "$room/empty.c" 2> /dev/null && "$room/empty"
+    cc "$@" -o "$room/empty" "$room/empty.c" 2> /dev/null && "$room/empty"
 }
-is_sanitized=no
-if has_sanitizers; then is_sanitized=yes; else skips "cc has no sanitizers here"; fi
+is_sanitized=no sees_races=no
+if has_sanitizer "${sanitized[@]}"; then is_sanitized=yes; else skips "cc has no sanitizers here"; fi
+if has_sanitizer -fsanitize=thread; then sees_races=yes; else skips "cc has no sanitizer for threads here"; fi
 missing valgrind && skips "valgrind isn't installed"
+valgrinds() { missing valgrind || add valgrind -q --error-exitcode=99 "$@"; } # WORD..
 
-for name in lines runs memory threads fuzz; do
+for name in lines runs tables beside_run memory threads fuzz; do
     holds "$name.c compiles without a warning" compiled "$room/$name" "$name"
     add "$room/$name"
     if [ $is_sanitized = yes ]; then
         holds "$name.c compiles with the sanitizers" compiled "$room/$name.sanitized" "$name" "${sanitized[@]}"
         add "$room/$name.sanitized"
     fi
-    # valgrind's own malloc takes no wraps, and threads are slow in it
-    case $name in memory | threads | fuzz) continue ;; esac
-    # it makes each byte thirty times as slow: of the rooms of runs.c, which the others went through, one of seven, and no longest input
-    missing valgrind || add valgrind -q --error-exitcode=99 --leak-check=full "$room/$name" 7
+    if [ $name = threads ] && [ $sees_races = yes ]; then
+        holds "$name.c compiles with the sanitizer for threads" compiled "$room/$name.raced" "$name" -fsanitize=thread
+        add "$room/$name.raced"
+    fi
+    case $name in
+        # valgrind's own malloc takes no wraps
+        memory | fuzz) ;;
+        # unlike the sanitizer it sees what the library itself reads and writes; searches alone, since a run takes it seconds
+        threads) valgrinds --tool=helgrind "$room/$name" 0 20 ;;
+        beside_run) valgrinds --leak-check=full "$room/$name" 2 1 ;;
+        # it makes each byte thirty times as slow: of the rooms, which the others went through, one of seven, and no longest input
+        *) valgrinds --leak-check=full "$room/$name" 7 ;;
+    esac
 done
 shared_one() {
     cc -std=c99 "${strict[@]}" -D_DEFAULT_SOURCE -o "$room/shared_runs" tests/library/runs.c -L"$folder" -lnissy -Wl,-rpath,"$folder"
 }
 holds "runs.c compiles against the shared object" shared_one
 add "$room/shared_runs"
-if missing c++; then skips "there is no C++ compiler here"; else
-    for standard in c++98 c++17; do
-        holds "the header is $standard too" c++ -std=$standard -Wall -Wextra -Wpedantic -Werror -x c++ -fsyntax-only include/nissy.h
+
+# the headers in C++, by each compiler that is here
+compiled_by() { # COMPILER PROGRAM WORD..: compiles the test in C++, with these words too
+    "$1" "${strict[@]}" "${@:3}" -pthread -o "$2" tests/library/nissy.cpp "$folder/libnissy.a"
+}
+missing c++ && skips "there is no C++ compiler here"
+for compiler in c++ g++ clang++; do
+    missing $compiler && continue
+    holds "nissy.h is C++98 too, by $compiler" $compiler -std=c++98 "${strict[@]}" -x c++ -fsyntax-only include/nissy.h
+    for standard in c++17 c++20; do
+        holds "nissy.cpp compiles as $standard by $compiler" compiled_by $compiler "$room/$compiler.$standard" -std=$standard
     done
+    add "$room/$compiler.c++17"
+done
+if ! missing c++ && [ $is_sanitized = yes ]; then
+    holds "nissy.cpp compiles with the sanitizers" compiled_by c++ "$room/nissy.sanitized" -std=c++17 "${sanitized[@]}"
+    add "$room/nissy.sanitized"
+fi
+if ! missing c++ && [ $sees_races = yes ]; then
+    holds "nissy.cpp compiles with the sanitizer for threads" compiled_by c++ "$room/nissy.raced" -std=c++17 -fsanitize=thread
+    add "$room/nissy.raced"
 fi
 printf '#include "nissy.h"\nint main(void) { return nissy_invert("R", 1, 0).status; }\n' > "$room/other.c"
 holds "a call with too few arguments doesn't compile" refuses cc -std=c11 "${strict[@]}" -o "$room/other" "$room/other.c" "$folder/libnissy.a"

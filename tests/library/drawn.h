@@ -60,12 +60,12 @@ static void add_line(text *to, uint32_t moves, int is_damaged) {
     if (is_open && draw(10)) add(to, ")");
 }
 
-static uint32_t drawn_moves(void) {
+static inline uint32_t drawn_moves(void) {
     uint32_t kind = draw(20);
     return kind == 0 ? 250 + draw(12) : kind == 1 ? 30 + draw(100) : draw(12);
 }
 
-static void add_lines(text *to) {
+static inline void add_lines(text *to) {
     for (uint32_t lines = draw(6) ? draw(4) : draw(40); lines > 0; lines--) {
         add_line(to, drawn_moves(), draw(5) == 0);
         if (lines > 1 || draw(2)) add(to, "\n");
@@ -78,7 +78,7 @@ static void add_word(text *to, const char *word) {
 }
 
 /* A command with what belongs to it, or with too little or too much; now and then cut. */
-static void add_words(text *to) {
+static inline void add_words(text *to) {
     const char *command = draw(15) ? COMMANDS[draw(11)] : ONE_OF(COMMANDS);
     int is_near = strcmp(command, "near") == 0, is_search = is_near || strcmp(command, "solve") == 0 || strcmp(command, "count") == 0;
     add_word(to, command);

@@ -1,4 +1,4 @@
-/* Drawn calls that no row lists: any words and lines, in rooms of any size, with memory that is refused.
+/* Drawn calls that no row lists: any words, lines and numbers, in rooms of any size, with memory that is refused.
  *
  *     fuzz [SEED [SECONDS]]
  *
@@ -208,6 +208,47 @@ static void try_line(text line) {
     is_so(is_text(got.err, got.is.err_length, fault, is.status ? (size_t)fault_length : 0), "a run has the fault of the call on its line");
 }
 
+/* The tables of three steps, and none. */
+static nissy_tables searched[4];
+
+static void build_searched(void) {
+    static const char *const names[] = {"eofb", "eo", "drud-eofb"};
+    snprintf(draw_name, sizeof draw_name, "no draw");
+    for (size_t at = 0; at < 3; at++)
+        is_so(nissy_build(&searched[at], (const uint8_t *)names[at], strlen(names[at])) == NISSY_DONE, "tables are built");
+}
+
+/* What a search of a line is to be told before it begins: a status, and with it a fault and its column. */
+static nissy_line_answer before_search(const nissy_tables *tables, text line, uint8_t limit, uint8_t slack) {
+    static uint8_t unused[NISSY_LINE_ROOM];
+    nissy_line_answer usage = {NISSY_USAGE, NISSY_NO_FAULT, 0, 0};
+    if (tables == &searched[3] || limit > 20 || slack > 20) return usage;
+    return nissy_invert(line.bytes, line.size, unused, sizeof unused);
+}
+
+/* A search of a line and a count, by tables or by none. A count of a great slack would take long. */
+static void try_search(text line) {
+    const nissy_tables *tables = &searched[draw(4)];
+    uint8_t limit = (uint8_t)(draw(9) ? draw(21) : draw(256)), slack = (uint8_t)(draw(4) ? draw(2) : draw(9) ? draw(21) : draw(256));
+    uint64_t most = draw(3) ? draw(12) : UINT64_MAX;
+    uint32_t sides = draw(4);
+    slice read = read_slice(INPUT_AREA, line, sides & 1), out = written_slice(OUT_AREA, draw(2) ? ROOM : draw(200), sides & 2);
+    nissy_line_answer first = before_search(tables, line, limit, slack);
+    made = 0, refused_at = 1, onward = 1;
+    nissy_solve_answer is = nissy_solve(tables, read.bytes, read.size, limit, slack, most, out.bytes, out.size);
+    was_read(read, line), was_written(out, is.out_length);
+    nissy_count_answer told = nissy_count(tables, read.bytes, read.size, limit, slack > 20 ? slack : slack & 1);
+    refused_at = 0;
+    is_so(made == 0, "a search takes no memory");
+    int is_start = first.status == NISSY_DONE && is.fault == NISSY_START;
+    is_so(is_start || is.status == first.status || (is.status == NISSY_ROOM && is.more), "the status of a search");
+    is_so(is_start ? is.status == NISSY_FAULT && is.column == 0 : is.fault == first.fault && is.column == first.column, "its fault");
+    is_so(told.status == (is.status == NISSY_ROOM ? NISSY_DONE : is.status) && told.fault == is.fault, "a count ends as a search does");
+    is_so(told.column == is.column && told.least == is.least, "its column, and its least length");
+    is_so(is.solutions <= most && (is.solutions > 0) == (is.out_length > 0), "as many solutions as may be");
+    is_so(is.status == NISSY_DONE || is.status == NISSY_ROOM || is.looks == 0, "nothing is looked at without a search");
+}
+
 static void try_draw(unsigned long number) {
     static uint8_t word_bytes[BLOCK], line_bytes[4 * BLOCK];
     text words = {word_bytes, 0, sizeof word_bytes}, lines = {line_bytes, 0, sizeof line_bytes};
@@ -216,6 +257,7 @@ static void try_draw(unsigned long number) {
     if (draw(3) == 0) {
         add_line(&lines, drawn_moves(), draw(3) == 0);
         try_line(lines);
+        try_search(lines);
         return;
     }
     add_words(&words);
@@ -228,6 +270,7 @@ int main(int count, char **words) {
     time_t seconds = count > 2 ? (time_t)strtoul(words[2], NULL, 10) : 2;
     for (int at = 0; at < 4; at++) areas[at] = guard(AREA);
     signal(SIGSEGV, on_fault);
+    build_searched();
     clock_t end = clock() + (clock_t)seconds * CLOCKS_PER_SEC;
     do try_draw(number++);
     while (clock() < end);

@@ -1,5 +1,5 @@
 /* The calls on one line: what they answer, for rooms of every size, and that they touch nothing but what they may. */
-#include "trial.h"
+#include "faults.h"
 
 typedef nissy_line_answer line_call(const uint8_t *, size_t, uint8_t *, size_t);
 
@@ -25,19 +25,6 @@ static const line_row READ[] = {
     {nissy_print, "R", "UUFUUFUUFRRRRRRRRRFFDFFDFFDDDBDDBDDBLLLLLLLLLUBBUBBUBB"},
     {nissy_print, "x", "FFFFFFFFFRRRRRRRRRDDDDDDDDDBBBBBBBBBLLLLLLLLLUUUUUUUUU"},
     {nissy_print, "M", "UBUUBUUBURRRRRRRRRFUFFUFFUFDFDDFDDFDLLLLLLLLLBDBBDBBDB"},
-};
-
-typedef struct fault_row {
-    const char *line;
-    int fault;
-    unsigned column;
-} fault_row;
-
-static const fault_row UNREAD[] = {
-    {"R '", NISSY_NOT_A_MOVE, 3},  {"R''", NISSY_NOT_A_MOVE, 3},    {"uw", NISSY_NOT_A_MOVE, 2}, {"R\xe2\x80U", NISSY_NOT_A_MOVE, 2},
-    {"R\n", NISSY_NOT_A_MOVE, 2},  {"(R (U))", NISSY_NESTED, 4},    {"R )", NISSY_UNOPENED, 3},  {"R (U", NISSY_UNCLOSED, 3},
-    {"(", NISSY_UNCLOSED, 1},      {")", NISSY_UNOPENED, 1},        {"q", NISSY_NOT_A_MOVE, 1},  {"\xff", NISSY_NOT_A_MOVE, 1},
-    {"\n", NISSY_NOT_A_MOVE, 1},
 };
 
 static line_call *const CALLS[] = {nissy_invert, nissy_unniss, nissy_cleanup, nissy_print};
@@ -101,7 +88,7 @@ static void limits_are_kept(void) {
 
 int main(void) {
     for (size_t at = 0; at < sizeof READ / sizeof *READ; at++) answers_in_every_room(&READ[at]);
-    for (size_t at = 0; at < sizeof UNREAD / sizeof *UNREAD; at++) {
+    for (size_t at = 0; at < UNREAD_COUNT; at++) {
         const fault_row *row = &UNREAD[at];
         nissy_line_answer wanted = {NISSY_FAULT, (uint16_t)row->fault, row->column, 0};
         refuses_in_every_call(row->line, strlen(row->line), wanted);

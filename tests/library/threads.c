@@ -1,24 +1,36 @@
-/* Threads that call side by side, on the stack that the header asks for: each gets the answers of its own calls. */
+/* Threads that call side by side, on the stack that the header asks for, also by the same tables: each gets its own calls' answers.
+
+       threads [RUNS [SEARCHES]]      so many rounds of the rows; a tool that watches for races makes each slow */
 #include "rows.h"
+#include "searches.h"
 
 #include <pthread.h>
 
-enum { THREADS = 8, ROUNDS = 12, STACK = 64 * 1024 };
+enum { THREADS = 8, STACK = 64 * 1024 };
+
+static int run_rounds = 12, search_rounds = 500;
 
 /* The sanitizers themselves take more stack. */
 static int is_sanitized(void) {
-#ifdef __SANITIZE_ADDRESS__
+#if defined __SANITIZE_ADDRESS__ || defined __SANITIZE_THREAD__
     return 1;
 #else
     return 0;
 #endif
 }
 
-/* How many answers of a thread were other ones; it begins with another row than its neighbours. */
-static void *call_all(void *first) {
+/* What a thread has: the row that it begins with, another one than its neighbours, and tables that it builds itself. */
+typedef struct part {
+    int first;
+    nissy_tables own;
+} part;
+
+/* How many answers of a thread were other ones. */
+static void *call_all(void *of) {
+    const part *part = of;
     long wrong = 0;
-    for (int round = 0; round < ROUNDS * RUN_COUNT; round++) {
-        const run_row *row = &RUNS[(round + *(int *)first) % RUN_COUNT];
+    for (int round = 0; round < run_rounds * RUN_COUNT; round++) {
+        const run_row *row = &RUNS[(round + part->first) % RUN_COUNT];
         uint8_t out[256], err[NISSY_ERROR_ROOM], line[NISSY_LINE_ROOM];
         nissy_run_answer got = nissy_run((const uint8_t *)row->words, row->words_length, (const uint8_t *)row->input, strlen(row->input),
                                          out, sizeof out, err, sizeof err);
@@ -30,19 +42,55 @@ static void *call_all(void *first) {
     return (void *)wrong;
 }
 
-int main(void) {
+/* the tables of each row's step, which all threads ask */
+static nissy_tables shared[SEARCH_COUNT];
+
+/* Whether a search and a count of a row are answered as it says. */
+static int is_answered(const search_row *row, const nissy_tables *tables) {
+    uint8_t out[256];
+    const uint8_t *line = (const uint8_t *)row->line;
+    nissy_solve_answer got = nissy_solve(tables, line, strlen(row->line), row->limit, row->slack, UINT64_MAX, out, sizeof out);
+    nissy_count_answer told = nissy_count(tables, line, strlen(row->line), row->limit, row->slack);
+    return got.status == NISSY_DONE && got.out_length == strlen(row->text) && memcmp(out, row->text, got.out_length) == 0 &&
+           got.least == row->least && told.status == NISSY_DONE && told.solutions == got.solutions && told.looks == got.looks;
+}
+
+/* How many answers by the shared tables, by a copy, and by tables of the thread's own, were other ones. */
+static void *search_all(void *of) {
+    part *part = of;
+    long wrong = 0;
+    for (int round = 0; round < search_rounds * (int)SEARCH_COUNT; round++) {
+        size_t at = (size_t)(round + part->first) % SEARCH_COUNT;
+        nissy_tables copy = shared[at];
+        wrong += !is_answered(&SEARCHES[at], &shared[at]) + !is_answered(&SEARCHES[at], &copy);
+    }
+    uint8_t status = nissy_build(&part->own, (const uint8_t *)SEARCHES[0].step, strlen(SEARCHES[0].step));
+    wrong += status != NISSY_DONE || !is_answered(&SEARCHES[0], &part->own);
+    return (void *)wrong;
+}
+
+/* Runs one of these in each thread. */
+static int all_threads(void *(*work)(void *), const pthread_attr_t *with) {
+    static part parts[THREADS];
     pthread_t threads[THREADS];
-    int first[THREADS];
-    pthread_attr_t small;
-    if (pthread_attr_init(&small) || (!is_sanitized() && pthread_attr_setstacksize(&small, STACK))) return 2;
     for (int at = 0; at < THREADS; at++) {
-        first[at] = at * 3;
-        if (pthread_create(&threads[at], &small, call_all, &first[at])) return 2;
+        parts[at].first = at * 3;
+        if (pthread_create(&threads[at], with, work, &parts[at])) return 0;
     }
     for (int at = 0; at < THREADS; at++) {
         void *wrong;
         pthread_join(threads[at], &wrong);
-        holds(wrong == NULL, "each answer of a thread is that of its call", "threads");
+        holds(wrong == NULL, "each answer of a thread is that of its call", work == call_all ? "runs" : "searches");
     }
+    return 1;
+}
+
+int main(int count, char **words) {
+    pthread_attr_t small;
+    if (count > 1) run_rounds = atoi(words[1]);
+    if (count > 2) search_rounds = atoi(words[2]);
+    if (pthread_attr_init(&small) || (!is_sanitized() && pthread_attr_setstacksize(&small, STACK))) return 2;
+    for (size_t at = 0; at < SEARCH_COUNT; at++) shared[at] = built(SEARCHES[at].step);
+    if (!all_threads(call_all, &small) || !all_threads(search_all, &small)) return 2;
     return ended();
 }

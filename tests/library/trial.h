@@ -2,7 +2,9 @@
 #ifndef TRIAL_H
 #define TRIAL_H
 
+#ifndef _GNU_SOURCE
 #define _GNU_SOURCE
+#endif
 #include <stdio.h>
 #include <stdlib.h>
 #include <string.h>

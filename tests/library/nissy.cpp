@@ -1,0 +1,152 @@
+/* The header for C++: values out of strings, exceptions with their column, objects that are copied and shared by threads. */
+#include "nissy.hpp"
+
+#include "faults.h"
+#include "searches.h"
+
+#include <thread>
+
+namespace {
+
+std::string text_of(const std::vector<nissy::solution> &solutions) {
+    std::string text;
+    for (const nissy::solution &one : solutions) text += one.moves + (one.moves.empty() ? "(" : " (") + std::to_string(one.length) + ")\n";
+    return text;
+}
+
+void solves(const nissy::tables &tables, const search_row &row) {
+    const std::string whole = row.text;
+    const auto found = tables.solve(row.line, {row.limit, row.slack});
+    holds(text_of(found) == whole, "its solutions", row.line);
+    for (std::uint64_t most = 0; most <= found.size() + 1; most++) {
+        const auto first = tables.solve(row.line, {row.limit, row.slack, most});
+        holds(first.size() == std::min<std::size_t>(most, found.size()), "how many there are at most", row.line);
+        holds(whole.compare(0, text_of(first).size(), text_of(first)) == 0, "they are the first", row.line);
+    }
+    const nissy::count counted = tables.count(row.line, row.limit, row.slack);
+    holds(counted.solutions == found.size(), "how many are counted", row.line);
+    holds(counted.length.has_value() == !found.empty(), "there is a least length if there are solutions", row.line);
+    if (counted.length) holds(*counted.length == row.least && found.front().length == row.least, "the least length", row.line);
+    if (row.looks) holds(counted.nodes == row.looks, "the positions looked at", row.line);
+}
+
+// A call throws this exception, and one that says something.
+template <typename Thrown, typename Call> void throws(Call call, const char *of) {
+    try {
+        call();
+        holds(0, "it throws", of);
+    } catch (const Thrown &thrown) {
+        holds(thrown.what()[0] != 0, "it says what", of);
+    } catch (...) {
+        holds(0, "it throws another exception", of);
+    }
+}
+
+// A call throws this fault.
+template <typename Call> void has_fault(Call call, int code, std::size_t column, const char *what, const char *of) {
+    try {
+        call();
+        holds(0, "it throws", of);
+    } catch (const nissy::fault &thrown) {
+        holds(thrown.code() == code && thrown.column() == column, "its fault and column", of);
+        if (what) holds(std::string_view(thrown.what()) == what, "what it says", of);
+    }
+}
+
+void lines_are_rewritten() {
+    holds(nissy::invert("R U' F2") == "F2 U R'", "its inverse", "R U' F2");
+    holds(nissy::unniss("R (U F') D") == "R D F U'", "its moves", "R (U F') D");
+    holds(nissy::cleanup("Rw U") == "L F x", "its cleaned moves", "Rw U");
+    holds(nissy::facelets("R") == "UUFUUFUUFRRRRRRRRRFFDFFDFFDDDBDDBDDBLLLLLLLLLUBBUBBUBB", "its cube", "R");
+    holds(nissy::invert(std::string_view()).empty() && nissy::facelets({}).size() == 54, "a view of nothing is an empty line", "");
+    holds(nissy::invert(std::string_view("R U q", 3)) == "U' R'", "a view ends at its end", "R U");
+    holds(nissy::invert(std::string("R U")) == "U' R'", "a string is a line", "R U");
+}
+
+void faults_are_thrown() {
+    const nissy::tables tables("dr-eofb");
+    for (const fault_row &row : UNREAD) {
+        has_fault([&] { nissy::invert(row.line); }, row.fault, row.column, nullptr, row.line);
+        has_fault([&] { nissy::facelets(row.line); }, row.fault, row.column, nullptr, row.line);
+        has_fault([&] { tables.solve(row.line); }, row.fault, row.column, nullptr, row.line);
+        has_fault([&] { tables.count(row.line); }, row.fault, row.column, nullptr, row.line);
+    }
+    has_fault([] { nissy::unniss("R (U"); }, NISSY_UNCLOSED, 3, "nissy: column 3: bracket not closed", "R (U");
+    has_fault([&] { tables.solve("F"); }, NISSY_START, 0, "nissy: eofb does not hold", "F");
+    has_fault([&] { tables.count("F"); }, NISSY_START, 0, "nissy: eofb does not hold", "F");
+    has_fault([] { nissy::invert(std::string_view("R\0U", 3)); }, NISSY_NOT_A_MOVE, 2, nullptr, "a zero byte");
+}
+
+void misuse_is_thrown() {
+    const nissy::tables tables("eofb");
+    for (const char *name : {"htr", "", "EOFB", "eofb "}) throws<std::invalid_argument>([=] { nissy::tables{name}; }, name);
+    throws<std::invalid_argument>([] { nissy::tables{std::string_view()}; }, "no name");
+    for (int number : {-1, 21, 256, 276, std::numeric_limits<int>::min(), std::numeric_limits<int>::max()}) {
+        throws<std::out_of_range>([&] { tables.solve("F", {number}); }, "a limit");
+        throws<std::out_of_range>([&] { tables.solve("F", {20, number}); }, "a slack");
+        throws<std::out_of_range>([&] { tables.count("F", number); }, "a limit");
+        throws<std::out_of_range>([&] { tables.count("F", 20, number); }, "a slack");
+    }
+    throws<std::out_of_range>([] { nissy::scramble(1, 2, 257); }, "a scramble of 257 turns");
+    const std::string blanks(NISSY_MOST_INPUT + 1, ' ');
+    throws<std::length_error>([&] { nissy::invert(blanks); }, "16,777,217 blanks");
+    throws<std::length_error>([&] { tables.solve(blanks); }, "16,777,217 blanks");
+    throws<std::length_error>([&] { tables.count(blanks); }, "16,777,217 blanks");
+}
+
+// Many solutions come whole, in rooms that grow: all that are counted, each of its length.
+void many_are_whole() {
+    const nissy::tables tables("eofb");
+    const auto found = tables.solve("F R U B", {20, 2});
+    holds(found.size() > 4096 && found.size() == tables.count("F R U B", 20, 2).solutions, "all are given", "eofb, slack 2");
+    for (const nissy::solution &one : found) {
+        const auto turns = one.length ? std::count(one.moves.begin(), one.moves.end(), ' ') + 1 : 0;
+        holds(turns == one.length, "a solution has its length", one.moves.c_str());
+    }
+    const auto first = tables.solve("F R U B", {20, 2, 1000});
+    holds(first.size() == 1000 && first.back().moves == found[999].moves, "the first thousand", "eofb, slack 2");
+}
+
+void objects_are_values() {
+    nissy::tables one("eofb"), other("eorl");
+    const nissy::tables copy = one, again("eofb");
+    one = other;
+    holds(one.step() == "eorl" && copy.step() == "eofb", "an object takes another's step", "tables");
+    holds(one.count("F").length == 0 && copy.count("F").length == 1 && again.count("F").length == 1, "each asks its own step", "tables");
+    const nissy::tables moved = std::move(one);
+    holds(moved.count("F").length == 0, "it can be moved", "tables");
+}
+
+// Threads that build and ask the same steps side by side.
+void threads_agree() {
+    static constexpr int THREADS = 8;
+    std::vector<std::thread> threads;
+    int wrong[THREADS] = {};
+    for (int &own : wrong)
+        threads.emplace_back([&own] {
+            for (int round = 0; round < 20; round++)
+                for (const search_row &row : SEARCHES) {
+                    const nissy::tables tables(row.step);
+                    own += text_of(tables.solve(row.line, {row.limit, row.slack})) != row.text;
+                }
+        });
+    for (std::thread &thread : threads) thread.join();
+    for (const int own : wrong) holds(own == 0, "each answer of a thread is that of its call", "threads");
+}
+
+} // namespace
+
+int main() {
+    // first, so that each step is built while others ask for it
+    threads_agree();
+    for (const search_row &row : SEARCHES) solves(nissy::tables(row.step), row);
+    lines_are_rewritten();
+    faults_are_thrown();
+    misuse_is_thrown();
+    many_are_whole();
+    objects_are_values();
+    holds(nissy::scramble(42, 54, 6) == "L' D' F' R2 F' L'" && nissy::scramble(1, 2, 0).empty(), "its turns", "scramble");
+    holds(nissy::steps().size() == 13 && nissy::steps().front() == "eofb" && nissy::steps().back() == "dr-eoud", "the thirteen", "steps");
+    holds(nissy::version() == nissy_version(), "the library's", "version");
+    return ended();
+}
