@@ -11,9 +11,9 @@ r"""nissy for Python: moves and searches of the 3x3x3 cube, by the proved librar
     Traceback (most recent call last):
     nissy.LineFault: column 3: not a move
 
-The first search of a step builds its tables, which stay for the next ones (class Tables); a call lets go of Python's lock, so calls of several
-threads run side by side. The library is the file that NISSY_LIBRARY names, else the one that was installed or built with this package, else
-the system's.
+The first search of a step builds its tables, which stay for the next ones (class Tables). A call lets go of Python's lock, so calls of
+several threads run side by side. The library is the file that NISSY_LIBRARY names, else the one that was installed or built with this package,
+else the system's.
 """
 from ._given import Text as Text
 from ._library import DONE, FAULT, MOST_INPUT, STOPPED, USAGE
@@ -23,7 +23,8 @@ from ._searches import Tables, count, count_all, near, solve, solve_all
 from ._values import Answer, Count, LineFault, Solution, StartFault
 
 __all__ = ["DONE", "FAULT", "MOST_INPUT", "STOPPED", "USAGE", "Answer", "Count", "LineFault", "Solution", "StartFault", "Tables",
-           "cleanup", "count", "count_all", "facelets", "invert", "near", "run", "scramble", "scrambles", "solve", "solve_all", "steps", "unniss"]
+           "cleanup", "count", "count_all", "facelets", "invert", "near", "run", "scramble", "scrambles", "solve", "solve_all", "steps",
+           "unniss"]
 
 __version__ = version()
 del version

@@ -16,7 +16,7 @@ _kept: List[Room] = []
 
 
 class Room:
-    """Memory of so many bytes. The system gives a page of it once that is written to, so a large one costs no more than what stands in it."""
+    """Memory of so many bytes. The system gives a page of it when that is first written to, so a large one costs what stands in it."""
 
     __slots__ = ("size", "memory", "address")
 

@@ -57,9 +57,10 @@ def _in_large(words: bytes, data: bytes) -> Answer:
 def run(words: Iterable[Text], data: Text = b"", room: Optional[int] = None) -> Answer:
     """Does what the program does with these words after its name and `data` as its input.
 
-    A word or an input that is a string is read as UTF-8. The output has room for 1 GiB, of which it takes what it needs; only a longer one makes
-    the run again, with more. With `room` the run is made once, with room for so many bytes, and `full` says whether these were too few. Raises
-    MemoryError if there is no room for the output; if there is none for the words or tables, the status is STOPPED, as the program's.
+    A word or an input that is a string is read as UTF-8. An output with solutions has room for 1 GiB, of which it takes what it needs, so that
+    no search is made again for a shorter one. With `room` the run is made once, with room for so many bytes, and `full` says whether these were
+    too few. Raises MemoryError if there is no room for the output; if there is none for the words or tables, the status is STOPPED, as the
+    program's.
     """
     joined, given = _joined(words), bytes_of(data, "the input")
     if room is None:
@@ -68,8 +69,8 @@ def run(words: Iterable[Text], data: Text = b"", room: Optional[int] = None) -> 
 
 
 def scrambles(state: int, stream: int, length: int, count: int) -> List[str]:
-    """`count` scrambles of `length` turns each, all by one generator that begins with this state and stream, as the program makes them: at most
-    10,000. These are random moves, not random states."""
+    """`count` scrambles of `length` turns each, at most 10,000, all by the generator that begins with this state and stream, as the program
+    makes them. These are random moves, not random states."""
     numbers = (number_of(state, "the state", MOST_WORD), number_of(stream, "the stream", MOST_WORD),
                number_of(length, "the length", MOST_TURNS), number_of(count, "the count", _MOST_SCRAMBLES))
     return run(["scramble", *map(str, numbers)]).out.decode("ascii").splitlines()

@@ -66,8 +66,8 @@ class Tables:
     """The tables of a step, for searches of many lines.
 
     They are built when they are first needed in a process, once for each step, whoever asks, and stay in its memory until it ends: 0.2 million
-    bytes for an edge orientation, 1.3 million for a domino reduction, and as much for each axis of a step that has several; some 15 million for
-    all thirteen steps. So there is nothing to close. Any threads may ask at the same time.
+    bytes for an edge orientation, 1.3 million for a domino reduction, and as much for each axis of a step that has several; some 15 million
+    for all thirteen steps. So there is nothing to close, and nothing can be given back. Any threads may ask at the same time.
     """
 
     __slots__ = ("step", "_tables")
@@ -180,8 +180,8 @@ def count(step: str, line: Text, limit: int = 20, slack: int = 0) -> Count:
 
 
 def solve_all(step: str, lines: Iterable[Text], limit: int = 20, slack: int = 0, most: Optional[int] = None) -> Iterator[List[Solution]]:
-    """The solutions of each line in turn, as `solve` returns them. A line is taken from the iterable when its answer is asked for. The first
-    line with a fault ends the iterator: `line` of the fault is its number, from 1."""
+    """The solutions of each line in turn, as `solve` returns them. A line is taken from the iterable when its answer is asked for. The
+    first line with a fault ends the iterator: `line` of the fault is its number, from 1."""
     return Tables(step).solve_all(lines, limit, slack, most)
 
 

@@ -39,11 +39,11 @@ class Count:
 
 
 class LineFault(ValueError):
-    """A line that spells no moves: `column`, in bytes of UTF-8 from 1, and `text`, what is wrong there. If it is one of many lines, `line` is
-    its number, from 1."""
+    """A line that spells no moves: `column`, in bytes of UTF-8 from 1, and `text`, what is wrong there. If it is one of many lines, `line`
+    is its number, from 1."""
 
     def __init__(self, column: int, text: str, line: Optional[int] = None) -> None:
-        super().__init__(column, text, line)
+        super().__init__(f"column {column}: {text}")
         self.column = column
         self.text = text
         self.line = line
@@ -52,16 +52,16 @@ class LineFault(ValueError):
         return f"{_place(self.line, ', ')}column {self.column}: {self.text}"
 
     def __reduce__(self) -> Tuple[Any, ...]:
-        """What a copy is made of, as for another process: an exception is else made again of what it was made of first, without its line."""
+        """What a copy is made of, as for another process: an exception is made again of its message, if nothing else is said."""
         return type(self), (self.column, self.text, self.line)
 
 
 class StartFault(ValueError):
-    """A line on whose cube a step may not start: `step`, `start`, the step that would have to hold, and `text`, which says so. If it is one of
-    many lines, `line` is its number, from 1."""
+    """A line on whose cube a step may not start: `step`, `start`, the step that would have to hold, and `text`, which says so. If it is one
+    of many lines, `line` is its number, from 1."""
 
     def __init__(self, step: str, start: str, text: str, line: Optional[int] = None) -> None:
-        super().__init__(step, start, text, line)
+        super().__init__(text)
         self.step = step
         self.start = start
         self.text = text
