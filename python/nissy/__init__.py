@@ -12,8 +12,8 @@ r"""nissy for Python: moves and searches of the 3x3x3 cube, by the proved librar
     nissy.LineFault: column 3: not a move
 
 The first search of a step builds its tables, which stay for the next ones (class Tables). A call lets go of Python's lock, so calls of
-several threads run side by side. The library is the file that NISSY_LIBRARY names, else the one that was installed or built with this package,
-else the system's.
+several threads run side by side. The library is the file that NISSY_LIBRARY names, else the one that was installed or built with this
+package, else the system's.
 """
 from ._given import Text as Text
 from ._library import DONE, FAULT, MOST_INPUT, STOPPED, USAGE

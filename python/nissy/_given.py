@@ -14,7 +14,7 @@ def _kind(value: object) -> str:
 
 
 def bytes_of(text: Text, what: str) -> bytes:
-    """Returns a text as the bytes that the library reads. A number is none, though `bytes` takes one; nor are items of several bytes each."""
+    """Returns a text as the bytes that the library reads. A number is none, though `bytes` takes one, nor is an array of numbers."""
     if type(text) is bytes:
         return text
     if isinstance(text, str):

@@ -53,7 +53,8 @@ def says(tally, kind, text, call):
 def solutions(tally):
     """Solutions and their numbers, of which the manual says what they are."""
     rows = [(("eofb", "F B", 5), ["F B", "F B'", "F' B", "F' B'"]), (("drud-eofb", "R U", 5), ["U' R", "U' R'"]),
-            (("dr-eofb", "R U", 5), ["U", "U'"]), (("eofb", "F", 0), []), (("drud-eofb", "", 1, 1), NEAR_SOLVED), (("eofb", ""), [""]), (("eofb", b"(F)"), ["F", "F'"]),
+            (("dr-eofb", "R U", 5), ["U", "U'"]), (("eofb", "F", 0), []), (("drud-eofb", "", 1, 1), NEAR_SOLVED),
+            (("eofb", ""), [""]), (("eofb", b"(F)"), ["F", "F'"]),
             (("eofb", bytearray(b"F")), ["F", "F'"]), (("eofb", memoryview(b"F F")[::2]), [""]), (("eofb", "F\u2019"), ["F", "F'"])]
     for given, wanted in rows:
         found = nissy.solve(*given)
@@ -159,7 +160,8 @@ def numbers(tally):
              ("the limit", 20, lambda it: nissy.solve_all("eofb", [], it)), ("the limit", 20, lambda it: nissy.near("eofb", "", it, 0)),
              ("the slack", 20, lambda it: nissy.near("eofb", "", 0, it)), ("the slack", 20, lambda it: nissy.count_all("eofb", [], 3, it)),
              ("the most", 2**64 - 1, lambda it: nissy.solve("eofb", "", most=it)),
-             ("the state", 2**64 - 1, lambda it: nissy.scramble(it, 1, 1)), ("the stream", 2**64 - 1, lambda it: nissy.scrambles(1, it, 1, 1)), ("the length", 256, lambda it: nissy.scramble(1, 1, it)),
+             ("the state", 2**64 - 1, lambda it: nissy.scramble(it, 1, 1)), ("the stream", 2**64 - 1, lambda it: nissy.scrambles(1, it, 1, 1)),
+             ("the length", 256, lambda it: nissy.scramble(1, 1, it)),
              ("the length", 256, lambda it: nissy.scrambles(1, 1, it, 1)), ("the count", 10_000, lambda it: nissy.scrambles(1, 1, 1, it))]
     for what, most, call in calls:
         tally.holds(f"{what} may be {most:,}, 0 and True", not any(raised(ValueError, lambda: call(it)) for it in (most, 0, True)))
