@@ -58,8 +58,9 @@ def run(words: Iterable[Text], data: Text = b"", room: Optional[int] = None) -> 
     """Does what the program does with these words after its name and `data` as its input.
 
     A word or an input that is a string is read as UTF-8. Solutions have room for 1 GiB, of which they take what they need; only for more is
-    their search made again. With `room` the run is made once, with room for so many bytes, and `full` says whether these were too few. Raises
-    MemoryError if there is no room for the output; if there is none for the words or tables, the status is STOPPED, as the program's.
+    their search made again. With `room` the run is made once, with room for so many bytes, and `full` says whether these were too few.
+    Raises MemoryError if there is no room for the output. If there is none for the words or tables, the status is STOPPED, as the
+    program's.
     """
     joined, given = _joined(words), bytes_of(data, "the input")
     if room is None:

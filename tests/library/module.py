@@ -96,7 +96,8 @@ def names():
     exec("from nissy import *", brought)
     del brought["__builtins__"]
     wanted = {"invert", "unniss", "cleanup", "facelets", "run", "Answer", "LineFault", "MOST_INPUT", "DONE", "FAULT", "USAGE", "STOPPED",
-              "solve", "solve_all", "near", "count", "count_all", "scramble", "scrambles", "steps", "Tables", "Solution", "Count", "StartFault"}
+              "solve", "solve_all", "near", "count", "count_all", "scramble", "scrambles", "steps", "Tables", "Solution", "Count",
+              "StartFault"}
     holds("an import of all brings what the module is for, and no more", set(brought) == wanted)
 
 

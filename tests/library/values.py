@@ -160,7 +160,8 @@ def numbers(tally):
              ("the limit", 20, lambda it: nissy.solve_all("eofb", [], it)), ("the limit", 20, lambda it: nissy.near("eofb", "", it, 0)),
              ("the slack", 20, lambda it: nissy.near("eofb", "", 0, it)), ("the slack", 20, lambda it: nissy.count_all("eofb", [], 3, it)),
              ("the most", 2**64 - 1, lambda it: nissy.solve("eofb", "", most=it)),
-             ("the state", 2**64 - 1, lambda it: nissy.scramble(it, 1, 1)), ("the stream", 2**64 - 1, lambda it: nissy.scrambles(1, it, 1, 1)),
+             ("the state", 2**64 - 1, lambda it: nissy.scramble(it, 1, 1)),
+             ("the stream", 2**64 - 1, lambda it: nissy.scrambles(1, it, 1, 1)),
              ("the length", 256, lambda it: nissy.scramble(1, 1, it)),
              ("the length", 256, lambda it: nissy.scrambles(1, 1, it, 1)), ("the count", 10_000, lambda it: nissy.scrambles(1, 1, 1, it))]
     for what, most, call in calls:
