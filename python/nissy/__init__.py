@@ -29,8 +29,7 @@ __all__ = ["DONE", "FAULT", "MOST_INPUT", "STOPPED", "USAGE", "Answer", "Count",
 __version__ = version()
 del version
 
-# what a caller sees of these, as in a traceback or in help, is named by the package
-for _public in (Answer, Count, LineFault, Solution, StartFault, Tables, cleanup, count, count_all, facelets, invert, near, run, scramble,
-                scrambles, solve, solve_all, steps, unniss):
+# what others see of these, as in a traceback or in what was pickled, is named by the package
+for _public in (Answer, Count, LineFault, Solution, StartFault, Tables):
     _public.__module__ = __name__
 del _public

@@ -46,15 +46,15 @@ def put_back(room: Room) -> None:
 
 
 def large() -> Room:
-    """Returns a room of 1 GiB, or of what the system grants of that."""
+    """Returns a room of 1 GiB, or of half of that and so on, as the system grants it, but always one larger than an ordinary one."""
     size = _LARGE
     while True:
         try:
             return Room(size)
         except MemoryError:
+            size //= 2
             if size <= ORDINARY:
                 raise
-            size //= 2
 
 
 def larger(room: Room) -> Room:

@@ -35,8 +35,7 @@ def _renew_locks() -> None:
         place.lock = threading.Lock()
 
 
-if hasattr(os, "register_at_fork"):
-    os.register_at_fork(after_in_child=_renew_locks)
+os.register_at_fork(after_in_child=_renew_locks)
 
 
 def _place_of(step: str) -> _Place:

@@ -1,6 +1,4 @@
-"""What the calls return and raise."""
-from __future__ import annotations
-
+"""What the calls return and raise. Types stand here as they are and not as texts, for those who ask a class of the package for them."""
 from dataclasses import dataclass
 from typing import Any, Optional, Tuple
 

@@ -13,6 +13,7 @@ import pickle
 import sys
 from dataclasses import FrozenInstanceError
 from pathlib import Path
+from typing import Iterator, List, Optional, get_type_hints
 
 TOP = Path(__file__).resolve().parents[2]
 sys.path[:0] = [str(TOP / "python"), str(TOP / "tests/page")]
@@ -183,6 +184,17 @@ def liars(tally):
     tally.equal("words that lie", nissy.run([text("invert"), data(b"R")]).out, b"R'\n")
 
 
+def of_classes(tally):
+    """What tools ask of the classes."""
+    hints = {nissy.Count: {"length": Optional[int], "solutions": int, "nodes": int},
+             nissy.Answer: {"status": int, "out": bytes, "err": bytes, "full": bool}}
+    for kind, wanted in hints.items():
+        tally.equal(f"the types of {kind.__name__}", get_type_hints(kind), wanted)
+    for kind in (nissy.Answer, nissy.Count, nissy.LineFault, nissy.Solution, nissy.StartFault, nissy.Tables):
+        tally.equal(f"the place of {kind.__name__}", kind.__module__, "nissy")
+    tally.equal("the types of solve_all", get_type_hints(nissy.solve_all)["return"], Iterator[List[nissy.Solution]])
+
+
 def iterables(tally):
     """Lines come one at a time, when they are asked for."""
     taken = []
@@ -258,7 +270,7 @@ def rooms(tally):
 def main():
     """All of it."""
     tally = Tally()
-    for part in (solutions, counts, without_lines, faults, wrong_types, numbers, liars, iterables, copies, rooms):
+    for part in (solutions, counts, without_lines, faults, wrong_types, numbers, liars, of_classes, iterables, copies, rooms):
         part(tally)
     tally.end()
 
