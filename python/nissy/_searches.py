@@ -9,7 +9,7 @@ from typing import Any, Callable, Dict, Iterable, Iterator, List, NoReturn, Opti
 
 from . import _library, _rooms
 from ._given import Text, bytes_of, each_of, number_of
-from ._library import DONE, FAULT, NOT_START, ROOM, STOPPED, KeptTables
+from ._library import DONE, FAULT, NOT_START, ROOM, KeptTables
 from ._lines import MOST_WORD, fault_text, refuse, start_of, steps
 from ._values import Count, LineFault, Solution, StartFault
 
@@ -20,19 +20,37 @@ Value = TypeVar("Value")
 class _Place:
     """Where the tables of one step stand, once they are built."""
 
-    def __init__(self) -> None:
-        self.lock = threading.Lock()
+    def __init__(self, step: str) -> None:
+        self.step = step
+        # a signal's handler, called while its own thread builds, builds tables of its own and doesn't wait without end
+        self.lock = threading.RLock()
         self.tables: Optional[KeptTables] = None
+
+    def built(self) -> KeptTables:
+        """Returns the tables, which are built by the first call and stay: the library gives none back."""
+        tables = self.tables
+        if tables is None:
+            with self.lock:
+                tables = self.tables or self._build()
+        return tables
+
+    def _build(self) -> KeptTables:
+        """Builds the tables, keeps them and returns them."""
+        tables, name = KeptTables(), self.step.encode()
+        if _library.nissy_build(ctypes.byref(tables), name, len(name)) != DONE:
+            raise MemoryError(f"no memory for the tables of {self.step}")
+        self.tables = tables
+        return tables
 
 
 # one for each step, and no more, whatever names callers bring
-_places: Dict[str, _Place] = {name: _Place() for name in steps()}
+_places: Dict[str, _Place] = {name: _Place(name) for name in steps()}
 
 
 def _renew_locks() -> None:
     """Makes new locks in a forked child, where nobody is left to open one that another thread held. Tables that are whole stay."""
     for place in _places.values():
-        place.lock = threading.Lock()
+        place.lock = threading.RLock()
 
 
 os.register_at_fork(after_in_child=_renew_locks)
@@ -48,19 +66,6 @@ def _place_of(step: str) -> _Place:
     return _places[step]
 
 
-def _built(step: str) -> KeptTables:
-    """Returns the tables of a step, which are built by the first call and stay: the library gives none back."""
-    place = _place_of(step)
-    if place.tables is None:
-        with place.lock:
-            if place.tables is None:
-                tables, name = KeptTables(), step.encode()
-                if _library.nissy_build(ctypes.byref(tables), name, len(name)) == STOPPED:
-                    raise MemoryError(f"no memory for the tables of {step}")
-                place.tables = tables
-    return place.tables
-
-
 class Tables:
     """The tables of a step, for searches of many lines.
 
@@ -72,8 +77,9 @@ class Tables:
     __slots__ = ("step", "_tables")
 
     def __init__(self, step: str) -> None:
-        self._tables = ctypes.byref(_built(step))
-        self.step = step
+        place = _place_of(step)
+        self._tables = ctypes.byref(place.built())
+        self.step = place.step
         """The step's name."""
 
     def __repr__(self) -> str:

@@ -97,6 +97,20 @@ signal.setitimer(signal.ITIMER_REAL, 0)
 print(all(handled), not wrong)
 """
 
+# a signal's handler asks for the step that its own thread is building
+SIGNAL_IN_BUILD = """
+import signal, time
+import nissy
+handled, build = [], nissy._library.nissy_build
+def slow_build(*given):
+    time.sleep(0.03)
+    return build(*given)
+nissy._library.nissy_build = slow_build
+signal.signal(signal.SIGALRM, lambda *_: handled.append(nissy.solve("eofb", "B")))
+signal.setitimer(signal.ITIMER_REAL, 0.01)
+print(nissy.solve("eofb", "F"), handled)
+"""
+
 # little memory: a smaller room than the usual one, none for what outgrows it, and none for tables
 LITTLE = """
 import resource
@@ -166,6 +180,7 @@ def processes(tally):
     tally.equal("a child of a process that builds", of_process(FORK), "0 ['R', \"R'\"]\n")
     tally.equal("parent and child", of_process(BOTH), "0 True\n")
     tally.equal("calls of a signal's handler", of_process(SIGNALS), "True True\n")
+    tally.equal("a handler's call while tables are built", of_process(SIGNAL_IN_BUILD), "['F', \"F'\"] [['B', \"B'\"]]\n")
     tally.equal("no memory for tables", of_process(NO_TABLES), "no memory for the tables of dr-eofb\n" * 2)
     little = of_process(LITTLE).splitlines()
     tally.equal("less memory than a large room", little[:1], ["True 148176"])

@@ -31,8 +31,8 @@ FAULTS = [("R Q", 3, "not a move"), ("(R (U))", 4, "bracket inside a bracket"), 
           ("R (U", 3, "bracket not closed"), ("U" * 257, 257, "more than 256 moves"), ("\u2019", 1, "not a move"), ("R\n", 2, "not a move"),
           ("R\nU", 2, "not a move"), ("\udcff", 1, "not a move"), ("R\ud800", 2, "not a move"), (b"R\0", 2, "not a move")]
 # methods of a class that doesn't say what its values hold
-LYING = {"__len__": lambda it: 10**6, "encode": lambda it, *how: b"F" * 10, "__bytes__": lambda it: b"F", "__index__": lambda it: 3,
-         "__lt__": lambda it, other: True, "__le__": lambda it, other: True, "__ge__": lambda it, other: True,
+LYING = {"__eq__": lambda it, other: True, "__hash__": lambda it: hash("eorl"), "__len__": lambda it: 10**6,
+         "encode": lambda it, *how: b"F" * 10, "__bytes__": lambda it: b"F", "__index__": lambda it: 3, "__lt__": lambda it, other: True, "__le__": lambda it, other: True, "__ge__": lambda it, other: True,
          "__add__": lambda it, other: 0}
 
 
@@ -181,6 +181,9 @@ def liars(tally):
     tally.equal("a str that lies about its bytes", nissy.invert(text("R U")), "U' R'")
     tally.holds("a number that lies about its order", raised(ValueError, lambda: nissy.solve("eofb", "F", number(276))))
     tally.holds("a room that lies about its size", raised(MemoryError, lambda: nissy.run(["steps"], room=number(2**62))))
+    tables = nissy.Tables(text("eoud"))
+    tally.equal("a name that says that it is another one", (tables.step, tables.solve("R")), ("eorl", ["R", "R'"]))
+    tally.equal("that step for others", nissy.solve("eorl", "R"), ["R", "R'"])
     tally.equal("words that lie", nissy.run([text("invert"), data(b"R")]).out, b"R'\n")
 
 
