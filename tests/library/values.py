@@ -31,9 +31,9 @@ FAULTS = [("R Q", 3, "not a move"), ("(R (U))", 4, "bracket inside a bracket"), 
           ("R (U", 3, "bracket not closed"), ("U" * 257, 257, "more than 256 moves"), ("\u2019", 1, "not a move"), ("R\n", 2, "not a move"),
           ("R\nU", 2, "not a move"), ("\udcff", 1, "not a move"), ("R\ud800", 2, "not a move"), (b"R\0", 2, "not a move")]
 # methods of a class that doesn't say what its values hold
-LYING = {"__eq__": lambda it, other: True, "__hash__": lambda it: hash("eorl"), "__len__": lambda it: 10**6,
-         "encode": lambda it, *how: b"F" * 10, "__bytes__": lambda it: b"F", "__index__": lambda it: 3, "__lt__": lambda it, other: True, "__le__": lambda it, other: True, "__ge__": lambda it, other: True,
-         "__add__": lambda it, other: 0}
+LYING = {"__eq__": lambda it, other: True, "__hash__": lambda it: hash("eorl"), "__len__": lambda it: 10**6, "__index__": lambda it: 3,
+         "encode": lambda it, *how: b"F" * 10, "__bytes__": lambda it: b"F", "__add__": lambda it, other: 0,
+         "__lt__": lambda it, other: True, "__le__": lambda it, other: True, "__ge__": lambda it, other: True}
 
 
 def raised(kind, call):
