@@ -2,7 +2,7 @@
 from __future__ import annotations
 
 from functools import lru_cache
-from typing import Any, Callable, List, NoReturn
+from typing import Any, Callable, List, NoReturn, Tuple
 
 from . import _library, _rooms
 from ._given import Text, bytes_of, number_of
@@ -12,7 +12,7 @@ from ._values import LineFault
 MOST_WORD = 2**64 - 1
 """The greatest number of 64 bits."""
 
-MOST_TURNS = 256
+_MOST_LENGTH = 256
 
 
 def _written(call: Callable[..., Any], *given: Any) -> str:
@@ -65,10 +65,15 @@ def facelets(line: Text) -> str:
     return _of_line(_library.nissy_print, line)
 
 
+def drawing(state: int, stream: int, length: int) -> Tuple[int, int, int]:
+    """Returns the numbers by which scrambles are drawn, checked."""
+    return (number_of(state, "the state", MOST_WORD), number_of(stream, "the stream", MOST_WORD),
+            number_of(length, "the length", _MOST_LENGTH))
+
+
 def scramble(state: int, stream: int, length: int) -> str:
     """The first scramble of `length` turns by the generator that begins with this state and stream: what `scrambles` begins with."""
-    return _written(_library.nissy_scramble, number_of(state, "the state", MOST_WORD), number_of(stream, "the stream", MOST_WORD),
-                    number_of(length, "the length", MOST_TURNS))
+    return _written(_library.nissy_scramble, *drawing(state, stream, length))
 
 
 def steps() -> List[str]:

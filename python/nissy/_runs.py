@@ -7,7 +7,7 @@ from typing import Iterable, List, Optional
 from . import _library, _rooms
 from ._given import Text, bytes_of, each_of, number_of
 from ._library import ERROR_ROOM
-from ._lines import MOST_TURNS, MOST_WORD
+from ._lines import drawing
 from ._rooms import Room
 from ._values import Answer
 
@@ -71,6 +71,5 @@ def run(words: Iterable[Text], data: Text = b"", room: Optional[int] = None) -> 
 def scrambles(state: int, stream: int, length: int, count: int) -> List[str]:
     """`count` scrambles of `length` turns each, at most 10,000, all by the generator that begins with this state and stream, as the program
     makes them. These are random moves, not random states."""
-    numbers = (number_of(state, "the state", MOST_WORD), number_of(stream, "the stream", MOST_WORD),
-               number_of(length, "the length", MOST_TURNS), number_of(count, "the count", _MOST_SCRAMBLES))
+    numbers = (*drawing(state, stream, length), number_of(count, "the count", _MOST_SCRAMBLES))
     return run(["scramble", *map(str, numbers)]).out.decode("ascii").splitlines()

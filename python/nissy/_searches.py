@@ -13,7 +13,7 @@ from ._library import DONE, FAULT, NOT_START, ROOM, KeptTables
 from ._lines import MOST_WORD, fault_text, refuse, start_of, steps
 from ._values import Count, LineFault, Solution, StartFault
 
-MOST_TURNS = 20
+_MOST_TURNS = 20
 Value = TypeVar("Value")
 
 
@@ -139,7 +139,7 @@ class Tables:
 
 def _numbers(limit: int, slack: int) -> Tuple[int, int]:
     """Returns the two numbers of turns, checked."""
-    return number_of(limit, "the limit", MOST_TURNS), number_of(slack, "the slack", MOST_TURNS)
+    return number_of(limit, "the limit", _MOST_TURNS), number_of(slack, "the slack", _MOST_TURNS)
 
 
 def _most(most: Optional[int]) -> int:
