@@ -27,31 +27,35 @@ def _joined(words: Iterable[Text]) -> bytes:
     return b"".join(word + b"\0" for word in listed)
 
 
-def _run_in(room: Room, words: bytes, data: bytes) -> Answer:
-    """Returns the answer of one run whose output goes to a room."""
-    err = ctypes.create_string_buffer(ERROR_ROOM)
-    answer = _library.nissy_run(words, len(words), data, len(data), room.address, room.size, ctypes.addressof(err), ERROR_ROOM)
-    return Answer(answer.status, room.memory[:answer.out_length], err.raw[:answer.err_length], answer.out_too_small)
+class _Run:
+    """One run, whose output went to a room."""
+
+    def __init__(self, room: Room, words: bytes, data: bytes) -> None:
+        self._room, self._err = room, ctypes.create_string_buffer(ERROR_ROOM)
+        self._told = _library.nissy_run(words, len(words), data, len(data), room.address, room.size,
+                                        ctypes.addressof(self._err), ERROR_ROOM)
+        self.full: bool = self._told.out_too_small
+
+    def answer(self) -> Answer:
+        """Returns the answer, with the output copied from the room."""
+        told = self._told
+        return Answer(told.status, self._room.memory[:told.out_length], self._err.raw[:told.err_length], self.full)
 
 
-def _first(words: bytes, data: bytes) -> Answer:
-    """Returns the answer of a run in an ordinary room, or in a large one if the output may well need it."""
-    if words.startswith(_SEARCHES) or len(data) > _SHORT:
-        return _in_large(words, data)
-    room = _rooms.take()
-    answer = _run_in(room, words, data)
-    _rooms.put_back(room)
-    return _in_large(words, data) if answer.full else answer
-
-
-def _in_large(words: bytes, data: bytes) -> Answer:
-    """Returns the answer of a run in a room that is large enough."""
-    room = _rooms.large()
-    while True:
-        answer = _run_in(room, words, data)
+def _answer(words: bytes, data: bytes) -> Answer:
+    """Returns the answer of a run that has room enough: an ordinary room, or a large one if the output may well need it."""
+    if not words.startswith(_SEARCHES) and len(data) <= _SHORT:
+        room = _rooms.take()
+        answer = _Run(room, words, data).answer()
+        _rooms.put_back(room)
         if not answer.full:
             return answer
+    room = _rooms.large()
+    made = _Run(room, words, data)
+    while made.full:
         room = _rooms.larger(room)
+        made = _Run(room, words, data)
+    return made.answer()
 
 
 def run(words: Iterable[Text], data: Text = b"", room: Optional[int] = None) -> Answer:
@@ -64,8 +68,8 @@ def run(words: Iterable[Text], data: Text = b"", room: Optional[int] = None) -> 
     """
     joined, given = _joined(words), bytes_of(data, "the input")
     if room is None:
-        return _first(joined, given)
-    return _run_in(Room(number_of(room, "the room", _MOST_ROOM)), joined, given)
+        return _answer(joined, given)
+    return _Run(Room(number_of(room, "the room", _MOST_ROOM)), joined, given).answer()
 
 
 def scrambles(state: int, stream: int, length: int, count: int) -> List[str]:

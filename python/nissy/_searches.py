@@ -69,8 +69,8 @@ def _place_of(step: str) -> _Place:
 class Tables:
     """The tables of a step, for searches of many lines.
 
-    They are built when they are first needed in a process, once for each step, whoever asks, and stay in its memory until it ends: 0.2
-    million bytes for an edge orientation, 1.3 million for a domino reduction, and as much for each axis of a step that has several; some 15
+    They are built when they are first needed in a process, once for each step, whoever asks, and stay in its memory until it ends: 0.1
+    million bytes for an edge orientation, 1.2 million for a domino reduction, and as much for each axis of a step that has several; some 15
     million for all thirteen steps. So there is nothing to close, and nothing can be given back. Any threads may ask at the same time.
     """
 

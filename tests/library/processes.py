@@ -44,6 +44,28 @@ wanted = {"drud-eofb": (["U' R", "U' R'"], 2), "eofb": (["F B", "F B'", "F' B", 
 print(len(answers), all(wanted[step] == (found, count) for step, found, count in answers), sorted(built))
 """
 
+# eight threads go through the same lines by the same tables, half of them by solve_all; a run says what is right
+SAME_TABLES = """
+import threading
+import nissy
+scrambles = nissy.scrambles(5, 6, 20, 200)
+oriented = [line + " " + nissy.solve("eofb", line, most=1)[0] for line in scrambles]
+whole = nissy.run(["solve", "dr-eofb", "20"], "\\n".join(oriented) + "\\n").out.decode()
+answers = {}
+def text(found):
+    return "".join(f"{it} ({it.length})".strip() + "\\n" for it in found) + "\\n"
+def ask(number):
+    if number % 2:
+        found = nissy.solve_all("dr-eofb", oriented)
+    else:
+        found = (nissy.solve("dr-eofb", line) for line in oriented)
+    answers[number] = "".join(map(text, found))
+threads = [threading.Thread(target=ask, args=(number,)) for number in range(8)]
+for thread in threads: thread.start()
+for thread in threads: thread.join()
+print(len(answers), set(answers.values()) == {whole}, whole.count("(") > 1000)
+"""
+
 # a child that was forked while another thread built: it has the tables that were whole, and builds the others itself
 FORK = """
 import os, threading
@@ -129,6 +151,23 @@ print(without_memory(lambda: nissy.run(["near", "eofb", "7", "20"], b"\\n")), wi
 print(nissy.solve("eofb", "F"), nissy.run(["steps"], room=5).out)
 """
 
+# the tables of all steps, asked for twice: what they take, and that it is taken once
+MEMORY = """
+import resource
+import nissy
+def resident():
+    return int(open("/proc/self/statm").read().split()[1]) * resource.getpagesize()
+nissy.solve("eofb", "F")
+before = resident()
+for step in nissy.steps():
+    nissy.Tables(step)
+first = resident()
+for _ in range(20):
+    for step in nissy.steps():
+        nissy.Tables(step).count("")
+print(10e6 < first - before < 20e6, resident() - first < 2e6)
+"""
+
 NO_TABLES = """
 import nissy
 nissy._library.nissy_build = lambda *given: 3
@@ -177,10 +216,12 @@ def of_process(code, **named):
 def processes(tally):
     """Each of the codes above, and what it prints where all is well."""
     tally.equal("eight threads are the first to ask", of_process(FIRST_USE), "160 True [b'drud-eofb', b'eofb']\n")
+    tally.equal("eight threads over the same tables", of_process(SAME_TABLES), "8 True True\n")
     tally.equal("a child of a process that builds", of_process(FORK), "0 ['R', \"R'\"]\n")
     tally.equal("parent and child", of_process(BOTH), "0 True\n")
     tally.equal("calls of a signal's handler", of_process(SIGNALS), "True True\n")
     tally.equal("a handler's call while tables are built", of_process(SIGNAL_IN_BUILD), "['F', \"F'\"] [['B', \"B'\"]]\n")
+    tally.equal("the tables of all steps take some 15 million bytes, once", of_process(MEMORY), "True True\n")
     tally.equal("no memory for tables", of_process(NO_TABLES), "no memory for the tables of dr-eofb\n" * 2)
     little = of_process(LITTLE).splitlines()
     tally.equal("less memory than a large room", little[:1], ["True 148176"])
