@@ -18,7 +18,12 @@ def bytes_of(text: Text, what: str) -> bytes:
     if type(text) is bytes:
         return text
     if isinstance(text, str):
-        return _encoded(text)
+        # by str's own method, whatever a class made of it says
+        try:
+            return str.encode(text, "utf-8", "surrogateescape")
+        except UnicodeEncodeError:
+            # half of a surrogate pair, as JSON may hold one: in its place come bytes that are no text, for the library to refuse
+            return str.encode(text, "utf-8", "surrogatepass")
     try:
         view = memoryview(text)
     except TypeError:
@@ -26,15 +31,6 @@ def bytes_of(text: Text, what: str) -> bytes:
     if view.itemsize != 1:
         raise TypeError(f"{what} is a str or bytes, not items of {view.itemsize} bytes each")
     return bytes(view)
-
-
-def _encoded(text: str) -> bytes:
-    """Returns the text as UTF-8, by str's own method, whatever a class made of it says."""
-    try:
-        return str.encode(text, "utf-8", "surrogateescape")
-    except UnicodeEncodeError:
-        # half of a surrogate pair, as JSON may hold one: in its place come bytes that are no text, for the library to refuse
-        return str.encode(text, "utf-8", "surrogatepass")
 
 
 def number_of(value: int, what: str, most: int) -> int:

@@ -14,6 +14,8 @@ from ._lines import MOST_WORD, fault_text, refuse, start_of, steps
 from ._values import Count, LineFault, Solution, StartFault
 
 _MOST_TURNS = 20
+# what stands behind a solution of each length
+_ENDS = ("(0)\n", *(f" ({length})\n" for length in range(1, _MOST_TURNS + 1)))
 Value = TypeVar("Value")
 
 
@@ -119,7 +121,7 @@ class Tables:
             out = room.memory[:answer.out_length] if answer.status == DONE else b""
         if answer.status:
             self._refuse(answer)
-        return [Solution(row.rpartition(" (")[0]) for row in out.decode("ascii").splitlines()]
+        return _solutions(out.decode("ascii"), answer.least)
 
     def _count(self, limit: int, slack: int, line: Text) -> Count:
         """Returns how many solutions a line has, by numbers that were checked."""
@@ -135,6 +137,18 @@ class Tables:
             start = start_of(self.step)
             raise StartFault(self.step, start, f"{start} {fault_text(NOT_START)}")
         refuse(answer)
+
+
+def _solutions(text: str, length: int) -> List[Solution]:
+    """Returns the solutions of a text in which each stands on a line with its length in brackets. The first ones have this length."""
+    found: List[Solution] = []
+    while text:
+        # all of a length are cut at once: line by line that takes twice the time
+        moves = text.split(_ENDS[length])
+        text = moves.pop()
+        found += map(Solution, moves)
+        length += 1
+    return found
 
 
 def _numbers(limit: int, slack: int) -> Tuple[int, int]:
@@ -165,31 +179,43 @@ def _answers(lines: Iterator[Text], ask: Callable[[Text], Value]) -> Iterator[Va
         yield answer
 
 
+_asked: Dict[str, Tables] = {}
+
+
+def _tables(step: str) -> Tables:
+    """Returns the tables of a step, those of the last call if there was one."""
+    try:
+        return _asked[step]
+    except (KeyError, TypeError):
+        tables = Tables(step)
+        return _asked.setdefault(tables.step, tables)
+
+
 def solve(step: str, line: Text, limit: int = 20, slack: int = 0, most: Optional[int] = None) -> List[Solution]:
     """The solutions of a line: those that have at most `limit` turns and at most `slack` more than the shortest, by length and then in turn
     order, as `nissy near` writes them (`nissy solve` with slack 0). With `most` no more than so many of them, and the search ends there.
     Raises LineFault and StartFault.
     """
-    return Tables(step).solve(line, limit, slack, most)
+    return _tables(step).solve(line, limit, slack, most)
 
 
 def near(step: str, line: Text, limit: int, slack: int, most: Optional[int] = None) -> List[Solution]:
     """The solutions of a line up to `slack` turns longer than the shortest: `solve` by another name, which is the program's."""
-    return Tables(step).solve(line, limit, slack, most)
+    return _tables(step).solve(line, limit, slack, most)
 
 
 def count(step: str, line: Text, limit: int = 20, slack: int = 0) -> Count:
     """How many solutions `solve` returns of a line, of which length the shortest are, and how many positions the search looks at. Raises
     LineFault and StartFault."""
-    return Tables(step).count(line, limit, slack)
+    return _tables(step).count(line, limit, slack)
 
 
 def solve_all(step: str, lines: Iterable[Text], limit: int = 20, slack: int = 0, most: Optional[int] = None) -> Iterator[List[Solution]]:
     """The solutions of each line in turn, as `solve` returns them. A line is taken from the iterable when its answer is asked for. The
     first line with a fault ends the iterator: `line` of the fault is its number, from 1."""
-    return Tables(step).solve_all(lines, limit, slack, most)
+    return _tables(step).solve_all(lines, limit, slack, most)
 
 
 def count_all(step: str, lines: Iterable[Text], limit: int = 20, slack: int = 0) -> Iterator[Count]:
     """How many solutions each line has in turn, as `count` returns it, and as `solve_all` takes the lines."""
-    return Tables(step).count_all(lines, limit, slack)
+    return _tables(step).count_all(lines, limit, slack)
