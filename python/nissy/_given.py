@@ -37,6 +37,7 @@ def number_of(value: int, what: str, most: int) -> int:
     """Returns a number from 0 to `most`, of an int or of what stands for one. The library would read another one modulo a power of two."""
     if type(value) is not int:
         try:
+            # before Python 3.10 an index may be of a class made of int, with comparisons of its own
             value = int.__add__(operator.index(value), 0)
         except TypeError:
             raise TypeError(f"{what} is an int, not {_kind(value)}") from None
