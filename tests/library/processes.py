@@ -133,8 +133,8 @@ signal.setitimer(signal.ITIMER_REAL, 0.01)
 print(nissy.solve("eofb", "F"), handled)
 """
 
-# little memory: a smaller room than the usual one, none for what outgrows it, and none for tables
-LITTLE = """
+# lets a process have so many bytes more, and says what a call without memory says
+LIMITED = """
 import resource
 import nissy
 def limited(more):
@@ -144,6 +144,10 @@ def without_memory(call):
     try: call()
     except MemoryError as error: return str(error)
 nissy.solve("eofb", "F")
+"""
+
+# little memory: a smaller room than the usual one, and none for what outgrows it
+LITTLE = LIMITED + """
 limited(200_000_000)
 print(nissy.run(["solve", "eofb", "20"], b"F\\n").out == b"F (1)\\nF' (1)\\n\\n", len(nissy.near("eofb", "", 5, 20)))
 limited(20_000_000)
@@ -168,12 +172,12 @@ for _ in range(20):
 print(10e6 < first - before < 20e6, resident() - first < 2e6)
 """
 
-NO_TABLES = """
-import nissy
-nissy._library.nissy_build = lambda *given: 3
-for _ in range(2):
-    try: nissy.count("dr-eofb", "")
-    except MemoryError as error: print(error)
+# too little for the tables of a step, and then enough
+NO_TABLES = LIMITED + """
+limited(300_000)
+print(*(without_memory(lambda: nissy.count("dr-eofb", "")) for _ in range(2)), nissy.solve("eofb", "F"), sep="; ")
+limited(100_000_000)
+print(nissy.count("dr-eofb", "R U").solutions)
 """
 
 USER = """
@@ -222,7 +226,8 @@ def processes(tally):
     tally.equal("calls of a signal's handler", of_process(SIGNALS), "True True\n")
     tally.equal("a handler's call while tables are built", of_process(SIGNAL_IN_BUILD), "['F', \"F'\"] [['B', \"B'\"]]\n")
     tally.equal("the tables of all steps take some 15 million bytes, once", of_process(MEMORY), "True True\n")
-    tally.equal("no memory for tables", of_process(NO_TABLES), "no memory for the tables of dr-eofb\n" * 2)
+    tally.equal("no memory for tables", of_process(NO_TABLES),
+                "no memory for the tables of dr-eofb; no memory for the tables of dr-eofb; ['F', \"F'\"]\n2\n")
     little = of_process(LITTLE).splitlines()
     tally.equal("less memory than a large room", little[:1], ["True 148176"])
     tally.holds("no memory for all solutions: " + str(little[1:2]), little[1:2] and little[1].count("bytes of output") == 2)
