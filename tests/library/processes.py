@@ -210,14 +210,14 @@ WRONG_USES = ('nissy.solve("eofb", 3)', 'nissy.solve(3, "R")', 'nissy.count("eof
               'nissy.nothing', 'nissy.solve("eofb", "R")[0].moves')
 
 
-def of_process(code, **named):
+def of_process(code: str, **named: str) -> str:
     """What a process of its own prints of this code, and what it says where it fails."""
     environment = dict(os.environ, PYTHONPATH=PYTHON, PYTHONDONTWRITEBYTECODE="1", **named)
     done = subprocess.run([sys.executable, "-c", code], capture_output=True, text=True, env=environment, timeout=SECONDS, check=False)
     return done.stdout if done.returncode == 0 else done.stdout + done.stderr
 
 
-def processes(tally):
+def processes(tally: Tally) -> None:
     """Each of the codes above, and what it prints where all is well."""
     tally.equal("eight threads are the first to ask", of_process(FIRST_USE), "160 True [b'drud-eofb', b'eofb']\n")
     tally.equal("eight threads over the same tables", of_process(SAME_TABLES), "8 True True\n")
@@ -234,7 +234,7 @@ def processes(tally):
     tally.equal("it goes on after that", little[2:], ["['F', \"F'\"] b'eofb\\n'"])
 
 
-def libraries(tally):
+def libraries(tally: Tally) -> None:
     """Libraries that aren't there, or are another one."""
     said = of_process("import nissy", NISSY_LIBRARY="/nowhere/libnissy.so.1")
     tally.holds("a library that isn't there is named", "OSError: /nowhere/libnissy.so.1" in said)
@@ -252,13 +252,13 @@ def libraries(tally):
             tally.equal(f"the library that stands with {place}", os.path.realpath(found), os.path.realpath(beside / "libnissy.so.1"))
 
 
-def types(tally):
+def types(tally: Tally) -> None:
     """The package and its users, as mypy sees them."""
     if not shutil.which("mypy"):
         print("skipped: mypy isn't installed")
         return
 
-    def complaints(folder, *words):
+    def complaints(folder: str, *words: str) -> str:
         done = subprocess.run(["mypy", "--strict", "--no-error-summary", "--cache-dir", os.path.join(folder, "cache"), *words],
                               capture_output=True, text=True, cwd=folder, env=dict(os.environ, MYPYPATH=PYTHON), check=False)
         return done.stdout + done.stderr
@@ -274,7 +274,7 @@ def types(tally):
             tally.holds(f"mypy refuses {line}", f"wrong.py:{number}: error" in told)
 
 
-def main():
+def main() -> None:
     """All of it."""
     tally = Tally()
     for part in (processes, libraries, types):
