@@ -110,6 +110,8 @@ if missing python3; then
     skips "there is no python3 here"
 else
     add python3 tests/library/module.py
+    add python3 tests/library/values.py
+    add python3 tests/library/processes.py
     add python3 tests/library/beside_program.py "$program" 1 0.4
 fi
 ended

@@ -1,5 +1,6 @@
 #!/usr/bin/env python3
-"""The Python module by itself: what it raises, how it takes text, room that grows, and threads.
+"""The Python module by itself, its calls on a line and its runs: what they raise, how they take text, room that grows, and threads. What
+returns values is tried by values.py.
 
     tests/library/module.py [large]
 
@@ -85,8 +86,8 @@ def runs():
     holds("nor is it an input", raised(TypeError, lambda: nissy.run(["invert"], 3)))
     holds("an answer can't be changed", raised(AttributeError, lambda: setattr(nissy.run(["steps"]), "status", 1)))
     holds("the module's functions have types", typing.get_type_hints(nissy.run)["return"] is nissy.Answer)
-    public = (nissy.run, nissy.invert, nissy.unniss, nissy.cleanup, nissy.facelets)
-    holds("each function says what it does", all(function.__doc__ for function in public))
+    public = [getattr(nissy, name) for name in nissy.__all__ if callable(getattr(nissy, name))]
+    holds("each function and each class says what it does", len(public) > 10 and all(it.__doc__ for it in public))
 
 
 def names():
@@ -94,7 +95,9 @@ def names():
     brought = {}
     exec("from nissy import *", brought)
     del brought["__builtins__"]
-    wanted = {"invert", "unniss", "cleanup", "facelets", "run", "Answer", "LineFault", "MOST_INPUT", "DONE", "FAULT", "USAGE", "STOPPED"}
+    wanted = {"invert", "unniss", "cleanup", "facelets", "run", "Answer", "LineFault", "MOST_INPUT", "DONE", "FAULT", "USAGE", "STOPPED",
+              "solve", "solve_all", "near", "count", "count_all", "scramble", "scrambles", "steps", "Tables", "Solution", "Count",
+              "StartFault"}
     holds("an import of all brings what the module is for, and no more", set(brought) == wanted)
 
 
@@ -113,12 +116,19 @@ def rooms():
     holds("a room of nothing", nissy.run(["steps"], room=0).full)
     for room in (b"abc", "7", 7.0, [7]):
         holds("%r is no room" % (room,), raised(TypeError, lambda: nissy.run(["steps"], room=room)))
+    holds("nor are less than no bytes", raised(ValueError, lambda: nissy.run(["steps"], room=-1)))
+    holds("more than there is memory for can't be had", raised(MemoryError, lambda: nissy.run(["steps"], room=2**62)))
     few = nissy.run(["scramble", "7", "9", "256", "3"])
     many = nissy.run(["scramble", "7", "9", "256", "10000"])
     holds("an output of 7 MB comes whole", many.status == 0 and many.out.count(b"\n") == 10_000 and many.out.startswith(few.out))
     printed = nissy.run(["print"], b"\n" * 300_000)
     solved = b"".join(bytes([letter]) * 9 for letter in b"URFDLB") + b"\n"
     holds("55 bytes for each byte of the input come whole", printed.out == solved * 300_000)
+    runs_made, run = [], nissy._library.nissy_run
+    nissy._library.nissy_run = lambda *given: runs_made.append(given) or run(*given)
+    found = nissy.run(["near", "eofb", "5", "20"], b"\n").out
+    nissy._library.nissy_run = run
+    holds("solutions of 2 MB come by one run", len(found) > 2_000_000 and len(runs_made) == 1)
 
 
 def large_output():

@@ -6,7 +6,8 @@
 A block ```sh is run, and where the next block is ```text, that is what it prints (else nothing). In a block ```console each line that begins
 with `$ ` is run, and the lines after it are what it prints. The blocks of a page run one after another in one shell, so that variables and
 files stay; the whole page is run by each of sh, bash and zsh that is there. A block ```bash, ```zsh or ```fish runs by that shell alone.
-`needs TOOL` after the shell's name skips the block where the tool is missing; what is skipped is named. So are the examples of a manual page.
+`needs TOOL` after the shell's name skips the block if the tool is missing, or, if it has a slash, the file of the repository; what is skipped
+is named. So are the examples of a manual page.
 The last line is `N passed, M failed`, and the status is 1 where M isn't 0.
 """
 import difflib
@@ -113,11 +114,16 @@ def show(it: Example) -> None:
             print({"-": "<", "+": ">"}[line[0]] + line[1:])
 
 
+def is_here(tool: str) -> bool:
+    """Returns whether there is a tool, or a file of the repository."""
+    return (TOP / tool).exists() if "/" in tool else shutil.which(tool) is not None
+
+
 def runnable(name: str, examples: list[Example]) -> list[Example]:
     """Returns the examples of a page whose shell and tool are here, and names the others."""
     here = []
     for it in examples:
-        missing = next((tool for tool in (it.kind, it.needs) if tool and not shutil.which(tool)), None)
+        missing = next((tool for tool in (it.kind, it.needs) if tool and not is_here(tool)), None)
         if missing:
             print(f"skipped: {name}:{it.line}, no {missing} here")
         else:

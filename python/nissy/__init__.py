@@ -1,0 +1,35 @@
+r"""nissy for Python: moves and searches of the 3x3x3 cube, by the proved library libnissy.
+
+    >>> import nissy
+    >>> nissy.invert("R U' F2")
+    "F2 U R'"
+    >>> nissy.solve("eofb", "R U F")
+    ['F', "F'"]
+    >>> nissy.count("eofb", "R U F")
+    Count(length=1, solutions=2, nodes=20)
+    >>> nissy.cleanup("R Q")
+    Traceback (most recent call last):
+    nissy.LineFault: column 3: not a move
+
+The first search of a step builds its tables, which stay for the next ones (class Tables). A call lets go of Python's lock, so calls of
+several threads run side by side. The library is the file that NISSY_LIBRARY names, else the one that was installed or built with this
+package, else the system's.
+"""
+from ._given import Text as Text
+from ._library import DONE, FAULT, MOST_INPUT, STOPPED, USAGE
+from ._lines import cleanup, facelets, invert, scramble, steps, unniss, version
+from ._runs import run, scrambles
+from ._searches import Tables, count, count_all, near, solve, solve_all
+from ._values import Answer, Count, LineFault, Solution, StartFault
+
+__all__ = ["DONE", "FAULT", "MOST_INPUT", "STOPPED", "USAGE", "Answer", "Count", "LineFault", "Solution", "StartFault", "Tables",
+           "cleanup", "count", "count_all", "facelets", "invert", "near", "run", "scramble", "scrambles", "solve", "solve_all", "steps",
+           "unniss"]
+
+__version__ = version()
+del version
+
+# what others see of these, as in a traceback or in what was pickled, is named by the package
+for _public in (Answer, Count, LineFault, Solution, StartFault, Tables):
+    _public.__module__ = __name__
+del _public

@@ -1,0 +1,57 @@
+"""What callers hand over, checked and told in their words."""
+from __future__ import annotations
+
+import operator
+from typing import Iterable, Iterator, Union
+
+Text = Union[str, bytes, bytearray, memoryview]
+_TEXTS = (str, bytes, bytearray, memoryview)
+
+
+def _kind(value: object) -> str:
+    """Returns what a value of the wrong type is called."""
+    return "None" if value is None else type(value).__name__
+
+
+def bytes_of(text: Text, what: str) -> bytes:
+    """Returns a text as the bytes that the library reads. A number is none, though `bytes` takes one, nor is an array of numbers."""
+    if type(text) is bytes:
+        return text
+    if isinstance(text, str):
+        # by str's own method, whatever a class made of it says
+        try:
+            return str.encode(text, "utf-8", "surrogateescape")
+        except UnicodeEncodeError:
+            # half of a surrogate pair, as JSON may hold one: in its place come bytes that are no text, for the library to refuse
+            return str.encode(text, "utf-8", "surrogatepass")
+    try:
+        view = memoryview(text)
+    except TypeError:
+        raise TypeError(f"{what} is a str or bytes, not {_kind(text)}") from None
+    if view.itemsize != 1:
+        raise TypeError(f"{what} is a str or bytes, not items of {view.itemsize} bytes each")
+    return bytes(view)
+
+
+def number_of(value: int, what: str, most: int) -> int:
+    """Returns a number from 0 to `most`, of an int or of what stands for one. The library would read another one modulo a power of two."""
+    if type(value) is not int:
+        try:
+            # before Python 3.10 an index may be of a class made of int, with comparisons of its own
+            value = int.__add__(operator.index(value), 0)
+        except TypeError:
+            raise TypeError(f"{what} is an int, not {_kind(value)}") from None
+    if not 0 <= value <= most:
+        raise ValueError(f"{what} is a number from 0 to {most:,}")
+    return value
+
+
+def each_of(texts: Iterable[Text], what: str) -> Iterator[Text]:
+    """Returns several texts one by one. One text isn't several, though it has letters."""
+    given: object = texts
+    if not isinstance(given, _TEXTS):
+        try:
+            return iter(texts)
+        except TypeError:
+            pass
+    raise TypeError(f"{what} are a list or another iterable, not {_kind(given)}")

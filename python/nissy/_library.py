@@ -1,0 +1,95 @@
+"""The C library: where it is found, and its calls and structs as nissy.h has them."""
+from __future__ import annotations
+
+import ctypes
+import os
+from typing import Any, Callable
+
+MOST_INPUT = 16_777_216
+"""The most bytes of a line or of an input."""
+
+DONE, FAULT, USAGE, STOPPED, ROOM = range(5)
+"""The statuses: all is written; a line has a fault; the words are no command; the run could not go on. The last one says that the room of a
+call is too small: no caller of this module sees it."""
+
+NOT_START = 6
+"""The fault of a line on whose cube a step may not start. Those below it are faults of lines."""
+
+LINE_ROOM = 2048
+ERROR_ROOM = 128
+
+
+class LineAnswer(ctypes.Structure):
+    """`nissy_line_answer` of nissy.h."""
+    _fields_ = [("status", ctypes.c_uint16), ("fault", ctypes.c_uint16), ("column", ctypes.c_uint32), ("length", ctypes.c_size_t)]
+
+
+class RunAnswer(ctypes.Structure):
+    """`nissy_run_answer` of nissy.h."""
+    _fields_ = [("status", ctypes.c_uint8), ("out_too_small", ctypes.c_bool), ("err_too_small", ctypes.c_bool),
+                ("out_length", ctypes.c_size_t), ("err_length", ctypes.c_size_t)]
+
+
+class KeptTables(ctypes.Structure):
+    """`nissy_tables` of nissy.h: the tables of a step, or none."""
+    _fields_ = [("tables", ctypes.c_void_p), ("built", ctypes.c_bool)]
+
+
+class SolveAnswer(ctypes.Structure):
+    """`nissy_solve_answer` of nissy.h."""
+    _fields_ = [("status", ctypes.c_uint8), ("fault", ctypes.c_uint8), ("least", ctypes.c_uint8), ("more", ctypes.c_bool),
+                ("column", ctypes.c_uint32), ("out_length", ctypes.c_size_t), ("solutions", ctypes.c_uint64), ("looks", ctypes.c_uint64)]
+
+
+class CountAnswer(ctypes.Structure):
+    """`nissy_count_answer` of nissy.h."""
+    _fields_ = [("status", ctypes.c_uint8), ("fault", ctypes.c_uint8), ("least", ctypes.c_uint8), ("column", ctypes.c_uint32),
+                ("solutions", ctypes.c_uint64), ("looks", ctypes.c_uint64)]
+
+
+def _loaded() -> ctypes.CDLL:
+    """Returns the library: that of NISSY_LIBRARY, of the folders in which it stands with this package, or of the system."""
+    named = os.environ.get("NISSY_LIBRARY")
+    if named:
+        return ctypes.CDLL(named)
+    here = os.path.dirname(os.path.realpath(__file__))
+    # in the package itself; the package installed as PREFIX/lib/python3/dist-packages/nissy; or in the repository's folder python
+    beside = os.path.join(here, "..", "..", "..") if os.path.basename(os.path.dirname(here)).endswith("-packages") else \
+        os.path.join(here, "..", "..", "build")
+    for folder in (here, beside):
+        path = os.path.join(folder, "libnissy.so.1")
+        if os.path.exists(path):
+            return ctypes.CDLL(path)
+    return ctypes.CDLL("libnissy.so.1")
+
+
+LIBRARY = _loaded()
+
+# bytes that a call reads, with their number, and bytes that it writes, by address, with the room that there is
+_READ = (ctypes.c_char_p, ctypes.c_size_t)
+_WRITTEN = (ctypes.c_void_p, ctypes.c_size_t)
+_TABLES = ctypes.POINTER(KeptTables)
+
+
+def _call(name: str, returned: Any, *taken: Any) -> Callable[..., Any]:
+    """Returns the library's function of this name, for arguments of these types."""
+    try:
+        function = getattr(LIBRARY, name)
+    except AttributeError:
+        raise ImportError(f"{LIBRARY._name} has no {name}: it is older than this module") from None
+    function.argtypes, function.restype = taken, returned
+    bound: Callable[..., Any] = function
+    return bound
+
+
+nissy_run = _call("nissy_run", RunAnswer, *_READ, *_READ, *_WRITTEN, *_WRITTEN)
+nissy_invert, nissy_unniss, nissy_cleanup, nissy_print = (
+    _call(name, LineAnswer, *_READ, *_WRITTEN) for name in ("nissy_invert", "nissy_unniss", "nissy_cleanup", "nissy_print"))
+nissy_build = _call("nissy_build", ctypes.c_uint8, _TABLES, *_READ)
+nissy_solve = _call("nissy_solve", SolveAnswer, _TABLES, *_READ, ctypes.c_uint8, ctypes.c_uint8, ctypes.c_uint64, *_WRITTEN)
+nissy_count = _call("nissy_count", CountAnswer, _TABLES, *_READ, ctypes.c_uint8, ctypes.c_uint8)
+nissy_scramble = _call("nissy_scramble", LineAnswer, ctypes.c_uint64, ctypes.c_uint64, ctypes.c_uint32, *_WRITTEN)
+nissy_steps = _call("nissy_steps", LineAnswer, *_WRITTEN)
+nissy_start = _call("nissy_start", LineAnswer, *_READ, *_WRITTEN)
+nissy_fault_text = _call("nissy_fault_text", LineAnswer, ctypes.c_uint8, *_WRITTEN)
+nissy_version = _call("nissy_version", ctypes.c_uint32)

@@ -1,0 +1,79 @@
+"""Runs: what the program does with words and an input."""
+from __future__ import annotations
+
+import ctypes
+from typing import Iterable, List, Optional
+
+from . import _library, _rooms
+from ._given import Text, bytes_of, each_of, number_of
+from ._library import ERROR_ROOM
+from ._lines import drawing
+from ._rooms import Room
+from ._values import Answer
+
+_MOST_SCRAMBLES = 10_000
+_MOST_ROOM = 2**63 - 1
+# what writes solutions, of which there can be any number
+_SEARCHES = (b"solve\0", b"near\0")
+# of an input of so many bytes no other command but `scramble` writes more than an ordinary room holds: 106 bytes for each line
+_SHORT = 8192
+
+
+def _joined(words: Iterable[Text]) -> bytes:
+    """Returns words as the library takes them, each with a zero byte after it."""
+    listed = [bytes_of(word, "a word") for word in each_of(words, "the words")]
+    if any(b"\0" in word for word in listed):
+        raise ValueError("a word holds a zero byte")
+    return b"".join(word + b"\0" for word in listed)
+
+
+class _Run:
+    """One run, whose output went to a room."""
+
+    def __init__(self, room: Room, words: bytes, data: bytes) -> None:
+        self._room, self._err = room, ctypes.create_string_buffer(ERROR_ROOM)
+        self._told = _library.nissy_run(words, len(words), data, len(data), room.address, room.size,
+                                        ctypes.addressof(self._err), ERROR_ROOM)
+        self.full: bool = self._told.out_too_small
+
+    def answer(self) -> Answer:
+        """Returns the answer, with the output copied from the room."""
+        told = self._told
+        return Answer(told.status, self._room.memory[:told.out_length], self._err.raw[:told.err_length], self.full)
+
+
+def _answer(words: bytes, data: bytes) -> Answer:
+    """Returns the answer of a run that has room enough: an ordinary room, or a large one if the output may well need it."""
+    if not words.startswith(_SEARCHES) and len(data) <= _SHORT:
+        room = _rooms.take()
+        answer = _Run(room, words, data).answer()
+        _rooms.put_back(room)
+        if not answer.full:
+            return answer
+    room = _rooms.large()
+    made = _Run(room, words, data)
+    while made.full:
+        room = _rooms.larger(room)
+        made = _Run(room, words, data)
+    return made.answer()
+
+
+def run(words: Iterable[Text], data: Text = b"", room: Optional[int] = None) -> Answer:
+    """Does what the program does with these words after its name and `data` as its input.
+
+    A word or an input that is a string is read as UTF-8. Solutions have room for 1 GiB, of which they take what they need; only for more is
+    their search made again. With `room` the run is made once, with room for so many bytes, and `full` says whether these were too few.
+    Raises MemoryError if there is no room for the output. If there is none for the words or tables, the status is STOPPED, as the
+    program's.
+    """
+    joined, given = _joined(words), bytes_of(data, "the input")
+    if room is None:
+        return _answer(joined, given)
+    return _Run(Room(number_of(room, "the room", _MOST_ROOM)), joined, given).answer()
+
+
+def scrambles(state: int, stream: int, length: int, count: int) -> List[str]:
+    """`count` scrambles of `length` turns each, at most 10,000, all by the generator that begins with this state and stream, as the program
+    makes them. These are random moves, not random states."""
+    numbers = (*drawing(state, stream, length), number_of(count, "the count", _MOST_SCRAMBLES))
+    return run(["scramble", *map(str, numbers)]).out.decode("ascii").splitlines()

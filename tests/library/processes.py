@@ -1,0 +1,286 @@
+#!/usr/bin/env python3
+"""The Python module in processes of their own: threads that are first to ask a step, forked children, signals, little memory, libraries
+that aren't its own, and its types by mypy, where that is there.
+
+    tests/library/processes.py
+
+The library is that of NISSY_LIBRARY. The last line is `N passed, M failed`, and the status is 1 where M isn't 0.
+"""
+import os
+import shutil
+import subprocess
+import sys
+import tempfile
+from pathlib import Path
+
+TOP = Path(__file__).resolve().parents[2]
+PYTHON = str(TOP / "python")
+sys.path[:0] = [str(TOP / "tests/page")]
+
+from tally import Tally
+
+SECONDS = 120
+
+# eight threads ask one step at once, and it is the first use of it; the builds are counted
+FIRST_USE = """
+import threading, time
+import nissy
+searches, built, answers = nissy._searches, [], []
+build, ready = nissy._library.nissy_build, threading.Barrier(8)
+def slow_build(*given):
+    built.append(given[1])
+    time.sleep(0.05)
+    return build(*given)
+nissy._library.nissy_build = slow_build
+def ask(number):
+    ready.wait()
+    for turn in range(20):
+        step, line = ("drud-eofb", "R U") if (number + turn) % 2 else ("eofb", "F B")
+        answers.append((step, nissy.solve(step, line), nissy.count(step, line).solutions))
+threads = [threading.Thread(target=ask, args=(number,)) for number in range(8)]
+for thread in threads: thread.start()
+for thread in threads: thread.join()
+wanted = {"drud-eofb": (["U' R", "U' R'"], 2), "eofb": (["F B", "F B'", "F' B", "F' B'"], 4)}
+print(len(answers), all(wanted[step] == (found, count) for step, found, count in answers), sorted(built))
+"""
+
+# eight threads go through the same lines by the same tables, half of them by solve_all; a run says what is right
+SAME_TABLES = """
+import threading
+import nissy
+scrambles = nissy.scrambles(5, 6, 20, 200)
+oriented = [line + " " + nissy.solve("eofb", line, most=1)[0] for line in scrambles]
+whole = nissy.run(["solve", "dr-eofb", "20"], "\\n".join(oriented) + "\\n").out.decode()
+answers = {}
+def text(found):
+    return "".join(f"{it} ({it.length})".strip() + "\\n" for it in found) + "\\n"
+def ask(number):
+    if number % 2:
+        found = nissy.solve_all("dr-eofb", oriented)
+    else:
+        found = (nissy.solve("dr-eofb", line) for line in oriented)
+    answers[number] = "".join(map(text, found))
+threads = [threading.Thread(target=ask, args=(number,)) for number in range(8)]
+for thread in threads: thread.start()
+for thread in threads: thread.join()
+print(len(answers), set(answers.values()) == {whole}, whole.count("(") > 1000)
+"""
+
+# a child that was forked while another thread built: it has the tables that were whole, and builds the others itself
+FORK = """
+import os, threading
+import nissy
+nissy.solve("eofb", "F")
+building, forked = threading.Event(), threading.Event()
+build = nissy._library.nissy_build
+def held_build(*given):
+    building.set()
+    forked.wait()
+    return build(*given)
+nissy._library.nissy_build = held_build
+thread = threading.Thread(target=nissy.solve, args=("eorl", "R"))
+thread.start()
+building.wait()
+child = os.fork()
+if child == 0:
+    nissy._library.nissy_build = build
+    os._exit(0 if nissy.solve("eofb", "F") == ["F", "F'"] and nissy.solve("eorl", "R") == ["R", "R'"] else 1)
+forked.set()
+thread.join()
+print(os.waitpid(child, 0)[1], nissy.solve("eorl", "R"))
+"""
+
+# a parent and its child ask at the same time; neither writes to what the other reads
+BOTH = """
+import os
+import nissy
+nissy.solve("eofb", "F")
+child = os.fork()
+step, line, wanted = ("eofb", "F", "F") if child else ("eofb", "B", "B")
+right = all(nissy.solve(step, line) == [wanted, wanted + "'"] and nissy.invert(line) == wanted + "'" for _ in range(3000))
+if child == 0:
+    os._exit(0 if right else 1)
+print(os.waitpid(child, 0)[1], right)
+"""
+
+# a signal's handler asks while the main thread asks too
+SIGNALS = """
+import signal, sys
+import nissy
+handled, wrong = [], []
+def handle(*_):
+    handled.append(nissy.solve("eofb", "B") == ["B", "B'"] and nissy.invert("R U") == "U' R'")
+    signal.setitimer(signal.ITIMER_REAL, 0.0003)
+signal.signal(signal.SIGALRM, handle)
+signal.setitimer(signal.ITIMER_REAL, 0.0003)
+while len(handled) < 300:
+    wrong += [1] if nissy.solve("eofb", "F") != ["F", "F'"] or nissy.unniss("(U R)") != "R' U'" else []
+signal.setitimer(signal.ITIMER_REAL, 0)
+print(all(handled), not wrong)
+"""
+
+# a signal's handler asks for the step that its own thread is building
+SIGNAL_IN_BUILD = """
+import signal, time
+import nissy
+handled, build = [], nissy._library.nissy_build
+def slow_build(*given):
+    time.sleep(0.03)
+    return build(*given)
+nissy._library.nissy_build = slow_build
+signal.signal(signal.SIGALRM, lambda *_: handled.append(nissy.solve("eofb", "B")))
+signal.setitimer(signal.ITIMER_REAL, 0.01)
+print(nissy.solve("eofb", "F"), handled)
+"""
+
+# lets a process have so many bytes more, and says what a call without memory says
+LIMITED = """
+import resource
+import nissy
+def limited(more):
+    used = int(open("/proc/self/statm").read().split()[0]) * resource.getpagesize()
+    resource.setrlimit(resource.RLIMIT_AS, (used + more, resource.getrlimit(resource.RLIMIT_AS)[1]))
+def without_memory(call):
+    try: call()
+    except MemoryError as error: return str(error)
+nissy.solve("eofb", "F")
+"""
+
+# little memory: a smaller room than the usual one, and none for what outgrows it
+LITTLE = LIMITED + """
+limited(200_000_000)
+print(nissy.run(["solve", "eofb", "20"], b"F\\n").out == b"F (1)\\nF' (1)\\n\\n", len(nissy.near("eofb", "", 5, 20)))
+limited(20_000_000)
+print(without_memory(lambda: nissy.run(["near", "eofb", "7", "20"], b"\\n")), without_memory(lambda: nissy.near("eofb", "", 7, 20)))
+print(nissy.solve("eofb", "F"), nissy.run(["steps"], room=5).out)
+"""
+
+# the tables of all steps, asked for twice: what they take, and that it is taken once
+MEMORY = """
+import resource
+import nissy
+def resident():
+    return int(open("/proc/self/statm").read().split()[1]) * resource.getpagesize()
+nissy.solve("eofb", "F")
+before = resident()
+for step in nissy.steps():
+    nissy.Tables(step)
+first = resident()
+for _ in range(20):
+    for step in nissy.steps():
+        nissy.Tables(step).count("")
+print(10e6 < first - before < 20e6, resident() - first < 2e6)
+"""
+
+# too little for the tables of a step, and then enough
+NO_TABLES = LIMITED + """
+limited(300_000)
+print(*(without_memory(lambda: nissy.count("dr-eofb", "")) for _ in range(2)), nissy.solve("eofb", "F"), sep="; ")
+limited(100_000_000)
+print(nissy.count("dr-eofb", "R U").solutions)
+"""
+
+USER = """
+from typing import Iterator, List, Optional
+import nissy
+
+def best(lines: List[str]) -> Iterator[str]:
+    for found in nissy.solve_all("eofb", lines, most=1):
+        yield found[0] + " " if found else "none"
+
+def shortest(line: bytes) -> Optional[int]:
+    try:
+        return nissy.count("dr-eofb", bytearray(line), limit=12).length
+    except (nissy.LineFault, nissy.StartFault) as fault:
+        print(fault.text, fault.line)
+        raise
+
+tables = nissy.Tables("drud-eofb")
+lengths: List[int] = [it.length for it in tables.solve("R U")]
+line: nissy.Text = nissy.scramble(1, 2, 3)
+answer: nissy.Answer = nissy.run(["steps", b"x"], memoryview(b""), room=3)
+version: str = nissy.__version__
+"""
+
+NAMES_LIBRARY = "import nissy; print(nissy._library.LIBRARY._name)"
+
+# a line each that mypy is to refuse
+WRONG_USES = ('nissy.solve("eofb", 3)', 'nissy.solve(3, "R")', 'nissy.count("eofb", "R").length + 1', 'nissy.near("eofb", "R", 3)',
+              'nissy.solve("eofb", "R", "20")', 'nissy.solve_all("eofb", 3)', 'nissy.invert(["R"])', 'nissy.run(["steps"]).text',
+              'nissy.nothing', 'nissy.solve("eofb", "R")[0].moves')
+
+
+def of_process(code: str, **named: str) -> str:
+    """What a process of its own prints of this code, and what it says where it fails."""
+    environment = dict(os.environ, PYTHONPATH=PYTHON, PYTHONDONTWRITEBYTECODE="1", **named)
+    done = subprocess.run([sys.executable, "-c", code], capture_output=True, text=True, env=environment, timeout=SECONDS, check=False)
+    return done.stdout if done.returncode == 0 else done.stdout + done.stderr
+
+
+def processes(tally: Tally) -> None:
+    """Each of the codes above, and what it prints where all is well."""
+    tally.equal("eight threads are the first to ask", of_process(FIRST_USE), "160 True [b'drud-eofb', b'eofb']\n")
+    tally.equal("eight threads over the same tables", of_process(SAME_TABLES), "8 True True\n")
+    tally.equal("a child of a process that builds", of_process(FORK), "0 ['R', \"R'\"]\n")
+    tally.equal("parent and child", of_process(BOTH), "0 True\n")
+    tally.equal("calls of a signal's handler", of_process(SIGNALS), "True True\n")
+    tally.equal("a handler's call while tables are built", of_process(SIGNAL_IN_BUILD), "['F', \"F'\"] [['B', \"B'\"]]\n")
+    tally.equal("the tables of all steps take some 15 million bytes, once", of_process(MEMORY), "True True\n")
+    tally.equal("no memory for tables", of_process(NO_TABLES),
+                "no memory for the tables of dr-eofb; no memory for the tables of dr-eofb; ['F', \"F'\"]\n2\n")
+    little = of_process(LITTLE).splitlines()
+    tally.equal("less memory than a large room", little[:1], ["True 148176"])
+    tally.holds("no memory for all solutions: " + str(little[1:2]), little[1:2] and little[1].count("bytes of output") == 2)
+    tally.equal("it goes on after that", little[2:], ["['F', \"F'\"] b'eofb\\n'"])
+
+
+def libraries(tally: Tally) -> None:
+    """Libraries that aren't there, or are another one."""
+    said = of_process("import nissy", NISSY_LIBRARY="/nowhere/libnissy.so.1")
+    tally.holds("a library that isn't there is named", "OSError: /nowhere/libnissy.so.1" in said)
+    said = of_process("import nissy", NISSY_LIBRARY="libc.so.6")
+    tally.holds("so is one without the calls", said.endswith("ImportError: libc.so.6 has no nissy_run: it is older than this module\n"))
+    with tempfile.TemporaryDirectory() as room:
+        library = of_process(NAMES_LIBRARY).strip()
+        for place in ("nissy", "lib/python3/dist-packages/nissy", "lib/python3.11/site-packages/nissy"):
+            package = Path(room, place)
+            shutil.copytree(TOP / "python/nissy", package, ignore=shutil.ignore_patterns("__pycache__"))
+            beside = Path(room, "lib") if "packages" in place else package
+            shutil.copy(library, beside / "libnissy.so.1")
+            code = f"import sys; sys.path.insert(0, {str(package.parent)!r}); {NAMES_LIBRARY}"
+            found = of_process(code, NISSY_LIBRARY="").strip()
+            tally.equal(f"the library that stands with {place}", os.path.realpath(found), os.path.realpath(beside / "libnissy.so.1"))
+
+
+def types(tally: Tally) -> None:
+    """The package and its users, as mypy sees them."""
+    if not shutil.which("mypy"):
+        print("skipped: mypy isn't installed")
+        return
+
+    def complaints(folder: str, *words: str) -> str:
+        done = subprocess.run(["mypy", "--strict", "--no-error-summary", "--cache-dir", os.path.join(folder, "cache"), *words],
+                              capture_output=True, text=True, cwd=folder, env=dict(os.environ, MYPYPATH=PYTHON), check=False)
+        return done.stdout + done.stderr
+
+    with tempfile.TemporaryDirectory() as folder:
+        for version in ("3.7", "3.11"):
+            tally.equal(f"the package by Python {version}", complaints(folder, "--python-version", version, "-p", "nissy"), "")
+        Path(folder, "user.py").write_text(USER)
+        tally.equal("a user of it", complaints(folder, "user.py"), "")
+        Path(folder, "wrong.py").write_text("import nissy\n" + "\n".join(WRONG_USES) + "\n")
+        told = complaints(folder, "wrong.py")
+        for number, line in enumerate(WRONG_USES, 2):
+            tally.holds(f"mypy refuses {line}", f"wrong.py:{number}: error" in told)
+
+
+def main() -> None:
+    """All of it."""
+    tally = Tally()
+    for part in (processes, libraries, types):
+        part(tally)
+    tally.end()
+
+
+if __name__ == "__main__":
+    main()

@@ -1,0 +1,294 @@
+#!/usr/bin/env python3
+"""The calls of the Python module that return values: solutions, counts, scrambles and steps; what they raise, and of what.
+
+    tests/library/values.py
+
+The library is that of NISSY_LIBRARY. Threads, processes and types are tried by processes.py. The last line is `N passed, M failed`, and the
+status is 1 where M isn't 0.
+"""
+import array
+import copy
+import itertools
+import pickle
+import sys
+from dataclasses import FrozenInstanceError
+from pathlib import Path
+from typing import Any, Callable, Iterator, List, Optional, Tuple, Type, get_type_hints
+
+TOP = Path(__file__).resolve().parents[2]
+sys.path[:0] = [str(TOP / "python"), str(TOP / "tests/page")]
+
+import nissy
+from tally import Tally
+
+# the steps, each with the one that must hold before it
+STEPS = {"eofb": "", "eorl": "", "eoud": "", "drud-eofb": "eofb", "drrl-eofb": "eofb", "drud-eorl": "eorl", "drfb-eorl": "eorl",
+         "drrl-eoud": "eoud", "drfb-eoud": "eoud", "eo": "", "dr-eofb": "eofb", "dr-eorl": "eorl", "dr-eoud": "eoud"}
+# a turn that flips edges on the axis
+FLIPS = {"eofb": "F", "eorl": "R", "eoud": "U"}
+NEAR_SOLVED = ["", "U", "U2", "U'", "D", "D2", "D'", "R2", "L2", "F2", "B2"]
+FAULTS = [("R Q", 3, "not a move"), ("(R (U))", 4, "bracket inside a bracket"), ("R )", 3, "bracket closed that was not opened"),
+          ("R (U", 3, "bracket not closed"), ("U" * 257, 257, "more than 256 moves"), ("\u2019", 1, "not a move"), ("R\n", 2, "not a move"),
+          ("R\nU", 2, "not a move"), ("\udcff", 1, "not a move"), ("R\ud800", 2, "not a move"), (b"R\0", 2, "not a move")]
+# methods of a class that doesn't say what its values hold
+LYING = {"__eq__": lambda it, other: True, "__hash__": lambda it: hash("eorl"), "__len__": lambda it: 10**6, "__index__": lambda it: 3,
+         "encode": lambda it, *how: b"F" * 10, "__bytes__": lambda it: b"F", "__add__": lambda it, other: 0,
+         "__lt__": lambda it, other: True, "__le__": lambda it, other: True, "__ge__": lambda it, other: True}
+
+
+# the package as one calls it who looks at no types
+untyped: Any = nissy
+
+
+def raised(kind: Type[BaseException], call: Callable[[], object]) -> Any:
+    """What the call raises of exactly this kind, or None."""
+    try:
+        call()
+    except Exception as error:
+        return error if type(error) is kind else None
+    return None
+
+
+def says(tally: Tally, kind: Type[BaseException], text: str, call: Callable[[], object]) -> None:
+    """The call raises this kind with this text."""
+    error = raised(kind, call)
+    tally.equal(f"what {kind.__name__} says", str(error), text)
+
+
+def solutions(tally: Tally) -> None:
+    """Solutions and their numbers, of which the manual says what they are."""
+    rows: List[Any] = [(("eofb", "F B", 5), ["F B", "F B'", "F' B", "F' B'"]), (("drud-eofb", "R U", 5), ["U' R", "U' R'"]),
+            (("dr-eofb", "R U", 5), ["U", "U'"]), (("eofb", "F", 0), []), (("drud-eofb", "", 1, 1), NEAR_SOLVED),
+            (("eofb", ""), [""]), (("eofb", b"(F)"), ["F", "F'"]),
+            (("eofb", bytearray(b"F")), ["F", "F'"]), (("eofb", memoryview(b"F F")[::2]), [""]), (("eofb", "F\u2019"), ["F", "F'"])]
+    for given, wanted in rows:
+        found = nissy.solve(*given)
+        tally.equal(f"solve{given}", found, wanted)
+        tally.equal("their lengths", [it.length for it in found], [len(it.split()) for it in wanted])
+        tally.holds("each is a Solution and a str", all(type(it) is nissy.Solution and isinstance(it, str) for it in found))
+        tables = nissy.Tables(given[0])
+        tally.equal("the same by Tables", tables.solve(*given[1:]), wanted)
+        tally.equal("the same by solve_all", list(nissy.solve_all(given[0], [given[1]] * 2, *given[2:])), [wanted] * 2)
+        tally.equal("the same by Tables.solve_all", list(tables.solve_all([given[1]] * 2, *given[2:])), [wanted] * 2)
+        for most in range(len(wanted) + 2):
+            tally.equal(f"at most {most}", untyped.solve(*given, most=most), wanted[:most])
+    tally.equal("near", nissy.near("drud-eofb", "", 1, 1), NEAR_SOLVED)
+    tally.equal("near, the first three", nissy.near("drud-eofb", "", 1, 1, 3), NEAR_SOLVED[:3])
+    tally.equal("more than any number of solutions", nissy.solve("eofb", "F", most=2**64 - 1), ["F", "F'"])
+
+
+def counts(tally: Tally) -> None:
+    """Counts."""
+    rows: List[Any] = [(("eofb", "F B", 5), nissy.Count(2, 4, 75)), (("eofb", "R U F"), nissy.Count(1, 2, 20)),
+            (("eofb", "F", 0), nissy.Count(None, 0, 1)), (("eofb", ""), nissy.Count(0, 1, 1))]
+    for given, wanted in rows:
+        tally.equal(f"count{given}", nissy.count(*given), wanted)
+        tally.equal("the same by Tables", nissy.Tables(given[0]).count(*given[1:]), wanted)
+        tally.equal("the same by count_all", list(nissy.count_all(given[0], [given[1]] * 2, *given[2:])), [wanted] * 2)
+        tally.equal("the same by Tables.count_all", list(nissy.Tables(given[0]).count_all([given[1]] * 2, *given[2:])), [wanted] * 2)
+    with_slack = nissy.count("drud-eofb", "", 1, 1)
+    tally.equal("with a slack", (with_slack.length, with_slack.solutions), (0, len(NEAR_SOLVED)))
+    tally.holds("a count can't be changed", raised(FrozenInstanceError, lambda: setattr(with_slack, "nodes", 1)))
+
+
+def without_lines(tally: Tally) -> None:
+    """Steps, scrambles and the version."""
+    tally.equal("steps", nissy.steps(), list(STEPS))
+    tally.equal("a scramble", nissy.scramble(42, 54, 6), "L' D' F' R2 F' L'")
+    tally.equal("scrambles", nissy.scrambles(42, 54, 3, 2), ["L' D' F'", "L F' L'"])
+    tally.equal("no turn", (nissy.scramble(1, 2, 0), nissy.scrambles(1, 2, 0, 2)), ("", ["", ""]))
+    tally.equal("no scramble", nissy.scrambles(1, 2, 3, 0), [])
+    tally.equal("the longest scramble", len(nissy.scramble(2**64 - 1, 2**64 - 1, 256).split()), 256)
+    tally.equal("the most scrambles", len(nissy.scrambles(7, 9, 1, 10_000)), 10_000)
+    header = (TOP / "include/nissy.h").read_text("utf-8")
+    tally.holds("the version is that of the header", f'#define NISSY_VERSION "{nissy.__version__}"' in header)
+
+
+def faults(tally: Tally) -> None:
+    """Lines with a fault, and steps that may not start."""
+    for line, column, text in FAULTS:
+        for call in (untyped.solve, untyped.count):
+            fault = raised(nissy.LineFault, lambda: call("eofb", line))
+            tally.holds(f"{call.__name__} refuses {line!r}", fault and (fault.column, fault.text, fault.line) == (column, text, None))
+        for call in (untyped.solve_all, untyped.count_all):
+            answers = call("eofb", ["F", line, "R"])
+            next(answers)
+            fault = raised(nissy.LineFault, lambda: next(answers))
+            tally.holds(f"{call.__name__} refuses {line!r}", fault and (fault.column, fault.text, fault.line) == (column, text, 2))
+            tally.holds("it ends there", raised(StopIteration, lambda: next(answers)))
+    for step, start in STEPS.items():
+        if start:
+            for call in (untyped.solve, untyped.count, lambda step, line: list(nissy.solve_all(step, [line]))):
+                fault = raised(nissy.StartFault, lambda: call(step, FLIPS[start]))
+                told = fault and (fault.step, fault.start, fault.text)
+                tally.equal(f"{step} may not start", told, (step, start, start + " does not hold"))
+        else:
+            tally.holds(f"{step} may start anywhere", all(nissy.count(step, line).solutions for line in ("F", "R", "U", "F R U B L D")))
+    says(tally, nissy.StartFault, "eorl does not hold", lambda: nissy.solve("drfb-eorl", "R"))
+    says(tally, nissy.StartFault, "line 3: eorl does not hold", lambda: list(nissy.solve_all("drfb-eorl", ["", "F", "R"])))
+    says(tally, nissy.LineFault, "line 2, column 3: not a move", lambda: list(nissy.count_all("eo", ["", "R Q"])))
+    says(tally, nissy.LineFault, "column 3: not a move", lambda: nissy.near("eo", "R Q", 3, 1))
+    says(tally, ValueError, "a line has at most 16,777,216 bytes", lambda: nissy.solve("eo", b" " * (nissy.MOST_INPUT + 1)))
+    long_one = nissy.count_all("eo", [b" " * (nissy.MOST_INPUT + 1)])
+    says(tally, ValueError, "line 1: a line has at most 16,777,216 bytes", lambda: next(long_one))
+    tally.holds("faults are ValueErrors", issubclass(nissy.LineFault, ValueError) and issubclass(nissy.StartFault, ValueError))
+
+
+def wrong_types(tally: Tally) -> None:
+    """Values of a type that a call doesn't take, told in words of the caller's."""
+    for line, named in ((None, "None"), (3, "int"), (["R"], "list"), (3.5, "float"), (object(), "object")):
+        for call in (untyped.invert, untyped.facelets, lambda it: untyped.solve("eofb", it), lambda it: untyped.count("eofb", it),
+                     lambda it: untyped.near("eofb", it, 1, 1)):
+            says(tally, TypeError, f"the line is a str or bytes, not {named}", lambda: call(line))
+        says(tally, TypeError, f"line 2: the line is a str or bytes, not {named}", lambda: list(untyped.solve_all("eofb", ["R", line])))
+        says(tally, TypeError, f"the input is a str or bytes, not {named}", lambda: untyped.run(["invert"], line))
+        says(tally, TypeError, f"a word is a str or bytes, not {named}", lambda: untyped.run(["invert", line]))
+    wide: Any
+    for wide in (array.array("H", [82, 0x155]), array.array("d", [82.7])):
+        for line in (wide, memoryview(wide)):
+            size = memoryview(wide).itemsize
+            says(tally, TypeError, f"the line is a str or bytes, not items of {size} bytes each", lambda: untyped.invert(line))
+    for lines, named in (("R", "str"), (b"R", "bytes"), (bytearray(b"R"), "bytearray"), (memoryview(b"R"), "memoryview"), (3, "int"),
+                         (None, "None")):
+        for call in (untyped.solve_all, untyped.count_all):
+            says(tally, TypeError, f"the lines are a list or another iterable, not {named}", lambda: call("eofb", lines))
+        says(tally, TypeError, f"the words are a list or another iterable, not {named}", lambda: untyped.run(lines))
+    for step, named in ((3, "int"), (b"eofb", "bytes"), (None, "None"), (["eofb"], "list")):
+        for call in (untyped.Tables, lambda it: untyped.solve(it, "R"), lambda it: untyped.count_all(it, [])):
+            says(tally, TypeError, f"the step is a str, not {named}", lambda: call(step))
+    for step in ("", "EOFB", "eofb\0", "eofb ", "htr", "\ud800", "x" * 10**6):
+        says(tally, ValueError, "no step has this name; the steps are " + ", ".join(STEPS), lambda: untyped.solve(step, "R"))
+
+
+def numbers(tally: Tally) -> None:
+    """Numbers out of their ranges, and what is no number."""
+    calls: List[Tuple[str, int, Callable[[Any], object]]] = [
+        ("the limit", 20, lambda it: untyped.solve("eofb", "", it)), ("the limit", 20, lambda it: untyped.count("eofb", "", it)),
+        ("the limit", 20, lambda it: untyped.solve_all("eofb", [], it)), ("the limit", 20, lambda it: untyped.near("eofb", "", it, 0)),
+        ("the slack", 20, lambda it: untyped.near("eofb", "", 0, it)), ("the slack", 20, lambda it: untyped.count_all("eofb", [], 3, it)),
+        ("the most", 2**64 - 1, lambda it: untyped.solve("eofb", "", most=it)),
+        ("the state", 2**64 - 1, lambda it: untyped.scramble(it, 1, 1)),
+        ("the stream", 2**64 - 1, lambda it: untyped.scrambles(1, it, 1, 1)), ("the length", 256, lambda it: untyped.scramble(1, 1, it)),
+        ("the length", 256, lambda it: untyped.scrambles(1, 1, it, 1)), ("the count", 10_000, lambda it: untyped.scrambles(1, 1, 1, it))]
+    for what, most, call in calls:
+        tally.holds(f"{what} may be {most:,}, 0 and True", not any(raised(ValueError, lambda: call(it)) for it in (most, 0, True)))
+        for number in (-1, most + 1, most + 257, 2**64, 2**64 + 1, 2**70, 10**5000, -(10**5000)):
+            says(tally, ValueError, f"{what} is a number from 0 to {most:,}", lambda: call(number))
+        for it, named in (("3", "str"), (3.0, "float"), (b"3", "bytes"), ([3], "list")):
+            says(tally, TypeError, f"{what} is an int, not {named}", lambda: call(it))
+    says(tally, TypeError, "the limit is an int, not None", lambda: untyped.solve("eofb", "", None))
+
+
+def liars(tally: Tally) -> None:
+    """Values of classes that say of themselves what isn't so: what they hold counts."""
+    text, data, number = type("T", (str,), LYING), type("B", (bytes,), LYING), type("N", (int,), LYING)
+    tally.equal("a bytes that lies about its length", nissy.invert(data(b"R U")), "U' R'")
+    tally.equal("a str that lies about its bytes", nissy.invert(text("R U")), "U' R'")
+    tally.holds("a number that lies about its order", raised(ValueError, lambda: nissy.solve("eofb", "F", number(276))))
+    tally.holds("a room that lies about its size", raised(MemoryError, lambda: nissy.run(["steps"], room=number(2**62))))
+    tables = nissy.Tables(text("eoud"))
+    tally.equal("a name that says that it is another one", (tables.step, tables.solve("R")), ("eorl", ["R", "R'"]))
+    tally.equal("that step for others", nissy.solve("eorl", "R"), ["R", "R'"])
+    tally.equal("words that lie", nissy.run([text("invert"), data(b"R")]).out, b"R'\n")
+
+
+def of_classes(tally: Tally) -> None:
+    """What tools ask of the classes."""
+    hints = {nissy.Count: {"length": Optional[int], "solutions": int, "nodes": int},
+             nissy.Answer: {"status": int, "out": bytes, "err": bytes, "full": bool}}
+    for kind, wanted in hints.items():
+        tally.equal(f"the types of {kind.__name__}", get_type_hints(kind), wanted)
+    for kind in (nissy.Answer, nissy.Count, nissy.LineFault, nissy.Solution, nissy.StartFault, nissy.Tables):
+        tally.equal(f"the place of {kind.__name__}", kind.__module__, "nissy")
+    tally.equal("the types of solve_all", get_type_hints(nissy.solve_all)["return"], Iterator[List[nissy.Solution]])
+
+
+def iterables(tally: Tally) -> None:
+    """Lines come one at a time, when they are asked for."""
+    taken: List[str] = []
+
+    def lines() -> Iterator[str]:
+        for line in itertools.cycle(["F", "R", "F B"]):
+            taken.append(line)
+            yield line
+
+    answers: Any = nissy.solve_all("eofb", lines())
+    tally.equal("nothing is taken before it is asked for", taken, [])
+    tally.equal("the first two", list(itertools.islice(answers, 2)), [["F", "F'"], [""]])
+    tally.equal("no more are taken", taken, ["F", "R"])
+    answers.close()
+    tally.holds("an iterator that was closed is at its end", raised(StopIteration, lambda: next(answers)))
+    tally.equal("of nothing", (list(nissy.solve_all("eofb", [])), list(nissy.count_all("eofb", iter(())))), ([], []))
+
+    def breaking() -> Iterator[str]:
+        yield "F"
+        raise KeyError("mine")
+
+    answers = nissy.count_all("eofb", breaking())
+    next(answers)
+    tally.holds("what an iterable raises comes through", raised(KeyError, lambda: next(answers)))
+
+    def wrong() -> Iterator[str]:
+        yield "F"
+        raise TypeError("mine")
+
+    says(tally, TypeError, "mine", lambda: list(nissy.count_all("eofb", wrong())))
+    tally.holds("arguments are judged at the call", raised(ValueError, lambda: nissy.solve_all("htr", [])))
+    tally.equal("a set, a tuple, a dict", [len(list(nissy.solve_all("eo", it))) for it in ({"R"}, ("R", "U"), {"R": 1})], [1, 2, 1])
+    nested = nissy.solve_all("drud-eofb", (eo for eo, in nissy.solve_all("eofb", ["U", "R"])))
+    tally.equal("an iterator over another one", [it[0] for it in nested], ["", ""])
+
+
+def copies(tally: Tally) -> None:
+    """What comes to another process, and copies."""
+    made: Any
+    first = raised(nissy.LineFault, lambda: list(nissy.solve_all("eofb", ["R Q"])))
+    second = raised(nissy.StartFault, lambda: list(nissy.solve_all("drfb-eorl", ["R"])))
+    for made in (copy.copy, copy.deepcopy, lambda it: pickle.loads(pickle.dumps(it))):
+        fault, start = made(first), made(second)
+        tally.equal("a fault", (type(fault), str(fault), fault.column, fault.text, fault.line),
+                    (nissy.LineFault, "line 1, column 3: not a move", 3, "not a move", 1))
+        tally.equal("a start", (type(start), str(start), start.step, start.start, start.text, start.line),
+                    (nissy.StartFault, "line 1: eorl does not hold", "drfb-eorl", "eorl", "eorl does not hold", 1))
+        solution = made(nissy.solve("eofb", "F B")[0])
+        tally.equal("a solution", (type(solution), solution, solution.length), (nissy.Solution, "F B", 2))
+        tally.equal("a count", made(nissy.count("eofb", "R U F")), nissy.Count(1, 2, 20))
+        tables = made(nissy.Tables("eofb"))
+        tally.equal("tables", (tables.step, tables.solve("F"), repr(tables)), ("eofb", ["F", "F'"], "Tables('eofb')"))
+
+
+def rooms(tally: Tally) -> None:
+    """Solutions that outgrow a room, and one after another that did not."""
+    asked: List[Any] = []
+    solve, large = untyped._library.nissy_solve, untyped._rooms._LARGE
+
+    def noted(*given: Any) -> Any:
+        asked.append(given)
+        return solve(*given)
+
+    untyped._library.nissy_solve = noted
+    written = nissy.run(["near", "eofb", "5", "20"], b"\n").out.decode().splitlines()[:-1]
+    for size, times in ((large, 2), (untyped._rooms.ORDINARY + 4096, 3)):
+        untyped._rooms._LARGE = size
+        asked.clear()
+        found = nissy.near("eofb", "", 5, 20)
+        tally.holds("solutions of 2 MB come whole", [f"{it} ({it.length})".strip() for it in found] == written)
+        tally.equal("searches that were made", len(asked), times)
+    untyped._rooms._LARGE = large
+    asked.clear()
+    tally.equal("so many as there are", nissy.count("eofb", "", 5, 20).solutions, len(found))
+    tally.holds("the first 10,000", nissy.near("eofb", "", 5, 20, 10_000) == found[:10_000] and len(asked) == 1)
+    tally.equal("a short one after it", nissy.solve("eofb", "F"), ["F", "F'"])
+    untyped._library.nissy_solve = solve
+
+
+def main() -> None:
+    """All of it."""
+    tally = Tally()
+    for part in (solutions, counts, without_lines, faults, wrong_types, numbers, liars, of_classes, iterables, copies, rooms):
+        part(tally)
+    tally.end()
+
+
+if __name__ == "__main__":
+    main()
