@@ -1,4 +1,4 @@
--- What a kept pointer owns: what a `&'static` to its tables does, where it is full, and else nothing.
+-- What a kept pointer owns: what a `&'static` to its tables does, if it is full, and else nothing.
 use Rattle.std.specs.Prelude.{Bool, true, false, []}
 use base.Fml.{Fml, ftrue, fsep}
 use base.Stored.{Coded}

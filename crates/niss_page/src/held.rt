@@ -65,7 +65,7 @@ impl Held {
         }
     }
 
-    /// The tables, where there are some.
+    /// The tables, if there are some.
     pub(crate) fn tables(&self) -> Option<&'static LentTables>
         ensures { MatchOption result (self.now.built ≡ false)
             (λ tables. (self.now.built ≡ true) × (tables.now ≡ self.now.kept.step)) }
@@ -77,7 +77,7 @@ impl Held {
         }
     }
 
-    /// Tables of a step, built in two rooms, which it keeps; or none, where a room is too small.
+    /// Tables of a step, built in two rooms, which they keep for good; or none, if a room is too small.
     pub(crate) fn build(small: Room, large: Room, step: Step) -> Held
         ensures { result.built ≡ true → result.kept.step ≡ step }
     {

@@ -6,7 +6,7 @@ use crate::arena::LentTables;
 use std::marker::Model;
 use std::ptr::null_mut;
 
-/// The pointer of tables that stay. Where it is not full it points to nothing.
+/// The pointer of tables that stay. If it is not full it points to nothing.
 #[repr(C)]
 #[derive(Drop)]
 pub struct Kept {

@@ -1,7 +1,8 @@
-//! Tables that are built once and asked many times.
+//! The calls by the tables of a step, which are built once in memory that is lent for good, and are asked many times.
 ghost use Rattle.std.specs.Prelude.{◌≡◌, ◌≢◌};
 ghost use Rattle.niss_embed.specs.Memory.{memory};
-ghost use Rattle.niss_page.specs.Calls.{Builds, Solves, Counts};
+ghost use Rattle.niss_embed.specs.LineSearch.{SolvesWith, CountsWith};
+ghost use Rattle.niss_page.specs.TableCalls.{Builds};
 
 use crate::held::Held;
 use crate::room::Room;
@@ -9,8 +10,9 @@ use niss_cube::Step;
 use niss_embed::{CountAnswer, SolveAnswer, count_line, solve_line};
 use std::mem::replace;
 
-/// Builds the tables of the step of this name in two rooms, which it keeps for good: 256 bytes and what the tables take. 0: they are
-/// built. 2: no step has this name, and the rooms are the host's. 3: a room is too small. Where they aren't built there are none.
+/// Builds the tables of the step of this name in two rooms, the small one of 256 bytes. 0: there are tables of this step. 2: no step
+/// has this name. 3: a room is too small. After 2 and 3 there are no tables, so that a host that ignores it never asks those of
+/// another step. After 2 the rooms are the host's, and else they are kept for good.
 #[unsafe(no_mangle)]
 pub extern "C" fn nissy_build(
     small: &mut Room,
@@ -42,7 +44,7 @@ pub extern "C" fn nissy_solve(
     most: u64,
     out: &mut [u8],
 ) -> SolveAnswer
-    ensures { Solves tables.now.built tables.now.kept.step limit slack most line.now
+    ensures { SolvesWith tables.now.built tables.now.kept.step limit slack most line.now
         (memory out.old out.new) result }
 {
     match tables.tables() {
@@ -54,7 +56,7 @@ pub extern "C" fn nissy_solve(
 /// Counts the solutions for a line by the tables, as `count_line` of `niss_embed`.
 #[unsafe(no_mangle)]
 pub extern "C" fn nissy_count(tables: &Held, line: &[u8], limit: u8, slack: u8) -> CountAnswer
-    ensures { Counts tables.now.built tables.now.kept.step limit slack line.now result }
+    ensures { CountsWith tables.now.built tables.now.kept.step limit slack line.now result }
 {
     match tables.tables() {
         Some(tables) => count_line(tables, line, limit, slack),
