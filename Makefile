@@ -2,6 +2,10 @@
 # page for a browser, `make check` tries what is built, `make test` runs the gate and then that.
 PREFIX ?= /usr/local
 DESTDIR ?=
+# where libraries stand; a distribution of several processors has a folder for each
+LIBDIR ?= $(PREFIX)/lib
+# where the system's Python looks for modules that are installed below PREFIX
+PYTHONDIR ?= $(shell tools/python-folder "$(PREFIX)")
 # `make install LIBRARY=no` leaves out what needs a C compiler, binutils and Python 3 to be built.
 LIBRARY ?= yes
 # asked for by `make dist` alone
@@ -14,15 +18,19 @@ NEEDS_KIT = @command -v rt > /dev/null || { echo "no rt on the PATH: nissy is bu
 SOURCES := HANDLES crates.txt $(shell find crates \( -name out -o -name niss_tests -o -name niss_builds -o -name eo_axes \) -prune \
 	-o -type f \( -name '*.rt' -o -name '*.antt' \) -print)
 
-# Where a distribution looks for each file. A package is built with `make install DESTDIR=FOLDER PREFIX=/usr`: the files go below
-# FOLDER, and PREFIX says where they will stand. `make uninstall` takes the same two.
+# Where a distribution looks for each file: below PREFIX, or, behind `@lib` and `@python`, below LIBDIR and PYTHONDIR. A package is built with
+# `make install DESTDIR=FOLDER PREFIX=/usr`: the files go below FOLDER, and PREFIX says where they will stand. `make uninstall` takes the
+# same words.
 LIBRARY_FILES := \
-	build/libnissy.a:lib/libnissy.a \
-	build/$(SONAME):lib/$(SONAME) \
-	build/libnissy.so:lib/libnissy.so \
+	build/libnissy.a:@lib/libnissy.a \
+	build/$(SONAME):@lib/$(SONAME) \
+	build/libnissy.so:@lib/libnissy.so \
 	include/nissy.h:include/nissy.h \
-	include/nissy.pc:lib/pkgconfig/nissy.pc \
-	python/nissy.py:lib/python3/dist-packages/nissy.py \
+	include/nissy.hpp:include/nissy.hpp \
+	include/nissy.pc:@lib/pkgconfig/nissy.pc \
+	packaging/cmake/nissy-config.cmake:@lib/cmake/nissy/nissy-config.cmake \
+	packaging/cmake/nissy-config-version.cmake:@lib/cmake/nissy/nissy-config-version.cmake \
+	$(foreach file,$(notdir $(wildcard python/nissy/*.py)) py.typed,python/nissy/$(file):@python/nissy/$(file)) \
 	docs/EMBEDDING.md:share/doc/nissy/EMBEDDING.md
 LIBRARY_INSTALLED := $(if $(filter no,$(LIBRARY)),,$(LIBRARY_FILES))
 INSTALLED := \
@@ -34,8 +42,17 @@ INSTALLED := \
 	completions/_nissy:share/zsh/site-functions/_nissy \
 	completions/nissy.fish:share/fish/vendor_completions.d/nissy.fish \
 	$(LIBRARY_INSTALLED)
+# in a recipe: for each pair `from` and, with DESTDIR, `to`
+EACH_INSTALLED = set -e; for pair in $(INSTALLED); do \
+		from=$${pair%%:*}; name=$${pair\#*:}; \
+		case $$name in \
+			@lib/*) to="$(LIBDIR)/$${name\#*/}" ;; \
+			@python/*) to="$(PYTHONDIR)/$${name\#*/}" ;; \
+			*) to="$(PREFIX)/$$name" ;; \
+		esac; \
+		to="$(DESTDIR)$$to"
 
-.PHONY: all lib page check test install uninstall dist clean bench
+.PHONY: all lib page check test install uninstall wheel npm deb dist clean bench
 # what a recipe left in part is no file that a later one takes
 .DELETE_ON_ERROR:
 
@@ -73,10 +90,11 @@ test:
 	tests/run
 
 install: build/nissy $(if $(LIBRARY_INSTALLED),build/libnissy.a)
-	@set -e; for pair in $(INSTALLED); do \
-		from=$${pair%%:*}; to="$(DESTDIR)$(PREFIX)/$${pair#*:}"; \
+	@$(EACH_INSTALLED); \
 		case $$from in \
 			*.so) ln -sf $(SONAME) "$$to" ;; \
+			*.pc) install -D -m 644 "$$from" "$$to"; \
+				sed -i "s|../../include|$$(realpath -ms --relative-to="$(LIBDIR)/pkgconfig" "$(PREFIX)/include")|" "$$to" ;; \
 			build/*[!a]) install -D -m 755 "$$from" "$$to" ;; \
 			*) install -D -m 644 "$$from" "$$to" ;; \
 		esac; \
@@ -84,16 +102,22 @@ install: build/nissy $(if $(LIBRARY_INSTALLED),build/libnissy.a)
 	done
 
 uninstall:
-	@set -e; for pair in $(INSTALLED); do rm -f "$(DESTDIR)$(PREFIX)/$${pair#*:}"; done
+	@$(EACH_INSTALLED); rm -f "$$to"; done
 	@# what Python keeps of the module that it read
-	@rm -f "$(DESTDIR)$(PREFIX)"/lib/python3/dist-packages/__pycache__/nissy.*.pyc
-	@for folder in share/doc/nissy lib/python3/dist-packages/__pycache__; do \
-		rmdir "$(DESTDIR)$(PREFIX)/$$folder" 2> /dev/null || true; \
+	@rm -f $(foreach file,$(wildcard python/nissy/*.py),"$(DESTDIR)$(PYTHONDIR)"/nissy/__pycache__/$(notdir $(file:.py=)).*.pyc)
+	@for folder in "$(PREFIX)/share/doc/nissy" "$(LIBDIR)/cmake/nissy" "$(PYTHONDIR)/nissy/__pycache__" "$(PYTHONDIR)/nissy"; do \
+		rmdir "$(DESTDIR)$$folder" 2> /dev/null || true; \
 	done
 
-# One archive for machines without the kit, the same bytes each time on one commit.
-dist: build/nissy $(if $(LIBRARY_INSTALLED),build/libnissy.a)
-	tools/dist nissy-$(VERSION)-x86_64-linux$(if $(LIBRARY_INSTALLED),,-program)
+# What goes to machines without the kit, in build/dist, the same bytes each time on one commit.
+wheel: build/libnissy.a
+	tools/wheel build
+
+deb: build/nissy build/libnissy.a
+	tools/deb build
+
+dist: build/nissy $(if $(LIBRARY_INSTALLED),build/libnissy.a) $(if $(shell command -v wasm-opt),build/nissy.html)
+	tools/dist build/dist $(if $(LIBRARY_INSTALLED),,program)
 
 bench: build/nissy
 	bench/run

@@ -1,6 +1,6 @@
 #!/usr/bin/env bash
-# Installs into a folder of its own, with the library where `make lib` built it, and takes everything away again; packs an archive of it;
-# compares the names that completions and manuals give with those of PROGRAM:
+# Installs into a folder of its own, with the library if `make lib` built it, and takes everything away again; compares the names that
+# completions and manuals give with those of PROGRAM:
 #
 #     tests/install.sh [PROGRAM]
 #
@@ -19,9 +19,9 @@ version=$(tools/version)
 library=no
 if [ -e build/libnissy.so ]; then library=yes; else skips "the library, which wasn't built"; fi
 by_make() { make --no-print-directory -o build/nissy -o build/libnissy.a LIBRARY=$library "$@"; }
-install_at() { by_make "$1" DESTDIR="$packed" PREFIX=/usr; }
+install_at() { by_make "$1" DESTDIR="$packed" PREFIX=/usr PYTHONDIR=/usr/lib/python3/dist-packages; }
 with_program() {
-    mkdir -p "$room/source/build" "$room/source/crates" && cp -R Makefile CHANGELOG.md docs completions include python tools "$room/source" &&
+    mkdir -p "$room/source/build" "$room/source/crates" && cp -R Makefile CHANGELOG.md docs completions include packaging python tools "$room/source" &&
         cp "$program" "$room/source/build/nissy" && { [ $library = no ] || cp -P build/libnissy.* "$room/source/build"; }
 }
 holds "the files are there" with_program
@@ -46,11 +46,14 @@ wanted="755 bin/nissy build/nissy
 if [ $library = yes ]; then
     wanted="$wanted
 644 include/nissy.h include/nissy.h
+644 include/nissy.hpp include/nissy.hpp
+644 lib/cmake/nissy/nissy-config-version.cmake packaging/cmake/nissy-config-version.cmake
+644 lib/cmake/nissy/nissy-config.cmake packaging/cmake/nissy-config.cmake
 644 lib/libnissy.a build/libnissy.a
 777 lib/libnissy.so build/libnissy.so.1
 755 lib/libnissy.so.1 build/libnissy.so.1
 644 lib/pkgconfig/nissy.pc include/nissy.pc
-644 lib/python3/dist-packages/nissy.py python/nissy.py
+$(cd python && find nissy \( -name '*.py' -o -name py.typed \) -printf '644 lib/python3/dist-packages/%p python/%p\n')
 644 share/doc/nissy/EMBEDDING.md docs/EMBEDDING.md"
 fi
 wanted=$(LC_ALL=C sort -k 2,2 <<< "$wanted")
@@ -64,7 +67,7 @@ holds "make install names each file" test "$(install_at install | LC_ALL=C sort)
 holds "the installed program runs" test "$("$usr/bin/nissy" invert "R U' F2")" = "F2 U R'"
 if [ $library = yes ]; then
     if ! missing python3; then
-        by_module() { PYTHONPATH=$1/lib/python3/dist-packages python3 -B -c 'import nissy; print(nissy.invert("R U"), nissy._nissy._name)'; }
+        by_module() { PYTHONPATH=$1/lib/python3/dist-packages python3 -B -c 'import nissy; print(nissy.invert("R U"), nissy._library.LIBRARY._name)'; }
         found=$(realpath "$usr/lib/libnissy.so.1")
         holds "the installed module finds the library beside it" test "$(realpath -- "$(by_module "$usr" | cut -d ' ' -f 3-)")" = "$found"
     else
@@ -82,27 +85,33 @@ if [ $library = yes ]; then
     else
         skips "pkg-config isn't installed"
     fi
-    # the archive, twice, by other file modes and another day
-    export SOURCE_DATE_EPOCH=1000000000
-    archive=build/nissy-$version-x86_64-linux.tar.gz bare=nissy-$version-x86_64-linux-program
-    holds "make dist packs an archive" by_make dist
-    mv "$archive" "$room/first.tar.gz"
-    find docs include python build -type f -exec touch -d 2001-01-01 {} +
-    again() { (umask 077 && by_make dist); }
-    holds "make dist packs it again" again
-    holds "the archive has the same bytes each time" cmp "$archive" "$room/first.tar.gz"
-    mkdir "$room/unpacked"
-    holds "the archive is unpacked" tar -C "$room/unpacked" -xpf "$archive"
-    unpacked=$(echo "$room"/unpacked/*)
-    holds "the archive has what is installed, and a README" test "$(stands "$unpacked" | grep -v '^644 README$')" = "$(stands "$usr")"
-    holds "its README is the one that is kept" cmp "$unpacked/README" docs/archive.txt
-    without_library() { sed '/^The library and the Python module/,$d' docs/archive.txt; }
-    holds "make dist LIBRARY=no packs an archive without the library" by_make LIBRARY=no dist
-    holds "it is unpacked" tar -C "$room/unpacked" -xpf "build/$bare.tar.gz"
-    holds "it has program and manuals" test "$(stands "$room/unpacked/$bare" | grep -v '^644 README$')" = \
-        "$(stands "$usr" | grep -vE '(include|lib)/|/EMBEDDING')"
-    holds "its README says nothing of the library" cmp "$room/unpacked/$bare/README" <(without_library)
-    holds "the program of the archive runs" test "$("$unpacked/bin/nissy" invert "R U' F2")" = "F2 U R'"
+    if ! missing cmake; then
+        cmake_project() { # FOLDER: a project of two files, which is built by what is installed
+            mkdir -p "$1" && printf '%s\n' 'cmake_minimum_required(VERSION 3.13)' 'project(one C)' "find_package(nissy $version REQUIRED)" \
+                'add_executable(one one.c)' 'target_link_libraries(one nissy::nissy)' 'add_executable(static one.c)' \
+                'target_link_libraries(static nissy::static)' > "$1/CMakeLists.txt" &&
+                printf '#include <nissy.h>\nint main(void) { return nissy_invert((const uint8_t *)"R", 1, (uint8_t *)"", 0).status; }\n' > "$1/one.c"
+        }
+        built_by_cmake() { # FOLDER PREFIX
+            cmake_project "$1" && cmake -S "$1" -B "$1/made" -DCMAKE_PREFIX_PATH="$2" && cmake --build "$1/made" || return
+            for made in one static; do "$1/made/$made"; [ $? -eq 4 ] || return; done
+        }
+        holds "a project of CMake is built" built_by_cmake "$room/project" "$usr"
+        refused_by_cmake() { sed -i "s/nissy $version/nissy 99.0/" "$room/project/CMakeLists.txt" && ! cmake -S "$room/project" -B "$room/other" -DCMAKE_PREFIX_PATH="$usr"; }
+        holds "one that asks for a later version isn't" refused_by_cmake
+    else
+        skips "cmake isn't installed"
+    fi
+    # as on Debian, where each kind of processor has a folder for its libraries
+    multiarch=lib/x86_64-linux-gnu
+    holds "make install takes a folder for libraries" by_make install DESTDIR="$room/multiarch" PREFIX=/usr LIBDIR=/usr/$multiarch PYTHONDIR=/usr/lib/python3
+    holds "the libraries stand there" test -e "$room/multiarch/usr/$multiarch/libnissy.so.1"
+    holds "and the module in the folder for Python" test -e "$room/multiarch/usr/lib/python3/nissy/__init__.py"
+    if ! missing pkg-config; then
+        flags() { PKG_CONFIG_PATH="$room/multiarch/usr/$multiarch/pkgconfig" pkg-config "$@" nissy; }
+        holds "pkg-config finds the header from there" test -e "$(flags --cflags-only-I | sed 's/^-I//; s/ *$//')/nissy.h"
+    fi
+    missing cmake || holds "CMake does, too" built_by_cmake "$room/project of many" "$room/multiarch/usr"
 fi
 mv docs/MANUAL.md docs/elsewhere
 holds "make install fails where a file is missing" refuses install_at install
@@ -120,8 +129,7 @@ finds_another() { # FILE FROM TO
 }
 if missing python3; then skips "there is no python3 here"; else
     holds "each place names the version of CHANGELOG.md" tools/version --check
-    holds "make dist's archive has it in its name" test "$(make --no-print-directory -n dist -o build/nissy -o build/libnissy.a)" = "tools/dist nissy-$version-x86_64-linux"
-    for file in include/nissy.pc include/nissy.h docs/nissy.1; do
+    for file in include/nissy.pc include/nissy.h docs/nissy.1 python/pyproject.toml packaging/cmake/nissy-config-version.cmake; do
         holds "another version in $file is found" finds_another "$file" "$version" 9.9.9
     done
 fi

@@ -1,0 +1,14 @@
+# Which versions find_package(nissy VERSION) may take: those of the same first number that aren't older.
+set(PACKAGE_VERSION "1.2.0")
+string(REGEX MATCH "^[0-9]+" nissy_first "${PACKAGE_VERSION}")
+if(PACKAGE_FIND_VERSION_MAJOR STREQUAL nissy_first AND NOT PACKAGE_FIND_VERSION VERSION_GREATER PACKAGE_VERSION)
+    set(PACKAGE_VERSION_COMPATIBLE TRUE)
+    if(PACKAGE_FIND_VERSION VERSION_EQUAL PACKAGE_VERSION)
+        set(PACKAGE_VERSION_EXACT TRUE)
+    endif()
+endif()
+# the library is for x86-64
+if(CMAKE_SIZEOF_VOID_P AND NOT CMAKE_SIZEOF_VOID_P EQUAL 8)
+    set(PACKAGE_VERSION "${PACKAGE_VERSION} (for 64 bits)")
+    set(PACKAGE_VERSION_UNSUITABLE TRUE)
+endif()

@@ -1,0 +1,99 @@
+#!/usr/bin/env bash
+# Makes what `make dist` makes of what is built, twice, and installs, uses and takes away each package in a folder of its own:
+#
+#     tests/packages.sh [PROGRAM]
+#
+# What can't be made or tried here is skipped, and named. The last line is `N passed, M failed`, and the status is 1 where M isn't 0.
+set -u
+# shellcheck source=tests/shared
+. "$(dirname "$0")/shared"
+program=$(program_of "$@") || exit 2
+cd "$(dirname "$0")/.." || exit 2
+version=$(tools/version)
+if [ ! -e build/libnissy.a ]; then skips_all "the packages, since there is no library that make lib built"; fi
+
+# what a user's own make would do, in a copy in which nothing is proved
+copied() {
+    mkdir -p "$room/source/build" && cp -R Makefile CHANGELOG.md README.md completions docs include packaging python tools web "$room/source" &&
+        cp "$program" "$room/source/build/nissy" && cp build/libnissy.* "$room/source/build" &&
+        if [ -e build/nissy.html ]; then cp build/nissy.html build/nissy.wasm "$room/source/build"; fi
+}
+holds "the files are there" copied
+cd "$room/source" || exit 2
+tools/dist "$room/dist" > "$room/said" || fails "the packages are made"
+while read -r line; do skips "$line"; done < <(grep 'left out' "$room/said")
+made=$room/dist
+(umask 077 && find . -type f -exec touch -d 2001-01-01 {} + && tools/dist "$room/again") > "$room/said" || fails "the packages are made again"
+holds "each has the same bytes again" diff -r "$made" "$room/again"
+holds "the sums are those of the files" env -C "$made" sha256sum --quiet -c SHA256SUMS
+holds "and of each file" test "$(wc -l < "$made/SHA256SUMS")" = "$(find "$made" -type f ! -name SHA256SUMS | wc -l)"
+
+# the archive
+archive=nissy-$version-x86_64-linux
+mkdir "$room/unpacked"
+holds "the archive is unpacked" tar -C "$room/unpacked" -xpf "$made/$archive.tar.gz"
+installed() { make --no-print-directory -o build/nissy -o build/libnissy.a install DESTDIR="$room/installed" PREFIX=/usr PYTHONDIR=/usr/lib/python3/dist-packages; }
+holds "what is installed" installed
+stands_in() { (cd "$1" && find . ! -type d ! -name README -printf '%m %P\n' | LC_ALL=C sort); }
+holds "is what the archive has" test "$(stands_in "$room/unpacked/$archive")" = "$(stands_in "$room/installed/usr")"
+holds "its README is the one that is kept" cmp "$room/unpacked/$archive/README" docs/archive.txt
+holds "the program of the archive runs" test "$("$room/unpacked/$archive/bin/nissy" invert "R U' F2")" = "F2 U R'"
+holds "the packages of the program alone are made" tools/dist "$room/alone" program
+holds "with their archive" tar -C "$room/unpacked" -xpf "$room/alone/$archive-program.tar.gz"
+without_library() { sed '/^The library and the Python module/,$d' docs/archive.txt; }
+holds "its README says nothing of the library" cmp "$room/unpacked/$archive-program/README" <(without_library)
+holds "it has nothing of the library" test "$(stands_in "$room/unpacked/$archive-program")" = \
+    "$(stands_in "$room/installed/usr" | grep -vE '(include|lib)/|/EMBEDDING')"
+
+# the wheel, in an environment of its own
+wheel=$made/nissy-$version-py3-none-manylinux_2_17_x86_64.whl
+if [ ! -e "$wheel" ]; then skips "the wheel, which wasn't made"; elif ! /usr/bin/python3 -m venv "$room/venv" > /dev/null 2>&1; then
+    skips "the wheel, since Python makes no environment here (python3-venv)"
+else
+    pip() { "$room/venv/bin/python" -m pip --disable-pip-version-check "$@"; }
+    in_venv() { (cd / && env -u PYTHONPATH -u NISSY_LIBRARY "$room/venv/bin/python" "$@"); }
+    stands() { find "$room/venv" ! -name '*.pyc' ! -name __pycache__ | sort; }
+    before=$(stands)
+    holds "the wheel is installed" pip install -q --no-index "$wheel"
+    holds "its module finds the library beside it" test "$(in_venv -c 'import nissy; print(nissy.invert("R U"), nissy.__version__)')" = "U' R' $version"
+    if missing mypy; then skips "mypy isn't installed"; else
+        printf 'import nissy\n\nlength: int = nissy.solve("eofb", "R U F")[0].length\n' > "$room/typed.py"
+        holds "its types are found" env -C / mypy --strict --cache-dir "$room/mypy" --python-executable "$room/venv/bin/python" "$room/typed.py"
+        printf 'import nissy\n\nlength: str = nissy.count("eofb", "R U F")\n' > "$room/untyped.py"
+        holds "and seen where they don't fit" refuses env -C / mypy --strict --cache-dir "$room/mypy" --python-executable "$room/venv/bin/python" "$room/untyped.py"
+    fi
+    other=${wheel/x86_64/aarch64}
+    holds "a wheel for another processor" cp "$wheel" "$room/${other##*/}"
+    holds "isn't installed" refuses pip install --no-index --force-reinstall "$room/${other##*/}"
+    head -c 20000 "$wheel" > "$room/${wheel##*/}"
+    holds "a wheel that was cut isn't installed" refuses pip install --no-index --force-reinstall "$room/${wheel##*/}"
+    holds "the wheel is taken away" pip uninstall -q -y nissy
+    holds "without a trace" test "$(stands)" = "$before"
+    needs_library() { rm build/libnissy.so.1 && ! said=$(tools/wheel "$room" 2>&1) && grep -q 'make lib' <<< "$said"; }
+    holds "a build without the library says what makes it" needs_library
+fi
+
+# the Debian packages, unpacked as they would be installed
+if ! ls "$made"/*.deb > /dev/null 2>&1; then skips "the Debian packages, which weren't made"; else
+    root=$room/root
+    unpacks() { for package in "$made"/*.deb; do dpkg-deb -x "$package" "$root" || return; done; }
+    mkdir "$root"
+    holds "the Debian packages are unpacked" unpacks
+    libraries=$root/usr/lib/x86_64-linux-gnu
+    holds "their program runs" test "$("$root/usr/bin/nissy" invert "R U' F2")" = "F2 U R'"
+    holds "their library is stripped" refuses grep -q '\.symtab' <(readelf -SW "$libraries/libnissy.so.1")
+    holds "their module is found" test "$(cd / && LD_LIBRARY_PATH=$libraries PYTHONPATH=$root/usr/lib/python3/dist-packages \
+        /usr/bin/python3 -B -c 'import nissy; print(nissy.invert("R U"))')" = "U' R'"
+    compiled() {
+        printf '#include <nissy.h>\nint main(void) { return nissy_invert((const uint8_t *)"R", 1, (uint8_t *)"", 0).status; }\n' > "$room/one.c" &&
+            cc -I "$root/usr/include" -o "$room/one" "$room/one.c" -L "$libraries" -lnissy && LD_LIBRARY_PATH=$libraries "$room/one"
+        [ $? -eq 4 ]
+    }
+    missing cc || holds "a program is compiled by what is for developers" compiled
+    if missing lintian; then skips "lintian isn't installed"; else
+        # the licence is the owner's to choose, and so is the file on the copyright
+        errors() { lintian --allow-root --fail-on none "$made"/*.deb 2>&1 | grep '^E:' | grep -v no-copyright-file; }
+        holds "lintian finds no error but that on the copyright" refuses errors
+    fi
+fi
+ended
