@@ -4,6 +4,10 @@
 
 #include <stddef.h>
 
+#ifdef __cplusplus
+extern "C" {
+#endif
+
 void *__real_malloc(size_t size);
 void *__real_realloc(void *old, size_t size);
 void __real_free(void *block);
@@ -33,5 +37,9 @@ void __wrap_free(void *block) {
     held -= block != NULL;
     __real_free(block);
 }
+
+#ifdef __cplusplus
+}
+#endif
 
 #endif
