@@ -8,7 +8,7 @@
  * Threads. The one state between calls is that of the tables which a caller has built (nissy_tables below). Any threads may call at the
  * same time, with written buffers of their own.
  *
- * Link with -lnissy (pkg-config: nissy). EMBEDDING.md (docs/, or share/doc/nissy/) has examples. */
+ * Link with -lnissy (pkg-config: nissy). EMBEDDING.md (docs/, or share/doc/nissy/) has examples. nissy.hpp is for C++17 and later. */
 #ifndef NISSY_H
 #define NISSY_H
 

@@ -33,9 +33,10 @@ holds "so does the archive" names_level "$folder/libnissy.a"
 # each test in C, plain by the archive and by the shared object, with the sanitizers, and by valgrind
 strict=(-O1 -g -Wall -Wextra -Wpedantic -Werror -Iinclude -Itests/library)
 sanitized=("-fsanitize=address,undefined" -fno-sanitize-recover=all)
+wrapped=-Wl,--wrap=malloc,--wrap=realloc,--wrap=free
 linked() { # NAME: what the test is linked with
     case $1 in
-        memory | fuzz) echo "-Wl,--wrap=malloc,--wrap=realloc,--wrap=free" ;;
+        memory | fuzz) echo $wrapped ;;
         threads) echo -pthread ;;
     esac
 }
@@ -84,25 +85,25 @@ add "$room/shared_runs"
 
 # the headers in C++, by each compiler that is here
 compiled_by() { # COMPILER PROGRAM WORD..: compiles the test in C++, with these words too
-    "$1" "${strict[@]}" "${@:3}" -pthread -o "$2" tests/library/nissy.cpp "$folder/libnissy.a"
+    "$1" "${strict[@]}" "${@:3}" -pthread $wrapped -o "$2" tests/library/nissy.cpp "$folder/libnissy.a"
 }
-missing c++ && skips "there is no C++ compiler here"
-for compiler in c++ g++ clang++; do
-    missing $compiler && continue
+for compiler in g++ clang++; do
+    if missing $compiler; then skips "$compiler isn't installed" && continue; fi
     holds "nissy.h is C++98 too, by $compiler" $compiler -std=c++98 "${strict[@]}" -x c++ -fsyntax-only include/nissy.h
     for standard in c++17 c++20; do
         holds "nissy.cpp compiles as $standard by $compiler" compiled_by $compiler "$room/$compiler.$standard" -std=$standard
+        add "$room/$compiler.$standard"
     done
-    add "$room/$compiler.c++17"
 done
-if ! missing c++ && [ $is_sanitized = yes ]; then
-    holds "nissy.cpp compiles with the sanitizers" compiled_by c++ "$room/nissy.sanitized" -std=c++17 "${sanitized[@]}"
+if ! missing g++ && [ $is_sanitized = yes ]; then
+    holds "nissy.cpp compiles with the sanitizers" compiled_by g++ "$room/nissy.sanitized" -std=c++17 "${sanitized[@]}"
     add "$room/nissy.sanitized"
 fi
-if ! missing c++ && [ $sees_races = yes ]; then
-    holds "nissy.cpp compiles with the sanitizer for threads" compiled_by c++ "$room/nissy.raced" -std=c++17 -fsanitize=thread
+if ! missing g++ && [ $sees_races = yes ]; then
+    holds "nissy.cpp compiles with the sanitizer for threads" compiled_by g++ "$room/nissy.raced" -std=c++17 -fsanitize=thread
     add "$room/nissy.raced"
 fi
+missing g++ || valgrinds --leak-check=full "$room/g++.c++17"
 printf '#include "nissy.h"\nint main(void) { return nissy_invert("R", 1, 0).status; }\n' > "$room/other.c"
 holds "a call with too few arguments doesn't compile" refuses cc -std=c11 "${strict[@]}" -o "$room/other" "$room/other.c" "$folder/libnissy.a"
 

@@ -1,7 +1,9 @@
-/* The header for C++: values out of strings, exceptions with their column, objects that are copied and shared by threads. */
+/* The header for C++: values out of strings, exceptions with their column, objects that are copied and shared by threads. It is linked with
+   --wrap for malloc, realloc and free, by which the library's memory is refused. */
 #include "nissy.hpp"
 
 #include "faults.h"
+#include "refused.h"
 #include "searches.h"
 
 #include <thread>
@@ -94,6 +96,14 @@ void misuse_is_thrown() {
     throws<std::length_error>([&] { tables.count(blanks); }, "16,777,217 blanks");
 }
 
+// Refused memory is an exception, and the next object of the step has its tables.
+void refused_memory_is_thrown() {
+    made = 0, refused_at = 1, onward = 1;
+    throws<std::bad_alloc>([] { nissy::tables("dr-eoud"); }, "refused memory");
+    refused_at = 0;
+    holds(made > 0 && nissy::tables("dr-eoud").count("").length == 0, "the tables are built later", "dr-eoud");
+}
+
 // Many solutions come whole, in rooms that grow: all that are counted, each of its length.
 void many_are_whole() {
     const nissy::tables tables("eofb");
@@ -143,6 +153,7 @@ int main() {
     lines_are_rewritten();
     faults_are_thrown();
     misuse_is_thrown();
+    refused_memory_is_thrown();
     many_are_whole();
     objects_are_values();
     holds(nissy::scramble(42, 54, 6) == "L' D' F' R2 F' L'" && nissy::scramble(1, 2, 0).empty(), "its turns", "scramble");

@@ -4,6 +4,10 @@
 
 #include <stddef.h>
 
+#ifdef __cplusplus
+extern "C" {
+#endif
+
 void *__real_malloc(size_t size);
 void *__real_realloc(void *old, size_t size);
 void __real_free(void *block);
@@ -39,5 +43,9 @@ void __wrap_free(void *block) {
     held -= block != NULL;
     __real_free(block);
 }
+
+#ifdef __cplusplus
+}
+#endif
 
 #endif
