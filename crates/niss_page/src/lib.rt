@@ -1,9 +1,16 @@
-//! The module for web pages and other hosts of WebAssembly: one call, which does what the program does. `web/nissy.js` makes it.
+//! The module for web pages and other hosts of WebAssembly. `web/nissy.js` makes its calls.
 #![tactic(auto)]
 
+mod arena;
+mod held;
+mod kept;
 mod one_block;
 mod room;
 mod run_call;
+mod table_calls;
 
+pub use held::Held;
+pub use kept::Kept;
 pub use room::{Block, Room};
 pub use run_call::nissy_run;
+pub use table_calls::nissy_build;

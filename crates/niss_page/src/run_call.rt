@@ -3,18 +3,16 @@ ghost use Rattle.std.specs.Prelude.{◌≡◌, ◌⊎◌};
 ghost use Rattle.niss_embed.specs.Memory.{memory};
 ghost use Rattle.niss_embed.specs.Run.{RunsBytes};
 
+use crate::arena::capacity_of;
 use crate::one_block::OneBlock;
 use crate::room::Room;
 use bumpalo::Bump;
 use niss_embed::{Answer, run_bytes};
 use std::mem::replace;
 
-/// What an arena takes at most beside the bytes that it is asked for: it adds its footer, and goes up to whole pages.
-const BESIDE: usize = 4160;
-
 /// An arena that has the block already, where that isn't too small.
 fn arena_of(block: &OneBlock) -> Bump<&OneBlock> {
-    match Bump::try_with_capacity(block, block.size().saturating_sub(BESIDE)) {
+    match Bump::try_with_capacity(block, capacity_of(block)) {
         Ok(arena) => arena,
         Err(_) => Bump::new(block),
     }

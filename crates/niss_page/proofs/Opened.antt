@@ -1,0 +1,93 @@
+-- What a kept pointer owns can be had twice, so a `&` to it is opened. Assumes `Logic`.
+use Rattle.std.proofs.Common.{◌≡◌, ℕ, Bool, true, false, List, [], ◌∷◌, refl, sym}
+use seplogic.Ra.Ura.{Ura}
+use mir.Syntax.{static}
+use mir.Val.{Val}
+use base.Logic.{ent, sep}
+use base.Fml.{ftrue}
+use types.Logic.{Logic, sem}
+use types.Kit.{‵, ◌⊛◌, ◌$◌, ◌∵◌, !, qed, move, use0, use1, split, rewrite, fsplit, fjoin, done}
+use denote.RattleType.{RattleType}
+use denote.Laws.{Is, Copy, shows}
+use denote.Memory.{part_at, shared_of, share_laws}
+use denote.Opens.{Opens, Cuts, Cuts-Halves, Opened-one, Twice-of, shr_dup}
+use denote.RawPtr.{Ptr, in_block, block_of, count_of}
+use denote.Shadow.{pure_l}
+use denote.Sharing.{said}
+use denote.SharingLaws.{contraction, one_shr_laws, said_shr_laws}
+use denote.Steps.{nothing}
+use denote.Struct.Lending.{in_block_pure}
+use Rattle.linked_list_allocator.proofs.Values.{list_val, list_own, list_told, list_made}
+use denote.Ref.{NamedLft}
+use denote.Param.Laws.{Laws, of_field, is_one}
+use denote.Param.Shared.{copy_shared}
+use denote.Struct.Field.{shr_ref_field}
+use denote.Struct.Laws.{shr_ref_laws, shr_ref_copy}
+use Rattle.bumpalo.proofs.bump.Bump.TheLaws as bump
+use Rattle.niss_search.proofs.tables.Tables.TheLaws as tables
+use Rattle.bumpalo.specs.contracts.bump.BumpAllocator.TheImpl as bump_impl
+use Rattle.core.specs.contracts.alloc.RefAllocator.TheImpl as reference
+use Rattle.niss_page.specs.Rows.{arena_row, reference_row, tables_row}
+use Rattle.niss_page.specs.Ownership.{TheStep, kept_owns}
+use Rattle.niss_page.specs.contracts.one_block.OneBlock as OneBlock
+use Rattle.niss_page.specs.contracts.one_block.OneBlockAllocator.TheImpl as one
+use Rattle.niss_page.proofs.one_block.OneBlock.TheLaws as one_block
+use Rattle.niss_page.specs.contracts.kept.Kept as kept
+
+-- the laws of a `&'static` to an arena, and of tables in one
+arena_laws : Laws arena_row
+arena_laws = bump.the_row_laws OneBlock.the_row one.ghosts one_block.the_row_laws
+
+abbrev for_good : NamedLft
+for_good = record { mir = static; lft = [] }
+
+reference_laws : Laws reference_row
+reference_laws =
+    let field = shr_ref_field for_good arena_row (is_one arena_row arena_laws) in
+    of_field field (shr_ref_laws for_good arena_row (is_one arena_row arena_laws)) refl
+    (copy_shared field (shr_ref_copy for_good arena_row (is_one arena_row arena_laws) arena_laws.shr_laws))
+
+lent_laws : Laws tables_row
+lent_laws = tables.the_row_laws reference_row (reference.ghosts arena_row (bump_impl.ghosts OneBlock.the_row one.ghosts bump_impl.no_dict bump_impl.no_dict) reference.no_dict reference.no_dict) reference_laws
+
+abbrev pub B : RattleType
+B = kept.the_row
+
+abbrev vals : B.Denot → List Val
+vals d = list_val d.at ∷ []
+
+tells : (d : B.Denot) (vs : List Val) → Is B d vs → vs ≡ vals d
+tells d vs s = (list_told d.at vs s.0).0
+
+module _ {M : Type 1} {𝓤 : Ura M} (𝓛 : Logic 𝓤) where
+  pub kept_twice : (y : Bool) (p : Ptr) (x : TheStep) → ent 𝓤 (sem 𝓛 (kept_owns y p x)) (sep 𝓤 (sem 𝓛 (kept_owns y p x)) (sem 𝓛 (kept_owns y p x)))
+  kept_twice true p x =
+      let b = block_of p in let o = count_of p in
+      qed 𝓛 (‵ (kept_owns true p x) ∷ []) ∵ fsplit ! $
+      use1 𝓛 (‵ (in_block p ftrue) ⊛ ‵ (in_block p ftrue)) (contraction 𝓛 (said (in_block p ftrue)) (said_shr_laws (in_block p ftrue) (in_block_pure p)) []) $ split ! $
+      move ! (2 ∷ []) $ shr_dup ! tables_row (lent_laws.shr_laws) x b o [] $
+      -- [shared; shared; in a block; in a block]
+      move ! (2 ∷ 0 ∷ []) $ fjoin ! $ move ! (2 ∷ 1 ∷ []) $ fjoin ! $ done !
+  kept_twice false p x = qed 𝓛 (‵ ftrue ∷ []) ∵ nothing ! $ done !
+
+  kept_copy : Copy 𝓛 B
+  kept_copy = record {
+    twice = λ d vs.
+        qed 𝓛 (‵ (B.own_val d vs) ∷ []) ∵ fsplit ! $ pure_l ! (list_own d.at vs) (λ s.
+        use1 𝓛 (‵ (kept_owns d.full d.at d.step) ⊛ ‵ (kept_owns d.full d.at d.step)) (kept_twice d.full d.at d.step) $ split ! $
+        use0 𝓛 (‵ (list_own d.at (list_val d.at ∷ []))) (list_made 𝓛 d.at tt) $ rewrite ! 0 (λ (us : List Val). ‵ (list_own d.at us)) (sym (list_told d.at vs s).0) refl $ fjoin ! $
+        move ! (1 ∷ []) $
+        use0 𝓛 (‵ (list_own d.at (list_val d.at ∷ []))) (list_made 𝓛 d.at tt) $ rewrite ! 0 (λ (us : List Val). ‵ (list_own d.at us)) (sym (list_told d.at vs s).0) refl $ fjoin ! $ done !);
+  }
+
+  cuts : (d : B.Denot) (b o : ℕ) → Cuts 𝓛 (λ q. part_at B q d b o)
+  cuts d b o = record {
+    cut = λ q q₁ q₂ m. (share_laws 𝓛 B (Is B) (shows 𝓛 B) vals tells kept_copy).cut q q₁ q₂ m d b o;
+    join = λ q q₁ q₂ m. (share_laws 𝓛 B (Is B) (shows 𝓛 B) vals tells kept_copy).join q q₁ q₂ m d b o;
+  }
+
+  pub kept_opens : Opens 𝓛 B
+  kept_opens d b o = (
+    Opened-one 𝓛 (λ q. part_at B q d b o) (Cuts-Halves 𝓛 (λ q. part_at B q d b o) (cuts d b o)),
+    Twice-of 𝓛 (shared_of B d b o) (one_shr_laws (λ q. part_at B q d b o)),
+  )

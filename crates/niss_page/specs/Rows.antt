@@ -1,0 +1,22 @@
+-- The row of tables in an arena that stays.
+use Rattle.std.specs.Prelude.{[]}
+use denote.Builtin.{RefOf}
+use denote.RattleType.{RattleType}
+use denote.Signature.{plain, type_at}
+use Rattle.bumpalo.specs.contracts.bump.Bump as Bump
+use Rattle.bumpalo.specs.contracts.bump.BumpAllocator.TheImpl as bump
+use Rattle.core.specs.contracts.alloc.RefAllocator.TheImpl as reference
+use Rattle.niss_search.specs.contracts.tables.Tables as Tables
+use Rattle.niss_page.specs.contracts.one_block.OneBlock as OneBlock
+use Rattle.niss_page.specs.contracts.one_block.OneBlockAllocator.TheImpl as one
+
+abbrev pub arena_row : RattleType
+arena_row = Bump.the_row OneBlock.the_row one.ghosts
+
+-- a `&'static` to an arena
+abbrev pub reference_row : RattleType
+reference_row = type_at {n = 0} (RefOf [] tt (plain (λ κs. arena_row)) (λ κs. tt)) tt
+
+abbrev pub tables_row : RattleType
+tables_row = Tables.the_row reference_row
+    (reference.ghosts arena_row (bump.ghosts OneBlock.the_row one.ghosts bump.no_dict bump.no_dict) reference.no_dict reference.no_dict)
