@@ -1,7 +1,6 @@
 -- What a kept pointer owns can be had twice, so a `&` to it is opened. Assumes `Logic`.
 use Rattle.std.proofs.Common.{◌≡◌, ℕ, Bool, true, false, List, [], ◌∷◌, refl, sym}
 use seplogic.Ra.Ura.{Ura}
-use mir.Syntax.{static}
 use mir.Val.{Val}
 use base.Logic.{ent, sep}
 use base.Fml.{ftrue}
@@ -18,37 +17,10 @@ use denote.SharingLaws.{contraction, one_shr_laws, said_shr_laws}
 use denote.Steps.{nothing}
 use denote.Struct.Lending.{in_block_pure}
 use Rattle.linked_list_allocator.proofs.Values.{list_val, list_own, list_told, list_made}
-use denote.Ref.{NamedLft}
-use denote.Param.Laws.{Laws, of_field, is_one}
-use denote.Param.Shared.{copy_shared}
-use denote.Struct.Field.{shr_ref_field}
-use denote.Struct.Laws.{shr_ref_laws, shr_ref_copy}
-use Rattle.bumpalo.proofs.bump.Bump.TheLaws as bump
-use Rattle.niss_search.proofs.tables.Tables.TheLaws as tables
-use Rattle.bumpalo.specs.contracts.bump.BumpAllocator.TheImpl as bump_impl
-use Rattle.core.specs.contracts.alloc.RefAllocator.TheImpl as reference
-use Rattle.niss_page.specs.Rows.{arena_row, reference_row, tables_row}
+use Rattle.niss_page.specs.Rows.{tables_row}
 use Rattle.niss_page.specs.Ownership.{TheStep, kept_owns}
-use Rattle.niss_page.specs.contracts.one_block.OneBlock as OneBlock
-use Rattle.niss_page.specs.contracts.one_block.OneBlockAllocator.TheImpl as one
-use Rattle.niss_page.proofs.one_block.OneBlock.TheLaws as one_block
 use Rattle.niss_page.specs.contracts.kept.Kept as kept
-
--- the laws of a `&'static` to an arena, and of tables in one
-arena_laws : Laws arena_row
-arena_laws = bump.the_row_laws OneBlock.the_row one.ghosts one_block.the_row_laws
-
-abbrev for_good : NamedLft
-for_good = record { mir = static; lft = [] }
-
-reference_laws : Laws reference_row
-reference_laws =
-    let field = shr_ref_field for_good arena_row (is_one arena_row arena_laws) in
-    of_field field (shr_ref_laws for_good arena_row (is_one arena_row arena_laws)) refl
-    (copy_shared field (shr_ref_copy for_good arena_row (is_one arena_row arena_laws) arena_laws.shr_laws))
-
-lent_laws : Laws tables_row
-lent_laws = tables.the_row_laws reference_row (reference.ghosts arena_row (bump_impl.ghosts OneBlock.the_row one.ghosts bump_impl.no_dict bump_impl.no_dict) reference.no_dict reference.no_dict) reference_laws
+use Rattle.niss_page.proofs.LentLaws.{lent_tables_laws}
 
 abbrev pub B : RattleType
 B = kept.the_row
@@ -64,8 +36,9 @@ module _ {M : Type 1} {𝓤 : Ura M} (𝓛 : Logic 𝓤) where
   kept_twice true p x =
       let b = block_of p in let o = count_of p in
       qed 𝓛 (‵ (kept_owns true p x) ∷ []) ∵ fsplit ! $
-      use1 𝓛 (‵ (in_block p ftrue) ⊛ ‵ (in_block p ftrue)) (contraction 𝓛 (said (in_block p ftrue)) (said_shr_laws (in_block p ftrue) (in_block_pure p)) []) $ split ! $
-      move ! (2 ∷ []) $ shr_dup ! tables_row (lent_laws.shr_laws) x b o [] $
+      let inside = in_block p ftrue in
+      use1 𝓛 (‵ inside ⊛ ‵ inside) (contraction 𝓛 (said inside) (said_shr_laws inside (in_block_pure p)) []) $ split ! $
+      move ! (2 ∷ []) $ shr_dup ! tables_row (lent_tables_laws.shr_laws) x b o [] $
       -- [shared; shared; in a block; in a block]
       move ! (2 ∷ 0 ∷ []) $ fjoin ! $ move ! (2 ∷ 1 ∷ []) $ fjoin ! $ done !
   kept_twice false p x = qed 𝓛 (‵ ftrue ∷ []) ∵ nothing ! $ done !
@@ -75,9 +48,9 @@ module _ {M : Type 1} {𝓤 : Ura M} (𝓛 : Logic 𝓤) where
     twice = λ d vs.
         qed 𝓛 (‵ (B.own_val d vs) ∷ []) ∵ fsplit ! $ pure_l ! (list_own d.at vs) (λ s.
         use1 𝓛 (‵ (kept_owns d.full d.at d.step) ⊛ ‵ (kept_owns d.full d.at d.step)) (kept_twice d.full d.at d.step) $ split ! $
-        use0 𝓛 (‵ (list_own d.at (list_val d.at ∷ []))) (list_made 𝓛 d.at tt) $ rewrite ! 0 (λ (us : List Val). ‵ (list_own d.at us)) (sym (list_told d.at vs s).0) refl $ fjoin ! $
+        use0 𝓛 (‵ (list_own d.at (vals d))) (list_made 𝓛 d.at tt) $ rewrite ! 0 (λ us. ‵ (list_own d.at us)) (sym (list_told d.at vs s).0) refl $ fjoin ! $
         move ! (1 ∷ []) $
-        use0 𝓛 (‵ (list_own d.at (list_val d.at ∷ []))) (list_made 𝓛 d.at tt) $ rewrite ! 0 (λ (us : List Val). ‵ (list_own d.at us)) (sym (list_told d.at vs s).0) refl $ fjoin ! $ done !);
+        use0 𝓛 (‵ (list_own d.at (vals d))) (list_made 𝓛 d.at tt) $ rewrite ! 0 (λ us. ‵ (list_own d.at us)) (sym (list_told d.at vs s).0) refl $ fjoin ! $ done !);
   }
 
   cuts : (d : B.Denot) (b o : ℕ) → Cuts 𝓛 (λ q. part_at B q d b o)

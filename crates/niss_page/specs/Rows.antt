@@ -6,6 +6,7 @@ use denote.Signature.{plain, type_at}
 use Rattle.bumpalo.specs.contracts.bump.Bump as Bump
 use Rattle.bumpalo.specs.contracts.bump.BumpAllocator.TheImpl as bump
 use Rattle.core.specs.contracts.alloc.RefAllocator.TheImpl as reference
+use Rattle.core.specs.declared.alloc.Allocator.{Ghosts}
 use Rattle.niss_search.specs.contracts.tables.Tables as Tables
 use Rattle.niss_page.specs.contracts.one_block.OneBlock as OneBlock
 use Rattle.niss_page.specs.contracts.one_block.OneBlockAllocator.TheImpl as one
@@ -13,10 +14,15 @@ use Rattle.niss_page.specs.contracts.one_block.OneBlockAllocator.TheImpl as one
 abbrev pub arena_row : RattleType
 arena_row = Bump.the_row OneBlock.the_row one.ghosts
 
+abbrev pub arena_ghosts : Ghosts arena_row.Denot
+arena_ghosts = bump.ghosts OneBlock.the_row one.ghosts bump.no_dict bump.no_dict
+
 -- a `&'static` to an arena
-abbrev pub reference_row : RattleType
-reference_row = type_at {n = 0} (RefOf [] tt (plain (λ κs. arena_row)) (λ κs. tt)) tt
+abbrev pub lent_arena_row : RattleType
+lent_arena_row = type_at {n = 0} (RefOf [] tt (plain (λ κs. arena_row)) (λ κs. tt)) tt
+
+abbrev pub lent_arena_ghosts : Ghosts lent_arena_row.Denot
+lent_arena_ghosts = reference.ghosts arena_row arena_ghosts reference.no_dict reference.no_dict
 
 abbrev pub tables_row : RattleType
-tables_row = Tables.the_row reference_row
-    (reference.ghosts arena_row (bump.ghosts OneBlock.the_row one.ghosts bump.no_dict bump.no_dict) reference.no_dict reference.no_dict)
+tables_row = Tables.the_row lent_arena_row lent_arena_ghosts
