@@ -4,6 +4,7 @@
 mod arena;
 mod held;
 mod kept;
+mod line_calls;
 mod one_block;
 mod room;
 mod run_call;
@@ -11,6 +12,10 @@ mod table_calls;
 
 pub use held::Held;
 pub use kept::Kept;
+pub use line_calls::{
+    nissy_cleanup, nissy_fault_text, nissy_invert, nissy_print, nissy_scramble, nissy_start,
+    nissy_steps, nissy_unniss,
+};
 pub use room::{Block, Room};
 pub use run_call::nissy_run;
-pub use table_calls::nissy_build;
+pub use table_calls::{nissy_build, nissy_count, nissy_solve};

@@ -1,10 +1,12 @@
 //! Tables that are built once and asked many times.
 ghost use Rattle.std.specs.Prelude.{◌≡◌, ◌≢◌};
-ghost use Rattle.niss_page.specs.Calls.{Builds};
+ghost use Rattle.niss_embed.specs.Memory.{memory};
+ghost use Rattle.niss_page.specs.Calls.{Builds, Solves, Counts};
 
 use crate::held::Held;
 use crate::room::Room;
 use niss_cube::Step;
+use niss_embed::{CountAnswer, SolveAnswer, count_line, solve_line};
 use std::mem::replace;
 
 /// Builds the tables of the step of this name in two rooms, which it keeps for good: 256 bytes and what the tables take. 0: they are
@@ -28,4 +30,34 @@ pub extern "C" fn nissy_build(
     let large = replace(large, Room::none());
     *tables = Held::build(small, large, step);
     if tables.built { 0 } else { 3 }
+}
+
+/// Writes the solutions for a line by the tables, as `solve_line` of `niss_embed`.
+#[unsafe(no_mangle)]
+pub extern "C" fn nissy_solve(
+    tables: &Held,
+    line: &[u8],
+    limit: u8,
+    slack: u8,
+    most: u64,
+    out: &mut [u8],
+) -> SolveAnswer
+    ensures { Solves tables.now.built tables.now.kept.step limit slack most line.now
+        (memory out.old out.new) result }
+{
+    match tables.tables() {
+        Some(tables) => solve_line(tables, line, limit, slack, most, out),
+        None => SolveAnswer::misused(),
+    }
+}
+
+/// Counts the solutions for a line by the tables, as `count_line` of `niss_embed`.
+#[unsafe(no_mangle)]
+pub extern "C" fn nissy_count(tables: &Held, line: &[u8], limit: u8, slack: u8) -> CountAnswer
+    ensures { Counts tables.now.built tables.now.kept.step limit slack line.now result }
+{
+    match tables.tables() {
+        Some(tables) => count_line(tables, line, limit, slack),
+        None => CountAnswer::misused(),
+    }
 }
