@@ -16,6 +16,7 @@ if [ ! -e "$module" ] || missing node; then
     skips_all "there is no module that make build/nissy.wasm built, or no node"
 fi
 add node tests/page_model/rows.mjs "$module"
+add node tests/page_model/wrong.mjs "$module"
 if missing python3; then
     skips "there is no python3 here"
 else

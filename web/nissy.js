@@ -53,6 +53,13 @@ const OUT_OF_MEMORY = "nissy: out of memory\n";
 const encoder = new TextEncoder();
 const decoder = new TextDecoder();
 
+/** The name of a typed array's kind by the engine itself: no other object has one, and it is the same in each realm. */
+const kindOf = /** @type {(value: unknown) => string | undefined} */ (
+  Function.prototype.call.bind(
+    /** @type {any} */ (Object.getOwnPropertyDescriptor(Object.getPrototypeOf(Uint8Array.prototype), Symbol.toStringTag)).get,
+  )
+);
+
 /** This engine runs no module at all. */
 export class NoWebAssembly extends Error {
   constructor() {
@@ -64,20 +71,36 @@ export class NoWebAssembly extends Error {
 /** What it was called while the module needed 64-bit memories. @deprecated */
 export const NoWideMemory = NoWebAssembly;
 
-/**
- * @param {string | Uint8Array} text
- * @returns {Uint8Array} its bytes; those of UTF-8 for a string
- */
-function bytesOf(text) {
-  return typeof text === "string" ? encoder.encode(text) : text;
+/** The instance broke off in a call, and no other one could be made of its module. */
+export class EngineMissing extends Error {
+  /** @param {unknown} cause */
+  constructor(cause) {
+    super(`the engine broke off, and can't be started again: ${/** @type {any} */ (cause)?.message ?? cause}`);
+    this.name = "EngineMissing";
+    this.cause = cause;
+  }
 }
 
 /**
- * @param {(string | Uint8Array)[]} words
+ * The bytes of a text: those of UTF-8 for a string, and of an array of bytes a copy, which nobody else can change. Anything else is refused:
+ * an object that says of itself how long it is could reach what another caller left in the memory.
+ * @param {unknown} text
+ * @param {string} what it is, for the error
+ * @returns {Uint8Array}
+ */
+function bytesOf(text, what) {
+  if (typeof text === "string") return encoder.encode(text);
+  if (kindOf(text) !== "Uint8Array") throw new TypeError(`${what} is neither a string nor a Uint8Array`);
+  return new Uint8Array(/** @type {Uint8Array} */ (text));
+}
+
+/**
+ * @param {unknown} words
  * @returns {Uint8Array} the words as the module takes them, each with a zero byte after it
  */
 function joined(words) {
-  const listed = words.map(bytesOf);
+  if (!Array.isArray(words)) throw new TypeError("the words are no array");
+  const listed = Array.from(words, (word, index) => bytesOf(word, `word ${index + 1}`));
   const bytes = new Uint8Array(listed.reduce((sum, word) => sum + word.length + 1, 0));
   let at = 0;
   for (const word of listed) {
@@ -106,6 +129,20 @@ function withEnough(first, most, run, hadTooLittle) {
   return answer;
 }
 
+/**
+ * What the module exports: its memory, its call, and where the memory begins that it doesn't use by itself.
+ * @typedef {{memory: WebAssembly.Memory, run: (...numbers: bigint[]) => void, base: number}} Exported
+ */
+
+/**
+ * @param {WebAssembly.Instance} instance
+ * @returns {Exported}
+ */
+function exportedBy({ exports }) {
+  const { memory, nissy_run: run, __heap_base: base } = /** @type {any} */ (exports);
+  return { memory, run, base: Number(base.value) };
+}
+
 /** @param {Answer} answer */
 function isRefusedMemory(answer) {
   return answer.status === 3 && decoder.decode(answer.err) === OUT_OF_MEMORY;
@@ -113,15 +150,14 @@ function isRefusedMemory(answer) {
 
 /** The engine, loaded. */
 export class Nissy {
-  /** @type {WebAssembly.Memory} */ #memory;
-  /** @type {(...numbers: bigint[]) => void} */ #call;
-  /** @type {number} where the memory begins that the module doesn't use by itself */ #base;
+  /** @type {WebAssembly.Module} */ #module;
+  /** @type {Exported} */ #exported;
+  /** whether a call began that didn't return: what the module has in its memory is then in no order */ #isBroken = false;
 
-  /** @param {WebAssembly.Exports} exports */
-  constructor(exports) {
-    this.#memory = /** @type {WebAssembly.Memory} */ (exports.memory);
-    this.#call = /** @type {any} */ (exports.nissy_run);
-    this.#base = Number(/** @type {WebAssembly.Global} */ (exports.__heap_base).value);
+  /** @param {WebAssembly.Module} module @param {WebAssembly.Instance} instance */
+  constructor(module, instance) {
+    this.#module = module;
+    this.#exported = exportedBy(instance);
   }
 
   /**
@@ -131,21 +167,24 @@ export class Nissy {
    */
   static async load(bytes) {
     if (!globalThis.WebAssembly) throw new NoWebAssembly();
-    const { instance } = await WebAssembly.instantiate(bytes, {});
-    return new Nissy(instance.exports);
+    const module = await WebAssembly.compile(bytes);
+    return new Nissy(module, await WebAssembly.instantiate(module, {}));
   }
 
   /**
    * Does what the program does with these words after its name, and `input` as its standard input. Nothing is kept after the run, but the
-   * memory that it needed, for the next. Throws a `RangeError` where a word holds a zero byte, or the engine has no memory for the run.
+   * memory that it needed, for the next. Throws a `TypeError` if something is of another type, and a `RangeError` if a word holds a zero
+   * byte, or the engine has no memory for the run. After a call that broke off the next one starts the module anew, or throws
+   * `EngineMissing` if that can't be done.
    * @param {(string | Uint8Array)[]} words the words of a command
    * @param {string | Uint8Array} [input] what the program reads where its words don't give it
    * @param {number} [room] where it is given, the output has room for so many bytes, and the run is made once
    * @returns {Answer}
    */
   run(words, input = "", room = undefined) {
-    const given = { words: joined(words), input: bytesOf(input) };
+    const given = { words: joined(words), input: bytesOf(input, "the input") };
     if (room !== undefined) {
+      if (typeof room !== "number") throw new TypeError("the room is no number");
       // the module would take a negative one as 2^64 less so much, and write behind the memory
       if (!Number.isSafeInteger(room) || room < 0) throw new RangeError("the room is no number of bytes");
       return this.#runWithRoom(given, room);
@@ -171,16 +210,21 @@ export class Nissy {
    * @returns {Answer}
    */
   #runOnce({ words, input }, room, lent) {
+    if (this.#isBroken) this.#startAgain();
     const [answer, memory, err, block, wordsAt, inputAt, out] = this.#places([
       ANSWER.bytes, ROOM.bytes, ERROR_ROOM, lent, words.length, input.length, room]);
-    const bytes = new Uint8Array(this.#memory.buffer);
+    const bytes = new Uint8Array(this.#exported.memory.buffer);
     bytes.set(words, wordsAt);
     bytes.set(input, inputAt);
-    const view = new DataView(this.#memory.buffer);
+    const view = new DataView(this.#exported.memory.buffer);
     view.setBigUint64(memory + ROOM.block, BigInt(block), true);
     view.setBigUint64(memory + ROOM.size, BigInt(lent), true);
-    this.#call(...[answer, memory, wordsAt, words.length, inputAt, input.length, out, room, err, ERROR_ROOM].map(BigInt));
+    const numbers = [answer, memory, wordsAt, words.length, inputAt, input.length, out, room, err, ERROR_ROOM].map(BigInt);
+    // no handler of this one runs if the host cuts a run off
+    this.#isBroken = true;
+    this.#exported.run(...numbers);
     if (view.getBigUint64(memory + ROOM.size, true) !== BigInt(lent)) throw new Error("the module kept memory that it was lent");
+    this.#isBroken = false;
     const length = (/** @type {number} */ at) => Number(view.getBigUint64(answer + at, true));
     return {
       status: view.getUint8(answer + ANSWER.status),
@@ -196,7 +240,7 @@ export class Nissy {
    * @returns {number[]}
    */
   #places(sizes) {
-    let end = this.#base;
+    let end = this.#exported.base;
     const places = sizes.map((size) => {
       // the module takes its structs and the memory for the tables at multiples of 16
       const place = Math.ceil(end / 16) * 16;
@@ -212,8 +256,19 @@ export class Nissy {
    * @param {number} size
    */
   #grow(size) {
-    const missing = Math.ceil((size - this.#memory.buffer.byteLength) / PAGE);
-    if (missing > MOST_PAGES) throw new RangeError("no memory has so many bytes");
-    if (missing > 0) this.#memory.grow(missing);
+    // the module cuts an address to 32 bits, so a greater one would be another place
+    if (size > MOST_PAGES * PAGE) throw new RangeError("no memory has so many bytes");
+    const missing = Math.ceil((size - this.#exported.memory.buffer.byteLength) / PAGE);
+    if (missing > 0) this.#exported.memory.grow(missing);
+  }
+
+  /** Takes another instance of the module in place of one that broke off. */
+  #startAgain() {
+    try {
+      this.#exported = exportedBy(new WebAssembly.Instance(this.#module, {}));
+      this.#isBroken = false;
+    } catch (cause) {
+      throw new EngineMissing(cause);
+    }
   }
 }

@@ -3,9 +3,8 @@
 //     node tests/page_model/rows.mjs MODULE
 //
 // The last line is `N passed, M failed`, and the status is 1 where M isn't 0.
-import { deepStrictEqual } from "node:assert";
-import { readFileSync } from "node:fs";
 import { NoWebAssembly, NoWideMemory, Nissy } from "../../web/nissy.js";
+import { ended, loaded, moduleBytes as module, same, text, thrown } from "./tally.mjs";
 
 const SOLVED = "UUUUUUUUURRRRRRRRRFFFFFFFFFDDDDDDDDDLLLLLLLLLBBBBBBBBB\n";
 const USAGE = "usage: nissy COMMAND [ARGUMENTS]\n";
@@ -38,47 +37,6 @@ const ROWS = [
   ["a search after these", [["count", "drud-eofb", "5", "R U"]], 0, "length 2 solutions 2 nodes 28\n", "", false],
 ];
 
-let passed = 0;
-let failed = 0;
-
-/** Counts what was seen against what was wanted, and shows it where they differ. */
-function same(what, seen, wanted) {
-  try {
-    deepStrictEqual(seen, wanted);
-    passed += 1;
-  } catch (error) {
-    failed += 1;
-    console.log(`not so: ${what}\n${error.message.slice(0, 2000)}`);
-  }
-}
-
-/** The name of what a call throws, and its message. */
-async function thrown(call) {
-  try {
-    await call();
-  } catch (error) {
-    return [error.name, error.message];
-  }
-  return "nothing";
-}
-
-const text = (bytes) => new TextDecoder().decode(bytes);
-const module = readFileSync(process.argv[2]);
-
-/** Loads the module, and answers it with its memory, which it doesn't show. */
-async function loaded() {
-  const { instantiate } = WebAssembly;
-  let memory;
-  WebAssembly.instantiate = async (...given) => {
-    const made = await instantiate(...given);
-    memory = made.instance.exports.memory;
-    return made;
-  };
-  const nissy = await Nissy.load(module);
-  WebAssembly.instantiate = instantiate;
-  return { nissy, memory };
-}
-
 function tryRows(nissy) {
   for (const [what, given, status, out, err, full] of ROWS) {
     const answer = nissy.run(...given);
@@ -104,7 +62,7 @@ async function tryRefusals(nissy) {
 
 /** After many calls the memory is as large as after a few. */
 async function tryMemory() {
-  const { nissy, memory } = await loaded();
+  const { nissy, memory } = await loaded(Nissy);
   const lines = "R U F\n".repeat(20);
   const run = (at) => nissy.run(at % 1000 < 5 ? ["count", "dr-eofb", "1"] : ["invert"], at % 1000 < 5 ? "" : lines);
   let sizeAfterTen = 0;
@@ -166,10 +124,9 @@ same("the module asks nothing of its host", WebAssembly.Module.imports(compiled)
 same("what it exports", WebAssembly.Module.exports(compiled).map(({ name }) => name), ["memory", "nissy_run", "__heap_base"]);
 const copied = module.buffer.slice(module.byteOffset, module.byteOffset + module.byteLength);
 same("a module in an ArrayBuffer", text((await Nissy.load(copied)).run(["invert", "R"]).out), "R'\n");
-const { nissy } = await loaded();
+const { nissy } = await loaded(Nissy);
 tryRows(nissy);
 await tryRefusals(nissy);
 await tryPlainCalls();
 await tryMemory();
-console.log(`${passed} passed, ${failed} failed`);
-process.exitCode = failed ? 1 : 0;
+ended();
