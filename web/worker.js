@@ -1,5 +1,5 @@
 // The engine's side of a worker: it loads the module that the first message brings, and answers each later one.
-import { Nissy } from "./nissy.js";
+import { Nissy } from "./module/nissy.js";
 
 /** How many bytes an answer may have, at first and at most: the page holds it as a text, and as a list. */
 const SHORT_ANSWER = 1_048_576;

@@ -3,7 +3,7 @@
 //     node tests/page_model/calls.mjs MODULE
 import { readFileSync } from "node:fs";
 import { createInterface } from "node:readline";
-import { Nissy } from "../../web/nissy.js";
+import { Nissy } from "../../web/module/nissy.js";
 
 const fromBase64 = (text) => new Uint8Array(Buffer.from(text, "base64"));
 const toBase64 = (bytes) => Buffer.from(bytes).toString("base64");

@@ -3,7 +3,7 @@
 //     node tests/page_model/rows.mjs MODULE
 //
 // The last line is `N passed, M failed`, and the status is 1 where M isn't 0.
-import { NoWebAssembly, NoWideMemory, Nissy } from "../../web/nissy.js";
+import { NoWebAssembly, NoWideMemory, Nissy } from "../../web/module/nissy.js";
 import { ended, loaded, moduleBytes as module, same, text, thrown } from "./tally.mjs";
 
 const SOLVED = "UUUUUUUUURRRRRRRRRFFFFFFFFFDDDDDDDDDLLLLLLLLLBBBBBBBBB\n";

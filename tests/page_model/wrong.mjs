@@ -6,7 +6,7 @@
 // The last line is `N passed, M failed`, and the status is 1 where M isn't 0.
 import { createHash } from "node:crypto";
 import { createContext, runInContext } from "node:vm";
-import { Nissy } from "../../web/nissy.js";
+import { Nissy } from "../../web/module/nissy.js";
 import { ended, loaded, moduleBytes, same, text, thrown } from "./tally.mjs";
 
 const SECRET = "R2 U2 F2 D2 L2 B2 R' U' F'\n";
