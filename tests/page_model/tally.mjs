@@ -1,5 +1,6 @@
 // What the trials of this folder share: counts of what was seen, and the module with its memory.
 import { deepStrictEqual } from "node:assert";
+import { createHash } from "node:crypto";
 import { readFileSync } from "node:fs";
 
 let passed = 0;
@@ -33,6 +34,7 @@ export function ended() {
 }
 
 export const text = (bytes) => new TextDecoder().decode(bytes);
+export const fingerprint = (memory) => createHash("sha256").update(new Uint8Array(memory.buffer)).digest("hex");
 export const moduleBytes = readFileSync(process.argv[2]);
 
 /** Loads the module by a class of nissy.js, and returns it with the memory of its first instance, which it doesn't show. */

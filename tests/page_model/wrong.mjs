@@ -4,71 +4,17 @@
 //     node tests/page_model/wrong.mjs MODULE
 //
 // The last line is `N passed, M failed`, and the status is 1 where M isn't 0.
-import { createHash } from "node:crypto";
 import { createContext, runInContext } from "node:vm";
 import { Nissy } from "../../web/module/nissy.js";
-import { ended, loaded, moduleBytes, same, text, thrown } from "./tally.mjs";
+import { ended, fingerprint, loaded, moduleBytes, same, text, thrown } from "./tally.mjs";
+import { DETACHED, WRONG, elsewhere } from "./values.mjs";
 
 const SECRET = "R2 U2 F2 D2 L2 B2 R' U' F'\n";
 const INVERTED = "F U R B2 L2 D2 F2 U2 R2\n";
 const DEEP_CALLS = 300;
 const CUT_RUNS = 10;
 const BYTES = [0x52, 0x20, 0x55];
-const elsewhere = createContext({});
 const NO_TEXT = "is neither a string nor a Uint8Array";
-
-/** A view of bytes whose buffer was handed on. */
-function detached() {
-  const bytes = Uint8Array.from(BYTES);
-  structuredClone(bytes.buffer, { transfer: [bytes.buffer] });
-  return bytes;
-}
-
-/** A class whose objects have no bytes, and say that they do. */
-class Posing {
-  length = 3;
-  buffer = new ArrayBuffer(3);
-  get [Symbol.toStringTag]() {
-    return "Uint8Array";
-  }
-}
-
-// what a value is, and the value: each could be taken for bytes
-const WRONG = [
-  ["null", null],
-  ["a truth value", true],
-  ["a number", 82],
-  ["no number", Number.NaN],
-  ["a number of more bits", 82n],
-  ["a symbol", Symbol("R")],
-  ["a function", () => "R"],
-  ["an object", {}],
-  ["a negative length", { length: -50_000 }],
-  ["a length that makes the room small", { length: -3_146_500 }],
-  ["a length that hides the tables", { length: -3_151_460 }],
-  ["a length that isn't whole", { length: 0.5 }],
-  ["a length that wraps", { length: 2 ** 32 }],
-  ["a length in words", { length: "3" }],
-  ["a length of bytes alone", { length: 3, byteLength: 3 }],
-  ["bytes by their places", { 0: 0x52, length: 1 }],
-  ["an array of bytes", BYTES],
-  ["an array of a string", ["R U"]],
-  ["a string as an object", Object("R U")],
-  ["a buffer", Uint8Array.from(BYTES).buffer],
-  ["a shared buffer", new SharedArrayBuffer(3)],
-  ["a view of data", new DataView(new ArrayBuffer(3))],
-  ["bytes with signs", Int8Array.from(BYTES)],
-  ["bytes that are clamped", Uint8ClampedArray.from(BYTES)],
-  ["numbers of 16 bits", Uint16Array.of(0x52, 0x155)],
-  ["numbers of 64 bits", BigUint64Array.of(0x52n)],
-  ["numbers with a point", Float64Array.of(82.7)],
-  ["an object of the kind without bytes", Object.create(Uint8Array.prototype)],
-  ["an object that says it is of the kind", new Posing()],
-  ["what stands before bytes", new Proxy(Uint8Array.from(BYTES), {})],
-  ["bytes that were handed on", detached()],
-  ["numbers of 16 bits of another realm", runInContext("Uint16Array.of(0x52)", elsewhere)],
-  ["what JSON gives", JSON.parse('{"length": -50000}')],
-];
 
 // what is no array of words, though some would do as one
 const NO_WORDS = [undefined, null, "invert", 1, true, { length: 1, 0: "invert" }, new Set(["invert"]), Uint8Array.from(BYTES), () => ["invert"]];
@@ -84,7 +30,6 @@ const TAKEN = [
   ["bytes that hand out others", Object.assign(Uint8Array.from(BYTES), { [Symbol.iterator]: () => [][Symbol.iterator]() }), "U' R'\n"],
 ];
 
-const fingerprint = (memory) => createHash("sha256").update(new Uint8Array(memory.buffer)).digest("hex");
 
 /** Whether a call is answered as it should be. */
 function isRight(nissy) {
@@ -101,7 +46,7 @@ async function tryWrongValues() {
   same("an earlier caller's answer", isRight(nissy), true);
   const before = fingerprint(memory);
   for (const [what, value] of WRONG) {
-    const isDetached = what === "bytes that were handed on";
+    const isDetached = what === DETACHED;
     for (const [place, name, words, input] of [
       ["the input", "the input", ["unniss"], value],
       ["the first word", "word 1", [value], SECRET],

@@ -6,12 +6,14 @@ import { compiled } from "./source.js";
 
 /** @typedef {import("./source.js").ModuleSource} ModuleSource */
 /** @typedef {import("./requests.js").Request} Request */
+/** @typedef {import("./requests.js").OneRequest} OneRequest */
 /** @typedef {import("./requests.js").RunRequest} RunRequest */
 /** @typedef {import("./requests.js").CountRequest} CountRequest */
 /** @typedef {import("./requests.js").SolveRequest} SolveRequest */
 /** @typedef {import("./replies.js").Answer} Answer */
 /** @typedef {import("./replies.js").LineReply} LineReply */
 /** @typedef {import("./replies.js").CountReply} CountReply */
+/** @typedef {import("./replies.js").OneReply} OneReply */
 /** @typedef {import("./replies.js").Reply} Reply */
 
 const PAGE = 65_536;
@@ -112,6 +114,11 @@ export class Engine {
    * @returns {Reply}
    */
   answer(request) {
+    return request.call === "all" ? request.requests.map((one) => this.#answerOne(one)) : this.#answerOne(request);
+  }
+
+  /** @param {OneRequest} request @returns {OneReply} */
+  #answerOne(request) {
     if (this.#isBroken) this.#startAgain();
     switch (request.call) {
       case "run":
@@ -131,6 +138,7 @@ export class Engine {
 
   /** @param {WebAssembly.Instance} instance */
   #take({ exports }) {
+    if (!("memory" in exports && "__heap_base" in exports && "nissy_run" in exports)) throw new TypeError("this is another module than nissy.wasm");
     this.#exports = exports;
     this.#answer = aligned(Number(this.#exports.__heap_base.value));
     this.#free = this.#answer + ANSWER;

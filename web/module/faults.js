@@ -6,13 +6,24 @@ export class NissyFault extends Error {
    * @param {string} text what is wrong
    * @param {number | null} column where, in bytes of UTF-8 from 1; null if it isn't at one place
    * @param {string | null} step what should hold before a step, and doesn't
+   * @param {number | null} line of many, from 1; null if there was one
    */
-  constructor(text, column, step = null) {
-    super(column === null ? text : `column ${column}: ${text}`);
+  constructor(text, column, step = null, line = null) {
+    const places = [line === null ? [] : `line ${line}`, column === null ? [] : `column ${column}`].flat();
+    super(places.length === 0 ? text : `${places.join(", ")}: ${text}`);
     this.name = "NissyFault";
     this.text = text;
     this.column = column;
     this.step = step;
+    this.line = line;
+  }
+
+  /**
+   * The same in a line of many.
+   * @param {number} line from 1
+   */
+  inLine(line) {
+    return new NissyFault(this.text, this.column, this.step, line);
   }
 }
 

@@ -8,9 +8,9 @@
  * A call ends before it returns: a long search belongs into a worker, as `NissyWorker` of browser.js and of node.js has one.
  */
 import { Engine } from "./engine.js";
-import { countOf, linesOf, solutionsOf, textOf } from "./replies.js";
-import { countRequest, lineRequest, runRequest, scrambleRequest, solveRequest, stepsRequest } from "./requests.js";
 import { NoWebAssembly } from "./faults.js";
+import { allOf, countOf, linesOf, solutionsOf, textOf } from "./replies.js";
+import { allRequest, countRequest, lineRequest, runRequest, scrambleRequest, solveRequest, stepsRequest } from "./requests.js";
 
 export { EngineMissing, NissyFault, NoWebAssembly, Stopped } from "./faults.js";
 
@@ -18,8 +18,6 @@ export { EngineMissing, NissyFault, NoWebAssembly, Stopped } from "./faults.js";
 /** @typedef {import("./source.js").ModuleSource} ModuleSource */
 /** @typedef {import("./replies.js").Answer} Answer */
 /** @typedef {import("./replies.js").Count} Count */
-/** @typedef {import("./replies.js").LineReply} LineReply */
-/** @typedef {import("./replies.js").CountReply} CountReply */
 /** @typedef {import("./replies.js").Solution} Solution */
 /** @typedef {import("./requests.js").Request} Request */
 /** @typedef {import("./requests.js").Wanted} Wanted */
@@ -58,7 +56,7 @@ export class Nissy {
    * @returns {string}
    */
   invert(line) {
-    return textOf(this.#written(lineRequest("invert", line)));
+    return textOf(this.#answer(lineRequest("invert", line)));
   }
 
   /**
@@ -67,7 +65,7 @@ export class Nissy {
    * @returns {string}
    */
   unniss(line) {
-    return textOf(this.#written(lineRequest("unniss", line)));
+    return textOf(this.#answer(lineRequest("unniss", line)));
   }
 
   /**
@@ -76,7 +74,7 @@ export class Nissy {
    * @returns {string}
    */
   cleanup(line) {
-    return textOf(this.#written(lineRequest("cleanup", line)));
+    return textOf(this.#answer(lineRequest("cleanup", line)));
   }
 
   /**
@@ -85,7 +83,7 @@ export class Nissy {
    * @returns {string}
    */
   facelets(line) {
-    return textOf(this.#written(lineRequest("facelets", line)));
+    return textOf(this.#answer(lineRequest("facelets", line)));
   }
 
   /**
@@ -93,7 +91,15 @@ export class Nissy {
    * @param {string} step @param {Text} line @param {Wanted} [options] @returns {Solution[]}
    */
   solve(step, line, options) {
-    return solutionsOf(this.#written(solveRequest(step, line, options)), step);
+    return solutionsOf(this.#answer(solveRequest(step, line, options)), step);
+  }
+
+  /**
+   * The same of many lines. A fault says in which.
+   * @param {string} step @param {Text[]} lines @param {Wanted} [options] @returns {Solution[][]}
+   */
+  solveAll(step, lines, options) {
+    return allOf(this.#answer(allRequest(lines, (line) => solveRequest(step, line, options))), (reply) => solutionsOf(reply, step));
   }
 
   /**
@@ -101,7 +107,15 @@ export class Nissy {
    * @param {string} step @param {Text} line @param {Within} [options] @returns {Count}
    */
   count(step, line, options) {
-    return countOf(/** @type {CountReply} */ (this.#engine.answer(countRequest(step, line, options))), step);
+    return countOf(this.#answer(countRequest(step, line, options)), step);
+  }
+
+  /**
+   * The same of many lines. A fault says in which.
+   * @param {string} step @param {Text[]} lines @param {Within} [options] @returns {Count[]}
+   */
+  countAll(step, lines, options) {
+    return allOf(this.#answer(allRequest(lines, (line) => countRequest(step, line, options))), (reply) => countOf(reply, step));
   }
 
   /**
@@ -109,7 +123,7 @@ export class Nissy {
    * @returns {string[]}
    */
   steps() {
-    return linesOf(this.#written(stepsRequest()));
+    return linesOf(this.#answer(stepsRequest()));
   }
 
   /**
@@ -117,7 +131,7 @@ export class Nissy {
    * @param {number | bigint} state @param {number | bigint} stream @param {number} length @returns {string}
    */
   scramble(state, stream, length) {
-    return textOf(this.#written(scrambleRequest(state, stream, length)));
+    return textOf(this.#answer(scrambleRequest(state, stream, length)));
   }
 
   /**
@@ -129,11 +143,11 @@ export class Nissy {
    * @returns {Answer}
    */
   run(words, input, room) {
-    return /** @type {Answer} */ (this.#engine.answer(runRequest(words, input, room)));
+    return this.#answer(runRequest(words, input, room));
   }
 
-  /** @param {Request} request @returns {LineReply} */
-  #written(request) {
-    return /** @type {LineReply} */ (this.#engine.answer(request));
+  /** @param {Request} request @returns {any} the reply of the request's kind */
+  #answer(request) {
+    return this.#engine.answer(request);
   }
 }

@@ -23,7 +23,8 @@ import { NissyFault } from "./faults.js";
 
 /** @typedef {{status: number, fault: number, column: number, out: Uint8Array}} LineReply of a call that writes */
 /** @typedef {{status: number, fault: number, column: number, least: number, solutions: number, looks: number}} CountReply */
-/** @typedef {Answer | LineReply | CountReply} Reply */
+/** @typedef {Answer | LineReply | CountReply} OneReply */
+/** @typedef {OneReply | OneReply[]} Reply */
 
 /** The statuses of the module's calls on a line. */
 export const STATUS = { done: 0, fault: 1, usage: 2, stopped: 3, room: 4 };
@@ -83,3 +84,19 @@ export function countOf(reply, step) {
   const { least, solutions, looks } = reply;
   return { length: solutions === 0 ? null : least, solutions, nodes: looks };
 }
+
+/**
+ * The replies for many lines, each read by itself.
+ * @template Read, Value
+ * @param {Read[]} replies
+ * @param {(reply: Read) => Value} one
+ * @returns {Value[]}
+ */
+export const allOf = (replies, one) =>
+  replies.map((reply, index) => {
+    try {
+      return one(reply);
+    } catch (fault) {
+      throw fault instanceof NissyFault ? fault.inLine(index + 1) : fault;
+    }
+  });

@@ -9,7 +9,9 @@ import { bytesOf, joined, stringOf, wholeNumber, wideNumber } from "./bytes.js";
 /** @typedef {{call: "solve", step: string, line: Uint8Array, limit: number, slack: number, most: number}} SolveRequest */
 /** @typedef {{call: "scramble", state: bigint, stream: bigint, length: number}} ScrambleRequest */
 /** @typedef {{call: "steps"}} StepsRequest */
-/** @typedef {RunRequest | LineRequest | CountRequest | SolveRequest | ScrambleRequest | StepsRequest} Request */
+/** @typedef {RunRequest | LineRequest | CountRequest | SolveRequest | ScrambleRequest | StepsRequest} OneRequest */
+/** @typedef {{call: "all", requests: OneRequest[]}} AllRequest the same of many lines */
+/** @typedef {OneRequest | AllRequest} Request */
 
 /**
  * How far a step is searched: `limit`, the most turns of a solution, 20 at most and if it isn't given; `slack`, how many turns more than the
@@ -64,6 +66,16 @@ export function solveRequest(step, line, options = {}) {
   const { most = Infinity } = optionsOf(options);
   const counted = most === Infinity ? most : wholeNumber(most, "the greatest number of solutions", Number.MAX_SAFE_INTEGER);
   return { ...countRequest(step, line, options), call: "solve", most: counted };
+}
+
+/**
+ * @param {unknown} lines
+ * @param {(line: unknown) => OneRequest} one
+ * @returns {AllRequest}
+ */
+export function allRequest(lines, one) {
+  if (!Array.isArray(lines)) throw new TypeError("the lines are no array");
+  return { call: "all", requests: Array.from(lines, one) };
 }
 
 /** @param {unknown} state @param {unknown} stream @param {unknown} length @returns {ScrambleRequest} */

@@ -19,7 +19,7 @@ import { Engine } from "./engine.js";
  * The buffers of an answer, which needs them no longer here.
  * @param {Reply} reply
  */
-const buffersOf = (reply) => [...new Set(["out", "err"].flatMap((name) => /** @type {any} */ (reply)[name]?.buffer ?? []))];
+const buffersOf = (reply) => ["out", "err"].flatMap((name) => /** @type {any} */ (reply)[name]?.buffer ?? []);
 
 /**
  * Answers what comes through a port.

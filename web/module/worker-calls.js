@@ -1,8 +1,8 @@
 // Calls of an engine in a worker as promises, one after another. A call that runs is stopped by ending its worker, and the next one starts
 // another.
 import { EngineMissing, Stopped } from "./faults.js";
-import { countOf, linesOf, solutionsOf, textOf } from "./replies.js";
-import { countRequest, lineRequest, runRequest, scrambleRequest, solveRequest, stepsRequest } from "./requests.js";
+import { allOf, countOf, linesOf, solutionsOf, textOf } from "./replies.js";
+import { allRequest, countRequest, lineRequest, runRequest, scrambleRequest, solveRequest, stepsRequest } from "./requests.js";
 import { compiled } from "./source.js";
 
 /** @typedef {import("./bytes.js").Text} Text */
@@ -124,9 +124,21 @@ export class WorkerCalls {
     return solutionsOf(await this.#answer(solveRequest(step, line, options), options), step);
   }
 
+  /** @param {string} step @param {Text[]} lines @param {Wanted & Stoppable} [options] @returns {Promise<Solution[][]>} */
+  async solveAll(step, lines, options) {
+    const request = allRequest(lines, (line) => solveRequest(step, line, options));
+    return allOf(await this.#answer(request, options), (reply) => solutionsOf(reply, step));
+  }
+
   /** @param {string} step @param {Text} line @param {Within & Stoppable} [options] @returns {Promise<Count>} */
   async count(step, line, options) {
     return countOf(await this.#answer(countRequest(step, line, options), options), step);
+  }
+
+  /** @param {string} step @param {Text[]} lines @param {Within & Stoppable} [options] @returns {Promise<Count[]>} */
+  async countAll(step, lines, options) {
+    const request = allRequest(lines, (line) => countRequest(step, line, options));
+    return allOf(await this.#answer(request, options), (reply) => countOf(reply, step));
   }
 
   /** @param {Stoppable} [options] @returns {Promise<string[]>} */
