@@ -5,6 +5,10 @@
 /** A zero byte ends each word. */
 const END = 0;
 
+/** A string of so many units isn't worth an array of its own: each is three bytes at most. */
+const SHORT = 4_096;
+const UNIT = 3;
+
 const encoder = new TextEncoder();
 const decoder = new TextDecoder();
 
@@ -33,6 +37,32 @@ export function bytesOf(text, what) {
   if (typeof text === "string") return encoder.encode(text);
   if (!isBytes(text)) throw new TypeError(`${what} is neither a string nor a Uint8Array`);
   return new Uint8Array(text);
+}
+
+/**
+ * A line as it is handed on: a short string, or bytes of which nobody else has any.
+ * @param {unknown} line
+ * @returns {Text}
+ */
+export const takenLine = (line) => (typeof line === "string" && line.length <= SHORT ? line : bytesOf(line, "the line"));
+
+/**
+ * @param {Text} line
+ * @returns {number} how many bytes it takes at most
+ */
+export const roomFor = (line) => (typeof line === "string" ? UNIT * line.length : line.length);
+
+/**
+ * Writes a line into bytes that have room for it.
+ * @param {Text} line
+ * @param {Uint8Array} bytes
+ * @param {number} at
+ * @returns {number} how many bytes it took
+ */
+export function writeLine(line, bytes, at) {
+  if (typeof line === "string") return encoder.encodeInto(line, bytes.subarray(at, at + roomFor(line))).written ?? 0;
+  bytes.set(line, at);
+  return line.length;
 }
 
 /**

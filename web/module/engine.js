@@ -1,9 +1,10 @@
 // An instance of the module: what is asked of it is written into its memory, and what it answers is read from there.
-import { bytesOf, textIn } from "./bytes.js";
+import { bytesOf, roomFor, textIn, writeLine } from "./bytes.js";
 import { EngineMissing } from "./faults.js";
 import { STATUS } from "./replies.js";
 import { compiled } from "./source.js";
 
+/** @typedef {import("./bytes.js").Text} Text */
 /** @typedef {import("./source.js").ModuleSource} ModuleSource */
 /** @typedef {import("./requests.js").Request} Request */
 /** @typedef {import("./requests.js").OneRequest} OneRequest */
@@ -33,13 +34,15 @@ const SMALL_ROOM = 256;
 const LARGE_ROOM = 2_621_440;
 const TABLES = 16;
 
-/** The room for an output at first, and the greatest. A run has eight bytes more for each byte of its input. */
+/** The room for the output of a run at first, beside eight bytes for each byte of the input, and the greatest. */
 const FIRST_ROOM = 65_536;
 const MOST_ROOM = 512 * 1_048_576;
 
-/** By how much the rooms of a run grow where they were too small, and those of solutions, which are searched for again. */
+/** By how much either grows if it was too small. */
 const GROWTH = 8;
-const GROWTH_OF_SOLUTIONS = 64;
+
+/** The rooms for solutions, of which the next one is taken if one was too small: they are searched for again then. */
+const SOLUTION_ROOMS = [65_536, 4 * 1_048_576, 256 * 1_048_576];
 
 /** The longest line of a solution: twenty turns of two bytes with blanks between them, and ` (20)` with a line feed. */
 const SOLUTION = 65;
@@ -255,12 +258,12 @@ export class Engine {
   /**
    * A call that writes a line.
    * @param {string} name
-   * @param {Uint8Array | null} line what it reads
+   * @param {Text | null} line what it reads
    * @param {(bigint | number)[]} [numbers] what else it is given
    * @returns {LineReply}
    */
   #written(name, line, numbers = []) {
-    const [lineAt, out] = this.#places(line?.length ?? 0, LINE_ROOM);
+    const [lineAt, out] = this.#places(line === null ? 0 : roomFor(line), LINE_ROOM);
     const read = line === null ? [] : this.#put(lineAt, line);
     const at = this.#answer;
     this.#call(name, BigInt(at), ...numbers, ...read, BigInt(out), BigInt(LINE_ROOM));
@@ -269,18 +272,25 @@ export class Engine {
       status,
       fault: this.#view.getUint16(at + LINE_ANSWER.fault, true),
       column: this.#view.getUint32(at + LINE_ANSWER.column, true),
-      out: this.#bytes.slice(out, status === STATUS.done ? out + this.#wide(at + LINE_ANSWER.length) : out),
+      out: status === STATUS.done ? this.#text(out, this.#wide(at + LINE_ANSWER.length)) : "",
     };
   }
 
   /**
    * Writes a line, and returns where it is and its length as the module takes them.
    * @param {number} place
-   * @param {Uint8Array} line
+   * @param {Text} line
    */
   #put(place, line) {
-    this.#bytes.set(line, place);
-    return [BigInt(place), BigInt(line.length)];
+    return [BigInt(place), BigInt(writeLine(line, this.#bytes, place))];
+  }
+
+  /**
+   * @param {number} at
+   * @param {number} length
+   */
+  #text(at, length) {
+    return textIn(this.#bytes.subarray(at, at + length));
   }
 
   /**
@@ -306,28 +316,39 @@ export class Engine {
   }
 
   /** @param {SolveRequest} request @returns {LineReply} */
-  #solve({ step, line, limit, slack, most }) {
-    const tables = BigInt(this.#tablesOf(step));
-    const bound = most === Infinity ? NO_BOUND : BigInt(most);
+  #solve(request) {
+    const tables = BigInt(this.#tablesOf(request.step));
+    const wanted = request.most * SOLUTION;
+    const rooms = SOLUTION_ROOMS.filter((room, index) => index === 0 || SOLUTION_ROOMS[index - 1] < wanted);
+    let reply = this.#solveOnce(request, tables, rooms[0]);
+    for (const room of rooms.slice(1)) if (reply.status === STATUS.room) reply = this.#solveOnce(request, tables, room);
+    return reply;
+  }
+
+  /**
+   * @param {SolveRequest} request
+   * @param {bigint} tables
+   * @param {number} room
+   * @returns {LineReply}
+   */
+  #solveOnce({ line, limit, slack, most }, tables, room) {
+    const [lineAt, out] = this.#places(roomFor(line), room);
     const at = this.#answer;
-    for (let room = Math.min(FIRST_ROOM, most * SOLUTION); ; room = Math.min(room * GROWTH_OF_SOLUTIONS, MOST_ROOM)) {
-      const [lineAt, out] = this.#places(line.length, room);
-      this.#call("nissy_solve", BigInt(at), tables, ...this.#put(lineAt, line), limit, slack, bound, BigInt(out), BigInt(room));
-      const status = this.#view.getUint8(at + SOLVE_ANSWER.status);
-      if (status === STATUS.room && room < MOST_ROOM) continue;
-      return {
-        status,
-        fault: this.#view.getUint8(at + SOLVE_ANSWER.fault),
-        column: this.#view.getUint32(at + SOLVE_ANSWER.column, true),
-        out: this.#bytes.slice(out, status === STATUS.done ? out + this.#wide(at + SOLVE_ANSWER.length) : out),
-      };
-    }
+    const bound = most === Infinity ? NO_BOUND : BigInt(most);
+    this.#call("nissy_solve", BigInt(at), tables, ...this.#put(lineAt, line), limit, slack, bound, BigInt(out), BigInt(room));
+    const status = this.#view.getUint8(at + SOLVE_ANSWER.status);
+    return {
+      status,
+      fault: this.#view.getUint8(at + SOLVE_ANSWER.fault),
+      column: this.#view.getUint32(at + SOLVE_ANSWER.column, true),
+      out: status === STATUS.done ? this.#text(out, this.#wide(at + SOLVE_ANSWER.length)) : "",
+    };
   }
 
   /** @param {CountRequest} request @returns {CountReply} */
   #count({ step, line, limit, slack }) {
     const tables = BigInt(this.#tablesOf(step));
-    const [lineAt] = this.#places(line.length);
+    const [lineAt] = this.#places(roomFor(line));
     const at = this.#answer;
     this.#call("nissy_count", BigInt(at), tables, ...this.#put(lineAt, line), limit, slack);
     return {

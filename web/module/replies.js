@@ -1,5 +1,4 @@
 // Reads what the engine writes as values, or throws what is wrong.
-import { textIn } from "./bytes.js";
 import { NissyFault } from "./faults.js";
 
 /**
@@ -21,7 +20,7 @@ import { NissyFault } from "./faults.js";
  * @typedef {{length: number | null, solutions: number, nodes: number}} Count
  */
 
-/** @typedef {{status: number, fault: number, column: number, out: Uint8Array}} LineReply of a call that writes */
+/** @typedef {{status: number, fault: number, column: number, out: string}} LineReply of a call that writes */
 /** @typedef {{status: number, fault: number, column: number, least: number, solutions: number, looks: number}} CountReply */
 /** @typedef {Answer | LineReply | CountReply} OneReply */
 /** @typedef {OneReply | OneReply[]} Reply */
@@ -56,26 +55,27 @@ function refuse({ status, fault, column }, step = "") {
 /** @param {LineReply} reply @returns {string} */
 export function textOf(reply) {
   refuse(reply);
-  return textIn(reply.out);
+  return reply.out;
 }
 
 /** @param {LineReply} reply @returns {string[]} */
 export const linesOf = (reply) => textOf(reply).split("\n").slice(0, -1);
 
 /**
- * A line such as `F B' (2)`, or `(0)` if no move is needed.
- * @param {string} line
- * @returns {Solution}
+ * The solutions, of which each has a line such as `F B' (2)`, or `(0)` if no move is needed. There may be millions.
+ * @param {LineReply} reply
+ * @param {string} step
+ * @returns {Solution[]}
  */
-function solutionOf(line) {
-  const place = line.lastIndexOf("(");
-  return { moves: line.slice(0, Math.max(0, place - 1)), length: Number(line.slice(place + 1, -1)) };
-}
-
-/** @param {LineReply} reply @param {string} step @returns {Solution[]} */
 export function solutionsOf(reply, step) {
   refuse(reply, step);
-  return linesOf(reply).map(solutionOf);
+  const { out } = reply;
+  const solutions = [];
+  for (let begin = 0, end = out.indexOf("\n"); end >= 0; begin = end + 1, end = out.indexOf("\n", begin)) {
+    const place = out.lastIndexOf("(", end);
+    solutions.push({ moves: out.slice(begin, Math.max(begin, place - 1)), length: Number(out.slice(place + 1, end - 1)) });
+  }
+  return solutions;
 }
 
 /** @param {CountReply} reply @param {string} step @returns {Count} */

@@ -1,12 +1,12 @@
 // What is asked of the engine, in plain values that a worker can be sent, each checked where it comes from a caller.
-import { bytesOf, joined, stringOf, wholeNumber, wideNumber } from "./bytes.js";
+import { bytesOf, joined, stringOf, takenLine, wholeNumber, wideNumber } from "./bytes.js";
 
 /** @typedef {import("./bytes.js").Text} Text */
 /** @typedef {"invert" | "unniss" | "cleanup" | "facelets"} Rewriting what is made of a line */
 /** @typedef {{call: "run", words: Uint8Array, input: Uint8Array, room: number | undefined}} RunRequest */
-/** @typedef {{call: Rewriting, line: Uint8Array}} LineRequest */
-/** @typedef {{call: "count", step: string, line: Uint8Array, limit: number, slack: number}} CountRequest */
-/** @typedef {{call: "solve", step: string, line: Uint8Array, limit: number, slack: number, most: number}} SolveRequest */
+/** @typedef {{call: Rewriting, line: Text}} LineRequest */
+/** @typedef {{call: "count", step: string, line: Text, limit: number, slack: number}} CountRequest */
+/** @typedef {{call: "solve", step: string, line: Text, limit: number, slack: number, most: number}} SolveRequest */
 /** @typedef {{call: "scramble", state: bigint, stream: bigint, length: number}} ScrambleRequest */
 /** @typedef {{call: "steps"}} StepsRequest */
 /** @typedef {RunRequest | LineRequest | CountRequest | SolveRequest | ScrambleRequest | StepsRequest} OneRequest */
@@ -38,7 +38,7 @@ export function runRequest(words, input = "", room = undefined) {
 }
 
 /** @param {Rewriting} call @param {unknown} line @returns {LineRequest} */
-export const lineRequest = (call, line) => ({ call, line: bytesOf(line, "the line") });
+export const lineRequest = (call, line) => ({ call, line: takenLine(line) });
 
 /**
  * @param {unknown} options
@@ -55,7 +55,7 @@ export function countRequest(step, line, options = {}) {
   return {
     call: "count",
     step: stringOf(step, "the step"),
-    line: bytesOf(line, "the line"),
+    line: takenLine(line),
     limit: wholeNumber(limit, "the limit", MOST_TURNS),
     slack: wholeNumber(slack, "the slack", MOST_TURNS),
   };
@@ -64,8 +64,15 @@ export function countRequest(step, line, options = {}) {
 /** @param {unknown} step @param {unknown} line @param {unknown} [options] @returns {SolveRequest} */
 export function solveRequest(step, line, options = {}) {
   const { most = Infinity } = optionsOf(options);
-  const counted = most === Infinity ? most : wholeNumber(most, "the greatest number of solutions", Number.MAX_SAFE_INTEGER);
-  return { ...countRequest(step, line, options), call: "solve", most: counted };
+  const counted = countRequest(step, line, options);
+  return {
+    call: "solve",
+    step: counted.step,
+    line: counted.line,
+    limit: counted.limit,
+    slack: counted.slack,
+    most: most === Infinity ? most : wholeNumber(most, "the greatest number of solutions", Number.MAX_SAFE_INTEGER),
+  };
 }
 
 /**
