@@ -4,8 +4,9 @@
     tests/page_model/beside_program.py PROGRAM MODULE SEED SCALE
 
 The draws are those by which the program is compared with the independent model
-(tests/model/against.py), some 4,000 at scale 0.25, each called with room that grows and with room of a drawn size, and then by a call for each
-line of its input, a quarter of them in a worker. The last line is `N passed, M failed`, by kinds of calls, and the status is 1 where M isn't 0.
+(tests/model/against.py), some 4,000 at scale 0.25, each called with room that grows and with room of a drawn size, and then by a call for
+each line of its input, a quarter of them in a worker. The last line is `N passed, M failed`, by kinds of calls, and the status is 1 if M
+isn't 0.
 """
 import base64
 import json
@@ -78,7 +79,8 @@ class BesideModule(Beside):
     def __init__(self, program, seed, module):
         super().__init__(program, seed)
         self.draws = random.Random(seed)
-        self.node = subprocess.Popen(["node", os.path.join(HERE, "calls.mjs"), module], stdin=subprocess.PIPE, stdout=subprocess.PIPE, text=True)
+        words = ["node", os.path.join(HERE, "calls.mjs"), module]
+        self.node = subprocess.Popen(words, stdin=subprocess.PIPE, stdout=subprocess.PIPE, text=True)
 
     def ask(self, asked):
         """What node answers."""
@@ -86,7 +88,8 @@ class BesideModule(Beside):
         return json.loads(self.node.stdout.readline())
 
     def call(self, words, data, room=None):
-        answer = self.ask({"words": [to_base64(word.encode("utf-8", "surrogateescape")) for word in words], "input": to_base64(data), "room": room})
+        listed = [to_base64(word.encode("utf-8", "surrogateescape")) for word in words]
+        answer = self.ask({"words": listed, "input": to_base64(data), "room": room})
         return base64.b64decode(answer["out"]), base64.b64decode(answer["err"]), answer["status"], answer["full"]
 
     def compare_call(self, words, data, call, values, wanted):

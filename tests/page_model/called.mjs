@@ -63,21 +63,24 @@ export async function tryRows(nissy) {
   }
 }
 
+const NO_TEXT = "is neither a string nor a Uint8Array";
+const NO_WIDE = "is neither a number nor a bigint";
+const NO_OPTIONS = [["null", null], ["a number", 20], ["a text", "20"], ["a function", () => 1]];
 const WITHOUT = (...kinds) => WRONG.filter(([, value]) => !kinds.includes(typeof value));
 
 /** What each place of a call is called, how it is filled, and which values it doesn't take, with the words that refuse them. */
 const PLACES = [
-  ...["invert", "unniss", "cleanup", "facelets"].map((call) => [call, "the line", (value) => [value], WRONG, "is neither a string nor a Uint8Array"]),
+  ...["invert", "unniss", "cleanup", "facelets"].map((call) => [call, "the line", (value) => [value], WRONG, NO_TEXT]),
   ...["solve", "count"].flatMap((call) => [
-    [call, "the line", (value) => ["eofb", value], WRONG, "is neither a string nor a Uint8Array"],
+    [call, "the line", (value) => ["eofb", value], WRONG, NO_TEXT],
     [call, "the step", (value) => [value, "F"], [...WRONG, ["bytes", Uint8Array.of(0x65)]], "is no string"],
-    [call, "the options", (value) => ["eofb", "F", value], [["null", null], ["a number", 20], ["a text", "20"], ["a function", () => 1]], "are no object"],
+    [call, "the options", (value) => ["eofb", "F", value], NO_OPTIONS, "are no object"],
     [call, "the limit", (limit) => ["eofb", "F", { limit }], [...WITHOUT("number"), ["a text", "20"]], "is no number"],
     [call, "the slack", (slack) => ["eofb", "F", { slack }], [...WITHOUT("number"), ["a text", "1"]], "is no number"],
   ]),
   ["solve", "the greatest number of solutions", (most) => ["eofb", "F", { most }], [...WITHOUT("number"), ["a text", "1"]], "is no number"],
-  ["scramble", "the state", (state) => [state, 1, 20], [...WITHOUT("number", "bigint"), ["a text", "1"], ["nothing", undefined]], "is neither a number nor a bigint"],
-  ["scramble", "the stream", (stream) => [1, stream, 20], [...WITHOUT("number", "bigint"), ["a text", "1"]], "is neither a number nor a bigint"],
+  ["scramble", "the state", (state) => [state, 1, 20], [...WITHOUT("number", "bigint"), ["a text", "1"], ["nothing", undefined]], NO_WIDE],
+  ["scramble", "the stream", (stream) => [1, stream, 20], [...WITHOUT("number", "bigint"), ["a text", "1"]], NO_WIDE],
   ["scramble", "the length", (length) => [1, 1, length], [...WITHOUT("number"), ["a text", "20"], ["nothing", undefined]], "is no number"],
 ];
 

@@ -5,32 +5,21 @@
 
 The last line is `N passed, M failed`, and the status is 1 where M isn't 0. Run it by Debian's Python, which has Debian's selenium.
 """
-import functools
-import http.server
 import shutil
 import sys
 import tempfile
-import threading
 from pathlib import Path
 
 TOP = Path(__file__).resolve().parent.parent.parent
 sys.path.insert(0, str(TOP / "tests/page"))
 
+from served import served  # noqa: E402
 from tally import Tally  # noqa: E402
 from windows import BROWSERS, is_here  # noqa: E402
 
 PAGE = '<!doctype html><meta charset="utf-8"><title>nissy</title><script type="module" src="in_browser.js"></script>\n'
 # WebKit's driver needs a display
 TRIED = ("chromium", "firefox")
-
-
-class Quiet(http.server.SimpleHTTPRequestHandler):
-    """Gives the files of a folder, and tells nobody."""
-
-    extensions_map = {".js": "text/javascript", ".wasm": "application/wasm", ".html": "text/html", "": "application/octet-stream"}
-
-    def log_message(self, format: str, *args: object) -> None:
-        pass
 
 
 def site(folder: Path, module: Path) -> None:
@@ -59,11 +48,9 @@ def main() -> None:
     tally = Tally()
     with tempfile.TemporaryDirectory() as folder:
         site(Path(folder), Path(sys.argv[1]))
-        server = http.server.ThreadingHTTPServer(("127.0.0.1", 0), functools.partial(Quiet, directory=folder))
-        threading.Thread(target=server.serve_forever, daemon=True).start()
-        for browser in filter(is_here, TRIED):
-            try_in(tally, browser, f"http://127.0.0.1:{server.server_port}/index.html")
-        server.shutdown()
+        with served(Path(folder)) as address:
+            for browser in filter(is_here, TRIED):
+                try_in(tally, browser, address + "index.html")
     tally.end()
 
 

@@ -20,7 +20,8 @@ const after = (milliseconds) => new Promise((done) => setTimeout(done, milliseco
 const long = (worker, options) => worker[LONG[0]](LONG[1], LONG[2], { ...LONG[3], ...options });
 
 async function isRight(worker) {
-  return (await worker.invert("R U' F2")) === "F2 U R'" && JSON.stringify(await worker.solve("drud-eofb", "R U", { most: 1 })) === '[{"moves":"U\' R","length":2}]';
+  const [inverse, [solution]] = [await worker.invert("R U' F2"), await worker.solve("drud-eofb", "R U", { most: 1 })];
+  return inverse === "F2 U R'" && solution.moves === "U' R" && solution.length === 2;
 }
 
 /** Searches that are given up while they run, at times from at once to well within them. */
@@ -44,7 +45,8 @@ async function tryStopped(worker) {
 /** Calls that are given up before they run, and reasons of the caller's own. */
 async function trySignals(worker) {
   const reason = new RangeError("no more");
-  same("a signal that was given before", await thrown(() => worker.invert("R", { signal: AbortSignal.abort(reason) })), ["RangeError", "no more"]);
+  const before = await thrown(() => worker.invert("R", { signal: AbortSignal.abort(reason) }));
+  same("a signal that was given before", before, ["RangeError", "no more"]);
   same("a signal of a time", (await thrown(() => long(worker, { signal: AbortSignal.timeout(20) })))[0], "TimeoutError");
   const [first, second] = [new AbortController(), new AbortController()];
   const running = thrown(() => long(worker, { signal: first.signal }));
@@ -61,7 +63,8 @@ async function trySignals(worker) {
   await thrown(() => worker.invert("q", { signal }));
   same("nothing listens to a signal after the calls", getEventListeners(signal, "abort").length, 0);
   for (const wrong of [null, 1, "stop", {}, { aborted: false }, new AbortController()]) {
-    same(`no signal: ${String(wrong)}`, await thrown(() => worker.invert("R", { signal: wrong })), ["TypeError", "the signal is no AbortSignal"]);
+    const refused = await thrown(() => worker.invert("R", { signal: wrong }));
+    same(`no signal: ${String(wrong)}`, refused, ["TypeError", "the signal is no AbortSignal"]);
   }
 }
 
@@ -98,7 +101,8 @@ async function tryMany(worker) {
   same("solutions of many lines", found, [[{ moves: "", length: 0 }], [{ moves: "F", length: 1 }]]);
   same("no lines", await worker.countAll("eofb", []), []);
   const fault = await worker.countAll("eofb", ["F", "R q"]).catch((stop) => stop);
-  same("a fault in one of many lines", [fault.name, fault.line, fault.column, fault.message], ["NissyFault", 2, 3, "line 2, column 3: not a move"]);
+  const seen = [fault.name, fault.line, fault.column, fault.message];
+  same("a fault in one of many lines", seen, ["NissyFault", 2, 3, "line 2, column 3: not a move"]);
   same("lines that are no array", await thrown(() => worker.countAll("eofb", "F")), ["TypeError", "the lines are no array"]);
 }
 

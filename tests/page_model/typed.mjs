@@ -42,8 +42,9 @@ async function tryRanges(nissy, memory) {
   const longest = " ".repeat(LONGEST_LINE - 1) + "R";
   same("the longest line", nissy.invert(longest), "R'");
   same("the longest line of a search", nissy.solve("eofb", longest), [{ moves: "", length: 0 }]);
-  for (const call of [() => nissy.invert(`${longest} `), () => nissy.solve("eofb", `${longest} `), () => nissy.count("eofb", `${longest} `)]) {
-    same("a line of a byte more", await thrown(call), ["RangeError", "a line has more bytes than the engine reads"]);
+  for (const [call, ...given] of [["invert"], ["solve", "eofb"], ["count", "eofb"]]) {
+    const refused = await thrown(() => nissy[call](...given, `${longest} `));
+    same(`${call} of a line of a byte more`, refused, ["RangeError", "a line has more bytes than the engine reads"]);
   }
   same("a call after these", nissy.solve("eofb", "F"), F_OR_ITS_INVERSE);
 }

@@ -17,7 +17,8 @@ const BYTES = [0x52, 0x20, 0x55];
 const NO_TEXT = "is neither a string nor a Uint8Array";
 
 // what is no array of words, though some would do as one
-const NO_WORDS = [undefined, null, "invert", 1, true, { length: 1, 0: "invert" }, new Set(["invert"]), Uint8Array.from(BYTES), () => ["invert"]];
+const LIKE_WORDS = [{ length: 1, 0: "invert" }, new Set(["invert"]), Uint8Array.from(BYTES), () => ["invert"]];
+const NO_WORDS = [undefined, null, "invert", 1, true, ...LIKE_WORDS];
 
 // bytes that are taken, and what the inverse of them is
 const TAKEN = [

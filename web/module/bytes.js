@@ -27,8 +27,8 @@ const kindOf = Function.prototype.call.bind(ofTypedArrays.get);
 export const isBytes = (value) => kindOf(value) === "Uint8Array";
 
 /**
- * The bytes of a text: those of UTF-8 for a string, and of an array of bytes a copy. Anything else is refused: an object that says of itself
- * how long it is could reach what another caller left in the memory.
+ * The bytes of a text: those of UTF-8 for a string, and of an array of bytes a copy. Anything else is refused: an object that says of
+ * itself how long it is could reach what another caller left in the memory.
  * @param {unknown} text
  * @param {string} what it is, for the error
  * @returns {Uint8Array}

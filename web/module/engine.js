@@ -141,7 +141,8 @@ export class Engine {
 
   /** @param {WebAssembly.Instance} instance */
   #take({ exports }) {
-    if (!("memory" in exports && "__heap_base" in exports && "nissy_run" in exports)) throw new TypeError("this is another module than nissy.wasm");
+    const isNissy = ["memory", "__heap_base", "nissy_run"].every((name) => name in exports);
+    if (!isNissy) throw new TypeError("this is another module than nissy.wasm");
     this.#exports = exports;
     this.#answer = aligned(Number(this.#exports.__heap_base.value));
     this.#free = this.#answer + ANSWER;

@@ -30,7 +30,9 @@ export class NissyFault extends Error {
 /** This host runs no module at all. */
 export class NoWebAssembly extends Error {
   constructor() {
-    super("This browser runs no WebAssembly. Each one of the last years does, but not where it was switched off, as in Safari's Lockdown Mode.");
+    super(
+      "This browser runs no WebAssembly. Each one of the last years does, but not where it was switched off, as in Safari's Lockdown Mode.",
+    );
     this.name = "NoWebAssembly";
   }
 }

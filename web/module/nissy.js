@@ -30,8 +30,8 @@ export const NoWideMemory = NoWebAssembly;
  * The engine, loaded. The tables of a step are built where it is asked for the first time, and stay in the module's memory.
  *
  * Each call throws a `TypeError` if it is given something of another type, and a `RangeError` for a number out of its range, a step that
- * isn't there, or if the host has no memory for the call. A call that reads a line throws `NissyFault` if it can't be read. After a call that
- * broke off the next one starts the module anew, or throws `EngineMissing` if that can't be done.
+ * isn't there, or if the host has no memory for the call. A call that reads a line throws `NissyFault` if it can't be read. After a call
+ * that broke off the next one starts the module anew, or throws `EngineMissing` if that can't be done.
  */
 export class Nissy {
   /** @type {Engine} */ #engine;
@@ -135,8 +135,8 @@ export class Nissy {
   }
 
   /**
-   * Does what the program does with these words after its name, and `input` as its standard input. What the program reports is in the answer.
-   * A word with a zero byte throws a `RangeError`.
+   * Does what the program does with these words after its name, and `input` as its standard input. What the program reports is in the
+   * answer. A word with a zero byte throws a `RangeError`.
    * @param {Text[]} words the words of a command
    * @param {Text} [input] what the program reads if its words don't give it
    * @param {number} [room] if it is given, the output has room for so many bytes, and the run is made once

@@ -29,7 +29,14 @@ import { NissyFault } from "./faults.js";
 export const STATUS = { done: 0, fault: 1, usage: 2, stopped: 3, room: 4 };
 
 /** The program's words for each fault of a line, by its number. */
-const FAULTS = ["", "not a move", "bracket inside a bracket", "bracket closed that was not opened", "bracket not closed", "more than 256 moves"];
+const FAULTS = [
+  "",
+  "not a move",
+  "bracket inside a bracket",
+  "bracket closed that was not opened",
+  "bracket not closed",
+  "more than 256 moves",
+];
 
 /** The number of the fault that a step can't begin at a cube. */
 const START = 6;

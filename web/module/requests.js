@@ -14,8 +14,8 @@ import { bytesOf, joined, stringOf, takenLine, wholeNumber, wideNumber } from ".
 /** @typedef {OneRequest | AllRequest} Request */
 
 /**
- * How far a step is searched: `limit`, the most turns of a solution, 20 at most and if it isn't given; `slack`, how many turns more than the
- * shortest a solution may have, none if it isn't given.
+ * How far a step is searched: `limit`, the most turns of a solution, 20 at most and if it isn't given; `slack`, how many turns more than
+ * the shortest a solution may have, none if it isn't given.
  * @typedef {{limit?: number, slack?: number}} Within
  */
 
@@ -34,7 +34,8 @@ const MOST_SCRAMBLED = 256;
 export function runRequest(words, input = "", room = undefined) {
   const [listed, given] = [joined(words), bytesOf(input, "the input")];
   // the module would take a negative one as 2^64 less so much, and write behind the memory
-  return { call: "run", words: listed, input: given, room: room === undefined ? room : wholeNumber(room, "the room", Number.MAX_SAFE_INTEGER) };
+  const size = room === undefined ? room : wholeNumber(room, "the room", Number.MAX_SAFE_INTEGER);
+  return { call: "run", words: listed, input: given, room: size };
 }
 
 /** @param {Rewriting} call @param {unknown} line @returns {LineRequest} */

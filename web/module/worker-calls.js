@@ -146,7 +146,13 @@ export class WorkerCalls {
     return linesOf(await this.#answer(stepsRequest(), options));
   }
 
-  /** @param {number | bigint} state @param {number | bigint} stream @param {number} length @param {Stoppable} [options] @returns {Promise<string>} */
+  /**
+   * @param {number | bigint} state
+   * @param {number | bigint} stream
+   * @param {number} length
+   * @param {Stoppable} [options]
+   * @returns {Promise<string>}
+   */
   async scramble(state, stream, length, options) {
     return textOf(await this.#answer(scrambleRequest(state, stream, length), options));
   }
