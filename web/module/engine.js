@@ -14,6 +14,7 @@ import { compiled } from "./source.js";
 /** @typedef {import("./replies.js").Answer} Answer */
 /** @typedef {import("./replies.js").LineReply} LineReply */
 /** @typedef {import("./replies.js").CountReply} CountReply */
+/** @typedef {import("./replies.js").Outcome} Outcome */
 /** @typedef {import("./replies.js").OneReply} OneReply */
 /** @typedef {import("./replies.js").Reply} Reply */
 
@@ -61,6 +62,9 @@ const ROOM = { bytes: 16, block: 0, size: 8 };
 
 /** What the module calls each rewriting. */
 const REWRITINGS = { invert: "nissy_invert", unniss: "nissy_unniss", cleanup: "nissy_cleanup", facelets: "nissy_print" };
+
+/** The number of the fault that a step can't begin at a cube. */
+const START = 6;
 
 const NO_BOUND = 0xffff_ffff_ffff_ffffn;
 const OUT_OF_MEMORY = "nissy: out of memory\n";
@@ -127,15 +131,15 @@ export class Engine {
       case "run":
         return this.#run(request);
       case "solve":
-        return this.#solve(request);
+        return this.#inWords(this.#solve(request), request.step);
       case "count":
-        return this.#count(request);
+        return this.#inWords(this.#count(request), request.step);
       case "scramble":
         return this.#written("nissy_scramble", null, [request.state, request.stream, request.length]);
       case "steps":
         return this.#written("nissy_steps", null);
       default:
-        return this.#written(REWRITINGS[request.call], request.line);
+        return this.#inWords(this.#written(REWRITINGS[request.call], request.line));
     }
   }
 
@@ -275,6 +279,19 @@ export class Engine {
       column: this.#view.getUint32(at + LINE_ANSWER.column, true),
       out: status === STATUS.done ? this.#text(out, this.#wide(at + LINE_ANSWER.length)) : "",
     };
+  }
+
+  /**
+   * Adds what the module calls a fault, if there is one, and the state that doesn't hold before a step.
+   * @template {Outcome} Reply
+   * @param {Reply} reply
+   * @param {string} [step]
+   * @returns {Reply}
+   */
+  #inWords(reply, step = "") {
+    if (reply.status !== STATUS.fault) return reply;
+    const { out: text } = this.#written("nissy_fault_text", null, [reply.fault]);
+    return reply.fault === START ? { ...reply, text, state: this.#written("nissy_start", step).out } : { ...reply, text };
   }
 
   /**

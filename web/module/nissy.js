@@ -91,7 +91,7 @@ export class Nissy {
    * @param {string} step @param {Text} line @param {Wanted} [options] @returns {Solution[]}
    */
   solve(step, line, options) {
-    return solutionsOf(this.#answer(solveRequest(step, line, options)), step);
+    return solutionsOf(this.#answer(solveRequest(step, line, options)));
   }
 
   /**
@@ -99,7 +99,7 @@ export class Nissy {
    * @param {string} step @param {Text[]} lines @param {Wanted} [options] @returns {Solution[][]}
    */
   solveAll(step, lines, options) {
-    return allOf(this.#answer(allRequest(lines, (line) => solveRequest(step, line, options))), (reply) => solutionsOf(reply, step));
+    return allOf(this.#answer(allRequest(lines, (line) => solveRequest(step, line, options))), solutionsOf);
   }
 
   /**
@@ -107,7 +107,7 @@ export class Nissy {
    * @param {string} step @param {Text} line @param {Within} [options] @returns {Count}
    */
   count(step, line, options) {
-    return countOf(this.#answer(countRequest(step, line, options)), step);
+    return countOf(this.#answer(countRequest(step, line, options)));
   }
 
   /**
@@ -115,7 +115,7 @@ export class Nissy {
    * @param {string} step @param {Text[]} lines @param {Within} [options] @returns {Count[]}
    */
   countAll(step, lines, options) {
-    return allOf(this.#answer(allRequest(lines, (line) => countRequest(step, line, options))), (reply) => countOf(reply, step));
+    return allOf(this.#answer(allRequest(lines, (line) => countRequest(step, line, options))), countOf);
   }
 
   /**

@@ -20,43 +20,31 @@ import { NissyFault } from "./faults.js";
  * @typedef {{length: number | null, solutions: number, nodes: number}} Count
  */
 
-/** @typedef {{status: number, fault: number, column: number, out: string}} LineReply of a call that writes */
-/** @typedef {{status: number, fault: number, column: number, least: number, solutions: number, looks: number}} CountReply */
+/**
+ * How a call on a line ended. If it has a fault: its number, its column if it is at one place, else 0, the program's words for it, and the state
+ * that doesn't hold before a step.
+ * @typedef {{status: number, fault: number, column: number, text?: string, state?: string}} Outcome
+ */
+
+/** @typedef {Outcome & {out: string}} LineReply of a call that writes */
+/** @typedef {Outcome & {least: number, solutions: number, looks: number}} CountReply */
 /** @typedef {Answer | LineReply | CountReply} OneReply */
 /** @typedef {OneReply | OneReply[]} Reply */
 
 /** The statuses of the module's calls on a line. */
 export const STATUS = { done: 0, fault: 1, usage: 2, stopped: 3, room: 4 };
 
-/** The program's words for each fault of a line, by its number. */
-const FAULTS = [
-  "",
-  "not a move",
-  "bracket inside a bracket",
-  "bracket closed that was not opened",
-  "bracket not closed",
-  "more than 256 moves",
-];
-
-/** The number of the fault that a step can't begin at a cube. */
-const START = 6;
-
-/** What the search of a step is told that can't begin: the state that comes after the dash of its name. */
-const stateBefore = (/** @type {string} */ step) => step.slice(step.indexOf("-") + 1);
-
 /**
  * Throws what is wrong, if something is.
- * @param {{status: number, fault: number, column: number}} reply
- * @param {string} [step]
+ * @param {Outcome} outcome
  */
-function refuse({ status, fault, column }, step = "") {
+function refuse({ status, column, text = "", state }) {
   if (status === STATUS.done) return;
   if (status === STATUS.stopped) throw new RangeError("a line has more bytes than the engine reads");
   if (status === STATUS.room) throw new RangeError("there are more solutions than there is room for: ask for fewer");
   if (status !== STATUS.fault) throw new Error(`the engine refused the call with status ${status}`);
-  if (fault !== START) throw new NissyFault(FAULTS[fault], column);
-  const state = stateBefore(step);
-  throw new NissyFault(`${state} does not hold`, null, state);
+  if (state === undefined) throw new NissyFault(text, column);
+  throw new NissyFault(`${state} ${text}`, null, state);
 }
 
 /** @param {LineReply} reply @returns {string} */
@@ -71,11 +59,10 @@ export const linesOf = (reply) => textOf(reply).split("\n").slice(0, -1);
 /**
  * The solutions, of which each has a line such as `F B' (2)`, or `(0)` if no move is needed. There may be millions.
  * @param {LineReply} reply
- * @param {string} step
  * @returns {Solution[]}
  */
-export function solutionsOf(reply, step) {
-  refuse(reply, step);
+export function solutionsOf(reply) {
+  refuse(reply);
   const { out } = reply;
   const solutions = [];
   for (let begin = 0, end = out.indexOf("\n"); end >= 0; begin = end + 1, end = out.indexOf("\n", begin)) {
@@ -85,9 +72,9 @@ export function solutionsOf(reply, step) {
   return solutions;
 }
 
-/** @param {CountReply} reply @param {string} step @returns {Count} */
-export function countOf(reply, step) {
-  refuse(reply, step);
+/** @param {CountReply} reply @returns {Count} */
+export function countOf(reply) {
+  refuse(reply);
   const { least, solutions, looks } = reply;
   return { length: solutions === 0 ? null : least, solutions, nodes: looks };
 }

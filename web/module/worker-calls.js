@@ -121,24 +121,24 @@ export class WorkerCalls {
 
   /** @param {string} step @param {Text} line @param {Wanted & Stoppable} [options] @returns {Promise<Solution[]>} */
   async solve(step, line, options) {
-    return solutionsOf(await this.#answer(solveRequest(step, line, options), options), step);
+    return solutionsOf(await this.#answer(solveRequest(step, line, options), options));
   }
 
   /** @param {string} step @param {Text[]} lines @param {Wanted & Stoppable} [options] @returns {Promise<Solution[][]>} */
   async solveAll(step, lines, options) {
     const request = allRequest(lines, (line) => solveRequest(step, line, options));
-    return allOf(await this.#answer(request, options), (reply) => solutionsOf(reply, step));
+    return allOf(await this.#answer(request, options), solutionsOf);
   }
 
   /** @param {string} step @param {Text} line @param {Within & Stoppable} [options] @returns {Promise<Count>} */
   async count(step, line, options) {
-    return countOf(await this.#answer(countRequest(step, line, options), options), step);
+    return countOf(await this.#answer(countRequest(step, line, options), options));
   }
 
   /** @param {string} step @param {Text[]} lines @param {Within & Stoppable} [options] @returns {Promise<Count[]>} */
   async countAll(step, lines, options) {
     const request = allRequest(lines, (line) => countRequest(step, line, options));
-    return allOf(await this.#answer(request, options), (reply) => countOf(reply, step));
+    return allOf(await this.#answer(request, options), countOf);
   }
 
   /** @param {Stoppable} [options] @returns {Promise<string[]>} */
