@@ -31,6 +31,9 @@ import { NissyFault } from "./faults.js";
 /** @typedef {Answer | LineReply | CountReply} OneReply */
 /** @typedef {OneReply | OneReply[]} Reply */
 
+const BRACKET = "(".charCodeAt(0);
+const ZERO = "0".charCodeAt(0);
+
 /** The statuses of the module's calls on a line. */
 export const STATUS = { done: 0, fault: 1, usage: 2, stopped: 3, room: 4 };
 
@@ -57,17 +60,22 @@ export function textOf(reply) {
 export const linesOf = (reply) => textOf(reply).split("\n").slice(0, -1);
 
 /**
- * The solutions, of which each has a line such as `F B' (2)`, or `(0)` if no move is needed. There may be millions.
+ * The solutions, of which each has a line such as `F B' (2)`, or `(0)` if no move is needed. There may be millions, so no string is made of a line.
  * @param {LineReply} reply
  * @returns {Solution[]}
  */
 export function solutionsOf(reply) {
   refuse(reply);
   const { out } = reply;
+  const digit = (/** @type {number} */ at) => out.charCodeAt(at) - ZERO;
   const solutions = [];
   for (let begin = 0, end = out.indexOf("\n"); end >= 0; begin = end + 1, end = out.indexOf("\n", begin)) {
-    const place = out.lastIndexOf("(", end);
-    solutions.push({ moves: out.slice(begin, Math.max(begin, place - 1)), length: Number(out.slice(place + 1, end - 1)) });
+    // a line ends with `(n)` or `(nn)`
+    const isShort = out.charCodeAt(end - 3) === BRACKET;
+    const length = isShort ? digit(end - 2) : 10 * digit(end - 3) + digit(end - 2);
+    // a blank stands before the bracket, if a move does
+    const movesEnd = end - (isShort ? 4 : 5);
+    solutions.push({ moves: movesEnd > begin ? out.slice(begin, movesEnd) : "", length });
   }
   return solutions;
 }
