@@ -16,7 +16,7 @@ if [ ! -e "$module" ] || missing node; then
     skips_all "there is no module that make build/nissy.wasm built, or no node"
 fi
 add node tests/page_model/rows.mjs "$module"
-for trial in wrong typed in_worker; do add node "tests/page_model/$trial.mjs" "$module"; done
+for trial in plain wrong typed in_worker; do add node "tests/page_model/$trial.mjs" "$module"; done
 if missing python3; then
     skips "there is no python3 here"
 else

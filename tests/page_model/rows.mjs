@@ -10,6 +10,8 @@ const SOLVED = "UUUUUUUUURRRRRRRRRFFFFFFFFFDDDDDDDDDLLLLLLLLLBBBBBBBBB\n";
 const USAGE = "usage: nissy COMMAND [ARGUMENTS]\n";
 const OUT_OF_ROOM = "nissy: cannot write\n";
 const CALLS = 10_000;
+const LINE_CALLS = ["invert", "unniss", "cleanup", "print", "scramble", "steps", "start", "fault_text"];
+const EXPORTS = ["__heap_base", "memory", ...["run", "build", "solve", "count", ...LINE_CALLS].map((name) => `nissy_${name}`)].sort();
 
 // what a row shows, the arguments of `run`, and what is wanted: the status, the output, the error text, and whether it was full
 const ROWS = [
@@ -76,57 +78,13 @@ async function tryMemory() {
   same("the memory after many calls", memory.buffer.byteLength, sizeAfterTen);
 }
 
-/** The module called as web/README.md says, without nissy.js: where each number of an answer stands, and what becomes of a room. */
-async function tryPlainCalls() {
-  const { instance } = await WebAssembly.instantiate(module, {});
-  const { memory, nissy_run: run, __heap_base: heap } = instance.exports;
-  same("its memory has addresses of 32 bits", typeof memory.grow(64), "number");
-  const base = Math.ceil(Number(heap.value) / 16) * 16;
-  const [answerAt, roomAt, wordsAt, inputAt, outAt, errAt, lentAt] = [0, 64, 128, 192, 256, 512, 1024].map((at) => base + at);
-  const call = (words, input, outRoom, errRoom, lent) => {
-    const bytes = new Uint8Array(memory.buffer);
-    bytes.fill(0x23, base, lentAt);
-    bytes.fill(0x23, lentAt + lent, lentAt + lent + 64);
-    bytes.set(new TextEncoder().encode(words), wordsAt);
-    bytes.set(new TextEncoder().encode(input), inputAt);
-    const view = new DataView(memory.buffer);
-    view.setBigUint64(roomAt, BigInt(lentAt), true);
-    view.setBigUint64(roomAt + 8, BigInt(lent), true);
-    run(...[answerAt, roomAt, wordsAt, words.length, inputAt, input.length, outAt, outRoom, errAt, errRoom].map(BigInt));
-    const number = (at) => Number(view.getBigUint64(at, true));
-    const is = (from, to) => bytes.subarray(from, to).every((byte) => byte === 0x23);
-    return {
-      status: bytes[answerAt],
-      out: text(bytes.slice(outAt, outAt + number(answerAt + 8))),
-      err: text(bytes.slice(errAt, errAt + number(answerAt + 16))),
-      small: [bytes[answerAt + 24], bytes[answerAt + 25]],
-      room: [number(roomAt) - lentAt, number(roomAt + 8)],
-      kept:
-        is(answerAt + 32, roomAt) && is(roomAt + 16, wordsAt) && is(outAt + number(answerAt + 8), errAt) &&
-        is(errAt + number(answerAt + 16), lentAt) && is(lentAt + lent, lentAt + lent + 64),
-    };
-  };
-  const lent = 3_145_728;
-  const rest = { room: [0, lent], kept: true };
-  same("an answer where all fits", call("invert\0", "R\n", 3, 0, lent), { status: 0, out: "R'\n", err: "", small: [0, 0], ...rest });
-  same("a byte of room too few", call("invert\0", "R\n", 2, 20, lent), { status: 3, out: "R'", err: OUT_OF_ROOM, small: [1, 0], ...rest });
-  same("a byte of error room too few", call("nosuch\0", "", 0, 32, lent), { status: 2, out: "", err: USAGE.slice(0, 32), small: [0, 1], ...rest });
-  same("error room to the byte", call("nosuch\0", "", 0, 33, lent), { status: 2, out: "", err: USAGE, small: [0, 0], ...rest });
-  same("no room for either", call("invert\0", "R\n", 0, 0, lent), { status: 3, out: "", err: "", small: [1, 1], ...rest });
-  for (const size of [0, 16, 32, 256, 480, 496, 512, 1024, 4096, 4160, 4176, 8192, 65536]) {
-    const { status, room, kept } = call("solve\0eofb\0" + "7\0F", "", 256, 128, size);
-    same(`a room of ${size} bytes comes back`, [room, kept, status === 0 || status === 3], [[0, size], true, true]);
-  }
-}
-
 const compiled = await WebAssembly.compile(module);
 same("the module asks nothing of its host", WebAssembly.Module.imports(compiled), []);
-same("what it exports", WebAssembly.Module.exports(compiled).map(({ name }) => name), ["memory", "nissy_run", "__heap_base"]);
+same("what it exports", WebAssembly.Module.exports(compiled).map(({ name }) => name).sort(), EXPORTS);
 const copied = module.buffer.slice(module.byteOffset, module.byteOffset + module.byteLength);
 same("a module in an ArrayBuffer", text((await Nissy.load(copied)).run(["invert", "R"]).out), "R'\n");
 const { nissy } = await loaded(Nissy);
 tryRows(nissy);
 await tryRefusals(nissy);
-await tryPlainCalls();
 await tryMemory();
 ended();
