@@ -12,7 +12,7 @@ const SMALL = 256;
 const LARGE = 2_621_440;
 const FILLED = 0x23;
 
-/** The module called as web/module/README.md says, without its scripts: where each number of an answer stands, and what becomes of a room. */
+/** Runs: where each number of an answer stands, and what becomes of a room. */
 async function tryRuns() {
   const { instance } = await WebAssembly.instantiate(module, {});
   const { memory, nissy_run: run, __heap_base: heap } = instance.exports;
