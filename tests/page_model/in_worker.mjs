@@ -6,6 +6,7 @@
 import { getEventListeners } from "node:events";
 import { performance } from "node:perf_hooks";
 import { NissyWorker, loadNissy } from "../../web/module/node.js";
+import { WorkerCalls } from "../../web/module/worker-calls.js";
 import { tryRows, tryWrongValues } from "./called.mjs";
 import { ended, moduleBytes, same, text, thrown } from "./tally.mjs";
 
@@ -115,6 +116,54 @@ async function tryUnstarted() {
   same("nor for the engine itself", (await thrown(() => loadNissy()))[0], "Error");
 }
 
+/** Workers that keep what they are sent, and answer as a trial says. */
+function puppets() {
+  const all = [];
+  const started = (took, failed) => {
+    const puppet = { sent: [], isEnded: false, took, failed, postMessage: (message) => puppet.sent.push(message) };
+    puppet.terminate = () => {
+      puppet.isEnded = true;
+    };
+    all.push(puppet);
+    return puppet;
+  };
+  return { all, started };
+}
+
+/** Workers that fail, and messages that come late or twice. */
+async function tryPuppets() {
+  const { all, started } = puppets();
+  const calls = new WorkerCalls(moduleBytes, started);
+  const inverse = (moves) => ({ status: 0, fault: 0, column: 0, out: moves });
+  same("no worker before a call", all.length, 0);
+  const [first, second] = [thrown(() => calls.invert("R")), thrown(() => calls.invert("U"))];
+  same("the module goes first, and one call after it", all[0].sent.map(Object.keys), [["module"], ["id", "request"]]);
+  all[0].failed("no script");
+  same("a worker that fails refuses the call", await first, ["EngineMissing", "no script"]);
+  same("and those that wait", await second, ["EngineMissing", "no script"]);
+  same("it is ended", all[0].isEnded, true);
+  const stop = new AbortController();
+  const third = thrown(() => calls.invert("F", { signal: stop.signal }));
+  const fourth = calls.invert("D");
+  stop.abort();
+  same("a call that ran is given up", (await third)[0], "AbortError");
+  same("its worker is ended, and another one has the next call", [all.length, all[1].isEnded, all[2].sent[1].request.line], [3, true, "D"]);
+  const { id } = all[2].sent[1];
+  all[1].took({ id, reply: inverse("too late") });
+  all[1].failed("too late");
+  all[2].took({ id: id - 1, reply: inverse("another") });
+  all[2].took({ id, reply: inverse("D'") });
+  all[2].took({ id, reply: inverse("twice") });
+  same("its own answer is taken alone", await fourth, "D'");
+  const fifth = thrown(() => calls.invert("L"));
+  all[2].took({ id: id + 1, error: { name: "RangeError", message: "no memory" } });
+  same("what it throws", await fifth, ["RangeError", "no memory"]);
+  const unstarted = new WorkerCalls(moduleBytes, () => {
+    throw new Error("no workers here");
+  });
+  same("no worker can be made", await thrown(() => unstarted.invert("R")), ["EngineMissing", "no workers here"]);
+}
+
 const worker = await NissyWorker.start(WebAssembly.compile(moduleBytes));
 await tryRows(worker);
 await tryWrongValues(worker);
@@ -123,5 +172,6 @@ await tryStopped(worker);
 await trySignals(worker);
 await tryAllAtOnce(worker);
 await tryUnstarted();
+await tryPuppets();
 // the process ends though the worker lives
 ended();

@@ -75,7 +75,7 @@ export const textIn = (bytes) => decoder.decode(bytes);
  * @param {unknown} words
  * @returns {Uint8Array} the words as the module takes them, each with a zero byte after it
  */
-export function joined(words) {
+export function joinedWords(words) {
   if (!Array.isArray(words)) throw new TypeError("the words are no array");
   const listed = Array.from(words, (word, index) => bytesOf(word, `word ${index + 1}`));
   const bytes = new Uint8Array(listed.reduce((sum, word) => sum + word.length + 1, 0));

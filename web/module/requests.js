@@ -1,5 +1,5 @@
 // What is asked of the engine, in plain values that a worker can be sent, each checked where it comes from a caller.
-import { bytesOf, joined, stringOf, takenLine, wholeNumber, wideNumber } from "./bytes.js";
+import { bytesOf, joinedWords, stringOf, takenLine, wholeNumber, wideNumber } from "./bytes.js";
 
 /** @typedef {import("./bytes.js").Text} Text */
 /** @typedef {"invert" | "unniss" | "cleanup" | "facelets"} Rewriting what is made of a line */
@@ -32,7 +32,7 @@ const MOST_SCRAMBLED = 256;
 
 /** @param {unknown} words @param {unknown} [input] @param {unknown} [room] @returns {RunRequest} */
 export function runRequest(words, input = "", room = undefined) {
-  const [listed, given] = [joined(words), bytesOf(input, "the input")];
+  const [listed, given] = [joinedWords(words), bytesOf(input, "the input")];
   // the module would take a negative one as 2^64 less so much, and write behind the memory
   const size = room === undefined ? room : wholeNumber(room, "the room", Number.MAX_SAFE_INTEGER);
   return { call: "run", words: listed, input: given, room: size };

@@ -3,7 +3,7 @@ import { Engine } from "./engine.js";
 
 /** @typedef {import("./replies.js").Reply} Reply */
 /** @typedef {import("./requests.js").Request} Request */
-/** @typedef {{module: WebAssembly.Module}} Beginning the first message */
+/** @typedef {{module: WebAssembly.Module | ArrayBuffer | Uint8Array}} Beginning the first message */
 /** @typedef {{id: number, request: Request}} Question each later one */
 /** @typedef {{id: number, reply: Reply}} Answered */
 /** @typedef {{id: number, error: {name: string, message: string}}} Unanswered */

@@ -22,6 +22,11 @@ import { compiled } from "./source.js";
  */
 
 /**
+ * What a worker can be sent: the module compiled, or its bytes, which it compiles then.
+ * @typedef {WebAssembly.Module | ArrayBuffer | Uint8Array} SentModule
+ */
+
+/**
  * A worker: what it is sent, and its end.
  * @typedef {{postMessage: (message: unknown) => void, terminate: () => void}} Sent
  */
@@ -73,14 +78,18 @@ const errorOf = ({ name, message }) => (name === "RangeError" ? new RangeError(m
  * `AbortSignal`: the tables of the steps are built anew after a call that ran.
  */
 export class WorkerCalls {
-  /** @type {WebAssembly.Module} */ #module;
+  /** @type {SentModule} */ #module;
   /** @type {NewWorker} */ #newWorker;
   /** @type {Sent | null} */ #worker = null;
   /** @type {Call | null} */ #running = null;
   /** @type {Call[]} */ #waiting = [];
   #next = 0;
 
-  /** @param {WebAssembly.Module} module @param {NewWorker} newWorker */
+  /**
+   * An engine whose worker is started by the first call.
+   * @param {SentModule} module
+   * @param {NewWorker} newWorker
+   */
   constructor(module, newWorker) {
     this.#module = module;
     this.#newWorker = newWorker;
