@@ -29,6 +29,7 @@ REWRITINGS = {"invert": "invert", "unniss": "unniss", "cleanup": "cleanup", "pri
 WORDS_OF_SEARCHES = {"solve": 3, "count": 3, "near": 4}
 FAULT = re.compile(rb"nissy: line (\d+)(?:, column (\d+))?: (.*)\n")
 START = " does not hold"
+SCRAMBLES = 4_000
 CALLS = (*REWRITINGS.values(), "solve", "count", "scramble", "steps")
 
 
@@ -121,6 +122,14 @@ class BesideModule(Beside):
             else:
                 self.compare_search(words, line, given, wanted)
 
+    def compare_count(self, words, line, values, wanted, found):
+        """A count of a search whose solutions are known; the program doesn't say how many positions it looked at."""
+        got = self.ask({"call": "count", "values": values, "inWorker": self.draws.random() < 0.25})
+        counted = {"value": {"length": found[0]["length"] if found else None, "solutions": len(found)}} if "value" in wanted else wanted
+        if "value" in got:
+            del got["value"]["nodes"]
+        self.check("call: count", words, line, got, counted)
+
     def compare_search(self, words, line, given, wanted):
         """A search of a line, with the greatest number of solutions drawn."""
         within = {"limit": int(words[2]), "slack": int(words[3]) if words[0] == "near" else 0}
@@ -129,6 +138,7 @@ class BesideModule(Beside):
             return
         self.compare_call(words, line, "solve", [words[1], given, within], wanted)
         found = wanted.get("value", [])
+        self.compare_count(words, line, [words[1], given, within], wanted, found)
         most = self.draws.choice([0, 1, len(found), max(len(found) - 1, 0), len(found) + 1, self.draws.randrange(len(found) + 1)])
         first = {"value": found[:most]} if "value" in wanted else wanted
         self.compare_call(words, line, "solve", [words[1], given, {**within, "most": most}], first)
@@ -142,6 +152,7 @@ def main():
     trial = BesideModule(program, int(seed), module)
     print("drawn calls, seed %s, scale %s" % (seed, scale))
     against.all_kinds(trial, Drawing(int(seed)), float(scale))
+    against.scrambles(trial, Drawing(int(seed) + 1), int(SCRAMBLES * float(scale)))
     trial.node.stdin.close()
     trial.awaits("node ends", *("call: " + call for call in CALLS))
     trial.check("node ends", [], b"", trial.node.wait(), 0)

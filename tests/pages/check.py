@@ -84,11 +84,17 @@ def map_of_crates(code: Code) -> list[str]:
     return found
 
 
-def map_of_page() -> list[str]:
-    """Returns what the table of the page's scripts and the folder of them don't have in common."""
-    on_map = {name for row in rows(Page(TOP, "docs/ARCHITECTURE.md").section("The page")) for name in re.findall(r"\w+\.js", row[0])}
-    there = {path.name for path in (TOP / "web").glob("*.js")}
-    return [f"gone: web: {it}" for it in sorted(on_map - there)] + [f"missing: web: {it}" for it in sorted(there - on_map)]
+def map_of_scripts(section: str, folder: str) -> list[str]:
+    """Returns what a table of scripts and their folder don't have in common."""
+    listed = rows(Page(TOP, "docs/ARCHITECTURE.md").section(section))
+    on_map = {name for row in listed for name in re.findall(r"[\w-]+\.js", row[0])}
+    there = {path.name for path in (TOP / folder).glob("*.js")}
+    return [f"gone: {folder}: {it}" for it in sorted(on_map - there)] + [f"missing: {folder}: {it}" for it in sorted(there - on_map)]
+
+
+def maps_of_scripts() -> list[str]:
+    """Returns that of the page's scripts and of the module's."""
+    return map_of_scripts("The page", "web") + map_of_scripts("The module in JavaScript", "web/module")
 
 
 def clauses_of_functions(texts: list[str]) -> list[str]:
@@ -148,7 +154,7 @@ def examples(tally: Tally) -> None:
 def main() -> None:
     """All checks, or the maps alone."""
     code = Code(TOP)
-    unlike = map_of_crates(code) + map_of_page()
+    unlike = map_of_crates(code) + maps_of_scripts()
     if sys.argv[1:] == ["map"]:
         print("\n".join(unlike), end="\n" if unlike else "")
         sys.exit(1 if unlike else 0)
