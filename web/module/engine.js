@@ -184,11 +184,10 @@ export class Engine {
       return place;
     });
     if (end > MOST_BYTES) throw new RangeError("no memory has so many bytes");
-    const missing = Math.ceil((end - this.#bytes.length) / PAGE);
-    if (missing > 0) {
-      this.#exports.memory.grow(missing);
-      this.#look();
-    }
+    const { memory } = this.#exports;
+    const missing = Math.ceil((end - memory.buffer.byteLength) / PAGE);
+    if (missing > 0) memory.grow(missing);
+    if (memory.buffer !== this.#bytes.buffer) this.#look();
     return places;
   }
 
