@@ -9,7 +9,7 @@
  */
 import { Engine } from "./engine.js";
 import { NoWebAssembly } from "./faults.js";
-import { allOf, countOf, linesOf, solutionsOf, textOf } from "./replies.js";
+import { allOf, countIn, linesIn, solutionsIn, lineIn } from "./replies.js";
 import { allRequest, countRequest, lineRequest, runRequest, scrambleRequest, solveRequest, stepsRequest } from "./requests.js";
 
 export { EngineMissing, NissyFault, NoWebAssembly, Stopped } from "./faults.js";
@@ -56,7 +56,7 @@ export class Nissy {
    * @returns {string}
    */
   invert(line) {
-    return textOf(this.#answer(lineRequest("invert", line)));
+    return lineIn(this.#answer(lineRequest("invert", line)));
   }
 
   /**
@@ -65,7 +65,7 @@ export class Nissy {
    * @returns {string}
    */
   unniss(line) {
-    return textOf(this.#answer(lineRequest("unniss", line)));
+    return lineIn(this.#answer(lineRequest("unniss", line)));
   }
 
   /**
@@ -74,7 +74,7 @@ export class Nissy {
    * @returns {string}
    */
   cleanup(line) {
-    return textOf(this.#answer(lineRequest("cleanup", line)));
+    return lineIn(this.#answer(lineRequest("cleanup", line)));
   }
 
   /**
@@ -83,7 +83,7 @@ export class Nissy {
    * @returns {string}
    */
   facelets(line) {
-    return textOf(this.#answer(lineRequest("facelets", line)));
+    return lineIn(this.#answer(lineRequest("facelets", line)));
   }
 
   /**
@@ -91,7 +91,7 @@ export class Nissy {
    * @param {string} step @param {Text} line @param {Wanted} [options] @returns {Solution[]}
    */
   solve(step, line, options) {
-    return solutionsOf(this.#answer(solveRequest(step, line, options)));
+    return solutionsIn(this.#answer(solveRequest(step, line, options)));
   }
 
   /**
@@ -99,7 +99,7 @@ export class Nissy {
    * @param {string} step @param {Text[]} lines @param {Wanted} [options] @returns {Solution[][]}
    */
   solveAll(step, lines, options) {
-    return allOf(this.#answer(allRequest(lines, (line) => solveRequest(step, line, options))), solutionsOf);
+    return allOf(this.#answer(allRequest(lines, (line) => solveRequest(step, line, options))), solutionsIn);
   }
 
   /**
@@ -107,7 +107,7 @@ export class Nissy {
    * @param {string} step @param {Text} line @param {Within} [options] @returns {Count}
    */
   count(step, line, options) {
-    return countOf(this.#answer(countRequest(step, line, options)));
+    return countIn(this.#answer(countRequest(step, line, options)));
   }
 
   /**
@@ -115,7 +115,7 @@ export class Nissy {
    * @param {string} step @param {Text[]} lines @param {Within} [options] @returns {Count[]}
    */
   countAll(step, lines, options) {
-    return allOf(this.#answer(allRequest(lines, (line) => countRequest(step, line, options))), countOf);
+    return allOf(this.#answer(allRequest(lines, (line) => countRequest(step, line, options))), countIn);
   }
 
   /**
@@ -123,7 +123,7 @@ export class Nissy {
    * @returns {string[]}
    */
   steps() {
-    return linesOf(this.#answer(stepsRequest()));
+    return linesIn(this.#answer(stepsRequest()));
   }
 
   /**
@@ -131,7 +131,7 @@ export class Nissy {
    * @param {number | bigint} state @param {number | bigint} stream @param {number} length @returns {string}
    */
   scramble(state, stream, length) {
-    return textOf(this.#answer(scrambleRequest(state, stream, length)));
+    return lineIn(this.#answer(scrambleRequest(state, stream, length)));
   }
 
   /**

@@ -51,20 +51,20 @@ function refuse({ status, column, text = "", state }) {
 }
 
 /** @param {LineReply} reply @returns {string} */
-export function textOf(reply) {
+export function lineIn(reply) {
   refuse(reply);
   return reply.out;
 }
 
 /** @param {LineReply} reply @returns {string[]} */
-export const linesOf = (reply) => textOf(reply).split("\n").slice(0, -1);
+export const linesIn = (reply) => lineIn(reply).split("\n").slice(0, -1);
 
 /**
  * The solutions, of which each has a line such as `F B' (2)`, or `(0)` if no move is needed. There may be millions, so no string is made of a line.
  * @param {LineReply} reply
  * @returns {Solution[]}
  */
-export function solutionsOf(reply) {
+export function solutionsIn(reply) {
   refuse(reply);
   const { out } = reply;
   const digit = (/** @type {number} */ at) => out.charCodeAt(at) - ZERO;
@@ -81,7 +81,7 @@ export function solutionsOf(reply) {
 }
 
 /** @param {CountReply} reply @returns {Count} */
-export function countOf(reply) {
+export function countIn(reply) {
   refuse(reply);
   const { least, solutions, looks } = reply;
   return { length: solutions === 0 ? null : least, solutions, nodes: looks };

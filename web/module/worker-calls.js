@@ -1,7 +1,7 @@
 // Calls of an engine in a worker as promises, one after another. A call that runs is stopped by ending its worker, and the next one starts
 // another.
 import { EngineMissing, Stopped } from "./faults.js";
-import { allOf, countOf, linesOf, solutionsOf, textOf } from "./replies.js";
+import { allOf, countIn, linesIn, solutionsIn, lineIn } from "./replies.js";
 import { allRequest, countRequest, lineRequest, runRequest, scrambleRequest, solveRequest, stepsRequest } from "./requests.js";
 import { compiled } from "./source.js";
 
@@ -110,49 +110,49 @@ export class WorkerCalls {
 
   /** @param {Text} line @param {Stoppable} [options] @returns {Promise<string>} */
   async invert(line, options) {
-    return textOf(await this.#answer(lineRequest("invert", line), options));
+    return lineIn(await this.#answer(lineRequest("invert", line), options));
   }
 
   /** @param {Text} line @param {Stoppable} [options] @returns {Promise<string>} */
   async unniss(line, options) {
-    return textOf(await this.#answer(lineRequest("unniss", line), options));
+    return lineIn(await this.#answer(lineRequest("unniss", line), options));
   }
 
   /** @param {Text} line @param {Stoppable} [options] @returns {Promise<string>} */
   async cleanup(line, options) {
-    return textOf(await this.#answer(lineRequest("cleanup", line), options));
+    return lineIn(await this.#answer(lineRequest("cleanup", line), options));
   }
 
   /** @param {Text} line @param {Stoppable} [options] @returns {Promise<string>} */
   async facelets(line, options) {
-    return textOf(await this.#answer(lineRequest("facelets", line), options));
+    return lineIn(await this.#answer(lineRequest("facelets", line), options));
   }
 
   /** @param {string} step @param {Text} line @param {Wanted & Stoppable} [options] @returns {Promise<Solution[]>} */
   async solve(step, line, options) {
-    return solutionsOf(await this.#answer(solveRequest(step, line, options), options));
+    return solutionsIn(await this.#answer(solveRequest(step, line, options), options));
   }
 
   /** @param {string} step @param {Text[]} lines @param {Wanted & Stoppable} [options] @returns {Promise<Solution[][]>} */
   async solveAll(step, lines, options) {
     const request = allRequest(lines, (line) => solveRequest(step, line, options));
-    return allOf(await this.#answer(request, options), solutionsOf);
+    return allOf(await this.#answer(request, options), solutionsIn);
   }
 
   /** @param {string} step @param {Text} line @param {Within & Stoppable} [options] @returns {Promise<Count>} */
   async count(step, line, options) {
-    return countOf(await this.#answer(countRequest(step, line, options), options));
+    return countIn(await this.#answer(countRequest(step, line, options), options));
   }
 
   /** @param {string} step @param {Text[]} lines @param {Within & Stoppable} [options] @returns {Promise<Count[]>} */
   async countAll(step, lines, options) {
     const request = allRequest(lines, (line) => countRequest(step, line, options));
-    return allOf(await this.#answer(request, options), countOf);
+    return allOf(await this.#answer(request, options), countIn);
   }
 
   /** @param {Stoppable} [options] @returns {Promise<string[]>} */
   async steps(options) {
-    return linesOf(await this.#answer(stepsRequest(), options));
+    return linesIn(await this.#answer(stepsRequest(), options));
   }
 
   /**
@@ -163,7 +163,7 @@ export class WorkerCalls {
    * @returns {Promise<string>}
    */
   async scramble(state, stream, length, options) {
-    return textOf(await this.#answer(scrambleRequest(state, stream, length), options));
+    return lineIn(await this.#answer(scrambleRequest(state, stream, length), options));
   }
 
   /** @param {Text[]} words @param {Text} [input] @param {Stoppable & {room?: number}} [options] @returns {Promise<Answer>} */
