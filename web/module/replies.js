@@ -21,8 +21,8 @@ import { NissyFault } from "./faults.js";
  */
 
 /**
- * How a call on a line ended. If it has a fault: its number, its column if it is at one place, else 0, the program's words for it, and the state
- * that doesn't hold before a step.
+ * How a call on a line ended. If it has a fault: its number, its column if it is at one place, else 0, the program's words for it, and the
+ * state that doesn't hold before a step.
  * @typedef {{status: number, fault: number, column: number, text?: string, state?: string}} Outcome
  */
 
@@ -60,7 +60,8 @@ export function lineIn(reply) {
 export const linesIn = (reply) => lineIn(reply).split("\n").slice(0, -1);
 
 /**
- * The solutions, of which each has a line such as `F B' (2)`, or `(0)` if no move is needed. There may be millions, so no string is made of a line.
+ * The solutions, of which each has a line such as `F B' (2)`, or `(0)` if no move is needed. There may be millions, so no string is made of
+ * a line.
  * @param {LineReply} reply
  * @returns {Solution[]}
  */
