@@ -1,5 +1,5 @@
 #!/usr/bin/env node
-// Begins the command `nissy`. It is written so that each node can parse it, and says if this one is too old for the rest.
+// Begins the command nissy. It is written so that each node can parse it, and says if this one is too old for the rest.
 "use strict";
 
 var OLDEST = 18;
