@@ -79,7 +79,7 @@ build/nissy.wasm: $(SOURCES) tools/web-module tools/kit.py
 	tools/web-module build/nissy.wasm
 
 # one file, with the engine's module in it
-build/nissy.html: build/nissy.wasm tools/page $(wildcard web/*.html web/*.css web/*.js)
+build/nissy.html: build/nissy.wasm tools/page $(wildcard web/*.html web/*.css web/*.js web/module/*.js)
 	tools/page web build/nissy.wasm build/nissy.html
 
 check: build/nissy $(if $(shell command -v wasm-opt),build/nissy.html) $(if $(filter no,$(LIBRARY)),,$(if $(shell command -v cc),build/libnissy.a))
@@ -112,6 +112,9 @@ uninstall:
 # What goes to machines without the kit, in build/dist, the same bytes each time on one commit.
 wheel: build/libnissy.a
 	tools/wheel build
+
+npm: build/nissy.wasm
+	tools/npm-package build
 
 deb: build/nissy build/libnissy.a
 	tools/deb build

@@ -1,10 +1,10 @@
 #!/usr/bin/env bash
-# Tries the module for pages of `make build/nissy.wasm` and its ES module, web/nissy.js, in node, beside PROGRAM:
+# Tries the module for pages of `make build/nissy.wasm` and its JavaScript, web/module, in node, beside PROGRAM, and in a page without a bundler:
 #
 #     tests/page_model.sh [PROGRAM [MODULE]]
 #
-# The program is build/nissy where none is named, and the module build/nissy.wasm. Where there is no module, or no node, nothing is tried. The
-# last line is `N passed, M failed`, and the status is 1 where M isn't 0.
+# The program is build/nissy if none is named, and the module build/nissy.wasm. If there is no module, or no node, nothing is tried. What needs
+# a browser or tsc that isn't here is skipped, and named. The last line is `N passed, M failed`, and the status is 1 if M isn't 0.
 set -u
 # shellcheck source=tests/shared
 . "$(dirname "$0")/shared"
@@ -16,9 +16,30 @@ if [ ! -e "$module" ] || missing node; then
     skips_all "there is no module that make build/nissy.wasm built, or no node"
 fi
 add node tests/page_model/rows.mjs "$module"
+for trial in plain wrong typed in_worker; do add node "tests/page_model/$trial.mjs" "$module"; done
 if missing python3; then
     skips "there is no python3 here"
 else
     add python3 tests/page_model/beside_program.py "$program" "$module" 1 0.25
+fi
+
+# Debian's Python has Debian's selenium, whatever other Python comes first
+python=/usr/bin/python3
+export SE_OFFLINE=true SE_AVOID_STATS=true
+if missing chromium || missing chromedriver || ! $python -c "import selenium" 2> /dev/null; then
+    skips "the module in a page, since chromium, chromedriver or python3-selenium isn't installed"
+else
+    add $python tests/page_model/in_browser.py "$module"
+fi
+
+if missing tsc; then
+    skips "the types of the module's JavaScript, since there is no tsc"
+else
+    holds "the types are those of the JavaScript" tools/module-types "$room/types"
+    cp tests/page_model/types.ts "$room/types"
+    strict=(tsc --strict --noEmit --target es2022 --module es2022 --moduleResolution node --lib "es2022,dom")
+    holds "a caller in TypeScript has these types, and is told of what is wrong" "${strict[@]}" "$room/types/types.ts"
+    echo 'declare const nissy: import("./nissy.js").Nissy; nissy.invert(1);' > "$room/types/wrong.ts"
+    holds "tsc refuses a wrong call" refuses "${strict[@]}" "$room/types/wrong.ts"
 fi
 ended

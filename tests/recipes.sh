@@ -3,9 +3,9 @@
 #
 #     tests/recipes.sh [PROGRAM [PAGE..]]
 #
-# The program is build/nissy where none is named, and the pages are README, COOKBOOK, MANUAL, EMBEDDING and the manual page. Where `make lib`
-# built the library, the examples find it, its header and its module; else EMBEDDING is skipped. `tests/pages/recipes.py` says how an example
-# is written. The last line is `N passed, M failed`, and the status is 1 where M isn't 0. Where there is no python3 nothing is tried.
+# The program is build/nissy where none is named, and the pages are README, COOKBOOK, MANUAL, EMBEDDING, the module's README and the manual page.
+# Where `make lib` built the library, the examples find it, its header and its module; else EMBEDDING is skipped, and so is the module's README
+# where `make build/nissy.wasm` built none. `tests/pages/recipes.py` says how an example is written. The last line is `N passed, M failed`, and the status is 1 where M isn't 0. Where there is no python3 nothing is tried.
 set -u
 # shellcheck source=tests/shared
 . "$(dirname "$0")/shared"
@@ -19,6 +19,7 @@ if missing python3; then skips_all "there is no python3 here, so no example is r
 pages=("${@:2}")
 if [ ${#pages[@]} -eq 0 ]; then
     pages=("$top/README.md" "$top/docs/COOKBOOK.md" "$top/docs/MANUAL.md" "$top/docs/nissy.1")
+    if [ -e "$top/build/nissy.wasm" ] && ! missing node; then pages+=("$top/web/module/README.md"); else skips "web/module/README.md, no module or no node here"; fi
     if [ -e "$top/build/libnissy.so" ]; then pages+=("$top/docs/EMBEDDING.md"); else skips "docs/EMBEDDING.md, no library here"; fi
 fi
 export CPATH=$top/include LIBRARY_PATH=$top/build LD_LIBRARY_PATH=$top/build PYTHONPATH=$top/python

@@ -1,8 +1,12 @@
-// Reads what the engine writes: rewritten lines, counts, solutions and faults.
+// What the engine answers: rewritten lines, counts, solutions and faults.
+import { NissyFault } from "./module/faults.js";
 
 /** @typedef {import("./calls.js").Calls} Calls */
 /** @typedef {{length: number | null, solutions: number, looks: number}} Count */
-/** @typedef {{moves: string, length: number}} Solution */
+/** @typedef {import("./module/replies.js").Solution} Solution */
+
+/** How many solutions a list may have. */
+const MOST_LISTED = 1_000_000;
 
 /** The engine's own words on what is wrong, and where. */
 export class EngineFault extends Error {
@@ -20,7 +24,7 @@ export class EngineFault extends Error {
 
 /** The output of a run, or its fault. @param {Calls} calls @param {string[]} words @param {string[]} lines */
 async function output(calls, words, lines) {
-    const answer = await calls.run(words, lines.map((line) => `${line}\n`).join(""));
+    const answer = await calls.tell(words, lines.map((line) => `${line}\n`).join(""));
     if (answer.status !== 0 && !answer.full) throw new EngineFault(answer.err);
     return answer;
 }
@@ -33,22 +37,17 @@ export async function answersOf(calls, words, lines) {
     return out.split("\n").slice(0, lines.length);
 }
 
-/** @param {string} text @returns {Count} */
-export function readCount(text) {
-    const [, length, solutions, looks] = /^length (\d+|none) solutions (\d+) nodes (\d+)$/.exec(text);
-    return { length: length === "none" ? null : Number(length), solutions: Number(solutions), looks: Number(looks) };
+/** Throws a fault in the words of the program, if it is one. @param {unknown} fault @returns {never} */
+function tellFault(fault) {
+    if (!(fault instanceof NissyFault)) throw fault;
+    const column = fault.column === null ? "" : `, column ${fault.column}`;
+    throw new EngineFault(`nissy: line ${fault.line ?? 1}${column}: ${fault.text}`);
 }
 
-/** The counts of a step for each line. @param {Calls} calls @param {string} step @param {string[]} lines */
+/** The counts of a step for each line. @param {Calls} calls @param {string} step @param {string[]} lines @returns {Promise<Count[]>} */
 export async function countsOf(calls, step, lines) {
-    return (await answersOf(calls, ["count", step, "20"], lines)).map(readCount);
-}
-
-/** A line such as `F B' (2)`, which may be one of a million. @param {string} text @returns {Solution | null} */
-function readSolution(text) {
-    const place = text.lastIndexOf("(");
-    if (place < 0 || !text.endsWith(")")) return null;
-    return { moves: text.slice(0, Math.max(0, place - 1)), length: Number(text.slice(place + 1, -1)) };
+    const counts = await calls.countAll(step, lines).catch(tellFault);
+    return counts.map(({ length, solutions, nodes }) => ({ length, solutions, looks: nodes }));
 }
 
 /**
@@ -56,7 +55,6 @@ function readSolution(text) {
  * @param {Calls} calls @param {string} step @param {number} slack @param {string} line
  */
 export async function solutionsOf(calls, step, slack, line) {
-    const words = slack === 0 ? ["solve", step, "20"] : ["near", step, "20", String(slack)];
-    const { out, full } = await output(calls, words, [line]);
-    return { solutions: out.split("\n").map(readSolution).filter(Boolean), whole: !full };
+    const found = await calls.solve(step, line, { slack, most: MOST_LISTED + 1 }).catch(tellFault);
+    return { solutions: found.slice(0, MOST_LISTED), whole: found.length <= MOST_LISTED };
 }

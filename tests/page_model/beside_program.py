@@ -4,12 +4,15 @@
     tests/page_model/beside_program.py PROGRAM MODULE SEED SCALE
 
 The draws are those by which the program is compared with the independent model
-(tests/model/against.py), some 4,000 at scale 0.25, each called with room that grows and with room of a drawn size. The last line is
-`N passed, M failed`, by kinds of calls, and the status is 1 where M isn't 0.
+(tests/model/against.py), some 4,000 at scale 0.25, each called with room that grows and with room of a drawn size, and then by a call for
+each line of its input, a quarter of them in a worker. The last line is `N passed, M failed`, by kinds of calls, and the status is 1 if M
+isn't 0.
 """
 import base64
 import json
 import os
+import random
+import re
 import subprocess
 import sys
 
@@ -21,9 +24,54 @@ from beside import Beside
 from drawing import Drawing
 
 
+# the calls on a line, by the program's words for them, and how many words each command has before its line
+REWRITINGS = {"invert": "invert", "unniss": "unniss", "cleanup": "cleanup", "print": "facelets"}
+WORDS_OF_SEARCHES = {"solve": 3, "count": 3, "near": 4}
+FAULT = re.compile(rb"nissy: line (\d+)(?:, column (\d+))?: (.*)\n")
+START = " does not hold"
+SCRAMBLES = 4_000
+CALLS = (*REWRITINGS.values(), "solve", "count", "scramble", "steps")
+
+
 def to_base64(data):
     """Bytes as text."""
     return base64.b64encode(data).decode("ascii")
+
+
+def lines_in(data):
+    """The lines of an input, whose last one may have no line feed."""
+    lines = data.split(b"\n")
+    return lines if lines[-1] else lines[:-1]
+
+
+def fault_in(err):
+    """The number of the line that the program's error text is on, and the fault that a call on it throws."""
+    line, column, text = FAULT.fullmatch(err).groups()
+    words, place = text.decode(), int(column) if column else None
+    step = words[: -len(START)] if words.endswith(START) else None
+    return int(line), {"text": words, "column": place, "step": step, "message": words if step else "column %d: %s" % (place, words)}
+
+
+def count_in(line):
+    """A line of `count` as a value."""
+    _, length, _, solutions, _, nodes = line.split()
+    return {"length": None if length == "none" else int(length), "solutions": int(solutions), "nodes": int(nodes)}
+
+
+def solutions_in(block):
+    """The lines of `solve` and `near` for one line as values."""
+    pairs = [line.rpartition("(") for line in block if not line.startswith("no solution within ")]
+    return [{"moves": moves.rstrip(), "length": int(length[:-1])} for moves, _, length in pairs]
+
+
+def values_of(words, out):
+    """What the program wrote for each line of its input, as the calls return it."""
+    text = out.decode()
+    if words[0] in REWRITINGS:
+        return text.split("\n")[:-1]
+    if words[0] == "count":
+        return [count_in(line) for line in text.split("\n")[:-1]]
+    return [solutions_in(block.split("\n")) for block in text.split("\n\n")[:-1]]
 
 
 class BesideModule(Beside):
@@ -31,13 +79,69 @@ class BesideModule(Beside):
 
     def __init__(self, program, seed, module):
         super().__init__(program, seed)
-        self.node = subprocess.Popen(["node", os.path.join(HERE, "calls.mjs"), module], stdin=subprocess.PIPE, stdout=subprocess.PIPE, text=True)
+        self.draws = random.Random(seed)
+        words = ["node", os.path.join(HERE, "calls.mjs"), module]
+        self.node = subprocess.Popen(words, stdin=subprocess.PIPE, stdout=subprocess.PIPE, text=True)
+
+    def ask(self, asked):
+        """What node answers."""
+        print(json.dumps(asked), file=self.node.stdin, flush=True)
+        return json.loads(self.node.stdout.readline())
 
     def call(self, words, data, room=None):
-        asked = {"words": [to_base64(word.encode("utf-8", "surrogateescape")) for word in words], "input": to_base64(data), "room": room}
-        print(json.dumps(asked), file=self.node.stdin, flush=True)
-        answer = json.loads(self.node.stdout.readline())
+        listed = [to_base64(word.encode("utf-8", "surrogateescape")) for word in words]
+        answer = self.ask({"words": listed, "input": to_base64(data), "room": room})
         return base64.b64decode(answer["out"]), base64.b64decode(answer["err"]), answer["status"], answer["full"]
+
+    def compare_call(self, words, data, call, values, wanted):
+        """One call by its name, some in a worker."""
+        got = self.ask({"call": call, "values": values, "inWorker": self.draws.random() < 0.25})
+        self.check("call: " + call, words, data, got, wanted)
+
+    def compare_further(self, words, data, expected):
+        out, err, status = expected
+        if not words or status not in (0, 1):
+            return
+        if words[0] in REWRITINGS and len(words) == 1 or WORDS_OF_SEARCHES.get(words[0]) == len(words):
+            self.compare_lines(words, data, out, err)
+        elif words[0] == "scramble" and int(words[4]) > 0:
+            numbers = [{"wide": words[1]}, {"wide": words[2]}, int(words[3])]
+            self.compare_call(words, data, "scramble", numbers, {"value": out.decode().split("\n")[0]})
+        elif words[0] == "steps":
+            self.compare_call(words, data, "steps", [], {"value": out.decode().split("\n")[:-1]})
+
+    def compare_lines(self, words, data, out, err):
+        """A call for each line that the program came to."""
+        faulty, fault = fault_in(err) if err else (0, None)
+        values = values_of(words, out)
+        for number, line in enumerate(lines_in(data)[: faulty or None], 1):
+            wanted = {"fault": fault} if number == faulty else {"value": values[number - 1]}
+            given = {"bytes": to_base64(line)}
+            if words[0] in REWRITINGS:
+                self.compare_call(words, line, REWRITINGS[words[0]], [given], wanted)
+            else:
+                self.compare_search(words, line, given, wanted)
+
+    def compare_count(self, words, line, values, wanted, found):
+        """A count of a search whose solutions are known; the program doesn't say how many positions it looked at."""
+        got = self.ask({"call": "count", "values": values, "inWorker": self.draws.random() < 0.25})
+        counted = {"value": {"length": found[0]["length"] if found else None, "solutions": len(found)}} if "value" in wanted else wanted
+        if "value" in got:
+            del got["value"]["nodes"]
+        self.check("call: count", words, line, got, counted)
+
+    def compare_search(self, words, line, given, wanted):
+        """A search of a line, with the greatest number of solutions drawn."""
+        within = {"limit": int(words[2]), "slack": int(words[3]) if words[0] == "near" else 0}
+        if words[0] == "count":
+            self.compare_call(words, line, "count", [words[1], given, within], wanted)
+            return
+        self.compare_call(words, line, "solve", [words[1], given, within], wanted)
+        found = wanted.get("value", [])
+        self.compare_count(words, line, [words[1], given, within], wanted, found)
+        most = self.draws.choice([0, 1, len(found), max(len(found) - 1, 0), len(found) + 1, self.draws.randrange(len(found) + 1)])
+        first = {"value": found[:most]} if "value" in wanted else wanted
+        self.compare_call(words, line, "solve", [words[1], given, {**within, "most": most}], first)
 
 
 def main():
@@ -48,8 +152,9 @@ def main():
     trial = BesideModule(program, int(seed), module)
     print("drawn calls, seed %s, scale %s" % (seed, scale))
     against.all_kinds(trial, Drawing(int(seed)), float(scale))
+    against.scrambles(trial, Drawing(int(seed) + 1), int(SCRAMBLES * float(scale)))
     trial.node.stdin.close()
-    trial.awaits("node ends")
+    trial.awaits("node ends", *("call: " + call for call in CALLS))
     trial.check("node ends", [], b"", trial.node.wait(), 0)
     sys.exit(trial.report())
 

@@ -1,16 +1,38 @@
-// Makes the calls of the module that standard input asks for, a JSON text a line, and answers each with a line.
+// Makes the calls of the module that standard input asks for, a JSON text a line, and answers each with a line: a run, or another call by
+// its name, here or in a worker.
 //
 //     node tests/page_model/calls.mjs MODULE
 import { readFileSync } from "node:fs";
 import { createInterface } from "node:readline";
-import { Nissy } from "../../web/nissy.js";
+import { Nissy, NissyFault, NissyWorker } from "../../web/module/node.js";
 
 const fromBase64 = (text) => new Uint8Array(Buffer.from(text, "base64"));
 const toBase64 = (bytes) => Buffer.from(bytes).toString("base64");
 
-const nissy = await Nissy.load(readFileSync(process.argv[2]));
-for await (const line of createInterface({ input: process.stdin })) {
-  const { words, input, room } = JSON.parse(line);
+/** What is given to a call: bytes and wide numbers as objects that name them, and anything else as it is. */
+const given = (value) => (value?.bytes !== undefined ? fromBase64(value.bytes) : value?.wide !== undefined ? BigInt(value.wide) : value);
+
+const source = readFileSync(process.argv[2]);
+const nissy = await Nissy.load(source);
+const worker = await NissyWorker.start(source);
+
+function run({ words, input, room }) {
   const answer = nissy.run(words.map(fromBase64), fromBase64(input), room ?? undefined);
-  console.log(JSON.stringify({ ...answer, out: toBase64(answer.out), err: toBase64(answer.err) }));
+  return { ...answer, out: toBase64(answer.out), err: toBase64(answer.err) };
 }
+
+async function called({ call, values, inWorker }) {
+  try {
+    return { value: await (inWorker ? worker : nissy)[call](...values.map(given)) };
+  } catch (fault) {
+    if (!(fault instanceof NissyFault)) return { error: fault.name };
+    const { text, column, step, message } = fault;
+    return { fault: { text, column, step, message } };
+  }
+}
+
+for await (const line of createInterface({ input: process.stdin })) {
+  const asked = JSON.parse(line);
+  console.log(JSON.stringify(asked.call === undefined ? run(asked) : await called(asked)));
+}
+worker.end();

@@ -3,33 +3,15 @@
 //     node tests/page_model/rows.mjs MODULE
 //
 // The last line is `N passed, M failed`, and the status is 1 where M isn't 0.
-import { deepStrictEqual } from "node:assert";
-import { readFileSync } from "node:fs";
-import { NoWebAssembly, NoWideMemory, Nissy } from "../../web/nissy.js";
+import { NoWebAssembly, NoWideMemory, Nissy } from "../../web/module/nissy.js";
+import { ended, loaded, moduleBytes as module, same, text, thrown } from "./tally.mjs";
 
 const SOLVED = "UUUUUUUUURRRRRRRRRFFFFFFFFFDDDDDDDDDLLLLLLLLLBBBBBBBBB\n";
 const USAGE = "usage: nissy COMMAND [ARGUMENTS]\n";
 const OUT_OF_ROOM = "nissy: cannot write\n";
-const OUT_OF_MEMORY = "nissy: out of memory\n";
 const CALLS = 10_000;
-
-// The least room of a call, its words, its input, and its status in that room. A room of at most 4,160 bytes is given whole where a call
-// first asks for memory: a block of 2^k - 16 bytes, of which 48 are the arena's own, for a first word of at most 2^k - 64. Of a larger room
-// the arena takes whole pages of 4,096 bytes at once, less 16, and leaves 4,096 bytes and a few. A step takes the memory of its turns, moves
-// and distances, 149,504 bytes (36.5 pages) for an orientation on one axis, 301,056 (73.5) for one on any, 1,275,669 (311.4) for a domino
-// reduction, and 2,454,786 (599.3) for one of two; its words take less than half a page.
-const built = (pages, ...steps) => steps.map((step) => [pages * 4096 + 16, `count\0${step}\0` + "1\0", "\n", 0]);
-const LEAST_ROOMS = [
-  [512 - 16, "invert\0", "R\n", 0],
-  [512 - 16, `${"q".repeat(300)}\0`, "", 2],
-  [1024 - 16, `${"q".repeat(600)}\0`, "", 2],
-  [2048 - 16, `${"q".repeat(1500)}\0`, "", 2],
-  [4096 - 16, `${"q".repeat(3000)}\0`, "", 2],
-  ...built(37, "eofb", "eorl", "eoud"),
-  ...built(74, "eo"),
-  ...built(312, "drud-eofb", "drrl-eofb", "drud-eorl", "drfb-eorl", "drrl-eoud", "drfb-eoud"),
-  ...built(600, "dr-eofb", "dr-eorl", "dr-eoud"),
-];
+const LINE_CALLS = ["invert", "unniss", "cleanup", "print", "scramble", "steps", "start", "fault_text"];
+const EXPORTS = ["__heap_base", "memory", ...["run", "build", "solve", "count", ...LINE_CALLS].map((name) => `nissy_${name}`)].sort();
 
 // what a row shows, the arguments of `run`, and what is wanted: the status, the output, the error text, and whether it was full
 const ROWS = [
@@ -57,47 +39,6 @@ const ROWS = [
   ["a search after these", [["count", "drud-eofb", "5", "R U"]], 0, "length 2 solutions 2 nodes 28\n", "", false],
 ];
 
-let passed = 0;
-let failed = 0;
-
-/** Counts what was seen against what was wanted, and shows it where they differ. */
-function same(what, seen, wanted) {
-  try {
-    deepStrictEqual(seen, wanted);
-    passed += 1;
-  } catch (error) {
-    failed += 1;
-    console.log(`not so: ${what}\n${error.message.slice(0, 2000)}`);
-  }
-}
-
-/** The name of what a call throws, and its message. */
-async function thrown(call) {
-  try {
-    await call();
-  } catch (error) {
-    return [error.name, error.message];
-  }
-  return "nothing";
-}
-
-const text = (bytes) => new TextDecoder().decode(bytes);
-const module = readFileSync(process.argv[2]);
-
-/** Loads the module, and answers it with its memory, which it doesn't show. */
-async function loaded() {
-  const { instantiate } = WebAssembly;
-  let memory;
-  WebAssembly.instantiate = async (...given) => {
-    const made = await instantiate(...given);
-    memory = made.instance.exports.memory;
-    return made;
-  };
-  const nissy = await Nissy.load(module);
-  WebAssembly.instantiate = instantiate;
-  return { nissy, memory };
-}
-
 function tryRows(nissy) {
   for (const [what, given, status, out, err, full] of ROWS) {
     const answer = nissy.run(...given);
@@ -123,7 +64,7 @@ async function tryRefusals(nissy) {
 
 /** After many calls the memory is as large as after a few. */
 async function tryMemory() {
-  const { nissy, memory } = await loaded();
+  const { nissy, memory } = await loaded(Nissy);
   const lines = "R U F\n".repeat(20);
   const run = (at) => nissy.run(at % 1000 < 5 ? ["count", "dr-eofb", "1"] : ["invert"], at % 1000 < 5 ? "" : lines);
   let sizeAfterTen = 0;
@@ -137,66 +78,13 @@ async function tryMemory() {
   same("the memory after many calls", memory.buffer.byteLength, sizeAfterTen);
 }
 
-/** The module called as web/README.md says, without nissy.js: where each number of an answer stands, and what becomes of a room. */
-async function tryPlainCalls() {
-  const { instance } = await WebAssembly.instantiate(module, {});
-  const { memory, nissy_run: run, __heap_base: heap } = instance.exports;
-  same("its memory has addresses of 32 bits", typeof memory.grow(64), "number");
-  const base = Math.ceil(Number(heap.value) / 16) * 16;
-  const [answerAt, roomAt, inputAt, outAt, errAt, wordsAt, lentAt] = [0, 64, 128, 192, 512, 1024, 8192].map((at) => base + at);
-  const call = (words, input, outRoom, errRoom, lent) => {
-    const bytes = new Uint8Array(memory.buffer);
-    bytes.fill(0x23, base, lentAt);
-    bytes.fill(0x23, lentAt + lent, lentAt + lent + 64);
-    bytes.set(new TextEncoder().encode(words), wordsAt);
-    bytes.set(new TextEncoder().encode(input), inputAt);
-    const view = new DataView(memory.buffer);
-    view.setBigUint64(roomAt, BigInt(lentAt), true);
-    view.setBigUint64(roomAt + 8, BigInt(lent), true);
-    run(...[answerAt, roomAt, wordsAt, words.length, inputAt, input.length, outAt, outRoom, errAt, errRoom].map(BigInt));
-    const number = (at) => Number(view.getBigUint64(at, true));
-    const is = (from, to) => bytes.subarray(from, to).every((byte) => byte === 0x23);
-    return {
-      status: bytes[answerAt],
-      out: text(bytes.slice(outAt, outAt + number(answerAt + 8))),
-      err: text(bytes.slice(errAt, errAt + number(answerAt + 16))),
-      small: [bytes[answerAt + 24], bytes[answerAt + 25]],
-      room: [number(roomAt) - lentAt, number(roomAt + 8)],
-      kept:
-        is(answerAt + 32, roomAt) && is(roomAt + 16, inputAt) && is(outAt + number(answerAt + 8), errAt) &&
-        is(errAt + number(answerAt + 16), wordsAt) && is(lentAt + lent, lentAt + lent + 64),
-    };
-  };
-  const lent = 3_145_728;
-  const rest = { room: [0, lent], kept: true };
-  same("an answer where all fits", call("invert\0", "R\n", 3, 0, lent), { status: 0, out: "R'\n", err: "", small: [0, 0], ...rest });
-  same("a byte of room too few", call("invert\0", "R\n", 2, 20, lent), { status: 3, out: "R'", err: OUT_OF_ROOM, small: [1, 0], ...rest });
-  same("a byte of error room too few", call("nosuch\0", "", 0, 32, lent), { status: 2, out: "", err: USAGE.slice(0, 32), small: [0, 1], ...rest });
-  same("error room to the byte", call("nosuch\0", "", 0, 33, lent), { status: 2, out: "", err: USAGE, small: [0, 0], ...rest });
-  same("no room for either", call("invert\0", "R\n", 0, 0, lent), { status: 3, out: "", err: "", small: [1, 1], ...rest });
-  for (const size of [0, 16, 32, 256, 480, 496, 512, 1024, 4096, 4160, 4176, 8192, 65536]) {
-    const { status, room, kept } = call("solve\0eofb\0" + "7\0F", "", 256, 128, size);
-    same(`a room of ${size} bytes comes back`, [room, kept, status === 0 || status === 3], [[0, size], true, true]);
-  }
-  for (const [least, words, input, status] of LEAST_ROOMS) {
-    const what = JSON.stringify(words.slice(0, 24));
-    const wanted = { status, err: status === 2 ? USAGE : "", room: [0, least], kept: true };
-    const short = { status: 3, err: OUT_OF_MEMORY, room: [0, least - 16], kept: true };
-    const seen = ({ status, err, room, kept }) => ({ status, err, room, kept });
-    same(`${what} in a room of ${least} bytes`, seen(call(words, input, 256, 128, least)), wanted);
-    same(`${what} in 16 bytes fewer`, seen(call(words, input, 256, 128, least - 16)), short);
-  }
-}
-
 const compiled = await WebAssembly.compile(module);
 same("the module asks nothing of its host", WebAssembly.Module.imports(compiled), []);
-same("what it exports", WebAssembly.Module.exports(compiled).map(({ name }) => name), ["memory", "nissy_run", "__heap_base"]);
+same("what it exports", WebAssembly.Module.exports(compiled).map(({ name }) => name).sort(), EXPORTS);
 const copied = module.buffer.slice(module.byteOffset, module.byteOffset + module.byteLength);
 same("a module in an ArrayBuffer", text((await Nissy.load(copied)).run(["invert", "R"]).out), "R'\n");
-const { nissy } = await loaded();
+const { nissy } = await loaded(Nissy);
 tryRows(nissy);
 await tryRefusals(nissy);
-await tryPlainCalls();
 await tryMemory();
-console.log(`${passed} passed, ${failed} failed`);
-process.exitCode = failed ? 1 : 0;
+ended();

@@ -18,12 +18,12 @@ from repository import Code
 from markdown import NAME, Page, cells, rows
 from tally import Tally
 
-PAGES = ("*.md", "docs/*.md", "bench/*.md", "web/*.md")
+PAGES = ("*.md", "docs/*.md", "bench/*.md", "web/*/*.md")
 # most lines that README may have
-MOST_LINES = 100
+MOST_LINES = 110
 # pages of which each name of code in backquotes must be there, and pages of which each path must
 WITH_NAMES = ("README.md", "docs/ARCHITECTURE.md", "docs/PROMISES.md", "docs/DECISIONS.md")
-WITH_PATHS = ("CONTRIBUTING.md", *WITH_NAMES, "docs/EMBEDDING.md", "bench/README.md", "web/README.md")
+WITH_PATHS = ("CONTRIBUTING.md", *WITH_NAMES, "docs/EMBEDDING.md", "bench/README.md", "web/module/README.md")
 CODE_NAME = r"`([A-Za-z_0-9:]+|[a-z_]*/?(src|specs|proofs)/[A-Za-z_/]+\.(rt|antt))`"
 PATH = re.compile(r"\b(?:crates|tests|tools|docs|bench|completions|include|python|web)/[A-Za-z0-9_./-]+")
 LIST = r"`[^`]+`(?:(?:, | and )`[^`]+`)*"
@@ -84,11 +84,17 @@ def map_of_crates(code: Code) -> list[str]:
     return found
 
 
-def map_of_page() -> list[str]:
-    """Returns what the table of the page's scripts and the folder of them don't have in common."""
-    on_map = {name for row in rows(Page(TOP, "docs/ARCHITECTURE.md").section("The page")) for name in re.findall(r"\w+\.js", row[0])}
-    there = {path.name for path in (TOP / "web").glob("*.js")} - {"nissy.js"}
-    return [f"gone: web: {it}" for it in sorted(on_map - there)] + [f"missing: web: {it}" for it in sorted(there - on_map)]
+def map_of_scripts(section: str, folder: str) -> list[str]:
+    """Returns what a table of scripts and their folder don't have in common."""
+    listed = rows(Page(TOP, "docs/ARCHITECTURE.md").section(section))
+    on_map = {name for row in listed for name in re.findall(r"[\w-]+\.js", row[0])}
+    there = {path.name for path in (TOP / folder).glob("*.js")}
+    return [f"gone: {folder}: {it}" for it in sorted(on_map - there)] + [f"missing: {folder}: {it}" for it in sorted(there - on_map)]
+
+
+def maps_of_scripts() -> list[str]:
+    """Returns that of the page's scripts and of the module's."""
+    return map_of_scripts("The page", "web") + map_of_scripts("The module in JavaScript", "web/module")
 
 
 def clauses_of_functions(texts: list[str]) -> list[str]:
@@ -149,7 +155,7 @@ def examples(tally: Tally) -> None:
 def main() -> None:
     """All checks, or the maps alone."""
     code = Code(TOP)
-    unlike = map_of_crates(code) + map_of_page()
+    unlike = map_of_crates(code) + maps_of_scripts()
     if sys.argv[1:] == ["map"]:
         print("\n".join(unlike), end="\n" if unlike else "")
         sys.exit(1 if unlike else 0)

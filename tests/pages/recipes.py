@@ -6,8 +6,9 @@
 A block ```sh is run, and where the next block is ```text, that is what it prints (else nothing). In a block ```console each line that begins
 with `$ ` is run, and the lines after it are what it prints. The blocks of a page run one after another in one shell, so that variables and
 files stay; the whole page is run by each of sh, bash and zsh that is there. A block ```bash, ```zsh or ```fish runs by that shell alone.
-`needs TOOL` after the shell's name skips the block if the tool is missing, or, if it has a slash, the file of the repository; what is skipped
-is named. So are the examples of a manual page.
+A block ```js is a script of its own, which node runs at the top of the repository, if the module is built. `needs TOOL` after the shell's name
+skips the block if the tool is missing, or, if it has a slash, the file of the repository; what is skipped is named. So are the examples of a
+manual page.
 The last line is `N passed, M failed`, and the status is 1 where M isn't 0.
 """
 import difflib
@@ -26,6 +27,8 @@ from tally import Tally
 
 # the shells by which a block of a kind is run
 SHELLS = {"sh": ("sh", "bash", "zsh"), "bash": ("bash",), "zsh": ("zsh",), "fish": ("fish",)}
+# what runs a block that is a script of its own, the ending of its file, and what it needs of the folder build
+SCRIPTS = {"js": ("node", ".mjs", "nissy.wasm")}
 ESCAPES = ((r"\(aq", "'"), (r"\(dq", '"'), (r"\-", "-"), (r"\e", "\\"))
 SECONDS = 300
 NOT_REACHED = "nothing: the shell ended before it\n"
@@ -67,7 +70,7 @@ def examples_of(text: str) -> list[Example]:
     for number, line in enumerate(text.splitlines(), 1):
         if line.startswith("```"):
             kind, *options = (line[3:].split() or ["other"]) if not inside else [""]
-            if kind in SHELLS:
+            if kind in SHELLS or kind in SCRIPTS:
                 last = Example(kind, number, options[1] if options[:1] == ["needs"] else "")
                 found.append(last)
             elif inside in ("text", "console"):
@@ -76,7 +79,7 @@ def examples_of(text: str) -> list[Example]:
         elif inside == "console" and line.startswith("$ "):
             last = Example("sh", number, command=line[2:] + "\n")
             found.append(last)
-        elif inside in SHELLS:
+        elif inside in SHELLS or inside in SCRIPTS:
             last.command += line + "\n"
         elif inside in ("text", "console") and last:
             last.wanted += line + "\n"
@@ -106,6 +109,20 @@ def run_by(shell: str, examples: list[Example], environment: dict[str, str]) -> 
                 it.wrong[shell] = got
 
 
+def run_alone(it: Example) -> None:
+    """Runs an example that is a script of its own, in a folder that has what the top of the repository has."""
+    program, ending, _ = SCRIPTS[it.kind]
+    with tempfile.TemporaryDirectory() as room:
+        for folder in ("web", "build"):
+            os.symlink(TOP / folder, Path(room, folder))
+        script = Path(room, f"example{ending}")
+        script.write_text(it.command)
+        ran = subprocess.run([program, script], cwd=room, stdout=subprocess.PIPE, stderr=subprocess.STDOUT, check=False, timeout=SECONDS)
+        got = ran.stdout.decode(errors="replace")
+        if got != it.wanted:
+            it.wrong[program] = got
+
+
 def show(it: Example) -> None:
     """Shows what an example printed by the first shell that differs, beside the page."""
     print("    " + it.command.rstrip("\n").replace("\n", "\n    "))
@@ -123,7 +140,8 @@ def runnable(name: str, examples: list[Example]) -> list[Example]:
     """Returns the examples of a page whose shell and tool are here, and names the others."""
     here = []
     for it in examples:
-        missing = next((tool for tool in (it.kind, it.needs) if tool and not is_here(tool)), None)
+        program, _, built = SCRIPTS.get(it.kind, (it.kind, "", ""))
+        missing = next((tool for tool in (program, it.needs, built and f"build/{built}") if tool and not is_here(tool)), None)
         if missing:
             print(f"skipped: {name}:{it.line}, no {missing} here")
         else:
@@ -145,6 +163,9 @@ def try_page(tally: Tally, page: Path, environment: dict[str, str]) -> None:
                 run_by(shell, of_kind, environment)
             else:
                 print(f"skipped: {name} by {shell}, which isn't here")
+    for it in examples:
+        if it.kind in SCRIPTS:
+            run_alone(it)
     for it in examples:
         tally.holds(f"{name}:{it.line}: in {' '.join(it.wrong)} it prints this ('<' the page, '>' the program)", not it.wrong)
         if it.wrong:

@@ -1,4 +1,4 @@
-//! The module for web pages and other hosts of WebAssembly. `web/nissy.js` makes its calls.
+//! The module for web pages and other hosts of WebAssembly. `web/module/engine.js` makes its calls.
 #![tactic(auto)]
 
 mod arena;

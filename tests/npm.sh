@@ -1,0 +1,104 @@
+#!/usr/bin/env bash
+# Packs build/nissy.wasm and its JavaScript for npm, installs the package in an empty folder, and tries what it exports, its types and its
+# command there. No network is asked for. The last line is `N passed, M failed`, and the status is 1 if M isn't 0.
+set -u
+# shellcheck source=tests/shared
+. "$(dirname "$0")/shared"
+# shellcheck source=tests/rows
+. "$(dirname "$0")/rows"
+cd "$(dirname "$0")/.." || exit 2
+top=$PWD
+for tool in node npm npx tsc; do
+    if missing $tool; then skips_all "there is no $tool here, so no package for npm is tried"; fi
+done
+if [ ! -e build/nissy.wasm ]; then skips_all "there is no module that make build/nissy.wasm built"; fi
+export HOME=$room/home npm_config_cache=$room/cache npm_config_offline=true npm_config_audit=false npm_config_fund=false
+export npm_config_update_notifier=false
+
+# the package
+user="$room/a user of it"
+mkdir -p "$HOME" "$user" "$room/first" "$room/second" "$room/tools"
+name=nissy-$(tools/version).tgz
+elsewhere() { # packs the same files with other modes and times
+    (umask 077 && mkdir -p "$room/source/build" && cp -R CHANGELOG.md docs include tools web "$room/source" &&
+        cp build/nissy.wasm "$room/source/build" && find "$room/source" -type f -exec touch -d 2001-01-01 {} + &&
+        "$room/source/tools/npm-package" "$room/second")
+}
+holds "tools/npm-package prints what it made" test "$(tools/npm-package "$room/first")" = "$room/first/$name"
+holds "it packs the same files again" elsewhere
+holds "the package has the same bytes each time" cmp "$room/first/$name" "$room/second/$name"
+for tool in bash dirname realpath npm; do ln -s "$(command -v $tool)" "$room/tools"; done
+answers "where there is no tsc" 69 '' 'there is no tsc here: install node-typescript\n' \
+    env PATH="$room/tools" "$top/tools/npm-package" "$room/second"
+rm "$room/tools/npm"
+answers "where there is no npm" 69 '' 'there is no npm here: install npm\n' env PATH="$room/tools" "$top/tools/npm-package" "$room/second"
+rm "$room/source/build/nissy.wasm"
+answers "where there is no module" 1 '' 'there is no build/nissy.wasm: `make build/nissy.wasm` builds it\n' \
+    "$room/source/tools/npm-package" "$room/second"
+
+# installed
+in_folder() { (cd "$user" && "$@"); }
+holds "npm installs the package" in_folder npm install "$room/first/$name"
+package=$user/node_modules/nissy
+dead_links() { # of the pages of the package
+    (cd "$package" && grep -ohE '\]\([^)# ]+' ./*.md | cut -c 3- | sort -u) | while read -r page; do
+        [[ $page == http* || -e $package/$page ]] || echo "$page"
+    done
+}
+holds "each link of its pages leads to one of them" test -z "$(dead_links)"
+holds "it names no licence" refuses grep -q '"license"' "$package/package.json"
+
+# imported, and its types
+cp tests/npm/user.mjs "$user"
+answers "its exports" 0 "F2 U R'
+{ length: 2, solutions: 4, nodes: 75 }
+[ { moves: \"U' R\", length: 2 }, { moves: \"U' R'\", length: 2 } ]
+true
+ERR_PACKAGE_PATH_NOT_EXPORTED
+ERR_PACKAGE_PATH_NOT_EXPORTED\n" '' in_folder node user.mjs
+sed -e 's|"./node.js"|"nissy/node"|' -e 's|"./browser.js"|"nissy/worker"|' tests/page_model/types.ts > "$user/user.mts"
+echo 'import { Nissy } from "nissy"; export const wrong = (nissy: Nissy): string => nissy.invert(1);' > "$user/wrong.mts"
+strict=(tsc --strict --noEmit --target es2022 --module nodenext --moduleResolution nodenext)
+holds "tsc reads its types" in_folder "${strict[@]}" user.mts
+is_told() { ! said=$(in_folder "${strict[@]}" wrong.mts) && grep -q "'number' is not assignable to parameter of type 'Text'" <<< "$said"; }
+holds "tsc refuses a wrong call" is_told
+
+# its command
+nissy=$user/node_modules/.bin/nissy
+writes "F2 U R'\n" invert "R U' F2"
+writes 'length 2 solutions 4 nodes 75\n' count eofb 5 F B
+writes "L' D' F'\nL F' L'\n" scramble 42 54 3 2
+takes 'R2\n(U)' "R2\nU'\n" unniss
+stops "R (U)\n\nq" "R U'\n\n" '3, column 1: not a move' unniss
+stops 'F\nR\n' '' '1: eofb does not hold' count drud-eofb 3
+usage
+usage solve eofb 21 F
+by_npx() { { printf 'R\n' && sleep 1 && printf 'U\n'; } | in_folder npx --offline nissy invert; }
+answers "npx runs it, and a stream that doesn't wait is waited for" 0 "R'\nU'\n" '' by_npx
+# what README says is otherwise than in the program
+answers 'a word that is no text' 1 '' 'nissy: line 1, column 1: not a move\n' "$nissy" invert $'\xff'
+closed_output() { "$nissy" invert R >&-; }
+answers 'a closed output' 0 '' '' closed_output
+
+# a node that can't run it
+by_another() { NODE_OPTIONS="--require \"$room/another.cjs\"" "$nissy" invert R; }
+echo 'Object.defineProperty(process, "versions", { value: { node: "12.22.9" } });' > "$room/another.cjs"
+answers 'an old node' 3 '' 'nissy: this is node 12.22.9, and nissy needs node 18 or a later one\n' by_another
+holds "its oldest node is that of the package" grep -q '"node": ">=18"' "$package/package.json"
+holds "an old node can parse what says so" refuses grep -qE '=>|`|^(const|let|import|class) ' "$package/command.cjs"
+echo 'delete globalThis.WebAssembly;' > "$room/another.cjs"
+answers 'a node without WebAssembly' 3 '' 'nissy: this node runs no WebAssembly\n' by_another
+mv "$package/nissy.wasm" "$room/kept.wasm"
+without_module() { "$nissy" invert R 2>&1 | grep -cx "nissy: nissy.wasm can't be loaded: .*"; }
+answers 'a package without the module' 0 '1\n' '' without_module
+head -c 50000 "$room/kept.wasm" > "$package/nissy.wasm"
+answers 'a package whose module was cut' 0 '1\n' '' without_module
+mv "$room/kept.wasm" "$package/nissy.wasm"
+
+if missing python3; then skips "there is no python3 here, so nothing is compared with the model"; else
+    add python3 tests/npm/drawn.py "$nissy" 1
+fi
+
+holds "npm takes the package away" in_folder npm uninstall nissy
+holds "nothing of it is left" test -z "$(find "$user" -name '*nissy*')$(grep -rl nissy "$user/package.json" "$user/package-lock.json" "$user/node_modules")"
+ended

@@ -1,0 +1,99 @@
+// Calls by their names with what is wanted, and values of other types at each place of each call: for `Nissy`, and for what has the same
+// calls as promises.
+import { NissyFault } from "../../web/module/nissy.js";
+import { fingerprint, same, thrown } from "./tally.mjs";
+import { DETACHED, WRONG } from "./values.mjs";
+
+const SOLVED = "UUUUUUUUURRRRRRRRRFFFFFFFFFDDDDDDDDDLLLLLLLLLBBBBBBBBB";
+export const STEPS = "eofb eorl eoud drud-eofb drrl-eofb drud-eorl drfb-eorl drrl-eoud drfb-eoud eo dr-eofb dr-eorl dr-eoud".split(" ");
+export const F_OR_ITS_INVERSE = [{ moves: "F", length: 1 }, { moves: "F'", length: 1 }];
+
+// what a row shows, the call with what it is given, and what is wanted
+const ROWS = [
+  ["an inverse", ["invert", "R U' F2"], "F2 U R'"],
+  ["no moves", ["invert", ""], ""],
+  ["moves in brackets", ["unniss", "R (U)"], "R U'"],
+  ["moves that join", ["cleanup", "R R U U'"], "R2"],
+  ["the solved cube", ["facelets", ""], SOLVED],
+  ["bytes", ["invert", Uint8Array.of(0x52, 0xe2, 0x80, 0x99)], "R"],
+  ["a string is UTF-8", ["unniss", "U2\u2019 R"], "U2 R"],
+  ["solutions", ["solve", "eofb", "F"], F_OR_ITS_INVERSE],
+  ["a solution of no moves", ["solve", "eofb", ""], [{ moves: "", length: 0 }]],
+  ["none within the limit", ["solve", "eofb", "F", { limit: 0 }], []],
+  ["the first of them", ["solve", "eofb", "F", { most: 1 }], F_OR_ITS_INVERSE.slice(0, 1)],
+  ["as many as there are", ["solve", "eofb", "F", { most: 2 }], F_OR_ITS_INVERSE],
+  ["none asked for", ["solve", "eofb", "F", { most: 0 }], []],
+  ["a number of solutions that no search has", ["solve", "eofb", "F", { most: Number.MAX_SAFE_INTEGER }], F_OR_ITS_INVERSE],
+  ["no options", ["solve", "eofb", "F", {}], F_OR_ITS_INVERSE],
+  ["options that are left open", ["solve", "eofb", "F", { limit: undefined, slack: undefined, most: undefined }], F_OR_ITS_INVERSE],
+  ["a domino reduction", ["solve", "drud-eofb", "R U"], [{ moves: "U' R", length: 2 }, { moves: "U' R'", length: 2 }]],
+  ["a count", ["count", "eofb", "R U F"], { length: 1, solutions: 2, nodes: 20 }],
+  ["a count of a cube that is there", ["count", "eofb", ""], { length: 0, solutions: 1, nodes: 1 }],
+  ["a count of two reductions", ["count", "dr-eofb", "R U F2 L D R"], { length: 5, solutions: 2, nodes: 60 }],
+  ["the steps", ["steps"], STEPS],
+  ["a scramble of no turns", ["scramble", 1, 2, 0], ""],
+];
+
+// a call, and the fault that it throws: text, column, step and message
+const FAULTS = [
+  [["unniss", "R (U"], "bracket not closed", 3, null, "column 3: bracket not closed"],
+  [["invert", "R U)"], "bracket closed that was not opened", 4, null, "column 4: bracket closed that was not opened"],
+  [["cleanup", "(R (U))"], "bracket inside a bracket", 4, null, "column 4: bracket inside a bracket"],
+  [["facelets", "R q"], "not a move", 3, null, "column 3: not a move"],
+  [["invert", "U".repeat(257)], "more than 256 moves", 257, null, "column 257: more than 256 moves"],
+  [["invert", "R\nU"], "not a move", 2, null, "column 2: not a move"],
+  [["solve", "eofb", "R\nU"], "not a move", 2, null, "column 2: not a move"],
+  [["count", "eofb", "F q"], "not a move", 3, null, "column 3: not a move"],
+  [["count", "drud-eofb", "F"], "eofb does not hold", null, "eofb", "eofb does not hold"],
+  [["solve", "dr-eorl", "R"], "eorl does not hold", null, "eorl", "eorl does not hold"],
+];
+
+/** Rows, by `Nissy` or by what has the same calls as promises. */
+export async function tryRows(nissy) {
+  for (const [what, [call, ...given], wanted] of ROWS) same(what, await nissy[call](...given), wanted);
+  for (const [[call, ...given], ...wanted] of FAULTS) {
+    let fault = null;
+    try {
+      await nissy[call](...given);
+    } catch (stop) {
+      fault = stop;
+    }
+    const seen = [fault instanceof NissyFault, fault?.name, fault?.text, fault?.column, fault?.step, fault?.message];
+    same(`${call} ${given.join(", ").slice(0, 20)}`, seen, [true, "NissyFault", ...wanted]);
+  }
+}
+
+const NO_TEXT = "is neither a string nor a Uint8Array";
+const NO_WIDE = "is neither a number nor a bigint";
+const NO_OPTIONS = [["null", null], ["a number", 20], ["a text", "20"], ["a function", () => 1]];
+const WITHOUT = (...kinds) => WRONG.filter(([, value]) => !kinds.includes(typeof value));
+
+/** What each place of a call is called, how it is filled, and which values it doesn't take, with the words that refuse them. */
+const PLACES = [
+  ...["invert", "unniss", "cleanup", "facelets"].map((call) => [call, "the line", (value) => [value], WRONG, NO_TEXT]),
+  ...["solve", "count"].flatMap((call) => [
+    [call, "the line", (value) => ["eofb", value], WRONG, NO_TEXT],
+    [call, "the step", (value) => [value, "F"], [...WRONG, ["bytes", Uint8Array.of(0x65)]], "is no string"],
+    [call, "the options", (value) => ["eofb", "F", value], NO_OPTIONS, "are no object"],
+    [call, "the limit", (limit) => ["eofb", "F", { limit }], [...WITHOUT("number"), ["a text", "20"]], "is no number"],
+    [call, "the slack", (slack) => ["eofb", "F", { slack }], [...WITHOUT("number"), ["a text", "1"]], "is no number"],
+  ]),
+  ["solve", "the greatest number of solutions", (most) => ["eofb", "F", { most }], [...WITHOUT("number"), ["a text", "1"]], "is no number"],
+  ["scramble", "the state", (state) => [state, 1, 20], [...WITHOUT("number", "bigint"), ["a text", "1"], ["nothing", undefined]], NO_WIDE],
+  ["scramble", "the stream", (stream) => [1, stream, 20], [...WITHOUT("number", "bigint"), ["a text", "1"]], NO_WIDE],
+  ["scramble", "the length", (length) => [1, 1, length], [...WITHOUT("number"), ["a text", "20"], ["nothing", undefined]], "is no number"],
+];
+
+/** Each wrong value at each place of each call: it is refused by type, and no byte of the memory is another one after it. */
+export async function tryWrongValues(nissy, memory = undefined) {
+  await nissy.solve("eofb", "F");
+  const before = memory && fingerprint(memory);
+  for (const [call, place, filled, values, words] of PLACES) {
+    for (const [what, value] of values) {
+      const [kind, message] = await thrown(() => nissy[call](...filled(value)));
+      const wanted = what === DETACHED && place === "the line" ? message : `${place} ${words}`;
+      same(`${call}: ${what} as ${place}`, [kind, message], ["TypeError", wanted]);
+    }
+    if (memory) same(`${call}: the memory after wrong values as ${place}`, fingerprint(memory) === before, true);
+  }
+}

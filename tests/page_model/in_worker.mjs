@@ -1,0 +1,177 @@
+// The engine in a worker, in node: its calls, and calls that are given up.
+//
+//     node tests/page_model/in_worker.mjs MODULE
+//
+// The last line is `N passed, M failed`, and the status is 1 where M isn't 0.
+import { getEventListeners } from "node:events";
+import { performance } from "node:perf_hooks";
+import { NissyWorker, loadNissy } from "../../web/module/node.js";
+import { WorkerCalls } from "../../web/module/worker-calls.js";
+import { tryRows, tryWrongValues } from "./called.mjs";
+import { ended, moduleBytes, same, text, thrown } from "./tally.mjs";
+
+const LONG = ["count", "eo", "R U F2 L D R B", { slack: 14 }];
+// what a worker needs to start again, with the tables of a reduction, on a busy machine
+const SOON = 5_000;
+const CALLS = 2_000;
+
+const after = (milliseconds) => new Promise((done) => setTimeout(done, milliseconds));
+
+/** A long search, with these options beside its own. */
+const long = (worker, options) => worker[LONG[0]](LONG[1], LONG[2], { ...LONG[3], ...options });
+
+async function isRight(worker) {
+  const [inverse, [solution]] = [await worker.invert("R U' F2"), await worker.solve("drud-eofb", "R U", { most: 1 })];
+  return inverse === "F2 U R'" && solution.moves === "U' R" && solution.length === 2;
+}
+
+/** Searches that are given up while they run, at times from at once to well within them. */
+async function tryStopped(worker) {
+  for (const time of [0, 1, 3, 10, 30, 100, 300]) {
+    const stop = new AbortController();
+    const running = thrown(() => long(worker, { signal: stop.signal }));
+    const waiting = worker.invert("R U");
+    await after(time);
+    const begun = performance.now();
+    stop.abort();
+    const [name] = await running;
+    same(`a search stopped after ${time} ms`, name, "AbortError");
+    same(`a call that waited for it`, await waiting, "U' R'");
+    same(`a call after it`, await isRight(worker), true);
+    same("these soon", performance.now() - begun < SOON, true);
+    same("nothing listens to the signal any more", getEventListeners(stop.signal, "abort").length, 0);
+  }
+}
+
+/** Calls that are given up before they run, and reasons of the caller's own. */
+async function trySignals(worker) {
+  const reason = new RangeError("no more");
+  const before = await thrown(() => worker.invert("R", { signal: AbortSignal.abort(reason) }));
+  same("a signal that was given before", before, ["RangeError", "no more"]);
+  same("a signal of a time", (await thrown(() => long(worker, { signal: AbortSignal.timeout(20) })))[0], "TimeoutError");
+  const [first, second] = [new AbortController(), new AbortController()];
+  const running = thrown(() => long(worker, { signal: first.signal }));
+  const givenUp = thrown(() => worker.invert("R", { signal: second.signal }));
+  const kept = worker.invert("R U");
+  second.abort(reason);
+  same("a call given up while it waits", await givenUp, ["RangeError", "no more"]);
+  first.abort(reason);
+  same("the one that ran", await running, ["RangeError", "no more"]);
+  same("the one behind both", await kept, "U' R'");
+  second.abort();
+  const { signal } = new AbortController();
+  for (let at = 0; at < 20; at += 1) await worker.invert("R", { signal });
+  await thrown(() => worker.invert("q", { signal }));
+  same("nothing listens to a signal after the calls", getEventListeners(signal, "abort").length, 0);
+  for (const wrong of [null, 1, "stop", {}, { aborted: false }, new AbortController()]) {
+    const refused = await thrown(() => worker.invert("R", { signal: wrong }));
+    same(`no signal: ${String(wrong)}`, refused, ["TypeError", "the signal is no AbortSignal"]);
+  }
+}
+
+/** Calls given up all at once. */
+async function tryAllAtOnce(worker) {
+  for (const [how, isRunning] of [["drop", true], ["stop", false], ["end", false]]) {
+    const stop = new AbortController();
+    const running = thrown(() => long(worker, { signal: stop.signal }));
+    const waiting = [1, 2, 3].map(() => thrown(() => worker.invert("R")));
+    await after(20);
+    worker[how]();
+    for (const call of waiting) same(`${how}: a call that waits`, await call, ["AbortError", "stopped"]);
+    if (isRunning) stop.abort(new Error("by its signal"));
+    same(`${how}: the one that runs`, await running, isRunning ? ["Error", "by its signal"] : ["AbortError", "stopped"]);
+    same(`${how}: a call after it`, await isRight(worker), true);
+  }
+  worker.stop();
+  worker.drop();
+  same("where nothing runs, nothing is stopped", await isRight(worker), true);
+}
+
+/** Many calls, each answered by its own. */
+async function tryMany(worker) {
+  const turns = ["U", "R", "F", "D", "L", "B"];
+  const inverses = Array.from({ length: CALLS }, (_, at) => worker.invert(turns[at % 6]));
+  same("many calls at once", (await Promise.all(inverses)).every((line, at) => line === `${turns[at % 6]}'`), true);
+  const answer = await worker.run(["count", "eofb", "20"], "R U F\n");
+  same("a run", [answer.status, text(answer.out), text(answer.err), answer.full], [0, "length 1 solutions 2 nodes 20\n", "", false]);
+  const cut = await worker.run(["invert"], "R\n", { room: 2 });
+  same("a run in a room", [cut.status, text(cut.out), cut.full], [3, "R'", true]);
+  const counts = await worker.countAll("eofb", ["R U F", "", "F"]);
+  same("counts of many lines", counts.map(({ length, solutions }) => [length, solutions]), [[1, 2], [0, 1], [1, 2]]);
+  const found = await worker.solveAll("eofb", ["", "F"], { most: 1 });
+  same("solutions of many lines", found, [[{ moves: "", length: 0 }], [{ moves: "F", length: 1 }]]);
+  same("no lines", await worker.countAll("eofb", []), []);
+  const fault = await worker.countAll("eofb", ["F", "R q"]).catch((stop) => stop);
+  const seen = [fault.name, fault.line, fault.column, fault.message];
+  same("a fault in one of many lines", seen, ["NissyFault", 2, 3, "line 2, column 3: not a move"]);
+  same("lines that are no array", await thrown(() => worker.countAll("eofb", "F")), ["TypeError", "the lines are no array"]);
+}
+
+/** Workers that can't be started, or have another module. */
+async function tryUnstarted() {
+  const empty = Uint8Array.of(0, 0x61, 0x73, 0x6d, 1, 0, 0, 0);
+  same("another module", await thrown(() => NissyWorker.start(empty)), ["EngineMissing", "this is another module than nissy.wasm"]);
+  same("bytes that are no module", (await thrown(() => NissyWorker.start(moduleBytes.subarray(1))))[0], "CompileError");
+  same("no module beside the file", (await thrown(() => NissyWorker.start()))[0], "Error");
+  same("nor for the engine itself", (await thrown(() => loadNissy()))[0], "Error");
+}
+
+/** Workers that keep what they are sent, and answer as a trial says. */
+function puppets() {
+  const all = [];
+  const started = (took, failed) => {
+    const puppet = { sent: [], isEnded: false, took, failed, postMessage: (message) => puppet.sent.push(message) };
+    puppet.terminate = () => {
+      puppet.isEnded = true;
+    };
+    all.push(puppet);
+    return puppet;
+  };
+  return { all, started };
+}
+
+/** Workers that fail, and messages that come late or twice. */
+async function tryPuppets() {
+  const { all, started } = puppets();
+  const calls = new WorkerCalls(moduleBytes, started);
+  const inverse = (moves) => ({ status: 0, fault: 0, column: 0, out: moves });
+  same("no worker before a call", all.length, 0);
+  const [first, second] = [thrown(() => calls.invert("R")), thrown(() => calls.invert("U"))];
+  same("the module goes first, and one call after it", all[0].sent.map(Object.keys), [["module"], ["id", "request"]]);
+  all[0].failed("no script");
+  same("a worker that fails refuses the call", await first, ["EngineMissing", "no script"]);
+  same("and those that wait", await second, ["EngineMissing", "no script"]);
+  same("it is ended", all[0].isEnded, true);
+  const stop = new AbortController();
+  const third = thrown(() => calls.invert("F", { signal: stop.signal }));
+  const fourth = calls.invert("D");
+  stop.abort();
+  same("a call that ran is given up", (await third)[0], "AbortError");
+  same("its worker is ended, and another one has the next call", [all.length, all[1].isEnded, all[2].sent[1].request.line], [3, true, "D"]);
+  const { id } = all[2].sent[1];
+  all[1].took({ id, reply: inverse("too late") });
+  all[1].failed("too late");
+  all[2].took({ id: id - 1, reply: inverse("another") });
+  all[2].took({ id, reply: inverse("D'") });
+  all[2].took({ id, reply: inverse("twice") });
+  same("its own answer is taken alone", await fourth, "D'");
+  const fifth = thrown(() => calls.invert("L"));
+  all[2].took({ id: id + 1, error: { name: "RangeError", message: "no memory" } });
+  same("what it throws", await fifth, ["RangeError", "no memory"]);
+  const unstarted = new WorkerCalls(moduleBytes, () => {
+    throw new Error("no workers here");
+  });
+  same("no worker can be made", await thrown(() => unstarted.invert("R")), ["EngineMissing", "no workers here"]);
+}
+
+const worker = await NissyWorker.start(WebAssembly.compile(moduleBytes));
+await tryRows(worker);
+await tryWrongValues(worker);
+await tryMany(worker);
+await tryStopped(worker);
+await trySignals(worker);
+await tryAllAtOnce(worker);
+await tryUnstarted();
+await tryPuppets();
+// the process ends though the worker lives
+ended();

@@ -1,0 +1,186 @@
+// The module called as web/module/README.md says, without its scripts.
+//
+//     node tests/page_model/plain.mjs MODULE
+//
+// The last line is `N passed, M failed`, and the status is 1 where M isn't 0.
+import { ended, moduleBytes as module, same, text } from "./tally.mjs";
+
+const USAGE = "usage: nissy COMMAND [ARGUMENTS]\n";
+const OUT_OF_ROOM = "nissy: cannot write\n";
+const OUT_OF_MEMORY = "nissy: out of memory\n";
+const NO_BOUND = 2n ** 64n - 1n;
+const SMALL = 256;
+const LARGE = 2_621_440;
+const FILLED = 0x23;
+
+// The least room of a call, its words, its input, and its status in that room. A room of at most 4,160 bytes is given whole where a call
+// first asks for memory: a block of 2^k - 16 bytes, of which 48 are the arena's own, for a first word of at most 2^k - 64. Of a larger room
+// the arena takes whole pages of 4,096 bytes at once, less 16, and leaves 4,096 bytes and a few. A step takes the memory of its turns, moves
+// and distances, 149,504 bytes (36.5 pages) for an orientation on one axis, 301,056 (73.5) for one on any, 1,275,669 (311.4) for a domino
+// reduction, and 2,454,786 (599.3) for one of two; its words take less than half a page.
+const inPages = (pages, ...steps) => steps.map((step) => [pages * 4096 + 16, `count\0${step}\0` + "1\0", "\n", 0]);
+const LEAST_ROOMS = [
+  [512 - 16, "invert\0", "R\n", 0],
+  [512 - 16, `${"q".repeat(300)}\0`, "", 2],
+  [1024 - 16, `${"q".repeat(600)}\0`, "", 2],
+  [2048 - 16, `${"q".repeat(1500)}\0`, "", 2],
+  [4096 - 16, `${"q".repeat(3000)}\0`, "", 2],
+  ...inPages(37, "eofb", "eorl", "eoud"),
+  ...inPages(74, "eo"),
+  ...inPages(312, "drud-eofb", "drrl-eofb", "drud-eorl", "drfb-eorl", "drrl-eoud", "drfb-eoud"),
+  ...inPages(600, "dr-eofb", "dr-eorl", "dr-eoud"),
+];
+
+/** Runs: where each number of an answer stands, and what becomes of a room. */
+async function tryRuns() {
+  const { instance } = await WebAssembly.instantiate(module, {});
+  const { memory, nissy_run: run, __heap_base: heap } = instance.exports;
+  same("its memory has addresses of 32 bits", typeof memory.grow(64), "number");
+  const base = Math.ceil(Number(heap.value) / 16) * 16;
+  const [answerAt, roomAt, inputAt, outAt, errAt, wordsAt, lentAt] = [0, 64, 128, 192, 512, 1024, 8192].map((at) => base + at);
+  const call = (words, input, outRoom, errRoom, lent) => {
+    const bytes = new Uint8Array(memory.buffer);
+    bytes.fill(0x23, base, lentAt);
+    bytes.fill(0x23, lentAt + lent, lentAt + lent + 64);
+    bytes.set(new TextEncoder().encode(words), wordsAt);
+    bytes.set(new TextEncoder().encode(input), inputAt);
+    const view = new DataView(memory.buffer);
+    view.setBigUint64(roomAt, BigInt(lentAt), true);
+    view.setBigUint64(roomAt + 8, BigInt(lent), true);
+    run(...[answerAt, roomAt, wordsAt, words.length, inputAt, input.length, outAt, outRoom, errAt, errRoom].map(BigInt));
+    const number = (at) => Number(view.getBigUint64(at, true));
+    const is = (from, to) => bytes.subarray(from, to).every((byte) => byte === 0x23);
+    return {
+      status: bytes[answerAt],
+      out: text(bytes.slice(outAt, outAt + number(answerAt + 8))),
+      err: text(bytes.slice(errAt, errAt + number(answerAt + 16))),
+      small: [bytes[answerAt + 24], bytes[answerAt + 25]],
+      room: [number(roomAt) - lentAt, number(roomAt + 8)],
+      kept:
+        is(answerAt + 32, roomAt) && is(roomAt + 16, inputAt) && is(outAt + number(answerAt + 8), errAt) &&
+        is(errAt + number(answerAt + 16), wordsAt) && is(lentAt + lent, lentAt + lent + 64),
+    };
+  };
+  const lent = 3_145_728;
+  const rest = { room: [0, lent], kept: true };
+  same("an answer where all fits", call("invert\0", "R\n", 3, 0, lent), { status: 0, out: "R'\n", err: "", small: [0, 0], ...rest });
+  same("a byte of room too few", call("invert\0", "R\n", 2, 20, lent), { status: 3, out: "R'", err: OUT_OF_ROOM, small: [1, 0], ...rest });
+  const cut = { status: 2, out: "", err: USAGE.slice(0, 32) };
+  same("a byte of error room too few", call("nosuch\0", "", 0, 32, lent), { ...cut, small: [0, 1], ...rest });
+  same("error room to the byte", call("nosuch\0", "", 0, 33, lent), { status: 2, out: "", err: USAGE, small: [0, 0], ...rest });
+  same("no room for either", call("invert\0", "R\n", 0, 0, lent), { status: 3, out: "", err: "", small: [1, 1], ...rest });
+  for (const size of [0, 16, 32, 256, 480, 496, 512, 1024, 4096, 4160, 4176, 8192, 65536]) {
+    const { status, room, kept } = call("solve\0eofb\0" + "7\0F", "", 256, 128, size);
+    same(`a room of ${size} bytes comes back`, [room, kept, status === 0 || status === 3], [[0, size], true, true]);
+  }
+  for (const [least, words, input, status] of LEAST_ROOMS) {
+    const what = JSON.stringify(words.slice(0, 24));
+    const wanted = { status, err: status === 2 ? USAGE : "", room: [0, least], kept: true };
+    const short = { status: 3, err: OUT_OF_MEMORY, room: [0, least - 16], kept: true };
+    const seen = ({ status, err, room, kept }) => ({ status, err, room, kept });
+    same(`${what} in a room of ${least} bytes`, seen(call(words, input, 256, 128, least)), wanted);
+    same(`${what} in 16 bytes fewer`, seen(call(words, input, 256, 128, least - 16)), short);
+  }
+}
+
+/** An instance with places for what calls read and write, each filled with one byte before a call. */
+async function placed() {
+  const { instance } = await WebAssembly.instantiate(module, {});
+  const { exports } = instance;
+  const base = Math.ceil(Number(exports.__heap_base.value) / 16) * 16;
+  exports.memory.grow(Math.ceil((3 * LARGE) / 65_536));
+  const bytes = new Uint8Array(exports.memory.buffer);
+  const view = new DataView(exports.memory.buffer);
+  const number = (at) => Number(view.getBigUint64(at, true));
+  return { exports, base, bytes, view, number };
+}
+
+/** Builds tables in rooms of these sizes, and returns the status and what became of the rooms and the struct. */
+function built({ exports, base, bytes, view, number }, tables, name, blocks, small = SMALL, large = LARGE) {
+  const [rooms, nameAt] = [base, base + 64];
+  bytes.set(new TextEncoder().encode(name), nameAt);
+  [blocks, small, blocks + SMALL, large].forEach((each, at) => view.setBigUint64(rooms + 8 * at, BigInt(each), true));
+  const status = exports.nissy_build(...[rooms, rooms + 16, tables, nameAt, name.length].map(BigInt));
+  return { status, rooms: [number(rooms + 8), number(rooms + 24)], isBuilt: bytes[tables + 8] === 1 };
+}
+
+/** The calls by tables: where each number of an answer stands, and each status. */
+async function trySearches() {
+  const place = await placed();
+  const { exports, base, bytes, view, number } = place;
+  const [answer, tables, other, line, out, blocks] = [256, 320, 336, 512, 1024, 4096].map((at) => base + at);
+  const put = (moves) => {
+    bytes.set(new TextEncoder().encode(moves), line);
+    return BigInt(moves.length);
+  };
+  const whole = (from, to) => bytes.subarray(from, to).every((byte) => byte === FILLED);
+  const solve = (struct, moves, limit, slack, most, room) => {
+    bytes.fill(FILLED, answer, answer + 48);
+    bytes.fill(FILLED, out, out + 1024);
+    exports.nissy_solve(BigInt(answer), BigInt(struct), BigInt(line), put(moves), limit, slack, most, BigInt(out), BigInt(room));
+    const [status, fault, least, more] = bytes.subarray(answer, answer + 4);
+    const written = text(bytes.slice(out, out + number(answer + 8)));
+    const isKept = whole(answer + 32, answer + 48) && whole(out + number(answer + 8), out + 1024);
+    return [status, fault, least, more, view.getUint32(answer + 4, true), written, number(answer + 16), isKept];
+  };
+  const count = (struct, moves, limit, slack) => {
+    exports.nissy_count(BigInt(answer), BigInt(struct), BigInt(line), put(moves), limit, slack);
+    const [status, fault, least] = bytes.subarray(answer, answer + 3);
+    return [status, fault, least, view.getUint32(answer + 4, true), number(answer + 8), number(answer + 16)];
+  };
+  bytes.fill(0, tables, tables + 32);
+  same("a search without tables", solve(tables, "F", 20, 0, NO_BOUND, 1024), [2, 0, 0, 0, 0, "", 0, true]);
+  same("a count without tables", count(tables, "F", 20, 0), [2, 0, 0, 0, 0, 0]);
+  same("tables of no step", built(place, tables, "eox", blocks), { status: 2, rooms: [SMALL, LARGE], isBuilt: false });
+  same("tables in a small room", built(place, tables, "eofb", blocks, SMALL, 4096), { status: 3, rooms: [0, 0], isBuilt: false });
+  const beyond = blocks + SMALL + 4096;
+  same("tables", built(place, tables, "eofb", beyond), { status: 0, rooms: [0, 0], isBuilt: true });
+  same("tables of another step", built(place, other, "drud-eofb", beyond + SMALL + LARGE), { status: 0, rooms: [0, 0], isBuilt: true });
+  same("a search", solve(tables, "F", 20, 0, NO_BOUND, 1024), [0, 0, 1, 0, 0, "F (1)\nF' (1)\n", 2, true]);
+  same("one of two", solve(tables, "F", 20, 0, 1n, 1024), [0, 0, 1, 1, 0, "F (1)\n", 1, true]);
+  same("both of two", solve(tables, "F", 20, 0, 2n, 1024), [0, 0, 1, 0, 0, "F (1)\nF' (1)\n", 2, true]);
+  same("none within the limit", solve(tables, "F", 0, 0, NO_BOUND, 1024), [0, 0, 0, 0, 0, "", 0, true]);
+  same("room to the byte", solve(tables, "F", 20, 0, NO_BOUND, 13).slice(0, 1), [0]);
+  same("a byte of room too few", solve(tables, "F", 20, 0, NO_BOUND, 12).slice(0, 1), [4]);
+  same("a fault", solve(tables, "F q", 20, 0, NO_BOUND, 1024), [1, 1, 0, 0, 3, "", 0, true]);
+  same("a step that can't begin", solve(other, "F", 20, 0, NO_BOUND, 1024), [1, 6, 0, 0, 0, "", 0, true]);
+  same("a limit beyond the greatest", solve(tables, "F", 21, 0, NO_BOUND, 1024)[0], 2);
+  same("a slack beyond the greatest", solve(tables, "F", 20, 21, NO_BOUND, 1024)[0], 2);
+  same("a count", count(tables, "R U F", 20, 0), [0, 0, 1, 0, 2, 20]);
+  same("a count of a fault", count(tables, "R)", 20, 0), [1, 3, 0, 2, 0, 0]);
+  bytes.copyWithin(base + 400, tables, tables + 16);
+  same("a copy of the struct", count(base + 400, "R U F", 20, 0), [0, 0, 1, 0, 2, 20]);
+}
+
+/** The calls that write a line: status, fault, column, text, and that nothing else is written. */
+async function tryLines() {
+  const { exports, base, bytes, view, number } = await placed();
+  const [answer, line, out] = [256, 512, 1024].map((at) => base + at);
+  const call = (name, moves, numbers, room) => {
+    bytes.fill(FILLED, answer, answer + 32);
+    bytes.fill(FILLED, out, out + 3000);
+    if (moves !== null) bytes.set(new TextEncoder().encode(moves), line);
+    const read = moves === null ? [] : [BigInt(line), BigInt(moves.length)];
+    exports[`nissy_${name}`](BigInt(answer), ...numbers, ...read, BigInt(out), BigInt(room));
+    const status = view.getUint16(answer, true);
+    const written = status === 0 ? number(answer + 8) : 0;
+    const beside = [...bytes.subarray(answer + 16, answer + 32), ...bytes.subarray(out + written, out + 3000)];
+    const isKept = beside.every((byte) => byte === FILLED);
+    return [status, view.getUint16(answer + 2, true), view.getUint32(answer + 4, true), text(bytes.slice(out, out + written)), isKept];
+  };
+  same("an inverse", call("invert", "R U", [], 2048), [0, 0, 0, "U' R'", true]);
+  same("an inverse in room to the byte", call("invert", "R U", [], 5), [0, 0, 0, "U' R'", true]);
+  same("an inverse in a byte less", call("invert", "R U", [], 4), [4, 0, 0, "", true]);
+  same("a line feed", call("unniss", "R\nU", [], 2048), [1, 1, 2, "", true]);
+  same("a scramble of too many turns", call("scramble", null, [1n, 1n, 257], 2048).slice(0, 1), [2]);
+  same("what must hold before a reduction", call("start", "drud-eofb", [], 2048), [0, 0, 0, "eofb", true]);
+  same("before an orientation", call("start", "eofb", [], 2048), [0, 0, 0, "", true]);
+  same("before no step", call("start", "eox", [], 2048).slice(0, 1), [2]);
+  same("a fault's name", call("fault_text", null, [4], 2048), [0, 0, 0, "bracket not closed", true]);
+  same("no fault's name", [0, 7, 255].map((fault) => call("fault_text", null, [fault], 2048)[0]), [2, 2, 2]);
+}
+
+await tryRuns();
+await trySearches();
+await tryLines();
+ended();

@@ -1,0 +1,53 @@
+// A caller in TypeScript, who is told of what is wrong: tests/page_model.sh has tsc read this beside the types of the module.
+import { loadNissy, Nissy, NissyFault, NissyWorker, type Count, type Solution } from "./node.js";
+import { NissyWorker as NissyWorkerOfBrowsers } from "./browser.js";
+
+export async function calls(bytes: Uint8Array, compiled: WebAssembly.Module, request: Promise<Response>): Promise<string> {
+  const nissy: Nissy = await Nissy.load(request);
+  await Nissy.load(bytes);
+  await Nissy.load(compiled);
+  await loadNissy();
+  const inverse: string = nissy.invert("R U' F2") + nissy.unniss(bytes) + nissy.cleanup("R") + nissy.facelets("");
+  const solutions: Solution[] = nissy.solve("eofb", "R U F", { limit: 9, slack: 1, most: 10 });
+  const moves: string[] = solutions.map((solution) => solution.moves);
+  const count: Count = nissy.count("eofb", "R U F", { limit: 9 });
+  const length: number | null = count.length;
+  const many: number[] = nissy.countAll("eofb", ["R", bytes]).map(({ nodes }) => nodes);
+  const scramble: string = nissy.scramble(1n, 2, 25);
+  const status: number = nissy.run(["steps"], "", 1_000).status;
+  return [inverse, moves, length, many, scramble, status, nissy.steps()].flat().join(" ");
+}
+
+export async function callsInWorker(bytes: Uint8Array, signal: AbortSignal): Promise<number[]> {
+  const workers = [await NissyWorker.start(bytes), await NissyWorkerOfBrowsers.start(bytes)];
+  const [worker] = workers;
+  const solutions: Solution[] = await worker.solve("eofb", "R U F", { slack: 1, signal });
+  const all: Solution[][] = await worker.solveAll("eofb", ["R U F"], { most: 1, signal });
+  worker.stop();
+  worker.drop();
+  worker.end();
+  return [...solutions, ...all.flat()].map(({ length }) => length);
+}
+
+export function place(fault: unknown): number | null {
+  return fault instanceof NissyFault ? fault.column : null;
+}
+
+export function wrong(nissy: Nissy, worker: NissyWorker): void {
+  // @ts-expect-error a number is no line
+  nissy.invert(1);
+  // @ts-expect-error nor is an object with a length
+  nissy.run(["unniss"], { length: 3 });
+  // @ts-expect-error a step is named by a string
+  nissy.solve(1, "R");
+  // @ts-expect-error a limit is a number
+  nissy.solve("eofb", "R", { limit: "9" });
+  // @ts-expect-error there is no such option
+  nissy.count("eofb", "R", { most: 1 });
+  // @ts-expect-error a length may be null
+  nissy.count("eofb", "R").length.toFixed();
+  // @ts-expect-error a promise is no string
+  worker.invert("R").length;
+  // @ts-expect-error a browser's worker has no module beside it
+  void NissyWorkerOfBrowsers.start();
+}

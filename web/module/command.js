@@ -1,0 +1,200 @@
+// The command `nissy` in node: what the program does with its words, its streams and its status, by the module.
+import { readFileSync } from "node:fs";
+import process from "node:process";
+import { textIn } from "./bytes.js";
+import { Engine } from "./engine.js";
+import { NoWebAssembly } from "./faults.js";
+import { InputLines, split } from "./input-lines.js";
+import { linesOf, STATUS } from "./replies.js";
+import { countRequest, runRequest, solveRequest, stepsRequest } from "./requests.js";
+import { Stop } from "./stop.js";
+import { readSome, writeAll } from "./streams.js";
+
+/** @typedef {import("./input-lines.js").Answering} Answering */
+/** @typedef {import("./replies.js").CountReply} CountReply */
+/** @typedef {import("./replies.js").LineReply} LineReply */
+/** @typedef {import("./replies.js").Answer} Answer */
+
+/**
+ * A search that is asked for each line.
+ * @typedef {{command: "solve" | "count" | "near", step: string, limit: number, slack: number}} Search
+ */
+
+const INPUT = 0;
+const OUTPUT = 1;
+const ERRORS = 2;
+
+const REWRITINGS = ["invert", "unniss", "cleanup", "print"];
+
+/** How many numbers follow the step. */
+const SEARCHES = { solve: 1, count: 1, near: 2 };
+const MOST_TURNS = 20;
+
+/** The rooms for the output of a run, one after the other: what an earlier one had no room for is found again. */
+const ROOMS = [262_144, 4 * 1_048_576, 64 * 1_048_576, 512 * 1_048_576];
+
+/** So many solutions of a line are asked of the tables that stay. If there are more, a run writes them as they come. */
+const MOST_AT_ONCE = 60_000;
+
+const encoder = new TextEncoder();
+
+/** @param {Uint8Array} bytes */
+function write(bytes) {
+  try {
+    writeAll(OUTPUT, bytes);
+  } catch {
+    throw Stop.cannotWrite();
+  }
+}
+
+/** @param {Uint8Array} buffer */
+function read(buffer) {
+  try {
+    return readSome(INPUT, buffer);
+  } catch {
+    throw Stop.cannotRead();
+  }
+}
+
+/**
+ * Makes a run, and writes its output.
+ * @param {Engine} engine
+ * @param {(string | Uint8Array)[]} words
+ * @param {Uint8Array} input
+ * @param {number} [first] the number of the input's first line
+ */
+function run(engine, words, input, first = 1) {
+  let written = 0;
+  for (const room of ROOMS) {
+    const { status, out, err, full } = /** @type {Answer} */ (engine.answer(runRequest(words, input, room)));
+    write(out.subarray(written));
+    written = out.length;
+    if (full) continue;
+    if (status !== STATUS.done) throw new Stop(status, textIn(err)).after(first - 1);
+    return;
+  }
+  throw Stop.outOfMemory();
+}
+
+/**
+ * @param {Search} search
+ * @param {Uint8Array} line
+ */
+function requestOf({ command, step, limit, slack }, line) {
+  return command === "count" ? countRequest(step, line, { limit }) : solveRequest(step, line, { limit, slack, most: MOST_AT_ONCE });
+}
+
+/**
+ * The answer to a line as the program writes it, or nothing if there are more solutions than were asked for.
+ * @param {Search} search
+ * @param {LineReply | CountReply} reply
+ * @returns {string | undefined}
+ */
+function answerOf({ limit }, reply) {
+  if ("looks" in reply) {
+    const { least, solutions, looks } = reply;
+    return `length ${solutions === 0 ? "none" : least} solutions ${solutions} nodes ${looks}\n`;
+  }
+  const { out } = reply;
+  if (out === "") return `no solution within ${limit} moves\n\n`;
+  // a solution has four bytes at least
+  const mayBeAll = out.length >= 4 * MOST_AT_ONCE && out.split("\n").length > MOST_AT_ONCE;
+  return mayBeAll ? undefined : `${out}\n`;
+}
+
+/**
+ * Answers a line of a search by the tables that stay.
+ * @param {Engine} engine
+ * @param {string[]} words
+ * @param {Search} search
+ * @param {Uint8Array} line
+ * @param {number} number
+ */
+function answerSearch(engine, words, search, line, number) {
+  const reply = /** @type {LineReply | CountReply} */ (engine.answer(requestOf(search, line)));
+  if (reply.status === STATUS.fault) throw Stop.ofLine(number, reply);
+  if (reply.status !== STATUS.done) throw Stop.outOfMemory();
+  const answer = answerOf(search, reply);
+  if (answer === undefined) run(engine, [...words, line], new Uint8Array(0));
+  else write(encoder.encode(answer));
+}
+
+/**
+ * The search over lines of the input that these words ask for, if they do.
+ * @param {Engine} engine
+ * @param {string[]} words
+ * @returns {Search | undefined}
+ */
+function searchOf(engine, [command, step, ...numbers]) {
+  if (command !== "solve" && command !== "count" && command !== "near") return undefined;
+  const steps = linesOf(/** @type {LineReply} */ (engine.answer(stepsRequest())));
+  const areNumbers = numbers.every((word) => /^[0-9]+$/.test(word) && Number(word) <= MOST_TURNS);
+  if (numbers.length !== SEARCHES[command] || !areNumbers || !steps.includes(step)) return undefined;
+  const [limit, slack = 0] = numbers.map(Number);
+  return { command, step, limit, slack };
+}
+
+/**
+ * What answers the lines of standard input, if these words read it.
+ * @param {Engine} engine
+ * @param {string[]} words
+ * @returns {Answering | undefined}
+ */
+function answering(engine, words) {
+  if (words.length === 1 && REWRITINGS.includes(words[0])) return (lines, first) => run(engine, words, lines, first);
+  const search = searchOf(engine, words);
+  if (search === undefined) return undefined;
+  // the tables are built before anything is read
+  engine.answer(countRequest(search.step, "", { limit: 0 }));
+  return (lines, first) => {
+    let number = first;
+    for (const line of split(lines)) {
+      answerSearch(engine, words, search, line, number);
+      number += 1;
+    }
+  };
+}
+
+/**
+ * Does what the words say.
+ * @param {Engine} engine
+ * @param {string[]} words
+ */
+function obey(engine, words) {
+  const answer = answering(engine, words);
+  if (answer === undefined) {
+    run(engine, words, new Uint8Array(0));
+    return;
+  }
+  new InputLines(read).answer(answer);
+}
+
+/** @returns {Promise<Engine>} */
+async function started() {
+  try {
+    return await Engine.start(readFileSync(new URL("./nissy.wasm", import.meta.url)));
+  } catch (error) {
+    const why = error instanceof NoWebAssembly ? "this node runs no WebAssembly" : `nissy.wasm can't be loaded: ${/** @type {Error} */ (error).message}`;
+    throw new Stop(STATUS.stopped, `nissy: ${why}\n`);
+  }
+}
+
+/** @returns {Promise<number>} the status */
+async function main() {
+  try {
+    obey(await started(), process.argv.slice(2));
+    return STATUS.done;
+  } catch (error) {
+    // what the host has no memory for
+    const stop = error instanceof RangeError ? Stop.outOfMemory() : error;
+    if (!(stop instanceof Stop)) throw error;
+    try {
+      writeAll(ERRORS, encoder.encode(stop.text));
+    } catch {
+      // nobody reads it
+    }
+    return stop.status;
+  }
+}
+
+process.exitCode = await main();

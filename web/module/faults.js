@@ -1,0 +1,56 @@
+// What calls throw beside a `TypeError` for a value of another type and a `RangeError` for one out of its range.
+
+/** A line at fault, in the program's words, or a cube at which a step can't begin. */
+export class NissyFault extends Error {
+  /**
+   * @param {string} text what is wrong
+   * @param {number | null} column where, in bytes of UTF-8 from 1; null if it isn't at one place
+   * @param {string | null} step what should hold before a step, and doesn't
+   * @param {number | null} line of many, from 1; null if there was one
+   */
+  constructor(text, column, step = null, line = null) {
+    const places = [line === null ? [] : `line ${line}`, column === null ? [] : `column ${column}`].flat();
+    super(places.length === 0 ? text : `${places.join(", ")}: ${text}`);
+    this.name = "NissyFault";
+    this.text = text;
+    this.column = column;
+    this.step = step;
+    this.line = line;
+  }
+
+  /**
+   * The same in a line of many.
+   * @param {number} line from 1
+   */
+  inLine(line) {
+    return new NissyFault(this.text, this.column, this.step, line);
+  }
+}
+
+/** This host runs no module at all. */
+export class NoWebAssembly extends Error {
+  constructor() {
+    super(
+      "This browser runs no WebAssembly. Each one of the last years does, but not where it was switched off, as in Safari's Lockdown Mode.",
+    );
+    this.name = "NoWebAssembly";
+  }
+}
+
+/** The engine broke off or couldn't be started, and can't be started again. */
+export class EngineMissing extends Error {
+  /** @param {string} message @param {unknown} [cause] */
+  constructor(message, cause) {
+    super(message);
+    this.name = "EngineMissing";
+    this.cause = cause;
+  }
+}
+
+/** A call that was given up. */
+export class Stopped extends Error {
+  constructor() {
+    super("stopped");
+    this.name = "AbortError";
+  }
+}

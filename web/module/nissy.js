@@ -1,0 +1,153 @@
+/**
+ * nissy in a page, or wherever JavaScript runs: moves and searches of the 3x3x3 cube, by the proved engine as WebAssembly.
+ *
+ *     import { Nissy } from "./nissy.js";
+ *     const nissy = await Nissy.load(fetch("nissy.wasm"));
+ *     nissy.solve("eofb", "R U F"); // [{ moves: "F", length: 1 }, { moves: "F'", length: 1 }]
+ *
+ * A call ends before it returns: a long search belongs into a worker, as `NissyWorker` of browser.js and of node.js has one.
+ */
+import { Engine } from "./engine.js";
+import { NoWebAssembly } from "./faults.js";
+import { allOf, countIn, linesIn, solutionsIn, lineIn } from "./replies.js";
+import { allRequest, countRequest, lineRequest, runRequest, scrambleRequest, solveRequest, stepsRequest } from "./requests.js";
+
+export { EngineMissing, NissyFault, NoWebAssembly, Stopped } from "./faults.js";
+
+/** @typedef {import("./bytes.js").Text} Text */
+/** @typedef {import("./source.js").ModuleSource} ModuleSource */
+/** @typedef {import("./replies.js").Answer} Answer */
+/** @typedef {import("./replies.js").Count} Count */
+/** @typedef {import("./replies.js").Solution} Solution */
+/** @typedef {import("./requests.js").Request} Request */
+/** @typedef {import("./requests.js").Wanted} Wanted */
+/** @typedef {import("./requests.js").Within} Within */
+
+/** What it was called while the module needed 64-bit memories. @deprecated */
+export const NoWideMemory = NoWebAssembly;
+
+/**
+ * The engine, loaded. The tables of a step are built where it is asked for the first time, and stay in the module's memory.
+ *
+ * Each call throws a `TypeError` if it is given something of another type, and a `RangeError` for a number out of its range, a step that
+ * isn't there, or if the host has no memory for the call. A call that reads a line throws `NissyFault` if it can't be read. After a call
+ * that broke off the next one starts the module anew, or throws `EngineMissing` if that can't be done.
+ */
+export class Nissy {
+  /** @type {Engine} */ #engine;
+
+  /** @param {Engine} engine */
+  constructor(engine) {
+    this.#engine = engine;
+  }
+
+  /**
+   * Loads the module `nissy.wasm`. Rejects with `NoWebAssembly` if the host runs none.
+   * @param {ModuleSource | Promise<ModuleSource>} source
+   * @returns {Promise<Nissy>}
+   */
+  static async load(source) {
+    return new Nissy(await Engine.start(source));
+  }
+
+  /**
+   * The inverse of a line's moves.
+   * @param {Text} line
+   * @returns {string}
+   */
+  invert(line) {
+    return lineIn(this.#answer(lineRequest("invert", line)));
+  }
+
+  /**
+   * A line's moves as one sequence: those in brackets inverted at the end.
+   * @param {Text} line
+   * @returns {string}
+   */
+  unniss(line) {
+    return lineIn(this.#answer(lineRequest("unniss", line)));
+  }
+
+  /**
+   * A line's moves without wide turns, slices and neighbours that join.
+   * @param {Text} line
+   * @returns {string}
+   */
+  cleanup(line) {
+    return lineIn(this.#answer(lineRequest("cleanup", line)));
+  }
+
+  /**
+   * The 54 letters of the cube after a line's moves, as the program's `print` shows them.
+   * @param {Text} line
+   * @returns {string}
+   */
+  facelets(line) {
+    return lineIn(this.#answer(lineRequest("facelets", line)));
+  }
+
+  /**
+   * The solutions of a step after a line's moves, by length and then in turn order.
+   * @param {string} step @param {Text} line @param {Wanted} [options] @returns {Solution[]}
+   */
+  solve(step, line, options) {
+    return solutionsIn(this.#answer(solveRequest(step, line, options)));
+  }
+
+  /**
+   * The same of many lines. A fault says in which.
+   * @param {string} step @param {Text[]} lines @param {Wanted} [options] @returns {Solution[][]}
+   */
+  solveAll(step, lines, options) {
+    return allOf(this.#answer(allRequest(lines, (line) => solveRequest(step, line, options))), solutionsIn);
+  }
+
+  /**
+   * How many solutions there are.
+   * @param {string} step @param {Text} line @param {Within} [options] @returns {Count}
+   */
+  count(step, line, options) {
+    return countIn(this.#answer(countRequest(step, line, options)));
+  }
+
+  /**
+   * The same of many lines. A fault says in which.
+   * @param {string} step @param {Text[]} lines @param {Within} [options] @returns {Count[]}
+   */
+  countAll(step, lines, options) {
+    return allOf(this.#answer(allRequest(lines, (line) => countRequest(step, line, options))), countIn);
+  }
+
+  /**
+   * The names of the steps.
+   * @returns {string[]}
+   */
+  steps() {
+    return linesIn(this.#answer(stepsRequest()));
+  }
+
+  /**
+   * Random moves from a seed, as the program's `scramble` draws its first line: `length` turns, 256 at most.
+   * @param {number | bigint} state @param {number | bigint} stream @param {number} length @returns {string}
+   */
+  scramble(state, stream, length) {
+    return lineIn(this.#answer(scrambleRequest(state, stream, length)));
+  }
+
+  /**
+   * Does what the program does with these words after its name, and `input` as its standard input. What the program reports is in the
+   * answer. A word with a zero byte throws a `RangeError`.
+   * @param {Text[]} words the words of a command
+   * @param {Text} [input] what the program reads if its words don't give it
+   * @param {number} [room] if it is given, the output has room for so many bytes, and the run is made once
+   * @returns {Answer}
+   */
+  run(words, input, room) {
+    return this.#answer(runRequest(words, input, room));
+  }
+
+  /** @param {Request} request @returns {any} the reply of the request's kind */
+  #answer(request) {
+    return this.#engine.answer(request);
+  }
+}

@@ -1,0 +1,98 @@
+// What is asked of the engine, in plain values that a worker can be sent, each checked where it comes from a caller.
+import { bytesOf, joinedWords, stringOf, takenLine, wholeNumber, wideNumber } from "./bytes.js";
+
+/** @typedef {import("./bytes.js").Text} Text */
+/** @typedef {"invert" | "unniss" | "cleanup" | "facelets"} Rewriting what is made of a line */
+/** @typedef {{call: "run", words: Uint8Array, input: Uint8Array, room: number | undefined}} RunRequest */
+/** @typedef {{call: Rewriting, line: Text}} LineRequest */
+/** @typedef {{call: "count", step: string, line: Text, limit: number, slack: number}} CountRequest */
+/** @typedef {{call: "solve", step: string, line: Text, limit: number, slack: number, most: number}} SolveRequest */
+/** @typedef {{call: "scramble", state: bigint, stream: bigint, length: number}} ScrambleRequest */
+/** @typedef {{call: "steps"}} StepsRequest */
+/** @typedef {RunRequest | LineRequest | CountRequest | SolveRequest | ScrambleRequest | StepsRequest} OneRequest */
+/** @typedef {{call: "all", requests: OneRequest[]}} AllRequest the same of many lines */
+/** @typedef {OneRequest | AllRequest} Request */
+
+/**
+ * How far a step is searched: `limit`, the most turns of a solution, 20 at most and if it isn't given; `slack`, how many turns more than
+ * the shortest a solution may have, none if it isn't given.
+ * @typedef {{limit?: number, slack?: number}} Within
+ */
+
+/**
+ * How far, and `most`, after how many solutions the search ends: all are found if it isn't given.
+ * @typedef {Within & {most?: number}} Wanted
+ */
+
+/** The most turns of a search. */
+const MOST_TURNS = 20;
+
+/** The most turns of a scramble. */
+const MOST_SCRAMBLED = 256;
+
+/** @param {unknown} words @param {unknown} [input] @param {unknown} [room] @returns {RunRequest} */
+export function runRequest(words, input = "", room = undefined) {
+  const [listed, given] = [joinedWords(words), bytesOf(input, "the input")];
+  // the module would take a negative one as 2^64 less so much, and write behind the memory
+  const size = room === undefined ? room : wholeNumber(room, "the room", Number.MAX_SAFE_INTEGER);
+  return { call: "run", words: listed, input: given, room: size };
+}
+
+/** @param {Rewriting} call @param {unknown} line @returns {LineRequest} */
+export const lineRequest = (call, line) => ({ call, line: takenLine(line) });
+
+/**
+ * @param {unknown} options
+ * @returns {{[name: string]: unknown}}
+ */
+function optionsOf(options) {
+  if (typeof options !== "object" || options === null) throw new TypeError("the options are no object");
+  return /** @type {any} */ (options);
+}
+
+/** @param {unknown} step @param {unknown} line @param {unknown} [options] @returns {CountRequest} */
+export function countRequest(step, line, options = {}) {
+  const { limit = MOST_TURNS, slack = 0 } = optionsOf(options);
+  return {
+    call: "count",
+    step: stringOf(step, "the step"),
+    line: takenLine(line),
+    limit: wholeNumber(limit, "the limit", MOST_TURNS),
+    slack: wholeNumber(slack, "the slack", MOST_TURNS),
+  };
+}
+
+/** @param {unknown} step @param {unknown} line @param {unknown} [options] @returns {SolveRequest} */
+export function solveRequest(step, line, options = {}) {
+  const { most = Infinity } = optionsOf(options);
+  const counted = countRequest(step, line, options);
+  return {
+    call: "solve",
+    step: counted.step,
+    line: counted.line,
+    limit: counted.limit,
+    slack: counted.slack,
+    most: most === Infinity ? most : wholeNumber(most, "the greatest number of solutions", Number.MAX_SAFE_INTEGER),
+  };
+}
+
+/**
+ * @param {unknown} lines
+ * @param {(line: unknown) => OneRequest} one
+ * @returns {AllRequest}
+ */
+export function allRequest(lines, one) {
+  if (!Array.isArray(lines)) throw new TypeError("the lines are no array");
+  return { call: "all", requests: Array.from(lines, one) };
+}
+
+/** @param {unknown} state @param {unknown} stream @param {unknown} length @returns {ScrambleRequest} */
+export const scrambleRequest = (state, stream, length) => ({
+  call: "scramble",
+  state: wideNumber(state, "the state"),
+  stream: wideNumber(stream, "the stream"),
+  length: wholeNumber(length, "the length", MOST_SCRAMBLED),
+});
+
+/** @returns {StepsRequest} */
+export const stepsRequest = () => ({ call: "steps" });

@@ -1,0 +1,53 @@
+// What ends the command before its time: a status, and what is said of it.
+import { STATUS } from "./replies.js";
+
+/** @typedef {import("./replies.js").Outcome} Outcome */
+
+/** The most bytes of input. */
+export const MOST_BYTES = 16_777_216;
+
+export class Stop extends Error {
+  /**
+   * @param {number} status
+   * @param {string} text the line on standard error
+   */
+  constructor(status, text) {
+    super(text);
+    this.status = status;
+    this.text = text;
+  }
+
+  static cannotRead() {
+    return new Stop(STATUS.stopped, "nissy: cannot read\n");
+  }
+
+  static cannotWrite() {
+    return new Stop(STATUS.stopped, "nissy: cannot write\n");
+  }
+
+  static outOfMemory() {
+    return new Stop(STATUS.stopped, "nissy: out of memory\n");
+  }
+
+  static tooLong() {
+    return new Stop(STATUS.stopped, `nissy: input longer than ${MOST_BYTES} bytes\n`);
+  }
+
+  /**
+   * A fault of a line.
+   * @param {number} number the line's
+   * @param {Outcome} outcome
+   */
+  static ofLine(number, { column, text, state }) {
+    const [place, words] = state === undefined ? [`line ${number}, column ${column}`, text] : [`line ${number}`, `${state} ${text}`];
+    return new Stop(STATUS.fault, `nissy: ${place}: ${words}\n`);
+  }
+
+  /**
+   * The same after so many lines of which the engine wasn't told.
+   * @param {number} lines
+   */
+  after(lines) {
+    return new Stop(this.status, this.text.replace(/^nissy: line (\d+)/, (_, number) => `nissy: line ${Number(number) + lines}`));
+  }
+}

@@ -1,0 +1,275 @@
+// Calls of an engine in a worker as promises, one after another. A call that runs is stopped by ending its worker, and the next one starts
+// another.
+import { EngineMissing, Stopped } from "./faults.js";
+import { allOf, countIn, linesIn, solutionsIn, lineIn } from "./replies.js";
+import { allRequest, countRequest, lineRequest, runRequest, scrambleRequest, solveRequest, stepsRequest } from "./requests.js";
+import { compiled } from "./source.js";
+
+/** @typedef {import("./bytes.js").Text} Text */
+/** @typedef {import("./replies.js").Answer} Answer */
+/** @typedef {import("./replies.js").Count} Count */
+/** @typedef {import("./replies.js").Solution} Solution */
+/** @typedef {import("./requests.js").Request} Request */
+/** @typedef {import("./requests.js").Wanted} Wanted */
+/** @typedef {import("./requests.js").Within} Within */
+/** @typedef {import("./serve.js").Answered} Answered */
+/** @typedef {import("./serve.js").Unanswered} Unanswered */
+/** @typedef {import("./source.js").ModuleSource} ModuleSource */
+
+/**
+ * What gives a call up: it rejects with the signal's reason.
+ * @typedef {{signal?: AbortSignal}} Stoppable
+ */
+
+/**
+ * What a worker can be sent: the module compiled, or its bytes, which it compiles then.
+ * @typedef {WebAssembly.Module | ArrayBuffer | Uint8Array} SentModule
+ */
+
+/**
+ * A worker: what it is sent, and its end.
+ * @typedef {{postMessage: (message: unknown) => void, terminate: () => void}} Sent
+ */
+
+/**
+ * Starts a worker whose messages are taken, and of which it is told that it failed.
+ * @typedef {(took: (data: Answered | Unanswered) => void, failed: (message: string) => void) => Sent} NewWorker
+ */
+
+/** @typedef {{id: number, request: Request, answered: (reply: any) => void, refused: (reason: unknown) => void}} Call */
+
+/**
+ * What starts a worker of a browser.
+ * @param {() => Worker} made
+ * @returns {NewWorker}
+ */
+export function listenedTo(made) {
+  return (took, failed) => {
+    const worker = made();
+    worker.addEventListener("message", ({ data }) => took(data));
+    worker.addEventListener("error", (event) => {
+      event.preventDefault();
+      failed(event.message || "the engine could not be started");
+    });
+    return worker;
+  };
+}
+
+/**
+ * @param {unknown} options
+ * @returns {AbortSignal | undefined}
+ */
+function signalOf(options) {
+  const { signal } = /** @type {{signal?: any}} */ (options ?? {});
+  if (signal === undefined) return undefined;
+  const isSignal = typeof signal?.aborted === "boolean" && typeof signal.addEventListener === "function";
+  if (!isSignal) throw new TypeError("the signal is no AbortSignal");
+  return signal;
+}
+
+/**
+ * @param {{name: string, message: string}} error of the worker
+ * @returns {Error}
+ */
+const errorOf = ({ name, message }) => (name === "RangeError" ? new RangeError(message) : new EngineMissing(message));
+
+/**
+ * The engine in a worker. Its calls are those of `Nissy`, and what these throw, the promises are rejected with. Each may be given up by an
+ * `AbortSignal`: the tables of the steps are built anew after a call that ran.
+ */
+export class WorkerCalls {
+  /** @type {SentModule} */ #module;
+  /** @type {NewWorker} */ #newWorker;
+  /** @type {Sent | null} */ #worker = null;
+  /** @type {Call | null} */ #running = null;
+  /** @type {Call[]} */ #waiting = [];
+  #next = 0;
+
+  /**
+   * An engine whose worker is started by the first call.
+   * @param {SentModule} module
+   * @param {NewWorker} newWorker
+   */
+  constructor(module, newWorker) {
+    this.#module = module;
+    this.#newWorker = newWorker;
+  }
+
+  /**
+   * Starts an engine. Rejects with `NoWebAssembly` if the host runs none, and with `EngineMissing` if the worker can't be started.
+   * @param {ModuleSource | Promise<ModuleSource>} source
+   * @param {NewWorker} newWorker
+   * @returns {Promise<WorkerCalls>}
+   */
+  static async start(source, newWorker) {
+    const calls = new this(await compiled(source), newWorker);
+    // one that isn't answered means that the worker can't be started
+    await calls.steps();
+    return calls;
+  }
+
+  /** @param {Text} line @param {Stoppable} [options] @returns {Promise<string>} */
+  async invert(line, options) {
+    return lineIn(await this.#answer(lineRequest("invert", line), options));
+  }
+
+  /** @param {Text} line @param {Stoppable} [options] @returns {Promise<string>} */
+  async unniss(line, options) {
+    return lineIn(await this.#answer(lineRequest("unniss", line), options));
+  }
+
+  /** @param {Text} line @param {Stoppable} [options] @returns {Promise<string>} */
+  async cleanup(line, options) {
+    return lineIn(await this.#answer(lineRequest("cleanup", line), options));
+  }
+
+  /** @param {Text} line @param {Stoppable} [options] @returns {Promise<string>} */
+  async facelets(line, options) {
+    return lineIn(await this.#answer(lineRequest("facelets", line), options));
+  }
+
+  /** @param {string} step @param {Text} line @param {Wanted & Stoppable} [options] @returns {Promise<Solution[]>} */
+  async solve(step, line, options) {
+    return solutionsIn(await this.#answer(solveRequest(step, line, options), options));
+  }
+
+  /** @param {string} step @param {Text[]} lines @param {Wanted & Stoppable} [options] @returns {Promise<Solution[][]>} */
+  async solveAll(step, lines, options) {
+    const request = allRequest(lines, (line) => solveRequest(step, line, options));
+    return allOf(await this.#answer(request, options), solutionsIn);
+  }
+
+  /** @param {string} step @param {Text} line @param {Within & Stoppable} [options] @returns {Promise<Count>} */
+  async count(step, line, options) {
+    return countIn(await this.#answer(countRequest(step, line, options), options));
+  }
+
+  /** @param {string} step @param {Text[]} lines @param {Within & Stoppable} [options] @returns {Promise<Count[]>} */
+  async countAll(step, lines, options) {
+    const request = allRequest(lines, (line) => countRequest(step, line, options));
+    return allOf(await this.#answer(request, options), countIn);
+  }
+
+  /** @param {Stoppable} [options] @returns {Promise<string[]>} */
+  async steps(options) {
+    return linesIn(await this.#answer(stepsRequest(), options));
+  }
+
+  /**
+   * @param {number | bigint} state
+   * @param {number | bigint} stream
+   * @param {number} length
+   * @param {Stoppable} [options]
+   * @returns {Promise<string>}
+   */
+  async scramble(state, stream, length, options) {
+    return lineIn(await this.#answer(scrambleRequest(state, stream, length), options));
+  }
+
+  /** @param {Text[]} words @param {Text} [input] @param {Stoppable & {room?: number}} [options] @returns {Promise<Answer>} */
+  async run(words, input, options = {}) {
+    return this.#answer(runRequest(words, input, options.room), options);
+  }
+
+  /** Gives up the calls that wait for their turn; one that runs goes on. */
+  drop() {
+    const dropped = this.#waiting;
+    this.#waiting = [];
+    for (const call of dropped) call.refused(new Stopped());
+  }
+
+  /** Gives up all calls. */
+  stop() {
+    this.drop();
+    if (this.#running) this.#giveUp(this.#running, new Stopped());
+  }
+
+  /** Gives up all calls, and ends the worker. A later call starts another one. */
+  end() {
+    this.#end(new Stopped());
+  }
+
+  /**
+   * What the engine answers.
+   * @param {Request} request
+   * @param {Stoppable} [options]
+   * @returns {Promise<any>}
+   */
+  #answer(request, options) {
+    const signal = signalOf(options);
+    return new Promise((resolve, reject) => {
+      const reason = () => signal?.reason ?? new Stopped();
+      if (signal?.aborted) {
+        reject(reason());
+        return;
+      }
+      const abort = () => this.#giveUp(call, reason());
+      /** @type {<Value>(settle: (value: Value) => void) => (value: Value) => void} */
+      const settled = (settle) => (value) => {
+        signal?.removeEventListener("abort", abort);
+        settle(value);
+      };
+      const call = { id: this.#next++, request, answered: settled(resolve), refused: settled(reject) };
+      signal?.addEventListener("abort", abort);
+      this.#waiting.push(call);
+      this.#sendNext();
+    });
+  }
+
+  #sendNext() {
+    if (this.#running || this.#waiting.length === 0) return;
+    const call = /** @type {Call} */ (this.#waiting.shift());
+    this.#running = call;
+    try {
+      this.#worker ??= this.#started();
+      this.#worker.postMessage({ id: call.id, request: call.request });
+    } catch (error) {
+      this.#end(new EngineMissing(/** @type {Error} */ (error).message, error));
+    }
+  }
+
+  /** @returns {Sent} a worker that has the module */
+  #started() {
+    const isThisOne = () => worker === this.#worker;
+    const took = (/** @type {Answered | Unanswered} */ data) => isThisOne() && this.#take(data);
+    // one that was ended while it loaded says nothing of the next one
+    const worker = this.#newWorker(took, (message) => isThisOne() && this.#end(new EngineMissing(message)));
+    worker.postMessage({ module: this.#module });
+    return worker;
+  }
+
+  /** @param {Answered | Unanswered} data */
+  #take(data) {
+    const call = this.#running;
+    if (call?.id !== data.id) return;
+    this.#running = null;
+    if ("error" in data) call.refused(errorOf(data.error));
+    else call.answered(data.reply);
+    this.#sendNext();
+  }
+
+  /** @param {Call} call @param {unknown} reason */
+  #giveUp(call, reason) {
+    if (call === this.#running) {
+      this.#worker?.terminate();
+      this.#worker = null;
+      this.#running = null;
+    }
+    this.#waiting = this.#waiting.filter((other) => other !== call);
+    call.refused(reason);
+    this.#sendNext();
+  }
+
+  /**
+   * Ends the worker, and refuses all calls.
+   * @param {Error} reason
+   */
+  #end(reason) {
+    const given = this.#running ? [this.#running, ...this.#waiting] : this.#waiting;
+    this.#worker?.terminate();
+    this.#worker = null;
+    this.#running = null;
+    this.#waiting = [];
+    for (const call of given) call.refused(reason);
+  }
+}
