@@ -61,7 +61,7 @@ holds "a file of another kind is named" says "NOT READ: tests/wrong-bodies/niss_
 holds "a file of no source is named" says "NOT READ: tests/wrong-bodies/niss_moves/gone.txt: it is no .txt with the name of a .rt" \
     mv niss_moves/turn.txt niss_moves/gone.txt
 holds "a crate of which the gate tries nothing is named" says "tests/wrong-bodies/niss_page has no body that the gate tries" \
-    sed -i 's/^gate:/further:/' niss_page/run_call.txt
+    find niss_page -name '*.txt' -exec sed -i 's/^gate:/further:/' {} +
 holds "a crate without bodies is named" says "tests/wrong-bodies/eo_axes has no body" rm -r eo_axes/main.txt
 holds "a folder of no crate is named" says "tests/wrong-bodies/other: crates.txt lists no such crate" mkdir other
 ended

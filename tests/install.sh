@@ -21,7 +21,8 @@ if [ -e build/libnissy.so ]; then library=yes; else skips "the library, which wa
 by_make() { make --no-print-directory -o build/nissy -o build/libnissy.a LIBRARY=$library "$@"; }
 install_at() { by_make "$1" DESTDIR="$packed" PREFIX=/usr PYTHONDIR=/usr/lib/python3/dist-packages; }
 with_program() {
-    mkdir -p "$room/source/build" "$room/source/crates" && cp -R Makefile CHANGELOG.md docs completions include packaging python tools "$room/source" &&
+    mkdir -p "$room/source/build" "$room/source/crates/niss_c" && cp -R crates/niss_c/{src,specs} "$room/source/crates/niss_c" &&
+        cp -R Makefile CHANGELOG.md docs completions include packaging python tools web "$room/source" &&
         cp "$program" "$room/source/build/nissy" && { [ $library = no ] || cp -P build/libnissy.* "$room/source/build"; }
 }
 holds "the files are there" with_program
@@ -129,7 +130,7 @@ finds_another() { # FILE FROM TO
 }
 if missing python3; then skips "there is no python3 here"; else
     holds "each place names the version of CHANGELOG.md" tools/version --check
-    for file in include/nissy.pc include/nissy.h docs/nissy.1 python/pyproject.toml packaging/cmake/nissy-config-version.cmake; do
+    for file in include/nissy.pc include/nissy.h docs/nissy.1 python/pyproject.toml packaging/cmake/nissy-config-version.cmake web/module/package.json; do
         holds "another version in $file is found" finds_another "$file" "$version" 9.9.9
     done
 fi

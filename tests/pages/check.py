@@ -20,7 +20,7 @@ from tally import Tally
 
 PAGES = ("*.md", "docs/*.md", "bench/*.md", "web/*/*.md")
 # most lines that README may have
-MOST_LINES = 110
+MOST_LINES = 125
 # pages of which each name of code in backquotes must be there, and pages of which each path must
 WITH_NAMES = ("README.md", "docs/ARCHITECTURE.md", "docs/PROMISES.md", "docs/DECISIONS.md")
 WITH_PATHS = ("CONTRIBUTING.md", *WITH_NAMES, "docs/EMBEDDING.md", "bench/README.md", "web/module/README.md")
