@@ -1,5 +1,6 @@
 #!/usr/bin/env bash
-# Tries the module for pages of `make build/nissy.wasm` and its ES module, web/nissy.js, in node, beside PROGRAM:
+# Tries the module for pages of `make build/nissy.wasm` and its ES module, web/nissy.js, in node, beside PROGRAM, and what the page says of
+# a cube by its letters alone beside the module:
 #
 #     tests/page_model.sh [PROGRAM [MODULE]]
 #
@@ -16,6 +17,7 @@ if [ ! -e "$module" ] || missing node; then
     skips_all "there is no module that make build/nissy.wasm built, or no node"
 fi
 add node tests/page_model/rows.mjs "$module"
+add node tests/page_model/cases.mjs "$module"
 if missing python3; then
     skips "there is no python3 here"
 else
