@@ -25,18 +25,25 @@ function startOfLast(moves, axis) {
     return start;
 }
 
+/** What twins have in common: the moves, without the direction of their last quarter turns. @param {string} moves @param {string} step its name */
+export function twinKey(moves, step) {
+    const start = startOfLast(moves, lastAxisOf(step));
+    return moves.slice(0, start) + moves.slice(start).replaceAll("'", "");
+}
+
+/** The last turns of some moves, in whose direction twins differ. @param {string} moves @param {string} step its name */
+export const lastTurnsOf = (moves, step) => moves.slice(startOfLast(moves, lastAxisOf(step)));
+
 /**
  * Puts twins together, each under the first of them.
  * @param {Solution[]} solutions @param {string} step its name @returns {Twins[]}
  */
 export function mergeTwins(solutions, step) {
-    const axis = lastAxisOf(step);
     const merged = new Map();
     for (const { moves, length } of solutions) {
-        const start = startOfLast(moves, axis);
-        const key = moves.slice(0, start) + moves.slice(start).replaceAll("'", "");
+        const key = twinKey(moves, step);
         const first = merged.get(key);
-        if (first) first.others.push(moves.slice(start));
+        if (first) first.others.push(lastTurnsOf(moves, step));
         else merged.set(key, { moves, length, others: [] });
     }
     return [...merged.values()];
