@@ -1,5 +1,6 @@
 #!/usr/bin/env bash
-# Tries the module for pages of `make build/nissy.wasm` and its JavaScript, web/module, in node, beside PROGRAM, and in a page without a bundler:
+# Tries the module for pages of `make build/nissy.wasm` and its JavaScript, web/module, in node, beside PROGRAM, and in a page without a bundler;
+# and what the page says of a cube by its letters alone beside the module:
 #
 #     tests/page_model.sh [PROGRAM [MODULE]]
 #
@@ -17,6 +18,7 @@ if [ ! -e "$module" ] || missing node; then
 fi
 add node tests/page_model/rows.mjs "$module"
 for trial in plain wrong typed in_worker; do add node "tests/page_model/$trial.mjs" "$module"; done
+add node tests/page_model/cases.mjs "$module"
 if missing python3; then
     skips "there is no python3 here"
 else

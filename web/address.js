@@ -1,20 +1,26 @@
 // The state of the page in its address, after the #, so that it can be kept and sent. What an address says is checked piece by piece:
-// whatever stands there becomes a state of the page or a sentence that refuses it.
+// each piece becomes a part of the state, or is left out and named.
 import { SIDES, stepNamed } from "./steps.js";
 
 /** @typedef {import("./position.js").Part} Part */
-/** @typedef {{step: string, side: import("./steps.js").Side, slack: number}} List */
-/** @typedef {{scramble: string, parts: Part[], side: import("./steps.js").Side, list: List | null}} State */
+/** @typedef {{step: string, side: import("./steps.js").Side, slack: number, isAll: boolean}} List */
+/** @typedef {{parts: Part[], note: string}} Candidate */
+/** @typedef {{scramble: string, parts: Part[], side: import("./steps.js").Side, list: List | null, kept: Candidate[]}} State */
 
 export const LONGEST_ADDRESS = 20000;
 // 256 moves, each of as many signs as one may have and in brackets, are half of it
 export const LONGEST_SCRAMBLE = 4096;
 export const GREATEST_SLACK = 3;
+export const MOST_CANDIDATES = 24;
+export const LONGEST_NOTE = 80;
 const MOST_PARTS = 256;
+const MOST_NAMED = 5;
+const LONGEST_NAME = 24;
 const MOVES = /^[UDRLFBMESxyzw2']+( [UDRLFBMESxyzw2']+)*$/;
+const ALL_ROWS = "all";
 
 /** @returns {State} */
-export const emptyState = () => ({ scramble: "", parts: [], side: "normal", list: null });
+export const emptyState = () => ({ scramble: "", parts: [], side: "normal", list: null, kept: [] });
 
 /** Moves as an address has them: `_` for a blank and `-` for an apostrophe, since some programs cut an address there. */
 function written(text) {
@@ -30,76 +36,112 @@ export const oneLine = (text) => text.replace(/[\r\n]/g, " ");
 
 const spelled = (text) => decodeURIComponent(text.replace(/_/g, "%20").replace(/-/g, "'"));
 
+/** @param {Part[]} parts */
+const writtenParts = (parts) => parts.map(({ side, moves }) => `${side}.${written(moves)}`).join("~");
+
+/** @param {Candidate} candidate */
+const writtenCandidate = ({ parts, note }) => writtenParts(parts) + (note === "" ? "" : `;${written(note)}`);
+
 /** @param {State} state */
-export function addressOf({ scramble, parts, side, list }) {
+export function addressOf({ scramble, parts, side, list, kept }) {
     const fields = [];
     if (scramble !== "") fields.push(`scramble=${written(scramble)}`);
-    if (parts.length > 0) fields.push(`steps=${parts.map((part) => `${part.side}.${written(part.moves)}`).join("~")}`);
+    if (parts.length > 0) fields.push(`steps=${writtenParts(parts)}`);
     if (side !== "normal") fields.push(`side=${side}`);
-    if (list) fields.push(`list=${list.step}.${list.side}.${list.slack}`);
+    if (list) fields.push(`list=${[list.step, list.side, list.slack, ...(list.isAll ? [ALL_ROWS] : [])].join(".")}`);
+    if (kept.length > 0) fields.push(`kept=${kept.map(writtenCandidate).join(",")}`);
     return `#${fields.join("&")}`;
 }
+
+/** Whether an address has room for a state. @param {State} state */
+export const fitsAddress = (state) => addressOf(state).length <= LONGEST_ADDRESS;
 
 /** @param {string} text @returns {Part} */
 function readPart(text) {
     const [side, moves, ...rest] = text.split(".");
     const plain = spelled(moves ?? "");
-    if (!SIDES.includes(side) || rest.length > 0 || !MOVES.test(plain)) throw new Error("a step of this address isn't one");
+    if (!SIDES.includes(side) || rest.length > 0 || !MOVES.test(plain)) throw new Error("not steps");
     return { side, moves: plain };
+}
+
+/** @param {string} text @returns {Part[]} */
+function readParts(text) {
+    const parts = text.split("~");
+    if (parts.length > MOST_PARTS) throw new Error("too many");
+    return parts.map(readPart);
 }
 
 /** @param {string} text @returns {List} */
 function readList(text) {
-    const [step, side, slack, ...rest] = text.split(".");
+    const [step, side, slack, all, ...rest] = text.split(".");
     const known = stepNamed(step) && SIDES.includes(side) && /^[0-9]$/.test(slack) && Number(slack) <= GREATEST_SLACK;
-    if (!known || rest.length > 0) throw new Error("the list of this address isn't one");
-    return { step, side, slack: Number(slack) };
+    if (!known || rest.length > 0 || (all !== undefined && all !== ALL_ROWS)) throw new Error("no list");
+    return { step, side, slack: Number(slack), isAll: all === ALL_ROWS };
+}
+
+/** @param {string} text @returns {Candidate} */
+function readCandidate(text) {
+    const [parts, note, ...rest] = text.split(";");
+    const plain = oneLine(spelled(note ?? ""));
+    if (rest.length > 0 || plain.length > LONGEST_NOTE) throw new Error("no candidates");
+    return { parts: readParts(parts), note: plain };
 }
 
 /** What each field of an address puts into the state. @type {Record<string, (state: State, text: string) => void>} */
 const FIELDS = {
     scramble: (state, text) => {
-        state.scramble = oneLine(spelled(text));
-        if (state.scramble.length > LONGEST_SCRAMBLE) throw new Error("the scramble of this address is too long");
+        const scramble = oneLine(spelled(text));
+        if (scramble.length > LONGEST_SCRAMBLE) throw new Error("too long");
+        state.scramble = scramble;
     },
     steps: (state, text) => {
-        state.parts = text.split("~").map(readPart);
-        if (state.parts.length > MOST_PARTS) throw new Error("this address has too many steps");
+        state.parts = readParts(text);
     },
     side: (state, text) => {
-        if (!SIDES.includes(text)) throw new Error("the side of this address isn't one");
+        if (!SIDES.includes(text)) throw new Error("no side");
         state.side = text;
     },
     list: (state, text) => {
         state.list = readList(text);
     },
+    kept: (state, text) => {
+        const candidates = text.split(",");
+        if (candidates.length > MOST_CANDIDATES) throw new Error("too many");
+        state.kept = candidates.map(readCandidate);
+    },
 };
 
-/** @param {string} text */
-function readFields(text) {
-    const state = emptyState();
-    const said = new Set();
-    for (const field of text === "" ? [] : text.split("&")) {
-        const [name, value, ...rest] = field.split("=");
-        if (!Object.hasOwn(FIELDS, name) || value === undefined || rest.length > 0) throw new Error("this address says something unknown");
-        if (said.has(name)) throw new Error("this address says something twice");
-        said.add(name);
+/** Puts a field into the state, or says why it isn't. @param {State} state @param {string} field @param {Set<string>} said @returns {string} */
+function readField(state, field, said) {
+    const [name, value, ...rest] = field.split("=");
+    if (!Object.hasOwn(FIELDS, name)) return "unknown";
+    if (value === undefined || rest.length > 0) return "no value";
+    if (said.has(name)) return "said twice";
+    said.add(name);
+    try {
         FIELDS[name](state, value);
+        return "";
+    } catch (fault) {
+        return fault instanceof URIError ? "broken escapes" : fault.message;
     }
-    return state;
 }
 
 /**
- * The state that an address gives, and what is wrong with it, or "".
+ * The state that an address gives, and what of it was left out, or "".
  * @param {string} hash @returns {{state: State, fault: string}}
  */
 export function readAddress(hash) {
     const text = hash.replace(/^#/, "");
     if (text.length > LONGEST_ADDRESS) return { state: emptyState(), fault: "This address is too long, so the page begins empty." };
-    try {
-        return { state: readFields(text), fault: "" };
-    } catch (fault) {
-        const words = fault instanceof URIError ? "this address has broken escapes" : fault.message;
-        return { state: emptyState(), fault: `The page begins empty: ${words}.` };
+    const state = emptyState();
+    const said = new Set();
+    const leftOut = [];
+    for (const field of text.split("&").filter((each) => each !== "")) {
+        const why = readField(state, field, said);
+        const name = field.split("=")[0];
+        if (why !== "") leftOut.push(`${name.slice(0, LONGEST_NAME)}${name.length > LONGEST_NAME ? "…" : ""} (${why})`);
     }
+    if (leftOut.length === 0) return { state, fault: "" };
+    const more = leftOut.length > MOST_NAMED ? ` and ${leftOut.length - MOST_NAMED} more` : "";
+    return { state, fault: `Left out of this address: ${leftOut.slice(0, MOST_NAMED).join(", ")}${more}.` };
 }

@@ -1,152 +1,252 @@
-// The part of the page that shows the best continuations, with progress and a way to stop.
+// The card of the best continuations: looked for by themselves, with progress, a way to stop, filters, and rows that go on.
 import { Stopped } from "./calls.js";
-import { MOST_KEPT, findContinuations } from "./continuations.js";
-import { announce, counted, element, part, setBusy, tell } from "./element.js";
+import { sizeOf } from "./cases.js";
+import { byCase, byTotal, findContinuations } from "./continuations.js";
+import { announce, counted, element, part, setBusy, spoken, tell } from "./element.js";
 import { bracketed } from "./position.js";
 import { roveWithin } from "./roving.js";
-import { SIDES, eitherReduction, stepNamed, titleOf } from "./steps.js";
+import { SIDES, isReduced } from "./steps.js";
 
-/** @typedef {import("./continuations.js").Continuation} Continuation */
+/** @typedef {import("./continuations.js").Row} Row */
+/** @typedef {import("./continuations.js").Question} Question */
 
-const LOOKING_FOR_BEST = "Looking for the orientations …";
-
-/** How far a search has come. @param {{done: number, all: number}} progress */
-const reachedBy = ({ done, all }) => `${done.toLocaleString("en")} of ${counted(all, "orientation")} tried.`;
-
+const LOOKING_FOR_BEST = "Looking for the best …";
+/** How many rows are shown at first: where the page is narrow fewer, so that the table below them is seen. */
+const SHOWN_FIRST = { narrow: 3, wide: 8 };
+const NARROW_PAGE = "(max-width: 37.5rem)";
+const SHOWN_MORE = 40;
 /** Of how many searches what was found is kept. */
 const MOST_KEPT_SEARCHES = 8;
 
-/** What a cube is kept by. @param {import("./position.js").Lines} now */
-const nameOf = ({ normal, inverse }) => `${normal} / ${inverse}`;
+const shownFirst = () => (matchMedia(NARROW_PAGE).matches ? SHOWN_FIRST.narrow : SHOWN_FIRST.wide);
 
-const slackNow = () => part("best-slack").value;
+/** What a search is known by. @param {Question} question */
+const nameOfSearch = ({ now, slack, isAll }) => [now.normal, now.inverse, slack, isAll].join("/");
+
+/** A cell whose role stays where a narrow page lays the row out as a grid. @param {"td" | "th"} name */
+function cell(name, attributes, ...children) {
+    const role = name === "th" ? { role: "rowheader", scope: "row" } : { role: "cell" };
+    return element(name, { ...role, ...attributes }, ...children);
+}
 
 export class BestContinuations {
-    #calls;
-    #taken;
-    #now = null;
+    #engines;
+    #acts;
+    #question = null;
     #progress = null;
-    #kept = [];
+    #found = new Map();
+    #seen = new Set();
+    #shown = shownFirst();
+    #body = part("best-body");
 
     /**
-     * @param {import("./calls.js").Calls} calls calls of its own, that can be stopped
-     * @param {(continuation: Continuation, list: {step: string, side: import("./steps.js").Side}) => void} taken
+     * @param {import("./calls.js").Calls[]} engines of its own, that can be stopped
+     * @param {{goOn: (row: Row) => void, star: (part: import("./position.js").Part) => void, isStarred: (part: import("./position.js").Part) => boolean,
+     *     shown: () => void}} acts
      */
-    constructor(calls, taken) {
-        this.#calls = calls;
-        this.#taken = taken;
-        roveWithin(part("best-body"), "button");
-        part("best-find").addEventListener("click", () => this.#find());
-        part("best-stop").addEventListener("click", () => this.#calls.stop());
-        part("best-slack").addEventListener("change", () => {
-            const kept = this.#now && this.#keptOf(this.#now).find(({ slack }) => slack === slackNow());
-            if (kept && part("best-stop").hidden) this.#showKept(kept);
-        });
+    constructor(engines, acts) {
+        this.#engines = engines;
+        this.#acts = acts;
+        roveWithin(this.#body, ".take");
+        part("best-stop").addEventListener("click", () => this.#stop());
+        for (const name of ["best-slack", "best-all"]) part(name).addEventListener("change", () => this.#ask());
+        for (const name of ["best-corners", "best-edges", "best-axis", "best-sort"]) {
+            part(name).addEventListener("change", () => {
+                this.#shown = shownFirst();
+                this.#draw();
+            });
+        }
+        part("best-more").addEventListener("click", () => this.#more());
     }
 
     /**
-     * Takes another cube, or none, and shows what was found for it before, if it is kept.
-     * @param {import("./position.js").Lines | null} now
+     * Takes another cube, or none, and looks for the best of it.
+     * @param {{now: import("./position.js").Lines, parts: import("./position.js").Part[], reached: string[]} | null} cube
      */
-    reset(now) {
-        this.#calls.stop();
-        this.#now = now;
+    reset(cube) {
+        this.#stop();
+        this.#question = cube;
         this.#progress = null;
-        part("best-find").disabled = now === null;
-        part("best-table").hidden = true;
-        tell(part("best-note"), "");
-        const ofCube = now ? this.#keptOf(now) : [];
-        const kept = ofCube.find(({ slack }) => slack === slackNow()) ?? ofCube.at(-1);
-        if (kept) this.#showKept(kept);
+        this.#shown = shownFirst();
+        const isNeeded = cube !== null && !isReduced(cube.reached);
+        part("best").hidden = cube !== null && !isNeeded;
+        if (!isNeeded) {
+            this.#body.replaceChildren();
+            tell(part("best-note"), "");
+            part("best-more").hidden = true;
+            this.#working(false);
+            return;
+        }
+        const isOriented = cube.reached.length > 0;
+        part("best-table").classList.toggle("of-reductions", isOriented);
+        part("best-filters").hidden = isOriented;
+        this.#ask();
     }
 
-    /** What is kept for a cube, the last search last. @param {import("./position.js").Lines} now */
-    #keptOf(now) {
-        return this.#kept.filter(({ cube }) => cube === nameOf(now));
+    /** Shows the stars as they are. */
+    mark() {
+        this.#draw();
     }
 
-    /** @param {{slack: string, progress: import("./continuations.js").Progress}} kept */
-    #showKept({ slack, progress }) {
-        part("best-slack").value = slack;
-        this.#show(progress);
+    /** Makes the row seen that has this name, and answers its button, or null. @param {string} key */
+    reveal(key) {
+        const at = this.#rows().findIndex((row) => row.key === key);
+        if (at < 0) return null;
+        this.#shown = Math.max(this.#shown, at + 1);
+        this.#draw();
+        return this.#body.querySelectorAll(".take")[at];
     }
 
-    /** Keeps what was found, in place of what was kept longest. @param {import("./position.js").Lines} now @param {string} slack */
-    #keep(now, slack) {
-        const cube = nameOf(now);
-        const others = this.#kept.filter((each) => each.cube !== cube || each.slack !== slack);
-        this.#kept = [...others, { cube, slack, progress: this.#progress }].slice(-MOST_KEPT_SEARCHES);
+    #stop() {
+        for (const calls of this.#engines) calls.stop();
     }
 
-    async #find() {
-        const now = this.#now;
-        const slack = slackNow();
+    #ask() {
+        if (this.#question === null) return;
+        this.#stop();
+        this.#question = { ...this.#question, slack: Number(part("best-slack").value), isAll: part("best-all").checked };
+        const known = this.#found.get(nameOfSearch(this.#question));
+        if (known) this.#show(known);
+        else this.#find(this.#question);
+    }
+
+    /** @param {Question} question */
+    async #find(question) {
+        const isStill = () => question === this.#question;
+        this.#progress = null;
         this.#working(true);
         tell(part("best-note"), LOOKING_FOR_BEST);
         try {
-            await findContinuations(this.#calls, now, Number(slack), (progress) => this.#show(progress));
-            this.#keep(now, slack);
-            announce(part("best-note").textContent);
+            await findContinuations(this.#engines, question, (progress) => isStill() && this.#show(progress));
+            if (isStill()) this.#keep(question);
         } catch (fault) {
-            if (now === this.#now) this.#brokenOff(fault);
-        } finally {
-            this.#working(false);
+            if (isStill()) this.#brokenOff(fault);
         }
+        if (isStill()) this.#working(false);
+    }
+
+    /** Keeps what was found, in place of what was kept longest. @param {Question} question */
+    #keep(question) {
+        this.#found.set(nameOfSearch(question), this.#progress);
+        if (this.#found.size > MOST_KEPT_SEARCHES) this.#found.delete(this.#found.keys().next().value);
     }
 
     #brokenOff(fault) {
-        const seen = this.#progress ? ` ${reachedBy(this.#progress)}` : "";
+        for (const calls of this.#engines) calls.stop();
+        const seen = this.#progress ? ` ${this.#tried()}` : "";
         const text = fault instanceof Stopped ? `Stopped.${seen}` : fault.message;
         tell(part("best-note"), text);
         announce(text);
     }
 
     #working(isWorking) {
-        const [shown, taken] = isWorking ? ["best-stop", "best-find"] : ["best-find", "best-stop"];
-        // the focus stays where it went during a search
-        const hasFocus = document.activeElement === part(taken);
-        part(shown).hidden = false;
-        if (hasFocus) part(shown).focus({ preventScroll: true });
-        part(taken).hidden = true;
+        const stop = part("best-stop");
+        // what is hidden can't keep the focus
+        if (!isWorking && document.activeElement === stop) part("best-slack").focus({ preventScroll: true });
+        stop.hidden = !isWorking;
         part("best-progress").hidden = !isWorking;
-        setBusy("best", isWorking, LOOKING_FOR_BEST);
+        setBusy("best", isWorking, "");
         if (isWorking) part("best-progress").removeAttribute("value");
     }
 
     #show(progress) {
-        const { done, all, found } = progress;
         this.#progress = progress;
-        part("best-progress").max = Math.max(all, 1);
-        part("best-progress").value = done;
-        const cut = done > MOST_KEPT ? ` The list is cut: the best ${MOST_KEPT} are shown.` : "";
-        tell(part("best-note"), `${reachedBy(progress)}${cut}`);
-        part("best-table").hidden = found.length === 0;
-        this.#showRows(found.map((each) => this.#row(each)));
+        part("best-progress").max = Math.max(progress.all, 1);
+        part("best-progress").value = progress.done;
+        if (progress.done === progress.all) this.#working(false);
+        this.#draw();
+        this.#acts.shown();
     }
 
-    /** Shows the rows in place of the last ones; the same orientation keeps the focus, if it is there. @param {HTMLElement[]} rows */
+    #tried() {
+        const { done, all } = this.#progress;
+        const isOfReductions = this.#question.reached.length > 0;
+        return isOfReductions ? "" : `${done.toLocaleString("en")} of ${counted(all, "EO")} tried.`;
+    }
+
+    /** The rows that the filters leave, in their order. */
+    #rows() {
+        const most = { corners: Number(part("best-corners").value), edges: Number(part("best-edges").value) };
+        const axis = part("best-axis").value;
+        const isLeft = ({ next, state }) => {
+            if (next === null) return true;
+            const size = sizeOf(next.case);
+            return size.corners <= most.corners && size.edges <= most.edges && (axis === "" || state === axis);
+        };
+        const rows = (this.#progress?.rows ?? []).filter(isLeft);
+        return part("best-sort").value === "case" && rows.some(({ next }) => next) ? rows.sort((one, other) => byCase(one, other) || byTotal(one, other)) : rows;
+    }
+
+    #draw() {
+        if (this.#progress === null) return this.#showRows([]);
+        const rows = this.#rows();
+        const shown = rows.slice(0, this.#shown);
+        this.#showRows(shown.map((row) => this.#row(row)));
+        part("best-more").hidden = shown.length === rows.length;
+        part("best-more").textContent = `Show more of ${rows.length.toLocaleString("en")}`;
+        const of = rows.length === this.#progress.rows.length ? counted(rows.length, "row") : `${rows.length.toLocaleString("en")} of ${counted(this.#progress.rows.length, "row")}`;
+        const cut = this.#progress.isCut ? " The list is cut: the best are kept." : "";
+        tell(part("best-note"), `${this.#tried()} ${of}.${cut}`.trim());
+    }
+
+    #more() {
+        const from = this.#body.children.length;
+        this.#shown += SHOWN_MORE;
+        this.#draw();
+        this.#body.querySelectorAll(".take")[from]?.focus();
+    }
+
+    /** Shows the rows in place of the last ones; the same row keeps the focus, if it is there. @param {HTMLElement[]} rows */
     #showRows(rows) {
-        const body = part("best-body");
-        const focused = body.contains(document.activeElement) ? document.activeElement.textContent : null;
-        body.replaceChildren(...rows);
-        const buttons = [...body.querySelectorAll("button")];
+        const focused = this.#body.contains(document.activeElement) ? document.activeElement.dataset.key : null;
+        this.#body.replaceChildren(...rows);
+        const buttons = [...this.#body.querySelectorAll(".take")];
         buttons[0]?.setAttribute("tabindex", "0");
-        if (focused !== null) (buttons.find(({ textContent }) => textContent === focused) ?? buttons[0] ?? part("best-stop")).focus();
+        if (focused === null) return;
+        (buttons.find(({ dataset }) => dataset.key === focused) ?? buttons[0] ?? part("best-slack")).focus({ preventScroll: true });
     }
 
-    #row(each) {
-        const line = each.moves === "" ? "no moves" : bracketed([each]);
-        const sum = Number.isFinite(each.sum) ? String(each.sum) : "–";
-        const take = element("button", { type: "button", class: "moves", tabindex: -1, click: () => this.#take(each) }, line);
-        const lengths = SIDES.map((side) => {
-            const best = each.lengths[side] !== null && each.lengths[side] === each.lengths[each.best];
-            return element("td", best ? { class: "best" } : {}, each.lengths[side] === null ? "–" : String(each.lengths[side]));
-        });
-        const axis = element("small", {}, titleOf(stepNamed(each.orientation)));
-        return element("tr", {}, element("th", { scope: "row" }, sum), element("td", {}, take, " ", axis), ...lengths);
+    /** @param {Row} row */
+    #row(row) {
+        const { total, part: added, state, next, others, key } = row;
+        const line = added.moves === "" ? "no moves" : bracketed([added]);
+        const isSeen = this.#seen.has(key);
+        const all = Number.isFinite(total) ? String(total) : "–";
+        const take = element("button", {
+            type: "button",
+            class: isSeen ? "take moves seen" : "take moves",
+            tabindex: -1,
+            "data-key": key,
+            "aria-label": `${spoken(line)}${isSeen ? ", seen" : ""}`,
+            click: () => this.#take(row),
+        }, line);
+        const twin = others.length === 0 ? [] : [element("small", { class: "twins" }, ` or ${others.length === 1 ? others[0] : `${others.length} twins`}`)];
+        const starred = this.#acts.isStarred(added);
+        const star = element("button", {
+            type: "button",
+            class: "star",
+            tabindex: -1,
+            "aria-pressed": String(starred),
+            "aria-label": `Keep ${spoken(line)}`,
+            click: () => this.#acts.star(added),
+        }, starred ? "★" : "☆");
+        const cells = [cell("th", {}, all), cell("td", {}, take, ...twin), cell("td", { class: "axis" }, state)];
+        if (next) {
+            cells.push(cell("td", { class: "axis" }, next.marks, " ", element("span", { class: "case" }, next.case)));
+            cells.push(...SIDES.map((side) => this.#length(next, side)));
+        }
+        return element("tr", { role: "row", "data-marks": next ? next.marks : state }, ...cells, cell("td", {}, star));
     }
 
-    #take(each) {
-        this.#taken(each, { step: eitherReduction(each.orientation), side: each.best });
+    /** @param {import("./continuations.js").Next} next @param {import("./steps.js").Side} side */
+    #length({ lengths, side: best }, side) {
+        const isBest = lengths[side] !== null && lengths[side] === lengths[best];
+        const about = { class: isBest ? "best number" : "number", "data-side": side === "normal" ? "N" : "I" };
+        return cell("td", about, lengths[side] === null ? "–" : String(lengths[side]));
+    }
+
+    #take(row) {
+        this.#seen.add(row.key);
+        this.#acts.goOn(row);
     }
 }

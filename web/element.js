@@ -58,12 +58,10 @@ export function setBusy(id, isBusy, text = "") {
     if (isBusy && text !== "") waiting.set(id, setTimeout(announce, LONG_WAIT, text));
 }
 
-/** Words in a row: `one`, `one and another`, `one, another and a third`. @param {string[]} words */
-export function listed(words) {
-    return [words.slice(0, -1).join(", "), ...words.slice(-1)].filter((each) => each !== "").join(" and ");
-}
-
 /** A number with its word: `1 move`, `1,200 moves`. @param {number} count @param {string} word */
 export function counted(count, word) {
     return `${count.toLocaleString("en")} ${word}${count === 1 ? "" : "s"}`;
 }
+
+/** Moves as they are said, since an apostrophe isn't read as solvers read it. @param {string} moves */
+export const spoken = (moves) => moves.replace(/'/g, " prime").replace(/\(/g, "on the inverse side ").replace(/\)/g, "");

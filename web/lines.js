@@ -1,6 +1,7 @@
 // How lines are read: as the engine writes them, and by face turns alone where they turn the whole cube. The engine pushes such turns to
 // the end of a line; there they are left out, so that each letter names the same face in all that follows.
-import { EngineFault, answersOf } from "./answers.js";
+import { EngineFault } from "./answers.js";
+import { cleanAll, joinAll } from "./engine.js";
 import { bracketed } from "./position.js";
 
 /** @typedef {import("./calls.js").Calls} Calls */
@@ -30,13 +31,13 @@ function runsOf(text, side) {
 
 /** A line as the engine reads it, without brackets. @param {Calls} calls @param {string} line */
 async function readLine(calls, line) {
-    const [read] = await answersOf(calls, ["unniss"], [line]);
+    const [read] = await joinAll(calls, [line]);
     return read;
 }
 
 /** A scramble by its face turns, and whether turns of the whole cube were left out. @param {Calls} calls @param {string} text */
 export async function readScramble(calls, text) {
-    const [cleaned] = await answersOf(calls, ["cleanup"], [await readLine(calls, text)]);
+    const [cleaned] = await cleanAll(calls, [await readLine(calls, text)]);
     const line = withoutTurns(cleaned);
     return { line, isTurned: line !== cleaned };
 }
@@ -47,9 +48,9 @@ export async function readScramble(calls, text) {
  */
 export async function readByHand(calls, text, side) {
     const read = await readLine(calls, text);
-    const line = FACE_TURNS.test(read) ? text : withoutTurns((await answersOf(calls, ["cleanup"], [text]))[0]);
+    const line = FACE_TURNS.test(read) ? text : withoutTurns((await cleanAll(calls, [text]))[0]);
     const runs = runsOf(line, text.includes("(") ? "normal" : side);
-    const moves = await answersOf(calls, ["unniss"], runs.map((run) => run.moves));
+    const moves = await joinAll(calls, runs.map((run) => run.moves));
     return runs.map((run, index) => ({ side: run.side, moves: moves[index] })).filter((run) => run.moves !== "");
 }
 
@@ -57,8 +58,8 @@ export async function readByHand(calls, text, side) {
 export async function readSteps(calls, parts) {
     await readLine(calls, bracketed(parts));
     const lines = parts.map(({ moves }) => moves);
-    const read = await answersOf(calls, ["unniss"], lines);
-    const cleaned = await answersOf(calls, ["cleanup"], lines);
+    const read = await joinAll(calls, lines);
+    const cleaned = await cleanAll(calls, lines);
     const moves = read.map((line, index) => (FACE_TURNS.test(line) ? line : withoutTurns(cleaned[index])));
     return parts.map(({ side }, index) => ({ side, moves: moves[index] })).filter((part) => part.moves !== "");
 }

@@ -1,4 +1,5 @@
-// Draws a cube as a net: U above, then L, F, R and B, and D below, as SVG. Each sticker has its colour and its letter.
+// Draws a cube as a net: U above, then L, F, R and B, and D below, as SVG. Each sticker has its colour and its letter, and where pieces are
+// marked a ring and a dot, or a grey.
 
 const SVG = "http://www.w3.org/2000/svg";
 const PITCH = 10;
@@ -24,8 +25,9 @@ function shape(name, attributes) {
 function stickerAt(x, y) {
     // the label of the net has all letters, by faces
     const group = shape("g", { class: "sticker", transform: `translate(${x} ${y})`, "aria-hidden": "true" });
-    group.append(shape("rect", { x: 0.4, y: 0.4, width: PITCH - 0.8, height: PITCH - 0.8, rx: 1.4 }));
+    group.append(shape("rect", { x: 0.6, y: 0.6, width: PITCH - 1.2, height: PITCH - 1.2, rx: 1.4 }));
     group.append(shape("text", { x: PITCH / 2, y: PITCH / 2 + 2, "text-anchor": "middle" }));
+    group.append(shape("circle", { class: "dot", cx: PITCH - 2.4, cy: 2.4, r: 1.3 }));
     return group;
 }
 
@@ -49,11 +51,18 @@ function inWords(letters) {
     }).join("; ");
 }
 
-/** Shows the engine's 54 letters on a net. @param {SVGElement} net @param {string} letters @param {string} title */
-export function showCube(net, letters, title) {
-    net.setAttribute("aria-label", `${title}; ${inWords(letters)}`);
-    net.querySelectorAll(".sticker").forEach((sticker, place) => {
-        sticker.setAttribute("data-colour", letters[place]);
-        sticker.lastChild.textContent = letters[place];
+/**
+ * Shows the engine's 54 letters on a net.
+ * @param {SVGElement} net @param {string} letters @param {string} title
+ * @param {{places: Set<number> | null, view: number[]}} drawing the places that are marked, or null; and which place is seen at each of the net
+ */
+export function showCube(net, letters, title, { places, view }) {
+    const seen = view.map((place) => letters[place]).join("");
+    net.setAttribute("aria-label", `${title}; ${inWords(seen)}`);
+    net.classList.toggle("marked", places !== null);
+    net.querySelectorAll(".sticker").forEach((sticker, at) => {
+        sticker.setAttribute("data-colour", seen[at]);
+        sticker.classList.toggle("bad", places !== null && places.has(view[at]));
+        sticker.querySelector("text").textContent = seen[at];
     });
 }

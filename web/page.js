@@ -1,24 +1,36 @@
 // The page's state, and what each change of it makes the parts of the page show.
-import { addressOf, emptyState, readAddress } from "./address.js";
-import { EngineFault, solutionsOf } from "./answers.js";
+import { MOST_CANDIDATES, addressOf, emptyState, fitsAddress, readAddress } from "./address.js";
+import { EngineFault } from "./answers.js";
 import { BestContinuations } from "./best.js";
 import { EngineMissing, Stopped } from "./calls.js";
-import { announce, announceLater, counted, part, setBusy, tell } from "./element.js";
-import { MOST_MOVES, readScramble, readSteps } from "./lines.js";
-import { emptyNet, showCube } from "./net.js";
-import { bracketed, examine, offersAfter } from "./position.js";
+import { copy } from "./copying.js";
+import { Cube } from "./cube.js";
+import { announce, announceLater, part, setBusy, spoken, tell } from "./element.js";
+import { printAll, solve } from "./engine.js";
+import { KeptCandidates, nameOfCandidate } from "./kept.js";
+import { listenToKeys, star } from "./keys.js";
+import { LineSoFar } from "./line.js";
+import { MOST_MOVES, readByHand, readScramble, readSteps } from "./lines.js";
+import { plainLine } from "./pasted.js";
+import { goTo, keepPlace, placeIn } from "./places.js";
+import { bracketed, examine, framesOf, offerOf, walkAll } from "./position.js";
 import { ScrambleField } from "./scramble.js";
-import { Skeleton } from "./skeleton.js";
 import { SolutionList } from "./solutions.js";
-import { SIDES, stepNamed, titleOf } from "./steps.js";
+import { isReduced, openSteps, stateOf, stepNamed, titleOf } from "./steps.js";
 import { StepTable } from "./table.js";
 import { keepInView, showStart } from "./view.js";
 
 /** @typedef {import("./address.js").State} State */
+/** @typedef {import("./position.js").Part} Part */
 /** @typedef {import("./steps.js").Side} Side */
 
 const AGAIN_AFTER = 1000;
+const TITLE = "nissy";
 const TOO_MANY = `more than ${MOST_MOVES} moves`;
+const MOST_SIGNS_OF_TITLE = 40;
+const NO_ROOM = "No more lines can be kept: the address of the page has no room for them.";
+/** How many engines look for the best side by side: one an axis. */
+const BEST_ENGINES = 3;
 
 /** Why there is no answer. @param {Error & {words?: string}} fault */
 function unanswered(fault) {
@@ -27,42 +39,83 @@ function unanswered(fault) {
     return `The scramble and the moves after it can't be read together: they have ${TOO_MANY}.`;
 }
 
+/** What tells the tabs of pages apart. @param {State} state */
+function titleOfPage({ scramble, parts }) {
+    const words = [bracketed(parts), scramble.trim()].filter(Boolean).join(" · ");
+    if (words === "") return `${TITLE}: edge orientation and domino reduction`;
+    return `${words.slice(0, MOST_SIGNS_OF_TITLE)}${words.length > MOST_SIGNS_OF_TITLE ? "…" : ""} – ${TITLE}`;
+}
+
 export class Page {
     /** @type {State} */
     #state = emptyState();
     #turn = 0;
-    #now = null;
+    #cube = null;
     #openList = "";
     #isReading = false;
     #writing = 0;
     /** @type {{to: "list" | "table", from: Element} | null} where the focus is to go, and from where */
     #focusNext = null;
+    /** @type {import("./places.js").Place | null} where Back leads to */
+    #return = null;
     #calls;
     #listCalls;
-    #nets = {};
+    #keptCalls;
+    #byHand;
+    #nets = new Cube();
     #scramble;
-    #skeleton;
+    #line;
     #table;
     #list;
     #best;
+    #kept;
 
     /** @param {() => import("./calls.js").Calls} newCalls each has a worker of its own */
     constructor(newCalls) {
         this.#calls = newCalls();
         this.#listCalls = newCalls();
+        this.#keptCalls = newCalls();
         // what is asked for by hand is never given up for another cube
-        const byHand = newCalls();
-        this.#scramble = new ScrambleField(byHand, (scramble, isNew) => this.#setScramble(scramble, isNew));
-        this.#skeleton = new Skeleton(byHand, (change) => this.#change(change));
+        this.#byHand = newCalls();
+        this.#scramble = new ScrambleField(this.#byHand, (scramble, isNew, fmc) => this.#setScramble(scramble, isNew, fmc));
+        this.#line = new LineSoFar(this.#byHand, { change: (change) => this.#change(change), star: () => this.#star(this.#state.parts) });
         this.#table = new StepTable((step, side) => this.#open(step, side));
-        this.#list = new SolutionList((moves) => this.#take(moves), (slack) => this.#loosen(slack));
-        this.#best = new BestContinuations(newCalls(), (found, list) => this.#goOn(found, list));
-        keepInView(part("left"));
+        const stars = {
+            star: (added) => this.#star([...this.#state.parts, added]),
+            isStarred: (added) => this.#kept.has([...this.#state.parts, added]),
+        };
+        this.#kept = new KeptCandidates({ goOn: (parts) => this.#change({ parts }, "table"), change: (kept) => this.#change({ kept }) });
+        this.#list = new SolutionList({
+            ...stars,
+            take: (taken) => this.#take(taken),
+            change: (change) => this.#changeList(change),
+            copy,
+        });
+        const engines = Array.from({ length: BEST_ENGINES }, newCalls);
+        this.#best = new BestContinuations(engines, { ...stars, goOn: (row) => this.#goOn(row), shown: () => this.#goBack() });
+        keepInView(part("side-column"));
         part("solutions-stop").addEventListener("click", () => this.#listCalls.stop());
-        for (const side of SIDES) {
-            this.#nets[side] = emptyNet();
-            part(`net-${side}`).prepend(this.#nets[side]);
-        }
+        part("copy-link").addEventListener("click", (event) => copy(location.href, event.currentTarget));
+        part("skip").addEventListener("click", () => this.#table.focus());
+        this.#listenToKeys();
+    }
+
+    #listenToKeys() {
+        const numbers = [1, 2, 3, 4, 5, 6].map((number) => [String(number), () => this.#table.cells()[number - 1]?.click()]);
+        listenToKeys({
+            ...Object.fromEntries(numbers),
+            n: () => this.#line.turn("normal"),
+            i: () => this.#line.turn("inverse"),
+            u: () => this.#line.undoStep(),
+            s: () => star(() => this.#star(this.#state.parts)),
+            "/": () => (this.#state.list ? part("filter") : part("scramble")).focus(),
+            Escape: () => this.#state.list && this.#changeList(null),
+        });
+    }
+
+    /** Keeps where the browser's Back or Forward leads to. @param {unknown} state of the history */
+    returnTo(state) {
+        this.#return = placeIn(state);
     }
 
     /** Begins with what an address says. @param {string} hash */
@@ -91,27 +144,31 @@ export class Page {
     /** Shows what an address says as it stands there, where no engine reads it. @param {State} state @param {Error} fault */
     #showUnread({ scramble, parts }, fault) {
         this.#scramble.show(scramble);
-        this.#skeleton.show(parts);
+        this.#line.show(parts);
         this.#setUsable(false);
         this.#refuse(fault);
     }
 
     /**
      * Takes another state, or parts of it. Where an address is still read, what is done meanwhile on the page that is seen overtakes it.
+     * A list doesn't outlast a change of the steps, since it belongs to the cube before it.
      * @param {Partial<State>} change @param {"list" | "table"} [focusNext] where the focus is to go with the answers
      */
     #change(change, focusNext) {
         this.#focusNext = focusNext ? { to: focusNext, from: document.activeElement } : null;
-        this.#state = { ...this.#state, ...change };
+        this.#return = null;
+        if ("parts" in change) keepPlace();
+        this.#state = { ...this.#state, ...("parts" in change ? { list: null } : {}), ...change };
         this.#writeAddress("parts" in change);
         if ("scramble" in change || "parts" in change || this.#isReading) {
             tell(part("alert"), "");
             this.#refresh();
             return;
         }
-        this.#skeleton.turnTo(this.#state.side);
+        this.#line.turnTo(this.#state.side);
         this.#table.mark(this.#state.list);
         this.#showList();
+        if ("kept" in change) this.#showKept();
     }
 
     /** Puts the state into the address; a moment later where the browser has it done too often. @param {boolean} isStep */
@@ -119,6 +176,7 @@ export class Page {
         clearTimeout(this.#writing);
         const address = addressOf(this.#state);
         const isWritten = () => address === (location.hash || "#");
+        document.title = titleOfPage(this.#state);
         try {
             // what may be missed later can be had back by the browser
             if (isStep && !isWritten()) history.pushState(null, "", address);
@@ -129,18 +187,39 @@ export class Page {
         if (!isWritten()) this.#writing = setTimeout(() => this.#writeAddress(isStep), AGAIN_AFTER);
     }
 
-    #setScramble(scramble, isNew) {
+    /** @param {string} scramble @param {boolean} isNew @param {import("./scramble.js").Fmc | null} fmc */
+    async #setScramble(scramble, isNew, fmc) {
         this.#change(isNew ? { ...emptyState(), scramble } : { scramble });
+        if (!fmc) return;
+        const turn = this.#turn;
+        try {
+            const parts = await this.#readAll(fmc.steps);
+            const kept = [];
+            for (const { steps, note } of fmc.candidates.slice(0, MOST_CANDIDATES)) kept.push({ parts: await this.#readAll(steps), note: note.slice(0, 80) });
+            if (turn === this.#turn) this.#change({ parts, kept });
+        } catch (fault) {
+            if (turn === this.#turn) tell(part("alert"), `The steps of this text can't be read: ${fault.words ?? fault.message}.`);
+        }
+    }
+
+    /** The steps of some lines of text. @param {string[]} lines @returns {Promise<Part[]>} */
+    async #readAll(lines) {
+        const all = [];
+        for (const line of lines) all.push(...(await readByHand(this.#byHand, plainLine(line).line.trim(), "normal")));
+        return all;
     }
 
     /** Shows all of the state anew. A later call overtakes an earlier one. */
     async #refresh() {
         const turn = ++this.#turn;
         this.#isReading = false;
-        this.#now = null;
+        this.#cube = null;
+        document.title = titleOfPage(this.#state);
         this.#calls.drop();
-        this.#skeleton.show(this.#state.parts);
-        this.#skeleton.turnTo(this.#state.side);
+        this.#nets.stop();
+        this.#line.show(this.#state.parts);
+        this.#line.turnTo(this.#state.side);
+        this.#kept.show(this.#state.kept);
         this.#table.hold();
         this.#best.reset(null);
         announceLater("");
@@ -155,51 +234,85 @@ export class Page {
 
     /** Shows what the engine answers, as it comes. @param {number} turn */
     async #answer(turn) {
-        const scramble = await this.#readScramble(turn);
-        if (scramble === null) return;
-        const position = await examine(this.#calls, scramble, this.#state.parts);
+        const read = await this.#readScramble(turn);
+        if (read === null) return;
+        const cube = await examine(this.#calls, read.line, this.#state.parts);
         if (turn !== this.#turn) return;
-        this.#showPosition(position);
-        const offers = await offersAfter(this.#calls, position.lines);
-        if (turn === this.#turn) this.#showOffers(offers, scramble);
+        this.#showCube(read, cube);
+        await this.#showOffers(turn);
+        if (turn === this.#turn) this.#showAnswered();
     }
 
-    /** The scramble by its face turns, or null where it is at fault or overtaken. @param {number} turn */
+    /** The scramble as it is read, or null where it is at fault or overtaken. @param {number} turn */
     async #readScramble(turn) {
         let read = null;
         let fault = null;
         try {
-            read = await readScramble(this.#calls, this.#state.scramble);
+            read = await readScramble(this.#calls, plainLine(this.#state.scramble).line);
         } catch (stop) {
             if (!(stop instanceof EngineFault)) throw stop;
             fault = stop;
         }
         if (turn !== this.#turn) return null;
         this.#scramble.judge(fault, read);
+        part("welcome").hidden = this.#state.scramble.trim() !== "" || this.#state.parts.length > 0;
         if (fault) this.#setUsable(false);
-        return read && read.line;
+        return read;
     }
 
-    #showPosition({ now, facelets, skeleton }) {
-        this.#now = now;
-        for (const side of SIDES) showCube(this.#nets[side], facelets[side], `The cube on the ${side} side`);
-        this.#skeleton.describe(skeleton);
+    #showCube({ line: scramble, isTurned }, { walk, now, letters, whole }) {
+        const { parts } = this.#state;
+        const reached = walk.reached.at(-1);
+        // as it was typed, if what follows names the faces so
+        const written = isTurned ? scramble : plainLine(this.#state.scramble).line.trim().replace(/ +/g, " ");
+        this.#cube = { scramble, written, now, reached, letters: letters.normal, made: walk.totals.at(-1) };
+        const count = parts.reduce((sum, { moves }) => sum + moves.split(" ").length, 0);
+        this.#nets.show(letters, count, () => framesOf(this.#byHand, scramble, parts));
+        this.#line.describe(walk, whole, written);
         this.#setUsable(true);
-        this.#best.reset(now);
+        const isBare = this.#state.scramble.trim() === "" && parts.length === 0;
+        part("choices").hidden = isBare;
+        this.#best.reset(isBare ? null : { now, parts, reached });
+        this.#checkList(reached);
+        this.#table.begin(this.#cube);
+        this.#showKept();
     }
 
-    #showOffers({ offers, reached }, scramble) {
-        const isFinished = this.#skeleton.name(reached, scramble === "");
-        const isBare = this.#state.scramble.trim() === "" && this.#state.parts.length === 0;
-        part("welcome").hidden = !isBare;
-        part("choices").hidden = isBare;
-        this.#table.show(offers, this.#state.list);
+    /** Closes a list whose step may not start, and says why. @param {string[]} reached */
+    #checkList(reached) {
+        const { list } = this.#state;
+        if (!list || openSteps(reached).some(({ name }) => name === list.step)) return;
+        const step = stepNamed(list.step);
+        const why = reached.includes(list.step) ? "it is reached" : `${stateOf(stepNamed(step.needs))} isn't reached`;
+        tell(part("alert"), `${titleOf(step)} can't be listed here: ${why}.`);
+        this.#state = { ...this.#state, list: null };
+        this.#writeAddress(false);
+    }
+
+    /** Shows the steps that may follow: orientations as soon as they are known, and reductions. @param {number} turn */
+    async #showOffers(turn) {
+        const steps = openSteps(this.#cube.reached);
+        for (const isReduction of [false, true]) {
+            const offers = [];
+            for (const step of steps.filter(({ needs }) => (needs !== null) === isReduction)) {
+                offers.push(await offerOf(this.#calls, step, this.#cube.now));
+                if (turn !== this.#turn) return;
+            }
+            if (offers.length > 0) this.#table.add(offers, this.#cube, this.#state.list);
+        }
+        if (steps.length === 0) this.#table.add([], this.#cube, this.#state.list);
+    }
+
+    #showAnswered() {
         this.#showList();
+        const isFinished = isReduced(this.#cube.reached) && this.#state.parts.length > 0;
+        const isBare = part("choices").hidden;
         // a list that is looked for takes the focus itself, and says what it has
         if (this.#focusNext?.to === "list") return;
         if (this.#isFocusNext("table")) this.#showTaken(isFinished);
         else if (!isBare) announceLater(this.#table.summary());
         this.#table.giveBack();
+        this.#goBack();
     }
 
     /** Whether the focus is to go there now: it stays where it went meanwhile. @param {"list" | "table"} to */
@@ -210,60 +323,117 @@ export class Page {
         return [next.from, document.body].includes(document.activeElement);
     }
 
-    /** After a step the cube and the skeleton come into view, and the focus goes to what comes next. @param {boolean} isFinished */
+    /** After a step what follows comes into view and has the focus. @param {boolean} isFinished */
     #showTaken(isFinished) {
-        if (isFinished) part("copy-bracketed").focus({ preventScroll: true });
+        if (isFinished) part("copy-fmc").focus({ preventScroll: true });
         else this.#table.focus();
         showStart(isFinished);
+    }
+
+    /** Goes back to where one was, once what had the focus there is shown. */
+    #goBack() {
+        if (this.#return === null || part("choices").inert) return;
+        const { key } = this.#return;
+        const found = key === "" ? null : (this.#best.reveal(key) ?? this.#list.reveal(key) ?? this.#table.cell(key));
+        if (key !== "" && !found) return;
+        goTo(this.#return, found);
+        this.#return = null;
     }
 
     /** Shows the open list, where it isn't shown yet; where the cube isn't known yet, once it is. */
     async #showList() {
         const { list } = this.#state;
-        if (list && !this.#now) return;
-        const name = list ? [this.#turn, list.step, list.side, list.slack].join(" ") : "";
+        if (list && !this.#cube) return;
+        const name = list ? [this.#turn, list.step, list.side, list.slack, list.isAll].join(" ") : "";
         if (name === this.#openList) return;
         this.#openList = name;
         this.#listCalls.stop();
         this.#list.open(list);
+        this.#nets.follow(list ? stateOf(stepNamed(list.step)) : "");
         if (!list) return;
+        const isStill = () => name === this.#openList;
         try {
-            const { solutions, whole } = await solutionsOf(this.#listCalls, list.step, list.slack, this.#now[list.side]);
-            if (name !== this.#openList) return;
-            this.#list.show(solutions, whole);
-            const all = `${whole ? "" : "more than "}${counted(solutions.length, "solution")}`;
-            announce(`${titleOf(stepNamed(list.step))}, ${list.side} side: ${all}.`);
+            const line = this.#cube.now[list.side];
+            const { solutions, whole } = await solve(this.#listCalls, list.step, list.slack, line);
+            if (!isStill()) return;
+            const wanted = this.#list.take(solutions, whole);
+            const letters = await printAll(this.#listCalls, wanted.map(({ moves }) => `${line} ${moves}`));
+            if (!isStill()) return;
+            this.#list.show(letters);
+            announce(`${titleOf(stepNamed(list.step))}, ${list.side} side: ${this.#list.summary()}.`);
             if (this.#isFocusNext("list")) this.#list.focus();
+            this.#goBack();
         } catch (fault) {
-            if (name === this.#openList) this.#list.refuse(fault instanceof Stopped ? "Stopped." : fault.message);
+            if (isStill()) this.#list.refuse(fault instanceof Stopped ? "Stopped." : fault.message);
         }
     }
 
+    /** Shows what the engine says of the lines that are kept. */
+    async #showKept() {
+        const { kept, parts } = this.#state;
+        this.#kept.show(kept);
+        this.#best.mark();
+        this.#list.mark();
+        const isKept = this.#kept.has(parts);
+        part("keep-line").textContent = isKept ? "★ Kept" : "☆ Keep";
+        part("keep-line").setAttribute("aria-pressed", String(isKept));
+        if (kept.length === 0 || !this.#cube) return;
+        const { scramble, written } = this.#cube;
+        try {
+            const walks = await walkAll(this.#keptCalls, scramble, kept.map((each) => each.parts));
+            if (kept === this.#state.kept) this.#kept.describe(walks, written);
+        } catch (fault) {
+            if (kept === this.#state.kept) tell(part("alert"), `The lines that are kept can't be read: ${fault.words ?? fault.message}.`);
+        }
+    }
+
+    /** Keeps a line, or takes it away where it is kept. @param {Part[]} parts */
+    #star(parts) {
+        const name = nameOfCandidate(parts);
+        const others = this.#state.kept.filter((each) => nameOfCandidate(each.parts) !== name);
+        const isKept = others.length < this.#state.kept.length;
+        const kept = isKept ? others : [...others, { parts, note: "" }];
+        if (kept.length > MOST_CANDIDATES || !fitsAddress({ ...this.#state, kept })) {
+            tell(part("alert"), NO_ROOM);
+            return;
+        }
+        this.#change({ kept });
+        announce(`${spoken(name) || "No moves"}: ${isKept ? "no longer kept" : "kept"}.`);
+    }
+
+    /** Opens a list, or closes it where it is open. @param {string} step @param {Side} side */
     #open(step, side) {
-        this.#openList = "";
-        this.#change({ list: { step, side, slack: this.#state.list?.slack ?? 0 } }, "list");
+        const { list } = this.#state;
+        if (list?.step === step && list.side === side) return this.#changeList(null);
+        this.#change({ list: { step, side, slack: list?.slack ?? 0, isAll: list?.isAll ?? false } }, "list");
     }
 
-    #loosen(slack) {
-        if (this.#state.list) this.#change({ list: { ...this.#state.list, slack } });
+    /** Changes what the open list shows, or closes it. @param {Partial<import("./address.js").List> | null} change */
+    #changeList(change) {
+        const { list } = this.#state;
+        if (!list) return;
+        const isWithin = part("solutions").contains(document.activeElement);
+        this.#change({ list: change === null ? null : { ...list, ...change } });
+        if (change === null && isWithin) (this.#table.cell(`${list.step}.${list.side}`) ?? part("steps-heading")).focus();
     }
 
-    #take(moves) {
-        const { parts, list } = this.#state;
-        const taken = { side: list.side, moves };
-        this.#change({ parts: [...parts, taken], side: list.side, list: null }, "table");
-        announce(`${bracketed([taken])} is taken.`);
+    /** @param {Part} taken */
+    #take(taken) {
+        this.#change({ parts: [...this.#state.parts, taken], side: taken.side }, "table");
+        announce(`${spoken(bracketed([taken]))} is taken.`);
     }
 
-    #goOn({ side, moves }, list) {
+    /** Takes a row of the best, and opens the list of the reduction that follows. @param {import("./continuations.js").Row} row */
+    #goOn({ part: taken, next }) {
+        if (!next) return this.#take(taken);
         const { parts } = this.#state;
-        this.#openList = "";
-        this.#change({ parts: moves === "" ? parts : [...parts, { side, moves }], side: list.side, list: { ...list, slack: 0 } }, "list");
+        const list = { step: next.step, side: next.side, slack: 0, isAll: false };
+        this.#change({ parts: taken.moves === "" ? parts : [...parts, taken], side: next.side, list }, "list");
     }
 
     /** Makes what rests on a readable scramble usable or not. @param {boolean} usable */
     #setUsable(usable) {
-        for (const name of ["skeleton", "results"]) part(name).inert = !usable;
+        for (const name of ["line", "results", "kept", "cube"]) part(name).inert = !usable;
     }
 
     /** Says why there is no answer. @param {Error} fault */

@@ -1,12 +1,17 @@
-// What the engine says of a scramble and the moves after it: the cube on both sides, what is reached, and which steps may follow.
-import { answersOf, countsOf } from "./answers.js";
-import { ORIENTATIONS, REDUCTIONS } from "./steps.js";
+// What the engine says of a scramble and the moves after it: the cube after each step, its letters, what is reached, and which steps may follow.
+import { caseName, badEdges, reachedBy } from "./cases.js";
+import { countAll, invertAll, joinAll, printAll, turnsOfAll } from "./engine.js";
+import { statesOf } from "./steps.js";
 
 /** @typedef {import("./steps.js").Side} Side */
-/** @typedef {{side: Side, moves: string}} Part one step of the skeleton */
+/** @typedef {{side: Side, moves: string}} Part one step of a line */
 /** @typedef {{normal: string, inverse: string}} Lines a cube, as lines of moves that give it on each side */
 /** @typedef {import("./answers.js").Count} Count */
 /** @typedef {{step: import("./steps.js").OfferedStep, normal: Count, inverse: Count}} Offer */
+/**
+ * What is known of a line after each beginning, from none of its parts to all.
+ * @typedef {{parts: Part[], lines: Lines[], letters: string[], reached: string[][], totals: number[], turns: number[]}} Walk `turns`: of each part
+ */
 
 const joined = (...parts) => parts.filter((part) => part !== "").join(" ");
 
@@ -24,73 +29,99 @@ export function bracketed(parts) {
     return runs.map(({ side, moves }) => (side === "normal" ? moves : `(${moves})`)).join(" ");
 }
 
+/** The beginnings of parts, from none to all. @param {Part[]} parts */
+const beginningsOfParts = (parts) => Array.from({ length: parts.length + 1 }, (_, count) => parts.slice(0, count));
+
 /**
- * The cube after each beginning of the parts, from none to all. Moves on the inverse side come before the scramble, inverted.
- * @param {import("./calls.js").Calls} calls @param {string} scramble @param {Part[]} parts @returns {Promise<Lines[]>}
+ * The cube after each of some lines of parts. Moves on the inverse side come before the scramble, inverted.
+ * @param {import("./calls.js").Calls} calls @param {string} scramble @param {Part[][]} all @returns {Promise<Lines[]>}
  */
-async function linesAfter(calls, scramble, parts) {
-    const beginnings = Array.from({ length: parts.length + 1 }, (_, count) => parts.slice(0, count)).map((beginning) => ({
-        normal: joined(scramble, movesOn(beginning, "normal")),
-        inverse: movesOn(beginning, "inverse"),
-    }));
-    const inverted = await answersOf(calls, ["invert"], beginnings.flatMap(({ normal, inverse }) => [normal, inverse]));
-    return beginnings.map(({ normal, inverse }, index) => ({
+async function linesAfter(calls, scramble, all) {
+    const sides = all.map((parts) => ({ normal: joined(scramble, movesOn(parts, "normal")), inverse: movesOn(parts, "inverse") }));
+    const inverted = await invertAll(calls, sides.flatMap(({ normal, inverse }) => [normal, inverse]));
+    return sides.map(({ normal, inverse }, index) => ({
         normal: joined(inverted[2 * index + 1], normal),
         inverse: joined(inverted[2 * index], inverse),
     }));
 }
 
 /**
- * Counts a step after each beginning where it may start, and on the inverse side after the whole.
- * @param {import("./calls.js").Calls} calls @param {import("./steps.js").OfferedStep} step @param {Lines[]} lines
- * @param {string[][]} reached after each beginning; the step is added where it is reached
- * @returns {Promise<Offer | null>} null where it may not start after the whole
+ * Walks through some lines of one scramble.
+ * @param {import("./calls.js").Calls} calls @param {string} scramble by its face turns @param {Part[][]} candidates @returns {Promise<Walk[]>}
  */
-async function offerOf(calls, step, lines, reached) {
-    const last = lines.length - 1;
-    const mayStart = (index) => step.needs === null || reached[index].includes(step.needs);
-    const places = lines.map((_, index) => index).filter(mayStart);
-    const asked = places.map((index) => lines[index].normal);
-    if (mayStart(last)) asked.push(lines[last].inverse);
-    const counts = await countsOf(calls, step.name, asked);
-    places.forEach((index, at) => {
-        if (counts[at].length === 0) reached[index].push(step.name);
-    });
-    return mayStart(last) ? { step, normal: counts.at(-2), inverse: counts.at(-1) } : null;
+export async function walkAll(calls, scramble, candidates) {
+    const beginnings = candidates.flatMap(beginningsOfParts);
+    const lines = await linesAfter(calls, scramble, beginnings);
+    const letters = await printAll(calls, lines.map(({ normal }) => normal));
+    const alone = candidates.flat().map((part) => [part]);
+    const turns = await turnsOfAll(calls, [...beginnings, ...alone].map(bracketed));
+    const walks = [];
+    let begin = 0;
+    let part = beginnings.length;
+    for (const parts of candidates) {
+        const end = begin + parts.length + 1;
+        const seen = letters.slice(begin, end);
+        walks.push({
+            parts,
+            lines: lines.slice(begin, end),
+            letters: seen,
+            reached: seen.map(reachedBy),
+            totals: turns.slice(begin, end),
+            turns: turns.slice(part, part + parts.length),
+        });
+        begin = end;
+        part += parts.length;
+    }
+    return walks;
 }
 
 /**
- * The moves of the skeleton: as a line, joined, and how many face turns they have.
- * @param {import("./calls.js").Calls} calls @param {Part[]} parts
- */
-async function skeletonOf(calls, parts) {
-    const line = bracketed(parts);
-    const alone = parts.map((part) => bracketed([part]));
-    const [joinedLine] = await answersOf(calls, ["unniss"], [line]);
-    const cleaned = await answersOf(calls, ["cleanup"], [line, ...alone]);
-    const [turns, ...turnsOfParts] = cleaned.map((text) => text.match(/[UDRLFB]/g)?.length ?? 0);
-    return { line, joined: joinedLine, turns, turnsOfParts };
-}
-
-/**
- * The cube on both sides and the skeleton.
+ * The cube on both sides, and the line so far.
  * @param {import("./calls.js").Calls} calls @param {string} scramble by its face turns @param {Part[]} parts
  */
 export async function examine(calls, scramble, parts) {
-    const lines = await linesAfter(calls, scramble, parts);
-    const now = lines.at(-1);
-    const [normal, inverse] = await answersOf(calls, ["print"], [now.normal, now.inverse]);
-    const skeleton = await skeletonOf(calls, parts);
-    return { lines, now, facelets: { normal, inverse }, skeleton };
+    const [walk] = await walkAll(calls, scramble, [parts]);
+    const now = walk.lines.at(-1);
+    const [inverse] = await printAll(calls, [now.inverse]);
+    const [whole] = await joinAll(calls, [bracketed(parts)]);
+    return { walk, now, letters: { normal: walk.letters.at(-1), inverse }, whole };
 }
 
 /**
- * The steps that may follow, with their counts on both sides, and what each beginning of the skeleton reaches.
- * @param {import("./calls.js").Calls} calls @param {Lines[]} lines
+ * The cube on both sides after the scramble and after each move of some parts.
+ * @param {import("./calls.js").Calls} calls @param {string} scramble by its face turns @param {Part[]} parts
+ * @returns {Promise<{move: string, letters: Record<Side, string>}[]>}
  */
-export async function offersAfter(calls, lines) {
-    const reached = lines.map(() => []);
-    const offers = [];
-    for (const step of [...ORIENTATIONS, ...REDUCTIONS]) offers.push(await offerOf(calls, step, lines, reached));
-    return { offers: offers.filter(Boolean), reached };
+export async function framesOf(calls, scramble, parts) {
+    const moves = parts.flatMap(({ side, moves: text }) => text.split(" ").map((move) => ({ side, moves: move })));
+    const lines = await linesAfter(calls, scramble, beginningsOfParts(moves));
+    const letters = await printAll(calls, lines.flatMap(({ normal, inverse }) => [normal, inverse]));
+    return lines.map((_, at) => ({
+        move: at === 0 ? "" : bracketed([moves[at - 1]]),
+        letters: { normal: letters[2 * at], inverse: letters[2 * at + 1] },
+    }));
+}
+
+/**
+ * A step with its counts on both sides.
+ * @param {import("./calls.js").Calls} calls @param {import("./steps.js").OfferedStep} step @param {Lines} now @returns {Promise<Offer>}
+ */
+export async function offerOf(calls, step, now) {
+    const [normal, inverse] = await countAll(calls, step.name, [now.normal, now.inverse]);
+    return { step, normal, inverse };
+}
+
+/** What solvers choose a step by: bad edges, or the case. @param {string} letters @param {import("./steps.js").OfferedStep} step */
+export function caseOfStep(letters, { axis, needs }) {
+    if (needs !== null) return caseName(letters, axis);
+    const count = badEdges(letters, axis).length;
+    return `${count} bad edge${count === 1 ? "" : "s"}`;
+}
+
+/** What a step of a line newly reaches; a reduction says the orientations that hold with it. @param {Walk} walk @param {number} index */
+export function newlyReached({ reached }, index) {
+    const before = statesOf(reached[index]);
+    const fresh = statesOf(reached[index + 1]).filter((state) => !before.includes(state));
+    const reductions = fresh.filter((state) => state.startsWith("DR"));
+    return reductions.length > 0 ? reductions : fresh;
 }

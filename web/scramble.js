@@ -1,14 +1,19 @@
-// The field of the scramble, with examples and random scrambles from a seed.
-import { EngineFault, answersOf } from "./answers.js";
-import { LONGEST_SCRAMBLE, oneLine } from "./address.js";
-import { announce, part, tell } from "./element.js";
-import { showFault } from "./fault.js";
+// The card of the scramble: its field, with what was left out of a text and what is at fault, examples, random scrambles from a seed, and the
+// fold of it where the page is narrow.
+import { EngineFault } from "./answers.js";
+import { LONGEST_SCRAMBLE } from "./address.js";
+import { announce, element, part, tell } from "./element.js";
+import { scrambleOf } from "./engine.js";
+import { placeOfFault, showFault } from "./fault.js";
+import { plainLine, readFmc } from "./pasted.js";
 
-const LENGTH = "25";
-const STREAM = "1";
+/** @typedef {{scramble: string, steps: string[], candidates: {steps: string[], note: string}[]}} Fmc */
+
 const PAUSE = 150;
 const SEEDS = "A seed is a whole number from 0 to 18,446,744,073,709,551,615.";
-const LEFT_OUT = "the turns of the whole cube are left out, so U stays the face that was U.";
+const TURNS_LEFT_OUT = "the turns of the whole cube are left out, so U stays the face that was U.";
+const NARROW = "(max-width: 59.99rem)";
+const PLAIN_SEED = { line: "", places: [], leftOut: [] };
 
 /** A seed that nobody chose. */
 function freshSeed() {
@@ -20,19 +25,26 @@ export class ScrambleField {
     #calls;
     #changed;
     #field = part("scramble");
+    #backdrop = part("scramble-marks");
     #seed = part("seed");
     #timer = 0;
     #draws = 0;
+    #leftOut = [];
+    #isRead = false;
+    #isClosed = false;
 
     /**
      * @param {import("./calls.js").Calls} calls
-     * @param {(scramble: string, isNew: boolean) => void} changed a new scramble begins a new skeleton, one that is typed keeps it
+     * @param {(scramble: string, isNew: boolean, fmc: Fmc | null) => void} changed a new scramble begins a new line, one that is typed keeps it
      */
     constructor(calls, changed) {
         this.#calls = calls;
         this.#changed = changed;
         this.#field.maxLength = LONGEST_SCRAMBLE;
-        this.#field.addEventListener("input", () => this.#typed());
+        this.#field.addEventListener("input", (event) => this.#typed(event));
+        this.#field.addEventListener("scroll", () => {
+            this.#backdrop.scrollTop = this.#field.scrollTop;
+        });
         part("random").addEventListener("click", () => this.#draw(freshSeed()));
         part("seed-form").addEventListener("submit", (event) => {
             event.preventDefault();
@@ -41,48 +53,101 @@ export class ScrambleField {
         for (const example of document.querySelectorAll("[data-example]")) {
             example.addEventListener("click", () => this.#put(example.dataset.example));
         }
+        part("scramble-edit").addEventListener("click", () => {
+            this.#fold(false);
+            this.#field.focus();
+        });
+        part("scramble-card").addEventListener("focusout", ({ relatedTarget }) => {
+            if (!part("scramble-card").contains(relatedTarget) && relatedTarget !== null) this.#fold(this.#isRead);
+        });
     }
 
     /** Shows a scramble that did not come from the field. @param {string} scramble */
     show(scramble) {
         clearTimeout(this.#timer);
-        if (oneLine(this.#field.value) !== scramble) this.#field.value = scramble;
+        if (plainLine(this.#field.value).line !== scramble || readFmc(this.#field.value)) {
+            this.#field.value = scramble;
+            this.#leftOut = [];
+        }
     }
 
     /**
-     * Shows what is wrong with the scramble, or that nothing is; and how it is read, where turns of the whole cube are left out.
+     * Shows what is wrong with the scramble, or that nothing is; and how it is read, where anything is left out.
      * @param {Error | null} fault @param {{line: string, isTurned: boolean} | null} read
      */
     judge(fault, read) {
-        showFault(part("scramble-fault"), this.#field, oneLine(this.#field.value), fault);
-        tell(part("scramble-read"), read?.isTurned ? `Read as ${read.line || "no moves"}: ${LEFT_OUT}` : "");
+        const text = this.#field.value;
+        const plain = plainLine(text);
+        showFault(part("scramble-fault"), this.#field, plain, fault, text);
+        this.#markPlace(text, placeOfFault(plain, fault, text));
+        const sentences = this.#leftOut.length > 0 ? [`Left out: ${this.#leftOut.join(", ")}.`] : [];
+        if (read?.isTurned) sentences.push(`Read as ${read.line || "no moves"}: ${TURNS_LEFT_OUT}`);
+        tell(part("scramble-read"), sentences.join(" "));
+        part("scramble-folded").textContent = text;
+        this.#isRead = read !== null && read.line !== "";
+        this.#closeSeeds();
+        const isTyped = document.activeElement === this.#field;
+        if (!isTyped || !this.#isRead) this.#fold(this.#isRead);
     }
 
-    #typed() {
+    /** Closes what begins a page, once there is a scramble; what is opened later stays open. */
+    #closeSeeds() {
+        if (!this.#isRead || this.#isClosed || part("seeds").contains(document.activeElement)) return;
+        this.#isClosed = true;
+        part("seeds").open = false;
+    }
+
+    /** Folds the card where the page is narrow, or opens it; the focus isn't lost with what is folded. @param {boolean} isFolded */
+    #fold(isFolded) {
+        const focused = document.activeElement;
+        part("scramble-card").classList.toggle("folded", isFolded);
+        if (isFolded && matchMedia(NARROW).matches && part("scramble-open").contains(focused)) part("scramble-edit").focus({ preventScroll: true });
+    }
+
+    /** Marks a place in the field, by a text behind it. @param {string} text @param {number | null} place */
+    #markPlace(text, place) {
+        if (place === null) return this.#backdrop.replaceChildren();
+        const sign = String.fromCodePoint(text.codePointAt(place) ?? 32);
+        const word = /^[^\s()]+/.exec(text.slice(place))?.[0] ?? sign;
+        this.#backdrop.replaceChildren(text.slice(0, place), element("mark", {}, word), text.slice(place + word.length));
+        this.#backdrop.scrollTop = this.#field.scrollTop;
+    }
+
+    #typed(event) {
         clearTimeout(this.#timer);
-        this.#timer = setTimeout(() => this.#changed(oneLine(this.#field.value), false), PAUSE);
+        this.#markPlace("", null);
+        // what is pasted is whole
+        if (event.inputType === "insertFromPaste") this.#read();
+        else this.#timer = setTimeout(() => this.#read(), PAUSE);
+    }
+
+    #read() {
+        const text = this.#field.value;
+        const fmc = readFmc(text);
+        const plain = plainLine(fmc ? fmc.scramble : text);
+        this.#leftOut = plain.leftOut;
+        if (fmc) this.#field.value = plain.line.trim();
+        this.#changed(fmc ? plain.line.trim() : plain.line, fmc !== null, fmc);
     }
 
     #put(scramble) {
         this.show(scramble);
-        this.#changed(scramble, true);
+        this.#changed(scramble, true, null);
     }
 
     async #draw(seed) {
         this.#seed.value = seed;
         // of several that are asked for at once the last one counts, whose seed is shown
         const draw = ++this.#draws;
+        const show = (fault) => showFault(part("seed-fault"), this.#seed, PLAIN_SEED, fault, seed);
         try {
-            // a word can't hold a zero byte
-            const word = seed.replaceAll("\0", "?");
-            const [scramble] = await answersOf(this.#calls, ["scramble", word, STREAM, LENGTH, "1"], [""]);
+            const scramble = await scrambleOf(this.#calls, seed);
             if (draw !== this.#draws) return;
-            showFault(part("seed-fault"), this.#seed, seed, null);
+            show(null);
             this.#put(scramble);
             announce(`Scramble from seed ${seed}: ${scramble}`);
         } catch (fault) {
-            if (draw !== this.#draws) return;
-            showFault(part("seed-fault"), this.#seed, seed, fault instanceof EngineFault ? new Error(SEEDS) : fault);
+            if (draw === this.#draws) show(fault instanceof EngineFault ? new Error(SEEDS) : fault);
         }
     }
 }

@@ -1,98 +1,96 @@
-// The list of a step's solutions: grouped by length, filtered by typing, and cut where it is long.
-import { announce, announceLater, counted, element, part, setBusy, tell } from "./element.js";
+// The list of a step's solutions: grouped by length or by case, filtered by turns and by case, and cut where it is long.
+import { caseName, sizeOf } from "./cases.js";
+import { announce, announceLater, counted, element, part, setBusy, spoken, tell } from "./element.js";
+import { hasTurns, lastTurn, turnsOf } from "./filter.js";
+import { bracketed } from "./position.js";
 import { roveWithin } from "./roving.js";
-import { stepNamed, titleOf } from "./steps.js";
+import { reductionsAfter, stateOf, stepNamed, titleOf } from "./steps.js";
+import { mergeTwins, withoutEarlier } from "./twins.js";
 
 /** @typedef {import("./address.js").List} List */
-/** @typedef {import("./answers.js").Solution} Solution */
+/** @typedef {import("./position.js").Part} Part */
+/** @typedef {import("./twins.js").Twins & {letters?: string}} Entry a solution, and the letters after it where they are known */
 
 export const MOST_SHOWN = 200;
+/** Of how many solutions the cases are asked for. */
+export const MOST_WITH_CASES = 50000;
 const LOOKING = "Looking …";
 const NOT_MOVES = "The text in the filter is not moves: type face turns such as F B'.";
 
-/** Of two turns of opposite faces, which may stand in either order, the lists have these first. */
-const FIRST_OF_AXIS = { D: "U", L: "R", B: "F" };
-
-/** Turns as the lists have them, where neighbours of opposite faces are the other way round. @param {string[]} turns */
-function inListOrder(turns) {
-    const ordered = [...turns];
-    for (let at = 1; at < ordered.length; at++) {
-        const [one, other] = [ordered[at - 1], ordered[at]];
-        if (FIRST_OF_AXIS[one[0]] === other[0]) ordered.splice(at - 1, 2, other, one);
-    }
-    return ordered;
-}
-
-/** The face turns that are typed, or null where the text isn't moves. @param {string} text @returns {string[] | null} */
-function turnsOf(text) {
-    const plain = text.replace(/\u2019/g, "'").toUpperCase();
-    if (!/^\s*(?:[UDRLFB](?:2'?|')?\s*)*$/.test(plain)) return null;
-    return inListOrder((plain.match(/[UDRLFB][2']*/g) ?? []).map((turn) => turn.replace("2'", "2")));
-}
-
-/** Whether a solution has these turns one after another. @param {Solution} solution @param {string[]} wanted */
-const hasTurns = ({ moves }, wanted) => wanted.length === 0 || ` ${moves} `.includes(` ${wanted.join(" ")} `);
-
-/** How many solutions there are of each length. @param {Solution[]} solutions @returns {Map<number, number>} */
-function countsOfLengths(solutions) {
-    const counts = new Map();
-    for (const { length } of solutions) counts.set(length, (counts.get(length) ?? 0) + 1);
-    return counts;
-}
-
-/** @param {Solution[]} solutions @returns {Map<number, Solution[]>} */
-function byLength(solutions) {
+/** @template Item @param {Item[]} items @param {(item: Item) => string} nameOf @returns {Map<string, Item[]>} */
+function grouped(items, nameOf) {
     const groups = new Map();
-    for (const solution of solutions) {
-        if (!groups.has(solution.length)) groups.set(solution.length, []);
-        groups.get(solution.length).push(solution);
-    }
+    for (const item of items) groups.set(nameOf(item), [...(groups.get(nameOf(item)) ?? []), item]);
     return groups;
 }
 
 export class SolutionList {
-    #taken;
+    #acts;
     #list = null;
-    /** @type {Solution[] | null} null where they aren't known */
-    #solutions = null;
+    #all = null;
+    #left = [];
+    #entries = [];
     #whole = true;
-    #groups = part("solutions-groups");
     #filter = part("filter");
+    #groups = part("solutions-groups");
 
     /**
-     * @param {(moves: string) => void} taken what to do with a solution
-     * @param {(slack: number) => void} loosened what to do with another slack
+     * @param {{take: (part: Part) => void, change: (change: Partial<List> | null) => void, star: (part: Part) => void,
+     *     isStarred: (part: Part) => boolean, copy: (text: string, button: HTMLElement) => void}} acts
      */
-    constructor(taken, loosened) {
-        this.#taken = taken;
+    constructor(acts) {
+        this.#acts = acts;
         this.#filter.addEventListener("input", () => this.#typed());
-        part("slack").addEventListener("change", (event) => loosened(Number(event.target.value)));
-        roveWithin(this.#groups, "button");
+        part("slack").addEventListener("change", (event) => acts.change({ slack: Number(event.target.value) }));
+        part("twins").addEventListener("change", (event) => acts.change({ isAll: event.target.checked }));
+        part("solutions-close").addEventListener("click", () => acts.change(null));
+        for (const name of ["last-turn", "most-corners", "most-edges", "list-sort"]) part(name).addEventListener("change", () => this.#draw());
+        roveWithin(this.#groups, ".take");
     }
 
     /** Shows that a list is looked for, or that none is open. @param {List | null} list */
     open(list) {
-        // the filter stays for the same list with another slack, and what is typed while it is looked for stays too
-        const isLoosened = list?.step === this.#list?.step && list?.side === this.#list?.side && list?.slack !== this.#list?.slack;
-        if (!isLoosened) this.#filter.value = "";
+        const isSame = list?.step === this.#list?.step && list?.side === this.#list?.side;
+        // the filters stay for the same list with other rows, and what is typed while it is looked for stays too
+        if (!isSame) this.#clearFilters();
         this.#list = list;
-        this.#solutions = null;
+        this.#all = null;
         announceLater("");
         this.#groups.replaceChildren();
         part("solutions").hidden = list === null;
         this.#setWorking(list !== null);
         if (list === null) return;
         part("solutions-heading").textContent = `${titleOf(stepNamed(list.step))}, ${list.side} side`;
+        part("solutions").dataset.marks = stateOf(stepNamed(list.step));
         part("slack").value = String(list.slack);
+        part("twins").checked = list.isAll;
+        part("case-filters").hidden = stepNamed(list.step).needs !== null;
         tell(part("solutions-note"), LOOKING);
     }
 
-    /** Shows the solutions of the open list. @param {Solution[]} solutions @param {boolean} whole */
-    show(solutions, whole) {
-        this.#solutions = solutions;
+    /** Takes the solutions of the open list, and answers those whose letters are wanted. @param {import("./answers.js").Solution[]} all @param {boolean} whole */
+    take(all, whole) {
+        this.#all = all;
         this.#whole = whole;
+        const { step, isAll } = this.#list;
+        this.#left = isAll ? all : withoutEarlier(all);
+        this.#entries = isAll ? all.map((each) => ({ ...each, others: [] })) : mergeTwins(this.#left, step);
+        return stepNamed(step).needs === null ? this.#entries.slice(0, MOST_WITH_CASES) : [];
+    }
+
+    /** Shows the list, with what is known of its cases. @param {string[]} letters after each of those that were wanted */
+    show(letters) {
+        letters.forEach((each, at) => {
+            this.#entries[at].letters = each;
+        });
+        this.#offerLastTurns();
         this.#setWorking(false);
         this.#draw();
+    }
+
+    /** Shows the stars as they are. */
+    mark() {
+        if (this.#all !== null) this.#draw();
     }
 
     /** Says why there is no list. @param {string} text */
@@ -103,7 +101,24 @@ export class SolutionList {
     }
 
     focus() {
-        (this.#groups.querySelector("button") ?? part("solutions-heading")).focus();
+        (this.#groups.querySelector(".take") ?? part("solutions-heading")).focus();
+    }
+
+    /** The button of some moves, or null. @param {string} key */
+    reveal(key) {
+        return [...this.#groups.querySelectorAll(".take")].find(({ dataset }) => dataset.key === key) ?? null;
+    }
+
+    /** How many solutions there are, in words. */
+    summary() {
+        return `${this.#whole ? "" : "more than "}${counted(this.#all.length, "solution")}`;
+    }
+
+    #clearFilters() {
+        this.#filter.value = "";
+        for (const name of ["last-turn", "list-sort"]) part(name).value = "";
+        part("most-corners").value = "8";
+        part("most-edges").value = "4";
     }
 
     #setWorking(isWorking) {
@@ -114,45 +129,137 @@ export class SolutionList {
         setBusy("solutions", isWorking, LOOKING);
     }
 
+    #offerLastTurns() {
+        const field = part("last-turn");
+        const chosen = field.value;
+        const turns = [...new Set(this.#entries.map(({ moves }) => lastTurn(moves)).filter(Boolean))].sort();
+        field.replaceChildren(element("option", { value: "" }, "any"), ...turns.map((turn) => element("option", { value: turn }, turn)));
+        field.value = turns.includes(chosen) ? chosen : "";
+    }
+
     /** Shows what the filter leaves, and says it once nothing more is typed. */
     #typed() {
         this.#draw();
-        if (this.#solutions !== null) announceLater(part("solutions-note").textContent);
+        if (this.#all !== null) announceLater(part("solutions-note").textContent);
+    }
+
+    /** The names of the cases after a solution, for each reduction that may follow. @param {Entry} entry */
+    #casesOf({ letters }) {
+        if (letters === undefined) return [];
+        return reductionsAfter(this.#list.step).map((step) => ({ state: stateOf(step), axis: step.axis, name: caseName(letters, step.axis) }));
+    }
+
+    /** @param {string[]} wanted */
+    #matching(wanted) {
+        const [last, corners, edges] = [part("last-turn").value, Number(part("most-corners").value), Number(part("most-edges").value)];
+        const isAnyCase = corners === 8 && edges === 4;
+        const hasCase = (entry) => this.#casesOf(entry).some(({ name }) => sizeOf(name).corners <= corners && sizeOf(name).edges <= edges);
+        const hasAny = ({ moves, others }) => {
+            const own = moves.split(" ");
+            const twins = others.map((end) => [...own.slice(0, -end.split(" ").length), end].join(" "));
+            return [moves, ...twins].some((each) => hasTurns(each, wanted) && (last === "" || lastTurn(each) === last));
+        };
+        return this.#entries.filter((entry) => hasAny(entry) && (isAnyCase || hasCase(entry)));
+    }
+
+    /** How far the nearest case of an entry is. @param {Entry} entry */
+    #farness(entry) {
+        return Math.min(Infinity, ...this.#casesOf(entry).map(({ name }) => sizeOf(name).corners + 2 * sizeOf(name).edges));
     }
 
     #draw() {
-        if (this.#solutions === null) return;
+        if (this.#all === null) return;
         const wanted = turnsOf(this.#filter.value);
         this.#filter.setAttribute("aria-invalid", String(wanted === null));
-        const matching = wanted === null ? [] : this.#solutions.filter((solution) => hasTurns(solution, wanted));
+        const matching = wanted === null ? [] : this.#matching(wanted);
+        const byCase = part("list-sort").value === "case";
+        if (byCase) {
+            const far = new Map(matching.map((entry) => [entry, this.#farness(entry)]));
+            matching.sort((one, other) => far.get(one) - far.get(other) || one.length - other.length);
+        }
         const shown = matching.slice(0, MOST_SHOWN);
-        const counts = countsOfLengths(matching);
-        const parts = [...byLength(shown)].map(([length, solutions]) => this.#group(length, solutions, counts.get(length)));
-        this.#groups.replaceChildren(...parts);
-        this.#groups.querySelector("button")?.setAttribute("tabindex", "0");
-        tell(part("solutions-note"), wanted === null ? NOT_MOVES : this.#note(matching.length, shown.length, wanted.join(" ")));
+        const nearest = (entry) => {
+            const cases = this.#casesOf(entry).sort((one, other) => sizeOf(one.name).corners + 2 * sizeOf(one.name).edges - sizeOf(other.name).corners - 2 * sizeOf(other.name).edges);
+            return cases[0]?.name ?? "unknown case";
+        };
+        const nameOf = byCase ? nearest : ({ length }) => counted(length, "move");
+        const counts = grouped(matching.slice(0, MOST_WITH_CASES), nameOf);
+        const groups = [...grouped(shown, nameOf)].map(([name, entries]) => this.#group(name, entries, counts.get(name)?.length ?? entries.length));
+        const focused = this.#groups.contains(document.activeElement) ? document.activeElement.closest("li")?.querySelector(".take")?.dataset.key : null;
+        this.#groups.replaceChildren(...groups);
+        this.#groups.querySelector(".take")?.setAttribute("tabindex", "0");
+        if (focused) this.reveal(focused)?.focus({ preventScroll: true });
+        tell(part("solutions-note"), wanted === null ? NOT_MOVES : this.#note(matching.length, shown.length));
     }
 
-    #note(matching, shown, wanted) {
-        const all = counted(this.#solutions.length, "solution");
-        if (this.#solutions.length === 0) return "No solution within 20 moves.";
-        const of = `${matching.toLocaleString("en")} of ${this.#whole ? "" : "the first "}${all}`;
-        const sentences = [wanted === "" ? `${this.#whole ? "" : "More than "}${all}.` : `${of} with ${wanted}.`];
-        if (shown < matching) sentences.push(`The list is cut: the first ${shown} are shown. Type moves to narrow it.`);
+    #note(matching, shown) {
+        if (this.#all.length === 0) return "No solution within 20 moves.";
+        const all = `${this.#whole ? "" : "More than "}${counted(this.#all.length, "solution")}`;
+        const sentences = [`${all}.`];
+        const earlier = this.#all.length - this.#left.length;
+        const twins = this.#left.length - this.#entries.length;
+        if (earlier > 0) sentences.push(`${earlier.toLocaleString("en")} that reach it before their last move are left out.`);
+        if (twins > 0) sentences.push(`${twins.toLocaleString("en")} twins stand beside theirs: ${counted(this.#entries.length, "row")}.`);
+        if (matching < this.#entries.length) sentences.push(`${counted(matching, "row")} ${matching === 1 ? "matches" : "match"}.`);
+        if (shown < matching) sentences.push(`The first ${shown} are shown: type moves to narrow the list.`);
         if (!this.#whole) sentences.push("There are more than the page has room for.");
         return sentences.join(" ");
     }
 
-    #group(length, solutions, all) {
-        const items = solutions.map(({ moves }) => element("li", {}, this.#button(moves)));
-        const list = element("ul", { class: "moves" }, ...items);
-        list.style.setProperty("--longest", Math.max(...solutions.map(({ moves }) => moves.length)));
-        const head = element("h3", {}, `${counted(length, "move")}: ${counted(all, "solution")}`);
-        return element("div", { class: "group" }, head, list);
+    #group(name, entries, all) {
+        const list = element("ul", {}, ...entries.map((entry) => this.#item(entry)));
+        const longest = Math.max(...entries.map((entry) => this.#textOf(entry).length));
+        list.style.setProperty("--longest", String(longest));
+        const count = `${all.toLocaleString("en")} row${all === 1 ? "" : "s"}`;
+        return element("div", { class: "group" }, element("h3", {}, `${name}: ${count}`), list);
     }
 
-    #button(moves) {
-        if (moves === "") return element("span", { class: "reached" }, "no moves: it is reached");
-        return element("button", { type: "button", class: "moves", tabindex: -1, click: () => this.#taken(moves) }, moves);
+    #partOf(moves) {
+        return { side: this.#list.side, moves };
+    }
+
+    /** A solution as it is shown: on the inverse side in brackets. @param {Entry} entry */
+    #textOf({ moves }) {
+        return bracketed([this.#partOf(moves)]);
+    }
+
+    /** @param {Entry} entry */
+    #item(entry) {
+        const { moves, others } = entry;
+        if (moves === "") return element("li", { class: "reached" }, "no moves: it is reached");
+        const text = this.#textOf(entry);
+        const added = this.#partOf(moves);
+        const starred = this.#acts.isStarred(added);
+        const cases = this.#casesOf(entry).map(({ axis, name, state }) =>
+            element("span", { class: "case", "data-marks": state }, `${axis} ${name}`));
+        const twins = others.length === 0 ? [] : [element("small", { class: "twins" }, `or ${others.join(", ")}`)];
+        const about = [...this.#casesOf(entry).map(({ axis, name }) => `${axis} ${name}`), ...others.map((other) => `or ${spoken(other)}`)].join(", ");
+        return element("li", {},
+            element("button", {
+                type: "button",
+                class: "take moves",
+                tabindex: -1,
+                "data-key": moves,
+                "aria-label": [spoken(text), about].filter(Boolean).join(", "),
+                click: () => this.#acts.take(added),
+            }, text),
+            ...twins,
+            ...cases,
+            element("span", { class: "acts" },
+                element("button", {
+                    type: "button",
+                    class: "star",
+                    tabindex: -1,
+                    "aria-pressed": String(starred),
+                    "aria-label": `Keep ${spoken(text)}`,
+                    click: () => this.#acts.star(added),
+                }, starred ? "★" : "☆"),
+                element("button", {
+                    type: "button",
+                    class: "copy",
+                    tabindex: -1,
+                    "aria-label": `Copy ${spoken(text)}`,
+                    click: (event) => this.#acts.copy(text, event.currentTarget),
+                }, "Copy")));
     }
 }

@@ -23,23 +23,29 @@ export const REDUCTIONS = [
     { name: "drfb-eoud", axis: "F/B", needs: "eoud" },
 ];
 
-/** The reduction on either axis that may follow an orientation. @param {string} orientation */
-export const eitherReduction = (orientation) => `dr-${orientation}`;
-
-const EITHER = ORIENTATIONS.map(({ name }) => ({ name: eitherReduction(name), axis: "either axis", needs: name }));
-const ALL = [...ORIENTATIONS, ...REDUCTIONS, ...EITHER];
+const ALL = [...ORIENTATIONS, ...REDUCTIONS];
 
 /** The step of this name, if the page offers it. @param {string} name */
 export const stepNamed = (name) => ALL.find((step) => step.name === name);
 
-/** What a step is called on the page. @param {OfferedStep} step */
-export function titleOf(step) {
-    if (step.needs === null) return `EO on ${step.axis}`;
-    return `DR on ${step.axis} after ${titleOf(stepNamed(step.needs))}`;
-}
+/** The reductions that may follow an orientation. @param {string} orientation */
+export const reductionsAfter = (orientation) => REDUCTIONS.filter(({ needs }) => needs === orientation);
 
 /** What holds once a step is reached. @param {OfferedStep} step */
-export const stateOf = (step) => `${step.needs === null ? "EO" : "DR"} on ${step.axis}`;
+export const stateOf = (step) => `${step.needs === null ? "EO" : "DR"} ${step.axis}`;
+
+/** What a step is called on the page. @param {OfferedStep} step */
+export const titleOf = (step) => (step.needs === null ? stateOf(step) : `${stateOf(step)} after ${stateOf(stepNamed(step.needs))}`);
+
+/** The steps that may start where others are reached, and aren't reached themselves. @param {string[]} reached */
+export const openSteps = (reached) =>
+    ALL.filter(({ name, needs }) => !reached.includes(name) && (needs === null || reached.includes(needs)));
+
+/** What is reached, each state once. @param {string[]} reached the names of steps */
+export const statesOf = (reached) => [...new Set(reached.map((name) => stateOf(stepNamed(name))))];
+
+/** Whether a domino reduction is among what is reached. @param {string[]} reached */
+export const isReduced = (reached) => reached.some((name) => stepNamed(name).needs !== null);
 
 /** @param {Side} side @returns {Side} */
 export const otherSide = (side) => (side === "normal" ? "inverse" : "normal");

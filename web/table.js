@@ -1,39 +1,29 @@
-// The table of the steps that may follow: a row for each, a cell for each side with the least length, how many solutions, and the looks.
+// The table of the steps that may follow: a row for each, with what solvers choose by, and a cell for each side with the least length, what it
+// makes in all, and how many solutions there are; what is reached, in a line; and the looks, in a table of their own.
 import { counted, element, part } from "./element.js";
-import { SIDES, stateOf, stepNamed, titleOf } from "./steps.js";
+import { caseOfStep } from "./position.js";
+import { SIDES, stateOf, statesOf, titleOf } from "./steps.js";
 
 /** @typedef {import("./position.js").Offer} Offer */
 /** @typedef {import("./steps.js").Side} Side */
+/** @typedef {{letters: string, made: number, reached: string[]}} Cube */
 
-/** @param {import("./answers.js").Count} count */
-function wordsOf({ length, solutions, looks }) {
+/** @param {import("./answers.js").Count} count @param {number} made moves before it @returns {[string, string]} */
+function wordsOf({ length, solutions }, made) {
     if (length === null) return ["–", "none within 20 moves"];
-    if (length === 0) return ["0", "reached"];
-    return [counted(length, "move"), `${counted(solutions, "solution")}, ${counted(looks, "look")}`];
+    const all = made > 0 ? `${made + length} in all, ` : "";
+    return [counted(length, "move"), `${all}${counted(solutions, "solution")}`];
 }
 
-/** The least length of a group of offers, or null where one of them is reached. @param {Offer[]} offers */
-function leastOf(offers) {
-    const lengths = offers.flatMap((offer) => SIDES.map((side) => offer[side].length ?? Infinity));
-    return Math.min(...lengths) || null;
-}
-
-/** A text that ends with an axis, which isn't broken at its stroke. @param {string} text */
-function withWholeAxis(text) {
-    const at = text.lastIndexOf(" ") + 1;
-    return [text.slice(0, at), element("span", { class: "axis" }, text.slice(at))];
-}
-
-/** @param {import("./steps.js").OfferedStep} step */
-function headOf(step) {
-    const after = step.needs === null ? [] : [element("small", {}, ...withWholeAxis(` after ${titleOf(stepNamed(step.needs))}`))];
-    return element("th", { scope: "row" }, ...withWholeAxis(stateOf(step)), ...after);
-}
+/** The least length of a group of offers. @param {Offer[]} offers */
+const leastOf = (offers) => Math.min(...offers.flatMap((offer) => SIDES.map((side) => offer[side].length ?? Infinity)));
 
 export class StepTable {
     #chosen;
     #focused = null;
+    #groups = [];
     #body = part("steps-body");
+    #looks = part("looks-body");
 
     /** @param {(step: string, side: Side) => void} chosen */
     constructor(chosen) {
@@ -48,13 +38,36 @@ export class StepTable {
         part("choices").inert = true;
     }
 
-    /** Shows the offers. @param {Offer[]} offers @param {import("./address.js").List | null} list the list that is open */
-    show(offers, list) {
-        const groups = [offers.filter(({ step }) => step.needs === null), offers.filter(({ step }) => step.needs !== null)];
-        this.#body.replaceChildren(...groups.flatMap((group) => this.#rows(group, list)));
+    /** Begins with another cube, of which no step is known. @param {Cube} cube */
+    begin({ reached }) {
+        this.#groups = [];
+        const states = statesOf(reached);
+        part("reached").hidden = states.length === 0;
+        part("reached").replaceChildren(...(states.length === 0 ? [] : ["Reached: "]), ...states.flatMap((state) =>
+            [element("span", { class: "chip", "data-marks": state }, state), " "]));
+    }
+
+    /** Adds offers; of all that are shown a reduction comes before an orientation. @param {Offer[]} offers @param {Cube} cube @param {import("./address.js").List | null} list */
+    add(offers, cube, list) {
+        if (offers.length > 0) this.#groups.push(offers);
+        const isReduction = (group) => Number(group[0].step.needs !== null);
+        const groups = [...this.#groups].sort((one, other) => isReduction(other) - isReduction(one));
+        const focused = this.#body.contains(document.activeElement) ? document.activeElement.dataset.cell : null;
+        this.#body.replaceChildren(...groups.flatMap((group) => this.#rows(group, cube, list)));
+        this.#looks.replaceChildren(...groups.flat().map((offer) => element("tr", {},
+            element("th", { scope: "row" }, titleOf(offer.step)),
+            ...SIDES.map((side) => element("td", { class: "number" }, offer[side].looks.toLocaleString("en"))))));
         part("choices").inert = false;
-        part("no-reduction").hidden = groups[1].length > 0;
-        part("steps-table").hidden = false;
+        const all = groups.flat();
+        part("no-reduction").hidden = cube.reached.length > 0;
+        part("steps-table").hidden = all.length === 0;
+        part("looks").hidden = all.length === 0;
+        if (focused) this.cell(focused)?.focus({ preventScroll: true });
+    }
+
+    /** The cell of this name, or null. @param {string} name */
+    cell(name) {
+        return [...this.#body.querySelectorAll("[data-cell]")].find(({ dataset }) => dataset.cell === name) ?? null;
     }
 
     /** The cell of the first of the shortest steps that are left, or null. */
@@ -65,7 +78,7 @@ export class StepTable {
     /** What is said of the offers: the first of the shortest steps that are left, if there is one. */
     summary() {
         const least = this.#least();
-        return least ? `Shortest next step: ${least.getAttribute("aria-label")}.` : "";
+        return least ? `Shortest next step: ${least.getAttribute("aria-label").replace(", shortest", "")}.` : "";
     }
 
     /** Gives the focus back that `hold` took: to the same cell or control, or to the heading where that is gone. */
@@ -74,9 +87,9 @@ export class StepTable {
         this.#focused = null;
         // it stays where it went meanwhile; what is hidden may have it for a moment longer
         if (!held || ![held, document.body].includes(document.activeElement)) return;
-        const same = held.dataset.cell ? this.#body.querySelector(`[data-cell="${held.dataset.cell}"]`) : held;
-        const places = [same, part("steps-heading"), part("skeleton-heading")];
-        places.find((place) => place?.checkVisibility() && !place.disabled)?.focus({ preventScroll: true });
+        const same = held.dataset.cell ? this.cell(held.dataset.cell) : held;
+        const places = [same, part("steps-heading"), part("line-heading")];
+        places.find((place) => place?.isConnected && place.checkVisibility() && !place.disabled)?.focus({ preventScroll: true });
     }
 
     /** Shows which list is open. @param {import("./address.js").List | null} list */
@@ -92,30 +105,34 @@ export class StepTable {
         (this.#least() ?? part("steps-heading")).focus({ preventScroll: true });
     }
 
-    #rows(group, list) {
-        const least = leastOf(group);
-        return group.map((offer) => {
-            return element("tr", {}, headOf(offer.step), ...SIDES.map((side) => this.#cell(offer, side, least, list)));
-        });
+    /** The cells, in their order. */
+    cells() {
+        return [...this.#body.querySelectorAll("[data-cell]")];
     }
 
-    #cell({ step, ...counts }, side, least, list) {
+    #rows(group, cube, list) {
+        const least = leastOf(group);
+        // where two orientations hold, each has a way of its own to the same reduction
+        const isOneOf = new Set(group.map(({ step }) => step.needs)).size > 1;
+        return group.map((offer) => element("tr", { "data-marks": stateOf(offer.step) },
+            element("th", { scope: "row" },
+                element("span", { class: "axis" }, isOneOf ? titleOf(offer.step) : stateOf(offer.step)),
+                element("small", {}, ` ${caseOfStep(cube.letters, offer.step)}`)),
+            ...SIDES.map((side) => this.#cell(offer, side, { least, made: cube.made, list }))));
+    }
+
+    #cell({ step, ...counts }, side, { least, made, list }) {
         const count = counts[side];
-        const [length, rest] = wordsOf(count);
+        const [length, rest] = wordsOf(count, made);
         const name = `${step.name}.${side}`;
-        const cell = element(
-            "button",
-            {
-                type: "button",
-                class: count.length === least ? "cell least" : "cell",
-                "data-cell": name,
-                "aria-pressed": String(list !== null && name === `${list.step}.${list.side}`),
-                "aria-label": `${titleOf(step)}, ${side} side: ${length}, ${rest}`,
-                click: () => this.#chosen(step.name, side),
-            },
-            element("strong", {}, length),
-            element("small", {}, rest),
-        );
-        return element("td", {}, cell);
+        const isLeast = count.length === least;
+        return element("td", {}, element("button", {
+            type: "button",
+            class: isLeast ? "cell least" : "cell",
+            "data-cell": name,
+            "aria-pressed": String(list !== null && name === `${list.step}.${list.side}`),
+            "aria-label": `${titleOf(step)}, ${side} side: ${length}, ${rest}${isLeast ? ", shortest" : ""}`,
+            click: () => this.#chosen(step.name, side),
+        }, element("strong", {}, length), element("small", {}, rest)));
     }
 }

@@ -1,4 +1,4 @@
-// Keeps the skeleton and the cube in view.
+// Keeps the line so far and the cube in view.
 import { part } from "./element.js";
 
 const EDGE = 16;
@@ -30,11 +30,11 @@ export function keepInView(column) {
 }
 
 /**
- * Scrolls to the top of the results; where they stand below the skeleton, to it, and while it grows to the whole of the first net.
+ * Scrolls to what follows a step; on a narrow page to the results, and after the last step to the line below them.
  * @param {boolean} isFinished
  */
 export function showStart(isFinished) {
-    const isBelow = part("results").offsetTop > part("skeleton").offsetTop;
-    part(isBelow ? "skeleton" : "results").scrollIntoView({ block: "start" });
-    if (isBelow && !isFinished) part("net-normal").scrollIntoView({ block: "nearest" });
+    const isBelow = part("side-column").offsetTop > part("results").offsetTop;
+    if (!isBelow) scrollTo({ top: 0, behavior: "instant" });
+    else part(isFinished ? "line" : "results").scrollIntoView({ block: "start" });
 }

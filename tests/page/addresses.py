@@ -1,4 +1,5 @@
 """Addresses that nobody's page wrote: each becomes a state of the page or a sentence, and never markup."""
+import re
 from urllib.parse import quote
 
 from browser import Browser
@@ -21,9 +22,6 @@ REFUSED = (
     "#scramble=R=U",
     "#__proto__=R",
     "#constructor=R",
-    "#scramble=R&toString=1",
-    "#scramble=R&scramble=F",
-    "#side=inverse&steps=normal.R&side=normal",
     "#steps=R",
     "#steps=normal.",
     "#steps=normal.R~",
@@ -43,11 +41,32 @@ REFUSED = (
     "#list=toString.normal.0",
     "#list=eofb.constructor.0",
     "#list=eofb.normal.0.0",
+    "#list=eofb.normal.0.all.all",
+    "#kept=R",
+    "#kept=normal.R;a;b",
+    "#kept=normal.R,",
+    "#kept=normal.q",
+    "#kept=normal.R;" + "a" * 81,
+    "#kept=" + ",".join(["normal.R"] * 25),
     "#scramble=" + "R_" * 2100,
     "#scramble=" + "R_" * 500_000,
     "#" + "&" * 1_000_000,
 )
-REFUSALS = ("The page begins empty", "This address is too long", "The steps of this address can't be read")
+REFUSALS = ("Left out of this address: ", "This address is too long", "The steps of this address can't be read")
+# an address of which a part is left out, what is said of that, and what else it says stays
+LEFT_OUT = (
+    ("#scramble=R_U&", "", "R U", ""),
+    ("#scramble=R_U&utm_source=chat", "utm_source (unknown)", "R U", ""),
+    ("#utm_source=a&scramble=R_U&steps=normal.F&fbclid=b", "utm_source (unknown), fbclid (unknown)", "R U", "F"),
+    ("#scramble=R&toString=1", "toString (unknown)", "R", ""),
+    ("#scramble=R&scramble=F", "scramble (said twice)", "R", ""),
+    ("#scramble=R&steps=normal.F~normal.q", "steps (not steps)", "R", ""),
+    ("#scramble=R&side=up&steps=normal.F", "side (no side)", "R", "F"),
+    ("#scramble=R&list=eofb.normal.9&steps=inverse.F", "list (no list)", "R", "(F)"),
+    ("#scramble=R&kept=normal.q", "kept (not steps)", "R", ""),
+    ("#scramble=R&" + "&".join(f"a{at}=1" for at in range(9)), ", ".join(f"a{at} (unknown)" for at in range(5)) + " and 4 more", "R", ""),
+    ("#scramble=R&" + "x" * 99 + "=1", "x" * 24 + "\u2026 (unknown)", "R", ""),
+)
 ELEMENTS = "return [...document.querySelectorAll('*')].filter((each) => !each.closest('#steps-body, pre')).length"
 
 
@@ -62,7 +81,9 @@ def markup(tally: Tally, browser: Browser, elements: int) -> None:
     for text in MARKUP:
         browser.open("#scramble=" + quote(text, safe=""))
         tally.equal("the field has the text", browser.script("return document.getElementById('scramble').value"), text)
-        tally.equal("the words on it", browser.texts("#scramble-fault p"), [fault(text)])
+        word = re.match(r"[^\s()]{0,12}", text)[0]
+        cut = "\u2026" if re.match(r"[^\s()]{13}", text) else ""
+        tally.equal("the words on it", browser.texts("#scramble-fault p"), [f"\u201c{word}{cut}\u201d is no move."])
         is_unharmed(tally, browser, text, elements + len(["p"]))
 
 
@@ -74,8 +95,18 @@ def refused(tally: Tally, browser: Browser, elements: int) -> None:
         tally.holds(f"{what} is refused in words", browser.text("alert").startswith(REFUSALS))
         tally.holds(f"{what}: no line is named, since none is seen", "nissy: line" not in browser.text("alert"))
         tally.equal(f"{what}: the scramble is empty", browser.script("return document.getElementById('scramble').value"), "")
-        tally.equal(f"{what}: no step is taken", browser.texts("#skeleton-list li"), [])
+        tally.equal(f"{what}: no step is taken", browser.texts("#line-list li"), [])
         is_unharmed(tally, browser, what, elements)
+
+
+def left_out(tally: Tally, browser: Browser) -> None:
+    """What an address says beside what the page reads is left out, and named; the rest is shown."""
+    for address, names, scramble, line in LEFT_OUT:
+        browser.open(address)
+        what = address[:40]
+        tally.equal(f"{what}: what is said", browser.text("alert"), f"Left out of this address: {names}." if names else "")
+        tally.equal(f"{what}: the scramble", browser.script("return document.getElementById('scramble').value"), scramble)
+        tally.equal(f"{what}: the line", browser.text("bracketed"), line)
 
 
 def changed(tally: Tally, browser: Browser) -> None:
@@ -88,7 +119,7 @@ def changed(tally: Tally, browser: Browser) -> None:
     browser.fill("scramble", "F\u2019 - _ % & = ~ . # \u00e9 \U0001f9e9")
     text = browser.script("return document.getElementById('scramble').value")
     browser.open(browser.script("return location.hash"))
-    tally.equal("any text comes back from the address", browser.script("return document.getElementById('scramble').value"), text)
+    tally.equal("any text comes back from the address", browser.script("return document.getElementById('scramble').value"), text.replace("\u2019", "'"))
 
 
 def line_ends(tally: Tally, browser: Browser) -> None:
@@ -100,7 +131,8 @@ def line_ends(tally: Tally, browser: Browser) -> None:
         tally.equal(f"{end}: the field", browser.script("return document.getElementById('scramble').value").split(), ["R", "U", "F2"])
         browser.open(f"#scramble=R{end}q")
         text = "R" + end.replace("%0D", " ").replace("%0A", " ").replace("_", " ") + "q"
-        tally.equal(f"{end}: a fault behind it", browser.texts("#scramble-fault p"), [fault(text)])
+        tally.holds(f"{end}: the program has a fault there too", fault(text).endswith("not a move"))
+        tally.equal(f"{end}: a fault behind it", browser.texts("#scramble-fault p"), ["\u201cq\u201d is no move."])
         tally.equal(f"{end}: its sign", browser.texts("#scramble-fault mark"), ["q"])
 
 
@@ -122,9 +154,9 @@ def overtaken(tally: Tally, browser: Browser) -> None:
         browser.wait()
         tally.equal(f"{button}: the address", browser.script("return location.hash"), "#scramble=R_U_F" + rest)
         tally.equal(f"{button}: the scramble", browser.script("return document.getElementById('scramble').value"), "R U F")
-        tally.equal(f"{button}: the skeleton", browser.texts("#skeleton-list li"), [])
+        tally.equal(f"{button}: the skeleton", browser.texts("#line-list li"), [])
         tally.equal(f"{button}: the cube", browser.letters("normal"), Position("R U F").letters("normal"))
-    tally.equal("and its list", browser.texts("#solutions-groups button"), Position("R U F").solutions("eofb", "inverse"))
+    tally.equal("and its list", browser.listed(), Position("R U F").rows("eofb", "inverse"))
 
 
 def try_all(tally: Tally, browser: Browser) -> None:
@@ -134,6 +166,7 @@ def try_all(tally: Tally, browser: Browser) -> None:
     markup(tally, browser, elements)
     browser.open()
     refused(tally, browser, browser.script(ELEMENTS))
+    left_out(tally, browser)
     changed(tally, browser)
     line_ends(tally, browser)
     longest(tally, browser)

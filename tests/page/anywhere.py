@@ -71,12 +71,10 @@ def try_all(tally: Tally, window: Window, page: Path) -> None:
     for side in SIDES:
         tally.equal(f"the net of the {side} side", letters_of(window.script(stickers_of(side))), position.letters(side))
     cells = window.script("return [...document.querySelectorAll('#steps-body .cell')].map((each) => each.ariaLabel)")
-    wanted = [position.cell(step, side) for step in ("eofb", "eorl", "eoud") for side in SIDES]
-    tally.equal("the orientations", cells[:6], wanted)
-    tally.equal("the list", window.texts("#solutions-groups button"), position.solutions("eofb", "normal", 1)[:200])
-    window.script("document.getElementById('best-find').click()")
+    tally.equal("the orientations", cells, position.cells())
+    tally.equal("the list", window.texts("#solutions-groups .take"), position.rows("eofb", "normal", 1)[:200])
     tally.holds("the best are found", window.until(DONE) and len(window.texts("#best-body tr")) > 0)
     window.script("const field = document.getElementById('scramble'); field.value = 'R q'; field.dispatchEvent(new Event('input'))")
     tally.holds("a fault is shown", window.until("return document.querySelector('#scramble-fault mark') !== null"))
-    tally.equal("its words", window.texts("#scramble-fault p"), ["nissy: line 1, column 3: not a move"])
+    tally.equal("its words", window.texts("#scramble-fault p"), ["\u201cq\u201d is no move."])
     tally.equal("what the policy refused", window.script("return window.said"), [])

@@ -13,7 +13,9 @@ from net import letters_of, stickers_of
 PATIENCE = 90
 IDLE = """
     return document.querySelector("#results[aria-busy=false]") !== null
-        && document.querySelector("[aria-busy=true]:not([hidden])") === null"""
+        && document.querySelector("[aria-busy=true]:not([hidden], #best)") === null"""
+# the best are looked for by themselves, and most of the page doesn't wait for them
+BEST = "return document.querySelector('#best[aria-busy=true]') === null"
 
 
 class Browser:
@@ -63,6 +65,20 @@ class Browser:
         if not self.until(IDLE):
             raise TimeoutError("the page still waits for answers")
 
+    def wait_best(self) -> None:
+        """Waits until the best are found, or nothing looks for them."""
+        self.wait()
+        if not self.until(BEST):
+            raise TimeoutError("the best are still looked for")
+
+    def choose(self, name: str, value: str) -> None:
+        """Chooses of a field, without waiting."""
+        self.script("const it = document.getElementById(arguments[0]); it.value = arguments[1]; it.dispatchEvent(new Event('change'))", name, value)
+
+    def listed(self) -> list[str]:
+        """The solutions that are listed, without their brackets."""
+        return self.script("return [...document.querySelectorAll('#solutions-groups .take')].map((each) => each.dataset.key)")
+
     def text(self, name: str) -> str:
         """The text of the part with this id, as it is seen, "" where it is hidden."""
         return self.driver.find_element(By.ID, name).text
@@ -110,7 +126,8 @@ class Browser:
         self.script(send, name, text)
 
     def click(self, selector: str) -> None:
-        """Clicks the first element that a selector finds."""
+        """Clicks the first element that a selector finds, in an opened part."""
+        self.script("const part = document.querySelector(arguments[0])?.closest('details'); if (part) part.open = true", selector)
         self.driver.find_element(By.CSS_SELECTOR, selector).click()
 
     def act(self, selector: str) -> None:

@@ -6,36 +6,49 @@ from urllib.parse import unquote, urlparse
 
 from browser import Browser
 from tally import Tally
-from wanted import fault
+from wanted import TITLES, Position, fault
 
-# a line and the sign that the fault's column names, one that isn't seen by a sign for it; the words come from the model, and the signs
-# stand here
+NO_MOVE = "\u201c{}\u201d is no move."
+# a line, the sign that the fault's column names, one that isn't seen by a sign for it, and what is said; the column comes from the model
 LINES = (
-    ("R q", "q"),
-    ("R U\u2019 F2 ?", "?"),
-    ("\u00e9 R", "\u00e9"),
-    ("R (U (F))", "("),
-    ("R U) F", ")"),
-    ("R (U F", "("),
-    ("R " * 256 + "F", "F"),
-    ("R2 3Rw", "3"),
-    ("R <b>U</b>", "<"),
-    ("R' U'\U0001f9e9", "\U0001f9e9"),
-    ("R\tU2\tq", "q"),
-    ("R U \u202eF2", "\ufffd"),
-    ("R U \u200bF2", "\ufffd"),
-    ("R U \0F2", "\ufffd"),
+    ("R q", "q", NO_MOVE.format("q")),
+    ("R U\u2019 F2 ?", "?", NO_MOVE.format("?")),
+    ("\u00e9 R", "\u00e9", NO_MOVE.format("\u00e9")),
+    ("R (U (F))", "(", "A bracket stands inside a bracket."),
+    ("R U) F", ")", "A bracket is closed that was not opened."),
+    ("R (U F", "(", "A bracket isn't closed."),
+    ("R " * 256 + "F", "F", "More than 256 moves."),
+    ("R2 3Rw", "3", NO_MOVE.format("3Rw")),
+    ("R <b>U</b>", "<", NO_MOVE.format("<b>U</b>")),
+    ("R' U'\U0001f9e9", "\U0001f9e9", NO_MOVE.format("\U0001f9e9")),
+    ("R\tU2\tq", "q", NO_MOVE.format("q")),
+    ("R U \u202eF2", "\ufffd", NO_MOVE.format("\ufffdF2")),
+    ("R U \0F2", "\ufffd", NO_MOVE.format("\ufffdF2")),
+    ("R Abracadabrasimsalabim", "A", NO_MOVE.format("Abracadabras\u2026")),
 )
+# text as solvers write it, the line that is read of it, and what is said to be left out
+PASTED = (
+    ("R\u00a0U\u2009F2", "R U F2", ""),
+    ("R\u200b U\u200b2\ufeff", "R U2", "Left out: signs that aren't seen."),
+    ("R\u2032 U\u00b4 F` D\u2019 L\u2018", "R' U' F' D' L'", ""),
+    ("R, U', F2", "R U' F2", "Left out: commas."),
+    ("1. R U F2", "R U F2", "Left out: line numbers."),
+    ("3) R U F2 // the third", "R U F2", "Left out: comments, line numbers."),
+    ("Scramble: R U F2", "R U F2", "Left out: the word Scramble."),
+    ("R U // up\nF2", "R U F2", "Left out: comments."),
+)
+# a text of several lines with comments: its scramble, its steps, and the candidates after it with their notes
+FMC = "2. R' U' F D2 // scramble\nF R' B // EO F/B (3)\n(D R) B2 // (3/6)\n\nL2 D\u2032 // another\n// a note\n\n(U F)\n"
 # of a long line 24 signs before the fault are shown, and a sign for those before them
 MOST_BEFORE = 25
 LONG = "R U F' " * 84
 
 
-def shows_fault(tally: Tally, browser: Browser, name: str, text: str, sign: str) -> None:
+def shows_fault(tally: Tally, browser: Browser, name: str, text: str, sign: str, said: str) -> None:
     """The words under a field, the marked sign, and the sign under it."""
     where = f"#{name}-fault"
     browser.until("return !document.querySelector(arguments[0]).hidden", where)
-    tally.equal(f"the words on {text[-30:]!r}", browser.texts(f"{where} p"), [fault(text)])
+    tally.equal(f"the words on {text[-30:]!r}", browser.texts(f"{where} p"), [said])
     tally.equal(f"the sign that is marked in {text[-30:]!r}", browser.texts(f"{where} mark"), [sign])
     column = int(re.search(r"column (\d+)", fault(text))[1])
     before = len(text.encode()[: column - 1].decode())
@@ -47,9 +60,13 @@ def shows_fault(tally: Tally, browser: Browser, name: str, text: str, sign: str)
 
 def scrambles(tally: Tally, browser: Browser) -> None:
     """Faults of the scramble's field."""
-    for text, sign in LINES:
+    for text, sign, said in LINES:
         browser.fill("scramble", text)
-        shows_fault(tally, browser, "scramble", text, sign)
+        shows_fault(tally, browser, "scramble", text, sign, said)
+        in_field = browser.script("const mark = document.querySelector('#scramble-marks mark'); return [mark.previousSibling.data.length, mark.textContent]")
+        column = int(re.search(r"column (\d+)", fault(text))[1])
+        place = len(text.encode()[: column - 1].decode())
+        tally.equal(f"the place in the field of {text[-30:]!r}", (in_field[0], in_field[1][0]), (len(text[:place].encode("utf-16-le")) // 2, text[place]))
         tally.holds("nothing else can be used meanwhile", browser.script("return document.getElementById('results').inert"))
     browser.fill("scramble", "R\nU\r\nF")
     tally.equal("line ends are blanks", browser.text("scramble-fault"), "")
@@ -59,15 +76,39 @@ def scrambles(tally: Tally, browser: Browser) -> None:
 
 def by_hand(tally: Tally, browser: Browser) -> None:
     """Faults of moves by hand, and what is read of them."""
-    for text, sign in LINES[:6]:
+    for text, sign, said in LINES[:6]:
         browser.script("document.getElementById('own-fault').hidden = true")
         browser.submit("own", text)
-        shows_fault(tally, browser, "own", text, sign)
+        shows_fault(tally, browser, "own", text, sign, said)
     browser.submit("own", "r (U F2\u2019) x")
-    tally.holds("brackets name the sides", browser.until("return document.querySelectorAll('#skeleton-list li').length === 2"))
+    tally.holds("brackets name the sides", browser.until("return document.querySelectorAll('#line-list li').length === 2"))
     browser.wait()
     tally.equal("as face turns", browser.text("bracketed"), "L (U F2)")
     browser.act("#clear")
+
+
+def pasted(tally: Tally, browser: Browser) -> None:
+    """Text as solvers write it is read, and what is left out is said."""
+    browser.open()
+    for text, line, said in PASTED:
+        browser.fill("scramble", text)
+        tally.equal(f"{text!r}: no fault", browser.text("scramble-fault"), "")
+        tally.equal(f"{text!r}: the cube", browser.letters("normal"), Position(line).letters("normal"))
+        tally.equal(f"{text!r}: what is said", browser.text("scramble-read"), said)
+        kept = browser.script("return decodeURIComponent(location.hash)").split("=")[1].replace("_", " ").split()
+        tally.equal(f"{text!r}: what is kept in the address", kept, line.replace("'", "-").split())
+    browser.fill("scramble", "1. R q\u2032")
+    tally.equal("a fault behind what is left out", (browser.texts("#scramble-fault p"), browser.texts("#scramble-marks mark")), ([NO_MOVE.format("q'")], ["q\u2032"]))
+    browser.fill("scramble", FMC)
+    browser.until("return document.querySelectorAll('#kept-list li').length === 2")
+    browser.wait()
+    tally.equal("a text of steps: its scramble", browser.script("return document.getElementById('scramble').value"), "R' U' F D2")
+    tally.equal("its line", browser.text("bracketed"), "F R' B (D R) B2")
+    tally.equal("what else it has is kept", sorted(browser.texts("#kept-list .step .moves")), ["(U F)", "L2 D'"])
+    notes = browser.script("return [...document.querySelectorAll('#kept-list .note-field')].map((each) => each.value).sort()")
+    tally.equal("with its notes", notes, ["", "a note"])
+    browser.fill("scramble", "R U F2\nD q // EO")
+    tally.holds("steps that can't be read are said", browser.until("return document.getElementById('alert').textContent.startsWith('The steps of this text')"))
 
 
 def together(tally: Tally, browser: Browser) -> None:
@@ -89,9 +130,9 @@ def stale(tally: Tally, browser: Browser) -> None:
         tally.equal("a line before", tuple(map(browser.text, shown)), ("F D", "F D", "2 moves"))
         browser.script("document.getElementById('results').setAttribute('aria-busy', 'true'); location.hash = arguments[0]", address)
         browser.wait()
-        tally.equal("the steps", browser.texts("#skeleton-list .moves"), ["R", "(U2)"])
+        tally.equal("the steps", browser.texts("#line-list .moves"), ["R", "(U2)"])
         tally.equal("their line, which isn't read", tuple(map(browser.text, shown)), ("R (U2)", "", "…"))
-        tally.equal("their counts", browser.texts("#skeleton-list .count"), ["", ""])
+        tally.equal("their counts", browser.texts("#line-list .count"), ["", ""])
     browser.click("#copy-joined")
     tally.holds("what isn't known isn't copied", not browser.texts("#status")[0].startswith("Copied"))
 
@@ -110,9 +151,12 @@ def seeds(tally: Tally, browser: Browser) -> None:
 
 
 def starts(tally: Tally, browser: Browser) -> None:
-    """A list that an address asks for though its step may not start."""
-    browser.open("#scramble=F&list=drud-eofb.normal.0")
-    tally.equal("the engine's words on the start", browser.text("solutions-note"), "nissy: line 1: eofb does not hold")
+    """A list that an address asks for though its step may not start isn't opened, and that is said."""
+    for scramble, step, said in (("F", "drud-eofb", "EO F/B isn't reached"), ("U R2", "eofb", "it is reached")):
+        browser.open(f"#scramble={scramble.replace(' ', '_')}&list={step}.normal.0")
+        tally.equal(f"{step} after {scramble}", browser.text("alert"), f"{TITLES[step]} can't be listed here: {said}.")
+        tally.equal("its list", browser.text("solutions"), "")
+        tally.equal("the address", browser.script("return location.hash"), f"#scramble={scramble.replace(' ', '_')}")
 
 
 def without_engine(tally: Tally, browser: Browser) -> None:
@@ -125,7 +169,7 @@ def without_engine(tally: Tally, browser: Browser) -> None:
         tally.holds("and why it may be", all(word in said for word in ("no WebAssembly", "switched off", "Lockdown Mode")))
         wanted = "R U' q" if address else ""
         tally.equal("what was sent is shown", browser.script("return document.getElementById('scramble').value"), wanted)
-        tally.equal("with its steps", browser.texts("#skeleton-list .moves"), steps)
+        tally.equal("with its steps", browser.texts("#line-list .moves"), steps)
 
 
 def unstarted(tally: Tally, browser: Browser) -> None:
@@ -147,5 +191,5 @@ def unstarted(tally: Tally, browser: Browser) -> None:
 def try_all(tally: Tally, browser: Browser) -> None:
     """All of them."""
     browser.open()
-    for part in (scrambles, by_hand, together, stale, seeds, starts, without_engine, unstarted):
+    for part in (scrambles, by_hand, pasted, together, stale, seeds, starts, without_engine, unstarted):
         part(tally, browser)

@@ -12,8 +12,7 @@ def shows(tally: Tally, browser: Browser, what: str, position: Position) -> None
     """The nets and the table of a position: each step that may start, and no other."""
     for side in SIDES:
         tally.equal(f"{what}: the net of the {side} side", browser.letters(side), position.letters(side))
-    wanted = [position.cell(step, side) for step in TITLES if position.may_start(step) for side in SIDES]
-    tally.equal(f"{what}: the table", browser.cells(), wanted)
+    tally.equal(f"{what}: the table", browser.cells(), position.cells())
 
 
 def shows_skeleton(tally: Tally, browser: Browser, what: str, line: str) -> None:
@@ -26,7 +25,7 @@ def shows_skeleton(tally: Tally, browser: Browser, what: str, line: str) -> None
 
 def orient(tally: Tally, browser: Browser) -> None:
     """Types the scramble, and takes an orientation on the inverse side from a filtered list."""
-    tally.holds("the Tab key leads to the scramble", browser.tab_to("scramble", 3))
+    tally.holds("the Tab key leads to the scramble", browser.tab_to("scramble", 7))
     browser.press(SCRAMBLE)
     tally.holds("the scramble is answered", browser.until("return location.hash.endsWith('_R-_U-_F')"))
     browser.wait()
@@ -36,27 +35,38 @@ def orient(tally: Tally, browser: Browser) -> None:
     tally.holds("the Tab key leads to a cell", browser.tab_to("eoud.inverse"))
     browser.press(Keys.ENTER)
     browser.wait()
-    tally.equal("the list of a cell", browser.texts("#solutions-groups button"), position.solutions("eoud", "inverse"))
-    tally.equal("its first solution has the focus", browser.focused(), position.solutions("eoud", "inverse")[0])
+    listed = position.rows("eoud", "inverse")
+    tally.equal("the list of a cell", browser.listed(), listed)
+    tally.equal("on the inverse side with brackets", browser.texts("#solutions-groups .take"), [f"({moves})" for moves in listed])
+    tally.equal("its first solution has the focus", browser.focused(), f"({listed[0]})")
     tally.holds("the Tab key leads back to the slack", browser.tab_to("slack", back=True))
     browser.press("1")
     browser.wait()
-    longer = position.solutions("eoud", "inverse", 1)
-    tally.equal("with one move more the list is cut", browser.texts("#solutions-groups button"), longer[:200])
-    tally.holds("and says so", f"{len(longer)} solutions" in browser.text("solutions-note") and "cut" in browser.text("solutions-note"))
-    tally.equal("by length", browser.texts("#solutions-groups h3"), ["5 moves: 16 solutions", f"6 moves: {len(longer) - 16} solutions"])
-    tally.holds("the Tab key leads to the filter", browser.tab_to("filter"))
+    longer = position.rows("eoud", "inverse", 1)
+    all_of_them = position.solutions("eoud", "inverse", 1)
+    tally.equal("with one move more the list is cut", browser.listed(), longer[:200])
+    note = browser.text("solutions-note")
+    tally.holds(f"and says both counts: {note}", note.startswith(f"{len(all_of_them)} solutions") and f"{len(longer)} rows" in note and "The first 200" in note)
+    tally.equal("by length", browser.texts("#solutions-groups h3"), [f"5 moves: {len(listed)} rows", f"6 moves: {len(longer) - len(listed)} rows"])
+    tally.holds("the Tab key leads to the switch", browser.tab_to("twins"))
+    browser.press(Keys.SPACE)
+    browser.wait()
+    tally.equal("which shows all", browser.listed(), all_of_them[:200])
+    browser.press(Keys.SPACE)
+    browser.wait()
+    tally.equal("and no longer", browser.listed(), longer[:200])
+    tally.holds("the Tab key leads to the filter", browser.tab_to("filter", back=True))
     browser.press("b d r f2 b")
     filtered = [moves for moves in longer if " B D R F2 B " in f" {moves} "]
-    tally.equal("the filter leaves what has these moves", browser.texts("#solutions-groups button"), filtered)
-    tally.holds("the Tab key leads to the list", browser.tab_to(FIRST, 3))
-    browser.press(Keys.ARROW_DOWN)
-    tally.equal("an arrow leads to the next solution", browser.focused(), filtered[1])
-    browser.press(Keys.HOME, Keys.ENTER)
+    tally.equal("the filter leaves what has these moves", browser.listed(), filtered)
+    tally.holds("the Tab key leads to the list", browser.tab_to(f"({FIRST})", 9))
+    browser.press(Keys.ARROW_UP, Keys.HOME)
+    tally.equal("Home leads to the first solution", browser.focused(), f"({filtered[0]})")
+    browser.press(Keys.ENTER)
     browser.wait()
     shows(tally, browser, "an orientation on the inverse side", Position(SCRAMBLE, "", FIRST))
     shows_skeleton(tally, browser, "an orientation on the inverse side", f"({FIRST})")
-    tally.equal("what it reaches", browser.texts("#skeleton-list .reaches"), ["EO on U/D"])
+    tally.equal("what it reaches", browser.texts("#line-list .reaches"), ["EO U/D"])
 
 
 def reduce(tally: Tally, browser: Browser) -> None:
@@ -64,12 +74,12 @@ def reduce(tally: Tally, browser: Browser) -> None:
     tally.equal("the shortest reduction has the focus", browser.focused(), "drfb-eoud.normal")
     browser.press(Keys.ENTER)
     browser.wait()
-    listed = Position(SCRAMBLE, "", FIRST).solutions("drfb-eoud", "normal")
-    tally.equal("the reductions", browser.texts("#solutions-groups button"), listed)
+    listed = Position(SCRAMBLE, "", FIRST).rows("drfb-eoud", "normal")
+    tally.equal("the reductions", browser.listed(), listed)
     browser.press(Keys.ENTER)
     browser.wait()
     shows_skeleton(tally, browser, "a reduction", f"({FIRST}) {listed[0]}")
-    tally.holds("it is said to be finished", browser.text("finished").startswith("DR on F/B is reached"))
+    tally.equal("it is said to be finished", browser.text("finished"), "DR F/B is reached: 10 moves. nissy goes no further.")
     shows(tally, browser, "a reduction", Position(SCRAMBLE, listed[0], FIRST))
 
 
@@ -86,30 +96,32 @@ def switch(tally: Tally, browser: Browser) -> None:
     tally.holds("the Tab key leads to the switch", browser.tab_to("switch"))
     browser.press(Keys.ENTER)
     tally.equal("moves by hand go on the inverse side", browser.text("side"), "inverse side")
-    listed = position.solutions("drfb-eoud", "inverse")
+    listed = position.rows("drfb-eoud", "inverse")
     tally.holds("the Tab key leads back to the field", browser.tab_to("own", back=True))
     browser.press(listed[0], Keys.ENTER)
-    tally.holds("the moves by hand are taken", browser.until("return document.querySelectorAll('#skeleton-list li').length === 3"))
+    tally.holds("the moves by hand are taken", browser.until("return document.querySelectorAll('#line-list li').length === 3"))
     browser.wait()
     shows(tally, browser, "both sides", Position(SCRAMBLE, "R B'", f"{FIRST} {listed[0]}"))
     shows_skeleton(tally, browser, "both sides", f"({FIRST}) R B' ({listed[0]})")
-    tally.holds("both sides are finished", browser.text("finished").startswith("DR on F/B is reached"))
-    tally.equal("the moves of each step", browser.texts("#skeleton-list .count"), ["6 moves", "2 moves", f"{len(listed[0].split())} moves"])
+    tally.holds("both sides are finished", browser.text("finished").startswith("DR F/B is reached"))
+    total = sum(letter in "UDRLFB" for letter in answer("cleanup", f"({FIRST}) R B' ({listed[0]})"))
+    counts = ["6 moves", "2 moves, 8 in all", f"{len(listed[0].split())} moves, {total} in all"]
+    tally.equal("the moves of each step", browser.texts("#line-list .count"), counts)
 
 
 def keep(tally: Tally, browser: Browser) -> None:
     """Loads the page again from its address."""
     browser.act('[data-cell="drrl-eoud.normal"]')
-    before = (browser.cells(), browser.text("bracketed"), browser.text("side"), browser.texts("#solutions-groups button"))
+    before = (browser.cells(), browser.text("bracketed"), browser.text("side"), browser.listed())
     address = browser.script("return location.hash")
     browser.open(address)
-    after = (browser.cells(), browser.text("bracketed"), browser.text("side"), browser.texts("#solutions-groups button"))
+    after = (browser.cells(), browser.text("bracketed"), browser.text("side"), browser.listed())
     tally.equal("the page after a reload", after, before)
     tally.equal("its scramble", browser.script("return document.getElementById('scramble').value"), SCRAMBLE)
     tally.equal("its list", browser.text("solutions-heading"), TITLES["drrl-eoud"] + ", normal side")
     for button in ("undo-step", "clear"):
         browser.act(f"#{button}")
-    tally.holds("an emptied skeleton", browser.text("skeleton-empty") != "" and browser.text("bracketed") == "")
+    tally.holds("an emptied skeleton", browser.text("line-empty") != "" and browser.text("bracketed") == "")
     shows(tally, browser, "an emptied skeleton", Position(SCRAMBLE))
 
 

@@ -4,8 +4,12 @@ from selenium.webdriver.common.keys import Keys
 from tally import Tally
 
 SCRAMBLE = "#scramble=R-_U-_F_D2_L2_F_R2_U2_R2_B_D2_L_B2_D-_B2_L-_R-_B-_D2_B2_R-_U-_F"
-ADDRESS = SCRAMBLE + "&steps=inverse.B_D_R_F2_B_D~normal.R_B-&side=inverse&list=drfb-eoud.inverse.1"
-STOPS = ("scramble", "random", "seed", "undo-move", "own", "switch", "copy-joined", "eofb.normal", "slack", "filter", "best-find")
+KEPT = "&kept=inverse.B_D_R_F2_B_D;a_note,normal.R-_U_F-_R_L"
+ADDRESS = SCRAMBLE + "&steps=inverse.B_D_R_F2_B_D~normal.R_B-&side=inverse&list=drfb-eoud.inverse.1" + KEPT
+STOPS = ("skip", "scramble-edit", "undo-move", "own", "switch", "copy-joined", "eofb.normal", "slack", "filter", "best-more", "copy-fmc", "copy-kept",
+    "marks", "play", "view-y", "keep-line", "copy-link", "theme", "solutions-close", "twins", "last-turn")
+# what a finger presses is at least so high and wide where the page is narrow
+TARGET = 44
 # the least contrast of all text that is seen, with the text; what can't be used meanwhile doesn't count
 CONTRAST = """
     const channels = (text) => text.match(/[\\d.]+/g).map(Number);
@@ -29,12 +33,12 @@ CONTRAST = """
     }
     return [found.length, ...found.sort((one, other) => one[0] - other[0])[0]]"""
 # the buttons and fields without a name, and how many there are
-NAMELESS = ("button", "textbox", "combobox", "img", "progressbar", "searchbox")
+NAMELESS = ("button", "textbox", "combobox", "img", "progressbar", "searchbox", "checkbox", "table", "region")
 IN_VIEW = """
     const { top, bottom, height } = document.getElementById(arguments[0]).getBoundingClientRect();
     return height > 0 && top >= 0 && bottom <= innerHeight"""
 BROKEN = """
-    return [...document.querySelectorAll("#solutions-groups button")].filter((each) => each.textContent.split(" ").length <= 8
+    return [...document.querySelectorAll("#solutions-groups .take")].filter((each) => each.textContent.split(" ").length <= 8
         && each.clientHeight >= 2 * parseFloat(getComputedStyle(each).lineHeight)).map((each) => each.textContent)"""
 WIDE = """
     const far = [...document.querySelectorAll("body *")].filter((node) => node.checkVisibility() && !node.closest(".unseen, .scrolled, pre")
@@ -61,6 +65,91 @@ def is_named(tally: Tally, browser: Browser, what: str) -> None:
     texts = [node["name"]["value"] for node in nodes if not node.get("ignored") and node.get("role", {}).get("value") == "StaticText"]
     tally.equal(f"{what}: letters of stickers beside the label of their net", [text for text in texts if text in list("URFDLB")], [])
     tally.equal(f"{what}: what only explains a colour", [text for text in texts if text == "shortest"], [])
+    pressed = [name for role, name in ((node["role"]["value"], node.get("name", {}).get("value", "")) for node in controls) if role == "button"]
+    tally.equal(f"{what}: moves that are said with an apostrophe", [name for name in pressed if "'" in name], [])
+    tally.holds(f"{what}: moves that are said", any(" prime" in name for name in pressed))
+    tally.equal(f"{what}: the shortest are said to be", any(name.endswith(", shortest") for name in pressed), True)
+    named = sorted({node.get("name", {}).get("value", "") for node in nodes if not node.get("ignored") and node["role"]["value"] == "table"})
+    tally.holds(f"{what}: the tables' names are without help: {named}", {"Best continuations, by all moves", "Shortest next steps"} <= set(named))
+
+
+def is_bordered(tally: Tally, browser: Browser, what: str) -> None:
+    """The contrast of the borders of what is pressed to the ground of its card."""
+    found = browser.script(CONTRAST.split("const found")[0] + """
+        const shown = [...document.querySelectorAll("#steps .cell, #steps .help, #best-body .take, #solutions .take, #theme, #own, #line .quiet")];
+        return shown.filter((node) => node.checkVisibility()).map((node) => {
+            const own = getComputedStyle(node);
+            if (own.borderTopColor === "rgba(0, 0, 0, 0)") return [99, node.className];
+            const [line, ground] = [light(channels(own.borderTopColor)), light(behind(node.parentElement))];
+            return [(Math.max(line, ground) + 0.05) / (Math.min(line, ground) + 0.05), node.className || node.id];
+        })""")
+    tally.holds(f"{what}: there are borders", len(found) > 30)
+    tally.equal(f"{what}: borders of less than 3", [each for each in found if each[0] < 3], [])
+
+
+def presses(tally: Tally, browser: Browser) -> None:
+    """On a phone what is pressed is large enough for a finger: a row of the best by its whole row."""
+    browser.open(ADDRESS)
+    browser.wait_best()
+    small = browser.script("""return [...document.querySelectorAll("button, select, summary, input:not([type=checkbox]), textarea")]
+        .filter((each) => each.checkVisibility() && !each.closest(".skip, #best-body, .popover")).map((each) => [each.id || each.className || each.textContent,
+            each.getBoundingClientRect().width, each.getBoundingClientRect().height]).filter(([, width, height]) => Math.min(width, height) < arguments[0])""", TARGET)
+    tally.equal("what is too small", small, [])
+    rows = browser.script("return [...document.querySelectorAll('#best-body tr')].map((each) => each.getBoundingClientRect().height)")
+    tally.holds(f"rows of the best: {rows}", rows and min(rows) >= TARGET)
+    hit = """const row = document.querySelector('#best-body tr'); row.scrollIntoView({ block: 'center' });
+        const { left, right, bottom } = row.getBoundingClientRect(); return document.elementFromPoint((left + right) / 2, bottom - 4).className"""
+    tally.holds("and their whole row is pressed", "take" in browser.script(hit))
+
+
+def begins(tally: Tally, browser: Browser) -> None:
+    """Before the first answer, and with a fault, there are no empty nets, and no welcome beside a scramble."""
+    seen = "return ['cube', 'welcome', 'best'].map((name) => document.getElementById(name).checkVisibility())"
+    browser.open("#scramble=R_q")
+    tally.equal("with a fault: the nets, the welcome, the best", browser.script(seen), [False, False, False])
+    browser.open()
+    tally.equal("without a scramble: a solved cube, the welcome", browser.script(seen), [True, True, False])
+    raw = "return [...document.querySelectorAll('.sticker')].filter((each) => !each.dataset.colour).length"
+    tally.equal("stickers without a colour that are seen", browser.script(raw), 0)
+    browser.driver.get("about:blank")
+    browser.driver.get(browser.page_without_engine + "#scramble=R")
+    browser.until("return !document.getElementById('alert').hidden")
+    tally.equal("without an engine", browser.script(seen)[:1], [False])
+
+
+def prints(tally: Tally, browser: Browser) -> None:
+    """A printed sheet has the scramble, the line and what is kept, and nothing that is pressed."""
+    browser.open(ADDRESS)
+    browser.wait_best()
+    browser.command("Emulation.setEmulatedMedia", media="print")
+    pressed = browser.script("""return [...document.querySelectorAll("button, select, input, summary")].filter((each) => each.checkVisibility()
+        && !each.matches(".cell, .take, .note-field")).map((each) => each.id || each.className)""")
+    tally.equal("what is pressed isn't printed", pressed, [])
+    for name in ("scramble", "net-normal", "line-list", "kept-list", "bracketed"):
+        tally.holds(f"{name} is printed", browser.script("return document.getElementById(arguments[0]).checkVisibility()", name))
+    cut = "return [...document.querySelectorAll('main *')].filter((each) => each.checkVisibility() && !each.matches('.unseen') && each.scrollHeight > each.clientHeight + 4 && getComputedStyle(each).overflowY !== 'visible').map((each) => each.id)"
+    tally.equal("nothing is cut", browser.script(cut), [])
+    browser.command("Emulation.setEmulatedMedia", media="", features=[{"name": "prefers-color-scheme", "value": "light"}])
+
+
+def themes(tally: Tally, browser: Browser) -> None:
+    """The theme is chosen, and is kept."""
+    ground = "return getComputedStyle(document.body).backgroundColor"
+    light = browser.script(ground)
+    browser.choose("theme", "dark")
+    dark = browser.script(ground)
+    tally.holds(f"dark: {light}, {dark}", light != dark)
+    browser.open(ADDRESS)
+    tally.equal("it is kept", browser.script(ground), dark)
+    browser.choose("theme", "")
+    tally.equal("as the system has it", browser.script(ground), light)
+
+
+def hovers(tally: Tally, browser: Browser) -> None:
+    """A tint for the mouse is only where there is one that hovers: on a phone it would stick."""
+    outside = browser.script("""const rules = [...document.styleSheets].flatMap((sheet) => [...sheet.cssRules]);
+        return rules.filter((rule) => rule.selectorText?.includes(':hover')).map((rule) => rule.selectorText)""")
+    tally.equal("rules for hovering without such a mouse", outside, [])
 
 
 def fits(tally: Tally, browser: Browser, what: str) -> None:
@@ -104,8 +193,8 @@ def shows_focus_below(tally: Tally, browser: Browser) -> None:
     browser.open(ADDRESS)
     # the window has the focus again, which the key took out of it
     browser.click("h1")
-    browser.script("document.getElementById('best-find').scrollIntoView()")
-    is_higher = "return document.getElementById('left').offsetHeight > innerHeight && scrollY > document.getElementById('left').offsetHeight / 2"
+    browser.script("scrollTo(0, document.documentElement.scrollHeight)")
+    is_higher = "return document.getElementById('side-column').offsetHeight > innerHeight && scrollY > innerHeight"
     tally.holds("the column is higher than the window", browser.script(is_higher))
     seen = """const [done] = arguments;
         const end = performance.now() + 1000;
@@ -116,9 +205,9 @@ def shows_focus_below(tally: Tally, browser: Browser) -> None:
             else setTimeout(look, 20);
         };
         look()"""
-    for begin, press, keys in (("scramble", browser.press, [Keys.TAB]), ("own", browser.press_back, [])):
+    for begin, press, keys in (("marks", browser.press, [Keys.TAB]), ("switch", browser.press_back, [])):
         browser.script("document.getElementById(arguments[0]).focus()", begin)
-        while browser.script("return document.activeElement.closest('#left') !== null"):
+        while browser.script("return document.activeElement.closest('#side-column') !== null"):
             tally.holds(f"the focus is in view at {browser.focused()!r}, from {begin}", browser.driver.execute_async_script(seen))
             browser.script("scrollTo(0, document.documentElement.scrollHeight)")
             press(*keys)
@@ -132,15 +221,27 @@ def has_no_more_stops(tally: Tally, browser: Browser) -> None:
     browser.script("document.getElementById('scramble').focus()")
     browser.press(Keys.TAB)
     tally.equal("after the field", browser.focused(), "random")
+    browser.open(SCRAMBLE)
+    browser.wait_best()
+    browser.command("Emulation.setDeviceMetricsOverride", width=1280, height=900, deviceScaleFactor=1, mobile=False)
+    browser.script("document.getElementById('scramble').focus()")
+    count = 0
+    while browser.focused() != "eofb.normal" and count < 20:
+        browser.press(Keys.TAB)
+        count += 1
+    tally.holds(f"stops from the scramble to the first cell: {count}", count <= 8)
+    browser.script("document.getElementById('skip').focus()")
+    browser.press(Keys.ENTER)
+    tally.equal("the skip button leads to the shortest", browser.focused(), "eofb.normal")
 
 
 def helps(tally: Tally, browser: Browser) -> None:
     """Each help opens by the keyboard, fits, and closes."""
-    seen = "[...document.querySelectorAll('.help')].filter((each) => each.checkVisibility())"
+    seen = "[...document.querySelectorAll('[popovertarget]')].filter((each) => each.checkVisibility())"
     buttons = browser.script(f"return {seen}.map((each) => each.ariaLabel)")
     tally.holds("there is help", len(buttons) >= 7)
     for name in buttons:
-        browser.script("document.querySelector(`.help[aria-label='${arguments[0]}']`).focus()", name)
+        browser.script("document.querySelector(`[popovertarget][aria-label='${arguments[0]}']`).focus()", name)
         browser.press(Keys.ENTER)
         tally.holds(f"{name} opens", browser.until("return document.querySelectorAll('.popover:popover-open').length === 1"))
         fits(tally, browser, name)
@@ -151,21 +252,30 @@ def helps(tally: Tally, browser: Browser) -> None:
 
 
 def places(tally: Tally, browser: Browser, width: int, height: int) -> None:
-    """After a step the cube and the skeleton are in view; after the last one the skeleton and its line are."""
+    """After a step what follows is in view, and the line; after the last one the line and how it ends are."""
     browser.command("Emulation.setDeviceMetricsOverride", width=width, height=height, deviceScaleFactor=1, mobile=False)
     browser.open(SCRAMBLE + "&list=eoud.inverse.0")
     browser.script("document.querySelector('#solutions-groups').scrollIntoView()")
-    browser.act("#solutions-groups button")
-    for name in ("skeleton-list", "whole", "net-normal"):
+    tally.equal(f"{width}: the scramble is folded", browser.script("return !document.getElementById('scramble').checkVisibility()"), width < 960)
+    browser.act("#solutions-groups .take")
+    browser.wait_best()
+    for name in ("bar-line", "bar-undo") if width < 960 else ("line-list", "whole", "net-normal"):
         tally.holds(f"{width}: after a step {name} is in view", browser.script(IN_VIEW, name))
+    top = browser.script("return document.getElementById('steps-table').getBoundingClientRect().top")
+    tally.holds(f"{width}: after a step the table begins at {top}", 0 <= top < (500 if width < 960 else 600))
     browser.act("#steps-body .least")
-    tally.holds(f"{width}: there are long solutions", any(len(moves.split()) == 8 for moves in browser.texts("#solutions-groups button")))
+    tally.holds(f"{width}: there are long solutions", any(len(moves.split()) == 8 for moves in browser.listed()))
     tally.equal(f"{width}: solutions of more than one line", browser.script(BROKEN), [])
-    browser.act("#solutions-groups button")
-    for name in ("skeleton-list", "finished", "bracketed", "joined", "copy-bracketed"):
+    browser.act("#solutions-groups .take")
+    for name in ("line-list", "finished", "bracketed", "joined", "copy-bracketed", "copy-fmc"):
         tally.holds(f"{width}: after the last step {name} is in view", browser.script(IN_VIEW, name))
-    inner = "return [...document.querySelectorAll('.column')].filter((each) => getComputedStyle(each).overflowY !== 'visible').length"
-    tally.equal(f"{width}: columns with a scroll area", browser.script(inner), 0)
+    inner = """return [...document.querySelectorAll('main *')].filter((each) => each.checkVisibility() && ['auto', 'scroll'].includes(getComputedStyle(each).overflowY)
+        && !each.matches('pre, textarea')).length"""
+    tally.equal(f"{width}: parts with a scroll area", browser.script(inner), 0)
+    browser.open(SCRAMBLE)
+    browser.wait_best()
+    top = browser.script("return document.getElementById('steps-table').getBoundingClientRect().top")
+    tally.holds(f"{width}: the table begins at {top}", 0 <= top < 500 if width < 960 else top < 700)
 
 
 def copies(tally: Tally, browser: Browser) -> None:
@@ -187,12 +297,13 @@ def try_all(tally: Tally, browser: Browser) -> None:
     for colours in ("light", "dark"):
         browser.command("Emulation.setEmulatedMedia", features=[{"name": "prefers-color-scheme", "value": colours}])
         browser.open(ADDRESS)
-        browser.act("#best-find")
+        browser.wait_best()
         is_legible(tally, browser, colours)
+        is_bordered(tally, browser, colours)
         is_named(tally, browser, colours)
         fits(tally, browser, colours)
     is_told_apart(tally, browser)
-    for part in (helps, copies):
+    for part in (presses, begins, prints, themes, hovers, helps, copies):
         part(tally, browser)
     shows_focus(tally, browser)
     shows_focus_below(tally, browser)

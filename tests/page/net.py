@@ -7,7 +7,9 @@ Sticker = dict[str, float | str]
 def stickers_of(side: str) -> str:
     """A script that answers of each sticker of a net the letter that it shows, which is that of its colour too, and its place."""
     return f"""return [...document.querySelectorAll("#net-{side} .sticker")].map((each) => {{
-        const {{ left, top }} = each.firstElementChild.getBoundingClientRect();
+        // the middle, since the ring of a marked one is wider
+        const {{ x, y, width, height }} = each.firstElementChild.getBoundingClientRect();
+        const [left, top] = [x + width / 2, y + height / 2];
         const letter = each.querySelector("text").textContent;
         return {{ left, top, letter: each.dataset.colour === letter ? letter : "?" }};
     }});"""

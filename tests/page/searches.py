@@ -5,7 +5,7 @@ import time
 
 from browser import Browser
 from tally import Tally
-from wanted import SIDES, Position
+from wanted import SIDES, TITLES, Position, twin_key
 from wanted import run as model_run
 
 SCRAMBLE = "F2 U2 L2 D2 R2 L2 U2 L B R2 B2 L2 D F B2 R2 U' F R L U R2 F' D2 R2"
@@ -15,7 +15,11 @@ FLIPPED = "U R2 F B R B2 R U2 L B2 R U' D' R2 F R' L B2 U2 F2"
 STEPS = ("eofb", "eorl", "eoud")
 CHOOSE = "const slack = document.getElementById('slack'); slack.value = arguments[0]; slack.dispatchEvent(new Event('change'));"
 TYPE = "const it = document.getElementById('filter'); it.value = arguments[1]; it.dispatchEvent(new Event('input'));"
-ROWS = "return [...document.querySelectorAll('#best-body tr')].map((row) => [...row.children].map((each) => each.firstChild.textContent))"
+ROWS = """return [...document.querySelectorAll('#best-body tr')].map((row) => {
+    const [total, moves, state, next, normal, inverse] = [...row.children].map((each) => each.textContent);
+    return [total, row.querySelector('.take').textContent, state, next.split(' ').slice(0, 2).join(' '), normal, inverse];
+})"""
+MORE = "const more = document.getElementById('best-more'); if (more.hidden) return true; more.click(); return false"
 
 
 def program_answers(program: str, words: list[str], lines: list[str]) -> list[str]:
@@ -24,21 +28,24 @@ def program_answers(program: str, words: list[str], lines: list[str]) -> list[st
     return subprocess.run([program, *words], input=text, capture_output=True, text=True, check=True).stdout.splitlines()
 
 
-def wanted_rows(program: str, position: Position) -> set[tuple[str, ...]]:
-    """Each orientation with its shortest reductions on both sides, as the cookbook goes about it, by the built program."""
-    rows = set()
+def wanted_rows(program: str, position: Position) -> dict[tuple[str, ...], str]:
+    """Each orientation with each reduction that may follow it on both sides, as the cookbook goes about it, by the built program; and its twins' key."""
+    rows = {}
     for step in STEPS:
         for side in SIDES:
             other = SIDES[side == "normal"]
             lists = program_answers(program, ["solve", step, "20"], [position.lines[side]])
             moves = [line.rsplit("(", 1)[0].strip() for line in lists if line]
             inverted = program_answers(program, ["invert"], moves)
-            same = program_answers(program, ["count", f"dr-{step}", "20"], [f"{position.lines[side]} {each}" for each in moves])
-            across = program_answers(program, ["count", f"dr-{step}", "20"], [f"{each} {position.lines[other]}" for each in inverted])
-            for each, *counts in zip(moves, same, across):
-                lengths = dict(zip((side, other), (count.split()[1] for count in counts)))
-                total = str(len(each.split()) + min(map(int, lengths.values())))
-                rows.add((total, each if side == "normal" else f"({each})", lengths["normal"], lengths["inverse"]))
+            for reduction in (name for name in TITLES if name.endswith(f"-{step}")):
+                same = program_answers(program, ["count", reduction, "20"], [f"{position.lines[side]} {each}" for each in moves])
+                across = program_answers(program, ["count", reduction, "20"], [f"{each} {position.lines[other]}" for each in inverted])
+                for each, *counts in zip(moves, same, across):
+                    lengths = dict(zip((side, other), (count.split()[1] for count in counts)))
+                    total = str(len(each.split()) + min(map(int, lengths.values())))
+                    shown = each if side == "normal" else f"({each})"
+                    row = (total, shown, TITLES[step], TITLES[reduction].split(" after")[0], lengths["normal"], lengths["inverse"])
+                    rows[row] = f"{side} {twin_key(each, step)} {reduction}"
     return rows
 
 
@@ -50,33 +57,134 @@ def address_of(scramble: str) -> str:
 def best(tally: Tally, browser: Browser) -> None:
     """All continuations of the shortest orientations, and the way on from the best."""
     browser.open(address_of(SCRAMBLE))
-    browser.act("#best-find")
-    rows = [tuple(row) for row in browser.script(ROWS)]
+    browser.wait_best()
     wanted = wanted_rows(browser.program, Position(SCRAMBLE))
     tally.holds("there are some", len(wanted) > 20)
-    tally.equal("how many were tried", browser.text("best-note").split(" tried")[0], f"{len(wanted)} of {len(wanted)} orientations")
-    sums = [int(row[0]) for row in rows]
-    tally.equal("they are sorted by their sum", sums, sorted(int(row[0]) for row in wanted)[: len(rows)])
-    tally.holds("each of them is right", set(rows) <= wanted)
-    tally.equal("as many as fit are shown", len(set(rows)), min(100, len(wanted)))
+    note = browser.text("best-note")
+    tally.equal("how many were tried", note.split(" tried")[0], f"{len(wanted) // 2} of {len(wanted) // 2} EOs")
+    tally.equal("the first of them are shown", len(browser.script(ROWS)), 8)
+    tally.holds("and more when they are asked for", browser.until(MORE))
+    rows = [tuple(row) for row in browser.script(ROWS)]
+    tally.equal("each of them is right", [row for row in rows if row not in wanted], [])
+    least = {}
+    for row, key in wanted.items():
+        least[key] = min(int(row[0]), least.get(key, 99))
+    tally.equal("twins are one row, the better of them", sorted((wanted[row], int(row[0])) for row in rows), sorted(least.items()))
+    tally.equal("they are sorted by all moves", [int(row[0]) for row in rows], sorted(least.values()))
     marks = browser.script("return [...document.querySelectorAll('#best-body tr')].map((row) => [...row.querySelectorAll('td.best')].length)")
-    tally.equal("both sides are marked where they are as short", marks, [1 + (row[2] == row[3]) for row in rows])
+    tally.equal("both sides are marked where they are as short", marks, [1 + (row[4] == row[5]) for row in rows])
     tally.holds("which is seen", {1, 2} <= set(marks))
-    line = rows[0][1]
-    browser.act("#best-body button")
+    browser.choose("best-axis", "EO R/L")
+    tally.holds("those of an axis", browser.until(MORE))
+    tally.equal("are left by its filter", [tuple(row) for row in browser.script(ROWS)], [row for row in rows if row[2] == "EO R/L"])
+    browser.choose("best-axis", "")
+    browser.script("const all = document.getElementById('best-all'); all.checked = true; all.dispatchEvent(new Event('change'))")
+    browser.wait_best()
+    tally.holds("all of them", browser.until(MORE))
+    tally.equal("are shown by the switch", sorted(tuple(row) for row in browser.script(ROWS)), sorted(wanted))
+    line, total, reached = rows[0][1], int(rows[0][0]), rows[0][3]
+    browser.open(address_of(SCRAMBLE))
+    browser.wait_best()
+    browser.act("#best-body .take")
     browser.until("return document.activeElement.closest('#solutions-groups') !== null")
     tally.equal("the best is taken", browser.text("bracketed"), line)
-    shown = browser.texts("#solutions-groups button")
-    tally.holds("and its shortest reductions are listed", shown and len(shown[0].split()) == min(int(rows[0][2]), int(rows[0][3])))
-    browser.act("#solutions-groups button")
-    tally.holds("one of them finishes", "is reached" in browser.text("finished"))
+    shown = browser.listed()
+    tally.holds("and its shortest reductions are listed", shown and len(shown[0].split()) == min(int(rows[0][4]), int(rows[0][5])))
+    tally.holds("of its axis", browser.text("solutions-heading").startswith(f"{reached} after"))
+    browser.act("#solutions-groups .take")
+    tally.equal("one of them finishes", browser.text("finished").split(".")[0], f"{reached} is reached: {total} moves")
+
+
+def after_orientation(tally: Tally, browser: Browser) -> None:
+    """After an orientation the best are its reductions on both axes and sides, by all moves; after a reduction there are none."""
+    browser.open(address_of(LONGER) + "&steps=inverse.B_D_R_F2_B_D")
+    browser.wait_best()
+    position = Position(LONGER, "", "B D R F2 B D")
+    wanted = []
+    for step in ("drrl-eoud", "drfb-eoud"):
+        for side in SIDES:
+            moves = position.rows(step, side)
+            wanted += [(6 + len(each.split()), each if side == "normal" else f"({each})", TITLES[step].split(" after")[0]) for each in moves]
+    tally.holds("more of them", browser.until(MORE))
+    cells = "return [...document.querySelectorAll('#best-body tr')].map((row) => [row.children[0].textContent, row.querySelector('.take').textContent, row.children[2].textContent])"
+    rows = [(int(total), moves, state) for total, moves, state in browser.script(cells)]
+    tally.equal("its reductions", sorted(rows), sorted(wanted))
+    tally.equal("by all moves", [row[0] for row in rows], sorted(row[0] for row in rows))
+    browser.act("#best-body .take")
+    tally.equal("the first finishes", browser.text("finished"), f"{rows[0][2]} is reached: {rows[0][0]} moves. nissy goes no further.")
+    tally.equal("then there is no best", browser.script("return document.getElementById('best').checkVisibility()"), False)
+
+
+def cases(tally: Tally, browser: Browser) -> None:
+    """Bad edges and cases of a scramble, as solvers counted them, in the table, the list and the best; and filters by case."""
+    browser.open()
+    browser.submit("seed", "20261125")
+    browser.until("return document.getElementById('scramble').value !== ''")
+    browser.wait()
+    heads = "return [...document.querySelectorAll('#steps-body th')].map((each) => each.textContent)"
+    tally.equal("bad edges", browser.script(heads), ["EO F/B 4 bad edges", "EO R/L 6 bad edges", "EO U/D 6 bad edges"])
+    browser.act('[data-cell="eofb.normal"]')
+    listed = {}
+    for item in browser.script("return [...document.querySelectorAll('#solutions-groups li')].map((each) => [each.querySelector('.take').dataset.key, [...each.querySelectorAll('.case')].map((one) => one.textContent)])"):
+        listed[item[0]] = item[1]
+    tally.equal("the cases of two", [listed.get("R2 L D' F"), listed.get("R2 D' L F")], [["U/D 4c2e", "R/L 4c3e"], ["U/D 4c1e", "R/L 6c3e"]])
+    browser.choose("most-corners", "4")
+    browser.choose("most-edges", "1")
+    few = [moves for moves, names in listed.items() if any(int(name[4]) <= 4 and int(name[6]) <= 1 for name in names)]
+    tally.equal("at most four corners and an edge", browser.listed(), few)
+    tally.holds("which leaves some, and not all", 0 < len(few) < len(listed))
+    browser.choose("most-corners", "8")
+    browser.choose("most-edges", "4")
+    browser.choose("list-sort", "case")
+    far = [min(int(name[4]) + 2 * int(name[6]) for name in listed[moves]) for moves in browser.listed()]
+    tally.equal("sorted by case", far, sorted(far))
+    browser.submit("own", "R2 D' L F")
+    browser.until("return document.querySelectorAll('#line-list li').length === 1")
+    browser.wait()
+    tally.equal("the cases of the steps that follow", browser.script(heads)[:2], ["DR U/D 4c1e", "DR R/L 6c3e"])
+
+
+def marked(tally: Tally, browser: Browser) -> None:
+    """Bad pieces have a ring and a dot, the rest is grey; what is marked follows the list that is open, and the focus."""
+    browser.open("#scramble=F")
+    bad = """const [side] = arguments;
+        return [...document.querySelectorAll(`#net-${side} .sticker`)].map((each, place) => each.classList.contains('bad') ? place : -1)
+            .filter((place) => place >= 0)"""
+    # F flips four edges of its own: their stickers are on F, and beside it
+    edges = [7, 12, 19, 21, 23, 25, 28, 41]
+    tally.equal("nothing is marked", browser.script(bad, "normal"), [])
+    browser.choose("marks", "EO F/B")
+    for side in SIDES:
+        tally.equal(f"bad edges on the {side} side", browser.script(bad, side), edges)
+    looks = """const seen = (selector) => { const it = document.querySelector(selector); const own = getComputedStyle(it.querySelector('rect'));
+            return [own.fill, own.strokeWidth, getComputedStyle(it.querySelector('.dot')).display]; };
+        return [seen('#net-normal .bad'), seen('#net-normal .sticker:not(.bad)')]"""
+    (_, wide, dot), (grey, thin, none) = browser.script(looks)
+    tally.equal("a bad one has a ring and a dot, another neither", (float(wide[:-2]) > 2 * float(thin[:-2]), dot, none), (True, "block", "none"))
+    parts = [int(part) for part in re.findall(r"\d+", grey)]
+    tally.holds(f"the rest is grey: {parts}", max(parts) - min(parts) < 20)
+    named = re.search("EO F/B: 4 bad, ([A-Z ]+);", browser.script("return document.querySelector('#net-normal svg').ariaLabel"))
+    tally.equal("and they are named", sorted(named[1].split()) if named else None, ["DF", "FL", "FR", "UF"])
+    browser.choose("marks", "DR U/D")
+    tally.equal("corners and edges of the slice", len(browser.script(bad, "normal")), 4 * 3 + 2 * 2)
+    browser.choose("marks", "follow")
+    browser.script("document.querySelector('[data-cell=\"eorl.normal\"]')?.focus()")
+    browser.open(address_of(LONGER))
+    browser.choose("marks", "follow")
+    browser.script("document.querySelector('[data-cell=\"eofb.normal\"]').focus()")
+    tally.equal("the cell that has the focus", len(browser.script(bad, "normal")), 12)
+    tally.holds("is named", browser.text("marked-normal").endswith("EO F/B: 6 bad"))
+    browser.script("document.activeElement.blur()")
+    tally.equal("without it nothing", browser.script(bad, "normal"), [])
+    browser.act('[data-cell="eorl.normal"]')
+    browser.script("document.activeElement.blur()")
+    tally.holds("the open list", browser.text("marked-normal").endswith("EO R/L: 6 bad"))
 
 
 def stopped(tally: Tally, browser: Browser) -> None:
     """A stop in mid-search, while the page stays at hand."""
     browser.open(address_of(LONGER))
-    browser.script("document.getElementById('best-slack').value = '2'")
-    browser.click("#best-find")
+    browser.choose("best-slack", "2")
     moving = "const bar = document.getElementById('best-progress'); return !bar.hidden && bar.value > 0 && bar.value < bar.max"
     tally.holds("the progress is shown", browser.until(moving))
     browser.click('[data-cell="eofb.normal"]')
@@ -84,21 +192,28 @@ def stopped(tally: Tally, browser: Browser) -> None:
     tally.holds("and the search goes on", browser.script("return !document.getElementById('best-stop').hidden"))
     workers = browser.workers()
     browser.act("#best-stop")
+    browser.wait_best()
     end = time.monotonic() + 10
     while browser.workers() >= workers and time.monotonic() < end:
         time.sleep(0.1)
-    tally.equal("a stop ends its worker", browser.workers(), workers - 1)
+    tally.holds("a stop ends its workers", browser.workers() < workers)
     note = browser.text("best-note")
     done, all_of_them = (int(number.replace(",", "")) for number in re.findall("[0-9,]+", note))
-    tally.equal("what it says", note, f"Stopped. {done:,} of {all_of_them:,} orientations tried.")
+    tally.equal("what it says", note, f"Stopped. {done:,} of {all_of_them:,} EOs tried.")
     tally.holds("it stops before the end", done < all_of_them)
     tally.holds("what was found stays", len(browser.script(ROWS)) > 0)
-    browser.script("document.getElementById('best-slack').value = '0'")
-    browser.act("#best-find")
+    browser.choose("best-slack", "0")
+    browser.wait_best()
     tally.holds("and it can be asked again", "tried" in browser.text("best-note") and "Stopped" not in browser.text("best-note"))
-    browser.click("#best-find")
+    before = browser.script(ROWS)
+    browser.choose("best-slack", "1")
+    tally.equal("rows of another choice go at once", browser.script("return document.querySelectorAll('#best-body tr').length"), 0)
+    browser.choose("best-slack", "0")
+    tally.equal("and are kept", browser.script(ROWS), before)
+    browser.choose("best-slack", "2")
     browser.fill("scramble", "R U F")
-    tally.equal("another scramble ends a search", browser.text("best-note"), "")
+    browser.wait_best()
+    tally.holds("another scramble ends a search", "Stopped" not in browser.text("best-note"))
 
 
 def long_list(tally: Tally, browser: Browser) -> None:
@@ -114,7 +229,7 @@ def long_list(tally: Tally, browser: Browser) -> None:
     count = program_answers(browser.program, ["near", "eoud", "20", "2", f"({LONGER})"], [])
     wanted = sum(line.endswith(")") for line in count)
     tally.equal("a long one is counted whole", browser.text("solutions-note").split(".")[0], f"{wanted:,} solutions")
-    tally.equal("and cut", len(browser.texts("#solutions-groups button")), 200)
+    tally.equal("and cut", len(browser.listed()), 200)
 
 
 def unknown(tally: Tally, browser: Browser) -> None:
@@ -123,18 +238,18 @@ def unknown(tally: Tally, browser: Browser) -> None:
     note = "return document.getElementById('solutions-note').textContent"
     tally.equal("a filter that is typed while a list is looked for", browser.script(CHOOSE + TYPE + note, "1", "B D R"), "Looking \u2026")
     browser.wait()
-    wanted = [moves for moves in Position(LONGER).solutions("eoud", "inverse", 1) if " B D R " in f" {moves} "]
-    tally.equal("it is kept for the list", browser.texts("#solutions-groups button"), wanted)
+    wanted = [moves for moves in Position(LONGER).rows("eoud", "inverse", 1) if " B D R " in f" {moves} "]
+    tally.equal("it is kept for the list", browser.listed(), wanted)
     browser.script(CHOOSE + "document.getElementById('solutions-stop').click()", "3")
     browser.wait()
     tally.equal("a filter that is typed after a stop", browser.script(TYPE + note, "", "F"), "Stopped.")
     browser.open(address_of(FLIPPED) + "&list=eofb.normal.3")
     said = browser.text("solutions-note")
     fewer = program_answers(browser.program, ["near", "eofb", "20", "2", FLIPPED], [])
-    count = re.match("More than ([0-9,]+) solutions. The list is cut", said)
+    count = re.match("More than ([0-9,]+) solutions. .*The first 200 are shown", said)
     is_more = count and int(count[1].replace(",", "")) > sum(line.endswith(")") for line in fewer)
     tally.holds(f"a list without room for all: {said}", is_more)
-    tally.equal("its beginning", browser.texts("#solutions-groups button"), Position(FLIPPED).solutions("eofb", "normal")[:200])
+    tally.equal("its beginning", browser.listed(), Position(FLIPPED).rows("eofb", "normal")[:200])
 
 
 def hasty(tally: Tally, browser: Browser) -> None:
@@ -142,13 +257,12 @@ def hasty(tally: Tally, browser: Browser) -> None:
     browser.open(address_of(LONGER))
     browser.script("document.querySelector('[data-cell=\"eoud.inverse\"]').click();" + CHOOSE, "1")
     browser.wait()
-    longer = Position(LONGER).solutions("eoud", "inverse", 1)
-    tally.equal("another slack at once", browser.texts("#solutions-groups button"), longer[:200])
+    tally.equal("another slack at once", browser.listed(), Position(LONGER).rows("eoud", "inverse", 1)[:200])
     browser.open(address_of(SCRAMBLE))
     browser.script("document.querySelector('[data-example]').click(); document.querySelector('[data-cell=\"eoud.inverse\"]').click()")
     browser.wait()
-    listed = Position(LONGER).solutions("eoud", "inverse")
-    tally.equal("a hasty choice is answered for the scramble that is shown", browser.texts("#solutions-groups button"), listed)
+    listed = Position(LONGER).rows("eoud", "inverse")
+    tally.equal("a hasty choice is answered for the scramble that is shown", browser.listed(), listed)
     browser.script("location.hash = '#scramble=F'; setTimeout(() => { location.hash = '#scramble=R_U' })")
     browser.until("return document.getElementById('scramble').value === 'R U'")
     browser.wait()
@@ -166,14 +280,14 @@ def impatient(tally: Tally, browser: Browser) -> None:
     tally.equal("of many scrambles the one of the seed is shown", browser.script("return document.getElementById('scramble').value"), drawn)
     add = "const own = document.getElementById('own'); own.value = 'R'; for (let at = 0; at < 3; at += 1) own.form.requestSubmit();"
     browser.script("document.querySelector('[data-example]').click();" + add)
-    browser.until("return document.querySelectorAll('#skeleton-list li').length > 0")
+    browser.until("return document.querySelectorAll('#line-list li').length > 0")
     browser.wait()
     tally.equal("moves that are sent three times at once", browser.text("bracketed"), "R")
     tally.equal("with no fault", (browser.text("own-fault"), browser.script("return document.getElementById('own').value")), ("", ""))
     another = "document.querySelector('[data-example]').click(); document.getElementById('results').setAttribute('aria-busy', 'true')"
     browser.script(add + another)
     browser.wait()
-    tally.equal("moves by hand before another scramble", (browser.texts("#skeleton-list li"), browser.text("own-fault")), ([], ""))
+    tally.equal("moves by hand before another scramble", (browser.texts("#line-list li"), browser.text("own-fault")), ([], ""))
     tally.equal("they stay in their field", browser.script("return document.getElementById('own').value"), "R")
 
 
@@ -195,5 +309,5 @@ def random(tally: Tally, browser: Browser) -> None:
 
 def try_all(tally: Tally, browser: Browser) -> None:
     """All of them."""
-    for part in (best, stopped, long_list, unknown, hasty, impatient, random):
+    for part in (best, after_orientation, cases, marked, stopped, long_list, unknown, hasty, impatient, random):
         part(tally, browser)

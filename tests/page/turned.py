@@ -19,17 +19,18 @@ def reaches(tally: Tally, browser: Browser, what: str, address: str, position: P
     browser.open(address)
     for side in SIDES:
         tally.equal(f"{what}: the {side} side", browser.letters(side), position.letters(side))
-    tally.equal(f"{what}: the table", browser.cells()[:6], [position.cell(step, side) for step in STEPS for side in SIDES])
+    tally.equal(f"{what}: the table", browser.cells(), position.cells())
     for step in STEPS:
         for side in SIDES:
-            wanted = position.solutions(step, side)
+            wanted = position.rows(step, side)
             if wanted == [""]:
                 continue
             browser.act(f'[data-cell="{step}.{side}"]')
-            listed = browser.texts("#solutions-groups button")
+            listed = browser.listed()
             tally.equal(f"{what}: the list of {step} on the {side} side", listed, wanted)
-            browser.act("#solutions-groups button")
-            reached = browser.texts("#skeleton-list .reaches")[-1].split(", ")
+            browser.act("#solutions-groups .take")
+            # a reduction that the step reaches with it is all that the line names
+            reached = browser.text("reached")
             tally.holds(f"{what}, {side} side: {listed[0]} reaches {step}: {reached}", TITLES[step] in reached)
             tally.equal(f"{what}: no alert", browser.text("alert"), "")
             browser.act("#undo-step")
@@ -50,7 +51,7 @@ def scrambles(tally: Tally, browser: Browser) -> None:
     browser.fill("scramble", "Rw Rw'")
     tally.equal("where nothing is left out nothing is said", browser.text("scramble-read"), "")
     browser.fill("scramble", "M E " * 128)
-    tally.equal("too many", browser.texts("#scramble-fault p"), ["more than 256 moves, as face turns"])
+    tally.equal("too many", browser.texts("#scramble-fault p"), ["More than 256 moves, as face turns."])
 
 
 def by_hand(tally: Tally, browser: Browser) -> None:
@@ -58,7 +59,7 @@ def by_hand(tally: Tally, browser: Browser) -> None:
     for side, (typed, faces) in zip(SIDES, LINES):
         browser.open(f"#scramble=F_R2&side={side}")
         browser.submit("own", typed)
-        browser.until("return document.querySelector('#skeleton-list li') !== null")
+        browser.until("return document.querySelector('#line-list li') !== null")
         browser.wait()
         tally.equal(f"{typed} by hand", browser.text("bracketed"), faces if side == "normal" else f"({faces})")
         address = browser.script("return location.hash")

@@ -9,9 +9,9 @@ sys.path.insert(0, str(Path(__file__).resolve().parent.parent / "model"))
 import model  # noqa: E402
 
 SIDES = ("normal", "inverse")
-TITLES = {"eofb": "EO on F/B", "eorl": "EO on R/L", "eoud": "EO on U/D"}
+TITLES = {"eofb": "EO F/B", "eorl": "EO R/L", "eoud": "EO U/D"}
 TITLES |= {
-    f"dr{axis}-{start}": f"DR on {letters} after {TITLES[start]}"
+    f"dr{axis}-{start}": f"DR {letters} after {TITLES[start]}"
     for start, axes in {"eofb": ("ud", "rl"), "eorl": ("ud", "fb"), "eoud": ("rl", "fb")}.items()
     for axis, letters in {"ud": "U/D", "rl": "R/L", "fb": "F/B"}.items()
     if axis in axes
@@ -40,11 +40,54 @@ def by_faces(line: str) -> str:
     return " ".join(move for move in answer("cleanup", line).split() if move[0] not in "xyz")
 
 
+AXES = ("UD", "RL", "FB")
+# the axis whose quarter turns end a step's solutions
+LAST_AXES = {"eofb": "FB", "eorl": "RL", "eoud": "UD"}
+LAST_AXES |= {step: next(axis for axis in AXES if axis.lower() not in step.replace("lr", "rl")) for step in TITLES if step.startswith("dr")}
+
+
+def one_axis(turns: list[str]) -> bool:
+    """Whether turns turn opposite faces."""
+    return any(all(turn[0] in axis for turn in turns) for axis in AXES)
+
+
+def twin_key(moves: str, step: str) -> str:
+    """What twins have in common: their last turns of the step's axis have no direction."""
+    turns, count = moves.split(), 0
+    while count < len(turns) and turns[-1 - count][0] in LAST_AXES[step]:
+        count += 1
+    kept = turns[: len(turns) - count]
+    return " ".join([*kept, *(turn.replace("'", "") for turn in turns[len(turns) - count :])])
+
+
+def is_earlier(moves: str, solutions: set[str]) -> bool:
+    """Whether a solution holds another one at its beginning, of two opposite turns either first."""
+    turns = moves.split()
+    for count in range(len(turns)):
+        if " ".join(turns[:count]) in solutions:
+            return True
+        if count > 0 and one_axis(turns[count - 1 : count + 1]) and " ".join([*turns[: count - 1], turns[count]]) in solutions:
+            return True
+    return False
+
+
+def rows_of(solutions: list[str], step: str) -> list[str]:
+    """What the page lists of solutions: none that held earlier, and twins once."""
+    known, seen, rows = set(solutions), set(), []
+    for moves in solutions:
+        key = twin_key(moves, step)
+        if key not in seen and not is_earlier(moves, known):
+            rows.append(moves)
+            seen.add(key)
+    return rows
+
+
 class Position:
     """A scramble and the moves after it on both sides, as the definition of the inverse scramble has them."""
 
     def __init__(self, scramble: str, normal: str = "", inverse: str = "") -> None:
         whole = by_faces(answer("unniss", scramble))
+        self.made = sum(len(by_faces(moves).split()) for moves in (normal, inverse))
         self.lines = {
             "normal": " ".join([answer("invert", inverse), whole, normal]),
             "inverse": " ".join([answer("invert", f"{whole} {normal}"), inverse]),
@@ -58,12 +101,31 @@ class Position:
         """Whether a step may start."""
         return run(("count", step, "0"), self.lines["normal"])[2] == 0
 
-    def cell(self, step: str, side: str) -> str:
-        """What the cell of a step and a side is called."""
+    def count(self, step: str, side: str) -> tuple[int, int, int]:
+        """The least length, how many solutions have it, and the looks."""
         text = run(("count", step, "20"), self.lines[side])[0]
-        length, solutions, looks = re.fullmatch(r"length (\d+) solutions (\d+) nodes (\d+)\n", text).groups()
-        said = f"{counted(length, 'move')}, {counted(solutions, 'solution')}, {counted(looks, 'look')}"
-        return f"{TITLES[step]}, {side} side: {'0, reached' if length == '0' else said}"
+        return tuple(map(int, re.fullmatch(r"length (\d+) solutions (\d+) nodes (\d+)\n", text).groups()))
+
+    def open_steps(self) -> list[list[str]]:
+        """The steps that may start and aren't reached: reductions, and then orientations."""
+        steps = [step for step in TITLES if self.may_start(step) and self.count(step, "normal")[0] > 0]
+        return [[step for step in steps if step.startswith(kind)] for kind in ("dr", "eo")]
+
+    def cells(self) -> list[str]:
+        """What the cells of the page's table are called."""
+        names = []
+        for group in self.open_steps():
+            counts = {(step, side): self.count(step, side) for step in group for side in SIDES}
+            least = min((length for length, _, _ in counts.values()), default=0)
+            for (step, side), (length, solutions, _) in counts.items():
+                total = f"{self.made + length} in all, " if self.made else ""
+                said = f"{counted(length, 'move')}, {total}{counted(solutions, 'solution')}"
+                names.append(f"{TITLES[step]}, {side} side: {said}{', shortest' if length == least else ''}")
+        return names
+
+    def rows(self, step: str, side: str, slack: int = 0) -> list[str]:
+        """The rows of a list, without their lengths."""
+        return rows_of(self.solutions(step, side, slack), step)
 
     def solutions(self, step: str, side: str, slack: int = 0) -> list[str]:
         """The solutions of a step, without their lengths."""
@@ -71,6 +133,6 @@ class Position:
         return [re.sub(r" ?\(\d+\)$", "", line) for line in text.splitlines() if line]
 
 
-def counted(number: str, word: str) -> str:
+def counted(number: int, word: str) -> str:
     """A number with its word."""
-    return f"{int(number):,} {word}{'' if int(number) == 1 else 's'}"
+    return f"{number:,} {word}{'' if number == 1 else 's'}"

@@ -1,0 +1,148 @@
+// The card of the cube: the nets of both sides, the pieces that are marked on them, how they are held, and moves that are played on them.
+import { badEdges, caseOf, pieceName } from "./cases.js";
+import { announce, element, part } from "./element.js";
+import { emptyNet, showCube } from "./net.js";
+import { SIDES } from "./steps.js";
+import { plainView, turnedView } from "./viewpoint.js";
+
+/** @typedef {import("./steps.js").Side} Side */
+
+const FOLLOW = "follow";
+const PLAIN = "none";
+const BEAT = 700;
+const AXES_TO_MARK = ["F/B", "R/L", "U/D"];
+
+/** The pieces that a choice marks, and what they are called; a choice is `EO F/B` or `DR U/D`. @param {string} letters @param {string} choice */
+function marksOf(letters, choice) {
+    const [kind, axis] = choice.split(" ");
+    if (kind === "EO") {
+        const edges = badEdges(letters, axis);
+        return { pieces: edges, words: `${edges.length} bad` };
+    }
+    const { corners, edges } = caseOf(letters, axis);
+    return { pieces: [...corners, ...edges], words: `${corners.length}c${edges.length}e` };
+}
+
+export class Cube {
+    #nets = {};
+    #letters = null;
+    #count = 0;
+    #ask = null;
+    /** @type {{move: string, letters: Record<Side, string>}[] | null} */
+    #frames = null;
+    #frame = 0;
+    #timer = 0;
+    #view = plainView();
+    #open = "";
+    #pointed = "";
+    #choice = part("marks");
+    #play = part("play");
+
+    constructor() {
+        for (const side of SIDES) {
+            this.#nets[side] = emptyNet();
+            part(`net-${side}`).prepend(this.#nets[side]);
+        }
+        const kinds = ["EO", "DR"].flatMap((kind) => AXES_TO_MARK.map((axis) => `${kind} ${axis}`));
+        this.#choice.append(...kinds.map((kind) => element("option", { value: kind }, kind)));
+        this.#choice.addEventListener("change", () => this.#draw());
+        for (const kind of ["pointerover", "focusin"]) part("choices").addEventListener(kind, (event) => this.#point(event.target));
+        for (const kind of ["pointerleave", "focusout"]) part("choices").addEventListener(kind, () => this.#point(null));
+        for (const turn of ["x", "y"]) part(`view-${turn}`).addEventListener("click", () => this.#turn(turn));
+        this.#play.addEventListener("click", () => (this.#timer === 0 ? this.#begin() : this.stop()));
+        part("play-back").addEventListener("click", () => this.#step(-1));
+        part("play-on").addEventListener("click", () => this.#step(1));
+    }
+
+    /**
+     * Shows a cube.
+     * @param {Record<Side, string>} letters @param {number} count how many moves lead to it from the scramble
+     * @param {() => Promise<{move: string, letters: Record<Side, string>}[]>} ask for the cube after each of them
+     */
+    show(letters, count, ask) {
+        this.stop();
+        this.#letters = letters;
+        [this.#count, this.#frame] = [count, count];
+        [this.#ask, this.#frames] = [ask, null];
+        part("cube").hidden = false;
+        part("player").hidden = count === 0;
+        this.#draw();
+    }
+
+    /** What the cell of the open list would mark, or "". @param {string} choice */
+    follow(choice) {
+        this.#open = choice;
+        this.#draw();
+    }
+
+    /** Ends what is played. */
+    stop() {
+        clearInterval(this.#timer);
+        this.#timer = 0;
+        this.#play.textContent = "Play";
+    }
+
+    #point(target) {
+        const pointed = target?.closest("[data-marks]")?.dataset.marks ?? "";
+        if (pointed === this.#pointed) return;
+        this.#pointed = pointed;
+        this.#draw();
+    }
+
+    #turn(turn) {
+        this.#view = turnedView(this.#view, turn);
+        this.#draw();
+        announce(`The view is turned by ${turn}.`);
+    }
+
+    /** Has the cube after each move, and says whether it is still the same line. */
+    async #load() {
+        const ask = this.#ask;
+        if (this.#frames === null) {
+            const frames = await ask().catch(() => null);
+            if (ask === this.#ask) this.#frames = frames;
+        }
+        return ask === this.#ask && this.#frames !== null;
+    }
+
+    async #begin() {
+        if (!(await this.#load())) return;
+        this.#go(this.#frame >= this.#count ? 0 : this.#frame);
+        // who wants less motion goes by single moves
+        if (matchMedia("(prefers-reduced-motion: reduce)").matches || this.#timer !== 0) return;
+        this.#play.textContent = "Pause";
+        this.#timer = setInterval(() => {
+            this.#go(this.#frame + 1);
+            if (this.#frame >= this.#count) this.stop();
+        }, BEAT);
+    }
+
+    async #step(by) {
+        this.stop();
+        if (await this.#load()) this.#go(this.#frame + by);
+    }
+
+    #go(frame) {
+        this.#frame = Math.min(this.#count, Math.max(0, frame));
+        this.#draw();
+    }
+
+    #draw() {
+        if (this.#letters === null) return;
+        const choice = this.#choice.value === FOLLOW ? this.#pointed || this.#open || PLAIN : this.#choice.value;
+        const frame = this.#frame === this.#count ? null : this.#frames[this.#frame];
+        for (const side of SIDES) this.#drawSide(side, (frame?.letters ?? this.#letters)[side], choice);
+        const move = this.#frames?.[this.#frame].move;
+        part("played").textContent = `${this.#frame} of ${this.#count}${move ? `: ${move}` : ""}`;
+    }
+
+    #drawSide(side, letters, choice) {
+        const marks = choice === PLAIN ? null : marksOf(letters, choice);
+        const words = marks === null ? "" : `${choice}: ${marks.words}`;
+        const names = marks === null ? "" : `, ${marks.pieces.map(pieceName).join(" ") || "none"}`;
+        const title = `The cube on the ${side} side${words === "" ? "" : `; ${words}${names}`}`;
+        const places = marks === null ? null : new Set(marks.pieces.flat());
+        showCube(this.#nets[side], letters, title, { places, view: this.#view });
+        part(`marked-${side}`).textContent = words === "" ? "" : ` · ${words}`;
+    }
+}

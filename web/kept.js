@@ -1,0 +1,120 @@
+// The card of the candidates that are kept: each with its moves, what it reaches, its case and a note; gone on with, taken away, or copied.
+import { LONGEST_NOTE } from "./address.js";
+import { caseName } from "./cases.js";
+import { copy } from "./copying.js";
+import { counted, element, part, spoken, tell } from "./element.js";
+import { fmcOfAll } from "./fmc.js";
+import { bracketed } from "./position.js";
+import { ORIENTATIONS, isReduced, reductionsAfter, statesOf } from "./steps.js";
+
+/** @typedef {import("./address.js").Candidate} Candidate */
+/** @typedef {import("./position.js").Part} Part */
+/** @typedef {import("./position.js").Walk} Walk */
+
+/** What a candidate is known by. @param {Part[]} parts */
+export const nameOfCandidate = (parts) => bracketed(parts);
+
+/** How far a candidate has come: 2 with a reduction, 1 with an orientation. @param {Walk} walk */
+function stageOf({ reached }) {
+    const last = reached.at(-1);
+    return isReduced(last) ? 2 : Math.min(1, last.length);
+}
+
+/** What a candidate reaches, and the cases of the reductions that may follow. @param {Walk} walk */
+function wordsOfWalk(walk) {
+    const reached = walk.reached.at(-1);
+    const states = statesOf(reached);
+    if (isReduced(reached)) return { states: states.filter((state) => state.startsWith("DR")), cases: [] };
+    const steps = ORIENTATIONS.filter(({ name }) => reached.includes(name)).flatMap(({ name }) => reductionsAfter(name));
+    const cases = [...new Set(steps.map(({ axis }) => `${axis} ${caseName(walk.letters.at(-1), axis)}`))];
+    return { states, cases };
+}
+
+export class KeptCandidates {
+    #acts;
+    #candidates = [];
+    #walks = [];
+    #scramble = "";
+    #list = part("kept-list");
+
+    /** @param {{goOn: (parts: Part[]) => void, change: (kept: Candidate[]) => void}} acts */
+    constructor(acts) {
+        this.#acts = acts;
+        part("copy-kept").addEventListener("click", (event) => copy(this.#text(), event.currentTarget));
+        part("kept-sort").addEventListener("change", () => this.#draw());
+    }
+
+    /** Shows candidates; what the engine says of them comes by `describe`. @param {Candidate[]} candidates */
+    show(candidates) {
+        if (candidates === this.#candidates) return;
+        this.#candidates = candidates;
+        this.#walks = [];
+        part("kept").hidden = candidates.length === 0;
+        this.#draw();
+    }
+
+    /** @param {Walk[]} walks in the order of the candidates @param {string} scramble */
+    describe(walks, scramble) {
+        this.#walks = walks;
+        this.#scramble = scramble;
+        this.#draw();
+    }
+
+    /** Whether a line is kept. @param {Part[]} parts */
+    has(parts) {
+        return this.#candidates.some((each) => nameOfCandidate(each.parts) === nameOfCandidate(parts));
+    }
+
+    /** The candidates with their walks, in the order that is chosen. */
+    #sorted() {
+        const all = this.#candidates.map((candidate, at) => ({ candidate, walk: this.#walks[at] ?? null }));
+        if (all.some(({ walk }) => walk === null) || part("kept-sort").value === "kept") return all;
+        const total = ({ walk }) => walk.totals.at(-1);
+        return all.sort((one, other) => stageOf(other.walk) - stageOf(one.walk) || total(one) - total(other));
+    }
+
+    #text() {
+        if (this.#walks.length !== this.#candidates.length) return "";
+        return fmcOfAll(this.#scramble, this.#sorted().map(({ candidate, walk }) => ({ walk, note: candidate.note })));
+    }
+
+    #draw() {
+        const focused = this.#list.contains(document.activeElement) ? document.activeElement.dataset.control : null;
+        this.#list.replaceChildren(...this.#sorted().map((each) => this.#item(each)));
+        if (focused) [...this.#list.querySelectorAll("[data-control]")].find(({ dataset }) => dataset.control === focused)?.focus({ preventScroll: true });
+        tell(part("kept-count"), this.#candidates.length === 0 ? "" : counted(this.#candidates.length, "line"));
+    }
+
+    #item({ candidate, walk }) {
+        const { parts, note } = candidate;
+        const name = nameOfCandidate(parts);
+        const { states, cases } = walk ? wordsOfWalk(walk) : { states: [], cases: [] };
+        const count = walk ? counted(walk.totals.at(-1), "move") : "";
+        const without = () => this.#candidates.filter((each) => each !== candidate);
+        const field = element("input", {
+            class: "note-field", value: note, maxlength: LONGEST_NOTE, placeholder: "Note", autocomplete: "off",
+            "data-control": `note ${name}`,
+            "aria-label": `Note on ${spoken(name)}`,
+            change: (event) => {
+                const text = event.target.value.trim();
+                this.#acts.change(this.#candidates.map((each) => (each === candidate ? { parts, note: text } : each)));
+            },
+        });
+        return element("li", {},
+            element("span", { class: "step" },
+                element("span", { class: "moves" }, name || "no moves"),
+                element("span", { class: "total" }, count),
+                ...states.map((state) => element("span", { class: "chip" }, state)),
+                ...cases.map((each) => element("span", { class: "case" }, each))),
+            element("span", { class: "row" },
+                field,
+                element("button", {
+                    type: "button", class: "quiet", "data-control": `on ${name}`, "aria-label": `Go on with ${spoken(name)}`,
+                    click: () => this.#acts.goOn(parts),
+                }, "Go on"),
+                element("button", {
+                    type: "button", class: "quiet", "data-control": `away ${name}`, "aria-label": `Take away ${spoken(name)}`,
+                    click: () => this.#acts.change(without()),
+                }, "Remove")));
+    }
+}

@@ -1,0 +1,199 @@
+// The card of the line so far: the steps that were taken, each of which may be edited or taken away, undo, moves by hand, the switch of sides, and
+// the whole to copy.
+import { isSolved } from "./cases.js";
+import { copy } from "./copying.js";
+import { announce, counted, element, part, spoken, tell } from "./element.js";
+import { showFault } from "./fault.js";
+import { fmcOf } from "./fmc.js";
+import { readByHand } from "./lines.js";
+import { plainLine } from "./pasted.js";
+import { bracketed, newlyReached } from "./position.js";
+import { isReduced, otherSide, statesOf } from "./steps.js";
+
+/** @typedef {import("./position.js").Part} Part */
+/** @typedef {import("./position.js").Walk} Walk */
+/** @typedef {import("./steps.js").Side} Side */
+
+const UNKNOWN = "…";
+
+/** The parts without their last move. @param {Part[]} parts @returns {Part[]} */
+export function withoutLastMove(parts) {
+    const { side, moves } = parts.at(-1);
+    const left = moves.split(" ").slice(0, -1).join(" ");
+    return left === "" ? parts.slice(0, -1) : [...parts.slice(0, -1), { side, moves: left }];
+}
+
+/** Words in a row: `one`, `one and another`, `one, another and a third`. @param {string[]} words */
+const listed = (words) => [words.slice(0, -1).join(", "), ...words.slice(-1)].filter((each) => each !== "").join(" and ");
+
+/** What is said of a line that ends, or "". @param {Walk} walk */
+function endOf({ parts, letters, reached, totals }) {
+    const total = counted(totals.at(-1), "move");
+    if (parts.length === 0) return "";
+    if (isSolved(letters.at(-1))) return `Solved: ${total}.`;
+    if (!isReduced(reached.at(-1))) return "";
+    const states = statesOf(reached.at(-1)).filter((state) => state.startsWith("DR"));
+    return `${listed(states)} ${states.length === 1 ? "is" : "are"} reached: ${total}. nissy goes no further.`;
+}
+
+export class LineSoFar {
+    #calls;
+    #acts;
+    #parts = [];
+    #side = "normal";
+    #fmc = "";
+
+    /**
+     * @param {import("./calls.js").Calls} calls
+     * @param {{change: (change: {parts?: Part[], side?: Side}) => void, star: () => void}} acts
+     */
+    constructor(calls, acts) {
+        this.#calls = calls;
+        this.#acts = acts;
+        part("own-form").addEventListener("submit", (event) => {
+            event.preventDefault();
+            this.#add();
+        });
+        part("switch").addEventListener("click", () => this.turn(otherSide(this.#side)));
+        for (const name of ["undo-step", "bar-undo"]) part(name).addEventListener("click", () => this.undoStep());
+        part("undo-move").addEventListener("click", () => this.#undo(withoutLastMove(this.#parts)));
+        part("clear").addEventListener("click", () => this.#undo([]));
+        part("keep-line").addEventListener("click", () => acts.star());
+        for (const name of ["bracketed", "joined"]) {
+            const button = part(`copy-${name}`);
+            button.addEventListener("click", () => copy(part(name).textContent, button, part(name)));
+        }
+        part("copy-fmc").addEventListener("click", (event) => copy(this.#fmc, event.currentTarget));
+    }
+
+    /** Shows on which side moves by hand go. @param {Side} side */
+    turnTo(side) {
+        this.#side = side;
+        part("side").textContent = `${side} side`;
+        part("switch").textContent = `Switch to the ${otherSide(side)} side`;
+    }
+
+    /** Has moves by hand go on another side. @param {Side} side */
+    turn(side) {
+        this.#acts.change({ side });
+        announce(`Moves by hand go on the ${side} side.`);
+    }
+
+    /** Takes the last step away, if there is one. */
+    undoStep() {
+        if (this.#parts.length > 0) this.#undo(this.#parts.slice(0, -1));
+    }
+
+    /** Shows the parts at once; what the engine says of them comes by `describe`. @param {Part[]} parts */
+    show(parts) {
+        this.#parts = parts;
+        this.#fmc = "";
+        tell(part("finished"), "");
+        part("line-list").replaceChildren(...parts.map((each, index) => this.#item(each, index)));
+        part("line-empty").hidden = parts.length > 0;
+        // where the engine can't read them, no line of other parts stays to be copied
+        if (bracketed(parts) !== part("bracketed").textContent) this.#showWhole(bracketed(parts), "", UNKNOWN);
+        for (const name of ["line-list", "whole", "undo", "bar"]) part(name).hidden = parts.length === 0;
+    }
+
+    /**
+     * Shows what each step reaches, how long it is, and the whole.
+     * @param {Walk} walk @param {string} whole without brackets @param {string} scramble
+     */
+    describe(walk, whole, scramble) {
+        this.#fmc = fmcOf(scramble, walk);
+        this.#showWhole(bracketed(walk.parts), whole, counted(walk.totals.at(-1), "move"));
+        [...part("line-list").children].forEach((item, index) => {
+            const inAll = index === 0 ? "" : `, ${walk.totals[index + 1]} in all`;
+            item.querySelector(".count").textContent = `${counted(walk.turns[index], "move")}${inAll}`;
+            tell(item.querySelector(".reaches"), newlyReached(walk, index).join(", "));
+        });
+        tell(part("finished"), endOf(walk));
+    }
+
+    /** @param {string} line @param {string} joined @param {string} total */
+    #showWhole(line, joined, total) {
+        const texts = { bracketed: line, joined, total, "bar-line": line, "bar-total": total };
+        for (const [name, text] of Object.entries(texts)) part(name).textContent = text;
+    }
+
+    #item(each, index) {
+        const text = bracketed([each]);
+        const edit = element("button", { type: "button", class: "quiet", "aria-label": `Edit ${spoken(text)}`, click: () => this.#edit(index) }, "Edit");
+        const remove = element("button", {
+            type: "button",
+            class: "quiet",
+            "aria-label": `Take away ${spoken(text)}`,
+            click: () => this.#undo(this.#parts.filter((_, at) => at !== index)),
+        }, "Remove");
+        return element("li", {},
+            element("span", { class: "step" },
+                element("span", { class: "moves" }, text),
+                element("span", { class: "reaches", hidden: true }),
+                element("span", { class: "note" }, element("span", { class: "count" }))),
+            element("span", { class: "acts" }, edit, remove));
+    }
+
+    /** Puts a field in place of a step. @param {number} index */
+    #edit(index) {
+        const [item, parts] = [part("line-list").children[index], this.#parts];
+        const text = bracketed([parts[index]]);
+        const shown = [...item.childNodes];
+        const field = element("input", {
+            class: "moves wide", value: text, spellcheck: "false", autocapitalize: "off", autocomplete: "off", maxlength: 4096,
+            "aria-label": `Step ${index + 1}`,
+        });
+        const fault = element("div", { class: "fault", hidden: true });
+        const leave = () => {
+            item.replaceChildren(...shown);
+            item.querySelector("button").focus();
+        };
+        const form = element("form", {
+            class: "row",
+            submit: (event) => {
+                event.preventDefault();
+                // the step is seen as it is written down, so what has no brackets goes on the normal side
+                this.#read(field, fault, "normal", (added) => {
+                    this.#undo([...parts.slice(0, index), ...added, ...parts.slice(index + 1)]);
+                });
+            },
+            keydown: (event) => {
+                if (event.key === "Escape") leave();
+            },
+        }, field, element("button", { type: "submit" }, "Change"), element("button", { type: "button", click: leave }, "Leave"));
+        item.replaceChildren(form, fault);
+        field.focus();
+    }
+
+    #undo(parts) {
+        const isOneLess = parts.length === this.#parts.length - 1;
+        this.#acts.change(isOneLess && this.#parts.length > 0 ? { parts, side: this.#parts.at(-1).side } : { parts });
+        announce(parts.length === 0 ? "The line is empty." : `The line is ${spoken(bracketed(parts))}.`);
+        if (parts.length === 0) part("own").focus({ preventScroll: true });
+    }
+
+    #add() {
+        const parts = this.#parts;
+        const field = part("own");
+        this.#read(field, part("own-fault"), this.#side, (added) => {
+            field.value = "";
+            if (added.length > 0) this.#acts.change({ parts: [...parts, ...added] });
+        });
+    }
+
+    /** Reads what a field has as steps. @param {HTMLInputElement} field @param {HTMLElement} where for a fault @param {Side} side @param {(added: Part[]) => void} use */
+    async #read(field, where, side, use) {
+        const [text, parts] = [field.value, this.#parts];
+        // what was sent twice, or changed since, isn't added; nor is it to another line
+        const isStill = () => field.value === text && this.#parts === parts && field.isConnected;
+        const plain = plainLine(text);
+        try {
+            const added = await readByHand(this.#calls, plain.line, side);
+            if (!isStill()) return;
+            showFault(where, field, plain, null, text);
+            use(added);
+        } catch (fault) {
+            if (isStill()) showFault(where, field, plain, fault, text);
+        }
+    }
+}

@@ -1,0 +1,69 @@
+// Reads text as solvers write it: what is no move but is written beside moves becomes a blank or an apostrophe, or is left out. What comes of it
+// is a line of the engine's grammar, or it is at fault there. Each sign of the line knows its place in the text.
+
+/** @typedef {{line: string, places: number[], leftOut: string[]}} PlainLine */
+
+const APOSTROPHES = /[\u2018\u2019\u02BC\u2032\u00B4`]/;
+const UNSEEN = /[\u200B-\u200D\u2060\uFEFF]/;
+const COMMAS = /[,;]/;
+
+/** What is left out as a whole, and what it is called. */
+const LEFT_OUT = [
+    { form: /\/\/[^\n]*/g, name: "comments" },
+    { form: /^[^\S\n]*\d+[.)]/gm, name: "line numbers" },
+    { form: /^[^\S\n]*scramble[^\S\n]*:/gim, name: "the word Scramble" },
+];
+
+/** The places in a text that are left out, each with the name of what stands there. @param {string} text @returns {Map<number, string>} */
+function omitted(text) {
+    const places = new Map();
+    for (const { form, name } of LEFT_OUT) {
+        for (const { 0: found, index } of text.matchAll(form)) {
+            for (let at = index; at < index + found.length; at++) places.set(at, name);
+        }
+    }
+    return places;
+}
+
+/** What a sign is read as, and what of it is left out, if anything is. @param {string} sign @returns {[string, string]} */
+function readAs(sign) {
+    if (UNSEEN.test(sign)) return ["", "signs that aren't seen"];
+    if (COMMAS.test(sign)) return [" ", "commas"];
+    if (APOSTROPHES.test(sign)) return ["'", ""];
+    return [/\s/.test(sign) ? " " : sign, ""];
+}
+
+/** @param {string} text @returns {PlainLine} */
+export function plainLine(text) {
+    const gone = omitted(text);
+    const leftOut = new Set(gone.values());
+    const places = [];
+    let line = "";
+    for (let at = 0; at < text.length; at++) {
+        if (gone.has(at)) continue;
+        const [sign, name] = readAs(text[at]);
+        if (name !== "") leftOut.add(name);
+        if (sign !== "") places.push(at);
+        line += sign;
+    }
+    return { line, places, leftOut: [...leftOut] };
+}
+
+/**
+ * Text with moves on several lines, as solvers write a solution: the scramble, then a step a line with a comment; blocks after a blank line are
+ * candidates. Null where the text isn't of this form.
+ * @param {string} text
+ * @returns {{scramble: string, steps: string[], candidates: {steps: string[], note: string}[]} | null}
+ */
+export function readFmc(text) {
+    const blocks = text.split(/\n[^\S\n]*\n/).map((block) => block.split("\n").filter((line) => line.trim() !== "")).filter((block) => block.length > 0);
+    const lines = blocks.flat();
+    if (!lines.slice(1).some((line) => line.includes("//"))) return null;
+    const isMoves = (line) => plainLine(line).line.trim() !== "";
+    const [[scramble, ...steps], ...others] = blocks;
+    const candidates = others.map((block) => ({
+        steps: block.filter(isMoves),
+        note: block.filter((line) => !isMoves(line)).map((line) => line.replace(/^[^/]*\/\/\s*/, "").trim()).join(" "),
+    }));
+    return { scramble, steps: steps.filter(isMoves), candidates: candidates.filter((each) => each.steps.length > 0) };
+}

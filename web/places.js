@@ -1,0 +1,27 @@
+// Where one was: with each entry of the browser's history that is left, what had the focus there and how far the page was scrolled is kept, so
+// that Back leads to the same place.
+
+/** @typedef {{key: string, scroll: number}} Place */
+
+/** A place that came out of the history, or null. @param {unknown} state @returns {Place | null} */
+export function placeIn(state) {
+    if (state === null || typeof state !== "object") return null;
+    const { key, scroll } = /** @type {Record<string, unknown>} */ (state);
+    return typeof key === "string" && typeof scroll === "number" ? { key, scroll } : null;
+}
+
+/** Keeps in the entry that is shown where one is. */
+export function keepPlace() {
+    const key = document.activeElement?.dataset.key ?? document.activeElement?.dataset.cell ?? "";
+    try {
+        history.replaceState({ key, scroll: scrollY }, "", location.href);
+    } catch {
+        // some browsers refuse it where it is done too often; then Back leads to the top
+    }
+}
+
+/** Goes back to a place. @param {Place} place @param {HTMLElement | null} found what has the focus there */
+export function goTo({ scroll }, found) {
+    found?.focus({ preventScroll: true });
+    scrollTo({ top: scroll, behavior: "instant" });
+}
