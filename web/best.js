@@ -9,6 +9,7 @@ import { SIDES, isReduced } from "./steps.js";
 
 /** @typedef {import("./continuations.js").Row} Row */
 /** @typedef {import("./continuations.js").Question} Question */
+/** @typedef {import("./position.js").Part} Part */
 
 const LOOKING_FOR_BEST = "Looking for the best …";
 /** How many rows are shown at first: where the page is narrow fewer, so that the table below them is seen. */
@@ -41,8 +42,7 @@ export class BestContinuations {
 
     /**
      * @param {import("./calls.js").Calls[]} engines of its own, that can be stopped
-     * @param {{goOn: (row: Row) => void, star: (part: import("./position.js").Part) => void, isStarred: (part: import("./position.js").Part) => boolean,
-     *     shown: () => void}} acts
+     * @param {{goOn: (row: Row) => void, star: (part: Part) => void, isStarred: (part: Part) => boolean, shown: () => void}} acts
      */
     constructor(engines, acts) {
         this.#engines = engines;
@@ -114,6 +114,7 @@ export class BestContinuations {
     async #find(question) {
         const isStill = () => question === this.#question;
         this.#progress = null;
+        this.#showRows([]);
         this.#working(true);
         tell(part("best-note"), LOOKING_FOR_BEST);
         try {
@@ -174,7 +175,8 @@ export class BestContinuations {
             return size.corners <= most.corners && size.edges <= most.edges && (axis === "" || state === axis);
         };
         const rows = (this.#progress?.rows ?? []).filter(isLeft);
-        return part("best-sort").value === "case" && rows.some(({ next }) => next) ? rows.sort((one, other) => byCase(one, other) || byTotal(one, other)) : rows;
+        if (part("best-sort").value === "case") rows.sort((one, other) => byCase(one, other) || byTotal(one, other));
+        return rows;
     }
 
     #draw() {
@@ -184,7 +186,8 @@ export class BestContinuations {
         this.#showRows(shown.map((row) => this.#row(row)));
         part("best-more").hidden = shown.length === rows.length;
         part("best-more").textContent = `Show more of ${rows.length.toLocaleString("en")}`;
-        const of = rows.length === this.#progress.rows.length ? counted(rows.length, "row") : `${rows.length.toLocaleString("en")} of ${counted(this.#progress.rows.length, "row")}`;
+        const all = counted(this.#progress.rows.length, "row");
+        const of = rows.length === this.#progress.rows.length ? all : `${rows.length.toLocaleString("en")} of ${all}`;
         const cut = this.#progress.isCut ? " The list is cut: the best are kept." : "";
         tell(part("best-note"), `${this.#tried()} ${of}.${cut}`.trim());
     }
@@ -220,7 +223,8 @@ export class BestContinuations {
             "aria-label": `${spoken(line)}${isSeen ? ", seen" : ""}`,
             click: () => this.#take(row),
         }, line);
-        const twin = others.length === 0 ? [] : [element("small", { class: "twins" }, ` or ${others.length === 1 ? others[0] : `${others.length} twins`}`)];
+        const either = others.length === 1 ? others[0] : `${others.length} twins`;
+        const twin = others.length === 0 ? [] : [element("small", { class: "twins" }, ` or ${either}`)];
         const starred = this.#acts.isStarred(added);
         const star = element("button", {
             type: "button",

@@ -62,10 +62,16 @@ export function caseName(letters, axis) {
     return `${corners.length}c${edges.length}e`;
 }
 
-/** Where a reduction counts from: how far a case is. @param {string} name such as `4c1e` @returns {{corners: number, edges: number}} */
+/** The numbers in the name of a case. @param {string} name such as `4c1e` @returns {{corners: number, edges: number}} */
 export function sizeOf(name) {
     const [corners, edges] = name.match(/\d+/g).map(Number);
     return { corners, edges };
+}
+
+/** How far a case is, to sort by: an edge outside the slice costs about two corners. @param {string} name such as `4c1e` */
+export function farnessOf(name) {
+    const { corners, edges } = sizeOf(name);
+    return corners + 2 * edges;
 }
 
 /** The orientations that hold, and the reductions that are reached, by the names of their steps. @param {string} letters @returns {string[]} */

@@ -1,6 +1,6 @@
 // Best continuations: before an orientation each orientation on every axis and side, with each reduction that may follow it; after one its
 // shortest reductions. Sorted by all moves, those made counted too.
-import { caseName, sizeOf } from "./cases.js";
+import { caseName, farnessOf } from "./cases.js";
 import { countAll, invertAll, printAll, solve, turnsOfAll } from "./engine.js";
 import { bracketed } from "./position.js";
 import { ORIENTATIONS, SIDES, otherSide, reductionsAfter, stateOf } from "./steps.js";
@@ -27,7 +27,7 @@ export const MOST_KEPT = 10000;
 export const byTotal = (one, other) => one.total - other.total || one.length - other.length || byCase(one, other);
 
 /** How far the case of a row is. @param {Row} row */
-const farness = ({ next }) => (next === null ? 0 : sizeOf(next.case).corners + 2 * sizeOf(next.case).edges);
+const farness = ({ next }) => (next === null ? 0 : farnessOf(next.case));
 
 /** @param {Row} one @param {Row} other */
 export const byCase = (one, other) => farness(one) - farness(other);

@@ -81,7 +81,8 @@ export class KeptCandidates {
     #draw() {
         const focused = this.#list.contains(document.activeElement) ? document.activeElement.dataset.control : null;
         this.#list.replaceChildren(...this.#sorted().map((each) => this.#item(each)));
-        if (focused) [...this.#list.querySelectorAll("[data-control]")].find(({ dataset }) => dataset.control === focused)?.focus({ preventScroll: true });
+        const controls = [...this.#list.querySelectorAll("[data-control]")];
+        if (focused) controls.find(({ dataset }) => dataset.control === focused)?.focus({ preventScroll: true });
         tell(part("kept-count"), this.#candidates.length === 0 ? "" : counted(this.#candidates.length, "line"));
     }
 

@@ -1,5 +1,5 @@
-// The card of the line so far: the steps that were taken, each of which may be edited or taken away, undo, moves by hand, the switch of sides, and
-// the whole to copy.
+// The card of the line so far: the steps that were taken, each of which may be edited or taken away, undo, moves by hand, the switch of
+// sides, and the whole to copy.
 import { isSolved } from "./cases.js";
 import { copy } from "./copying.js";
 import { announce, counted, element, part, spoken, tell } from "./element.js";
@@ -119,7 +119,12 @@ export class LineSoFar {
 
     #item(each, index) {
         const text = bracketed([each]);
-        const edit = element("button", { type: "button", class: "quiet", "aria-label": `Edit ${spoken(text)}`, click: () => this.#edit(index) }, "Edit");
+        const edit = element("button", {
+            type: "button",
+            class: "quiet",
+            "aria-label": `Edit ${spoken(text)}`,
+            click: () => this.#edit(index),
+        }, "Edit");
         const remove = element("button", {
             type: "button",
             class: "quiet",
@@ -181,7 +186,10 @@ export class LineSoFar {
         });
     }
 
-    /** Reads what a field has as steps. @param {HTMLInputElement} field @param {HTMLElement} where for a fault @param {Side} side @param {(added: Part[]) => void} use */
+    /**
+     * Reads what a field has as steps.
+     * @param {HTMLInputElement} field @param {HTMLElement} where for a fault @param {Side} side @param {(added: Part[]) => void} use
+     */
     async #read(field, where, side, use) {
         const [text, parts] = [field.value, this.#parts];
         // what was sent twice, or changed since, isn't added; nor is it to another line

@@ -2,6 +2,7 @@
 // the end of a line; there they are left out, so that each letter names the same face in all that follows.
 import { EngineFault } from "./answers.js";
 import { cleanAll, joinAll } from "./engine.js";
+import { plainLine } from "./pasted.js";
 import { bracketed } from "./position.js";
 
 /** @typedef {import("./calls.js").Calls} Calls */
@@ -52,6 +53,16 @@ export async function readByHand(calls, text, side) {
     const runs = runsOf(line, text.includes("(") ? "normal" : side);
     const moves = await joinAll(calls, runs.map((run) => run.moves));
     return runs.map((run, index) => ({ side: run.side, moves: moves[index] })).filter((run) => run.moves !== "");
+}
+
+/**
+ * The steps of some lines of text, as solvers write them.
+ * @param {Calls} calls @param {string[]} texts @returns {Promise<Part[]>}
+ */
+export async function readAllByHand(calls, texts) {
+    const all = [];
+    for (const text of texts) all.push(...(await readByHand(calls, plainLine(text).line.trim(), "normal")));
+    return all;
 }
 
 /** The steps of an address, each read as moves by hand are. @param {Calls} calls @param {Part[]} parts @returns {Promise<Part[]>} */

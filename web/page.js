@@ -1,57 +1,41 @@
 // The page's state, and what each change of it makes the parts of the page show.
-import { MOST_CANDIDATES, addressOf, emptyState, fitsAddress, readAddress } from "./address.js";
+import { LONGEST_NOTE, MOST_CANDIDATES, addressOf, emptyState, fitsAddress, readAddress } from "./address.js";
 import { EngineFault } from "./answers.js";
 import { BestContinuations } from "./best.js";
 import { EngineMissing, Stopped } from "./calls.js";
 import { copy } from "./copying.js";
 import { Cube } from "./cube.js";
 import { announce, announceLater, part, setBusy, spoken, tell } from "./element.js";
-import { printAll, solve } from "./engine.js";
 import { KeptCandidates, nameOfCandidate } from "./kept.js";
 import { listenToKeys, star } from "./keys.js";
 import { LineSoFar } from "./line.js";
-import { MOST_MOVES, readByHand, readScramble, readSteps } from "./lines.js";
+import { readAllByHand, readScramble, readSteps } from "./lines.js";
+import { OpenList } from "./open_list.js";
 import { plainLine } from "./pasted.js";
-import { goTo, keepPlace, placeIn } from "./places.js";
+import { goTo, keepPlace, placeIn, writeAddress } from "./places.js";
 import { bracketed, examine, framesOf, offerOf, walkAll } from "./position.js";
 import { ScrambleField } from "./scramble.js";
 import { SolutionList } from "./solutions.js";
-import { isReduced, openSteps, stateOf, stepNamed, titleOf } from "./steps.js";
+import { isReduced, openSteps, stateOf, stepNamed } from "./steps.js";
 import { StepTable } from "./table.js";
 import { keepInView, showStart } from "./view.js";
+import { titleOfPage, unanswered, whyNotListed } from "./words.js";
 
 /** @typedef {import("./address.js").State} State */
 /** @typedef {import("./position.js").Part} Part */
 /** @typedef {import("./steps.js").Side} Side */
 
 const AGAIN_AFTER = 1000;
-const TITLE = "nissy";
-const TOO_MANY = `more than ${MOST_MOVES} moves`;
-const MOST_SIGNS_OF_TITLE = 40;
 const NO_ROOM = "No more lines can be kept: the address of the page has no room for them.";
 /** How many engines look for the best side by side: one an axis. */
 const BEST_ENGINES = 3;
-
-/** Why there is no answer. @param {Error & {words?: string}} fault */
-function unanswered(fault) {
-    const words = fault.words ?? fault.message;
-    if (words !== TOO_MANY) return `There is no answer: ${words}.`;
-    return `The scramble and the moves after it can't be read together: they have ${TOO_MANY}.`;
-}
-
-/** What tells the tabs of pages apart. @param {State} state */
-function titleOfPage({ scramble, parts }) {
-    const words = [bracketed(parts), scramble.trim()].filter(Boolean).join(" · ");
-    if (words === "") return `${TITLE}: edge orientation and domino reduction`;
-    return `${words.slice(0, MOST_SIGNS_OF_TITLE)}${words.length > MOST_SIGNS_OF_TITLE ? "…" : ""} – ${TITLE}`;
-}
 
 export class Page {
     /** @type {State} */
     #state = emptyState();
     #turn = 0;
     #cube = null;
-    #openList = "";
+    #openList;
     #isReading = false;
     #writing = 0;
     /** @type {{to: "list" | "table", from: Element} | null} where the focus is to go, and from where */
@@ -59,7 +43,6 @@ export class Page {
     /** @type {import("./places.js").Place | null} where Back leads to */
     #return = null;
     #calls;
-    #listCalls;
     #keptCalls;
     #byHand;
     #nets = new Cube();
@@ -73,7 +56,6 @@ export class Page {
     /** @param {() => import("./calls.js").Calls} newCalls each has a worker of its own */
     constructor(newCalls) {
         this.#calls = newCalls();
-        this.#listCalls = newCalls();
         this.#keptCalls = newCalls();
         // what is asked for by hand is never given up for another cube
         this.#byHand = newCalls();
@@ -91,10 +73,10 @@ export class Page {
             change: (change) => this.#changeList(change),
             copy,
         });
+        this.#openList = new OpenList(newCalls(), this.#list);
         const engines = Array.from({ length: BEST_ENGINES }, newCalls);
         this.#best = new BestContinuations(engines, { ...stars, goOn: (row) => this.#goOn(row), shown: () => this.#goBack() });
         keepInView(part("side-column"));
-        part("solutions-stop").addEventListener("click", () => this.#listCalls.stop());
         part("copy-link").addEventListener("click", (event) => copy(location.href, event.currentTarget));
         part("skip").addEventListener("click", () => this.#table.focus());
         this.#listenToKeys();
@@ -175,16 +157,8 @@ export class Page {
     #writeAddress(isStep) {
         clearTimeout(this.#writing);
         const address = addressOf(this.#state);
-        const isWritten = () => address === (location.hash || "#");
         document.title = titleOfPage(this.#state);
-        try {
-            // what may be missed later can be had back by the browser
-            if (isStep && !isWritten()) history.pushState(null, "", address);
-            else history.replaceState(null, "", address);
-        } catch {
-            // some browsers throw then, others do nothing
-        }
-        if (!isWritten()) this.#writing = setTimeout(() => this.#writeAddress(isStep), AGAIN_AFTER);
+        if (!writeAddress(address, isStep)) this.#writing = setTimeout(() => this.#writeAddress(isStep), AGAIN_AFTER);
     }
 
     /** @param {string} scramble @param {boolean} isNew @param {import("./scramble.js").Fmc | null} fmc */
@@ -193,20 +167,15 @@ export class Page {
         if (!fmc) return;
         const turn = this.#turn;
         try {
-            const parts = await this.#readAll(fmc.steps);
+            const parts = await readAllByHand(this.#byHand, fmc.steps);
             const kept = [];
-            for (const { steps, note } of fmc.candidates.slice(0, MOST_CANDIDATES)) kept.push({ parts: await this.#readAll(steps), note: note.slice(0, 80) });
+            for (const { steps, note } of fmc.candidates.slice(0, MOST_CANDIDATES)) {
+                kept.push({ parts: await readAllByHand(this.#byHand, steps), note: note.slice(0, LONGEST_NOTE) });
+            }
             if (turn === this.#turn) this.#change({ parts, kept });
         } catch (fault) {
             if (turn === this.#turn) tell(part("alert"), `The steps of this text can't be read: ${fault.words ?? fault.message}.`);
         }
-    }
-
-    /** The steps of some lines of text. @param {string[]} lines @returns {Promise<Part[]>} */
-    async #readAll(lines) {
-        const all = [];
-        for (const line of lines) all.push(...(await readByHand(this.#byHand, plainLine(line).line.trim(), "normal")));
-        return all;
     }
 
     /** Shows all of the state anew. A later call overtakes an earlier one. */
@@ -281,10 +250,9 @@ export class Page {
     /** Closes a list whose step may not start, and says why. @param {string[]} reached */
     #checkList(reached) {
         const { list } = this.#state;
-        if (!list || openSteps(reached).some(({ name }) => name === list.step)) return;
-        const step = stepNamed(list.step);
-        const why = reached.includes(list.step) ? "it is reached" : `${stateOf(stepNamed(step.needs))} isn't reached`;
-        tell(part("alert"), `${titleOf(step)} can't be listed here: ${why}.`);
+        const why = list ? whyNotListed(list.step, reached) : "";
+        if (why === "") return;
+        tell(part("alert"), why);
         this.#state = { ...this.#state, list: null };
         this.#writeAddress(false);
     }
@@ -340,32 +308,16 @@ export class Page {
         this.#return = null;
     }
 
-    /** Shows the open list, where it isn't shown yet; where the cube isn't known yet, once it is. */
+    /** Shows the open list, if it isn't shown yet; once the cube is known. */
     async #showList() {
         const { list } = this.#state;
         if (list && !this.#cube) return;
-        const name = list ? [this.#turn, list.step, list.side, list.slack, list.isAll].join(" ") : "";
-        if (name === this.#openList) return;
-        this.#openList = name;
-        this.#listCalls.stop();
-        this.#list.open(list);
         this.#nets.follow(list ? stateOf(stepNamed(list.step)) : "");
-        if (!list) return;
-        const isStill = () => name === this.#openList;
-        try {
-            const line = this.#cube.now[list.side];
-            const { solutions, whole } = await solve(this.#listCalls, list.step, list.slack, line);
-            if (!isStill()) return;
-            const wanted = this.#list.take(solutions, whole);
-            const letters = await printAll(this.#listCalls, wanted.map(({ moves }) => `${line} ${moves}`));
-            if (!isStill()) return;
-            this.#list.show(letters);
-            announce(`${titleOf(stepNamed(list.step))}, ${list.side} side: ${this.#list.summary()}.`);
-            if (this.#isFocusNext("list")) this.#list.focus();
-            this.#goBack();
-        } catch (fault) {
-            if (isStill()) this.#list.refuse(fault instanceof Stopped ? "Stopped." : fault.message);
-        }
+        const name = list ? [this.#turn, list.step, list.side, list.slack, list.isAll].join(" ") : "";
+        const isShown = await this.#openList.show(name, list, list ? this.#cube.now[list.side] : "");
+        if (!isShown) return;
+        if (this.#isFocusNext("list")) this.#list.focus();
+        this.#goBack();
     }
 
     /** Shows what the engine says of the lines that are kept. */

@@ -1,5 +1,5 @@
-// Reads text as solvers write it: what is no move but is written beside moves becomes a blank or an apostrophe, or is left out. What comes of it
-// is a line of the engine's grammar, or it is at fault there. Each sign of the line knows its place in the text.
+// Reads text as solvers write it: what is no move but is written beside moves becomes a blank or an apostrophe, or is left out. What comes
+// of it is a line of the engine's grammar, or it is at fault there. Each sign of the line knows its place in the text.
 
 /** @typedef {{line: string, places: number[], leftOut: string[]}} PlainLine */
 
@@ -50,13 +50,14 @@ export function plainLine(text) {
 }
 
 /**
- * Text with moves on several lines, as solvers write a solution: the scramble, then a step a line with a comment; blocks after a blank line are
- * candidates. Null where the text isn't of this form.
+ * Text with moves on several lines, as solvers write a solution: the scramble, then a step a line with a comment; blocks after a blank
+ * line are candidates. Null if the text isn't of this form.
  * @param {string} text
  * @returns {{scramble: string, steps: string[], candidates: {steps: string[], note: string}[]} | null}
  */
 export function readFmc(text) {
-    const blocks = text.split(/\n[^\S\n]*\n/).map((block) => block.split("\n").filter((line) => line.trim() !== "")).filter((block) => block.length > 0);
+    const linesOf = (block) => block.split("\n").filter((line) => line.trim() !== "");
+    const blocks = text.split(/\n[^\S\n]*\n/).map(linesOf).filter((block) => block.length > 0);
     const lines = blocks.flat();
     if (!lines.slice(1).some((line) => line.includes("//"))) return null;
     const isMoves = (line) => plainLine(line).line.trim() !== "";

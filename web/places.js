@@ -20,6 +20,19 @@ export function keepPlace() {
     }
 }
 
+/** Puts an address into the history, a step as an entry of its own, and says whether it is there. @param {string} address @param {boolean} isStep */
+export function writeAddress(address, isStep) {
+    const isWritten = () => address === (location.hash || "#");
+    try {
+        // what may be missed later can be had back by the browser
+        if (isStep && !isWritten()) history.pushState(null, "", address);
+        else history.replaceState(null, "", address);
+    } catch {
+        // some browsers throw where it is done too often, others do nothing
+    }
+    return isWritten();
+}
+
 /** Goes back to a place. @param {Place} place @param {HTMLElement | null} found what has the focus there */
 export function goTo({ scroll }, found) {
     found?.focus({ preventScroll: true });

@@ -1,5 +1,5 @@
 // The list of a step's solutions: grouped by length or by case, filtered by turns and by case, and cut where it is long.
-import { caseName, sizeOf } from "./cases.js";
+import { caseName, farnessOf, sizeOf } from "./cases.js";
 import { announce, announceLater, counted, element, part, setBusy, spoken, tell } from "./element.js";
 import { hasTurns, lastTurn, turnsOf } from "./filter.js";
 import { bracketed } from "./position.js";
@@ -68,7 +68,10 @@ export class SolutionList {
         tell(part("solutions-note"), LOOKING);
     }
 
-    /** Takes the solutions of the open list, and answers those whose letters are wanted. @param {import("./answers.js").Solution[]} all @param {boolean} whole */
+    /**
+     * Takes the solutions of the open list, and returns those whose letters are wanted.
+     * @param {import("./answers.js").Solution[]} all @param {boolean} whole
+     */
     take(all, whole) {
         this.#all = all;
         this.#whole = whole;
@@ -164,7 +167,7 @@ export class SolutionList {
 
     /** How far the nearest case of an entry is. @param {Entry} entry */
     #farness(entry) {
-        return Math.min(Infinity, ...this.#casesOf(entry).map(({ name }) => sizeOf(name).corners + 2 * sizeOf(name).edges));
+        return Math.min(Infinity, ...this.#casesOf(entry).map(({ name }) => farnessOf(name)));
     }
 
     #draw() {
@@ -179,13 +182,16 @@ export class SolutionList {
         }
         const shown = matching.slice(0, MOST_SHOWN);
         const nearest = (entry) => {
-            const cases = this.#casesOf(entry).sort((one, other) => sizeOf(one.name).corners + 2 * sizeOf(one.name).edges - sizeOf(other.name).corners - 2 * sizeOf(other.name).edges);
-            return cases[0]?.name ?? "unknown case";
+            const names = this.#casesOf(entry).map(({ name }) => name).sort((one, other) => farnessOf(one) - farnessOf(other));
+            return names[0] ?? "unknown case";
         };
         const nameOf = byCase ? nearest : ({ length }) => counted(length, "move");
         const counts = grouped(matching.slice(0, MOST_WITH_CASES), nameOf);
-        const groups = [...grouped(shown, nameOf)].map(([name, entries]) => this.#group(name, entries, counts.get(name)?.length ?? entries.length));
-        const focused = this.#groups.contains(document.activeElement) ? document.activeElement.closest("li")?.querySelector(".take")?.dataset.key : null;
+        const groups = [...grouped(shown, nameOf)].map(([name, entries]) => {
+            return this.#group(name, entries, counts.get(name)?.length ?? entries.length);
+        });
+        const row = this.#groups.contains(document.activeElement) ? document.activeElement.closest("li") : null;
+        const focused = row?.querySelector(".take")?.dataset.key;
         this.#groups.replaceChildren(...groups);
         this.#groups.querySelector(".take")?.setAttribute("tabindex", "0");
         if (focused) this.reveal(focused)?.focus({ preventScroll: true });
@@ -233,7 +239,8 @@ export class SolutionList {
         const cases = this.#casesOf(entry).map(({ axis, name, state }) =>
             element("span", { class: "case", "data-marks": state }, `${axis} ${name}`));
         const twins = others.length === 0 ? [] : [element("small", { class: "twins" }, `or ${others.join(", ")}`)];
-        const about = [...this.#casesOf(entry).map(({ axis, name }) => `${axis} ${name}`), ...others.map((other) => `or ${spoken(other)}`)].join(", ");
+        const named = this.#casesOf(entry).map(({ axis, name }) => `${axis} ${name}`);
+        const about = [...named, ...others.map((other) => `or ${spoken(other)}`)].join(", ");
         return element("li", {},
             element("button", {
                 type: "button",

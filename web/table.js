@@ -1,5 +1,5 @@
-// The table of the steps that may follow: a row for each, with what solvers choose by, and a cell for each side with the least length, what it
-// makes in all, and how many solutions there are; what is reached, in a line; and the looks, in a table of their own.
+// The table of the steps that may follow: a row for each, with what solvers choose by, and a cell for each side with the least length, what
+// it makes in all, and how many solutions there are; what is reached, in a line; and the looks, in a table of their own.
 import { counted, element, part } from "./element.js";
 import { caseOfStep } from "./position.js";
 import { SIDES, stateOf, statesOf, titleOf } from "./steps.js";
@@ -47,7 +47,10 @@ export class StepTable {
             [element("span", { class: "chip", "data-marks": state }, state), " "]));
     }
 
-    /** Adds offers; of all that are shown a reduction comes before an orientation. @param {Offer[]} offers @param {Cube} cube @param {import("./address.js").List | null} list */
+    /**
+     * Adds offers; of all that are shown a reduction comes before an orientation.
+     * @param {Offer[]} offers @param {Cube} cube @param {import("./address.js").List | null} list
+     */
     add(offers, cube, list) {
         if (offers.length > 0) this.#groups.push(offers);
         const isReduction = (group) => Number(group[0].step.needs !== null);

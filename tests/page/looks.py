@@ -147,9 +147,14 @@ def themes(tally: Tally, browser: Browser) -> None:
 
 def hovers(tally: Tally, browser: Browser) -> None:
     """A tint for the mouse is only where there is one that hovers: on a phone it would stick."""
-    outside = browser.script("""const rules = [...document.styleSheets].flatMap((sheet) => [...sheet.cssRules]);
-        return rules.filter((rule) => rule.selectorText?.includes(':hover')).map((rule) => rule.selectorText)""")
-    tally.equal("rules for hovering without such a mouse", outside, [])
+    browser.open()
+    rules = browser.script("""const rules = [...document.styleSheets].flatMap((sheet) => [...sheet.cssRules]);
+        const hovering = (list) => list.filter((rule) => rule.selectorText?.includes(':hover')).map((rule) => rule.selectorText);
+        const media = rules.filter((rule) => rule.media?.mediaText === '(hover: hover)');
+        return [hovering(rules), hovering(media.flatMap((rule) => [...rule.cssRules]))]""")
+    tally.equal("rules for hovering without such a mouse", rules[0], [])
+    tally.holds("rules for hovering with one", len(rules[1]) > 0)
+    browser.open(ADDRESS)
 
 
 def fits(tally: Tally, browser: Browser, what: str) -> None:
