@@ -174,9 +174,21 @@ async function started() {
   try {
     return await Engine.start(readFileSync(new URL("./nissy.wasm", import.meta.url)));
   } catch (error) {
-    const why = error instanceof NoWebAssembly ? "this node runs no WebAssembly" : `nissy.wasm can't be loaded: ${/** @type {Error} */ (error).message}`;
+    const { message } = /** @type {Error} */ (error);
+    const why = error instanceof NoWebAssembly ? "this node runs no WebAssembly" : `nissy.wasm can't be loaded: ${message}`;
     throw new Stop(STATUS.stopped, `nissy: ${why}\n`);
   }
+}
+
+/**
+ * @param {unknown} error
+ * @returns {Stop} what the command says of it
+ */
+function stopOf(error) {
+  if (error instanceof Stop) return error;
+  // what the host has no memory for
+  if (error instanceof RangeError) return Stop.outOfMemory();
+  return new Stop(STATUS.stopped, `nissy: the engine broke off: ${/** @type {Error} */ (error).message}\n`);
 }
 
 /** @returns {Promise<number>} the status */
@@ -185,9 +197,7 @@ async function main() {
     obey(await started(), process.argv.slice(2));
     return STATUS.done;
   } catch (error) {
-    // what the host has no memory for
-    const stop = error instanceof RangeError ? Stop.outOfMemory() : error;
-    if (!(stop instanceof Stop)) throw error;
+    const stop = stopOf(error);
     try {
       writeAll(ERRORS, encoder.encode(stop.text));
     } catch {
