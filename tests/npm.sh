@@ -40,6 +40,7 @@ answers "where there is no module" 1 '' 'there is no build/nissy.wasm: `make bui
 in_folder() { (cd "$user" && "$@"); }
 holds "npm installs the package" in_folder npm install "$room/first/$name"
 package=$user/node_modules/nissy
+if [ ! -e "$package" ]; then ended || exit 1; fi
 dead_links() { # of the pages of the package
     (cd "$package" && grep -ohE '\]\([^)# ]+' ./*.md | cut -c 3- | sort -u) | while read -r page; do
         [[ $page == http* || -e $package/$page ]] || echo "$page"
@@ -100,5 +101,6 @@ if missing python3; then skips "there is no python3 here, so nothing is compared
 fi
 
 holds "npm takes the package away" in_folder npm uninstall nissy
-holds "nothing of it is left" test -z "$(find "$user" -name '*nissy*')$(grep -rl nissy "$user/package.json" "$user/package-lock.json" "$user/node_modules")"
+left() { find "$user" -name '*nissy*' && grep -rl --exclude='user*' --exclude='wrong*' nissy "$user"; }
+holds "nothing of it is left" test -z "$(left)"
 ended

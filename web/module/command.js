@@ -5,7 +5,7 @@ import { textIn } from "./bytes.js";
 import { Engine } from "./engine.js";
 import { NoWebAssembly } from "./faults.js";
 import { InputLines, split } from "./input-lines.js";
-import { linesOf, STATUS } from "./replies.js";
+import { linesIn, STATUS } from "./replies.js";
 import { countRequest, runRequest, solveRequest, stepsRequest } from "./requests.js";
 import { Stop } from "./stop.js";
 import { readSome, writeAll } from "./streams.js";
@@ -127,7 +127,7 @@ function answerSearch(engine, words, search, line, number) {
  */
 function searchOf(engine, [command, step, ...numbers]) {
   if (command !== "solve" && command !== "count" && command !== "near") return undefined;
-  const steps = linesOf(/** @type {LineReply} */ (engine.answer(stepsRequest())));
+  const steps = linesIn(/** @type {LineReply} */ (engine.answer(stepsRequest())));
   const areNumbers = numbers.every((word) => /^[0-9]+$/.test(word) && Number(word) <= MOST_TURNS);
   if (numbers.length !== SEARCHES[command] || !areNumbers || !steps.includes(step)) return undefined;
   const [limit, slack = 0] = numbers.map(Number);
