@@ -21,7 +21,8 @@ if [ -e build/libnissy.so ]; then library=yes; else skips "the library, which wa
 by_make() { make --no-print-directory -o build/nissy -o build/libnissy.a LIBRARY=$library "$@"; }
 install_at() { by_make "$1" DESTDIR="$packed" PREFIX=/usr; }
 with_program() {
-    mkdir -p "$room/source/build" "$room/source/crates" && cp -R Makefile CHANGELOG.md docs completions include python tools "$room/source" &&
+    mkdir -p "$room/source/build" "$room/source/crates" &&
+        cp -R Makefile CHANGELOG.md docs completions include python tools web "$room/source" &&
         cp "$program" "$room/source/build/nissy" && { [ $library = no ] || cp -P build/libnissy.* "$room/source/build"; }
 }
 holds "the files are there" with_program
@@ -121,7 +122,7 @@ finds_another() { # FILE FROM TO
 if missing python3; then skips "there is no python3 here"; else
     holds "each place names the version of CHANGELOG.md" tools/version --check
     holds "make dist's archive has it in its name" test "$(make --no-print-directory -n dist -o build/nissy -o build/libnissy.a)" = "tools/dist nissy-$version-x86_64-linux"
-    for file in include/nissy.pc include/nissy.h docs/nissy.1; do
+    for file in include/nissy.pc include/nissy.h docs/nissy.1 web/module/package.json; do
         holds "another version in $file is found" finds_another "$file" "$version" 9.9.9
     done
 fi

@@ -33,6 +33,7 @@ answers "where there is no tsc" 69 '' 'there is no tsc here: install node-typesc
 rm "$room/tools/npm"
 answers "where there is no npm" 69 '' 'there is no npm here: install npm\n' env PATH="$room/tools" "$top/tools/npm-package" "$room/second"
 rm "$room/source/build/nissy.wasm"
+# shellcheck disable=SC2016 # the backticks are the text's
 answers "where there is no module" 1 '' 'there is no build/nissy.wasm: `make build/nissy.wasm` builds it\n' \
     "$room/source/tools/npm-package" "$room/second"
 
