@@ -33,6 +33,7 @@ answers "where there is no tsc" 69 '' 'there is no tsc here: install node-typesc
 rm "$room/tools/npm"
 answers "where there is no npm" 69 '' 'there is no npm here: install npm\n' env PATH="$room/tools" "$top/tools/npm-package" "$room/second"
 rm "$room/source/build/nissy.wasm"
+# shellcheck disable=SC2016 # the backticks are the text's
 answers "where there is no module" 1 '' 'there is no build/nissy.wasm: `make build/nissy.wasm` builds it\n' \
     "$room/source/tools/npm-package" "$room/second"
 
@@ -40,6 +41,7 @@ answers "where there is no module" 1 '' 'there is no build/nissy.wasm: `make bui
 in_folder() { (cd "$user" && "$@"); }
 holds "npm installs the package" in_folder npm install "$room/first/$name"
 package=$user/node_modules/nissy
+if [ ! -e "$package" ]; then ended || exit 1; fi
 dead_links() { # of the pages of the package
     (cd "$package" && grep -ohE '\]\([^)# ]+' ./*.md | cut -c 3- | sort -u) | while read -r page; do
         [[ $page == http* || -e $package/$page ]] || echo "$page"
@@ -100,5 +102,6 @@ if missing python3; then skips "there is no python3 here, so nothing is compared
 fi
 
 holds "npm takes the package away" in_folder npm uninstall nissy
-holds "nothing of it is left" test -z "$(find "$user" -name '*nissy*')$(grep -rl nissy "$user/package.json" "$user/package-lock.json" "$user/node_modules")"
+left() { find "$user" -name '*nissy*' && grep -rl --exclude='user*' --exclude='wrong*' nissy "$user"; }
+holds "nothing of it is left" test -z "$(left)"
 ended

@@ -5,7 +5,7 @@ import { textIn } from "./bytes.js";
 import { Engine } from "./engine.js";
 import { NoWebAssembly } from "./faults.js";
 import { InputLines, split } from "./input-lines.js";
-import { linesOf, STATUS } from "./replies.js";
+import { linesIn, STATUS } from "./replies.js";
 import { countRequest, runRequest, solveRequest, stepsRequest } from "./requests.js";
 import { Stop } from "./stop.js";
 import { readSome, writeAll } from "./streams.js";
@@ -127,7 +127,7 @@ function answerSearch(engine, words, search, line, number) {
  */
 function searchOf(engine, [command, step, ...numbers]) {
   if (command !== "solve" && command !== "count" && command !== "near") return undefined;
-  const steps = linesOf(/** @type {LineReply} */ (engine.answer(stepsRequest())));
+  const steps = linesIn(/** @type {LineReply} */ (engine.answer(stepsRequest())));
   const areNumbers = numbers.every((word) => /^[0-9]+$/.test(word) && Number(word) <= MOST_TURNS);
   if (numbers.length !== SEARCHES[command] || !areNumbers || !steps.includes(step)) return undefined;
   const [limit, slack = 0] = numbers.map(Number);
@@ -174,9 +174,21 @@ async function started() {
   try {
     return await Engine.start(readFileSync(new URL("./nissy.wasm", import.meta.url)));
   } catch (error) {
-    const why = error instanceof NoWebAssembly ? "this node runs no WebAssembly" : `nissy.wasm can't be loaded: ${/** @type {Error} */ (error).message}`;
+    const { message } = /** @type {Error} */ (error);
+    const why = error instanceof NoWebAssembly ? "this node runs no WebAssembly" : `nissy.wasm can't be loaded: ${message}`;
     throw new Stop(STATUS.stopped, `nissy: ${why}\n`);
   }
+}
+
+/**
+ * @param {unknown} error
+ * @returns {Stop} what the command says of it
+ */
+function stopOf(error) {
+  if (error instanceof Stop) return error;
+  // what the host has no memory for
+  if (error instanceof RangeError) return Stop.outOfMemory();
+  return new Stop(STATUS.stopped, `nissy: the engine broke off: ${/** @type {Error} */ (error).message}\n`);
 }
 
 /** @returns {Promise<number>} the status */
@@ -185,9 +197,7 @@ async function main() {
     obey(await started(), process.argv.slice(2));
     return STATUS.done;
   } catch (error) {
-    // what the host has no memory for
-    const stop = error instanceof RangeError ? Stop.outOfMemory() : error;
-    if (!(stop instanceof Stop)) throw error;
+    const stop = stopOf(error);
     try {
       writeAll(ERRORS, encoder.encode(stop.text));
     } catch {
