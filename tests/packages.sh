@@ -38,6 +38,24 @@ stands_in() { (cd "$1" && find . ! -type d ! -name README -printf '%m %P\n' | LC
 holds "is what the archive has" test "$(stands_in "$room/unpacked/$archive")" = "$(stands_in "$room/installed/usr")"
 holds "its README is the one that is kept" cmp "$room/unpacked/$archive/README" docs/archive.txt
 holds "the program of the archive runs" test "$("$room/unpacked/$archive/bin/nissy" invert "R U' F2")" = "F2 U R'"
+# what its README says to do as root, with a folder in the place of /usr/local
+by_readme() { # COMMAND: the line that begins so
+    local line
+    line=$(grep "^    $1 .*/usr/local.* && ldconfig$" "$room/unpacked/$archive/README") || return
+    line=${line% && ldconfig}
+    env -C "$room/unpacked/$archive" bash -c "${line//\/usr\/local/\"$room/local\"}"
+}
+mkdir "$room/local"
+holds "the archive is installed as its README says" by_readme cp
+holds "all of it" test "$(stands_in "$room/local")" = "$(stands_in "$room/installed/usr")"
+holds "it is taken away as its README says" by_readme find
+holds "without a trace" test -z "$(find "$room/local" ! -type d -o -name '*nissy*')"
+cut_archive() { # what the sums say of it
+    mkdir "$room/cut" && cp "$made/SHA256SUMS" "$room/cut" && head -c 100000 "$made/$archive.tar.gz" > "$room/cut/$archive.tar.gz" &&
+        refuses tar -C "$room/cut" -xzf "$room/cut/$archive.tar.gz" &&
+        ! said=$(env -C "$room/cut" sha256sum --ignore-missing -c SHA256SUMS 2>&1) && grep -qx "$archive.tar.gz: FAILED" <<< "$said"
+}
+holds "an archive that was cut is found" cut_archive
 holds "the packages of the program alone are made" tools/dist "$room/alone" program
 holds "with their archive" tar -C "$room/unpacked" -xpf "$room/alone/$archive-program.tar.gz"
 without_library() { sed '/^The library and the Python module/,$d' docs/archive.txt; }
@@ -80,6 +98,18 @@ if ! ls "$made"/*.deb > /dev/null 2>&1; then skips "the Debian packages, which w
     mkdir "$root"
     holds "the Debian packages are unpacked" unpacks
     libraries=$root/usr/lib/x86_64-linux-gnu
+    says_names() { # each package conflicts with the other program, and says so
+        for package in "$made"/*.deb; do
+            dpkg-deb -f "$package" Conflicts | grep -q nissy-core && dpkg-deb -f "$package" Description | grep -q 'nissy 2' || return
+        done
+    }
+    holds "each speaks of the other program of the name" says_names
+    dead_links() { # from page to page of a folder, or of two beside each other
+        (cd "$root/usr/share/doc" && grep -oHE '\]\([^)# ]+\.md' ./*/*.md) | sed 's|/[^/]*:\](|/|' | sort -u | while read -r page; do
+            [[ $page == *http* || -e $root/usr/share/doc/$page ]] || echo "$page"
+        done
+    }
+    holds "each link of their pages leads to one of them" test -z "$(dead_links)"
     holds "their program runs" test "$("$root/usr/bin/nissy" invert "R U' F2")" = "F2 U R'"
     holds "their library is stripped" refuses grep -q '\.symtab' <(readelf -SW "$libraries/libnissy.so.1")
     holds "their module is found" test "$(cd / && LD_LIBRARY_PATH=$libraries PYTHONPATH=$root/usr/lib/python3/dist-packages \
