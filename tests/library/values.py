@@ -13,7 +13,7 @@ import pickle
 import sys
 from dataclasses import FrozenInstanceError
 from pathlib import Path
-from typing import Any, Callable, Iterator, List, Optional, Tuple, Type, get_args, get_type_hints
+from typing import Any, Callable, Iterator, List, Optional, Tuple, Type, get_type_hints
 
 TOP = Path(__file__).resolve().parents[2]
 sys.path[:0] = [str(TOP / "python"), str(TOP / "tests/page")]
@@ -201,7 +201,8 @@ def of_classes(tally: Tally) -> None:
     for kind in (nissy.Answer, nissy.Count, nissy.LineFault, nissy.Solution, nissy.StartFault, nissy.Tables):
         tally.equal(f"the place of {kind.__name__}", kind.__module__, "nissy")
     tally.equal("the types of solve_all", get_type_hints(nissy.solve_all)["return"], Iterator[List[nissy.Solution]])
-    tally.equal("the names of the type of a step", get_args(nissy.Step), tuple(STEPS))
+    named = tuple(STEPS) if sys.version_info >= (3, 8) else None
+    tally.equal("the names of the type of a step", getattr(nissy.Step, "__args__", None), named)
     tables = nissy.Tables("dr-eofb")
     tally.holds("the step of tables can't be changed", raised(AttributeError, lambda: setattr(tables, "step", "eorl")))
     says(tally, nissy.StartFault, "eofb does not hold", lambda: tables.solve("F"))
