@@ -63,7 +63,8 @@ async function trySignals(worker) {
   for (let at = 0; at < 20; at += 1) await worker.invert("R", { signal });
   await thrown(() => worker.invert("q", { signal }));
   same("nothing listens to a signal after the calls", getEventListeners(signal, "abort").length, 0);
-  for (const wrong of [null, 1, "stop", {}, { aborted: false }, new AbortController()]) {
+  const deaf = { aborted: false, addEventListener: () => {} };
+  for (const wrong of [null, 1, "stop", {}, { aborted: false }, deaf, new AbortController()]) {
     const refused = await thrown(() => worker.invert("R", { signal: wrong }));
     same(`no signal: ${String(wrong)}`, refused, ["TypeError", "the signal is no AbortSignal"]);
   }

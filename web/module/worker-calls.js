@@ -62,8 +62,8 @@ export function listenedTo(made) {
 function signalOf(options = {}) {
   const { signal } = /** @type {{signal?: any}} */ (optionsOf(options));
   if (signal === undefined) return undefined;
-  const isSignal = typeof signal?.aborted === "boolean" && typeof signal.addEventListener === "function";
-  if (!isSignal) throw new TypeError("the signal is no AbortSignal");
+  const listens = ["addEventListener", "removeEventListener"].every((name) => typeof signal?.[name] === "function");
+  if (typeof signal?.aborted !== "boolean" || !listens) throw new TypeError("the signal is no AbortSignal");
   return signal;
 }
 
