@@ -97,7 +97,7 @@ nissy_run_answer nissy_run(const uint8_t *words, size_t words_length, const uint
  * call may find no tables, use those of either step, or end the program by a signal.
  *
  * Tables stay for as long as the process runs: there is no release, and so no use after one. So build those of a step once, and keep
- * them: a nissy_build into a struct without them takes their memory anew, 0.2 million bytes for an edge orientation, 1.3 million for a
+ * them: a nissy_build into a struct without them takes their memory anew, 0.1 million bytes for an edge orientation, 1.2 million for a
  * domino reduction, and as much for each axis of a step that has several (all thirteen steps together: some 15 million). */
 typedef struct nissy_tables {
     void *tables;

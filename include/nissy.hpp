@@ -106,16 +106,18 @@ inline std::uint8_t turns(int number, const char *name) {
     return static_cast<std::uint8_t>(number);
 }
 
-// The tables of a step, which are built when they are first asked for, and stay.
-inline nissy_tables kept(std::string_view step) {
+using kept_tables = std::map<std::string, nissy_tables, std::less<>>;
+
+// A step with its tables, which are built when they are first asked for, and stay where they are.
+inline const kept_tables::value_type &kept(std::string_view step) {
     static std::mutex mutex;
     // never destroyed, since threads may ask until the process ends
-    static auto &built = *new std::map<std::string, nissy_tables, std::less<>>;
+    static auto &built = *new kept_tables;
     const std::lock_guard<std::mutex> alone(mutex);
-    if (const auto found = built.find(step); found != built.end()) return found->second;
+    if (const auto found = built.find(step); found != built.end()) return *found;
     nissy_tables tables = NISSY_NO_TABLES;
     switch (nissy_build(&tables, bytes(step), step.size())) {
-    case NISSY_DONE: return built.emplace(step, tables).first->second;
+    case NISSY_DONE: return *built.emplace(step, tables).first;
     case NISSY_STOPPED: throw std::bad_alloc();
     default: throw std::invalid_argument("nissy: no step has this name: " + std::string(step));
     }
@@ -164,12 +166,12 @@ inline std::vector<std::string> steps() {
 inline std::uint32_t version() { return nissy_version(); }
 
 // The tables of a step. They are built for the first object of the step, and stay: a copy or another object of the step has the same ones,
-// and costs nothing.
+// and costs nothing. One that was moved is as it was.
 class tables {
 public:
-    explicit tables(std::string_view step) : step_(step), tables_(detail::kept(step)) {}
+    explicit tables(std::string_view step) : kept_(&detail::kept(step)) {}
 
-    const std::string &step() const noexcept { return step_; }
+    const std::string &step() const noexcept { return kept_->first; }
 
     // The solutions of a line's cube, by length and then in turn order.
     std::vector<solution> solve(std::string_view line, const search &which = {}) const {
@@ -178,7 +180,7 @@ public:
         for (std::uint64_t room = 64;; room *= 8) {
             std::string out(static_cast<std::size_t>(std::min(which.most, room) * MOST_OF_ONE), '\0');
             const nissy_solve_answer answer =
-                nissy_solve(&tables_, detail::bytes(line), line.size(), limit, slack, which.most, detail::bytes(out), out.size());
+                nissy_solve(&kept_->second, detail::bytes(line), line.size(), limit, slack, which.most, detail::bytes(out), out.size());
             if (answer.status == NISSY_ROOM) continue;
             end_unless_searched(answer.status, answer.fault, answer.column);
             return detail::solutions_of(std::string_view(out).substr(0, answer.out_length), answer.solutions);
@@ -187,7 +189,7 @@ public:
 
     // How many solutions solve gives if there is no `most`. A number above 2^64 - 1 is told as that.
     nissy::count count(std::string_view line, int limit = 20, int slack = 0) const {
-        const nissy_count_answer answer = nissy_count(&tables_, detail::bytes(line), line.size(), detail::turns(limit, "limit"),
+        const nissy_count_answer answer = nissy_count(&kept_->second, detail::bytes(line), line.size(), detail::turns(limit, "limit"),
                                                       detail::turns(slack, "slack"));
         end_unless_searched(answer.status, answer.fault, answer.column);
         const auto length = answer.solutions ? std::optional<int>(answer.least) : std::nullopt;
@@ -200,13 +202,12 @@ private:
     void end_unless_searched(int status, int code, std::size_t column) const {
         if (status != NISSY_FAULT || code != NISSY_START) return detail::end_unless_read(status, code, column);
         const std::string start = detail::text_of([this](std::uint8_t *out, std::size_t room) {
-            return nissy_start(detail::bytes(std::string_view(step_)), step_.size(), out, room);
+            return nissy_start(detail::bytes(std::string_view(step())), step().size(), out, room);
         });
         throw fault("nissy: " + start + " " + detail::text_of(NISSY_START), NISSY_START, 0);
     }
 
-    std::string step_;
-    nissy_tables tables_;
+    const detail::kept_tables::value_type *kept_; // never null
 };
 
 } // namespace nissy

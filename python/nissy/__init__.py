@@ -15,7 +15,7 @@ The first search of a step builds its tables, which stay for the next ones (clas
 several threads run side by side. The library is the file that NISSY_LIBRARY names, else the one that was installed or built with this
 package, else the system's.
 """
-from ._given import Text as Text
+from ._given import Step as Step, Text as Text
 from ._library import DONE, FAULT, MOST_INPUT, STOPPED, USAGE
 from ._lines import cleanup, facelets, invert, scramble, steps, unniss, version
 from ._runs import run, scrambles

@@ -2,7 +2,16 @@
 from __future__ import annotations
 
 import operator
+import sys
 from typing import Iterable, Iterator, Union
+
+if sys.version_info >= (3, 8):
+    from typing import Literal
+
+    Step = Literal["eofb", "eorl", "eoud", "drud-eofb", "drrl-eofb", "drud-eorl", "drfb-eorl", "drrl-eoud", "drfb-eoud", "eo", "dr-eofb",
+                   "dr-eorl", "dr-eoud"]
+else:
+    Step = str
 
 Text = Union[str, bytes, bytearray, memoryview]
 _TEXTS = (str, bytes, bytearray, memoryview)

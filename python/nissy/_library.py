@@ -47,11 +47,11 @@ class CountAnswer(ctypes.Structure):
                 ("solutions", ctypes.c_uint64), ("looks", ctypes.c_uint64)]
 
 
-def _loaded() -> ctypes.CDLL:
-    """Returns the library: that of NISSY_LIBRARY, of the folders in which it stands with this package, or of the system."""
+def _place() -> str:
+    """Returns where the library is: by NISSY_LIBRARY, in one of the folders in which it stands with this package, or by the system."""
     named = os.environ.get("NISSY_LIBRARY")
     if named:
-        return ctypes.CDLL(named)
+        return named
     here = os.path.dirname(os.path.realpath(__file__))
     # in the package itself; the package installed as PREFIX/lib/python3/dist-packages/nissy; or in the repository's folder python
     beside = os.path.join(here, "..", "..", "..") if os.path.basename(os.path.dirname(here)).endswith("-packages") else \
@@ -59,11 +59,20 @@ def _loaded() -> ctypes.CDLL:
     for folder in (here, beside):
         path = os.path.join(folder, "libnissy.so.1")
         if os.path.exists(path):
-            return ctypes.CDLL(path)
-    return ctypes.CDLL("libnissy.so.1")
+            return path
+    return "libnissy.so.1"
 
 
-LIBRARY = _loaded()
+def _loaded(place: str) -> ctypes.CDLL:
+    """Returns the library that is there."""
+    try:
+        return ctypes.CDLL(place)
+    except OSError as error:
+        why = str(error) if place in str(error) else f"{place}: {error}"
+        raise ImportError(f"nissy's library, which is for Linux on x86-64-v2, can't be loaded: {why}") from None
+
+
+LIBRARY = _loaded(_place())
 
 # bytes that a call reads, with their number, and bytes that it writes, by address, with the room that there is
 _READ = (ctypes.c_char_p, ctypes.c_size_t)

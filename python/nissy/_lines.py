@@ -5,7 +5,7 @@ from functools import lru_cache
 from typing import Any, Callable, List, NoReturn, Tuple
 
 from . import _library, _rooms
-from ._given import Text, bytes_of, number_of
+from ._given import Step, Text, bytes_of, number_of
 from ._library import DONE, FAULT, LINE_ROOM, MOST_INPUT
 from ._values import LineFault
 
@@ -76,9 +76,10 @@ def scramble(state: int, stream: int, length: int) -> str:
     return _written(_library.nissy_scramble, *drawing(state, stream, length))
 
 
-def steps() -> List[str]:
+def steps() -> List[Step]:
     """The names of the steps."""
-    return _written(_library.nissy_steps).splitlines()
+    names: List[Any] = _written(_library.nissy_steps).splitlines()
+    return names
 
 
 def start_of(step: str) -> str:

@@ -8,7 +8,7 @@ from functools import partial
 from typing import Any, Callable, Dict, Iterable, Iterator, List, NoReturn, Optional, Tuple, TypeVar
 
 from . import _library, _rooms
-from ._given import Text, bytes_of, each_of, number_of
+from ._given import Step, Text, bytes_of, each_of, number_of
 from ._library import DONE, FAULT, NOT_START, ROOM, KeptTables
 from ._lines import MOST_WORD, fault_text, refuse, start_of, steps
 from ._values import Count, LineFault, Solution, StartFault
@@ -22,8 +22,8 @@ Value = TypeVar("Value")
 class _Place:
     """Where the tables of one step stand, once they are built."""
 
-    def __init__(self, step: str) -> None:
-        self.step = step
+    def __init__(self, step: Step) -> None:
+        self.step: Step = step
         # a signal's handler, called while its own thread builds, builds tables of its own and doesn't wait without end
         self.lock = threading.RLock()
         self.tables: Optional[KeptTables] = None
@@ -58,7 +58,7 @@ def _renew_locks() -> None:
 os.register_at_fork(after_in_child=_renew_locks)
 
 
-def _place_of(step: str) -> _Place:
+def _place_of(step: Step) -> _Place:
     """Returns the place of a step's tables."""
     given: object = step
     if not isinstance(given, str):
@@ -76,13 +76,17 @@ class Tables:
     million for all thirteen steps. So there is nothing to close, and nothing can be given back. Any threads may ask at the same time.
     """
 
-    __slots__ = ("step", "_tables")
+    __slots__ = ("_step", "_tables")
 
-    def __init__(self, step: str) -> None:
+    def __init__(self, step: Step) -> None:
         place = _place_of(step)
         self._tables = ctypes.byref(place.built())
-        self.step = place.step
+        self._step: Step = place.step
+
+    @property
+    def step(self) -> Step:
         """The step's name."""
+        return self._step
 
     def __repr__(self) -> str:
         return f"Tables({self.step!r})"
@@ -158,7 +162,7 @@ def _numbers(limit: int, slack: int) -> Tuple[int, int]:
 
 def _most(most: Optional[int]) -> int:
     """Returns the greatest number of solutions as the library takes it: its own greatest one stands for all."""
-    return MOST_WORD if most is None else number_of(most, "the most", MOST_WORD)
+    return MOST_WORD if most is None else number_of(most, "most", MOST_WORD)
 
 
 def _each(lines: Iterable[Text], ask: Callable[[Text], Value]) -> Iterator[Value]:
@@ -182,7 +186,7 @@ def _answers(lines: Iterator[Text], ask: Callable[[Text], Value]) -> Iterator[Va
 _asked: Dict[str, Tables] = {}
 
 
-def _tables(step: str) -> Tables:
+def _tables(step: Step) -> Tables:
     """Returns the tables of a step, those of the last call if there was one."""
     try:
         return _asked[step]
@@ -191,7 +195,7 @@ def _tables(step: str) -> Tables:
         return _asked.setdefault(tables.step, tables)
 
 
-def solve(step: str, line: Text, limit: int = 20, slack: int = 0, most: Optional[int] = None) -> List[Solution]:
+def solve(step: Step, line: Text, limit: int = 20, slack: int = 0, most: Optional[int] = None) -> List[Solution]:
     """The solutions of a line: those that have at most `limit` turns and at most `slack` more than the shortest, by length and then in turn
     order, as `nissy near` writes them (`nissy solve` with slack 0). With `most` no more than so many of them, and the search ends there.
     Raises LineFault and StartFault.
@@ -199,23 +203,23 @@ def solve(step: str, line: Text, limit: int = 20, slack: int = 0, most: Optional
     return _tables(step).solve(line, limit, slack, most)
 
 
-def near(step: str, line: Text, limit: int, slack: int, most: Optional[int] = None) -> List[Solution]:
+def near(step: Step, line: Text, limit: int, slack: int, most: Optional[int] = None) -> List[Solution]:
     """The solutions of a line up to `slack` turns longer than the shortest: `solve` by another name, which is the program's."""
     return _tables(step).solve(line, limit, slack, most)
 
 
-def count(step: str, line: Text, limit: int = 20, slack: int = 0) -> Count:
+def count(step: Step, line: Text, limit: int = 20, slack: int = 0) -> Count:
     """How many solutions `solve` returns of a line, of which length the shortest are, and how many positions the search looks at. Raises
     LineFault and StartFault."""
     return _tables(step).count(line, limit, slack)
 
 
-def solve_all(step: str, lines: Iterable[Text], limit: int = 20, slack: int = 0, most: Optional[int] = None) -> Iterator[List[Solution]]:
+def solve_all(step: Step, lines: Iterable[Text], limit: int = 20, slack: int = 0, most: Optional[int] = None) -> Iterator[List[Solution]]:
     """The solutions of each line in turn, as `solve` returns them. A line is taken from the iterable when its answer is asked for. The
     first line with a fault ends the iterator: `line` of the fault is its number, from 1."""
     return _tables(step).solve_all(lines, limit, slack, most)
 
 
-def count_all(step: str, lines: Iterable[Text], limit: int = 20, slack: int = 0) -> Iterator[Count]:
+def count_all(step: Step, lines: Iterable[Text], limit: int = 20, slack: int = 0) -> Iterator[Count]:
     """How many solutions each line has in turn, as `count` returns it, and as `solve_all` takes the lines."""
     return _tables(step).count_all(lines, limit, slack)

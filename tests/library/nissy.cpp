@@ -125,6 +125,10 @@ void objects_are_values() {
     holds(one.count("F").length == 0 && copy.count("F").length == 1 && again.count("F").length == 1, "each asks its own step", "tables");
     const nissy::tables moved = std::move(one);
     holds(moved.count("F").length == 0, "it can be moved", "tables");
+    holds(one.step() == "eorl" && one.count("F").length == 0, "which leaves it as it was", "tables");
+    nissy::tables start("dr-eofb"), taken = std::move(start);
+    has_fault([&] { start.solve("F"); }, NISSY_START, 0, "nissy: eofb does not hold", "F");
+    has_fault([&] { taken.solve("F"); }, NISSY_START, 0, "nissy: eofb does not hold", "F");
 }
 
 // Threads that build and ask the same steps side by side.

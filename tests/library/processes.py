@@ -200,19 +200,30 @@ lengths: List[int] = [it.length for it in tables.solve("R U")]
 line: nissy.Text = nissy.scramble(1, 2, 3)
 answer: nissy.Answer = nissy.run(["steps", b"x"], memoryview(b""), room=3)
 version: str = nissy.__version__
+
+def shortest_of(step: nissy.Step) -> Optional[int]:
+    return nissy.Tables(step).count("").length
+
+steps: List[nissy.Step] = nissy.steps()
+of_all: List[Optional[int]] = [shortest_of(step) for step in nissy.steps()]
+asked: nissy.Step = tables.step
 """
 
 NAMES_LIBRARY = "import nissy; print(nissy._library.LIBRARY._name)"
+NO_LIBRARY = "ImportError: nissy's library, which is for Linux on x86-64-v2, can't be loaded: "
+# the beginning of a library for another processor: AArch64
+ELF_OF_ARM = b"\x7fELF\x02\x01\x01" + bytes(9) + b"\x03\0\xb7\0\x01\0\0\0" + bytes(40)
 
 # a line each that mypy is to refuse
 WRONG_USES = ('nissy.solve("eofb", 3)', 'nissy.solve(3, "R")', 'nissy.count("eofb", "R").length + 1', 'nissy.near("eofb", "R", 3)',
               'nissy.solve("eofb", "R", "20")', 'nissy.solve_all("eofb", 3)', 'nissy.invert(["R"])', 'nissy.run(["steps"]).text',
-              'nissy.nothing', 'nissy.solve("eofb", "R")[0].moves')
+              'nissy.nothing', 'nissy.solve("eofb", "R")[0].moves', 'nissy.solve("eofd", "R")', 'nissy.count_all("htr", [])',
+              'nissy.Tables("eo fb")', 'nissy.Tables("eofb").step = "eorl"')
 
 
 def of_process(code: str, **named: str) -> str:
     """What a process of its own prints of this code, and what it says where it fails."""
-    environment = dict(os.environ, PYTHONPATH=PYTHON, PYTHONDONTWRITEBYTECODE="1", **named)
+    environment = {**os.environ, "PYTHONPATH": PYTHON, "PYTHONDONTWRITEBYTECODE": "1", **named}
     done = subprocess.run([sys.executable, "-c", code], capture_output=True, text=True, env=environment, timeout=SECONDS, check=False)
     return done.stdout if done.returncode == 0 else done.stdout + done.stderr
 
@@ -236,10 +247,19 @@ def processes(tally: Tally) -> None:
 
 def libraries(tally: Tally) -> None:
     """Libraries that aren't there, or are another one."""
-    said = of_process("import nissy", NISSY_LIBRARY="/nowhere/libnissy.so.1")
-    tally.holds("a library that isn't there is named", "OSError: /nowhere/libnissy.so.1" in said)
-    said = of_process("import nissy", NISSY_LIBRARY="libc.so.6")
-    tally.holds("so is one without the calls", said.endswith("ImportError: libc.so.6 has no nissy_run: it is older than this module\n"))
+    with tempfile.TemporaryDirectory() as room:
+        shutil.copytree(TOP / "python/nissy", Path(room, "nissy"), ignore=shutil.ignore_patterns("__pycache__"))
+        for file, first_bytes in (("none.so", None), ("text.so", b"text"), ("arm.so", ELF_OF_ARM)):
+            if first_bytes:
+                Path(room, file).write_bytes(first_bytes)
+            said = of_process("import nissy", NISSY_LIBRARY=f"{room}/{file}").splitlines()
+            tally.holds(f"{file} is no library: {said[-1:]}", said and said[-1].startswith(f"{NO_LIBRARY}{room}/{file}: "))
+            tally.holds("nothing else is said of it", not any(line.startswith("OSError") for line in said))
+        said_last = of_process(NAMES_LIBRARY, NISSY_LIBRARY="", PYTHONPATH=room)
+        tally.holds("nor has the system one", f"{NO_LIBRARY}libnissy.so.1: " in said_last or said_last == "libnissy.so.1\n")
+    said_last = of_process("import nissy", NISSY_LIBRARY="libc.so.6")
+    tally.holds("one without the calls is named",
+                said_last.endswith("ImportError: libc.so.6 has no nissy_run: it is older than this module\n"))
     with tempfile.TemporaryDirectory() as room:
         library = of_process(NAMES_LIBRARY).strip()
         for place in ("nissy", "lib/python3/dist-packages/nissy", "lib/python3.11/site-packages/nissy"):

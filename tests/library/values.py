@@ -123,7 +123,7 @@ def faults(tally: Tally) -> None:
                 told = fault and (fault.step, fault.start, fault.text)
                 tally.equal(f"{step} may not start", told, (step, start, start + " does not hold"))
         else:
-            tally.holds(f"{step} may start anywhere", all(nissy.count(step, line).solutions for line in ("F", "R", "U", "F R U B L D")))
+            tally.holds(f"{step} may start anywhere", all(untyped.count(step, line).solutions for line in ("F", "R", "U", "F R U B L D")))
     says(tally, nissy.StartFault, "eorl does not hold", lambda: nissy.solve("drfb-eorl", "R"))
     says(tally, nissy.StartFault, "line 3: eorl does not hold", lambda: list(nissy.solve_all("drfb-eorl", ["", "F", "R"])))
     says(tally, nissy.LineFault, "line 2, column 3: not a move", lambda: list(nissy.count_all("eo", ["", "R Q"])))
@@ -166,7 +166,7 @@ def numbers(tally: Tally) -> None:
         ("the limit", 20, lambda it: untyped.solve("eofb", "", it)), ("the limit", 20, lambda it: untyped.count("eofb", "", it)),
         ("the limit", 20, lambda it: untyped.solve_all("eofb", [], it)), ("the limit", 20, lambda it: untyped.near("eofb", "", it, 0)),
         ("the slack", 20, lambda it: untyped.near("eofb", "", 0, it)), ("the slack", 20, lambda it: untyped.count_all("eofb", [], 3, it)),
-        ("the most", 2**64 - 1, lambda it: untyped.solve("eofb", "", most=it)),
+        ("most", 2**64 - 1, lambda it: untyped.solve("eofb", "", most=it)),
         ("the state", 2**64 - 1, lambda it: untyped.scramble(it, 1, 1)),
         ("the stream", 2**64 - 1, lambda it: untyped.scrambles(1, it, 1, 1)), ("the length", 256, lambda it: untyped.scramble(1, 1, it)),
         ("the length", 256, lambda it: untyped.scrambles(1, 1, it, 1)), ("the count", 10_000, lambda it: untyped.scrambles(1, 1, 1, it))]
@@ -201,6 +201,11 @@ def of_classes(tally: Tally) -> None:
     for kind in (nissy.Answer, nissy.Count, nissy.LineFault, nissy.Solution, nissy.StartFault, nissy.Tables):
         tally.equal(f"the place of {kind.__name__}", kind.__module__, "nissy")
     tally.equal("the types of solve_all", get_type_hints(nissy.solve_all)["return"], Iterator[List[nissy.Solution]])
+    named = tuple(STEPS) if sys.version_info >= (3, 8) else None
+    tally.equal("the names of the type of a step", getattr(nissy.Step, "__args__", None), named)
+    tables = nissy.Tables("dr-eofb")
+    tally.holds("the step of tables can't be changed", raised(AttributeError, lambda: setattr(tables, "step", "eorl")))
+    says(tally, nissy.StartFault, "eofb does not hold", lambda: tables.solve("F"))
 
 
 def iterables(tally: Tally) -> None:
@@ -233,7 +238,7 @@ def iterables(tally: Tally) -> None:
         raise TypeError("mine")
 
     says(tally, TypeError, "mine", lambda: list(nissy.count_all("eofb", wrong())))
-    tally.holds("arguments are judged at the call", raised(ValueError, lambda: nissy.solve_all("htr", [])))
+    tally.holds("arguments are judged at the call", raised(ValueError, lambda: untyped.solve_all("htr", [])))
     tally.equal("a set, a tuple, a dict", [len(list(nissy.solve_all("eo", it))) for it in ({"R"}, ("R", "U"), {"R": 1})], [1, 2, 1])
     nested = nissy.solve_all("drud-eofb", (eo for eo, in nissy.solve_all("eofb", ["U", "R"])))
     tally.equal("an iterator over another one", [it[0] for it in nested], ["", ""])

@@ -44,12 +44,13 @@ def lines_in(data):
     return lines if lines[-1] else lines[:-1]
 
 
-def fault_in(err):
-    """The number of the line that the program's error text is on, and the fault that a call on it throws."""
+def fault_in(err, step):
+    """The number of the line that the program's error text is on, and the fault that a call on it throws. A search is by this step."""
     line, column, text = FAULT.fullmatch(err).groups()
     words, place = text.decode(), int(column) if column else None
-    step = words[: -len(START)] if words.endswith(START) else None
-    return int(line), {"text": words, "column": place, "step": step, "message": words if step else "column %d: %s" % (place, words)}
+    start = words[: -len(START)] if words.endswith(START) else None
+    message = words if start else "column %d: %s" % (place, words)
+    return int(line), {"text": words, "column": place, "step": step if start else None, "start": start, "message": message}
 
 
 def count_in(line):
@@ -112,7 +113,7 @@ class BesideModule(Beside):
 
     def compare_lines(self, words, data, out, err):
         """A call for each line that the program came to."""
-        faulty, fault = fault_in(err) if err else (0, None)
+        faulty, fault = fault_in(err, *words[1:2] or [None]) if err else (0, None)
         values = values_of(words, out)
         for number, line in enumerate(lines_in(data)[: faulty or None], 1):
             wanted = {"fault": fault} if number == faulty else {"value": values[number - 1]}

@@ -34,18 +34,18 @@ const ROWS = [
   ["a scramble of no turns", ["scramble", 1, 2, 0], ""],
 ];
 
-// a call, and the fault that it throws: text, column, step and message
+// a call, and the fault that it throws: text, column, step, what would have to hold before it, and message
 const FAULTS = [
-  [["unniss", "R (U"], "bracket not closed", 3, null, "column 3: bracket not closed"],
-  [["invert", "R U)"], "bracket closed that was not opened", 4, null, "column 4: bracket closed that was not opened"],
-  [["cleanup", "(R (U))"], "bracket inside a bracket", 4, null, "column 4: bracket inside a bracket"],
-  [["facelets", "R q"], "not a move", 3, null, "column 3: not a move"],
-  [["invert", "U".repeat(257)], "more than 256 moves", 257, null, "column 257: more than 256 moves"],
-  [["invert", "R\nU"], "not a move", 2, null, "column 2: not a move"],
-  [["solve", "eofb", "R\nU"], "not a move", 2, null, "column 2: not a move"],
-  [["count", "eofb", "F q"], "not a move", 3, null, "column 3: not a move"],
-  [["count", "drud-eofb", "F"], "eofb does not hold", null, "eofb", "eofb does not hold"],
-  [["solve", "dr-eorl", "R"], "eorl does not hold", null, "eorl", "eorl does not hold"],
+  [["unniss", "R (U"], "bracket not closed", 3, null, null, "column 3: bracket not closed"],
+  [["invert", "R U)"], "bracket closed that was not opened", 4, null, null, "column 4: bracket closed that was not opened"],
+  [["cleanup", "(R (U))"], "bracket inside a bracket", 4, null, null, "column 4: bracket inside a bracket"],
+  [["facelets", "R q"], "not a move", 3, null, null, "column 3: not a move"],
+  [["invert", "U".repeat(257)], "more than 256 moves", 257, null, null, "column 257: more than 256 moves"],
+  [["invert", "R\nU"], "not a move", 2, null, null, "column 2: not a move"],
+  [["solve", "eofb", "R\nU"], "not a move", 2, null, null, "column 2: not a move"],
+  [["count", "eofb", "F q"], "not a move", 3, null, null, "column 3: not a move"],
+  [["count", "drud-eofb", "F"], "eofb does not hold", null, "drud-eofb", "eofb", "eofb does not hold"],
+  [["solve", "dr-eorl", "R"], "eorl does not hold", null, "dr-eorl", "eorl", "eorl does not hold"],
 ];
 
 /** Rows, by `Nissy` or by what has the same calls as promises. */
@@ -58,9 +58,40 @@ export async function tryRows(nissy) {
     } catch (stop) {
       fault = stop;
     }
-    const seen = [fault instanceof NissyFault, fault?.name, fault?.text, fault?.column, fault?.step, fault?.message];
+    const seen = [fault instanceof NissyFault, fault?.name, fault?.text, fault?.column, fault?.step, fault?.start, fault?.message];
     same(`${call} ${given.join(", ").slice(0, 20)}`, seen, [true, "NissyFault", ...wanted]);
   }
+}
+
+const BEYOND = " ".repeat(16_777_217);
+
+// calls of many lines, and what they throw: of the call itself, which is judged though there is no line, and of a line, with its number
+const MANY = [
+  [["solveAll", 3, []], "TypeError", "the step is no string"],
+  [["countAll", "htr", []], "RangeError", 'there is no step of the name "htr"'],
+  [["countAll", "eofb", [], { limit: 21 }], "RangeError", "the limit is no whole number from 0 to 20"],
+  [["solveAll", "eofb", [], null], "TypeError", "the options are no object"],
+  [["solveAll", "eofb", "F"], "TypeError", "the lines are no array"],
+  [["countAll", "eofb", new Set(["F"])], "TypeError", "the lines are no array"],
+  [["solveAll", "eofb", ["F", 3]], "TypeError", "line 2 is neither a string nor a Uint8Array"],
+  [["countAll", "eofb", [, "F"]], "TypeError", "line 1 is neither a string nor a Uint8Array"],
+  [["countAll", "eofb", ["F", BEYOND]], "RangeError", "line 2: a line has more bytes than the engine reads"],
+  [["solveAll", "eofb", ["F", "R q"]], "NissyFault", "line 2, column 3: not a move"],
+  [["countAll", "dr-eofb", ["", "R", "F"]], "NissyFault", "line 3: eofb does not hold"],
+];
+
+/** Calls of many lines that are refused, by `Nissy` or by what has the same calls as promises. */
+export async function tryMany(nissy) {
+  for (const [[call, ...given], ...wanted] of MANY) same(`${call}: ${wanted[1]}`, await thrown(() => nissy[call](...given)), wanted);
+  let read = 0;
+  const options = {
+    get limit() {
+      read += 1;
+      return 3;
+    },
+  };
+  same("solutions of many lines", await nissy.solveAll("eofb", ["F", Uint8Array.of(0x52)], options), [F_OR_ITS_INVERSE, [{ moves: "", length: 0 }]]);
+  same("options are read once for all lines", read, 1);
 }
 
 const NO_TEXT = "is neither a string nor a Uint8Array";

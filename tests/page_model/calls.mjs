@@ -26,8 +26,8 @@ async function called({ call, values, inWorker }) {
     return { value: await (inWorker ? worker : nissy)[call](...values.map(given)) };
   } catch (fault) {
     if (!(fault instanceof NissyFault)) return { error: fault.name };
-    const { text, column, step, message } = fault;
-    return { fault: { text, column, step, message } };
+    const { text, column, step, start, message } = fault;
+    return { fault: { text, column, step, start, message } };
   }
 }
 

@@ -7,7 +7,7 @@ import { getEventListeners } from "node:events";
 import { performance } from "node:perf_hooks";
 import { NissyWorker, loadNissy } from "../../web/module/node.js";
 import { WorkerCalls } from "../../web/module/worker-calls.js";
-import { tryRows, tryWrongValues } from "./called.mjs";
+import { tryMany as tryManyLines, tryRows, tryWrongValues } from "./called.mjs";
 import { ended, moduleBytes, same, text, thrown } from "./tally.mjs";
 
 const LONG = ["count", "eo", "R U F2 L D R B", { slack: 14 }];
@@ -63,9 +63,20 @@ async function trySignals(worker) {
   for (let at = 0; at < 20; at += 1) await worker.invert("R", { signal });
   await thrown(() => worker.invert("q", { signal }));
   same("nothing listens to a signal after the calls", getEventListeners(signal, "abort").length, 0);
-  for (const wrong of [null, 1, "stop", {}, { aborted: false }, new AbortController()]) {
+  const deaf = { aborted: false, addEventListener: () => {} };
+  for (const wrong of [null, 1, "stop", {}, { aborted: false }, deaf, new AbortController()]) {
     const refused = await thrown(() => worker.invert("R", { signal: wrong }));
     same(`no signal: ${String(wrong)}`, refused, ["TypeError", "the signal is no AbortSignal"]);
+  }
+}
+
+/** Options that are none: a room that is given by itself, as `Nissy` takes it, isn't lost without a word. */
+async function tryNoOptions(worker) {
+  for (const wrong of [null, 2, "2", () => 2]) {
+    for (const [call, ...given] of [["run", ["steps"], ""], ["invert", "R"], ["steps"], ["scramble", 1, 2, 3], ["countAll", "eofb", []]]) {
+      const refused = await thrown(() => worker[call](...given, wrong));
+      same(`${call}: no options: ${String(wrong)}`, refused, ["TypeError", "the options are no object"]);
+    }
   }
 }
 
@@ -104,7 +115,9 @@ async function tryMany(worker) {
   const fault = await worker.countAll("eofb", ["F", "R q"]).catch((stop) => stop);
   const seen = [fault.name, fault.line, fault.column, fault.message];
   same("a fault in one of many lines", seen, ["NissyFault", 2, 3, "line 2, column 3: not a move"]);
-  same("lines that are no array", await thrown(() => worker.countAll("eofb", "F")), ["TypeError", "the lines are no array"]);
+  const [, step, endless, slack] = LONG;
+  const first = await thrown(() => worker.countAll(step, ["R q", endless], { ...slack, signal: AbortSignal.timeout(4 * SOON) }));
+  same("no line is searched after a fault", first, ["NissyFault", "line 1, column 3: not a move"]);
 }
 
 /** Workers that can't be started, or have another module. */
@@ -167,6 +180,8 @@ async function tryPuppets() {
 const worker = await NissyWorker.start(WebAssembly.compile(moduleBytes));
 await tryRows(worker);
 await tryWrongValues(worker);
+await tryManyLines(worker);
+await tryNoOptions(worker);
 await tryMany(worker);
 await tryStopped(worker);
 await trySignals(worker);

@@ -4,8 +4,9 @@
 //
 // The last line is `N passed, M failed`, and the status is 1 where M isn't 0.
 import { createContext, runInContext } from "node:vm";
-import { Nissy } from "../../web/module/nissy.js";
-import { F_OR_ITS_INVERSE, STEPS, tryRows, tryWrongValues } from "./called.mjs";
+import { readFileSync } from "node:fs";
+import { Nissy, VERSION } from "../../web/module/nissy.js";
+import { F_OR_ITS_INVERSE, STEPS, tryMany, tryRows, tryWrongValues } from "./called.mjs";
 import { ended, loaded, moduleBytes, same, text, thrown } from "./tally.mjs";
 
 const LONGEST_LINE = 16_777_216;
@@ -160,7 +161,9 @@ async function trySources() {
 const { nissy, memory } = await loaded(Nissy);
 await tryRows(nissy);
 await tryWrongValues(nissy, memory);
+await tryMany(nissy);
 await tryRanges(nissy, memory);
+same("the version is the package's", VERSION, JSON.parse(readFileSync(new URL("../../web/module/package.json", import.meta.url), "utf8")).version);
 tryAllSteps(nissy, memory);
 await tryTraps(nissy);
 await trySources();

@@ -1,5 +1,5 @@
 // A caller in TypeScript, who is told of what is wrong: tests/page_model.sh has tsc read this beside the types of the module.
-import { loadNissy, Nissy, NissyFault, NissyWorker, type Count, type Solution } from "./node.js";
+import { loadNissy, Nissy, NissyFault, NissyWorker, VERSION, type Count, type Solution } from "./node.js";
 import { NissyWorker as NissyWorkerOfBrowsers } from "./browser.js";
 
 export async function calls(bytes: Uint8Array, compiled: WebAssembly.Module, request: Promise<Response>): Promise<string> {
@@ -12,9 +12,10 @@ export async function calls(bytes: Uint8Array, compiled: WebAssembly.Module, req
   const moves: string[] = solutions.map((solution) => solution.moves);
   const count: Count = nissy.count("eofb", "R U F", { limit: 9 });
   const length: number | null = count.length;
-  const many: number[] = nissy.countAll("eofb", ["R", bytes]).map(({ nodes }) => nodes);
+  const fixed: readonly string[] = ["R", "U"];
+  const many: number[] = [...nissy.countAll("eofb", ["R", bytes]), ...nissy.countAll("eofb", fixed)].map(({ nodes }) => nodes);
   const scramble: string = nissy.scramble(1n, 2, 25);
-  const status: number = nissy.run(["steps"], "", 1_000).status;
+  const status: number = nissy.run(["steps"] as const, VERSION, 1_000).status;
   return [inverse, moves, length, many, scramble, status, nissy.steps()].flat().join(" ");
 }
 
@@ -22,7 +23,7 @@ export async function callsInWorker(bytes: Uint8Array, signal: AbortSignal): Pro
   const workers = [await NissyWorker.start(bytes), await NissyWorkerOfBrowsers.start(bytes)];
   const [worker] = workers;
   const solutions: Solution[] = await worker.solve("eofb", "R U F", { slack: 1, signal });
-  const all: Solution[][] = await worker.solveAll("eofb", ["R U F"], { most: 1, signal });
+  const all: Solution[][] = await worker.solveAll("eofb", ["R U F"] as const, { most: 1, signal });
   worker.stop();
   worker.drop();
   worker.end();
@@ -30,7 +31,8 @@ export async function callsInWorker(bytes: Uint8Array, signal: AbortSignal): Pro
 }
 
 export function place(fault: unknown): number | null {
-  return fault instanceof NissyFault ? fault.column : null;
+  const isStart: boolean = fault instanceof NissyFault && fault.step !== null && fault.start !== null;
+  return fault instanceof NissyFault && !isStart ? fault.column : null;
 }
 
 export function wrong(nissy: Nissy, worker: NissyWorker): void {

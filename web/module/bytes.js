@@ -42,9 +42,10 @@ export function bytesOf(text, what) {
 /**
  * A line as it is handed on: a short string, or bytes of which nobody else has any.
  * @param {unknown} line
+ * @param {string} what it is, for the error
  * @returns {Text}
  */
-export const takenLine = (line) => (typeof line === "string" && line.length <= SHORT ? line : bytesOf(line, "the line"));
+export const takenLine = (line, what) => (typeof line === "string" && line.length <= SHORT ? line : bytesOf(line, what));
 
 /**
  * @param {Text} line

@@ -8,6 +8,7 @@ import { compiled } from "./source.js";
 /** @typedef {import("./source.js").ModuleSource} ModuleSource */
 /** @typedef {import("./requests.js").Request} Request */
 /** @typedef {import("./requests.js").OneRequest} OneRequest */
+/** @typedef {import("./requests.js").AllRequest} AllRequest */
 /** @typedef {import("./requests.js").RunRequest} RunRequest */
 /** @typedef {import("./requests.js").CountRequest} CountRequest */
 /** @typedef {import("./requests.js").SolveRequest} SolveRequest */
@@ -121,12 +122,29 @@ export class Engine {
    * @returns {Reply}
    */
   answer(request) {
-    return request.call === "all" ? request.requests.map((one) => this.#answerOne(one)) : this.#answerOne(request);
+    if (this.#isBroken) this.#startAgain();
+    return request.call === "all" ? this.#answerAll(request) : this.#answerOne(request);
+  }
+
+  /**
+   * Answers lines in turn, up to the first that has no answer.
+   * @param {AllRequest} request
+   * @returns {OneReply[]}
+   */
+  #answerAll({ search, lines }) {
+    // a step that isn't there is told though there may be no line
+    this.#tablesOf(search.step);
+    const replies = [];
+    for (const line of lines) {
+      const reply = this.#answerOne({ ...search, line });
+      replies.push(reply);
+      if (reply.status !== STATUS.done) break;
+    }
+    return replies;
   }
 
   /** @param {OneRequest} request @returns {OneReply} */
   #answerOne(request) {
-    if (this.#isBroken) this.#startAgain();
     switch (request.call) {
       case "run":
         return this.#run(request);
@@ -281,7 +299,7 @@ export class Engine {
   }
 
   /**
-   * Adds what the module calls a fault, if there is one, and the state that doesn't hold before a step.
+   * Adds what the module calls a fault, if there is one, and if it is that a step can't begin, that step and the one that must hold before.
    * @template {Outcome} Reply
    * @param {Reply} reply
    * @param {string} [step]
@@ -290,7 +308,7 @@ export class Engine {
   #inWords(reply, step = "") {
     if (reply.status !== STATUS.fault) return reply;
     const { out: text } = this.#written("nissy_fault_text", null, [reply.fault]);
-    return reply.fault === START ? { ...reply, text, state: this.#written("nissy_start", step).out } : { ...reply, text };
+    return reply.fault === START ? { ...reply, text, step, start: this.#written("nissy_start", step).out } : { ...reply, text };
   }
 
   /**

@@ -5,16 +5,18 @@ export class NissyFault extends Error {
   /**
    * @param {string} text what is wrong
    * @param {number | null} column where, in bytes of UTF-8 from 1; null if it isn't at one place
-   * @param {string | null} step what should hold before a step, and doesn't
+   * @param {string | null} step which can't begin at the line's cube; null if the line can't be read
+   * @param {string | null} start the step that would have to hold before that one
    * @param {number | null} line of many, from 1; null if there was one
    */
-  constructor(text, column, step = null, line = null) {
+  constructor(text, column, step = null, start = null, line = null) {
     const places = [line === null ? [] : `line ${line}`, column === null ? [] : `column ${column}`].flat();
     super(places.length === 0 ? text : `${places.join(", ")}: ${text}`);
     this.name = "NissyFault";
     this.text = text;
     this.column = column;
     this.step = step;
+    this.start = start;
     this.line = line;
   }
 
@@ -23,7 +25,7 @@ export class NissyFault extends Error {
    * @param {number} line from 1
    */
   inLine(line) {
-    return new NissyFault(this.text, this.column, this.step, line);
+    return new NissyFault(this.text, this.column, this.step, this.start, line);
   }
 }
 

@@ -23,6 +23,9 @@ export { EngineMissing, NissyFault, NoWebAssembly, Stopped } from "./faults.js";
 /** @typedef {import("./requests.js").Wanted} Wanted */
 /** @typedef {import("./requests.js").Within} Within */
 
+/** The version of the scripts, and of the module that comes with them. */
+export const VERSION = "1.2.0";
+
 /** What it was called while the module needed 64-bit memories. @deprecated */
 export const NoWideMemory = NoWebAssembly;
 
@@ -95,11 +98,11 @@ export class Nissy {
   }
 
   /**
-   * The same of many lines. A fault says in which.
-   * @param {string} step @param {Text[]} lines @param {Wanted} [options] @returns {Solution[][]}
+   * The same of many lines, up to the first fault, which says in which.
+   * @param {string} step @param {readonly Text[]} lines @param {Wanted} [options] @returns {Solution[][]}
    */
   solveAll(step, lines, options) {
-    return allOf(this.#answer(allRequest(lines, (line) => solveRequest(step, line, options))), solutionsIn);
+    return allOf(this.#answer(allRequest(solveRequest, step, lines, options)), solutionsIn);
   }
 
   /**
@@ -111,11 +114,11 @@ export class Nissy {
   }
 
   /**
-   * The same of many lines. A fault says in which.
-   * @param {string} step @param {Text[]} lines @param {Within} [options] @returns {Count[]}
+   * The same of many lines, up to the first fault, which says in which.
+   * @param {string} step @param {readonly Text[]} lines @param {Within} [options] @returns {Count[]}
    */
   countAll(step, lines, options) {
-    return allOf(this.#answer(allRequest(lines, (line) => countRequest(step, line, options))), countIn);
+    return allOf(this.#answer(allRequest(countRequest, step, lines, options)), countIn);
   }
 
   /**
@@ -137,7 +140,7 @@ export class Nissy {
   /**
    * Does what the program does with these words after its name, and `input` as its standard input. What the program reports is in the
    * answer. A word with a zero byte throws a `RangeError`.
-   * @param {Text[]} words the words of a command
+   * @param {readonly Text[]} words the words of a command
    * @param {Text} [input] what the program reads if its words don't give it
    * @param {number} [room] if it is given, the output has room for so many bytes, and the run is made once
    * @returns {Answer}

@@ -21,9 +21,9 @@ import { NissyFault } from "./faults.js";
  */
 
 /**
- * How a call on a line ended. If it has a fault: its number, its column if it is at one place, else 0, the program's words for it, and the
- * state that doesn't hold before a step.
- * @typedef {{status: number, fault: number, column: number, text?: string, state?: string}} Outcome
+ * How a call on a line ended. If it has a fault: its number, its column if it is at one place, else 0, and the program's words for it; and if
+ * a step can't begin at its cube, that step, and the one that must hold before.
+ * @typedef {{status: number, fault: number, column: number, text?: string, step?: string, start?: string}} Outcome
  */
 
 /** @typedef {Outcome & {out: string}} LineReply of a call that writes */
@@ -41,13 +41,13 @@ export const STATUS = { done: 0, fault: 1, usage: 2, stopped: 3, room: 4 };
  * Throws what is wrong, if something is.
  * @param {Outcome} outcome
  */
-function refuse({ status, column, text = "", state }) {
+function refuse({ status, column, text = "", step, start }) {
   if (status === STATUS.done) return;
   if (status === STATUS.stopped) throw new RangeError("a line has more bytes than the engine reads");
   if (status === STATUS.room) throw new RangeError("there are more solutions than there is room for: ask for fewer");
   if (status !== STATUS.fault) throw new Error(`the engine refused the call with status ${status}`);
-  if (state === undefined) throw new NissyFault(text, column);
-  throw new NissyFault(`${state} ${text}`, null, state);
+  if (start === undefined) throw new NissyFault(text, column);
+  throw new NissyFault(`${start} ${text}`, null, step, start);
 }
 
 /** @param {LineReply} reply @returns {string} */
@@ -89,7 +89,7 @@ export function countIn(reply) {
 }
 
 /**
- * The replies for many lines, each read by itself.
+ * The replies for many lines, each read by itself. What is thrown of one has its number.
  * @template Read, Value
  * @param {Read[]} replies
  * @param {(reply: Read) => Value} one
@@ -100,6 +100,7 @@ export const allOf = (replies, one) =>
     try {
       return one(reply);
     } catch (fault) {
-      throw fault instanceof NissyFault ? fault.inLine(index + 1) : fault;
+      if (fault instanceof NissyFault) throw fault.inLine(index + 1);
+      throw fault instanceof RangeError ? new RangeError(`line ${index + 1}: ${fault.message}`) : fault;
     }
   });

@@ -10,7 +10,7 @@ import { bytesOf, joinedWords, stringOf, takenLine, wholeNumber, wideNumber } fr
 /** @typedef {{call: "scramble", state: bigint, stream: bigint, length: number}} ScrambleRequest */
 /** @typedef {{call: "steps"}} StepsRequest */
 /** @typedef {RunRequest | LineRequest | CountRequest | SolveRequest | ScrambleRequest | StepsRequest} OneRequest */
-/** @typedef {{call: "all", requests: OneRequest[]}} AllRequest the same of many lines */
+/** @typedef {{call: "all", search: CountRequest | SolveRequest, lines: Text[]}} AllRequest a search of many lines, whose own line is none */
 /** @typedef {OneRequest | AllRequest} Request */
 
 /**
@@ -30,6 +30,15 @@ const MOST_TURNS = 20;
 /** The most turns of a scramble. */
 const MOST_SCRAMBLED = 256;
 
+/**
+ * @param {unknown} options
+ * @returns {{[name: string]: unknown}}
+ */
+export function optionsOf(options) {
+  if (typeof options !== "object" || options === null) throw new TypeError("the options are no object");
+  return /** @type {any} */ (options);
+}
+
 /** @param {unknown} words @param {unknown} [input] @param {unknown} [room] @returns {RunRequest} */
 export function runRequest(words, input = "", room = undefined) {
   const [listed, given] = [joinedWords(words), bytesOf(input, "the input")];
@@ -39,16 +48,7 @@ export function runRequest(words, input = "", room = undefined) {
 }
 
 /** @param {Rewriting} call @param {unknown} line @returns {LineRequest} */
-export const lineRequest = (call, line) => ({ call, line: takenLine(line) });
-
-/**
- * @param {unknown} options
- * @returns {{[name: string]: unknown}}
- */
-function optionsOf(options) {
-  if (typeof options !== "object" || options === null) throw new TypeError("the options are no object");
-  return /** @type {any} */ (options);
-}
+export const lineRequest = (call, line) => ({ call, line: takenLine(line, "the line") });
 
 /** @param {unknown} step @param {unknown} line @param {unknown} [options] @returns {CountRequest} */
 export function countRequest(step, line, options = {}) {
@@ -56,7 +56,7 @@ export function countRequest(step, line, options = {}) {
   return {
     call: "count",
     step: stringOf(step, "the step"),
-    line: takenLine(line),
+    line: takenLine(line, "the line"),
     limit: wholeNumber(limit, "the limit", MOST_TURNS),
     slack: wholeNumber(slack, "the slack", MOST_TURNS),
   };
@@ -77,13 +77,17 @@ export function solveRequest(step, line, options = {}) {
 }
 
 /**
+ * @template {CountRequest | SolveRequest} Search
+ * @param {(step: unknown, line: unknown, options: unknown) => Search} one what asks for a search of one line
+ * @param {unknown} step
  * @param {unknown} lines
- * @param {(line: unknown) => OneRequest} one
+ * @param {unknown} [options]
  * @returns {AllRequest}
  */
-export function allRequest(lines, one) {
+export function allRequest(one, step, lines, options) {
   if (!Array.isArray(lines)) throw new TypeError("the lines are no array");
-  return { call: "all", requests: Array.from(lines, one) };
+  const search = one(step, "", options);
+  return { call: "all", search, lines: Array.from(lines, (line, index) => takenLine(line, `line ${index + 1}`)) };
 }
 
 /** @param {unknown} state @param {unknown} stream @param {unknown} length @returns {ScrambleRequest} */

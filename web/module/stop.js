@@ -38,8 +38,8 @@ export class Stop extends Error {
    * @param {number} number the line's
    * @param {Outcome} outcome
    */
-  static ofLine(number, { column, text, state }) {
-    const [place, words] = state === undefined ? [`line ${number}, column ${column}`, text] : [`line ${number}`, `${state} ${text}`];
+  static ofLine(number, { column, text, start }) {
+    const [place, words] = start === undefined ? [`line ${number}, column ${column}`, text] : [`line ${number}`, `${start} ${text}`];
     return new Stop(STATUS.fault, `nissy: ${place}: ${words}\n`);
   }
 

@@ -2,7 +2,7 @@
 // another.
 import { EngineMissing, Stopped } from "./faults.js";
 import { allOf, countIn, linesIn, solutionsIn, lineIn } from "./replies.js";
-import { allRequest, countRequest, lineRequest, runRequest, scrambleRequest, solveRequest, stepsRequest } from "./requests.js";
+import { allRequest, countRequest, lineRequest, optionsOf, runRequest, scrambleRequest, solveRequest, stepsRequest } from "./requests.js";
 import { compiled } from "./source.js";
 
 /** @typedef {import("./bytes.js").Text} Text */
@@ -56,14 +56,14 @@ export function listenedTo(made) {
 }
 
 /**
- * @param {unknown} options
+ * @param {unknown} [options]
  * @returns {AbortSignal | undefined}
  */
-function signalOf(options) {
-  const { signal } = /** @type {{signal?: any}} */ (options ?? {});
+function signalOf(options = {}) {
+  const { signal } = /** @type {{signal?: any}} */ (optionsOf(options));
   if (signal === undefined) return undefined;
-  const isSignal = typeof signal?.aborted === "boolean" && typeof signal.addEventListener === "function";
-  if (!isSignal) throw new TypeError("the signal is no AbortSignal");
+  const listens = ["addEventListener", "removeEventListener"].every((name) => typeof signal?.[name] === "function");
+  if (typeof signal?.aborted !== "boolean" || !listens) throw new TypeError("the signal is no AbortSignal");
   return signal;
 }
 
@@ -133,10 +133,9 @@ export class WorkerCalls {
     return solutionsIn(await this.#answer(solveRequest(step, line, options), options));
   }
 
-  /** @param {string} step @param {Text[]} lines @param {Wanted & Stoppable} [options] @returns {Promise<Solution[][]>} */
+  /** @param {string} step @param {readonly Text[]} lines @param {Wanted & Stoppable} [options] @returns {Promise<Solution[][]>} */
   async solveAll(step, lines, options) {
-    const request = allRequest(lines, (line) => solveRequest(step, line, options));
-    return allOf(await this.#answer(request, options), solutionsIn);
+    return allOf(await this.#answer(allRequest(solveRequest, step, lines, options), options), solutionsIn);
   }
 
   /** @param {string} step @param {Text} line @param {Within & Stoppable} [options] @returns {Promise<Count>} */
@@ -144,10 +143,9 @@ export class WorkerCalls {
     return countIn(await this.#answer(countRequest(step, line, options), options));
   }
 
-  /** @param {string} step @param {Text[]} lines @param {Within & Stoppable} [options] @returns {Promise<Count[]>} */
+  /** @param {string} step @param {readonly Text[]} lines @param {Within & Stoppable} [options] @returns {Promise<Count[]>} */
   async countAll(step, lines, options) {
-    const request = allRequest(lines, (line) => countRequest(step, line, options));
-    return allOf(await this.#answer(request, options), countIn);
+    return allOf(await this.#answer(allRequest(countRequest, step, lines, options), options), countIn);
   }
 
   /** @param {Stoppable} [options] @returns {Promise<string[]>} */
@@ -166,9 +164,9 @@ export class WorkerCalls {
     return lineIn(await this.#answer(scrambleRequest(state, stream, length), options));
   }
 
-  /** @param {Text[]} words @param {Text} [input] @param {Stoppable & {room?: number}} [options] @returns {Promise<Answer>} */
+  /** @param {readonly Text[]} words @param {Text} [input] @param {Stoppable & {room?: number}} [options] @returns {Promise<Answer>} */
   async run(words, input, options = {}) {
-    return this.#answer(runRequest(words, input, options.room), options);
+    return this.#answer(runRequest(words, input, optionsOf(options).room), options);
   }
 
   /** Gives up the calls that wait for their turn; one that runs goes on. */
