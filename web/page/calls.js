@@ -1,7 +1,7 @@
 // Calls of the engine as promises. The engine runs in a worker, whose script stands in the page, so that the page never waits.
-import { WorkerCalls, listenedTo } from "./module/worker-calls.js";
+import { WorkerCalls, listenedTo } from "../module/worker-calls.js";
 
-export { EngineMissing, Stopped } from "./module/faults.js";
+export { EngineMissing, Stopped } from "../module/faults.js";
 
 /** @typedef {{status: number, out: string, err: string, full: boolean}} Told what the program answers, as texts */
 

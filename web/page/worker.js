@@ -1,4 +1,4 @@
 // The script of the page's workers.
-import { serve } from "./module/serve.js";
+import { serve } from "../module/serve.js";
 
 serve(self);
