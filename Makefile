@@ -79,8 +79,8 @@ build/nissy.wasm: $(SOURCES) tools/web-module tools/kit.py
 	tools/web-module build/nissy.wasm
 
 # one file, with the engine's module in it
-build/nissy.html: build/nissy.wasm tools/page $(wildcard web/*.html web/*.css web/*.js web/module/*.js)
-	tools/page web build/nissy.wasm build/nissy.html
+build/nissy.html: build/nissy.wasm tools/page $(wildcard web/page/* web/module/*.js)
+	tools/page web/page build/nissy.wasm build/nissy.html
 
 check: build/nissy $(if $(shell command -v wasm-opt),build/nissy.html) $(if $(filter no,$(LIBRARY)),,$(if $(shell command -v cc),build/libnissy.a))
 	tests/run built

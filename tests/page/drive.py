@@ -35,7 +35,7 @@ def page_without_engine(room: Path) -> str:
     engine = room / "web/module/source.js"
     engine.write_text(NO_ENGINE + engine.read_text())
     (room / "module").write_bytes(b"none")
-    subprocess.run([TOP / "tools/page", room / "web", room / "module", room / "page.html"], check=True)
+    subprocess.run([TOP / "tools/page", room / "web/page", room / "module", room / "page.html"], check=True)
     return (room / "page.html").as_uri()
 
 

@@ -97,8 +97,8 @@ def refuses(tally: Tally) -> None:
     """The tool joins the parts of this folder, and refuses what it can't join."""
     for name, text, what in (("style.css", "", ""),) + REFUSED:
         with tempfile.TemporaryDirectory() as room:
-            web, made = Path(room, "web"), Path(room, "page.html")
-            shutil.copytree(TOP / "web", web)
+            web, made = Path(room, "web/page"), Path(room, "page.html")
+            shutil.copytree(TOP / "web", web.parent)
             Path(room, "module").write_bytes(b"\0asm")
             with (web / name).open("a") as file:
                 file.write("\n" + text)

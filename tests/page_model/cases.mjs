@@ -1,14 +1,14 @@
-// Tries web/cases.js and web/twins.js beside the engine, on drawn lines: an axis has no bad edge just where its orientation is reached, a
-// reduction's case is 0c0e just where it is reached, both sides have the same numbers, and twins have the same case.
+// Tries web/page/cases.js and web/page/twins.js beside the engine, on drawn lines: an axis has no bad edge just where its orientation is
+// reached, a reduction's case is 0c0e just where it is reached, both sides have the same numbers, and twins have the same case.
 //
 //     node tests/page_model/cases.mjs MODULE
 //
 // The last line is `N passed, M failed`, and the status is 1 where M isn't 0.
 import { readFileSync } from "node:fs";
-import { badEdges, caseName, isSolved, reachedBy } from "../../web/cases.js";
+import { badEdges, caseName, isSolved, reachedBy } from "../../web/page/cases.js";
 import { Nissy } from "../../web/module/nissy.js";
-import { ORIENTATIONS, REDUCTIONS } from "../../web/steps.js";
-import { mergeTwins, withoutEarlier } from "../../web/twins.js";
+import { ORIENTATIONS, REDUCTIONS } from "../../web/page/steps.js";
+import { mergeTwins, withoutEarlier } from "../../web/page/twins.js";
 
 const LINES = 4000;
 const TURNS = [..."UDRLFB"].flatMap((face) => [face, `${face}2`, `${face}'`]);

@@ -94,7 +94,7 @@ def map_of_scripts(section: str, folder: str) -> list[str]:
 
 def maps_of_scripts() -> list[str]:
     """Returns that of the page's scripts and of the module's."""
-    return map_of_scripts("The page", "web") + map_of_scripts("The module in JavaScript", "web/module")
+    return map_of_scripts("The page", "web/page") + map_of_scripts("The module in JavaScript", "web/module")
 
 
 def clauses_of_functions(texts: list[str]) -> list[str]:

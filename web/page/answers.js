@@ -1,9 +1,9 @@
 // What the engine answers: rewritten lines, counts, solutions and faults.
-import { NissyFault } from "./module/faults.js";
+import { NissyFault } from "../module/faults.js";
 
 /** @typedef {import("./calls.js").Calls} Calls */
 /** @typedef {{length: number | null, solutions: number, looks: number}} Count */
-/** @typedef {import("./module/replies.js").Solution} Solution */
+/** @typedef {import("../module/replies.js").Solution} Solution */
 
 /** How many solutions a list may have. */
 const MOST_LISTED = 1_000_000;

@@ -1,6 +1,6 @@
 // Sentences of the page as a whole: why there is no answer, and its title.
 import { MOST_MOVES } from "./lines.js";
-import { bracketed } from "./position.js";
+import { bracketed } from "./parts.js";
 import { openSteps, stateOf, stepNamed, titleOf } from "./steps.js";
 
 const PAGE_NAME = "nissy";

@@ -49,16 +49,22 @@ export function mergeTwins(solutions, step) {
     return [...merged.values()];
 }
 
-/** The beginnings of a line that hold fewer moves; of two turns of opposite faces, which may change places, each may come first. */
-function* beginningsOf(moves) {
-    const turns = moves.split(" ");
-    for (let count = moves === "" ? 0 : turns.length; count > 0; count--) {
-        const before = turns.slice(0, count - 1);
-        yield before.join(" ");
-        const last = before.at(-1);
-        if (last && AXES_OF_TURNS.some((axis) => axis.includes(last[0]) && axis.includes(turns[count - 1][0]))) {
-            yield [...before.slice(0, -1), turns[count - 1]].join(" ");
+/**
+ * The beginnings of a line that have fewer moves, but at least so many; of two turns of opposite faces, which may change places, each may
+ * come first.
+ * @param {string} moves @param {number} length @param {number} least
+ */
+function* beginningsOf(moves, length, least) {
+    let end = moves.length;
+    for (let count = length; count > least; count--) {
+        const cut = Math.max(0, moves.lastIndexOf(" ", end - 1));
+        const before = moves.lastIndexOf(" ", cut - 1) + 1;
+        yield moves.slice(0, cut);
+        const [last, next] = [moves[before], moves[cut + 1]];
+        if (cut > 0 && AXES_OF_TURNS.some((axis) => axis.includes(last) && axis.includes(next))) {
+            yield moves.slice(0, before) + moves.slice(cut + 1, end);
         }
+        end = cut;
     }
 }
 
@@ -69,7 +75,7 @@ export function withoutEarlier(solutions) {
     const known = new Set(solutions.map(({ moves }) => moves));
     return solutions.filter(({ moves, length }) => {
         if (length === least) return true;
-        for (const beginning of beginningsOf(moves)) if (known.has(beginning)) return false;
+        for (const beginning of beginningsOf(moves, length, least)) if (known.has(beginning)) return false;
         return true;
     });
 }

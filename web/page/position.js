@@ -1,33 +1,19 @@
 // What the engine says of a scramble and the moves after it: the cube after each step, its letters, what is reached, and which steps may follow.
 import { caseName, badEdges, reachedBy } from "./cases.js";
 import { countAll, invertAll, joinAll, printAll, turnsOfAll } from "./engine.js";
+import { bracketed, joined, movesOn } from "./parts.js";
 import { statesOf } from "./steps.js";
 
 /** @typedef {import("./steps.js").Side} Side */
-/** @typedef {{side: Side, moves: string}} Part one step of a line */
-/** @typedef {{normal: string, inverse: string}} Lines a cube, as lines of moves that give it on each side */
+/** @typedef {import("./parts.js").Part} Part */
+/** @typedef {import("./parts.js").Lines} Lines */
 /** @typedef {import("./answers.js").Count} Count */
 /** @typedef {{step: import("./steps.js").OfferedStep, normal: Count, inverse: Count}} Offer */
 /**
  * What is known of a line after each beginning, from none of its parts to all.
- * @typedef {{parts: Part[], lines: Lines[], letters: string[], reached: string[][], totals: number[], turns: number[]}} Walk `turns`: of each part
+ * @typedef {{parts: Part[], lines: Lines[], letters: string[], inverse: string, reached: string[][], totals: number[], turns: number[]}} Walk
+ * `inverse`: the letters of the inverse side at the end; `turns`: of each part
  */
-
-const joined = (...parts) => parts.filter((part) => part !== "").join(" ");
-
-/** The moves of one side, in their order. @param {Part[]} parts @param {Side} side */
-export const movesOn = (parts, side) => joined(...parts.filter((part) => part.side === side).map((part) => part.moves));
-
-/** The parts as one line, with those on the inverse side in brackets. @param {Part[]} parts */
-export function bracketed(parts) {
-    const runs = [];
-    for (const { side, moves } of parts) {
-        const last = runs.at(-1);
-        if (last?.side === side) last.moves = joined(last.moves, moves);
-        else runs.push({ side, moves });
-    }
-    return runs.map(({ side, moves }) => (side === "normal" ? moves : `(${moves})`)).join(" ");
-}
 
 /** The beginnings of parts, from none to all. @param {Part[]} parts */
 const beginningsOfParts = (parts) => Array.from({ length: parts.length + 1 }, (_, count) => parts.slice(0, count));
@@ -52,7 +38,9 @@ async function linesAfter(calls, scramble, all) {
 export async function walkAll(calls, scramble, candidates) {
     const beginnings = candidates.flatMap(beginningsOfParts);
     const lines = await linesAfter(calls, scramble, beginnings);
-    const letters = await printAll(calls, lines.map(({ normal }) => normal));
+    let last = -1;
+    const ends = candidates.map((parts) => lines[(last += parts.length + 1)]);
+    const letters = await printAll(calls, [...lines.map(({ normal }) => normal), ...ends.map(({ inverse }) => inverse)]);
     const alone = candidates.flat().map((part) => [part]);
     const turns = await turnsOfAll(calls, [...beginnings, ...alone].map(bracketed));
     const walks = [];
@@ -61,10 +49,12 @@ export async function walkAll(calls, scramble, candidates) {
     for (const parts of candidates) {
         const end = begin + parts.length + 1;
         const seen = letters.slice(begin, end);
+        const inverse = letters[beginnings.length + walks.length];
         walks.push({
             parts,
             lines: lines.slice(begin, end),
             letters: seen,
+            inverse,
             reached: seen.map(reachedBy),
             totals: turns.slice(begin, end),
             turns: turns.slice(part, part + parts.length),
@@ -80,11 +70,8 @@ export async function walkAll(calls, scramble, candidates) {
  * @param {import("./calls.js").Calls} calls @param {string} scramble by its face turns @param {Part[]} parts
  */
 export async function examine(calls, scramble, parts) {
-    const [walk] = await walkAll(calls, scramble, [parts]);
-    const now = walk.lines.at(-1);
-    const [inverse] = await printAll(calls, [now.inverse]);
-    const [whole] = await joinAll(calls, [bracketed(parts)]);
-    return { walk, now, letters: { normal: walk.letters.at(-1), inverse }, whole };
+    const [[walk], [whole]] = await Promise.all([walkAll(calls, scramble, [parts]), joinAll(calls, [bracketed(parts)])]);
+    return { walk, now: walk.lines.at(-1), letters: { normal: walk.letters.at(-1), inverse: walk.inverse }, whole };
 }
 
 /**

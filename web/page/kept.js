@@ -4,11 +4,11 @@ import { caseName } from "./cases.js";
 import { copy } from "./copying.js";
 import { counted, element, part, spoken, tell } from "./element.js";
 import { fmcOfAll } from "./fmc.js";
-import { bracketed } from "./position.js";
+import { bracketed } from "./parts.js";
 import { ORIENTATIONS, isReduced, reductionsAfter, statesOf } from "./steps.js";
 
 /** @typedef {import("./address.js").Candidate} Candidate */
-/** @typedef {import("./position.js").Part} Part */
+/** @typedef {import("./parts.js").Part} Part */
 /** @typedef {import("./position.js").Walk} Walk */
 
 /** What a candidate is known by. @param {Part[]} parts */

@@ -3,13 +3,13 @@ import { Stopped } from "./calls.js";
 import { sizeOf } from "./cases.js";
 import { byCase, byTotal, findContinuations } from "./continuations.js";
 import { announce, counted, element, part, setBusy, spoken, tell } from "./element.js";
-import { bracketed } from "./position.js";
+import { bracketed } from "./parts.js";
 import { roveWithin } from "./roving.js";
 import { SIDES, isReduced } from "./steps.js";
 
 /** @typedef {import("./continuations.js").Row} Row */
 /** @typedef {import("./continuations.js").Question} Question */
-/** @typedef {import("./position.js").Part} Part */
+/** @typedef {import("./parts.js").Part} Part */
 
 const LOOKING_FOR_BEST = "Looking for the best …";
 /** How many rows are shown at first: where the page is narrow fewer, so that the table below them is seen. */
@@ -31,7 +31,7 @@ function cell(name, attributes, ...children) {
 }
 
 export class BestContinuations {
-    #engines;
+    #finders;
     #acts;
     #question = null;
     #progress = null;
@@ -41,11 +41,11 @@ export class BestContinuations {
     #body = part("best-body");
 
     /**
-     * @param {import("./calls.js").Calls[]} engines of its own, that can be stopped
+     * @param {import("./finder.js").Finder[]} finders of its own, one an axis
      * @param {{goOn: (row: Row) => void, star: (part: Part) => void, isStarred: (part: Part) => boolean, shown: () => void}} acts
      */
-    constructor(engines, acts) {
-        this.#engines = engines;
+    constructor(finders, acts) {
+        this.#finders = finders;
         this.#acts = acts;
         roveWithin(this.#body, ".take");
         part("best-stop").addEventListener("click", () => this.#stop());
@@ -61,7 +61,7 @@ export class BestContinuations {
 
     /**
      * Takes another cube, or none, and looks for the best of it.
-     * @param {{now: import("./position.js").Lines, parts: import("./position.js").Part[], reached: string[]} | null} cube
+     * @param {{now: import("./parts.js").Lines, parts: import("./parts.js").Part[], reached: string[]} | null} cube
      */
     reset(cube) {
         this.#stop();
@@ -83,6 +83,11 @@ export class BestContinuations {
         this.#ask();
     }
 
+    /** Whether the best are looked for. */
+    isWorking() {
+        return !part("best-stop").hidden;
+    }
+
     /** Shows the stars as they are. */
     mark() {
         this.#draw();
@@ -98,7 +103,7 @@ export class BestContinuations {
     }
 
     #stop() {
-        for (const calls of this.#engines) calls.stop();
+        for (const finder of this.#finders) finder.stop();
     }
 
     #ask() {
@@ -118,7 +123,7 @@ export class BestContinuations {
         this.#working(true);
         tell(part("best-note"), LOOKING_FOR_BEST);
         try {
-            await findContinuations(this.#engines, question, (progress) => isStill() && this.#show(progress));
+            await findContinuations(this.#finders, question, (progress) => isStill() && this.#show(progress));
             if (isStill()) this.#keep(question);
         } catch (fault) {
             if (isStill()) this.#brokenOff(fault);
@@ -133,7 +138,7 @@ export class BestContinuations {
     }
 
     #brokenOff(fault) {
-        for (const calls of this.#engines) calls.stop();
+        this.#stop();
         const seen = this.#progress ? ` ${this.#tried()}` : "";
         const text = fault instanceof Stopped ? `Stopped.${seen}` : fault.message;
         tell(part("best-note"), text);
@@ -152,8 +157,10 @@ export class BestContinuations {
 
     #show(progress) {
         this.#progress = progress;
-        part("best-progress").max = Math.max(progress.all, 1);
-        part("best-progress").value = progress.done;
+        if (progress.all !== null) {
+            part("best-progress").max = Math.max(progress.all, 1);
+            part("best-progress").value = progress.done;
+        }
         if (progress.done === progress.all) this.#working(false);
         this.#draw();
         this.#acts.shown();
@@ -162,7 +169,9 @@ export class BestContinuations {
     #tried() {
         const { done, all } = this.#progress;
         const isOfReductions = this.#question.reached.length > 0;
-        return isOfReductions ? "" : `${done.toLocaleString("en")} of ${counted(all, "EO")} tried.`;
+        if (isOfReductions) return "";
+        // how many there are isn't known until the longer ones are found
+        return all === null ? `${counted(done, "EO")} tried.` : `${done.toLocaleString("en")} of ${counted(all, "EO")} tried.`;
     }
 
     /** The rows that the filters leave, in their order. */

@@ -4,6 +4,7 @@ import { ORIENTATIONS, REDUCTIONS } from "./steps.js";
 
 /** @typedef {number[]} Piece the places of a piece's stickers, in the order of the engine's letters */
 /** @typedef {{corners: Piece[], edges: Piece[]}} Case the misoriented corners, and the edges of the slice outside it */
+/** @typedef {{corners: number, edges: number}} Size how many there are of each */
 
 const FACE_NAMES = "URFDLB";
 
@@ -56,23 +57,38 @@ export function caseOf(letters, axis) {
     };
 }
 
-/** A case as solvers write it, such as `4c1e`. @param {string} letters @param {string} axis */
-export function caseName(letters, axis) {
-    const { corners, edges } = caseOf(letters, axis);
-    return `${corners.length}c${edges.length}e`;
+/** Of each axis the places of the corners that are on it, and the edges outside its slice. */
+const COUNTED_PLACES = new Map(AXES.map((axis) => [axis, {
+    corners: CORNERS.map((places) => places.find((place) => isOn(faceOf(place), axis))),
+    outside: EDGES.filter((places) => places.some((place) => isOn(faceOf(place), axis))),
+}]));
+
+/**
+ * How many pieces a case has, without naming them: a corner is misoriented where its place on the axis has a letter of another one.
+ * @param {string} letters @param {string} axis @returns {Size}
+ */
+export function caseSize(letters, axis) {
+    const { corners, outside } = COUNTED_PLACES.get(axis);
+    const size = { corners: 0, edges: 0 };
+    for (const place of corners) if (!isOn(letters[place], axis)) size.corners++;
+    for (const [one, other] of outside) if (!isOn(letters[one], axis) && !isOn(letters[other], axis)) size.edges++;
+    return size;
 }
 
-/** The numbers in the name of a case. @param {string} name such as `4c1e` @returns {{corners: number, edges: number}} */
+/** A case as solvers write it, such as `4c1e`. @param {Size} size */
+export const nameOfCase = ({ corners, edges }) => `${corners}c${edges}e`;
+
+/** The case of a reduction, such as `4c1e`. @param {string} letters @param {string} axis */
+export const caseName = (letters, axis) => nameOfCase(caseSize(letters, axis));
+
+/** The numbers in the name of a case. @param {string} name such as `4c1e` @returns {Size} */
 export function sizeOf(name) {
     const [corners, edges] = name.match(/\d+/g).map(Number);
     return { corners, edges };
 }
 
-/** How far a case is, to sort by: an edge outside the slice costs about two corners. @param {string} name such as `4c1e` */
-export function farnessOf(name) {
-    const { corners, edges } = sizeOf(name);
-    return corners + 2 * edges;
-}
+/** How far a case is, to sort by: an edge outside the slice costs about two corners. @param {Size} size */
+export const farnessOf = ({ corners, edges }) => corners + 2 * edges;
 
 /** The orientations that hold, and the reductions that are reached, by the names of their steps. @param {string} letters @returns {string[]} */
 export function reachedBy(letters) {

@@ -1,5 +1,6 @@
 // A line as solvers write it on a scoresheet: the scramble on top, then a step a line, with what it reaches and how long it is.
-import { bracketed, newlyReached } from "./position.js";
+import { bracketed } from "./parts.js";
+import { newlyReached } from "./position.js";
 
 /** @typedef {import("./position.js").Walk} Walk */
 

@@ -11,24 +11,25 @@ import { listenToKeys, star } from "./keys.js";
 import { LineSoFar } from "./line.js";
 import { readAllByHand, readScramble, readSteps } from "./lines.js";
 import { OpenList } from "./open_list.js";
+import { bracketed } from "./parts.js";
 import { plainLine } from "./pasted.js";
 import { goTo, keepPlace, placeIn, writeAddress } from "./places.js";
-import { bracketed, examine, framesOf, offerOf, walkAll } from "./position.js";
+import { examine, framesOf, offerOf, walkAll } from "./position.js";
 import { ScrambleField } from "./scramble.js";
 import { SolutionList } from "./solutions.js";
-import { isReduced, openSteps, stateOf, stepNamed } from "./steps.js";
+import { ORIENTATIONS, REDUCTIONS, isReduced, openSteps, reductionsAfter, stateOf, stepNamed } from "./steps.js";
 import { StepTable } from "./table.js";
 import { keepInView, showStart } from "./view.js";
 import { titleOfPage, unanswered, whyNotListed } from "./words.js";
 
 /** @typedef {import("./address.js").State} State */
-/** @typedef {import("./position.js").Part} Part */
+/** @typedef {import("./parts.js").Part} Part */
 /** @typedef {import("./steps.js").Side} Side */
 
 const AGAIN_AFTER = 1000;
 const NO_ROOM = "No more lines can be kept: the address of the page has no room for them.";
-/** How many engines look for the best side by side: one an axis. */
-const BEST_ENGINES = 3;
+/** How long nothing is asked before tables are built that may be needed next. */
+const REST = 150;
 
 export class Page {
     /** @type {State} */
@@ -45,6 +46,8 @@ export class Page {
     #calls;
     #keptCalls;
     #byHand;
+    #finders;
+    #resting = 0;
     #nets = new Cube();
     #scramble;
     #line;
@@ -53,8 +56,8 @@ export class Page {
     #best;
     #kept;
 
-    /** @param {() => import("./calls.js").Calls} newCalls each has a worker of its own */
-    constructor(newCalls) {
+    /** @param {{calls: () => import("./calls.js").Calls, finder: () => import("./finder.js").Finder}} made each has a worker of its own */
+    constructor({ calls: newCalls, finder }) {
         this.#calls = newCalls();
         this.#keptCalls = newCalls();
         // what is asked for by hand is never given up for another cube
@@ -74,8 +77,8 @@ export class Page {
             copy,
         });
         this.#openList = new OpenList(newCalls(), this.#list);
-        const engines = Array.from({ length: BEST_ENGINES }, newCalls);
-        this.#best = new BestContinuations(engines, { ...stars, goOn: (row) => this.#goOn(row), shown: () => this.#goBack() });
+        this.#finders = ORIENTATIONS.map(finder);
+        this.#best = new BestContinuations(this.#finders, { ...stars, goOn: (row) => this.#goOn(row), shown: () => this.#goBack() });
         keepInView(part("side-column"));
         part("copy-link").addEventListener("click", (event) => copy(location.href, event.currentTarget));
         part("skip").addEventListener("click", () => this.#table.focus());
@@ -184,6 +187,7 @@ export class Page {
         this.#isReading = false;
         this.#cube = null;
         document.title = titleOfPage(this.#state);
+        clearTimeout(this.#resting);
         this.#calls.drop();
         this.#nets.stop();
         this.#line.show(this.#state.parts);
@@ -207,9 +211,28 @@ export class Page {
         if (read === null) return;
         const cube = await examine(this.#calls, read.line, this.#state.parts);
         if (turn !== this.#turn) return;
+        // the engine counts while the cube is drawn
+        const groups = this.#askOffers(cube);
         this.#showCube(read, cube);
-        await this.#showOffers(turn);
-        if (turn === this.#turn) this.#showAnswered();
+        await this.#showOffers(turn, groups);
+        if (turn !== this.#turn) return;
+        this.#showAnswered();
+        this.#resting = setTimeout(() => this.#getReady(), REST);
+    }
+
+    /** Has the workers start, and build the tables that may be needed next, while nothing else is asked. */
+    async #getReady() {
+        if (this.#best.isWorking()) {
+            this.#resting = setTimeout(() => this.#getReady(), REST);
+            return;
+        }
+        const { reached } = this.#cube;
+        const isBare = part("choices").hidden;
+        this.#byHand.ready(["eofb"]);
+        this.#openList.ready(openSteps(reached).map(({ name }) => name));
+        // else they look for the best, and have them
+        if (isBare) ORIENTATIONS.forEach(({ name }, at) => this.#finders[at].ready([name, ...reductionsAfter(name).map((step) => step.name)]));
+        await this.#calls.ready([...ORIENTATIONS, ...REDUCTIONS].map(({ name }) => name));
     }
 
     /** The scramble as it is read, or null where it is at fault or overtaken. @param {number} turn */
@@ -241,7 +264,6 @@ export class Page {
         this.#setUsable(true);
         const isBare = this.#state.scramble.trim() === "" && parts.length === 0;
         part("choices").hidden = isBare;
-        this.#best.reset(isBare ? null : { now, parts, reached });
         this.#checkList(reached);
         this.#table.begin(this.#cube);
         this.#showKept();
@@ -257,18 +279,33 @@ export class Page {
         this.#writeAddress(false);
     }
 
-    /** Shows the steps that may follow: orientations as soon as they are known, and reductions. @param {number} turn */
-    async #showOffers(turn) {
-        const steps = openSteps(this.#cube.reached);
-        for (const isReduction of [false, true]) {
-            const offers = [];
-            for (const step of steps.filter(({ needs }) => (needs !== null) === isReduction)) {
-                offers.push(await offerOf(this.#calls, step, this.#cube.now));
-                if (turn !== this.#turn) return;
-            }
-            if (offers.length > 0) this.#table.add(offers, this.#cube, this.#state.list);
+    /** Asks for the steps that may follow: orientations, and reductions. @param {Awaited<ReturnType<typeof examine>>} cube */
+    #askOffers({ walk, now }) {
+        const steps = openSteps(walk.reached.at(-1));
+        const groups = [false, true].map((isReduction) => steps.filter(({ needs }) => (needs !== null) === isReduction));
+        return groups.filter((group) => group.length > 0).map((group) => {
+            const offers = Promise.all(group.map((step) => offerOf(this.#calls, step, now)));
+            // what is wrong is said where they are waited for
+            offers.catch(() => {});
+            return offers;
+        });
+    }
+
+    /** Shows the steps that may follow as soon as they are known, and has the best looked for. @param {number} turn */
+    async #showOffers(turn, groups) {
+        let isFirst = true;
+        for (const group of groups.length > 0 ? groups : [[]]) {
+            const offers = await group;
+            if (turn !== this.#turn) return;
+            this.#table.add(offers, this.#cube, this.#state.list);
+            if (isFirst) this.#startBest();
+            isFirst = false;
         }
-        if (steps.length === 0) this.#table.add([], this.#cube, this.#state.list);
+    }
+
+    #startBest() {
+        const { now, reached } = this.#cube;
+        this.#best.reset(part("choices").hidden ? null : { now, parts: this.#state.parts, reached });
     }
 
     #showAnswered() {

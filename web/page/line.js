@@ -6,11 +6,12 @@ import { announce, counted, element, part, spoken, tell } from "./element.js";
 import { showFault } from "./fault.js";
 import { fmcOf } from "./fmc.js";
 import { readByHand } from "./lines.js";
+import { bracketed } from "./parts.js";
 import { plainLine } from "./pasted.js";
-import { bracketed, newlyReached } from "./position.js";
+import { newlyReached } from "./position.js";
 import { isReduced, otherSide, statesOf } from "./steps.js";
 
-/** @typedef {import("./position.js").Part} Part */
+/** @typedef {import("./parts.js").Part} Part */
 /** @typedef {import("./position.js").Walk} Walk */
 /** @typedef {import("./steps.js").Side} Side */
 

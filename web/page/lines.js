@@ -2,11 +2,11 @@
 // the end of a line; there they are left out, so that each letter names the same face in all that follows.
 import { EngineFault } from "./answers.js";
 import { cleanAll, joinAll } from "./engine.js";
+import { bracketed } from "./parts.js";
 import { plainLine } from "./pasted.js";
-import { bracketed } from "./position.js";
 
 /** @typedef {import("./calls.js").Calls} Calls */
-/** @typedef {import("./position.js").Part} Part */
+/** @typedef {import("./parts.js").Part} Part */
 /** @typedef {import("./steps.js").Side} Side */
 
 export const MOST_MOVES = 256;

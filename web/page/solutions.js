@@ -2,13 +2,13 @@
 import { caseName, farnessOf, sizeOf } from "./cases.js";
 import { announce, announceLater, counted, element, part, setBusy, spoken, tell } from "./element.js";
 import { hasTurns, lastTurn, turnsOf } from "./filter.js";
-import { bracketed } from "./position.js";
+import { bracketed } from "./parts.js";
 import { roveWithin } from "./roving.js";
 import { reductionsAfter, stateOf, stepNamed, titleOf } from "./steps.js";
 import { mergeTwins, withoutEarlier } from "./twins.js";
 
 /** @typedef {import("./address.js").List} List */
-/** @typedef {import("./position.js").Part} Part */
+/** @typedef {import("./parts.js").Part} Part */
 /** @typedef {import("./twins.js").Twins & {letters?: string}} Entry a solution, and the letters after it where they are known */
 
 export const MOST_SHOWN = 200;
@@ -20,7 +20,11 @@ const NOT_MOVES = "The text in the filter is not moves: type face turns such as 
 /** @template Item @param {Item[]} items @param {(item: Item) => string} nameOf @returns {Map<string, Item[]>} */
 function grouped(items, nameOf) {
     const groups = new Map();
-    for (const item of items) groups.set(nameOf(item), [...(groups.get(nameOf(item)) ?? []), item]);
+    for (const item of items) {
+        const name = nameOf(item);
+        if (!groups.has(name)) groups.set(name, []);
+        groups.get(name).push(item);
+    }
     return groups;
 }
 
@@ -167,7 +171,7 @@ export class SolutionList {
 
     /** How far the nearest case of an entry is. @param {Entry} entry */
     #farness(entry) {
-        return Math.min(Infinity, ...this.#casesOf(entry).map(({ name }) => farnessOf(name)));
+        return Math.min(Infinity, ...this.#casesOf(entry).map(({ name }) => farnessOf(sizeOf(name))));
     }
 
     #draw() {
@@ -182,7 +186,7 @@ export class SolutionList {
         }
         const shown = matching.slice(0, MOST_SHOWN);
         const nearest = (entry) => {
-            const names = this.#casesOf(entry).map(({ name }) => name).sort((one, other) => farnessOf(one) - farnessOf(other));
+            const names = this.#casesOf(entry).map(({ name }) => name).sort((one, other) => farnessOf(sizeOf(one)) - farnessOf(sizeOf(other)));
             return names[0] ?? "unknown case";
         };
         const nameOf = byCase ? nearest : ({ length }) => counted(length, "move");

@@ -1,0 +1,83 @@
+// Calls of the engine as promises. The engine runs in a worker, whose script stands in the page, so that the page never waits.
+import { WorkerCalls, listenedTo } from "../module/worker-calls.js";
+
+export { EngineMissing, Stopped } from "../module/faults.js";
+
+/** @typedef {{status: number, out: string, err: string, full: boolean}} Told what the program answers, as texts */
+
+/** How many bytes an answer may have, at first and at most: the page holds it as a text, and as a list. */
+const SHORT_ANSWER = 1_048_576;
+const LONGEST_ANSWER = 33_554_432;
+
+/**
+ * What starts workers of the page, by the text of their script. One is started before it is asked for, since that takes a while.
+ * @param {string} script @returns {(name?: string) => Worker}
+ */
+export function workersOf(script) {
+    const start = (name = "") => {
+        const address = URL.createObjectURL(new Blob([script], { type: "text/javascript" }));
+        const worker = new Worker(address, { name });
+        // not before it was read
+        worker.addEventListener("message", () => URL.revokeObjectURL(address), { once: true });
+        return worker;
+    };
+    let early = null;
+    try {
+        early = start();
+    } catch {
+        // whoever asks for one is told why it can't be started
+    }
+    return (name = "") => {
+        const ready = name === "" ? early : null;
+        if (ready !== null) early = null;
+        return ready ?? start(name);
+    };
+}
+
+/** An engine in a worker of its own, which the first call starts. */
+export class Calls extends WorkerCalls {
+    /** @type {Set<string>} the steps whose tables are built */
+    #ready = new Set();
+    /** @type {string[]} the steps whose tables are still to be built */
+    #unready = [];
+
+    /** @param {(name?: string) => Worker} newWorker @param {import("../module/worker-calls.js").SentModule} module */
+    constructor(newWorker, module) {
+        super(module, listenedTo(() => newWorker()));
+    }
+
+    /** What the program answers to words and input. @param {string[]} words @param {string} input @returns {Promise<Told>} */
+    async tell(words, input) {
+        const short = await this.run(words, input, { room: SHORT_ANSWER });
+        const { status, out, err, full } = short.full ? await this.run(words, input, { room: LONGEST_ANSWER }) : short;
+        const text = new TextDecoder();
+        return { status, full, out: text.decode(out), err: text.decode(err) };
+    }
+
+    /** Has the tables of some steps built before they are needed, one after another, until calls are given up. @param {string[]} steps */
+    async ready(steps) {
+        const unready = steps.filter((name) => !this.#ready.has(name));
+        this.#unready = unready;
+        try {
+            while (unready === this.#unready && unready.length > 0) {
+                const step = unready.shift();
+                await this.count(step, "");
+                this.#ready.add(step);
+            }
+        } catch {
+            // they are built once they are needed
+        }
+    }
+
+    /** Gives up the calls that wait for their turn. */
+    drop() {
+        this.#unready = [];
+        super.drop();
+    }
+
+    /** Gives up all calls: what runs has its worker ended, and the tables with it. */
+    stop() {
+        this.#ready.clear();
+        super.stop();
+    }
+}

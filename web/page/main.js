@@ -1,0 +1,27 @@
+// Starts the page: the worker's script and the engine's module stand in the page itself. The module is compiled once for all workers.
+import { compiled } from "../module/source.js";
+import { Calls, workersOf } from "./calls.js";
+import { part } from "./element.js";
+import { Finder } from "./finder.js";
+import { placeHelp } from "./help.js";
+import { Page } from "./page.js";
+import { offerThemes } from "./theme.js";
+
+const newWorker = workersOf(part("worker-script").textContent);
+const signs = atob(part("engine-module").textContent.trim());
+const bytes = new Uint8Array(signs.length);
+for (let at = 0; at < signs.length; at++) bytes[at] = signs.charCodeAt(at);
+
+/** @param {import("../module/worker-calls.js").SentModule} module */
+function start(module) {
+    const page = new Page({ calls: () => new Calls(newWorker, module), finder: () => new Finder(newWorker, module) });
+    addEventListener("popstate", ({ state }) => page.returnTo(state));
+    addEventListener("hashchange", () => page.begin(location.hash));
+    page.begin(location.hash);
+}
+
+part("unstarted").remove();
+offerThemes();
+placeHelp();
+// if it can't be compiled each worker says why, once it is asked
+compiled(bytes).catch(() => bytes).then(start);

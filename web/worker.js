@@ -1,4 +1,0 @@
-// The script of the page's workers.
-import { serve } from "./module/serve.js";
-
-serve(self);
