@@ -63,6 +63,26 @@ static void solves(const nissy_tables *tables, const search_row *row) {
     let_go(line);
 }
 
+/* A search that its greatest number or its room stops looks no further. From the cube that both F and B disorient: one look in each of the
+   deepenings to 0 and 1; then the one at the root and 13 to F, 13 more to F B and 2 to F B'; 2 to F', 13 to F' B and 2 to F' B'. Below B and
+   B' 27 follow. */
+static void stops_at_once(void) {
+    static const uint64_t LOOKS[] = {29, 31, 46, 48, 75};
+    const search_row *row = &SEARCHES[1];
+    nissy_tables tables = built(row->step);
+    guarded line = copied(row->line, strlen(row->line));
+    for (uint64_t solutions = 0; solutions < sizeof LOOKS / sizeof *LOOKS; solutions++) {
+        uint64_t fitting;
+        guarded out = guard(length_of_first(row->text, solutions, strlen(row->text), &fitting));
+        nissy_solve_answer by_most = nissy_solve(&tables, line.bytes, line.size, row->limit, row->slack, solutions, out.bytes, out.size);
+        nissy_solve_answer by_room = nissy_solve(&tables, line.bytes, line.size, row->limit, row->slack, UINT64_MAX, out.bytes, out.size);
+        holds(by_most.solutions == solutions && by_most.looks == LOOKS[solutions], "where it looked", "a greatest number");
+        holds(by_room.solutions == solutions && by_room.looks == LOOKS[solutions], "where it looked", "a room");
+        let_go(out);
+    }
+    let_go(line);
+}
+
 /* A copy answers as the struct did, also once another step was built into that. */
 static void copies_stay(void) {
     nissy_tables copy = built("eofb");
@@ -250,6 +270,7 @@ int main(int count, char **words) {
         nissy_tables tables = built(SEARCHES[at].step);
         solves(&tables, &SEARCHES[at]);
     }
+    stops_at_once();
     copies_stay();
     refuses_faults();
     refuses_misuse();
