@@ -126,4 +126,23 @@ if ! ls "$made"/*.deb > /dev/null 2>&1; then skips "the Debian packages, which w
         holds "lintian finds no error but that on the copyright" refuses errors
     fi
 fi
+
+# what can't be made
+mkdir "$room/few"
+for tool in bash dirname realpath; do ln -s "$(command -v $tool)" "$room/few"; done
+answers "where there is no debhelper" 69 '' 'there is no dpkg-buildpackage here: install dpkg-dev, debhelper and dh-python\n' \
+    env PATH="$room/few" "$room/source/tools/deb" "$room"
+if [ -e build/nissy.html ]; then
+    fails_to_pack() { printf '#!/bin/sh\necho "there is no npm here" >&2\nexit %s\n' "$1" > tools/npm-package; } # STATUS
+    leaves_out() {
+        fails_to_pack 69 && said=$(tools/dist "$room/less" program) &&
+            grep -qx 'left out: the package for npm, since there is no npm here' <<< "$said" && [ "$(wc -l < "$room/less/SHA256SUMS")" -eq 2 ]
+    }
+    holds "a package whose tool isn't here is left out, and named" leaves_out
+    stops_at() {
+        fails_to_pack 1 && ! said=$(tools/dist "$room/less" program 2>&1) && grep -qx 'there is no npm here' <<< "$said" &&
+            grep -qx "the package for npm can't be made" <<< "$said" && [ ! -e "$room/less/SHA256SUMS" ]
+    }
+    holds "one that can't be made is named, and there are no sums" stops_at
+fi
 ended
