@@ -43,10 +43,14 @@ async function tryRanges(nissy, memory) {
   const longest = " ".repeat(LONGEST_LINE - 1) + "R";
   same("the longest line", nissy.invert(longest), "R'");
   same("the longest line of a search", nissy.solve("eofb", longest), [{ moves: "", length: 0 }]);
+  const size = memory.buffer.byteLength;
   for (const [call, ...given] of [["invert"], ["solve", "eofb"], ["count", "eofb"]]) {
-    const refused = await thrown(() => nissy[call](...given, `${longest} `));
-    same(`${call} of a line of a byte more`, refused, ["RangeError", "a line has more bytes than the engine reads"]);
+    for (const beyond of [`${longest} `, `\u00a0${longest.slice(1)}`, longest.repeat(8), new Uint8Array(8 * LONGEST_LINE)]) {
+      const refused = await thrown(() => nissy[call](...given, beyond));
+      same(`${call} of a line of more bytes`, refused, ["RangeError", "the line has more bytes than the engine reads"]);
+    }
   }
+  same("they take no memory of the module", memory.buffer.byteLength, size);
   same("a call after these", nissy.solve("eofb", "F"), F_OR_ITS_INVERSE);
 }
 
