@@ -7,6 +7,7 @@ import { createContext, runInContext } from "node:vm";
 import { readFileSync } from "node:fs";
 import { Nissy, VERSION } from "../../web/module/nissy.js";
 import { F_OR_ITS_INVERSE, STEPS, tryMany, tryRows, tryWrongValues } from "./called.mjs";
+import { elsewhere } from "./values.mjs";
 import { ended, loaded, moduleBytes, same, text, thrown } from "./tally.mjs";
 
 const LONGEST_LINE = 16_777_216;
@@ -145,6 +146,7 @@ async function trySources() {
     ["shared bytes", shared],
     ["a buffer", bytes.buffer],
     ["a compiled module", compiled],
+    ["a compiled module of another realm", new (runInContext("WebAssembly.Module", elsewhere))(bytes)],
     ["a response", response(200)],
     ["a promise of a response", Promise.resolve(response(200))],
     ["a response of another type", new Response(bytes)],
@@ -154,6 +156,9 @@ async function trySources() {
   const missing = ["Error", "the module can't be had: the request was answered by status 404"];
   same("a response that has none", await thrown(() => Nissy.load(response(404))), missing);
   same("a promise that is broken", await thrown(() => Nissy.load(Promise.reject(new Error("no network")))), ["Error", "no network"]);
+  const [posing, kind] = [{ [Symbol.toStringTag]: "WebAssembly.Module" }, { [Symbol.toStringTag]: "Response" }];
+  same("what says that it is a module", (await thrown(() => Nissy.load(posing)))[0], "TypeError");
+  same("what says that it is a response", (await thrown(() => Nissy.load(kind)))[0], "Error");
   for (const source of [undefined, null, "nissy.wasm", 1, {}, [], new URL("file:///nissy.wasm"), Uint16Array.of(1), { length: 8 }]) {
     const wanted = ["TypeError", "the module is neither bytes nor a WebAssembly.Module nor a Response"];
     same(`no module: ${String(source)}`, await thrown(() => Nissy.load(source)), wanted);
