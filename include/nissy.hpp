@@ -6,6 +6,10 @@
 #ifndef NISSY_HPP
 #define NISSY_HPP
 
+#if __cplusplus < 201703L
+#error "nissy.hpp is for C++17 and later"
+#endif
+
 #include "nissy.h"
 
 #include <algorithm>

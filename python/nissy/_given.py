@@ -5,6 +5,7 @@ import operator
 import sys
 from typing import Iterable, Iterator, Union
 
+# the names of the steps, for tools that read types and no library: what holds at run time is what the library says
 if sys.version_info >= (3, 8):
     from typing import Literal
 

@@ -75,7 +75,7 @@ const MANY = [
   [["countAll", "eofb", new Set(["F"])], "TypeError", "the lines are no array"],
   [["solveAll", "eofb", ["F", 3]], "TypeError", "line 2 is neither a string nor a Uint8Array"],
   [["countAll", "eofb", [, "F"]], "TypeError", "line 1 is neither a string nor a Uint8Array"],
-  [["countAll", "eofb", ["F", BEYOND]], "RangeError", "line 2: a line has more bytes than the engine reads"],
+  [["countAll", "eofb", ["F", BEYOND]], "RangeError", "line 2 has more bytes than the engine reads"],
   [["solveAll", "eofb", ["F", "R q"]], "NissyFault", "line 2, column 3: not a move"],
   [["countAll", "dr-eofb", ["", "R", "F"]], "NissyFault", "line 3: eofb does not hold"],
 ];

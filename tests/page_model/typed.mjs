@@ -7,6 +7,7 @@ import { createContext, runInContext } from "node:vm";
 import { readFileSync } from "node:fs";
 import { Nissy, VERSION } from "../../web/module/nissy.js";
 import { F_OR_ITS_INVERSE, STEPS, tryMany, tryRows, tryWrongValues } from "./called.mjs";
+import { elsewhere } from "./values.mjs";
 import { ended, loaded, moduleBytes, same, text, thrown } from "./tally.mjs";
 
 const LONGEST_LINE = 16_777_216;
@@ -43,10 +44,14 @@ async function tryRanges(nissy, memory) {
   const longest = " ".repeat(LONGEST_LINE - 1) + "R";
   same("the longest line", nissy.invert(longest), "R'");
   same("the longest line of a search", nissy.solve("eofb", longest), [{ moves: "", length: 0 }]);
+  const size = memory.buffer.byteLength;
   for (const [call, ...given] of [["invert"], ["solve", "eofb"], ["count", "eofb"]]) {
-    const refused = await thrown(() => nissy[call](...given, `${longest} `));
-    same(`${call} of a line of a byte more`, refused, ["RangeError", "a line has more bytes than the engine reads"]);
+    for (const beyond of [`${longest} `, `\u00a0${longest.slice(1)}`, longest.repeat(8), new Uint8Array(8 * LONGEST_LINE)]) {
+      const refused = await thrown(() => nissy[call](...given, beyond));
+      same(`${call} of a line of more bytes`, refused, ["RangeError", "the line has more bytes than the engine reads"]);
+    }
   }
+  same("they take no memory of the module", memory.buffer.byteLength, size);
   same("a call after these", nissy.solve("eofb", "F"), F_OR_ITS_INVERSE);
 }
 
@@ -141,6 +146,7 @@ async function trySources() {
     ["shared bytes", shared],
     ["a buffer", bytes.buffer],
     ["a compiled module", compiled],
+    ["a compiled module of another realm", new (runInContext("WebAssembly.Module", elsewhere))(bytes)],
     ["a response", response(200)],
     ["a promise of a response", Promise.resolve(response(200))],
     ["a response of another type", new Response(bytes)],
@@ -150,6 +156,9 @@ async function trySources() {
   const missing = ["Error", "the module can't be had: the request was answered by status 404"];
   same("a response that has none", await thrown(() => Nissy.load(response(404))), missing);
   same("a promise that is broken", await thrown(() => Nissy.load(Promise.reject(new Error("no network")))), ["Error", "no network"]);
+  const [posing, kind] = [{ [Symbol.toStringTag]: "WebAssembly.Module" }, { [Symbol.toStringTag]: "Response" }];
+  same("what says that it is a module", (await thrown(() => Nissy.load(posing)))[0], "TypeError");
+  same("what says that it is a response", (await thrown(() => Nissy.load(kind)))[0], "Error");
   for (const source of [undefined, null, "nissy.wasm", 1, {}, [], new URL("file:///nissy.wasm"), Uint16Array.of(1), { length: 8 }]) {
     const wanted = ["TypeError", "the module is neither bytes nor a WebAssembly.Module nor a Response"];
     same(`no module: ${String(source)}`, await thrown(() => Nissy.load(source)), wanted);

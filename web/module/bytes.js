@@ -2,6 +2,9 @@
 
 /** @typedef {string | Uint8Array} Text */
 
+/** The most bytes of a line or of an input. */
+export const MOST_INPUT = 16_777_216;
+
 /** A zero byte ends each word. */
 const END = 0;
 
@@ -40,12 +43,20 @@ export function bytesOf(text, what) {
 }
 
 /**
- * A line as it is handed on: a short string, or bytes of which nobody else has any.
+ * A line as it is handed on: a short string, or bytes of which nobody else has any. One of too many bytes is refused here, since the module's
+ * memory keeps the size that it once had.
  * @param {unknown} line
  * @param {string} what it is, for the error
  * @returns {Text}
  */
-export const takenLine = (line, what) => (typeof line === "string" && line.length <= SHORT ? line : bytesOf(line, what));
+export function takenLine(line, what) {
+  const isString = typeof line === "string";
+  if (isString && line.length <= SHORT) return line;
+  // a unit of a string takes a byte at least
+  const bytes = isString && line.length > MOST_INPUT ? null : bytesOf(line, what);
+  if (bytes === null || bytes.length > MOST_INPUT) throw new RangeError(`${what} has more bytes than the engine reads`);
+  return bytes;
+}
 
 /**
  * @param {Text} line

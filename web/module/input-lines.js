@@ -1,5 +1,6 @@
 // The lines of the command's input, answered as they come.
-import { MOST_BYTES, Stop } from "./stop.js";
+import { MOST_INPUT } from "./bytes.js";
+import { Stop } from "./stop.js";
 
 /** At most so many bytes are read before their lines are answered. */
 const BLOCK = 4_096;
@@ -80,7 +81,7 @@ export class InputLines {
    */
   answer(answer) {
     const buffer = new Uint8Array(BLOCK);
-    let left = MOST_BYTES;
+    let left = MOST_INPUT;
     for (let count = this.#read(buffer); count > 0; count = this.#read(buffer)) {
       const block = buffer.subarray(0, Math.min(count, left));
       this.#take(block, answer);

@@ -43,7 +43,7 @@ export const STATUS = { done: 0, fault: 1, usage: 2, stopped: 3, room: 4 };
  */
 function refuse({ status, column, text = "", step, start }) {
   if (status === STATUS.done) return;
-  if (status === STATUS.stopped) throw new RangeError("a line has more bytes than the engine reads");
+  if (status === STATUS.stopped) throw new RangeError("the line has more bytes than the engine reads");
   if (status === STATUS.room) throw new RangeError("there are more solutions than there is room for: ask for fewer");
   if (status !== STATUS.fault) throw new Error(`the engine refused the call with status ${status}`);
   if (start === undefined) throw new NissyFault(text, column);

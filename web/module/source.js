@@ -8,6 +8,18 @@ import { NoWebAssembly } from "./faults.js";
  */
 
 /**
+ * The kind of an object by its own name for it, which is the same in each realm: there are as many classes of a name as realms.
+ * @param {unknown} value
+ */
+const tagOf = (value) => Object.prototype.toString.call(value).slice("[object ".length, -1);
+
+/** @param {Response} response */
+function bodyOf(response) {
+  if (!response.ok) throw new Error(`the module can't be had: the request was answered by status ${response.status}`);
+  return response.arrayBuffer();
+}
+
+/**
  * The module, compiled. Rejects with `NoWebAssembly` if the host runs none.
  * @param {ModuleSource | Promise<ModuleSource>} source
  * @returns {Promise<WebAssembly.Module>}
@@ -15,12 +27,15 @@ import { NoWebAssembly } from "./faults.js";
 export async function compiled(source) {
   if (!globalThis.WebAssembly) throw new NoWebAssembly();
   const given = await source;
-  if (given instanceof WebAssembly.Module) return given;
-  if (typeof Response === "function" && given instanceof Response) {
-    if (!given.ok) throw new Error(`the module can't be had: the request was answered by status ${given.status}`);
-    return WebAssembly.compile(await given.arrayBuffer());
-  }
   if (isBytes(given)) return WebAssembly.compile(new Uint8Array(given));
-  if (Object.prototype.toString.call(given) === "[object ArrayBuffer]") return WebAssembly.compile(/** @type {ArrayBuffer} */ (given));
-  throw new TypeError("the module is neither bytes nor a WebAssembly.Module nor a Response");
+  switch (tagOf(given)) {
+    case "WebAssembly.Module":
+      return /** @type {WebAssembly.Module} */ (given);
+    case "ArrayBuffer":
+      return WebAssembly.compile(/** @type {ArrayBuffer} */ (given));
+    case "Response":
+      return WebAssembly.compile(await bodyOf(/** @type {Response} */ (given)));
+    default:
+      throw new TypeError("the module is neither bytes nor a WebAssembly.Module nor a Response");
+  }
 }

@@ -1,10 +1,8 @@
 // What ends the command before its time: a status, and what is said of it.
+import { MOST_INPUT } from "./bytes.js";
 import { STATUS } from "./replies.js";
 
 /** @typedef {import("./replies.js").Outcome} Outcome */
-
-/** The most bytes of input. */
-export const MOST_BYTES = 16_777_216;
 
 export class Stop extends Error {
   /**
@@ -30,7 +28,7 @@ export class Stop extends Error {
   }
 
   static tooLong() {
-    return new Stop(STATUS.stopped, `nissy: input longer than ${MOST_BYTES} bytes\n`);
+    return new Stop(STATUS.stopped, `nissy: input longer than ${MOST_INPUT} bytes\n`);
   }
 
   /**
