@@ -1,6 +1,7 @@
 """A Chromium that shows the page, and what the tests ask of it."""
 import json
 import time
+from typing import Any
 
 from selenium import webdriver
 from selenium.webdriver.chrome.service import Service
@@ -21,6 +22,10 @@ BEST = "return document.querySelector('#best[aria-busy=true]') === null"
 class Browser:
     """One window with the page."""
 
+    # the built program, and the page as a browser has it that runs no WebAssembly
+    program = ""
+    page_without_engine = ""
+
     def __init__(self, page: str, width: int = 1280, height: int = 1000, colours: str = "light") -> None:
         options = webdriver.ChromeOptions()
         for word in ("--headless=new", "--no-sandbox", "--disable-dev-shm-usage", f"--window-size={width},{height}"):
@@ -37,7 +42,7 @@ class Browser:
     def __exit__(self, *_: object) -> None:
         self.driver.quit()
 
-    def command(self, name: str, **words: object) -> dict:
+    def command(self, name: str, **words: object) -> dict[str, Any]:
         """A command of the browser's own protocol."""
         return self.driver.execute_cdp_cmd(name, words)
 
@@ -47,7 +52,7 @@ class Browser:
         self.driver.get(self.page + address)
         self.wait()
 
-    def script(self, text: str, *words: object) -> object:
+    def script(self, text: str, *words: object) -> Any:
         """What a script answers."""
         return self.driver.execute_script(text, *words)
 

@@ -3,8 +3,8 @@
 
     tests/page/drive.py PAGE PROGRAM [PART..]
 
-PAGE is the joined file, PROGRAM the built nissy, and a PART one of keyboard, faults, addresses, searches, turned, steps and looks; all where none is
-named. The last line is `N passed, M failed`, and the status is 1 where M isn't 0.
+PAGE is the joined file, PROGRAM the built nissy, and a PART one of keyboard, faults, addresses, searches, at_once, turned, steps and looks; all
+where none is named. The last line is `N passed, M failed`, and the status is 1 where M isn't 0.
 """
 import shutil
 import subprocess
@@ -13,6 +13,7 @@ import tempfile
 from pathlib import Path
 
 import addresses
+import at_once
 import faults
 import keyboard
 import looks
@@ -23,7 +24,7 @@ from browser import Browser
 from selenium.common.exceptions import WebDriverException
 from tally import Tally
 
-PARTS = (keyboard, faults, addresses, searches, turned, steps, looks)
+PARTS = (keyboard, faults, addresses, searches, at_once, turned, steps, looks)
 
 TOP = Path(__file__).resolve().parent.parent.parent
 NO_ENGINE = "globalThis.WebAssembly = undefined;\n"

@@ -178,6 +178,7 @@ def is_told_apart(tally: Tally, browser: Browser) -> None:
 def shows_focus(tally: Tally, browser: Browser) -> None:
     """Each stop of the Tab key has a line around it, none is missed, and the key isn't caught."""
     browser.open(ADDRESS)
+    browser.script("document.getElementById('list-filters').open = true")
     outline = "const own = getComputedStyle(document.activeElement); return [own.outlineStyle, parseFloat(own.outlineWidth)]"
     stops = []
     for _ in range(80):

@@ -6,6 +6,7 @@ import { announce, counted, element, part, setBusy, spoken, tell } from "./eleme
 import { bracketed } from "./parts.js";
 import { roveWithin } from "./roving.js";
 import { SIDES, isReduced } from "./steps.js";
+import { isNarrow } from "./view.js";
 
 /** @typedef {import("./continuations.js").Row} Row */
 /** @typedef {import("./continuations.js").Question} Question */
@@ -14,12 +15,11 @@ import { SIDES, isReduced } from "./steps.js";
 const LOOKING_FOR_BEST = "Looking for the best …";
 /** How many rows are shown at first: where the page is narrow fewer, so that the table below them is seen. */
 const SHOWN_FIRST = { narrow: 3, wide: 8 };
-const NARROW_PAGE = "(max-width: 37.5rem)";
 const SHOWN_MORE = 40;
 /** Of how many searches what was found is kept. */
 const MOST_KEPT_SEARCHES = 8;
 
-const shownFirst = () => (matchMedia(NARROW_PAGE).matches ? SHOWN_FIRST.narrow : SHOWN_FIRST.wide);
+const shownFirst = () => (isNarrow() ? SHOWN_FIRST.narrow : SHOWN_FIRST.wide);
 
 /** What a search is known by. @param {Question} question */
 const nameOfSearch = ({ now, slack, isAll }) => [now.normal, now.inverse, slack, isAll].join("/");
@@ -36,13 +36,13 @@ export class BestContinuations {
     #question = null;
     #progress = null;
     #found = new Map();
-    #seen = new Set();
     #shown = shownFirst();
     #body = part("best-body");
 
     /**
      * @param {import("./finder.js").Finder[]} finders of its own, one an axis
-     * @param {{goOn: (row: Row) => void, star: (part: Part) => void, isStarred: (part: Part) => boolean, shown: () => void}} acts
+     * @param {{goOn: (row: Row) => void, star: (part: Part) => void, isStarred: (part: Part) => boolean,
+     *     isSeen: (part: Part, next?: string) => boolean, shown: () => void}} acts
      */
     constructor(finders, acts) {
         this.#finders = finders;
@@ -222,7 +222,7 @@ export class BestContinuations {
     #row(row) {
         const { total, part: added, state, next, others, key } = row;
         const line = added.moves === "" ? "no moves" : bracketed([added]);
-        const isSeen = this.#seen.has(key);
+        const isSeen = this.#acts.isSeen(added, next?.step);
         const all = Number.isFinite(total) ? String(total) : "–";
         const take = element("button", {
             type: "button",
@@ -230,7 +230,7 @@ export class BestContinuations {
             tabindex: -1,
             "data-key": key,
             "aria-label": `${spoken(line)}${isSeen ? ", seen" : ""}`,
-            click: () => this.#take(row),
+            click: () => this.#acts.goOn(row),
         }, line);
         const either = others.length === 1 ? others[0] : `${others.length} twins`;
         const twin = others.length === 0 ? [] : [element("small", { class: "twins" }, ` or ${either}`)];
@@ -256,10 +256,5 @@ export class BestContinuations {
         const isBest = lengths[side] !== null && lengths[side] === lengths[best];
         const about = { class: isBest ? "best number" : "number", "data-side": side === "normal" ? "N" : "I" };
         return cell("td", about, lengths[side] === null ? "–" : String(lengths[side]));
-    }
-
-    #take(row) {
-        this.#seen.add(row.key);
-        this.#acts.goOn(row);
     }
 }

@@ -12,7 +12,17 @@ import { ORIENTATIONS, isReduced, reductionsAfter, statesOf } from "./steps.js";
 /** @typedef {import("./position.js").Walk} Walk */
 
 /** What a candidate is known by. @param {Part[]} parts */
-export const nameOfCandidate = (parts) => bracketed(parts);
+const nameOfCandidate = (parts) => bracketed(parts);
+
+/**
+ * What is kept once a line is starred, or no longer if it was, and whether it is.
+ * @param {Candidate[]} candidates @param {Part[]} parts @returns {{kept: Candidate[], isKept: boolean}}
+ */
+export function withStar(candidates, parts) {
+    const others = candidates.filter((each) => nameOfCandidate(each.parts) !== nameOfCandidate(parts));
+    const isKept = others.length === candidates.length;
+    return { kept: isKept ? [...others, { parts, note: "" }] : others, isKept };
+}
 
 /** How far a candidate has come: 2 with a reduction, 1 with an orientation. @param {Walk} walk */
 function stageOf({ reached }) {

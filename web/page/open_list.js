@@ -16,11 +16,6 @@ export class OpenList {
         part("solutions-stop").addEventListener("click", () => calls.stop());
     }
 
-    /** Has the tables of some steps built before their lists are asked for. @param {string[]} steps */
-    ready(steps) {
-        this.#calls.ready(steps);
-    }
-
     /**
      * Shows a list, or that none is open; one that is shown already stays. Says whether it is shown in the end.
      * @param {string} name what tells it from others @param {import("./address.js").List | null} list @param {string} line of the cube on its side

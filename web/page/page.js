@@ -6,30 +6,27 @@ import { EngineMissing, Stopped } from "./calls.js";
 import { copy } from "./copying.js";
 import { Cube } from "./cube.js";
 import { announce, announceLater, part, setBusy, spoken, tell } from "./element.js";
-import { KeptCandidates, nameOfCandidate } from "./kept.js";
+import { KeptCandidates, withStar } from "./kept.js";
 import { listenToKeys, star } from "./keys.js";
 import { LineSoFar } from "./line.js";
 import { readAllByHand, readScramble, readSteps } from "./lines.js";
 import { OpenList } from "./open_list.js";
 import { bracketed } from "./parts.js";
 import { plainLine } from "./pasted.js";
-import { goTo, keepPlace, placeIn, writeAddress } from "./places.js";
-import { examine, framesOf, offerOf, walkAll } from "./position.js";
+import { dropAddress, goTo, keepPlace, placeIn, writeAddress } from "./places.js";
+import { examine, framesOf, offersOf, walkAll } from "./position.js";
+import { Readiness } from "./readiness.js";
 import { ScrambleField } from "./scramble.js";
+import { Seen } from "./seen.js";
 import { SolutionList } from "./solutions.js";
-import { ORIENTATIONS, REDUCTIONS, isReduced, openSteps, reductionsAfter, stateOf, stepNamed } from "./steps.js";
+import { ORIENTATIONS, isReduced, stateOf, stepNamed } from "./steps.js";
 import { StepTable } from "./table.js";
-import { keepInView, showStart } from "./view.js";
-import { titleOfPage, unanswered, whyNotListed } from "./words.js";
+import { keepInView, setUsable, showStart } from "./view.js";
+import { NO_ROOM, titleOfPage, unanswered, whyNotListed } from "./words.js";
 
 /** @typedef {import("./address.js").State} State */
 /** @typedef {import("./parts.js").Part} Part */
 /** @typedef {import("./steps.js").Side} Side */
-
-const AGAIN_AFTER = 1000;
-const NO_ROOM = "No more lines can be kept: the address of the page has no room for them.";
-/** How long nothing is asked before tables are built that may be needed next. */
-const REST = 150;
 
 export class Page {
     /** @type {State} */
@@ -38,7 +35,6 @@ export class Page {
     #cube = null;
     #openList;
     #isReading = false;
-    #writing = 0;
     /** @type {{to: "list" | "table", from: Element} | null} where the focus is to go, and from where */
     #focusNext = null;
     /** @type {import("./places.js").Place | null} where Back leads to */
@@ -46,8 +42,8 @@ export class Page {
     #calls;
     #keptCalls;
     #byHand;
-    #finders;
-    #resting = 0;
+    #readiness;
+    #seen = new Seen();
     #nets = new Cube();
     #scramble;
     #line;
@@ -68,6 +64,7 @@ export class Page {
         const stars = {
             star: (added) => this.#star([...this.#state.parts, added]),
             isStarred: (added) => this.#kept.has([...this.#state.parts, added]),
+            isSeen: (added, next) => this.#seen.has(this.#state.scramble, [...this.#state.parts, added], next),
         };
         this.#kept = new KeptCandidates({ goOn: (parts) => this.#change({ parts }, "table"), change: (kept) => this.#change({ kept }) });
         this.#list = new SolutionList({
@@ -76,9 +73,10 @@ export class Page {
             change: (change) => this.#changeList(change),
             copy,
         });
-        this.#openList = new OpenList(newCalls(), this.#list);
-        this.#finders = ORIENTATIONS.map(finder);
-        this.#best = new BestContinuations(this.#finders, { ...stars, goOn: (row) => this.#goOn(row), shown: () => this.#goBack() });
+        const [list, finders] = [newCalls(), ORIENTATIONS.map(finder)];
+        this.#openList = new OpenList(list, this.#list);
+        this.#readiness = new Readiness({ calls: this.#calls, byHand: this.#byHand, list, finders });
+        this.#best = new BestContinuations(finders, { ...stars, goOn: (row) => this.#goOn(row), shown: () => this.#goBack() });
         keepInView(part("side-column"));
         part("copy-link").addEventListener("click", (event) => copy(location.href, event.currentTarget));
         part("skip").addEventListener("click", () => this.#table.focus());
@@ -93,7 +91,7 @@ export class Page {
             i: () => this.#line.turn("inverse"),
             u: () => this.#line.undoStep(),
             s: () => star(() => this.#star(this.#state.parts)),
-            "/": () => (this.#state.list ? part("filter") : part("scramble")).focus(),
+            "/": () => (this.#state.list ? this.#list.focusFilter() : part("scramble").focus()),
             Escape: () => this.#state.list && this.#changeList(null),
         });
     }
@@ -109,7 +107,7 @@ export class Page {
         const { state, fault } = readAddress(hash);
         this.#isReading = true;
         this.#focusNext = null;
-        clearTimeout(this.#writing);
+        dropAddress();
         setBusy("results", true);
         tell(part("alert"), fault);
         try {
@@ -130,7 +128,7 @@ export class Page {
     #showUnread({ scramble, parts }, fault) {
         this.#scramble.show(scramble);
         this.#line.show(parts);
-        this.#setUsable(false);
+        setUsable(false);
         this.#refuse(fault);
     }
 
@@ -156,12 +154,10 @@ export class Page {
         if ("kept" in change) this.#showKept();
     }
 
-    /** Puts the state into the address; a moment later where the browser has it done too often. @param {boolean} isStep */
+    /** Puts the state into the address and the title. @param {boolean} isStep */
     #writeAddress(isStep) {
-        clearTimeout(this.#writing);
-        const address = addressOf(this.#state);
         document.title = titleOfPage(this.#state);
-        if (!writeAddress(address, isStep)) this.#writing = setTimeout(() => this.#writeAddress(isStep), AGAIN_AFTER);
+        writeAddress(addressOf(this.#state), isStep);
     }
 
     /** @param {string} scramble @param {boolean} isNew @param {import("./scramble.js").Fmc | null} fmc */
@@ -187,7 +183,7 @@ export class Page {
         this.#isReading = false;
         this.#cube = null;
         document.title = titleOfPage(this.#state);
-        clearTimeout(this.#resting);
+        this.#readiness.stop();
         this.#calls.drop();
         this.#nets.stop();
         this.#line.show(this.#state.parts);
@@ -212,27 +208,12 @@ export class Page {
         const cube = await examine(this.#calls, read.line, this.#state.parts);
         if (turn !== this.#turn) return;
         // the engine counts while the cube is drawn
-        const groups = this.#askOffers(cube);
+        const groups = offersOf(this.#calls, cube.walk.reached.at(-1), cube.now);
         this.#showCube(read, cube);
         await this.#showOffers(turn, groups);
         if (turn !== this.#turn) return;
         this.#showAnswered();
-        this.#resting = setTimeout(() => this.#getReady(), REST);
-    }
-
-    /** Has the workers start, and build the tables that may be needed next, while nothing else is asked. */
-    async #getReady() {
-        if (this.#best.isWorking()) {
-            this.#resting = setTimeout(() => this.#getReady(), REST);
-            return;
-        }
-        const { reached } = this.#cube;
-        const isBare = part("choices").hidden;
-        this.#byHand.ready(["eofb"]);
-        this.#openList.ready(openSteps(reached).map(({ name }) => name));
-        // else they look for the best, and have them
-        if (isBare) ORIENTATIONS.forEach(({ name }, at) => this.#finders[at].ready([name, ...reductionsAfter(name).map((step) => step.name)]));
-        await this.#calls.ready([...ORIENTATIONS, ...REDUCTIONS].map(({ name }) => name));
+        this.#readiness.begin(this.#cube.reached, part("choices").hidden, () => this.#best.isWorking());
     }
 
     /** The scramble as it is read, or null where it is at fault or overtaken. @param {number} turn */
@@ -248,7 +229,7 @@ export class Page {
         if (turn !== this.#turn) return null;
         this.#scramble.judge(fault, read);
         part("welcome").hidden = this.#state.scramble.trim() !== "" || this.#state.parts.length > 0;
-        if (fault) this.#setUsable(false);
+        if (fault) setUsable(false);
         return read;
     }
 
@@ -261,7 +242,7 @@ export class Page {
         const count = parts.reduce((sum, { moves }) => sum + moves.split(" ").length, 0);
         this.#nets.show(letters, count, () => framesOf(this.#byHand, scramble, parts));
         this.#line.describe(walk, whole, written);
-        this.#setUsable(true);
+        setUsable(true);
         const isBare = this.#state.scramble.trim() === "" && parts.length === 0;
         part("choices").hidden = isBare;
         this.#checkList(reached);
@@ -277,18 +258,6 @@ export class Page {
         tell(part("alert"), why);
         this.#state = { ...this.#state, list: null };
         this.#writeAddress(false);
-    }
-
-    /** Asks for the steps that may follow: orientations, and reductions. @param {Awaited<ReturnType<typeof examine>>} cube */
-    #askOffers({ walk, now }) {
-        const steps = openSteps(walk.reached.at(-1));
-        const groups = [false, true].map((isReduction) => steps.filter(({ needs }) => (needs !== null) === isReduction));
-        return groups.filter((group) => group.length > 0).map((group) => {
-            const offers = Promise.all(group.map((step) => offerOf(this.#calls, step, now)));
-            // what is wrong is said where they are waited for
-            offers.catch(() => {});
-            return offers;
-        });
     }
 
     /** Shows the steps that may follow as soon as they are known, and has the best looked for. @param {number} turn */
@@ -378,16 +347,13 @@ export class Page {
 
     /** Keeps a line, or takes it away where it is kept. @param {Part[]} parts */
     #star(parts) {
-        const name = nameOfCandidate(parts);
-        const others = this.#state.kept.filter((each) => nameOfCandidate(each.parts) !== name);
-        const isKept = others.length < this.#state.kept.length;
-        const kept = isKept ? others : [...others, { parts, note: "" }];
+        const { kept, isKept } = withStar(this.#state.kept, parts);
         if (kept.length > MOST_CANDIDATES || !fitsAddress({ ...this.#state, kept })) {
             tell(part("alert"), NO_ROOM);
             return;
         }
         this.#change({ kept });
-        announce(`${spoken(name) || "No moves"}: ${isKept ? "no longer kept" : "kept"}.`);
+        announce(`${spoken(bracketed(parts)) || "No moves"}: ${isKept ? "kept" : "no longer kept"}.`);
     }
 
     /** Opens a list, or closes it where it is open. @param {string} step @param {Side} side */
@@ -408,21 +374,19 @@ export class Page {
 
     /** @param {Part} taken */
     #take(taken) {
-        this.#change({ parts: [...this.#state.parts, taken], side: taken.side }, "table");
+        const { scramble, parts } = this.#state;
+        this.#seen.add(scramble, [...parts, taken]);
+        this.#change({ parts: [...parts, taken], side: taken.side }, "table");
         announce(`${spoken(bracketed([taken]))} is taken.`);
     }
 
     /** Takes a row of the best, and opens the list of the reduction that follows. @param {import("./continuations.js").Row} row */
     #goOn({ part: taken, next }) {
         if (!next) return this.#take(taken);
-        const { parts } = this.#state;
+        const { scramble, parts } = this.#state;
+        this.#seen.add(scramble, [...parts, taken], next.step);
         const list = { step: next.step, side: next.side, slack: 0, isAll: false };
         this.#change({ parts: taken.moves === "" ? parts : [...parts, taken], side: next.side, list }, "list");
-    }
-
-    /** Makes what rests on a readable scramble usable or not. @param {boolean} usable */
-    #setUsable(usable) {
-        for (const name of ["line", "results", "kept", "cube"]) part(name).inert = !usable;
     }
 
     /** Says why there is no answer. @param {Error} fault */
@@ -430,7 +394,6 @@ export class Page {
         if (fault instanceof Stopped) return;
         setBusy("results", false);
         part("results").inert = true;
-        if (fault instanceof EngineMissing) tell(part("alert"), `The engine can't start here. ${fault.message}`);
-        else tell(part("alert"), unanswered(fault));
+        tell(part("alert"), fault instanceof EngineMissing ? `The engine can't start here. ${fault.message}` : unanswered(fault));
     }
 }

@@ -20,8 +20,18 @@ export function keepPlace() {
     }
 }
 
-/** Puts an address into the history, a step as an entry of its own, and says whether it is there. @param {string} address @param {boolean} isStep */
+const AGAIN_AFTER = 1000;
+let writing = 0;
+
+/** Gives up an address that is still to be written. */
+export const dropAddress = () => clearTimeout(writing);
+
+/**
+ * Puts an address into the history, a step as an entry of its own; a moment later where the browser has it done too often.
+ * @param {string} address @param {boolean} isStep
+ */
 export function writeAddress(address, isStep) {
+    dropAddress();
     const isWritten = () => address === (location.hash || "#");
     try {
         // what may be missed later can be had back by the browser
@@ -30,7 +40,7 @@ export function writeAddress(address, isStep) {
     } catch {
         // some browsers throw where it is done too often, others do nothing
     }
-    return isWritten();
+    if (!isWritten()) writing = setTimeout(writeAddress, AGAIN_AFTER, address, isStep);
 }
 
 /** Goes back to a place. @param {Place} place @param {HTMLElement | null} found what has the focus there */

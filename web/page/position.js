@@ -2,7 +2,7 @@
 import { caseName, badEdges, reachedBy } from "./cases.js";
 import { countAll, invertAll, joinAll, printAll, turnsOfAll } from "./engine.js";
 import { bracketed, joined, movesOn } from "./parts.js";
-import { statesOf } from "./steps.js";
+import { openSteps, statesOf } from "./steps.js";
 
 /** @typedef {import("./steps.js").Side} Side */
 /** @typedef {import("./parts.js").Part} Part */
@@ -93,9 +93,24 @@ export async function framesOf(calls, scramble, parts) {
  * A step with its counts on both sides.
  * @param {import("./calls.js").Calls} calls @param {import("./steps.js").OfferedStep} step @param {Lines} now @returns {Promise<Offer>}
  */
-export async function offerOf(calls, step, now) {
+async function offerOf(calls, step, now) {
     const [normal, inverse] = await countAll(calls, step.name, [now.normal, now.inverse]);
     return { step, normal, inverse };
+}
+
+/**
+ * Asks for the steps that may follow, each with its counts on both sides: orientations, and then reductions, where there are some.
+ * @param {import("./calls.js").Calls} calls @param {string[]} reached @param {Lines} now @returns {Promise<Offer[]>[]}
+ */
+export function offersOf(calls, reached, now) {
+    const steps = openSteps(reached);
+    const groups = [false, true].map((isReduction) => steps.filter(({ needs }) => (needs !== null) === isReduction));
+    return groups.filter((group) => group.length > 0).map((group) => {
+        const offers = Promise.all(group.map((step) => offerOf(calls, step, now)));
+        // what is wrong is said where they are waited for
+        offers.catch(() => {});
+        return offers;
+    });
 }
 
 /** What solvers choose a step by: bad edges, or the case. @param {string} letters @param {import("./steps.js").OfferedStep} step */

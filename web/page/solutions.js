@@ -6,6 +6,7 @@ import { bracketed } from "./parts.js";
 import { roveWithin } from "./roving.js";
 import { reductionsAfter, stateOf, stepNamed, titleOf } from "./steps.js";
 import { mergeTwins, withoutEarlier } from "./twins.js";
+import { isNarrow } from "./view.js";
 
 /** @typedef {import("./address.js").List} List */
 /** @typedef {import("./parts.js").Part} Part */
@@ -35,12 +36,14 @@ export class SolutionList {
     #left = [];
     #entries = [];
     #whole = true;
+    #ordered = [];
+    #shown = MOST_SHOWN;
     #filter = part("filter");
     #groups = part("solutions-groups");
 
     /**
      * @param {{take: (part: Part) => void, change: (change: Partial<List> | null) => void, star: (part: Part) => void,
-     *     isStarred: (part: Part) => boolean, copy: (text: string, button: HTMLElement) => void}} acts
+     *     isStarred: (part: Part) => boolean, isSeen: (part: Part) => boolean, copy: (text: string, button: HTMLElement) => void}} acts
      */
     constructor(acts) {
         this.#acts = acts;
@@ -48,8 +51,11 @@ export class SolutionList {
         part("slack").addEventListener("change", (event) => acts.change({ slack: Number(event.target.value) }));
         part("twins").addEventListener("change", (event) => acts.change({ isAll: event.target.checked }));
         part("solutions-close").addEventListener("click", () => acts.change(null));
-        for (const name of ["last-turn", "most-corners", "most-edges", "list-sort"]) part(name).addEventListener("change", () => this.#draw());
+        for (const name of ["last-turn", "most-corners", "most-edges", "list-sort"]) part(name).addEventListener("change", () => this.#filtered());
+        part("solutions-more").addEventListener("click", () => this.#more());
         roveWithin(this.#groups, ".take");
+        // so that rows are seen below them
+        part("list-filters").open = !isNarrow();
     }
 
     /** Shows that a list is looked for, or that none is open. @param {List | null} list */
@@ -59,6 +65,8 @@ export class SolutionList {
         if (!isSame) this.#clearFilters();
         this.#list = list;
         this.#all = null;
+        this.#shown = MOST_SHOWN;
+        part("solutions-more").hidden = true;
         announceLater("");
         this.#groups.replaceChildren();
         part("solutions").hidden = list === null;
@@ -107,12 +115,23 @@ export class SolutionList {
         announce(text);
     }
 
+    /** Puts the focus on the field of the filter, also where the filters are folded. */
+    focusFilter() {
+        part("list-filters").open = true;
+        this.#filter.focus();
+    }
+
     focus() {
         (this.#groups.querySelector(".take") ?? part("solutions-heading")).focus();
     }
 
-    /** The button of some moves, or null. @param {string} key */
+    /** Makes the row of some moves seen, and answers its button, or null. @param {string} key */
     reveal(key) {
+        const at = this.#all === null ? -1 : this.#ordered.findIndex(({ moves }) => moves === key);
+        if (at >= this.#shown) {
+            this.#shown = at + 1;
+            this.#draw();
+        }
         return [...this.#groups.querySelectorAll(".take")].find(({ dataset }) => dataset.key === key) ?? null;
     }
 
@@ -144,9 +163,23 @@ export class SolutionList {
         field.value = turns.includes(chosen) ? chosen : "";
     }
 
-    /** Shows what the filter leaves, and says it once nothing more is typed. */
-    #typed() {
+    /** Shows what the filters leave, from its beginning. */
+    #filtered() {
+        this.#shown = MOST_SHOWN;
         this.#draw();
+    }
+
+    /** Shows more rows, and goes to the first of them. */
+    #more() {
+        const next = this.#ordered[this.#shown];
+        this.#shown += MOST_SHOWN;
+        this.#draw();
+        this.reveal(next.moves)?.focus();
+    }
+
+    /** The same once nothing more is typed, and says it. */
+    #typed() {
+        this.#filtered();
         if (this.#all !== null) announceLater(part("solutions-note").textContent);
     }
 
@@ -184,7 +217,9 @@ export class SolutionList {
             const far = new Map(matching.map((entry) => [entry, this.#farness(entry)]));
             matching.sort((one, other) => far.get(one) - far.get(other) || one.length - other.length);
         }
-        const shown = matching.slice(0, MOST_SHOWN);
+        this.#ordered = matching;
+        const shown = matching.slice(0, this.#shown);
+        part("solutions-more").hidden = shown.length === matching.length;
         const nearest = (entry) => {
             const names = this.#casesOf(entry).map(({ name }) => name).sort((one, other) => farnessOf(sizeOf(one)) - farnessOf(sizeOf(other)));
             return names[0] ?? "unknown case";
@@ -211,7 +246,7 @@ export class SolutionList {
         if (earlier > 0) sentences.push(`${earlier.toLocaleString("en")} that reach it before their last move are left out.`);
         if (twins > 0) sentences.push(`${twins.toLocaleString("en")} twins stand beside theirs: ${counted(this.#entries.length, "row")}.`);
         if (matching < this.#entries.length) sentences.push(`${counted(matching, "row")} ${matching === 1 ? "matches" : "match"}.`);
-        if (shown < matching) sentences.push(`The first ${shown} are shown: type moves to narrow the list.`);
+        if (shown < matching) sentences.push(`The first ${shown.toLocaleString("en")} are shown: type moves to narrow the list.`);
         if (!this.#whole) sentences.push("There are more than the page has room for.");
         return sentences.join(" ");
     }
@@ -240,6 +275,7 @@ export class SolutionList {
         const text = this.#textOf(entry);
         const added = this.#partOf(moves);
         const starred = this.#acts.isStarred(added);
+        const isSeen = this.#acts.isSeen(added);
         const cases = this.#casesOf(entry).map(({ axis, name, state }) =>
             element("span", { class: "case", "data-marks": state }, `${axis} ${name}`));
         const twins = others.length === 0 ? [] : [element("small", { class: "twins" }, `or ${others.join(", ")}`)];
@@ -248,14 +284,14 @@ export class SolutionList {
         return element("li", {},
             element("button", {
                 type: "button",
-                class: "take moves",
+                class: isSeen ? "take moves seen" : "take moves",
                 tabindex: -1,
                 "data-key": moves,
-                "aria-label": [spoken(text), about].filter(Boolean).join(", "),
+                "aria-label": [spoken(text), about, isSeen ? "seen" : ""].filter(Boolean).join(", "),
                 click: () => this.#acts.take(added),
             }, text),
             ...twins,
-            ...cases,
+            ...(cases.length === 0 ? [] : [element("span", { class: "cases" }, ...cases)]),
             element("span", { class: "acts" },
                 element("button", {
                     type: "button",

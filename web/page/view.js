@@ -1,7 +1,10 @@
-// Keeps the line so far and the cube in view.
+// What of the page is seen: the line so far and the cube stay in view, and what can't be used is dimmed.
 import { part } from "./element.js";
 
 const EDGE = 16;
+
+/** Whether the page is as narrow as a phone's. */
+export const isNarrow = () => matchMedia("(max-width: 37.5rem)").matches;
 
 /**
  * Scrolls to where a column that stays shows what has the focus. The browser scrolls to where that is, and the column goes along.
@@ -27,6 +30,11 @@ export function keepInView(column) {
     addEventListener("resize", place);
     // the browser scrolls after the event, and would undo what is done in it
     column.addEventListener("focusin", ({ target }) => requestAnimationFrame(() => showFocused(column, target)));
+}
+
+/** Makes what rests on a readable scramble usable or not. @param {boolean} usable */
+export function setUsable(usable) {
+    for (const name of ["line", "results", "kept", "cube"]) part(name).inert = !usable;
 }
 
 /**

@@ -3,6 +3,7 @@ import { MOST_MOVES } from "./lines.js";
 import { bracketed } from "./parts.js";
 import { openSteps, stateOf, stepNamed, titleOf } from "./steps.js";
 
+export const NO_ROOM = "No more lines can be kept: the address of the page has no room for them.";
 const PAGE_NAME = "nissy";
 const TOO_MANY = `more than ${MOST_MOVES} moves`;
 const MOST_SIGNS_OF_TITLE = 40;

@@ -1,0 +1,146 @@
+"""What is there before it is asked for, rows before all are found, the best of many, and rows that were seen."""
+import re
+
+from browser import Browser
+from searches import LONGER, ROWS, STEPS, address_of, program_answers
+from steps import back
+from tally import Tally
+from wanted import SIDES, TITLES, Position
+
+CUT = 10_000
+SHOWN = 168
+# keeps what each worker is asked
+LISTEN = """window.asked = [];
+    const { postMessage } = Worker.prototype;
+    Worker.prototype.postMessage = function (...words) {
+        const [{ request, question }] = words;
+        const one = request?.call === "all" ? request.requests[0] : request;
+        if (one) window.asked.push(`${one.call} ${one.step ?? ""}`.trim());
+        if (question) window.asked.push("best");
+        postMessage.apply(this, words);
+    };"""
+
+
+def ahead(tally: Tally, browser: Browser) -> None:
+    """Tables are built while nothing is asked, each once; then a step asks for its counts alone."""
+    browser.command("Page.enable")
+    script = browser.command("Page.addScriptToEvaluateOnNewDocument", source=LISTEN)
+    browser.open(address_of(LONGER))
+    browser.wait_best()
+    every = "return arguments[0].every((step) => window.asked.includes(`count ${step}`))"
+    tally.holds("the tables of each step are built ahead", browser.until(every, list(TITLES)))
+    browser.act('[data-cell="eorl.normal"]')
+    browser.wait_best()
+    browser.script("window.asked.length = 0")
+    browser.act("#solutions-groups .take")
+    browser.wait_best()
+    asked = [each for each in browser.script("return window.asked") if each.startswith("count")]
+    first = asked[:4]
+    tally.equal("orientations are counted before reductions", first, ["count eofb", "count eoud", "count drud-eorl", "count drfb-eorl"])
+    tally.holds(f"the main engine builds no table again: {asked}", not {"count drud-eofb", "count drrl-eofb", "count drrl-eoud", "count drfb-eoud"} & set(asked))
+    browser.command("Page.removeScriptToEvaluateOnNewDocument", identifier=script["identifier"])
+
+
+def soon(tally: Tally, browser: Browser) -> None:
+    """Of a long search there are rows before it is known how many there will be, and the table doesn't wait for them."""
+    browser.open(address_of(LONGER))
+    browser.wait_best()
+    seen = """const [done] = [arguments[arguments.length - 1]];
+        const slack = document.getElementById("best-slack"); slack.value = "2"; slack.dispatchEvent(new Event("change"));
+        const look = () => {
+            const rows = document.querySelectorAll("#best-body .take").length;
+            if (rows > 0) done([rows, document.getElementById("best-note").textContent, document.getElementById("best-stop").hidden]);
+            else setTimeout(look);
+        };
+        look()"""
+    rows, note, is_done = browser.driver.execute_async_script(seen)
+    tally.equal("rows are shown, and the search goes on", (rows > 0, is_done), (True, False))
+    tally.holds(f"what it says: {note}", re.match(r"[0-9,]+ EOs? tried\.", note))
+    browser.choose("best-slack", "0")
+    browser.wait_best()
+
+
+def best_of_many(tally: Tally, browser: Browser) -> None:
+    """Of more rows than are kept the best are kept, and the note says so."""
+    position = Position(LONGER)
+    totals, count = [], 0
+    for step in STEPS:
+        for side in SIDES:
+            other = SIDES[side == "normal"]
+            near = program_answers(browser.program, ["near", step, "20", "1"], [position.lines[side]])
+            moves = [line.rsplit("(", 1)[0].strip() for line in near if line]
+            inverted = program_answers(browser.program, ["invert"], moves)
+            count += len(moves)
+            for reduction in (name for name in TITLES if name.endswith(f"-{step}")):
+                same = program_answers(browser.program, ["count", reduction, "20"], [f"{position.lines[side]} {each}" for each in moves])
+                across = program_answers(browser.program, ["count", reduction, "20"], [f"{each} {position.lines[other]}" for each in inverted])
+                for each, *both in zip(moves, same, across):
+                    totals.append(len(each.split()) + min(int(length) for length in (line.split()[1] for line in both) if length.isdigit()))
+    browser.open(address_of(LONGER))
+    browser.wait_best()
+    browser.script("document.getElementById('best-all').checked = true")
+    browser.choose("best-slack", "1")
+    browser.wait_best()
+    tally.holds("there are more than are kept", len(totals) > CUT)
+    tally.equal("what the note says", browser.text("best-note"), f"{count:,} of {count:,} EOs tried. {CUT:,} rows. The list is cut: the best are kept.")
+    while len(browser.script(ROWS)) < SHOWN:
+        browser.script("document.getElementById('best-more').click()")
+    tally.equal("the first are the best", [int(row[0]) for row in browser.script(ROWS)], sorted(totals)[:SHOWN])
+
+
+def seen(tally: Tally, browser: Browser) -> None:
+    """A row that was taken is marked where one comes back, in the list and in the best, and for this scramble alone."""
+    browser.open(address_of(LONGER) + "&list=eorl.normal.0")
+    browser.wait_best()
+    marked = "return [...document.querySelectorAll('#solutions-groups .seen')].map((each) => [each.dataset.key, each.ariaLabel.endsWith(', seen')])"
+    tally.equal("nothing is marked at first", browser.script(marked), [])
+    taken = browser.listed()[1]
+    browser.script("document.querySelectorAll('#solutions-groups .take')[1].click()")
+    browser.until("return document.querySelectorAll('#line-list li').length === 1")
+    browser.wait()
+    back(browser)
+    browser.until("return document.querySelector('#solutions-groups .seen') !== null")
+    tally.equal("the row that was taken", browser.script(marked), [[taken, True]])
+    browser.open(address_of(LONGER) + " D&list=eorl.normal.0")
+    tally.equal("nothing of another scramble", browser.script(marked), [])
+
+
+def more(tally: Tally, browser: Browser) -> None:
+    """Each row of a list can be reached without a filter, also by Back."""
+    browser.open(address_of(LONGER) + "&list=eofb.normal.1")
+    tally.equal("the first rows", len(browser.listed()), 200)
+    browser.act("#solutions-more")
+    wanted = re.search(r": (\d+) rows", browser.text("solutions-note"))
+    tally.equal("all of them", str(len(browser.listed())), wanted[1] if wanted else "")
+    tally.equal("the first that is new has the focus", browser.focused(), browser.listed()[200])
+    tally.equal("there are no more", browser.text("solutions-more"), "")
+    last = browser.listed()[-1]
+    browser.script("const row = [...document.querySelectorAll('#solutions-groups .take')].at(-1); row.focus(); row.click()")
+    browser.until("return document.querySelectorAll('#line-list li').length === 1")
+    browser.wait()
+    back(browser)
+    tally.holds("Back leads to the last", browser.until("return document.activeElement.dataset.key === arguments[0]", last))
+
+
+def folded(tally: Tally, browser: Browser) -> None:
+    """On a narrow page the filters of a list are folded, and a key opens them."""
+    browser.command("Emulation.setDeviceMetricsOverride", width=360, height=740, deviceScaleFactor=1, mobile=False)
+    browser.open(address_of(LONGER) + "&list=eorl.normal.0")
+    is_seen = "return document.getElementById('filter').checkVisibility()"
+    tally.equal("they are folded", browser.script(is_seen), False)
+    room = "const top = (selector) => document.querySelector(selector).getBoundingClientRect().top; return top('#solutions-groups .take') - top('#solutions')"
+    tally.holds(f"the first row is near the list's head: {browser.script(room)}", browser.script(room) < 360)
+    browser.script("document.activeElement.blur()")
+    browser.press("/")
+    tally.equal("a key opens them", (browser.script(is_seen), browser.focused()), (True, "filter"))
+    browser.open(address_of(LONGER) + "&steps=normal.R-_U_F-_R_L_D-_F_B-_L2_D")
+    wide = "return [document.documentElement.scrollWidth, document.documentElement.clientWidth]"
+    tally.holds(f"where a second way to a reduction is named nothing stands beyond the window: {browser.script(wide)}", len(set(browser.script(wide))) == 1)
+    browser.command("Emulation.setDeviceMetricsOverride", width=1280, height=1000, deviceScaleFactor=1, mobile=False)
+
+
+def try_all(tally: Tally, browser: Browser) -> None:
+    """All of them."""
+    browser.driver.set_script_timeout(90)
+    for part in (ahead, soon, best_of_many, seen, more, folded):
+        part(tally, browser)
