@@ -1,3 +1,2 @@
 pub mod RunCall
-pub mod TableCalls
 pub mod Version

@@ -1,7 +1,6 @@
 //! The calls by the tables of a step, which are built once, stay, and are asked many times, by any threads at once.
 ghost use Rattle.niss_embed.specs.Memory.{memory};
-ghost use Rattle.niss_embed.specs.LineSearch.{SolvesWith, CountsWith};
-ghost use Rattle.niss_c.specs.TableCalls.{Builds};
+ghost use Rattle.niss_embed.specs.TableCalls.{Builds, SolvesWith, CountsWith};
 
 use niss_cube::Step;
 use niss_embed::{CountAnswer, SolveAnswer, count_line, solve_line};

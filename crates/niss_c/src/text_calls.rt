@@ -26,7 +26,8 @@ pub extern "C" fn nissy_steps(out: &mut [u8]) -> LineAnswer
 /// Writes the name of the step that must hold before the step of this name, and nothing if none must.
 #[unsafe(no_mangle)]
 pub extern "C" fn nissy_start(name: &[u8], out: &mut [u8]) -> LineAnswer
-    ensures { Does (outcome_of_start (length out.old) name.now) out.old out.new result }
+    ensures does { Does (outcome_of_start (length out.old) name.now) out.old out.new result }
+    ensures room { 2048 ≤ length out.old → result.status ≢ 4 }
 {
     start_name(name, out)
 }
@@ -34,7 +35,8 @@ pub extern "C" fn nissy_start(name: &[u8], out: &mut [u8]) -> LineAnswer
 /// Writes what the fault of a number is called.
 #[unsafe(no_mangle)]
 pub extern "C" fn nissy_fault_text(number: u8, out: &mut [u8]) -> LineAnswer
-    ensures { Does (outcome_of_some (length out.old) (fault_text_of number)) out.old out.new result }
+    ensures does { Does (outcome_of_some (length out.old) (fault_text_of number)) out.old out.new result }
+    ensures room { 2048 ≤ length out.old → result.status ≢ 4 }
 {
     fault_text(number, out)
 }

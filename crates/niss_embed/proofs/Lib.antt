@@ -3,3 +3,4 @@ pub mod TargetLemmas
 pub mod RunLemmas
 pub mod Pieces
 pub mod SolveLemmas
+pub mod TextLemmas

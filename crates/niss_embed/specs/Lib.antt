@@ -5,3 +5,4 @@ pub mod Run
 pub mod LineCalls
 pub mod SolutionLines
 pub mod LineSearch
+pub mod TableCalls

@@ -1,5 +1,5 @@
 -- What a search on one line hands out and returns.
-use Rattle.std.specs.Prelude.{◌≡◌, ◌⊎◌, ℕ, ◌+◌, ◌<◌, ◌≤◌, min, nat_lt, Bool, true, false, unwrap_or, Result, Ok, Err}
+use Rattle.std.specs.Prelude.{◌≡◌, ◌⊎◌, ℕ, ◌+◌, ◌<◌, ◌≤◌, min, nat_lt, false, unwrap_or, Result, Ok, Err}
 use Rattle.std.specs.Prelude.{List, flat_map, take, length}
 use Rattle.niss_moves.specs.FaultText.{fault_column}
 use Rattle.niss_moves.specs.Places.{Place}
@@ -114,12 +114,3 @@ pub record CountsLine (step : Step) (n slack : ℕ) (line : List ℕ) (told : Co
   pub too_long : n ≤ most_limit → slack ≤ most_limit → most_bytes < length line → told ≡ uncounted 3 0 0
   pub counts : n ≤ most_limit → slack ≤ most_limit → length line ≤ most_bytes →
       told ≡ count_at (start_cube step (read_line line)) step n slack
-
--- The same by the tables of a step that a caller keeps, or by none.
-abbrev pub SolvesWith : Bool → Step → (n slack most : ℕ) → List ℕ → Memory → SolveAnswer → Type 0
-SolvesWith false step n slack most line out told = Only (unsolved 2 0 0) out told
-SolvesWith true step n slack most line out told = SolvesLine step n slack most line out told
-
-abbrev pub CountsWith : Bool → Step → (n slack : ℕ) → List ℕ → CountAnswer → Type 0
-CountsWith false step n slack line told = told ≡ uncounted 2 0 0
-CountsWith true step n slack line told = CountsLine step n slack line told

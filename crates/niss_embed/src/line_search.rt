@@ -45,14 +45,17 @@ pub struct SolveAnswer {
 #[repr(C)]
 #[derive(Clone, Copy, Debug, PartialEq, Eq)]
 pub struct CountAnswer {
-    /// As in `SolveAnswer`.
+    /// As in `SolveAnswer`, but never 4.
     pub status: u8,
+    /// As in `SolveAnswer`.
     pub fault: u8,
     /// The least length of a solution, or 0 if there is none.
     pub least: u8,
+    /// As in `SolveAnswer`.
     pub column: u32,
     /// How many solutions there are, or 2^64 - 1 if there are more.
     pub solutions: u64,
+    /// As in `SolveAnswer`.
     pub looks: u64,
 }
 

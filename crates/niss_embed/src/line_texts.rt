@@ -68,8 +68,10 @@ pub fn step_names(out: &mut [u8]) -> LineAnswer
 }
 
 /// Writes the name of the step that must hold before the step of this name, and nothing if none must.
+#[tactic(auto, using(crate::proofs::TextLemmas::start_has_room))]
 pub fn start_name(name: &[u8], out: &mut [u8]) -> LineAnswer
-    ensures { Does (outcome_of_start (length out.old) name.now) out.old out.new result }
+    ensures does { Does (outcome_of_start (length out.old) name.now) out.old out.new result }
+    ensures room { 2048 ≤ length out.old → result.status ≢ 4 }
 {
     let Some(step) = step_named(name) else {
         return LineAnswer::misused();
@@ -97,8 +99,10 @@ fn text_of_fault(number: u8) -> Option<&'static str>
 }
 
 /// Writes what the fault of a number is called.
+#[tactic(auto, using(crate::proofs::TextLemmas::fault_has_room))]
 pub fn fault_text(number: u8, out: &mut [u8]) -> LineAnswer
-    ensures { Does (outcome_of_some (length out.old) (fault_text_of number)) out.old out.new result }
+    ensures does { Does (outcome_of_some (length out.old) (fault_text_of number)) out.old out.new result }
+    ensures room { 2048 ≤ length out.old → result.status ≢ 4 }
 {
     match text_of_fault(number) {
         Some(text) => LineAnswer::put(text.as_bytes(), out),

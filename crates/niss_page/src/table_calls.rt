@@ -1,8 +1,7 @@
 //! The calls by the tables of a step, which are built once in memory that is lent for good, and are asked many times.
 ghost use Rattle.std.specs.Prelude.{◌≡◌, ◌≢◌};
 ghost use Rattle.niss_embed.specs.Memory.{memory};
-ghost use Rattle.niss_embed.specs.LineSearch.{SolvesWith, CountsWith};
-ghost use Rattle.niss_page.specs.TableCalls.{Builds};
+ghost use Rattle.niss_embed.specs.TableCalls.{Builds, SolvesWith, CountsWith};
 
 use crate::held::Held;
 use crate::room::Room;
