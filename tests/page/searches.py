@@ -206,8 +206,8 @@ def stopped(tally: Tally, browser: Browser) -> None:
     browser.wait_best()
     tally.holds("and it can be asked again", "tried" in browser.text("best-note") and "Stopped" not in browser.text("best-note"))
     before = browser.script(ROWS)
-    browser.choose("best-slack", "1")
-    tally.equal("rows of another choice go at once", browser.script("return document.querySelectorAll('#best-body tr').length"), 0)
+    other = CHOOSE.replace("'slack'", "'best-slack'") + "return document.querySelectorAll('#best-body tr').length"
+    tally.equal("rows of another choice go at once", browser.script(other, "1"), 0)
     browser.choose("best-slack", "0")
     tally.equal("and are kept", browser.script(ROWS), before)
     browser.choose("best-slack", "2")
