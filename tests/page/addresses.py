@@ -119,7 +119,11 @@ def changed(tally: Tally, browser: Browser) -> None:
     browser.fill("scramble", "F\u2019 - _ % & = ~ . # \u00e9 \U0001f9e9")
     text = browser.script("return document.getElementById('scramble').value")
     browser.open(browser.script("return location.hash"))
-    tally.equal("any text comes back from the address", browser.script("return document.getElementById('scramble').value"), text.replace("\u2019", "'"))
+    tally.equal(
+        "any text comes back from the address",
+        browser.script("return document.getElementById('scramble').value"),
+        text.replace("\u2019", "'"),
+    )
 
 
 def line_ends(tally: Tally, browser: Browser) -> None:

@@ -37,7 +37,10 @@ def ahead(tally: Tally, browser: Browser) -> None:
     asked = [each for each in browser.script("return window.asked") if each.startswith("count")]
     first = asked[:4]
     tally.equal("orientations are counted before reductions", first, ["count eofb", "count eoud", "count drud-eorl", "count drfb-eorl"])
-    tally.holds(f"the main engine builds no table again: {asked}", not {"count drud-eofb", "count drrl-eofb", "count drrl-eoud", "count drfb-eoud"} & set(asked))
+    tally.holds(
+        f"the main engine builds no table again: {asked}",
+        not {"count drud-eofb", "count drrl-eofb", "count drrl-eoud", "count drfb-eoud"} & set(asked),
+    )
     browser.command("Page.removeScriptToEvaluateOnNewDocument", identifier=script["identifier"])
 
 
@@ -73,7 +76,11 @@ def best_of_many(tally: Tally, browser: Browser) -> None:
             count += len(moves)
             for reduction in (name for name in TITLES if name.endswith(f"-{step}")):
                 same = program_answers(browser.program, ["count", reduction, "20"], [f"{position.lines[side]} {each}" for each in moves])
-                across = program_answers(browser.program, ["count", reduction, "20"], [f"{each} {position.lines[other]}" for each in inverted])
+                across = program_answers(
+                    browser.program,
+                    ["count", reduction, "20"],
+                    [f"{each} {position.lines[other]}" for each in inverted],
+                )
                 for each, *both in zip(moves, same, across):
                     totals.append(len(each.split()) + min(int(length) for length in (line.split()[1] for line in both) if length.isdigit()))
     browser.open(address_of(LONGER))
@@ -82,7 +89,11 @@ def best_of_many(tally: Tally, browser: Browser) -> None:
     browser.choose("best-slack", "1")
     browser.wait_best()
     tally.holds("there are more than are kept", len(totals) > CUT)
-    tally.equal("what the note says", browser.text("best-note"), f"{count:,} of {count:,} EOs tried. {CUT:,} rows. The list is cut: the best are kept.")
+    tally.equal(
+        "what the note says",
+        browser.text("best-note"),
+        f"{count:,} of {count:,} EOs tried. {CUT:,} rows. The list is cut: the best are kept.",
+    )
     while len(browser.script(ROWS)) < SHOWN:
         browser.script("document.getElementById('best-more').click()")
     tally.equal("the first are the best", [int(row[0]) for row in browser.script(ROWS)], sorted(totals)[:SHOWN])
@@ -92,7 +103,10 @@ def seen(tally: Tally, browser: Browser) -> None:
     """A row that was taken is marked where one comes back, in the list and in the best, and for this scramble alone."""
     browser.open(address_of(LONGER) + "&list=eorl.normal.0")
     browser.wait_best()
-    marked = "return [...document.querySelectorAll('#solutions-groups .seen')].map((each) => [each.dataset.key, each.ariaLabel.endsWith(', seen')])"
+    marked = (
+        "return [...document.querySelectorAll('#solutions-groups .seen')].map((each) => [each.dataset.key, each.ariaLabel.endsWith(', "
+        "seen')])"
+    )
     tally.equal("nothing is marked at first", browser.script(marked), [])
     taken = browser.listed()[1]
     browser.script("document.querySelectorAll('#solutions-groups .take')[1].click()")
@@ -128,14 +142,20 @@ def folded(tally: Tally, browser: Browser) -> None:
     browser.open(address_of(LONGER) + "&list=eorl.normal.0")
     is_seen = "return document.getElementById('filter').checkVisibility()"
     tally.equal("they are folded", browser.script(is_seen), False)
-    room = "const top = (selector) => document.querySelector(selector).getBoundingClientRect().top; return top('#solutions-groups .take') - top('#solutions')"
+    room = (
+        "const top = (selector) => document.querySelector(selector).getBoundingClientRect().top; return top('#solutions-groups .take') - "
+        "top('#solutions')"
+    )
     tally.holds(f"the first row is near the list's head: {browser.script(room)}", browser.script(room) < 360)
     browser.script("document.activeElement.blur()")
     browser.press("/")
     tally.equal("a key opens them", (browser.script(is_seen), browser.focused()), (True, "filter"))
     browser.open(address_of(LONGER) + "&steps=normal.R-_U_F-_R_L_D-_F_B-_L2_D")
     wide = "return [document.documentElement.scrollWidth, document.documentElement.clientWidth]"
-    tally.holds(f"where a second way to a reduction is named nothing stands beyond the window: {browser.script(wide)}", len(set(browser.script(wide))) == 1)
+    tally.holds(
+        f"where a second way to a reduction is named nothing stands beyond the window: {browser.script(wide)}",
+        len(set(browser.script(wide))) == 1,
+    )
     browser.command("Emulation.setDeviceMetricsOverride", width=1280, height=1000, deviceScaleFactor=1, mobile=False)
 
 

@@ -78,7 +78,11 @@ class Browser:
 
     def choose(self, name: str, value: str) -> None:
         """Chooses of a field, without waiting."""
-        self.script("const it = document.getElementById(arguments[0]); it.value = arguments[1]; it.dispatchEvent(new Event('change'))", name, value)
+        self.script(
+            "const it = document.getElementById(arguments[0]); it.value = arguments[1]; it.dispatchEvent(new Event('change'))",
+            name,
+            value,
+        )
 
     def listed(self) -> list[str]:
         """The solutions that are listed, without their brackets."""

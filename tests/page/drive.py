@@ -3,8 +3,8 @@
 
     tests/page/drive.py PAGE PROGRAM [PART..]
 
-PAGE is the joined file, PROGRAM the built nissy, and a PART one of keyboard, faults, addresses, searches, at_once, turned, steps and looks; all
-where none is named. The last line is `N passed, M failed`, and the status is 1 where M isn't 0.
+PAGE is the joined file, PROGRAM the built nissy, and a PART one of keyboard, faults, addresses, searches, at_once, turned, steps and
+looks; all where none is named. The last line is `N passed, M failed`, and the status is 1 where M isn't 0.
 """
 import shutil
 import subprocess

@@ -63,10 +63,16 @@ def scrambles(tally: Tally, browser: Browser) -> None:
     for text, sign, said in LINES:
         browser.fill("scramble", text)
         shows_fault(tally, browser, "scramble", text, sign, said)
-        in_field = browser.script("const mark = document.querySelector('#scramble-marks mark'); return [mark.previousSibling.data.length, mark.textContent]")
+        in_field = browser.script(
+            "const mark = document.querySelector('#scramble-marks mark'); return [mark.previousSibling.data.length, mark.textContent]",
+        )
         column = int(re.search(r"column (\d+)", fault(text))[1])
         place = len(text.encode()[: column - 1].decode())
-        tally.equal(f"the place in the field of {text[-30:]!r}", (in_field[0], in_field[1][0]), (len(text[:place].encode("utf-16-le")) // 2, text[place]))
+        tally.equal(
+            f"the place in the field of {text[-30:]!r}",
+            (in_field[0], in_field[1][0]),
+            (len(text[:place].encode("utf-16-le")) // 2, text[place]),
+        )
         tally.holds("nothing else can be used meanwhile", browser.script("return document.getElementById('results').inert"))
     browser.fill("scramble", "R\nU\r\nF")
     tally.equal("line ends are blanks", browser.text("scramble-fault"), "")
@@ -98,7 +104,11 @@ def pasted(tally: Tally, browser: Browser) -> None:
         kept = browser.script("return decodeURIComponent(location.hash)").split("=")[1].replace("_", " ").split()
         tally.equal(f"{text!r}: what is kept in the address", kept, line.replace("'", "-").split())
     browser.fill("scramble", "1. R q\u2032")
-    tally.equal("a fault behind what is left out", (browser.texts("#scramble-fault p"), browser.texts("#scramble-marks mark")), ([NO_MOVE.format("q'")], ["q\u2032"]))
+    tally.equal(
+        "a fault behind what is left out",
+        (browser.texts("#scramble-fault p"), browser.texts("#scramble-marks mark")),
+        ([NO_MOVE.format("q'")], ["q\u2032"]),
+    )
     browser.fill("scramble", FMC)
     browser.until("return document.querySelectorAll('#kept-list li').length === 2")
     browser.wait()
@@ -108,7 +118,10 @@ def pasted(tally: Tally, browser: Browser) -> None:
     notes = browser.script("return [...document.querySelectorAll('#kept-list .note-field')].map((each) => each.value).sort()")
     tally.equal("with its notes", notes, ["", "a note"])
     browser.fill("scramble", "R U F2\nD q // EO")
-    tally.holds("steps that can't be read are said", browser.until("return document.getElementById('alert').textContent.startsWith('The steps of this text')"))
+    tally.holds(
+        "steps that can't be read are said",
+        browser.until("return document.getElementById('alert').textContent.startsWith('The steps of this text')"),
+    )
 
 
 def together(tally: Tally, browser: Browser) -> None:

@@ -46,8 +46,15 @@ def orient(tally: Tally, browser: Browser) -> None:
     all_of_them = position.solutions("eoud", "inverse", 1)
     tally.equal("with one move more the list is cut", browser.listed(), longer[:200])
     note = browser.text("solutions-note")
-    tally.holds(f"and says both counts: {note}", note.startswith(f"{len(all_of_them)} solutions") and f"{len(longer)} rows" in note and "The first 200" in note)
-    tally.equal("by length", browser.texts("#solutions-groups h3"), [f"5 moves: {len(listed)} rows", f"6 moves: {len(longer) - len(listed)} rows"])
+    tally.holds(
+        f"and says both counts: {note}",
+        note.startswith(f"{len(all_of_them)} solutions") and f"{len(longer)} rows" in note and "The first 200" in note,
+    )
+    tally.equal(
+        "by length",
+        browser.texts("#solutions-groups h3"),
+        [f"5 moves: {len(listed)} rows", f"6 moves: {len(longer) - len(listed)} rows"],
+    )
     tally.holds("the Tab key leads to the switch", browser.tab_to("twins"))
     browser.press(Keys.SPACE)
     browser.wait()

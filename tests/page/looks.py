@@ -6,7 +6,8 @@ from tally import Tally
 SCRAMBLE = "#scramble=R-_U-_F_D2_L2_F_R2_U2_R2_B_D2_L_B2_D-_B2_L-_R-_B-_D2_B2_R-_U-_F"
 KEPT = "&kept=inverse.B_D_R_F2_B_D;a_note,normal.R-_U_F-_R_L"
 ADDRESS = SCRAMBLE + "&steps=inverse.B_D_R_F2_B_D~normal.R_B-&side=inverse&list=drfb-eoud.inverse.1" + KEPT
-STOPS = ("skip", "scramble-edit", "undo-move", "own", "switch", "copy-joined", "eofb.normal", "slack", "filter", "best-more", "copy-fmc", "copy-kept",
+STOPS = ("skip", "scramble-edit", "undo-move", "own", "switch", "copy-joined", "eofb.normal", "slack", "filter", "best-more", "copy-fmc",
+    "copy-kept",
     "marks", "play", "view-y", "keep-line", "copy-link", "theme", "solutions-close", "twins", "last-turn")
 # what a finger presses is at least so high and wide where the page is narrow
 TARGET = 44
@@ -65,18 +66,24 @@ def is_named(tally: Tally, browser: Browser, what: str) -> None:
     texts = [node["name"]["value"] for node in nodes if not node.get("ignored") and node.get("role", {}).get("value") == "StaticText"]
     tally.equal(f"{what}: letters of stickers beside the label of their net", [text for text in texts if text in list("URFDLB")], [])
     tally.equal(f"{what}: what only explains a colour", [text for text in texts if text == "shortest"], [])
-    pressed = [name for role, name in ((node["role"]["value"], node.get("name", {}).get("value", "")) for node in controls) if role == "button"]
+    pressed = [node.get("name", {}).get("value", "") for node in controls if node["role"]["value"] == "button"]
     tally.equal(f"{what}: moves that are said with an apostrophe", [name for name in pressed if "'" in name], [])
     tally.holds(f"{what}: moves that are said", any(" prime" in name for name in pressed))
     tally.equal(f"{what}: the shortest are said to be", any(name.endswith(", shortest") for name in pressed), True)
-    named = sorted({node.get("name", {}).get("value", "") for node in nodes if not node.get("ignored") and node["role"]["value"] == "table"})
-    tally.holds(f"{what}: the tables' names are without help: {named}", {"Best continuations, by all moves", "Shortest next steps"} <= set(named))
+    named = sorted(
+        {node.get("name", {}).get("value", "") for node in nodes if not node.get("ignored") and node["role"]["value"] == "table"},
+    )
+    tally.holds(
+        f"{what}: the tables' names are without help: {named}",
+        {"Best continuations, by all moves", "Shortest next steps"} <= set(named),
+    )
 
 
 def is_bordered(tally: Tally, browser: Browser, what: str) -> None:
     """The contrast of the borders of what is pressed to the ground of its card."""
     found = browser.script(CONTRAST.split("const found")[0] + """
-        const shown = [...document.querySelectorAll("#steps .cell, #steps .help, #best-body .take, #solutions .take, #theme, #own, #line .quiet")];
+        const shown = [...document.querySelectorAll(
+            "#steps .cell, #steps .help, #best-body .take, #solutions .take, #theme, #own, #line .quiet")];
         return shown.filter((node) => node.checkVisibility()).map((node) => {
             const own = getComputedStyle(node);
             if (own.borderTopColor === "rgba(0, 0, 0, 0)") return [99, node.className];
@@ -92,13 +99,16 @@ def presses(tally: Tally, browser: Browser) -> None:
     browser.open(ADDRESS)
     browser.wait_best()
     small = browser.script("""return [...document.querySelectorAll("button, select, summary, input:not([type=checkbox]), textarea")]
-        .filter((each) => each.checkVisibility() && !each.closest(".skip, #best-body, .popover")).map((each) => [each.id || each.className || each.textContent,
-            each.getBoundingClientRect().width, each.getBoundingClientRect().height]).filter(([, width, height]) => Math.min(width, height) < arguments[0])""", TARGET)
+        .filter((each) => each.checkVisibility() && !each.closest(".skip, #best-body, .popover"))
+        .map((each) => [each.id || each.className || each.textContent, each.getBoundingClientRect()])
+        .map(([name, { width, height }]) => [name, width, height])
+        .filter(([, width, height]) => Math.min(width, height) < arguments[0])""", TARGET)
     tally.equal("what is too small", small, [])
     rows = browser.script("return [...document.querySelectorAll('#best-body tr')].map((each) => each.getBoundingClientRect().height)")
     tally.holds(f"rows of the best: {rows}", rows and min(rows) >= TARGET)
     hit = """const row = document.querySelector('#best-body tr'); row.scrollIntoView({ block: 'center' });
-        const { left, right, bottom } = row.getBoundingClientRect(); return document.elementFromPoint((left + right) / 2, bottom - 4).className"""
+        const { left, right, bottom } = row.getBoundingClientRect();
+        return document.elementFromPoint((left + right) / 2, bottom - 4).className"""
     tally.holds("and their whole row is pressed", "take" in browser.script(hit))
 
 
@@ -122,12 +132,16 @@ def prints(tally: Tally, browser: Browser) -> None:
     browser.open(ADDRESS)
     browser.wait_best()
     browser.command("Emulation.setEmulatedMedia", media="print")
-    pressed = browser.script("""return [...document.querySelectorAll("button, select, input, summary")].filter((each) => each.checkVisibility()
+    pressed = browser.script("""return [...document.querySelectorAll("button, select, input, summary")]
+        .filter((each) => each.checkVisibility()
         && !each.matches(".cell, .take, .note-field")).map((each) => each.id || each.className)""")
     tally.equal("what is pressed isn't printed", pressed, [])
     for name in ("scramble", "net-normal", "line-list", "kept-list", "bracketed"):
         tally.holds(f"{name} is printed", browser.script("return document.getElementById(arguments[0]).checkVisibility()", name))
-    cut = "return [...document.querySelectorAll('main *')].filter((each) => each.checkVisibility() && !each.matches('.unseen') && each.scrollHeight > each.clientHeight + 4 && getComputedStyle(each).overflowY !== 'visible').map((each) => each.id)"
+    cut = (
+        "return [...document.querySelectorAll('main *')].filter((each) => each.checkVisibility() && !each.matches('.unseen') && "
+        "each.scrollHeight > each.clientHeight + 4 && getComputedStyle(each).overflowY !== 'visible').map((each) => each.id)"
+    )
     tally.equal("nothing is cut", browser.script(cut), [])
     browser.command("Emulation.setEmulatedMedia", media="", features=[{"name": "prefers-color-scheme", "value": "light"}])
 
@@ -223,7 +237,10 @@ def shows_focus_below(tally: Tally, browser: Browser) -> None:
 def has_no_more_stops(tally: Tally, browser: Browser) -> None:
     """What assistive technology isn't told of is no stop of the Tab key: a long line at fault, which may be scrolled, is none."""
     browser.fill("scramble", "R U F " * 8 + "q " + "F2 " * 20)
-    tally.holds("the line may be scrolled", browser.script("const it = document.querySelector('.fault pre'); return it.scrollWidth > it.clientWidth"))
+    tally.holds(
+        "the line may be scrolled",
+        browser.script("const it = document.querySelector('.fault pre'); return it.scrollWidth > it.clientWidth"),
+    )
     browser.script("document.getElementById('scramble').focus()")
     browser.press(Keys.TAB)
     tally.equal("after the field", browser.focused(), "random")
@@ -262,7 +279,11 @@ def places(tally: Tally, browser: Browser, width: int, height: int) -> None:
     browser.command("Emulation.setDeviceMetricsOverride", width=width, height=height, deviceScaleFactor=1, mobile=False)
     browser.open(SCRAMBLE + "&list=eoud.inverse.0")
     browser.script("document.querySelector('#solutions-groups').scrollIntoView()")
-    tally.equal(f"{width}: the scramble is folded", browser.script("return !document.getElementById('scramble').checkVisibility()"), width < 960)
+    tally.equal(
+        f"{width}: the scramble is folded",
+        browser.script("return !document.getElementById('scramble').checkVisibility()"),
+        width < 960,
+    )
     browser.act("#solutions-groups .take")
     browser.wait_best()
     for name in ("bar-line", "bar-undo") if width < 960 else ("line-list", "whole", "net-normal"):
@@ -275,7 +296,8 @@ def places(tally: Tally, browser: Browser, width: int, height: int) -> None:
     browser.act("#solutions-groups .take")
     for name in ("line-list", "finished", "bracketed", "joined", "copy-bracketed", "copy-fmc"):
         tally.holds(f"{width}: after the last step {name} is in view", browser.script(IN_VIEW, name))
-    inner = """return [...document.querySelectorAll('main *')].filter((each) => each.checkVisibility() && ['auto', 'scroll'].includes(getComputedStyle(each).overflowY)
+    inner = """return [...document.querySelectorAll('main *')]
+        .filter((each) => each.checkVisibility() && ['auto', 'scroll'].includes(getComputedStyle(each).overflowY)
         && !each.matches('pre, textarea')).length"""
     tally.equal(f"{width}: parts with a scroll area", browser.script(inner), 0)
     browser.open(SCRAMBLE)

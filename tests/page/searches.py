@@ -29,8 +29,11 @@ def program_answers(program: str, words: list[str], lines: list[str]) -> list[st
 
 
 def wanted_rows(program: str, position: Position) -> dict[tuple[str, ...], str]:
-    """Each orientation with each reduction that may follow it on both sides, as the cookbook goes about it, by the built program; and its twins' key."""
-    rows = {}
+    """
+    Each orientation with each reduction that may follow it on both sides, as the cookbook goes about it, by the built program; and its
+    twins' key.
+    """
+    rows: dict[tuple[str, ...], str] = {}
     for step in STEPS:
         for side in SIDES:
             other = SIDES[side == "normal"]
@@ -66,12 +69,14 @@ def best(tally: Tally, browser: Browser) -> None:
     tally.holds("and more when they are asked for", browser.until(MORE))
     rows = [tuple(row) for row in browser.script(ROWS)]
     tally.equal("each of them is right", [row for row in rows if row not in wanted], [])
-    least = {}
+    least: dict[str, int] = {}
     for row, key in wanted.items():
         least[key] = min(int(row[0]), least.get(key, 99))
     tally.equal("twins are one row, the better of them", sorted((wanted[row], int(row[0])) for row in rows), sorted(least.items()))
     tally.equal("they are sorted by all moves", [int(row[0]) for row in rows], sorted(least.values()))
-    marks = browser.script("return [...document.querySelectorAll('#best-body tr')].map((row) => [...row.querySelectorAll('td.best')].length)")
+    marks = browser.script(
+        "return [...document.querySelectorAll('#best-body tr')].map((row) => [...row.querySelectorAll('td.best')].length)",
+    )
     tally.equal("both sides are marked where they are as short", marks, [1 + (row[4] == row[5]) for row in rows])
     tally.holds("which is seen", {1, 2} <= set(marks))
     browser.choose("best-axis", "EO R/L")
@@ -104,9 +109,13 @@ def after_orientation(tally: Tally, browser: Browser) -> None:
     for step in ("drrl-eoud", "drfb-eoud"):
         for side in SIDES:
             moves = position.rows(step, side)
-            wanted += [(6 + len(each.split()), each if side == "normal" else f"({each})", TITLES[step].split(" after")[0]) for each in moves]
+            reached = TITLES[step].split(" after")[0]
+            wanted += [(6 + len(each.split()), each if side == "normal" else f"({each})", reached) for each in moves]
     tally.holds("more of them", browser.until(MORE))
-    cells = "return [...document.querySelectorAll('#best-body tr')].map((row) => [row.children[0].textContent, row.querySelector('.take').textContent, row.children[2].textContent])"
+    cells = (
+        "return [...document.querySelectorAll('#best-body tr')].map((row) => [row.children[0].textContent, "
+        "row.querySelector('.take').textContent, row.children[2].textContent])"
+    )
     rows = [(int(total), moves, state) for total, moves, state in browser.script(cells)]
     tally.equal("its reductions", sorted(rows), sorted(wanted))
     tally.equal("by all moves", [row[0] for row in rows], sorted(row[0] for row in rows))
@@ -125,9 +134,15 @@ def cases(tally: Tally, browser: Browser) -> None:
     tally.equal("bad edges", browser.script(heads), ["EO F/B 4 bad edges", "EO R/L 6 bad edges", "EO U/D 6 bad edges"])
     browser.act('[data-cell="eofb.normal"]')
     listed = {}
-    for item in browser.script("return [...document.querySelectorAll('#solutions-groups li')].map((each) => [each.querySelector('.take').dataset.key, [...each.querySelectorAll('.case')].map((one) => one.textContent)])"):
+    items = """return [...document.querySelectorAll('#solutions-groups li')].map((each) =>
+        [each.querySelector('.take').dataset.key, [...each.querySelectorAll('.case')].map((one) => one.textContent)])"""
+    for item in browser.script(items):
         listed[item[0]] = item[1]
-    tally.equal("the cases of two", [listed.get("R2 L D' F"), listed.get("R2 D' L F")], [["U/D 4c2e", "R/L 4c3e"], ["U/D 4c1e", "R/L 6c3e"]])
+    tally.equal(
+        "the cases of two",
+        [listed.get("R2 L D' F"), listed.get("R2 D' L F")],
+        [["U/D 4c2e", "R/L 4c3e"], ["U/D 4c1e", "R/L 6c3e"]],
+    )
     browser.choose("most-corners", "4")
     browser.choose("most-edges", "1")
     few = [moves for moves, names in listed.items() if any(int(name[4]) <= 4 and int(name[6]) <= 1 for name in names)]
@@ -156,11 +171,16 @@ def marked(tally: Tally, browser: Browser) -> None:
     browser.choose("marks", "EO F/B")
     for side in SIDES:
         tally.equal(f"bad edges on the {side} side", browser.script(bad, side), edges)
-    looks = """const seen = (selector) => { const it = document.querySelector(selector); const own = getComputedStyle(it.querySelector('rect'));
+    looks = """const seen = (selector) => {
+            const it = document.querySelector(selector); const own = getComputedStyle(it.querySelector('rect'));
             return [own.fill, own.strokeWidth, getComputedStyle(it.querySelector('.dot')).display]; };
         return [seen('#net-normal .bad'), seen('#net-normal .sticker:not(.bad)')]"""
     (_, wide, dot), (grey, thin, none) = browser.script(looks)
-    tally.equal("a bad one has a ring and a dot, another neither", (float(wide[:-2]) > 2 * float(thin[:-2]), dot, none), (True, "block", "none"))
+    tally.equal(
+        "a bad one has a ring and a dot, another neither",
+        (float(wide[:-2]) > 2 * float(thin[:-2]), dot, none),
+        (True, "block", "none"),
+    )
     parts = [int(part) for part in re.findall(r"\d+", grey)]
     tally.holds(f"the rest is grey: {parts}", max(parts) - min(parts) < 20)
     named = re.search("EO F/B: 4 bad, ([A-Z ]+);", browser.script("return document.querySelector('#net-normal svg').ariaLabel"))
@@ -206,8 +226,8 @@ def stopped(tally: Tally, browser: Browser) -> None:
     browser.wait_best()
     tally.holds("and it can be asked again", "tried" in browser.text("best-note") and "Stopped" not in browser.text("best-note"))
     before = browser.script(ROWS)
-    browser.choose("best-slack", "1")
-    tally.equal("rows of another choice go at once", browser.script("return document.querySelectorAll('#best-body tr').length"), 0)
+    other = CHOOSE.replace("'slack'", "'best-slack'") + "return document.querySelectorAll('#best-body tr').length"
+    tally.equal("rows of another choice go at once", browser.script(other, "1"), 0)
     browser.choose("best-slack", "0")
     tally.equal("and are kept", browser.script(ROWS), before)
     browser.choose("best-slack", "2")

@@ -1,4 +1,4 @@
-"""The way on from step to step and back: the browser's history, undo, what is kept, what is dimmed, the filter, and where the focus goes."""
+"""The way on from step to step and back: the browser's history, undo, what is kept, what is dimmed, the filter, where the focus goes."""
 import time
 
 from browser import Browser
@@ -104,11 +104,18 @@ def kept(tally: Tally, browser: Browser) -> None:
     browser.act("#best-body .take")
     browser.wait_best()
     tally.holds("those of another cube aren't shown", browser.texts("#best-body th") != found[0])
-    slow = "const { postMessage } = Worker.prototype; Worker.prototype.postMessage = function (...words) { if (!('question' in words[0])) postMessage.apply(this, words); }"
+    slow = (
+        "const { postMessage } = Worker.prototype; Worker.prototype.postMessage = function (...words) { if (!('question' in words[0])) "
+        "postMessage.apply(this, words); }"
+    )
     browser.script(slow)
     browser.act("#undo-step")
     tally.equal("they are kept", (browser.texts("#best-body th"), browser.texts("#best-body td.axis"), browser.text("best-note")), found)
-    tally.equal("the row that was taken is marked", browser.script("return [...document.querySelectorAll('.seen')].map((each) => each.ariaLabel.endsWith(', seen'))"), [True])
+    tally.equal(
+        "the row that was taken is marked",
+        browser.script("return [...document.querySelectorAll('.seen')].map((each) => each.ariaLabel.endsWith(', seen'))"),
+        [True],
+    )
     browser.fill("scramble", "R U F")
     tally.equal("not for another scramble", browser.texts("#best-body tr"), [])
 
@@ -119,7 +126,10 @@ def returns(tally: Tally, browser: Browser) -> None:
     browser.wait_best()
     browser.script("document.getElementById('best-more').click()")
     place = "const it = document.activeElement; return [it.dataset.key, Math.round(it.getBoundingClientRect().top)]"
-    browser.script("const row = document.querySelectorAll('#best-body .take')[40]; row.focus({ preventScroll: true }); row.scrollIntoView({ block: 'center' })")
+    browser.script(
+        "const row = document.querySelectorAll('#best-body .take')[40]; row.focus({ preventScroll: true }); row.scrollIntoView({ block: "
+        "'center' })",
+    )
     before = browser.script(place)
     browser.act("#best-body tr:nth-child(41) .take")
     tally.holds("the list of its reduction is open", browser.listed() != [])
@@ -129,13 +139,19 @@ def returns(tally: Tally, browser: Browser) -> None:
     tally.holds(f"and stands where it stood: {before}, {after}", abs(before[1] - after[1]) < 3)
     browser.open(ADDRESS + "&list=eofb.normal.1")
     browser.wait_best()
-    browser.script("const row = document.querySelectorAll('#solutions-groups .take')[20]; row.focus({ preventScroll: true }); row.scrollIntoView({ block: 'center' })")
+    browser.script(
+        "const row = document.querySelectorAll('#solutions-groups .take')[20]; row.focus({ preventScroll: true }); row.scrollIntoView({ "
+        "block: 'center' })",
+    )
     before = browser.script(place)
     browser.script("document.activeElement.click()")
     browser.until("return document.querySelectorAll('#line-list li').length === 1")
     browser.wait()
     back(browser)
-    tally.holds("a row of a list has the focus again", browser.until("return document.activeElement.dataset.key === arguments[0]", before[0]))
+    tally.holds(
+        "a row of a list has the focus again",
+        browser.until("return document.activeElement.dataset.key === arguments[0]", before[0]),
+    )
     browser.wait_best()
     after = browser.script(place)
     tally.holds(f"and stands where it stood in the list: {before}, {after}", abs(before[1] - after[1]) < 3)
@@ -149,7 +165,10 @@ def leaves_list(tally: Tally, browser: Browser) -> None:
         browser.act('[data-cell="drrl-eoud.normal"]')
         tally.holds(f"{act}: a list is open", browser.listed() != [])
         heading = browser.text("solutions-heading")
-        browser.script("document.querySelector(arguments[0]).click(); document.getElementById('results').setAttribute('aria-busy', 'true')", act)
+        browser.script(
+            "document.querySelector(arguments[0]).click(); document.getElementById('results').setAttribute('aria-busy', 'true')",
+            act,
+        )
         browser.wait()
         tally.holds(f"{act}: it is left", browser.text("solutions-heading") != heading)
         tally.equal(f"{act}: without a fault", (browser.text("alert"), "nissy:" in browser.text("results")), ("", False))
@@ -181,15 +200,24 @@ def keeps(tally: Tally, browser: Browser) -> None:
     tally.equal("three are kept", (len(browser.texts("#kept-list li")), browser.text("kept-count")), (3, "3 lines"))
     tally.holds(f"one of the best, {second}", second.startswith(("normal.", "inverse.")))
     tally.holds("one of the list", third in browser.texts("#kept-list .moves"))
-    tally.equal("each with what it reaches", [any(word.startswith("EO ") for word in words) for words in browser.script(
-        "return [...document.querySelectorAll('#kept-list li')].map((each) => [...each.querySelectorAll('.chip')].map((one) => one.textContent))")], [True] * 3)
-    tally.holds("and its cases", all(len(cases) == 2 for cases in browser.script("return [...document.querySelectorAll('#kept-list li')].map((each) => [...each.querySelectorAll('.case')].map((one) => one.textContent))")))
-    browser.script("const note = document.querySelector('#kept-list .note-field'); note.value = 'a \u00e9 ~ , ; note'; note.dispatchEvent(new Event('change'))")
+    texts_of = """return [...document.querySelectorAll('#kept-list li')]
+        .map((each) => [...each.querySelectorAll('.KIND')].map((one) => one.textContent))"""
+    chips = browser.script(texts_of.replace("KIND", "chip"))
+    tally.equal("each with what it reaches", [any(word.startswith("EO ") for word in words) for words in chips], [True] * 3)
+    tally.holds("and its cases", all(len(cases) == 2 for cases in browser.script(texts_of.replace("KIND", "case"))))
+    browser.script(
+        "const note = document.querySelector('#kept-list .note-field'); note.value = 'a \u00e9 ~ , ; note'; note.dispatchEvent(new "
+        "Event('change'))",
+    )
     before = browser.texts("#kept-list .moves")
     browser.open(browser.script("return location.hash"))
     browser.until("return [...document.querySelectorAll('#kept-list .total')].every((each) => each.textContent !== '')")
     notes = "return [...document.querySelectorAll('#kept-list .note-field')].map((each) => each.value)"
-    tally.equal("they come back from the address", (browser.texts("#kept-list .moves"), browser.script(notes)), (before, ["a \u00e9 ~ , ; note", "", ""]))
+    tally.equal(
+        "they come back from the address",
+        (browser.texts("#kept-list .moves"), browser.script(notes)),
+        (before, ["a \u00e9 ~ , ; note", "", ""]),
+    )
     browser.act("#kept-list li:nth-child(1) button")
     tally.equal("one is gone on with", browser.text("bracketed"), before[0])
     tally.equal("and the others stay", browser.texts("#kept-list .moves"), before)
@@ -210,12 +238,17 @@ def keeps(tally: Tally, browser: Browser) -> None:
     browser.until("return document.querySelectorAll('#line-list li').length === 1")
     browser.wait()
     browser.click("#keep-line")
-    tally.holds("no more than fit", browser.text("alert").startswith("No more lines can be kept") and len(browser.texts("#kept-list li")) == 24)
+    tally.holds(
+        "no more than fit",
+        browser.text("alert").startswith("No more lines can be kept") and len(browser.texts("#kept-list li")) == 24,
+    )
 
 
 def fmc_text(tally: Tally, browser: Browser) -> None:
     """A line is copied as solvers write it, and read again."""
-    browser.open("#scramble=R-_U-_F_D2_L2_F_R2_U2_R2_B_D2_L_B2_D-_B2_L-_R-_B-_D2_B2_R-_U-_F&steps=inverse.B_D_R_F2_B_D~normal.R_B-~normal.D2_R")
+    browser.open(
+        "#scramble=R-_U-_F_D2_L2_F_R2_U2_R2_B_D2_L_B2_D-_B2_L-_R-_B-_D2_B2_R-_U-_F&steps=inverse.B_D_R_F2_B_D~normal.R_B-~normal.D2_R",
+    )
     browser.click("#copy-fmc")
     browser.until("return document.getElementById('status').textContent.startsWith('Copied')")
     text = browser.texts("#status")[0].removeprefix("Copied: ")
@@ -239,7 +272,11 @@ def edits(tally: Tally, browser: Browser) -> None:
     browser.act("#line-list li:nth-child(2) button")
     tally.equal("it is seen as it is written", browser.script("return document.activeElement.value"), "(U D)")
     browser.press(Keys.ESCAPE)
-    tally.equal("left as it was", (browser.texts("#line-list li:nth-child(2) .moves"), browser.script("return document.activeElement.textContent")), (["(U D)"], "Edit"))
+    tally.equal(
+        "left as it was",
+        (browser.texts("#line-list li:nth-child(2) .moves"), browser.script("return document.activeElement.textContent")),
+        (["(U D)"], "Edit"),
+    )
     browser.act("#line-list li:nth-child(2) button")
     change = "const field = document.querySelector('#line-list input'); field.value = arguments[0]; field.form.requestSubmit()"
     browser.script(change, "(U q)")
@@ -270,7 +307,10 @@ def by_keys(tally: Tally, browser: Browser) -> None:
     tally.equal("/", browser.focused(), "filter")
     browser.press("u")
     tally.equal("what is typed is typed", browser.script("return document.getElementById('filter').value"), "u")
-    browser.script("const it = document.getElementById('filter'); it.value = ''; it.dispatchEvent(new Event('input')); document.querySelector('#solutions-groups .take').click()")
+    browser.script(
+        "const it = document.getElementById('filter'); it.value = ''; it.dispatchEvent(new Event('input')); "
+        "document.querySelector('#solutions-groups .take').click()",
+    )
     browser.until("return document.querySelectorAll('#line-list li').length > 0")
     browser.wait()
     browser.press("u")
@@ -342,8 +382,13 @@ def solved(tally: Tally, browser: Browser) -> None:
         browser.fill("scramble", scramble)
         tally.equal(f"{scramble!r} finishes nothing", browser.text("finished"), "")
     browser.fill("scramble", "U2")
-    tally.equal("what is reached without a step is in a line of its own", browser.text("reached"), "Reached: EO F/B EO R/L EO U/D DR U/D DR R/L DR F/B")
-    for steps, said in (("normal.R2", "DR U/D, DR R/L and DR F/B are reached: 1 move. nissy goes no further."), ("normal.U2", "Solved: 1 move."),
+    tally.equal(
+        "what is reached without a step is in a line of its own",
+        browser.text("reached"),
+        "Reached: EO F/B EO R/L EO U/D DR U/D DR R/L DR F/B",
+    )
+    for steps, said in (("normal.R2", "DR U/D, DR R/L and DR F/B are reached: 1 move. nissy goes no further."),
+            ("normal.U2", "Solved: 1 move."),
             ("inverse.U~normal.U-", "Solved: 2 moves.")):
         browser.open(f"#scramble=U2&steps={steps}")
         tally.equal(f"{steps} after U2", browser.text("finished"), said)
@@ -450,7 +495,11 @@ def one_stop(tally: Tally, browser: Browser) -> None:
     tally.holds("there are some", len(moves) == 8)
     tally.holds("the Tab key leads to the first", browser.tab_to(moves[0]))
     browser.press(Keys.ARROW_DOWN, Keys.ARROW_DOWN)
-    tally.equal("arrows lead on", browser.script("return document.activeElement === document.querySelectorAll('#best-body .take')[2]"), True)
+    tally.equal(
+        "arrows lead on",
+        browser.script("return document.activeElement === document.querySelectorAll('#best-body .take')[2]"),
+        True,
+    )
     browser.press(Keys.TAB)
     tally.equal("the Tab key leaves them", browser.script("return document.activeElement.closest('#best-body') === null"), True)
     browser.open(ADDRESS)
@@ -471,7 +520,11 @@ def words(tally: Tally, browser: Browser) -> None:
     ground = "return getComputedStyle(document.querySelector(arguments[0])).backgroundColor"
     tally.equal("the word for the shortest cells", browser.texts("#steps .head .least"), ["shortest"])
     tally.equal("it has their colour", browser.script(ground, ".head .least"), browser.script(ground, "td .least"))
-    tally.equal("the columns of the best", browser.texts("#best-table thead th")[:6], ["In all", "Moves", "Reach", "Then DR", "Normal", "Inverse"])
+    tally.equal(
+        "the columns of the best",
+        browser.texts("#best-table thead th")[:6],
+        ["In all", "Moves", "Reach", "Then DR", "Normal", "Inverse"],
+    )
     looks = [f"{Position(SCRAMBLE).count(step, side)[2]:,}" for step in ("eofb", "eorl", "eoud") for side in SIDES]
     tally.equal("the looks have a table of their own", browser.texts("#looks-body td"), looks)
 
@@ -479,6 +532,7 @@ def words(tally: Tally, browser: Browser) -> None:
 def try_all(tally: Tally, browser: Browser) -> None:
     """All of them."""
     said = (waits, says_filtered, says_shortest)
-    parts = (history, refused, undo, kept, returns, leaves_list, keeps, fmc_text, edits, by_keys, plays, dimmed, filters, solved, ends, stays)
+    parts = (history, refused, undo, kept, returns, leaves_list, keeps, fmc_text, edits, by_keys, plays, dimmed, filters, solved, ends,
+        stays)
     for part in (*parts, *said, comes_back, one_stop, words):
         part(tally, browser)

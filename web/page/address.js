@@ -111,7 +111,10 @@ const FIELDS = {
     },
 };
 
-/** Puts a field into the state, or says why it isn't. @param {State} state @param {string} field @param {Set<string>} said @returns {string} */
+/**
+ * Puts a field into the state, or says why it isn't.
+ * @param {State} state @param {string} field @param {Set<string>} said @returns {string}
+ */
 function readField(state, field, said) {
     const [name, value, ...rest] = field.split("=");
     if (!Object.hasOwn(FIELDS, name)) return "unknown";

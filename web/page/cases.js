@@ -1,5 +1,5 @@
-// What solvers choose by, from the 54 letters of a cube: the bad edges of each axis, and the case of each domino reduction, `4c1e`, which is
-// how many corners are misoriented and how many edges of the slice stand outside it. No search is needed for either.
+// What solvers choose by, from the 54 letters of a cube: the bad edges of each axis, and the case of each domino reduction, `4c1e`, which
+// is how many corners are misoriented and how many edges of the slice stand outside it. No search is needed for either.
 import { ORIENTATIONS, REDUCTIONS } from "./steps.js";
 
 /** @typedef {number[]} Piece the places of a piece's stickers, in the order of the engine's letters */
@@ -18,7 +18,9 @@ const CORNERS = [
     [29, 26, 15], [27, 44, 24], [33, 53, 42], [35, 17, 51],
 ];
 
-/** The axes, by their two faces: whether an edge is flipped by turns of one is told by its sticker of the first of the others that it has. */
+/**
+ * The axes, by their two faces: whether an edge is flipped by turns of one is told by its sticker of the first of the others that it has.
+ */
 const AXES = ["U/D", "F/B", "R/L"];
 
 /** Whether a face is one of an axis. @param {string} face @param {string} axis */
@@ -36,7 +38,10 @@ function tellingOf(faces, axes) {
     return rank(faces[0]) < rank(faces[1]) ? 0 : 1;
 }
 
-/** The edges that can't be brought home without quarter turns of an axis. @param {string} letters @param {string} axis @returns {Piece[]} */
+/**
+ * The edges that can't be brought home without quarter turns of an axis.
+ * @param {string} letters @param {string} axis @returns {Piece[]}
+ */
 export function badEdges(letters, axis) {
     const [first, last] = AXES.filter((each) => each !== axis);
     const axes = [first, axis, last];
@@ -90,7 +95,10 @@ export function sizeOf(name) {
 /** How far a case is, to sort by: an edge outside the slice costs about two corners. @param {Size} size */
 export const farnessOf = ({ corners, edges }) => corners + 2 * edges;
 
-/** The orientations that hold, and the reductions that are reached, by the names of their steps. @param {string} letters @returns {string[]} */
+/**
+ * The orientations that hold, and the reductions that are reached, by the names of their steps.
+ * @param {string} letters @returns {string[]}
+ */
 export function reachedBy(letters) {
     const held = ORIENTATIONS.filter(({ axis }) => badEdges(letters, axis).length === 0).map(({ name }) => name);
     const reduced = REDUCTIONS.filter(({ axis, needs }) => held.includes(needs) && caseName(letters, axis) === "0c0e");

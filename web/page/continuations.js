@@ -4,8 +4,8 @@ import { ORIENTATIONS } from "./steps.js";
 /** @typedef {import("./steps.js").Side} Side */
 /** @typedef {import("./parts.js").Part} Part */
 /**
- * @typedef {{step: string, marks: string, side: Side, case: string, far: number, lengths: Record<Side, number | null>}} Next the reduction that
- * follows
+ * @typedef {{step: string, marks: string, side: Side, case: string, far: number, lengths: Record<Side, number | null>}} Next
+ * the reduction that follows
  */
 /**
  * @typedef {{total: number, part: Part, length: number, state: string, next: Next | null, others: string[], key: string}} Row

@@ -12,7 +12,10 @@ const PLAIN = "none";
 const BEAT = 700;
 const AXES_TO_MARK = ["F/B", "R/L", "U/D"];
 
-/** The pieces that a choice marks, and what they are called; a choice is `EO F/B` or `DR U/D`. @param {string} letters @param {string} choice */
+/**
+ * The pieces that a choice marks, and what they are called; a choice is `EO F/B` or `DR U/D`.
+ * @param {string} letters @param {string} choice
+ */
 function marksOf(letters, choice) {
     const [kind, axis] = choice.split(" ");
     if (kind === "EO") {

@@ -39,7 +39,10 @@ export function announce(text) {
     part("status").textContent = text;
 }
 
-/** Says something to screen readers once nothing else changes for a moment; an empty text takes back what would be said. @param {string} text */
+/**
+ * Says something to screen readers once nothing else changes for a moment; an empty text takes back what would be said.
+ * @param {string} text
+ */
 export function announceLater(text) {
     clearTimeout(later);
     if (text !== "") later = setTimeout(announce, QUIET, text);

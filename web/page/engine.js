@@ -23,7 +23,10 @@ export async function turnsOfAll(calls, lines) {
 /** The 54 letters of the cube after each line. @param {Calls} calls @param {string[]} lines */
 export const printAll = (calls, lines) => answersOf(calls, ["print"], lines);
 
-/** The least length, how many there are and the looks of a step, for each line. @param {Calls} calls @param {string} step @param {string[]} lines */
+/**
+ * The least length, how many there are and the looks of a step, for each line.
+ * @param {Calls} calls @param {string} step @param {string[]} lines
+ */
 export const countAll = (calls, step, lines) => countsOf(calls, step, lines);
 
 /**

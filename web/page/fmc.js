@@ -4,7 +4,10 @@ import { newlyReached } from "./position.js";
 
 /** @typedef {import("./position.js").Walk} Walk */
 
-/** A step with its comment, such as `D R B2 // DR R/L (3/10)`: its moves, and those up to its end. @param {Walk} walk @param {number} index */
+/**
+ * A step with its comment, such as `D R B2 // DR R/L (3/10)`: its moves, and those up to its end.
+ * @param {Walk} walk @param {number} index
+ */
 function stepLine(walk, index) {
     const [own, total] = [walk.turns[index], walk.totals[index + 1]];
     const count = index === 0 ? `(${total})` : `(${own}/${total})`;

@@ -18,7 +18,8 @@ export class OpenList {
 
     /**
      * Shows a list, or that none is open; one that is shown already stays. Says whether it is shown in the end.
-     * @param {string} name what tells it from others @param {import("./address.js").List | null} list @param {string} line of the cube on its side
+     * @param {string} name what tells it from others @param {import("./address.js").List | null} list
+     * @param {string} line of the cube on its side
      */
     async show(name, list, line) {
         if (name === this.#name) return false;

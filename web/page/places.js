@@ -1,5 +1,5 @@
-// Where one was: with each entry of the browser's history that is left, what had the focus there and how far the page was scrolled is kept, so
-// that Back leads to the same place.
+// Where one was: with each entry of the browser's history that is left, what had the focus there and how far the page was scrolled is kept,
+// so that Back leads to the same place.
 
 /** @typedef {{key: string, scroll: number}} Place */
 

@@ -1,4 +1,5 @@
-// What the engine says of a scramble and the moves after it: the cube after each step, its letters, what is reached, and which steps may follow.
+// What the engine says of a scramble and the moves after it: the cube after each step, its letters, what is reached, and which steps may
+// follow.
 import { caseName, badEdges, reachedBy } from "./cases.js";
 import { countAll, invertAll, joinAll, printAll, turnsOfAll } from "./engine.js";
 import { bracketed, joined, movesOn } from "./parts.js";
@@ -11,7 +12,8 @@ import { openSteps, statesOf } from "./steps.js";
 /** @typedef {{step: import("./steps.js").OfferedStep, normal: Count, inverse: Count}} Offer */
 /**
  * What is known of a line after each beginning, from none of its parts to all.
- * @typedef {{parts: Part[], lines: Lines[], letters: string[], inverse: string, reached: string[][], totals: number[], turns: number[]}} Walk
+ * @typedef {{parts: Part[], lines: Lines[], letters: string[], inverse: string, reached: string[][], totals: number[],
+ *     turns: number[]}} Walk
  * `inverse`: the letters of the inverse side at the end; `turns`: of each part
  */
 
@@ -33,7 +35,8 @@ async function linesAfter(calls, scramble, all) {
 
 /**
  * Walks through some lines of one scramble.
- * @param {import("./calls.js").Calls} calls @param {string} scramble by its face turns @param {Part[][]} candidates @returns {Promise<Walk[]>}
+ * @param {import("./calls.js").Calls} calls @param {string} scramble by its face turns @param {Part[][]} candidates
+ * @returns {Promise<Walk[]>}
  */
 export async function walkAll(calls, scramble, candidates) {
     const beginnings = candidates.flatMap(beginningsOfParts);

@@ -1,5 +1,5 @@
-// The card of the scramble: its field, with what was left out of a text and what is at fault, examples, random scrambles from a seed, and the
-// fold of it where the page is narrow.
+// The card of the scramble: its field, with what was left out of a text and what is at fault, examples, random scrambles from a seed, and
+// the fold of it where the page is narrow.
 import { EngineFault } from "./answers.js";
 import { LONGEST_SCRAMBLE } from "./address.js";
 import { announce, element, part, tell } from "./element.js";
@@ -35,7 +35,8 @@ export class ScrambleField {
 
     /**
      * @param {import("./calls.js").Calls} calls
-     * @param {(scramble: string, isNew: boolean, fmc: Fmc | null) => void} changed a new scramble begins a new line, one that is typed keeps it
+     * @param {(scramble: string, isNew: boolean, fmc: Fmc | null) => void} changed a new scramble begins a new line, one that is typed
+     * keeps it
      */
     constructor(calls, changed) {
         this.#calls = calls;
@@ -101,7 +102,8 @@ export class ScrambleField {
     #fold(isFolded) {
         const focused = document.activeElement;
         part("scramble-card").classList.toggle("folded", isFolded);
-        if (isFolded && matchMedia(NARROW).matches && part("scramble-open").contains(focused)) part("scramble-edit").focus({ preventScroll: true });
+        const isWithin = part("scramble-open").contains(focused);
+        if (isFolded && matchMedia(NARROW).matches && isWithin) part("scramble-edit").focus({ preventScroll: true });
     }
 
     /** Marks a place in the field, by a text behind it. @param {string} text @param {number | null} place */

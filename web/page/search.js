@@ -49,7 +49,10 @@ function twinsOf(list, step, isAll) {
     return groups;
 }
 
-/** The least length of a step, or null if it is more than a limit. @param {Nissy} nissy @param {string} step @param {string} line @param {number} limit */
+/**
+ * The least length of a step, or null if it is more than a limit.
+ * @param {Nissy} nissy @param {string} step @param {string} line @param {number} limit
+ */
 function leastOf(nissy, step, line, limit) {
     return limit < 0 ? null : (nissy.solve(step, line, { limit: Math.min(MOST_SEARCHED, limit), most: 1 })[0]?.length ?? null);
 }
@@ -77,7 +80,8 @@ function rowOf(nissy, { part: { side, moves, length }, lines, total }, state, st
 
 /**
  * The rows of twins, one for each reduction: that of the best of them. One with as many moves as the bound is left out.
- * @param {Nissy} nissy @param {string} orientation @param {{key: string, group: Sided[]}} twins @param {Question} question @param {number} bound
+ * @param {Nissy} nissy @param {string} orientation @param {{key: string, group: Sided[]}} twins @param {Question} question
+ * @param {number} bound
  * @returns {(Row | null)[]} null for one that is left out
  */
 function rowsOf(nissy, orientation, { key, group }, question, bound) {

@@ -12,6 +12,8 @@ import { isNarrow } from "./view.js";
 /** @typedef {import("./parts.js").Part} Part */
 /** @typedef {import("./twins.js").Twins & {letters?: string}} Entry a solution, and the letters after it where they are known */
 
+/** From more signs on a line leaves no room for what is pressed beside it on a phone. */
+const LONG_LINE = 18;
 export const MOST_SHOWN = 200;
 /** Of how many solutions the cases are asked for. */
 export const MOST_WITH_CASES = 50000;
@@ -51,7 +53,9 @@ export class SolutionList {
         part("slack").addEventListener("change", (event) => acts.change({ slack: Number(event.target.value) }));
         part("twins").addEventListener("change", (event) => acts.change({ isAll: event.target.checked }));
         part("solutions-close").addEventListener("click", () => acts.change(null));
-        for (const name of ["last-turn", "most-corners", "most-edges", "list-sort"]) part(name).addEventListener("change", () => this.#filtered());
+        for (const name of ["last-turn", "most-corners", "most-edges", "list-sort"]) {
+            part(name).addEventListener("change", () => this.#filtered());
+        }
         part("solutions-more").addEventListener("click", () => this.#more());
         roveWithin(this.#groups, ".take");
         // so that rows are seen below them
@@ -186,7 +190,8 @@ export class SolutionList {
     /** The names of the cases after a solution, for each reduction that may follow. @param {Entry} entry */
     #casesOf({ letters }) {
         if (letters === undefined) return [];
-        return reductionsAfter(this.#list.step).map((step) => ({ state: stateOf(step), axis: step.axis, name: caseName(letters, step.axis) }));
+        const caseOfOne = (step) => ({ state: stateOf(step), axis: step.axis, name: caseName(letters, step.axis) });
+        return reductionsAfter(this.#list.step).map(caseOfOne);
     }
 
     /** @param {string[]} wanted */
@@ -221,8 +226,9 @@ export class SolutionList {
         const shown = matching.slice(0, this.#shown);
         part("solutions-more").hidden = shown.length === matching.length;
         const nearest = (entry) => {
-            const names = this.#casesOf(entry).map(({ name }) => name).sort((one, other) => farnessOf(sizeOf(one)) - farnessOf(sizeOf(other)));
-            return names[0] ?? "unknown case";
+            const far = ({ name }) => farnessOf(sizeOf(name));
+            const [first] = this.#casesOf(entry).sort((one, other) => far(one) - far(other));
+            return first?.name ?? "unknown case";
         };
         const nameOf = byCase ? nearest : ({ length }) => counted(length, "move");
         const counts = grouped(matching.slice(0, MOST_WITH_CASES), nameOf);
@@ -255,6 +261,7 @@ export class SolutionList {
         const list = element("ul", {}, ...entries.map((entry) => this.#item(entry)));
         const longest = Math.max(...entries.map((entry) => this.#textOf(entry).length));
         list.style.setProperty("--longest", String(longest));
+        list.classList.toggle("long", longest > LONG_LINE);
         const count = `${all.toLocaleString("en")} row${all === 1 ? "" : "s"}`;
         return element("div", { class: "group" }, element("h3", {}, `${name}: ${count}`), list);
     }

@@ -1,5 +1,5 @@
-// Twins: solutions of one step that differ in the direction of their last quarter turns alone. The same holds after each, and all have one case.
-// And solutions in which the step was reached before their last move.
+// Twins: solutions of one step that differ in the direction of their last quarter turns alone. The same holds after each, and all have one
+// case. And solutions in which the step was reached before their last move.
 import { stepNamed } from "./steps.js";
 
 /** @typedef {import("./answers.js").Solution} Solution */
@@ -25,7 +25,10 @@ function startOfLast(moves, axis) {
     return start;
 }
 
-/** What twins have in common: the moves, without the direction of their last quarter turns. @param {string} moves @param {string} step its name */
+/**
+ * What twins have in common: the moves, without the direction of their last quarter turns.
+ * @param {string} moves @param {string} step its name
+ */
 export function twinKey(moves, step) {
     const start = startOfLast(moves, lastAxisOf(step));
     return moves.slice(0, start) + moves.slice(start).replaceAll("'", "");
