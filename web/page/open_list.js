@@ -25,11 +25,14 @@ export class OpenList {
         if (name === this.#name) return false;
         this.#name = name;
         this.#calls.stop();
+        // the engine searches while the card is drawn; what is wrong is said where it is waited for
+        const asked = list ? solve(this.#calls, list.step, list.slack, line) : null;
+        asked?.catch(() => {});
         this.#list.open(list);
         if (!list) return false;
         const isStill = () => name === this.#name;
         try {
-            const { solutions, whole } = await solve(this.#calls, list.step, list.slack, line);
+            const { solutions, whole } = await asked;
             if (!isStill()) return false;
             const wanted = this.#list.take(solutions, whole);
             const letters = await printAll(this.#calls, wanted.map(({ moves }) => `${line} ${moves}`));
