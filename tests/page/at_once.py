@@ -14,7 +14,7 @@ LISTEN = """window.asked = [];
     const { postMessage } = Worker.prototype;
     Worker.prototype.postMessage = function (...words) {
         const [{ request, question }] = words;
-        const one = request?.call === "all" ? request.requests[0] : request;
+        const one = request?.call === "all" ? request.search : request;
         if (one) window.asked.push(`${one.call} ${one.step ?? ""}`.trim());
         if (question) window.asked.push("best");
         postMessage.apply(this, words);
