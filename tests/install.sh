@@ -107,14 +107,14 @@ if [ $library = yes ]; then
     if missing python3; then skips "there is no python3 here"; else
         python=/usr/bin/python3
         [ -x $python ] || python=python3
-        at_home() { HOME=$room/home by_make "$1" PREFIX="$room/home/.local"; }
+        at_home() { HOME=$room/user by_make "$1" PREFIX="$room/user/.local"; }
         by_python() {
-            env -C / -u PYTHONPATH -u PYTHONNOUSERSITE -u NISSY_LIBRARY HOME="$room/home" $python -c 'import nissy; print(nissy.invert("R U"))'
+            env -C / -u PYTHONPATH -u PYTHONNOUSERSITE -u NISSY_LIBRARY HOME="$room/user" $python -c 'import nissy; print(nissy.invert("R U"))'
         }
         holds "make install takes a user's own folder" at_home install
         holds "and Python finds the module there at once" test "$(by_python)" = "U' R'"
         holds "make uninstall takes it away" at_home uninstall
-        holds "and nothing is left there" test -z "$(find "$room/home" ! -type d -o -name '*nissy*')"
+        holds "and nothing is left there" test -z "$(find "$room/user" ! -type d -o -name '*nissy*')"
     fi
     # as on Debian, where each kind of processor has a folder for its libraries
     multiarch=lib/x86_64-linux-gnu
