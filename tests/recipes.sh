@@ -5,7 +5,8 @@
 #
 # The program is build/nissy where none is named, and the pages are README, COOKBOOK, MANUAL, EMBEDDING, the module's README and the manual page.
 # Where `make lib` built the library, the examples find it, its header and its module; else EMBEDDING is skipped, and so is the module's README
-# where `make build/nissy.wasm` built none. `tests/pages/recipes.py` says how an example is written. The last line is `N passed, M failed`, and the status is 1 where M isn't 0. Where there is no python3 nothing is tried.
+# where `make build/nissy.wasm` built none. `tests/documents/recipes.py` says how an example is written. The last line is `N passed, M failed`,
+# and the status is 1 where M isn't 0. Where there is no python3 nothing is tried.
 set -u
 # shellcheck source=tests/shared
 . "$(dirname "$0")/shared"
@@ -23,5 +24,5 @@ if [ ${#pages[@]} -eq 0 ]; then
     if [ -e "$top/build/libnissy.so" ]; then pages+=("$top/docs/EMBEDDING.md"); else skips "docs/EMBEDDING.md, no library here"; fi
 fi
 export CPATH=$top/include LIBRARY_PATH=$top/build LD_LIBRARY_PATH=$top/build PYTHONPATH=$top/python
-add python3 "$top/tests/pages/recipes.py" "$program" "${pages[@]}"
+add python3 "$top/tests/documents/recipes.py" "$program" "${pages[@]}"
 ended

@@ -15,7 +15,7 @@ from pathlib import Path
 
 TOP = Path(__file__).resolve().parents[2]
 PYTHON = str(TOP / "python")
-sys.path[:0] = [str(TOP / "tests/page")]
+sys.path[:0] = [str(TOP / "tests")]
 
 from tally import Tally
 

@@ -16,7 +16,7 @@ from pathlib import Path
 from typing import Any, Callable, Iterator, List, Optional, Tuple, Type, get_type_hints
 
 TOP = Path(__file__).resolve().parents[2]
-sys.path[:0] = [str(TOP / "python"), str(TOP / "tests/page")]
+sys.path[:0] = [str(TOP / "python"), str(TOP / "tests")]
 
 import nissy
 from tally import Tally

@@ -2,7 +2,7 @@
 # Tries the module for pages of `make build/nissy.wasm` and its JavaScript, web/module, in node, beside PROGRAM, and in a page without a bundler;
 # and what the page says of a cube by its letters alone beside the module:
 #
-#     tests/page_model.sh [PROGRAM [MODULE]]
+#     tests/module.sh [PROGRAM [MODULE]]
 #
 # The program is build/nissy if none is named, and the module build/nissy.wasm. If there is no module, or no node, nothing is tried. What needs
 # a browser or tsc that isn't here is skipped, and named. The last line is `N passed, M failed`, and the status is 1 if M isn't 0.
@@ -16,13 +16,13 @@ module=$(realpath -m -- "${2:-build/nissy.wasm}")
 if [ ! -e "$module" ] || missing node; then
     skips_all "there is no module that make build/nissy.wasm built, or no node"
 fi
-add node tests/page_model/rows.mjs "$module"
-for trial in plain wrong typed in_worker; do add node "tests/page_model/$trial.mjs" "$module"; done
-add node tests/page_model/cases.mjs "$module"
+add node tests/module/rows.mjs "$module"
+for trial in plain wrong typed in_worker; do add node "tests/module/$trial.mjs" "$module"; done
+add node tests/module/cases.mjs "$module"
 if missing python3; then
     skips "there is no python3 here"
 else
-    add python3 tests/page_model/beside_program.py "$program" "$module" 1 0.25
+    add python3 tests/module/beside_program.py "$program" "$module" 1 0.25
 fi
 
 # Debian's Python has Debian's selenium, whatever other Python comes first
@@ -31,14 +31,14 @@ export SE_OFFLINE=true SE_AVOID_STATS=true
 if missing chromium || missing chromedriver || ! $python -c "import selenium" 2> /dev/null; then
     skips "the module in a page, since chromium, chromedriver or python3-selenium isn't installed"
 else
-    add $python tests/page_model/in_browser.py "$module"
+    add $python tests/module/in_browser.py "$module"
 fi
 
 if missing tsc; then
     skips "the types of the module's JavaScript, since there is no tsc"
 else
     holds "the types are those of the JavaScript" tools/module-types "$room/types"
-    cp tests/page_model/types.ts "$room/types"
+    cp tests/module/types.ts "$room/types"
     strict=(tsc --strict --noEmit --target es2022 --module es2022 --moduleResolution node --lib "es2022,dom")
     holds "a caller in TypeScript has these types, and is told of what is wrong" "${strict[@]}" "$room/types/types.ts"
     echo 'declare const nissy: import("./nissy.js").Nissy; nissy.invert(1);' > "$room/types/wrong.ts"

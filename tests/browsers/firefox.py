@@ -1,7 +1,7 @@
 #!/usr/bin/env python3
 """Shows the page in Firefox, by its own remote protocol (Marionette), since Debian has no driver for it.
 
-    tests/page/firefox.py PAGE
+    tests/browsers/firefox.py PAGE
 
 The last line is `N passed, M failed`, and the status is 1 where M isn't 0.
 """
@@ -13,6 +13,8 @@ import sys
 import tempfile
 import time
 from pathlib import Path
+
+sys.path.insert(0, str(Path(__file__).resolve().parent.parent))
 
 from anywhere import PATIENCE, Window, try_all
 from tally import Tally

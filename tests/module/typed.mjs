@@ -1,6 +1,6 @@
 // The calls of `Nissy` by their names, with what is wanted, and with values and sizes that no call takes.
 //
-//     node tests/page_model/typed.mjs MODULE
+//     node tests/module/typed.mjs MODULE
 //
 // The last line is `N passed, M failed`, and the status is 1 where M isn't 0.
 import { createContext, runInContext } from "node:vm";

@@ -1,7 +1,7 @@
 #!/usr/bin/env python3
 """Runs the examples of pages as a reader would, with PROGRAM as `nissy`, and compares what they print with the page:
 
-    tests/pages/recipes.py PROGRAM PAGE..
+    tests/documents/recipes.py PROGRAM PAGE..
 
 A block ```sh is run, and where the next block is ```text, that is what it prints (else nothing). In a block ```console each line that begins
 with `$ ` is run, and the lines after it are what it prints. The blocks of a page run one after another in one shell, so that variables and
@@ -21,7 +21,7 @@ from dataclasses import dataclass, field
 from pathlib import Path
 
 TOP = Path(__file__).resolve().parents[2]
-sys.path.insert(0, str(TOP / "tests/page"))
+sys.path.insert(0, str(TOP / "tests"))
 
 from tally import Tally
 

@@ -1,4 +1,4 @@
-// A caller in TypeScript, who is told of what is wrong: tests/page_model.sh has tsc read this beside the types of the module.
+// A caller in TypeScript, who is told of what is wrong: tests/module.sh has tsc read this beside the types of the module.
 import { loadNissy, Nissy, NissyFault, NissyWorker, VERSION, type Count, type Solution } from "./node.js";
 import { NissyWorker as NissyWorkerOfBrowsers } from "./browser.js";
 

@@ -1,7 +1,7 @@
 // Makes the calls of the module that standard input asks for, a JSON text a line, and answers each with a line: a run, or another call by
 // its name, here or in a worker.
 //
-//     node tests/page_model/calls.mjs MODULE
+//     node tests/module/calls.mjs MODULE
 import { readFileSync } from "node:fs";
 import { createInterface } from "node:readline";
 import { Nissy, NissyFault, NissyWorker } from "../../web/module/node.js";

@@ -1,7 +1,7 @@
 // Values that are no text in the words and the input of the module, and calls that break off: nothing of one caller reaches another, and
 // the next call is answered.
 //
-//     node tests/page_model/wrong.mjs MODULE
+//     node tests/module/wrong.mjs MODULE
 //
 // The last line is `N passed, M failed`, and the status is 1 where M isn't 0.
 import { createContext, runInContext } from "node:vm";

@@ -1,7 +1,7 @@
 #!/usr/bin/env bash
 # Tries the page that `make page` built, drives it in Chromium, and shows it in Firefox and WebKit:
 #
-#     tests/page.sh [PAGE [PROGRAM]]
+#     tests/browsers.sh [PAGE [PROGRAM]]
 #
 # The page is build/nissy.html where none is named, and the program build/nissy. What needs a browser that isn't here is skipped, and named.
 # The last line is `N passed, M failed`, and the status is 1 where M isn't 0.
@@ -15,23 +15,23 @@ cd "$(dirname "$0")/.." || exit 2
 export SE_OFFLINE=true SE_AVOID_STATS=true
 
 if [ ! -e "$page" ] || missing python3; then skips_all "the page, since make page built none or there is no python3"; fi
-add python3 tests/page/files.py "$page"
+add python3 tests/browsers/files.py "$page"
 
 # Debian's Python has Debian's selenium, whatever other Python comes first
 python=/usr/bin/python3
 if missing chromium || missing chromedriver || ! $python -c "import selenium" 2> /dev/null; then
     skips "the page in Chromium, since chromium, chromedriver or python3-selenium isn't installed"
 else
-    add $python tests/page/drive.py "$page" "$program"
+    add $python tests/browsers/drive.py "$page" "$program"
 fi
 if missing firefox && missing firefox-esr; then
     skips "the page in Firefox, which isn't installed"
 else
-    add python3 tests/page/firefox.py "$page"
+    add python3 tests/browsers/firefox.py "$page"
 fi
 if missing WebKitWebDriver || missing xvfb-run || ! $python -c "import selenium" 2> /dev/null; then
     skips "the page in WebKit, since webkit2gtk-driver, xvfb or python3-selenium isn't installed"
 else
-    add xvfb-run -a $python tests/page/webkit.py "$page"
+    add xvfb-run -a $python tests/browsers/webkit.py "$page"
 fi
 ended

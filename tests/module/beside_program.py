@@ -1,7 +1,7 @@
 #!/usr/bin/env python3
 """Drawn calls of every command, by the module for pages in node and by the built program: both answer the same.
 
-    tests/page_model/beside_program.py PROGRAM MODULE SEED SCALE
+    tests/module/beside_program.py PROGRAM MODULE SEED SCALE
 
 The draws are those by which the program is compared with the independent model
 (tests/model/against.py), some 4,000 at scale 0.25, each called with room that grows and with room of a drawn size, and then by a call for

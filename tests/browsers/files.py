@@ -1,7 +1,7 @@
 #!/usr/bin/env python3
 """Looks at the joined page as text: its size, its policy, what it may ask for, its parts; and at what tools/page refuses.
 
-    tests/page/files.py PAGE
+    tests/browsers/files.py PAGE
 
 The last line is `N passed, M failed`, and the status is 1 where M isn't 0.
 """
@@ -14,9 +14,11 @@ import sys
 import tempfile
 from pathlib import Path
 
+TOP = Path(__file__).resolve().parent.parent.parent
+sys.path.insert(0, str(TOP / "tests"))
+
 from tally import Tally
 
-TOP = Path(__file__).resolve().parent.parent.parent
 MOST_BYTES = 400_000
 # what would make text into markup or into a program
 MARKUP = r"(?:inner|outer|set)HTML|insertAdjacent|document\.write|ContextualFragment|DOMParser|\beval\b|new Function|srcdoc|import\("

@@ -1,6 +1,6 @@
 // The module called as web/module/README.md says, without its scripts.
 //
-//     node tests/page_model/plain.mjs MODULE
+//     node tests/module/plain.mjs MODULE
 //
 // The last line is `N passed, M failed`, and the status is 1 where M isn't 0.
 import { ended, moduleBytes as module, same, text } from "./tally.mjs";

@@ -1,7 +1,7 @@
 // Tries web/page/cases.js and web/page/twins.js beside the engine, on drawn lines: an axis has no bad edge just where its orientation is
 // reached, a reduction's case is 0c0e just where it is reached, both sides have the same numbers, and twins have the same case.
 //
-//     node tests/page_model/cases.mjs MODULE
+//     node tests/module/cases.mjs MODULE
 //
 // The last line is `N passed, M failed`, and the status is 1 where M isn't 0.
 import { readFileSync } from "node:fs";

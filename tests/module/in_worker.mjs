@@ -1,6 +1,6 @@
 // The engine in a worker, in node: its calls, and calls that are given up.
 //
-//     node tests/page_model/in_worker.mjs MODULE
+//     node tests/module/in_worker.mjs MODULE
 //
 // The last line is `N passed, M failed`, and the status is 1 where M isn't 0.
 import { getEventListeners } from "node:events";

@@ -1,7 +1,7 @@
 #!/usr/bin/env python3
 """Drives the page in Chromium, and holds what it shows against the independent model.
 
-    tests/page/drive.py PAGE PROGRAM [PART..]
+    tests/browsers/drive.py PAGE PROGRAM [PART..]
 
 PAGE is the joined file, PROGRAM the built nissy, and a PART one of keyboard, faults, addresses, searches, at_once, turned, steps and
 looks; all where none is named. The last line is `N passed, M failed`, and the status is 1 where M isn't 0.
@@ -11,6 +11,8 @@ import subprocess
 import sys
 import tempfile
 from pathlib import Path
+
+sys.path.insert(0, str(Path(__file__).resolve().parent.parent))
 
 import addresses
 import at_once

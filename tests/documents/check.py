@@ -1,7 +1,7 @@
 #!/usr/bin/env python3
 """Holds the pages against the repository. With the word `map` it only prints what the maps of docs/ARCHITECTURE.md lack, and what is gone.
 
-    tests/pages/check.py [map]
+    tests/documents/check.py [map]
 
 The last line is `N passed, M failed`, and the status is 1 where M isn't 0.
 """
@@ -12,7 +12,7 @@ import sys
 from pathlib import Path
 
 TOP = Path(__file__).resolve().parents[2]
-sys.path.insert(0, str(TOP / "tests/page"))
+sys.path.insert(0, str(TOP / "tests"))
 
 from repository import Code
 from markdown import NAME, Page, cells, rows

@@ -1,7 +1,7 @@
 #!/usr/bin/env python3
 """Tries the module in a page without a bundler, in each browser that is here:
 
-    tests/page_model/in_browser.py MODULE
+    tests/module/in_browser.py MODULE
 
 The last line is `N passed, M failed`, and the status is 1 where M isn't 0. Run it by Debian's Python, which has Debian's selenium.
 """
@@ -11,7 +11,7 @@ import tempfile
 from pathlib import Path
 
 TOP = Path(__file__).resolve().parent.parent.parent
-sys.path.insert(0, str(TOP / "tests/page"))
+sys.path[:0] = [str(TOP / "tests"), str(TOP / "tests/browsers")]
 
 from served import served  # noqa: E402
 from tally import Tally  # noqa: E402
@@ -24,7 +24,7 @@ TRIED = ("chromium", "firefox")
 
 def site(folder: Path, module: Path) -> None:
     """Puts together what a web server would have."""
-    for script in [*(TOP / "web/module").glob("*.js"), TOP / "tests/page_model/in_browser.js"]:
+    for script in [*(TOP / "web/module").glob("*.js"), TOP / "tests/module/in_browser.js"]:
         shutil.copy(script, folder)
     shutil.copy(module, folder / "nissy.wasm")
     (folder / "index.html").write_text(PAGE)

@@ -1,6 +1,6 @@
 // Calls of the module in node, with the answers that are wanted.
 //
-//     node tests/page_model/rows.mjs MODULE
+//     node tests/module/rows.mjs MODULE
 //
 // The last line is `N passed, M failed`, and the status is 1 where M isn't 0.
 import { NoWebAssembly, NoWideMemory, Nissy } from "../../web/module/nissy.js";

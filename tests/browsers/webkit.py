@@ -1,12 +1,14 @@
 #!/usr/bin/python3
 """Shows the page in WebKit, the engine of Safari, as WebKitGTK has it, which needs a display.
 
-    tests/page/webkit.py PAGE
+    tests/browsers/webkit.py PAGE
 
 The last line is `N passed, M failed`, and the status is 1 where M isn't 0.
 """
 import sys
 from pathlib import Path
+
+sys.path.insert(0, str(Path(__file__).resolve().parent.parent))
 
 from anywhere import Driven, try_all
 from selenium import webdriver
