@@ -24,6 +24,44 @@ answers "input without an end" 3 "" "nissy: input longer than 16777216 bytes\n" 
 answers "a closed input" 3 "" "nissy: cannot read\n" closed_input
 answers "a reader that has gone" 3 "" "nissy: cannot write\n" gone_reader
 
+# yes or no: the output goes into a file that may have one kilobyte, where the signal SIGXFSZ is ignored or isn't; by it a status is 153.
+limited_file() {
+    local status
+    {
+        (
+            [ "$1" = no ] || trap '' XFSZ
+            ulimit -f 1
+            exec "$nissy" scramble 1 1 25 40 > limited
+        )
+        status=$?
+    } 2> limited.err
+    grep '^nissy' limited.err >&2
+    head -c 1024 unlimited | cmp - limited
+    return "$status"
+}
+"$nissy" scramble 1 1 25 40 > "$room/unlimited"
+# The program is stopped and goes on, and at last is ended, while it answers lines as they come.
+stopped_and_ended() {
+    local program status
+    mkfifo lines
+    "$nissy" invert < lines > answers &
+    program=$!
+    exec 9> lines
+    echo "R U" >&9
+    until [ -s answers ]; do sleep 0.05; done
+    kill -STOP "$program"
+    echo "F2" >&9
+    kill -CONT "$program"
+    until [ "$(wc -l < answers)" -eq 2 ]; do sleep 0.05; done
+    kill -TERM "$program"
+    wait "$program" 2> /dev/null
+    status=$?
+    exec 9>&-
+    cat answers
+    return "$status"
+}
+answers "a stopped job that goes on, and SIGTERM" 143 "U' R'\nF2\n" "" stopped_and_ended
+
 # KILOBYTES WORD..: the program in so much memory. For `steps` it asks for none, and so tells where it is loaded at all.
 within() { prlimit --as=$(($1 * 1024)) "$nissy" "${@:2}" < /dev/null; }
 succeeds() { "$@" > /dev/null 2>&1; }

@@ -38,6 +38,11 @@ writes "$quarters_of_f" solve eofb 3 '(F)'
 # count
 counts() { writes "length $1 solutions $2 nodes $3\n" count "${@:4}"; } # LENGTH SOLUTIONS NODES STEP LIMIT MOVES
 counts 2 4 75 eofb 5 'F B'
+# far from the nearest of several goals: the superflip, and a cube in three orientations, whose numbers are the model's
+counts 7 1344 33020 eo 20 "U R2 F B R B2 R U2 L B2 R U' D' R2 F R' L B2 U2 F2"
+counts 10 708 26077 dr-eofb 20 "U2 D' B2 D2 R2 B2 R2 U B2 U2 L F2 B2 R2 L U R' L F2 U D' L'"
+counts 10 708 26079 dr-eorl 20 "U2 D' R2 D2 F2 R2 F2 U R2 U2 B L2 R2 F2 B U F' B L2 U D' B'"
+counts 10 708 26079 dr-eoud 20 "F2 B' U2 B2 R2 U2 R2 F U2 F2 L D2 U2 R2 L F R' L D2 F B' L'"
 counts none 0 2 eofb 1 'F B'
 counts 0 1 1 eofb 20 ''
 counts none 0 1 eofb 0 F
