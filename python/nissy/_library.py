@@ -123,10 +123,12 @@ def _loaded(place: str) -> ctypes.CDLL:
 
 LIBRARY = _loaded(_place())
 
-# bytes that a call reads, with their number, and bytes that it writes, by address, with the room that there is
-_READ = (ctypes.c_char_p, ctypes.c_size_t)
-_WRITTEN = (ctypes.c_void_p, ctypes.c_size_t)
-_TABLES = ctypes.POINTER(KeptTables)
+# Numbers that were checked, and places. The library's processor hands each over as a whole register, whatever its width, and ctypes takes an
+# address in half the time of a number.
+_NUMBER = _PLACE = ctypes.c_void_p
+# bytes that a call reads, with their number, and bytes that it writes, by place, with the room that there is
+_READ = (ctypes.c_char_p, _NUMBER)
+_WRITTEN = (_PLACE, _NUMBER)
 
 
 def _call(name: str, returned: Any, *taken: Any) -> Callable[..., Any]:
@@ -143,11 +145,11 @@ def _call(name: str, returned: Any, *taken: Any) -> Callable[..., Any]:
 nissy_run = _call("nissy_run", RunAnswer, *_READ, *_READ, *_WRITTEN, *_WRITTEN)
 nissy_invert, nissy_unniss, nissy_cleanup, nissy_print = (
     _call(name, LineAnswer, *_READ, *_WRITTEN) for name in ("nissy_invert", "nissy_unniss", "nissy_cleanup", "nissy_print"))
-nissy_build = _call("nissy_build", ctypes.c_uint8, _TABLES, *_READ)
-nissy_solve = _call("nissy_solve", SolveAnswer, _TABLES, *_READ, ctypes.c_uint8, ctypes.c_uint8, ctypes.c_uint64, *_WRITTEN)
-nissy_count = _call("nissy_count", CountAnswer, _TABLES, *_READ, ctypes.c_uint8, ctypes.c_uint8)
-nissy_scramble = _call("nissy_scramble", LineAnswer, ctypes.c_uint64, ctypes.c_uint64, ctypes.c_uint32, *_WRITTEN)
+nissy_build = _call("nissy_build", ctypes.c_uint8, _PLACE, *_READ)
+nissy_solve = _call("nissy_solve", SolveAnswer, _PLACE, *_READ, _NUMBER, _NUMBER, _NUMBER, *_WRITTEN)
+nissy_count = _call("nissy_count", CountAnswer, _PLACE, *_READ, _NUMBER, _NUMBER)
+nissy_scramble = _call("nissy_scramble", LineAnswer, _NUMBER, _NUMBER, _NUMBER, *_WRITTEN)
 nissy_steps = _call("nissy_steps", LineAnswer, *_WRITTEN)
 nissy_start = _call("nissy_start", LineAnswer, *_READ, *_WRITTEN)
-nissy_fault_text = _call("nissy_fault_text", LineAnswer, ctypes.c_uint8, *_WRITTEN)
+nissy_fault_text = _call("nissy_fault_text", LineAnswer, _NUMBER, *_WRITTEN)
 nissy_version = _call("nissy_version", ctypes.c_uint32)
