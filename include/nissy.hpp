@@ -127,6 +127,14 @@ inline const kept_tables::value_type &kept(std::string_view step) {
     }
 }
 
+// The lines of a text in which a line feed ends each.
+inline std::vector<std::string> lines_of(std::string_view text) {
+    std::vector<std::string> lines;
+    for (std::size_t end; (end = text.find('\n')) != std::string_view::npos; text.remove_prefix(end + 1))
+        lines.emplace_back(text.substr(0, end));
+    return lines;
+}
+
 // The solutions of a text that has one a line, such as "R U' F2 (3)".
 inline std::vector<solution> solutions_of(std::string_view text, std::uint64_t count) {
     std::vector<solution> found;
@@ -152,19 +160,26 @@ inline std::string cleanup(std::string_view line) { return detail::rewritten(nis
 // The 54 facelet letters of the cube after a line's moves.
 inline std::string facelets(std::string_view line) { return detail::rewritten(nissy_print, line); }
 
-// The first scramble of this length, at most 256 turns, of the generator that begins with this state and stream.
+// The first scramble of this length, at most 256 turns, of the generator that begins with this state and stream: what `scrambles` begins with.
 inline std::string scramble(std::uint64_t state, std::uint64_t stream, std::uint32_t length) {
     return detail::text_of([=](std::uint8_t *out, std::size_t room) { return nissy_scramble(state, stream, length, out, room); });
 }
 
-// The names of the steps.
-inline std::vector<std::string> steps() {
-    const std::string text = detail::text_of(nissy_steps);
-    std::vector<std::string> names;
-    for (std::size_t begin = 0, end; (end = text.find('\n', begin)) != std::string::npos; begin = end + 1)
-        names.push_back(text.substr(begin, end - begin));
-    return names;
+// `count` scrambles of this length, at most 10,000, all of the generator that begins with this state and stream, as the program makes them.
+inline std::vector<std::string> scrambles(std::uint64_t state, std::uint64_t stream, std::uint32_t length, std::uint32_t count) {
+    constexpr std::size_t MOST_OF_TURN = 3; // bytes of a turn, with the blank or the line feed behind it
+    if (length > 256 || count > 10000) throw std::out_of_range("nissy: a number is out of its range");
+    std::string words = "scramble";
+    for (const std::uint64_t number : {state, stream, std::uint64_t{length}, std::uint64_t{count}}) words += '\0' + std::to_string(number);
+    std::string out(count * (length * MOST_OF_TURN + 1), '\0');
+    const nissy_run_answer answer =
+        nissy_run(detail::bytes(std::string_view(words)), words.size(), nullptr, 0, detail::bytes(out), out.size(), nullptr, 0);
+    if (answer.status != NISSY_DONE) throw std::bad_alloc();
+    return detail::lines_of(std::string_view(out).substr(0, answer.out_length));
 }
+
+// The names of the steps.
+inline std::vector<std::string> steps() { return detail::lines_of(detail::text_of(nissy_steps)); }
 
 // The version of the library that runs: 10200 for 1.2.0.
 inline std::uint32_t version() { return nissy_version(); }

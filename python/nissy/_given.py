@@ -28,12 +28,11 @@ def bytes_of(text: Text, what: str) -> bytes:
     if type(text) is bytes:
         return text
     if isinstance(text, str):
-        # by str's own method, whatever a class made of it says
         try:
-            return str.encode(text, "utf-8", "surrogateescape")
+            # by str's own method, whatever a class made of it says
+            return str.encode(text)
         except UnicodeEncodeError:
-            # half of a surrogate pair, as JSON may hold one: in its place come bytes that are no text, for the library to refuse
-            return str.encode(text, "utf-8", "surrogatepass")
+            return _with_halves(text)
     try:
         view = memoryview(text)
     except TypeError:
@@ -41,6 +40,15 @@ def bytes_of(text: Text, what: str) -> bytes:
     if view.itemsize != 1:
         raise TypeError(f"{what} is a str or bytes, not items of {view.itemsize} bytes each")
     return bytes(view)
+
+
+def _with_halves(text: str) -> bytes:
+    """Returns the bytes of a text with halves of surrogate pairs, which stand for bytes that are no text, or come from JSON."""
+    try:
+        return str.encode(text, "utf-8", "surrogateescape")
+    except UnicodeEncodeError:
+        # others aren't bytes: in their place come some that are no text, for the library to refuse
+        return str.encode(text, "utf-8", "surrogatepass")
 
 
 def number_of(value: int, what: str, most: int) -> int:

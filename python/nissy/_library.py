@@ -3,7 +3,8 @@ from __future__ import annotations
 
 import ctypes
 import os
-from typing import Any, Callable
+import struct
+from typing import Any, BinaryIO, Callable
 
 MOST_INPUT = 16_777_216
 """The most bytes of a line or of an input."""
@@ -63,21 +64,71 @@ def _place() -> str:
     return "libnissy.so.1"
 
 
-def _loaded(place: str) -> ctypes.CDLL:
-    """Returns the library that is there."""
+# The sizes of an ELF file's header and of a segment's, of 64 bits. By its first four bytes it is such a file at all, and those that _KIND
+# names say which processor it is for.
+_MAGIC = b"\x7fELF"
+_HEADER, _SEGMENT = 64, 56
+_KIND = (slice(4, 6), slice(18, 20))
+
+
+def _end_of(file: BinaryIO, header: bytes, size: int) -> int:
+    """Returns how many bytes an ELF file of this size needs to have by its headers: those of the file, of its segments and of its sections."""
+    segments, sections = struct.unpack_from("<QQ", header, 32)
+    segment_size, segment_count, section_size, section_count = struct.unpack_from("<HHHH", header, 54)
+    end: int = max(segments + segment_size * segment_count, sections + section_size * section_count)
+    if end <= size and segment_size == _SEGMENT:
+        file.seek(segments)
+        for begin, length in struct.iter_unpack("<8xQ16xQ16x", file.read(segment_size * segment_count)):
+            end = max(end, begin + length)
+    return end
+
+
+def _wrong_with(path: str) -> str:
+    """Returns what is wrong with a file of which the system has no plain words: one for another processor it says isn't there, and one that
+    was cut off ends the process by a signal. Anything else is left to the system to tell."""
+    with open(path, "rb") as file:
+        header, size = file.read(_HEADER), os.fstat(file.fileno()).st_size
+        if not header.startswith(_MAGIC):
+            return ""
+        if size >= _HEADER and _is_of_another_kind(header):
+            return "it is for another processor than this Python"
+        needed = _HEADER if size < _HEADER else _end_of(file, header, size)
+    return f"it is cut off: {size:,} of {needed:,} bytes" if size < needed else ""
+
+
+def _is_of_another_kind(header: bytes) -> bool:
+    """Returns whether a header is of a file for another processor than the one that runs this."""
     try:
-        return ctypes.CDLL(place)
-    except OSError as error:
-        why = str(error) if place in str(error) else f"{place}: {error}"
-        raise ImportError(f"nissy's library, which is for Linux on x86-64-v2, can't be loaded: {why}") from None
+        with open("/proc/self/exe", "rb") as python:
+            own = python.read(_HEADER)
+    except OSError:
+        return False
+    return own.startswith(_MAGIC) and any(header[part] != own[part] for part in _KIND)
+
+
+def _loaded(place: str) -> ctypes.CDLL:
+    """Returns the library that is there. A place without a folder is one where the system looks for it."""
+    try:
+        why = _wrong_with(place) if os.sep in place else ""
+    except OSError:
+        why = ""
+    if not why:
+        try:
+            return ctypes.CDLL(place)
+        except OSError as error:
+            why = str(error)
+    told = why if place in why else f"{place}: {why}"
+    raise ImportError(f"nissy's library, which is for Linux on x86-64-v2, can't be loaded: {told}")
 
 
 LIBRARY = _loaded(_place())
 
-# bytes that a call reads, with their number, and bytes that it writes, by address, with the room that there is
-_READ = (ctypes.c_char_p, ctypes.c_size_t)
-_WRITTEN = (ctypes.c_void_p, ctypes.c_size_t)
-_TABLES = ctypes.POINTER(KeptTables)
+# Numbers that were checked, and places. The library's processor hands each over as a whole register, whatever its width, and ctypes takes an
+# address in half the time of a number.
+_NUMBER = _PLACE = ctypes.c_void_p
+# bytes that a call reads, with their number, and bytes that it writes, by place, with the room that there is
+_READ = (ctypes.c_char_p, _NUMBER)
+_WRITTEN = (_PLACE, _NUMBER)
 
 
 def _call(name: str, returned: Any, *taken: Any) -> Callable[..., Any]:
@@ -94,11 +145,11 @@ def _call(name: str, returned: Any, *taken: Any) -> Callable[..., Any]:
 nissy_run = _call("nissy_run", RunAnswer, *_READ, *_READ, *_WRITTEN, *_WRITTEN)
 nissy_invert, nissy_unniss, nissy_cleanup, nissy_print = (
     _call(name, LineAnswer, *_READ, *_WRITTEN) for name in ("nissy_invert", "nissy_unniss", "nissy_cleanup", "nissy_print"))
-nissy_build = _call("nissy_build", ctypes.c_uint8, _TABLES, *_READ)
-nissy_solve = _call("nissy_solve", SolveAnswer, _TABLES, *_READ, ctypes.c_uint8, ctypes.c_uint8, ctypes.c_uint64, *_WRITTEN)
-nissy_count = _call("nissy_count", CountAnswer, _TABLES, *_READ, ctypes.c_uint8, ctypes.c_uint8)
-nissy_scramble = _call("nissy_scramble", LineAnswer, ctypes.c_uint64, ctypes.c_uint64, ctypes.c_uint32, *_WRITTEN)
+nissy_build = _call("nissy_build", ctypes.c_uint8, _PLACE, *_READ)
+nissy_solve = _call("nissy_solve", SolveAnswer, _PLACE, *_READ, _NUMBER, _NUMBER, _NUMBER, *_WRITTEN)
+nissy_count = _call("nissy_count", CountAnswer, _PLACE, *_READ, _NUMBER, _NUMBER)
+nissy_scramble = _call("nissy_scramble", LineAnswer, _NUMBER, _NUMBER, _NUMBER, *_WRITTEN)
 nissy_steps = _call("nissy_steps", LineAnswer, *_WRITTEN)
 nissy_start = _call("nissy_start", LineAnswer, *_READ, *_WRITTEN)
-nissy_fault_text = _call("nissy_fault_text", LineAnswer, ctypes.c_uint8, *_WRITTEN)
+nissy_fault_text = _call("nissy_fault_text", LineAnswer, _NUMBER, *_WRITTEN)
 nissy_version = _call("nissy_version", ctypes.c_uint32)

@@ -39,7 +39,7 @@ class _Place:
     def _build(self) -> KeptTables:
         """Builds the tables, keeps them and returns them."""
         tables, name = KeptTables(), self.step.encode()
-        if _library.nissy_build(ctypes.byref(tables), name, len(name)) != DONE:
+        if _library.nissy_build(ctypes.addressof(tables), name, len(name)) != DONE:
             raise MemoryError(f"no memory for the tables of {self.step}")
         self.tables = tables
         return tables
@@ -76,11 +76,12 @@ class Tables:
     million for all thirteen steps. So there is nothing to close, and nothing can be given back. Any threads may ask at the same time.
     """
 
-    __slots__ = ("_step", "_tables")
+    __slots__ = ("_step", "_kept", "_tables")
 
     def __init__(self, step: Step) -> None:
         place = _place_of(step)
-        self._tables = ctypes.byref(place.built())
+        self._kept = place.built()
+        self._tables = ctypes.addressof(self._kept)
         self._step: Step = place.step
 
     @property
@@ -97,11 +98,13 @@ class Tables:
 
     def solve(self, line: Text, limit: int = 20, slack: int = 0, most: Optional[int] = None) -> List[Solution]:
         """The solutions of a line, as the function `solve` returns them."""
-        return self._solve(*_numbers(limit, slack), _most(most), line)
+        limit, slack = _numbers(limit, slack)
+        return self._solve(limit, slack, _most(most), line)
 
     def count(self, line: Text, limit: int = 20, slack: int = 0) -> Count:
         """How many solutions a line has, as the function `count` returns it."""
-        return self._count(*_numbers(limit, slack), line)
+        limit, slack = _numbers(limit, slack)
+        return self._count(limit, slack, line)
 
     def solve_all(self, lines: Iterable[Text], limit: int = 20, slack: int = 0, most: Optional[int] = None) -> Iterator[List[Solution]]:
         """The solutions of each line, as the function `solve_all` returns them."""
@@ -145,13 +148,17 @@ class Tables:
 
 def _solutions(text: str, length: int) -> List[Solution]:
     """Returns the solutions of a text in which each stands on a line with its length in brackets. The first ones have this length."""
-    found: List[Solution] = []
+    if not text:
+        return []
+    # all of a length are cut at once: line by line that takes twice the time
+    moves = text.split(_ENDS[length])
+    text = moves.pop()
+    found = list(map(Solution, moves))
     while text:
-        # all of a length are cut at once: line by line that takes twice the time
+        length += 1
         moves = text.split(_ENDS[length])
         text = moves.pop()
         found += map(Solution, moves)
-        length += 1
     return found
 
 

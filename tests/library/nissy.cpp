@@ -90,6 +90,10 @@ void misuse_is_thrown() {
         throws<std::out_of_range>([&] { tables.count("F", 20, number); }, "a slack");
     }
     throws<std::out_of_range>([] { nissy::scramble(1, 2, 257); }, "a scramble of 257 turns");
+    throws<std::out_of_range>([] { nissy::scrambles(1, 2, 257, 1); }, "scrambles of 257 turns");
+    throws<std::out_of_range>([] { nissy::scrambles(1, 2, 0xffffffff, 0); }, "scrambles of as many turns as there may be");
+    throws<std::out_of_range>([] { nissy::scrambles(1, 2, 1, 10001); }, "10,001 scrambles");
+    throws<std::out_of_range>([] { nissy::scrambles(1, 2, 1, 0xffffffff); }, "as many scrambles as there may be");
     const std::string blanks(NISSY_MOST_INPUT + 1, ' ');
     throws<std::length_error>([&] { nissy::invert(blanks); }, "16,777,217 blanks");
     throws<std::length_error>([&] { tables.solve(blanks); }, "16,777,217 blanks");
@@ -100,6 +104,8 @@ void misuse_is_thrown() {
 void refused_memory_is_thrown() {
     made = 0, refused_at = 1, onward = 1;
     throws<std::bad_alloc>([] { nissy::tables("dr-eoud"); }, "refused memory");
+    made = 0, refused_at = 1, onward = 1;
+    throws<std::bad_alloc>([] { nissy::scrambles(1, 2, 3, 4); }, "memory refused for the words of scrambles");
     refused_at = 0;
     holds(made > 0 && nissy::tables("dr-eoud").count("").length == 0, "the tables are built later", "dr-eoud");
 }
@@ -148,6 +154,17 @@ void threads_agree() {
     for (const int own : wrong) holds(own == 0, "each answer of a thread is that of its call", "threads");
 }
 
+void scrambles_are_drawn() {
+    holds(nissy::scramble(42, 54, 6) == "L' D' F' R2 F' L'" && nissy::scramble(1, 2, 0).empty(), "its turns", "scramble");
+    holds(nissy::scrambles(42, 54, 3, 2) == std::vector<std::string>{"L' D' F'", "L F' L'"}, "their turns", "scrambles");
+    holds(nissy::scrambles(1, 2, 0, 2) == std::vector<std::string>(2) && nissy::scrambles(1, 2, 3, 0).empty(), "none", "scrambles");
+    const std::uint64_t greatest = std::numeric_limits<std::uint64_t>::max();
+    const auto many = nissy::scrambles(greatest, greatest, 256, 10000);
+    const auto has_all_turns = [](const std::string &line) { return std::count(line.begin(), line.end(), ' ') == 255; };
+    holds(many.size() == 10000 && std::all_of(many.begin(), many.end(), has_all_turns), "as many as there may be", "scrambles");
+    holds(many.front() == nissy::scramble(greatest, greatest, 256), "scramble gives the first", "scrambles");
+}
+
 } // namespace
 
 int main() {
@@ -160,7 +177,7 @@ int main() {
     refused_memory_is_thrown();
     many_are_whole();
     objects_are_values();
-    holds(nissy::scramble(42, 54, 6) == "L' D' F' R2 F' L'" && nissy::scramble(1, 2, 0).empty(), "its turns", "scramble");
+    scrambles_are_drawn();
     holds(nissy::steps().size() == 13 && nissy::steps().front() == "eofb" && nissy::steps().back() == "dr-eoud", "the thirteen", "steps");
     holds(nissy::version() == nissy_version(), "the library's", "version");
     return ended();

@@ -255,6 +255,18 @@ def libraries(tally: Tally) -> None:
             said = of_process("import nissy", NISSY_LIBRARY=f"{room}/{file}").splitlines()
             tally.holds(f"{file} is no library: {said[-1:]}", said and said[-1].startswith(f"{NO_LIBRARY}{room}/{file}: "))
             tally.holds("nothing else is said of it", not any(line.startswith("OSError") for line in said))
+            processor_is_told = said and said[-1].endswith("/arm.so: it is for another processor than this Python")
+            tally.equal(f"whether {file} is said to be for another processor", bool(processor_is_told), file == "arm.so")
+        whole = Path(of_process(NAMES_LIBRARY).strip()).read_bytes()
+        for length in (4, 63, 64, 4096, len(whole) // 2, len(whole) - 1):
+            Path(room, "cut.so").write_bytes(whole[:length])
+            said_last = of_process("import nissy", NISSY_LIBRARY=f"{room}/cut.so").rstrip("\n").rpartition("\n")[2]
+            needed = 64 if length < 64 else len(whole)
+            wanted = f"{NO_LIBRARY}{room}/cut.so: it is cut off: {length:,} of {needed:,} bytes"
+            tally.equal(f"a library of which {length} bytes are left", said_last, wanted)
+        Path(room, "longer.so").write_bytes(whole + b"more")
+        tally.equal("bytes behind a library do no harm", of_process("import nissy; print(nissy.invert('R'))",
+                                                                    NISSY_LIBRARY=f"{room}/longer.so"), "R'\n")
         said_last = of_process(NAMES_LIBRARY, NISSY_LIBRARY="", PYTHONPATH=room)
         tally.holds("nor has the system one", f"{NO_LIBRARY}libnissy.so.1: " in said_last or said_last == "libnissy.so.1\n")
     said_last = of_process("import nissy", NISSY_LIBRARY="libc.so.6")

@@ -31,7 +31,11 @@ const ROWS = [
   ["a count of a cube that is there", ["count", "eofb", ""], { length: 0, solutions: 1, nodes: 1 }],
   ["a count of two reductions", ["count", "dr-eofb", "R U F2 L D R"], { length: 5, solutions: 2, nodes: 60 }],
   ["the steps", ["steps"], STEPS],
+  ["a scramble", ["scramble", 42, 54n, 6], "L' D' F' R2 F' L'"],
   ["a scramble of no turns", ["scramble", 1, 2, 0], ""],
+  ["scrambles", ["scrambles", 42n, 54, 3, 2], ["L' D' F'", "L F' L'"]],
+  ["scrambles of no turns", ["scrambles", 1, 2, 0, 2], ["", ""]],
+  ["no scrambles", ["scrambles", 1, 2, 3, 0], []],
 ];
 
 // a call, and the fault that it throws: text, column, step, what would have to hold before it, and message
@@ -113,6 +117,10 @@ const PLACES = [
   ["scramble", "the state", (state) => [state, 1, 20], [...WITHOUT("number", "bigint"), ["a text", "1"], ["nothing", undefined]], NO_WIDE],
   ["scramble", "the stream", (stream) => [1, stream, 20], [...WITHOUT("number", "bigint"), ["a text", "1"]], NO_WIDE],
   ["scramble", "the length", (length) => [1, 1, length], [...WITHOUT("number"), ["a text", "20"], ["nothing", undefined]], "is no number"],
+  ["scrambles", "the state", (state) => [state, 1, 20, 1], [...WITHOUT("number", "bigint"), ["a text", "1"], ["nothing", undefined]], NO_WIDE],
+  ["scrambles", "the stream", (stream) => [1, stream, 20, 1], [...WITHOUT("number", "bigint"), ["a text", "1"]], NO_WIDE],
+  ["scrambles", "the length", (length) => [1, 1, length, 1], [...WITHOUT("number"), ["a text", "20"], ["nothing", undefined]], "is no number"],
+  ["scrambles", "the count", (count) => [1, 1, 20, count], [...WITHOUT("number"), ["a text", "1"], ["nothing", undefined]], "is no number"],
 ];
 
 /** Each wrong value at each place of each call: it is refused by type, and no byte of the memory is another one after it. */

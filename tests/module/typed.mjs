@@ -28,10 +28,19 @@ async function tryRanges(nissy, memory) {
   for (const seed of [-1, 0.5, Number.NaN, Infinity, 2 ** 53, -1n, 2n ** 64n]) {
     same(`a state of ${seed}`, (await thrown(() => nissy.scramble(seed, 1, 20)))[0], "RangeError");
     same(`a stream of ${seed}`, (await thrown(() => nissy.scramble(1, seed, 20)))[0], "RangeError");
+    same(`scrambles by a state of ${seed}`, (await thrown(() => nissy.scrambles(seed, 1, 20, 1)))[0], "RangeError");
+    same(`scrambles by a stream of ${seed}`, (await thrown(() => nissy.scrambles(1, seed, 20, 1)))[0], "RangeError");
   }
   for (const length of [-1, 0.5, 257, 2 ** 32, Number.NaN]) {
     same(`a scramble of ${length} turns`, (await thrown(() => nissy.scramble(1, 1, length)))[0], "RangeError");
+    same(`scrambles of ${length} turns`, (await thrown(() => nissy.scrambles(1, 1, length, 1)))[0], "RangeError");
   }
+  for (const count of [-1, 0.5, 10_001, 2 ** 32, Number.NaN]) {
+    same(`${count} scrambles`, (await thrown(() => nissy.scrambles(1, 1, 1, count)))[0], "RangeError");
+  }
+  const most = nissy.scrambles(2n ** 64n - 1n, 2n ** 64n - 1n, 256, 10_000);
+  same("the most scrambles", [most.length, ...new Set(most.map((line) => line.split(" ").length))], [10_000, 256]);
+  same("scramble gives the first of them", nissy.scramble(2n ** 64n - 1n, 2n ** 64n - 1n, 256), most[0]);
   const sizes = [];
   for (let round = 0; round < 3; round += 1) {
     for (const step of ["", "EOFB", "eofb ", " eofb", "eofb\0", "eo\0fb", "eox", "dr", "e".repeat(1_000_000), "\u0435ofb"]) {

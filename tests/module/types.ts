@@ -14,9 +14,9 @@ export async function calls(bytes: Uint8Array, compiled: WebAssembly.Module, req
   const length: number | null = count.length;
   const fixed: readonly string[] = ["R", "U"];
   const many: number[] = [...nissy.countAll("eofb", ["R", bytes]), ...nissy.countAll("eofb", fixed)].map(({ nodes }) => nodes);
-  const scramble: string = nissy.scramble(1n, 2, 25);
+  const scrambles: string[] = [nissy.scramble(1n, 2, 25), ...nissy.scrambles(1, 2n, 25, 3)];
   const status: number = nissy.run(["steps"] as const, VERSION, 1_000).status;
-  return [inverse, moves, length, many, scramble, status, nissy.steps()].flat().join(" ");
+  return [inverse, moves, length, many, scrambles, status, nissy.steps()].flat().join(" ");
 }
 
 export async function callsInWorker(bytes: Uint8Array, signal: AbortSignal): Promise<number[]> {
@@ -24,10 +24,11 @@ export async function callsInWorker(bytes: Uint8Array, signal: AbortSignal): Pro
   const [worker] = workers;
   const solutions: Solution[] = await worker.solve("eofb", "R U F", { slack: 1, signal });
   const all: Solution[][] = await worker.solveAll("eofb", ["R U F"] as const, { most: 1, signal });
+  const drawn: string[] = await worker.scrambles(1n, 2, 25, all.length, { signal });
   worker.stop();
   worker.drop();
   worker.end();
-  return [...solutions, ...all.flat()].map(({ length }) => length);
+  return [...drawn, ...solutions, ...all.flat()].map(({ length }) => length);
 }
 
 export function place(fault: unknown): number | null {

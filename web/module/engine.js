@@ -195,12 +195,13 @@ export class Engine {
    * @returns {number[]}
    */
   #places(...sizes) {
+    const places = [];
     let end = this.#free;
-    const places = sizes.map((size) => {
+    for (const size of sizes) {
       const place = aligned(end);
+      places.push(place);
       end = place + size;
-      return place;
-    });
+    }
     if (end > MOST_BYTES) throw new RangeError("no memory has so many bytes");
     const { memory } = this.#exports;
     const missing = Math.ceil((end - memory.buffer.byteLength) / PAGE);
@@ -211,14 +212,13 @@ export class Engine {
 
   /**
    * Calls the module. Addresses, lengths and numbers of 64 bits are wide.
-   * @param {string} name
-   * @param {(bigint | number)[]} given
+   * @param {(exports: {[name: string]: any}) => number | undefined} call
    * @returns {number | undefined}
    */
-  #call(name, ...given) {
+  #call(call) {
     // no handler of this one runs if the host cuts a call off
     this.#isBroken = true;
-    const result = this.#exports[name](...given);
+    const result = call(this.#exports);
     this.#isBroken = false;
     return result;
   }
@@ -264,7 +264,7 @@ export class Engine {
     this.#lend(memory, block, lent);
     const at = this.#answer;
     const numbers = [at, memory, wordsAt, words.length, inputAt, input.length, out, room, err, ERROR_ROOM];
-    this.#call("nissy_run", ...numbers.map(BigInt));
+    this.#call(({ nissy_run: run }) => run(...numbers.map(BigInt)));
     if (this.#wide(memory + ROOM.size) !== lent) {
       this.#isBroken = true;
       throw new Error("the module kept memory that it was lent");
@@ -288,7 +288,7 @@ export class Engine {
     const [lineAt, out] = this.#places(line === null ? 0 : roomFor(line), LINE_ROOM);
     const read = line === null ? [] : this.#put(lineAt, line);
     const at = this.#answer;
-    this.#call(name, BigInt(at), ...numbers, ...read, BigInt(out), BigInt(LINE_ROOM));
+    this.#call((exports) => exports[name](BigInt(at), ...numbers, ...read, BigInt(out), BigInt(LINE_ROOM)));
     const status = this.#view.getUint16(at + LINE_ANSWER.status, true);
     return {
       status,
@@ -341,7 +341,8 @@ export class Engine {
     this.#bytes.fill(0, tables, tables + TABLES);
     this.#lend(rooms, small, SMALL_ROOM);
     this.#lend(rooms + ROOM.bytes, large, LARGE_ROOM);
-    const status = this.#call("nissy_build", BigInt(rooms), BigInt(rooms + ROOM.bytes), BigInt(tables), ...this.#put(nameAt, name));
+    const given = [BigInt(rooms), BigInt(rooms + ROOM.bytes), BigInt(tables), ...this.#put(nameAt, name)];
+    const status = this.#call(({ nissy_build: build }) => build(...given));
     if (status === STATUS.usage) throw new RangeError(`there is no step of the name ${JSON.stringify(step)}`);
     // the module keeps both rooms
     this.#free = large + LARGE_ROOM;
@@ -354,9 +355,10 @@ export class Engine {
   #solve(request) {
     const tables = BigInt(this.#tablesOf(request.step));
     const wanted = request.most * SOLUTION;
-    const rooms = SOLUTION_ROOMS.filter((room, index) => index === 0 || SOLUTION_ROOMS[index - 1] < wanted);
-    let reply = this.#solveOnce(request, tables, rooms[0]);
-    for (const room of rooms.slice(1)) if (reply.status === STATUS.room) reply = this.#solveOnce(request, tables, room);
+    let reply = this.#solveOnce(request, tables, SOLUTION_ROOMS[0]);
+    for (let next = 1; reply.status === STATUS.room && next < SOLUTION_ROOMS.length && SOLUTION_ROOMS[next - 1] < wanted; next += 1) {
+      reply = this.#solveOnce(request, tables, SOLUTION_ROOMS[next]);
+    }
     return reply;
   }
 
@@ -370,7 +372,8 @@ export class Engine {
     const [lineAt, out] = this.#places(roomFor(line), room);
     const at = this.#answer;
     const bound = most === Infinity ? NO_BOUND : BigInt(most);
-    this.#call("nissy_solve", BigInt(at), tables, ...this.#put(lineAt, line), limit, slack, bound, BigInt(out), BigInt(room));
+    const [place, length] = this.#put(lineAt, line);
+    this.#call(({ nissy_solve: solve }) => solve(BigInt(at), tables, place, length, limit, slack, bound, BigInt(out), BigInt(room)));
     const status = this.#view.getUint8(at + SOLVE_ANSWER.status);
     return {
       status,
@@ -385,7 +388,8 @@ export class Engine {
     const tables = BigInt(this.#tablesOf(step));
     const [lineAt] = this.#places(roomFor(line));
     const at = this.#answer;
-    this.#call("nissy_count", BigInt(at), tables, ...this.#put(lineAt, line), limit, slack);
+    const [place, length] = this.#put(lineAt, line);
+    this.#call(({ nissy_count: count }) => count(BigInt(at), tables, place, length, limit, slack));
     return {
       status: this.#view.getUint8(at + COUNT_ANSWER.status),
       fault: this.#view.getUint8(at + COUNT_ANSWER.fault),

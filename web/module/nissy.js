@@ -9,8 +9,10 @@
  */
 import { Engine } from "./engine.js";
 import { NoWebAssembly } from "./faults.js";
-import { allOf, countIn, linesIn, solutionsIn, lineIn } from "./replies.js";
-import { allRequest, countRequest, lineRequest, runRequest, scrambleRequest, solveRequest, stepsRequest } from "./requests.js";
+import { allOf, countIn, lineIn, linesIn, outputLinesIn, solutionsIn } from "./replies.js";
+import {
+  allRequest, countRequest, lineRequest, runRequest, scrambleRequest, scramblesRequest, solveRequest, stepsRequest,
+} from "./requests.js";
 
 export { EngineMissing, NissyFault, NoWebAssembly, Stopped } from "./faults.js";
 
@@ -135,6 +137,14 @@ export class Nissy {
    */
   scramble(state, stream, length) {
     return lineIn(this.#answer(scrambleRequest(state, stream, length)));
+  }
+
+  /**
+   * `count` scrambles of one seed, at most 10,000, of which `scramble` gives the first.
+   * @param {number | bigint} state @param {number | bigint} stream @param {number} length @param {number} count @returns {string[]}
+   */
+  scrambles(state, stream, length, count) {
+    return outputLinesIn(this.#answer(scramblesRequest(state, stream, length, count)));
   }
 
   /**

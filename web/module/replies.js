@@ -1,4 +1,5 @@
 // Reads what the engine writes as values, or throws what is wrong.
+import { textIn } from "./bytes.js";
 import { NissyFault } from "./faults.js";
 
 /**
@@ -56,8 +57,17 @@ export function lineIn(reply) {
   return reply.out;
 }
 
+/** @param {string} text @returns {string[]} its lines, each of which a line feed ends */
+const linesOf = (text) => text.split("\n").slice(0, -1);
+
 /** @param {LineReply} reply @returns {string[]} */
-export const linesIn = (reply) => lineIn(reply).split("\n").slice(0, -1);
+export const linesIn = (reply) => linesOf(lineIn(reply));
+
+/** @param {Answer} answer of a run that has no fault, but may have been refused memory @returns {string[]} */
+export function outputLinesIn({ status, out, err }) {
+  if (status !== STATUS.done) throw new RangeError(textIn(err).trim());
+  return linesOf(textIn(out));
+}
 
 /**
  * The solutions, of which each has a line such as `F B' (2)`, or `(0)` if no move is needed. There may be millions, so no string is made of

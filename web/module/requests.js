@@ -27,8 +27,10 @@ import { bytesOf, joinedWords, stringOf, takenLine, wholeNumber, wideNumber } fr
 /** The most turns of a search. */
 const MOST_TURNS = 20;
 
-/** The most turns of a scramble. */
+/** The most turns of a scramble, the most scrambles, and the most bytes of a turn with what stands behind it. */
 const MOST_SCRAMBLED = 256;
+const MOST_SCRAMBLES = 10_000;
+const MOST_OF_TURN = 3;
 
 /**
  * @param {unknown} options
@@ -97,6 +99,18 @@ export const scrambleRequest = (state, stream, length) => ({
   stream: wideNumber(stream, "the stream"),
   length: wholeNumber(length, "the length", MOST_SCRAMBLED),
 });
+
+/**
+ * A run of the program's command, with room for its longest output.
+ * @param {unknown} state @param {unknown} stream @param {unknown} length @param {unknown} count
+ * @returns {RunRequest}
+ */
+export function scramblesRequest(state, stream, length, count) {
+  const one = scrambleRequest(state, stream, length);
+  const many = wholeNumber(count, "the count", MOST_SCRAMBLES);
+  const words = [one.call, one.state, one.stream, one.length, many].map(String);
+  return runRequest(words, "", many * (one.length * MOST_OF_TURN + 1));
+}
 
 /** @returns {StepsRequest} */
 export const stepsRequest = () => ({ call: "steps" });

@@ -1,8 +1,10 @@
 // Calls of an engine in a worker as promises, one after another. A call that runs is stopped by ending its worker, and the next one starts
 // another.
 import { EngineMissing, Stopped } from "./faults.js";
-import { allOf, countIn, linesIn, solutionsIn, lineIn } from "./replies.js";
-import { allRequest, countRequest, lineRequest, optionsOf, runRequest, scrambleRequest, solveRequest, stepsRequest } from "./requests.js";
+import { allOf, countIn, lineIn, linesIn, outputLinesIn, solutionsIn } from "./replies.js";
+import {
+  allRequest, countRequest, lineRequest, optionsOf, runRequest, scrambleRequest, scramblesRequest, solveRequest, stepsRequest,
+} from "./requests.js";
 import { compiled } from "./source.js";
 
 /** @typedef {import("./bytes.js").Text} Text */
@@ -162,6 +164,18 @@ export class WorkerCalls {
    */
   async scramble(state, stream, length, options) {
     return lineIn(await this.#answer(scrambleRequest(state, stream, length), options));
+  }
+
+  /**
+   * @param {number | bigint} state
+   * @param {number | bigint} stream
+   * @param {number} length
+   * @param {number} count
+   * @param {Stoppable} [options]
+   * @returns {Promise<string[]>}
+   */
+  async scrambles(state, stream, length, count, options) {
+    return outputLinesIn(await this.#answer(scramblesRequest(state, stream, length, count), options));
   }
 
   /** @param {readonly Text[]} words @param {Text} [input] @param {Stoppable & {room?: number}} [options] @returns {Promise<Answer>} */
