@@ -1,5 +1,6 @@
 #!/usr/bin/env bash
-# A share of the runs by which the built program is compared with the independent model of `tests/model`, always the same ones.
+# A share of the runs by which the built program is compared with the independent model of `tests/model`, always the same ones; and
+# all those in which a system call is refused, at each read and write in turn, or a device is odd.
 # `tests/run model` makes the whole comparison.
 #
 #     tests/model.sh [PROGRAM]
@@ -12,4 +13,5 @@ set -u
 program=$(program_of "$@") || exit 2
 if missing python3; then skips_all "there is no python3 here, so nothing is compared with the model"; fi
 add python3 "$(dirname "$0")/model/against.py" "$program" 1 0.4
+add python3 "$(dirname "$0")/model/hostile.py" "$program" 1 0.02 calls,devices,growing
 ended
