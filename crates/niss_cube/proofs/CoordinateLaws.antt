@@ -1,14 +1,15 @@
 -- Flips, twists and slices are coordinates, by their codes; and the rows of the tables, as they are written.
-use Rattle.niss_cube.proofs.Words.{Alike, Places, Turns, holds, ◌≡◌, ℕ, ◌<◌, refl, sym, ◌∙◌, ap, subst, true, ◌↔◌, Place, is_place, SameMap}
-use Rattle.niss_cube.proofs.Words.{turned, inverse_turn, Turn, Axis, Cube, Coordinate, map_of, Kept, set_of, number_of, count_of}
-use Rattle.niss_cube.proofs.Words.{renamed_for, standard_axis, turn_for, number_after, IsCube, every_turn, every_face, every_power}
-use Rattle.niss_cube.proofs.Words.{TurnedIsCube, AreCoordinates, Both, Faces, arith, inl, inr, ◌+◌, List, [], ◌∷◌, length, get_or, set}
-use Rattle.niss_cube.proofs.Words.{slice_index, length-set, eqb_tells, Face, Quarter, Half, Counter, AreRowsAt, AreQuarters, IsQuarter}
-use Rattle.niss_cube.proofs.Words.{get_or-set_same, get_or-set_other, power_index, Power, IsCoordinate, entry_at, turn}
+use Rattle.niss_cube.proofs.Words.{Alike, Places, Turns, holds, ◌≡◌, ℕ, ◌<◌, refl, sym, ◌∙◌, ap, subst, true, ◌↔◌}
+use Rattle.niss_cube.proofs.Words.{Place, is_place, SameMap, turned, inverse_turn, Turn, Axis, Cube, Coordinate, map_of}
+use Rattle.niss_cube.proofs.Words.{Kept, set_of, number_of, count_of, renamed_for, standard_axis, turn_for}
+use Rattle.niss_cube.proofs.Words.{number_after, IsCube, every_turn, every_face, every_power, TurnedIsCube}
+use Rattle.niss_cube.proofs.Words.{AreCoordinates, Both, turn_order, Yes, Below, turn_in, turn_number}
 use Rattle.niss_cube.proofs.CubieKinds.{lists_of, cube_of, CubieLists, Valid, map_lists, map_place}
-use Rattle.niss_cube.proofs.Codes.{kept_same, cubies_for, renaming, sets_are_places, zero-kept, code, number_of-code, code-below}
-use Rattle.niss_cube.proofs.Codes.{cubies_with, cubies_with-valid, cubies_with-code, number_after-is, code-turned, unrenamed}
+use Rattle.niss_cube.proofs.Codes.{kept_same, cubies_for, renaming, sets_are_places, zero-kept, code, number_of-code}
+use Rattle.niss_cube.proofs.Codes.{code-below, cubies_with, cubies_with-valid, cubies_with-code, number_after-is}
+use Rattle.niss_cube.proofs.Codes.{code-turned, unrenamed}
 use Rattle.niss_cube.proofs.MovedCubies.{By, moved, moved-map, moved-valid}
+use Rattle.niss_cube.proofs.StepTurns.{same_turn, same_turn-is}
 
 turned-inverse_turn : (t : Turn) (q : Place) → is_place q ≡ true → turned (inverse_turn t) (turned t q) ≡ q
 unfolding every_turn every_face every_power
@@ -133,80 +134,18 @@ are_coordinates k a = record {
   back_again = goes_back k a;
 }
 
-abbrev after_of : Coordinate → ℕ → Turn → ℕ
-after_of k = number_after k (standard_axis k)
+-- a cube that has a number has another one after a turn that does on the standard axis what t does
+pub after_standard_turn : (k : Coordinate) (a : Axis) (i : ℕ) (c : Cube) (s t : Turn) → number_of k (standard_axis k) (map_of c) ≡ i →
+    ((n : ℕ) → number_after k (standard_axis k) n s ≡ number_after k a n t) → number_of k (standard_axis k) (λ q. turned s (map_of c q)) ≡ number_after k a i t
+after_standard_turn k a i c s t e same =
+    sym (after_turn k (standard_axis k) c s) ∙ ap (λ j. number_after k (standard_axis k) j s) e ∙ same i
 
-abbrev coordinate_of : Coordinate → (Place → Place) → ℕ
-coordinate_of k = number_of k (standard_axis k)
+pub row-below : (k : Coordinate) (a : Axis) (i : ℕ) (t : Turn) (n : ℕ) → i < count_of k → n ≡ number_after k a i t → n < count_of k
+row-below k a i t n l e = let P : ℕ → Type 0 = λ n. n < count_of k in subst P (sym e) (stays_below k a i t l)
 
-law : (k : Coordinate) → IsCoordinate k (standard_axis k)
-law k = are_coordinates k (standard_axis k)
-
--- a turn and another one after it are one where they bring each place alike
-as_one : (k : Coordinate) (s t u : Turn) → ((q : Place) → is_place q ≡ true → turned t (turned s q) ≡ turned u q) → (i : ℕ) → i < count_of k → after_of k (after_of k i s) t ≡ after_of k i u
-as_one k s t u same i l =
-    let c = (law k).some_cube i l in
-    let e : Place → Place = map_of c.0 in
-    ap (λ j. after_of k (after_of k j s) t) (sym c.1)
-    ∙ after_both k (standard_axis k) c.0 s t
-    ∙ sym ((law k).of_places (λ q. turned u (e q)) (λ q. turned t (turned s (e q))) (turned_is_cube e u (cube-itself c.0))
-    (λ q p. sym (same (e q) (map_place (lists_of c.0) c.0.are_cubies q p))))
-    ∙ sym (after_turn k (standard_axis k) c.0 u)
-    ∙ ap (λ j. after_of k j u) c.1
-
--- a half turn is two quarters, a counter turn three
-powers-hold : (f : Face) (q : Place) → is_place q ≡ true →
-    (turned (turn f Quarter) (turned (turn f Quarter) q) ≡ turned (turn f Half) q)
-    × (turned (turn f Quarter) (turned (turn f Half) q) ≡ turned (turn f Counter) q)
-unfolding every_face
-powers-hold = holds (Faces λ f. Places λ q. Both
-    (Alike (turned (turn f Quarter) (turned (turn f Quarter) q)) (turned (turn f Half) q))
-    (Alike (turned (turn f Quarter) (turned (turn f Half) q)) (turned (turn f Counter) q))) refl
-
-after-twice : (k : Coordinate) (f : Face) (i : ℕ) → i < count_of k → after_of k (after_of k i (turn f Quarter)) (turn f Quarter) ≡ after_of k i (turn f Half)
-after-twice k f = as_one k (turn f Quarter) (turn f Quarter) (turn f Half) (λ q p. (powers-hold f q p).0)
-
-after-thrice : (k : Coordinate) (f : Face) (i : ℕ) → i < count_of k → after_of k (after_of k i (turn f Half)) (turn f Quarter) ≡ after_of k i (turn f Counter)
-after-thrice k f = as_one k (turn f Half) (turn f Quarter) (turn f Counter) (λ q p. (powers-hold f q p).1)
-
-module _ (k : Coordinate) (rows : List (List (List ℕ))) (h : AreQuarters k rows) (i : ℕ) (f : Face) (l : i < count_of k) (once : ℕ) (x : once ≡ entry_at (get_or rows i []) (turn f Quarter)) where
-  once-is : once ≡ after_of k i (turn f Quarter)
-  once-is = x ∙ h.entries i (turn f Quarter) refl l
-
-  pub once-below : once < count_of k
-  once-below = let P : ℕ → Type 0 = λ n. n < count_of k in subst P (sym once-is) ((law k).after_below i (turn f Quarter) l)
-
-  module _ (twice : ℕ) (y : twice ≡ entry_at (get_or rows once []) (turn f Quarter)) where
-    twice-is : twice ≡ after_of k i (turn f Half)
-    twice-is = y ∙ h.entries once (turn f Quarter) refl once-below ∙ ap (λ j. after_of k j (turn f Quarter)) once-is ∙ after-twice k f i l
-
-    pub twice-below : twice < count_of k
-    twice-below = let P : ℕ → Type 0 = λ n. n < count_of k in subst P (sym twice-is) ((law k).after_below i (turn f Half) l)
-
-    pub numbers_after-are : (thrice : ℕ) → thrice ≡ entry_at (get_or rows twice []) (turn f Quarter) →
-        (p : Power) → slice_index (once ∷ twice ∷ thrice ∷ []) (power_index p) ≡ after_of k i (turn f p)
-    numbers_after-are thrice z Quarter = once-is
-    numbers_after-are thrice z Half = twice-is
-    numbers_after-are thrice z Counter = z ∙ h.entries twice (turn f Quarter) refl twice-below ∙ ap (λ j. after_of k j (turn f Quarter)) twice-is ∙ after-thrice k f i l
-
--- A row is written at its number: the rows that were right at some turns still are, and so is that row.
-pub rows-step : (k : Coordinate) (some : Turn → Type 0) (n : ℕ) (rows : List (List (List ℕ))) (row : List (List ℕ)) → n < length rows → ((t : Turn) → some t → entry_at row t ≡ after_of k n t) →
-    AreRowsAt k some n rows → AreRowsAt k some (n + 1) (set rows n row)
-rows-step k some n rows row l r done = record { rows_count = length-set rows n row ∙ done.rows_count; entries = at }
-  where
-    at : (i : ℕ) (t : Turn) → some t → i < n + 1 → entry_at (get_or (set rows n row) i []) t ≡ after_of k i t
-    at i t s h = elim (eqb_tells i n) [
-      | inl w ↦
-          ap (λ j. entry_at (get_or (set rows n row) j []) t) w.1
-          ∙ ap (λ x. entry_at x t) (get_or-set_same rows n row [] l)
-          ∙ r t s
-          ∙ ap (λ j. after_of k j t) (sym w.1)
-      | inr w ↦ ap (λ x. entry_at x t) (get_or-set_other rows n i row [] w.1) ∙ done.entries i t s (grind (arith, w.1))
-    ]
-
--- a row of the quarters of a cube that has the number
-pub quarter-row : (k : Coordinate) (n : ℕ) (row : List (List ℕ)) (c : Cube) → coordinate_of k (map_of c) ≡ n → ((f : Face) → entry_at row (turn f Quarter) ≡ coordinate_of k (λ q. turned (turn f Quarter) (map_of c q))) →
-    (t : Turn) → IsQuarter t → entry_at row t ≡ after_of k n t
-quarter-row k n row c e r t s =
-    let P : Power → Type 0 = λ p. entry_at row (turn t.face p) ≡ after_of k n (turn t.face p) in
-    subst P (sym s) (r t.face ∙ (law k).follows (map_of c) (turn t.face Quarter) (c, λ q p. refl) ∙ ap (λ j. after_of k j (turn t.face Quarter)) e)
+-- each turn has its place in turn order
+pub turn-found : (t : Turn) → (turn_number t < 18) × (turn_in turn_order (turn_number t) ≡ t)
+unfolding every_turn every_face every_power
+turn-found t =
+    let h = holds (Turns λ t. Both (Below (turn_number t) 18) (Yes (same_turn (turn_in turn_order (turn_number t)) t))) refl t in
+    (h.0, same_turn-is _ t h.1)

@@ -61,7 +61,7 @@ pub use Rattle.niss_cube.specs.StepLaws.{OtherTurnsLeaveStart, DominoKeepsStart,
 pub use Rattle.niss_cube.specs.StepLaws.{StepTurnsInOrder, StepTurnsAreCounted}
 pub use Rattle.niss_cube.specs.Steps.{start_of, goals_of, powers_from, is_face_of, steps, name_of}
 unfoldable pub use Rattle.niss_cube.specs.Steps.{turns_of, may_start, reached}
-pub use Rattle.niss_cube.specs.TableRows.{AreRowsAt, IsQuarter, AreQuarters, IsAnyTurn, entry_at, AreRows}
+pub use Rattle.niss_cube.specs.TableRows.{IsMoveRow, AreMoveRows, turn_in, turn_number}
 pub use Rattle.niss_cube.specs.declared.cubie_turns.CubieTurn.{CubieTurn}
 pub use Rattle.niss_cube.specs.declared.followed_places.TheConstants.{FIRST_FACELETS, CUBIES, FACELETS, CORNER_POSITIONS, EDGE_POSITIONS}
 pub use Rattle.niss_cube.specs.declared.followed_places.TheConstants.{CUBIE_LETTERS}

@@ -1,122 +1,25 @@
 //! Tables of the coordinates after a turn.
-ghost use Rattle.std.specs.Prelude.{◌≡◌, ◌<◌, length, get_or, slice_index, [], IfOk};
+ghost use Rattle.std.specs.Prelude.{◌≡◌, ◌<◌, IfOk};
 ghost use Rattle.niss_moves.specs.Effects.{turned};
-ghost use Rattle.niss_moves.specs.Indices.{power_index};
 ghost use Rattle.niss_moves.specs.Places.{Place};
-ghost use Rattle.niss_moves.specs.declared.turn.Turn.{Turn};
-ghost use Rattle.niss_moves.specs.declared.turn.Face.{Face};
-ghost use Rattle.niss_moves.specs.declared.turn.Power.{Power};
-ghost use Rattle.niss_moves.specs.declared.turn.Power.TheVariants.{Quarter};
-ghost use Rattle.niss_cube.specs.Map.{map_of};
-ghost use Rattle.niss_cube.specs.Coordinates.{count_of, number_of, standard_axis};
+ghost use Rattle.niss_cube.specs.Coordinates.{count_of, number_of};
 ghost use Rattle.niss_cube.specs.NumberAfter.{number_after};
 ghost use Rattle.niss_cube.specs.AfterTurn.{IsCube};
-ghost use Rattle.niss_cube.specs.TableRows.{AreRows, AreQuarters, entry_at};
+ghost use Rattle.niss_cube.specs.TableRows.{AreMoveRows, turn_number};
 ghost use Rattle.niss_cube.specs.declared.cube.coordinate.Coordinate as kinds;
 ghost use Rattle.niss_cube.specs.declared.cube.coordinate.Coordinate.TheVariants.{Flip, Twist, Slice};
 
-use crate::cube::Cube;
 use crate::cube::coordinate::Coordinate;
-use niss_moves::{Axis, Face, Power, Turn};
+use niss_moves::{Axis, Turn, turn_order};
 use std::alloc::{Allocator, Global};
 use std::marker::Model;
 
-/// The numbers after the 18 turns, by face (U, D, R, L, F, B) and by power (quarter, half, counter).
-type Row = [[u16; 3]; 6];
-
-/// A row that is still to be written.
-const NO_ROW: Row = [[0; 3]; 6];
-
-impl Coordinate {
-    /// The number of a cube after a quarter turn of a face.
-    fn after_quarter(self, cube: &Cube, face: Face) -> u16
-        ensures { result ≡ number_of self (standard_axis self)
-            (λ q. turned (record { face = face; power = Quarter }) (map_of cube.now q)) }
-    {
-        let turn = Turn {
-            face,
-            power: Power::Quarter,
-        };
-        self.standard_number_after(cube, turn)
-    }
-
-    /// A row with the numbers after the quarter turns, the others still to be written.
-    fn quarters(self, cube: &Cube) -> Row
-        ensures { (f : Face) → entry_at result (record { face = f; power = Quarter })
-            ≡ number_of self (standard_axis self)
-            (λ q. turned (record { face = f; power = Quarter }) (map_of cube.now q)) }
-    {
-        [
-            [self.after_quarter(cube, Face::U), 0, 0],
-            [self.after_quarter(cube, Face::D), 0, 0],
-            [self.after_quarter(cube, Face::R), 0, 0],
-            [self.after_quarter(cube, Face::L), 0, 0],
-            [self.after_quarter(cube, Face::F), 0, 0],
-            [self.after_quarter(cube, Face::B), 0, 0],
-        ]
-    }
-
-    /// Writes the numbers after the quarter turns.
-    fn fill_quarters(self, rows: &mut [Row])
-        requires { length rows.old ≡ count_of self }
-        ensures { AreQuarters self rows.new }
-    {
-        for (number, row) in rows.iter_mut().enumerate() {
-            *row = self.quarters(&self.cube_with(number as u16));
-        }
-    }
-
-    /// The numbers after a quarter, a half and a counter turn of a face, by the quarters of the rows.
-    fn numbers_after(self, rows: &[Row], number: u16, face: Face) -> [u16; 3]
-        requires rows { AreQuarters self rows.now }
-        requires number { number < count_of self }
-        ensures { (p : Power) → slice_index result (power_index p)
-            ≡ number_after self (standard_axis self) number (record { face = face; power = p }) }
-    {
-        let quarter = Turn {
-            face,
-            power: Power::Quarter,
-        };
-        let once = entry(rows, number, quarter);
-        let twice = entry(rows, once, quarter);
-        [once, twice, entry(rows, twice, quarter)]
-    }
-
-    /// The row of a number, by the quarters of the rows.
-    fn row(self, rows: &[Row], number: u16) -> Row
-        requires rows { AreQuarters self rows.now }
-        requires number { number < count_of self }
-        ensures { (t : Turn) → entry_at result t ≡ number_after self (standard_axis self) number t }
-    {
-        [
-            self.numbers_after(rows, number, Face::U),
-            self.numbers_after(rows, number, Face::D),
-            self.numbers_after(rows, number, Face::R),
-            self.numbers_after(rows, number, Face::L),
-            self.numbers_after(rows, number, Face::F),
-            self.numbers_after(rows, number, Face::B),
-        ]
-    }
-
-    /// Writes the row of each number.
-    fn fill(self, rows: &mut [Row])
-        requires { length rows.old ≡ count_of self }
-        ensures { AreRows self rows.new }
-    {
-        self.fill_quarters(rows);
-        for number in 0..rows.len() {
-            rows[number] = self.row(rows, number as u16);
-        }
-    }
-}
-
-/// The entry of a number at a turn.
+/// The place of a turn among the 18, in turn order.
 #[inline(always)]
-fn entry(rows: &[Row], number: u16, turn: Turn) -> u16
-    requires { number < length rows.now }
-    ensures { result ≡ entry_at (get_or rows.now number []) turn }
+fn turn_number(turn: Turn) -> usize
+    ensures { result ≡ turn_number turn }
 {
-    rows[number as usize][turn.face as usize][turn.power as usize]
+    3 * turn.face as usize + turn.power as usize
 }
 
 /// The allocator refused memory. Nothing is kept then.
@@ -128,7 +31,8 @@ pub struct OutOfMemory;
 #[derive(Drop)]
 pub struct TurnTable<A: Allocator = Global> {
     coordinate: Coordinate,
-    rows: Vec<Row, A>,
+    // of each number the numbers after the 18 turns, on the standard axis
+    rows: Vec<[u16; 18], A>,
 }
 
 impl<A: Allocator> Model for TurnTable<A> {
@@ -136,7 +40,7 @@ impl<A: Allocator> Model for TurnTable<A> {
 
     ghost view = { λ t. t.coordinate };
 
-    ghost invariant = { λ t. AreRows t.coordinate t.rows.items };
+    ghost invariant = { λ t. AreMoveRows t.coordinate t.rows.items };
 }
 
 impl<A: Allocator> TurnTable<A> {
@@ -144,10 +48,16 @@ impl<A: Allocator> TurnTable<A> {
     pub fn build_in(alloc: A, coordinate: Coordinate) -> Result<TurnTable<A>, OutOfMemory>
         ensures { IfOk result (λ table. table ≡ coordinate) }
     {
-        let Ok(mut rows) = Vec::from_elem(alloc, NO_ROW, coordinate.count()) else {
+        let Ok(mut rows) = Vec::from_elem(alloc, [0; 18], coordinate.count()) else {
             return Err(OutOfMemory);
         };
-        coordinate.fill(&mut rows);
+        for number in 0..rows.len() {
+            rows[number] = coordinate.move_row(
+                coordinate.standard_axis(),
+                number as u16,
+                turn_order(),
+            );
+        }
         Ok(TurnTable { coordinate, rows })
     }
 
@@ -168,7 +78,7 @@ impl<A: Allocator> TurnTable<A> {
             result ≡ number_of self.now axis (λ q. turned turn (e q)) }
     {
         let standard = self.coordinate.standard_turn(axis, turn);
-        entry(&self.rows, number, standard)
+        self.rows[number as usize][turn_number(standard)]
     }
 }
 

@@ -1,11 +1,12 @@
 //! The coordinates of a cube, each as one value.
-ghost use Rattle.std.specs.Prelude.{◌≡◌, ◌<◌, ◌↔◌, ℕ, IsTrue};
+ghost use Rattle.std.specs.Prelude.{◌≡◌, ◌<◌, ◌≤◌, ◌↔◌, ℕ, length, IsTrue};
 ghost use Rattle.niss_moves.specs.Effects.{turned};
 ghost use Rattle.niss_moves.specs.Places.{SameMap};
 ghost use Rattle.niss_cube.specs.Map.{map_of};
 ghost use Rattle.niss_cube.specs.Sets.{Kept, is_kept, set_of};
 ghost use Rattle.niss_cube.specs.Coordinates.{count_of, face_for, number_of, renamed_for, renaming_for, standard_axis, turn_for};
 ghost use Rattle.niss_cube.specs.NumberAfter.{number_after};
+ghost use Rattle.niss_cube.specs.TableRows.{IsMoveRow};
 
 use super::{CORNERS_HOME, Cube, EDGES_HOME};
 use crate::cubie_turns::{cubie_turn, turn_homes, turn_orientations};
@@ -95,7 +96,7 @@ impl Coordinate {
     }
 
     /// A cube with a number on the standard axis, its other cubies at home.
-    pub(crate) fn cube_with(self, number: u16) -> Cube
+    fn cube_with(self, number: u16) -> Cube
         requires { number < count_of self }
         ensures { number_of self (standard_axis self) (map_of result) ≡ number }
     {
@@ -114,7 +115,7 @@ impl Coordinate {
     }
 
     /// The number on the standard axis after a turn, for which the cubies that it depends on are turned alone.
-    pub(crate) fn standard_number_after(self, cube: &Cube, turn: Turn) -> u16
+    fn standard_number_after(self, cube: &Cube, turn: Turn) -> u16
         ensures { result ≡ number_of self (standard_axis self) (λ q. turned turn (map_of cube.now q)) }
     {
         let table = cubie_turn(turn);
@@ -154,5 +155,33 @@ impl Coordinate {
             face: self.renamed_face(axis, turn.face),
             power: turn.power,
         }
+    }
+
+    /// The axis for which a cube isn't renamed before the coordinate is read.
+    pub(crate) fn standard_axis(self) -> Axis
+        ensures { result ≡ standard_axis self }
+    {
+        match self {
+            Coordinate::Flip => Axis::Fb,
+            Coordinate::Twist | Coordinate::Slice => Axis::Ud,
+        }
+    }
+
+    /// The row of a number in a move table: the numbers on an axis after some turns, at most 18, of any cube that has this
+    /// number before them. They stand in the order of the turns, and each is below `count`.
+    pub fn move_row(self, axis: Axis, number: u16, turns: &[Turn]) -> [u16; 18]
+        requires number { number < count_of self }
+        requires few { length turns.now ≤ 18 }
+        ensures { IsMoveRow self axis turns.now number result }
+    {
+        let cube = self.cube_with(number);
+        let mut row = [0; 18];
+        for column in 0..turns.len() {
+            row[column] = self.standard_number_after(
+                &cube,
+                self.standard_turn(axis, turns[column]),
+            );
+        }
+        row
     }
 }

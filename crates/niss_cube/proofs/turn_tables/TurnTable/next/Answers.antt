@@ -1,18 +1,22 @@
-use Rattle.niss_cube.proofs.Words.{ℕ, ◌<◌, sym, ◌∙◌, ap, subst, count_of, number_after, AreRows}
-use Rattle.niss_cube.proofs.CoordinateLaws.{are_coordinates}
+use Rattle.niss_cube.proofs.Words.{◌≡◌, [], get_or, get_or_default, sym, ◌∙◌, ap, arith, number_after, standard_axis, AreMoveRows, turn_number}
+use Rattle.niss_cube.proofs.CoordinateLaws.{are_coordinates, row-below, turn-found}
 use Rattle.niss_cube.proofs.turn_tables.TurnTable.next.Goals as goal
 
 pub returns-clause-value : goal.returns-clause-value
 returns-clause-value g c =
-    let rows : AreRows c.args.self.now c.self.inside.rows.items = rw c.self.view_is at c.self.invariant in
-    (rw c.deref.ensures.value at c.entry.ensures)
-    ∙ rows.entries c.args.number c.standard_turn-standard.result tt c.requires
+    let standard = c.standard_turn-standard.result in
+    let found = turn-found standard in
+    let rows : AreMoveRows c.args.self.now c.self.inside.rows.items = rw c.self.view_is at c.self.invariant in
+    let row : c.index.result.now ≡ get_or c.self.inside.rows.items c.args.number [] =
+    c.index.ensures ∙ get_or_default c.self.inside.rows.items c.args.number _ [] (omega (arith, rows.size, c.requires)) in
+    ap (λ n. get_or c.index.result.now n 0) c.turn_number.ensures
+    ∙ ap (λ xs. get_or xs (turn_number standard) 0) row
+    ∙ (rows.each c.args.number c.requires).after (turn_number standard) found.0
+    ∙ ap (number_after c.args.self.now (standard_axis c.args.self.now) c.args.number) found.1
     ∙ (rw c.self.view_is at c.standard_turn-standard.ensures.same_number) c.args.number
 
 pub returns-clause-in_range : goal.returns-clause-in_range
-returns-clause-in_range g c =
-    let P : ℕ → Type 0 = λ n. n < count_of c.args.self.now in
-    subst P (sym (returns-clause-value g c)) ((are_coordinates c.args.self.now c.args.axis).after_below c.args.number c.args.turn c.requires)
+returns-clause-in_range g c = row-below c.args.self.now c.args.axis c.args.number c.args.turn _ c.requires (returns-clause-value g c)
 
 pub returns-clause-of_each : goal.returns-clause-of_each
 returns-clause-of_each g c = λ e h is.
