@@ -8,9 +8,8 @@ use Rattle.std.proofs.lemmas.List.{take_all, drop-drop, length-drop, length-take
 use Rattle.std.proofs.lemmas.Grind.{common_steps}
 use Rattle.niss_moves.specs.Places.{Place}
 use Rattle.niss_search.specs.Delivery.{WentThrough, StoppedIn}
-use Rattle.niss_cube.specs.Steps.{turns_of}
 use Rattle.niss_search.specs.Laws.{FirstIsLeast}
-use Rattle.niss_search.specs.Cubes.{near_solutions_of, near_looks_of, least_length_of, reaches}
+use Rattle.niss_search.specs.Cubes.{near_solutions_of, near_looks_of, least_length_of, cubes}
 use Rattle.niss_search.specs.declared.outcome.Outcome.{Outcome}
 use Rattle.niss_shell.specs.Names.{Turn, Step}
 use Rattle.niss_shell.specs.Output.{solution_line}
@@ -265,7 +264,7 @@ module _ (step : Step) (n slack : ℕ) (e : Place → Place) (a b : SolutionLine
     all = near_solutions_of step e n slack
 
     least_is : l.first ≡ first_of None all → unwrap_or l.first 0 ≡ unwrap_or (least_length_of step e n) 0
-    least_is h = ap (λ o. unwrap_or o 0) (h ∙ first_is all ∙ sym (least (turns_of step) (reaches step e) n slack))
+    least_is h = ap (λ o. unwrap_or o 0) (h ∙ first_is all ∙ sym (least _ (cubes step) e n slack))
 
     by_result : (r : Result Outcome Refused) → OnOk r (WentThrough TakesPath a all b) → OnErr r (StoppedIn TakesPath RefusesPath a all b)
         → OnOk r (looks_now ≡ looks + near_looks_of step e n slack)

@@ -3,9 +3,12 @@ use Rattle.niss_search.proofs.Words.{◌≡◌, arith, length, ◌+◌, ◌<◌,
 use Rattle.niss_search.proofs.Words.{Turn, suc, get_or, map, may_follow, flat_map, last_turn, subst, Coordinates, append_assoc}
 use Rattle.niss_search.proofs.Words.{distance_at, filter, sum_by, sum_by-cons, Step, inl, inr, All, position_after, take, drop}
 use Rattle.niss_search.proofs.Words.{flat_map-append, found_below, Follower, le-leb, looks_beyond, lt-leb, no_turn}
-use Rattle.niss_search.proofs.Words.{sum_by-append, Err, GoesThrough, Ok, Result, descent_state, looks_below, All-head}
-use Rattle.niss_search.proofs.Words.{All-tail, Descends, DescentState, OnErr, OnOk, StoppedIn, StopsIn, WentThrough, found, length-append}
+use Rattle.niss_search.proofs.Words.{sum_by-append, Err, GoesThrough, Ok, Result, progress_at, looks_below, All-head}
+use Rattle.niss_search.proofs.Words.{All-tail, Descends, Progress, OnErr, OnOk, StoppedIn, StopsIn, WentThrough, found, length-append}
 use Rattle.niss_search.proofs.Words.{map-append, visits, AreFar, IsNextNear, drop_more, length-take-le, take-append-drop}
+use Rattle.niss_search.proofs.Words.{positions, reaching, looks}
+use Rattle.niss_search.proofs.DepthFirst.{found_all, visits_all}
+use Rattle.niss_search.proofs.LookLemmas.{distance_at-goal, distance_at-turn}
 
 -- what a list of followers answers past its end
 abbrev pub no_follower : Follower
@@ -58,7 +61,7 @@ module _ {K : Type 0} (took refused : K → List Turn → K → Type 0) where
 
   -- a path that is handed out
   pub Descends-take : {F : Type 0} (r : Result (Unit {0}) F) (m c : ℕ) (s t : K) (p : List Turn) → OnOk r (took s p t)
-      → OnErr r (refused s p t) → Descends took refused (p ∷ []) 0 (descent_state m c s) (descent_state m (c + 1) t) r
+      → OnErr r (refused s p t) → Descends took refused (p ∷ []) 0 (progress_at m c s) (progress_at m (c + 1) t) r
   Descends-take (Ok u) m c s t p ok err =
       record { delivered = (t, (ok, refl)); counted = omega arith; looked = omega arith }
   Descends-take (Err e) m c s t p ok err =
@@ -66,12 +69,12 @@ module _ {K : Type 0} (took refused : K → List Turn → K → Type 0) where
 
 module _ {K : Type 0} {took refused : K → List Turn → K → Type 0} where
   -- looks that find nothing
-  pub GoesThrough-looks : (k m n c : ℕ) (s : K) → n ≡ m + k → GoesThrough took refused [] k (descent_state m c s) (descent_state n c s)
+  pub GoesThrough-looks : (k m n c : ℕ) (s : K) → n ≡ m + k → GoesThrough took refused [] k (progress_at m c s) (progress_at n c s)
   GoesThrough-looks k m n c s e = record { delivered = refl; counted = omega arith; looked = e }
 
-  module _ {ps : List (List Turn)} {k : ℕ} {a b : DescentState K} where
+  module _ {ps : List (List Turn)} {k : ℕ} {a b : Progress K} where
     -- paths, and then more
-    pub Descends-then : {F : Type 0} (r : Result (Unit {0}) F) (qs : List (List Turn)) (l : ℕ) (c : DescentState K)
+    pub Descends-then : {F : Type 0} (r : Result (Unit {0}) F) (qs : List (List Turn)) (l : ℕ) (c : Progress K)
         → GoesThrough took refused ps k a b → Descends took refused qs l b c r → Descends took refused (ps ++ qs) (k + l) a c r
     Descends-then (Ok u) qs l c h g = record {
       delivered = WentThrough-append took refused a.sink b.sink c.sink ps qs h.delivered g.delivered;
@@ -117,7 +120,7 @@ module _ (step : Step) (x : List Coordinates) (p : List Turn) (left : ℕ) where
 -- followers `rest`.
 pub record Remains
     {K : Type 0} (took refused : K → List Turn → K → Type 0) (step : Step) (x : List Coordinates) (p : List Turn) (left : ℕ)
-    (rest : List Follower) (start now : DescentState K) : Type 0 where
+    (rest : List Follower) (start now : Progress K) : Type 0 where
   paths : List (List Turn)
   looks : ℕ
   went : GoesThrough took refused paths looks start now
@@ -125,7 +128,7 @@ pub record Remains
   all_looks : looks_beyond step x p left ≡ looks + sum_by (looks_after step x p (left - 1)) (turns_in rest)
 
 module _ {K : Type 0} {took refused : K → List Turn → K → Type 0} {step : Step} {x : List Coordinates} {p : List Turn} where
-  pub Remains-all : (left more : ℕ) (rest : List Follower) (start : DescentState K) → left ≡ suc more → distance_at step x ≤ left
+  pub Remains-all : (left more : ℕ) (rest : List Follower) (start : Progress K) → left ≡ suc more → distance_at step x ≤ left
       → turns_in rest ≡ filter (may_follow (last_turn p)) (turns_of step) → Remains took refused step x p left rest start start
   unfolding found found_below visits looks_beyond
   Remains-all zero more rest start e near all = absurd (omega arith)
@@ -139,14 +142,14 @@ module _ {K : Type 0} {took refused : K → List Turn → K → Type 0} {step : 
         all_looks = rw (same, all, le-leb (distance_at step x) (suc k) near) (omega arith);
       }
 
-  module _ {left : ℕ} {rest : List Follower} {start now : DescentState K} (remains : Remains took refused step x p left rest start now) where
+  module _ {left : ℕ} {rest : List Follower} {start now : Progress K} (remains : Remains took refused step x p left rest start now) where
     pub Remains-room : now.meter + length rest ≤ start.meter + looks_beyond step x p left
     Remains-room =
         omega (arith, remains.went.looked, remains.all_looks, looks_after-some step x p (left - 1) rest)
 
     -- none of them is near
     pub Remains-far : {n : ℕ} → AreFar step x (left - 1) rest now.meter n
-        → GoesThrough took refused (found_below step x p left) (looks_beyond step x p left) start (descent_state n now.count now.sink)
+        → GoesThrough took refused (found_below step x p left) (looks_beyond step x p left) start (progress_at n now.count now.sink)
     Remains-far {n} are =
         let none = found_after-far step x p (left - 1) rest are.far in
         rw (remains.all_paths, remains.all_looks, none, looks_after-far step x p (left - 1) rest are.far)
@@ -176,8 +179,8 @@ module _ {K : Type 0} {took refused : K → List Turn → K → Type 0} {step : 
       other_looks = sum_by (looks_after step x p (left - 1)) behind
 
       -- the descent once it was looked at
-      abbrev there : DescentState K
-      there = descent_state n now.count now.sink
+      abbrev there : Progress K
+      there = progress_at n now.count now.sink
 
       looked : GoesThrough took refused [] (i + 1) now there
       looked = GoesThrough-looks (i + 1) now.meter n now.count now.sink (omega (arith, next.looked))
@@ -207,7 +210,7 @@ module _ {K : Type 0} {took refused : K → List Turn → K → Type 0} {step : 
       Remains-room_next = omega (arith, remains.went.looked, next-looks, next.looked)
 
       -- what it does after that one: it goes on with those behind it, or it stops
-      pub Remains-next : {mid : DescentState K} → GoesThrough took refused below beyond there mid
+      pub Remains-next : {mid : Progress K} → GoesThrough took refused below beyond there mid
           → Remains took refused step x p left (drop (i + 1) rest) start mid
       Remains-next {mid} h = record {
         paths = remains.paths ++ below;
@@ -218,10 +221,20 @@ module _ {K : Type 0} {took refused : K → List Turn → K → Type 0} {step : 
         all_looks = omega (arith, next-looks);
       }
 
-      pub Remains-stops : {new : DescentState K} → StopsIn took refused below beyond there new
+      pub Remains-stops : {new : Progress K} → StopsIn took refused below beyond there new
           → StopsIn took refused (found_below step x p left) (looks_beyond step x p left) start new
       Remains-stops {new} h =
           let after = Descends-then {F = Unit {0}} (Err tt) (below ++ others) (beyond + other_looks) new looked in
           rw (next-paths, next-looks)
           (Descends-then {F = Unit {0}} (Err tt) (below ++ others) (i + 1 + (beyond + other_looks)) new remains.went
           (after (StopsIn-before others other_looks h)))
+
+-- one deepening from a position
+module _ (step : Step) (x : List Coordinates) (d : ℕ) where
+  pub found-level : found_below step x [] d ≡ reaching (positions step) x d
+  unfolding found_below
+  found-level = found_all (positions step) (distance_at step) x (distance_at-goal step) (distance_at-turn step) d
+
+  pub looks-level : looks_below step x [] d ≡ looks (positions step) (distance_at step) x d
+  unfolding looks_beyond
+  looks-level = visits_all (positions step) (distance_at step) x (distance_at-goal step) (distance_at-turn step) d

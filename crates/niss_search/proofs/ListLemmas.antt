@@ -1,9 +1,8 @@
 -- Lists joined, filtered and summed.
-use Rattle.niss_search.proofs.Words.{◌≡◌, arith, length, ◌+◌, ◌<◌, ℕ, ap, ◌∙◌, sym, ◌≤◌, [], List, refl, ◌-◌, ◌∷◌, Bool, false, suc}
+use Rattle.niss_search.proofs.Words.{◌≡◌, arith, length, ◌+◌, ◌<◌, ℕ, ap, ◌∙◌, sym, ◌≤◌, [], List, refl, ◌-◌, ◌∷◌, Bool, suc}
 use Rattle.niss_search.proofs.Words.{range_with_len, ◌++◌, zero, map, Contains, flat_map, filter, sum_by, sum_by-cons, sum_by-le, list_any}
-use Rattle.niss_search.proofs.Words.{nat_le, nat_tests, flat_map-append, find, sum_by-append, Contains-get_or, add-one}
-use Rattle.niss_search.proofs.Words.{Contains-append_right, add-zero, filter-append, sum_by_push, length-range_with_len, leb-false}
-use Rattle.std.proofs.lemmas.List.{nil_from_length}
+use Rattle.niss_search.proofs.Words.{nat_le, nat_tests, flat_map-append, sum_by-append, Contains-get_or, add-one}
+use Rattle.niss_search.proofs.Words.{Contains-append_right, add-zero, filter-append, sum_by_push, length-range_with_len, append-nil}
 use Rattle.std.proofs.lemmas.List.FromFn.{get_or-range_with_len}
 
 module _ {X : Type 0} where
@@ -59,9 +58,6 @@ module _ {X : Type 0} where
   pub sum_by-same : (f g : X → ℕ) (xs : List X) → ((x : X) → f x ≡ g x) → sum_by f xs ≡ sum_by g xs
   sum_by-same f g xs h = ap (λ (k : X → ℕ). sum_by k xs) (λ i x. h x i)
 
-  pub find-same : (p q : X → Bool) (xs : List X) → ((x : X) → p x ≡ q x) → find p xs ≡ find q xs
-  find-same p q xs h = ap (λ (k : X → Bool). find k xs) (λ i x. h x i)
-
   -- some element passes exactly where the filtered list is not empty
   pub list_any-filter : (p : X → Bool) (xs : List X) → list_any p xs ≡ nat_le 1 (length (filter p xs))
   list_any-filter p [] = refl
@@ -108,5 +104,8 @@ range-push d =
 pub sum_by-range_more : (f : ℕ → ℕ) (n : ℕ) → sum_by f (range_with_len 0 (n + 1)) ≡ sum_by f (range_with_len 0 n) + f n
 sum_by-range_more f n = rw (range-push n) (sum_by_push f (range_with_len 0 n) n)
 
-pub filter-none : {X : Type 0} (p : X → Bool) (xs : List X) → list_any p xs ≡ false → filter p xs ≡ []
-filter-none p xs e = nil_from_length (filter p xs) (omega (arith, leb-false 1 (length (filter p xs)) (sym (list_any-filter p xs) ∙ e)))
+pub flat_map-range_more : {A : Type 0} (f : ℕ → List A) (n : ℕ) → flat_map f (range_with_len 0 (n + 1)) ≡ flat_map f (range_with_len 0 n) ++ f n
+flat_map-range_more f n =
+    ap (flat_map f) (range-push n)
+    ∙ flat_map-append f (range_with_len 0 n) (n ∷ [])
+    ∙ ap (λ ys. flat_map f (range_with_len 0 n) ++ ys) (append-nil (f n))

@@ -1,31 +1,9 @@
--- How far a step is, by the sequences that reach and of a position: 0 exactly at the goal, at most one more than after a turn, and
--- one more than after some.
-use Rattle.niss_search.proofs.Words.{◌≡◌, arith, ◌+◌, ◌<◌, ℕ, ap, ◌∙◌, ◌≤◌, [], List, refl, true, ◌∷◌, Bool, Turn, suc, cond}
-use Rattle.niss_search.proofs.Words.{range_with_len, zero, map, Contains, flat_map, leb, inl, inr, list_any, ◌⊎◌, min}
-use Rattle.niss_search.proofs.Words.{unwrap_or, find, distance, ◌||◌, all_sequences, list_any-append, list_any_at, sym}
-use Rattle.niss_search.proofs.Words.{turns_of, Coordinates, distance_at, Step, position_after, is_reached_at, are_zero, coordinates_after}
-use Rattle.niss_search.proofs.Words.{fold, or-false, DistanceIsLeast, nat_tests}
+-- How far a goal is, in a space of states: 0 exactly at the goal, at most one more than after a turn, and one more than after some.
+use Rattle.niss_search.proofs.Words.{◌≡◌, arith, ◌+◌, ◌<◌, ℕ, ap, ◌∙◌, ◌≤◌, [], List, refl, true, ◌∷◌, Bool, Turn, suc, cond, zero}
+use Rattle.niss_search.proofs.Words.{range_with_len, Contains, leb, inl, inr, list_any, ◌⊎◌, min, unwrap_or, find, ◌||◌, list_any_at, sym}
+use Rattle.niss_search.proofs.Words.{turns_of, Coordinates, distance_at, Step, position_after, is_reached_at, coordinates_after, positions}
+use Rattle.niss_search.proofs.Words.{or-false, DistanceIsLeast, nat_tests, Space, distance, is_reached_in, are_zero}
 use Rattle.std.proofs.lemmas.List.Folds.{Any-from_list_any}
-
-list_any-map : {X Y : Type 0} (p : Y → Bool) (f : X → Y) (xs : List X) → list_any p (map f xs) ≡ list_any (λ x. p (f x)) xs
-list_any-map p f [] = refl
-list_any-map p f (x ∷ xs) = ap (λ b. p (f x) || b) (list_any-map p f xs)
-
-list_any-flat_map : {X Y : Type 0} (p : Y → Bool) (f : X → List Y) (xs : List X) → list_any p (flat_map f xs) ≡ list_any (λ x. list_any p (f x)) xs
-list_any-flat_map p f [] = refl
-list_any-flat_map p f (x ∷ xs) =
-    list_any-append p (f x) (flat_map f xs) ∙ ap (λ b. list_any p (f x) || b) (list_any-flat_map p f xs)
-
--- whether some sequence of length k reaches
-abbrev pub reached_in : List Turn → (List Turn → Bool) → ℕ → Bool
-reached_in turns reaches k = list_any reaches (all_sequences turns k)
-
--- by its first turn
-reached_in-suc : (turns : List Turn) (reaches : List Turn → Bool) (k : ℕ) → reached_in turns reaches (suc k) ≡ list_any (λ t. reached_in turns (λ s. reaches (t ∷ s)) k) turns
-unfolding all_sequences
-reached_in-suc turns reaches k =
-    list_any-flat_map reaches (λ t. map (λ s. t ∷ s) (all_sequences turns k)) turns
-    ∙ ap (λ (p : Turn → Bool). list_any p turns) (λ i t. list_any-map reaches (λ s. t ∷ s) (all_sequences turns k) i)
 
 -- the first number from a on, of n, that passes, or else d
 abbrev pub first_or : (ℕ → Bool) → ℕ → ℕ → ℕ → ℕ
@@ -60,76 +38,75 @@ first_or-either f g a zero d h = omega arith
 first_or-either f g a (suc n) d h =
     grind (arith, first_or-suc, first_or-from f (a + 1) n d, first_or-from g (a + 1) n d, first_or-either f g (a + 1) n d)
 
--- where either of two tests is to be reached, the nearer one gives the distance
-distance-either : (turns : List Turn) (p q : List Turn → Bool) → distance turns (λ s. p s || q s) ≡ min (distance turns p) (distance turns q)
-unfolding distance
-distance-either turns p q =
-    ap (λ (f : ℕ → Bool). first_or f 0 21 21) (λ i k. list_any-either p q (all_sequences turns k) i)
-    ∙ first_or-either (reached_in turns p) (reached_in turns q) 0 21 21 (omega arith)
-
-module _ (turns : List Turn) (reaches : List Turn → Bool) where
-  distance-le : (k : ℕ) → k ≤ 20 → reached_in turns reaches k ≡ true → distance turns reaches ≤ k
+module _ {turns : List Turn} {S : Type 0} (space : Space turns S) where
+  distance-le : (x : S) (k : ℕ) → k ≤ 20 → is_reached_in space k x ≡ true → distance space x ≤ k
   unfolding distance
-  distance-le k h e = first_or-le (reached_in turns reaches) 0 21 21 k (omega arith) (omega arith) e
+  distance-le x k h e = first_or-le (λ j. is_reached_in space j x) 0 21 21 k (omega arith) (omega arith) e
 
-  distance-most : distance turns reaches ≤ 21
+  pub distance-most : (x : S) → distance space x ≤ 21
   unfolding distance
-  distance-most = first_or-within (reached_in turns reaches) 0 21 21 21 (omega arith) (omega arith)
+  distance-most x = first_or-within (λ j. is_reached_in space j x) 0 21 21 21 (omega arith) (omega arith)
 
-  distance-reached : (reached_in turns reaches (distance turns reaches) ≡ true) ⊎ (distance turns reaches ≡ 21)
+  distance-reached : (x : S) → (is_reached_in space (distance space x) x ≡ true) ⊎ (distance space x ≡ 21)
   unfolding distance
-  distance-reached = first_or-passes (reached_in turns reaches) 0 21 21
+  distance-reached x = first_or-passes (λ j. is_reached_in space j x) 0 21 21
 
-  distance-zero : leb (distance turns reaches) 0 ≡ reaches []
-  unfolding distance all_sequences
-  distance-zero =
-      let nearest = first_or-suc (reached_in turns reaches) 0 20 21 in
-      grind (arith, nat_tests, nearest, first_or-from (reached_in turns reaches) 1 20 21 (omega arith))
+  pub distance-goal : (x : S) → leb (distance space x) 0 ≡ space.reached x
+  unfolding distance is_reached_in
+  distance-goal x =
+      let nearest = first_or-suc (λ j. is_reached_in space j x) 0 20 21 in
+      grind (arith, nat_tests, nearest, first_or-from (λ j. is_reached_in space j x) 1 20 21 (omega arith))
 
-distance-turn : (turns : List Turn) (reaches : List Turn → Bool) (t : Turn) → Contains turns t → distance turns reaches ≤ 1 + distance turns (λ s. reaches (t ∷ s))
-distance-turn turns reaches t m =
-    let rest : List Turn → Bool = λ s. reaches (t ∷ s) in
-    elim (distance-reached turns rest) [
-      | inl e ↦
-          let further = reached_in-suc turns reaches (distance turns rest) ∙ list_any_at (λ u. reached_in turns (λ s. reaches (u ∷ s)) (distance turns rest)) turns m.0 t m.1 (ap (λ u. reached_in turns (λ s. reaches (u ∷ s)) (distance turns rest)) m.2 ∙ e) in
-          grind (arith, distance-most turns reaches, distance-le turns reaches (suc (distance turns rest)), further)
-      | inr e ↦ omega (arith, distance-most turns reaches)
-    ]
+  pub distance-turn : (x : S) (t : Turn) → Contains turns t → distance space x ≤ 1 + distance space (space.after x t)
+  unfolding is_reached_in
+  distance-turn x t m = elim (distance-reached (space.after x t)) [
+    | inl e ↦
+        let k = distance space (space.after x t) in
+        let reached = λ (u : Turn). is_reached_in space k (space.after x u) in
+        let further : is_reached_in space (suc k) x ≡ true = list_any_at reached turns m.0 t m.1 (ap reached m.2 ∙ e) in
+        grind (arith, distance-most x, distance-le x (suc k), further)
+    | inr e ↦ omega (arith, distance-most x)
+  ]
 
-pub distance_at-goal : (step : Step) (x : List Coordinates) → leb (distance_at step x) 0 ≡ is_reached_at x
-unfolding distance_at
-distance_at-goal step x = distance-zero (turns_of step) (λ s. is_reached_at (fold position_after x s))
+  -- from a state that isn't at the goal some turn leads nearer
+  pub distance-nearer : (x : S) (k : ℕ) → distance space x ≡ suc k → k < 20 → (t : Turn) × (Contains turns t × (distance space (space.after x t) ≤ k))
+  unfolding is_reached_in
+  distance-nearer x k e l = elim (distance-reached x) [
+    | inl r ↦
+        let here : is_reached_in space (suc k) x ≡ true = ap (λ j. is_reached_in space j x) (sym e) ∙ r in
+        let some = Any-from_list_any (λ t. is_reached_in space k (space.after x t)) turns here in
+        (some.1, ((some.0, some.2, some.3), distance-le (space.after x some.1) k (omega arith) some.4))
+    | inr r ↦ absurd (omega arith)
+  ]
 
-pub distance_at-turn : (step : Step) (x : List Coordinates) (t : Turn) → Contains (turns_of step) t → distance_at step x ≤ 1 + distance_at step (position_after x t)
-unfolding distance_at
-distance_at-turn step x t m = distance-turn (turns_of step) (λ s. is_reached_at (fold position_after x s)) t m
+module _ (step : Step) where
+  pub distance_at-goal : (x : List Coordinates) → leb (distance_at step x) 0 ≡ is_reached_at x
+  unfolding distance_at
+  distance_at-goal = distance-goal (positions step)
 
-pub distance_at-most : (step : Step) (x : List Coordinates) → distance_at step x ≤ 21
-unfolding distance_at
-distance_at-most step x = distance-most (turns_of step) (λ s. is_reached_at (fold position_after x s))
+  pub distance_at-turn : (x : List Coordinates) (t : Turn) → Contains (turns_of step) t → distance_at step x ≤ 1 + distance_at step (position_after x t)
+  unfolding distance_at
+  distance_at-turn = distance-turn (positions step)
 
--- from a position that isn't at the goal some turn leads nearer
-pub distance_at-nearer : (step : Step) (x : List Coordinates) (k : ℕ) → distance_at step x ≡ suc k → k < 20 → (t : Turn) × (Contains (turns_of step) t × (distance_at step (position_after x t) ≤ k))
-unfolding distance_at
-distance_at-nearer step x k e l =
-    let turns = turns_of step in
-    let reaches = λ (s : List Turn). is_reached_at (fold position_after x s) in
-    elim (distance-reached turns reaches) [
-      | inl r ↦
-          let here : reached_in turns reaches (suc k) ≡ true = ap (reached_in turns reaches) (sym e) ∙ r in
-          let some = Any-from_list_any (λ t. reached_in turns (λ s. reaches (t ∷ s)) k) turns (sym (reached_in-suc turns reaches k) ∙ here) in
-          (some.1, ((some.0, some.2, some.3), distance-le turns (λ s. reaches (some.1 ∷ s)) k (omega arith) some.4))
-      | inr r ↦ absurd (omega arith)
-    ]
+  pub distance_at-most : (x : List Coordinates) → distance_at step x ≤ 21
+  unfolding distance_at
+  distance_at-most = distance-most (positions step)
 
-either : (s : List Turn) (c : Coordinates) (x : List Coordinates) → is_reached_at (fold position_after (c ∷ x) s) ≡ (is_reached_at (fold position_after (c ∷ []) s) || is_reached_at (fold position_after x s))
-unfolding position_after is_reached_at
-either [] c x = ap (λ b. b || list_any are_zero x) (sym (or-false (are_zero c)))
-either (t ∷ s) c x = either s (coordinates_after c t) (position_after x t)
+  pub distance_at-nearer : (x : List Coordinates) (k : ℕ) → distance_at step x ≡ suc k → k < 20 → (t : Turn) × (Contains (turns_of step) t × (distance_at step (position_after x t) ≤ k))
+  unfolding distance_at
+  distance_at-nearer = distance-nearer (positions step)
+
+  either : (k : ℕ) (c : Coordinates) (x : List Coordinates) → is_reached_in (positions step) k (c ∷ x) ≡ (is_reached_in (positions step) k (c ∷ []) || is_reached_in (positions step) k x)
+  unfolding is_reached_in position_after is_reached_at
+  either zero c x = ap (λ b. b || is_reached_at x) (sym (or-false (are_zero c)))
+  either (suc k) c x =
+      let at = λ (y : List Coordinates) (t : Turn). is_reached_in (positions step) k (position_after y t) in
+      ap (λ (p : Turn → Bool). list_any p (turns_of step)) (λ i t. either k (coordinates_after c t) (position_after x t) i)
+      ∙ list_any-either (at (c ∷ [])) (at x) (turns_of step)
 
 -- the distance of a position is the least of those of its coordinates
 pub distance_at_least : DistanceIsLeast
-unfolding distance_at
+unfolding distance_at distance
 distance_at_least step c x =
-    ap (distance (turns_of step)) (λ i s. either s c x i)
-    ∙ distance-either (turns_of step) (λ s. is_reached_at (fold position_after (c ∷ []) s)) (λ s. is_reached_at (fold position_after x s))
+    ap (λ (f : ℕ → Bool). first_or f 0 21 21) (λ i k. either step k c x i)
+    ∙ first_or-either (λ k. is_reached_in (positions step) k (c ∷ [])) (λ k. is_reached_in (positions step) k x) 0 21 21 (omega arith)

@@ -1,18 +1,18 @@
 -- What of a cube depends on its position alone, by the laws of the coordinates and of the steps; so what holds of a position holds
 -- of every cube that has it.
 use Rattle.niss_search.proofs.Words.{canonical_extensions, PositionsFollowCubes, All-contains_itself, near_solutions_of, coordinates_after}
-use Rattle.niss_search.proofs.Words.{position_after, solution_lengths, least_length_at, effect_of_turns, least_length_of, DominoKeepsStart}
-use Rattle.niss_search.proofs.Words.{last_turn, all_canonical, all_sequences, near_looks_of, coordinates_of, AreCoordinates, StepsSeePlaces}
-use Rattle.niss_search.proofs.Words.{least_length, is_looked_at, all_looks_at, is_reached_at, option_map_or, alike_is_cube, length-filter}
-use Rattle.niss_search.proofs.Words.{Coordinates, distance_at, last_length, unwrap_or, HasPosition, solutions_at, distance_of, TurnedIsCube}
-use Rattle.niss_search.proofs.Words.{length, may_follow, reaches_at, all_looks, solutions, All-append, All-filter, StartIsKept, position_of}
-use Rattle.niss_search.proofs.Words.{turns_of, Contains, flat_map, count_by, list_any, reaching, distance, All-head, may_start, zero_test}
+use Rattle.niss_search.proofs.Words.{position_after, solution_lengths, after_all, least_length_of, DominoKeepsStart, is_reached_in}
+use Rattle.niss_search.proofs.Words.{last_turn, all_canonical, near_looks_of, coordinates_of, AreCoordinates, StepsSeePlaces, Homomorphism}
+use Rattle.niss_search.proofs.Words.{least_length, is_looked_at, is_reached_at, option_map_or, alike_is_cube, length-filter, Space}
+use Rattle.niss_search.proofs.Words.{Coordinates, distance_at, last_length, unwrap_or, HasPosition, distance_of, TurnedIsCube, find}
+use Rattle.niss_search.proofs.Words.{length, may_follow, all_looks, solutions, All-append, All-filter, StartIsKept, position_of, nat_lt}
+use Rattle.niss_search.proofs.Words.{Contains, flat_map, count_by, list_any, reaching, distance, All-head, may_start, zero_test}
 use Rattle.niss_search.proofs.Words.{List, All-push, All-tail, All-take, reached, All-cons, All-map, are_zero, goals_of, slice_of, twist_of}
-use Rattle.niss_search.proofs.Words.{ap, filter, nat_le, turned, IsTrue, reaches, All-nil, Option, Domino, IsCube, SameMap, flip_of, arith}
-use Rattle.niss_search.proofs.Words.{refl, Bool, Turn, ◌++◌, zero, Step, take, Place, looks, up_to, fold, true, subst, Edges, holds, ◌≡◌, ℕ}
-use Rattle.niss_search.proofs.Words.{◌∙◌, sym, [], ◌-◌, ◌∷◌, suc, map, leb, All, ◌↔◌, Flip, Axis, Goal, leb-true}
-use Rattle.niss_search.proofs.ListLemmas.{Contains-first, Contains-later, find-same, flat_map-same, sum_by-same, list_any-filter}
-use Rattle.niss_search.proofs.LookLemmas.{reached_in, distance_at-goal}
+use Rattle.niss_search.proofs.Words.{ap, filter, nat_le, turned, IsTrue, All-nil, Option, Domino, IsCube, SameMap, flip_of, arith, sum_by}
+use Rattle.niss_search.proofs.Words.{refl, Bool, Turn, ◌++◌, zero, Step, take, Place, looks, up_to, true, subst, Edges, holds, ◌≡◌, ℕ}
+use Rattle.niss_search.proofs.Words.{◌∙◌, sym, [], ◌-◌, ◌∷◌, suc, map, leb, All, ◌↔◌, Flip, Axis, Goal, leb-true, positions}
+use Rattle.niss_search.proofs.ListLemmas.{Contains-first, Contains-later, list_any-filter}
+use Rattle.niss_search.proofs.LookLemmas.{distance_at-goal}
 use Rattle.niss_cube.specs.declared.cube.coordinate.Coordinate.TheVariants as coordinate
 
 map_twice : {X Y Z : Type 0} (g : Y → Z) (f : X → Y) (h : X → Z) (xs : List X) → ((x : X) → h x ≡ g (f x)) → map h xs ≡ map g (map f xs)
@@ -66,11 +66,13 @@ positions_follow_cubes coordinates is_cube kept see begins = record {
     starts = subst IsTrue ((see d e same).start s) starts;
     here = sym (position_alike coordinates s d e h same);
   };
-  goal = λ s e x h. reached_zero coordinates e h.cube begins s h.starts ∙ ap is_reached_at h.here;
-  after_turn = λ s e x t m h. record {
-    cube = is_cube e t h.cube;
-    starts = kept s e t m h.starts;
-    here = position_follows coordinates s e t h.cube ∙ ap (λ y. position_after y t) h.here;
+  follow = λ s. record {
+    goal = λ e x h. reached_zero coordinates e h.cube begins s h.starts ∙ ap is_reached_at h.here;
+    after_turn = λ e x t m h. record {
+      cube = is_cube e t h.cube;
+      starts = kept s e t m h.starts;
+      here = position_follows coordinates s e t h.cube ∙ ap (λ y. position_after y t) h.here;
+    };
   };
 }
 
@@ -91,92 +93,84 @@ All-flat_map P Q f (x ∷ xs) g h = All-append Q (f x) (flat_map f xs) (g x (All
 abbrev pub IsOver : List Turn → List Turn → Type 0
 IsOver turns s = All (Contains turns) s
 
-module _ (turns : List Turn) where
-  only-empty : All (IsOver turns) ([] ∷ [])
-  only-empty = All-cons (IsOver turns) [] [] (All-nil (Contains turns)) (All-nil (IsOver turns))
+canonical-over : (turns : List Turn) (k : ℕ) → All (IsOver turns) (all_canonical turns k)
+unfolding all_canonical
+canonical-over turns zero = All-cons (IsOver turns) [] [] (All-nil (Contains turns)) (All-nil (IsOver turns))
+canonical-over turns (suc k) =
+    All-flat_map (IsOver turns) (IsOver turns) (canonical_extensions turns) (all_canonical turns k) (λ s over.
+    All-map (IsOver turns) (λ t. s ++ t ∷ []) (filter (may_follow (last_turn s)) turns) (λ i d l.
+    All-push (Contains turns) s _ over (All-filter (may_follow (last_turn s)) (Contains turns) turns (All-contains_itself turns) i d l)))
+    (canonical-over turns k)
 
-  canonical-over : (k : ℕ) → All (IsOver turns) (all_canonical turns k)
-  unfolding all_canonical
-  canonical-over zero = only-empty
-  canonical-over (suc k) =
-      All-flat_map (IsOver turns) (IsOver turns) (canonical_extensions turns) (all_canonical turns k) (λ s over.
-      All-map (IsOver turns) (λ t. s ++ t ∷ []) (filter (may_follow (last_turn s)) turns) (λ i d l.
-      All-push (Contains turns) s _ over (All-filter (may_follow (last_turn s)) (Contains turns) turns (All-contains_itself turns) i d l)))
-      (canonical-over k)
+-- Solutions, looks and distance are the same from a state as from one that it is of.
+module _ {turns : List Turn} {S T : Type 0} {IsOf : S → T → Type 0} {from : Space turns S} {to : Space turns T} (alike : Homomorphism IsOf from to) where
+  after-all : (s : S) (x : T) (p : List Turn) → IsOver turns p → IsOf s x → IsOf (after_all from s p) (after_all to x p)
+  after-all s x [] over h = h
+  after-all s x (t ∷ p) over h =
+      after-all (from.after s t) (to.after x t) p (All-tail (Contains turns) t p over) (alike.after_turn s x t (All-head (Contains turns) t p over) h)
 
-  all-over : (k : ℕ) → All (IsOver turns) (all_sequences turns k)
-  unfolding all_sequences
-  all-over zero = only-empty
-  all-over (suc k) =
-      All-flat_map (Contains turns) (IsOver turns) (λ t. map (λ s. t ∷ s) (all_sequences turns k)) turns (λ t m.
-      All-map (IsOver turns) (λ s. t ∷ s) (all_sequences turns k) (λ i d l. All-cons (Contains turns) t _ m (all-over k i d l)))
-      (All-contains_itself turns)
+  pub distance-same : (s : S) (x : T) → IsOf s x → distance from s ≡ distance to x
+  unfolding distance is_reached_in
+  distance-same s x h = λ i. unwrap_or (find (λ k. reached k s x h i) (up_to 20)) 21 where
+    reached : (k : ℕ) (s : S) (x : T) → IsOf s x → is_reached_in from k s ≡ is_reached_in to k x
+    reached zero s x h = alike.goal s x h
+    reached (suc k) s x h =
+        list_any-each (Contains turns) _ _ turns (λ t m. reached k (from.after s t) (to.after x t) (alike.after_turn s x t m h)) (All-contains_itself turns)
 
-  module _ (p q : List Turn → Bool) (same : (s : List Turn) → IsOver turns s → p s ≡ q s) where
-    pub least_length-same : (n : ℕ) → least_length turns p n ≡ least_length turns q n
+  module _ (s : S) (x : T) (h : IsOf s x) where
+    reaching-same : (k : ℕ) → reaching from s k ≡ reaching to x k
+    reaching-same k =
+        filter-each (IsOver turns) _ _ (all_canonical turns k) (λ p over. alike.goal _ _ (after-all s x p over h)) (canonical-over turns k)
+
+    pub least_length-same : (n : ℕ) → least_length from s n ≡ least_length to x n
     unfolding least_length
-    least_length-same n =
-        find-same _ _ (up_to n) (λ k. list_any-each (IsOver turns) p q (all_canonical turns k) same (canonical-over k))
+    least_length-same n = λ i. find (λ k. nat_lt 0 (length (reaching-same k i))) (up_to n)
 
-    pub solutions-same : (n slack : ℕ) → solutions turns p n slack ≡ solutions turns q n slack
+    pub solutions-same : (n slack : ℕ) → solutions from s n slack ≡ solutions to x n slack
     unfolding solutions
     solutions-same n slack =
-        rw (least_length-same n)
-        (flat_map-same (reaching turns p) (reaching turns q) (solution_lengths (least_length turns q n) n slack) (λ k. filter-each (IsOver turns) p q (all_canonical turns k) same (canonical-over k)))
+        λ i. flat_map (λ k. reaching-same k i) (solution_lengths (least_length-same n i) n slack)
 
-    pub distance-same : distance turns p ≡ distance turns q
-    unfolding distance
-    distance-same =
-        ap (λ o. unwrap_or o 21) (find-same (reached_in turns p) (reached_in turns q) (up_to 20) (λ k. list_any-each (IsOver turns) p q (all_sequences turns k) same (all-over k)))
+    module _ (f : S → ℕ) (g : T → ℕ) (same : (s : S) (x : T) → IsOf s x → f s ≡ g x) where
+      looked-same : (d : ℕ) (p : List Turn) → IsOver turns p → is_looked_at from f s d p ≡ is_looked_at to g x d p
+      looked-same d [] over = refl
+      looked-same d (t ∷ ts) over =
+          let front = take (length ts) (t ∷ ts) in
+          ap (λ n. nat_le n (d - length front)) (same _ _ (after-all s x front (All-take (Contains turns) (length ts) (t ∷ ts) over) h))
 
-  module _ (f g : List Turn → ℕ) (same : (s : List Turn) → IsOver turns s → f s ≡ g s) where
-    is_looked_at-same : (d : ℕ) (s : List Turn) → IsOver turns s → is_looked_at f d s ≡ is_looked_at g d s
-    is_looked_at-same d [] h = refl
-    is_looked_at-same d (t ∷ ts) h =
-        ap (λ n. nat_le n (d - length (take (length ts) (t ∷ ts)))) (same (take (length ts) (t ∷ ts)) (All-take (Contains turns) (length ts) (t ∷ ts) h))
+      looks-same : (d : ℕ) → looks from f s d ≡ looks to g x d
+      unfolding looks
+      looks-same d = λ i. sum_by (λ k. counted k i) (up_to d) where
+        counted : (k : ℕ) → count_by (is_looked_at from f s d) (all_canonical turns k) ≡ count_by (is_looked_at to g x d) (all_canonical turns k)
+        counted k =
+            sym (length-filter (is_looked_at from f s d) (all_canonical turns k))
+            ∙ ap length (filter-each (IsOver turns) _ _ (all_canonical turns k) (looked-same d) (canonical-over turns k))
+            ∙ length-filter (is_looked_at to g x d) (all_canonical turns k)
 
-    pub looks-same : (d : ℕ) → looks turns f d ≡ looks turns g d
-    unfolding looks
-    looks-same d = sum_by-same (λ k. count_by (is_looked_at f d) (all_canonical turns k)) (λ k. count_by (is_looked_at g d) (all_canonical turns k)) (up_to d) (λ k.
-        sym (length-filter (is_looked_at f d) (all_canonical turns k))
-        ∙ ap length (filter-each (IsOver turns) (is_looked_at f d) (is_looked_at g d) (all_canonical turns k) (is_looked_at-same d) (canonical-over k))
-        ∙ length-filter (is_looked_at g d) (all_canonical turns k))
+      pub all_looks-same : (n slack : ℕ) → all_looks from f s n slack ≡ all_looks to g x n slack
+      unfolding all_looks
+      all_looks-same n slack =
+          λ i. sum_by (λ d. looks-same d i) (up_to (last_length (least_length-same n i) n slack))
 
 -- a cube and its position
 module _ (law : PositionsFollowCubes) (step : Step) where
-  has_position-all : (s : List Turn) (e : Place → Place) (x : List Coordinates) → HasPosition step e x → IsOver (turns_of step) s → HasPosition step (λ q. effect_of_turns s (e q)) (fold position_after x s)
-  has_position-all [] e x h over = h
-  has_position-all (t ∷ s) e x h over =
-      has_position-all s (λ q. turned t (e q)) (position_after x t)
-      (law.after_turn step e x t (All-head (Contains (turns_of step)) t s over) h)
-      (All-tail (Contains (turns_of step)) t s over)
-
-  reach-same : (s : List Turn) (e : Place → Place) (x : List Coordinates) → HasPosition step e x → IsOver (turns_of step) s → reaches step e s ≡ reaches_at step x s
-  reach-same s e x h over =
-      law.goal step (λ q. effect_of_turns s (e q)) (fold position_after x s) (has_position-all s e x h over)
-
   -- the distance of a position is that of every cube that has it
   pub distance-cube : (e : Place → Place) (x : List Coordinates) → HasPosition step e x → distance_of step e ≡ distance_at step x
   unfolding distance_at
-  distance-cube e x h = distance-same (turns_of step) (reaches step e) _ (λ s over. reach-same s e x h over)
+  distance-cube = distance-same (law.follow step)
 
   module _ (e : Place → Place) (x : List Coordinates) (h : HasPosition step e x) where
-    pub least_length-cube : (n : ℕ) → least_length_of step e n ≡ least_length_at step x n
-    least_length-cube n = least_length-same (turns_of step) (reaches step e) _ (λ s over. reach-same s e x h over) n
+    pub solutions-cube : (n slack : ℕ) → near_solutions_of step e n slack ≡ solutions (positions step) x n slack
+    solutions-cube = solutions-same (law.follow step) e x h
 
-    pub solutions-cube : (n slack : ℕ) → near_solutions_of step e n slack ≡ solutions_at step x n slack
-    solutions-cube n slack =
-        solutions-same (turns_of step) (reaches step e) _ (λ s over. reach-same s e x h over) n slack
+    pub least_length-cube : (n : ℕ) → least_length_of step e n ≡ least_length (positions step) x n
+    least_length-cube = least_length-same (law.follow step) e x h
 
-    pub all_looks-cube : (n slack : ℕ) → near_looks_of step e n slack ≡ all_looks_at step x n slack
-    unfolding all_looks
-    all_looks-cube n slack =
-        rw (least_length-cube n)
-        (sum_by-same _ _ (up_to (last_length (least_length_at step x n) n slack))
-        (looks-same (turns_of step) _ _ (λ s over. distance-cube (λ q. effect_of_turns s (e q)) _ (has_position-all s e x h over))))
+    pub all_looks-cube : (n slack : ℕ) → near_looks_of step e n slack ≡ all_looks (positions step) (distance_at step) x n slack
+    all_looks-cube = all_looks-same (law.follow step) e x h (distance_of step) (distance_at step) distance-cube
 
     -- the distance is 0 exactly where the step is reached
     pub distance-reached-cube : (distance_at step x ≡ 0) ↔ IsTrue (reached step e)
     distance-reached-cube =
-        let same : leb (distance_at step x) 0 ≡ reached step e = distance_at-goal step x ∙ sym (law.goal step e x h) in
+        let same : leb (distance_at step x) 0 ≡ reached step e = distance_at-goal step x ∙ sym ((law.follow step).goal e x h) in
         (λ z. sym same ∙ ap (λ n. leb n 0) z, λ k. omega (arith, leb-true (distance_at step x) 0 (same ∙ k)))

@@ -43,13 +43,11 @@ unfoldable pub use Rattle.niss_moves.specs.Canonical.{all_canonical}
 pub use Rattle.niss_moves.specs.Effects.{turned, effect_of_turns}
 pub use Rattle.niss_moves.specs.Places.{Place, SameMap}
 pub use Rattle.niss_moves.specs.Turn.{inverse_turn, goes_first}
-pub use Rattle.niss_search.specs.Cubes.{HasPosition, near_looks_of, near_solutions_of, distance_of, least_length_of, reaches}
-pub use Rattle.niss_search.specs.Deepening.{reaches_at, all_looks_at, far_at, least_length_at, looks_at, reaching_at, solutions_at}
-pub use Rattle.niss_search.specs.Deepening.{Delivers, state_of, Keeps, GoesThrough, descent_state, Descends, DescentState, StopsIn}
+pub use Rattle.niss_search.specs.Cubes.{HasPosition, near_looks_of, near_solutions_of, distance_of, least_length_of, cubes}
+pub use Rattle.niss_search.specs.Deepening.{Delivers, progress_of, Keeps, GoesThrough, progress_at, Descends, Progress, StopsIn}
 pub use Rattle.niss_search.specs.Deepening.{looks_below}
-pub use Rattle.niss_search.specs.Delivery.{at_limit, StoppedIn, WentThrough}
+pub use Rattle.niss_search.specs.Delivery.{Path, at_limit, StoppedIn, WentThrough}
 unfoldable pub use Rattle.niss_search.specs.Deepening.{found_below, looks_beyond, found, visits}
-unfoldable pub use Rattle.niss_search.specs.Distance.{distance, all_sequences}
 pub use Rattle.niss_search.specs.Draw.{after_words, choice, choices}
 unfoldable pub use Rattle.niss_search.specs.Draw.{draw, next_words}
 pub use Rattle.niss_search.specs.Entries.{count_for, values_for}
@@ -60,15 +58,13 @@ unfoldable pub use Rattle.niss_search.specs.Filling.{entry_distance, entry_after
 pub use Rattle.niss_search.specs.Followers.{IsFollower, distance_after, AreFar, IsNextNear}
 pub use Rattle.niss_search.specs.Laws.{PositionsFollowCubes, BoundIsSmall, CountRecurrence, DistanceIsLeast, EdgeFillIsSmall}
 pub use Rattle.niss_search.specs.Laws.{EntriesAreCounted, FillIsSmall, NoSlackIsLeast, PartHasNoMore, StepBoundIsLess}
-pub use Rattle.niss_search.specs.Looks.{is_looked_at}
-unfoldable pub use Rattle.niss_search.specs.Looks.{looks, all_looks}
 pub use Rattle.niss_search.specs.Moves.{turn_at, IsMoveRow}
 pub use Rattle.niss_search.specs.Names.{Turn, Coordinates, Step, Flip, Follower, no_turn, Axis, Domino, Edges, Goal, B, D, F, Face, L, R, U}
 pub use Rattle.niss_search.specs.Names.{TwistAndSlice}
-pub use Rattle.niss_search.specs.Path.{Path}
-pub use Rattle.niss_search.specs.Positions.{are_zero, coordinates_after, coordinates_of}
+pub use Rattle.niss_search.specs.Positions.{are_zero, coordinates_after, coordinates_of, positions}
 unfoldable pub use Rattle.niss_search.specs.Positions.{distance_at, position_after, is_reached_at, position_of}
-pub use Rattle.niss_search.specs.Solutions.{last_length, reaching, up_to, solution_lengths, count_of_length, from_to}
-unfoldable pub use Rattle.niss_search.specs.Solutions.{least_length, look_bound, solutions}
+pub use Rattle.niss_search.specs.Solutions.{Space, Homomorphism, after_all, last_length, reaching, up_to, solution_lengths, count_of_length}
+pub use Rattle.niss_search.specs.Solutions.{is_looked_at}
+unfoldable pub use Rattle.niss_search.specs.Solutions.{least_length, look_bound, solutions, is_reached_in, distance, looks, all_looks}
 pub use Rattle.rand_pcg.specs.Lcg.{Lcg}
 pub use lib.Lanes.{number_l}

@@ -4,9 +4,10 @@ ghost use Rattle.std.specs.Prelude.{◌≡◌, ◌+◌, ◌≤◌, ◌<◌, ◌^
 ghost use Rattle.niss_moves.specs.Places.{Place};
 ghost use Rattle.niss_cube.specs.Steps.{turns_of};
 ghost use Rattle.niss_search.specs.Cubes.{IsPosition, HasPosition, least_length_of, near_solutions_of, near_looks_of};
-ghost use Rattle.niss_search.specs.Solutions.{look_bound, last_length};
+ghost use Rattle.niss_search.specs.Solutions.{look_bound, last_length, least_length, solutions, reaching, looks, all_looks};
+ghost use Rattle.niss_search.specs.Positions.{positions, distance_at};
 ghost use Rattle.niss_search.specs.Delivery.{WentThrough, StoppedIn, at_limit};
-ghost use Rattle.niss_search.specs.Deepening.{least_length_at, solutions_at, all_looks_at, reaching_at, looks_at, Delivers};
+ghost use Rattle.niss_search.specs.Deepening.{Delivers};
 
 use crate::descent::Descent;
 use crate::laws::positions_follow_cubes;
@@ -80,10 +81,11 @@ impl<A: Allocator> Root<'_, A> {
         requires meter { meter.old ≤ 2 ^ 127 }
         ensures path { path.new ≡ path.old }
         ensures length { IfOk result (λ o. o.length ≡
-            least_length_at self.now.tables.now self.now.position.now path.old.limit) }
+            least_length (positions self.now.tables.now) self.now.position.now path.old.limit) }
         ensures delivers { Delivers K.took K.refused path.old.limit
-            (solutions_at self.now.tables.now self.now.position.now path.old.limit slack)
-            (all_looks_at self.now.tables.now self.now.position.now path.old.limit slack)
+            (solutions (positions self.now.tables.now) self.now.position.now path.old.limit slack)
+            (all_looks (positions self.now.tables.now) (distance_at self.now.tables.now)
+            self.now.position.now path.old.limit slack)
             meter.old meter.new sink.old sink.new (λ o. o.solutions) result }
     {
         let limit = path.limit();
@@ -114,11 +116,12 @@ impl<A: Allocator> Root<'_, A> {
         requires empty { path.old.turns ≡ [] }
         requires within { length ≤ path.old.limit }
         requires meter { meter.old
-            + looks_at self.now.tables.now self.now.position.now (length ∷ []) < 2 ^ 128 }
+            + looks (positions self.now.tables.now) (distance_at self.now.tables.now) self.now.position.now length
+            < 2 ^ 128 }
         ensures path { path.new ≡ path.old }
         ensures delivers { Delivers K.took K.refused path.old.limit
-            (reaching_at self.now.tables.now self.now.position.now (length ∷ []))
-            (looks_at self.now.tables.now self.now.position.now (length ∷ []))
+            (reaching (positions self.now.tables.now) self.now.position.now length)
+            (looks (positions self.now.tables.now) (distance_at self.now.tables.now) self.now.position.now length)
             meter.old meter.new sink.old sink.new (λ count. count) result }
         ensures counted { IfOk result (λ count. meter.old + count ≤ meter.new) }
     {

@@ -1,6 +1,6 @@
 //! Where solutions go.
 ghost use Rattle.std.specs.Prelude.{OnOk, OnErr};
-ghost use Rattle.niss_search.specs.Path.{Path};
+ghost use Rattle.niss_search.specs.Delivery.{Path};
 
 use crate::turn_path::TurnPath;
 

@@ -16,7 +16,7 @@ pub struct TurnPath {
 
 impl Model for TurnPath {
     ghost use Rattle.std.specs.Prelude.{◌≤◌, length};
-    ghost use Rattle.niss_search.specs.Path.{Path};
+    ghost use Rattle.niss_search.specs.Delivery.{Path};
 
     ghost Value = { Path };
 

@@ -1,5 +1,5 @@
 use Rattle.niss_search.proofs.Words.{◌≡◌, sym, err_from_is_err_and}
-use Rattle.niss_search.proofs.DeepeningLemmas.{found-level, looks-level}
+use Rattle.niss_search.proofs.DescentLemmas.{found-level, looks-level}
 use Rattle.niss_search.proofs.deepening.Root.deepen.Goals as goal
 
 pub visit-after-requires-clause-meter : goal.visit-after-requires-clause-meter

@@ -1,5 +1,5 @@
 use Rattle.niss_search.proofs.Words.{◌≡◌, arith, length, ◌+◌, ◌<◌, ◌∙◌, sym, ◌≤◌, [], refl, ◌-◌, ◌∷◌, ◌++◌, get_or, subst, suc}
-use Rattle.niss_search.proofs.Words.{distance_at, position_after, ◌^◌, IsFollower, looks_beyond, state_of, Path, All-drop, take_rest, at_limit}
+use Rattle.niss_search.proofs.Words.{distance_at, position_after, ◌^◌, IsFollower, looks_beyond, progress_of, Path, All-drop, take_rest, at_limit}
 use Rattle.std.proofs.lemmas.List.{length-drop}
 use Rattle.niss_search.proofs.DescentLemmas.{no_follower, found_below-end, looks_beyond-end, Descends-take, Remains-all, Remains-room}
 use Rattle.niss_search.proofs.DescentLemmas.{Remains-room_next, Remains-next, Remains-stops, Remains-far}
@@ -23,7 +23,7 @@ extend-loop-index-init g t c =
       columns = c.turns_after-rest.ensures.columns;
       few = c.turns_after-rest.type_inv.1;
       keeps = record { path = refl; same_path = refl; same_sink = refl; counted = omega arith };
-      remains = Remains-all c.args.left (c.args.left - 1) c.turns_after-rest.result.now (state_of c.args.meter c.args.self.now) left c.requires.near listed;
+      remains = Remains-all c.args.left (c.args.left - 1) c.turns_after-rest.result.now (progress_of c.args.meter c.args.self.now) left c.requires.near listed;
     }
 
 pub extend-next_near-requires-clause-meter : goal.extend-next_near-requires-clause-meter

@@ -1,4 +1,4 @@
-use Rattle.niss_search.proofs.Words.{length, ◌+◌, ◌<◌, ◌*◌, All, at_limit, IsFollower, state_of, Keeps}
+use Rattle.niss_search.proofs.Words.{length, ◌+◌, ◌<◌, ◌*◌, All, at_limit, IsFollower, progress_of, Keeps}
 use Rattle.niss_search.proofs.DescentLemmas.{Remains}
 use Rattle.niss_search.proofs.descent.Descent.+descent.Given as goal
 
@@ -18,5 +18,5 @@ invariant-extend-loop-index g l = record {
   keeps : Keeps l.fn.self l.self l.fn.meter l.meter;
   remains : Remains (at_limit g.K.Sink.took l.fn.self.path.now.limit) (at_limit g.K.Sink.refused l.fn.self.path.now.limit)
       l.tables.step (g.S.StateSpace.seen l.tables.space l.state) l.fn.self.path.now.turns l.left l.rest
-      (state_of l.fn.meter l.fn.self) (state_of l.meter l.self);
+      (progress_of l.fn.meter l.fn.self) (progress_of l.meter l.self);
 }
