@@ -8,4 +8,5 @@ cd "$(dirname "$0")/.." || exit 2
 . tests/shared
 if missing python3; then skips_all "there is no python3 here, so the pages are not held against the repository"; fi
 add python3 tests/documents/check.py
+typed tests/documents/*.py
 ended

@@ -1,4 +1,34 @@
-// One stop of the Tab key for a list of buttons: the arrow keys, Home and End go from one to another.
+// Rows of moves, in a list or a table: what is pressed in each, and one stop of the Tab key for all of them, with the arrow keys, Home and
+// End from one to another.
+import { element, spoken } from "./element.js";
+
+/**
+ * The button that takes the moves of a row.
+ * @param {string} text the moves as they are shown @param {{key: string, about?: string[], isSeen: boolean}} row what it is known by, what
+ * is said of it, and whether it was taken @param {() => void} click
+ */
+export function takeButton(text, { key, about = [], isSeen }, click) {
+    return element("button", {
+        type: "button",
+        class: isSeen ? "take moves seen" : "take moves",
+        tabindex: -1,
+        "data-key": key,
+        "aria-label": [spoken(text), ...about, ...(isSeen ? ["seen"] : [])].join(", "),
+        click,
+    }, text);
+}
+
+/** The button that keeps the moves of a row. @param {string} text @param {boolean} isKept @param {() => void} click */
+export function starButton(text, isKept, click) {
+    return element("button", {
+        type: "button",
+        class: "star",
+        tabindex: -1,
+        "aria-pressed": String(isKept),
+        "aria-label": `Keep ${spoken(text)}`,
+        click,
+    }, isKept ? "★" : "☆");
+}
 
 const STEPS = { ArrowDown: 1, ArrowRight: 1, ArrowUp: -1, ArrowLeft: -1, PageDown: 10, PageUp: -10 };
 
