@@ -1,5 +1,5 @@
 #!/usr/bin/env bash
-# Tries the page that `make page` built, drives it in Chromium, and shows it in Firefox and WebKit:
+# Tries the page that `make page` built, drives it in Chromium, and shows it in Firefox and WebKit; mypy reads what does so:
 #
 #     tests/browsers.sh [PAGE [PROGRAM]]
 #

@@ -196,6 +196,8 @@ def filters(tally: Tally, browser: Browser) -> None:
         browser.script("const it = document.getElementById('filter'); it.value = arguments[0]; it.dispatchEvent(new Event('input'))", typed)
         tally.holds(f"{typed!r}: {browser.text('solutions-note')}", "not moves" in browser.text("solutions-note"))
         tally.equal(f"{typed!r}: no list", browser.listed(), [])
+    browser.open("#scramble=R_U_F&list=eofb.normal.0")
+    tally.equal("what is said of one twin", browser.text("solutions-note"), "2 solutions. 1 twin stands beside its own: 1 row.")
 
 
 def try_all(tally: Tally, browser: Browser) -> None:

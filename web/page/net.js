@@ -62,8 +62,10 @@ export function showCube(net, letters, title, { places, view }) {
     net.setAttribute("aria-label", `${title}; ${inWords(seen)}`);
     net.classList.toggle("marked", places !== null);
     net.querySelectorAll(".sticker").forEach((sticker, at) => {
-        sticker.setAttribute("data-colour", seen[at]);
         sticker.classList.toggle("bad", places !== null && places.has(view[at]));
+        // a text that is put in again is laid out again
+        if (sticker.dataset.colour === seen[at]) return;
+        sticker.dataset.colour = seen[at];
         sticker.querySelector("text").textContent = seen[at];
     });
 }
