@@ -13,12 +13,11 @@ use Rattle.niss_search.specs.Cubes.{near_solutions_of, near_looks_of, least_leng
 use Rattle.niss_search.specs.declared.outcome.Outcome.{Outcome}
 use Rattle.niss_shell.specs.Names.{Turn, Step}
 use Rattle.niss_shell.specs.Output.{solution_line}
-use Rattle.niss_embed.specs.declared.solution_lines.SolutionLines.{SolutionLines}
-use Rattle.niss_embed.specs.declared.solution_lines.Refused.{Refused}
-use Rattle.niss_embed.specs.declared.line_search.SolveAnswer.{SolveAnswer}
+use Rattle.niss_embed.specs.declared.line_search.SolutionLines.{SolutionLines}
+use Rattle.niss_embed.specs.declared.line_search.Refused.{Refused}
+use Rattle.niss_embed.specs.declared.answer.SolveAnswer.{SolveAnswer}
 use Rattle.niss_embed.specs.Memory.{memory, Puts}
-use Rattle.niss_embed.specs.SolutionLines.{LinesState, lines_state, Takes, Refuses}
-use Rattle.niss_embed.specs.LineSearch.{Hands, HandedOut, SolvesCube, first_lines, capped}
+use Rattle.niss_embed.specs.LineSearch.{LinesState, lines_state, Takes, Refuses, Hands, HandedOut, SolvesCube, first_lines, capped}
 use Rattle.niss_embed.proofs.TargetLemmas.{puts_whole, no_front, all_left}
 
 -- how many turns the first of some solutions has, where none came before or one did
