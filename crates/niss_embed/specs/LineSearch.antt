@@ -1,6 +1,6 @@
 -- What a search on one line hands out and returns: solutions in memory, and what one more does to them; the search by tables that are
 -- lent, and by those that a caller keeps.
-use Rattle.std.specs.Prelude.{◌≡◌, ◌≢◌, ◌⊎◌, ℕ, ◌+◌, ◌<◌, ◌≤◌, min, nat_lt, Bool, true, false, unwrap_or, Result, Ok, Err}
+use Rattle.std.specs.Prelude.{◌≡◌, ◌≢◌, ◌⊎◌, ℕ, ◌+◌, ◌*◌, ◌<◌, ◌≤◌, min, nat_lt, Bool, true, false, unwrap_or, Result, Ok, Err}
 use Rattle.std.specs.Prelude.{Option, Some, List, ◌++◌, flat_map, take, drop, length}
 use Rattle.std.specs.Option.{option_or}
 use Rattle.niss_moves.specs.FaultText.{fault_column}
@@ -42,11 +42,16 @@ lines_state bytes reference written solutions most first too_small = record {
   too_small = too_small;
 }
 
+-- The most bytes of a solution's line: those of 20 turns.
+abbrev pub most_of_line : ℕ
+most_of_line = 65
+
 -- A solution of these turns was written after the others.
 pub record Takes (turns : List Turn) (old new : LinesState) : Type 0 where
   pub same_reference : new.reference ≡ old.reference
   pub fewer : old.solutions < old.most
   pub fits : length (solution_line turns) ≤ length old.free
+  pub short : length (solution_line turns) ≤ most_of_line
   pub held : new.held ≡ old.held ++ solution_line turns
   pub free : new.free ≡ drop (length (solution_line turns)) old.free
   pub counted : new.solutions ≡ old.solutions + 1
@@ -68,6 +73,7 @@ pub record Refuses (turns : List Turn) (old new : LinesState) : Type 0 where
   pub same_count : new.solutions ≡ old.solutions
   pub same_most : new.most ≡ old.most
   pub first : new.first ≡ option_or old.first (Some (length turns))
+  pub short : length (solution_line turns) ≤ most_of_line
   pub why : WhyRefused turns old new
 
 -- a number as 64 bits, the greatest one for all above
@@ -125,6 +131,8 @@ HandedOut all most out told =
 pub record Hands (all : List (List Turn)) (most : ℕ) (out : Memory) (told : SolveAnswer) : Type 0 where
   pub text : Puts (first_lines told.solutions all) out told.out_length false
   pub more : told.more ≡ nat_lt told.solutions (length all)
+  -- so much room for each of them is enough
+  pub room : most * most_of_line ≤ length out.before → told.status ≡ status_number Done
   pub handed : HandedOut all most out told
 
 -- What a search for a step from a cube hands out, of solutions of at most n turns that are at most `slack` turns longer than

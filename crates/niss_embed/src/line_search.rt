@@ -3,17 +3,17 @@ ghost use Rattle.std.specs.Prelude.{◌≡◌, ◌⊎◌, ◌≤◌, ◌<◌, if
 ghost use Rattle.niss_moves.specs.Places.{Place};
 ghost use Rattle.niss_moves.specs.Reader.{read_line};
 ghost use Rattle.niss_search.specs.Cubes.{IsPosition, HasPosition};
-ghost use Rattle.niss_shell.specs.Output.{start_cube};
+ghost use Rattle.niss_shell.specs.Output.{solution_line, start_cube};
 ghost use Rattle.niss_shell.specs.Words.{most_limit};
 ghost use Rattle.niss_embed.specs.Memory.{memory};
 ghost use Rattle.niss_embed.specs.LineCalls.{status_number};
-ghost use Rattle.niss_embed.specs.LineSearch.{lines_state, Takes, Refuses, capped, SolvesCube, SolvesLine, count_at, CountsLine};
+ghost use Rattle.niss_embed.specs.LineSearch.{most_of_line, lines_state, Takes, Refuses, capped, SolvesCube, SolvesLine, count_at, CountsLine};
 ghost use Rattle.niss_embed.specs.declared.answer.Status.TheVariants.{Done, NoRoom};
 
 use crate::answer::{CountAnswer, SolveAnswer, Status};
 use crate::line_texts::{MOST_BYTES, feed_line};
 use crate::memory::put;
-use niss_moves::LineReader;
+use niss_moves::{LineReader, Turn};
 use niss_search::laws::first_is_least;
 use niss_search::{Limit, Meter, Position, Sink, Tables, TurnPath, search};
 use niss_shell::{LineFault, count_solutions, solution_text, start_position};
@@ -48,6 +48,14 @@ impl Bounds {
             slack: Limit::new(slack)?,
         })
     }
+}
+
+/// The line of a solution isn't longer than that of 20 turns.
+#[tactic(auto, using(crate::proofs::SolveLemmas::short_line))]
+fn line_is_short(turns: &[Turn])
+    requires { length turns.now ≤ 20 }
+    ensures { length (solution_line turns.now) ≤ most_of_line }
+{
 }
 
 /// A solution wasn't taken.
@@ -103,7 +111,9 @@ impl Sink for SolutionLines<'_> {
         (lines_state new.bytes.now new.bytes.ghost_name new.written new.solutions new.most new.first new.too_small) };
 
     fn take(&mut self, path: &TurnPath) -> Result<(), Refused> {
-        self.first = self.first.or(Some(path.turns().len() as u8));
+        let turns = path.turns();
+        line_is_short(turns);
+        self.first = self.first.or(Some(turns.len() as u8));
         if self.solutions == self.most {
             return Err(Refused);
         }
