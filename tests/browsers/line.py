@@ -95,6 +95,7 @@ def edits(tally: Tally, browser: Browser) -> None:
     browser.open("#scramble=R_U_F&steps=normal.R~inverse.U_D~normal.F")
     browser.act("#line-list li:nth-child(2) button")
     tally.equal("it is seen as it is written", browser.script("return document.activeElement.value"), "(U D)")
+    tally.equal("and one types at its end", browser.script("return document.activeElement.selectionStart"), len("(U D)"))
     browser.press(Keys.ESCAPE)
     tally.equal(
         "left as it was",

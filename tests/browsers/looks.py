@@ -124,7 +124,7 @@ def begins(tally: Tally, browser: Browser) -> None:
     browser.driver.get("about:blank")
     browser.driver.get(browser.page_without_engine + "#scramble=R")
     browser.until("return !document.getElementById('alert').hidden")
-    tally.equal("without an engine", browser.script(seen)[:1], [False])
+    tally.equal("before an answer, and without an engine", browser.script(seen)[:2], [False, False])
 
 
 def prints(tally: Tally, browser: Browser) -> None:

@@ -167,6 +167,7 @@ export class LineSoFar {
         }, field, element("button", { type: "submit" }, "Change"), element("button", { type: "button", click: leave }, "Leave"));
         item.replaceChildren(form, fault);
         field.focus();
+        field.setSelectionRange(text.length, text.length);
     }
 
     #undo(parts) {

@@ -23,6 +23,9 @@ import { NO_ROOM, titleOfPage, unanswered, whyNotListed } from "./words.js";
 /** @typedef {import("./steps.js").Part} Part */
 /** @typedef {import("./steps.js").Side} Side */
 
+/** Whether nothing was done yet. @param {State} state */
+const isBare = ({ scramble, parts }) => scramble.trim() === "" && parts.length === 0;
+
 export class Page {
     /** @type {State} */
     #state = emptyState();
@@ -105,6 +108,7 @@ export class Page {
         dropAddress();
         setBusy("results", true);
         tell(part("alert"), fault);
+        part("welcome").hidden = !isBare(state);
         try {
             state.parts = await readSteps(this.#calls, state.parts);
         } catch (stop) {
@@ -223,7 +227,7 @@ export class Page {
         }
         if (turn !== this.#turn) return null;
         this.#scramble.judge(fault, read);
-        part("welcome").hidden = this.#state.scramble.trim() !== "" || this.#state.parts.length > 0;
+        part("welcome").hidden = !isBare(this.#state);
         if (fault) setUsable(false);
         return read;
     }
@@ -238,8 +242,7 @@ export class Page {
         this.#nets.show(letters, count, () => framesOf(this.#byHand, scramble, parts));
         this.#line.describe(walk, whole, written);
         setUsable(true);
-        const isBare = this.#state.scramble.trim() === "" && parts.length === 0;
-        part("choices").hidden = isBare;
+        part("choices").hidden = isBare(this.#state);
         this.#checkList(reached);
         this.#table.begin(this.#cube);
         this.#showKept();
@@ -275,11 +278,10 @@ export class Page {
     #showAnswered() {
         this.#showList();
         const isFinished = isReduced(this.#cube.reached) && this.#state.parts.length > 0;
-        const isBare = part("choices").hidden;
         // a list that is looked for takes the focus itself, and says what it has
         if (this.#focusNext?.to === "list") return;
         if (this.#isFocusNext("table")) this.#showTaken(isFinished);
-        else if (!isBare) announceLater(this.#table.summary());
+        else if (!isBare(this.#state)) announceLater(this.#table.summary());
         this.#table.giveBack();
         this.#goBack();
     }
