@@ -1,12 +1,21 @@
--- How many canonical sequences there are, by the laws over their counts; the looks are within the bound, and the bound is small.
+-- How many canonical sequences there are, by the laws over their counts; the looks are within the bound, and the bound
+-- is small. And how many turns may follow one, from which a word picks the next.
 use Rattle.niss_search.proofs.Words.{◌≡◌, arith, length, ◌+◌, ◌<◌, ℕ, ap, ◌≤◌, [], List, turns_of, ◌*◌, ◌∷◌, Bool, Turn}
-use Rattle.niss_search.proofs.Words.{suc, cond, range_with_len, ◌++◌, zero, get_or, may_follow, last_turn, subst, count_by}
-use Rattle.niss_search.proofs.Words.{filter, sum_by, sum_by-cons, None, Space, reaching, nat_lt, Option, Some, ◌^◌, last_length, looks}
-use Rattle.niss_search.proofs.Words.{unwrap_or, up_to, all_canonical, canonical_extensions, least_length, length-flat_map}
-use Rattle.niss_search.proofs.Words.{all_looks, is_looked_at, length-map, look_bound, sum_by-le-sum_by, count_by-le-length}
-use Rattle.niss_search.proofs.Words.{count_of_length, sum_by-le, BoundIsSmall, length-filter, pow-suc, ◌∙◌, sym, refl, B, D, F, Face, L}
-use Rattle.niss_search.proofs.Words.{R, U, face_may_follow, last_turn-push, turn_order, CountRecurrence, PartHasNoMore, StepBoundIsLess}
-use Rattle.niss_search.proofs.Words.{StepTurnsInOrder, goes_first, map, not}
+use Rattle.niss_search.proofs.Words.{suc, cond}
+use Rattle.niss_search.proofs.Words.{range_with_len, ◌++◌, zero, get_or, may_follow, last_turn, subst, count_by, filter}
+use Rattle.niss_search.proofs.Words.{sum_by}
+use Rattle.niss_search.proofs.Words.{sum_by-cons, None, Space, reaching, nat_lt, Option, Some, ◌^◌, last_length, looks}
+use Rattle.niss_search.proofs.Words.{unwrap_or, up_to}
+use Rattle.niss_search.proofs.Words.{all_canonical, canonical_extensions, least_length, length-flat_map, all_looks}
+use Rattle.niss_search.proofs.Words.{is_looked_at}
+use Rattle.niss_search.proofs.Words.{length-map, look_bound, sum_by-le-sum_by, count_by-le-length, count_of_length}
+use Rattle.niss_search.proofs.Words.{sum_by-le, BoundIsSmall}
+use Rattle.niss_search.proofs.Words.{length-filter, pow-suc, ◌∙◌, sym, refl, B, D, F, Face, L, R, U, face_may_follow}
+use Rattle.niss_search.proofs.Words.{last_turn-push}
+use Rattle.niss_search.proofs.Words.{turn_order, CountRecurrence, PartHasNoMore, StepBoundIsLess, StepTurnsInOrder}
+use Rattle.niss_search.proofs.Words.{goes_first, map, not}
+use Rattle.niss_search.proofs.Words.{true, ◌-◌, ◌/◌, no_turn, choice, filter_passes, mul-le-mul_right, choices, lit<}
+use Rattle.niss_search.proofs.Words.{false}
 use Rattle.std.proofs.Math.Nat.{pow-le-pow_right}
 use Rattle.std.proofs.lemmas.List.Filters.{sum_by-filter_both}
 use Rattle.niss_search.proofs.ListLemmas.{sum_by-same}
@@ -152,3 +161,34 @@ part-bound part turns n =
 pub step-bound : StepTurnsInOrder → StepBoundIsLess
 step-bound in_order s n =
     subst (λ (turns : List Turn). look_bound turns n ≤ look_bound turn_order n) (sym (in_order s).1) (part-bound (in_order s).0 turn_order n)
+
+-- how many turns may follow one of a face
+pub count_after : (f : Face) → length (filter (λ t. face_may_follow f t.face) turn_order) ≡ cond {A = ℕ} (goes_first f) 15 12
+count_after U = refl
+count_after D = refl
+count_after R = refl
+count_after L = refl
+count_after F = refl
+count_after B = refl
+
+some : (first : Bool) → 0 < cond {A = ℕ} first 15 12
+some true = lit< tt
+some false = lit< tt
+
+-- some turn may always follow
+choices-some : (last : Option Turn) → 0 < length (choices last)
+choices-some None = lit< tt
+choices-some (Some t) = rw (count_after t.face) (some (goes_first t.face))
+
+-- a word's index is that of a choice
+pub choice-index : (last : Option Turn) (w : ℕ) → w < 2 ^ 32 → w * length (choices last) / 2 ^ 32 < length (choices last)
+choice-index last w h =
+    let k = length (choices last) in
+    let top : w * k ≤ (2 ^ 32 - 1) * k = mul-le-mul_right k (omega arith) in
+    let some = choices-some last in
+    omega arith
+
+-- the turn that a word picks may follow
+pub choice-follows : (last : Option Turn) (w : ℕ) → w < 2 ^ 32 → may_follow last (choice last w) ≡ true
+choice-follows last w h =
+    filter_passes (may_follow last) turn_order _ no_turn (choice-index last w h)

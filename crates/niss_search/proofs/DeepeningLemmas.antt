@@ -1,22 +1,33 @@
--- The search by levels: deepenings one after another, what those up to one say of the whole, and what they are for a cube.
-use Rattle.niss_search.proofs.Words.{◌≡◌, arith, length, ◌+◌, ◌<◌, ℕ, ap, ◌∙◌, sym, ◌≤◌, [], List, refl, true, ◌-◌, ◌∷◌, Bool, Turn}
-use Rattle.niss_search.proofs.Words.{false, cond, range_with_len, ◌++◌, flat_map, Coordinates, distance_at, Step, None, positions, Space}
-use Rattle.niss_search.proofs.Words.{Option, Some, flat_map-append, last_length, looks, reaching, unwrap_or, up_to, all_canonical, find}
-use Rattle.niss_search.proofs.Words.{least_length, solution_lengths, solutions, option_or, then_some, find-append, sum_by, ◌^◌, Place}
-use Rattle.niss_search.proofs.Words.{at_limit, min, HasPosition, append-nil, nat_lt, nat_tests, sum_by-append, Err, GoesThrough, Ok}
-use Rattle.niss_search.proofs.Words.{PositionsFollowCubes, Result, all_looks, progress_at, look_bound, OnErr, OnOk, Path, StoppedIn}
-use Rattle.niss_search.proofs.Words.{StopsIn, WentThrough, near_looks_of, near_solutions_of, option_map_or, Delivers, IfOk, NoSlackIsLeast}
-use Rattle.niss_search.proofs.Words.{suc, Contains, All, All-head, All-filter, All-contains_itself, subst, turns_of, after_all}
+-- The search by lengths: deepenings one after another, what those up to one say of the whole, and what they are for a
+-- cube.
+use Rattle.niss_search.proofs.Words.{◌≡◌, arith, length, ◌+◌, ◌<◌, ℕ, ap, ◌∙◌, sym, ◌≤◌, [], List, refl, true, ◌-◌, ◌∷◌}
+use Rattle.niss_search.proofs.Words.{Bool, Turn}
+use Rattle.niss_search.proofs.Words.{false, cond, range_with_len, ◌++◌, flat_map, Coordinates, distance_at, Step, None}
+use Rattle.niss_search.proofs.Words.{positions, Space}
+use Rattle.niss_search.proofs.Words.{Option, Some, flat_map-append, last_length, looks, reaching, unwrap_or, up_to}
+use Rattle.niss_search.proofs.Words.{all_canonical, find}
+use Rattle.niss_search.proofs.Words.{least_length, solution_lengths, solutions, option_or, then_some, find-append}
+use Rattle.niss_search.proofs.Words.{sum_by, ◌^◌, Place}
+use Rattle.niss_search.proofs.Words.{at_limit, min, HasPosition, append-nil, nat_lt, nat_tests, Err, GoesThrough, Ok}
+use Rattle.niss_search.proofs.Words.{Part, for_each}
+use Rattle.niss_search.proofs.Words.{PositionsFollowCubes, Result, all_looks, progress_at, OnErr, OnOk}
+use Rattle.niss_search.proofs.Words.{Path, StoppedIn}
+use Rattle.niss_search.proofs.Words.{StopsIn, WentThrough, near_looks_of, near_solutions_of, option_map_or, Delivers}
+use Rattle.niss_search.proofs.Words.{IfOk, NoSlackIsLeast}
+use Rattle.niss_search.proofs.Words.{suc, Contains, All, All-head, All-filter, All-contains_itself, subst}
+use Rattle.niss_search.proofs.Words.{after_all, then_part}
+use Rattle.niss_search.proofs.Words.{deepening, all_deepenings, distance_of}
 use Rattle.std.specs.Prelude.{option_map, slice_get}
 use Rattle.std.proofs.lemmas.List.{nil_from_length}
 use Rattle.niss_search.specs.Laws.{FirstIsLeast}
 use Rattle.niss_moves.specs.Laws.{CanonicalMembers}
-use Rattle.niss_search.proofs.Bounds.{last-within, least-within, all_looks-bound, looks-sum-small}
-use Rattle.niss_search.proofs.ListLemmas.{flat_map-none, in-range, range-push, range-split, sum_by-range_more, flat_map-range_more}
+use Rattle.niss_search.proofs.Bounds.{last-within, least-within, looks-sum-small}
+use Rattle.niss_search.proofs.ListLemmas.{flat_map-none, in-range, range-push, range-split, sum_by-range_more}
+use Rattle.niss_search.proofs.ListLemmas.{flat_map-range_more}
 use Rattle.niss_search.proofs.LookLemmas.{first_or-from, first_or-le, first_or-within}
-use Rattle.niss_search.specs.declared.outcome.Outcome.{Outcome}
-use Rattle.niss_search.proofs.DescentLemmas.{Descends-then, StopsIn-before}
-use Rattle.niss_search.proofs.Transfer.{solutions-cube, all_looks-cube}
+use Rattle.niss_search.specs.declared.deepening.Outcome.{Outcome}
+use Rattle.niss_search.proofs.DepthFirst.{Descends-then, StopsIn-before, for_each-append}
+use Rattle.niss_search.proofs.LookLemmas.{solutions-same, all_looks-same, distance-cube}
 
 -- a length within the last one is so still where none is nearer than it
 within-or : (n slack d : ℕ) (o p : Option ℕ) → d ≤ unwrap_or p (n + 1) → d ≤ last_length o n slack → d ≤ last_length (option_or o p) n slack
@@ -26,27 +37,27 @@ within-or n slack d (Some l) p from k = k
 
 module _ {turns : List Turn} {S : Type 0} (space : Space turns S) (start : S) where
   -- Is there a solution of k turns?
-  abbrev pub is_level : ℕ → Bool
-  is_level k = nat_lt 0 (length (reaching space start k))
+  abbrev pub is_length : ℕ → Bool
+  is_length k = nat_lt 0 (length (reaching space start k))
 
   -- the least length of one, below d
   abbrev pub least_below : ℕ → Option ℕ
-  least_below d = find is_level (range_with_len 0 d)
+  least_below d = find is_length (range_with_len 0 d)
 
   -- by what the deepening to d finds
-  pub least_below-more : (d : ℕ) → least_below (d + 1) ≡ option_or (least_below d) (then_some (is_level d) d)
+  pub least_below-more : (d : ℕ) → least_below (d + 1) ≡ option_or (least_below d) (then_some (is_length d) d)
   least_below-more d =
-      ap (find is_level) (range-push d)
-      ∙ find-append is_level (range_with_len 0 d) (d ∷ [])
-      ∙ ap (option_or (least_below d)) (one (is_level d)) where
+      ap (find is_length) (range-push d)
+      ∙ find-append is_length (range_with_len 0 d) (d ∷ [])
+      ∙ ap (option_or (least_below d)) (one (is_length d)) where
         one : (b : Bool) → cond b (Some d) None ≡ then_some b d
         one true = refl
         one false = refl
 
   -- a length within the last one is so still when it was deepened to
-  pub level-next : (n slack d : ℕ) → d ≤ last_length (least_below d) n slack → d ≤ last_length (least_below (d + 1)) n slack
-  level-next n slack d h =
-      rw (least_below-more d) (within-or n slack d (least_below d) _ (here (is_level d)) h) where
+  pub length-next : (n slack d : ℕ) → d ≤ last_length (least_below d) n slack → d ≤ last_length (least_below (d + 1)) n slack
+  length-next n slack d h =
+      rw (least_below-more d) (within-or n slack d (least_below d) _ (here (is_length d)) h) where
         here : (b : Bool) → d ≤ unwrap_or (then_some b d) (n + 1)
         here true = omega arith
         here false = omega (arith, h, last-within (least_below d) n slack)
@@ -55,28 +66,28 @@ module _ {turns : List Turn} {S : Type 0} (space : Space turns S) (start : S) wh
     abbrev least : Option ℕ
     least = least_length space start n
 
-    from-level : (d : ℕ) → d ≤ n + 1 → least ≡ option_or (least_below d) (find is_level (range_with_len d (n + 1 - d)))
+    from-length : (d : ℕ) → d ≤ n + 1 → least ≡ option_or (least_below d) (find is_length (range_with_len d (n + 1 - d)))
     unfolding least_length
-    from-level d h = ap (find is_level) (range-split d (n + 1) h) ∙ find-append is_level (range_with_len 0 d) (range_with_len d (n + 1 - d))
+    from-length d h = ap (find is_length) (range-split d (n + 1) h) ∙ find-append is_length (range_with_len 0 d) (range_with_len d (n + 1 - d))
 
-    pub level-within : (slack d : ℕ) → d ≤ last_length (least_below d) n slack → d ≤ last_length least n slack
-    level-within slack d h =
+    pub length-within : (slack d : ℕ) → d ≤ last_length (least_below d) n slack → d ≤ last_length least n slack
+    length-within slack d h =
         let small : d ≤ n + 1 = omega (arith, h, last-within (least_below d) n slack) in
-        rw (from-level d small) (within-or n slack d (least_below d) _ (first_or-from is_level d (n + 1 - d) (n + 1) (omega (arith, small))) h)
+        rw (from-length d small) (within-or n slack d (least_below d) _ (first_or-from is_length d (n + 1 - d) (n + 1) (omega (arith, small))) h)
 
     pub least_length-is : (slack d : ℕ) → d ≡ last_length (least_below d) n slack + 1 → least ≡ least_below d
     unfolding least_length
     least_length-is slack d h = by_least (least_below d) refl h where
-      by_least : (o : Option ℕ) → least_below d ≡ o → d ≡ last_length o n slack + 1 → find is_level (range_with_len 0 (n + 1)) ≡ o
+      by_least : (o : Option ℕ) → least_below d ≡ o → d ≡ last_length o n slack + 1 → find is_length (range_with_len 0 (n + 1)) ≡ o
       by_least None e k = ap least_below (sym k) ∙ e
-      by_least (Some l) e k = from-level d (omega (arith, k)) ∙ ap (λ o. option_or o (find is_level (range_with_len d (n + 1 - d)))) e
+      by_least (Some l) e k = from-length d (omega (arith, k)) ∙ ap (λ o. option_or o (find is_length (range_with_len d (n + 1 - d)))) e
 
     -- below the least length there is nothing
     nothing-below : (k : ℕ) → k < unwrap_or least (n + 1) → reaching space start k ≡ []
     unfolding least_length
     nothing-below k h =
-        let within = first_or-within is_level 0 (n + 1) (n + 1) (n + 1) (omega arith) (omega arith) in
-        nil_from_length (reaching space start k) (grind (arith, nat_tests, h, within, first_or-le is_level 0 (n + 1) (n + 1) k))
+        let within = first_or-within is_length 0 (n + 1) (n + 1) (n + 1) (omega arith) (omega arith) in
+        nil_from_length (reaching space start k) (grind (arith, nat_tests, h, within, first_or-le is_length 0 (n + 1) (n + 1) k))
 
     -- so the solutions are all that reach, up to the last length
     pub solutions-up_to : (slack : ℕ) → solutions space start n slack ≡ flat_map (reaching space start) (up_to (last_length least n slack))
@@ -131,10 +142,10 @@ first_least members turns space start n slack = by_least (least_length space sta
       let all = all_canonical turns d in
       ((members turns d p).0 (All-head (Contains all) p ps (subst (All (Contains all)) same (All-filter (λ s. space.reached (after_all space start s)) (Contains all) all (All-contains_itself all))))).0
 
-  of_level : (d : ℕ) (found others : List (List Turn)) → each d ≡ found → nat_lt 0 (length found) ≡ true
+  of_length : (d : ℕ) (found others : List (List Turn)) → each d ≡ found → nat_lt 0 (length found) ≡ true
       → Some d ≡ option_map (length {A = Turn}) (slice_get (found ++ others) 0)
-  of_level d [] others same some = absurd (cc some)
-  of_level d (p ∷ ps) others same some = ap Some (sym (has_length d p ps same))
+  of_length d [] others same some = absurd (cc some)
+  of_length d (p ∷ ps) others same some = ap Some (sym (has_length d p ps same))
 
   by_least : (o : Option ℕ) → least_length space start n ≡ o → ((d : ℕ) → o ≡ Some d → d ≤ n)
       → o ≡ option_map (length {A = Turn}) (slice_get (flat_map each (solution_lengths o n slack)) 0)
@@ -142,61 +153,67 @@ first_least members turns space start n slack = by_least (least_length space sta
   by_least (Some d) same within =
       let count = min n (d + slack) - d in
       let more : min n (d + slack) + 1 - d ≡ suc count = omega (arith, within d refl) in
-      of_level d (each d) (flat_map each (range_with_len (d + 1) count)) refl (find-passes (is_level space start) (up_to n) d same)
+      of_length d (each d) (flat_map each (range_with_len (d + 1) count)) refl (find-passes (is_length space start) (up_to n) d same)
       ∙ ap (λ k. option_map (length {A = Turn}) (slice_get (flat_map each (range_with_len d k)) 0)) (sym more)
+
+-- All deepenings are those to each length up to the last.
+whole-parts : {turns : List Turn} {S : Type 0} (space : Space turns S) (look : S → ℕ) (start : S) (n slack : ℕ)
+    → all_deepenings space look start n slack ≡ for_each (deepening space look start) (up_to (last_length (least_length space start n) n slack))
+unfolding all_looks
+whole-parts space look start n slack =
+    λ i. record { paths = solutions-up_to space start n slack i; looks = all_looks space look start n slack }
 
 -- The deepenings to each length below d were made, in a search for solutions of at most n turns.
 module _
     {turns : List Turn} {S : Type 0} (space : Space turns S) (look : S → ℕ) (start : S) (n slack d : ℕ) {K : Type 0}
     {took refused : K → List Turn → K → Type 0} {m0 m1 c : ℕ} {s0 s1 : K}
-    (went : GoesThrough took refused (flat_map (reaching space start) (range_with_len 0 d)) (sum_by (looks space look start) (range_with_len 0 d)) (progress_at m0 0 s0) (progress_at m1 c s1))
+    (went : GoesThrough took refused (for_each (deepening space look start) (range_with_len 0 d)) (progress_at m0 0 s0) (progress_at m1 c s1))
   where
-    abbrev to : ℕ → List (List Turn)
-    to k = flat_map (reaching space start) (range_with_len 0 k)
+    abbrev each : ℕ → Part
+    each = deepening space look start
 
-    abbrev looks_to : ℕ → ℕ
-    looks_to k = sum_by (looks space look start) (range_with_len 0 k)
+    abbrev done : ℕ → Part
+    done k = for_each each (range_with_len 0 k)
+
+    done-more : done (d + 1) ≡ then_part (done d) (each d)
+    done-more = λ i. record {
+      paths = flat_map-range_more (reaching space start) d i;
+      looks = sum_by-range_more (looks space look start) d i;
+    }
 
     -- one more has room
-    pub looks-room : length turns ≤ 18 → m0 ≤ 2 ^ 127 → d ≤ 20 → m1 + looks space look start d < 2 ^ 128
+    pub looks-room : length turns ≤ 18 → m0 ≤ 2 ^ 127 → d ≤ 20 → m1 + (each d).looks < 2 ^ 128
     looks-room few h k =
-        omega (arith, went.looked, sum_by-range_more (looks space look start) d, looks-sum-small space look start (d + 1) few (omega arith))
+        omega (arith, went.looked, ap (λ (q : Part). q.looks) done-more, looks-sum-small space look start (d + 1) few (omega arith))
 
     -- and may go on
-    pub goes-on : {m2 e : ℕ} {s2 : K} → GoesThrough took refused (reaching space start d) (looks space look start d) (progress_at m1 0 s1) (progress_at m2 e s2)
-        → GoesThrough took refused (to (d + 1)) (looks_to (d + 1)) (progress_at m0 0 s0) (progress_at m2 (c + e) s2)
-    goes-on {m2} {e} {s2} h = rw (flat_map-range_more (reaching space start) d, sum_by-range_more (looks space look start) d)
-        (Descends-then {F = Unit {0}} (Ok tt) (reaching space start d) (looks space look start d) (progress_at m2 (c + e) s2) went
+    pub goes-on : {m2 e : ℕ} {s2 : K} → GoesThrough took refused (each d) (progress_at m1 0 s1) (progress_at m2 e s2)
+        → GoesThrough took refused (done (d + 1)) (progress_at m0 0 s0) (progress_at m2 (c + e) s2)
+    goes-on {m2} {e} {s2} h = rw done-more
+        (Descends-then {F = Unit {0}} (Ok tt) (each d) (progress_at m2 (c + e) s2) went
         record { delivered = h.delivered; counted = omega (arith, h.counted); looked = h.looked })
 
     -- or stop
     pub stops-here : d ≤ last_length (least_below space start d) n slack
-        → {m2 : ℕ} {s2 : K} → StopsIn took refused (reaching space start d) (looks space look start d) (progress_at m1 0 s1) (progress_at m2 0 s2)
-        → StopsIn took refused (solutions space start n slack) (all_looks space look start n slack) (progress_at m0 0 s0) (progress_at m2 0 s2)
-    unfolding all_looks
+        → {m2 : ℕ} {s2 : K} → StopsIn took refused (each d) (progress_at m1 0 s1) (progress_at m2 0 s2)
+        → StopsIn took refused (all_deepenings space look start n slack) (progress_at m0 0 s0) (progress_at m2 0 s2)
     stops-here within {m2} {s2} h =
         let last = last_length (least_length space start n) n slack in
         let more = range_with_len (d + 1) (last + 1 - (d + 1)) in
-        let parts = range-split (d + 1) (last + 1) (omega (arith, level-within space start n slack d within)) in
-        let found : solutions space start n slack ≡ (to d ++ reaching space start d) ++ flat_map (reaching space start) more =
-        solutions-up_to space start n slack
-        ∙ ap (flat_map (reaching space start)) parts
-        ∙ flat_map-append (reaching space start) (range_with_len 0 (d + 1)) more
-        ∙ ap (λ ps. ps ++ flat_map (reaching space start) more) (flat_map-range_more (reaching space start) d) in
-        let looked : looks_to (last + 1) ≡ looks_to d + looks space look start d + sum_by (looks space look start) more =
-        omega (arith, ap (sum_by (looks space look start)) parts, sum_by-append (looks space look start) (range_with_len 0 (d + 1)) more, sum_by-range_more (looks space look start) d) in
-        rw (found, looked)
-        (StopsIn-before (flat_map (reaching space start) more) (sum_by (looks space look start) more)
-        (Descends-then {F = Unit {0}} (Err tt) (reaching space start d) (looks space look start d) (progress_at m2 0 s2) went
+        let parts = range-split (d + 1) (last + 1) (omega (arith, length-within space start n slack d within)) in
+        let whole : all_deepenings space look start n slack ≡ then_part (then_part (done d) (each d)) (for_each each more) =
+        whole-parts space look start n slack ∙ ap (for_each each) parts ∙ for_each-append each (range_with_len 0 (d + 1)) more ∙ ap (λ q. then_part q (for_each each more)) done-more in
+        rw whole
+        (StopsIn-before (for_each each more)
+        (Descends-then {F = Unit {0}} (Err tt) (each d) (progress_at m2 0 s2) went
         record { stopped = h.stopped; rises = h.rises; looked = h.looked }))
 
     -- until the last
     pub all-done : d ≡ last_length (least_below space start d) n slack + 1
-        → GoesThrough took refused (solutions space start n slack) (all_looks space look start n slack) (progress_at m0 0 s0) (progress_at m1 c s1)
-    unfolding all_looks
+        → GoesThrough took refused (all_deepenings space look start n slack) (progress_at m0 0 s0) (progress_at m1 c s1)
     all-done end =
-        let whole : last_length (least_length space start n) n slack + 1 ≡ d = rw (least_length-is space start n slack d end) (sym end) in
-        rw (solutions-up_to space start n slack, whole) went
+        let last : last_length (least_length space start n) n slack + 1 ≡ d = rw (least_length-is space start n slack d end) (sym end) in
+        rw (whole-parts space look start n slack, last) went
 
 -- What a search says of a cube, by what it answers.
 pub record Searched {K F : Type 0} (took refused : K → Path → K → Type 0) (step : Step) (e : Place → Place) (n slack m m1 : ℕ) (s s1 : K) (r : Result Outcome F) : Type 0 where
@@ -206,19 +223,18 @@ pub record Searched {K F : Type 0} (took refused : K → Path → K → Type 0) 
   pub looks : OnOk r (m1 ≡ m + near_looks_of step e n slack)
   pub looks_at_most : m1 ≤ m + near_looks_of step e n slack
 
-module _ {K F : Type 0} (took refused : K → Path → K → Type 0) (step : Step) (x : List Coordinates) (n slack m m1 : ℕ) (s s1 : K) where
-  abbrev Delivered : Result Outcome F → Type 0
-  Delivered r = Delivers took refused n (solutions (positions step) x n slack) (all_looks (positions step) (distance_at step) x n slack) m m1 s s1 (λ o. o.solutions) r
+pub searched : {K F : Type 0} (took refused : K → Path → K → Type 0) (step : Step) (x : List Coordinates) (n slack m m1 : ℕ) (s s1 : K) (r : Result Outcome F)
+    → Delivers took refused n (all_deepenings (positions step) (distance_at step) x n slack) m m1 s s1 (λ o. o.solutions) r
+    → PositionsFollowCubes → (e : Place → Place) → HasPosition step e x → Searched took refused step e n slack m m1 s s1 r
+searched {F = F} took refused step x n slack m m1 s s1 r h law e at = by_result r h where
+  found : near_solutions_of step e n slack ≡ solutions (positions step) x n slack
+  found = solutions-same (law.follow step) e x at n slack
 
-  pub searched : PositionsFollowCubes → (e : Place → Place) → HasPosition step e x → (r : Result Outcome F) → Delivered r → Searched took refused step e n slack m m1 s s1 r
-  searched law e at (Ok o) h =
-      let found = solutions-cube law step e x at n slack in
-      let looked = all_looks-cube law step e x at n slack in
+  looked : near_looks_of step e n slack ≡ all_looks (positions step) (distance_at step) x n slack
+  looked = all_looks-same (law.follow step) e x at (distance_of step) (distance_at step) (distance-cube law step) n slack
+
+  by_result : (r : Result Outcome F) → Delivers took refused n (all_deepenings (positions step) (distance_at step) x n slack) m m1 s s1 (λ o. o.solutions) r → Searched took refused step e n slack m m1 s s1 r
+  by_result (Ok o) h =
       record { solutions = omega (arith, ap length found, h.counted); ok = rw found h.delivered; err = tt; looks = omega (arith, looked, h.looked); looks_at_most = omega (arith, looked, h.looked) }
-  searched law e at (Err fault) h =
-      record { solutions = tt; ok = tt; err = rw (solutions-cube law step e x at n slack) h.stopped; looks = tt; looks_at_most = omega (arith, all_looks-cube law step e x at n slack, h.looked) }
-
-  -- by the position alone
-  pub looks-within : (r : Result Outcome F) → Delivered r → m1 ≤ m + look_bound (turns_of step) n
-  looks-within (Ok o) h = omega (arith, h.looked, all_looks-bound (positions step) (distance_at step) x n slack)
-  looks-within (Err fault) h = omega (arith, h.looked, all_looks-bound (positions step) (distance_at step) x n slack)
+  by_result (Err fault) h =
+      record { solutions = tt; ok = tt; err = rw found h.stopped; looks = tt; looks_at_most = omega (arith, looked, h.looked) }

@@ -1,8 +1,11 @@
 -- Lists joined, filtered and summed.
-use Rattle.niss_search.proofs.Words.{◌≡◌, arith, length, ◌+◌, ◌<◌, ℕ, ap, ◌∙◌, sym, ◌≤◌, [], List, refl, ◌-◌, ◌∷◌, Bool, suc}
-use Rattle.niss_search.proofs.Words.{range_with_len, ◌++◌, zero, map, Contains, flat_map, filter, sum_by, sum_by-cons, sum_by-le, list_any}
+use Rattle.niss_search.proofs.Words.{◌≡◌, arith, length, ◌+◌, ◌<◌, ℕ, ap, ◌∙◌, sym, ◌≤◌, [], List, refl, ◌-◌, ◌∷◌, Bool}
+use Rattle.niss_search.proofs.Words.{suc}
+use Rattle.niss_search.proofs.Words.{range_with_len, ◌++◌, zero, map, Contains, flat_map, filter, sum_by, sum_by-cons}
+use Rattle.niss_search.proofs.Words.{sum_by-le, list_any}
 use Rattle.niss_search.proofs.Words.{nat_le, nat_tests, flat_map-append, sum_by-append, Contains-get_or, add-one}
-use Rattle.niss_search.proofs.Words.{Contains-append_right, add-zero, filter-append, sum_by_push, length-range_with_len, append-nil}
+use Rattle.niss_search.proofs.Words.{Contains-append_right, add-zero, filter-append, sum_by_push, length-range_with_len}
+use Rattle.niss_search.proofs.Words.{append-nil}
 use Rattle.std.proofs.lemmas.List.FromFn.{get_or-range_with_len}
 
 module _ {X : Type 0} where
@@ -16,9 +19,6 @@ pub sum_by-none : {X : Type 0} (f : X → ℕ) (xs : List X) → ((x : X) → Co
 sum_by-none f xs h = omega (arith, sum_by-le f 0 xs (λ k d l. omega (arith, h _ (Contains-get_or xs k d l))))
 
 module _ {X A : Type 0} where
-  pub flat_map-same : (f g : X → List A) (xs : List X) → ((x : X) → f x ≡ g x) → flat_map f xs ≡ flat_map g xs
-  flat_map-same f g xs h = ap (λ (k : X → List A). flat_map k xs) (λ i x. h x i)
-
   pub flat_map-none : (f : X → List A) (xs : List X) → ((x : X) → Contains xs x → f x ≡ []) → flat_map f xs ≡ []
   flat_map-none f [] h = refl
   flat_map-none f (x ∷ xs) h =

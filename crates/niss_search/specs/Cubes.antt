@@ -16,8 +16,8 @@ cubes step = record { after = λ e t q. turned t (e q); reached = reached step }
 abbrev pub least_length_of : Step → (Place → Place) → ℕ → Option ℕ
 least_length_of step e n = least_length (cubes step) e n
 
--- the solutions of at most n turns that are at most `slack` turns longer than that: the shorter ones first, those of one
--- length in turn order
+-- the solutions of at most n turns that are at most `slack` turns longer than that: the shorter ones first, those of
+-- one length in turn order
 abbrev pub near_solutions_of : Step → (Place → Place) → (n slack : ℕ) → List (List Turn)
 near_solutions_of step e n slack = solutions (cubes step) e n slack
 

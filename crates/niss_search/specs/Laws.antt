@@ -26,11 +26,12 @@ PartHasNoMore =
     (part : Turn → Bool) (turns : List Turn) (k : ℕ) →
     count_of_length (filter part turns) k ≤ count_of_length turns k
 
--- In any space of cubes, whatever turns it has, what its goal is and what a look at a cube answers: no search looks more
--- often than the bound says.
+-- In any space of cubes, whatever turns it has, what its goal is and what a look at a cube answers: no search looks
+-- more often than the bound says.
 abbrev pub LooksWithinBound : Type 0
 LooksWithinBound =
-    (turns : List Turn) (space : Space turns (Place → Place)) (look : (Place → Place) → ℕ) (e : Place → Place) (n slack : ℕ) →
+    (turns : List Turn) (space : Space turns (Place → Place)) (look : (Place → Place) → ℕ) →
+    (e : Place → Place) (n slack : ℕ) →
     all_looks space look e n slack ≤ look_bound turns n
 
 -- Without slack a search is for the solutions of least length alone, and deepens to that length.
@@ -39,7 +40,8 @@ pub record NoSlackIsLeast : Type 0 where
       (turns : List Turn) (space : Space turns (Place → Place)) (e : Place → Place) (n : ℕ) →
       solutions space e n 0 ≡ option_map_or (reaching space e) (least_length space e n) []
   pub looked :
-      (turns : List Turn) (space : Space turns (Place → Place)) (look : (Place → Place) → ℕ) (e : Place → Place) (n : ℕ) →
+      (turns : List Turn) (space : Space turns (Place → Place)) (look : (Place → Place) → ℕ) →
+      (e : Place → Place) (n : ℕ) →
       all_looks space look e n 0 ≡ sum_by (looks space look e) (up_to (unwrap_or (least_length space e n) n))
 
 -- The least length is that of the first solution, and there is none where there is no solution.

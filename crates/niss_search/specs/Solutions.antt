@@ -1,6 +1,7 @@
--- Solutions, distances and looks in a space of states: the one definition of each. The cubes of a step are such states, and so are
--- its positions.
-use Rattle.std.specs.Prelude.{◌≡◌, ℕ, zero, suc, ◌+◌, ◌-◌, nat_le, nat_lt, min, Bool, true, Option, None, Some, unwrap_or}
+-- Solutions, distances and looks in a space of states: the one definition of each. The cubes of a step are such states,
+-- and so are its positions.
+use Rattle.std.specs.Prelude.{◌≡◌, ℕ, zero, suc, ◌+◌, ◌-◌, nat_le, nat_lt, min, Bool, true, Option, None, Some}
+use Rattle.std.specs.Prelude.{unwrap_or}
 use Rattle.std.specs.Prelude.{List, [], ◌∷◌, length, take, filter, find, fold, flat_map, sum_by, count_by, Contains}
 use Rattle.std.specs.List.{list_any, range_with_len}
 use Rattle.niss_search.specs.Names.{Turn}
@@ -61,8 +62,8 @@ module _ {turns : List Turn} {S : Type 0} (space : Space turns S) where
 
   -- How often a search looks, by what a look at a state answers.
   module _ (look : S → ℕ) where
-    -- Is there a look after s in the deepening to length d? s is empty, or the look after its turns but the last answers at
-    -- most what is left of d there.
+    -- Is there a look after s in the deepening to length d? s is empty, or the look after its turns but the last
+    -- answers at most what is left of d there.
     abbrev pub is_looked_at : S → ℕ → List Turn → Bool
     is_looked_at start d [] = true
     is_looked_at start d (t ∷ ts) =
@@ -79,6 +80,7 @@ module _ {turns : List Turn} {S : Type 0} (space : Space turns S) where
 -- The states of one space stand for states of another: those that are related are at the goal together, and each turn
 -- leads them to related ones.
 pub record Homomorphism
-    {turns : List Turn} {S T : Type 0} (IsOf : S → T → Type 0) (from : Space turns S) (to : Space turns T) : Type 0 where
+    {turns : List Turn} {S T : Type 0} (IsOf : S → T → Type 0) (from : Space turns S) (to : Space turns T)
+    : Type 0 where
   pub goal : (s : S) (x : T) → IsOf s x → from.reached s ≡ to.reached x
   pub after_turn : (s : S) (x : T) (t : Turn) → Contains turns t → IsOf s x → IsOf (from.after s t) (to.after x t)

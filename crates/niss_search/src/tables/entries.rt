@@ -1,7 +1,7 @@
 //! The entries of a pruning table and their numbers.
 ghost use Rattle.std.specs.Prelude.{◌≡◌, ◌+◌, ◌*◌};
 
-use crate::limit::Limit;
+use crate::path::Limit;
 use niss_cube::Coordinate;
 
 /// The entry at which the goal holds: each of its coordinates is 0.

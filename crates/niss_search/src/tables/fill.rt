@@ -11,7 +11,7 @@ use super::goal_moves::GoalMoves;
 use super::level::Level;
 use super::meter::Meter;
 use crate::laws::entries_turn;
-use crate::limit::Limit;
+use crate::path::Limit;
 use crate::scan::next_at;
 use std::mem;
 

@@ -1,6 +1,6 @@
 use Rattle.niss_search.proofs.Words.{◌≡◌, ◌+◌, arith, ◌∙◌, sym, last_length, err_from_is_err_and, positions, distance_at, length, reaching}
 use Rattle.niss_search.proofs.Bounds.{turns_of-length}
-use Rattle.niss_search.proofs.DeepeningLemmas.{least_below, least_below-more, level-next, least_length-is, looks-room, goes-on, stops-here}
+use Rattle.niss_search.proofs.DeepeningLemmas.{least_below, least_below-more, length-next, least_length-is, looks-room, goes-on, stops-here}
 use Rattle.niss_search.proofs.DeepeningLemmas.{all-done}
 use Rattle.niss_search.proofs.deepening.Root.find.Goals as goal
 
@@ -32,7 +32,7 @@ loop-length-preserved g c =
     record {
       path = c.deepen.ensures.path ∙ inv.path;
       least = next;
-      within = omega (arith, level-next (positions step) x n c.args.slack d (omega (arith, last)));
+      within = omega (arith, length-next (positions step) x n c.args.slack d (omega (arith, last)));
       counted = omega (arith, inv.counted, c.in_ok-found.ensures.counted);
       went = goes-on (positions step) (distance_at step) x n c.args.slack d inv.went went;
     }

@@ -1,5 +1,5 @@
-use Rattle.niss_search.proofs.Words.{◌≡◌, ◌+◌, ◌≤◌, ◌-◌, range_with_len, at_limit, last_length, GoesThrough, flat_map, sum_by}
-use Rattle.niss_search.proofs.Words.{progress_at, positions, distance_at, reaching, looks}
+use Rattle.niss_search.proofs.Words.{◌≡◌, ◌+◌, ◌≤◌, ◌-◌, range_with_len, at_limit, last_length, GoesThrough, for_each}
+use Rattle.niss_search.proofs.Words.{progress_at, positions, distance_at, deepening}
 use Rattle.niss_search.proofs.DeepeningLemmas.{least_below}
 use Rattle.niss_search.proofs.deepening.Root.find.Given as goal
 
@@ -13,7 +13,6 @@ invariant-loop-length g l = let space = positions l.self.tables.now in let x = l
   within : l.length ≤ last_length (least_below space x l.length) l.fn.path.limit l.slack + 1;
   counted : l.fn.meter + l.solutions ≤ l.meter;
   went : GoesThrough (at_limit g.K.Sink.took l.fn.path.limit) (at_limit g.K.Sink.refused l.fn.path.limit)
-      (flat_map (reaching space x) (range_with_len 0 l.length))
-      (sum_by (looks space (distance_at l.self.tables.now) x) (range_with_len 0 l.length))
+      (for_each (deepening space (distance_at l.self.tables.now) x) (range_with_len 0 l.length))
       (progress_at l.fn.meter 0 l.fn.sink) (progress_at l.meter l.solutions l.sink);
 }
