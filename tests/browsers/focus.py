@@ -149,6 +149,32 @@ def one_stop(tally: Tally, browser: Browser) -> None:
     tally.equal("the focus stays among them", browser.script("return document.activeElement.closest('#best-body') !== null"), True)
 
 
+def across(tally: Tally, browser: Browser) -> None:
+    """What is pressed in a row is reached by the arrow keys, without single keys too, and keeps the focus when the rows are drawn anew."""
+    browser.open(ADDRESS + "&list=eofb.normal.0")
+    browser.wait_best()
+    browser.script("document.getElementById('keys-on').checked = false")
+    place = """const [holder] = arguments, at = document.activeElement, rows = [...document.querySelectorAll(`${holder} :is(tr, li)`)];
+        return [rows.indexOf(at.closest("tr, li")), at.classList[0], at.ariaPressed]"""
+    for holder in ("#best-body", "#solutions-groups"):
+        browser.script("document.querySelector(arguments[0]).focus()", f"{holder} .take")
+        browser.press(Keys.ARROW_DOWN, Keys.ARROW_RIGHT)
+        tally.equal(f"{holder}: the star of the second row", browser.script(place, holder), [1, "star", "false"])
+        browser.press(Keys.ENTER)
+        tally.holds(f"{holder}: it is kept", browser.until("return document.querySelectorAll('#kept-list .total').length > 0"))
+        browser.wait()
+        tally.equal(f"{holder}: its star has the focus", browser.script(place, holder), [1, "star", "true"])
+        tally.equal(f"{holder}: its row is the stop", browser.texts(f"{holder} .take[tabindex='0']"), browser.texts(f"{holder} .take")[1:2])
+        browser.press(Keys.ARROW_UP)
+        tally.equal(f"{holder}: up leads to the first row", browser.script(place, holder), [0, "take", None])
+        browser.press(Keys.ARROW_RIGHT, Keys.ARROW_RIGHT, Keys.ARROW_RIGHT)
+        last = browser.script(place, holder)[1]
+        tally.equal(f"{holder}: right ends at the row's end", last, "star" if holder == "#best-body" else "copy")
+        browser.press(Keys.ARROW_LEFT, Keys.ARROW_LEFT)
+        tally.equal(f"{holder}: left leads back", browser.script(place, holder)[1], "take")
+    browser.script("document.getElementById('keys-on').checked = true")
+
+
 def words(tally: Tally, browser: Browser) -> None:
     """What the tables and the fields are called."""
     browser.open(ADDRESS)
@@ -166,5 +192,5 @@ def words(tally: Tally, browser: Browser) -> None:
 
 def try_all(tally: Tally, browser: Browser) -> None:
     """All of them."""
-    for part in (dimmed, ends, stays, waits, says_filtered, says_shortest, comes_back, one_stop, words):
+    for part in (dimmed, ends, stays, waits, says_filtered, says_shortest, comes_back, one_stop, across, words):
         part(tally, browser)

@@ -3,7 +3,7 @@ import { Stopped } from "./calls.js";
 import { announce, counted, element, part, setBusy, tell } from "./element.js";
 import { CaseFilter } from "./filter.js";
 import { byCase, byTotal, findContinuations } from "./finder.js";
-import { roveWithin, starButton, takeButton } from "./rows.js";
+import { focusButton, focusWithin, roveWithin, starButton, takeButton } from "./rows.js";
 import { SIDES, bracketed, isReduced } from "./steps.js";
 import { isNarrow } from "./view.js";
 
@@ -47,7 +47,7 @@ export class BestContinuations {
     constructor(finders, acts) {
         this.#finders = finders;
         this.#acts = acts;
-        roveWithin(this.#body, ".take");
+        roveWithin(this.#body);
         part("best-stop").addEventListener("click", () => this.#stop());
         for (const name of ["best-slack", "best-all"]) part(name).addEventListener("change", () => this.#ask());
         this.#cases = new CaseFilter("best", () => this.#filtered());
@@ -208,12 +208,14 @@ export class BestContinuations {
 
     /** Shows the rows in place of the last ones; the same row keeps the focus, if it is there. @param {HTMLElement[]} rows */
     #showRows(rows) {
-        const focused = this.#body.contains(document.activeElement) ? document.activeElement.dataset.key : null;
+        const focused = focusWithin(this.#body);
         this.#body.replaceChildren(...rows);
         const buttons = [...this.#body.querySelectorAll(".take")];
         buttons[0]?.setAttribute("tabindex", "0");
         if (focused === null) return;
-        (buttons.find(({ dataset }) => dataset.key === focused) ?? buttons[0] ?? part("best-slack")).focus({ preventScroll: true });
+        const same = buttons.find(({ dataset }) => dataset.key === focused.key);
+        if (same) focusButton(same, focused.place);
+        else (buttons[0] ?? part("best-slack")).focus({ preventScroll: true });
     }
 
     /** @param {Row} row */

@@ -24,7 +24,10 @@ export class CaseFilter {
         for (const field of this.#fields) field.selectedIndex = 0;
     }
 
-    /** What says of the name of a case, such as `4c1e`, whether it is left; null if all are. @returns {((name: string) => boolean) | null} */
+    /**
+     * What says of the name of a case, such as `4c1e`, whether it is left; null if all are.
+     * @returns {((name: string) => boolean) | null}
+     */
     test() {
         if (this.#fields.every((field) => field.selectedIndex === 0)) return null;
         const [corners, edges] = this.#fields.map(({ value }) => Number(value));

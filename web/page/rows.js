@@ -1,5 +1,5 @@
 // Rows of moves, in a list or a table: what is pressed in each, and one stop of the Tab key for all of them, with the arrow keys, Home and
-// End from one to another.
+// End from row to row, and from button to button within one.
 import { element, spoken } from "./element.js";
 
 /**
@@ -30,30 +30,53 @@ export function starButton(text, isKept, click) {
     }, isKept ? "★" : "☆");
 }
 
-const STEPS = { ArrowDown: 1, ArrowRight: 1, ArrowUp: -1, ArrowLeft: -1, PageDown: 10, PageUp: -10 };
+/** How many rows a key leads on, and how many buttons within a row. */
+const ROWS = { ArrowDown: 1, ArrowUp: -1, PageDown: 10, PageUp: -10 };
+const BUTTONS = { ArrowRight: 1, ArrowLeft: -1 };
 
-/** The place that a key leads to, or null. @param {string} key @param {number} place @param {number} count */
-function placeAfter(key, place, count) {
-    if (key === "Home") return 0;
-    if (key === "End") return count - 1;
-    if (!Object.hasOwn(STEPS, key)) return null;
-    return Math.min(count - 1, Math.max(0, place + STEPS[key]));
+const rowOf = (node) => node.closest("li, tr");
+const buttonsOf = (row) => [...row.querySelectorAll("button")];
+const takesOf = (holder) => [...holder.querySelectorAll(".take")];
+const nearest = (list, place) => list[Math.min(list.length - 1, Math.max(0, place))];
+
+/** The button that a key leads to from another one, or null. @param {string} key @param {HTMLElement} button @param {HTMLElement} holder */
+function buttonAfter(key, button, holder) {
+    const [row, takes] = [rowOf(button), takesOf(holder)];
+    if (key === "Home") return takes[0];
+    if (key === "End") return takes.at(-1);
+    if (Object.hasOwn(ROWS, key)) return nearest(takes, takes.indexOf(row.querySelector(".take")) + ROWS[key]);
+    if (!Object.hasOwn(BUTTONS, key)) return null;
+    const buttons = buttonsOf(row);
+    return nearest(buttons, buttons.indexOf(button) + BUTTONS[key]);
 }
 
-/** @param {HTMLElement} holder @param {string} selector which of its elements are the stops */
-export function roveWithin(holder, selector) {
+/** @param {HTMLElement} holder of the rows */
+export function roveWithin(holder) {
     holder.addEventListener("keydown", (event) => {
-        const stops = [...holder.querySelectorAll(selector)];
-        const place = stops.indexOf(event.target);
-        const next = place < 0 || event.ctrlKey || event.altKey || event.metaKey ? null : placeAfter(event.key, place, stops.length);
+        if (event.ctrlKey || event.altKey || event.metaKey) return;
+        const next = buttonAfter(event.key, event.target, holder);
         if (next === null) return;
         event.preventDefault();
-        stops[next].focus();
+        next.focus();
     });
-    holder.addEventListener("focusin", (event) => {
-        const stop = event.target.closest(selector);
-        if (!stop) return;
-        for (const other of holder.querySelectorAll(`${selector}[tabindex="0"]`)) other.setAttribute("tabindex", "-1");
-        stop.setAttribute("tabindex", "0");
+    holder.addEventListener("focusin", ({ target }) => {
+        for (const other of holder.querySelectorAll('.take[tabindex="0"]')) other.setAttribute("tabindex", "-1");
+        rowOf(target).querySelector(".take").setAttribute("tabindex", "0");
     });
+}
+
+/**
+ * Which row of a holder has the focus, by its key, and which of its buttons; or null.
+ * @param {HTMLElement} holder @returns {{key: string, place: number} | null}
+ */
+export function focusWithin(holder) {
+    const focused = document.activeElement;
+    if (!holder.contains(focused)) return null;
+    const row = rowOf(focused);
+    return { key: row.querySelector(".take").dataset.key, place: buttonsOf(row).indexOf(focused) };
+}
+
+/** Puts the focus on a button of a row. @param {HTMLElement} take that takes the row's moves @param {number} place of the button */
+export function focusButton(take, place) {
+    buttonsOf(rowOf(take))[place].focus({ preventScroll: true });
 }

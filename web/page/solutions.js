@@ -5,7 +5,7 @@ import { caseName, farnessOf, sizeOf } from "./cases.js";
 import { announce, announceLater, counted, element, part, setBusy, spoken, tell } from "./element.js";
 import { printAll, solve } from "./engine.js";
 import { ListFilter } from "./filter.js";
-import { roveWithin, starButton, takeButton } from "./rows.js";
+import { focusButton, focusWithin, roveWithin, starButton, takeButton } from "./rows.js";
 import { bracketed, reductionsAfter, stateOf, stepNamed, titleOf } from "./steps.js";
 import { mergeTwins, withoutEarlier } from "./twins.js";
 import { isNarrow } from "./view.js";
@@ -56,7 +56,7 @@ export class SolutionList {
         part("solutions-close").addEventListener("click", () => acts.change(null));
         part("list-sort").addEventListener("change", () => this.#filtered());
         part("solutions-more").addEventListener("click", () => this.#more());
-        roveWithin(this.#groups, ".take");
+        roveWithin(this.#groups);
         // so that rows are seen below them
         part("list-filters").open = !isNarrow();
     }
@@ -206,11 +206,11 @@ export class SolutionList {
         const groups = [...grouped(shown, nameOf)].map(([name, entries]) => {
             return this.#group(name, entries, counts.get(name)?.length ?? entries.length);
         });
-        const row = this.#groups.contains(document.activeElement) ? document.activeElement.closest("li") : null;
-        const focused = row?.querySelector(".take")?.dataset.key;
+        const focused = focusWithin(this.#groups);
         this.#groups.replaceChildren(...groups);
         this.#groups.querySelector(".take")?.setAttribute("tabindex", "0");
-        if (focused) this.reveal(focused)?.focus({ preventScroll: true });
+        const same = focused && this.reveal(focused.key);
+        if (same) focusButton(same, focused.place);
         tell(part("solutions-note"), left === null ? NOT_MOVES : this.#note(matching.length, shown.length));
     }
 
