@@ -22,8 +22,8 @@ pub struct RunAnswer {
     pub err_length: usize,
 }
 
-/// Does what the program does with these words and this input, as `run_bytes` of `niss_embed`: its output goes to `out`, its
-/// error text to `err`. What is behind the written bytes is left as it was.
+/// Does what the program does with these words and this input, as `run_bytes` of `niss_embed`: its output goes to
+/// `out`, its error text to `err`. What is behind the written bytes is left as it was.
 #[unsafe(no_mangle)]
 pub extern "C" fn nissy_run(
     alloc: Global,

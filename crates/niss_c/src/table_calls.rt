@@ -7,9 +7,9 @@ use niss_embed::{CountAnswer, SolveAnswer, Status, Wanted, count_line, solve_lin
 use niss_kept::Held;
 use std::alloc::Global;
 
-/// Builds the tables of the step of this name, which stay. `Done`: there are tables of this step. `Usage`: no step has this name.
-/// `Stopped`: memory was refused. After these two there are no tables, so that a caller who ignores it never asks those of
-/// another step.
+/// Builds the tables of the step of this name, which stay. `Done`: there are tables of this step. `Usage`: no step has
+/// this name. `Stopped`: memory was refused. After these two there are no tables, so that a caller who ignores it never
+/// asks those of another step.
 #[unsafe(no_mangle)]
 pub extern "C" fn nissy_build(alloc: Global, tables: &mut Held, name: &[u8]) -> u8
     ensures { Builds name.now tables.new.built tables.new.kept.step result }

@@ -1,4 +1,5 @@
-//! The calls that write a short text: what is made of the moves on one line, a scramble, and what steps and faults are called.
+//! The calls that write a short text: what is made of the moves on one line, a scramble, and what steps and faults are
+//! called.
 ghost use Rattle.std.specs.Prelude.{◌≢◌, ◌≤◌, length};
 ghost use Rattle.niss_shell.specs.declared.command.Rewriting.TheVariants.{Invert, Unniss, Cleanup, Print};
 ghost use Rattle.niss_embed.specs.LineCalls.{status_number, Does, Rewrites, outcome_of_scramble, outcome_of_steps};

@@ -1,6 +1,7 @@
--- What a search on one line hands out and returns: solutions in memory, and what one more does to them; the search by tables that are
--- lent, and by those that a caller keeps.
-use Rattle.std.specs.Prelude.{◌≡◌, ◌≢◌, ◌⊎◌, ℕ, ◌+◌, ◌*◌, ◌<◌, ◌≤◌, min, nat_lt, Bool, true, false, unwrap_or, Result, Ok, Err}
+-- What a search on one line hands out and returns: solutions in memory, and what one more does to them; the search by
+-- tables that are lent, and by those that a caller keeps.
+use Rattle.std.specs.Prelude.{◌≡◌, ◌≢◌, ◌⊎◌, ℕ, ◌+◌, ◌*◌, ◌<◌, ◌≤◌, min, nat_lt, Bool, true, false, unwrap_or, Result}
+use Rattle.std.specs.Prelude.{Ok, Err}
 use Rattle.std.specs.Prelude.{Option, Some, List, ◌++◌, flat_map, take, drop, length}
 use Rattle.std.specs.Option.{option_or}
 use Rattle.niss_moves.specs.FaultText.{fault_column}
@@ -20,8 +21,8 @@ use Rattle.niss_embed.specs.declared.answer.Status.TheVariants.{Done, Fault, Usa
 use Rattle.niss_embed.specs.declared.answer.SolveAnswer.{SolveAnswer}
 use Rattle.niss_embed.specs.declared.answer.CountAnswer.{CountAnswer}
 
--- The lines that are written into some memory and what is free behind them, how many they are and may be, how many turns the
--- first solution has that came, and whether one had no room.
+-- The lines that are written into some memory and what is free behind them, how many they are and may be, how many
+-- turns the first solution has that came, and whether one had no room.
 pub record LinesState : Type 0 where
   pub reference : ℕ
   pub held : List ℕ
@@ -135,8 +136,8 @@ pub record Hands (all : List (List Turn)) (most : ℕ) (out : Memory) (told : So
   pub room : most * most_of_line ≤ length out.before → told.status ≡ status_number Done
   pub handed : HandedOut all most out told
 
--- What a search for a step from a cube hands out, of solutions of at most n turns that are at most `slack` turns longer than
--- the least, and what it tells.
+-- What a search for a step from a cube hands out, of solutions of at most n turns that are at most `slack` turns longer
+-- than the least, and what it tells.
 pub record SolvesCube (step : Step) (n slack most : ℕ) (e : Place → Place) (out : Memory) (told : SolveAnswer) : Type 0 where
   pub hands : Hands (near_solutions_of step e n slack) most out told
   pub least : told.least ≡ unwrap_or (least_length_of step e n) 0
@@ -178,8 +179,8 @@ pub record CountsLine (step : Step) (n slack : ℕ) (line : List ℕ) (told : Co
   pub counts : n ≤ most_limit → slack ≤ most_limit → length line ≤ most_bytes →
       told ≡ count_at (start_cube step (read_line line)) step n slack
 
--- There are tables of the step of this name; or there are none, since no step has it, or since the memory for those of its step
--- was refused.
+-- There are tables of the step of this name; or there are none, since no step has it, or since the memory for those of
+-- its step was refused.
 abbrev pub Builds : List ℕ → Bool → Step → ℕ → Type 0
 Builds name built step status =
     ((status ≡ status_number Done) × (built ≡ true) × (name_of step ≡ name))

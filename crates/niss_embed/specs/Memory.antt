@@ -10,8 +10,8 @@ pub record Memory : Type 0 where
 abbrev pub memory : List ℕ → List ℕ → Memory
 memory before after = record { before = before; after = after }
 
--- The text stands at the beginning, as much of it as there is room for, and what is behind it is left as it was. `count`
--- bytes were written, and the room was too small or wasn't.
+-- The text stands at the beginning, as much of it as there is room for, and what is behind it is left as it was.
+-- `count` bytes were written, and the room was too small or wasn't.
 pub record Puts (text : List ℕ) (room : Memory) (count : ℕ) (too_small : Bool) : Type 0 where
   pub written : room.after ≡ take (length room.before) text ++ drop (length text) room.before
   pub count_is : count ≡ length (take (length room.before) text)
@@ -21,7 +21,8 @@ pub record Puts (text : List ℕ) (room : Memory) (count : ℕ) (too_small : Boo
 abbrev pub source_state : List ℕ → Bool → SourceState
 source_state left ended = record { left = Some left; has_failed = false; has_ended = ended }
 
--- What a run sees of this memory, by the name of its reference, where so many bytes are written. No flush of it is refused.
+-- What a run sees of this memory, by the name of its reference, where so many bytes are written. No flush of it is
+-- refused.
 abbrev pub target_state : (bytes : List ℕ) (reference written : ℕ) (refused flushed : Bool) → TargetState
 target_state bytes reference written refused flushed = record {
   held = Some (take written bytes);

@@ -1,6 +1,7 @@
--- What a call that runs a command in memory does: the words of a command line, one after the other in the bytes of one text, and what it
--- answers.
-use Rattle.std.specs.Prelude.{◌≡◌, ◌≢◌, ◌⊎◌, ℕ, ◌<◌, if◌then◌else◌, Bool, true, false, Result, Err, List, [], ◌∷◌, ◌++◌, All, flat_map, length}
+-- What a call that runs a command in memory does: the words of a command line, one after the other in the bytes of one
+-- text, and what it answers.
+use Rattle.std.specs.Prelude.{◌≡◌, ◌≢◌, ◌⊎◌, ℕ, ◌<◌, if◌then◌else◌, Bool, true, false, Result, Err, List, [], ◌∷◌, ◌++◌}
+use Rattle.std.specs.Prelude.{All, flat_map, length}
 use Rattle.std.specs.List.{list_all}
 use Rattle.std.specs.Str.{is_utf8}
 use Rattle.niss_shell.specs.Words.{request_of}
@@ -54,8 +55,8 @@ abbrev pub outcome_in : Bool → Result (Unit {0}) Stop → Result (Unit {0}) St
 outcome_in true outcome = Err CannotWrite
 outcome_in false outcome = outcome
 
--- What was due is written into the memory for the output, what went wrong into that for the error text, and the answer says
--- how much and with which status.
+-- What was due is written into the memory for the output, what went wrong into that for the error text, and the answer
+-- says how much and with which status.
 pub record Answers (due : Answer) (out err : Memory) (answer : Given) : Type 0 where
   pub output : Puts due.output out answer.out_length answer.out_too_small
   pub error : Puts (error_text (outcome_in answer.out_too_small due.outcome)) err answer.err_length answer.err_too_small

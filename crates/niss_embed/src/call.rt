@@ -1,5 +1,6 @@
 //! The call that runs a command on bytes in memory.
-ghost use Rattle.std.specs.Prelude.{◌≡◌, ◌<◌, ◌+◌, ◌∷◌, [], MatchOption, IfOk, OnErr, Err, map, string_bytes, take, drop, length};
+ghost use Rattle.std.specs.Prelude.{◌≡◌, ◌<◌, ◌+◌, ◌∷◌, [], MatchOption, IfOk, OnErr, Err, map, string_bytes, take};
+ghost use Rattle.std.specs.Prelude.{drop, length};
 ghost use Rattle.niss_shell.specs.Output.{unsearched};
 ghost use Rattle.niss_embed.specs.Names.{OutOfMemory};
 ghost use Rattle.niss_embed.specs.Memory.{memory};
@@ -105,9 +106,9 @@ fn refuse_memory(out: &mut [u8], err: &mut [u8]) -> Answer
 
 /// Runs the command of these words on the input, and writes the output into `out` and the error text into `err`.
 ///
-/// The words are those after the program's name, each ended by a zero byte; what stands after the last zero byte is a word
-/// where it has a byte. Words of which one isn't UTF-8 are no command, as they aren't for `nissy`. The words and the tables
-/// of a step take memory of `alloc`; all else is on the stack, and nothing is kept after the call.
+/// The words are those after the program's name, each ended by a zero byte; what stands after the last zero byte is a
+/// word where it has a byte. Words of which one isn't UTF-8 are no command, as they aren't for `nissy`. The words and
+/// the tables of a step take memory of `alloc`; all else is on the stack, and nothing is kept after the call.
 ///
 /// An output that is longer than `out` ends the run as `nissy` ends where it can't write, with the status 3: then `out`
 /// is full, and `out_too_small` says so. A caller that wants the whole output tries again with more. What is behind the

@@ -1,9 +1,9 @@
 //! `nissy` in other programs: a call that runs a command on bytes in memory, and calls on one line. In crates.txt:
 //! `app: niss_embed`.
 //!
-//! `run_bytes` is handed what the program `nissy` is given: the words of a command line, the input, and memory for the output
-//! and for the error text. It answers the exit status and how much of that memory it wrote. Its contract says each byte of
-//! both, for every word, input and room:
+//! `run_bytes` is handed what the program `nissy` is given: the words of a command line, the input, and memory for the
+//! output and for the error text. It answers the exit status and how much of that memory it wrote. Its contract says
+//! each byte of both, for every word, input and room:
 //!
 //! ```
 //! use niss_embed::run_bytes;

@@ -1,5 +1,6 @@
 //! A search on one line, by tables that the caller keeps.
-ghost use Rattle.std.specs.Prelude.{◌≡◌, ◌⊎◌, ◌≤◌, ◌<◌, if◌then◌else◌, Ok, Err, None, false, MatchOption, MatchResult, length};
+ghost use Rattle.std.specs.Prelude.{◌≡◌, ◌⊎◌, ◌≤◌, ◌<◌, if◌then◌else◌, Ok, Err, None, false, MatchOption, MatchResult};
+ghost use Rattle.std.specs.Prelude.{length};
 ghost use Rattle.niss_moves.specs.Places.{Place};
 ghost use Rattle.niss_moves.specs.Reader.{read_line};
 ghost use Rattle.niss_search.specs.Cubes.{IsPosition, HasPosition};
@@ -7,7 +8,8 @@ ghost use Rattle.niss_shell.specs.Output.{solution_line, start_cube};
 ghost use Rattle.niss_shell.specs.Words.{most_limit};
 ghost use Rattle.niss_embed.specs.Memory.{memory};
 ghost use Rattle.niss_embed.specs.LineCalls.{status_number};
-ghost use Rattle.niss_embed.specs.LineSearch.{most_of_line, lines_state, Takes, Refuses, capped, SolvesCube, SolvesLine, count_at, CountsLine};
+ghost use Rattle.niss_embed.specs.LineSearch.{most_of_line, lines_state, Takes, Refuses, capped, SolvesCube};
+ghost use Rattle.niss_embed.specs.LineSearch.{SolvesLine, count_at, CountsLine};
 ghost use Rattle.niss_embed.specs.declared.answer.Status.TheVariants.{Done, NoRoom};
 
 use crate::answer::{CountAnswer, SolveAnswer, Status};
@@ -55,15 +57,14 @@ impl Bounds {
 fn line_is_short(turns: &[Turn])
     requires { length turns.now ≤ 20 }
     ensures { length (solution_line turns.now) ≤ most_of_line }
-{
-}
+{}
 
 /// A solution wasn't taken.
 #[derive(Clone, Copy, Debug, PartialEq, Eq)]
 struct Refused;
 
-/// Solutions as lines, at most so many, from the beginning of lent memory. One that it has no room for is refused, and so is
-/// one too many; nothing of it is written.
+/// Solutions as lines, at most so many, from the beginning of lent memory. One that it has no room for is refused, and
+/// so is one too many; nothing of it is written.
 #[derive(Drop)]
 struct SolutionLines<'a> {
     bytes: &'a mut [u8],
@@ -203,9 +204,9 @@ fn solve_position<A: Allocator>(
     }
 }
 
-/// Writes the solutions for a line, by tables that the caller keeps: those of at most `limit` turns that are at most `slack`
-/// turns longer than the least, and at most `most` of them, each on a line as `near` and `solve` write it. One that has no room
-/// ends it, and nothing of it is written.
+/// Writes the solutions for a line, by tables that the caller keeps: those of at most `limit` turns that are at most
+/// `slack` turns longer than the least, and at most `most` of them, each on a line as `near` and `solve` write it. One
+/// that has no room ends it, and nothing of it is written.
 pub fn solve_line<A: Allocator>(
     tables: &Tables<A>,
     line: &[u8],

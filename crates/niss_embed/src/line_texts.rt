@@ -1,4 +1,5 @@
-//! Short texts for a caller's buffer: what is written of one line without a search, a scramble, and what things are called.
+//! Short texts for a caller's buffer: what is written of one line without a search, a scramble, and what things are
+//! called.
 ghost use Rattle.std.specs.Prelude.{◌≡◌, ◌≢◌, ◌+◌, ◌<◌, ◌≤◌, List, ℕ, [], ◌++◌, length, take};
 ghost use Rattle.std.specs.Option.{option_copied};
 ghost use Rattle.niss_moves.specs.Reader.{IsFed};
@@ -74,7 +75,8 @@ pub fn rewrite_line(rewriting: Rewriting, line: &[u8], out: &mut [u8]) -> LineAn
     }
 }
 
-/// Writes the first scramble of so many turns, at most 256, by the generator of a state and a stream, without the line feed.
+/// Writes the first scramble of so many turns, at most 256, by the generator of a state and a stream, without the line
+/// feed.
 pub fn scramble(state: u64, stream: u64, turns: u32, out: &mut [u8]) -> LineAnswer
     ensures does { Does (outcome_of_scramble (length out.old) state stream turns) out.old out.new result }
     ensures room { 2048 ≤ length out.old → result.status ≢ status_number NoRoom }
@@ -113,8 +115,8 @@ pub fn start_name(name: &[u8], out: &mut [u8]) -> LineAnswer
     }
 }
 
-/// What the fault of a number is called: those of reading moves by the numbers of `LineAnswer`, and 6, a step whose start
-/// doesn't hold.
+/// What the fault of a number is called: those of reading moves by the numbers of `LineAnswer`, and 6, a step whose
+/// start doesn't hold.
 fn text_of_fault(number: u8) -> Option<&'static str>
     ensures { option_copied result ≡ fault_text_of number }
 {

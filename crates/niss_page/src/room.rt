@@ -27,8 +27,8 @@ impl Block {
     }
 }
 
-/// Memory for the tables of a call: where it is and how many bytes it has, both multiples of 16. The host lends it until the
-/// call has returned, and uses it for nothing else.
+/// Memory for the tables of a call: where it is and how many bytes it has, both multiples of 16. The host lends it
+/// until the call has returned, and uses it for nothing else.
 #[repr(C)]
 #[derive(Drop)]
 pub struct Room {

@@ -9,8 +9,8 @@ use crate::room::Room;
 use niss_embed::{Answer, run_bytes};
 use std::mem::replace;
 
-/// Does what the program does with these words and this input, as `run_bytes` of `niss_embed`: its output goes to `out`, its
-/// error text to `err`. The words and the tables of a step take memory of the room.
+/// Does what the program does with these words and this input, as `run_bytes` of `niss_embed`: its output goes to
+/// `out`, its error text to `err`. The words and the tables of a step take memory of the room.
 #[unsafe(no_mangle)]
 pub extern "C" fn nissy_run(
     room: &mut Room,

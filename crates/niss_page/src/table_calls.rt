@@ -11,9 +11,10 @@ use niss_cube::Step;
 use niss_embed::{CountAnswer, SolveAnswer, Status, Wanted, count_line, solve_line};
 use std::mem::replace;
 
-/// Builds the tables of the step of this name in two rooms, the small one of 256 bytes. `Done`: there are tables of this step.
-/// `Usage`: no step has this name. `Stopped`: a room is too small. After these two there are no tables, so that a host that
-/// ignores it never asks those of another step. After `Usage` the rooms are the host's, and else they are kept for good.
+/// Builds the tables of the step of this name in two rooms, the small one of 256 bytes. `Done`: there are tables of
+/// this step. `Usage`: no step has this name. `Stopped`: a room is too small. After these two there are no tables, so
+/// that a host that ignores it never asks those of another step. After `Usage` the rooms are the host's, and else they
+/// are kept for good.
 #[unsafe(no_mangle)]
 pub extern "C" fn nissy_build(
     small: &mut Room,
