@@ -1,21 +1,13 @@
 -- How many canonical sequences there are, by the laws over their counts; the looks are within the bound, and the bound
 -- is small. And how many turns may follow one, from which a word picks the next.
-use Rattle.niss_search.proofs.Words.{◌≡◌, arith, length, ◌+◌, ◌<◌, ℕ, ap, ◌≤◌, [], List, turns_of, ◌*◌, ◌∷◌, Bool, Turn}
-use Rattle.niss_search.proofs.Words.{suc, cond}
-use Rattle.niss_search.proofs.Words.{range_with_len, ◌++◌, zero, get_or, may_follow, last_turn, subst, count_by, filter}
-use Rattle.niss_search.proofs.Words.{sum_by}
-use Rattle.niss_search.proofs.Words.{sum_by-cons, None, Space, reaching, nat_lt, Option, Some, ◌^◌, last_length, looks}
-use Rattle.niss_search.proofs.Words.{unwrap_or, up_to}
-use Rattle.niss_search.proofs.Words.{all_canonical, canonical_extensions, least_length, length-flat_map, all_looks}
-use Rattle.niss_search.proofs.Words.{is_looked_at}
-use Rattle.niss_search.proofs.Words.{length-map, look_bound, sum_by-le-sum_by, count_by-le-length, count_of_length}
-use Rattle.niss_search.proofs.Words.{sum_by-le, BoundIsSmall}
-use Rattle.niss_search.proofs.Words.{length-filter, pow-suc, ◌∙◌, sym, refl, B, D, F, Face, L, R, U, face_may_follow}
-use Rattle.niss_search.proofs.Words.{last_turn-push}
-use Rattle.niss_search.proofs.Words.{turn_order, CountRecurrence, PartHasNoMore, StepBoundIsLess, StepTurnsInOrder}
-use Rattle.niss_search.proofs.Words.{goes_first, map, not}
-use Rattle.niss_search.proofs.Words.{true, ◌-◌, ◌/◌, no_turn, choice, filter_passes, mul-le-mul_right, choices, lit<}
-use Rattle.niss_search.proofs.Words.{false}
+use Rattle.niss_search.proofs.Words.{◌≡◌, arith, length, ◌+◌, ◌<◌, ℕ, ap, ◌≤◌, [], List, turns_of, ◌*◌, ◌∷◌, Bool, Turn, suc, cond}
+use Rattle.niss_search.proofs.Words.{range_with_len, ◌++◌, zero, get_or, may_follow, last_turn, subst, count_by, filter, sum_by}
+use Rattle.niss_search.proofs.Words.{sum_by-cons, None, Space, reaching, nat_lt, Option, Some, ◌^◌, last_length, looks, unwrap_or, up_to}
+use Rattle.niss_search.proofs.Words.{all_canonical, canonical_extensions, least_length, length-flat_map, all_looks, is_looked_at}
+use Rattle.niss_search.proofs.Words.{length-map, look_bound, sum_by-le-sum_by, count_by-le-length, count_of_length, sum_by-le, BoundIsSmall}
+use Rattle.niss_search.proofs.Words.{length-filter, pow-suc, ◌∙◌, sym, refl, B, D, F, Face, L, R, U, face_may_follow, last_turn-push}
+use Rattle.niss_search.proofs.Words.{turn_order, CountRecurrence, PartHasNoMore, StepBoundIsLess, StepTurnsInOrder, goes_first, map, not}
+use Rattle.niss_search.proofs.Words.{true, ◌-◌, ◌/◌, no_turn, choice, filter_passes, mul-le-mul_right, choices, lit<, false}
 use Rattle.std.proofs.Math.Nat.{pow-le-pow_right}
 use Rattle.std.proofs.lemmas.List.Filters.{sum_by-filter_both}
 use Rattle.niss_search.proofs.ListLemmas.{sum_by-same}

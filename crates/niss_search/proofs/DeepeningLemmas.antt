@@ -1,33 +1,23 @@
 -- The search by lengths: deepenings one after another, what those up to one say of the whole, and what they are for a
 -- cube.
-use Rattle.niss_search.proofs.Words.{◌≡◌, arith, length, ◌+◌, ◌<◌, ℕ, ap, ◌∙◌, sym, ◌≤◌, [], List, refl, true, ◌-◌, ◌∷◌}
-use Rattle.niss_search.proofs.Words.{Bool, Turn}
-use Rattle.niss_search.proofs.Words.{false, cond, range_with_len, ◌++◌, flat_map, Coordinates, distance_at, Step, None}
-use Rattle.niss_search.proofs.Words.{positions, Space}
-use Rattle.niss_search.proofs.Words.{Option, Some, flat_map-append, last_length, looks, reaching, unwrap_or, up_to}
-use Rattle.niss_search.proofs.Words.{all_canonical, find}
-use Rattle.niss_search.proofs.Words.{least_length, solution_lengths, solutions, option_or, then_some, find-append}
-use Rattle.niss_search.proofs.Words.{sum_by, ◌^◌, Place}
-use Rattle.niss_search.proofs.Words.{at_limit, min, HasPosition, append-nil, nat_lt, nat_tests, Err, GoesThrough, Ok}
-use Rattle.niss_search.proofs.Words.{Part, for_each}
-use Rattle.niss_search.proofs.Words.{PositionsFollowCubes, Result, all_looks, progress_at, OnErr, OnOk}
-use Rattle.niss_search.proofs.Words.{Path, StoppedIn}
-use Rattle.niss_search.proofs.Words.{StopsIn, WentThrough, near_looks_of, near_solutions_of, option_map_or, Delivers}
-use Rattle.niss_search.proofs.Words.{IfOk, NoSlackIsLeast}
-use Rattle.niss_search.proofs.Words.{suc, Contains, All, All-head, All-filter, All-contains_itself, subst}
-use Rattle.niss_search.proofs.Words.{after_all, then_part}
-use Rattle.niss_search.proofs.Words.{deepening, all_deepenings, distance_of}
+use Rattle.niss_search.proofs.Words.{◌≡◌, arith, length, ◌+◌, ◌<◌, ℕ, ap, ◌∙◌, sym, ◌≤◌, [], List, refl, true, ◌-◌, ◌∷◌, Bool, Turn, false}
+use Rattle.niss_search.proofs.Words.{cond, range_with_len, ◌++◌, flat_map, Coordinates, distance_at, Step, None, positions, Space, Option}
+use Rattle.niss_search.proofs.Words.{Some, flat_map-append, last_length, looks, reaching, unwrap_or, up_to, all_canonical, find}
+use Rattle.niss_search.proofs.Words.{least_length, solution_lengths, solutions, option_or, then_some, find-append, sum_by, ◌^◌, Place}
+use Rattle.niss_search.proofs.Words.{at_limit, min, HasPosition, append-nil, nat_lt, nat_tests, Err, GoesThrough, Ok, Part, for_each}
+use Rattle.niss_search.proofs.Words.{PositionsFollowCubes, Result, all_looks, progress_at, OnErr, OnOk, Path, StoppedIn, StopsIn}
+use Rattle.niss_search.proofs.Words.{WentThrough, near_looks_of, near_solutions_of, option_map_or, Delivers, IfOk, NoSlackIsLeast, suc}
+use Rattle.niss_search.proofs.Words.{Contains, All, All-head, All-filter, All-contains_itself, subst, after_all, then_part, deepening}
+use Rattle.niss_search.proofs.Words.{all_deepenings, distance_of}
 use Rattle.std.specs.Prelude.{option_map, slice_get}
 use Rattle.std.proofs.lemmas.List.{nil_from_length}
 use Rattle.niss_search.specs.Laws.{FirstIsLeast}
 use Rattle.niss_moves.specs.Laws.{CanonicalMembers}
 use Rattle.niss_search.proofs.Bounds.{last-within, least-within, looks-sum-small}
-use Rattle.niss_search.proofs.ListLemmas.{flat_map-none, in-range, range-push, range-split, sum_by-range_more}
-use Rattle.niss_search.proofs.ListLemmas.{flat_map-range_more}
-use Rattle.niss_search.proofs.LookLemmas.{first_or-from, first_or-le, first_or-within}
+use Rattle.niss_search.proofs.ListLemmas.{flat_map-none, in-range, range-push, range-split, sum_by-range_more, flat_map-range_more}
+use Rattle.niss_search.proofs.LookLemmas.{first_or-from, first_or-le, first_or-within, solutions-same, all_looks-same, distance-cube}
 use Rattle.niss_search.specs.declared.deepening.Outcome.{Outcome}
 use Rattle.niss_search.proofs.DepthFirst.{Descends-then, StopsIn-before, for_each-append}
-use Rattle.niss_search.proofs.LookLemmas.{solutions-same, all_looks-same, distance-cube}
 
 -- a length within the last one is so still where none is nearer than it
 within-or : (n slack d : ℕ) (o p : Option ℕ) → d ≤ unwrap_or p (n + 1) → d ≤ last_length o n slack → d ≤ last_length (option_or o p) n slack

@@ -1,28 +1,18 @@
 -- With any consistent heuristic that is 0 only at the goal, depth-first search finds exactly the solutions that the
 -- definition lists, and looks exactly where the definition of looks says. And a descent part by part, with how a sink
 -- goes through parts.
-use Rattle.niss_search.proofs.Words.{◌≡◌, arith, length, ◌+◌, ◌<◌, ℕ, ap, ◌∙◌, sym, ◌≤◌, [], List, refl, true, ◌-◌, ◌∷◌}
-use Rattle.niss_search.proofs.Words.{Bool, Turn, false}
-use Rattle.niss_search.proofs.Words.{suc, cond, range_with_len, ◌++◌, zero, may_follow, Contains, flat_map, last_turn}
-use Rattle.niss_search.proofs.Words.{count_by, filter}
-use Rattle.niss_search.proofs.Words.{leb, sum_by, sum_by-cons, nat_le, looks, all_canonical}
-use Rattle.niss_search.proofs.Words.{canonical_extensions, le-leb, lt-leb}
-use Rattle.niss_search.proofs.Words.{add-one, up_to, is_looked_at, Space, after_all, All-contains, All-contains_itself}
-use Rattle.niss_search.proofs.Words.{All-filter, leb-true, Part}
-use Rattle.niss_search.proofs.Words.{beyond, length-append, only_looks, then_part, for_each, fold-append, leb-false}
-use Rattle.niss_search.proofs.Words.{take_at, append-nil}
-use Rattle.niss_search.proofs.Words.{turns_of, get_or, map, subst, Coordinates, append_assoc, positions, distance_at}
-use Rattle.niss_search.proofs.Words.{Step, inl, inr, All}
-use Rattle.niss_search.proofs.Words.{position_after, take, drop, flat_map-append, Follower, no_turn, sum_by-append, Err}
-use Rattle.niss_search.proofs.Words.{GoesThrough, Ok}
-use Rattle.niss_search.proofs.Words.{Result, progress_at, below_at, beyond_at, deepening, All-head, All-tail, ap₂}
-use Rattle.niss_search.proofs.Words.{Descends, Progress}
-use Rattle.niss_search.proofs.Words.{OnErr, OnOk, StoppedIn, StopsIn, WentThrough, map-append, AreFar, IsNextNear}
-use Rattle.niss_search.proofs.Words.{drop_more}
+use Rattle.niss_search.proofs.Words.{◌≡◌, arith, length, ◌+◌, ◌<◌, ℕ, ap, ◌∙◌, sym, ◌≤◌, [], List, refl, true, ◌-◌, ◌∷◌, Bool, Turn, false}
+use Rattle.niss_search.proofs.Words.{suc, cond, range_with_len, ◌++◌, zero, may_follow, Contains, flat_map, last_turn, count_by, filter}
+use Rattle.niss_search.proofs.Words.{leb, sum_by, sum_by-cons, nat_le, looks, all_canonical, canonical_extensions, le-leb, lt-leb, add-one}
+use Rattle.niss_search.proofs.Words.{up_to, is_looked_at, Space, after_all, All-contains, All-contains_itself, All-filter, leb-true, Part}
+use Rattle.niss_search.proofs.Words.{beyond, length-append, only_looks, then_part, for_each, fold-append, leb-false, take_at, append-nil}
+use Rattle.niss_search.proofs.Words.{turns_of, get_or, map, subst, Coordinates, positions, distance_at, Step, inl, inr, All}
+use Rattle.niss_search.proofs.Words.{position_after, take, drop, flat_map-append, Follower, no_turn, sum_by-append, Err, GoesThrough, Ok}
+use Rattle.niss_search.proofs.Words.{Result, progress_at, below_at, beyond_at, deepening, All-head, All-tail, ap₂, Descends, Progress}
+use Rattle.niss_search.proofs.Words.{OnErr, OnOk, StoppedIn, StopsIn, WentThrough, map-append, AreFar, IsNextNear, drop_more}
 use Rattle.niss_search.proofs.Words.{length-take-le, take-append-drop}
-use Rattle.niss_search.proofs.ListLemmas.{flat_map-none, filter-flat_map, sum_by-flat_map, flat_map-flat_map}
-use Rattle.niss_search.proofs.ListLemmas.{sum_by-map}
-use Rattle.niss_search.proofs.ListLemmas.{sum_by-swap, sum_by-shift, sum_by-none, sum_by-one, in-range}
+use Rattle.niss_search.proofs.ListLemmas.{flat_map-none, filter-flat_map, sum_by-flat_map, flat_map-flat_map, sum_by-map, sum_by-swap}
+use Rattle.niss_search.proofs.ListLemmas.{sum_by-shift, sum_by-none, sum_by-one, in-range}
 use Rattle.std.proofs.lemmas.List.Folds.{flat_map-map, map_fixed}
 use Rattle.std.proofs.lemmas.List.Concat.{flat_map_single}
 use Rattle.niss_search.proofs.LookLemmas.{distance_at-goal, distance_at-turn}
@@ -187,16 +177,6 @@ no_follower = record { turn = no_turn; column = 0 }
 abbrev pub turns_in : List Follower → List Turn
 turns_in fs = map (λ f. f.turn) fs
 
-none-first : (a : Part) → a ≡ then_part (only_looks 0) a
-none-first a =
-    let sum : a.looks ≡ 0 + a.looks = omega arith in
-    λ i. record { paths = a.paths; looks = sum i }
-
-pub then_part-assoc : (a b c : Part) → then_part (then_part a b) c ≡ then_part a (then_part b c)
-then_part-assoc a b c =
-    let sums : a.looks + b.looks + c.looks ≡ a.looks + (b.looks + c.looks) = omega arith in
-    λ i. record { paths = append_assoc a.paths b.paths c.paths i; looks = sums i }
-
 module _ {X : Type 0} (part : X → Part) where
   for_each-cons : (x : X) (xs : List X) → for_each part (x ∷ xs) ≡ then_part (part x) (for_each part xs)
   for_each-cons x xs = λ i. record { paths = (for_each part (x ∷ xs)).paths; looks = sum_by-cons (λ y. (part y).looks) x xs i }
@@ -290,14 +270,13 @@ module _ (step : Step) (x : List Coordinates) (p : List Turn) (left : ℕ) where
   after_at-some (f ∷ fs) =
       omega (arith, sum_by-cons (λ t. (after_at step x p left t).looks) f.turn (turns_in fs), after_at-some fs)
 
--- A descent with `left` turns more has come from a state to this one; what it does is what it did, and what is below
--- the followers `rest`.
+-- A descent with `left` turns more has come from a state to this one: what the followers `rest` are still to do ends what it does.
 pub record Remains
     {K : Type 0} (took refused : K → List Turn → K → Type 0) (step : Step) (x : List Coordinates) (p : List Turn) (left : ℕ)
     (rest : List Follower) (start now : Progress K) : Type 0 where
-  part : Part
-  went : GoesThrough took refused part start now
-  whole : beyond_at step x p left ≡ then_part part (for_each (after_at step x p (left - 1)) (turns_in rest))
+  room : now.meter + (for_each (after_at step x p (left - 1)) (turns_in rest)).looks ≤ start.meter + (beyond_at step x p left).looks
+  ends : (r : Result (Unit {0}) (Unit {0})) (new : Progress K) → Descends took refused (for_each (after_at step x p (left - 1)) (turns_in rest)) now new r
+      → Descends took refused (beyond_at step x p left) start new r
 
 module _ {K : Type 0} {took refused : K → List Turn → K → Type 0} {step : Step} {x : List Coordinates} {p : List Turn} where
   pub Remains-all : (left more : ℕ) (rest : List Follower) (start : Progress K) → left ≡ suc more → distance_at step x ≤ left
@@ -306,10 +285,10 @@ module _ {K : Type 0} {took refused : K → List Turn → K → Type 0} {step : 
   Remains-all zero more rest start e near all = absurd (omega arith)
   Remains-all (suc k) more rest start e near all =
       let same : suc k - 1 ≡ k = omega arith in
+      let whole : beyond_at step x p (suc k) ≡ for_each (after_at step x p (suc k - 1)) (turns_in rest) = rw (same, all, le-leb (distance_at step x) (suc k) near) refl in
       record {
-        part = only_looks 0;
-        went = GoesThrough-looks 0 start.meter start.meter start.count start.sink (omega arith);
-        whole = rw (same, all, le-leb (distance_at step x) (suc k) near) (none-first _);
+        room = omega (arith, ap (λ (q : Part). q.looks) whole);
+        ends = λ r new h. subst (λ (q : Part). Descends took refused q start new r) (sym whole) h;
       }
 
   module _ {left : ℕ} {rest : List Follower} {start now : Progress K} (remains : Remains took refused step x p left rest start now) where
@@ -317,14 +296,15 @@ module _ {K : Type 0} {took refused : K → List Turn → K → Type 0} {step : 
     each = after_at step x p (left - 1)
 
     pub Remains-room : now.meter + length rest ≤ start.meter + (beyond_at step x p left).looks
-    Remains-room =
-        omega (arith, remains.went.looked, ap (λ (q : Part). q.looks) remains.whole, after_at-some step x p (left - 1) rest)
+    Remains-room = omega (arith, remains.room, after_at-some step x p (left - 1) rest)
 
     -- none of them is near
     pub Remains-far : {n : ℕ} → AreFar step x (left - 1) rest now.meter n
         → GoesThrough took refused (beyond_at step x p left) start (progress_at n now.count now.sink)
-    Remains-far {n} are = rw (remains.whole ∙ ap (then_part remains.part) (after_at-far step x p (left - 1) rest are.far))
-        (Descends-then {F = Unit {0}} (Ok tt) (only_looks (length rest)) _ remains.went
+    Remains-far {n} are =
+        let new = progress_at n now.count now.sink in
+        remains.ends (Ok tt) new
+        (subst (λ (q : Part). GoesThrough took refused q now new) (sym (after_at-far step x p (left - 1) rest are.far))
         (GoesThrough-looks (length rest) now.meter n now.count now.sink are.looked))
 
     -- from the first on after which a look allows so many turns
@@ -343,17 +323,12 @@ module _ {K : Type 0} {took refused : K → List Turn → K → Type 0} {step : 
       abbrev there : Progress K
       there = progress_at n now.count now.sink
 
-      passed : GoesThrough took refused (only_looks (i + 1)) now there
-      passed = GoesThrough-looks (i + 1) now.meter n now.count now.sink (omega (arith, next.looked))
-
-      split : turns_in rest ≡ turns_in (take i rest) ++ t ∷ turns_in (drop (i + 1) rest)
-      split =
-          ap turns_in (sym (take-append-drop i rest) ∙ ap (λ fs. take i rest ++ fs) (drop_more rest i no_follower next.inside))
-          ∙ map-append (λ (f : Follower). f.turn) (take i rest) (get_or rest i no_follower ∷ drop (i + 1) rest)
-
       parts : for_each each (turns_in rest) ≡ then_part (only_looks (i + 1)) (then_part under others)
       parts =
           let behind = turns_in (drop (i + 1) rest) in
+          let split : turns_in rest ≡ turns_in (take i rest) ++ t ∷ behind =
+          ap turns_in (sym (take-append-drop i rest) ∙ ap (λ fs. take i rest ++ fs) (drop_more rest i no_follower next.inside))
+          ∙ map-append (λ (f : Follower). f.turn) (take i rest) (get_or rest i no_follower ∷ drop (i + 1) rest) in
           let size = length-take-le i rest (omega (arith, next.inside)) in
           let looks : length (take i rest) + (1 + under.looks + others.looks) ≡ i + 1 + (under.looks + others.looks) = omega (arith, size) in
           ap (for_each each) split
@@ -361,29 +336,27 @@ module _ {K : Type 0} {took refused : K → List Turn → K → Type 0} {step : 
           ∙ ap₂ then_part (after_at-far step x p (left - 1) (take i rest) next.far) (for_each-cons each t behind)
           ∙ (λ j. record { paths = under.paths ++ others.paths; looks = looks j })
 
-      whole : beyond_at step x p left ≡ then_part remains.part (then_part (only_looks (i + 1)) (then_part under others))
-      whole = remains.whole ∙ ap (then_part remains.part) parts
-
       pub Remains-room_next : n + under.looks ≤ start.meter + (beyond_at step x p left).looks
-      Remains-room_next = omega (arith, remains.went.looked, ap (λ (q : Part). q.looks) whole, next.looked)
+      Remains-room_next = omega (arith, remains.room, ap (λ (q : Part). q.looks) parts, next.looked)
 
-      -- what it does after that one: it goes on with those behind it, or it stops
+      -- what is done from there on ends what it does
+      ends_there : (r : Result (Unit {0}) (Unit {0})) (new : Progress K) → Descends took refused (then_part under others) there new r
+          → Descends took refused (beyond_at step x p left) start new r
+      ends_there r new h =
+          let passed = GoesThrough-looks (i + 1) now.meter n now.count now.sink (omega (arith, next.looked)) in
+          remains.ends r new (subst (λ (q : Part). Descends took refused q now new r) (sym parts) (Descends-then r (then_part under others) new passed h))
+
+      -- so it goes on with those behind that one, or it stops
       pub Remains-next : {mid : Progress K} → GoesThrough took refused under there mid
           → Remains took refused step x p left (drop (i + 1) rest) start mid
-      Remains-next {mid} h = record {
-        part = then_part remains.part (then_part (only_looks (i + 1)) under);
-        went = Descends-then {F = Unit {0}} (Ok tt) (then_part (only_looks (i + 1)) under) mid remains.went
-            (Descends-then {F = Unit {0}} (Ok tt) under mid passed h);
-        whole = whole
-            ∙ ap (then_part remains.part) (sym (then_part-assoc (only_looks (i + 1)) under others))
-            ∙ sym (then_part-assoc remains.part (then_part (only_looks (i + 1)) under) others);
+      Remains-next h = record {
+        room = omega (arith, remains.room, ap (λ (q : Part). q.looks) parts, next.looked, h.looked);
+        ends = λ r new g. ends_there r new (Descends-then r others new h g);
       }
 
       pub Remains-stops : {new : Progress K} → StopsIn took refused under there new
           → StopsIn took refused (beyond_at step x p left) start new
-      Remains-stops {new} h =
-          let after = Descends-then {F = Unit {0}} (Err tt) (then_part under others) new passed (StopsIn-before others h) in
-          rw whole (Descends-then {F = Unit {0}} (Err tt) (then_part (only_looks (i + 1)) (then_part under others)) new remains.went after)
+      Remains-stops {new} h = ends_there (Err tt) new (StopsIn-before others h)
 
 -- one deepening from a position
 pub below_at-start : (step : Step) (x : List Coordinates) (d : ℕ) → below_at step x [] d ≡ deepening (positions step) (distance_at step) x d

@@ -1,31 +1,18 @@
 -- How far a goal is, in a space of states: 0 exactly at the goal, at most one more than after a turn, and one more than
 -- after some. And what of a cube depends on its position alone: so what holds of a position holds of every cube that
 -- has it.
-use Rattle.niss_search.proofs.Words.{◌≡◌, arith, ◌+◌, ◌<◌, ℕ, ap, ◌∙◌, ◌≤◌, [], List, refl, true, ◌∷◌, Bool, Turn, suc}
-use Rattle.niss_search.proofs.Words.{cond, zero}
-use Rattle.niss_search.proofs.Words.{range_with_len, Contains, leb, inl, inr, list_any, ◌⊎◌, min, unwrap_or, find, ◌||◌}
-use Rattle.niss_search.proofs.Words.{list_any_at, sym}
-use Rattle.niss_search.proofs.Words.{turns_of, Coordinates, distance_at, Step, position_after, is_reached_at}
-use Rattle.niss_search.proofs.Words.{coordinates_after, positions}
-use Rattle.niss_search.proofs.Words.{or-false, DistanceIsLeast, nat_tests, Space, distance, is_reached_in, are_zero}
-use Rattle.niss_search.proofs.Words.{canonical_extensions}
-use Rattle.niss_search.proofs.Words.{PositionsFollowCubes, All-contains_itself, solution_lengths}
-use Rattle.niss_search.proofs.Words.{after_all}
-use Rattle.niss_search.proofs.Words.{DominoKeepsStart, last_turn, all_canonical}
-use Rattle.niss_search.proofs.Words.{coordinates_of}
-use Rattle.niss_search.proofs.Words.{AreCoordinates, StepsSeePlaces, Homomorphism, least_length, is_looked_at}
-use Rattle.niss_search.proofs.Words.{option_map_or, alike_is_cube}
-use Rattle.niss_search.proofs.Words.{length-filter, last_length, HasPosition, distance_of, TurnedIsCube, length}
-use Rattle.niss_search.proofs.Words.{may_follow, all_looks}
-use Rattle.niss_search.proofs.Words.{solutions, All-append, All-filter, StartIsKept, position_of, nat_lt, flat_map}
-use Rattle.niss_search.proofs.Words.{count_by, reaching}
-use Rattle.niss_search.proofs.Words.{All-head, may_start, zero_test, All-push, All-tail, All-take, reached, All-cons}
-use Rattle.niss_search.proofs.Words.{All-map, goals_of}
-use Rattle.niss_search.proofs.Words.{slice_of, twist_of, filter, nat_le, turned, IsTrue, All-nil, Option, Domino}
-use Rattle.niss_search.proofs.Words.{IsCube, SameMap, flip_of}
-use Rattle.niss_search.proofs.Words.{sum_by, ◌++◌, take, Place, looks, up_to, subst, Edges, holds, ◌-◌, map, All, ◌↔◌}
-use Rattle.niss_search.proofs.Words.{Flip, Axis, Goal}
-use Rattle.niss_search.proofs.Words.{leb-true}
+use Rattle.niss_search.proofs.Words.{◌≡◌, arith, ◌+◌, ◌<◌, ℕ, ap, ◌∙◌, ◌≤◌, [], List, refl, true, ◌∷◌, Bool, Turn, suc, cond, zero}
+use Rattle.niss_search.proofs.Words.{range_with_len, Contains, leb, inl, inr, list_any, ◌⊎◌, min, unwrap_or, find, ◌||◌, list_any_at, sym}
+use Rattle.niss_search.proofs.Words.{turns_of, Coordinates, distance_at, Step, position_after, is_reached_at, coordinates_after, positions}
+use Rattle.niss_search.proofs.Words.{or-false, DistanceIsLeast, nat_tests, Space, distance, is_reached_in, are_zero, canonical_extensions}
+use Rattle.niss_search.proofs.Words.{PositionsFollowCubes, All-contains_itself, solution_lengths, after_all, DominoKeepsStart, last_turn}
+use Rattle.niss_search.proofs.Words.{all_canonical, coordinates_of, AreCoordinates, StepsSeePlaces, Homomorphism, least_length}
+use Rattle.niss_search.proofs.Words.{is_looked_at, option_map_or, alike_is_cube, length-filter, last_length, HasPosition, distance_of}
+use Rattle.niss_search.proofs.Words.{TurnedIsCube, length, may_follow, all_looks, solutions, All-append, All-filter, StartIsKept}
+use Rattle.niss_search.proofs.Words.{position_of, nat_lt, flat_map, count_by, reaching, All-head, may_start, zero_test, All-push, All-tail}
+use Rattle.niss_search.proofs.Words.{All-take, reached, All-cons, All-map, goals_of, slice_of, twist_of, filter, nat_le, turned, IsTrue}
+use Rattle.niss_search.proofs.Words.{All-nil, Option, Domino, IsCube, SameMap, flip_of, sum_by, ◌++◌, take, Place, looks, up_to, subst}
+use Rattle.niss_search.proofs.Words.{Edges, holds, ◌-◌, map, All, ◌↔◌, Flip, Axis, Goal, leb-true}
 use Rattle.std.proofs.lemmas.List.Folds.{Any-from_list_any}
 use Rattle.niss_search.proofs.ListLemmas.{Contains-first, Contains-later, list_any-filter}
 use Rattle.niss_cube.specs.declared.cube.coordinate.Coordinate.TheVariants as coordinate

@@ -5,10 +5,10 @@ ghost use Rattle.std.specs.Prelude.{IfSome, IfNone};
 ghost use Rattle.niss_moves.specs.Places.{Place};
 ghost use Rattle.niss_cube.specs.Steps.{turns_of};
 ghost use Rattle.niss_search.specs.Cubes.{IsPosition, HasPosition, least_length_of, near_solutions_of, near_looks_of};
-ghost use Rattle.niss_search.specs.Solutions.{look_bound, last_length, least_length};
+ghost use Rattle.niss_search.specs.Solutions.{look_bound, last_length};
 ghost use Rattle.niss_search.specs.Positions.{positions, distance_at};
 ghost use Rattle.niss_search.specs.Delivery.{WentThrough, StoppedIn, at_limit, Path};
-ghost use Rattle.niss_search.specs.Deepening.{deepening, all_deepenings, Delivers, below_at, beyond_at, Keeps, Makes};
+ghost use Rattle.niss_search.specs.Deepening.{deepening, Delivers, below_at, beyond_at, Keeps, Makes};
 ghost use Rattle.niss_search.specs.Deepening.{turns};
 ghost use Rattle.niss_search.specs.Followers.{IsFollower, IsNextNear, AreFar};
 
@@ -83,7 +83,20 @@ pub fn search<K: Sink, A: Allocator>(
 {
     positions_follow_cubes();
     let root = Root { tables, position };
-    root.find(slack, path, meter, sink)
+    let limit = path.limit();
+    let mut least = None;
+    let mut solutions = 0;
+    let mut length = 0;
+    while length <= last_length(least, limit, slack) {
+        let found = root.deepen(length, path, meter, sink)?;
+        least = least.or((found > 0).then_some(length));
+        solutions += found;
+        length += 1;
+    }
+    Ok(Outcome {
+        length: least,
+        solutions,
+    })
 }
 
 /// Where each deepening begins: a position, with the tables that judge it.
@@ -94,41 +107,6 @@ struct Root<'a, A: Allocator> {
 }
 
 impl<A: Allocator> Root<'_, A> {
-    /// Deepens to each length in turn, up to the last that the slack allows.
-    fn find<K: Sink>(
-        &self,
-        slack: Limit,
-        path: &mut TurnPath,
-        meter: &mut Meter,
-        sink: &mut K,
-    ) -> Result<Outcome, K::Fault>
-        requires position { IsPosition self.now.tables.now self.now.position.now }
-        requires empty { path.old.turns ≡ [] }
-        requires meter { meter.old ≤ 2 ^ 127 }
-        ensures path { path.new ≡ path.old }
-        ensures length { IfOk result (λ o. o.length ≡
-            least_length (positions self.now.tables.now) self.now.position.now path.old.limit) }
-        ensures delivers { Delivers K.took K.refused path.old.limit
-            (all_deepenings (positions self.now.tables.now) (distance_at self.now.tables.now)
-            self.now.position.now path.old.limit slack)
-            meter.old meter.new sink.old sink.new (λ o. o.solutions) result }
-    {
-        let limit = path.limit();
-        let mut least = None;
-        let mut solutions = 0;
-        let mut length = 0;
-        while length <= last_length(least, limit, slack) {
-            let found = self.deepen(length, path, meter, sink)?;
-            least = least.or((found > 0).then_some(length));
-            solutions += found;
-            length += 1;
-        }
-        Ok(Outcome {
-            length: least,
-            solutions,
-        })
-    }
-
     /// Hands out the solutions of exactly so many turns, and answers how many they are.
     fn deepen<K: Sink>(
         &self,
