@@ -8,6 +8,6 @@ pub mod DeepeningLemmas
 pub mod Transfer
 pub mod DrawLemmas
 pub mod EntryLemmas
+pub mod GoalLemmas
 pub mod FillLemmas
 pub mod ScanLemmas
-pub mod WordLemmas

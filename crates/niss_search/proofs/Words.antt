@@ -62,7 +62,8 @@ pub use Rattle.niss_search.specs.Laws.{PositionsFollowCubes, BoundIsSmall, Count
 pub use Rattle.niss_search.specs.Laws.{EntriesAreCounted, FillIsSmall, NoSlackIsLeast, PartHasNoMore, StepBoundIsLess}
 pub use Rattle.niss_search.specs.Looks.{is_looked_at}
 unfoldable pub use Rattle.niss_search.specs.Looks.{looks, all_looks}
-pub use Rattle.niss_search.specs.Moves.{turn_at, IsMoveRow}
+pub use Rattle.niss_search.specs.Moves.{turn_at}
+pub use Rattle.niss_cube.specs.TableRows.{IsMoveRow}
 pub use Rattle.niss_search.specs.Names.{Turn, Coordinates, Step, Flip, Follower, no_turn, Axis, Domino, Edges, Goal, B, D, F, Face, L, R, U}
 pub use Rattle.niss_search.specs.Names.{TwistAndSlice}
 pub use Rattle.niss_search.specs.Path.{Path}

@@ -6,7 +6,7 @@ ghost use Rattle.niss_search.specs.Positions.{distance_at};
 ghost use Rattle.niss_search.specs.Deepening.{found_below, looks_below, looks_beyond, Keeps, Finds, turns};
 
 use crate::sink::Sink;
-use crate::tables::{Follower, Meter, Position, SearchTables, StateSpace, Tables, with_kind};
+use crate::tables::{Follower, Kind, Meter, Position, SearchTables, StateSpace, Tables};
 use crate::turn_path::TurnPath;
 use niss_moves::Turn;
 use std::alloc::Allocator;
@@ -41,7 +41,12 @@ impl<K: Sink> Descent<'_, K> {
             (looks_below tables.now position.now (turns self.old) left)
             meter result.0 self.old self.new result.1 }
     {
-        with_kind!(tables.kind(), kind => self.visit_in(kind, position, left, meter))
+        match tables.kind() {
+            Kind::Edges(kind) => self.visit_in(kind, position, left, meter),
+            Kind::AnyEdges(kind) => self.visit_in(kind, position, left, meter),
+            Kind::Domino(kind) => self.visit_in(kind, position, left, meter),
+            Kind::EitherDomino(kind) => self.visit_in(kind, position, left, meter),
+        }
     }
 
     /// `visit` by the kind of the tables.
