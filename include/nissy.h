@@ -128,8 +128,9 @@ typedef struct nissy_solve_answer {
 
 /* Writes the solutions of a line's cube by the step of the tables: those of at most `limit` turns that are at most `slack` turns longer
  * than the shortest (0: the shortest alone), by length and then in turn order, but no more than `most` of them. Each is a line as the
- * program's `near` writes it, such as "F B' (2)" and a line feed, of at most 65 bytes. If there are none, nothing is written: then
- * `solutions` is 0 and `more` false. What is behind those that are written is as it was. It takes no memory.
+ * program's `near` writes it, such as "F B' (2)" and a line feed, of at most 65 bytes: a room of 65 bytes for each of `most` is never too
+ * small. If there are none, nothing is written: then `solutions` is 0 and `more` false. What is behind those that are written is as it was.
+ * It takes no memory.
  *
  * NISSY_USAGE: the struct has no tables, or `limit` or `slack` is above 20. NISSY_STOPPED: the line has more than NISSY_MOST_INPUT
  * bytes. NISSY_FAULT: the line has a fault, or NISSY_START. The first of these that holds is told, in this order. */

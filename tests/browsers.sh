@@ -1,5 +1,5 @@
 #!/usr/bin/env bash
-# Tries the page that `make page` built, drives it in Chromium, and shows it in Firefox and WebKit:
+# Tries the page that `make page` built, drives it in Chromium, and shows it in Firefox and WebKit; mypy reads what does so:
 #
 #     tests/browsers.sh [PAGE [PROGRAM]]
 #
@@ -15,6 +15,7 @@ cd "$(dirname "$0")/.." || exit 2
 export SE_OFFLINE=true SE_AVOID_STATS=true
 
 if [ ! -e "$page" ] || missing python3; then skips_all "the page, since make page built none or there is no python3"; fi
+typed tests/tally.py tests/browsers/*.py
 add python3 tests/browsers/files.py "$page"
 
 # Debian's Python has Debian's selenium, whatever other Python comes first

@@ -81,9 +81,9 @@ def markup(tally: Tally, browser: Browser, elements: int) -> None:
     for text in MARKUP:
         browser.open("#scramble=" + quote(text, safe=""))
         tally.equal("the field has the text", browser.script("return document.getElementById('scramble').value"), text)
-        word = re.match(r"[^\s()]{0,12}", text)[0]
-        cut = "\u2026" if re.match(r"[^\s()]{13}", text) else ""
-        tally.equal("the words on it", browser.texts("#scramble-fault p"), [f"\u201c{word}{cut}\u201d is no move."])
+        word = re.split(r"[\s()]", text)[0]
+        shown = word if len(word) <= 12 else word[:12] + "\u2026"
+        tally.equal("the words on it", browser.texts("#scramble-fault p"), [f"\u201c{shown}\u201d is no move."])
         is_unharmed(tally, browser, text, elements + len(["p"]))
 
 

@@ -3,6 +3,7 @@ import json
 import time
 from abc import ABC, abstractmethod
 from pathlib import Path
+from typing import Any
 
 from net import letters_of, stickers_of
 from tally import Tally
@@ -25,7 +26,7 @@ class Window(ABC):
         """Goes to an address."""
 
     @abstractmethod
-    def script(self, text: str) -> object:
+    def script(self, text: str) -> Any:
         """What a script of the page answers."""
 
     @abstractmethod
@@ -49,13 +50,13 @@ class Window(ABC):
 class Driven(Window):
     """A window of a browser that selenium drives."""
 
-    def __init__(self, driver) -> None:
+    def __init__(self, driver: Any) -> None:
         self.driver = driver
 
     def open(self, address: str) -> None:
         self.driver.get(address)
 
-    def script(self, text: str) -> object:
+    def script(self, text: str) -> Any:
         return self.driver.execute_script(text)
 
     def end(self) -> None:

@@ -6,7 +6,7 @@ from urllib.parse import unquote, urlparse
 
 from browser import Browser
 from tally import Tally
-from wanted import TITLES, Position, fault
+from wanted import TITLES, Position, fault_column
 
 NO_MOVE = "\u201c{}\u201d is no move."
 # a line, the sign that the fault's column names, one that isn't seen by a sign for it, and what is said; the column comes from the model
@@ -50,7 +50,7 @@ def shows_fault(tally: Tally, browser: Browser, name: str, text: str, sign: str,
     browser.until("return !document.querySelector(arguments[0]).hidden", where)
     tally.equal(f"the words on {text[-30:]!r}", browser.texts(f"{where} p"), [said])
     tally.equal(f"the sign that is marked in {text[-30:]!r}", browser.texts(f"{where} mark"), [sign])
-    column = int(re.search(r"column (\d+)", fault(text))[1])
+    column = fault_column(text)
     before = len(text.encode()[: column - 1].decode())
     line, under = browser.texts(f"{where} pre")[0].split("\n")
     tally.equal(f"signs that aren't seen in {line!r}", [sign for sign in line if unicodedata.category(sign) in ("Cc", "Cf")], [])
@@ -66,7 +66,7 @@ def scrambles(tally: Tally, browser: Browser) -> None:
         in_field = browser.script(
             "const mark = document.querySelector('#scramble-marks mark'); return [mark.previousSibling.data.length, mark.textContent]",
         )
-        column = int(re.search(r"column (\d+)", fault(text))[1])
+        column = fault_column(text)
         place = len(text.encode()[: column - 1].decode())
         tally.equal(
             f"the place in the field of {text[-30:]!r}",

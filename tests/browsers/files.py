@@ -49,7 +49,7 @@ def hash_of(text: str) -> str:
 
 def is_closed(tally: Tally, page: str) -> None:
     """The policy allows the page's own script, style and worker, and nothing of a network."""
-    policy = re.search(r'http-equiv="Content-Security-Policy" content="([^"]*)"', page)[1]
+    [policy] = re.findall(r'http-equiv="Content-Security-Policy" content="([^"]*)"', page)
     rules = dict(rule.strip().split(" ", 1) for rule in policy.split(";"))
     wanted = {
         "default-src": "'none'",

@@ -13,6 +13,7 @@ import sys
 import tempfile
 import time
 from pathlib import Path
+from typing import Any
 
 sys.path.insert(0, str(Path(__file__).resolve().parent.parent))
 
@@ -58,14 +59,14 @@ class Firefox(Window):
                     raise
                 time.sleep(0.1)
 
-    def receive(self) -> object:
+    def receive(self) -> Any:
         """A message: its length, a colon and its text."""
         length = b""
         while not length.endswith(b":"):
             length += self.stream.read(1)
         return json.loads(self.stream.read(int(length[:-1])))
 
-    def command(self, name: str, words: dict) -> object:
+    def command(self, name: str, words: dict[str, object]) -> Any:
         """What Firefox answers to a command."""
         self.count += 1
         text = json.dumps([0, self.count, name, words]).encode()
@@ -79,7 +80,7 @@ class Firefox(Window):
     def open(self, address: str) -> None:
         self.command("WebDriver:Navigate", {"url": address})
 
-    def script(self, text: str) -> object:
+    def script(self, text: str) -> Any:
         return self.command("WebDriver:ExecuteScript", {"script": text, "args": []})["value"]
 
     def end(self) -> None:

@@ -124,7 +124,7 @@ def begins(tally: Tally, browser: Browser) -> None:
     browser.driver.get("about:blank")
     browser.driver.get(browser.page_without_engine + "#scramble=R")
     browser.until("return !document.getElementById('alert').hidden")
-    tally.equal("without an engine", browser.script(seen)[:1], [False])
+    tally.equal("before an answer, and without an engine", browser.script(seen)[:2], [False, False])
 
 
 def prints(tally: Tally, browser: Browser) -> None:
@@ -225,12 +225,12 @@ def shows_focus_below(tally: Tally, browser: Browser) -> None:
             else setTimeout(look, 20);
         };
         look()"""
-    for begin, press, keys in (("marks", browser.press, [Keys.TAB]), ("switch", browser.press_back, [])):
+    for begin, press in (("marks", lambda: browser.press(Keys.TAB)), ("switch", browser.press_back)):
         browser.script("document.getElementById(arguments[0]).focus()", begin)
         while browser.script("return document.activeElement.closest('#side-column') !== null"):
             tally.holds(f"the focus is in view at {browser.focused()!r}, from {begin}", browser.driver.execute_async_script(seen))
             browser.script("scrollTo(0, document.documentElement.scrollHeight)")
-            press(*keys)
+            press()
     browser.command("Emulation.setDeviceMetricsOverride", width=360, height=800, deviceScaleFactor=1, mobile=False)
 
 

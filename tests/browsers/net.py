@@ -1,7 +1,16 @@
 """The letters of a net, by where its stickers are seen."""
+from typing import TypedDict
+
 # where the faces U, R, F, D, L and B stand in a net, in blocks of three stickers from the left and from above
 BLOCKS = ((1, 0), (2, 1), (1, 1), (1, 2), (0, 1), (3, 1))
-Sticker = dict[str, float | str]
+
+
+class Sticker(TypedDict):
+    """The middle of a sticker in points of the window, and its letter."""
+
+    left: float
+    top: float
+    letter: str
 
 
 def stickers_of(side: str) -> str:
@@ -17,7 +26,8 @@ def stickers_of(side: str) -> str:
 
 def letters_of(seen: list[Sticker]) -> str:
     """The letters of these stickers, in the order of the program's letters."""
-    columns, rows = (sorted({round(sticker[at]) for sticker in seen}) for at in ("left", "top"))
+    columns = sorted({round(it["left"]) for it in seen})
+    rows = sorted({round(it["top"]) for it in seen})
     if (len(seen), len(columns), len(rows)) != (54, 12, 9):
         return f"{len(seen)} stickers in {len(columns)} columns and {len(rows)} rows"
     shown = {(columns.index(round(it["left"])), rows.index(round(it["top"]))): it["letter"] for it in seen}

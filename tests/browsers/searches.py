@@ -236,6 +236,22 @@ def stopped(tally: Tally, browser: Browser) -> None:
     tally.holds("another scramble ends a search", "Stopped" not in browser.text("best-note"))
 
 
+def narrowed(tally: Tally, browser: Browser) -> None:
+    """Where fewer are asked for, neither a row nor a word of the longer search stays, whether the shorter one was made before or not."""
+    shown = []
+    for slacks in (("0",), ("1", "0"), ("0", "1", "0")):
+        browser.open(address_of(SCRAMBLE))
+        for slack in slacks:
+            longer = browser.text("best-note")
+            browser.choose("best-slack", slack)
+            browser.wait_best()
+        tally.holds(f"all rows of {slacks}", browser.until(MORE))
+        shown.append((sorted(browser.script(ROWS)), browser.text("best-note")))
+        tally.holds("a longer search says other words", longer != shown[-1][1])
+    tally.equal("after a longer search", shown[1], shown[0])
+    tally.equal("and again after it", shown[2], shown[0])
+
+
 def long_list(tally: Tally, browser: Browser) -> None:
     """The longest list that the page offers, and a stop of it."""
     browser.open(address_of(LONGER))
@@ -329,5 +345,5 @@ def random(tally: Tally, browser: Browser) -> None:
 
 def try_all(tally: Tally, browser: Browser) -> None:
     """All of them."""
-    for part in (best, after_orientation, cases, marked, stopped, long_list, unknown, hasty, impatient, random):
+    for part in (best, after_orientation, cases, marked, stopped, narrowed, long_list, unknown, hasty, impatient, random):
         part(tally, browser)

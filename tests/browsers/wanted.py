@@ -35,6 +35,12 @@ def fault(line: str) -> str:
     return run(("unniss",), line)[1].strip()
 
 
+def fault_column(line: str) -> int:
+    """The column of that fault, a byte of the line, from 1."""
+    [column] = re.findall(r"column (\d+)", fault(line))
+    return int(column)
+
+
 def by_faces(line: str) -> str:
     """A line by its face turns alone, without the turns of the whole cube at its end."""
     return " ".join(move for move in answer("cleanup", line).split() if move[0] not in "xyz")
@@ -104,7 +110,8 @@ class Position:
     def count(self, step: str, side: str) -> tuple[int, int, int]:
         """The least length, how many solutions have it, and the looks."""
         text = run(("count", step, "20"), self.lines[side])[0]
-        return tuple(map(int, re.fullmatch(r"length (\d+) solutions (\d+) nodes (\d+)\n", text).groups()))
+        [(length, solutions, looks)] = re.findall(r"length (\d+) solutions (\d+) nodes (\d+)\n", text)
+        return int(length), int(solutions), int(looks)
 
     def open_steps(self) -> list[list[str]]:
         """The steps that may start and aren't reached: reductions, and then orientations."""

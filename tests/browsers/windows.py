@@ -31,11 +31,11 @@ def firefox(room: str) -> Window:
 
 
 BROWSERS: dict[str, Callable[[str], Window]] = {"chromium": chromium, "firefox": firefox, "webkit": webkit}
-NEEDS = {"chromium": ["chromium", "chromedriver"], "firefox": [], "webkit": ["WebKitWebDriver", "xvfb-run"]}
+NEEDS: dict[str, list[str]] = {"chromium": ["chromium", "chromedriver"], "firefox": [], "webkit": ["WebKitWebDriver", "xvfb-run"]}
 
 
 def is_here(browser: str) -> bool:
     """Whether the programs that a browser's window needs are here."""
     if browser == "firefox":
-        return any(map(shutil.which, ("firefox", "firefox-esr")))
-    return all(map(shutil.which, NEEDS[browser]))
+        return any(shutil.which(name) for name in ("firefox", "firefox-esr"))
+    return all(shutil.which(name) for name in NEEDS[browser])

@@ -9,6 +9,8 @@ import re
 import shutil
 import subprocess
 import sys
+from collections.abc import Callable
+from functools import partial
 from pathlib import Path
 
 TOP = Path(__file__).resolve().parents[2]
@@ -32,7 +34,7 @@ EXAMPLES = ("crates/eo_axes/src/main.rt", "crates/nissy/src/main.rt", "crates/ni
 WITH_EXAMPLES = ("niss_moves", "niss_cube", "niss_search", "niss_shell")
 
 
-def each(tally: Tally, page: str, kind: str, names: list, is_so) -> None:
+def each(tally: Tally, page: str, kind: str, names: list[str], is_so: Callable[[str], bool]) -> None:
     """The page has names of this kind, and each is so."""
     tally.holds(f"{page} names {kind}", names)
     for name in names:
@@ -114,7 +116,7 @@ def promises(tally: Tally, code: Code) -> None:
     page = Page(TOP, "docs/PROMISES.md")
     for kind in ("clause", "law", "record", "field"):
         named = page.quoted(rf"\b{kind}s? (`[a-z_A-Z]+`(, | and )?)+")
-        each(tally, page.name, f"a {kind}", named, lambda name, kind=kind: code.declares(kind, name))
+        each(tally, page.name, f"a {kind}", named, partial(code.declares, kind))
     carried = [cells(line)[-1] for line in page.lines if line.startswith("|")]
     for name, texts in ((page.name, carried), ("README.md", [Page(TOP, "README.md").text])):
         each(tally, name, "a clause of its function", clauses_of_functions(texts), code.clauses.__contains__)

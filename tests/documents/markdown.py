@@ -68,7 +68,7 @@ def cells(row: str) -> list[str]:
 
 def rows(lines: list[str]) -> list[list[str]]:
     """Returns the rows of the tables in these lines as cells, without heads."""
-    found = []
+    found: list[list[str]] = []
     for before, line in zip(["", *lines], lines):
         if RULE.match(line) and line.startswith("|"):
             found.pop()

@@ -79,7 +79,7 @@ def examples_of(text: str) -> list[Example]:
         elif inside == "console" and line.startswith("$ "):
             last = Example("sh", number, command=line[2:] + "\n")
             found.append(last)
-        elif inside in SHELLS or inside in SCRIPTS:
+        elif (inside in SHELLS or inside in SCRIPTS) and last:
             last.command += line + "\n"
         elif inside in ("text", "console") and last:
             last.wanted += line + "\n"
@@ -97,9 +97,17 @@ def run_by(shell: str, examples: list[Example], environment: dict[str, str]) -> 
         for place in places:
             place.write_text(NOT_REACHED)
         script.write_text("".join(f"{begin}\n{it.command}\n{end} > {place} 2>&1\n" for it, place in zip(examples, places)))
-        how = {"cwd": home, "env": environment | {"HOME": str(home)}, "stdin": subprocess.DEVNULL, "timeout": SECONDS}
         try:
-            stray = subprocess.run([shell, script], stdout=subprocess.PIPE, stderr=subprocess.STDOUT, check=False, **how).stdout
+            stray = subprocess.run(
+                [shell, script],
+                cwd=home,
+                env=environment | {"HOME": str(home)},
+                stdin=subprocess.DEVNULL,
+                stdout=subprocess.PIPE,
+                stderr=subprocess.STDOUT,
+                check=False,
+                timeout=SECONDS,
+            ).stdout
         except subprocess.TimeoutExpired as late:
             stray = late.stdout or b""
         sys.stdout.write(stray.decode(errors="replace"))

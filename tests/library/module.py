@@ -17,21 +17,17 @@ import threading
 import time
 import typing
 
-PYTHON = os.path.join(os.path.dirname(os.path.abspath(__file__)), "..", "..", "python")
-sys.path.insert(0, PYTHON)
+TOP = os.path.join(os.path.dirname(os.path.abspath(__file__)), "..", "..")
+PYTHON = os.path.join(TOP, "python")
+sys.path[:0] = [PYTHON, os.path.join(TOP, "tests")]
 
 import nissy
+from tally import Tally
 
 USAGE = b"usage: nissy COMMAND [ARGUMENTS]\n"
 TOO_LONG = b"nissy: input longer than 16777216 bytes\n"
-counts = {True: 0, False: 0}
-
-
-def holds(what, is_so):
-    """Counts what holds, and names what doesn't."""
-    counts[bool(is_so)] += 1
-    if not is_so:
-        print("not so:", what)
+tally = Tally()
+holds = tally.holds
 
 
 def raised(kind, call):
@@ -178,8 +174,7 @@ def main():
     large = (large_output,) if "large" in sys.argv[1:] else ()
     for part in (lines, runs, names, examples, rooms, threads, library) + large:
         part()
-    print("%d passed, %d failed" % (counts[True], counts[False]))
-    sys.exit(0 if counts[True] and not counts[False] else 1)
+    tally.end()
 
 
 if __name__ == "__main__":

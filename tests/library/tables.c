@@ -5,7 +5,7 @@
 #include "faults.h"
 #include "searches.h"
 
-enum { UNTOUCHED = '#', MOST = 20 };
+enum { UNTOUCHED = '#', MOST = 20, MOST_OF_LINE = 65 };
 
 static size_t room_step = 1;
 
@@ -58,6 +58,7 @@ static void solves(const nissy_tables *tables, const search_row *row) {
     for (uint64_t most = 0; most <= lines_of(row->text) + 1; most++) {
         solves_with_room(tables, row, line, most, whole);
         solves_with_room(tables, row, line, most, whole / 2);
+        solves_with_room(tables, row, line, most, most * MOST_OF_LINE);
     }
     counts(tables, row, line);
     let_go(line);

@@ -30,7 +30,7 @@ WORDS_OF_SEARCHES = {"solve": 3, "count": 3, "near": 4}
 FAULT = re.compile(rb"nissy: line (\d+)(?:, column (\d+))?: (.*)\n")
 START = " does not hold"
 SCRAMBLES = 4_000
-CALLS = (*REWRITINGS.values(), "solve", "count", "scramble", "steps")
+CALLS = (*REWRITINGS.values(), "solve", "count", "scramble", "scrambles", "steps")
 
 
 def to_base64(data):
@@ -105,9 +105,11 @@ class BesideModule(Beside):
             return
         if words[0] in REWRITINGS and len(words) == 1 or WORDS_OF_SEARCHES.get(words[0]) == len(words):
             self.compare_lines(words, data, out, err)
-        elif words[0] == "scramble" and int(words[4]) > 0:
-            numbers = [{"wide": words[1]}, {"wide": words[2]}, int(words[3])]
-            self.compare_call(words, data, "scramble", numbers, {"value": out.decode().split("\n")[0]})
+        elif words[0] == "scramble":
+            numbers, lines = [{"wide": words[1]}, {"wide": words[2]}, int(words[3])], out.decode().split("\n")[:-1]
+            self.compare_call(words, data, "scrambles", [*numbers, int(words[4])], {"value": lines})
+            if lines:
+                self.compare_call(words, data, "scramble", numbers, {"value": lines[0]})
         elif words[0] == "steps":
             self.compare_call(words, data, "steps", [], {"value": out.decode().split("\n")[:-1]})
 

@@ -4,11 +4,11 @@
 //     node tests/module/cases.mjs MODULE
 //
 // The last line is `N passed, M failed`, and the status is 1 where M isn't 0.
-import { readFileSync } from "node:fs";
 import { badEdges, caseName, isSolved, reachedBy } from "../../web/page/cases.js";
 import { Nissy } from "../../web/module/nissy.js";
 import { ORIENTATIONS, REDUCTIONS } from "../../web/page/steps.js";
 import { mergeTwins, withoutEarlier } from "../../web/page/twins.js";
+import { ended, moduleBytes, same, text } from "./tally.mjs";
 
 const LINES = 4000;
 const TURNS = [..."UDRLFB"].flatMap((face) => [face, `${face}2`, `${face}'`]);
@@ -22,24 +22,16 @@ const KNOWN = [
   ["U R2 F B R B2 R U2 L B2 R U' D' R2 F R' L B2 U2 F2", [12, 12, 12], ["0c0e", "0c0e", "0c0e"]],
 ];
 
-let passed = 0;
-let failed = 0;
+const nissy = await Nissy.load(moduleBytes);
 
 /** One thing that must be so. */
-function holds(what, so) {
-  if (so) passed += 1;
-  else failed += 1;
-  if (!so) console.log(`not so: ${what}`);
-}
-
-const nissy = await Nissy.load(readFileSync(process.argv[2]));
-const text = new TextDecoder();
+const holds = (what, so) => same(what, Boolean(so), true);
 
 /** One answer of the engine for each line. */
 function answers(words, lines) {
   const { status, out, err } = nissy.run(words, lines.map((line) => `${line}\n`).join(""));
-  if (status !== 0) throw new Error(text.decode(err));
-  return text.decode(out).split("\n").slice(0, lines.length);
+  if (status !== 0) throw new Error(text(err));
+  return text(out).split("\n").slice(0, lines.length);
 }
 
 let state = 20261126;
@@ -109,7 +101,7 @@ function tryDrawn() {
 /** The solutions of a step that are up to a move longer. */
 function solutionsOf(step, line) {
   const { out } = nissy.run(["near", step, "20", "1"], `${line}\n`);
-  const rows = text.decode(out).split("\n").filter((row) => row.endsWith(")"));
+  const rows = text(out).split("\n").filter((row) => row.endsWith(")"));
   return rows.map((row) => ({ moves: row.slice(0, row.lastIndexOf("(")).trim(), length: Number(/\d+/.exec(row.slice(row.lastIndexOf("(")))) }));
 }
 
@@ -149,5 +141,4 @@ for (const line of [SCRAMBLE, answers(["invert"], [SCRAMBLE])[0], "R' U' F D2 L2
   for (const { name } of ORIENTATIONS) tryTwins(name, line);
 }
 tryTwins("drud-eofb", "R2 L D' U R L' D");
-console.log(`${passed} passed, ${failed} failed`);
-process.exitCode = failed ? 1 : 0;
+ended();

@@ -30,7 +30,7 @@ export async function thrown(call) {
 /** The last line of a trial, and its status. */
 export function ended() {
   console.log(`${passed} passed, ${failed} failed`);
-  process.exitCode = failed ? 1 : 0;
+  process.exitCode = passed > 0 && failed === 0 ? 0 : 1;
 }
 
 export const text = (bytes) => new TextDecoder().decode(bytes);

@@ -12,7 +12,7 @@ import { Engine } from "./engine.js";
  * What messages come from and go to: a worker itself, or its port in node.
  * @typedef {object} Port
  * @property {(type: "message", listener: (event: {data: any}) => void) => void} addEventListener
- * @property {(message: Answered | Unanswered, handedOver: any[]) => void} postMessage
+ * @property {(message: any, handedOver?: any[]) => void} postMessage
  */
 
 /**
@@ -22,26 +22,38 @@ import { Engine } from "./engine.js";
 const buffersOf = (reply) => ["out", "err"].flatMap((name) => /** @type {any} */ (reply)[name]?.buffer ?? []);
 
 /**
- * Answers what comes through a port.
+ * Answers what comes through a port, once the first message has brought the module.
+ * @template Started
+ * @param {Port} port
+ * @param {(module: any) => Promise<Started>} start
+ * @param {(started: Started, question: any) => void} answer posts the answers to a later message; what it throws is posted as an error
+ */
+export function serveBy(port, start, answer) {
+  /** @type {Promise<Started> | null} */
+  let starting = null;
+  port.addEventListener("message", async ({ data }) => {
+    if (starting === null) {
+      starting = start(data.module);
+      // each question says so
+      starting.catch(() => {});
+      return;
+    }
+    try {
+      answer(await starting, data);
+    } catch (error) {
+      const { name, message } = /** @type {Error} */ (error);
+      port.postMessage({ id: data.id, error: { name: String(name), message: String(message) } });
+    }
+  });
+}
+
+/**
+ * Has an engine answer what comes through a port.
  * @param {Port} port
  */
 export function serve(port) {
-  /** @type {Promise<Engine> | null} */
-  let engine = null;
-  port.addEventListener("message", async ({ data }) => {
-    if (engine === null) {
-      engine = Engine.start(data.module);
-      // each question says so
-      engine.catch(() => {});
-      return;
-    }
-    const { id, request } = data;
-    try {
-      const reply = (await engine).answer(request);
-      port.postMessage({ id, reply }, buffersOf(reply));
-    } catch (error) {
-      const { name, message } = /** @type {Error} */ (error);
-      port.postMessage({ id, error: { name: String(name), message: String(message) } }, []);
-    }
+  serveBy(port, (module) => Engine.start(module), (engine, /** @type {Question} */ { id, request }) => {
+    const reply = engine.answer(request);
+    port.postMessage({ id, reply }, buffersOf(reply));
   });
 }

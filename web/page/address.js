@@ -2,7 +2,7 @@
 // each piece becomes a part of the state, or is left out and named.
 import { SIDES, stepNamed } from "./steps.js";
 
-/** @typedef {import("./parts.js").Part} Part */
+/** @typedef {import("./steps.js").Part} Part */
 /** @typedef {{step: string, side: import("./steps.js").Side, slack: number, isAll: boolean}} List */
 /** @typedef {{parts: Part[], note: string}} Candidate */
 /** @typedef {{scramble: string, parts: Part[], side: import("./steps.js").Side, list: List | null, kept: Candidate[]}} State */

@@ -1,16 +1,15 @@
 // The card of the best continuations: looked for by themselves, with progress, a way to stop, filters, and rows that go on.
 import { Stopped } from "./calls.js";
-import { sizeOf } from "./cases.js";
-import { byCase, byTotal, findContinuations } from "./continuations.js";
-import { announce, counted, element, part, setBusy, spoken, tell } from "./element.js";
-import { bracketed } from "./parts.js";
-import { roveWithin } from "./roving.js";
-import { SIDES, isReduced } from "./steps.js";
+import { announce, counted, element, part, setBusy, tell } from "./element.js";
+import { CaseFilter } from "./filter.js";
+import { byCase, byTotal, findContinuations } from "./finder.js";
+import { focusButton, focusWithin, roveWithin, starButton, takeButton } from "./rows.js";
+import { SIDES, bracketed, isReduced } from "./steps.js";
 import { isNarrow } from "./view.js";
 
-/** @typedef {import("./continuations.js").Row} Row */
-/** @typedef {import("./continuations.js").Question} Question */
-/** @typedef {import("./parts.js").Part} Part */
+/** @typedef {import("./finder.js").Row} Row */
+/** @typedef {import("./finder.js").Question} Question */
+/** @typedef {import("./steps.js").Part} Part */
 
 const LOOKING_FOR_BEST = "Looking for the best …";
 /** How many rows are shown at first: where the page is narrow fewer, so that the table below them is seen. */
@@ -33,6 +32,7 @@ function cell(name, attributes, ...children) {
 export class BestContinuations {
     #finders;
     #acts;
+    #cases;
     #question = null;
     #progress = null;
     #found = new Map();
@@ -47,21 +47,17 @@ export class BestContinuations {
     constructor(finders, acts) {
         this.#finders = finders;
         this.#acts = acts;
-        roveWithin(this.#body, ".take");
+        roveWithin(this.#body);
         part("best-stop").addEventListener("click", () => this.#stop());
         for (const name of ["best-slack", "best-all"]) part(name).addEventListener("change", () => this.#ask());
-        for (const name of ["best-corners", "best-edges", "best-axis", "best-sort"]) {
-            part(name).addEventListener("change", () => {
-                this.#shown = shownFirst();
-                this.#draw();
-            });
-        }
+        this.#cases = new CaseFilter("best", () => this.#filtered());
+        for (const name of ["best-axis", "best-sort"]) part(name).addEventListener("change", () => this.#filtered());
         part("best-more").addEventListener("click", () => this.#more());
     }
 
     /**
      * Takes another cube, or none, and looks for the best of it.
-     * @param {{now: import("./parts.js").Lines, parts: import("./parts.js").Part[], reached: string[]} | null} cube
+     * @param {{now: import("./steps.js").Lines, parts: import("./steps.js").Part[], reached: string[]} | null} cube
      */
     reset(cube) {
         this.#stop();
@@ -90,6 +86,12 @@ export class BestContinuations {
 
     /** Shows the stars as they are. */
     mark() {
+        this.#draw();
+    }
+
+    /** Shows what the filters leave, from its beginning. */
+    #filtered() {
+        this.#shown = shownFirst();
         this.#draw();
     }
 
@@ -176,13 +178,9 @@ export class BestContinuations {
 
     /** The rows that the filters leave, in their order. */
     #rows() {
-        const most = { corners: Number(part("best-corners").value), edges: Number(part("best-edges").value) };
         const axis = part("best-axis").value;
-        const isLeft = ({ next, state }) => {
-            if (next === null) return true;
-            const size = sizeOf(next.case);
-            return size.corners <= most.corners && size.edges <= most.edges && (axis === "" || state === axis);
-        };
+        const hasCase = this.#cases.test() ?? (() => true);
+        const isLeft = ({ next, state }) => next === null || (hasCase(next.case) && (axis === "" || state === axis));
         const rows = (this.#progress?.rows ?? []).filter(isLeft);
         if (part("best-sort").value === "case") rows.sort((one, other) => byCase(one, other) || byTotal(one, other));
         return rows;
@@ -210,12 +208,14 @@ export class BestContinuations {
 
     /** Shows the rows in place of the last ones; the same row keeps the focus, if it is there. @param {HTMLElement[]} rows */
     #showRows(rows) {
-        const focused = this.#body.contains(document.activeElement) ? document.activeElement.dataset.key : null;
+        const focused = focusWithin(this.#body);
         this.#body.replaceChildren(...rows);
         const buttons = [...this.#body.querySelectorAll(".take")];
         buttons[0]?.setAttribute("tabindex", "0");
         if (focused === null) return;
-        (buttons.find(({ dataset }) => dataset.key === focused) ?? buttons[0] ?? part("best-slack")).focus({ preventScroll: true });
+        const same = buttons.find(({ dataset }) => dataset.key === focused.key);
+        if (same) focusButton(same, focused.place);
+        else (buttons[0] ?? part("best-slack")).focus({ preventScroll: true });
     }
 
     /** @param {Row} row */
@@ -224,25 +224,10 @@ export class BestContinuations {
         const line = added.moves === "" ? "no moves" : bracketed([added]);
         const isSeen = this.#acts.isSeen(added, next?.step);
         const all = Number.isFinite(total) ? String(total) : "–";
-        const take = element("button", {
-            type: "button",
-            class: isSeen ? "take moves seen" : "take moves",
-            tabindex: -1,
-            "data-key": key,
-            "aria-label": `${spoken(line)}${isSeen ? ", seen" : ""}`,
-            click: () => this.#acts.goOn(row),
-        }, line);
+        const take = takeButton(line, { key, isSeen }, () => this.#acts.goOn(row));
         const either = others.length === 1 ? others[0] : `${others.length} twins`;
         const twin = others.length === 0 ? [] : [element("small", { class: "twins" }, ` or ${either}`)];
-        const starred = this.#acts.isStarred(added);
-        const star = element("button", {
-            type: "button",
-            class: "star",
-            tabindex: -1,
-            "aria-pressed": String(starred),
-            "aria-label": `Keep ${spoken(line)}`,
-            click: () => this.#acts.star(added),
-        }, starred ? "★" : "☆");
+        const star = starButton(line, this.#acts.isStarred(added), () => this.#acts.star(added));
         const cells = [cell("th", {}, all), cell("td", {}, take, ...twin), cell("td", { class: "axis" }, state)];
         if (next) {
             cells.push(cell("td", { class: "axis" }, next.marks, " ", element("span", { class: "case" }, next.case)));
@@ -251,7 +236,7 @@ export class BestContinuations {
         return element("tr", { role: "row", "data-marks": next ? next.marks : state }, ...cells, cell("td", {}, star));
     }
 
-    /** @param {import("./continuations.js").Next} next @param {import("./steps.js").Side} side */
+    /** @param {import("./finder.js").Next} next @param {import("./steps.js").Side} side */
     #length({ lengths, side: best }, side) {
         const isBest = lengths[side] !== null && lengths[side] === lengths[best];
         const about = { class: isBest ? "best number" : "number", "data-side": side === "normal" ? "N" : "I" };

@@ -1,9 +1,8 @@
 // The card of the cube: the nets of both sides, the pieces that are marked on them, how they are held, and moves that are played on them.
 import { badEdges, caseOf, pieceName } from "./cases.js";
 import { announce, element, part } from "./element.js";
-import { emptyNet, showCube } from "./net.js";
+import { emptyNet, plainView, showCube, turnedView } from "./net.js";
 import { SIDES } from "./steps.js";
-import { plainView, turnedView } from "./viewpoint.js";
 
 /** @typedef {import("./steps.js").Side} Side */
 

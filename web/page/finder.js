@@ -1,14 +1,73 @@
-// What looks for the best of one axis: a worker of its own with the engine in it, which the first search starts and a stop ends.
+// Finds the best continuations: on each axis by a worker of its own with the engine in it, which the first search starts and a stop ends.
+// What they find is one list, sorted by all moves, those made counted too.
 import { EngineMissing, Stopped } from "../module/faults.js";
+import { listenedTo } from "../module/worker-calls.js";
+import { ORIENTATIONS } from "./steps.js";
 
-/** @typedef {import("./continuations.js").Found} Found */
-/** @typedef {import("./continuations.js").Question} Question */
+/** @typedef {import("./steps.js").Part} Part */
+/** @typedef {import("./steps.js").Side} Side */
+
+/**
+ * @typedef {{step: string, marks: string, side: Side, case: string, far: number, lengths: Record<Side, number | null>}} Next
+ * the reduction that follows
+ */
+/**
+ * @typedef {{total: number, part: Part, length: number, state: string, next: Next | null, others: string[], key: string}} Row
+ * `total`: moves in all; `state`: what the part reaches; `others`: the last turns of those that differ in these alone
+ */
+/** @typedef {{now: import("./steps.js").Lines, parts: Part[], reached: string[], slack: number, isAll: boolean}} Question */
+/** @typedef {{done: number, all: number | null, rows: Row[], isCut: boolean}} Found `all`: null where it isn't known yet; new rows alone */
+/** @typedef {{done: number, all: number | null, rows: Row[], isCut: boolean}} Progress */
+
+/** How many rows are kept. */
+export const MOST_KEPT = 10000;
+
+/** @param {Row} one @param {Row} other */
+export const byTotal = (one, other) => one.total - other.total || one.length - other.length || byCase(one, other);
+
+/** How far the case of a row is. @param {Row} row */
+const farness = ({ next }) => (next === null ? 0 : next.far);
+
+/** @param {Row} one @param {Row} other */
+export const byCase = (one, other) => farness(one) - farness(other);
+
+/** Puts new rows among sorted ones. @param {Row[]} rows @param {Row[]} added @returns {Row[]} */
+function withRows(rows, added) {
+    if (added.length === 0) return rows;
+    // where two orientations hold, a reduction may follow each of them
+    const known = added[0].next === null ? new Set(rows.map(({ key }) => key)) : new Set();
+    return [...rows, ...added.filter(({ key }) => !known.has(key))].sort(byTotal);
+}
+
+/**
+ * Finds the best, and tells of its progress whenever there is more.
+ * @param {import("./finder.js").Finder[]} finders one an axis @param {Question} question @param {(progress: Progress) => void} tellProgress
+ */
+export async function findContinuations(finders, question, tellProgress) {
+    const held = ORIENTATIONS.filter(({ name }) => question.reached.includes(name));
+    const asked = held.length > 0 ? held : ORIENTATIONS;
+    const counts = asked.map(() => ({ done: 0, all: null }));
+    let [rows, isCut] = [[], false];
+    const tell = () => {
+        const done = counts.reduce((sum, each) => sum + each.done, 0);
+        const all = counts.some((each) => each.all === null) ? null : counts.reduce((sum, each) => sum + each.all, 0);
+        tellProgress({ done, all, rows, isCut });
+    };
+    await Promise.all(asked.map((step, at) => finders[ORIENTATIONS.indexOf(step)].find(step.name, question, (found) => {
+        counts[at] = found;
+        rows = withRows(rows, found.rows);
+        isCut ||= found.isCut || rows.length > MOST_KEPT;
+        rows.length = Math.min(rows.length, MOST_KEPT);
+        tell();
+    })));
+}
+
 /** @typedef {{id: number, told: (found: Found) => void, ended: () => void, refused: (fault: Error) => void}} Running */
 
 export class Finder {
     #newWorker;
     #module;
-    /** @type {Worker | null} */
+    /** @type {import("../module/worker-calls.js").Sent | null} */
     #worker = null;
     /** @type {Running | null} */
     #running = null;
@@ -16,7 +75,7 @@ export class Finder {
 
     /** @param {(name: string) => Worker} newWorker @param {import("../module/worker-calls.js").SentModule} module */
     constructor(newWorker, module) {
-        this.#newWorker = newWorker;
+        this.#newWorker = listenedTo(() => newWorker("finder"));
         this.#module = module;
     }
 
@@ -35,7 +94,7 @@ export class Finder {
 
     /** Has the tables of some steps built before they are needed. @param {string[]} steps */
     ready(steps) {
-        if (this.#running === null) this.#send({ steps });
+        if (this.#running === null) this.#send({ id: this.#next++, steps });
     }
 
     /** Gives a search up. */
@@ -53,13 +112,9 @@ export class Finder {
     }
 
     #started() {
-        const worker = this.#newWorker("finder");
         const isThisOne = () => worker === this.#worker;
-        worker.addEventListener("message", ({ data }) => isThisOne() && this.#take(data));
-        worker.addEventListener("error", (event) => {
-            event.preventDefault();
-            if (isThisOne()) this.#end(new EngineMissing(event.message || "the engine could not be started"));
-        });
+        const took = (data) => isThisOne() && this.#take(data);
+        const worker = this.#newWorker(took, (message) => isThisOne() && this.#end(new EngineMissing(message)));
         worker.postMessage({ module: this.#module });
         return worker;
     }
@@ -69,7 +124,7 @@ export class Finder {
         if (running?.id !== data.id) return;
         if (data.found) return running.told(data.found);
         this.#running = null;
-        if ("fault" in data) running.refused(new EngineMissing(data.fault));
+        if ("error" in data) running.refused(new EngineMissing(data.error.message));
         else running.ended();
     }
 

@@ -1,14 +1,12 @@
 // The card of the candidates that are kept: each with its moves, what it reaches, its case and a note; gone on with, taken away, or copied.
 import { LONGEST_NOTE } from "./address.js";
 import { caseName } from "./cases.js";
-import { copy } from "./copying.js";
+import { copy, fmcOfAll } from "./copying.js";
 import { counted, element, part, spoken, tell } from "./element.js";
-import { fmcOfAll } from "./fmc.js";
-import { bracketed } from "./parts.js";
-import { ORIENTATIONS, isReduced, reductionsAfter, statesOf } from "./steps.js";
+import { ORIENTATIONS, bracketed, isReduced, reductionsAfter, statesOf } from "./steps.js";
 
 /** @typedef {import("./address.js").Candidate} Candidate */
-/** @typedef {import("./parts.js").Part} Part */
+/** @typedef {import("./steps.js").Part} Part */
 /** @typedef {import("./position.js").Walk} Walk */
 
 /** What a candidate is known by. @param {Part[]} parts */

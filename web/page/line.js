@@ -1,17 +1,15 @@
 // The card of the line so far: the steps that were taken, each of which may be edited or taken away, undo, moves by hand, the switch of
 // sides, and the whole to copy.
 import { isSolved } from "./cases.js";
-import { copy } from "./copying.js";
+import { copy, fmcOf } from "./copying.js";
 import { announce, counted, element, part, spoken, tell } from "./element.js";
-import { showFault } from "./fault.js";
-import { fmcOf } from "./fmc.js";
 import { readByHand } from "./lines.js";
-import { bracketed } from "./parts.js";
 import { plainLine } from "./pasted.js";
 import { newlyReached } from "./position.js";
-import { isReduced, otherSide, statesOf } from "./steps.js";
+import { bracketed, isReduced, otherSide, statesOf } from "./steps.js";
+import { showFault } from "./words.js";
 
-/** @typedef {import("./parts.js").Part} Part */
+/** @typedef {import("./steps.js").Part} Part */
 /** @typedef {import("./position.js").Walk} Walk */
 /** @typedef {import("./steps.js").Side} Side */
 
@@ -169,6 +167,7 @@ export class LineSoFar {
         }, field, element("button", { type: "submit" }, "Change"), element("button", { type: "button", click: leave }, "Leave"));
         item.replaceChildren(form, fault);
         field.focus();
+        field.setSelectionRange(text.length, text.length);
     }
 
     #undo(parts) {

@@ -1,12 +1,11 @@
 // How lines are read: as the engine writes them, and by face turns alone where they turn the whole cube. The engine pushes such turns to
 // the end of a line; there they are left out, so that each letter names the same face in all that follows.
-import { EngineFault } from "./answers.js";
-import { cleanAll, joinAll } from "./engine.js";
-import { bracketed } from "./parts.js";
+import { EngineFault, cleanAll, joinAll } from "./engine.js";
 import { plainLine } from "./pasted.js";
+import { bracketed } from "./steps.js";
 
 /** @typedef {import("./calls.js").Calls} Calls */
-/** @typedef {import("./parts.js").Part} Part */
+/** @typedef {import("./steps.js").Part} Part */
 /** @typedef {import("./steps.js").Side} Side */
 
 export const MOST_MOVES = 256;

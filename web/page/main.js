@@ -3,9 +3,8 @@ import { compiled } from "../module/source.js";
 import { Calls, workersOf } from "./calls.js";
 import { part } from "./element.js";
 import { Finder } from "./finder.js";
-import { placeHelp } from "./help.js";
 import { Page } from "./page.js";
-import { offerThemes } from "./theme.js";
+import { offerThemes, placeHelp } from "./view.js";
 
 const newWorker = workersOf(part("worker-script").textContent);
 const signs = atob(part("engine-module").textContent.trim());

@@ -1,5 +1,5 @@
 // Draws a cube as a net: U above, then L, F, R and B, and D below, as SVG. Each sticker has its colour and its letter, and where pieces are
-// marked a ring and a dot, or a grey.
+// marked a ring and a dot, or a grey. The view may be turned by y and x, which changes no letter and no move.
 
 const SVG = "http://www.w3.org/2000/svg";
 const PITCH = 10;
@@ -62,8 +62,44 @@ export function showCube(net, letters, title, { places, view }) {
     net.setAttribute("aria-label", `${title}; ${inWords(seen)}`);
     net.classList.toggle("marked", places !== null);
     net.querySelectorAll(".sticker").forEach((sticker, at) => {
-        sticker.setAttribute("data-colour", seen[at]);
         sticker.classList.toggle("bad", places !== null && places.has(view[at]));
+        // a text that is put in again is laid out again
+        if (sticker.dataset.colour === seen[at]) return;
+        sticker.dataset.colour = seen[at];
         sticker.querySelector("text").textContent = seen[at];
     });
+}
+
+const PLACES = Array.from({ length: 54 }, (_, place) => place);
+
+/** Where the sticker of a place is, in space: U is up, R is right, F is towards the eye. @param {number} place */
+function pointOf(place) {
+    const [row, column] = [Math.floor((place % 9) / 3), place % 3];
+    const points = [
+        [column - 1, 2, row - 1],
+        [2, 1 - row, 1 - column],
+        [column - 1, 1 - row, 2],
+        [column - 1, -2, 1 - row],
+        [-2, 1 - row, column - 1],
+        [1 - column, 1 - row, -2],
+    ];
+    return points[Math.floor(place / 9)];
+}
+
+/** Where each turn of the whole cube takes a point. */
+const TURNS_OF_VIEW = {
+    y: ([across, up, near]) => [-near, up, across],
+    x: ([across, up, near]) => [across, near, -up],
+};
+
+/** Which place is seen at each of the net, where nothing is turned. */
+export const plainView = () => [...PLACES];
+
+/** @param {number[]} view @param {"x" | "y"} turn */
+export function turnedView(view, turn) {
+    const nameOfPoint = (point) => point.join();
+    const places = new Map(PLACES.map((place) => [nameOfPoint(pointOf(place)), place]));
+    const turned = [];
+    for (const place of PLACES) turned[places.get(nameOfPoint(TURNS_OF_VIEW[turn](pointOf(place))))] = view[place];
+    return turned;
 }

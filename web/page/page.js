@@ -1,32 +1,30 @@
 // The page's state, and what each change of it makes the parts of the page show.
 import { LONGEST_NOTE, MOST_CANDIDATES, addressOf, emptyState, fitsAddress, readAddress } from "./address.js";
-import { EngineFault } from "./answers.js";
 import { BestContinuations } from "./best.js";
-import { EngineMissing, Stopped } from "./calls.js";
+import { EngineMissing, Readiness, Stopped } from "./calls.js";
 import { copy } from "./copying.js";
 import { Cube } from "./cube.js";
 import { announce, announceLater, part, setBusy, spoken, tell } from "./element.js";
+import { EngineFault } from "./engine.js";
 import { KeptCandidates, withStar } from "./kept.js";
-import { listenToKeys, star } from "./keys.js";
 import { LineSoFar } from "./line.js";
 import { readAllByHand, readScramble, readSteps } from "./lines.js";
-import { OpenList } from "./open_list.js";
-import { bracketed } from "./parts.js";
 import { plainLine } from "./pasted.js";
-import { dropAddress, goTo, keepPlace, placeIn, writeAddress } from "./places.js";
+import { Seen, dropAddress, goTo, keepPlace, placeIn, writeAddress } from "./places.js";
 import { examine, framesOf, offersOf, walkAll } from "./position.js";
-import { Readiness } from "./readiness.js";
 import { ScrambleField } from "./scramble.js";
-import { Seen } from "./seen.js";
-import { SolutionList } from "./solutions.js";
-import { ORIENTATIONS, isReduced, stateOf, stepNamed } from "./steps.js";
+import { OpenList, SolutionList } from "./solutions.js";
+import { ORIENTATIONS, bracketed, isReduced, stateOf, stepNamed } from "./steps.js";
 import { StepTable } from "./table.js";
-import { keepInView, setUsable, showStart } from "./view.js";
+import { keepInView, listenToKeys, setUsable, showStart, star } from "./view.js";
 import { NO_ROOM, titleOfPage, unanswered, whyNotListed } from "./words.js";
 
 /** @typedef {import("./address.js").State} State */
-/** @typedef {import("./parts.js").Part} Part */
+/** @typedef {import("./steps.js").Part} Part */
 /** @typedef {import("./steps.js").Side} Side */
+
+/** Whether nothing was done yet. @param {State} state */
+const isBare = ({ scramble, parts }) => scramble.trim() === "" && parts.length === 0;
 
 export class Page {
     /** @type {State} */
@@ -110,6 +108,7 @@ export class Page {
         dropAddress();
         setBusy("results", true);
         tell(part("alert"), fault);
+        part("welcome").hidden = !isBare(state);
         try {
             state.parts = await readSteps(this.#calls, state.parts);
         } catch (stop) {
@@ -228,7 +227,7 @@ export class Page {
         }
         if (turn !== this.#turn) return null;
         this.#scramble.judge(fault, read);
-        part("welcome").hidden = this.#state.scramble.trim() !== "" || this.#state.parts.length > 0;
+        part("welcome").hidden = !isBare(this.#state);
         if (fault) setUsable(false);
         return read;
     }
@@ -243,8 +242,7 @@ export class Page {
         this.#nets.show(letters, count, () => framesOf(this.#byHand, scramble, parts));
         this.#line.describe(walk, whole, written);
         setUsable(true);
-        const isBare = this.#state.scramble.trim() === "" && parts.length === 0;
-        part("choices").hidden = isBare;
+        part("choices").hidden = isBare(this.#state);
         this.#checkList(reached);
         this.#table.begin(this.#cube);
         this.#showKept();
@@ -280,11 +278,10 @@ export class Page {
     #showAnswered() {
         this.#showList();
         const isFinished = isReduced(this.#cube.reached) && this.#state.parts.length > 0;
-        const isBare = part("choices").hidden;
         // a list that is looked for takes the focus itself, and says what it has
         if (this.#focusNext?.to === "list") return;
         if (this.#isFocusNext("table")) this.#showTaken(isFinished);
-        else if (!isBare) announceLater(this.#table.summary());
+        else if (!isBare(this.#state)) announceLater(this.#table.summary());
         this.#table.giveBack();
         this.#goBack();
     }
@@ -380,7 +377,7 @@ export class Page {
         announce(`${spoken(bracketed([taken]))} is taken.`);
     }
 
-    /** Takes a row of the best, and opens the list of the reduction that follows. @param {import("./continuations.js").Row} row */
+    /** Takes a row of the best, and opens the list of the reduction that follows. @param {import("./finder.js").Row} row */
     #goOn({ part: taken, next }) {
         if (!next) return this.#take(taken);
         const { scramble, parts } = this.#state;

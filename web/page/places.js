@@ -1,6 +1,8 @@
 // Where one was: with each entry of the browser's history that is left, what had the focus there and how far the page was scrolled is kept,
-// so that Back leads to the same place.
+// so that Back leads to the same place; and the lines that were taken in this session, which lists and the best mark.
+import { bracketed } from "./steps.js";
 
+/** @typedef {import("./steps.js").Part} Part */
 /** @typedef {{key: string, scroll: number}} Place */
 
 /** A place that came out of the history, or null. @param {unknown} state @returns {Place | null} */
@@ -47,4 +49,21 @@ export function writeAddress(address, isStep) {
 export function goTo({ scroll }, found) {
     found?.focus({ preventScroll: true });
     scrollTo({ top: scroll, behavior: "instant" });
+}
+
+/** @param {string} scramble @param {Part[]} parts @param {string} next the step that was gone on to, or "" */
+const nameOfSeen = (scramble, parts, next) => JSON.stringify([scramble, bracketed(parts), next]);
+
+export class Seen {
+    #names = new Set();
+
+    /** Keeps that a line was taken, and with which step after it. @param {string} scramble @param {Part[]} parts @param {string} [next] */
+    add(scramble, parts, next = "") {
+        for (const step of new Set(["", next])) this.#names.add(nameOfSeen(scramble, parts, step));
+    }
+
+    /** @param {string} scramble @param {Part[]} parts @param {string} [next] */
+    has(scramble, parts, next = "") {
+        return this.#names.has(nameOfSeen(scramble, parts, next));
+    }
 }

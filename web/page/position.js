@@ -1,14 +1,13 @@
 // What the engine says of a scramble and the moves after it: the cube after each step, its letters, what is reached, and which steps may
 // follow.
-import { caseName, badEdges, reachedBy } from "./cases.js";
+import { badEdges, caseName, reachedBy } from "./cases.js";
 import { countAll, invertAll, joinAll, printAll, turnsOfAll } from "./engine.js";
-import { bracketed, joined, movesOn } from "./parts.js";
-import { openSteps, statesOf } from "./steps.js";
+import { bracketed, joined, movesOn, openSteps, statesOf } from "./steps.js";
 
 /** @typedef {import("./steps.js").Side} Side */
-/** @typedef {import("./parts.js").Part} Part */
-/** @typedef {import("./parts.js").Lines} Lines */
-/** @typedef {import("./answers.js").Count} Count */
+/** @typedef {import("./steps.js").Part} Part */
+/** @typedef {import("./steps.js").Lines} Lines */
+/** @typedef {import("./engine.js").Count} Count */
 /** @typedef {{step: import("./steps.js").OfferedStep, normal: Count, inverse: Count}} Offer */
 /**
  * What is known of a line after each beginning, from none of its parts to all.

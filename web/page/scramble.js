@@ -1,11 +1,10 @@
 // The card of the scramble: its field, with what was left out of a text and what is at fault, examples, random scrambles from a seed, and
 // the fold of it where the page is narrow.
-import { EngineFault } from "./answers.js";
 import { LONGEST_SCRAMBLE } from "./address.js";
 import { announce, element, part, tell } from "./element.js";
-import { scrambleOf } from "./engine.js";
-import { placeOfFault, showFault } from "./fault.js";
+import { EngineFault, scrambleOf } from "./engine.js";
 import { plainLine, readFmc } from "./pasted.js";
+import { placeOfFault, showFault } from "./words.js";
 
 /** @typedef {{scramble: string, steps: string[], candidates: {steps: string[], note: string}[]}} Fmc */
 

@@ -1,15 +1,14 @@
 // The search for the best continuations of one axis, as a worker makes it: before an orientation each orientation on both sides, with each
 // reduction that may follow it; after one its shortest reductions. It has the engine at hand, so that nothing is sent but the rows.
 import { caseSize, farnessOf, nameOfCase } from "./cases.js";
-import { bracketed } from "./parts.js";
-import { SIDES, otherSide, reductionsAfter, stateOf, stepNamed } from "./steps.js";
+import { SIDES, bracketed, otherSide, reductionsAfter, stateOf, stepNamed } from "./steps.js";
 import { lastTurnsOf, mergeTwins, twinKey, withoutEarlier } from "./twins.js";
 
 /** @typedef {import("../module/nissy.js").Nissy} Nissy */
-/** @typedef {import("./continuations.js").Found} Found */
-/** @typedef {import("./continuations.js").Question} Question */
-/** @typedef {import("./continuations.js").Row} Row */
-/** @typedef {import("./parts.js").Part} Part */
+/** @typedef {import("./finder.js").Found} Found */
+/** @typedef {import("./finder.js").Question} Question */
+/** @typedef {import("./finder.js").Row} Row */
+/** @typedef {import("./steps.js").Part} Part */
 /** @typedef {Part & {length: number}} Sided a solution on its side */
 
 /** How many orientations, twins as one, are tried before rows are told: few at first, so that some are there soon. */

@@ -1,15 +1,17 @@
-// The list of a step's solutions: grouped by length or by case, filtered by turns and by case, and cut where it is long.
+// The list of a step's solutions: grouped by length or by case, filtered by turns and by case, and cut where it is long; and its engine: a
+// list that is looked for gives way to another one, and can be stopped.
+import { Stopped } from "./calls.js";
 import { caseName, farnessOf, sizeOf } from "./cases.js";
 import { announce, announceLater, counted, element, part, setBusy, spoken, tell } from "./element.js";
-import { hasTurns, lastTurn, turnsOf } from "./filter.js";
-import { bracketed } from "./parts.js";
-import { roveWithin } from "./roving.js";
-import { reductionsAfter, stateOf, stepNamed, titleOf } from "./steps.js";
+import { printAll, solve } from "./engine.js";
+import { ListFilter } from "./filter.js";
+import { focusButton, focusWithin, roveWithin, starButton, takeButton } from "./rows.js";
+import { bracketed, reductionsAfter, stateOf, stepNamed, titleOf } from "./steps.js";
 import { mergeTwins, withoutEarlier } from "./twins.js";
 import { isNarrow } from "./view.js";
 
 /** @typedef {import("./address.js").List} List */
-/** @typedef {import("./parts.js").Part} Part */
+/** @typedef {import("./steps.js").Part} Part */
 /** @typedef {import("./twins.js").Twins & {letters?: string}} Entry a solution, and the letters after it where they are known */
 
 /** From more signs on a line leaves no room for what is pressed beside it on a phone. */
@@ -40,7 +42,7 @@ export class SolutionList {
     #whole = true;
     #ordered = [];
     #shown = MOST_SHOWN;
-    #filter = part("filter");
+    #filter = new ListFilter(() => this.#filtered(), () => this.#typed());
     #groups = part("solutions-groups");
 
     /**
@@ -49,15 +51,12 @@ export class SolutionList {
      */
     constructor(acts) {
         this.#acts = acts;
-        this.#filter.addEventListener("input", () => this.#typed());
         part("slack").addEventListener("change", (event) => acts.change({ slack: Number(event.target.value) }));
         part("twins").addEventListener("change", (event) => acts.change({ isAll: event.target.checked }));
         part("solutions-close").addEventListener("click", () => acts.change(null));
-        for (const name of ["last-turn", "most-corners", "most-edges", "list-sort"]) {
-            part(name).addEventListener("change", () => this.#filtered());
-        }
+        part("list-sort").addEventListener("change", () => this.#filtered());
         part("solutions-more").addEventListener("click", () => this.#more());
-        roveWithin(this.#groups, ".take");
+        roveWithin(this.#groups);
         // so that rows are seen below them
         part("list-filters").open = !isNarrow();
     }
@@ -86,7 +85,7 @@ export class SolutionList {
 
     /**
      * Takes the solutions of the open list, and returns those whose letters are wanted.
-     * @param {import("./answers.js").Solution[]} all @param {boolean} whole
+     * @param {import("./engine.js").Solution[]} all @param {boolean} whole
      */
     take(all, whole) {
         this.#all = all;
@@ -102,7 +101,7 @@ export class SolutionList {
         letters.forEach((each, at) => {
             this.#entries[at].letters = each;
         });
-        this.#offerLastTurns();
+        this.#filter.offerLastTurns(this.#entries);
         this.#setWorking(false);
         this.#draw();
     }
@@ -145,10 +144,8 @@ export class SolutionList {
     }
 
     #clearFilters() {
-        this.#filter.value = "";
-        for (const name of ["last-turn", "list-sort"]) part(name).value = "";
-        part("most-corners").value = "8";
-        part("most-edges").value = "4";
+        this.#filter.clear();
+        part("list-sort").value = "";
     }
 
     #setWorking(isWorking) {
@@ -157,14 +154,6 @@ export class SolutionList {
         if (!isWorking && document.activeElement === stop) part("solutions-heading").focus();
         stop.hidden = !isWorking;
         setBusy("solutions", isWorking, LOOKING);
-    }
-
-    #offerLastTurns() {
-        const field = part("last-turn");
-        const chosen = field.value;
-        const turns = [...new Set(this.#entries.map(({ moves }) => lastTurn(moves)).filter(Boolean))].sort();
-        field.replaceChildren(element("option", { value: "" }, "any"), ...turns.map((turn) => element("option", { value: turn }, turn)));
-        field.value = turns.includes(chosen) ? chosen : "";
     }
 
     /** Shows what the filters leave, from its beginning. */
@@ -194,53 +183,35 @@ export class SolutionList {
         return reductionsAfter(this.#list.step).map(caseOfOne);
     }
 
-    /** @param {string[]} wanted */
-    #matching(wanted) {
-        const [last, corners, edges] = [part("last-turn").value, Number(part("most-corners").value), Number(part("most-edges").value)];
-        const isAnyCase = corners === 8 && edges === 4;
-        const hasCase = (entry) => this.#casesOf(entry).some(({ name }) => sizeOf(name).corners <= corners && sizeOf(name).edges <= edges);
-        const hasAny = ({ moves, others }) => {
-            const own = moves.split(" ");
-            const twins = others.map((end) => [...own.slice(0, -end.split(" ").length), end].join(" "));
-            return [moves, ...twins].some((each) => hasTurns(each, wanted) && (last === "" || lastTurn(each) === last));
-        };
-        return this.#entries.filter((entry) => hasAny(entry) && (isAnyCase || hasCase(entry)));
-    }
-
-    /** How far the nearest case of an entry is. @param {Entry} entry */
-    #farness(entry) {
-        return Math.min(Infinity, ...this.#casesOf(entry).map(({ name }) => farnessOf(sizeOf(name))));
+    /** The nearest case of an entry, and how far it is. @param {Entry} entry */
+    #nearest(entry) {
+        const cases = this.#casesOf(entry).map(({ name }) => ({ name, far: farnessOf(sizeOf(name)) }));
+        return cases.sort((one, other) => one.far - other.far)[0] ?? { name: "unknown case", far: Infinity };
     }
 
     #draw() {
         if (this.#all === null) return;
-        const wanted = turnsOf(this.#filter.value);
-        this.#filter.setAttribute("aria-invalid", String(wanted === null));
-        const matching = wanted === null ? [] : this.#matching(wanted);
+        const left = this.#filter.left(this.#entries, (entry) => this.#casesOf(entry));
+        const matching = left ?? [];
         const byCase = part("list-sort").value === "case";
         if (byCase) {
-            const far = new Map(matching.map((entry) => [entry, this.#farness(entry)]));
+            const far = new Map(matching.map((entry) => [entry, this.#nearest(entry).far]));
             matching.sort((one, other) => far.get(one) - far.get(other) || one.length - other.length);
         }
         this.#ordered = matching;
         const shown = matching.slice(0, this.#shown);
         part("solutions-more").hidden = shown.length === matching.length;
-        const nearest = (entry) => {
-            const far = ({ name }) => farnessOf(sizeOf(name));
-            const [first] = this.#casesOf(entry).sort((one, other) => far(one) - far(other));
-            return first?.name ?? "unknown case";
-        };
-        const nameOf = byCase ? nearest : ({ length }) => counted(length, "move");
+        const nameOf = byCase ? (entry) => this.#nearest(entry).name : ({ length }) => counted(length, "move");
         const counts = grouped(matching.slice(0, MOST_WITH_CASES), nameOf);
         const groups = [...grouped(shown, nameOf)].map(([name, entries]) => {
             return this.#group(name, entries, counts.get(name)?.length ?? entries.length);
         });
-        const row = this.#groups.contains(document.activeElement) ? document.activeElement.closest("li") : null;
-        const focused = row?.querySelector(".take")?.dataset.key;
+        const focused = focusWithin(this.#groups);
         this.#groups.replaceChildren(...groups);
         this.#groups.querySelector(".take")?.setAttribute("tabindex", "0");
-        if (focused) this.reveal(focused)?.focus({ preventScroll: true });
-        tell(part("solutions-note"), wanted === null ? NOT_MOVES : this.#note(matching.length, shown.length));
+        const same = focused && this.reveal(focused.key);
+        if (same) focusButton(same, focused.place);
+        tell(part("solutions-note"), left === null ? NOT_MOVES : this.#note(matching.length, shown.length));
     }
 
     #note(matching, shown) {
@@ -249,8 +220,10 @@ export class SolutionList {
         const sentences = [`${all}.`];
         const earlier = this.#all.length - this.#left.length;
         const twins = this.#left.length - this.#entries.length;
-        if (earlier > 0) sentences.push(`${earlier.toLocaleString("en")} that reach it before their last move are left out.`);
-        if (twins > 0) sentences.push(`${twins.toLocaleString("en")} twins stand beside theirs: ${counted(this.#entries.length, "row")}.`);
+        if (earlier === 1) sentences.push("1 that reaches it before its last move is left out.");
+        if (earlier > 1) sentences.push(`${earlier.toLocaleString("en")} that reach it before their last move are left out.`);
+        const stand = twins === 1 ? "stands beside its own" : "stand beside theirs";
+        if (twins > 0) sentences.push(`${counted(twins, "twin")} ${stand}: ${counted(this.#entries.length, "row")}.`);
         if (matching < this.#entries.length) sentences.push(`${counted(matching, "row")} ${matching === 1 ? "matches" : "match"}.`);
         if (shown < matching) sentences.push(`The first ${shown.toLocaleString("en")} are shown: type moves to narrow the list.`);
         if (!this.#whole) sentences.push("There are more than the page has room for.");
@@ -262,8 +235,7 @@ export class SolutionList {
         const longest = Math.max(...entries.map((entry) => this.#textOf(entry).length));
         list.style.setProperty("--longest", String(longest));
         list.classList.toggle("long", longest > LONG_LINE);
-        const count = `${all.toLocaleString("en")} row${all === 1 ? "" : "s"}`;
-        return element("div", { class: "group" }, element("h3", {}, `${name}: ${count}`), list);
+        return element("div", { class: "group" }, element("h3", {}, `${name}: ${counted(all, "row")}`), list);
     }
 
     #partOf(moves) {
@@ -281,33 +253,16 @@ export class SolutionList {
         if (moves === "") return element("li", { class: "reached" }, "no moves: it is reached");
         const text = this.#textOf(entry);
         const added = this.#partOf(moves);
-        const starred = this.#acts.isStarred(added);
-        const isSeen = this.#acts.isSeen(added);
         const cases = this.#casesOf(entry).map(({ axis, name, state }) =>
             element("span", { class: "case", "data-marks": state }, `${axis} ${name}`));
         const twins = others.length === 0 ? [] : [element("small", { class: "twins" }, `or ${others.join(", ")}`)];
-        const named = this.#casesOf(entry).map(({ axis, name }) => `${axis} ${name}`);
-        const about = [...named, ...others.map((other) => `or ${spoken(other)}`)].join(", ");
+        const about = [...this.#casesOf(entry).map(({ axis, name }) => `${axis} ${name}`), ...others.map((other) => `or ${spoken(other)}`)];
         return element("li", {},
-            element("button", {
-                type: "button",
-                class: isSeen ? "take moves seen" : "take moves",
-                tabindex: -1,
-                "data-key": moves,
-                "aria-label": [spoken(text), about, isSeen ? "seen" : ""].filter(Boolean).join(", "),
-                click: () => this.#acts.take(added),
-            }, text),
+            takeButton(text, { key: moves, about, isSeen: this.#acts.isSeen(added) }, () => this.#acts.take(added)),
             ...twins,
             ...(cases.length === 0 ? [] : [element("span", { class: "cases" }, ...cases)]),
             element("span", { class: "acts" },
-                element("button", {
-                    type: "button",
-                    class: "star",
-                    tabindex: -1,
-                    "aria-pressed": String(starred),
-                    "aria-label": `Keep ${spoken(text)}`,
-                    click: () => this.#acts.star(added),
-                }, starred ? "★" : "☆"),
+                starButton(text, this.#acts.isStarred(added), () => this.#acts.star(added)),
                 element("button", {
                     type: "button",
                     class: "copy",
@@ -315,5 +270,49 @@ export class SolutionList {
                     "aria-label": `Copy ${spoken(text)}`,
                     click: (event) => this.#acts.copy(text, event.currentTarget),
                 }, "Copy")));
+    }
+}
+
+/** The list that is open, and the engine that looks for it. */
+export class OpenList {
+    #calls;
+    #list;
+    #name = "";
+
+    /** @param {import("./calls.js").Calls} calls of its own @param {import("./solutions.js").SolutionList} list */
+    constructor(calls, list) {
+        this.#calls = calls;
+        this.#list = list;
+        part("solutions-stop").addEventListener("click", () => calls.stop());
+    }
+
+    /**
+     * Shows a list, or that none is open; one that is shown already stays. Says whether it is shown in the end.
+     * @param {string} name what tells it from others @param {import("./address.js").List | null} list
+     * @param {string} line of the cube on its side
+     */
+    async show(name, list, line) {
+        if (name === this.#name) return false;
+        this.#name = name;
+        this.#calls.stop();
+        // the engine searches while the card is drawn; what is wrong is said where it is waited for
+        const asked = list ? solve(this.#calls, list.step, list.slack, line) : null;
+        asked?.catch(() => {});
+        this.#list.open(list);
+        if (!list) return false;
+        const isStill = () => name === this.#name;
+        try {
+            const { solutions, whole } = await asked;
+            if (!isStill()) return false;
+            const wanted = this.#list.take(solutions, whole);
+            const letters = await printAll(this.#calls, wanted.map(({ moves }) => `${line} ${moves}`));
+            if (!isStill()) return false;
+            this.#list.show(letters);
+            announce(`${titleOf(stepNamed(list.step))}, ${list.side} side: ${this.#list.summary()}.`);
+            return true;
+        } catch (fault) {
+            if (isStill()) this.#list.refuse(fault instanceof Stopped ? "Stopped." : fault.message);
+            return false;
+        }
     }
 }

@@ -1,4 +1,5 @@
-// The steps that the page offers, by the engine's names, and what they are called here.
+// The steps that the page offers, by the engine's names, and what they are called here; and the parts of a line, each a step on one side,
+// and how they are written.
 
 /** @typedef {"normal" | "inverse"} Side */
 /** @typedef {{name: string, axis: string, needs: string | null}} OfferedStep */
@@ -49,3 +50,23 @@ export const isReduced = (reached) => reached.some((name) => stepNamed(name).nee
 
 /** @param {Side} side @returns {Side} */
 export const otherSide = (side) => (side === "normal" ? "inverse" : "normal");
+
+/** @typedef {{side: Side, moves: string}} Part one step of a line */
+/** @typedef {{normal: string, inverse: string}} Lines a cube, as lines of moves that give it on each side */
+
+/** Some moves after each other. @param {string[]} parts */
+export const joined = (...parts) => parts.filter((part) => part !== "").join(" ");
+
+/** The moves of one side, in their order. @param {Part[]} parts @param {Side} side */
+export const movesOn = (parts, side) => joined(...parts.filter((part) => part.side === side).map((part) => part.moves));
+
+/** The parts as one line, with those on the inverse side in brackets. @param {Part[]} parts */
+export function bracketed(parts) {
+    const runs = [];
+    for (const { side, moves } of parts) {
+        const last = runs.at(-1);
+        if (last?.side === side) last.moves = joined(last.moves, moves);
+        else runs.push({ side, moves });
+    }
+    return runs.map(({ side, moves }) => (side === "normal" ? moves : `(${moves})`)).join(" ");
+}

@@ -8,7 +8,7 @@ import { SIDES, stateOf, statesOf, titleOf } from "./steps.js";
 /** @typedef {import("./steps.js").Side} Side */
 /** @typedef {{letters: string, made: number, reached: string[]}} Cube */
 
-/** @param {import("./answers.js").Count} count @param {number} made moves before it @returns {[string, string]} */
+/** @param {import("./engine.js").Count} count @param {number} made moves before it @returns {[string, string]} */
 function wordsOf({ length, solutions }, made) {
     if (length === null) return ["–", "none within 20 moves"];
     const all = made > 0 ? `${made + length} in all, ` : "";

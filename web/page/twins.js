@@ -2,7 +2,7 @@
 // case. And solutions in which the step was reached before their last move.
 import { stepNamed } from "./steps.js";
 
-/** @typedef {import("./answers.js").Solution} Solution */
+/** @typedef {import("./engine.js").Solution} Solution */
 /** @typedef {Solution & {others: string[]}} Twins a solution, with the last moves of its twins */
 
 const AXES_OF_TURNS = ["U/D", "R/L", "F/B"];

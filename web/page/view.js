@@ -1,5 +1,5 @@
-// What of the page is seen: the line so far and the cube stay in view, and what can't be used is dimmed.
-import { part } from "./element.js";
+// How the page is seen and used as a whole: what stays in view and what is dimmed, light and dark, help under its button, and single keys.
+import { announce, part } from "./element.js";
 
 const EDGE = 16;
 
@@ -45,4 +45,88 @@ export function showStart(isFinished) {
     const isBelow = part("side-column").offsetTop > part("results").offsetTop;
     if (!isBelow) scrollTo({ top: 0, behavior: "instant" });
     else part(isFinished ? "line" : "results").scrollIntoView({ block: "start" });
+}
+
+const KEY = "nissy-theme";
+const THEMES = ["light", "dark"];
+
+function kept() {
+    try {
+        return localStorage.getItem(KEY) ?? "";
+    } catch {
+        return "";
+    }
+}
+
+/** @param {string} theme */
+function keep(theme) {
+    try {
+        localStorage.setItem(KEY, theme);
+    } catch {
+        // then it holds until the page is closed
+    }
+}
+
+/** @param {string} theme "" for the system's */
+function use(theme) {
+    if (THEMES.includes(theme)) document.documentElement.dataset.theme = theme;
+    else delete document.documentElement.dataset.theme;
+}
+
+export function offerThemes() {
+    const field = part("theme");
+    const theme = THEMES.includes(kept()) ? kept() : "";
+    field.value = theme;
+    use(theme);
+    field.addEventListener("change", () => {
+        use(field.value);
+        keep(field.value);
+    });
+}
+
+const MARGIN = 6;
+
+/** @param {HTMLElement} text @param {HTMLElement} button */
+function placeUnder(text, button) {
+    const { left, bottom } = button.getBoundingClientRect();
+    const furthest = document.documentElement.clientWidth - text.offsetWidth - MARGIN;
+    text.style.left = `${Math.max(MARGIN, Math.min(left, furthest)) + scrollX}px`;
+    text.style.top = `${bottom + MARGIN + scrollY}px`;
+}
+
+/** Makes every help of the page stand under the button that opens it. */
+export function placeHelp() {
+    for (const button of document.querySelectorAll("[popovertarget]")) {
+        const text = document.getElementById(button.getAttribute("popovertarget"));
+        text.addEventListener("toggle", (event) => {
+            button.setAttribute("aria-expanded", String(event.newState === "open"));
+            if (event.newState !== "open") return;
+            placeUnder(text, button);
+            announce(text.textContent.replace(/\s+/g, " ").trim());
+        });
+    }
+}
+
+const FIELDS_TO_TYPE = "input, textarea, select, [contenteditable]";
+
+/** The star of the row that has the focus, or null. */
+const starOfRow = () => document.activeElement?.closest("li, tr")?.querySelector(".star") ?? null;
+
+/** @param {Record<string, () => void>} acts by their keys */
+export function listenToKeys(acts) {
+    addEventListener("keydown", (event) => {
+        if (event.ctrlKey || event.altKey || event.metaKey || event.defaultPrevented || !part("keys-on").checked) return;
+        if (event.target instanceof Element && event.target.closest(FIELDS_TO_TYPE)) return;
+        // Escape closes help before it closes anything else
+        if (!Object.hasOwn(acts, event.key) || document.querySelector(":popover-open")) return;
+        event.preventDefault();
+        acts[event.key]();
+    });
+}
+
+/** Keeps the row that has the focus, or what is given where none has it. @param {() => void} otherwise */
+export function star(otherwise) {
+    const button = starOfRow();
+    if (button) button.click();
+    else otherwise();
 }

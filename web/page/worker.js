@@ -1,7 +1,23 @@
-// The script of the page's workers: the engine's calls, or the search for the best of one axis in a worker that is called so.
-import { serve } from "../module/serve.js";
-import { serveFinder } from "./finder_worker.js";
+// The script of the page's workers: the engine's calls, or, in one that finder.js names so, the search for the best of one axis.
+import { Nissy } from "../module/nissy.js";
+import { serve, serveBy } from "../module/serve.js";
+import { found } from "./search.js";
 
-// as finder.js names it
+/** @typedef {{id: number, orientation: string, question: import("./finder.js").Question}} Search */
+/** @typedef {{id: number, steps: string[]}} TablesWanted the steps whose tables are wanted */
+
+/** @param {DedicatedWorkerGlobalScope} port the worker itself */
+function serveFinder(port) {
+    serveBy(port, (module) => Nissy.load(module), (nissy, /** @type {Search | TablesWanted} */ message) => {
+        if ("steps" in message) {
+            for (const step of message.steps) nissy.count(step, "");
+            return;
+        }
+        const { id, orientation, question } = message;
+        for (const each of found(nissy, orientation, question)) port.postMessage({ id, found: each });
+        port.postMessage({ id, found: null });
+    });
+}
+
 if (self.name === "finder") serveFinder(self);
 else serve(self);

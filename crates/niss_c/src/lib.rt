@@ -1,16 +1,17 @@
 //! The library for C: what other programs call. `include/nissy.h` says the same in the words of C.
 #![tactic(auto)]
 
-mod line_calls;
 mod run_call;
 mod table_calls;
 mod text_calls;
 mod version;
 
-pub use line_calls::{nissy_cleanup, nissy_invert, nissy_print, nissy_unniss};
 pub use niss_embed::{CountAnswer, LineAnswer, SolveAnswer};
 pub use niss_kept::Held;
 pub use run_call::{RunAnswer, nissy_run};
 pub use table_calls::{nissy_build, nissy_count, nissy_solve};
-pub use text_calls::{nissy_fault_text, nissy_scramble, nissy_start, nissy_steps};
+pub use text_calls::{
+    nissy_cleanup, nissy_fault_text, nissy_invert, nissy_print, nissy_scramble, nissy_start,
+    nissy_steps, nissy_unniss,
+};
 pub use version::nissy_version;

@@ -1,25 +1,26 @@
 //! The calls by the tables of a step, which are built once, stay, and are asked many times, by any threads at once.
 ghost use Rattle.niss_embed.specs.Memory.{memory};
-ghost use Rattle.niss_embed.specs.TableCalls.{Builds, SolvesWith, CountsWith};
+ghost use Rattle.niss_embed.specs.LineSearch.{Builds, SolvesWith, CountsWith};
 
 use niss_cube::Step;
-use niss_embed::{CountAnswer, SolveAnswer, count_line, solve_line};
+use niss_embed::{CountAnswer, SolveAnswer, Status, Wanted, count_line, solve_line};
 use niss_kept::Held;
 use std::alloc::Global;
 
-/// Builds the tables of the step of this name, which stay. 0: there are tables of this step. 2: no step has this name. 3: memory
-/// was refused. After 2 and 3 there are no tables, so that a caller who ignores it never asks those of another step.
+/// Builds the tables of the step of this name, which stay. `Done`: there are tables of this step. `Usage`: no step has this name.
+/// `Stopped`: memory was refused. After these two there are no tables, so that a caller who ignores it never asks those of
+/// another step.
 #[unsafe(no_mangle)]
 pub extern "C" fn nissy_build(alloc: Global, tables: &mut Held, name: &[u8]) -> u8
     ensures { Builds name.now tables.new.built tables.new.kept.step result }
 {
     let Some(step) = Step::from_name(name) else {
         *tables = Held::none();
-        return 2;
+        return Status::Usage.number();
     };
     match tables.build(alloc, step) {
-        Ok(()) => 0,
-        Err(_) => 3,
+        Ok(()) => Status::Done.number(),
+        Err(_) => Status::Stopped.number(),
     }
 }
 
@@ -37,7 +38,7 @@ pub extern "C" fn nissy_solve(
         (memory out.old out.new) result }
 {
     match tables.tables() {
-        Some(tables) => solve_line(tables, line, limit, slack, most, out),
+        Some(tables) => solve_line(tables, line, Wanted { limit, slack, most }, out),
         None => SolveAnswer::misused(),
     }
 }

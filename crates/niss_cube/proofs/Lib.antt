@@ -2,10 +2,8 @@ pub mod CallerLemmas
 pub mod Codes
 pub mod CoordinateLaws
 pub mod CubieKinds
-pub mod Facts
 pub mod FollowedLetters
 pub mod LawLemmas
-pub mod Logic
 pub mod MovedCubies
 pub mod Orientations
 pub mod ShownCubies

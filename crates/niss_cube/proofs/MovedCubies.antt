@@ -1,13 +1,17 @@
 -- Turns and renamings move cubies by tables: what they make of cubies is cubies again, with the moved map.
-use Rattle.niss_cube.proofs.Words.{◌≡◌, ℕ, zero, suc, ◌+◌, ◌-◌, ◌%◌, ◌<◌, ◌==◌, refl, sym, ◌∙◌, ap, subst, get_or, length, not, sum, arith}
-use Rattle.niss_cube.proofs.Words.{inl, inr, Turn, Renaming, Place, SameMap, is_corner, is_edge, turned, turn_table, every_turn, every_face}
-use Rattle.niss_cube.proofs.Words.{every_power, eqb-true, eq-eqb, same_truth, Fact, Both, Below, Equal, Alike, Same, When, Numbers, Places}
-use Rattle.niss_cube.proofs.Words.{Turns, Renamings, Holds, holds, rotated, rotated_back, renaming_table, true, is_place}
-use Rattle.niss_cube.proofs.Words.{renamed_turn, renamed_by, Yes, face_by}
-use Rattle.niss_cube.proofs.CubieKinds.{lists_path, CubieLists, Valid, map_lists, tabulated, tabulated-length, tabulated-at, Kind, Corners}
-use Rattle.niss_cube.proofs.CubieKinds.{Edges, count, facelets, at, home_at, turn_at, homes, turns, place_of, Stand, stand, standing-valid}
-use Rattle.niss_cube.proofs.CubieKinds.{stands, once, low, kind_of, Located, located, map_at, centre_stays, map_place}
-use Rattle.niss_cube.proofs.Sums.{place_in-is, count_by-times, below, one_if, below_same, below_add, below_permuted, sum_by-below}
+use Rattle.niss_cube.proofs.Words.{◌≡◌, ℕ, zero, suc, ◌+◌, ◌-◌, ◌%◌, ◌<◌, ◌==◌, refl, sym, ◌∙◌, ap, subst, get_or}
+use Rattle.niss_cube.proofs.Words.{length, not, sum, arith, inl, inr, Turn, Renaming, Place, SameMap, is_corner}
+use Rattle.niss_cube.proofs.Words.{is_edge, turned, turn_table, every_turn, every_face, every_power, eqb-true, eq-eqb}
+use Rattle.niss_cube.proofs.Words.{same_truth, Fact, Both, Below, Equal, Alike, Same, When, Numbers, Places, Turns}
+use Rattle.niss_cube.proofs.Words.{Holds, holds, rotated, rotated_back, renaming_table, true, is_place, renamed_turn}
+use Rattle.niss_cube.proofs.Words.{renamed_by, Yes, face_by, turn, tested, places, XCounter}
+use Rattle.niss_cube.proofs.Words.{XQuarter, YQuarter, ZCounter}
+use Rattle.niss_cube.proofs.CubieKinds.{lists_path, CubieLists, Valid, map_lists, tabulated, tabulated-length}
+use Rattle.niss_cube.proofs.CubieKinds.{tabulated-at, Kind, Corners, Edges, count, facelets, at, home_at, turn_at}
+use Rattle.niss_cube.proofs.CubieKinds.{homes, turns, place_of, Stand, stand, standing-valid, stands, once, low}
+use Rattle.niss_cube.proofs.CubieKinds.{kind_of, Located, located, map_at, centre_stays, map_place}
+use Rattle.niss_cube.proofs.Sums.{place_in-is, count_by-times, below, one_if, below_same, below_add, below_permuted}
+use Rattle.niss_cube.proofs.Sums.{sum_by-below}
 
 pub data Motion : Type 0 where
   By : Turn → Motion
@@ -67,12 +71,24 @@ kinds_fact m = Places λ q.
     Both (Same (is_corner (back m q)) (is_corner q)) (Both (Same (is_edge (back m q)) (is_edge q))
     (When (not (is_corner q)) (When (not (is_edge q)) (Alike (out m (back m q)) q))))
 
+abbrev renamings : (Renaming → Fact) → Fact
+renamings f = Both (f XCounter) (Both (f XQuarter) (Both (f YQuarter) (f ZCounter)))
+
+at_renaming : (f : Renaming → Fact) → Holds (renamings f) → (v : Renaming) → Holds (f v)
+at_renaming f h XCounter = h.0
+at_renaming f h XQuarter = h.1.0
+at_renaming f h YQuarter = h.1.1.0
+at_renaming f h ZCounter = h.1.1.1
+
+each_renaming : (f : Renaming → Fact) → tested (renamings f) ≡ true → (v : Renaming) → Holds (f v)
+each_renaming f h = at_renaming f (holds (renamings f) h)
+
 abbrev motion_fact : (Motion → Fact) → Fact
-motion_fact f = Both (Turns λ t. f (By t)) (Renamings λ v. f (Under v))
+motion_fact f = Both (Turns λ t. f (By t)) (renamings λ v. f (Under v))
 
 at_motion : (f : Motion → Fact) → Holds (motion_fact f) → (m : Motion) → Holds (f m)
 at_motion f h (By t) = h.0 t
-at_motion f h (Under v) = h.1 v
+at_motion f h (Under v) = at_renaming (λ v. f (Under v)) h.1 v
 
 tables : (k : Kind) → Holds (motion_fact (table_fact k))
 unfolding every_turn every_face every_power
@@ -275,25 +291,25 @@ pub record IsRenaming (rename : (Place → Place) → Place → Place) (turn : T
 
 -- a rotation of the whole cube keeps the places, and is taken back
 pub back-place : (v : Renaming) (q : Place) → is_place q ≡ true → is_place (rotated_back v q) ≡ true
-back-place = holds (Renamings λ v. Places λ q. Yes (is_place (rotated_back v q))) refl
+back-place = each_renaming (λ v. Places λ q. Yes (is_place (rotated_back v q))) refl
 
 pub out-back : (v : Renaming) (q : Place) → is_place q ≡ true → rotated v (rotated_back v q) ≡ q
-out-back = holds (Renamings λ v. Places λ q. Alike (rotated v (rotated_back v q)) q) refl
+out-back = each_renaming (λ v. Places λ q. Alike (rotated v (rotated_back v q)) q) refl
 
 pub back-out : (v : Renaming) (q : Place) → is_place q ≡ true → rotated_back v (rotated v q) ≡ q
-back-out = holds (Renamings λ v. Places λ q. Alike (rotated_back v (rotated v q)) q) refl
+back-out = each_renaming (λ v. Places λ q. Alike (rotated_back v (rotated v q)) q) refl
 
 -- under a renaming a turn becomes that of the face to which the face is brought
 renamed-turn : (v : Renaming) (t : Turn) (q : Place) → is_place q ≡ true → rotated v (turned t q) ≡ turned (renamed_turn (face_by v) t) (rotated v q)
 unfolding every_turn every_face every_power
-renamed-turn = holds (Renamings λ v. Turns λ t. Places λ q. Alike (rotated v (turned t q)) (turned (renamed_turn (face_by v) t) (rotated v q))) refl
+renamed-turn = each_renaming (λ v. Turns λ t. Places λ q. Alike (rotated v (turned t q)) (turned (renamed_turn (face_by v) t) (rotated v q))) refl
 
 -- A rotation made three times takes it back: so the cubies that become c under a renaming are c renamed thrice.
 thrice : (v : Renaming) (q : Place) → is_place q ≡ true → rotated v (rotated v (rotated v q)) ≡ rotated_back v q
-thrice = holds (Renamings λ v. Places λ q. Alike (rotated v (rotated v (rotated v q))) (rotated_back v q)) refl
+thrice = each_renaming (λ v. Places λ q. Alike (rotated v (rotated v (rotated v q))) (rotated_back v q)) refl
 
 thrice-back : (v : Renaming) (q : Place) → is_place q ≡ true → rotated_back v (rotated_back v (rotated_back v (rotated_back v q))) ≡ q
-thrice-back = holds (Renamings λ v. Places λ q. Alike (rotated_back v (rotated_back v (rotated_back v (rotated_back v q)))) q) refl
+thrice-back = each_renaming (λ v. Places λ q. Alike (rotated_back v (rotated_back v (rotated_back v (rotated_back v q)))) q) refl
 
 renamed_from : (v : Renaming) (c : CubieLists) → Valid c → (w : CubieLists) × Valid w × SameMap (map_lists c) (renamed_by v (map_lists w))
 renamed_from v c h =

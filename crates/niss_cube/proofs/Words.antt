@@ -15,6 +15,7 @@ pub use Rattle.std.proofs.lemmas.List.FromFn.{get_or-map-range_with_len, length-
 pub use Rattle.std.proofs.lemmas.List.FromFn.{length-range_with_len}
 pub use Rattle.std.proofs.lemmas.List.Sums.{sum_by-cons, list_all-from_AllPass}
 pub use Rattle.std.proofs.lemmas.Map.Views.{Contains-from_any}
+pub use Rattle.std.specs.Cmp.Derive.{one_truth as same_truth}
 pub use Rattle.std.specs.Cmp.Lexicographic.{same_text, other_text}
 pub use Rattle.std.specs.List.{list_all, list_any, range_with_len, sum_by}
 pub use Rattle.std.specs.Option.{option_map_or}
@@ -22,7 +23,9 @@ pub use Rattle.std.specs.Prelude.{nat_lt, nat_le, sum, ◌↔◌, Contains, IsTr
 pub use Rattle.std.specs.Prelude.{cond, IfNone, IfSome, MatchOption, slice_index_or}
 pub use lib.Pointwise.{pointwise}
 pub use Rattle.niss_moves.proofs.CallerLemmas.{same_place_is, same_place_of, effect-append, inverse_after, inverse_before, same_face_is}
-pub use Rattle.niss_moves.proofs.CallerLemmas.{same_power, same_power_is, turn}
+pub use Rattle.niss_moves.proofs.CallerLemmas.{same_power, same_power_is, turn, and_left, and_right, and_both, at_member}
+pub use Rattle.niss_moves.proofs.CallerLemmas.{Fact, Yes, Same, Equal, Below, Alike, Both, When, Numbers, Places, Faces, Turns}
+pub use Rattle.niss_moves.proofs.CallerLemmas.{Among, Tokens, Digits, Truths, Holds, tested, holds}
 unfoldable pub use Rattle.niss_moves.proofs.CallerLemmas.{every_face, every_power, every_turn, every_axis, every_slice, every_token}
 pub use Rattle.niss_moves.specs.Canonical.{face_order, turn_order}
 pub use Rattle.niss_moves.specs.Effects.{turned, effect, inverse, moved_by, effect_of_turns}
@@ -33,9 +36,6 @@ unfoldable pub use Rattle.niss_moves.specs.Letters.{letter_of, letters}
 pub use Rattle.niss_moves.specs.Places.{Place, is_place, same_place, SameMap, is_edge, is_corner}
 pub use Rattle.niss_moves.specs.Rotations.{renamed_turn, rotation_if, to_top, about_vertical, spelling}
 pub use Rattle.niss_moves.specs.Turn.{inverse_turn, same_face}
-pub use Rattle.niss_cube.proofs.Facts.{Fact, Yes, Same, Equal, Below, Alike, Both, When, Numbers, Places, Turns, Among, Faces, Tokens}
-pub use Rattle.niss_cube.proofs.Facts.{Renamings, Digits, Truths, Holds, holds, tested, at_member}
-pub use Rattle.niss_cube.proofs.Logic.{and_left, and_right, same_truth, and_both}
 pub use Rattle.niss_cube.specs.AfterTurn.{IsCube, TurnedIsCube, AreCoordinates, IsCoordinate}
 pub use Rattle.niss_cube.specs.Coordinates.{rank, number_of, number, count_of, standard_axis, choose, renamed_for, turn_for, renaming_for}
 pub use Rattle.niss_cube.specs.Coordinates.{firsts, brings, orientations, occupied}

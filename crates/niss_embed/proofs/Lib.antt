@@ -1,6 +1,5 @@
 pub mod WordLemmas
 pub mod TargetLemmas
 pub mod RunLemmas
-pub mod Pieces
 pub mod SolveLemmas
 pub mod TextLemmas

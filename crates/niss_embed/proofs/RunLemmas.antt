@@ -8,8 +8,7 @@ use Rattle.niss_shell.specs.Run.{Devices, devices, Finishes, OutputRefused, Memo
 use Rattle.niss_shell.specs.MoreInput.{Begins, MoreInputKeepsAnswers}
 use Rattle.niss_embed.specs.Names.{Answer as Given, UsageFault, Stop, CannotWrite, OutOfMemory}
 use Rattle.niss_embed.specs.Memory.{Memory, memory, source_state, target_state}
-use Rattle.niss_embed.specs.Words.{text_words, TakesWords}
-use Rattle.niss_embed.specs.Run.{due, outcome_in, Answers, RunsBytes, RunsWords}
+use Rattle.niss_embed.specs.Run.{text_words, TakesWords, due, outcome_in, Answers, RunsBytes, RunsWords}
 use Rattle.niss_embed.proofs.WordLemmas.{no_words, all_words}
 use Rattle.niss_embed.proofs.TargetLemmas.{Filling, state_before, state_after, PutBy, puts_all, puts_front, puts_error}
 

@@ -1,25 +1,30 @@
 -- From what a search did to its lines in memory to what it answers.
 use Rattle.std.proofs.Common.{◌≡◌, ◌⊎◌, inl, inr, ℕ, suc, ◌+◌, ◌<◌, ◌≤◌, min, Bool, true, false, cond, Option, Some, None, Result, Ok, Err, List, [], ◌∷◌, ◌++◌}
 use Rattle.std.proofs.Common.{take, drop, length, length-append, append_assoc, append-nil, refl, sym, ap, ◌∙◌, subst, arith, unwrap_or}
-use Rattle.std.specs.Prelude.{nat_lt, flat_map, is_err, option_map, slice_get, OnOk, OnErr}
+use Rattle.std.specs.Prelude.{◌*◌, ◌==◌, if◌then◌else◌, codes, decimal, nat_lt, flat_map, is_err, option_map, slice_get, OnOk, OnErr}
 use Rattle.std.specs.Option.{option_or}
 use Rattle.std.proofs.Common.{◌-◌}
 use Rattle.std.proofs.lemmas.List.{take_all, drop-drop, length-drop, length-take-le}
+use Rattle.std.proofs.lemmas.Fmt.{length-decimal-le}
 use Rattle.std.proofs.lemmas.Grind.{common_steps}
+use Rattle.niss_moves.specs.Letters.{face_letter}
+use Rattle.niss_moves.specs.Text.{power_bytes, gap_after, gap, with_words}
+use Rattle.niss_moves.specs.CleanText.{turn_words}
+use Rattle.niss_moves.specs.declared.turn.Power.{Power}
+use Rattle.niss_moves.specs.declared.turn.Power.TheVariants.{Quarter, Half, Counter}
+use Rattle.niss_shell.specs.Lines.{line_feed, space}
 use Rattle.niss_moves.specs.Places.{Place}
 use Rattle.niss_search.specs.Delivery.{WentThrough, StoppedIn}
-use Rattle.niss_cube.specs.Steps.{turns_of}
 use Rattle.niss_search.specs.Laws.{FirstIsLeast}
-use Rattle.niss_search.specs.Cubes.{near_solutions_of, near_looks_of, least_length_of, reaches}
-use Rattle.niss_search.specs.declared.outcome.Outcome.{Outcome}
+use Rattle.niss_search.specs.Cubes.{near_solutions_of, near_looks_of, least_length_of, cubes}
+use Rattle.niss_search.specs.declared.deepening.Outcome.{Outcome}
 use Rattle.niss_shell.specs.Names.{Turn, Step}
-use Rattle.niss_shell.specs.Output.{solution_line}
-use Rattle.niss_embed.specs.declared.solution_lines.SolutionLines.{SolutionLines}
-use Rattle.niss_embed.specs.declared.solution_lines.Refused.{Refused}
-use Rattle.niss_embed.specs.declared.line_search.SolveAnswer.{SolveAnswer}
+use Rattle.niss_shell.specs.Output.{turns_text, solution_line}
+use Rattle.niss_embed.specs.declared.line_search.SolutionLines.{SolutionLines}
+use Rattle.niss_embed.specs.declared.line_search.Refused.{Refused}
+use Rattle.niss_embed.specs.declared.answer.SolveAnswer.{SolveAnswer}
 use Rattle.niss_embed.specs.Memory.{memory, Puts}
-use Rattle.niss_embed.specs.SolutionLines.{LinesState, lines_state, Takes, Refuses}
-use Rattle.niss_embed.specs.LineSearch.{Hands, HandedOut, SolvesCube, first_lines, capped}
+use Rattle.niss_embed.specs.LineSearch.{LinesState, lines_state, Takes, Refuses, most_of_line, Hands, HandedOut, SolvesCube, first_lines, capped}
 use Rattle.niss_embed.proofs.TargetLemmas.{puts_whole, no_front, all_left}
 
 -- how many turns the first of some solutions has, where none came before or one did
@@ -32,12 +37,53 @@ first_of-more o p [] = refl
 first_of-more None p (q ∷ qs) = refl
 first_of-more (Some k) p (q ∷ qs) = refl
 
+-- how long a line of a solution is
+
+short_gap : (b : Option ℕ) → length (gap_after b) ≤ 1
+short_gap None = omega arith
+short_gap (Some b) = by_test (b == 40) where
+  by_test : (t : Bool) → length {A = ℕ} (if t then [] else 32 ∷ []) ≤ 1
+  by_test true = omega arith
+  by_test false = omega arith
+
+short_power : (p : Power) → length (power_bytes p) ≤ 1
+short_power Quarter = omega arith
+short_power Half = omega arith
+short_power Counter = omega arith
+
+short_words : (text : List ℕ) (turns : List Turn) → length (with_words text (turn_words turns)) ≤ length text + 3 * length turns
+short_words text [] = omega arith
+short_words text (t ∷ ts) =
+    let w : List ℕ = face_letter t.face ∷ power_bytes t.power in
+    let spaced = length-append text (gap text) in
+    let whole = length-append (text ++ gap text) w in
+    omega (arith, spaced, whole, short_gap (slice_get text (length text - 1)), short_power t.power, short_words (text ++ gap text ++ w) ts)
+
+short_turns : (turns : List Turn) → length (turns_text turns) ≤ 3 * length turns
+short_turns [] = omega arith
+short_turns (t ∷ ts) =
+    let first : List ℕ = face_letter t.face ∷ power_bytes t.power in
+    let whole = length-append (with_words first (turn_words ts)) (space ∷ []) in
+    omega (arith, whole, short_power t.power, short_words first ts)
+
+pub short_line : (turns : List Turn) → length turns ≤ 20 → length (solution_line turns) ≤ most_of_line
+short_line turns h =
+    let moves = turns_text turns in
+    let number = decimal (length turns) in
+    let open_bracket = length-append moves (codes "(") in
+    let counted = length-append (moves ++ codes "(") number in
+    let bracket = length-append (moves ++ codes "(" ++ number) (codes ")") in
+    let whole = length-append (moves ++ codes "(" ++ number ++ codes ")") (line_feed ∷ []) in
+    let digits : length number ≤ 2 = length-decimal-le 2 (length turns) (omega arith) (omega (arith, h)) (omega (arith, h)) in
+    omega (arith, open_bracket, counted, bracket, whole, digits, short_turns turns, h)
+
 -- Some solutions were written one after another.
 record Took (ps : List (List Turn)) (old new : LinesState) : Type 0 where
   same_reference : new.reference ≡ old.reference
   held : new.held ≡ old.held ++ flat_map solution_line ps
   free : new.free ≡ drop (length (flat_map solution_line ps)) old.free
   fits : length (flat_map solution_line ps) ≤ length old.free
+  short : length (flat_map solution_line ps) ≤ length ps * most_of_line
   counted : new.solutions ≡ old.solutions + length ps
   same_most : new.most ≡ old.most
   first : new.first ≡ first_of old.first ps
@@ -49,6 +95,7 @@ took_none a = record {
   held = sym (append-nil a.held);
   free = sym (all_left a.free);
   fits = omega arith;
+  short = omega arith;
   counted = omega arith;
   same_most = refl;
   first = refl;
@@ -65,6 +112,7 @@ took_more p ps a m b t w =
       held = w.held ∙ ap (λ v. v ++ rest) t.held ∙ append_assoc a.held line rest;
       free = w.free ∙ ap (λ v. drop (length rest) v) t.free ∙ drop-drop (length rest) (length line) a.free ∙ ap (λ k. drop k a.free) (sym all);
       fits = omega (arith, all, t.fits, w.fits, ap (length {A = ℕ}) t.free, length-drop (length line) a.free);
+      short = omega (arith, all, t.short, w.short);
       counted = omega (arith, w.counted, t.counted);
       same_most = w.same_most ∙ t.same_most;
       first = w.first ∙ ap (λ o. first_of o ps) t.first ∙ first_of-more a.first p ps;
@@ -194,6 +242,7 @@ module _ (l : Lines) where
         text = subst (λ (q : List (List Turn)). Puts (flat_map solution_line q) (memory l.before l.after) l.written false) (sym whole)
             (puts all (flat_map solution_line all) w.held w.free w.fits);
         more = is_not_less l.solutions (length all) (omega (arith, count));
+        room = λ enough. ap (λ b. cond b 4 0) w.same_room;
         handed = inl (
           ap (λ b. cond b 4 0) w.same_room,
           count ∙ min_is_right l.most (length all) (omega (arith, count, l.few, w.same_most)),
@@ -210,9 +259,21 @@ module _ (l : Lines) where
         text = subst (λ n. Puts (first_lines n all) (memory l.before l.after) l.written false) count
             (puts (take s.count all) text (s.refused.held ∙ s.took.held) (s.refused.free ∙ s.took.free) s.took.fits);
         more = is_less l.solutions (length all) (omega (arith, count, s.within));
+        room = λ enough. enough_room taken enough s.refused.why;
         handed = why count s.refused.why;
       }
     where
+      enough_room : length (take s.count all) ≡ s.count → l.most * most_of_line ≤ length l.before
+          → ((s.between.solutions ≡ s.between.most) × (l.too_small ≡ s.between.too_small))
+          ⊎ ((s.between.solutions < s.between.most) × (length s.between.free < length (solution_line s.next)) × (l.too_small ≡ true))
+          → cond {A = ℕ} l.too_small 4 0 ≡ 0
+      enough_room taken enough (inl h) = ap (λ b. cond b 4 0) (h.1 ∙ s.took.same_room)
+      enough_room taken enough (inr h) =
+          let free : length s.between.free ≡ length (drop 0 l.before) - length (first_lines s.count all) =
+          ap (length {A = ℕ}) s.took.free ∙ length-drop (length (first_lines s.count all)) (drop 0 l.before) in
+          let room : length (drop 0 l.before) ≡ length l.before = ap (length {A = ℕ}) (all_left l.before) in
+          absurd (omega (arith, free, room, enough, taken, h.0, h.1, s.took.short, s.refused.short, s.took.counted, s.took.same_most))
+
       why : s.count ≡ l.solutions
           → ((s.between.solutions ≡ s.between.most) × (l.too_small ≡ s.between.too_small))
           ⊎ ((s.between.solutions < s.between.most) × (length s.between.free < length (solution_line s.next)) × (l.too_small ≡ true))
@@ -265,7 +326,7 @@ module _ (step : Step) (n slack : ℕ) (e : Place → Place) (a b : SolutionLine
     all = near_solutions_of step e n slack
 
     least_is : l.first ≡ first_of None all → unwrap_or l.first 0 ≡ unwrap_or (least_length_of step e n) 0
-    least_is h = ap (λ o. unwrap_or o 0) (h ∙ first_is all ∙ sym (least (turns_of step) (reaches step e) n slack))
+    least_is h = ap (λ o. unwrap_or o 0) (h ∙ first_is all ∙ sym (least _ (cubes step) e n slack))
 
     by_result : (r : Result Outcome Refused) → OnOk r (WentThrough TakesPath a all b) → OnErr r (StoppedIn TakesPath RefusesPath a all b)
         → OnOk r (looks_now ≡ looks + near_looks_of step e n slack)

@@ -10,7 +10,7 @@ use Rattle.std.proofs.lemmas.List.{map-append}
 use Rattle.std.proofs.lemmas.List.Elements.{All-nil, All-cons, All-head, All-tail}
 use Rattle.std.proofs.lemmas.List.Folds.{list_all-append}
 use Rattle.niss_shell.specs.Output.{line_with_bytes}
-use Rattle.niss_embed.specs.Words.{HasNoZero, ended_word, AreCutInto, AreWords, TakesWords, IsFirstWord}
+use Rattle.niss_embed.specs.Run.{HasNoZero, ended_word, AreCutInto, AreWords, TakesWords, IsFirstWord}
 
 abbrev pub IsNotZero : ℕ → Type 0
 IsNotZero byte = byte ≢ 0

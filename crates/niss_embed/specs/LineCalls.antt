@@ -15,7 +15,17 @@ use Rattle.niss_shell.specs.Names.{Step}
 use Rattle.niss_shell.specs.Words.{most_bytes, most_turns, step_named}
 use Rattle.niss_shell.specs.Output.{line_text, step_line, start_text}
 use Rattle.niss_shell.specs.Scrambles.{generator_of, scramble}
-use Rattle.niss_embed.specs.declared.line_answer.LineAnswer.{LineAnswer}
+use Rattle.niss_embed.specs.declared.answer.Status.{Status}
+use Rattle.niss_embed.specs.declared.answer.Status.TheVariants as status
+use Rattle.niss_embed.specs.declared.answer.LineAnswer.{LineAnswer}
+
+-- the number by which C knows how a call ended
+abbrev pub status_number : Status → ℕ
+status_number status.Done = 0
+status_number status.Fault = 1
+status_number status.Usage = 2
+status_number status.Stopped = 3
+status_number status.NoRoom = 4
 
 -- how a call that writes a short text can end
 pub data Outcome : Type 0 where
@@ -37,14 +47,18 @@ fault_number (fault.Unopened column) = 3
 fault_number (fault.Unclosed column) = 4
 fault_number (fault.TooLong column) = 5
 
+-- an answer that tells of no fault
+abbrev pub plain_answer : Status → ℕ → LineAnswer
+plain_answer ended length = record { status = status_number ended; fault = 0; column = 0; length = length }
+
 -- what is answered where a call ends so
 abbrev pub answer_for : Outcome → LineAnswer
-answer_for (Written text) = record { status = 0; fault = 0; column = 0; length = length text }
-answer_for (ShortOfRoom text) = record { status = 4; fault = 0; column = 0; length = length text }
+answer_for (Written text) = plain_answer status.Done (length text)
+answer_for (ShortOfRoom text) = plain_answer status.NoRoom (length text)
 answer_for (Unread fault) =
-    record { status = 1; fault = fault_number fault; column = fault_column fault; length = 0 }
-answer_for TooLong = record { status = 3; fault = 0; column = 0; length = 0 }
-answer_for Misused = record { status = 2; fault = 0; column = 0; length = 0 }
+    record { status = status_number status.Fault; fault = fault_number fault; column = fault_column fault; length = 0 }
+answer_for TooLong = plain_answer status.Stopped 0
+answer_for Misused = plain_answer status.Usage 0
 
 -- the buffer afterwards: the text and what stood behind it, or what it was
 abbrev pub buffer_after : Outcome → List ℕ → List ℕ

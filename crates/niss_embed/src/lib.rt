@@ -15,23 +15,18 @@
 //! `solve_line` and `count_line` search for one line by tables that the caller keeps, and take no memory:
 //!
 //! ```
-//! let answer = solve_line(&tables, b"R U' F2", 20, 0, 10, &mut out);   // at most 10 solutions
+//! let wanted = Wanted { limit: 20, slack: 0, most: 10 };
+//! let answer = solve_line(&tables, b"R U' F2", wanted, &mut out);
 //! ```
 #![tactic(auto)]
 
 mod answer;
 mod call;
-mod line_answer;
-mod line_reading;
 mod line_search;
 mod line_texts;
-mod solution_lines;
-mod source;
-mod target;
-mod words;
+mod memory;
 
-pub use answer::Answer;
+pub use answer::{Answer, CountAnswer, LineAnswer, SolveAnswer, Status};
 pub use call::run_bytes;
-pub use line_answer::LineAnswer;
-pub use line_search::{CountAnswer, SolveAnswer, count_line, solve_line};
+pub use line_search::{Wanted, count_line, solve_line};
 pub use line_texts::{fault_text, rewrite_line, scramble, start_name, step_names};

@@ -1,136 +1,130 @@
 //! A search on one line, by tables that the caller keeps.
-ghost use Rattle.std.specs.Prelude.{◌≡◌, ◌≤◌, if◌then◌else◌, Ok, Err, MatchResult, length};
+ghost use Rattle.std.specs.Prelude.{◌≡◌, ◌⊎◌, ◌≤◌, ◌<◌, if◌then◌else◌, Ok, Err, None, false, MatchOption, MatchResult, length};
 ghost use Rattle.niss_moves.specs.Places.{Place};
 ghost use Rattle.niss_moves.specs.Reader.{read_line};
 ghost use Rattle.niss_search.specs.Cubes.{IsPosition, HasPosition};
-ghost use Rattle.niss_shell.specs.Output.{start_cube};
+ghost use Rattle.niss_shell.specs.Output.{solution_line, start_cube};
+ghost use Rattle.niss_shell.specs.Words.{most_limit};
 ghost use Rattle.niss_embed.specs.Memory.{memory};
-ghost use Rattle.niss_embed.specs.LineSearch.{capped, number_of_fault, column_of_fault, unsolved, uncounted};
-ghost use Rattle.niss_embed.specs.LineSearch.{SolvesCube, SolvesLine, count_at, CountsLine};
+ghost use Rattle.niss_embed.specs.LineCalls.{status_number};
+ghost use Rattle.niss_embed.specs.LineSearch.{most_of_line, lines_state, Takes, Refuses, capped, SolvesCube, SolvesLine, count_at, CountsLine};
+ghost use Rattle.niss_embed.specs.declared.answer.Status.TheVariants.{Done, NoRoom};
 
-use crate::line_answer::fault_number;
-use crate::line_reading::feed_line;
-use crate::line_texts::MOST_BYTES;
-use crate::solution_lines::SolutionLines;
-use niss_moves::LineReader;
+use crate::answer::{CountAnswer, SolveAnswer, Status};
+use crate::line_texts::{MOST_BYTES, feed_line};
+use crate::memory::put;
+use niss_moves::{LineReader, Turn};
 use niss_search::laws::first_is_least;
-use niss_search::{Limit, Meter, Position, Tables, TurnPath, search};
-use niss_shell::{LineFault, count_solutions, start_position};
+use niss_search::{Limit, Meter, Position, Sink, Tables, TurnPath, search};
+use niss_shell::{LineFault, count_solutions, solution_text, start_position};
 use std::alloc::Allocator;
 
-/// What a search on one line returns that hands its solutions out.
-#[repr(C)]
+/// Which solutions are asked for, in numbers that a caller may give in any way.
 #[derive(Clone, Copy, Debug, PartialEq, Eq)]
-pub struct SolveAnswer {
-    /// 0: the solutions are written. 1: the line has a fault. 2: there is no such search. 3: the line has more than 16,777,216
-    /// bytes. 4: the next solution has no room.
-    pub status: u8,
-    /// What is wrong with the line, 1 to 5 in the order of `ReadFault`; 6 if the step may not start there; else 0.
-    pub fault: u8,
-    /// The least length of a solution, or 0 if there is none.
-    pub least: u8,
-    /// There are more solutions than were handed out.
-    pub more: bool,
-    /// The column of the fault in bytes, from 1; 0 if it has none.
-    pub column: u32,
-    /// How many bytes were written, from the beginning of the memory.
-    pub out_length: usize,
-    /// How many solutions were written.
-    pub solutions: u64,
-    /// How often the search looked at a position, or 2^64 - 1 if more often.
-    pub looks: u64,
+pub struct Wanted {
+    /// How many turns a solution has at most: 20 or fewer.
+    pub limit: u8,
+    /// How many turns more than the least one: 20 or fewer.
+    pub slack: u8,
+    /// How many are handed out at most.
+    pub most: u64,
 }
 
-/// What a search on one line returns that counts its solutions.
-#[repr(C)]
-#[derive(Clone, Copy, Debug, PartialEq, Eq)]
-pub struct CountAnswer {
-    /// As in `SolveAnswer`, but never 4.
-    pub status: u8,
-    /// As in `SolveAnswer`.
-    pub fault: u8,
-    /// The least length of a solution, or 0 if there is none.
-    pub least: u8,
-    /// As in `SolveAnswer`.
-    pub column: u32,
-    /// How many solutions there are, or 2^64 - 1 if there are more.
-    pub solutions: u64,
-    /// As in `SolveAnswer`.
-    pub looks: u64,
+/// How far a search goes.
+#[derive(Clone, Copy)]
+struct Bounds {
+    limit: Limit,
+    slack: Limit,
 }
 
-impl SolveAnswer {
-    /// An answer that tells of no search.
-    fn unsolved(status: u8, fault: u8, column: u32) -> SolveAnswer
-        ensures { result ≡ unsolved status fault column }
+impl Bounds {
+    /// The bounds of these two numbers, if both are 20 or fewer.
+    fn new(limit: u8, slack: u8) -> Option<Bounds>
+        ensures { MatchOption result ((most_limit < limit) ⊎ (most_limit < slack))
+            (λ bounds. (bounds.limit ≡ limit) × (bounds.slack ≡ slack) × (limit ≤ most_limit) × (slack ≤ most_limit)) }
     {
-        SolveAnswer {
-            status,
-            fault,
-            least: 0,
-            more: false,
-            column,
-            out_length: 0,
-            solutions: 0,
-            looks: 0,
-        }
-    }
-
-    /// The answer if there is no such search.
-    pub fn misused() -> SolveAnswer
-        ensures { result ≡ unsolved 2 0 0 }
-    {
-        SolveAnswer::unsolved(2, 0, 0)
-    }
-
-    /// The answer to a line with this fault.
-    fn faulty(fault: LineFault) -> SolveAnswer
-        ensures { result ≡ unsolved 1 (number_of_fault fault) (column_of_fault fault) }
-    {
-        let (number, column) = number_and_column(fault);
-        SolveAnswer::unsolved(1, number, column)
+        Some(Bounds {
+            limit: Limit::new(limit)?,
+            slack: Limit::new(slack)?,
+        })
     }
 }
 
-impl CountAnswer {
-    /// An answer that tells of no search.
-    fn uncounted(status: u8, fault: u8, column: u32) -> CountAnswer
-        ensures { result ≡ uncounted status fault column }
-    {
-        CountAnswer {
-            status,
-            fault,
-            least: 0,
-            column,
-            solutions: 0,
-            looks: 0,
-        }
-    }
-
-    /// The answer if there is no such search.
-    pub fn misused() -> CountAnswer
-        ensures { result ≡ uncounted 2 0 0 }
-    {
-        CountAnswer::uncounted(2, 0, 0)
-    }
-
-    /// The answer to a line with this fault.
-    fn faulty(fault: LineFault) -> CountAnswer
-        ensures { result ≡ uncounted 1 (number_of_fault fault) (column_of_fault fault) }
-    {
-        let (number, column) = number_and_column(fault);
-        CountAnswer::uncounted(1, number, column)
-    }
-}
-
-/// The number of a line's fault, and its column, or 0 if it has none.
-fn number_and_column(fault: LineFault) -> (u8, u32)
-    ensures number { result.0 ≡ number_of_fault fault }
-    ensures column { result.1 ≡ column_of_fault fault }
+/// The line of a solution isn't longer than that of 20 turns.
+#[tactic(auto, using(crate::proofs::SolveLemmas::short_line))]
+fn line_is_short(turns: &[Turn])
+    requires { length turns.now ≤ 20 }
+    ensures { length (solution_line turns.now) ≤ most_of_line }
 {
-    match fault {
-        LineFault::Unread(fault) => (fault_number(fault), fault.column()),
-        LineFault::NoStart(_) => (6, 0),
+}
+
+/// A solution wasn't taken.
+#[derive(Clone, Copy, Debug, PartialEq, Eq)]
+struct Refused;
+
+/// Solutions as lines, at most so many, from the beginning of lent memory. One that it has no room for is refused, and so is
+/// one too many; nothing of it is written.
+#[derive(Drop)]
+struct SolutionLines<'a> {
+    bytes: &'a mut [u8],
+    written: usize,
+    solutions: u64,
+    most: u64,
+    /// How many turns the first solution has that was taken or refused.
+    first: Option<u8>,
+    too_small: bool,
+    ghost within: { written ≤ length bytes.now },
+    ghost few: { solutions ≤ most },
+}
+
+impl<'a> SolutionLines<'a> {
+    /// No solution yet, and at most so many.
+    fn new(bytes: &'a mut [u8], most: u64) -> SolutionLines<'a>
+        ensures same_reference { result.bytes.ghost_name ≡ bytes.entry.ghost_name }
+        ensures unchanged { result.bytes.now ≡ bytes.old }
+        ensures empty { result.written ≡ 0 }
+        ensures none { result.solutions ≡ 0 }
+        ensures most { result.most ≡ most }
+        ensures first { result.first ≡ None }
+        ensures works { result.too_small ≡ false }
+    {
+        SolutionLines {
+            bytes,
+            written: 0,
+            solutions: 0,
+            most,
+            first: None,
+            too_small: false,
+        }
+    }
+}
+
+impl Sink for SolutionLines<'_> {
+    type Fault = Refused;
+
+    ghost took = { λ old path new. Takes path.turns
+        (lines_state old.bytes.now old.bytes.ghost_name old.written old.solutions old.most old.first old.too_small)
+        (lines_state new.bytes.now new.bytes.ghost_name new.written new.solutions new.most new.first new.too_small) };
+
+    ghost refused = { λ old path new. Refuses path.turns
+        (lines_state old.bytes.now old.bytes.ghost_name old.written old.solutions old.most old.first old.too_small)
+        (lines_state new.bytes.now new.bytes.ghost_name new.written new.solutions new.most new.first new.too_small) };
+
+    fn take(&mut self, path: &TurnPath) -> Result<(), Refused> {
+        let turns = path.turns();
+        line_is_short(turns);
+        self.first = self.first.or(Some(turns.len() as u8));
+        if self.solutions == self.most {
+            return Err(Refused);
+        }
+        let line = solution_text(path);
+        if line.len() > self.bytes.len() - self.written {
+            self.too_small = true;
+            return Err(Refused);
+        }
+        self.written += put(self.bytes, self.written, line.as_slice());
+        self.solutions += 1;
+        Ok(())
     }
 }
 
@@ -163,30 +157,40 @@ fn begin<A: Allocator>(tables: &Tables<A>, line: &[u8]) -> Result<Position, Line
 
 /// The status of a search, by whether a solution had no room.
 fn status_of(too_small: bool) -> u8
-    ensures { result ≡ (if too_small then 4 else 0) }
+    ensures { result ≡ (if too_small then status_number NoRoom else status_number Done) }
 {
-    if too_small { 4 } else { 0 }
+    if too_small {
+        Status::NoRoom.number()
+    } else {
+        Status::Done.number()
+    }
 }
 
 /// Hands out the solutions from a position, at most so many.
 fn solve_position<A: Allocator>(
     tables: &Tables<A>,
     position: &Position,
-    limit: Limit,
-    slack: Limit,
+    bounds: Bounds,
     most: u64,
     out: &mut [u8],
 ) -> SolveAnswer
     requires { IsPosition tables.now position.now }
     ensures { (e : Place → Place) → HasPosition tables.now e position.now →
-        SolvesCube tables.now limit slack most e (memory out.old out.new) result }
+        SolvesCube tables.now bounds.limit bounds.slack most e (memory out.old out.new) result }
 {
     // so the first solution tells the least length, also if the search is stopped
     first_is_least();
-    let mut path = TurnPath::new(limit);
+    let mut path = TurnPath::new(bounds.limit);
     let mut looks = Meter::new();
     let mut lines = SolutionLines::new(out, most);
-    let found = search(tables, position, slack, &mut path, &mut looks, &mut lines);
+    let found = search(
+        tables,
+        position,
+        bounds.slack,
+        &mut path,
+        &mut looks,
+        &mut lines,
+    );
     SolveAnswer {
         status: status_of(lines.too_small),
         fault: 0,
@@ -205,24 +209,19 @@ fn solve_position<A: Allocator>(
 pub fn solve_line<A: Allocator>(
     tables: &Tables<A>,
     line: &[u8],
-    limit: u8,
-    slack: u8,
-    most: u64,
+    wanted: Wanted,
     out: &mut [u8],
 ) -> SolveAnswer
-    ensures { SolvesLine tables.now limit slack most line.now (memory out.old out.new) result }
+    ensures { SolvesLine tables.now wanted.limit wanted.slack wanted.most line.now (memory out.old out.new) result }
 {
-    let Some(limit) = Limit::new(limit) else {
-        return SolveAnswer::misused();
-    };
-    let Some(slack) = Limit::new(slack) else {
+    let Some(bounds) = Bounds::new(wanted.limit, wanted.slack) else {
         return SolveAnswer::misused();
     };
     if line.len() > MOST_BYTES {
-        return SolveAnswer::unsolved(3, 0, 0);
+        return SolveAnswer::too_long();
     }
     match begin(tables, line) {
-        Ok(position) => solve_position(tables, &position, limit, slack, most, out),
+        Ok(position) => solve_position(tables, &position, bounds, wanted.most, out),
         Err(fault) => SolveAnswer::faulty(fault),
     }
 }
@@ -231,17 +230,16 @@ pub fn solve_line<A: Allocator>(
 fn count_position<A: Allocator>(
     tables: &Tables<A>,
     position: &Position,
-    limit: Limit,
-    slack: Limit,
+    bounds: Bounds,
 ) -> CountAnswer
     requires { IsPosition tables.now position.now }
     ensures { (e : Place → Place) → HasPosition tables.now e position.now →
-        result ≡ count_at (Ok e) tables.now limit slack }
+        result ≡ count_at (Ok e) tables.now bounds.limit bounds.slack }
 {
     let mut looks = Meter::new();
-    let found = count_solutions(tables, position, limit, slack, &mut looks);
+    let found = count_solutions(tables, position, bounds.limit, bounds.slack, &mut looks);
     CountAnswer {
-        status: 0,
+        status: Status::Done.number(),
         fault: 0,
         least: found.length.unwrap_or(0),
         column: 0,
@@ -259,17 +257,14 @@ pub fn count_line<A: Allocator>(
 ) -> CountAnswer
     ensures { CountsLine tables.now limit slack line.now result }
 {
-    let Some(limit) = Limit::new(limit) else {
-        return CountAnswer::misused();
-    };
-    let Some(slack) = Limit::new(slack) else {
+    let Some(bounds) = Bounds::new(limit, slack) else {
         return CountAnswer::misused();
     };
     if line.len() > MOST_BYTES {
-        return CountAnswer::uncounted(3, 0, 0);
+        return CountAnswer::too_long();
     }
     match begin(tables, line) {
-        Ok(position) => count_position(tables, &position, limit, slack),
+        Ok(position) => count_position(tables, &position, bounds),
         Err(fault) => CountAnswer::faulty(fault),
     }
 }

@@ -1,12 +1,13 @@
 //! Short texts for a caller's buffer: what is written of one line without a search, a scramble, and what things are called.
-ghost use Rattle.std.specs.Prelude.{◌≡◌, ◌≢◌, ◌≤◌, length};
+ghost use Rattle.std.specs.Prelude.{◌≡◌, ◌≢◌, ◌+◌, ◌<◌, ◌≤◌, List, ℕ, [], ◌++◌, length, take};
 ghost use Rattle.std.specs.Option.{option_copied};
+ghost use Rattle.niss_moves.specs.Reader.{IsFed};
 ghost use Rattle.niss_shell.specs.Output.{line_text};
-ghost use Rattle.niss_embed.specs.LineCalls.{Does, Rewrites, outcome_of_text, outcome_of_scramble};
+ghost use Rattle.niss_embed.specs.LineCalls.{status_number, Does, Rewrites, outcome_of_text, outcome_of_scramble};
 ghost use Rattle.niss_embed.specs.LineCalls.{outcome_of_steps, outcome_of_start, outcome_of_some, fault_text_of};
+ghost use Rattle.niss_embed.specs.declared.answer.Status.TheVariants.{NoRoom};
 
-use crate::line_answer::LineAnswer;
-use crate::line_reading::feed_line;
+use crate::answer::LineAnswer;
 use niss_moves::{LineReader, LineText, Niss, ReadFault};
 use niss_shell::{Rewriting, put_scramble, put_steps, rewrite, step_named};
 
@@ -16,10 +17,40 @@ pub(crate) const MOST_BYTES: usize = 16_777_216;
 /// The most turns of a scramble.
 const MOST_TURNS: u32 = 256;
 
+/// Feeds the first bytes, whole moves or one byte, and answers how many.
+fn feed_some(reader: &mut LineReader, bytes: &[u8]) -> usize
+    requires some { 0 < length bytes.now }
+    requires room { reader.old.fed + length bytes.now ≤ 16777216 }
+    ensures some { 0 < result }
+    ensures within { result ≤ length bytes.now }
+    ensures fed { (front : List ℕ) → IsFed reader.old front →
+        IsFed reader.new (front ++ take result bytes.now) }
+{
+    let count = reader.feed_moves(bytes);
+    if count > 0 {
+        return count;
+    }
+    // a fault comes again at the line's end
+    let _ = reader.feed(bytes[0]);
+    1
+}
+
+/// Feeds a whole line to a new reader.
+pub(crate) fn feed_line(reader: &mut LineReader, line: &[u8])
+    requires new { IsFed reader.old [] }
+    requires room { length line.now ≤ 16777216 }
+    ensures { IsFed reader.new line.now }
+{
+    let mut index = 0;
+    while index < line.len() {
+        index += feed_some(reader, &line[index..]);
+    }
+}
+
 /// Writes the text of a line's moves, without the line feed.
 fn put_rewritten(rewriting: Rewriting, line: &Niss, out: &mut [u8]) -> LineAnswer
     ensures does { Does (outcome_of_text (length out.old) (line_text rewriting line.now)) out.old out.new result }
-    ensures room { 2048 ≤ length out.old → result.status ≢ 4 }
+    ensures room { 2048 ≤ length out.old → result.status ≢ status_number NoRoom }
 {
     let mut text = LineText::new();
     rewrite(rewriting, line, &mut text);
@@ -30,7 +61,7 @@ fn put_rewritten(rewriting: Rewriting, line: &Niss, out: &mut [u8]) -> LineAnswe
 /// Writes what the program writes of a line's moves, without the line feed.
 pub fn rewrite_line(rewriting: Rewriting, line: &[u8], out: &mut [u8]) -> LineAnswer
     ensures does { Rewrites rewriting line.now out.old out.new result }
-    ensures room { 2048 ≤ length out.old → result.status ≢ 4 }
+    ensures room { 2048 ≤ length out.old → result.status ≢ status_number NoRoom }
 {
     if line.len() > MOST_BYTES {
         return LineAnswer::too_long();
@@ -46,7 +77,7 @@ pub fn rewrite_line(rewriting: Rewriting, line: &[u8], out: &mut [u8]) -> LineAn
 /// Writes the first scramble of so many turns, at most 256, by the generator of a state and a stream, without the line feed.
 pub fn scramble(state: u64, stream: u64, turns: u32, out: &mut [u8]) -> LineAnswer
     ensures does { Does (outcome_of_scramble (length out.old) state stream turns) out.old out.new result }
-    ensures room { 2048 ≤ length out.old → result.status ≢ 4 }
+    ensures room { 2048 ≤ length out.old → result.status ≢ status_number NoRoom }
 {
     if turns > MOST_TURNS {
         return LineAnswer::misused();
@@ -60,7 +91,7 @@ pub fn scramble(state: u64, stream: u64, turns: u32, out: &mut [u8]) -> LineAnsw
 /// Writes the names of the steps, each with its line feed.
 pub fn step_names(out: &mut [u8]) -> LineAnswer
     ensures does { Does (outcome_of_steps (length out.old)) out.old out.new result }
-    ensures room { 2048 ≤ length out.old → result.status ≢ 4 }
+    ensures room { 2048 ≤ length out.old → result.status ≢ status_number NoRoom }
 {
     let mut text = LineText::new();
     put_steps(&mut text);
@@ -71,7 +102,7 @@ pub fn step_names(out: &mut [u8]) -> LineAnswer
 #[tactic(auto, using(crate::proofs::TextLemmas::start_has_room))]
 pub fn start_name(name: &[u8], out: &mut [u8]) -> LineAnswer
     ensures does { Does (outcome_of_start (length out.old) name.now) out.old out.new result }
-    ensures room { 2048 ≤ length out.old → result.status ≢ 4 }
+    ensures room { 2048 ≤ length out.old → result.status ≢ status_number NoRoom }
 {
     let Some(step) = step_named(name) else {
         return LineAnswer::misused();
@@ -102,7 +133,7 @@ fn text_of_fault(number: u8) -> Option<&'static str>
 #[tactic(auto, using(crate::proofs::TextLemmas::fault_has_room))]
 pub fn fault_text(number: u8, out: &mut [u8]) -> LineAnswer
     ensures does { Does (outcome_of_some (length out.old) (fault_text_of number)) out.old out.new result }
-    ensures room { 2048 ≤ length out.old → result.status ≢ 4 }
+    ensures room { 2048 ≤ length out.old → result.status ≢ status_number NoRoom }
 {
     match text_of_fault(number) {
         Some(text) => LineAnswer::put(text.as_bytes(), out),

@@ -22,7 +22,7 @@ use Rattle.std_heap.specs.contracts.GlobalAllocator.TheImpl.{ghosts}
 use Rattle.std_heap.proofs.Global.TheLaws as heap
 use Rattle.niss_search.proofs.tables.Tables.TheLaws as tables
 use Rattle.niss_kept.specs.Ownership.{tables_row, TheStep, kept_owns}
-use Rattle.niss_kept.specs.contracts.kept.Kept as kept
+use Rattle.niss_kept.specs.contracts.held.Kept as kept
 
 abbrev pub B : RattleType
 B = kept.the_row

@@ -5,7 +5,10 @@ pub use Rattle.niss_moves.proofs.Finite.{same_place_is, same_place_of, same_face
 pub use Rattle.niss_moves.proofs.Finite.{not_true, and_left, and_right, and_both}
 -- tests over all values of a type
 unfoldable pub use Rattle.niss_moves.proofs.Finite.{every_face, every_power, every_axis, every_slice, every_token, every_turn}
-pub use Rattle.niss_moves.proofs.Finite.{turn, at_face, at_token, at_turn}
+pub use Rattle.niss_moves.proofs.Finite.{turn, at_face, at_token, at_turn, at_member}
+-- facts that computation decides
+pub use Rattle.niss_moves.proofs.Finite.{Fact, Yes, Same, Equal, Below, Alike, Both, When, Numbers, Places, Faces, Turns, Among}
+pub use Rattle.niss_moves.proofs.Finite.{Tokens, Digits, Truths, Holds, tested, holds}
 -- sequences one after the other
 pub use Rattle.niss_moves.proofs.Inverses.{effect-append, inverse_after, inverse_before, inverse_whole}
 pub use Rattle.niss_moves.proofs.CanonicalLists.{last_turn-push}

@@ -1,20 +1,22 @@
--- Truth values, and facts over the finite types of the crate by a test that is computed over all values.
-use Rattle.niss_moves.proofs.Names.{refl, ap, sym, subst, arith, ◌≡◌, true, List, [], ◌∷◌, Some, Bool, map, false, ◌&&◌, Option, None}
-use Rattle.niss_moves.proofs.Names.{if◌then◌else◌, eqb, face_order, PlacesAreListed, PlacesDiffer, SameLetters, places, letter_at}
-use Rattle.niss_moves.proofs.Names.{letter_of, letters, Turn, Face, Power, Token, Rotation, U, Quarter, Axis, Ud, Rl, Fb, Slice, M, E, S}
-use Rattle.niss_moves.proofs.Names.{Place, Coord, Neg, Zero, Pos, Vector, vector, same_coord, same_vector, same_place, is_place, SameMap}
-use Rattle.niss_moves.proofs.Names.{same_face}
+-- Truth values, and facts over finite types by a test that is computed over all values.
+use Rattle.niss_moves.proofs.Names.{refl, ap, sym, subst, arith, inl, inr, ◌≡◌, ◌∙◌, ◌<◌, ◌==◌, ℕ, zero, suc, nat_lt, length}
+use Rattle.niss_moves.proofs.Names.{get_or, not, true, List, [], ◌∷◌, Some, Bool, map, false, ◌&&◌, Option, None}
+use Rattle.niss_moves.proofs.Names.{if◌then◌else◌, eqb, face_order, PlacesAreListed, PlacesDiffer, SameLetters, places}
+use Rattle.niss_moves.proofs.Names.{letter_at, letter_of, letters, Turn, Face, Power, Token, Rotation, U, Quarter, Axis, Ud}
+use Rattle.niss_moves.proofs.Names.{Rl, Fb, Slice, M, E, S, Place, Coord, Neg, Zero, Pos, Vector, vector, same_coord}
+use Rattle.niss_moves.proofs.Names.{same_vector, same_place, is_place, SameMap, same_face}
 use Rattle.niss_moves.specs.Canonical.{powers}
 use Rattle.niss_moves.specs.Indices.{face_index, power_index, axis_index, layer_index}
-use Rattle.std.proofs.lemmas.Bool.{and_parts}
-use Rattle.std.proofs.lemmas.List.Sums.{AllPass-from_list_all}
-use Rattle.std.specs.Cmp.{IsEquivalence}
-use Rattle.std.specs.List.{list_any, list_all}
-use Rattle.std.proofs.lemmas.Bool.Decides.{same_from_decides}
+use Rattle.niss_moves.specs.declared.token.Token.TheVariants as token
+use Rattle.std.proofs.lemmas.Bool.{and_parts, eqb-true, ltb-true}
+use Rattle.std.proofs.lemmas.Bool.Decides.{eqb_tells, same_from_decides}
 use Rattle.std.proofs.lemmas.List.Elements.{All-contains}
+use Rattle.std.proofs.lemmas.List.Sums.{AllPass-from_list_all}
 use Rattle.std.proofs.lemmas.Map.Made.{IsDistinct-from_count, AllPairs-from_IsDistinct}
 use Rattle.std.proofs.lemmas.Map.Views.{Contains-from_any}
-use Rattle.niss_moves.specs.declared.token.Token.TheVariants as token
+use Rattle.std.specs.Cmp.{IsEquivalence}
+use Rattle.std.specs.List.{list_any, list_all}
+use Rattle.std.specs.Prelude.{Contains, ◌||◌}
 pub use Rattle.std.proofs.lemmas.Bool.{not-true as not_true, and_from as and_both}
 
 pub and_left : (a b : Bool) → (a && b) ≡ true → a ≡ true
@@ -165,9 +167,15 @@ listed_test = refl
 pub all_places : list_all is_place places ≡ true
 all_places = refl
 
+-- a test that passes for each element of a list
+pub at_member : {A : Type 0} (p : A → Bool) (xs : List A) (x : A) → list_all p xs ≡ true → Contains xs x → p x ≡ true
+at_member p xs x e m = All-contains (λ x. p x ≡ true) xs x (AllPass-from_list_all p xs e) m
+
 pub places_are_listed : PlacesAreListed
-places_are_listed q =
-    (λ h. Contains-from_any same_place_is q places (by_implies _ _ (at_place _ listed_test q) h), λ h. All-contains (λ q. is_place q ≡ true) places q (AllPass-from_list_all is_place places all_places) h)
+places_are_listed q = (
+  (λ h. Contains-from_any same_place_is q places (by_implies _ _ (at_place _ listed_test q) h)),
+  (λ h. at_member is_place places q all_places h),
+)
 
 -- none stands twice
 
@@ -195,3 +203,120 @@ letter_of-same d e s q (p ∷ ps) all =
 pub same_letters : SameLetters
 unfolding letters
 same_letters d e s = λ i. map (λ q. letter_of-same d e s q places all_places i) places
+
+-- A fact that computation decides: if its test passes, it holds.
+
+pub data Fact : Type 0 where
+  Yes : Bool → Fact
+  Same : Bool → Bool → Fact
+  Equal : ℕ → ℕ → Fact
+  Below : ℕ → ℕ → Fact
+  Alike : Place → Place → Fact
+  Both : Fact → Fact → Fact
+  When : Bool → Fact → Fact
+  Numbers : ℕ → (ℕ → Fact) → Fact
+  Places : (Place → Fact) → Fact
+  Faces : (Face → Fact) → Fact
+  Turns : (Turn → Fact) → Fact
+  Among : List Turn → (Turn → Fact) → Fact
+  Tokens : (Token → Fact) → Fact
+  Digits : ℕ → ℕ → (List ℕ → Fact) → Fact
+  Truths : ℕ → (List Bool → Fact) → Fact
+
+abbrev pub Holds : Fact → Type 0
+Holds (Yes b) = b ≡ true
+Holds (Same a b) = a ≡ b
+Holds (Equal m n) = m ≡ n
+Holds (Below m n) = m < n
+Holds (Alike p q) = p ≡ q
+Holds (Both f g) = Holds f × Holds g
+Holds (When b f) = b ≡ true → Holds f
+Holds (Numbers n f) = (k : ℕ) → k < n → Holds (f k)
+Holds (Places f) = (q : Place) → is_place q ≡ true → Holds (f q)
+Holds (Faces f) = (face : Face) → Holds (f face)
+Holds (Turns f) = (t : Turn) → Holds (f t)
+Holds (Among ts f) = (t : Turn) → Contains ts t → Holds (f t)
+Holds (Tokens f) = (m : Token) → Holds (f m)
+Holds (Digits b n f) = (ds : List ℕ) → length ds ≡ n → ((i : ℕ) → i < n → get_or ds i 0 < b) → Holds (f ds)
+Holds (Truths n f) = (bs : List Bool) → length bs ≡ n → Holds (f bs)
+
+abbrev every_below : ℕ → (ℕ → Bool) → Bool
+every_below zero p = true
+every_below (suc n) p = every_below n p && p n
+
+-- each list of n digits in base b, and of n truth values
+abbrev every_digits : ℕ → ℕ → (List ℕ → Bool) → Bool
+every_digits b zero p = p []
+every_digits b (suc n) p = every_below b (λ d. every_digits b n (λ ds. p (d ∷ ds)))
+
+abbrev every_truths : ℕ → (List Bool → Bool) → Bool
+every_truths zero p = p []
+every_truths (suc n) p = every_truths n (λ bs. p (true ∷ bs)) && every_truths n (λ bs. p (false ∷ bs))
+
+abbrev same_bool : Bool → Bool → Bool
+same_bool true b = b
+same_bool false b = not b
+
+abbrev pub tested : Fact → Bool
+tested (Yes b) = b
+tested (Same a b) = same_bool a b
+tested (Equal m n) = m == n
+tested (Below m n) = nat_lt m n
+tested (Alike p q) = same_place p q
+tested (Both f g) = tested f && tested g
+tested (When b f) = not b || tested f
+tested (Numbers n f) = every_below n (λ k. tested (f k))
+tested (Places f) = list_all (λ q. tested (f q)) places
+tested (Faces f) = every_face (λ face. tested (f face))
+tested (Turns f) = every_turn (λ t. tested (f t))
+tested (Among ts f) = list_all (λ t. tested (f t)) ts
+tested (Tokens f) = every_token (λ m. tested (f m))
+tested (Digits b n f) = every_digits b n (λ ds. tested (f ds))
+tested (Truths n f) = every_truths n (λ bs. tested (f bs))
+
+at_below : (n : ℕ) (p : ℕ → Bool) → every_below n p ≡ true → (k : ℕ) → k < n → p k ≡ true
+at_below zero p e k l = absurd (omega arith)
+at_below (suc n) p e k l = elim (eqb_tells k n) [
+  | inl w ↦ ap p w.1 ∙ and_right (every_below n p) (p n) e
+  | inr w ↦ at_below n p (and_left _ _ e) k (grind (arith, w.1))
+]
+
+at_digits : (b : ℕ) (ds : List ℕ) (p : List ℕ → Bool) → every_digits b (length ds) p ≡ true →
+    ((i : ℕ) → i < length ds → get_or ds i 0 < b) → p ds ≡ true
+at_digits b [] p e r = e
+at_digits b (d ∷ ds) p e r =
+    let first = at_below b (λ d. every_digits b (length ds) (λ ds. p (d ∷ ds))) e d (r 0 (omega arith)) in
+    at_digits b ds (λ ds. p (d ∷ ds)) first (λ i l. r (suc i) (omega arith))
+
+at_truths : (bs : List Bool) (p : List Bool → Bool) → every_truths (length bs) p ≡ true → p bs ≡ true
+at_truths [] p e = e
+at_truths (true ∷ bs) p e = at_truths bs (λ bs. p (true ∷ bs)) (and_left _ _ e)
+at_truths (false ∷ bs) p e = at_truths bs (λ bs. p (false ∷ bs)) (and_right (every_truths (length bs) (λ bs. p (true ∷ bs))) _ e)
+
+same_bool_is : (a b : Bool) → same_bool a b ≡ true → a ≡ b
+same_bool_is true b e = sym e
+same_bool_is false true e = e
+same_bool_is false false e = refl
+
+or_then : (a b : Bool) → (not a || b) ≡ true → a ≡ true → b ≡ true
+or_then true b e h = e
+or_then false b e h = cc
+
+pub holds : (f : Fact) → tested f ≡ true → Holds f
+holds (Yes b) e = e
+holds (Same a b) e = same_bool_is a b e
+holds (Equal m n) e = eqb-true m n e
+holds (Below m n) e = ltb-true m n e
+holds (Alike p q) e = same_place_is p q e
+holds (Both f g) e = (holds f (and_left _ _ e), holds g (and_right (tested f) _ e))
+holds (When b f) e = λ h. holds f (or_then b _ e h)
+holds (Numbers n f) e = λ k l. holds (f k) (at_below n (λ k. tested (f k)) e k l)
+holds (Places f) e = λ q h. holds (f q) (at_member (λ q. tested (f q)) places q e ((places_are_listed q).0 h))
+holds (Faces f) e = λ face. holds (f face) (at_face (λ face. tested (f face)) e face)
+holds (Turns f) e = λ t. holds (f t) (at_turn (λ t. tested (f t)) e t)
+holds (Among ts f) e = λ t m. holds (f t) (at_member (λ t. tested (f t)) ts t e m)
+holds (Tokens f) e = λ m. holds (f m) (at_token (λ m. tested (f m)) e m)
+holds (Digits b n f) e = λ ds l r.
+    let all = ap (λ n. every_digits b n (λ ds. tested (f ds))) l ∙ e in
+    holds (f ds) (at_digits b ds (λ ds. tested (f ds)) all (λ i li. r i (omega (arith, l, li))))
+holds (Truths n f) e = λ bs l. holds (f bs) (at_truths bs (λ bs. tested (f bs)) (ap (λ n. every_truths n (λ bs. tested (f bs))) l ∙ e))

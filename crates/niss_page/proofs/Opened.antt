@@ -19,7 +19,7 @@ use denote.Struct.Lending.{in_block_pure}
 use Rattle.linked_list_allocator.proofs.Values.{list_val, list_own, list_told, list_made}
 use Rattle.niss_page.specs.Rows.{tables_row}
 use Rattle.niss_page.specs.Ownership.{TheStep, kept_owns}
-use Rattle.niss_page.specs.contracts.kept.Kept as kept
+use Rattle.niss_page.specs.contracts.held.Kept as kept
 use Rattle.niss_page.proofs.LentLaws.{lent_tables_laws}
 
 abbrev pub B : RattleType

@@ -1,7 +1,11 @@
-//! The arena over lent memory in which tables are built.
+//! The arena over lent memory, in which words and tables stand.
+ghost use Rattle.std.specs.Prelude.{◌≡◌, IfSome};
+
 use crate::one_block::OneBlock;
+use crate::room::Room;
 use bumpalo::Bump;
-use niss_search::Tables;
+use niss_cube::Step;
+use niss_search::{Meter, Tables};
 
 /// What an arena takes at most beside the bytes that it is asked for: it adds its footer, and goes up to whole pages.
 const BESIDE: usize = 4160;
@@ -13,6 +17,40 @@ pub(crate) type Arena = Bump<OneBlock>;
 pub(crate) type LentTables = Tables<&'static Arena>;
 
 /// How many bytes an arena can be asked for that is to have all of this block.
-pub(crate) fn capacity_of(block: &OneBlock) -> usize {
+fn capacity_of(block: &OneBlock) -> usize {
     block.size().saturating_sub(BESIDE)
+}
+
+/// An arena that has the block already, where that isn't too small.
+pub(crate) fn arena_of(block: &OneBlock) -> Bump<&OneBlock> {
+    match Bump::try_with_capacity(block, capacity_of(block)) {
+        Ok(arena) => arena,
+        Err(_) => Bump::new(block),
+    }
+}
+
+/// An arena in the large room that stays in the small one.
+pub(crate) fn arena_in(small: Room, large: Room) -> Option<&'static Arena> {
+    let block = OneBlock::new(large);
+    let capacity = capacity_of(&block);
+    let Ok(arena) = Bump::try_with_capacity(block, capacity) else {
+        return None;
+    };
+    match Box::new(OneBlock::new(small), arena) {
+        Ok(arena) => Some(Box::leak(arena)),
+        Err(_) => None,
+    }
+}
+
+/// Tables that stay in an arena.
+pub(crate) fn tables_in(arena: &'static Arena, step: Step) -> Option<&'static LentTables>
+    ensures { IfSome result (λ tables. tables.now ≡ step) }
+{
+    let Ok(tables) = Tables::build_in(arena, step, &mut Meter::new()) else {
+        return None;
+    };
+    match Box::new(arena, tables) {
+        Ok(tables) => Some(Box::leak(tables)),
+        Err(_) => None,
+    }
 }

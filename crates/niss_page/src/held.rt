@@ -1,47 +1,59 @@
-//! What a host holds: tables, or none.
-ghost use Rattle.std.specs.Prelude.{◌≡◌, true, false, MatchOption, IfSome};
+//! What a host holds: tables in memory that was lent for good, or none, and their pointer.
+ghost use Rattle.std.specs.Prelude.{◌≡◌, Bool, true, false, MatchOption};
+ghost use Rattle.niss_page.specs.Ownership.{TheStep, step_coded, kept_owns};
 
-use crate::arena::{Arena, LentTables, capacity_of};
-use crate::kept::Kept;
-use crate::one_block::OneBlock;
+use crate::arena::{LentTables, arena_in, tables_in};
 use crate::room::Room;
-use bumpalo::Bump;
 use niss_cube::Step;
-use niss_search::{Meter, Tables};
+use std::marker::Model;
+use std::ptr::null_mut;
+
+/// The pointer of tables that stay. If it isn't full it points to nothing.
+#[repr(C)]
+#[derive(Drop)]
+pub struct Kept {
+    at: *mut u8,
+    pub ghost full: { Bool },
+    pub ghost step: { TheStep } by { step_coded },
+}
+
+impl Model for Kept {
+    ghost also_owns = { λ l. kept_owns l.full l.at l.step };
+}
+
+impl Kept {
+    /// No tables.
+    fn none() -> Kept
+        ensures { result.full ≡ false }
+    {
+        Kept { at: null_mut() }
+    }
+
+    /// These tables.
+    fn of(tables: &'static LentTables) -> Kept
+        ensures { (result.full ≡ true) × (result.step ≡ tables.now) }
+    {
+        Kept {
+            at: tables as *const LentTables as *mut u8,
+        }
+    }
+
+    /// The tables.
+    fn get(&self) -> &'static LentTables
+        requires { self.now.full ≡ true }
+        ensures { result.now ≡ self.now.step }
+    {
+        unsafe { &*(self.at as *const LentTables) }
+    }
+}
 
 /// Tables of a step, or none. All zeros are none. A copy of it is as good as itself.
 #[repr(C)]
 #[derive(Drop)]
 pub struct Held {
-    kept: Kept,
+    pub kept: Kept,
     pub built: bool,
     ghost agrees: { kept.full ≡ built },
-}
-
-/// An arena in the large room that stays in the small one.
-fn arena_in(small: Room, large: Room) -> Option<&'static Arena> {
-    let block = OneBlock::new(large);
-    let capacity = capacity_of(&block);
-    let Ok(arena) = Bump::try_with_capacity(block, capacity) else {
-        return None;
-    };
-    match Box::new(OneBlock::new(small), arena) {
-        Ok(arena) => Some(Box::leak(arena)),
-        Err(_) => None,
-    }
-}
-
-/// Tables that stay in an arena.
-fn tables_in(arena: &'static Arena, step: Step) -> Option<&'static LentTables>
-    ensures { IfSome result (λ tables. tables.now ≡ step) }
-{
-    let Ok(tables) = Tables::build_in(arena, step, &mut Meter::new()) else {
-        return None;
-    };
-    match Box::new(arena, tables) {
-        Ok(tables) => Some(Box::leak(tables)),
-        Err(_) => None,
-    }
 }
 
 impl Held {

@@ -3,18 +3,17 @@
 
 mod arena;
 mod held;
-mod kept;
-mod line_calls;
 mod one_block;
 mod room;
 mod run_call;
 mod table_calls;
 mod text_calls;
 
-pub use held::Held;
-pub use kept::Kept;
-pub use line_calls::{nissy_cleanup, nissy_invert, nissy_print, nissy_unniss};
+pub use held::{Held, Kept};
 pub use room::{Block, Room};
 pub use run_call::nissy_run;
 pub use table_calls::{nissy_build, nissy_count, nissy_solve};
-pub use text_calls::{nissy_fault_text, nissy_scramble, nissy_start, nissy_steps};
+pub use text_calls::{
+    nissy_cleanup, nissy_fault_text, nissy_invert, nissy_print, nissy_scramble, nissy_start,
+    nissy_steps, nissy_unniss,
+};

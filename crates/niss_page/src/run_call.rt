@@ -3,20 +3,11 @@ ghost use Rattle.std.specs.Prelude.{◌≡◌, ◌⊎◌};
 ghost use Rattle.niss_embed.specs.Memory.{memory};
 ghost use Rattle.niss_embed.specs.Run.{RunsBytes};
 
-use crate::arena::capacity_of;
+use crate::arena::arena_of;
 use crate::one_block::OneBlock;
 use crate::room::Room;
-use bumpalo::Bump;
 use niss_embed::{Answer, run_bytes};
 use std::mem::replace;
-
-/// An arena that has the block already, where that isn't too small.
-fn arena_of(block: &OneBlock) -> Bump<&OneBlock> {
-    match Bump::try_with_capacity(block, capacity_of(block)) {
-        Ok(arena) => arena,
-        Err(_) => Bump::new(block),
-    }
-}
 
 /// Does what the program does with these words and this input, as `run_bytes` of `niss_embed`: its output goes to `out`, its
 /// error text to `err`. The words and the tables of a step take memory of the room.

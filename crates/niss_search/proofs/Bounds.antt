@@ -1,12 +1,21 @@
--- How many canonical sequences there are, by the laws over their counts; the looks are within the bound, and the bound is small.
+-- How many canonical sequences there are, by the laws over their counts; the looks are within the bound, and the bound
+-- is small. And how many turns may follow one, from which a word picks the next.
 use Rattle.niss_search.proofs.Words.{◌≡◌, arith, length, ◌+◌, ◌<◌, ℕ, ap, ◌≤◌, [], List, turns_of, ◌*◌, ◌∷◌, Bool, Turn}
-use Rattle.niss_search.proofs.Words.{suc, cond, range_with_len, ◌++◌, zero, get_or, may_follow, last_turn, subst, count_by}
-use Rattle.niss_search.proofs.Words.{filter, sum_by, sum_by-cons, None, list_any, Option, Some, ◌^◌, last_length, looks}
-use Rattle.niss_search.proofs.Words.{unwrap_or, up_to, all_canonical, canonical_extensions, least_length, length-flat_map}
-use Rattle.niss_search.proofs.Words.{all_looks, is_looked_at, length-map, look_bound, sum_by-le-sum_by, count_by-le-length}
-use Rattle.niss_search.proofs.Words.{count_of_length, sum_by-le, BoundIsSmall, length-filter, pow-suc, ◌∙◌, sym, refl, B, D, F, Face, L}
-use Rattle.niss_search.proofs.Words.{R, U, face_may_follow, last_turn-push, turn_order, CountRecurrence, PartHasNoMore, StepBoundIsLess}
-use Rattle.niss_search.proofs.Words.{StepTurnsInOrder, goes_first, map, not}
+use Rattle.niss_search.proofs.Words.{suc, cond}
+use Rattle.niss_search.proofs.Words.{range_with_len, ◌++◌, zero, get_or, may_follow, last_turn, subst, count_by, filter}
+use Rattle.niss_search.proofs.Words.{sum_by}
+use Rattle.niss_search.proofs.Words.{sum_by-cons, None, Space, reaching, nat_lt, Option, Some, ◌^◌, last_length, looks}
+use Rattle.niss_search.proofs.Words.{unwrap_or, up_to}
+use Rattle.niss_search.proofs.Words.{all_canonical, canonical_extensions, least_length, length-flat_map, all_looks}
+use Rattle.niss_search.proofs.Words.{is_looked_at}
+use Rattle.niss_search.proofs.Words.{length-map, look_bound, sum_by-le-sum_by, count_by-le-length, count_of_length}
+use Rattle.niss_search.proofs.Words.{sum_by-le, BoundIsSmall}
+use Rattle.niss_search.proofs.Words.{length-filter, pow-suc, ◌∙◌, sym, refl, B, D, F, Face, L, R, U, face_may_follow}
+use Rattle.niss_search.proofs.Words.{last_turn-push}
+use Rattle.niss_search.proofs.Words.{turn_order, CountRecurrence, PartHasNoMore, StepBoundIsLess, StepTurnsInOrder}
+use Rattle.niss_search.proofs.Words.{goes_first, map, not}
+use Rattle.niss_search.proofs.Words.{true, ◌-◌, ◌/◌, no_turn, choice, filter_passes, mul-le-mul_right, choices, lit<}
+use Rattle.niss_search.proofs.Words.{false}
 use Rattle.std.proofs.Math.Nat.{pow-le-pow_right}
 use Rattle.std.proofs.lemmas.List.Filters.{sum_by-filter_both}
 use Rattle.niss_search.proofs.ListLemmas.{sum_by-same}
@@ -17,10 +26,11 @@ pub use Rattle.niss_cube.proofs.CallerLemmas.{turns_of-length, turns_of-oriented
 pub ruleset few_turns = (turns_of-length)
 
 -- the looks of a deepening are at most the canonical sequences of its lengths
-looks-le : (turns : List Turn) (far : List Turn → ℕ) (d : ℕ) → looks turns far d ≤ sum_by (count_of_length turns) (up_to d)
+looks-le : {turns : List Turn} {S : Type 0} (space : Space turns S) (look : S → ℕ) (start : S) (d : ℕ) → looks space look start d ≤ sum_by (count_of_length turns) (up_to d)
 unfolding looks
-looks-le turns far d =
-    sum_by-le-sum_by (λ k. count_by (is_looked_at far d) (all_canonical turns k)) (count_of_length turns) (up_to d) (λ k. count_by-le-length (is_looked_at far d) (all_canonical turns k))
+looks-le {turns} space look start d =
+    let looked = is_looked_at space look start d in
+    sum_by-le-sum_by (λ k. count_by looked (all_canonical turns k)) (count_of_length turns) (up_to d) (λ k. count_by-le-length looked (all_canonical turns k))
 
 range-le : (f : ℕ → ℕ) (m a n : ℕ) → ((j : ℕ) → j < a + n → f j ≤ m) → sum_by f (range_with_len a n) ≤ n * m
 range-le f m a zero h = omega arith
@@ -52,22 +62,28 @@ pub last-within : (o : Option ℕ) (n slack : ℕ) → last_length o n slack ≤
 last-within None n slack = omega arith
 last-within (Some least) n slack = omega arith
 
--- the looks of every deepening are within the bound
-pub all_looks-bound : (turns : List Turn) (reaches : List Turn → Bool) (far : List Turn → ℕ) (n slack : ℕ) → all_looks turns reaches far n slack ≤ look_bound turns n
-unfolding all_looks look_bound
-all_looks-bound turns reaches far n slack =
-    prefix-le (looks turns far) (λ d. sum_by (count_of_length turns) (up_to d)) 0 (last_length (least_length turns reaches n) n slack + 1) (n + 1) (looks-le turns far) (omega (arith, last-within (least_length turns reaches n) n slack))
+module _ {turns : List Turn} {S : Type 0} (space : Space turns S) where
+  pub least-within : (start : S) (n d : ℕ) → least_length space start n ≡ Some d → d ≤ n
+  unfolding least_length
+  least-within start n d e =
+      let P : Option ℕ → Type 0 = λ o. unwrap_or o n ≤ n in
+      subst P e (first_or-within (λ k. nat_lt 0 (length (reaching space start k))) 0 (n + 1) n n (omega arith) (omega arith))
 
-pub looks-sum-small : (turns : List Turn) (far : List Turn → ℕ) (d : ℕ) → length turns ≤ 18 → d ≤ 21 → sum_by (looks turns far) (range_with_len 0 d) ≤ 21 * (21 * 18 ^ 20)
-unfolding look_bound
-looks-sum-small turns far d h l =
-    omega (arith, prefix-le (looks turns far) (λ d. sum_by (count_of_length turns) (up_to d)) 0 d 21 (looks-le turns far) l, look_bound-small turns 20 h (omega arith))
+  module _ (look : S → ℕ) (start : S) where
+    abbrev most : ℕ → ℕ
+    most d = sum_by (count_of_length turns) (up_to d)
 
-pub least-within : (turns : List Turn) (reaches : List Turn → Bool) (n d : ℕ) → least_length turns reaches n ≡ Some d → d ≤ n
-unfolding least_length
-least-within turns reaches n d e =
-    let P : Option ℕ → Type 0 = λ o. unwrap_or o n ≤ n in
-    subst P e (first_or-within (λ k. list_any reaches (all_canonical turns k)) 0 (n + 1) n n (omega arith) (omega arith))
+    -- the looks of every deepening are within the bound
+    pub all_looks-bound : (n slack : ℕ) → all_looks space look start n slack ≤ look_bound turns n
+    unfolding all_looks look_bound
+    all_looks-bound n slack =
+        let least = least_length space start n in
+        prefix-le (looks space look start) most 0 (last_length least n slack + 1) (n + 1) (looks-le space look start) (omega (arith, last-within least n slack))
+
+    pub looks-sum-small : (d : ℕ) → length turns ≤ 18 → d ≤ 21 → sum_by (looks space look start) (range_with_len 0 d) ≤ 21 * (21 * 18 ^ 20)
+    unfolding look_bound
+    looks-sum-small d h l =
+        omega (arith, prefix-le (looks space look start) most 0 d 21 (looks-le space look start) l, look_bound-small turns 20 h (omega arith))
 
 -- the bound of a step is small
 pub bound-small : BoundIsSmall
@@ -145,3 +161,34 @@ part-bound part turns n =
 pub step-bound : StepTurnsInOrder → StepBoundIsLess
 step-bound in_order s n =
     subst (λ (turns : List Turn). look_bound turns n ≤ look_bound turn_order n) (sym (in_order s).1) (part-bound (in_order s).0 turn_order n)
+
+-- how many turns may follow one of a face
+pub count_after : (f : Face) → length (filter (λ t. face_may_follow f t.face) turn_order) ≡ cond {A = ℕ} (goes_first f) 15 12
+count_after U = refl
+count_after D = refl
+count_after R = refl
+count_after L = refl
+count_after F = refl
+count_after B = refl
+
+some : (first : Bool) → 0 < cond {A = ℕ} first 15 12
+some true = lit< tt
+some false = lit< tt
+
+-- some turn may always follow
+choices-some : (last : Option Turn) → 0 < length (choices last)
+choices-some None = lit< tt
+choices-some (Some t) = rw (count_after t.face) (some (goes_first t.face))
+
+-- a word's index is that of a choice
+pub choice-index : (last : Option Turn) (w : ℕ) → w < 2 ^ 32 → w * length (choices last) / 2 ^ 32 < length (choices last)
+choice-index last w h =
+    let k = length (choices last) in
+    let top : w * k ≤ (2 ^ 32 - 1) * k = mul-le-mul_right k (omega arith) in
+    let some = choices-some last in
+    omega arith
+
+-- the turn that a word picks may follow
+pub choice-follows : (last : Option Turn) (w : ℕ) → w < 2 ^ 32 → may_follow last (choice last w) ≡ true
+choice-follows last w h =
+    filter_passes (may_follow last) turn_order _ no_turn (choice-index last w h)

@@ -1,12 +1,9 @@
 pub mod Words
 pub mod ListLemmas
-pub mod DescentLemmas
 pub mod DepthFirst
 pub mod LookLemmas
 pub mod Bounds
 pub mod DeepeningLemmas
-pub mod Transfer
-pub mod DrawLemmas
 pub mod EntryLemmas
 pub mod GoalLemmas
 pub mod FillLemmas

@@ -1,9 +1,11 @@
 -- Lists joined, filtered and summed.
-use Rattle.niss_search.proofs.Words.{◌≡◌, arith, length, ◌+◌, ◌<◌, ℕ, ap, ◌∙◌, sym, ◌≤◌, [], List, refl, ◌-◌, ◌∷◌, Bool, false, suc}
-use Rattle.niss_search.proofs.Words.{range_with_len, ◌++◌, zero, map, Contains, flat_map, filter, sum_by, sum_by-cons, sum_by-le, list_any}
-use Rattle.niss_search.proofs.Words.{nat_le, nat_tests, flat_map-append, find, sum_by-append, Contains-get_or, add-one}
-use Rattle.niss_search.proofs.Words.{Contains-append_right, add-zero, filter-append, sum_by_push, length-range_with_len, leb-false}
-use Rattle.std.proofs.lemmas.List.{nil_from_length}
+use Rattle.niss_search.proofs.Words.{◌≡◌, arith, length, ◌+◌, ◌<◌, ℕ, ap, ◌∙◌, sym, ◌≤◌, [], List, refl, ◌-◌, ◌∷◌, Bool}
+use Rattle.niss_search.proofs.Words.{suc}
+use Rattle.niss_search.proofs.Words.{range_with_len, ◌++◌, zero, map, Contains, flat_map, filter, sum_by, sum_by-cons}
+use Rattle.niss_search.proofs.Words.{sum_by-le, list_any}
+use Rattle.niss_search.proofs.Words.{nat_le, nat_tests, flat_map-append, sum_by-append, Contains-get_or, add-one}
+use Rattle.niss_search.proofs.Words.{Contains-append_right, add-zero, filter-append, sum_by_push, length-range_with_len}
+use Rattle.niss_search.proofs.Words.{append-nil}
 use Rattle.std.proofs.lemmas.List.FromFn.{get_or-range_with_len}
 
 module _ {X : Type 0} where
@@ -17,9 +19,6 @@ pub sum_by-none : {X : Type 0} (f : X → ℕ) (xs : List X) → ((x : X) → Co
 sum_by-none f xs h = omega (arith, sum_by-le f 0 xs (λ k d l. omega (arith, h _ (Contains-get_or xs k d l))))
 
 module _ {X A : Type 0} where
-  pub flat_map-same : (f g : X → List A) (xs : List X) → ((x : X) → f x ≡ g x) → flat_map f xs ≡ flat_map g xs
-  flat_map-same f g xs h = ap (λ (k : X → List A). flat_map k xs) (λ i x. h x i)
-
   pub flat_map-none : (f : X → List A) (xs : List X) → ((x : X) → Contains xs x → f x ≡ []) → flat_map f xs ≡ []
   flat_map-none f [] h = refl
   flat_map-none f (x ∷ xs) h =
@@ -58,9 +57,6 @@ module _ {X Y : Type 0} where
 module _ {X : Type 0} where
   pub sum_by-same : (f g : X → ℕ) (xs : List X) → ((x : X) → f x ≡ g x) → sum_by f xs ≡ sum_by g xs
   sum_by-same f g xs h = ap (λ (k : X → ℕ). sum_by k xs) (λ i x. h x i)
-
-  pub find-same : (p q : X → Bool) (xs : List X) → ((x : X) → p x ≡ q x) → find p xs ≡ find q xs
-  find-same p q xs h = ap (λ (k : X → Bool). find k xs) (λ i x. h x i)
 
   -- some element passes exactly where the filtered list is not empty
   pub list_any-filter : (p : X → Bool) (xs : List X) → list_any p xs ≡ nat_le 1 (length (filter p xs))
@@ -108,5 +104,8 @@ range-push d =
 pub sum_by-range_more : (f : ℕ → ℕ) (n : ℕ) → sum_by f (range_with_len 0 (n + 1)) ≡ sum_by f (range_with_len 0 n) + f n
 sum_by-range_more f n = rw (range-push n) (sum_by_push f (range_with_len 0 n) n)
 
-pub filter-none : {X : Type 0} (p : X → Bool) (xs : List X) → list_any p xs ≡ false → filter p xs ≡ []
-filter-none p xs e = nil_from_length (filter p xs) (omega (arith, leb-false 1 (length (filter p xs)) (sym (list_any-filter p xs) ∙ e)))
+pub flat_map-range_more : {A : Type 0} (f : ℕ → List A) (n : ℕ) → flat_map f (range_with_len 0 (n + 1)) ≡ flat_map f (range_with_len 0 n) ++ f n
+flat_map-range_more f n =
+    ap (flat_map f) (range-push n)
+    ∙ flat_map-append f (range_with_len 0 n) (n ∷ [])
+    ∙ ap (λ ys. flat_map f (range_with_len 0 n) ++ ys) (append-nil (f n))

@@ -1,31 +1,34 @@
--- How far a step is, by the sequences that reach and of a position: 0 exactly at the goal, at most one more than after a turn, and
--- one more than after some.
-use Rattle.niss_search.proofs.Words.{◌≡◌, arith, ◌+◌, ◌<◌, ℕ, ap, ◌∙◌, ◌≤◌, [], List, refl, true, ◌∷◌, Bool, Turn, suc, cond}
-use Rattle.niss_search.proofs.Words.{range_with_len, zero, map, Contains, flat_map, leb, inl, inr, list_any, ◌⊎◌, min}
-use Rattle.niss_search.proofs.Words.{unwrap_or, find, distance, ◌||◌, all_sequences, list_any-append, list_any_at, sym}
-use Rattle.niss_search.proofs.Words.{turns_of, Coordinates, distance_at, Step, position_after, is_reached_at, are_zero, coordinates_after}
-use Rattle.niss_search.proofs.Words.{fold, or-false, DistanceIsLeast, nat_tests}
+-- How far a goal is, in a space of states: 0 exactly at the goal, at most one more than after a turn, and one more than
+-- after some. And what of a cube depends on its position alone: so what holds of a position holds of every cube that
+-- has it.
+use Rattle.niss_search.proofs.Words.{◌≡◌, arith, ◌+◌, ◌<◌, ℕ, ap, ◌∙◌, ◌≤◌, [], List, refl, true, ◌∷◌, Bool, Turn, suc}
+use Rattle.niss_search.proofs.Words.{cond, zero}
+use Rattle.niss_search.proofs.Words.{range_with_len, Contains, leb, inl, inr, list_any, ◌⊎◌, min, unwrap_or, find, ◌||◌}
+use Rattle.niss_search.proofs.Words.{list_any_at, sym}
+use Rattle.niss_search.proofs.Words.{turns_of, Coordinates, distance_at, Step, position_after, is_reached_at}
+use Rattle.niss_search.proofs.Words.{coordinates_after, positions}
+use Rattle.niss_search.proofs.Words.{or-false, DistanceIsLeast, nat_tests, Space, distance, is_reached_in, are_zero}
+use Rattle.niss_search.proofs.Words.{canonical_extensions}
+use Rattle.niss_search.proofs.Words.{PositionsFollowCubes, All-contains_itself, solution_lengths}
+use Rattle.niss_search.proofs.Words.{after_all}
+use Rattle.niss_search.proofs.Words.{DominoKeepsStart, last_turn, all_canonical}
+use Rattle.niss_search.proofs.Words.{coordinates_of}
+use Rattle.niss_search.proofs.Words.{AreCoordinates, StepsSeePlaces, Homomorphism, least_length, is_looked_at}
+use Rattle.niss_search.proofs.Words.{option_map_or, alike_is_cube}
+use Rattle.niss_search.proofs.Words.{length-filter, last_length, HasPosition, distance_of, TurnedIsCube, length}
+use Rattle.niss_search.proofs.Words.{may_follow, all_looks}
+use Rattle.niss_search.proofs.Words.{solutions, All-append, All-filter, StartIsKept, position_of, nat_lt, flat_map}
+use Rattle.niss_search.proofs.Words.{count_by, reaching}
+use Rattle.niss_search.proofs.Words.{All-head, may_start, zero_test, All-push, All-tail, All-take, reached, All-cons}
+use Rattle.niss_search.proofs.Words.{All-map, goals_of}
+use Rattle.niss_search.proofs.Words.{slice_of, twist_of, filter, nat_le, turned, IsTrue, All-nil, Option, Domino}
+use Rattle.niss_search.proofs.Words.{IsCube, SameMap, flip_of}
+use Rattle.niss_search.proofs.Words.{sum_by, ◌++◌, take, Place, looks, up_to, subst, Edges, holds, ◌-◌, map, All, ◌↔◌}
+use Rattle.niss_search.proofs.Words.{Flip, Axis, Goal}
+use Rattle.niss_search.proofs.Words.{leb-true}
 use Rattle.std.proofs.lemmas.List.Folds.{Any-from_list_any}
-
-list_any-map : {X Y : Type 0} (p : Y → Bool) (f : X → Y) (xs : List X) → list_any p (map f xs) ≡ list_any (λ x. p (f x)) xs
-list_any-map p f [] = refl
-list_any-map p f (x ∷ xs) = ap (λ b. p (f x) || b) (list_any-map p f xs)
-
-list_any-flat_map : {X Y : Type 0} (p : Y → Bool) (f : X → List Y) (xs : List X) → list_any p (flat_map f xs) ≡ list_any (λ x. list_any p (f x)) xs
-list_any-flat_map p f [] = refl
-list_any-flat_map p f (x ∷ xs) =
-    list_any-append p (f x) (flat_map f xs) ∙ ap (λ b. list_any p (f x) || b) (list_any-flat_map p f xs)
-
--- whether some sequence of length k reaches
-abbrev pub reached_in : List Turn → (List Turn → Bool) → ℕ → Bool
-reached_in turns reaches k = list_any reaches (all_sequences turns k)
-
--- by its first turn
-reached_in-suc : (turns : List Turn) (reaches : List Turn → Bool) (k : ℕ) → reached_in turns reaches (suc k) ≡ list_any (λ t. reached_in turns (λ s. reaches (t ∷ s)) k) turns
-unfolding all_sequences
-reached_in-suc turns reaches k =
-    list_any-flat_map reaches (λ t. map (λ s. t ∷ s) (all_sequences turns k)) turns
-    ∙ ap (λ (p : Turn → Bool). list_any p turns) (λ i t. list_any-map reaches (λ s. t ∷ s) (all_sequences turns k) i)
+use Rattle.niss_search.proofs.ListLemmas.{Contains-first, Contains-later, list_any-filter}
+use Rattle.niss_cube.specs.declared.cube.coordinate.Coordinate.TheVariants as coordinate
 
 -- the first number from a on, of n, that passes, or else d
 abbrev pub first_or : (ℕ → Bool) → ℕ → ℕ → ℕ → ℕ
@@ -60,76 +63,225 @@ first_or-either f g a zero d h = omega arith
 first_or-either f g a (suc n) d h =
     grind (arith, first_or-suc, first_or-from f (a + 1) n d, first_or-from g (a + 1) n d, first_or-either f g (a + 1) n d)
 
--- where either of two tests is to be reached, the nearer one gives the distance
-distance-either : (turns : List Turn) (p q : List Turn → Bool) → distance turns (λ s. p s || q s) ≡ min (distance turns p) (distance turns q)
-unfolding distance
-distance-either turns p q =
-    ap (λ (f : ℕ → Bool). first_or f 0 21 21) (λ i k. list_any-either p q (all_sequences turns k) i)
-    ∙ first_or-either (reached_in turns p) (reached_in turns q) 0 21 21 (omega arith)
-
-module _ (turns : List Turn) (reaches : List Turn → Bool) where
-  distance-le : (k : ℕ) → k ≤ 20 → reached_in turns reaches k ≡ true → distance turns reaches ≤ k
+module _ {turns : List Turn} {S : Type 0} (space : Space turns S) where
+  distance-le : (x : S) (k : ℕ) → k ≤ 20 → is_reached_in space k x ≡ true → distance space x ≤ k
   unfolding distance
-  distance-le k h e = first_or-le (reached_in turns reaches) 0 21 21 k (omega arith) (omega arith) e
+  distance-le x k h e = first_or-le (λ j. is_reached_in space j x) 0 21 21 k (omega arith) (omega arith) e
 
-  distance-most : distance turns reaches ≤ 21
+  pub distance-most : (x : S) → distance space x ≤ 21
   unfolding distance
-  distance-most = first_or-within (reached_in turns reaches) 0 21 21 21 (omega arith) (omega arith)
+  distance-most x = first_or-within (λ j. is_reached_in space j x) 0 21 21 21 (omega arith) (omega arith)
 
-  distance-reached : (reached_in turns reaches (distance turns reaches) ≡ true) ⊎ (distance turns reaches ≡ 21)
+  distance-reached : (x : S) → (is_reached_in space (distance space x) x ≡ true) ⊎ (distance space x ≡ 21)
   unfolding distance
-  distance-reached = first_or-passes (reached_in turns reaches) 0 21 21
+  distance-reached x = first_or-passes (λ j. is_reached_in space j x) 0 21 21
 
-  distance-zero : leb (distance turns reaches) 0 ≡ reaches []
-  unfolding distance all_sequences
-  distance-zero =
-      let nearest = first_or-suc (reached_in turns reaches) 0 20 21 in
-      grind (arith, nat_tests, nearest, first_or-from (reached_in turns reaches) 1 20 21 (omega arith))
+  pub distance-goal : (x : S) → leb (distance space x) 0 ≡ space.reached x
+  unfolding distance is_reached_in
+  distance-goal x =
+      let nearest = first_or-suc (λ j. is_reached_in space j x) 0 20 21 in
+      grind (arith, nat_tests, nearest, first_or-from (λ j. is_reached_in space j x) 1 20 21 (omega arith))
 
-distance-turn : (turns : List Turn) (reaches : List Turn → Bool) (t : Turn) → Contains turns t → distance turns reaches ≤ 1 + distance turns (λ s. reaches (t ∷ s))
-distance-turn turns reaches t m =
-    let rest : List Turn → Bool = λ s. reaches (t ∷ s) in
-    elim (distance-reached turns rest) [
-      | inl e ↦
-          let further = reached_in-suc turns reaches (distance turns rest) ∙ list_any_at (λ u. reached_in turns (λ s. reaches (u ∷ s)) (distance turns rest)) turns m.0 t m.1 (ap (λ u. reached_in turns (λ s. reaches (u ∷ s)) (distance turns rest)) m.2 ∙ e) in
-          grind (arith, distance-most turns reaches, distance-le turns reaches (suc (distance turns rest)), further)
-      | inr e ↦ omega (arith, distance-most turns reaches)
-    ]
+  pub distance-turn : (x : S) (t : Turn) → Contains turns t → distance space x ≤ 1 + distance space (space.after x t)
+  unfolding is_reached_in
+  distance-turn x t m = elim (distance-reached (space.after x t)) [
+    | inl e ↦
+        let k = distance space (space.after x t) in
+        let reached = λ (u : Turn). is_reached_in space k (space.after x u) in
+        let further : is_reached_in space (suc k) x ≡ true = list_any_at reached turns m.0 t m.1 (ap reached m.2 ∙ e) in
+        grind (arith, distance-most x, distance-le x (suc k), further)
+    | inr e ↦ omega (arith, distance-most x)
+  ]
 
-pub distance_at-goal : (step : Step) (x : List Coordinates) → leb (distance_at step x) 0 ≡ is_reached_at x
-unfolding distance_at
-distance_at-goal step x = distance-zero (turns_of step) (λ s. is_reached_at (fold position_after x s))
+  -- from a state that isn't at the goal some turn leads nearer
+  pub distance-nearer : (x : S) (k : ℕ) → distance space x ≡ suc k → k < 20 → (t : Turn) × (Contains turns t × (distance space (space.after x t) ≤ k))
+  unfolding is_reached_in
+  distance-nearer x k e l = elim (distance-reached x) [
+    | inl r ↦
+        let here : is_reached_in space (suc k) x ≡ true = ap (λ j. is_reached_in space j x) (sym e) ∙ r in
+        let some = Any-from_list_any (λ t. is_reached_in space k (space.after x t)) turns here in
+        (some.1, ((some.0, some.2, some.3), distance-le (space.after x some.1) k (omega arith) some.4))
+    | inr r ↦ absurd (omega arith)
+  ]
 
-pub distance_at-turn : (step : Step) (x : List Coordinates) (t : Turn) → Contains (turns_of step) t → distance_at step x ≤ 1 + distance_at step (position_after x t)
-unfolding distance_at
-distance_at-turn step x t m = distance-turn (turns_of step) (λ s. is_reached_at (fold position_after x s)) t m
+module _ (step : Step) where
+  pub distance_at-goal : (x : List Coordinates) → leb (distance_at step x) 0 ≡ is_reached_at x
+  unfolding distance_at
+  distance_at-goal = distance-goal (positions step)
 
-pub distance_at-most : (step : Step) (x : List Coordinates) → distance_at step x ≤ 21
-unfolding distance_at
-distance_at-most step x = distance-most (turns_of step) (λ s. is_reached_at (fold position_after x s))
+  pub distance_at-turn : (x : List Coordinates) (t : Turn) → Contains (turns_of step) t → distance_at step x ≤ 1 + distance_at step (position_after x t)
+  unfolding distance_at
+  distance_at-turn = distance-turn (positions step)
 
--- from a position that isn't at the goal some turn leads nearer
-pub distance_at-nearer : (step : Step) (x : List Coordinates) (k : ℕ) → distance_at step x ≡ suc k → k < 20 → (t : Turn) × (Contains (turns_of step) t × (distance_at step (position_after x t) ≤ k))
-unfolding distance_at
-distance_at-nearer step x k e l =
-    let turns = turns_of step in
-    let reaches = λ (s : List Turn). is_reached_at (fold position_after x s) in
-    elim (distance-reached turns reaches) [
-      | inl r ↦
-          let here : reached_in turns reaches (suc k) ≡ true = ap (reached_in turns reaches) (sym e) ∙ r in
-          let some = Any-from_list_any (λ t. reached_in turns (λ s. reaches (t ∷ s)) k) turns (sym (reached_in-suc turns reaches k) ∙ here) in
-          (some.1, ((some.0, some.2, some.3), distance-le turns (λ s. reaches (some.1 ∷ s)) k (omega arith) some.4))
-      | inr r ↦ absurd (omega arith)
-    ]
+  pub distance_at-most : (x : List Coordinates) → distance_at step x ≤ 21
+  unfolding distance_at
+  distance_at-most = distance-most (positions step)
 
-either : (s : List Turn) (c : Coordinates) (x : List Coordinates) → is_reached_at (fold position_after (c ∷ x) s) ≡ (is_reached_at (fold position_after (c ∷ []) s) || is_reached_at (fold position_after x s))
-unfolding position_after is_reached_at
-either [] c x = ap (λ b. b || list_any are_zero x) (sym (or-false (are_zero c)))
-either (t ∷ s) c x = either s (coordinates_after c t) (position_after x t)
+  pub distance_at-nearer : (x : List Coordinates) (k : ℕ) → distance_at step x ≡ suc k → k < 20 → (t : Turn) × (Contains (turns_of step) t × (distance_at step (position_after x t) ≤ k))
+  unfolding distance_at
+  distance_at-nearer = distance-nearer (positions step)
+
+  either : (k : ℕ) (c : Coordinates) (x : List Coordinates) → is_reached_in (positions step) k (c ∷ x) ≡ (is_reached_in (positions step) k (c ∷ []) || is_reached_in (positions step) k x)
+  unfolding is_reached_in position_after is_reached_at
+  either zero c x = ap (λ b. b || is_reached_at x) (sym (or-false (are_zero c)))
+  either (suc k) c x =
+      let at = λ (y : List Coordinates) (t : Turn). is_reached_in (positions step) k (position_after y t) in
+      ap (λ (p : Turn → Bool). list_any p (turns_of step)) (λ i t. either k (coordinates_after c t) (position_after x t) i)
+      ∙ list_any-either (at (c ∷ [])) (at x) (turns_of step)
 
 -- the distance of a position is the least of those of its coordinates
 pub distance_at_least : DistanceIsLeast
-unfolding distance_at
+unfolding distance_at distance
 distance_at_least step c x =
-    ap (distance (turns_of step)) (λ i s. either s c x i)
-    ∙ distance-either (turns_of step) (λ s. is_reached_at (fold position_after (c ∷ []) s)) (λ s. is_reached_at (fold position_after x s))
+    ap (λ (f : ℕ → Bool). first_or f 0 21 21) (λ i k. either step k c x i)
+    ∙ first_or-either (λ k. is_reached_in (positions step) k (c ∷ [])) (λ k. is_reached_in (positions step) k x) 0 21 21 (omega arith)
+
+map_twice : {X Y Z : Type 0} (g : Y → Z) (f : X → Y) (h : X → Z) (xs : List X) → ((x : X) → h x ≡ g (f x)) → map h xs ≡ map g (map f xs)
+map_twice g f h [] same = refl
+map_twice g f h (x ∷ xs) same = rw (same x, map_twice g f h xs same)
+
+module _ (coordinates : AreCoordinates) where
+  goal_alike : (g : Goal) (d e : Place → Place) → IsCube d → SameMap d e → coordinates_of g d ≡ coordinates_of g e
+  goal_alike (Edges a) d e h same = ap (Flip a) ((coordinates coordinate.Flip a).of_places d e h same)
+  goal_alike (Domino o a) d e h same =
+      rw ((coordinates coordinate.Twist a).of_places d e h same, (coordinates coordinate.Slice a).of_places d e h same)
+
+  goal_follows : (g : Goal) (e : Place → Place) (t : Turn) → IsCube e → coordinates_of g (λ q. turned t (e q)) ≡ coordinates_after (coordinates_of g e) t
+  goal_follows (Edges a) e t h = ap (Flip a) ((coordinates coordinate.Flip a).follows e t h)
+  goal_follows (Domino o a) e t h =
+      rw ((coordinates coordinate.Twist a).follows e t h, (coordinates coordinate.Slice a).follows e t h)
+
+  position_alike : (s : Step) (d e : Place → Place) → IsCube d → SameMap d e → position_of s d ≡ position_of s e
+  unfolding position_of
+  position_alike s d e h same =
+      ap (λ (f : Goal → Coordinates). map f (goals_of s)) (λ i g. goal_alike g d e h same i)
+
+  position_follows : (s : Step) (e : Place → Place) (t : Turn) → IsCube e → position_of s (λ q. turned t (e q)) ≡ position_after (position_of s e) t
+  unfolding position_of position_after
+  position_follows s e t h =
+      map_twice (λ c. coordinates_after c t) (λ g. coordinates_of g e) (λ g. coordinates_of g (λ q. turned t (e q))) (goals_of s) (λ g. goal_follows g e t h)
+
+  module _ (e : Place → Place) (h : IsCube e) where
+    -- a goal holds where its coordinates are 0, if the step may start
+    goal_zero : DominoKeepsStart → (s : Step) → IsTrue (may_start s e) → (g : Goal) → Contains (goals_of s) g → holds g e ≡ are_zero (coordinates_of g e)
+    unfolding may_start
+    goal_zero begins s k (Edges a) m =
+        sym (zero_test coordinate.Flip a e (flip_of a e) ((coordinates coordinate.Flip a).zero_where_kept e h))
+    goal_zero begins s k (Domino o a) m =
+        let start : IsTrue (holds (Edges o) e) = subst (λ (start : Option Axis). IsTrue (option_map_or (λ axis. holds (Edges axis) e) start true)) (begins s o a m) k in
+        rw (start, zero_test coordinate.Twist a e (twist_of a e) ((coordinates coordinate.Twist a).zero_where_kept e h), zero_test coordinate.Slice a e (slice_of a e) ((coordinates coordinate.Slice a).zero_where_kept e h))
+
+    -- the step is reached where the coordinates of some goal are 0
+    reached_zero : DominoKeepsStart → (s : Step) → IsTrue (may_start s e) → reached s e ≡ is_reached_at (position_of s e)
+    unfolding reached position_of is_reached_at
+    reached_zero begins s k = by_goals (goals_of s) (goal_zero begins s k) where
+      by_goals : (gs : List Goal) → ((g : Goal) → Contains gs g → holds g e ≡ are_zero (coordinates_of g e)) → list_any (λ g. holds g e) gs ≡ list_any are_zero (map (λ g. coordinates_of g e) gs)
+      by_goals [] each = refl
+      by_goals (g ∷ gs) each =
+          rw (each g (Contains-first g gs), by_goals gs (λ h m. each h (Contains-later g gs h m)))
+
+pub positions_follow_cubes : AreCoordinates → TurnedIsCube → StartIsKept → StepsSeePlaces → DominoKeepsStart → PositionsFollowCubes
+positions_follow_cubes coordinates is_cube kept see begins = record {
+  alike = λ s d e h same starts. record {
+    cube = alike_is_cube d e h same;
+    starts = subst IsTrue ((see d e same).start s) starts;
+    here = sym (position_alike coordinates s d e h same);
+  };
+  follow = λ s. record {
+    goal = λ e x h. reached_zero coordinates e h.cube begins s h.starts ∙ ap is_reached_at h.here;
+    after_turn = λ e x t m h. record {
+      cube = is_cube e t h.cube;
+      starts = kept s e t m h.starts;
+      here = position_follows coordinates s e t h.cube ∙ ap (λ y. position_after y t) h.here;
+    };
+  };
+}
+
+module _ {X : Type 0} where
+  filter-each : (P : X → Type 0) (p q : X → Bool) (xs : List X) → ((x : X) → P x → p x ≡ q x) → All P xs → filter p xs ≡ filter q xs
+  filter-each P p q [] g h = refl
+  filter-each P p q (x ∷ xs) g h = rw (g x (All-head P x xs h), filter-each P p q xs g (All-tail P x xs h))
+
+  list_any-each : (P : X → Type 0) (p q : X → Bool) (xs : List X) → ((x : X) → P x → p x ≡ q x) → All P xs → list_any p xs ≡ list_any q xs
+  list_any-each P p q xs g h =
+      list_any-filter p xs ∙ ap (λ l. nat_le 1 (length l)) (filter-each P p q xs g h) ∙ sym (list_any-filter q xs)
+
+All-flat_map : {X Y : Type 0} (P : X → Type 0) (Q : Y → Type 0) (f : X → List Y) (xs : List X) → ((x : X) → P x → All Q (f x)) → All P xs → All Q (flat_map f xs)
+All-flat_map P Q f [] g h = All-nil Q
+All-flat_map P Q f (x ∷ xs) g h = All-append Q (f x) (flat_map f xs) (g x (All-head P x xs h)) (All-flat_map P Q f xs g (All-tail P x xs h))
+
+-- a sequence over the turns
+abbrev pub IsOver : List Turn → List Turn → Type 0
+IsOver turns s = All (Contains turns) s
+
+canonical-over : (turns : List Turn) (k : ℕ) → All (IsOver turns) (all_canonical turns k)
+unfolding all_canonical
+canonical-over turns zero = All-cons (IsOver turns) [] [] (All-nil (Contains turns)) (All-nil (IsOver turns))
+canonical-over turns (suc k) =
+    All-flat_map (IsOver turns) (IsOver turns) (canonical_extensions turns) (all_canonical turns k) (λ s over.
+    All-map (IsOver turns) (λ t. s ++ t ∷ []) (filter (may_follow (last_turn s)) turns) (λ i d l.
+    All-push (Contains turns) s _ over (All-filter (may_follow (last_turn s)) (Contains turns) turns (All-contains_itself turns) i d l)))
+    (canonical-over turns k)
+
+-- Solutions, looks and distance are the same from a state as from one that it is of.
+module _ {turns : List Turn} {S T : Type 0} {IsOf : S → T → Type 0} {from : Space turns S} {to : Space turns T} (alike : Homomorphism IsOf from to) where
+  related-after : (s : S) (x : T) (p : List Turn) → IsOver turns p → IsOf s x → IsOf (after_all from s p) (after_all to x p)
+  related-after s x [] over h = h
+  related-after s x (t ∷ p) over h =
+      related-after (from.after s t) (to.after x t) p (All-tail (Contains turns) t p over) (alike.after_turn s x t (All-head (Contains turns) t p over) h)
+
+  pub distance-same : (s : S) (x : T) → IsOf s x → distance from s ≡ distance to x
+  unfolding distance is_reached_in
+  distance-same s x h = λ i. unwrap_or (find (λ k. reached k s x h i) (up_to 20)) 21 where
+    reached : (k : ℕ) (s : S) (x : T) → IsOf s x → is_reached_in from k s ≡ is_reached_in to k x
+    reached zero s x h = alike.goal s x h
+    reached (suc k) s x h =
+        list_any-each (Contains turns) _ _ turns (λ t m. reached k (from.after s t) (to.after x t) (alike.after_turn s x t m h)) (All-contains_itself turns)
+
+  module _ (s : S) (x : T) (h : IsOf s x) where
+    reaching-same : (k : ℕ) → reaching from s k ≡ reaching to x k
+    reaching-same k =
+        filter-each (IsOver turns) _ _ (all_canonical turns k) (λ p over. alike.goal _ _ (related-after s x p over h)) (canonical-over turns k)
+
+    pub least_length-same : (n : ℕ) → least_length from s n ≡ least_length to x n
+    unfolding least_length
+    least_length-same n = λ i. find (λ k. nat_lt 0 (length (reaching-same k i))) (up_to n)
+
+    pub solutions-same : (n slack : ℕ) → solutions from s n slack ≡ solutions to x n slack
+    unfolding solutions
+    solutions-same n slack =
+        λ i. flat_map (λ k. reaching-same k i) (solution_lengths (least_length-same n i) n slack)
+
+    module _ (f : S → ℕ) (g : T → ℕ) (same : (s : S) (x : T) → IsOf s x → f s ≡ g x) where
+      looked-same : (d : ℕ) (p : List Turn) → IsOver turns p → is_looked_at from f s d p ≡ is_looked_at to g x d p
+      looked-same d [] over = refl
+      looked-same d (t ∷ ts) over =
+          let front = take (length ts) (t ∷ ts) in
+          ap (λ n. nat_le n (d - length front)) (same _ _ (related-after s x front (All-take (Contains turns) (length ts) (t ∷ ts) over) h))
+
+      looks-same : (d : ℕ) → looks from f s d ≡ looks to g x d
+      unfolding looks
+      looks-same d = λ i. sum_by (λ k. counted k i) (up_to d) where
+        counted : (k : ℕ) → count_by (is_looked_at from f s d) (all_canonical turns k) ≡ count_by (is_looked_at to g x d) (all_canonical turns k)
+        counted k =
+            sym (length-filter (is_looked_at from f s d) (all_canonical turns k))
+            ∙ ap length (filter-each (IsOver turns) _ _ (all_canonical turns k) (looked-same d) (canonical-over turns k))
+            ∙ length-filter (is_looked_at to g x d) (all_canonical turns k)
+
+      pub all_looks-same : (n slack : ℕ) → all_looks from f s n slack ≡ all_looks to g x n slack
+      unfolding all_looks
+      all_looks-same n slack =
+          λ i. sum_by (λ d. looks-same d i) (up_to (last_length (least_length-same n i) n slack))
+
+-- a cube and its position
+module _ (law : PositionsFollowCubes) (step : Step) where
+  -- the distance of a position is that of every cube that has it
+  pub distance-cube : (e : Place → Place) (x : List Coordinates) → HasPosition step e x → distance_of step e ≡ distance_at step x
+  unfolding distance_at
+  distance-cube = distance-same (law.follow step)
+
+  -- the distance is 0 exactly where the step is reached
+  pub distance-reached-cube : (e : Place → Place) (x : List Coordinates) → HasPosition step e x → (distance_at step x ≡ 0) ↔ IsTrue (reached step e)
+  distance-reached-cube e x h =
+      let same : leb (distance_at step x) 0 ≡ reached step e = distance_at-goal step x ∙ sym ((law.follow step).goal e x h) in
+      (λ z. sym same ∙ ap (λ n. leb n 0) z, λ k. omega (arith, leb-true (distance_at step x) 0 (same ∙ k)))

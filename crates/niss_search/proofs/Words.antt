@@ -2,7 +2,7 @@
 pub use Rattle.std.proofs.Common.{◌≡◌, arith, length, ◌+◌, ◌<◌, ℕ, ap, ◌∙◌, sym, ◌≤◌, [], List, refl, true, ◌*◌, ◌-◌, ◌∷◌, slice_index}
 pub use Rattle.std.proofs.Common.{Bool, false, suc, cond, ◌++◌, zero, get_or, map, Contains, subst, ◌≢◌, count_by, filter, leb, sum_by, inl}
 pub use Rattle.std.proofs.Common.{inr, All, None, take, ◌/◌, ◌⊎◌, Option, Some, nat_le, ◌==◌, ◌^◌, drop, min, unwrap_or, find, nat_lt}
-pub use Rattle.std.proofs.Common.{add-one, fold, replicate, ◌%◌, ◌||◌, IsTrue, eq-eqb, eqb, length-append, length-drop, not, add-zero}
+pub use Rattle.std.proofs.Common.{add-one, replicate, ◌%◌, ◌||◌, IsTrue, eq-eqb, eqb, length-append, length-drop, not, add-zero}
 pub use Rattle.std.proofs.Common.{append_assoc, ap₂, below_more, get_or-set_other, get_or-set_same, length-set, rules, set, lit<, lit≤}
 pub use Rattle.std.proofs.Math.Bool.{or-false}
 pub use Rattle.std.proofs.Math.Nat.{mul-le-mul, mul-add, mul-le-mul_right, mul-le-mul_left, mul_comm, pow-suc}
@@ -15,7 +15,7 @@ pub use Rattle.std.proofs.lemmas.List.Concat.{length-flat_map}
 pub use Rattle.std.proofs.lemmas.List.Elements.{All-contains, Contains-get_or, All-contains_itself, All-head, All-push, All-tail, All-take}
 pub use Rattle.std.proofs.lemmas.List.Elements.{filter_passes, All-append, All-cons, All-drop, All-filter, All-map}
 pub use Rattle.std.proofs.lemmas.List.Elements.{Contains-append_right, filter-append, filter_more, All-nil}
-pub use Rattle.std.proofs.lemmas.List.Folds.{find-append, list_any-append, list_any_at, prefix_len-append}
+pub use Rattle.std.proofs.lemmas.List.Folds.{find-append, list_any_at, prefix_len-append}
 pub use Rattle.std.proofs.lemmas.List.FromFn.{length-map-range_with_len, length-range_with_len}
 pub use Rattle.std.proofs.lemmas.List.Sums.{sum_by-cons, sum_by-append, sum_by-le-sum_by, count_by-le-length, sum_by-le, length-filter}
 pub use Rattle.std.proofs.lemmas.List.Sums.{sum_by_push, prefix_len-le-length, prefix_len_passes, prefix_len_stops}
@@ -40,16 +40,14 @@ unfoldable pub use Rattle.niss_cube.specs.Steps.{turns_of, reached, may_start}
 pub use Rattle.niss_moves.proofs.CallerLemmas.{last_turn-push}
 pub use Rattle.niss_moves.specs.Canonical.{may_follow, last_turn, canonical_extensions, face_may_follow, is_canonical_after, turn_order}
 unfoldable pub use Rattle.niss_moves.specs.Canonical.{all_canonical}
-pub use Rattle.niss_moves.specs.Effects.{turned, effect_of_turns}
+pub use Rattle.niss_moves.specs.Effects.{turned}
 pub use Rattle.niss_moves.specs.Places.{Place, SameMap}
 pub use Rattle.niss_moves.specs.Turn.{inverse_turn, goes_first}
-pub use Rattle.niss_search.specs.Cubes.{HasPosition, near_looks_of, near_solutions_of, distance_of, least_length_of, reaches}
-pub use Rattle.niss_search.specs.Deepening.{reaches_at, all_looks_at, far_at, least_length_at, looks_at, reaching_at, solutions_at}
-pub use Rattle.niss_search.specs.Deepening.{Delivers, state_of, Keeps, GoesThrough, descent_state, Descends, DescentState, StopsIn}
-pub use Rattle.niss_search.specs.Deepening.{looks_below}
-pub use Rattle.niss_search.specs.Delivery.{at_limit, StoppedIn, WentThrough}
-unfoldable pub use Rattle.niss_search.specs.Deepening.{found_below, looks_beyond, found, visits}
-unfoldable pub use Rattle.niss_search.specs.Distance.{distance, all_sequences}
+pub use Rattle.niss_search.specs.Cubes.{HasPosition, near_looks_of, near_solutions_of, distance_of, least_length_of, cubes}
+pub use Rattle.niss_search.specs.Deepening.{Delivers, progress_of, Keeps, GoesThrough, progress_at, Descends, Progress, StopsIn}
+pub use Rattle.niss_search.specs.Delivery.{Path, at_limit, StoppedIn, WentThrough}
+pub use Rattle.niss_search.specs.Deepening.{Part, only_looks, then_part, for_each, deepening, all_deepenings, below_at}
+unfoldable pub use Rattle.niss_search.specs.Deepening.{beyond, beyond_at}
 pub use Rattle.niss_search.specs.Draw.{after_words, choice, choices}
 unfoldable pub use Rattle.niss_search.specs.Draw.{draw, next_words}
 pub use Rattle.niss_search.specs.Entries.{count_for, values_for}
@@ -60,16 +58,13 @@ unfoldable pub use Rattle.niss_search.specs.Filling.{entry_distance, entry_after
 pub use Rattle.niss_search.specs.Followers.{IsFollower, distance_after, AreFar, IsNextNear}
 pub use Rattle.niss_search.specs.Laws.{PositionsFollowCubes, BoundIsSmall, CountRecurrence, DistanceIsLeast, EdgeFillIsSmall}
 pub use Rattle.niss_search.specs.Laws.{EntriesAreCounted, FillIsSmall, NoSlackIsLeast, PartHasNoMore, StepBoundIsLess}
-pub use Rattle.niss_search.specs.Looks.{is_looked_at}
-unfoldable pub use Rattle.niss_search.specs.Looks.{looks, all_looks}
 pub use Rattle.niss_search.specs.Moves.{turn_at}
 pub use Rattle.niss_cube.specs.TableRows.{IsMoveRow}
 pub use Rattle.niss_search.specs.Names.{Turn, Coordinates, Step, Flip, Follower, no_turn, Axis, Domino, Edges, Goal, B, D, F, Face, L, R, U}
 pub use Rattle.niss_search.specs.Names.{TwistAndSlice}
-pub use Rattle.niss_search.specs.Path.{Path}
-pub use Rattle.niss_search.specs.Positions.{are_zero, coordinates_after, coordinates_of}
+pub use Rattle.niss_search.specs.Positions.{are_zero, coordinates_after, coordinates_of, positions}
 unfoldable pub use Rattle.niss_search.specs.Positions.{distance_at, position_after, is_reached_at, position_of}
-pub use Rattle.niss_search.specs.Solutions.{last_length, reaching, up_to, solution_lengths, count_of_length, from_to}
-unfoldable pub use Rattle.niss_search.specs.Solutions.{least_length, look_bound, solutions}
-pub use Rattle.rand_pcg.specs.Lcg.{Lcg}
+pub use Rattle.niss_search.specs.Solutions.{Space, Homomorphism, after_all, last_length, reaching, up_to, solution_lengths, count_of_length}
+pub use Rattle.niss_search.specs.Solutions.{is_looked_at}
+unfoldable pub use Rattle.niss_search.specs.Solutions.{least_length, look_bound, solutions, is_reached_in, distance, looks, all_looks}
 pub use lib.Lanes.{number_l}

@@ -1,27 +1,25 @@
 -- Solutions, distances and looks of a step from a cube, named by where it has each sticker.
-use Rattle.std.specs.Prelude.{◌≡◌, ℕ, Bool, List, Option, IsTrue}
+use Rattle.std.specs.Prelude.{◌≡◌, ℕ, List, Option, IsTrue}
 use Rattle.niss_moves.specs.Places.{Place}
-use Rattle.niss_moves.specs.Effects.{effect_of_turns}
+use Rattle.niss_moves.specs.Effects.{turned}
 use Rattle.niss_search.specs.Names.{Turn, Step, Coordinates}
 use Rattle.niss_cube.specs.AfterTurn.{IsCube}
 use Rattle.niss_cube.specs.Steps.{turns_of, may_start, reached}
-use Rattle.niss_search.specs.Solutions.{least_length, solutions}
-use Rattle.niss_search.specs.Distance.{distance}
-use Rattle.niss_search.specs.Looks.{all_looks}
+use Rattle.niss_search.specs.Solutions.{Space, least_length, solutions, distance, all_looks}
 use Rattle.niss_search.specs.Positions.{position_of}
 
--- Does the sequence s, made on the cube e, reach the step?
-abbrev pub reaches : Step → (Place → Place) → List Turn → Bool
-reaches step e s = reached step (λ q. effect_of_turns s (e q))
+-- the cubes of a step, after its turns
+abbrev pub cubes : (step : Step) → Space (turns_of step) (Place → Place)
+cubes step = record { after = λ e t q. turned t (e q); reached = reached step }
 
 -- the least length of a solution, of at most n turns
 abbrev pub least_length_of : Step → (Place → Place) → ℕ → Option ℕ
-least_length_of step e n = least_length (turns_of step) (reaches step e) n
+least_length_of step e n = least_length (cubes step) e n
 
--- the solutions of at most n turns that are at most `slack` turns longer than that: the shorter ones first, those of one
--- length in turn order
+-- the solutions of at most n turns that are at most `slack` turns longer than that: the shorter ones first, those of
+-- one length in turn order
 abbrev pub near_solutions_of : Step → (Place → Place) → (n slack : ℕ) → List (List Turn)
-near_solutions_of step e n slack = solutions (turns_of step) (reaches step e) n slack
+near_solutions_of step e n slack = solutions (cubes step) e n slack
 
 -- the solutions of least length, in turn order
 abbrev pub solutions_of : Step → (Place → Place) → ℕ → List (List Turn)
@@ -29,12 +27,11 @@ solutions_of step e n = near_solutions_of step e n 0
 
 -- how far the step is: 0 to 20 turns, or 21 for more or never
 abbrev pub distance_of : Step → (Place → Place) → ℕ
-distance_of step e = distance (turns_of step) (reaches step e)
+distance_of step e = distance (cubes step) e
 
 -- the looks of a search for solutions of at most n turns that are at most `slack` turns longer than the least
 abbrev pub near_looks_of : Step → (Place → Place) → (n slack : ℕ) → ℕ
-near_looks_of step e n slack =
-    all_looks (turns_of step) (reaches step e) (λ s. distance_of step (λ q. effect_of_turns s (e q))) n slack
+near_looks_of step e n slack = all_looks (cubes step) (distance_of step) e n slack
 
 -- those of a search for solutions of least length
 abbrev pub all_looks_of : Step → (Place → Place) → ℕ → ℕ

@@ -1,7 +1,11 @@
--- How a sink goes through a list of paths.
+-- Paths, and how a sink goes through a list of them.
 use Rattle.std.specs.Prelude.{◌≡◌, ◌⊎◌, ℕ, List, [], ◌∷◌}
 use Rattle.niss_search.specs.Names.{Turn}
-use Rattle.niss_search.specs.Path.{Path}
+
+-- What a contract sees of a path.
+pub record Path : Type 0 where
+  pub limit : ℕ
+  pub turns : List Turn
 
 module _ {K : Type 0} where
   -- What a path with the limit and the turns does to the sink, by what a path does.

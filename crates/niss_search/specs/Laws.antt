@@ -1,18 +1,17 @@
 -- Laws over counts and looks, and over positions.
 use Rattle.std.specs.Prelude.{◌≡◌, ℕ, ◌+◌, ◌*◌, ◌^◌, ◌≤◌, ◌<◌, min, Bool, IsTrue, None, option_map, unwrap_or}
-use Rattle.std.specs.Prelude.{List, [], ◌∷◌, filter, length, slice_get, sum_by, Contains}
+use Rattle.std.specs.Prelude.{List, [], ◌∷◌, filter, length, slice_get, sum_by}
 use Rattle.std.specs.Option.{option_map_or}
 use Rattle.niss_moves.specs.Places.{Place, SameMap}
-use Rattle.niss_moves.specs.Effects.{turned}
 use Rattle.niss_moves.specs.Canonical.{turn_order}
 use Rattle.niss_search.specs.Names.{Turn, Step, Coordinates}
 use Rattle.niss_cube.specs.AfterTurn.{IsCube}
-use Rattle.niss_cube.specs.Steps.{start_of, goals_of, turns_of, may_start, reached}
-use Rattle.niss_search.specs.Solutions.{up_to, count_of_length, look_bound, reaching, least_length, solutions}
-use Rattle.niss_search.specs.Looks.{looks, all_looks}
+use Rattle.niss_cube.specs.Steps.{start_of, goals_of, turns_of, may_start}
+use Rattle.niss_search.specs.Solutions.{Space, Homomorphism, up_to, count_of_length, look_bound, reaching, least_length}
+use Rattle.niss_search.specs.Solutions.{solutions, looks, all_looks}
 use Rattle.niss_search.specs.Entries.{entries_of, entry_count, fill_ticks}
-use Rattle.niss_search.specs.Positions.{position_of, position_after, is_reached_at, distance_at}
-use Rattle.niss_search.specs.Cubes.{HasPosition}
+use Rattle.niss_search.specs.Positions.{position_of, positions, distance_at}
+use Rattle.niss_search.specs.Cubes.{cubes, HasPosition}
 
 -- Over the 18 turns, c(k + 2) = 12 c(k + 1) + 18 c(k) for k of at least 1.
 abbrev pub CountRecurrence : Type 0
@@ -27,27 +26,29 @@ PartHasNoMore =
     (part : Turn → Bool) (turns : List Turn) (k : ℕ) →
     count_of_length (filter part turns) k ≤ count_of_length turns k
 
--- No search looks more often than the bound says.
+-- In any space of cubes, whatever turns it has, what its goal is and what a look at a cube answers: no search looks
+-- more often than the bound says.
 abbrev pub LooksWithinBound : Type 0
 LooksWithinBound =
-    (turns : List Turn) (reaches : List Turn → Bool) (far : List Turn → ℕ) (n slack : ℕ) →
-    all_looks turns reaches far n slack ≤ look_bound turns n
+    (turns : List Turn) (space : Space turns (Place → Place)) (look : (Place → Place) → ℕ) →
+    (e : Place → Place) (n slack : ℕ) →
+    all_looks space look e n slack ≤ look_bound turns n
 
 -- Without slack a search is for the solutions of least length alone, and deepens to that length.
 pub record NoSlackIsLeast : Type 0 where
   pub listed :
-      (turns : List Turn) (reaches : List Turn → Bool) (n : ℕ) →
-      solutions turns reaches n 0 ≡ option_map_or (reaching turns reaches) (least_length turns reaches n) []
+      (turns : List Turn) (space : Space turns (Place → Place)) (e : Place → Place) (n : ℕ) →
+      solutions space e n 0 ≡ option_map_or (reaching space e) (least_length space e n) []
   pub looked :
-      (turns : List Turn) (reaches : List Turn → Bool) (far : List Turn → ℕ) (n : ℕ) →
-      all_looks turns reaches far n 0
-      ≡ sum_by (looks turns far) (up_to (unwrap_or (least_length turns reaches n) n))
+      (turns : List Turn) (space : Space turns (Place → Place)) (look : (Place → Place) → ℕ) →
+      (e : Place → Place) (n : ℕ) →
+      all_looks space look e n 0 ≡ sum_by (looks space look e) (up_to (unwrap_or (least_length space e n) n))
 
 -- The least length is that of the first solution, and there is none where there is no solution.
 abbrev pub FirstIsLeast : Type 0
 FirstIsLeast =
-    (turns : List Turn) (reaches : List Turn → Bool) (n slack : ℕ) →
-    least_length turns reaches n ≡ option_map length (slice_get (solutions turns reaches n slack) 0)
+    (turns : List Turn) (space : Space turns (Place → Place)) (e : Place → Place) (n slack : ℕ) →
+    least_length space e n ≡ option_map length (slice_get (solutions space e n slack) 0)
 
 -- The bound of a step is at most that over the 18 turns.
 abbrev pub StepBoundIsLess : Type 0
@@ -80,9 +81,4 @@ pub record PositionsFollowCubes : Type 0 where
   pub alike :
       (s : Step) (d e : Place → Place) → IsCube d → SameMap d e → IsTrue (may_start s d) →
       HasPosition s e (position_of s d)
-  pub goal :
-      (s : Step) (e : Place → Place) (x : List Coordinates) → HasPosition s e x →
-      reached s e ≡ is_reached_at x
-  pub after_turn :
-      (s : Step) (e : Place → Place) (x : List Coordinates) (t : Turn) → Contains (turns_of s) t →
-      HasPosition s e x → HasPosition s (λ q. turned t (e q)) (position_after x t)
+  pub follow : (s : Step) → Homomorphism (HasPosition s) (cubes s) (positions s)

@@ -1,8 +1,5 @@
 pub mod Names
-pub mod Path
 pub mod Solutions
-pub mod Distance
-pub mod Looks
 pub mod Positions
 pub mod Cubes
 pub mod Delivery

@@ -1,5 +1,5 @@
 -- What a step looks at in a cube, and how that follows the turns.
-use Rattle.std.specs.Prelude.{ℕ, Bool, ◌==◌, ◌&&◌, List, map, fold}
+use Rattle.std.specs.Prelude.{ℕ, Bool, ◌==◌, ◌&&◌, List, map}
 use Rattle.std.specs.List.{list_any}
 use Rattle.niss_moves.specs.Places.{Place}
 use Rattle.niss_search.specs.Names.{Turn, Goal, Edges, Domino, Step, Coordinates, Flip, TwistAndSlice}
@@ -7,7 +7,7 @@ use Rattle.niss_cube.specs.Coordinates.{flip_of, twist_of, slice_of}
 use Rattle.niss_cube.specs.NumberAfter.{number_after}
 use Rattle.niss_cube.specs.Steps.{goals_of, turns_of}
 use Rattle.niss_cube.specs.declared.cube.coordinate.Coordinate.TheVariants as coordinate
-use Rattle.niss_search.specs.Distance.{distance}
+use Rattle.niss_search.specs.Solutions.{Space, distance}
 
 -- the coordinates of a map of the places that decide whether a goal holds, where the step may start
 abbrev pub coordinates_of : Goal → (Place → Place) → Coordinates
@@ -37,7 +37,10 @@ position_after x t = map (λ c. coordinates_after c t) x
 unfoldable pub is_reached_at : List Coordinates → Bool
 is_reached_at x = list_any are_zero x
 
--- how far the step is from a position: the least length, at most 20, of any sequence of its turns after which some goal
--- holds; else 21
+-- the positions of a step, after its turns
+abbrev pub positions : (step : Step) → Space (turns_of step) (List Coordinates)
+positions step = record { after = position_after; reached = is_reached_at }
+
+-- how far the step is from a position: 0 to 20 turns, or 21 for more or never
 unfoldable pub distance_at : Step → List Coordinates → ℕ
-distance_at step x = distance (turns_of step) (λ s. is_reached_at (fold position_after x s))
+distance_at step x = distance (positions step) x

@@ -1,12 +1,11 @@
--- Solutions and counts, by the turns of a step and by which sequences reach it.
-use Rattle.std.specs.Prelude.{ℕ, ◌+◌, ◌-◌, min, Bool, List, [], length, Option, None, Some, filter, find, flat_map, sum_by}
+-- Solutions, distances and looks in a space of states: the one definition of each. The cubes of a step are such states,
+-- and so are its positions.
+use Rattle.std.specs.Prelude.{◌≡◌, ℕ, zero, suc, ◌+◌, ◌-◌, nat_le, nat_lt, min, Bool, true, Option, None, Some}
+use Rattle.std.specs.Prelude.{unwrap_or}
+use Rattle.std.specs.Prelude.{List, [], ◌∷◌, length, take, filter, find, fold, flat_map, sum_by, count_by, Contains}
 use Rattle.std.specs.List.{list_any, range_with_len}
 use Rattle.niss_search.specs.Names.{Turn}
 use Rattle.niss_moves.specs.Canonical.{all_canonical}
-
--- the numbers from m to n
-abbrev pub from_to : (m n : ℕ) → List ℕ
-from_to m n = range_with_len m (n + 1 - m)
 
 -- the numbers from 0 to n
 abbrev pub up_to : ℕ → List ℕ
@@ -20,15 +19,7 @@ count_of_length turns k = length (all_canonical turns k)
 unfoldable pub look_bound : List Turn → ℕ → ℕ
 look_bound turns n = sum_by (λ d. sum_by (count_of_length turns) (up_to d)) (up_to n)
 
--- the canonical sequences of length k that reach, in turn order
-abbrev pub reaching : List Turn → (List Turn → Bool) → ℕ → List (List Turn)
-reaching turns reaches k = filter reaches (all_canonical turns k)
-
--- the least length, at most n, at which some canonical sequence reaches
-unfoldable pub least_length : List Turn → (List Turn → Bool) → ℕ → Option ℕ
-least_length turns reaches n = find (λ k. list_any reaches (all_canonical turns k)) (up_to n)
-
--- the greatest length of a deepening: `slack` turns more than the least, but at most n; or n where none reaches
+-- the greatest length of a deepening: `slack` turns more than the least, but at most n; or n if there is no solution
 abbrev pub last_length : Option ℕ → (n slack : ℕ) → ℕ
 last_length None n slack = n
 last_length (Some least) n slack = min n (least + slack)
@@ -36,9 +27,60 @@ last_length (Some least) n slack = min n (least + slack)
 -- the lengths of the solutions, from the least on
 abbrev pub solution_lengths : Option ℕ → (n slack : ℕ) → List ℕ
 solution_lengths None n slack = []
-solution_lengths (Some least) n slack = from_to least (last_length (Some least) n slack)
+solution_lengths (Some least) n slack = range_with_len least (last_length (Some least) n slack + 1 - least)
 
--- the canonical sequences of these lengths that reach: those of one length after those of another, each in turn order
-unfoldable pub solutions : List Turn → (List Turn → Bool) → (n slack : ℕ) → List (List Turn)
-solutions turns reaches n slack =
-    flat_map (reaching turns reaches) (solution_lengths (least_length turns reaches n) n slack)
+-- A space of states under some turns: the state after a turn, and whether a state is at the goal.
+pub record Space (turns : List Turn) (S : Type 0) : Type 0 where
+  pub after : S → Turn → S
+  pub reached : S → Bool
+
+module _ {turns : List Turn} {S : Type 0} (space : Space turns S) where
+  -- the state after a sequence
+  abbrev pub after_all : S → List Turn → S
+  after_all start s = fold space.after start s
+
+  -- the canonical sequences of length k that lead from a state to the goal, in turn order
+  abbrev pub reaching : S → ℕ → List (List Turn)
+  reaching start k = filter (λ s. space.reached (after_all start s)) (all_canonical turns k)
+
+  -- the least length of one, of at most n turns
+  unfoldable pub least_length : S → ℕ → Option ℕ
+  least_length start n = find (λ k. nat_lt 0 (length (reaching start k))) (up_to n)
+
+  -- the solutions: those of the least length, and of as many lengths more as the slack allows, the shorter ones first
+  unfoldable pub solutions : S → (n slack : ℕ) → List (List Turn)
+  solutions start n slack = flat_map (reaching start) (solution_lengths (least_length start n) n slack)
+
+  -- Does any sequence of k of the turns, canonical or not, lead to the goal?
+  unfoldable pub is_reached_in : ℕ → S → Bool
+  is_reached_in zero start = space.reached start
+  is_reached_in (suc k) start = list_any (λ t. is_reached_in k (space.after start t)) turns
+
+  -- the least length, at most 20, of any sequence that does; else 21
+  unfoldable pub distance : S → ℕ
+  distance start = unwrap_or (find (λ k. is_reached_in k start) (up_to 20)) 21
+
+  -- How often a search looks, by what a look at a state answers.
+  module _ (look : S → ℕ) where
+    -- Is there a look after s in the deepening to length d? s is empty, or the look after its turns but the last
+    -- answers at most what is left of d there.
+    abbrev pub is_looked_at : S → ℕ → List Turn → Bool
+    is_looked_at start d [] = true
+    is_looked_at start d (t ∷ ts) =
+        let front = take (length ts) (t ∷ ts) in nat_le (look (after_all start front)) (d - length front)
+
+    -- the looks of the deepening to length d: the canonical sequences of length at most d after which there is one
+    unfoldable pub looks : S → ℕ → ℕ
+    looks start d = sum_by (λ k. count_by (is_looked_at start d) (all_canonical turns k)) (up_to d)
+
+    -- the looks of all deepenings, to the last length
+    unfoldable pub all_looks : S → (n slack : ℕ) → ℕ
+    all_looks start n slack = sum_by (looks start) (up_to (last_length (least_length start n) n slack))
+
+-- The states of one space stand for states of another: those that are related are at the goal together, and each turn
+-- leads them to related ones.
+pub record Homomorphism
+    {turns : List Turn} {S T : Type 0} (IsOf : S → T → Type 0) (from : Space turns S) (to : Space turns T)
+    : Type 0 where
+  pub goal : (s : S) (x : T) → IsOf s x → from.reached s ≡ to.reached x
+  pub after_turn : (s : S) (x : T) (t : Turn) → Contains turns t → IsOf s x → IsOf (from.after s t) (to.after x t)

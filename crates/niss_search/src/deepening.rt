@@ -1,30 +1,57 @@
-//! The search: depth first to each length in turn (iterative deepening), up to the least at which something is found, and
-//! to as many lengths more as the slack allows.
-ghost use Rattle.std.specs.Prelude.{◌≡◌, ◌+◌, ◌≤◌, ◌<◌, ◌^◌, ◌∷◌, length, IfOk, OnOk, OnErr, []};
+//! The search: depth first to each length in turn (iterative deepening), up to the least at which something is found,
+//! and to as many lengths more as the slack allows.
+ghost use Rattle.std.specs.Prelude.{◌≡◌, ◌+◌, ◌≤◌, ◌<◌, ◌^◌, ◌∷◌, length, IfOk, OnOk, OnErr, [], ◌-◌, ◌++◌, All};
+ghost use Rattle.std.specs.Prelude.{IfSome, IfNone};
 ghost use Rattle.niss_moves.specs.Places.{Place};
 ghost use Rattle.niss_cube.specs.Steps.{turns_of};
 ghost use Rattle.niss_search.specs.Cubes.{IsPosition, HasPosition, least_length_of, near_solutions_of, near_looks_of};
-ghost use Rattle.niss_search.specs.Solutions.{look_bound, last_length};
-ghost use Rattle.niss_search.specs.Delivery.{WentThrough, StoppedIn, at_limit};
-ghost use Rattle.niss_search.specs.Deepening.{least_length_at, solutions_at, all_looks_at, reaching_at, looks_at, Delivers};
+ghost use Rattle.niss_search.specs.Solutions.{look_bound, last_length, least_length};
+ghost use Rattle.niss_search.specs.Positions.{positions, distance_at};
+ghost use Rattle.niss_search.specs.Delivery.{WentThrough, StoppedIn, at_limit, Path};
+ghost use Rattle.niss_search.specs.Deepening.{deepening, all_deepenings, Delivers, below_at, beyond_at, Keeps, Makes};
+ghost use Rattle.niss_search.specs.Deepening.{turns};
+ghost use Rattle.niss_search.specs.Followers.{IsFollower, IsNextNear, AreFar};
 
-use crate::descent::Descent;
 use crate::laws::positions_follow_cubes;
-use crate::limit::Limit;
-use crate::outcome::Outcome;
-use crate::sink::Sink;
-use crate::tables::{Meter, Position, Tables};
-use crate::turn_path::TurnPath;
+use crate::path::{Limit, TurnPath};
+use crate::tables::{Follower, Kind, Meter, Position, SearchTables, StateSpace, Tables};
+use niss_moves::Turn;
 use std::alloc::Allocator;
 use std::mem;
 
-/// Hands each solution within the path's limit that is at most `slack` turns longer than the least to the sink, until the sink
-/// refuses one: those of one length after those of another, each in turn order. Each is handed out as a path of that limit. What
-/// is said here holds of every cube that has the position.
+/// What takes the solutions of a search, one path at a time. It states what a path does to it by two relations, each
+/// between its value before, the limit and the turns of the path, and its value after.
+pub trait Sink {
+    /// Why a path was refused.
+    type Fault;
+
+    /// The path was taken.
+    ghost took: { Self → Path → Self → Type 0 };
+
+    /// The path was refused.
+    ghost refused: { Self → Path → Self → Type 0 };
+
+    /// Takes a path, or refuses it with a fault.
+    fn take(&mut self, path: &TurnPath) -> Result<(), Self::Fault>
+        ensures ok { OnOk result (took self.old path.now self.new) }
+        ensures err { OnErr result (refused self.old path.now self.new) };
+}
+
+/// What a search handed to its sink: the least length of a solution in turns, `None` where there is none within the
+/// limit, and how many solutions it handed out, of all lengths.
+#[derive(Clone, Copy, Debug, PartialEq, Eq)]
+pub struct Outcome {
+    pub length: Option<u8>,
+    pub solutions: u128,
+}
+
+/// Hands each solution within the path's limit that is at most `slack` turns longer than the least to the sink, until
+/// the sink refuses one: those of one length after those of another, each in turn order. Each is handed out as a path
+/// of that limit. What is said here holds of every cube that has the position.
 ///
-/// The position is one of the tables' step, the path is empty, and the meter is at most at 2^127. The path is empty again at
-/// the end, of the same limit. The meter rises by one for each look: by those of the whole search where the sink took
-/// every path, and by at most these where it refused one.
+/// The position is one of the tables' step, the path is empty, and the meter is at most at 2^127. The path is empty
+/// again at the end, of the same limit. The meter rises by one for each look: by those of the whole search where the
+/// sink took every path, and by at most these where it refused one.
 pub fn search<K: Sink, A: Allocator>(
     tables: &Tables<A>,
     position: &Position,
@@ -80,10 +107,10 @@ impl<A: Allocator> Root<'_, A> {
         requires meter { meter.old ≤ 2 ^ 127 }
         ensures path { path.new ≡ path.old }
         ensures length { IfOk result (λ o. o.length ≡
-            least_length_at self.now.tables.now self.now.position.now path.old.limit) }
+            least_length (positions self.now.tables.now) self.now.position.now path.old.limit) }
         ensures delivers { Delivers K.took K.refused path.old.limit
-            (solutions_at self.now.tables.now self.now.position.now path.old.limit slack)
-            (all_looks_at self.now.tables.now self.now.position.now path.old.limit slack)
+            (all_deepenings (positions self.now.tables.now) (distance_at self.now.tables.now)
+            self.now.position.now path.old.limit slack)
             meter.old meter.new sink.old sink.new (λ o. o.solutions) result }
     {
         let limit = path.limit();
@@ -114,11 +141,11 @@ impl<A: Allocator> Root<'_, A> {
         requires empty { path.old.turns ≡ [] }
         requires within { length ≤ path.old.limit }
         requires meter { meter.old
-            + looks_at self.now.tables.now self.now.position.now (length ∷ []) < 2 ^ 128 }
+            + (deepening (positions self.now.tables.now) (distance_at self.now.tables.now)
+            self.now.position.now length).looks < 2 ^ 128 }
         ensures path { path.new ≡ path.old }
         ensures delivers { Delivers K.took K.refused path.old.limit
-            (reaching_at self.now.tables.now self.now.position.now (length ∷ []))
-            (looks_at self.now.tables.now self.now.position.now (length ∷ []))
+            (deepening (positions self.now.tables.now) (distance_at self.now.tables.now) self.now.position.now length)
             meter.old meter.new sink.old sink.new (λ count. count) result }
         ensures counted { IfOk result (λ count. meter.old + count ≤ meter.new) }
     {
@@ -146,4 +173,159 @@ fn last_length(least: Option<u8>, limit: Limit, slack: Limit) -> u8
         Some(least) => limit.get().min(least.saturating_add(slack.get())),
         None => limit.get(),
     }
+}
+
+/// A descent: the path that it goes along, the sink that it hands what it finds, and how much that is.
+///
+/// The meter isn't in it, but goes in and comes back by value: through a borrow each look would write it to memory.
+#[derive(Drop)]
+struct Descent<'a, K> {
+    pub path: &'a mut TurnPath,
+    pub sink: &'a mut K,
+    pub count: u128,
+}
+
+impl<K: Sink> Descent<'_, K> {
+    /// Looks at the position of the path and, where the look allows, goes on below it with `left` turns more. Hands
+    /// what it finds to the sink, and counts it.
+    pub fn visit<A: Allocator>(
+        &mut self,
+        tables: &Tables<A>,
+        position: &Position,
+        left: u8,
+        meter: Meter,
+    ) -> (Meter, Result<(), K::Fault>)
+        requires position { IsPosition tables.now position.now }
+        requires room { length (turns self.old) + left ≤ self.old.path.now.limit }
+        requires meter { meter + (below_at tables.now position.now (turns self.old) left).looks < 2 ^ 128 }
+        requires count { self.old.count ≤ meter }
+        ensures keeps { Keeps self.old self.new meter result.0 }
+        ensures makes { Makes K.took K.refused (below_at tables.now position.now (turns self.old) left)
+            meter result.0 self.old self.new result.1 }
+    {
+        match tables.kind() {
+            Kind::Edges(kind) => self.visit_in(kind, position, left, meter),
+            Kind::AnyEdges(kind) => self.visit_in(kind, position, left, meter),
+            Kind::Domino(kind) => self.visit_in(kind, position, left, meter),
+            Kind::EitherDomino(kind) => self.visit_in(kind, position, left, meter),
+        }
+    }
+
+    /// `visit` by the kind of the tables.
+    fn visit_in<S: StateSpace>(
+        &mut self,
+        tables: &SearchTables<S>,
+        position: &Position,
+        left: u8,
+        meter: Meter,
+    ) -> (Meter, Result<(), K::Fault>)
+        requires position { IsPosition tables.now.step position.now }
+        requires room { length (turns self.old) + left ≤ self.old.path.now.limit }
+        requires meter { meter + (below_at tables.now.step position.now (turns self.old) left).looks < 2 ^ 128 }
+        requires count { self.old.count ≤ meter }
+        ensures keeps { Keeps self.old self.new meter result.0 }
+        ensures makes { Makes K.took K.refused (below_at tables.now.step position.now (turns self.old) left)
+            meter result.0 self.old self.new result.1 }
+    {
+        let mut meter = meter;
+        let state = tables.state(position);
+        if tables.look(state, &mut meter) > left {
+            return (meter, Ok(()));
+        }
+        self.extend(tables, state, left, meter)
+    }
+
+    /// Goes on below the path with `left` turns more, once its state was looked at. So a turn is put on the path only
+    /// where the look after it allows.
+    #[cycle(descent)]
+    fn extend<S: StateSpace>(
+        &mut self,
+        tables: &SearchTables<S>,
+        state: S::State,
+        left: u8,
+        meter: Meter,
+    ) -> (Meter, Result<(), K::Fault>)
+        requires near { distance_at tables.now.step (S.seen tables.now.space state) ≤ left }
+        requires room { length (turns self.old) + left ≤ self.old.path.now.limit }
+        requires meter { meter
+            + (beyond_at tables.now.step (S.seen tables.now.space state) (turns self.old) left).looks < 2 ^ 128 }
+        requires count { self.old.count < meter }
+        ensures keeps { Keeps self.old self.new (meter - 1) result.0 }
+        ensures makes { Makes K.took K.refused
+            (beyond_at tables.now.step (S.seen tables.now.space state) (turns self.old) left)
+            meter result.0 self.old self.new result.1 }
+    {
+        if left == 0 {
+            // counted first, since nothing follows on the hand-out: of the count nothing is said where the sink refuses
+            self.count += 1;
+            return (meter, self.sink.take(self.path));
+        }
+        let mut meter = meter;
+        let mut rest = tables.turns_after(self.path.last());
+        while let Some(index) = next_near(tables, state, rest, left - 1, &mut meter) {
+            let next = rest[index];
+            // the state once more: kept from the look, it would be written to memory at each look
+            let after = tables.after(state, next);
+            let (counted, below) = self.follow(tables, after, next.turn, left - 1, meter);
+            meter = counted;
+            if let Err(fault) = below {
+                return (meter, Err(fault));
+            }
+            rest = &rest[index + 1..];
+        }
+        (meter, Ok(()))
+    }
+
+    /// Goes on below the path and a turn with `left` turns more, once the state after the turn was looked at.
+    #[cycle(descent)]
+    fn follow<S: StateSpace>(
+        &mut self,
+        tables: &SearchTables<S>,
+        state: S::State,
+        turn: Turn,
+        left: u8,
+        meter: Meter,
+    ) -> (Meter, Result<(), K::Fault>)
+        requires near { distance_at tables.now.step (S.seen tables.now.space state) ≤ left }
+        requires room { length (turns self.old) + 1 + left ≤ self.old.path.now.limit }
+        requires meter { meter
+            + (beyond_at tables.now.step (S.seen tables.now.space state) (turns self.old ++ turn ∷ []) left).looks
+            < 2 ^ 128 }
+        requires count { self.old.count < meter }
+        ensures keeps { Keeps self.old self.new (meter - 1) result.0 }
+        ensures makes { Makes K.took K.refused
+            (beyond_at tables.now.step (S.seen tables.now.space state) (turns self.old ++ turn ∷ []) left)
+            meter result.0 self.old self.new result.1 }
+    {
+        self.path.push(turn);
+        let below = self.extend(tables, state, left, meter);
+        self.path.pop();
+        below
+    }
+}
+
+/// Looks at the state after each turn, up to the first after which the look allows `left` turns more; answers its
+/// index. Most looks end here: all that the loop calls is inlined, so that where the tables stand is read once for all
+/// of its looks.
+#[inline(always)]
+fn next_near<S: StateSpace>(
+    tables: &SearchTables<S>,
+    state: S::State,
+    followers: &[Follower],
+    left: u8,
+    meter: &mut Meter,
+) -> Option<usize>
+    requires of_step { All (IsFollower tables.now.step) followers.now }
+    requires meter { meter.old + length followers.now < 2 ^ 128 }
+    ensures near { IfSome result (IsNextNear tables.now.step (S.seen tables.now.space state) left
+        followers.now meter.old meter.new) }
+    ensures far { IfNone result (AreFar tables.now.step (S.seen tables.now.space state) left
+        followers.now meter.old meter.new) }
+{
+    for index in 0..followers.len() {
+        if tables.look(tables.after(state, followers[index]), meter) <= left {
+            return Some(index);
+        }
+    }
+    None
 }

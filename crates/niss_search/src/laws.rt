@@ -1,6 +1,8 @@
 //! Laws over the definitions, each as a contract.
-ghost use Rattle.niss_search.specs.Laws.{CountRecurrence, PartHasNoMore, LooksWithinBound, NoSlackIsLeast, FirstIsLeast, StepBoundIsLess, BoundIsSmall};
-ghost use Rattle.niss_search.specs.Laws.{EntriesAreCounted, EdgeFillIsSmall, FillIsSmall, DistanceIsLeast, PositionsFollowCubes};
+ghost use Rattle.niss_search.specs.Laws.{CountRecurrence, PartHasNoMore, LooksWithinBound, NoSlackIsLeast};
+ghost use Rattle.niss_search.specs.Laws.{FirstIsLeast, StepBoundIsLess, BoundIsSmall};
+ghost use Rattle.niss_search.specs.Laws.{EntriesAreCounted, EdgeFillIsSmall, FillIsSmall, DistanceIsLeast};
+ghost use Rattle.niss_search.specs.Laws.{PositionsFollowCubes};
 ghost use Rattle.niss_search.specs.Filling.{EntriesTurn};
 
 use niss_cube::laws::{
@@ -41,7 +43,7 @@ pub fn first_is_least()
 }
 
 /// What of a cube depends on its position alone.
-#[tactic(auto, using(crate::proofs::Transfer::positions_follow_cubes))]
+#[tactic(auto, using(crate::proofs::LookLemmas::positions_follow_cubes))]
 pub fn positions_follow_cubes()
     ensures { PositionsFollowCubes }
 {

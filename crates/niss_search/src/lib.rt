@@ -14,11 +14,11 @@
 //! }   // of the cube after F the sink was handed F and F', by 20 looks
 //! ```
 //!
-//! The sink is handed every canonical sequence of least length that reaches the step, in turn order, and nothing else. With
-//! a slack those that are at most so many turns longer follow, by length and then in turn order.
+//! The sink is handed every canonical sequence of least length that reaches the step, in turn order, and nothing else.
+//! With a slack those that are at most so many turns longer follow, by length and then in turn order.
 //!
-//! A sink says by `took` and `refused` what a path does to it, and so a caller knows what it was handed. One that promises
-//! nothing writes both of them so (`crates/eo_axes` is the whole program):
+//! A sink says by `took` and `refused` what a path does to it, and so a caller knows what it was handed. One that
+//! promises nothing writes both of them so (`crates/eo_axes` is the whole program):
 //!
 //! ```
 //! impl Sink for Printer<'_> {
@@ -35,37 +35,31 @@
 //! }
 //! ```
 //!
-//! A meter counts the turns that the fill of the tables tries, or the looks of searches. A look at a position answers its
-//! distance, by the pruning table. It is the only way to judge a position: the search sees neither its coordinates nor the
-//! tick of a meter.
+//! A meter counts the turns that the fill of the tables tries, or the looks of searches. A look at a position answers
+//! its distance, by the pruning table. It is the only way to judge a position: the search sees neither its coordinates
+//! nor the tick of a meter.
 //!
-//! `random_turns` draws a canonical sequence: each word of the generator picks among the turns that may follow the last one.
+//! `random_turns` draws a canonical sequence: each word of the generator picks among the turns that may follow the last
+//! one.
 //!
 //! ```
 //! let mut rng = Lcg64Xsh32::new(42, 54);
 //! let scramble = random_turns(&mut rng, 6);                     // L' D' F' R2 F' L'
 //! ```
 //!
-//! Contracts name a cube by its map of the 54 sticker places, and what is said of a position is said of every cube that has it
-//! (`specs/Cubes`). The functions of `laws` state what follows from the definitions alone.
+//! Contracts name a cube by its map of the 54 sticker places, and what is said of a position is said of every cube that
+//! has it (`specs/Cubes`). The functions of `laws` state what follows from the definitions alone.
 #![tactic(auto)]
 
 mod deepening;
-mod descent;
 pub mod laws;
-mod limit;
-mod outcome;
+mod path;
 mod scan;
 mod scramble;
-mod sink;
 mod tables;
-mod turn_path;
 
-pub use deepening::search;
-pub use limit::Limit;
-pub use outcome::Outcome;
+pub use deepening::{Outcome, Sink, search};
+pub use path::{Limit, TurnPath};
 pub use scan::next_at;
 pub use scramble::{random_turn, random_turns};
-pub use sink::Sink;
 pub use tables::{Meter, Position, Tables};
-pub use turn_path::TurnPath;

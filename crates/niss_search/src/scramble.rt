@@ -9,7 +9,7 @@ use rand_core::utils::NextWord;
 use rand_pcg::Lcg64Xsh32;
 
 /// The index that a word picks among the turns that may follow the last one.
-#[tactic(auto, using(crate::proofs::DrawLemmas::after_face))]
+#[tactic(auto, using(crate::proofs::Bounds::count_after))]
 fn choice_index(last: Option<Turn>, word: u32) -> usize
     ensures { result ≡ word * length (choices last) / 2 ^ 32 }
 {
@@ -35,9 +35,9 @@ pub fn random_turn(rng: &mut Lcg64Xsh32, last: Option<Turn>) -> Turn
     turns_after(last)[index]
 }
 
-/// A canonical sequence of `count` turns, at most 256, by that many words of the generator. Each word picks among the turns
-/// that may follow the last one, listed in turn order: of k turns the word w picks the one with the index w * k / 2^32,
-/// rounded down. The first turn has none before it.
+/// A canonical sequence of `count` turns, at most 256, by that many words of the generator. Each word picks among the
+/// turns that may follow the last one, listed in turn order: of k turns the word w picks the one with the index w * k /
+/// 2^32, rounded down. The first turn has none before it.
 pub fn random_turns(rng: &mut Lcg64Xsh32, count: usize) -> Faces
     requires { count ≤ 256 }
     ensures drawn { result.items ≡ draw None (next_words count rng.old) }

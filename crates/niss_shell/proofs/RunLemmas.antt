@@ -6,7 +6,7 @@ use Rattle.niss_shell.proofs.Names.{WriteRefused, most_bytes, Request, OnLines, 
 use Rattle.niss_shell.proofs.Names.{Ending, End, Fail, ending, outcome_at_end, answer_to, looks_at, most_line_looks, home}
 use Rattle.niss_shell.proofs.Names.{where_it_starts, complete_lines, LineAnswers, line_answer, answer_at, answers_from, joined_answer}
 use Rattle.niss_shell.proofs.Names.{line_answers, answer_lines, answer_request, unsearched, outcome_of, out_of, error_text, status_of}
-use Rattle.niss_shell.proofs.Names.{turns_of, may_start, Moves, read_line, AnswerState, MayBegin, pending_state, AnswersSource, Answers}
+use Rattle.niss_shell.proofs.Names.{may_start, Moves, read_line, AnswerState, MayBegin, pending_state, AnswersSource, Answers}
 use Rattle.niss_shell.proofs.Names.{Writes, EndsUnflushed, RunsUnflushed, flushed_outcome, FlushesLast, IsInput, Devices, devices, Ends}
 use Rattle.niss_shell.proofs.Names.{ReportsError, Looked, Runs, DeviceFault, UsageFault, LineCommand, Rewrite, Search, LineFault}
 use Rattle.niss_shell.proofs.Names.{ReadFault, Step, Stop, Usage, InputTooLong, CannotWrite, OutOfMemory, LooksWithinBound}
@@ -254,7 +254,7 @@ module _ (law : LooksWithinBound) where
       → IsWithin (line_answer n (looks_at command read) (most_line_looks command) (answer_to command read))
   line_within (Rewrite rewriting) n (Ok line) = omega arith
   line_within (Search query) n (Ok line) =
-      start_within query.step (may_start query.step (home line)) _ n (law (turns_of query.step) _ _ query.limit query.slack)
+      start_within query.step (may_start query.step (home line)) _ n (law _ _ _ _ query.limit query.slack)
   line_within command n (Err fault) = omega arith
 
   input_within : (command : LineCommand) (input : List ℕ) (m : Ending) → IsWithin (answer_lines (line_answers command) input m)

@@ -1,7 +1,7 @@
 -- How what a search wrote answers a line.
 use Rattle.niss_shell.proofs.Names.{◌≡◌, ℕ, Bool, true, false, Result, Ok, Err, List, refl, sym, ap, ◌∙◌, subst, IsTrue, Step}
 use Rattle.niss_shell.proofs.Names.{LineCommand, Search, Query, NoStart, Stop, AnswerState, Answers, Writes, answer_at_moves, may_start}
-use Rattle.niss_shell.proofs.Names.{Moves, near_looks_of, fault_answer, where_it_starts, search_text, home, search_command, turns_of}
+use Rattle.niss_shell.proofs.Names.{Moves, near_looks_of, fault_answer, where_it_starts, search_text, home, search_command}
 use Rattle.niss_shell.proofs.Names.{LooksWithinBound, Solutions, answer_to, looks_at, AcceptedLinesAreSolved, SearchesBeginAtCubes, search_answer}
 use Rattle.niss_shell.proofs.Names.{start_cube, ReadFault, read_line, Place}
 
@@ -55,5 +55,5 @@ pub accepted_lines : LooksWithinBound → AcceptedLinesAreSolved
 accepted_lines within step n bytes line e h = record {
   text = ap (answer_to (search_command Solutions step n 0)) e ∙ starts _ _ _ h;
   looks = ap (looks_at (search_command Solutions step n 0)) e;
-  within = within (turns_of step) _ _ n 0;
+  within = within _ _ _ _ n 0;
 }

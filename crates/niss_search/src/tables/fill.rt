@@ -9,7 +9,7 @@ use super::goal_moves::{GoalMoves, Starts};
 use super::meter::Meter;
 use super::pruning_table::GOAL_ENTRY;
 use crate::laws::entries_turn;
-use crate::limit::Limit;
+use crate::path::Limit;
 use crate::scan::next_at;
 use std::marker::Model;
 use std::mem;

@@ -7,7 +7,7 @@ use super::goal_moves::GoalMoves;
 use super::meter::Meter;
 use super::position::Coordinates;
 use super::state_space::StateSpace;
-use crate::limit::Limit;
+use crate::path::Limit;
 use arrayvec::ArrayVec;
 use niss_cube::OutOfMemory;
 use std::alloc::Allocator;

@@ -1,4 +1,3 @@
-use Rattle.std.proofs.Common.{refl}
 use Rattle.niss_embed.proofs.TargetLemmas.{puts_nothing, puts_text}
 use Rattle.niss_embed.proofs.call.refuse_memory.Goals as goal
 
@@ -9,6 +8,6 @@ returns c =
       answers = record {
         output = puts_nothing c.args.out.now;
         error = puts_text c.args.err.now _ _ c.put-err_length.result put.bound put.fits put.most put.written put.left put.same_length;
-        status = refl;
+        status = c.number.ensures;
       };
     }

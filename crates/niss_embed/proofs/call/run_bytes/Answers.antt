@@ -1,6 +1,6 @@
 use Rattle.std.proofs.Common.{map, sym, subst}
 use Rattle.std.specs.Prelude.{string_bytes}
-use Rattle.niss_embed.specs.Words.{TakesWords}
+use Rattle.niss_embed.specs.Run.{TakesWords}
 use Rattle.niss_embed.proofs.RunLemmas.{runs_bytes, refuses_bytes}
 use Rattle.niss_embed.proofs.call.run_bytes.Goals as goal
 

@@ -3,17 +3,16 @@ use Rattle.std.specs.Prelude.{OnOk, OnErr, is_err}
 use Rattle.niss_search.specs.Cubes.{near_solutions_of, near_looks_of}
 use Rattle.niss_search.specs.Delivery.{WentThrough, StoppedIn}
 use Rattle.niss_embed.specs.Memory.{memory}
-use Rattle.niss_embed.specs.SolutionLines.{lines_state}
-use Rattle.niss_embed.specs.LineSearch.{SolvesCube, capped}
-use Rattle.niss_embed.specs.declared.line_search.SolveAnswer.{SolveAnswer}
+use Rattle.niss_embed.specs.LineSearch.{lines_state, SolvesCube, capped}
+use Rattle.niss_embed.specs.declared.answer.SolveAnswer.{SolveAnswer}
 use Rattle.niss_embed.proofs.SolveLemmas.{Lines, TakesPath, RefusesPath, solve_answer, same_memory, solves}
 use Rattle.niss_embed.proofs.line_search.solve_position.Goals as goal
 
 pub returns : goal.returns
 returns g c = λ e at.
     let step = c.args.tables.now in
-    let n = c.args.limit in
-    let slack = c.args.slack in
+    let n = c.args.bounds.limit in
+    let slack = c.args.bounds.slack in
     let a = c.new-lines.result in
     let b = c.search-found.new.sink in
     let limit_is : c.new-path.result.limit ≡ n = ap (λ p. p.limit) c.new-path.ensures in

@@ -1,4 +1,4 @@
-use Rattle.niss_search.proofs.DrawLemmas.{choice-index, choice-follows}
+use Rattle.niss_search.proofs.Bounds.{choice-index, choice-follows}
 use Rattle.niss_search.proofs.scramble.random_turn.Goals as goal
 
 pub bounds-turns_after-index : goal.bounds-turns_after-index

@@ -1,18 +1,22 @@
-use Rattle.niss_search.proofs.Words.{◌≡◌, ◌+◌, arith, ◌∙◌, sym, turns_of, reaches_at, last_length, err_from_is_err_and}
-use Rattle.niss_search.proofs.DeepeningLemmas.{least_below, level-next, least_length-is, looks-room, least-next, goes-on, stops-here, all-done}
+use Rattle.niss_search.proofs.Words.{◌≡◌, ◌+◌, arith, ◌∙◌, sym, last_length, err_from_is_err_and, positions, distance_at, length, reaching}
+use Rattle.niss_search.proofs.Bounds.{turns_of-length}
+use Rattle.niss_search.proofs.DeepeningLemmas.{least_below, least_below-more, length-next, least_length-is, looks-room, goes-on, stops-here}
+use Rattle.niss_search.proofs.DeepeningLemmas.{all-done}
 use Rattle.niss_search.proofs.deepening.Root.find.Goals as goal
 
 pub deepen-requires-clause-meter : goal.deepen-requires-clause-meter
 deepen-requires-clause-meter g c =
-    looks-room c.args.self.now.tables.now c.args.self.now.position.now c.args.path.now.limit c.args.slack c.loop-length.length c.loop-length.invariant.went c.requires.meter (omega arith)
+    let step = c.args.self.now.tables.now in
+    looks-room (positions step) (distance_at step) c.args.self.now.position.now c.args.path.now.limit c.args.slack c.loop-length.length c.loop-length.invariant.went (turns_of-length step) c.requires.meter (omega arith)
 
 pub returns-in_err-found-clause-delivers : goal.returns-in_err-found-clause-delivers
 returns-in_err-found-clause-delivers g c =
     let inv = c.loop-length.invariant in
+    let step = c.args.self.now.tables.now in
     let p = err_from_is_err_and c.from_residual.result c.from_residual.ensures.1 in
     let stops = rw (inv.path, c.in_err-found.was) at c.deepen.ensures.delivers in
     let last = rw (inv.least, c.limit-limit.ensures.value) at c.last_length.ensures.value in
-    rw p.1 (stops-here c.args.self.now.tables.now c.args.self.now.position.now c.args.path.now.limit c.args.slack c.loop-length.length inv.went (omega (arith, last)) stops)
+    rw p.1 (stops-here (positions step) (distance_at step) c.args.self.now.position.now c.args.path.now.limit c.args.slack c.loop-length.length inv.went (omega (arith, last)) stops)
 
 pub loop-length-preserved : goal.loop-length-preserved
 loop-length-preserved g c =
@@ -23,13 +27,14 @@ loop-length-preserved g c =
     let d = c.loop-length.length in
     let went = rw (inv.path, c.in_ok-found.was) at c.deepen.ensures.delivers in
     let last = rw (inv.least, c.limit-limit.ensures.value) at c.last_length.ensures.value in
-    let next = c.or-least.ensures ∙ rw (c.then_some.ensures, inv.least) (least-next step x d c.in_ok-found.found went.counted) in
+    let count : c.in_ok-found.found ≡ length (reaching (positions step) x d) = omega (arith, went.counted) in
+    let next = c.or-least.ensures ∙ rw (c.then_some.ensures, inv.least, count) (sym (least_below-more (positions step) x d)) in
     record {
       path = c.deepen.ensures.path ∙ inv.path;
       least = next;
-      within = omega (arith, level-next (turns_of step) (reaches_at step x) n c.args.slack d (omega (arith, last)));
+      within = omega (arith, length-next (positions step) x n c.args.slack d (omega (arith, last)));
       counted = omega (arith, inv.counted, c.in_ok-found.ensures.counted);
-      went = goes-on step x n c.args.slack d inv.went went;
+      went = goes-on (positions step) (distance_at step) x n c.args.slack d inv.went went;
     }
 
 pub returns : goal.returns
@@ -39,14 +44,15 @@ returns g c =
     let n = c.args.path.now.limit in
     let inv = c.loop-length.invariant in
     let last = rw (inv.least, c.limit-limit.ensures.value) at c.last_length.ensures.value in
-    let end : c.loop-length.length ≡ last_length (least_below (turns_of step) (reaches_at step x) c.loop-length.length) n c.args.slack + 1 = omega (arith, last, inv.within) in
+    let end : c.loop-length.length ≡ last_length (least_below (positions step) x c.loop-length.length) n c.args.slack + 1 = omega (arith, last, inv.within) in
     record {
       path = inv.path;
-      length = inv.least ∙ sym (least_length-is (turns_of step) (reaches_at step x) n c.args.slack c.loop-length.length end);
-      delivers = all-done step x n c.args.slack c.loop-length.length inv.went end;
+      length = inv.least ∙ sym (least_length-is (positions step) x n c.args.slack c.loop-length.length end);
+      delivers = all-done (positions step) (distance_at step) x n c.args.slack c.loop-length.length inv.went end;
     }
 
 pub overflow_add-solutions : goal.overflow_add-solutions
 overflow_add-solutions g c =
+    let step = c.args.self.now.tables.now in
     let went = rw (c.loop-length.invariant.path, c.in_ok-found.was) at c.deepen.ensures.delivers in
-    omega (arith, c.loop-length.invariant.counted, c.in_ok-found.ensures.counted, looks-room c.args.self.now.tables.now c.args.self.now.position.now c.args.path.now.limit c.args.slack c.loop-length.length c.loop-length.invariant.went c.requires.meter (omega arith), went.looked)
+    omega (arith, c.loop-length.invariant.counted, c.in_ok-found.ensures.counted, went.looked, looks-room (positions step) (distance_at step) c.args.self.now.position.now c.args.path.now.limit c.args.slack c.loop-length.length c.loop-length.invariant.went (turns_of-length step) c.requires.meter (omega arith))

@@ -4,7 +4,7 @@ use Rattle.niss_search.proofs.tables.Tables.after.Goals as goal
 pub returns-clause-turned : goal.returns-clause-turned
 returns-clause-turned g c = λ e h.
     rw c.position_after.ensures
-    (c.positions_follow_cubes.ensures.after_turn c.args.self.now e c.args.position.now c.args.turn c.requires.of_step h)
+    ((c.positions_follow_cubes.ensures.follow c.args.self.now).after_turn e c.args.position.now c.args.turn c.requires.of_step h)
 
 pub returns-clause-position : goal.returns-clause-position
 returns-clause-position g c =

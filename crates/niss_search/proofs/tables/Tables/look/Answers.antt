@@ -1,6 +1,6 @@
 use Rattle.niss_search.proofs.Words.{arith, ◌∙◌, sym}
 use Rattle.niss_search.proofs.LookLemmas.{distance_at-most}
-use Rattle.niss_search.proofs.Transfer.{distance-cube, distance-reached-cube}
+use Rattle.niss_search.proofs.LookLemmas.{distance-cube, distance-reached-cube}
 use Rattle.niss_search.proofs.tables.Tables.look.Goals as goal
 
 pub returns-clause-in_range : goal.returns-clause-in_range

@@ -1,0 +1,93 @@
+use Rattle.niss_search.proofs.Words.{◌≡◌, arith, length, ◌+◌, ◌<◌, ◌∙◌, sym, ◌≤◌, [], refl, ◌-◌, ◌∷◌, ◌++◌, get_or, subst, suc}
+use Rattle.niss_search.proofs.Words.{distance_at, position_after, ◌^◌, IsFollower, beyond_at, progress_of, Path, All-drop, take_rest, at_limit}
+use Rattle.std.proofs.lemmas.List.{length-drop}
+use Rattle.niss_search.proofs.DepthFirst.{no_follower, beyond_at-end, Descends-take, Remains-all, Remains-room}
+use Rattle.niss_search.proofs.DepthFirst.{Remains-room_next, Remains-next, Remains-stops, Remains-far}
+use Rattle.niss_search.proofs.deepening.Descent.+descent.Goals as goal
+
+pub extend-returns-then-left-eq0-clause-makes : goal.extend-returns-then-left-eq0-clause-makes
+extend-returns-then-left-eq0-clause-makes g t c =
+    let step = c.args.tables.now.step in
+    let x = g.S.StateSpace.seen c.args.tables.now.space c.args.state in
+    let path = c.args.self.now.path.now in
+    let near : distance_at step x ≤ 0 = omega (arith, c.requires.near, c.if-left-eq0.true) in
+    rw (c.if-left-eq0.true, beyond_at-end step x path.turns near)
+    (Descends-take (at_limit g.K.Sink.took path.limit) (at_limit g.K.Sink.refused path.limit) c.take.result c.args.meter
+    c.args.self.now.count c.args.self.now.sink.now c.take.new.self path.turns c.take.ensures.ok c.take.ensures.err)
+
+pub extend-loop-index-init : goal.extend-loop-index-init
+extend-loop-index-init g t c =
+    let listed = rw c.last.ensures at c.turns_after-rest.ensures.turns in
+    let left : c.args.left ≡ suc (c.args.left - 1) = omega (arith, c.if-left-eq0.false) in
+    record {
+      columns = c.turns_after-rest.ensures.columns;
+      few = c.turns_after-rest.type_inv.1;
+      keeps = record { path = refl; same_path = refl; same_sink = refl; counted = omega arith };
+      remains = Remains-all c.args.left (c.args.left - 1) c.turns_after-rest.result.now (progress_of c.args.meter c.args.self.now) left c.requires.near listed;
+    }
+
+pub extend-next_near-requires-clause-meter : goal.extend-next_near-requires-clause-meter
+extend-next_near-requires-clause-meter g t c =
+    omega (arith, Remains-room c.loop-index.invariant.remains, c.requires.meter)
+
+pub extend-follow-counted-requires : goal.extend-follow-counted-requires
+extend-follow-counted-requires g t c κs within =
+    let x = g.S.StateSpace.seen c.args.tables.now.space c.args.state in
+    let inv = c.loop-index.invariant in
+    let next = c.in-Some.ensures.near in
+    let turn = (get_or c.loop-index.rest.now c.in-Some.index no_follower).turn in
+    let same = sym inv.keeps.path in
+    let Room : Path → Type 0 = λ q. length q.turns + 1 + (c.args.left - 1) ≤ q.limit in
+    let beyond = λ (q : Path). (beyond_at c.args.tables.now.step (position_after x turn) (q.turns ++ turn ∷ []) (c.args.left - 1)).looks in
+    let Metered : Path → Type 0 = λ q. c.next_near.new.meter + beyond q < 2 ^ 128 in
+    let near = next.near no_follower in
+    let room = subst Room same (omega (arith, c.requires.room, c.if-left-eq0.false)) in
+    let metered = subst Metered same (omega (arith, Remains-room_next inv.remains next, c.requires.meter)) in
+    let counted = inv.keeps.counted in (
+      omega arith,
+      (
+        within.0,
+        (
+          within.1.0,
+          (
+            within.1.1.0,
+            (
+              within.1.1.1,
+              (
+                rw c.after-after.ensures near,
+                (room, (rw c.after-after.ensures metered, omega (arith, counted, c.requires.count, next.looked))),
+              ),
+            ),
+          ),
+        ),
+      ),
+    )
+
+pub extend-returns-in-Err-clause-makes : goal.extend-returns-in-Err-clause-makes
+extend-returns-in-Err-clause-makes g t c =
+    let inv = c.loop-index.invariant in
+    Remains-stops inv.remains c.in-Some.ensures.near (rw (inv.keeps.path, c.after-after.ensures, c.in-Err.is) at c.follow-counted.ensures.makes)
+
+pub extend-loop-index-preserved : goal.extend-loop-index-preserved
+extend-loop-index-preserved g t c =
+    let inv = c.loop-index.invariant in
+    let rest = c.loop-index.rest.now in
+    let i = c.in-Some.index in
+    let next = c.in-Some.ensures.near in
+    let kept = c.follow-counted.ensures.keeps in
+    let went = rw (inv.keeps.path, c.after-after.ensures, c.in_default-below.is) at c.follow-counted.ensures.makes in
+    rw (take_rest rest (i + 1)) record {
+      columns = All-drop (IsFollower c.args.tables.now.step) (i + 1) rest inv.columns;
+      few = omega (arith, inv.few, length-drop (i + 1) rest);
+      keeps = record {
+        path = kept.path ∙ inv.keeps.path;
+        same_path = kept.same_path ∙ inv.keeps.same_path;
+        same_sink = kept.same_sink ∙ inv.keeps.same_sink;
+        counted = omega (arith, inv.keeps.counted, next.looked, kept.counted);
+      };
+      remains = Remains-next inv.remains next went;
+    }
+
+pub extend-returns-clause-makes : goal.extend-returns-clause-makes
+extend-returns-clause-makes g t c =
+    Remains-far c.loop-index.invariant.remains c.in_default.ensures.far

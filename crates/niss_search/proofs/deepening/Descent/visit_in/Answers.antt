@@ -1,0 +1,17 @@
+use Rattle.niss_search.proofs.Words.{arith, ◌<◌, distance_at, at_limit, beyond_at, progress_of}
+use Rattle.niss_search.proofs.DepthFirst.{beyond_at-far, GoesThrough-looks, Descends-then}
+use Rattle.niss_search.proofs.deepening.Descent.visit_in.Goals as goal
+
+pub returns-then-look-left-clause-makes : goal.returns-then-look-left-clause-makes
+returns-then-look-left-clause-makes g c =
+    let step = c.args.tables.now.step in
+    let seen = rw c.state-state.ensures at c.look.ensures.value in
+    let far : c.args.left < distance_at step c.args.position.now = omega arith in
+    rw (beyond_at-far step c.args.position.now c.args.self.now.path.now.turns c.args.left far)
+    (GoesThrough-looks 1 c.args.meter c.look.new.meter c.args.self.now.count c.args.self.now.sink.now c.look.ensures.tick)
+
+pub returns-clause-makes : goal.returns-clause-makes
+returns-clause-makes g c =
+    let path = c.args.self.now.path.now in
+    let looked = GoesThrough-looks {took = at_limit g.K.Sink.took path.limit} {refused = at_limit g.K.Sink.refused path.limit} 1 c.args.meter c.look.new.meter c.args.self.now.count c.args.self.now.sink.now c.look.ensures.tick in
+    Descends-then c.extend.result.1 (beyond_at c.args.tables.now.step c.args.position.now path.turns c.args.left) (progress_of c.extend.result.0 c.extend.new.self) looked (rw c.state-state.ensures at c.extend.ensures.makes)

@@ -1,0 +1,197 @@
+"""What is done with the line so far: it is kept, copied and read again, edited and played, by keys too, and how it ends."""
+import time
+
+from browser import Browser
+from selenium.webdriver.common.keys import Keys
+from steps import ADDRESS, EXAMPLE, SCRAMBLE
+from tally import Tally
+from wanted import Position, answer
+
+
+def keeps(tally: Tally, browser: Browser) -> None:
+    """Candidates are kept by their stars, with notes, in the address; they are gone on with, copied, and taken away."""
+    browser.open(ADDRESS)
+    browser.wait_best()
+    star = "document.querySelector(arguments[0]).click()"
+    browser.script(star, "#best-body tr:nth-child(2) .star")
+    browser.act('[data-cell="eorl.normal"]')
+    browser.script(star, "#solutions-groups li:nth-child(3) .star")
+    third = browser.texts("#solutions-groups .take")[2]
+    browser.act("#solutions-groups .take")
+    browser.act("#keep-line")
+    browser.until("return [...document.querySelectorAll('#kept-list .total')].every((each) => each.textContent !== '')")
+    second = browser.script("return decodeURIComponent(location.hash.split('kept=')[1].split(',')[0])")
+    tally.equal("three are kept", (len(browser.texts("#kept-list li")), browser.text("kept-count")), (3, "3 lines"))
+    tally.holds(f"one of the best, {second}", second.startswith(("normal.", "inverse.")))
+    tally.holds("one of the list", third in browser.texts("#kept-list .moves"))
+    texts_of = """return [...document.querySelectorAll('#kept-list li')]
+        .map((each) => [...each.querySelectorAll('.KIND')].map((one) => one.textContent))"""
+    chips = browser.script(texts_of.replace("KIND", "chip"))
+    tally.equal("each with what it reaches", [any(word.startswith("EO ") for word in words) for words in chips], [True] * 3)
+    tally.holds("and its cases", all(len(cases) == 2 for cases in browser.script(texts_of.replace("KIND", "case"))))
+    browser.script(
+        "const note = document.querySelector('#kept-list .note-field'); note.value = 'a \u00e9 ~ , ; note'; note.dispatchEvent(new "
+        "Event('change'))",
+    )
+    before = browser.texts("#kept-list .moves")
+    browser.open(browser.script("return location.hash"))
+    browser.until("return [...document.querySelectorAll('#kept-list .total')].every((each) => each.textContent !== '')")
+    notes = "return [...document.querySelectorAll('#kept-list .note-field')].map((each) => each.value)"
+    tally.equal(
+        "they come back from the address",
+        (browser.texts("#kept-list .moves"), browser.script(notes)),
+        (before, ["a \u00e9 ~ , ; note", "", ""]),
+    )
+    browser.act("#kept-list li:nth-child(1) button")
+    tally.equal("one is gone on with", browser.text("bracketed"), before[0])
+    tally.equal("and the others stay", browser.texts("#kept-list .moves"), before)
+    browser.click("#kept-list li:nth-child(2) button:nth-of-type(2)")
+    tally.equal("one is taken away", browser.texts("#kept-list .moves"), [before[0], before[2]])
+    tally.equal("its stars are the page's", browser.script("return document.getElementById('keep-line').ariaPressed"), "true")
+    copied = "Copied: " + "\n\n".join([SCRAMBLE, *browser.script(
+        "return [...document.querySelectorAll('#kept-list li')].map((each) => each.querySelector('.moves').textContent)")])
+    browser.click("#copy-kept")
+    browser.until("return document.getElementById('status').textContent.startsWith('Copied')")
+    said = browser.texts("#status")[0]
+    blocks = said.split("\n\n")
+    tally.equal("all are copied", [blocks[0], *(block.split(" //")[0] for block in blocks[1:])], copied.split("\n\n"))
+    tally.holds(f"with their notes: {blocks[1]}", blocks[1].endswith("// a \u00e9 ~ , ; note"))
+    full = "#scramble=R&kept=" + ",".join(f"normal.{'_'.join(['R', 'U'] * at)}" for at in range(1, 25))
+    browser.open(full)
+    browser.submit("own", "F")
+    browser.until("return document.querySelectorAll('#line-list li').length === 1")
+    browser.wait()
+    browser.click("#keep-line")
+    tally.holds(
+        "no more than fit",
+        browser.text("alert").startswith("No more lines can be kept") and len(browser.texts("#kept-list li")) == 24,
+    )
+
+
+def fmc_text(tally: Tally, browser: Browser) -> None:
+    """A line is copied as solvers write it, and read again."""
+    browser.open(
+        "#scramble=R-_U-_F_D2_L2_F_R2_U2_R2_B_D2_L_B2_D-_B2_L-_R-_B-_D2_B2_R-_U-_F&steps=inverse.B_D_R_F2_B_D~normal.R_B-~normal.D2_R",
+    )
+    browser.click("#copy-fmc")
+    browser.until("return document.getElementById('status').textContent.startsWith('Copied')")
+    text = browser.texts("#status")[0].removeprefix("Copied: ")
+    wanted = [EXAMPLE, "(B D R F2 B D) // EO U/D (6)", "R B' // (2/8)", "D2 R // DR F/B (2/10)"]
+    tally.equal("the text", text.split("\n"), wanted)
+    before = browser.script("return location.hash")
+    browser.open()
+    browser.fill("scramble", text)
+    browser.until("return document.querySelectorAll('#line-list li').length === 3")
+    browser.wait()
+    tally.equal("it is read again", browser.script("return location.hash"), before)
+    tally.holds("tabs are told apart", "(B D R F2 B D) R B'" in browser.driver.title)
+    browser.click("#copy-link")
+    browser.until("return document.getElementById('status').textContent.startsWith('Copied: file')")
+    tally.equal("a link is copied", browser.texts("#status")[0], "Copied: " + browser.script("return location.href"))
+
+
+def edits(tally: Tally, browser: Browser) -> None:
+    """A step in the middle is edited, left as it was, refused, and taken away."""
+    browser.open("#scramble=R_U_F&steps=normal.R~inverse.U_D~normal.F")
+    browser.act("#line-list li:nth-child(2) button")
+    tally.equal("it is seen as it is written", browser.script("return document.activeElement.value"), "(U D)")
+    tally.equal("and one types at its end", browser.script("return document.activeElement.selectionStart"), len("(U D)"))
+    browser.press(Keys.ESCAPE)
+    tally.equal(
+        "left as it was",
+        (browser.texts("#line-list li:nth-child(2) .moves"), browser.script("return document.activeElement.textContent")),
+        (["(U D)"], "Edit"),
+    )
+    browser.act("#line-list li:nth-child(2) button")
+    change = "const field = document.querySelector('#line-list input'); field.value = arguments[0]; field.form.requestSubmit()"
+    browser.script(change, "(U q)")
+    tally.holds("a fault is said", browser.until("return document.querySelector('#line-list .fault')?.textContent.includes('no move')"))
+    browser.script(change, "(U2) L")
+    browser.until("return document.querySelectorAll('#line-list li').length === 4")
+    browser.wait()
+    tally.equal("it is changed", browser.text("bracketed"), "R (U2) L F")
+    browser.act("#line-list li:nth-child(1) button:nth-of-type(2)")
+    tally.equal("another is taken away", browser.text("bracketed"), "(U2) L F")
+
+
+def by_keys(tally: Tally, browser: Browser) -> None:
+    """Single keys, where nothing is typed, and their switch."""
+    browser.open(ADDRESS)
+    browser.wait_best()
+    browser.script("document.activeElement.blur()")
+    browser.press("i")
+    tally.equal("i", browser.text("side"), "inverse side")
+    browser.press("n")
+    tally.equal("n", browser.text("side"), "normal side")
+    browser.press("3")
+    browser.wait()
+    tally.equal("3", browser.text("solutions-heading"), "EO R/L, normal side")
+    browser.press("s")
+    tally.equal("s keeps the row that has the focus", browser.texts("#kept-list .moves"), [browser.texts("#solutions-groups .take")[0]])
+    browser.press("/")
+    tally.equal("/", browser.focused(), "filter")
+    browser.press("u")
+    tally.equal("what is typed is typed", browser.script("return document.getElementById('filter').value"), "u")
+    browser.script(
+        "const it = document.getElementById('filter'); it.value = ''; it.dispatchEvent(new Event('input')); "
+        "document.querySelector('#solutions-groups .take').click()",
+    )
+    browser.until("return document.querySelectorAll('#line-list li').length > 0")
+    browser.wait()
+    browser.press("u")
+    browser.wait()
+    tally.equal("u", browser.texts("#line-list li"), [])
+    browser.script("document.getElementById('keys-on').checked = false; document.activeElement.blur()")
+    browser.press("i")
+    tally.equal("switched off", browser.text("side"), "normal side")
+
+
+def plays(tally: Tally, browser: Browser) -> None:
+    """The moves of the line are played on the nets, by single moves where less motion is wanted; the view is turned."""
+    browser.open("#scramble=R_U&steps=normal.F_D~inverse.L")
+    positions = [Position("R U"), Position("R U", "F"), Position("R U", "F D"), Position("R U", "F D", "L")]
+    for place in (2, 1, 0):
+        browser.click("#play-back")
+        browser.until("return document.getElementById('played').textContent.startsWith(arguments[0])", f"{place} of 3")
+        tally.equal(f"{place} moves", browser.letters("normal"), positions[place].letters("normal"))
+    browser.click("#play-on")
+    tally.equal("one on", (browser.text("played"), browser.letters("inverse")), ("1 of 3: F", positions[1].letters("inverse")))
+    browser.click("#play")
+    tally.holds("it plays to its end", browser.until("return document.getElementById('played').textContent === '3 of 3: (L)'"))
+    tally.equal("and stops", (browser.text("play"), browser.letters("normal")), ("Play", positions[3].letters("normal")))
+    browser.command("Emulation.setEmulatedMedia", features=[{"name": "prefers-reduced-motion", "value": "reduce"}])
+    browser.click("#play")
+    browser.until("return document.getElementById('played').textContent.startsWith('0 of 3')")
+    time.sleep(1)
+    tally.equal("with less motion it goes back to the scramble alone", (browser.text("played"), browser.text("play")), ("0 of 3", "Play"))
+    browser.command("Emulation.setEmulatedMedia", features=[])
+    browser.open("#scramble=R_U")
+    for turn in ("y", "x"):
+        browser.click(f"#view-{turn}")
+    tally.equal("the view is turned by y and x", browser.letters("normal"), answer("print", "R U y x"))
+
+
+def solved(tally: Tally, browser: Browser) -> None:
+    """Nothing is finished where nothing was done, and several reductions are."""
+    for scramble in ("", "  ", "R R'", "x2"):
+        browser.open()
+        browser.fill("scramble", scramble)
+        tally.equal(f"{scramble!r} finishes nothing", browser.text("finished"), "")
+    browser.fill("scramble", "U2")
+    tally.equal(
+        "what is reached without a step is in a line of its own",
+        browser.text("reached"),
+        "Reached: EO F/B EO R/L EO U/D DR U/D DR R/L DR F/B",
+    )
+    for steps, said in (("normal.R2", "DR U/D, DR R/L and DR F/B are reached: 1 move. nissy goes no further."),
+            ("normal.U2", "Solved: 1 move."),
+            ("inverse.U~normal.U-", "Solved: 2 moves.")):
+        browser.open(f"#scramble=U2&steps={steps}")
+        tally.equal(f"{steps} after U2", browser.text("finished"), said)
+        tally.equal("no cell leads to an empty list", [name for name in browser.cells() if " 0 moves" in name or "reached" in name], [])
+
+
+def try_all(tally: Tally, browser: Browser) -> None:
+    """All of them."""
+    for part in (keeps, fmc_text, edits, by_keys, plays, solved):
+        part(tally, browser)
