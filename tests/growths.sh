@@ -31,9 +31,9 @@ all_comes_back() { # NAME GROWTHS HOW: each allocation refused, GROWTHS of them 
     [ "$refused" -eq "$2" ] && [ "$kept" -eq 0 ]
 }
 
-# each name with its growths: a table of turns for each coordinate; a table of moves and one of distances for each goal, and before them those of
-# turns; the moves of a domino reduction are of two coordinates
-for row in turns:3 eofb:3 eorl:3 eoud:3 eo:7 {drud-eofb,drrl-eofb,drud-eorl,drfb-eorl,drrl-eoud,drfb-eoud}:5 {dr-eofb,dr-eorl,dr-eoud}:8; do
+# each name with its growths: a table of turns for each coordinate; a table of moves and one of distances for each goal, where the moves of a
+# domino reduction are of two coordinates
+for row in turns:3 eofb:2 eorl:2 eoud:2 eo:6 {drud-eofb,drrl-eofb,drud-eorl,drfb-eorl,drrl-eoud,drfb-eoud}:3 {dr-eofb,dr-eorl,dr-eoud}:6; do
     name=${row%:*} growths=${row#*:}
     built "$name" 0
     all=$made

@@ -6,7 +6,8 @@ use Rattle.niss_search.proofs.Words.{count_for, replicate, AreEntries, ArePlaces
 use Rattle.niss_search.proofs.Words.{turns_of, Contains, turn_at, IsFilled, are_zero, goals_of, byte_at, entry_at, or-false, IsEntry, ◌≡◌}
 use Rattle.niss_search.proofs.Words.{length, ◌+◌, List, refl, Turn, subst, Step, ◌==◌, Place, Axis, Domino, Edges, Goal, IsCube, lit<, ◌<◌}
 use Rattle.niss_search.proofs.Words.{ap, ◌∙◌, sym, ◌≤◌, [], ◌*◌, ◌-◌, ◌∷◌, suc, map, leb, ◌/◌, ◌%◌}
-use Rattle.niss_cube.specs.declared.cube.coordinate.Coordinate.TheVariants.{Flip, Twist, Slice}
+use Rattle.niss_cube.specs.declared.cube.coordinate.Coordinate.TheVariants as coordinate
+use Rattle.niss_search.proofs.Words.{Flip}
 use Rattle.niss_search.proofs.Bounds.{turns_of-length}
 use Rattle.niss_search.proofs.LookLemmas.{distance_at-goal, distance_at-turn, distance_at-most, distance_at-nearer}
 
@@ -14,15 +15,24 @@ pub count_for-bound : (g : Goal) → count_for g < 1082566
 count_for-bound (Edges a) = lit< tt
 count_for-bound (Domino o a) = lit< tt
 
--- a twist and a slice in their ranges are those of an entry
-pair-is-entry : (edges axis : Axis) (twist slice : ℕ) → twist < 2187 → slice < 495 → IsEntry (Domino edges axis) (TwistAndSlice axis twist slice)
-pair-is-entry edges axis twist slice h b =
-    (omega arith, rw (div-mul-add twist 495 slice b, mod-mul-add twist 495 slice b) refl)
+-- the number of an entry, and the coordinates with that number
+pub entry-below : (g : Goal) (c : Coordinates) → IsEntry g c → entry_number c < count_for g
+entry-below (Edges a) (Flip b f) h = h.1
+entry-below (Edges a) (TwistAndSlice b t s) h = absurd h
+entry-below (Domino o a) (Flip b f) h = absurd h
+entry-below (Domino o a) (TwistAndSlice b t s) h = omega (arith, h.1, h.2)
+
+entry-itself : (g : Goal) (c : Coordinates) → IsEntry g c → entry_at g (entry_number c) ≡ c
+entry-itself (Edges a) (Flip b f) h = ap (λ x. Flip x f) (sym h.0)
+entry-itself (Edges a) (TwistAndSlice b t s) h = absurd h
+entry-itself (Domino o a) (Flip b f) h = absurd h
+entry-itself (Domino o a) (TwistAndSlice b t s) h =
+    rw (div-mul-add t 495 s h.2, mod-mul-add t 495 s h.2) (ap (λ x. TwistAndSlice x t s) (sym h.0))
 
 module _ (coordinates : AreCoordinates) where
   cube-is-entry : (g : Goal) (e : Place → Place) → IsCube e → IsEntry g (coordinates_of g e)
-  cube-is-entry (Edges a) e h = ((coordinates Flip a).below e h, refl)
-  cube-is-entry (Domino o a) e h = pair-is-entry o a _ _ ((coordinates Twist a).below e h) ((coordinates Slice a).below e h)
+  cube-is-entry (Edges a) e h = (refl, (coordinates coordinate.Flip a).below e h)
+  cube-is-entry (Domino o a) e h = (refl, (coordinates coordinate.Twist a).below e h, (coordinates coordinate.Slice a).below e h)
 
   -- so the position of a cube is one of entries, one for each goal
   pub position-is-entries : (s : Step) (x : List Coordinates) (e : Place → Place) → HasPosition s e x → AreEntries (goals_of s) x
@@ -33,22 +43,22 @@ module _ (coordinates : AreCoordinates) where
     by_goals (g ∷ gs) = (cube-is-entry g e h.cube, by_goals gs)
 
   after-is-entry : (g : Goal) (i : ℕ) (t : Turn) → i < count_for g → IsEntry g (coordinates_after (entry_at g i) t)
-  after-is-entry (Edges a) i t h = ((coordinates Flip a).after_below i t h, refl)
+  after-is-entry (Edges a) i t h = (refl, (coordinates coordinate.Flip a).after_below i t h)
   after-is-entry (Domino o a) i t h =
-      pair-is-entry o a _ _ ((coordinates Twist a).after_below (i / 495) t (omega arith)) ((coordinates Slice a).after_below (i % 495) t (omega arith))
+      (refl, (coordinates coordinate.Twist a).after_below (i / 495) t (omega arith), (coordinates coordinate.Slice a).after_below (i % 495) t (omega arith))
 
   after-back : (g : Goal) (i : ℕ) (t : Turn) → i < count_for g → entry_number (coordinates_after (coordinates_after (entry_at g i) t) (inverse_turn t)) ≡ i
-  after-back (Edges a) i t h = (coordinates Flip a).back_again i t h
+  after-back (Edges a) i t h = (coordinates coordinate.Flip a).back_again i t h
   after-back (Domino o a) i t h =
-      rw ((coordinates Twist a).back_again (i / 495) t (omega arith), (coordinates Slice a).back_again (i % 495) t (omega arith)) (omega arith)
+      rw ((coordinates coordinate.Twist a).back_again (i / 495) t (omega arith), (coordinates coordinate.Slice a).back_again (i % 495) t (omega arith)) (omega arith)
 
   pub entries_turn : InversesOfSteps → EntriesTurn
   unfolding entry_after
   entries_turn inverses = record {
-    below = λ g i t h. (after-is-entry g i t h).0;
-    leads = λ g i t h. (after-is-entry g i t h).1;
+    below = λ g i t h. entry-below g _ (after-is-entry g i t h);
+    leads = λ g i t h. entry-itself g _ (after-is-entry g i t h);
     back = λ g i t h.
-        ap (λ c. entry_number (coordinates_after c (inverse_turn t))) (after-is-entry g i t h).1 ∙ after-back g i t h;
+        ap (λ c. entry_number (coordinates_after c (inverse_turn t))) (entry-itself g _ (after-is-entry g i t h)) ∙ after-back g i t h;
     inverses = inverses;
   }
 
@@ -56,9 +66,9 @@ module _ (coordinates : AreCoordinates) where
 pub table-answer : (alt : Alternative) (bytes : List ℕ) → IsFilled alt 20 bytes → (c : Coordinates) → IsEntry alt.goal c → slice_index bytes (entry_number c) ≡ distance_at alt.step (c ∷ [])
 unfolding entry_distance
 table-answer alt bytes filled c h =
-    filled.bytes (entry_number c) h.0
+    filled.bytes (entry_number c) (entry-below alt.goal c h)
     ∙ byte_at-all (distance_at alt.step (entry_at alt.goal (entry_number c) ∷ [])) (distance_at-most alt.step _)
-    ∙ ap (λ d. distance_at alt.step (d ∷ [])) h.1 where
+    ∙ ap (λ d. distance_at alt.step (d ∷ [])) (entry-itself alt.goal c h) where
       byte_at-all : (d : ℕ) → d ≤ 21 → byte_at 20 d ≡ d
       byte_at-all d l = grind (arith, nat_tests)
 
@@ -102,7 +112,7 @@ row_edges step axis row h k place l r =
     let first : row * 2048 + place ≡ place = omega arith in
     rw (get_or-replicate {A = ℕ} 18 k 0 0 (omega (arith, turns_of-length step)), first) (omega arith)
 
-pub row-domino : (step : Step) (edges axis : Axis) (row : ℕ) (starts : List ℕ) → ((k : ℕ) → k < length (turns_of step) → slice_index starts k ≡ number_after Twist axis row (turn_at step k) * 495) → AreStarts record { step = step; goal = Domino edges axis } (row * row_length (Domino edges axis)) starts
+pub row-domino : (step : Step) (edges axis : Axis) (row : ℕ) (starts : List ℕ) → ((k : ℕ) → k < length (turns_of step) → slice_index starts k ≡ number_after coordinate.Twist axis row (turn_at step k) * 495) → AreStarts record { step = step; goal = Domino edges axis } (row * row_length (Domino edges axis)) starts
 unfolding entry_after
 row-domino step edges axis row starts led k place l r =
     rw (led k l, div-mul-add row 495 place r, mod-mul-add row 495 place r) refl

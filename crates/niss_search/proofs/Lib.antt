@@ -5,6 +5,6 @@ pub mod LookLemmas
 pub mod Bounds
 pub mod DeepeningLemmas
 pub mod EntryLemmas
+pub mod GoalLemmas
 pub mod FillLemmas
 pub mod ScanLemmas
-pub mod WordLemmas

@@ -58,7 +58,8 @@ unfoldable pub use Rattle.niss_search.specs.Filling.{entry_distance, entry_after
 pub use Rattle.niss_search.specs.Followers.{IsFollower, distance_after, AreFar, IsNextNear}
 pub use Rattle.niss_search.specs.Laws.{PositionsFollowCubes, BoundIsSmall, CountRecurrence, DistanceIsLeast, EdgeFillIsSmall}
 pub use Rattle.niss_search.specs.Laws.{EntriesAreCounted, FillIsSmall, NoSlackIsLeast, PartHasNoMore, StepBoundIsLess}
-pub use Rattle.niss_search.specs.Moves.{turn_at, IsMoveRow}
+pub use Rattle.niss_search.specs.Moves.{turn_at}
+pub use Rattle.niss_cube.specs.TableRows.{IsMoveRow}
 pub use Rattle.niss_search.specs.Names.{Turn, Coordinates, Step, Flip, Follower, no_turn, Axis, Domino, Edges, Goal, B, D, F, Face, L, R, U}
 pub use Rattle.niss_search.specs.Names.{TwistAndSlice}
 pub use Rattle.niss_search.specs.Positions.{are_zero, coordinates_after, coordinates_of, positions}

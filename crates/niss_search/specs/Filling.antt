@@ -104,9 +104,11 @@ AreLesser level bytes = (byte : ℕ) → byte < 256 → slice_index bytes byte �
 abbrev pub KeepsMet : List ℕ → List ℕ → Type 0
 KeepsMet old new = (i : ℕ) → slice_index old i < 21 → slice_index new i < 21
 
--- The coordinates are one of the entries of a goal's table.
+-- The coordinates are those of an entry of a goal's table: on its axis, and below their counts.
 abbrev pub IsEntry : Goal → Coordinates → Type 0
-IsEntry goal c = (entry_number c < count_for goal) × (entry_at goal (entry_number c) ≡ c)
+IsEntry (Edges axis) (Flip on flip) = (on ≡ axis) × (flip < 2048)
+IsEntry (Domino edges axis) (TwistAndSlice on twist slice) = (on ≡ axis) × (twist < 2187) × (slice < 495)
+IsEntry _ _ = ⊥
 
 -- The coordinates are entries of the tables of the goals, one for each.
 unfoldable pub AreEntries : List Goal → List Coordinates → Type 0

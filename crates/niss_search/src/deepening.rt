@@ -14,7 +14,7 @@ ghost use Rattle.niss_search.specs.Followers.{IsFollower, IsNextNear, AreFar};
 
 use crate::laws::positions_follow_cubes;
 use crate::path::{Limit, TurnPath};
-use crate::tables::{Follower, Meter, Position, SearchTables, StateSpace, Tables, with_kind};
+use crate::tables::{Follower, Kind, Meter, Position, SearchTables, StateSpace, Tables};
 use niss_moves::Turn;
 use std::alloc::Allocator;
 use std::mem;
@@ -181,7 +181,12 @@ impl<K: Sink> Descent<'_, K> {
         ensures makes { Makes K.took K.refused (below_at tables.now position.now (turns self.old) left)
             meter result.0 self.old self.new result.1 }
     {
-        with_kind!(tables.kind(), kind => self.visit_in(kind, position, left, meter))
+        match tables.kind() {
+            Kind::Edges(kind) => self.visit_in(kind, position, left, meter),
+            Kind::AnyEdges(kind) => self.visit_in(kind, position, left, meter),
+            Kind::Domino(kind) => self.visit_in(kind, position, left, meter),
+            Kind::EitherDomino(kind) => self.visit_in(kind, position, left, meter),
+        }
     }
 
     /// `visit` by the kind of the tables.

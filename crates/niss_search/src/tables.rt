@@ -1,11 +1,8 @@
 //! What a search knows of its step: where a turn leads, and what a look at a position answers.
-mod entries;
-mod entry_row;
 mod fill;
 mod followers;
 mod goal_moves;
 mod kind;
-mod level;
 mod meter;
 mod move_table;
 mod position;
@@ -15,7 +12,7 @@ mod state_space;
 
 use crate::laws::positions_follow_cubes;
 pub(crate) use followers::Follower;
-pub(crate) use kind::{Kind, with_kind};
+pub(crate) use kind::Kind;
 pub use meter::Meter;
 use niss_cube::{Cube, OutOfMemory, Step, Turn};
 pub use position::Position;
@@ -48,8 +45,7 @@ impl Tables {
     ghost use Rattle.niss_search.specs.Entries.{entry_count, fill_ticks};
 
     /// Builds the tables of a step. It takes all memory before the meter rises: for each goal 36 bytes a number of its
-    /// coordinates and one for each entry (2,048 for an edge orientation, 1,082,565 for a domino reduction); and until these
-    /// are taken the turn tables of the coordinates, 73,728 bytes for an edge orientation and 96,552 for a domino reduction.
+    /// coordinates and one for each entry (2,048 for an edge orientation, 1,082,565 for a domino reduction).
     /// The meter rises by one for each turn that is tried from an entry. Where the allocator refuses memory, nothing is kept
     /// and the meter stands where it stood. The meter is at most at 2^127 before.
     pub fn build(alloc: Global, step: Step, meter: &mut Meter) -> Result<Tables, OutOfMemory>
@@ -134,7 +130,12 @@ impl<A: Allocator> Tables<A> {
         requires of_step { Contains (turns_of self.now) turn }
         ensures { result ≡ position_after position.now turn }
     {
-        with_kind!(&self.kind, tables => tables.position_after(position, turn))
+        match &self.kind {
+            Kind::Edges(tables) => tables.position_after(position, turn),
+            Kind::AnyEdges(tables) => tables.position_after(position, turn),
+            Kind::Domino(tables) => tables.position_after(position, turn),
+            Kind::EitherDomino(tables) => tables.position_after(position, turn),
+        }
     }
 
     /// The distance to the step: the least number of its turns that reach it, 0 to 20, or 21 for more or never. The
@@ -162,6 +163,11 @@ impl<A: Allocator> Tables<A> {
         ensures tick { meter.new ≡ meter.old + 1 }
         ensures value { result ≡ distance_at self.now position.now }
     {
-        with_kind!(&self.kind, tables => tables.look(tables.state(position), meter))
+        match &self.kind {
+            Kind::Edges(tables) => tables.look_at(position, meter),
+            Kind::AnyEdges(tables) => tables.look_at(position, meter),
+            Kind::Domino(tables) => tables.look_at(position, meter),
+            Kind::EitherDomino(tables) => tables.look_at(position, meter),
+        }
     }
 }

@@ -1,19 +1,130 @@
 //! The fill of a pruning table, breadth first.
-ghost use Rattle.std.specs.Prelude.{◌≡◌, ◌+◌, ◌*◌, ◌<◌, ◌^◌, ◌==◌, length, count_by};
+ghost use Rattle.std.specs.Prelude.{◌≡◌, ◌+◌, ◌*◌, ◌<◌, ◌≤◌, ◌^◌, ◌==◌, min, length, count_by};
 ghost use Rattle.std.specs.List.{range_with_len};
 ghost use Rattle.niss_cube.specs.Steps.{turns_of};
 ghost use Rattle.niss_search.specs.Entries.{count_for};
-ghost use Rattle.niss_search.specs.Filling.{goal_ticks, entry_distance, IsFilled};
+ghost use Rattle.niss_search.specs.Filling.{entry_distance, goal_ticks, row_length, AreStarts, IsFilled, IsFilling, IsExtended, KeepsMet};
 
-use super::entries::GOAL_ENTRY;
-use super::entry_row::EntryRow;
-use super::goal_moves::GoalMoves;
-use super::level::Level;
+use super::goal_moves::{GoalMoves, Starts};
 use super::meter::Meter;
+use super::pruning_table::GOAL_ENTRY;
 use crate::laws::entries_turn;
 use crate::path::Limit;
 use crate::scan::next_at;
+use std::marker::Model;
 use std::mem;
+
+/// A level of the fill, and what each byte of the table becomes where it is met from it: the lesser of the byte and the
+/// next level. Compared anew at each turn it would cost a branch that is often guessed wrong, and the fill almost twice
+/// its time.
+#[derive(Drop)]
+struct Level {
+    number: u8,
+    lesser: [u8; 256],
+}
+
+impl Model for Level {
+    ghost use Rattle.std.specs.Prelude.{ℕ, ◌<◌};
+    ghost use Rattle.niss_search.specs.Filling.{AreLesser};
+
+    ghost Value = { ℕ };
+
+    ghost view = { λ l. l.number };
+
+    ghost invariant = { λ l. (l.number < 20) × AreLesser l.number l.lesser };
+}
+
+impl Level {
+    /// A level that is extended: 0 to 19.
+    fn new(number: u8) -> Level
+        requires { number < 20 }
+        ensures { result ≡ number }
+    {
+        let mut lesser = [0; 256];
+        for byte in 0..256usize {
+            lesser[byte] = (byte as u8).min(number + 1);
+        }
+        Level { number, lesser }
+    }
+
+    /// Its number, 0 to 19.
+    fn number(&self) -> u8
+        ensures value { result ≡ self.now }
+        ensures in_range { result < 20 }
+    {
+        self.number
+    }
+
+    /// What a byte becomes where it is met. (That a level is below 20 is known to a proof by this call.)
+    fn meet(&self, byte: u8) -> u8
+        ensures value { result ≡ min byte (self.now + 1) }
+        ensures in_range { self.now < 20 }
+    {
+        self.lesser[byte as usize]
+    }
+}
+
+/// A row of a pruning table. Where the turns lead it is looked up once, for all its entries.
+#[derive(Drop)]
+struct EntryRow<'a, M: GoalMoves> {
+    moves: &'a M,
+    start: usize,
+    starts: Starts,
+    ghost are_starts: { AreStarts (M.alternative moves.now) start starts },
+}
+
+impl<'a, M: GoalMoves> EntryRow<'a, M> {
+    /// The row in which an entry stands.
+    fn of(moves: &'a M, entry: usize) -> EntryRow<'a, M>
+        requires { entry < count_for (M.alternative moves.now).goal }
+        ensures moves { result.moves.now ≡ moves.now }
+        ensures from { result.start ≤ entry }
+        ensures to { entry < result.start + row_length (M.alternative moves.now).goal }
+    {
+        let length = moves.row_length();
+        let number = entry / length;
+        EntryRow {
+            moves,
+            start: number * length,
+            starts: moves.starts(number),
+        }
+    }
+
+    /// Goes on to the row of an entry, which isn't before this row.
+    fn advance_to(&mut self, entry: usize)
+        requires from { self.old.start ≤ entry }
+        requires in_range { entry < count_for (M.alternative self.old.moves.now).goal }
+        ensures moves { self.new.moves.now ≡ self.old.moves.now }
+        ensures from { self.new.start ≤ entry }
+        ensures to { entry < self.new.start + row_length (M.alternative self.old.moves.now).goal }
+    {
+        if entry - self.start >= self.moves.row_length() {
+            *self = EntryRow::of(self.moves, entry);
+        }
+    }
+
+    /// Tries each turn from an entry of the row at the level, and gives the next level to each entry that wasn't met before.
+    fn extend(&self, entry: usize, distances: &mut [u8], level: &Level, meter: &mut Meter)
+        requires from { self.now.start ≤ entry }
+        requires to { entry < self.now.start + row_length (M.alternative self.now.moves.now).goal }
+        requires in_range { entry < count_for (M.alternative self.now.moves.now).goal }
+        requires at_level { entry_distance (M.alternative self.now.moves.now) entry ≡ level.now }
+        requires filling { IsFilling (M.alternative self.now.moves.now) level.now distances.old }
+        requires meter { meter.old + length (turns_of (M.alternative self.now.moves.now).step) < 2 ^ 128 }
+        ensures filling { IsFilling (M.alternative self.now.moves.now) level.now distances.new }
+        ensures extended { IsExtended (M.alternative self.now.moves.now) distances.new entry }
+        ensures kept { KeepsMet distances.old distances.new }
+        ensures ticks { meter.new ≡ meter.old + length (turns_of (M.alternative self.now.moves.now).step) }
+    {
+        entries_turn();
+        let places = self.moves.places(entry - self.start);
+        for column in 0..self.moves.turns() {
+            meter.tick();
+            let next = self.starts[column] + places[column] as usize;
+            distances[next] = level.meet(distances[next]);
+        }
+    }
+}
 
 /// Tries each turn from each entry of the level.
 fn extend_level<M: GoalMoves>(moves: &M, distances: &mut [u8], level: &Level, meter: &mut Meter)

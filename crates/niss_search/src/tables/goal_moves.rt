@@ -1,21 +1,28 @@
 //! How the turns of a step move the coordinates of one of its goals.
-ghost use Rattle.std.specs.Prelude.{◌≡◌, ◌*◌, ◌<◌, ◌≤◌, length, IfOk};
+ghost use Rattle.std.specs.Prelude.{◌≡◌, ◌+◌, ◌*◌, ◌<◌, ◌≤◌, length, IfOk};
 ghost use Rattle.niss_cube.specs.Steps.{turns_of};
 ghost use Rattle.niss_search.specs.Names.{Edges, Domino, Coordinates, Flip, TwistAndSlice};
 ghost use Rattle.niss_search.specs.Entries.{count_for};
-ghost use Rattle.niss_search.specs.Filling.{Alternative, IsEntry, AreStarts, ArePlaces, row_length, entry_number, entry_at};
+ghost use Rattle.niss_search.specs.Filling.{Alternative, IsEntry, AreStarts, ArePlaces, row_length, entry_number};
 ghost use Rattle.niss_search.specs.Moves.{turn_at};
 ghost use Rattle.niss_search.specs.Positions.{coordinates_after};
 ghost use Rattle.niss_cube.specs.declared.cube.coordinate.Coordinate.TheVariants as coordinate;
 
-use super::entries::pair_number;
 use super::move_table::{MOST_TURNS, MoveTable, Row};
 use super::position::Coordinates;
-use niss_cube::{Axis, Coordinate, OutOfMemory, Step, TurnTable};
+use niss_cube::{Axis, Coordinate, OutOfMemory, Step};
 use std::alloc::Allocator;
 
 /// Where the rows of a pruning table begin after the turns of a step, in turn order.
 pub type Starts = [usize; MOST_TURNS];
+
+/// The number of the entry of a twist and a slice.
+#[inline(always)]
+fn pair_number(twist: u16, slice: u16) -> usize
+    ensures { result ≡ twist * 495 + slice }
+{
+    twist as usize * Coordinate::Slice.count() + slice as usize
+}
 
 /// The coordinates of a goal of a step, as numbers without their axis, and where the step's turns lead them. The entries of
 /// its pruning table stand in rows, so that after a turn those of one row stand in one row again.
@@ -52,10 +59,10 @@ pub trait GoalMoves {
         requires { place < row_length (alternative self.now).goal }
         ensures { ArePlaces (alternative self.now) place result.now };
 
-    /// The state of an entry.
-    fn state_at(&self, entry: usize) -> Self::State
-        requires { entry < count_for (alternative self.now).goal }
-        ensures { coordinates self.now result ≡ entry_at (alternative self.now).goal entry };
+    /// The state of coordinates that the goal looks at.
+    fn state(&self, position: Coordinates) -> Self::State
+        requires { IsEntry (alternative self.now).goal position }
+        ensures { coordinates self.now result ≡ position };
 
     /// The coordinates of a state.
     fn coordinates_of(&self, state: Self::State) -> Coordinates
@@ -88,17 +95,11 @@ pub struct EdgeMoves<A: Allocator> {
 }
 
 impl<A: Allocator> EdgeMoves<A> {
-    /// Those of a step, on an axis, by the turn table of the flips.
-    pub fn build_in<B: Allocator>(
-        alloc: A,
-        step: Step,
-        axis: Axis,
-        flips: &TurnTable<B>,
-    ) -> Result<EdgeMoves<A>, OutOfMemory>
-        requires { flips.now ≡ coordinate.Flip }
+    /// Those of a step, on an axis.
+    pub fn build_in(alloc: A, step: Step, axis: Axis) -> Result<EdgeMoves<A>, OutOfMemory>
         ensures { IfOk result (λ m. (m.flips.step ≡ step) × (m.flips.axis ≡ axis)) }
     {
-        let flips = MoveTable::build_in(alloc, flips, axis, step)?;
+        let flips = MoveTable::build_in(alloc, Coordinate::Flip, axis, step)?;
         Ok(EdgeMoves { flips })
     }
 }
@@ -132,8 +133,11 @@ impl<A: Allocator> GoalMoves for EdgeMoves<A> {
         self.flips.row(place as u16)
     }
 
-    fn state_at(&self, entry: usize) -> FlipState {
-        FlipState { flip: entry as u16 }
+    fn state(&self, position: Coordinates) -> FlipState {
+        match position {
+            Coordinates::Flip { flip, .. } => FlipState { flip },
+            Coordinates::TwistAndSlice { .. } => unreachable!(),
+        }
     }
 
     fn coordinates_of(&self, state: FlipState) -> Coordinates {
@@ -165,25 +169,6 @@ pub struct PairState {
     ghost slice_in_range: { slice < 495 },
 }
 
-/// The turn tables of the twists and the slices.
-#[derive(Drop)]
-pub struct DominoTurns<A: Allocator> {
-    twists: TurnTable<A>,
-    slices: TurnTable<A>,
-    ghost are_twists: { twists ≡ coordinate.Twist },
-    ghost are_slices: { slices ≡ coordinate.Slice },
-}
-
-impl<A: Allocator + Copy> DominoTurns<A> {
-    /// Builds them.
-    pub fn build_in(alloc: A) -> Result<DominoTurns<A>, OutOfMemory> {
-        Ok(DominoTurns {
-            twists: TurnTable::build_in(alloc, Coordinate::Twist)?,
-            slices: TurnTable::build_in(alloc, Coordinate::Slice)?,
-        })
-    }
-}
-
 /// The twists and slices of a domino reduction.
 #[derive(Drop)]
 pub struct DominoMoves<A: Allocator> {
@@ -196,21 +181,18 @@ pub struct DominoMoves<A: Allocator> {
     ghost one_step: { slices.step ≡ twists.step },
 }
 
-impl<A: Allocator> DominoMoves<A> {
+impl<A: Allocator + Copy> DominoMoves<A> {
     /// Those of a step, on an axis, from edges that are oriented on another.
-    pub fn build_in<B: Allocator>(
+    pub fn build_in(
         alloc: A,
         step: Step,
         edges: Axis,
         axis: Axis,
-        turns: &DominoTurns<B>,
     ) -> Result<DominoMoves<A>, OutOfMemory>
-    where
-        A: Copy,
         ensures { IfOk result (λ m. (m.twists.step ≡ step) × (m.twists.axis ≡ axis) × (m.edges ≡ edges)) }
     {
-        let twists = MoveTable::build_in(alloc, &turns.twists, axis, step)?;
-        let slices = MoveTable::build_in(alloc, &turns.slices, axis, step)?;
+        let twists = MoveTable::build_in(alloc, Coordinate::Twist, axis, step)?;
+        let slices = MoveTable::build_in(alloc, Coordinate::Slice, axis, step)?;
         Ok(DominoMoves {
             edges,
             twists,
@@ -252,10 +234,10 @@ impl<A: Allocator> GoalMoves for DominoMoves<A> {
         self.slices.row(place as u16)
     }
 
-    fn state_at(&self, entry: usize) -> PairState {
-        PairState {
-            twist: (entry / Coordinate::Slice.count()) as u16,
-            slice: (entry % Coordinate::Slice.count()) as u16,
+    fn state(&self, position: Coordinates) -> PairState {
+        match position {
+            Coordinates::TwistAndSlice { twist, slice, .. } => PairState { twist, slice },
+            Coordinates::Flip { .. } => unreachable!(),
         }
     }
 

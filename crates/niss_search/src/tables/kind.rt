@@ -1,17 +1,16 @@
 //! The tables of a step, by what it looks at.
 ghost use Rattle.std.specs.Prelude.{◌≡◌, ◌≤◌, ◌^◌, Some, IfOk, slice_get};
-ghost use Rattle.niss_cube.specs.declared.cube.coordinate.Coordinate.TheVariants as coordinate;
 ghost use Rattle.niss_cube.specs.declared.step.Goal.TheVariants as goals;
 ghost use Rattle.niss_cube.specs.Steps.{goals_of};
 ghost use Rattle.niss_search.specs.KindOfStep.{IsOfStep};
 ghost use Rattle.niss_search.specs.StepSpace.{IsBuilt};
 
-use super::goal_moves::{DominoMoves, DominoTurns, EdgeMoves, GoalMoves};
+use super::goal_moves::{DominoMoves, EdgeMoves, GoalMoves};
 use super::meter::Meter;
 use super::pruning_table::{EmptyTable, PruningTable};
 use super::search_tables::SearchTables;
 use super::state_space::Either;
-use niss_cube::{Axis, Coordinate, Goal, OutOfMemory, Step, TurnTable};
+use niss_cube::{Axis, Goal, OutOfMemory, Step};
 use std::alloc::Allocator;
 
 /// The tables of a step with one goal.
@@ -33,22 +32,8 @@ pub enum Kind<A: Allocator> {
     EitherDomino(TwoGoals<DominoMoves<A>, A>),
 }
 
-/// Evaluates an expression with the tables of the one kind that is there. Inlined as it is, it asks for the kind once.
-macro_rules! with_kind {
-    ($kind:expr, $tables:ident => $result:expr) => {
-        match $kind {
-            $crate::tables::Kind::Edges($tables) => $result,
-            $crate::tables::Kind::AnyEdges($tables) => $result,
-            $crate::tables::Kind::Domino($tables) => $result,
-            $crate::tables::Kind::EitherDomino($tables) => $result,
-        }
-    };
-}
-
-pub(crate) use with_kind;
-
 impl<A: Allocator + Copy> Kind<A> {
-    /// Builds the tables of a step. Whatever its goals, it takes all memory, gives back the turn tables, then fills.
+    /// Builds the tables of a step. Whatever its goals, it takes all memory, and then fills.
     pub(super) fn build_in(alloc: A, step: Step, meter: &mut Meter) -> Result<Kind<A>, OutOfMemory>
         requires { meter.old ≤ 2 ^ 127 }
         ensures { IsBuilt (λ kind. IsOfStep kind step) step meter.old meter.new result }
@@ -74,17 +59,12 @@ impl<A: Allocator + Copy> Kind<A> {
         requires meter { meter.old ≤ 2 ^ 127 }
         ensures { IsBuilt (λ kind. IsOfStep kind step) step meter.old meter.new result }
     {
-        let flips = TurnTable::build_in(alloc, Coordinate::Flip)?;
-        let first = edge_table(alloc, step, axis, &flips)?;
+        let first = edge_table(alloc, step, axis)?;
         match *step.goals() {
-            [_] => {
-                drop(flips);
-                Ok(Kind::Edges(SearchTables::of(step, first.fill(meter))))
-            }
+            [_] => { Ok(Kind::Edges(SearchTables::of(step, first.fill(meter)))) }
             [_, Goal::Edges(second), Goal::Edges(third)] => {
-                let second = edge_table(alloc, step, second, &flips)?;
-                let third = edge_table(alloc, step, third, &flips)?;
-                drop(flips);
+                let second = edge_table(alloc, step, second)?;
+                let third = edge_table(alloc, step, third)?;
                 let others = Either::of(second.fill(meter), third.fill(meter));
                 let space = Either::of(first.fill(meter), others);
                 Ok(Kind::AnyEdges(SearchTables::of(step, space)))
@@ -106,16 +86,11 @@ impl<A: Allocator + Copy> Kind<A> {
         requires meter { meter.old ≤ 2 ^ 127 }
         ensures { IsBuilt (λ kind. IsOfStep kind step) step meter.old meter.new result }
     {
-        let turns = DominoTurns::build_in(alloc)?;
-        let first = domino_table(alloc, step, edges, axis, &turns)?;
+        let first = domino_table(alloc, step, edges, axis)?;
         match *step.goals() {
-            [_] => {
-                drop(turns);
-                Ok(Kind::Domino(SearchTables::of(step, first.fill(meter))))
-            }
+            [_] => { Ok(Kind::Domino(SearchTables::of(step, first.fill(meter)))) }
             [_, Goal::Domino { edges, axis }] => {
-                let second = domino_table(alloc, step, edges, axis, &turns)?;
-                drop(turns);
+                let second = domino_table(alloc, step, edges, axis)?;
                 let space = Either::of(first.fill(meter), second.fill(meter));
                 Ok(Kind::EitherDomino(SearchTables::of(step, space)))
             }
@@ -129,13 +104,11 @@ fn edge_table<A: Allocator + Copy>(
     alloc: A,
     step: Step,
     axis: Axis,
-    flips: &TurnTable<A>,
 ) -> Result<EmptyTable<EdgeMoves<A>, A>, OutOfMemory>
-    requires { flips.now ≡ coordinate.Flip }
     ensures { IfOk result (λ t.
         ⟦<EdgeMoves<A> as GoalMoves>⟧.alternative t.moves ≡ record { step = step; goal = goals.Edges axis }) }
 {
-    let moves = EdgeMoves::build_in(alloc, step, axis, flips)?;
+    let moves = EdgeMoves::build_in(alloc, step, axis)?;
     EmptyTable::new_in(alloc, moves)
 }
 
@@ -145,12 +118,11 @@ fn domino_table<A: Allocator + Copy>(
     step: Step,
     edges: Axis,
     axis: Axis,
-    turns: &DominoTurns<A>,
 ) -> Result<EmptyTable<DominoMoves<A>, A>, OutOfMemory>
     ensures { IfOk result (λ t.
         ⟦<DominoMoves<A> as GoalMoves>⟧.alternative t.moves
         ≡ record { step = step; goal = goals.Domino edges axis }) }
 {
-    let moves = DominoMoves::build_in(alloc, step, edges, axis, turns)?;
+    let moves = DominoMoves::build_in(alloc, step, edges, axis)?;
     EmptyTable::new_in(alloc, moves)
 }

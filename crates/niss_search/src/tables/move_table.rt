@@ -3,9 +3,10 @@ ghost use Rattle.std.specs.Prelude.{◌≡◌, ◌<◌, ◌≤◌, length, IfOk}
 ghost use Rattle.niss_cube.specs.Coordinates.{count_of};
 ghost use Rattle.niss_cube.specs.NumberAfter.{number_after};
 ghost use Rattle.niss_cube.specs.Steps.{turns_of};
-ghost use Rattle.niss_search.specs.Moves.{turn_at, IsMoveRow};
+ghost use Rattle.niss_cube.specs.TableRows.{IsMoveRow};
+ghost use Rattle.niss_search.specs.Moves.{turn_at};
 
-use niss_cube::{Axis, Coordinate, OutOfMemory, Step, TurnTable};
+use niss_cube::{Axis, Coordinate, OutOfMemory, Step};
 use std::alloc::Allocator;
 use std::marker::Model;
 
@@ -14,20 +15,6 @@ pub const MOST_TURNS: usize = 18;
 
 /// The numbers after the turns of a step, in turn order.
 pub type Row = [u16; MOST_TURNS];
-
-/// The row of a number.
-#[tactic(auto, using(crate::proofs::Bounds::few_turns))]
-fn row_of<A: Allocator>(turn_table: &TurnTable<A>, axis: Axis, step: Step, number: u16) -> Row
-    requires { number < count_of turn_table.now }
-    ensures { IsMoveRow record { coordinate = turn_table.now; axis = axis; step = step } number result }
-{
-    let turns = step.turns();
-    let mut row = [0; MOST_TURNS];
-    for column in 0..turns.len() {
-        row[column] = turn_table.next(axis, number, turns[column]);
-    }
-    row
-}
 
 /// A coordinate on an axis after the turns of a step: a row for each number, and in it a column for each turn. So a look has
 /// neither an axis to ask nor a face to rename.
@@ -40,32 +27,31 @@ pub struct MoveTable<A: Allocator> {
 }
 
 impl<A: Allocator> Model for MoveTable<A> {
-    ghost use Rattle.niss_search.specs.Moves.{Moves, AreMoveRows};
+    ghost use Rattle.niss_search.specs.Moves.{Moves, AreRowsOf};
 
     ghost Value = { Moves };
 
     ghost view = { λ t. record { coordinate = t.coordinate; axis = t.axis; step = t.step } };
 
-    ghost invariant = { λ t. AreMoveRows record { coordinate = t.coordinate; axis = t.axis; step = t.step }
-        t.rows.items };
+    ghost invariant = { λ t. AreRowsOf record { coordinate = t.coordinate; axis = t.axis; step = t.step } t.rows.items };
 }
 
 impl<A: Allocator> MoveTable<A> {
-    /// The table of the coordinate of a turn table, on an axis.
-    pub fn build_in<B: Allocator>(
+    /// The table of a coordinate on an axis, 36 bytes for each of its numbers.
+    #[tactic(auto, using(crate::proofs::Bounds::few_turns))]
+    pub fn build_in(
         alloc: A,
-        turn_table: &TurnTable<B>,
+        coordinate: Coordinate,
         axis: Axis,
         step: Step,
     ) -> Result<MoveTable<A>, OutOfMemory>
-        ensures { IfOk result (λ t. t ≡ record { coordinate = turn_table.now; axis = axis; step = step }) }
+        ensures { IfOk result (λ t. t ≡ record { coordinate = coordinate; axis = axis; step = step }) }
     {
-        let coordinate = turn_table.coordinate();
         let Ok(mut rows) = Vec::from_elem(alloc, [0; MOST_TURNS], coordinate.count()) else {
             return Err(OutOfMemory);
         };
         for number in 0..rows.len() {
-            rows[number] = row_of(turn_table, axis, step, number as u16);
+            rows[number] = coordinate.move_row(axis, number as u16, step.turns());
         }
         Ok(MoveTable {
             coordinate,
@@ -95,7 +81,7 @@ impl<A: Allocator> MoveTable<A> {
     #[inline(always)]
     pub fn row(&self, number: u16) -> &Row
         requires { number < count_of self.now.coordinate }
-        ensures { IsMoveRow self.now number result.now }
+        ensures { IsMoveRow self.now.coordinate self.now.axis (turns_of self.now.step) number result.now }
     {
         &self.rows[number as usize]
     }

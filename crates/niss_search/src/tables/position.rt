@@ -2,9 +2,7 @@
 ghost use Rattle.std.specs.Prelude.{◌≡◌, ◌≤◌};
 ghost use Rattle.niss_cube.specs.Map.{map_of};
 ghost use Rattle.niss_search.specs.Positions.{coordinates_of};
-ghost use Rattle.niss_search.specs.Filling.{entry_number};
 
-use super::entries::pair_number;
 use arrayvec::ArrayVec;
 use niss_cube::{Axis, Cube, Goal};
 use std::marker::Model;
@@ -33,17 +31,6 @@ impl Coordinates {
                 twist: cube.twist(axis),
                 slice: cube.slice(axis),
             },
-        }
-    }
-
-    /// The number of their entry in a pruning table: the flip, or the twist times 495 and the slice.
-    #[inline(always)]
-    pub(super) fn entry_number(self) -> usize
-        ensures { result ≡ entry_number self }
-    {
-        match self {
-            Coordinates::Flip { flip, .. } => flip as usize,
-            Coordinates::TwistAndSlice { twist, slice, .. } => pair_number(twist, slice),
         }
     }
 }

@@ -2,16 +2,22 @@
 ghost use Rattle.std.specs.Prelude.{◌≡◌, ◌+◌, ◌<◌, ◌≤◌, ◌^◌, ◌∷◌, [], IfOk};
 ghost use Rattle.niss_search.specs.Filling.{goal_ticks, IsEntry, IsFilled, AreEntries};
 
-use super::entries::{FAR, GOAL_ENTRY};
 use super::fill::fill_table;
 use super::goal_moves::GoalMoves;
 use super::meter::Meter;
 use super::position::Coordinates;
 use super::state_space::StateSpace;
+use crate::path::Limit;
 use arrayvec::ArrayVec;
 use niss_cube::OutOfMemory;
 use std::alloc::Allocator;
 use std::marker::Model;
+
+/// The entry at which the goal holds: each of its coordinates is 0.
+pub(super) const GOAL_ENTRY: usize = 0;
+
+/// The byte of an entry that is further than any search goes, or that the fill hasn't met yet.
+pub(super) const FAR: u8 = Limit::MOST + 1;
 
 /// A pruning table that is still to be filled, with all its memory: the distance is known at the goal alone.
 #[derive(Drop)]
@@ -75,7 +81,7 @@ impl<M: GoalMoves, A: Allocator> PruningTable<M, A> {
         requires { IsEntry (M.alternative self.now).goal coordinates }
         ensures { M.coordinates self.now result ≡ coordinates }
     {
-        self.moves.state_at(coordinates.entry_number())
+        self.moves.state(coordinates)
     }
 }
 

@@ -93,4 +93,14 @@ impl<S: StateSpace> SearchTables<S> {
         meter.tick();
         self.space.distance(state)
     }
+
+    /// The distance of a position, at the same price.
+    pub fn look_at(&self, position: &Position, meter: &mut Meter) -> u8
+        requires position { IsPosition self.now.step position.now }
+        requires meter { meter.old + 1 < 2 ^ 128 }
+        ensures tick { meter.new ≡ meter.old + 1 }
+        ensures value { result ≡ distance_at self.now.step position.now }
+    {
+        self.look(self.state(position), meter)
+    }
 }

@@ -1,5 +1,9 @@
 use Rattle.niss_search.proofs.Words.{refl, map_of, cube-itself, position_of}
+use Rattle.niss_search.proofs.GoalLemmas.{goals-counted}
 use Rattle.niss_search.proofs.tables.Tables.position.Goals as goal
+
+pub of-requires : goal.of-requires
+of-requires g c = rw c.goals.ensures (goals-counted _).1
 
 pub returns-clause-of_cube : goal.returns-clause-of_cube
 unfolding position_of

@@ -1,5 +1,5 @@
 use Rattle.niss_search.proofs.Words.{◌≡◌, length, ◌+◌, ◌<◌, ℕ, slice_index, min}
-use Rattle.niss_search.proofs.tables.level.Level.new.Given as goal
+use Rattle.niss_search.proofs.tables.fill.Level.new.Given as goal
 
 abbrev pub invariant-loop-byte : goal.invariant-loop-byte
 invariant-loop-byte l = record {

@@ -1,5 +1,5 @@
 use Rattle.niss_search.proofs.Words.{◌≡◌, length, ◌+◌, ◌<◌, ℕ, turns_of, slice_index, IsFilling, entry_after, turn_at, KeepsMet}
-use Rattle.niss_search.proofs.tables.entry_row.EntryRow.extend.Given as goal
+use Rattle.niss_search.proofs.tables.fill.EntryRow.extend.Given as goal
 
 abbrev pub invariant-loop-column : goal.invariant-loop-column
 invariant-loop-column g l = record {

@@ -2,7 +2,7 @@ use Rattle.niss_search.proofs.Words.{◌≡◌, arith, length, ◌+◌, ◌<◌,
 use Rattle.niss_search.proofs.Words.{Contains-get_or, below_more}
 use Rattle.niss_search.proofs.EntryLemmas.{row-entry}
 use Rattle.niss_search.proofs.FillLemmas.{least-filling, least-met, least-kept}
-use Rattle.niss_search.proofs.tables.entry_row.EntryRow.extend.Goals as goal
+use Rattle.niss_search.proofs.tables.fill.EntryRow.extend.Goals as goal
 
 pub loop-column-preserved : goal.loop-column-preserved
 loop-column-preserved g c =
