@@ -1,7 +1,7 @@
 -- What a search on one line hands out and returns.
 use Rattle.std.specs.Prelude.{◌≡◌, ◌⊎◌, ℕ, ◌+◌, ◌<◌, ◌≤◌, min, nat_lt, false, unwrap_or, Result, Ok, Err}
 use Rattle.std.specs.Prelude.{List, flat_map, take, length}
-use Rattle.niss_moves.specs.FaultText.{fault_column}
+use Rattle.niss_moves.specs.Faults.{fault_column}
 use Rattle.niss_moves.specs.Places.{Place}
 use Rattle.niss_moves.specs.Reader.{read_line}
 use Rattle.niss_search.specs.Cubes.{least_length_of, near_solutions_of, near_looks_of}

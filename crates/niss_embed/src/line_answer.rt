@@ -1,6 +1,6 @@
 //! What a call that writes a short text returns, and how the text comes into the caller's buffer.
 ghost use Rattle.std.specs.Prelude.{◌≡◌, ◌≤◌, length};
-ghost use Rattle.niss_moves.specs.FaultText.{fault_column};
+ghost use Rattle.niss_moves.specs.Faults.{fault_column};
 ghost use Rattle.niss_embed.specs.LineCalls.{Does, Unread, TooLong, Misused, answer_for, fault_number, outcome_of_text};
 
 use niss_moves::ReadFault;
