@@ -27,15 +27,13 @@ pub use Rattle.niss_moves.proofs.CallerLemmas.{same_power, same_power_is, turn, 
 pub use Rattle.niss_moves.proofs.CallerLemmas.{Fact, Yes, Same, Equal, Below, Alike, Both, When, Numbers, Places, Faces, Turns}
 pub use Rattle.niss_moves.proofs.CallerLemmas.{Among, Tokens, Digits, Truths, Holds, tested, holds}
 unfoldable pub use Rattle.niss_moves.proofs.CallerLemmas.{every_face, every_power, every_turn, every_axis, every_slice, every_token}
-pub use Rattle.niss_moves.specs.Canonical.{face_order, turn_order}
-pub use Rattle.niss_moves.specs.Effects.{turned, effect, inverse, moved_by, effect_of_turns}
-pub use Rattle.niss_moves.specs.Facelets.{places, facelet}
+pub use Rattle.niss_moves.specs.Canonical.{face_order, turn_order, same_face}
+pub use Rattle.niss_moves.specs.Effects.{turned, effect, inverse, moved_by, effect_of_turns, inverse_turn}
+pub use Rattle.niss_moves.specs.Facelets.{places, facelet, letter_at}
 pub use Rattle.niss_moves.specs.Indices.{token_index, power_index}
-pub use Rattle.niss_moves.specs.Letters.{letter_at}
-unfoldable pub use Rattle.niss_moves.specs.Letters.{letter_of, letters}
+unfoldable pub use Rattle.niss_moves.specs.Facelets.{letter_of, letters}
 pub use Rattle.niss_moves.specs.Places.{Place, is_place, same_place, SameMap, is_edge, is_corner}
 pub use Rattle.niss_moves.specs.Rotations.{renamed_turn, rotation_if, to_top, about_vertical, spelling}
-pub use Rattle.niss_moves.specs.Turn.{inverse_turn, same_face}
 pub use Rattle.niss_cube.specs.AfterTurn.{IsCube, TurnedIsCube, AreCoordinates, IsCoordinate}
 pub use Rattle.niss_cube.specs.Coordinates.{rank, number_of, number, count_of, standard_axis, choose, renamed_for, turn_for, renaming_for}
 pub use Rattle.niss_cube.specs.Coordinates.{firsts, brings, orientations, occupied}

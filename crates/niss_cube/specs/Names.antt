@@ -1,15 +1,14 @@
 -- Words of the places, turns, axes and the types of the crate with their values, so that other files take them by one line.
-pub use Rattle.niss_moves.specs.Effects.{turned}
+pub use Rattle.niss_moves.specs.Effects.{turned, inverse_turn}
 pub use Rattle.niss_moves.specs.Facelets.{facelet, places}
 pub use Rattle.niss_moves.specs.Places.{Place, SameMap, same_place, is_corner, is_edge, IsPlace}
-pub use Rattle.niss_moves.specs.Turn.{inverse_turn}
 pub use Rattle.niss_moves.specs.declared.turn.Face.{Face}
 pub use Rattle.niss_moves.specs.declared.turn.Face.TheVariants.{U, D, R, L, F, B}
 pub use Rattle.niss_moves.specs.declared.turn.Power.{Power}
 pub use Rattle.niss_moves.specs.declared.turn.Power.TheVariants.{Quarter, Half, Counter}
 pub use Rattle.niss_moves.specs.declared.turn.Turn.{Turn}
-pub use Rattle.niss_moves.specs.declared.axis.Axis.{Axis}
-pub use Rattle.niss_moves.specs.declared.axis.Axis.TheVariants.{Ud, Rl, Fb}
+pub use Rattle.niss_moves.specs.declared.turn.Axis.{Axis}
+pub use Rattle.niss_moves.specs.declared.turn.Axis.TheVariants.{Ud, Rl, Fb}
 pub use Rattle.niss_moves.specs.declared.token.Token.{Token}
 pub use Rattle.niss_cube.specs.declared.cube.Cube.{Cube}
 pub use Rattle.niss_cube.specs.declared.cube.coordinate.Coordinate.{Coordinate}

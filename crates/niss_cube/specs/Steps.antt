@@ -2,8 +2,7 @@
 use Rattle.std.specs.Prelude.{ℕ, Bool, true, ◌&&◌, ◌||◌, if◌then◌else◌, List, [], ◌∷◌, map, Option, None, Some, flat_map, codes}
 use Rattle.std.specs.List.{list_any}
 use Rattle.std.specs.Option.{option_map_or, option_map}
-use Rattle.niss_moves.specs.Turn.{same_face}
-use Rattle.niss_moves.specs.Canonical.{face_order, powers}
+use Rattle.niss_moves.specs.Canonical.{face_order, powers, same_face}
 use Rattle.niss_cube.specs.Names.{Place, Axis, Ud, Rl, Fb, Face, U, D, R, L, F, B, Power, Half, Turn, Goal, Edges, Domino, Step, Eofb, Eorl}
 use Rattle.niss_cube.specs.Names.{Eoud, DrudEofb, DrrlEofb, DrudEorl, DrfbEorl, DrrlEoud, DrfbEoud, Eo, DrEofb, DrEorl, DrEoud}
 use Rattle.niss_cube.specs.Sets.{flip_set, twist_set, slice_set, is_kept, Kept}

@@ -37,8 +37,7 @@ pub struct Cube {
 impl Cube {
     ghost use Rattle.std.specs.Prelude.{◌≡◌, ◌↔◌, ℕ, slice_index};
     ghost use Rattle.niss_moves.specs.Places.{SameMap};
-    ghost use Rattle.niss_moves.specs.Letters.{letter_of, letters};
-    ghost use Rattle.niss_moves.specs.Facelets.{places};
+    ghost use Rattle.niss_moves.specs.Facelets.{places, letter_of, letters};
     ghost use Rattle.niss_moves.specs.Effects.{effect, effect_of_turns, turned};
     ghost use Rattle.niss_moves.specs.Rotations.{spelling};
     ghost use Rattle.niss_cube.specs.Map.{map_of, same_cubies};

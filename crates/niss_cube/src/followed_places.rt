@@ -1,7 +1,7 @@
 //! The facelet text after moves of any kind: from each place the sticker is followed back to where it began.
 ghost use Rattle.std.specs.Prelude.{◌≡◌, ℕ, ◌<◌, ◌++◌, slice_index};
 ghost use Rattle.niss_moves.specs.Effects.{effect, inverse};
-ghost use Rattle.niss_moves.specs.Letters.{letters};
+ghost use Rattle.niss_moves.specs.Facelets.{letters};
 
 use crate::place_positions::positions_after;
 use niss_moves::Token;

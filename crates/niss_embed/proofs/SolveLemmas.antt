@@ -9,7 +9,7 @@ use Rattle.std.proofs.lemmas.Fmt.{length-decimal-le}
 use Rattle.std.proofs.lemmas.Grind.{common_steps}
 use Rattle.niss_moves.specs.Letters.{face_letter}
 use Rattle.niss_moves.specs.Text.{power_bytes, gap_after, gap, with_words}
-use Rattle.niss_moves.specs.CleanText.{turn_words}
+use Rattle.niss_moves.specs.Text.{turn_words}
 use Rattle.niss_moves.specs.declared.turn.Power.{Power}
 use Rattle.niss_moves.specs.declared.turn.Power.TheVariants.{Quarter, Half, Counter}
 use Rattle.niss_shell.specs.Lines.{line_feed, space}

@@ -4,13 +4,11 @@ use Rattle.std.specs.Prelude.{Err}
 use Rattle.std.specs.Prelude.{List, [], ◌∷◌, ◌++◌, drop, length, flat_map, slice_get}
 use Rattle.niss_moves.specs.declared.fault.ReadFault.{ReadFault}
 use Rattle.niss_moves.specs.declared.fault.ReadFault.TheVariants as fault
-use Rattle.niss_moves.specs.FaultText.{fault_column}
+use Rattle.niss_moves.specs.Faults.{fault_column, fault_text}
 use Rattle.niss_moves.specs.Line.{Moves}
 use Rattle.niss_moves.specs.Reader.{read_line}
 use Rattle.niss_shell.specs.declared.command.Rewriting.{Rewriting}
-use Rattle.niss_moves.specs.FaultText.{fault_text}
-use Rattle.niss_moves.specs.Text.{with_words}
-use Rattle.niss_moves.specs.CleanText.{turn_words}
+use Rattle.niss_moves.specs.Text.{with_words, turn_words}
 use Rattle.niss_cube.specs.Steps.{steps}
 use Rattle.niss_shell.specs.Names.{Step}
 use Rattle.niss_shell.specs.Words.{most_bytes, most_turns, step_named}

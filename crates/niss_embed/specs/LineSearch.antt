@@ -4,7 +4,7 @@ use Rattle.std.specs.Prelude.{◌≡◌, ◌≢◌, ◌⊎◌, ℕ, ◌+◌, ◌
 use Rattle.std.specs.Prelude.{Ok, Err}
 use Rattle.std.specs.Prelude.{Option, Some, List, ◌++◌, flat_map, take, drop, length}
 use Rattle.std.specs.Option.{option_or}
-use Rattle.niss_moves.specs.FaultText.{fault_column}
+use Rattle.niss_moves.specs.Faults.{fault_column}
 use Rattle.niss_moves.specs.Places.{Place}
 use Rattle.niss_moves.specs.Reader.{read_line}
 use Rattle.niss_cube.specs.Steps.{name_of}

@@ -10,7 +10,7 @@ pub use Rattle.niss_moves.proofs.Finite.{turn, at_face, at_token, at_turn, at_me
 pub use Rattle.niss_moves.proofs.Finite.{Fact, Yes, Same, Equal, Below, Alike, Both, When, Numbers, Places, Faces, Turns, Among}
 pub use Rattle.niss_moves.proofs.Finite.{Tokens, Digits, Truths, Holds, tested, holds}
 -- sequences one after the other
-pub use Rattle.niss_moves.proofs.Inverses.{effect-append, inverse_after, inverse_before, inverse_whole}
+pub use Rattle.niss_moves.proofs.Effects.{effect-append, inverse_after, inverse_before, inverse_whole}
 pub use Rattle.niss_moves.proofs.CanonicalLists.{last_turn-push}
 -- the words of face turns, each after a space
-pub use Rattle.niss_moves.proofs.Gathered.{spaced_turns, spaced_line}
+pub use Rattle.niss_moves.proofs.Words.{spaced_turns, spaced_line}

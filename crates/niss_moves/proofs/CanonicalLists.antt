@@ -4,14 +4,13 @@ use Rattle.niss_moves.proofs.Names.{List, [], ◌∷◌, ◌++◌, length, Some,
 use Rattle.niss_moves.proofs.Names.{may_follow, IsCanonical, last_turn, canonical_extensions, DiffersFirst, face_may_follow}
 use Rattle.niss_moves.proofs.Names.{all_canonical, CanonicalMembers, CanonicalGrows, CanonicalInOrder, Turn, Face, opposite, same_face}
 use Rattle.niss_moves.proofs.Names.{goes_first}
-use Rattle.niss_moves.proofs.Finite.{every_face, at_face, implies, by_implies, not_true, and_both, and_left, and_right}
 use Rattle.std.specs.List.{All, AllPairs, Contains, filter}
 use Rattle.std.proofs.lemmas.Bool.{and_parts, cond_both}
 use Rattle.std.proofs.lemmas.List.{length-map, get_or-map, nil_from_length}
-use Rattle.std.proofs.lemmas.List.Elements.{All-append, All-contains, All-contains_itself, All-filter, All-map}
-use Rattle.std.proofs.lemmas.List.Elements.{All-pop, All-push, All-weaker, Contains-append_cases, Contains-append_left}
-use Rattle.std.proofs.lemmas.List.Elements.{Contains-append_right, filter_passes}
+use Rattle.std.proofs.lemmas.List.Elements.{All-append, All-contains, All-contains_itself, All-filter, All-map, All-pop, All-push}
+use Rattle.std.proofs.lemmas.List.Elements.{All-weaker, Contains-append_cases, Contains-append_left, Contains-append_right, filter_passes}
 use Rattle.std.proofs.lemmas.List.Kept.{AllPairs-cons, AllPairs-filter}
+use Rattle.niss_moves.proofs.Finite.{every_face, at_face, implies, by_implies, not_true, and_both, and_left, and_right}
 
 pub canonical_pair : (a : List Turn) (x y : Turn) (b : List Turn) → IsCanonical (a ++ x ∷ y ∷ b) → face_may_follow x.face y.face ≡ true
 canonical_pair [] x y b h = and_left _ _ h
@@ -92,20 +91,20 @@ skip_middle b y x h a =
 
 -- Elements of lists that are made of others.
 
-none : {X : Type 0} → (x : X) → Contains [] x → ⊥
+pub none : {X : Type 0} → (x : X) → Contains [] x → ⊥
 none x h = omega (arith, h.1)
 
-here : {X : Type 0} → (x : X) (xs : List X) → Contains (x ∷ xs) x
+pub here : {X : Type 0} → (x : X) (xs : List X) → Contains (x ∷ xs) x
 here x xs = (0, omega arith, refl)
 
-later : {X : Type 0} → (y : X) (xs : List X) (x : X) → Contains xs x → Contains (y ∷ xs) x
+pub later : {X : Type 0} → (y : X) (xs : List X) (x : X) → Contains xs x → Contains (y ∷ xs) x
 later y xs x h = Contains-append_right (y ∷ []) xs x h
 
-first_or_later : {X : Type 0} → (y : X) (xs : List X) (x : X) → Contains (y ∷ xs) x → (y ≡ x) ⊎ Contains xs x
+pub first_or_later : {X : Type 0} → (y : X) (xs : List X) (x : X) → Contains (y ∷ xs) x → (y ≡ x) ⊎ Contains xs x
 first_or_later y xs x (zero, lt, e) = inl e
 first_or_later y xs x (suc k, lt, e) = inr (k, omega (arith, lt), e)
 
-in_map : {X Y : Type 0} (f : X → Y) → (xs : List X) (x : X) → Contains xs x → Contains (map f xs) (f x)
+pub in_map : {X Y : Type 0} (f : X → Y) → (xs : List X) (x : X) → Contains xs x → Contains (map f xs) (f x)
 in_map f xs x h = (h.0, omega (arith, h.1, length-map xs f), get_or-map f xs h.0 x (f x) h.1 ∙ ap f h.2)
 
 from_map : {X Y : Type 0} (f : X → Y) → (xs : List X) (y : Y) → Contains (map f xs) y → (x : X) × Contains xs x × (f x ≡ y)
@@ -125,7 +124,7 @@ from_filter : {X : Type 0} (p : X → Bool) → (xs : List X) (x : X) → Contai
 from_filter p xs x h =
     (All-contains (Contains xs) (filter p xs) x (All-filter p (Contains xs) xs (All-contains_itself xs)) h, All-contains (λ x. p x ≡ true) (filter p xs) x (filter_passes p xs) h)
 
-in_flat_map : {X Y : Type 0} (f : X → List Y) → (xs : List X) (x : X) (y : Y) → Contains xs x → Contains (f x) y → Contains (flat_map f xs) y
+pub in_flat_map : {X Y : Type 0} (f : X → List Y) → (xs : List X) (x : X) (y : Y) → Contains xs x → Contains (f x) y → Contains (flat_map f xs) y
 in_flat_map f [] x y h k = absurd (none x h)
 in_flat_map {X = X} f (z ∷ xs) x y h k =
     elim (first_or_later z xs x h) [

@@ -1,16 +1,92 @@
--- What is spelled is read.
-use Rattle.niss_moves.proofs.Names.{refl, ap, sym, ◌∙◌, append_assoc, append-nil, arith, length-append, ◌≡◌, ℕ, ◌+◌, ◌<◌, ◌≤◌, List, []}
-use Rattle.niss_moves.proofs.Names.{◌∷◌, ◌++◌, length, flat_map, Option, None, Some, Result, Ok, Err, cond, face_letter, base_bytes}
-use Rattle.niss_moves.proofs.Names.{token_of, cut_of, Whole, Plain, Typographic, Suffix, Nothing, Two, Prime, TwoPrime}
-use Rattle.niss_moves.proofs.Names.{suffix_bytes, suffix_power, Blank, blank_byte, Piece, Gap, Spelled, piece_bytes, piece_moves, Item}
-use Rattle.niss_moves.proofs.Names.{Outside, Bracket, item_bytes, item_normal, item_bracketed, Spells, IsLine, Moves, symbol_of, State}
-use Rattle.niss_moves.proofs.Names.{start, with_more, added, settled, opened, closed, count, with_last, fed_to, step_by, step_at}
-use Rattle.niss_moves.proofs.Names.{step_within, and_then, run_within, Face, Half, Counter, Token, Base, LastMove, ReadFault, TooLong}
-use Rattle.std.proofs.lemmas.Bool.{lt-ltb}
-use Rattle.niss_moves.proofs.Symbols.{symbol_of_letter, symbol_of_blank}
-use Rattle.niss_moves.specs.declared.base.Base.TheVariants as base
-use Rattle.niss_moves.specs.declared.partial_line.LastMove.TheVariants as last
+-- What each byte may be, by the letters of the grammar and in the table of the code; what is spelled is read.
+use Rattle.niss_moves.proofs.Names.{◌≡◌, ℕ, ◌<◌, Bool, true, false, cond, eqb, refl, ap, sym, ◌∙◌, subst, List, [], ◌∷◌, get_or, map}
+use Rattle.niss_moves.proofs.Names.{arith, base_bytes, Blank, Space, Tab, Return, blank_byte, bytes_of_a_line, look_up, symbol_of, U, Rl}
+use Rattle.niss_moves.proofs.Names.{M, Base, Symbol, append_assoc, append-nil, length-append, ◌+◌, ◌≤◌, ◌++◌, length, flat_map, Option}
+use Rattle.niss_moves.proofs.Names.{None, Some, Result, Ok, Err, face_letter, token_of, cut_of, Whole, Plain, Typographic, Suffix}
+use Rattle.niss_moves.proofs.Names.{Nothing, Two, Prime, TwoPrime, suffix_bytes, suffix_power, Piece, Gap, Spelled, piece_bytes}
+use Rattle.niss_moves.proofs.Names.{piece_moves, Item, Outside, Bracket, item_bytes, item_normal, item_bracketed, Spells, IsLine, Moves}
+use Rattle.niss_moves.proofs.Names.{State, start, with_more, added, settled, opened, closed, count, with_last, fed_to, step_by, step_at}
+use Rattle.niss_moves.proofs.Names.{moves_in, step_within, and_then, run_within, Face, Half, Counter, Token, LastMove, ReadFault, TooLong}
+use Rattle.std.specs.List.{range_with_len}
+use Rattle.std.proofs.lemmas.Bool.{eqb-true, lt-ltb}
+use Rattle.std.proofs.lemmas.List.FromFn.{get_or-map-range_with_len}
+use Rattle.niss_moves.specs.declared.token.Base.TheVariants as base
 use Rattle.niss_moves.specs.declared.symbol.Symbol.TheVariants as symbol
+use Rattle.niss_moves.specs.declared.symbol.TheConstants.{SYMBOLS}
+use Rattle.niss_moves.specs.declared.partial_line.LastMove.TheVariants as last
+
+-- the base that the first byte of a base is by itself
+abbrev pub letter : Base → Base
+letter (base.Wide f) = base.Face f
+letter b = b
+
+-- what each byte is
+pub symbol_of_letter : (b : Base) → symbol_of (get_or (base_bytes b) 0 0) ≡ symbol.Base (letter b)
+unfolding symbol_of
+symbol_of_letter (base.Face U) = refl
+symbol_of_letter (base.Wide U) = refl
+symbol_of_letter (base.LowerCase U) = refl
+symbol_of_letter (base.Slice M) = refl
+symbol_of_letter (base.Rotation Rl) = refl
+symbol_of_letter _ = refl
+
+pub symbol_of_blank : (b : Blank) → symbol_of (blank_byte b) ≡ symbol.Blank
+unfolding symbol_of
+symbol_of_blank Space = refl
+symbol_of_blank _ = refl
+
+pub symbol_of_brackets : (symbol_of 40 ≡ symbol.Open) × (symbol_of 41 ≡ symbol.Close)
+unfolding symbol_of
+symbol_of_brackets = (refl, refl)
+
+pub first_symbol : (b : Base) (byte : ℕ) (more : List ℕ) → base_bytes b ≡ byte ∷ more → symbol_of byte ≡ symbol.Base (letter b)
+first_symbol b byte more e = ap (λ xs. symbol_of (get_or xs 0 0)) (sym e) ∙ symbol_of_letter b
+
+-- what a symbol says of its byte
+abbrev pub IsSymbol : Symbol → ℕ → Type 0
+IsSymbol symbol.Blank b = (x : Blank) × (b ≡ blank_byte x)
+IsSymbol symbol.Open b = b ≡ 40
+IsSymbol symbol.Close b = b ≡ 41
+IsSymbol (symbol.Base x) b = (base_bytes x ≡ b ∷ [])
+IsSymbol symbol.Wide b = b ≡ 119
+IsSymbol symbol.Two b = b ≡ 50
+IsSymbol symbol.Apostrophe b = b ≡ 39
+IsSymbol symbol.Cut b = b ≡ 0xE2
+IsSymbol symbol.Other b = Unit {0}
+
+abbrev IsTable : List (ℕ × Symbol) → Type 0
+IsTable [] = Unit {0}
+IsTable (e ∷ es) = IsSymbol e.1 e.0 × IsTable es
+
+look_up_is : (es : List (ℕ × Symbol)) → IsTable es → (b : ℕ) → IsSymbol (look_up es b) b
+look_up_is [] h b = tt
+look_up_is (e ∷ es) h b = chosen (eqb b e.0) refl (look_up_is es h.1 b)
+  where
+    chosen : (c : Bool) → eqb b e.0 ≡ c → IsSymbol (look_up es b) b → IsSymbol (cond c e.1 (look_up es b)) b
+    chosen true q k = subst (λ (x : ℕ). IsSymbol e.1 x) (sym (eqb-true b e.0 q)) h.0
+    chosen false q k = k
+
+table : IsTable bytes_of_a_line
+table = ((Space, refl), ((Tab, refl), ((Return, refl), (refl, (refl, (refl, (refl, (refl, (refl, (refl, (refl, (refl, (refl, (refl, (refl, (refl, (refl, (refl, (refl, (refl, (refl, (refl, (refl, (refl, (refl, (refl, (refl, tt)))))))))))))))))))))))))))
+
+pub symbol_is : (b : ℕ) → IsSymbol (symbol_of b) b
+unfolding symbol_of
+symbol_is b = look_up_is bytes_of_a_line table b
+
+pub base_is : (byte : ℕ) (b : Base) → symbol_of byte ≡ symbol.Base b → base_bytes b ≡ byte ∷ []
+base_is byte b e = subst (λ (x : Symbol). IsSymbol x byte) e (symbol_is byte)
+
+pub blank_is : (byte : ℕ) → symbol_of byte ≡ symbol.Blank → (x : Blank) × (byte ≡ blank_byte x)
+blank_is byte e = subst (λ (x : Symbol). IsSymbol x byte) e (symbol_is byte)
+
+-- the table of the code, by its 256 values
+symbols_are : SYMBOLS ≡ map symbol_of (range_with_len 0 256)
+unfolding symbol_of
+symbols_are = refl
+
+pub symbol_at : (b : ℕ) (d : Symbol) → b < 256 → get_or SYMBOLS b d ≡ symbol_of b
+symbol_at b d lt =
+    ap (λ (xs : List Symbol). get_or xs b d) symbols_are ∙ get_or-map-range_with_len symbol_of 0 256 b b d lt (omega arith)
 
 pub and_then-assoc : (r : Result State ReadFault) (f g h : State → Result State ReadFault) → ((t : State) → h t ≡ and_then (f t) g) → and_then r h ≡ and_then (and_then r f) g
 and_then-assoc (Ok t) f g h e = e t
@@ -127,10 +203,6 @@ no_moves = record { normal = []; bracketed = [] }
 more_is : (o : Option ℕ) (m : Moves) (ts : List Token) → with_more o m ts ≡ joined m (with_more o no_moves ts)
 more_is None m ts = λ i. record { normal = m.normal ++ ts; bracketed = sym (append-nil m.bracketed) i }
 more_is (Some c) m ts = λ i. record { normal = sym (append-nil m.normal) i; bracketed = m.bracketed ++ ts }
-
--- the moves of items
-abbrev pub moves_in : List Item → Moves
-moves_in xs = record { normal = flat_map item_normal xs; bracketed = flat_map item_bracketed xs }
 
 -- what was read from a state on: these moves, and then a bracket is open or none is
 pub record Read (limit : ℕ) (s : State) (bytes : List ℕ) (m : Moves) (o : Option ℕ) : Type 0 where

@@ -1,19 +1,22 @@
 -- Face turns taken from a sequence behind a rotation; sequences whose centres are brought home, and what is left of them.
 use Rattle.niss_moves.proofs.Names.{refl, ap, sym, ◌∙◌, subst, arith, append_assoc, ◌≡◌, ℕ, zero, suc, true, List, [], ◌∷◌, ◌++◌, length}
-use Rattle.niss_moves.proofs.Names.{Some, map, ◌+◌, ◌<◌, ◌≤◌, Option, None, append-nil, take, drop, get_or, rotation_left, TurnsAreMoves}
+use Rattle.niss_moves.proofs.Names.{Some, map, ◌+◌, ◌<◌, ◌≤◌, Option, None, append-nil, take, drop, get_or, rotation_left}
 use Rattle.niss_moves.proofs.Names.{CentresComeHome, FacesAreHome, LineIsHome, FacesAndRotation, CleanedEffect, RotationIsLeft, turned}
 use Rattle.niss_moves.proofs.Names.{effect_of_turns, inverse, effect, moved_by, inverse_power, centre, faces, BasicMove, FaceTurn}
 use Rattle.niss_moves.proofs.Names.{WholeRotation, expanded, token_of_basic, faces_with, joined_moves, Turn, Face, Power, Token, Rotation}
 use Rattle.niss_moves.proofs.Names.{U, Half, Axis, Slice, Place, same_place, face_before, face_before_power, spelling, IsRotationOf}
 use Rattle.niss_moves.proofs.Names.{renamed_turn, opposite}
-use Rattle.niss_moves.specs.Helpers.{IsNext, Takes}
-use Rattle.niss_moves.proofs.Inverses.{effect-append, effect_of_expanded, meaning, one_meaning}
-use Rattle.niss_moves.proofs.Rotations.{next_rotation, is_next, effect_of_turns-append, turn_after, rotation_left_is, one_spelling}
-use Rattle.niss_moves.proofs.Cleaned.{cleans_effect}
-use Rattle.niss_moves.proofs.Finite.{turn, rotation, every_face, every_power, every_turn, every_rotation, at_face, at_turn, at_rotation, same_place_is}
 use Rattle.std.proofs.Common.{add-one}
 use Rattle.std.proofs.lemmas.List.{take_more, take_all, drop_all, at_drop_more}
+use Rattle.niss_moves.specs.Helpers.{IsNext, Takes}
 use Rattle.niss_moves.specs.declared.token.Token.TheVariants as token
+use Rattle.niss_moves.proofs.Effects.{effect-append, effect_of_expanded, meaning, one_meaning, next_rotation, is_next}
+use Rattle.niss_moves.proofs.Effects.{effect_of_turns-append, turn_after, rotation_left_is, one_spelling, inverse_after, inverse_before}
+use Rattle.niss_moves.proofs.Effects.{places_stay, renames_power}
+use Rattle.niss_moves.proofs.Cleaned.{cleans_effect, clean_turns_are_clean, cleaning_ends, one_clean_list, canonical_stays}
+use Rattle.niss_moves.proofs.Finite.{turn, rotation, every_face, every_power, every_turn, every_rotation, at_face, at_turn, at_rotation}
+use Rattle.niss_moves.proofs.Finite.{same_place_is, places_are_listed, places_differ, same_letters}
+use Rattle.niss_moves.proofs.CanonicalLists.{canonical_in_order, canonical_grows}
 
 abbrev pub before : Rotation → Turn → Turn
 before r = renamed_turn (face_before r)
@@ -193,6 +196,16 @@ cleaned_effect s c r d h q = faces_and_rotation s r h q ∙ ap (effect (spelling
 pub rotation_is_left : RotationIsLeft
 rotation_is_left s = let w = left_by s in subst (λ (r : Rotation). IsRotationOf s r) (sym (rotation_left_is s w.0 w.2)) w.2
 
-pub turns_are_moves : TurnsAreMoves
-turns_are_moves [] q = refl
-turns_are_moves (t ∷ ts) q = turns_are_moves ts (turned t q)
+-- the laws of the crate, for the functions that state them, and for `cleanup`, which ensures some
+pub ruleset of_effects =
+    (places_stay, places_are_listed, places_differ, inverse_after, inverse_before, effect-append, one_meaning, same_letters)
+
+pub ruleset of_rotations =
+    (one_spelling, effect_of_expanded, renames_power, turn_after, centres_come_home, faces_are_home, line_is_home, faces_and_rotation)
+
+pub ruleset of_cleaning = (clean_turns_are_clean, cleans_effect, cleaned_effect, rotation_is_left)
+
+pub ruleset of_rewriting =
+    (of_rotations, of_cleaning, canonical_in_order, canonical_grows, cleaning_ends, one_clean_list, canonical_stays)
+
+pub ruleset of_all = (of_effects, of_rewriting)

@@ -1,8 +1,31 @@
 -- Canonical sequences of face turns, and all of them of one length.
-use Rattle.std.specs.Prelude.{◌≡◌, ℕ, zero, suc, Bool, true, not, ◌&&◌, ◌||◌, ◌-◌}
-use Rattle.std.specs.Prelude.{List, [], ◌∷◌, ◌++◌, map, filter, flat_map, length, slice_get, Option, None, Some, IsTrue}
-use Rattle.niss_moves.specs.Turn.{opposite, same_face, goes_first}
-use Rattle.niss_moves.specs.Names.{Face, U, D, R, L, F, B, Power, Quarter, Half, Counter, Turn}
+use Rattle.std.specs.Prelude.{Bool, true, false, ◌≡◌, ℕ, zero, suc, not, ◌&&◌, ◌||◌, ◌-◌, List, [], ◌∷◌, ◌++◌, map}
+use Rattle.std.specs.Prelude.{filter, flat_map, length, slice_get, Option, None, Some, IsTrue}
+use Rattle.niss_moves.specs.Names.{Face, U, D, R, L, F, B, Turn, Power, Quarter, Half, Counter}
+
+abbrev pub opposite : Face → Face
+opposite U = D
+opposite D = U
+opposite R = L
+opposite L = R
+opposite F = B
+opposite B = F
+
+abbrev pub same_face : Face → Face → Bool
+same_face U U = true
+same_face D D = true
+same_face R R = true
+same_face L L = true
+same_face F F = true
+same_face B B = true
+same_face _ _ = false
+
+-- of two opposite faces the one that stands first in a canonical sequence
+abbrev pub goes_first : Face → Bool
+goes_first U = true
+goes_first R = true
+goes_first F = true
+goes_first _ = false
 
 -- May a turn of the second face stand directly after one of the first? They are two faces, and of two opposite ones
 -- U, R or F is first.

@@ -1,7 +1,9 @@
 -- What moves do to the sticker places (WCA Regulations, article 12; slices by common usage).
-use Rattle.std.specs.Prelude.{◌≡◌, ℕ, zero, suc, ◌*◌, ◌%◌, Bool, true, not, if◌then◌else◌, List, [], ◌∷◌, map, reverse}
+use Rattle.std.specs.Prelude.{◌≡◌, ℕ, zero, suc, ◌*◌, ◌%◌, Bool, true, not, if◌then◌else◌, List, [], ◌∷◌, map}
+use Rattle.std.specs.Prelude.{reverse}
 use Rattle.niss_moves.specs.Places.{Coord, negated, is_negative, is_zero, is_positive, Vector, Place, along}
-use Rattle.niss_moves.specs.Names.{Face, U, D, R, L, F, B, Power, Quarter, Half, Counter, Turn, Axis, Ud, Rl, Fb, Slice, M, E, S, Token}
+use Rattle.niss_moves.specs.Names.{Face, U, D, R, L, F, B, Power, Quarter, Half, Counter, Turn, Axis, Ud, Rl, Fb}
+use Rattle.niss_moves.specs.Names.{Slice, M, E, S, Token}
 use Rattle.niss_moves.specs.declared.token.Token.TheVariants as token
 
 -- one quarter about an axis, clockwise as seen from its positive end
@@ -74,14 +76,12 @@ abbrev pub effect : List Token → Place → Place
 effect [] q = q
 effect (t ∷ ts) q = effect ts (moved_by t q)
 
--- where one face turn brings the sticker at a place
+-- the same for one face turn, and for a sequence of face turns
 abbrev pub turned : Turn → Place → Place
-turned t = moved (face_move t.face (times t.power))
+turned t = moved_by (token.Face t)
 
--- where a sequence of face turns, made from the left, brings the sticker at a place
 abbrev pub effect_of_turns : List Turn → Place → Place
-effect_of_turns [] q = q
-effect_of_turns (t ∷ ts) q = effect_of_turns ts (turned t q)
+effect_of_turns ts = effect (map token.Face ts)
 
 -- the inverse of a power, of a move, of a sequence
 abbrev pub inverse_power : Power → Power
@@ -89,8 +89,11 @@ inverse_power Quarter = Counter
 inverse_power Half = Half
 inverse_power Counter = Quarter
 
+abbrev pub inverse_turn : Turn → Turn
+inverse_turn t = record t { power = inverse_power t.power }
+
 abbrev pub inverse_token : Token → Token
-inverse_token (token.Face t) = token.Face (record t { power = inverse_power t.power })
+inverse_token (token.Face t) = token.Face (inverse_turn t)
 inverse_token (token.Wide face power) = token.Wide face (inverse_power power)
 inverse_token (token.Slice slice power) = token.Slice slice (inverse_power power)
 inverse_token (token.Rotation axis power) = token.Rotation axis (inverse_power power)

@@ -1,7 +1,9 @@
--- The facelets of the six faces, and the 54 places in the order of the facelet text (as Kociemba's facelet level has it).
-use Rattle.std.specs.Prelude.{ℕ, zero, suc, ◌-◌, ◌/◌, ◌%◌, List, [], ◌∷◌, ◌++◌, map}
-use Rattle.niss_moves.specs.Places.{Coord, Neg, Zero, Pos, negated, Vector, Place}
+-- The facelets of the six faces, the 54 places in the order of the facelet text (as Kociemba's facelet level has it), and that text.
+use Rattle.std.specs.Prelude.{ℕ, zero, suc, ◌-◌, ◌/◌, ◌%◌, List, [], ◌∷◌, ◌++◌, map, if◌then◌else◌, slice_index}
+use Rattle.std.specs.Prelude.{codes}
+use Rattle.niss_moves.specs.Places.{Coord, Neg, Zero, Pos, negated, Vector, Place, same_place, same_vector}
 use Rattle.niss_moves.specs.Names.{Face, U, D, R, L, F, B}
+use Rattle.niss_moves.specs.Indices.{face_index}
 
 -- the cell of a face at a column from left to right and a row from top to bottom
 abbrev pub face_cell : Face → (column row : Coord) → Vector
@@ -39,3 +41,26 @@ face_places f = map (facelet f) (1 ∷ 2 ∷ 3 ∷ 4 ∷ 5 ∷ 6 ∷ 7 ∷ 8 ∷
 -- the 54 sticker places
 abbrev pub places : List Place
 places = face_places U ++ face_places R ++ face_places F ++ face_places D ++ face_places L ++ face_places B
+
+-- the letter of a face
+abbrev pub face_letter : Face → ℕ
+face_letter f = slice_index (codes "UDRLFB") (face_index f)
+
+-- the letter of the face on which a place is
+abbrev pub letter_at : Place → ℕ
+letter_at q =
+    if same_vector q.direction (outward U) then face_letter U
+    else (if same_vector q.direction (outward R) then face_letter R
+    else (if same_vector q.direction (outward F) then face_letter F
+    else (if same_vector q.direction (outward D) then face_letter D
+    else (if same_vector q.direction (outward L) then face_letter L
+    else face_letter B))))
+
+-- of the places in ps, the letter of the one that e brings to q
+unfoldable pub letter_of : (Place → Place) → List Place → Place → ℕ
+letter_of e [] q = slice_index (codes "?") 0
+letter_of e (p ∷ ps) q = if same_place (e p) q then letter_at p else letter_of e ps q
+
+-- the 54 letters of a map
+unfoldable pub letters : (Place → Place) → List ℕ
+letters e = map (letter_of e places) places

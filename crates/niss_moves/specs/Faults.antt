@@ -1,10 +1,9 @@
 -- The fault of a line: the leftmost byte that can't go on there (of a U+2019 that it cuts, the first byte), or what the end
 -- lacks.
-use Rattle.std.specs.Prelude.{◌≡◌, ℕ, ◌+◌, ◌-◌, ◌<◌, ◌≤◌, Bool, true, false}
-use Rattle.std.specs.Prelude.{List, [], ◌∷◌, ◌++◌, length, take, slice_index, ◌⊎◌, ◌==◌, ◌||◌, not, IsTrue}
+use Rattle.std.specs.Prelude.{◌≡◌, ℕ, ◌+◌, ◌-◌, ◌<◌, ◌≤◌, Bool, true, false, List, [], ◌∷◌, ◌++◌, length, take}
+use Rattle.std.specs.Prelude.{slice_index, ◌⊎◌, ◌==◌, ◌||◌, not, IsTrue, Result, Ok, Err, codes}
 use Rattle.std.specs.List.{list_all}
-use Rattle.niss_moves.specs.Line.{IsLine}
-use Rattle.niss_moves.specs.Notation.{base_bytes}
+use Rattle.niss_moves.specs.Line.{IsLine, Moves, Spells, opening, closing, base_bytes}
 use Rattle.niss_moves.specs.Names.{Base, ReadFault, NotAMove, Nested, Unopened, Unclosed, TooLong}
 
 -- what a cut U+2019 still lacks: nothing where there is none, one byte or two
@@ -25,7 +24,7 @@ cut_length LacksOne = 2
 cut_length LacksTwo = 1
 
 abbrev pub bracket_ending : Bool → List ℕ
-bracket_ending true = 41 ∷ []
+bracket_ending true = closing ∷ []
 bracket_ending false = []
 
 -- The bytes and this ending are a line: so they end in such a cut, and a bracket is open or none is.
@@ -54,25 +53,25 @@ abbrev pub BeginsBase : ℕ → Type 0
 BeginsBase byte = (base : Base) × (more : List ℕ) × (base_bytes base ≡ byte ∷ more)
 
 abbrev pub has_no_bracket : List ℕ → Bool
-has_no_bracket bytes = list_all (λ b. not (b == 40 || b == 41)) bytes
+has_no_bracket bytes = list_all (λ b. not (b == opening || b == closing)) bytes
 
 -- the column of the last opening bracket, with no bracket after it
 abbrev pub OpensAt : List ℕ → ℕ → Type 0
 OpensAt bytes column =
-    (front : List ℕ) × (rest : List ℕ) × (bytes ≡ front ++ 40 ∷ rest)
+    (front : List ℕ) × (rest : List ℕ) × (bytes ≡ front ++ opening ∷ rest)
     × IsTrue (has_no_bracket rest) × (column ≡ length front + 1)
 
 -- a byte that can't go on there
 abbrev pub Stops : List ℕ → ReadFault → Type 0
 Stops bytes (NotAMove column) =
     ((byte : ℕ) × (is_open : Bool) × StopsAt bytes column Whole is_open byte
-    × ((byte ≡ 40) × (is_open ≡ true) → ⊥)
-    × ((byte ≡ 41) × (is_open ≡ false) → ⊥)
+    × ((byte ≡ opening) × (is_open ≡ true) → ⊥)
+    × ((byte ≡ closing) × (is_open ≡ false) → ⊥)
     × (BeginsBase byte → ⊥))
     ⊎ ((byte : ℕ) × (is_open : Bool) × (cut : Cut) × (0 < cut_length cut)
     × StopsAt bytes (column + cut_length cut) cut is_open byte)
-Stops bytes (Nested column) = StopsAt bytes column Whole true 40
-Stops bytes (Unopened column) = StopsAt bytes column Whole false 41
+Stops bytes (Nested column) = StopsAt bytes column Whole true opening
+Stops bytes (Unopened column) = StopsAt bytes column Whole false closing
 Stops bytes (TooLong column) =
     (byte : ℕ) × (is_open : Bool) × BeginsBase byte × StopsAt bytes column Whole is_open byte
 Stops bytes (Unclosed column) = ⊥
@@ -88,3 +87,23 @@ Lacks bytes _ = ⊥
 -- the fault of a line that no value of at most 256 moves spells
 abbrev pub Faults : List ℕ → ReadFault → Type 0
 Faults bytes fault = Stops bytes fault ⊎ Lacks bytes fault
+
+-- What bytes are as a line: the moves that they spell, at most 256, or the fault of bytes that spell no such moves.
+abbrev pub IsReading : List ℕ → Result Moves ReadFault → Type 0
+IsReading bytes (Ok line) =
+    Spells bytes line.normal line.bracketed × (length line.normal + length line.bracketed ≤ 256)
+IsReading bytes (Err fault) = Faults bytes fault
+
+abbrev pub fault_column : ReadFault → ℕ
+fault_column (NotAMove column) = column
+fault_column (Nested column) = column
+fault_column (Unopened column) = column
+fault_column (Unclosed column) = column
+fault_column (TooLong column) = column
+
+abbrev pub fault_text : ReadFault → List ℕ
+fault_text (NotAMove column) = codes "not a move"
+fault_text (Nested column) = codes "bracket inside a bracket"
+fault_text (Unopened column) = codes "bracket closed that was not opened"
+fault_text (Unclosed column) = codes "bracket not closed"
+fault_text (TooLong column) = codes "more than 256 moves"

@@ -1,16 +1,19 @@
 -- What private functions of the code work out. No public contract names these.
-use Rattle.std.specs.Prelude.{◌≡◌, ℕ, Bool, true, false, List, [], ◌∷◌, ◌++◌, map, drop, slice_index_or, if◌then◌else◌}
-use Rattle.std.specs.Prelude.{Option, None, Some}
-use Rattle.niss_moves.specs.Turn.{same_face}
+use Rattle.std.specs.Prelude.{◌≡◌, ℕ, Bool, true, false, List, [], ◌∷◌, ◌++◌, map, drop, slice_index_or}
+use Rattle.std.specs.Prelude.{if◌then◌else◌, Option, None, Some, ◌<◌, ◌⊎◌, take}
+use Rattle.niss_moves.specs.Canonical.{same_face}
 use Rattle.niss_moves.specs.Cleaning.{sum_of_turns}
 use Rattle.niss_moves.specs.Effects.{effect, effect_of_turns, moved_by}
-use Rattle.niss_moves.specs.Faces.{expanded, faces_with}
+use Rattle.niss_moves.specs.Rotations.{expanded, faces_with, to_top, face_before, face_before_if, face_before_power}
+use Rattle.niss_moves.specs.Rotations.{renamed_turn, spelling}
 use Rattle.niss_moves.specs.Names.{Face, U, R, L, F, B, Power, Quarter, Half, Counter, Turn, Axis, Token, Rotation}
+use Rattle.niss_moves.specs.Names.{Base}
 use Rattle.niss_moves.specs.Places.{Place}
-use Rattle.niss_moves.specs.Rotations.{to_top, face_before, face_before_if, face_before_power, renamed_turn, spelling}
 use Rattle.niss_moves.specs.declared.token.Token.TheVariants as token
-use Rattle.niss_moves.specs.declared.faces.MoveTurns.{MoveTurns}
-use Rattle.niss_moves.specs.declared.faces.MoveTurns.TheVariants.{NoTurn, One, Two}
+use Rattle.niss_moves.specs.declared.rotation.MoveTurns.{MoveTurns}
+use Rattle.niss_moves.specs.declared.rotation.MoveTurns.TheVariants.{NoTurn, One, Two}
+use Rattle.niss_moves.specs.Line.{token_of, base_bytes, Apostrophe, apostrophe_bytes, Suffix, suffix_bytes}
+use Rattle.niss_moves.specs.Line.{suffix_power, Blank, blank_byte}
 
 -- one turn after another: their sum where they are of one face, and else both
 abbrev pub pair_of_turns : Turn → Turn → List Turn
@@ -61,7 +64,25 @@ turns_in NoTurn = []
 turns_in (One t) = t ∷ []
 turns_in (Two t u) = t ∷ u ∷ []
 
--- a text with words after it that were gathered; where no gap is due, the space before the first of them is left out
-abbrev pub with_gathered : List ℕ → Bool → List ℕ → List ℕ
-with_gathered text true words = text ++ drop 1 words
-with_gathered text false words = text ++ words
+-- a text with words after it that wait; where no gap is due, the space before the first of them is left out
+abbrev pub with_buffered : List ℕ → Bool → List ℕ → List ℕ
+with_buffered text true words = text ++ drop 1 words
+with_buffered text false words = text ++ words
+
+-- The first n bytes are an apostrophe, or n is 0.
+abbrev pub BeginsApostrophe : List ℕ → ℕ → Type 0
+BeginsApostrophe bytes n = (n ≡ 0) ⊎ ((a : Apostrophe) × (0 < n) × (take n bytes ≡ apostrophe_bytes a))
+
+-- a suffix, and the power that it gives
+pub record IsSuffix (bytes : List ℕ) (power : Power) : Type 0 where
+  pub suffix : Suffix
+  pub bytes_are : bytes ≡ suffix_bytes suffix
+  pub power_is : power ≡ suffix_power suffix
+
+-- a move as it is spelled, and a blank
+pub record IsMove (bytes : List ℕ) (token : Token) : Type 0 where
+  pub base : Base
+  pub suffix : Suffix
+  pub blank : Blank
+  pub bytes_are : bytes ≡ base_bytes base ++ suffix_bytes suffix ++ blank_byte blank ∷ []
+  pub token_is : token ≡ token_of base (suffix_power suffix)

@@ -1,6 +1,7 @@
 -- The numbers of faces, powers, slices, axes and moves, by which tables are looked up.
 use Rattle.std.specs.Prelude.{ℕ, ◌+◌, ◌*◌}
-use Rattle.niss_moves.specs.Names.{Face, U, D, R, L, F, B, Power, Quarter, Half, Counter, Slice, M, E, S, Axis, Ud, Rl, Fb, Token}
+use Rattle.niss_moves.specs.Names.{Face, U, D, R, L, F, B, Power, Quarter, Half, Counter, Slice, M, E, S, Axis, Ud}
+use Rattle.niss_moves.specs.Names.{Rl, Fb, Token}
 use Rattle.niss_moves.specs.declared.token.Token.TheVariants as token
 
 abbrev pub face_index : Face → ℕ

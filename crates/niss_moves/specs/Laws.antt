@@ -1,16 +1,15 @@
 -- Laws of moves and sequences, of rotations, canonical sequences and cleaning, each proved as the contract of a function.
-use Rattle.std.specs.Prelude.{◌≡◌, ◌≢◌, ◌↔◌, ℕ, ◌<◌, ◌⊎◌, Bool, List, [], ◌∷◌, ◌++◌, map, length, All, AllPairs, Contains, IsTrue}
-use Rattle.niss_moves.specs.Places.{Place, IsPlace, SameMap}
-use Rattle.niss_moves.specs.Facelets.{centre, places}
-use Rattle.niss_moves.specs.Letters.{letters}
-use Rattle.niss_moves.specs.Effects.{effect, effect_of_turns, moved_by, turned, inverse, HasMeaning}
-use Rattle.niss_moves.specs.Rotations.{spelling, face_before, face_before_power, renamed_turn, IsRotationOf}
-use Rattle.niss_moves.specs.Faces.{expanded, token_of_basic, faces}
-use Rattle.niss_moves.specs.Canonical.{may_follow, last_turn, IsCanonical, all_canonical, DiffersFirst}
-use Rattle.niss_moves.specs.Cleaning.{IsRewriting, Cleans, disorder}
-use Rattle.niss_moves.specs.CleanedLine.{clean_turns, rotation_left}
+use Rattle.std.specs.Prelude.{◌≡◌, ◌↔◌, ℕ, Bool, List, [], map, length, ◌≢◌, ◌<◌, ◌⊎◌, ◌∷◌, ◌++◌, All, AllPairs}
+use Rattle.std.specs.Prelude.{Contains, IsTrue}
 use Rattle.niss_moves.specs.Line.{Moves, joined_moves}
-use Rattle.niss_moves.specs.Names.{Face, Power, Turn, Axis, Token, Rotation}
+use Rattle.niss_moves.specs.Names.{Token, Face, Power, Turn, Axis, Rotation}
+use Rattle.niss_moves.specs.Places.{Place, IsPlace, SameMap}
+use Rattle.niss_moves.specs.Facelets.{centre, places, letters}
+use Rattle.niss_moves.specs.Effects.{effect, effect_of_turns, moved_by, turned, inverse, HasMeaning}
+use Rattle.niss_moves.specs.Rotations.{spelling, face_before, face_before_power, renamed_turn, IsRotationOf, expanded}
+use Rattle.niss_moves.specs.Rotations.{token_of_basic, faces}
+use Rattle.niss_moves.specs.Canonical.{may_follow, last_turn, IsCanonical, all_canonical, DiffersFirst}
+use Rattle.niss_moves.specs.Cleaning.{IsRewriting, Cleans, disorder, clean_turns, rotation_left}
 use Rattle.niss_moves.specs.declared.token.Token.TheVariants as token
 
 -- A move brings places to places.
@@ -40,10 +39,6 @@ InverseIsUndone = (s : List Token) (q : Place) → effect s (effect (inverse s) 
 -- The effect of two sequences, one after the other, is the effect of the first and then that of the second.
 abbrev pub EffectsCompose : Type 0
 EffectsCompose = (s t : List Token) (q : Place) → effect (s ++ t) q ≡ effect t (effect s q)
-
--- Face turns have one effect, by themselves and as moves of a line.
-abbrev pub TurnsAreMoves : Type 0
-TurnsAreMoves = (ts : List Turn) (q : Place) → effect (map token.Face ts) q ≡ effect_of_turns ts q
 
 -- A line has one meaning: sequences with the meaning of the same normal and bracketed moves have the same effect.
 abbrev pub OneMeaning : Type 0

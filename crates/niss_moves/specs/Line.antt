@@ -1,8 +1,76 @@
--- Which bytes spell a line of moves.
-use Rattle.std.specs.Prelude.{◌≡◌, ℕ, ◌+◌, ◌≤◌, List, [], ◌∷◌, ◌++◌, flat_map, length}
+-- How moves are written, and which bytes spell a line of them.
+use Rattle.std.specs.Prelude.{ℕ, List, [], ◌∷◌, ◌++◌, slice_index, codes, ◌≡◌, ◌+◌, ◌≤◌, flat_map, length}
+use Rattle.niss_moves.specs.Facelets.{face_letter}
+use Rattle.niss_moves.specs.Indices.{face_index, layer_index, axis_index}
+use Rattle.niss_moves.specs.Names.{Face, Power, Quarter, Half, Counter, Axis, Slice, Token, Base}
+use Rattle.niss_moves.specs.declared.token.Token.TheVariants as token
+use Rattle.niss_moves.specs.declared.token.Base.TheVariants as base
 use Rattle.niss_moves.specs.Effects.{inverse}
-use Rattle.niss_moves.specs.Notation.{token_of, base_bytes, Suffix, suffix_bytes, suffix_power, Blank, blank_byte}
-use Rattle.niss_moves.specs.Names.{Token, Base}
+
+-- the letters of wide turns, of slices and of rotations
+abbrev pub lower_letter : Face → ℕ
+lower_letter f = slice_index (codes "udrlfb") (face_index f)
+
+abbrev pub slice_letter : Slice → ℕ
+slice_letter l = slice_index (codes "MES") (layer_index l)
+
+abbrev pub rotation_letter : Axis → ℕ
+rotation_letter a = slice_index (codes "yxz") (axis_index a)
+
+-- a move without its suffix
+abbrev pub base_bytes : Base → List ℕ
+base_bytes (base.Face f) = face_letter f ∷ []
+base_bytes (base.Wide f) = face_letter f ∷ codes "w"
+base_bytes (base.LowerCase f) = lower_letter f ∷ []
+base_bytes (base.Slice l) = slice_letter l ∷ []
+base_bytes (base.Rotation a) = rotation_letter a ∷ []
+
+-- the move of a base with a power
+abbrev pub token_of : Base → Power → Token
+token_of (base.Face f) p = token.Face (record { face = f; power = p })
+token_of (base.Wide f) p = token.Wide f p
+token_of (base.LowerCase f) p = token.Wide f p
+token_of (base.Slice l) p = token.Slice l p
+token_of (base.Rotation a) p = token.Rotation a p
+
+-- `'`, or U+2019
+pub data Apostrophe : Type 0 where
+  Plain : Apostrophe
+  Typographic : Apostrophe
+
+abbrev pub apostrophe_bytes : Apostrophe → List ℕ
+apostrophe_bytes Plain = codes "'"
+apostrophe_bytes Typographic = 0xE2 ∷ 0x80 ∷ 0x99 ∷ []
+
+-- what may stand after a base: nothing, `2`, an apostrophe, `2` and an apostrophe
+pub data Suffix : Type 0 where
+  Nothing : Suffix
+  Two : Suffix
+  Prime : Apostrophe → Suffix
+  TwoPrime : Apostrophe → Suffix
+
+abbrev pub suffix_bytes : Suffix → List ℕ
+suffix_bytes Nothing = []
+suffix_bytes Two = codes "2"
+suffix_bytes (Prime a) = apostrophe_bytes a
+suffix_bytes (TwoPrime a) = codes "2" ++ apostrophe_bytes a
+
+abbrev pub suffix_power : Suffix → Power
+suffix_power Nothing = Quarter
+suffix_power Two = Half
+suffix_power (Prime a) = Counter
+suffix_power (TwoPrime a) = Half
+
+-- space, tab and carriage return
+pub data Blank : Type 0 where
+  Space : Blank
+  Tab : Blank
+  Return : Blank
+
+abbrev pub blank_byte : Blank → ℕ
+blank_byte Space = 32
+blank_byte Tab = 9
+blank_byte Return = 13
 
 -- a blank, or a move as it is spelled: a base and then a suffix, with nothing between
 pub data Piece : Type 0 where
@@ -17,14 +85,20 @@ abbrev pub piece_moves : Piece → List Token
 piece_moves (Gap b) = []
 piece_moves (Spelled b s) = token_of b (suffix_power s) ∷ []
 
--- a piece outside brackets, or a bracket with its pieces: 40 is `(` and 41 is `)`
+abbrev pub opening : ℕ
+opening = slice_index (codes "(") 0
+
+abbrev pub closing : ℕ
+closing = slice_index (codes ")") 0
+
+-- a piece outside brackets, or a bracket with its pieces
 pub data Item : Type 0 where
   Outside : Piece → Item
   Bracket : List Piece → Item
 
 abbrev pub item_bytes : Item → List ℕ
 item_bytes (Outside p) = piece_bytes p
-item_bytes (Bracket ps) = 40 ∷ flat_map piece_bytes ps ++ 41 ∷ []
+item_bytes (Bracket ps) = opening ∷ flat_map piece_bytes ps ++ closing ∷ []
 
 abbrev pub item_normal : Item → List Token
 item_normal (Outside p) = piece_moves p

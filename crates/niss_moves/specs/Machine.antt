@@ -1,36 +1,16 @@
--- The steps by which a line is read, byte by byte. What a line is and which fault it has is said by Line and Faults, and
--- a caller needs no more: `read_line` is made of these steps, and `IsFed` of what a reader holds.
-use Rattle.std.specs.Prelude.{ℕ, ◌+◌, ◌-◌, ◌≤◌, if◌then◌else◌, ◌==◌, nat_lt}
-use Rattle.std.specs.Prelude.{List, [], ◌∷◌, ◌++◌, length, map, Option, None, Some, Result, Ok, Err, MatchResult, ◌≡◌}
+-- The steps by which a line is read, byte by byte: what the private functions of the reader do. What a line is, and which
+-- fault it has, say Line and Faults.
+use Rattle.std.specs.Prelude.{ℕ, ◌+◌, ◌-◌, ◌≤◌, if◌then◌else◌, ◌==◌, nat_lt, List, [], ◌∷◌, ◌++◌, length, Option}
+use Rattle.std.specs.Prelude.{None, Some, Result, Ok, Err, MatchResult, ◌≡◌}
 use Rattle.std.specs.Option.{option_map_or}
-use Rattle.niss_moves.specs.Letters.{face_letter}
-use Rattle.niss_moves.specs.Canonical.{face_order}
-use Rattle.niss_moves.specs.Notation.{token_of, lower_letter, slice_letter, rotation_letter, blank_byte, Space, Tab, Return}
-use Rattle.niss_moves.specs.Line.{Moves}
+use Rattle.niss_moves.specs.Line.{token_of, Moves}
 use Rattle.niss_moves.specs.Faults.{Cut, Whole, LacksOne, LacksTwo, cut_length}
-use Rattle.niss_moves.specs.Names.{Quarter, Half, Counter, Ud, Rl, Fb, M, E, S, Token, Base}
-use Rattle.niss_moves.specs.Names.{Symbol, LastMove, ReadFault, NotAMove, Nested, Unopened, Unclosed, TooLong}
-use Rattle.niss_moves.specs.declared.base.Base.TheVariants as base
+use Rattle.niss_moves.specs.Names.{Quarter, Half, Counter, Token, Base, Symbol, LastMove, ReadFault, NotAMove, Nested}
+use Rattle.niss_moves.specs.Names.{Unopened, Unclosed, TooLong}
+use Rattle.niss_moves.specs.Reading.{symbol_of}
+use Rattle.niss_moves.specs.declared.token.Base.TheVariants as base
 use Rattle.niss_moves.specs.declared.symbol.Symbol.TheVariants as symbol
 use Rattle.niss_moves.specs.declared.partial_line.LastMove.TheVariants as last
-
--- each byte that may stand in a line, but for the second and third of U+2019
-abbrev pub bytes_of_a_line : List (ℕ × Symbol)
-bytes_of_a_line =
-    map (λ b. (blank_byte b, symbol.Blank)) (Space ∷ Tab ∷ Return ∷ [])
-    ++ map (λ f. (face_letter f, symbol.Base (base.Face f))) face_order
-    ++ map (λ f. (lower_letter f, symbol.Base (base.LowerCase f))) face_order
-    ++ map (λ l. (slice_letter l, symbol.Base (base.Slice l))) (M ∷ E ∷ S ∷ [])
-    ++ map (λ a. (rotation_letter a, symbol.Base (base.Rotation a))) (Rl ∷ Ud ∷ Fb ∷ [])
-    ++ (40, symbol.Open) ∷ (41, symbol.Close) ∷ (119, symbol.Wide) ∷ (50, symbol.Two)
-    ∷ (39, symbol.Apostrophe) ∷ (0xE2, symbol.Cut) ∷ []
-
-abbrev pub look_up : List (ℕ × Symbol) → ℕ → Symbol
-look_up [] b = symbol.Other
-look_up (e ∷ es) b = if b == e.0 then e.1 else look_up es b
-
-unfoldable pub symbol_of : ℕ → Symbol
-symbol_of b = look_up bytes_of_a_line b
 
 -- what is read so far: the whole moves, the column of the open bracket, the last move as far as it goes
 pub record State : Type 0 where
@@ -180,12 +160,3 @@ ended_by c s = Err (NotAMove (s.fed - (cut_length c - 1)))
 abbrev pub ended : Result State ReadFault → Result Moves ReadFault
 ended (Ok s) = ended_by (cut_of s.last) s
 ended (Err f) = Err f
-
--- these moves, unless there is a fault
-abbrev pub moves_if : Result (Unit {0}) ReadFault → Moves → Result Moves ReadFault
-moves_if (Ok u) m = Ok m
-moves_if (Err f) m = Err f
-
--- what the line is, with these bytes after those that were fed
-abbrev pub answer_after : Result State ReadFault → List ℕ → Result Moves ReadFault
-answer_after r bytes = ended (and_then r (λ s. run s bytes))

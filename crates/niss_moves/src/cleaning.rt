@@ -2,35 +2,14 @@
 ghost use Rattle.std.specs.Prelude.{◌≡◌, ◌+◌, ◌*◌, ◌<◌, ◌≤◌, List, [], ◌∷◌, ◌++◌, length, false, IfSome};
 ghost use Rattle.niss_moves.specs.Places.{Place};
 ghost use Rattle.niss_moves.specs.Effects.{effect, effect_of_turns};
-ghost use Rattle.niss_moves.specs.Rotations.{spelling, IsRotationOf};
-ghost use Rattle.niss_moves.specs.Faces.{faces};
+ghost use Rattle.niss_moves.specs.Rotations.{spelling, IsRotationOf, faces};
 ghost use Rattle.niss_moves.specs.Canonical.{face_may_follow, last_turn, IsCanonical};
-ghost use Rattle.niss_moves.specs.Cleaning.{sum_of_powers, sum_of_turns, Cleans};
-ghost use Rattle.niss_moves.specs.CleanedLine.{clean_turns, rotation_left};
+ghost use Rattle.niss_moves.specs.Cleaning.{sum_of_powers, sum_of_turns, Cleans, clean_turns, rotation_left};
 ghost use Rattle.niss_moves.specs.Helpers.{list_with_turn, turns_in};
 
-use crate::canonical::allowed;
-use crate::faces::{Faces, MoveTurns};
-use crate::held_rotation::HeldRotation;
-use crate::rotation::Rotation;
+use crate::rotation::{Faces, MoveTurns, Rotation, RotationSoFar};
 use crate::token::Token;
-use crate::turn::{Power, Turn};
-
-impl Power {
-    /// The power of two turns of one face together, or `None` where they make a whole round.
-    fn plus(self, next: Power) -> Option<Power>
-        ensures { result ≡ sum_of_powers self next }
-    {
-        match (self, next) {
-            (Power::Quarter, Power::Quarter) | (Power::Counter, Power::Counter) => Some(
-                Power::Half,
-            ),
-            (Power::Quarter, Power::Half) | (Power::Half, Power::Quarter) => Some(Power::Counter),
-            (Power::Half, Power::Counter) | (Power::Counter, Power::Half) => Some(Power::Quarter),
-            _ => None,
-        }
-    }
-}
+use crate::turn::{Turn, allowed};
 
 /// Appends the sum of two turns of one face.
 fn push_sum(turns: &mut Faces, first: Turn, second: Turn)
@@ -47,7 +26,7 @@ fn push_sum(turns: &mut Faces, first: Turn, second: Turn)
 }
 
 /// Appends a turn, or sums it with the last one where that is of its face.
-fn push_summed(turns: &mut Faces, turn: Turn)
+fn push_or_sum(turns: &mut Faces, turn: Turn)
     requires { length turns.old.items < 512 }
     ensures len { length turns.new.items ≤ length turns.old.items + 1 }
     ensures items { turns.new.items ≡ list_with_turn turns.old.items turn }
@@ -66,7 +45,7 @@ fn push_summed(turns: &mut Faces, turn: Turn)
 
 /// Sums a turn that may not follow the last one with it, or lets it pass.
 #[tactic(auto, using(crate::proofs::Cleaned::cleaned_sum, crate::proofs::Cleaned::cleaned_passed, crate::proofs::Cleaned::same_faces))]
-fn push_before(turns: &mut Faces, turn: Turn)
+fn sum_or_exchange(turns: &mut Faces, turn: Turn)
     requires breaks { IfSome (last_turn turns.old.items) (λ t. face_may_follow t.face turn.face ≡ false) }
     requires canonical { IsCanonical turns.old.items }
     requires room { length turns.old.items < 512 }
@@ -82,14 +61,14 @@ fn push_before(turns: &mut Faces, turn: Turn)
     if last.face == turn.face {
         push_sum(turns, last, turn);
     } else {
-        push_summed(turns, turn);
+        push_or_sum(turns, turn);
         turns.push(last);
     }
 }
 
 /// Appends a turn to a clean list and cleans it again.
 #[tactic(auto, using(crate::proofs::CanonicalLists::canonical_more))]
-fn push_clean(turns: &mut Faces, turn: Turn)
+fn push_and_clean(turns: &mut Faces, turn: Turn)
     requires canonical { IsCanonical turns.old.items }
     requires room { length turns.old.items < 512 }
     ensures len { length turns.new.items ≤ length turns.old.items + 1 }
@@ -100,12 +79,12 @@ fn push_clean(turns: &mut Faces, turn: Turn)
     if allowed(turns.as_slice().last().copied(), turn) {
         turns.push(turn);
     } else {
-        push_before(turns, turn);
+        sum_or_exchange(turns, turn);
     }
 }
 
 /// Appends the face turns of one move to a clean list and cleans it again.
-fn push_clean_turns(turns: &mut Faces, more: MoveTurns)
+fn push_all_and_clean(turns: &mut Faces, more: MoveTurns)
     requires canonical { IsCanonical turns.old.items }
     requires room { length turns.old.items ≤ 510 }
     ensures len { length turns.new.items ≤ length turns.old.items + 2 }
@@ -115,17 +94,17 @@ fn push_clean_turns(turns: &mut Faces, more: MoveTurns)
 {
     match more {
         MoveTurns::NoTurn => {}
-        MoveTurns::One(turn) => push_clean(turns, turn),
+        MoveTurns::One(turn) => push_and_clean(turns, turn),
         MoveTurns::Two(first, second) => {
-            push_clean(turns, first);
-            push_clean(turns, second);
+            push_and_clean(turns, first);
+            push_and_clean(turns, second);
         }
     }
 }
 
 /// Writes the cleaned face turns of a sequence into an empty list, and answers the rotation that is left at its end.
 #[tactic(auto, using(crate::proofs::Home::left_none))]
-pub(crate) fn clean_into(tokens: &[Token], turns: &mut Faces) -> Rotation
+pub(crate) fn clean_sequence(tokens: &[Token], turns: &mut Faces) -> Rotation
     requires moves { length tokens.now ≤ 256 }
     requires empty { turns.old.items ≡ [] }
     ensures len { length turns.new.items ≤ 2 * length tokens.now }
@@ -133,9 +112,9 @@ pub(crate) fn clean_into(tokens: &[Token], turns: &mut Faces) -> Rotation
     ensures canonical { IsCanonical turns.new.items }
     ensures rotation { result ≡ rotation_left tokens.now }
 {
-    let mut rotation = HeldRotation::new();
+    let mut rotation = RotationSoFar::new();
     for token in tokens {
-        push_clean_turns(turns, rotation.take_move(*token));
+        push_all_and_clean(turns, rotation.take_move(*token));
     }
     rotation.rotation()
 }
@@ -144,7 +123,7 @@ pub(crate) fn clean_into(tokens: &[Token], turns: &mut Faces) -> Rotation
 /// the order, the leftmost two are summed, where they are of one face, or exchanged: `R L R` is `R2 L`, `U D U'` is `D`.
 /// A sum that is a whole round leaves nothing: so does `F F F F`. That the list is the shortest of its effect isn't said.
 /// A sequence has at most 256 moves.
-#[tactic(auto, using(crate::proofs::LawLemmas::of_cleaning))]
+#[tactic(auto, using(crate::proofs::Home::of_cleaning))]
 pub fn cleanup(tokens: &[Token]) -> (Faces, Rotation)
     requires { length tokens.now ≤ 256 }
     ensures len { length result.0.items ≤ 2 * length tokens.now }
@@ -157,6 +136,6 @@ pub fn cleanup(tokens: &[Token]) -> (Faces, Rotation)
         effect tokens.now q ≡ effect (spelling result.1) (effect_of_turns result.0.items q) }
 {
     let mut turns = Faces::new();
-    let rotation = clean_into(tokens, &mut turns);
+    let rotation = clean_sequence(tokens, &mut turns);
     (turns, rotation)
 }

@@ -1,6 +1,6 @@
 //! Why bytes are no line of moves.
 ghost use Rattle.std.specs.Prelude.{◌≡◌, ◌≤◌, length};
-ghost use Rattle.niss_moves.specs.FaultText.{fault_column, fault_text};
+ghost use Rattle.niss_moves.specs.Faults.{fault_column, fault_text};
 
 /// What is wrong in a line, and where. Columns count bytes from 1.
 #[derive(Clone, Copy, Debug, PartialEq, Eq)]

@@ -25,45 +25,30 @@
 //! ```
 //!
 //! Contracts speak of moves by what they do to the 54 sticker places (`specs/Places`, `specs/Effects`), and of lines by
-//! their grammar and their faults (`specs/Notation`, `specs/Line`, `specs/Faults`); of face turns by `specs/Rotations`,
-//! `specs/Faces`, `specs/Canonical` and `specs/Cleaning`. What follows from these definitions alone stands in
-//! `reading_laws`, `rewriting_laws` and `effect_laws`, as functions that do nothing.
+//! their grammar and their faults (`specs/Line`, `specs/Faults`); of face turns by `specs/Rotations`, `specs/Canonical`
+//! and `specs/Cleaning`. What follows from these definitions alone stands in `laws`, as functions that do nothing.
 #![tactic(auto)]
 
-mod axis;
-mod base;
-mod canonical;
-mod clean_text;
 mod cleaning;
-pub mod effect_laws;
-mod faces;
 mod fault;
-mod gathering;
-mod held_rotation;
+pub mod laws;
 mod niss;
 mod partial_line;
 mod reader;
-pub mod reading_laws;
-pub mod rewriting_laws;
 mod rotation;
-mod sequence;
 mod symbol;
 mod text;
 mod token;
 mod turn;
-mod whole_move;
 
-pub use axis::Axis;
-pub use canonical::{allowed, turn_order, turns_after};
-pub use clean_text::{put_faces, put_niss_clean, put_rotation};
 pub use cleaning::cleanup;
-pub use faces::{Faces, to_faces};
 pub use fault::ReadFault;
-pub use gathering::write_turn;
-pub use niss::Niss;
+pub use niss::{Niss, invert, unniss};
 pub use reader::{LineReader, read};
-pub use rotation::Rotation;
-pub use sequence::{invert, unniss};
-pub use text::{LineText, put_inverted, put_tokens, put_unniss};
+pub use rotation::{Faces, Rotation, to_faces};
+pub use text::{
+    LineText, put_faces, put_inverted, put_niss_clean, put_rotation, put_tokens, put_unniss,
+    write_turn,
+};
 pub use token::{Slice, Token};
-pub use turn::{Face, Power, Turn};
+pub use turn::{Axis, Face, Power, Turn, allowed, turn_order, turns_after};

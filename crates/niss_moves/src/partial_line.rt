@@ -1,11 +1,9 @@
 //! A line as far as it is read. Its steps are those of the module Machine of `specs/`.
-use crate::base::Base;
 use crate::fault::ReadFault;
 use crate::niss::Niss;
-use crate::symbol::{Symbol, symbol_of};
-use crate::token::Token;
+use crate::symbol::{Symbol, symbol_of, whole_move};
+use crate::token::{Base, Token};
 use crate::turn::Power;
-use crate::whole_move::whole_move;
 use std::marker::Model;
 
 /// The last move of what is read, as far as it goes.
@@ -64,10 +62,10 @@ impl Model for PartialLine {
 
 impl PartialLine {
     ghost use Rattle.std.specs.Prelude.{◌≡◌, ◌+◌, ◌-◌, ◌<◌, ◌≤◌, Some, Ok, OnErr, length, take};
-    ghost use Rattle.niss_moves.specs.WholeMoves.{HasNoLineFeed};
+    ghost use Rattle.niss_moves.specs.Reader.{HasNoLineFeed, moves_if};
     ghost use Rattle.niss_moves.specs.declared.fault.ReadFault.TheVariants.{NotAMove};
-    ghost use Rattle.niss_moves.specs.Machine.{start, count, added, settled, opened, closed, begun, widened, doubled, primed};
-    ghost use Rattle.niss_moves.specs.Machine.{cut, step_at, step_by, step, run, ended, moves_if, IsStep};
+    ghost use Rattle.niss_moves.specs.Machine.{start, count, added, settled, opened, closed, begun, widened, doubled};
+    ghost use Rattle.niss_moves.specs.Machine.{primed, cut, step_at, step_by, step, run, ended, IsStep};
 
     /// The line before its first byte.
     pub fn new() -> PartialLine

@@ -1,5 +1,6 @@
 //! Lines read byte by byte.
 ghost use Rattle.std.specs.Prelude.{◌≡◌, ◌≤◌, length};
+ghost use Rattle.niss_moves.specs.Faults.{IsReading};
 ghost use Rattle.niss_moves.specs.Reader.{read_line};
 
 use crate::fault::ReadFault;
@@ -23,16 +24,14 @@ impl Model for LineReader {
 }
 
 impl LineReader {
-    ghost use Rattle.std.specs.Prelude.{◌≡◌, ℕ, ◌+◌, ◌<◌, ◌≤◌, ◌↔◌};
-    ghost use Rattle.std.specs.Prelude.{List, [], ◌∷◌, ◌++◌, length, take, IsOk, IfErr, OnErr, MatchResult, Err, None, Some};
-    ghost use Rattle.niss_moves.specs.Faults.{CanContinue, Stops};
-    ghost use Rattle.niss_moves.specs.WholeMoves.{HasNoLineFeed};
-    ghost use Rattle.niss_moves.specs.Machine.{moves_if};
-    ghost use Rattle.niss_moves.specs.Reader.{IsFed, read_line, line_with, moves_of};
+    ghost use Rattle.std.specs.Prelude.{◌≡◌, ℕ, ◌+◌, ◌<◌, ◌≤◌, ◌↔◌, List, [], ◌∷◌, ◌++◌, length, take, IsOk, IfErr, OnErr};
+    ghost use Rattle.std.specs.Prelude.{MatchResult, Err, None, Some};
+    ghost use Rattle.niss_moves.specs.Faults.{CanContinue, Stops, IsReading};
+    ghost use Rattle.niss_moves.specs.Reader.{HasNoLineFeed, IsFed, read_line, line_of, moves_if, moves_of};
     ghost use Rattle.niss_moves.specs.declared.fault.ReadFault.{ReadFault};
 
     /// A reader before the first byte of a line.
-    #[tactic(auto, using(crate::proofs::ReaderAnswers::new_fed))]
+    #[tactic(auto, using(crate::proofs::ReaderLemmas::new_fed))]
     pub fn new() -> LineReader
         ensures fed { result.fed ≡ 0 }
         ensures bytes { IsFed result [] }
@@ -102,12 +101,14 @@ impl LineReader {
 
     /// Ends the line: the bytes spell `moves`, or have a fault, and then the reader stays as it was. Ended again it answers
     /// the same. Once the line is ended well, `clear` comes before the next byte.
-    #[tactic(auto, using(crate::proofs::ReaderAnswers::at_the_end))]
+    #[tactic(auto, using(crate::proofs::ReaderLemmas::at_the_end))]
     pub fn end(&mut self) -> Result<(), ReadFault>
+        ensures reading { (bytes : List ℕ) → IsFed self.old bytes →
+            IsReading bytes (moves_if result (moves_of self.new)) }
         ensures line { (bytes : List ℕ) → IsFed self.old bytes →
             moves_if result (moves_of self.new) ≡ read_line bytes }
-        ensures ends { moves_if result (moves_of self.new) ≡ line_with self.old [] }
-        ensures once_more { line_with self.new [] ≡ line_with self.old [] }
+        ensures ends { moves_if result (moves_of self.new) ≡ line_of self.old }
+        ensures once_more { line_of self.new ≡ line_of self.old }
         ensures fed { self.new.fed ≡ self.old.fed }
         ensures fault { self.new.fault ≡ self.old.fault }
         ensures refused { OnErr result (self.new ≡ self.old) }
@@ -127,7 +128,7 @@ impl LineReader {
     }
 
     /// Goes back before the first byte of a line.
-    #[tactic(auto, using(crate::proofs::ReaderAnswers::new_fed))]
+    #[tactic(auto, using(crate::proofs::ReaderLemmas::new_fed))]
     pub fn clear(&mut self)
         ensures fed { self.new.fed ≡ 0 }
         ensures bytes { IsFed self.new [] }
@@ -137,11 +138,13 @@ impl LineReader {
         self.fault = None;
     }
 
-    /// The line that the bytes spell, or its fault: `read_line`, of which the law `line_is_read` says which it is.
-    #[tactic(auto, using(crate::proofs::ReaderAnswers::at_the_end))]
+    /// The line that the bytes spell, or its fault: the one reading that the grammar has of them. By the name `read_line`
+    /// callers go on.
+    #[tactic(auto, using(crate::proofs::ReaderLemmas::at_the_end))]
     pub fn finish(self) -> Result<Niss, ReadFault>
+        ensures reading { (bytes : List ℕ) → IsFed self bytes → IsReading bytes result }
         ensures value { (bytes : List ℕ) → IsFed self bytes → result ≡ read_line bytes }
-        ensures ends { result ≡ line_with self [] }
+        ensures ends { result ≡ line_of self }
         ensures again { (f : ReadFault) → self.fault ≡ Some f → result ≡ Err f }
     {
         match self.fault {
@@ -151,10 +154,12 @@ impl LineReader {
     }
 }
 
-/// The line that the bytes spell, or its fault: `read_line`, of which the law `line_is_read` says which it is. There may be
-/// at most 16,777,216 bytes.
+/// The line that the bytes spell, or its fault: the one reading that the grammar has of them. There may be at most
+/// 16,777,216 bytes.
+#[tactic(auto, using(crate::proofs::Found::reads_so))]
 pub fn read(bytes: &[u8]) -> Result<Niss, ReadFault>
     requires { length bytes.now ≤ 16777216 }
+    ensures reading { IsReading bytes.now result }
     ensures value { result ≡ read_line bytes.now }
 {
     let mut reader = LineReader::new();

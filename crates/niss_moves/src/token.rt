@@ -2,9 +2,9 @@
 ghost use Rattle.std.specs.Prelude.{◌≡◌, ◌<◌};
 ghost use Rattle.niss_moves.specs.Effects.{inverse_token};
 ghost use Rattle.niss_moves.specs.Indices.{token_index};
+ghost use Rattle.niss_moves.specs.Line.{token_of};
 
-use crate::axis::Axis;
-use crate::turn::{Face, Power, Turn};
+use crate::turn::{Axis, Face, Power, Turn};
 
 /// A slice: `M` turns as `L`, `E` as `D`, `S` as `F`.
 #[derive(Clone, Copy, Debug, PartialEq, Eq)]
@@ -62,6 +62,30 @@ impl Token {
             Token::Wide(face, power) => Token::Wide(face, power.inverse()),
             Token::Slice(slice, power) => Token::Slice(slice, power.inverse()),
             Token::Rotation(axis, power) => Token::Rotation(axis, power.inverse()),
+        }
+    }
+}
+
+/// A move without its suffix, as it is written: `R`, `Rw`, `r`, `M`, `x`.
+#[derive(Clone, Copy)]
+pub enum Base {
+    Face(Face),
+    Wide(Face),
+    LowerCase(Face),
+    Slice(Slice),
+    Rotation(Axis),
+}
+
+impl Base {
+    /// The move with a power.
+    pub fn token(self, power: Power) -> Token
+        ensures { result ≡ token_of self power }
+    {
+        match self {
+            Base::Face(face) => Token::Face(Turn { face, power }),
+            Base::Wide(face) | Base::LowerCase(face) => Token::Wide(face, power),
+            Base::Slice(slice) => Token::Slice(slice, power),
+            Base::Rotation(axis) => Token::Rotation(axis, power),
         }
     }
 }

@@ -40,9 +40,9 @@ unfoldable pub use Rattle.niss_cube.specs.Steps.{turns_of, reached, may_start}
 pub use Rattle.niss_moves.proofs.CallerLemmas.{last_turn-push}
 pub use Rattle.niss_moves.specs.Canonical.{may_follow, last_turn, canonical_extensions, face_may_follow, is_canonical_after, turn_order}
 unfoldable pub use Rattle.niss_moves.specs.Canonical.{all_canonical}
-pub use Rattle.niss_moves.specs.Effects.{turned}
+pub use Rattle.niss_moves.specs.Effects.{turned, inverse_turn}
 pub use Rattle.niss_moves.specs.Places.{Place, SameMap}
-pub use Rattle.niss_moves.specs.Turn.{inverse_turn, goes_first}
+pub use Rattle.niss_moves.specs.Canonical.{goes_first}
 pub use Rattle.niss_search.specs.Cubes.{HasPosition, near_looks_of, near_solutions_of, distance_of, least_length_of, cubes}
 pub use Rattle.niss_search.specs.Deepening.{Delivers, progress_of, Keeps, GoesThrough, progress_at, Descends, Progress, StopsIn}
 pub use Rattle.niss_search.specs.Delivery.{Path, at_limit, StoppedIn, WentThrough}

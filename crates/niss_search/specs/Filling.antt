@@ -1,7 +1,7 @@
 -- The pruning table of a goal while it is filled, level by level. (For the functions of the tables.)
 use Rattle.std.specs.Prelude.{◌≡◌, ◌≢◌, ℕ, ◌+◌, ◌*◌, ◌/◌, ◌%◌, ◌<◌, ◌≤◌, min, nat_le, ⊤, if◌then◌else◌}
 use Rattle.std.specs.Prelude.{List, [], ◌∷◌, length, slice_index, Contains, count_by}
-use Rattle.niss_moves.specs.Turn.{inverse_turn}
+use Rattle.niss_moves.specs.Effects.{inverse_turn}
 use Rattle.niss_search.specs.Names.{Turn, Goal, Edges, Domino, Step, Coordinates, Flip, TwistAndSlice}
 use Rattle.niss_cube.specs.NumberAfter.{number_after}
 use Rattle.niss_cube.specs.declared.cube.coordinate.Coordinate.TheVariants as coordinate

@@ -1,6 +1,6 @@
 -- The types that the crate speaks of and their values, so that other files take them by one line.
-pub use Rattle.niss_moves.specs.declared.axis.Axis.{Axis}
-pub use Rattle.niss_moves.specs.declared.axis.Axis.TheVariants.{Fb}
+pub use Rattle.niss_moves.specs.declared.turn.Axis.{Axis}
+pub use Rattle.niss_moves.specs.declared.turn.Axis.TheVariants.{Fb}
 pub use Rattle.niss_moves.specs.declared.turn.Face.{Face}
 pub use Rattle.niss_moves.specs.declared.turn.Face.TheVariants.{U, D, R, L, F, B}
 pub use Rattle.niss_moves.specs.declared.turn.Power.{Power}

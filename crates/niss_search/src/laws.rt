@@ -9,7 +9,7 @@ use niss_cube::laws::{
     are_coordinates, domino_keeps_start, inverses_of_steps, start_is_kept, step_turns_in_order,
     steps_see_places, turned_is_cube,
 };
-use niss_moves::rewriting_laws::canonical_members;
+use niss_moves::laws::canonical_members;
 
 /// How many canonical sequences there are, how often a search looks, how many entries a pruning table has, and how many
 /// turns its fill tries; and that the distance of a position is the least over its goals.

@@ -1,6 +1,6 @@
 -- What holds of the lines of all texts, each proved as the contract of a function.
 use Rattle.std.specs.Prelude.{◌≡◌, ℕ, List, [], ◌∷◌, ◌++◌, All, flat_map}
-use Rattle.niss_moves.specs.WholeMoves.{HasNoLineFeed}
+use Rattle.niss_moves.specs.Reader.{HasNoLineFeed}
 use Rattle.niss_shell.specs.Lines.{line_feed, ended_lines, last_part}
 
 -- a line, and the line feed that ends it

@@ -4,16 +4,15 @@ use Rattle.std.specs.Prelude.{Option, Some, None, Result, Ok, Err, List, [], ◌
 use Rattle.niss_shell.specs.Device.{SourceState}
 use Rattle.niss_shell.specs.Lines.{line_feed, space, ended_lines, last_part}
 use Rattle.niss_cube.specs.Steps.{name_of, start_name_of, steps, turns_of, may_start}
-use Rattle.niss_moves.specs.CleanedLine.{with_clean_line}
-use Rattle.niss_moves.specs.CleanText.{turn_words}
+use Rattle.niss_moves.specs.Cleaning.{with_clean_line}
 use Rattle.niss_moves.specs.Effects.{effect, effect_of_turns, inverse}
-use Rattle.niss_moves.specs.Faces.{faces}
-use Rattle.niss_moves.specs.FaultText.{fault_column, fault_text}
-use Rattle.niss_moves.specs.Letters.{letters}
+use Rattle.niss_moves.specs.Rotations.{faces}
+use Rattle.niss_moves.specs.Faults.{fault_column, fault_text}
+use Rattle.niss_moves.specs.Facelets.{letters}
 use Rattle.niss_moves.specs.Line.{Moves, joined_moves}
 use Rattle.niss_moves.specs.Places.{Place}
 use Rattle.niss_moves.specs.Reader.{read_line}
-use Rattle.niss_moves.specs.Text.{word, with_words}
+use Rattle.niss_moves.specs.Text.{word, with_words, turn_words}
 use Rattle.niss_search.specs.Cubes.{least_length_of, near_solutions_of, near_looks_of}
 use Rattle.niss_search.specs.Solutions.{look_bound}
 use Rattle.niss_search.specs.declared.deepening.Outcome.{Outcome}

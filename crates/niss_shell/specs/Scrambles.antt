@@ -1,8 +1,7 @@
 -- Scrambles: sequences of turns that are drawn one after another from one generator.
 use Rattle.std.specs.Prelude.{ℕ, ◌*◌, None, List, [], ◌∷◌, ◌++◌, map, flat_map}
 use Rattle.std.specs.List.{range_with_len}
-use Rattle.niss_moves.specs.Text.{with_words}
-use Rattle.niss_moves.specs.CleanText.{turn_words}
+use Rattle.niss_moves.specs.Text.{with_words, turn_words}
 use Rattle.niss_shell.specs.Names.{Turn}
 use Rattle.niss_search.specs.Draw.{next_words, after_words, draw}
 use Rattle.rand_pcg.specs.Lcg.{Lcg, started, increment_of}

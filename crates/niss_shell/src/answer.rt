@@ -2,7 +2,7 @@
 ghost use Rattle.std.specs.Prelude.{◌≡◌, ◌∷◌, ◌++◌, []};
 ghost use Rattle.niss_shell.specs.Lines.{line_feed};
 ghost use Rattle.niss_moves.specs.Effects.{effect};
-ghost use Rattle.niss_moves.specs.Letters.{letters};
+ghost use Rattle.niss_moves.specs.Facelets.{letters};
 ghost use Rattle.niss_moves.specs.Line.{joined_moves};
 ghost use Rattle.niss_shell.specs.Output.{line_text};
 

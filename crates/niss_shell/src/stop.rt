@@ -2,7 +2,7 @@
 ghost use Rattle.std.specs.Prelude.{◌≡◌, decimal, codes, ◌+◌, ◌∷◌, [], ◌++◌, ◌≤◌, length};
 ghost use Rattle.niss_shell.specs.Output.{stop_text, stop_status, start_text, line_fault_text};
 ghost use Rattle.niss_shell.specs.Lines.{line_feed};
-ghost use Rattle.niss_moves.specs.FaultText.{fault_column, fault_text};
+ghost use Rattle.niss_moves.specs.Faults.{fault_column, fault_text};
 ghost use Rattle.niss_shell.specs.Names.{CannotWrite, OutOfMemory};
 
 use crate::device::DeviceFault;

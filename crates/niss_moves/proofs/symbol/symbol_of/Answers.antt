@@ -1,4 +1,4 @@
-use Rattle.niss_moves.proofs.Symbols.{symbol_at}
+use Rattle.niss_moves.proofs.Completes.{symbol_at}
 use Rattle.niss_moves.proofs.symbol.symbol_of.Goals as goal
 
 pub returns : goal.returns

@@ -1,5 +1,5 @@
 use Rattle.niss_moves.proofs.Names.{◌-◌, ◌≤◌, length, take, count}
-use Rattle.niss_moves.proofs.WholeMoves.{HasTaken}
+use Rattle.niss_moves.proofs.ReaderLemmas.{HasTaken}
 use Rattle.niss_moves.proofs.partial_line.PartialLine.take_moves.Given as goal
 
 abbrev pub invariant-loop-self : goal.invariant-loop-self

@@ -1,5 +1,6 @@
 use Rattle.niss_moves.proofs.Names.{arith}
-use Rattle.niss_moves.proofs.ReaderAnswers.{at_the_end, line_of_fed}
+use Rattle.niss_moves.proofs.ReaderLemmas.{at_the_end, line_of_fed}
+use Rattle.niss_moves.proofs.Found.{reads_so}
 use Rattle.niss_moves.proofs.reader.LineReader.finish.Goals as goal
 
 pub returns-in-Some-clause-value : goal.returns-in-Some-clause-value
@@ -7,3 +8,9 @@ returns-in-Some-clause-value c bytes h = grind (arith, at_the_end, line_of_fed _
 
 pub returns-in-None-clause-value : goal.returns-in-None-clause-value
 returns-in-None-clause-value c bytes h = grind (arith, at_the_end, line_of_fed _ bytes h)
+
+pub returns-in-Some-clause-reading : goal.returns-in-Some-clause-reading
+returns-in-Some-clause-reading c bytes h = reads_so bytes _ (returns-in-Some-clause-value c bytes h)
+
+pub returns-in-None-clause-reading : goal.returns-in-None-clause-reading
+returns-in-None-clause-reading c bytes h = reads_so bytes _ (returns-in-None-clause-value c bytes h)

@@ -1,4 +1,4 @@
-use Rattle.niss_moves.proofs.Rotations.{by_next}
+use Rattle.niss_moves.proofs.Effects.{by_next}
 use Rattle.niss_moves.proofs.rotation.Rotation.then.Goals as goal
 
 pub returns-clause-effect : goal.returns-clause-effect

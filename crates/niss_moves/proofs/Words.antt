@@ -1,0 +1,246 @@
+-- Words as they are written: what is written is spelled, and words that wait in a buffer.
+use Rattle.niss_moves.proofs.Names.{◌≤◌, Bool, ◌&&◌, nat_le, take, get_or, token_index, refl, ap, sym, ◌∙◌, eqb, zero, suc, ◌+◌, ◌<◌}
+use Rattle.niss_moves.proofs.Names.{true, append_assoc, append-nil, arith, length-append, ◌≡◌, ℕ, ◌-◌, List, [], ◌∷◌, ◌++◌, length, map}
+use Rattle.niss_moves.proofs.Names.{flat_map, slice_get, face_letter, base_bytes, Suffix, Nothing, Two, Prime, Plain, suffix_bytes}
+use Rattle.niss_moves.proofs.Names.{suffix_power, Space, Gap, Spelled, Item, Outside, item_bytes, item_normal, item_bracketed, Spells}
+use Rattle.niss_moves.proofs.Names.{word, power_bytes, gap, gap_after, with_word, with_words, Power, Quarter, Half, Counter, Token, Base}
+use Rattle.niss_moves.proofs.Names.{token_of, if◌then◌else◌, false, cond, drop, with_buffered, turn_words, Turn, ◌==◌, cleaned_words}
+use Rattle.niss_moves.proofs.Names.{with_bracket, is_empty, Rotation}
+use lib.Pointwise.{pointwise}
+use Rattle.std.proofs.lemmas.Bool.{and_parts, leb-true}
+use Rattle.std.specs.Cmp.Lexicographic.{bytes_decides}
+use Rattle.std.specs.List.{join_with_byte, between}
+use Rattle.std.proofs.Math.Seq.{take-append-add}
+use Rattle.std.proofs.lemmas.List.{take-append-le, length-take-le, drop-append-le}
+use Rattle.std.proofs.lemmas.Slice.{between_is, between_from_start, drop-put_mid}
+use borrow.Rule.Slice.PartMut.{put_mid, post_of}
+use Rattle.niss_moves.specs.declared.text.Word.{Word}
+use Rattle.niss_moves.specs.declared.text.TheConstants.{WORDS}
+use Rattle.niss_moves.specs.declared.token.Token.TheVariants as token
+use Rattle.niss_moves.specs.declared.token.Base.TheVariants as base
+use Rattle.niss_moves.specs.declared.text.WordBuffer.{WordBuffer}
+use Rattle.niss_moves.proofs.Finite.{every_face, every_power, every_axis, every_slice, every_token, at_token}
+
+abbrev base_of : Token → Base
+base_of (token.Face t) = base.Face t.face
+base_of (token.Wide f p) = base.Wide f
+base_of (token.Slice l p) = base.Slice l
+base_of (token.Rotation a p) = base.Rotation a
+
+abbrev suffix_of : Power → Suffix
+suffix_of Quarter = Nothing
+suffix_of Half = Two
+suffix_of Counter = Prime Plain
+
+abbrev power_of : Token → Power
+power_of (token.Face t) = t.power
+power_of (token.Wide f p) = p
+power_of (token.Slice l p) = p
+power_of (token.Rotation a p) = p
+
+abbrev move_item : Token → Item
+move_item t = Outside (Spelled (base_of t) (suffix_of (power_of t)))
+
+suffix_is : (p : Power) → suffix_bytes (suffix_of p) ≡ power_bytes p
+suffix_is Quarter = refl
+suffix_is _ = refl
+
+power_is : (p : Power) → suffix_power (suffix_of p) ≡ p
+power_is Quarter = refl
+power_is _ = refl
+
+item_word : (t : Token) → item_bytes (move_item t) ≡ word t
+item_word (token.Face t) = ap (λ x. face_letter t.face ∷ x) (suffix_is t.power)
+item_word t = ap (λ x. base_bytes (base_of t) ++ x) (suffix_is (power_of t))
+
+item_move : (t : Token) → item_normal (move_item t) ≡ t ∷ []
+item_move (token.Face t) = ap (λ p. token.Face (record t { power = p }) ∷ []) (power_is t.power)
+item_move t = ap (λ p. token_of (base_of t) p ∷ []) (power_is (power_of t))
+
+-- what stands past some bytes
+past : (a w : List ℕ) (k n : ℕ) → n ≡ length a + k → slice_get (a ++ w) n ≡ slice_get w k
+past [] w k n e = ap (slice_get w) (omega (arith, e))
+past (x ∷ a) w k zero e = absurd (omega (arith, e))
+past (x ∷ a) w k (suc n) e = past a w k n (omega (arith, e))
+
+long_word : (t : Token) → 0 < length (word t)
+long_word (token.Face t) = omega arith
+long_word _ = omega arith
+
+words_gap : every_token (λ t. pointwise eqb (gap (word t)) (32 ∷ [])) ≡ true
+unfolding every_token every_power every_face every_slice every_axis
+words_gap = refl
+
+-- after a word stands a space
+pub gap_word : (a : List ℕ) (t : Token) → gap (a ++ word t) ≡ 32 ∷ []
+gap_word a t =
+    ap gap_after (past a (word t) (length (word t) - 1) (length (a ++ word t) - 1) (omega (arith, length-append a (word t), long_word t)))
+    ∙ (bytes_decides _ _).0 (at_token (λ t. pointwise eqb (gap (word t)) (32 ∷ [])) words_gap t)
+
+-- a space and a word, in at most four bytes
+pub record IsWord (w : List ℕ) (entry : Word) : Type 0 where
+  pub bytes : take entry.len entry.bytes ≡ 32 ∷ w
+  pub len : entry.len ≤ 4
+
+abbrev is_word : List ℕ → Word → Bool
+is_word w entry = pointwise eqb (take entry.len entry.bytes) (32 ∷ w) && nat_le entry.len 4
+
+words_test : (d : Word) → every_token (λ t. is_word (word t) (get_or WORDS (token_index t) d)) ≡ true
+unfolding every_token every_power every_face every_slice every_axis
+words_test d = refl
+
+pub word_at : (t : Token) (i : ℕ) (d : Word) → i ≡ token_index t → IsWord (word t) (get_or WORDS i d)
+word_at t i d e =
+    let entry = get_or WORDS (token_index t) d in
+    let both = and_parts (pointwise eqb (take entry.len entry.bytes) (32 ∷ word t)) (nat_le entry.len 4) (at_token _ (words_test d) t) in
+    rw e (record { bytes = (bytes_decides _ _).0 both.0; len = leb-true _ _ both.1 })
+
+abbrev spaced_items : List Token → List Item
+spaced_items [] = []
+spaced_items (t ∷ ts) = Outside (Gap Space) ∷ move_item t ∷ spaced_items ts
+
+spaced_bytes : (text : List ℕ) (ts : List Token) → gap text ≡ 32 ∷ [] → with_words text (map word ts) ≡ text ++ flat_map item_bytes (spaced_items ts)
+spaced_bytes text [] e = sym (append-nil text)
+spaced_bytes text (t ∷ ts) e =
+    spaced_bytes (with_word text (word t)) ts (gap_word (text ++ gap text) t) ∙ ap (λ g. ((text ++ g) ++ word t) ++ flat_map item_bytes (spaced_items ts)) e ∙ ap (λ w. ((text ++ 32 ∷ []) ++ w) ++ flat_map item_bytes (spaced_items ts)) (sym (item_word t)) ∙ simp append_assoc
+
+spaced_moves : (ts : List Token) → ts ≡ flat_map item_normal (spaced_items ts)
+spaced_moves [] = refl
+spaced_moves (t ∷ ts) =
+    ap (λ s. t ∷ s) (spaced_moves ts) ∙ ap (λ s. s ++ flat_map item_normal (spaced_items ts)) (sym (item_move t))
+
+spaced_inside : (ts : List Token) → [] ≡ flat_map item_bracketed (spaced_items ts)
+spaced_inside [] = refl
+spaced_inside (t ∷ ts) = spaced_inside ts
+
+pub words_are_read : (s : List Token) → Spells (with_words [] (map word s)) s []
+words_are_read [] = record { items = []; bytes_are = refl; normal_are = refl; bracketed_are = refl }
+words_are_read (t ∷ ts) =
+    record {
+      items = move_item t ∷ spaced_items ts;
+      bytes_are = spaced_bytes (word t) ts (gap_word [] t) ∙ ap (λ w. w ++ flat_map item_bytes (spaced_items ts)) (sym (item_word t));
+      normal_are = ap (λ s. t ∷ s) (spaced_moves ts) ∙ ap (λ s. s ++ flat_map item_normal (spaced_items ts)) (sym (item_move t));
+      bracketed_are = spaced_inside ts;
+    }
+
+-- One space stands between each two words.
+joined_after : (t : Token) (ts : List Token) (text : List ℕ) → with_words (text ++ word t) (map word ts) ≡ text ++ join_with_byte 32 (map word (t ∷ ts))
+joined_after t [] text = refl
+joined_after t (u ∷ us) text =
+    joined_after u us ((text ++ word t) ++ gap (text ++ word t))
+    ∙ ap (λ g. ((text ++ word t) ++ g) ++ join_with_byte 32 (map word (u ∷ us))) (gap_word text t) ∙ simp append_assoc
+
+pub words_are_joined : (s : List Token) → with_words [] (map word s) ≡ join_with_byte 32 (map word s)
+words_are_joined [] = refl
+words_are_joined (t ∷ ts) = joined_after t ts []
+
+-- the first bytes of a list into which a piece was copied
+pub copied : {X : Type 0} (a k n : ℕ) (xs ys : List X) → a ≤ length xs → n ≤ length ys → take (a + n) (put_mid a k xs ys) ≡ take a xs ++ take n ys
+copied a k n xs ys h l =
+    ap (λ m. take (m + n) (put_mid a k xs ys)) (sym (length-take-le a xs h)) ∙ take-append-add (take a xs) (ys ++ post_of a k xs) n ∙ ap (λ t. take a xs ++ t) (take-append-le n ys (post_of a k xs) l)
+
+-- what stands behind it stays
+pub kept_behind : {X : Type 0} (a k n : ℕ) (xs ys : List X) → a + k ≤ n → a ≤ length xs → length ys ≡ k
+    → drop n (put_mid a k xs ys) ≡ drop n xs
+kept_behind a k n xs ys p q r = drop-put_mid a k xs ys n p q r
+
+-- the words of moves side by side, each after a space
+abbrev pub spaced : List Token → List ℕ
+spaced [] = []
+spaced (t ∷ ts) = (32 ∷ word t) ++ spaced ts
+
+after_word : (text : List ℕ) (ts : List Token) → gap text ≡ 32 ∷ [] → text ++ spaced ts ≡ with_words text (map word ts)
+after_word text [] g = append-nil text
+after_word text (t ∷ ts) g =
+    let at = text ++ 32 ∷ [] in
+    sym (append_assoc text (32 ∷ []) (word t ++ spaced ts)) ∙ sym (append_assoc at (word t) (spaced ts))
+    ∙ after_word (at ++ word t) ts (gap_word at t) ∙ ap (λ x. with_words ((text ++ x) ++ word t) (map word ts)) (sym g)
+
+-- all words after a text, none of them written
+all_buffered : (text : List ℕ) (no_gap : Bool) (ts : List Token) → gap text ≡ (if no_gap then [] else 32 ∷ []) → with_buffered text no_gap (spaced ts) ≡ with_words text (map word ts)
+all_buffered text false ts g = after_word text ts g
+all_buffered text true [] g = append-nil text
+all_buffered text true (t ∷ ts) g =
+    let one : text ++ word t ≡ with_word text (word t) = ap (λ x. x ++ word t) (sym (append-nil text)) ∙ ap (λ x. (text ++ x) ++ word t) (sym g) in
+    sym (append_assoc text (word t) (spaced ts)) ∙ after_word (text ++ word t) ts (gap_word text t) ∙ ap (λ x. with_words x (map word ts)) one
+
+-- nothing waits
+nothing_buffered : (text : List ℕ) (no_gap : Bool) → with_buffered text no_gap [] ≡ text
+nothing_buffered text true = append-nil text
+nothing_buffered text false = append-nil text
+
+-- what waited is written
+pub written : (text new bytes rest : List ℕ) (n : ℕ) (no_gap : Bool) → 0 < n → n ≤ length bytes → new ≡ text ++ between (cond no_gap 1 0) n bytes
+    → with_buffered new false rest ≡ with_buffered text no_gap (take n bytes ++ rest)
+written text new bytes rest n true some fits e =
+    let long : 1 ≤ length (take n bytes) = (let l = length-take-le n bytes fits in omega (arith, l, some)) in
+    ap (λ x. x ++ rest) (e ∙ ap (λ x. text ++ x) (between_is bytes 1 n)) ∙ append_assoc text (drop 1 (take n bytes)) rest
+    ∙ ap (λ x. text ++ x) (sym (drop-append-le 1 (take n bytes) rest long))
+written text new bytes rest n false some fits e =
+    ap (λ x. x ++ rest) (e ∙ ap (λ x. text ++ x) (between_from_start bytes n)) ∙ append_assoc text (take n bytes) rest
+
+-- A text and what waits after it, with the words of these moves after that, is the first text with the words of all.
+pub record Writes (text : List ℕ) (words : WordBuffer) (rest : List Token) (first : List ℕ) (all : List Token) : Type 0 where
+  pub items : with_buffered text words.no_gap (take words.len words.bytes ++ spaced rest) ≡ with_words first (map word all)
+
+-- nothing yet
+pub writes_none : (text : List ℕ) (words : WordBuffer) (all : List Token) → words.len ≡ 0 → gap text ≡ (if words.no_gap then [] else 32 ∷ []) → Writes text words all text all
+writes_none text words all none g =
+    record { items = ap (λ n. with_buffered text words.no_gap (take n words.bytes ++ spaced all)) none ∙ all_buffered text words.no_gap all g }
+
+-- one word more
+pub writes_more : {text new first : List ℕ} {words next : WordBuffer} {rest all : List Token} (bytes : List ℕ) (t : Token) (ts : List Token) → rest ≡ t ∷ ts → bytes ≡ 32 ∷ word t
+    → ((r : List ℕ) → with_buffered new next.no_gap (take next.len next.bytes ++ r) ≡ with_buffered text words.no_gap ((take words.len words.bytes ++ bytes) ++ r))
+    → Writes text words rest first all → Writes new next ts first all
+writes_more {text} {new} {first} {words} bytes t ts e is pushed h =
+    let held = take words.len words.bytes in
+    let to : List ℕ → List ℕ = with_buffered text words.no_gap in
+    record {
+      items =
+          pushed (spaced ts) ∙ ap (λ b. to ((held ++ b) ++ spaced ts)) is ∙ ap to (append_assoc held (32 ∷ word t) (spaced ts))
+          ∙ ap (λ x. to (held ++ spaced x)) (sym e) ∙ h.items;
+    }
+
+-- all written
+pub writes_all : {text new first : List ℕ} {words : WordBuffer} {rest all : List Token} (no_gap : Bool) → rest ≡ []
+    → ((r : List ℕ) → with_buffered new no_gap r ≡ with_buffered text words.no_gap (take words.len words.bytes ++ r))
+    → Writes text words rest first all → new ≡ with_words first (map word all)
+writes_all {text} {new} {first} {words} no_gap e wrote h =
+    sym (nothing_buffered new no_gap) ∙ wrote [] ∙ ap (λ x. with_buffered text words.no_gap (take words.len words.bytes ++ spaced x)) (sym e) ∙ h.items
+
+-- the words of face turns
+pub words_of_turns : (ts : List Turn) → map word (map token.Face ts) ≡ turn_words ts
+words_of_turns [] = refl
+words_of_turns (t ∷ ts) = ap (λ ws. word (token.Face t) ∷ ws) (words_of_turns ts)
+
+-- the words of face turns, each after a space
+abbrev pub spaced_turns : List Turn → List ℕ
+spaced_turns ts = spaced (map token.Face ts)
+
+-- without the first space they are a line
+pub spaced_line : (ts : List Turn) → drop 1 (spaced_turns ts) ≡ with_words [] (turn_words ts)
+spaced_line ts = all_buffered [] true (map token.Face ts) refl ∙ ap (with_words []) (words_of_turns ts)
+
+-- words after words
+pub words_more : (text : List ℕ) (ts us : List Token) → with_words (with_words text (map word ts)) (map word us) ≡ with_words text (map word (ts ++ us))
+words_more text [] us = refl
+words_more text (t ∷ ts) us = words_more (with_word text (word t)) ts us
+
+with_words-append : (t : List ℕ) (a b : List (List ℕ)) → with_words t (a ++ b) ≡ with_words (with_words t a) b
+with_words-append t [] b = refl
+with_words-append t (w ∷ a) b = with_words-append (with_word t w) a b
+
+pub words_after : (old mid new : List ℕ) (a b : List (List ℕ)) → mid ≡ with_words old a → new ≡ with_words mid b → new ≡ with_words old (a ++ b)
+words_after old mid new a b e f = f ∙ ap (λ t. with_words t b) e ∙ sym (with_words-append old a b)
+
+pub bracket_empty : (t : List ℕ) (ws : List (List ℕ)) → is_empty ws ≡ true → with_bracket t ws ≡ t
+bracket_empty t [] e = refl
+bracket_empty t (w ∷ ws) e = cc
+
+pub bracket_filled : (t : List ℕ) (ws : List (List ℕ)) → is_empty ws ≡ false → with_bracket t ws ≡ with_words (with_word t (40 ∷ [])) ws ++ 41 ∷ []
+bracket_filled t [] e = cc
+bracket_filled t (w ∷ ws) e = refl
+
+pub not_empty : (ts : List Turn) (r : Rotation) → (length ts == 0) ≡ false → false ≡ is_empty (cleaned_words ts r)
+not_empty [] r e = cc
+not_empty (t ∷ ts) r e = refl

@@ -1,5 +1,0 @@
-use Rattle.niss_moves.proofs.OneFault.{one_ending_of_two}
-use Rattle.niss_moves.proofs.reading_laws.one_ending.Goals as goal
-
-pub returns : goal.returns
-returns c = one_ending_of_two
