@@ -7,7 +7,7 @@ use Rattle.std.proofs.Common.{◌-◌}
 use Rattle.std.proofs.lemmas.List.{take_all, drop-drop, length-drop, length-take-le}
 use Rattle.std.proofs.lemmas.Fmt.{length-decimal-le}
 use Rattle.std.proofs.lemmas.Grind.{common_steps}
-use Rattle.niss_moves.specs.Letters.{face_letter}
+use Rattle.niss_moves.specs.Facelets.{face_letter}
 use Rattle.niss_moves.specs.Text.{power_bytes, gap_after, gap, with_words}
 use Rattle.niss_moves.specs.Text.{turn_words}
 use Rattle.niss_moves.specs.declared.turn.Power.{Power}
