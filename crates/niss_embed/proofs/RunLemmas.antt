@@ -1,16 +1,50 @@
 -- From what a run did to its devices to what a call answers.
-use Rattle.std.proofs.Common.{◌≡◌, ℕ, ◌<◌, Bool, true, false, Result, Ok, Err, List, [], ◌∷◌, ◌++◌, length, refl, sym, ap, ◌∙◌, subst, append_assoc, append-nil, length-append, arith}
-use Rattle.std.proofs.Math.Bool.{or-false}
-use Rattle.niss_shell.specs.Device.{Appended}
+use Rattle.std.proofs.Common.{◌≡◌, ◌≢◌, ℕ, ◌<◌, Bool, true, false, Result, Ok, Err, List, [], ◌∷◌, ◌++◌, length, refl, sym, ap, ◌∙◌, subst, append_assoc, append-nil, length-append, arith}
+use Rattle.niss_shell.specs.Device.{SourceCall, TargetCall, Read, ReadShows, Ending, More, End, Fail, Calls, Reads, left_after}
 use Rattle.niss_shell.specs.Words.{Request, OnLines, request_of, reads_source, takes_memory}
-use Rattle.niss_shell.specs.Output.{Answer, Ending, More, End, ending_of, out_of, answer_request, unsearched, error_text, status_of}
-use Rattle.niss_shell.specs.Run.{Devices, devices, Finishes, OutputRefused, MemoryRefused, EndsByFault, Ends, ReportsError, Runs}
+use Rattle.niss_shell.specs.Output.{Answer, out_of, answer_request, unsearched, error_text, status_of}
+use Rattle.niss_shell.specs.Run.{due_without, outcome_before, flushed_outcome, Runs}
 use Rattle.niss_shell.specs.MoreInput.{Begins, MoreInputKeepsAnswers}
-use Rattle.niss_embed.specs.Names.{Answer as Given, UsageFault, Stop, CannotWrite, OutOfMemory}
-use Rattle.niss_embed.specs.Memory.{Memory, memory, source_state, target_state}
-use Rattle.niss_embed.specs.Run.{text_words, TakesWords, due, outcome_in, Answers, RunsBytes, RunsWords}
+use Rattle.niss_shell.specs.declared.device.DeviceFault.{DeviceFault}
+use Rattle.niss_embed.specs.Names.{Answer as Given, UsageFault, Stop, OutOfMemory}
+use Rattle.niss_embed.specs.Memory.{Memory, memory, shown_input, Lent}
+use Rattle.niss_embed.specs.Run.{text_words, TakesWords, due, Answers, RunsBytes, RunsWords}
 use Rattle.niss_embed.proofs.WordLemmas.{no_words, all_words}
-use Rattle.niss_embed.proofs.TargetLemmas.{Filling, state_before, state_after, PutBy, puts_all, puts_front, puts_error}
+use Rattle.niss_embed.proofs.TargetLemmas.{Filling, state_before, state_after, PutBy, Took, Does, took, took_flushed, puts_took, puts_front}
+
+-- what a source in memory gives: the bytes at its beginning, and all of them where its end was found
+
+pub record GaveAs (input : List ℕ) (ended : Ending) (left left_now : List ℕ) : Type 0 where
+  pub given : left ≡ input ++ left_now
+  pub at_end : ended ≡ End → length left_now ≡ 0
+  pub works : ended ≢ Fail
+
+module _ {D : Type 0} (left : D → List ℕ) (has_ended : D → Bool) where
+  abbrev pub Gives : D → SourceCall → D → Type 0
+  Gives old call new = ReadShows call (shown_input (left old) (has_ended old)) (shown_input (left new) (has_ended new))
+
+  pub gave : (reads : List SourceCall) (input : List ℕ) (ended : Ending) (a c : D) → Calls Gives a c reads → Reads reads input ended
+      → GaveAs input ended (left a) (left c)
+  unfolding Calls Reads
+  gave [] input ended a c made reads =
+      subst (λ d. GaveAs input ended (left a) (left d)) made (subst (λ m. GaveAs input m (left a) (left a)) (sym reads.1)
+      (subst (λ v. GaveAs v More (left a) (left a)) (sym reads.0) (record { given = refl; at_end = λ e. absurd (cc e); works = λ e. cc e })))
+  gave (Read asked (Err fault) ∷ calls) input ended a c made reads = absurd (cc made.1.0.failed)
+  gave (Read asked (Ok []) ∷ calls) input ended a c made reads =
+      let done : made.0 ≡ c = subst (λ cs. Calls Gives made.0 c cs) reads.1 made.1.1 in
+      subst (λ d. GaveAs input ended (left a) (left d)) done (subst (λ m. GaveAs input m (left a) (left made.0)) (sym reads.3)
+      (subst (λ v. GaveAs v End (left a) (left made.0)) (sym reads.2) (record {
+        given = made.1.0.bytes.0;
+        at_end = λ e. ap (length {A = ℕ}) (made.1.0.bytes.1 refl reads.0);
+        works = λ e. cc e;
+      })))
+  gave (Read asked (Ok (b ∷ bytes)) ∷ calls) input ended a c made reads =
+      let more = gave calls reads.0 ended made.0 c made.1.1 reads.2 in
+      record {
+        given = made.1.0.bytes.0 ∙ ap (λ v. (b ∷ bytes) ++ v) more.given ∙ sym (append_assoc (b ∷ bytes) reads.0 (left c)) ∙ ap (λ v. v ++ left c) (sym reads.1);
+        at_end = more.at_end;
+        works = more.works;
+      }
 
 -- what is answered of the input that was read, and of the whole
 
@@ -21,14 +55,14 @@ all_read : (input given left : List ℕ) → input ≡ given ++ left → length 
 all_read input given [] e none = e ∙ append-nil given
 all_read input given (b ∷ left) e none = absurd (omega (arith, none))
 
-begins : MoreInputKeepsAnswers → (asked : Result Request UsageFault) (input given left : List ℕ) (ended : Bool)
-    → input ≡ given ++ left → (ended ≡ true → length left ≡ 0)
-    → Begins (answer_request asked given (ending_of false ended)) (answer_request asked input End)
-begins law asked input given left true e at_end =
-    subst (λ v. Begins (answer_request asked given End) (answer_request asked v End)) (sym (all_read input given left e (at_end refl)))
+begins : MoreInputKeepsAnswers → (asked : Result Request UsageFault) (input given left : List ℕ) (ended : Ending) → GaveAs given ended input left
+    → Begins (answer_request asked given ended) (answer_request asked input End)
+begins law asked input given left End g =
+    subst (λ v. Begins (answer_request asked given End) (answer_request asked v End)) (sym (all_read input given left g.given (g.at_end refl)))
     (begins_itself (answer_request asked given End))
-begins law asked input given left false e at_end =
-    subst (λ v. Begins (answer_request asked given More) (answer_request asked v End)) (sym e) (law asked given left)
+begins law asked input given left More g =
+    subst (λ v. Begins (answer_request asked given More) (answer_request asked v End)) (sym g.given) (law asked given left)
+begins law asked input given left Fail g = absurd (g.works refl)
 
 -- where nothing is read the input does not matter
 unread_same : (asked : Result Request UsageFault) (input given : List ℕ) (m n : Ending) → reads_source asked ≡ false
@@ -37,29 +71,43 @@ unread_same (Ok (OnLines command [])) input given m n e = absurd (cc e)
 unread_same _ input given m n e = refl
 
 -- the same is answered at the end
-same_at_end : (asked : Result Request UsageFault) (input given left : List ℕ) (ended : Bool)
-    → input ≡ given ++ left → (ended ≡ true → length left ≡ 0) → (reads_source asked ≡ true → ended ≡ true)
-    → answer_request asked input End ≡ answer_request asked given (ending_of false ended)
-same_at_end asked input given left ended e at_end whole = by_reading (reads_source asked) refl
+same_at_end : (asked : Result Request UsageFault) (input given left : List ℕ) (ended : Ending) → GaveAs given ended input left
+    → (reads_source asked ≡ true → ended ≡ End) → answer_request asked input End ≡ answer_request asked given ended
+same_at_end asked input given left ended g whole = by_reading (reads_source asked) refl
   where
-    by_reading : (c : Bool) → reads_source asked ≡ c → answer_request asked input End ≡ answer_request asked given (ending_of false ended)
+    by_reading : (c : Bool) → reads_source asked ≡ c → answer_request asked input End ≡ answer_request asked given ended
     by_reading true r =
-        ap (λ v. answer_request asked v End) (all_read input given left e (at_end (whole r)))
-        ∙ ap (λ c. answer_request asked given (ending_of false c)) (sym (whole r))
-    by_reading false r = unread_same asked input given End (ending_of false ended) r
+        ap (λ v. answer_request asked v End) (all_read input given left g.given (g.at_end (whole r)))
+        ∙ ap (λ m. answer_request asked given m) (sym (whole r))
+    by_reading false r = unread_same asked input given End ended r
+
+-- the whole is answered as what was read, where no write was refused
+same_answer : (asked : Result Request UsageFault) (input given left : List ℕ) (ended : Ending) → GaveAs given ended input left
+    → Begins (answer_request asked given ended) (answer_request asked input End)
+    → ((answer_request asked given ended).outcome ≡ Ok tt → reads_source asked ≡ true → ended ≡ End)
+    → ((answer_request asked input End).output ≡ (answer_request asked given ended).output)
+    × ((answer_request asked input End).outcome ≡ (answer_request asked given ended).outcome)
+same_answer asked input given left ended g more whole = by_outcome (answer_request asked given ended).outcome refl
+  where
+    part : Answer
+    part = answer_request asked given ended
+
+    by_outcome : (o : Result (Unit {0}) Stop) → part.outcome ≡ o
+        → ((answer_request asked input End).output ≡ part.output) × ((answer_request asked input End).outcome ≡ part.outcome)
+    by_outcome (Ok u) e =
+        let same = same_at_end asked input given left ended g (whole e) in
+        (ap (λ a. a.output) same, ap (λ a. a.outcome) same)
+    by_outcome (Err stop) e = let stays = more.stopped stop e in (stays.0, stays.1 ∙ sym e)
 
 -- memory is asked for only where there are words
 asks_words : (words : List (List ℕ)) → takes_memory (request_of words) ≡ true → 0 < length words
 asks_words [] e = absurd (cc e)
 asks_words (word ∷ words) e = omega arith
 
--- A call: its two targets, what is left of its input, and its status.
+-- A call: its two targets and its status.
 pub record Call : Type 0 where
   pub out : Filling
   pub err : Filling
-  pub left : List ℕ
-  pub ended : Bool
-  pub at_end : ended ≡ true → length left ≡ 0
   pub status : ℕ
 
 abbrev pub answer_of : Call → Given
@@ -71,112 +119,77 @@ answer_of c = record {
   err_too_small = c.err.refused;
 }
 
-abbrev pub AnswersCall : Call → Answer → Type 0
-AnswersCall c meant = Answers meant (memory c.out.before c.out.after) (memory c.err.before c.err.after) (answer_of c)
-
-abbrev Reports : Call → Result (Unit {0}) Stop → Type 0
-Reports c outcome = ReportsError (error_text outcome) (state_before c.err) (state_after c.err)
-
-module _ (c : Call) (meant : Answer) (outcome : Result (Unit {0}) Stop) (reports : Reports c outcome) (status : c.status ≡ status_of outcome) where
-  -- the run ended so, where this was due
-  answered : PutBy c.out meant.output → outcome ≡ outcome_in c.out.refused meant.outcome → AnswersCall c meant
-  answered puts e = record {
-    output = puts;
-    error = subst (λ v. PutBy c.err (error_text v)) e (puts_error c.err (error_text outcome) reports);
-    status = status ∙ ap status_of e;
-  }
-
-  -- all of it was written
-  answered_whole : c.out.refused ≡ false → meant.outcome ≡ outcome → Appended (state_before c.out) (state_after c.out) meant.output → AnswersCall c meant
-  answered_whole works is took =
-      answered (puts_all c.out meant.output took works) (sym is ∙ ap (λ r. outcome_in r meant.outcome) (sym works))
-
-abbrev pub old_devices : Call → List ℕ → Devices
-old_devices c input = devices (source_state input false) (state_before c.out) (state_before c.err)
-
-abbrev pub new_devices : Call → Devices
-new_devices c = devices (source_state c.left c.ended) (state_after c.out) (state_after c.err)
+good_flush : (o : Result (Unit {0}) Stop) (flushed : Result (Unit {0}) DeviceFault) → flushed ≡ Ok tt → flushed_outcome o flushed ≡ o
+good_flush (Ok u) (Ok v) e = refl
+good_flush (Ok u) (Err fault) e = absurd (cc e)
+good_flush (Err stop) flushed e = refl
 
 module _ (law : MoreInputKeepsAnswers) (c : Call) (words : List (List ℕ)) (input : List ℕ) where
-  abbrev part_of : List ℕ → Answer
-  part_of given = out_of words given (source_state c.left c.ended)
-
   abbrev Known : Type 0
   Known = RunsWords words input (memory c.out.before c.out.after) (memory c.err.before c.err.after) (answer_of c)
 
-  whole_begins : (given : List ℕ) → input ≡ given ++ c.left → Begins (part_of given) (due false words input)
-  whole_begins given gave = begins law (request_of words) input given c.left c.ended gave c.at_end
-
-  known_answers : AnswersCall c (due false words input) → Known
-  known_answers x = record { refused = false; asked = λ h. absurd (cc h); answers = x }
-
-  known_good : (given : List ℕ) → input ≡ given ++ c.left → Finishes (part_of given) (request_of words) (old_devices c input) (new_devices c)
-      → Reports c (Ok tt) → c.status ≡ 0 → Known
-  known_good given gave w reports status =
-      let same : due false words input ≡ part_of given = same_at_end (request_of words) input given c.left c.ended gave c.at_end w.ends.read_whole in
-      known_answers (answered_whole c (due false words input) (Ok tt) reports status (sym (or-false c.out.refused) ∙ w.works)
-      (ap (λ v. v.outcome) same ∙ w.ends.good) (subst (λ v. Appended (state_before c.out) (state_after c.out) v.output) (sym same) w.written))
-
-  known_cut : (given : List ℕ) → input ≡ given ++ c.left → OutputRefused (part_of given) (request_of words) (old_devices c input) (new_devices c)
-      → Reports c (Err CannotWrite) → c.status ≡ 3 → Known
-  known_cut given gave w reports status =
-      let more = whole_begins given gave in
-      let refused : c.out.refused ≡ true = sym (or-false c.out.refused) ∙ w.refused in
-      let whole : w.text ++ (w.rest ++ more.rest) ≡ (due false words input).output =
-      sym (append_assoc w.text w.rest more.rest) ∙ ap (λ v. v ++ more.rest) w.beginning ∙ more.beginning in
-      known_answers (answered c (due false words input) (Err CannotWrite) reports status
-      (puts_front c.out w.text w.written (w.rest ++ more.rest) _ refused whole (omega (arith, w.cut refused, length-append w.rest more.rest)))
-      (ap (λ r. outcome_in r (due false words input).outcome) (sym refused)))
-
-  known_refused : MemoryRefused (request_of words) (old_devices c input) (new_devices c) → Reports c (Err OutOfMemory) → c.status ≡ 3 → Known
-  known_refused w reports status = record {
-    refused = true;
-    asked = λ h. asks_words words w.asks;
-    answers = answered_whole c (unsearched [] (Err OutOfMemory)) (Err OutOfMemory) reports status w.unrefused refl w.nothing;
-  }
-
-  known_fault : (stop : Stop) (given : List ℕ) → input ≡ given ++ c.left → EndsByFault stop (part_of given) (old_devices c input) (new_devices c)
-      → Reports c (Err stop) → c.status ≡ status_of (Err stop) → Known
-  known_fault stop given gave w reports status =
-      let stays = (whole_begins given gave).stopped stop w.fault in
-      known_answers (answered_whole c (due false words input) (Err stop) reports status w.unrefused stays.1
-      (subst (λ v. Appended (state_before c.out) (state_after c.out) v) (sym stays.0) w.written))
-
-  known : (outcome : Result (Unit {0}) Stop) (given : List ℕ) → input ≡ given ++ c.left
-      → Ends outcome (part_of given) (request_of words) (old_devices c input) (new_devices c) → Reports c outcome → c.status ≡ status_of outcome → Known
-  known (Ok u) given gave w reports status = known_good given gave w reports status
-  known (Err CannotWrite) given gave w reports status = known_cut given gave w reports status
-  known (Err OutOfMemory) given gave w reports status = known_refused w reports status
-  known (Err stop) given gave w reports status = known_fault stop given gave w reports status
+  -- what was put, by what was taken of the output that was due
+  put_out : (given left : List ℕ) (ended : Ending) (no_memory refused : Bool) → GaveAs given ended input left
+      → Took (due_without no_memory (out_of words given ended)).output (left_after refused []) (state_before c.out) (state_after c.out)
+      → (outcome_before refused (due_without no_memory (out_of words given ended)).outcome ≡ Ok tt → reads_source (request_of words) ≡ true → ended ≡ End)
+      → PutBy c.out (due no_memory words input).output
+      × (outcome_before refused (due_without no_memory (out_of words given ended)).outcome ≡ outcome_before c.out.refused (due no_memory words input).outcome)
+  put_out given left ended true refused g t whole =
+      let p = puts_took c.out refused [] t in
+      (p.1, ap (λ r. outcome_before r (Err OutOfMemory)) (sym p.0))
+  put_out given left ended false true g t whole =
+      let more = begins law (request_of words) input given left ended g in
+      let p = puts_took c.out true _ t in
+      let all : t.part ++ (t.rest ++ more.rest) ≡ (due false words input).output =
+      sym (append_assoc t.part t.rest more.rest) ∙ ap (λ v. v ++ more.rest) t.whole ∙ more.beginning in (
+        puts_front c.out t.part t.appended (t.rest ++ more.rest) _ p.0 all (omega (arith, t.ends.0, length-append t.rest more.rest)),
+        ap (λ r. outcome_before r (due false words input).outcome) (sym p.0),
+      )
+  put_out given left ended false false g t whole =
+      let same = same_answer (request_of words) input given left ended g (begins law (request_of words) input given left ended g) whole in
+      let p = puts_took c.out false _ t in
+      (subst (λ v. PutBy c.out v) (sym same.0) p.1, sym same.1 ∙ ap (λ r. outcome_before r (due false words input).outcome) (sym p.0))
 
   -- what the devices began with is known by equations
-  pub runs_call : (looks looks_now : ℕ) {n m : ℕ} {given out err : List ℕ} {began r s : Bool}
-      → given ≡ input → began ≡ false → out ≡ c.out.before → n ≡ 0 → r ≡ false → err ≡ c.err.before → m ≡ 0 → s ≡ false
-      → Runs words (devices (source_state given began) (target_state out c.out.reference n r c.out.flushed)
-      (target_state err c.err.reference m s c.err.flushed)) (new_devices c) looks looks_now c.status → Known
-  runs_call looks looks_now p q o n r e m s x =
-      let y : Runs words (old_devices c input) (new_devices c) looks looks_now c.status =
-      subst (λ v. Runs words v (new_devices c) looks looks_now c.status)
-      (λ i. devices (source_state (p i) (q i)) (target_state (o i) c.out.reference (n i) (r i) c.out.flushed)
-      (target_state (e i) c.err.reference (m i) (s i) c.err.flushed)) x in
-      known y.outcome y.input y.gave y.ends y.reports y.answers
+  pub runs_call : {R W E : Type 0} (left : R → List ℕ) (ended : R → Bool) (out : W → Lent) (err : E → Lent) (r s : R) (w v : W) (e f : E) (looks looks_now : ℕ)
+      → left r ≡ input → out w ≡ state_before c.out → out v ≡ state_after c.out → err e ≡ state_before c.err → err f ≡ state_after c.err
+      → Runs words (Calls (Gives left ended) r s) (Calls (Does out) w v) (Calls (Does err) e f) looks looks_now c.status → Known
+  runs_call left ended out err r s w v e f looks looks_now start out_old out_new err_old err_new x =
+      let g : GaveAs x.read.input x.read.ended input (left s) =
+      subst (λ i. GaveAs x.read.input x.read.ended i (left s)) start (gave left ended x.read.reads x.read.input x.read.ended r s x.read.made x.read.gave) in
+      let flushed = took_flushed out x.writes x.flushed x.due.output (left_after x.refused []) w v x.made x.sends in
+      let part = due_without x.no_memory (out_of words x.read.input x.read.ended) in
+      let t : Took part.output (left_after x.refused []) (state_before c.out) (state_after c.out) =
+      subst (λ d. Took d.output (left_after x.refused []) (state_before c.out) (state_after c.out)) x.due_is
+      (subst (λ l. Took x.due.output (left_after x.refused []) l (state_after c.out)) out_old
+      (subst (λ l. Took x.due.output (left_after x.refused []) (out w) l) out_new flushed.1)) in
+      let outcome_is : x.outcome ≡ outcome_before x.refused part.outcome =
+      x.outcome_is ∙ good_flush _ x.flushed flushed.0 ∙ ap (λ d. outcome_before x.refused d.outcome) x.due_is in
+      let p = put_out x.read.input (left s) x.read.ended x.no_memory x.refused g t
+      (subst (λ d. outcome_before x.refused d.outcome ≡ Ok tt → reads_source (request_of words) ≡ true → x.read.ended ≡ End) x.due_is x.read_whole) in
+      let reports : Took (error_text x.outcome) (left_after x.error_refused []) (state_before c.err) (state_after c.err) =
+      subst (λ l. Took (error_text x.outcome) (left_after x.error_refused []) l (state_after c.err)) err_old
+      (subst (λ l. Took (error_text x.outcome) (left_after x.error_refused []) (err e) l) err_new
+      (took err x.reports (error_text x.outcome) (left_after x.error_refused []) e f x.made_reports x.sends_reports)) in
+      record {
+        refused = x.no_memory;
+        asked = λ h. asks_words words (x.asks_memory h).0;
+        answers = record {
+          output = p.0;
+          error = subst (λ o. PutBy c.err (error_text o)) (outcome_is ∙ p.1) (puts_took c.err x.error_refused (error_text x.outcome) reports).1;
+          status = x.answers ∙ ap status_of (outcome_is ∙ p.1);
+        };
+      }
 
--- what the targets took, in the memory that they were lent
+-- The targets still borrow the memory that they were lent.
 
-took_some : (outcome : Result (Unit {0}) Stop) (meant : Answer) (asked : Result Request UsageFault) (old new : Devices) → Ends outcome meant asked old new
-    → (part : List ℕ) × Appended old.output new.output part
-took_some (Ok u) meant asked old new w = (meant.output, w.written)
-took_some (Err CannotWrite) meant asked old new w = (w.text, w.written)
-took_some (Err OutOfMemory) meant asked old new w = ([], w.nothing)
-took_some (Err stop) meant asked old new w = (meant.output, w.written)
+pub out_kept : {W : Type 0} (out : W → Lent) {words : List (List ℕ)} {source : List SourceCall → Type 0} {error : List TargetCall → Type 0} (w v : W) {looks looks_now status : ℕ}
+    → Runs words source (Calls (Does out) w v) error looks looks_now status → (out v).reference ≡ (out w).reference
+out_kept out w v x = (took_flushed out x.writes x.flushed x.due.output (left_after x.refused []) w v x.made x.sends).1.appended.same_reference
 
-pub out_took : {words : List (List ℕ)} {old new : Devices} {looks looks_now status : ℕ} → Runs words old new looks looks_now status
-    → (part : List ℕ) × Appended old.output new.output part
-out_took x = took_some x.outcome _ _ _ _ x.ends
-
-pub err_took : {words : List (List ℕ)} {old new : Devices} {looks looks_now status : ℕ} → Runs words old new looks looks_now status
-    → (part : List ℕ) × Appended old.error new.error part
-err_took x = (x.reports.part, x.reports.written)
+pub err_kept : {E : Type 0} (err : E → Lent) {words : List (List ℕ)} {source : List SourceCall → Type 0} {output : List TargetCall → Type 0} (e f : E) {looks looks_now status : ℕ}
+    → Runs words source output (Calls (Does err) e f) looks looks_now status → (err f).reference ≡ (err e).reference
+err_kept err e f x = (took err x.reports (error_text x.outcome) (left_after x.error_refused []) e f x.made_reports x.sends_reports).appended.same_reference
 
 -- from the words that were taken to the bytes that they were taken of
 

@@ -5,7 +5,9 @@ use Rattle.std.specs.Prelude.{All, flat_map, length}
 use Rattle.std.specs.List.{list_all}
 use Rattle.std.specs.Str.{is_utf8}
 use Rattle.niss_shell.specs.Words.{request_of}
-use Rattle.niss_shell.specs.Output.{Answer, End, answer_request, unsearched, error_text, status_of, line_with_bytes}
+use Rattle.niss_shell.specs.Device.{End}
+use Rattle.niss_shell.specs.Output.{Answer, answer_request, error_text, status_of, line_with_bytes}
+use Rattle.niss_shell.specs.Run.{due_without, outcome_before}
 use Rattle.niss_embed.specs.Names.{Answer as Given, Stop, CannotWrite, OutOfMemory}
 use Rattle.niss_embed.specs.Memory.{Memory, Puts}
 
@@ -47,20 +49,14 @@ pub record IsFirstWord (bytes word after : List ℕ) : Type 0 where
 
 -- what a run with these words on this input is to write and to answer, where memory was refused or wasn't
 abbrev pub due : Bool → (words : List (List ℕ)) (input : List ℕ) → Answer
-due true words input = unsearched [] (Err OutOfMemory)
-due false words input = answer_request (request_of words) input End
-
--- how it ends where the room for its output was too small or wasn't
-abbrev pub outcome_in : Bool → Result (Unit {0}) Stop → Result (Unit {0}) Stop
-outcome_in true outcome = Err CannotWrite
-outcome_in false outcome = outcome
+due refused words input = due_without refused (answer_request (request_of words) input End)
 
 -- What was due is written into the memory for the output, what went wrong into that for the error text, and the answer
 -- says how much and with which status.
 pub record Answers (due : Answer) (out err : Memory) (answer : Given) : Type 0 where
   pub output : Puts due.output out answer.out_length answer.out_too_small
-  pub error : Puts (error_text (outcome_in answer.out_too_small due.outcome)) err answer.err_length answer.err_too_small
-  pub status : answer.status ≡ status_of (outcome_in answer.out_too_small due.outcome)
+  pub error : Puts (error_text (outcome_before answer.out_too_small due.outcome)) err answer.err_length answer.err_too_small
+  pub status : answer.status ≡ status_of (outcome_before answer.out_too_small due.outcome)
 
 -- What a call with the words in these bytes does to the two memories, and what it answers.
 pub record RunsBytes (bytes input : List ℕ) (out err : Memory) (answer : Given) : Type 0 where

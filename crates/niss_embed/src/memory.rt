@@ -1,7 +1,7 @@
 //! Memory that is lent for a run: its input, and where it writes to.
 ghost use Rattle.std.specs.Prelude.{◌≡◌, ◌⊎◌, ◌≤◌, ◌+◌, ◌-◌, ◌++◌, true, false, take, drop, length};
-ghost use Rattle.niss_shell.specs.Device.{is_empty_answer};
-ghost use Rattle.niss_embed.specs.Memory.{source_state, target_state};
+ghost use Rattle.niss_shell.specs.Device.{is_empty_answer, ReadShows};
+ghost use Rattle.niss_embed.specs.Memory.{Fills, lent, shown_input, shown_output};
 
 use niss_shell::{DeviceFault, Source, Target};
 
@@ -27,7 +27,9 @@ impl<'a> MemorySource<'a> {
 }
 
 impl Source for MemorySource<'_> {
-    ghost state = { λ s. source_state s.rest.now s.ended };
+    ghost call = { λ s c t. ReadShows c (shown_input s.rest.now s.ended) (shown_input t.rest.now t.ended) };
+
+    ghost state = { λ s. shown_input s.rest.now s.ended };
 
     fn read(&mut self, buf: &mut [u8]) -> Result<usize, DeviceFault> {
         let all = self.rest;
@@ -48,6 +50,8 @@ impl Source for MemorySource<'_> {
     fn ended(&self) -> bool {
         self.ended
     }
+
+    ghost shown = { λ old new c did. did };
 }
 
 /// Writes the piece from byte number `at` on, or as much of it as there is room for, and answers how many bytes.
@@ -79,46 +83,46 @@ pub struct MemoryTarget<'a> {
     pub bytes: &'a mut [u8],
     pub written: usize,
     pub refused: bool,
-    pub flushed: bool,
     ghost within: { written ≤ length bytes.now },
     ghost full: { refused ≡ true → written ≡ length bytes.now },
 }
 
 impl<'a> MemoryTarget<'a> {
-    /// The target at the beginning of this memory. Nothing is written or flushed yet.
+    /// The target at the beginning of this memory. Nothing is written yet.
     pub fn new(bytes: &'a mut [u8]) -> MemoryTarget<'a>
         ensures same_reference { result.bytes.ghost_name ≡ bytes.entry.ghost_name }
         ensures unchanged { result.bytes.now ≡ bytes.old }
         ensures empty { result.written ≡ 0 }
         ensures works { result.refused ≡ false }
-        ensures unflushed { result.flushed ≡ false }
     {
         MemoryTarget {
             bytes,
             written: 0,
             refused: false,
-            flushed: false,
         }
     }
 }
 
 impl Target for MemoryTarget<'_> {
-    ghost state = { λ t. target_state t.bytes.now t.bytes.ghost_name t.written t.refused t.flushed };
+    ghost call = { λ s c t. Fills c (lent s.bytes.now s.bytes.ghost_name s.written s.refused)
+        (lent t.bytes.now t.bytes.ghost_name t.written t.refused) };
+
+    ghost state = { λ t. shown_output (lent t.bytes.now t.bytes.ghost_name t.written t.refused) };
 
     fn write(&mut self, piece: &[u8]) -> Result<usize, DeviceFault> {
         let count = put(self.bytes, self.written, piece);
         self.written += count;
         self.refused = self.refused || is_refused(count, piece);
-        self.flushed = false;
         Ok(count)
     }
 
     fn flush(&mut self) -> Result<(), DeviceFault> {
-        self.flushed = true;
         Ok(())
     }
 
     fn failed(&self) -> bool {
         self.refused
     }
+
+    ghost shown = { λ old new c did. did.shown };
 }

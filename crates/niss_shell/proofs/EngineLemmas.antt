@@ -1,23 +1,12 @@
 -- How the engine's steps join: bytes inside a line, a line feed, a block piece by piece, and what stands at its end.
-use Rattle.niss_shell.proofs.Names.{◌≡◌, ◌≢◌, ℕ, ◌+◌, ◌<◌, ◌≤◌, take, drop, get_or, false, Result, Ok, Err, List, [], ◌∷◌, ◌++◌, length}
-use Rattle.niss_shell.proofs.Names.{refl, sym, ap, ◌∙◌, subst, append-nil, length-append, arith, OnOk, between, between_to_end}
-use Rattle.niss_shell.proofs.Names.{take_more, take-append-drop, length-drop, All-nil, has_fault, ended_lines, last_part, HasNoLineFeed}
+use Rattle.niss_shell.proofs.Names.{◌≡◌, ◌≢◌, ℕ, ◌+◌, ◌<◌, ◌≤◌, take, drop, get_or, Bool, false, Result, Ok, Err, List, [], ◌∷◌, ◌++◌}
+use Rattle.niss_shell.proofs.Names.{length, refl, sym, ap, ◌∙◌, subst, append-nil, length-append, arith, OnOk, between, between_to_end}
+use Rattle.niss_shell.proofs.Names.{take_more, take-append-drop, length-drop, All-nil, TargetCall, ended_lines, last_part, HasNoLineFeed}
 use Rattle.niss_shell.proofs.Names.{Reader, IsFed, LineAnswers, answer_at, answers_from, then_answer, AnswerState, Progress, Answers}
-use Rattle.niss_shell.proofs.Names.{TakesBytes, Stop, take_all, take-add, All-cons, line_answers, line_with_bytes, Writes, Refuses}
-use Rattle.niss_shell.proofs.Names.{TakesNext, TakesLast, command_of, Keeps, answers_of, Lines, CannotWrite, TakesEnd}
+use Rattle.niss_shell.proofs.Names.{TakesBytes, Stop, take_all, take-add, All-cons, line_answers, line_with_bytes, Delivered}
+use Rattle.niss_shell.proofs.Names.{TakesNext, TakesLast, command_of, Keeps, answers_of, Lines, TakesEnd, outcome_before, CannotWrite, true}
 use Rattle.niss_shell.proofs.LinesLemmas.{ended_after, last_after, ended_lines-append, last_part-append, answers_from-append}
-use Rattle.niss_shell.proofs.StateLemmas.{writes_nothing, then_nothing, answers_more, answers_stopped, answers_sent, answers_unsent}
-
--- one line, and no line
-
-pub answered_line : (f : LineAnswers) (n : ℕ) (front : List ℕ) (r : Result (Unit {0}) Stop) (old new : AnswerState)
-    → Answers (answer_at f n front) r old new → Answers (answers_from f n (front ∷ [])) r old new
-unfolding answers_from
-answered_line f n front r old new p = subst (λ a. Answers a r old new) (sym (then_nothing (answer_at f n front))) p
-
-pub answered_none : (f : LineAnswers) (n : ℕ) {out : AnswerState} → has_fault out.target ≡ false → Answers (answers_from f n []) (Ok tt) out out
-unfolding answers_from
-answered_none f n works = (refl, writes_nothing _ works)
+use Rattle.niss_shell.proofs.StateLemmas.{delivers_nothing, then_nothing, answered, answers_more, answers_stopped, answers_sent}
 
 on_ok : {A B C : Type 0} (r : Result (Unit {0}) Stop) → (A → B → C) → OnOk r A → OnOk r B → OnOk r C
 on_ok (Ok u) f a b = f a b
@@ -32,40 +21,10 @@ inside_last : (front xs : List ℕ) → HasNoLineFeed xs → last_part front xs 
 unfolding last_part
 inside_last front xs h = ap (λ v. last_part front v) (sym (append-nil xs)) ∙ last_after front xs [] h
 
-pub takes_inside : (f : LineAnswers) (front xs : List ℕ) (n : ℕ) (q : Progress) (out : AnswerState)
-    → HasNoLineFeed xs → IsFed q.reader (front ++ xs) → q.line ≡ n → has_fault out.target ≡ false
-    → TakesBytes f front xs n q (Ok tt) out out
-takes_inside f front xs n q out h reader line works = (
-  subst (λ ls. Answers (answers_from f n ls) (Ok tt) out out) (sym (inside_ended _ _ h)) (answered_none f n works),
-  record {
-    reader = subst (λ v. IsFed q.reader v) (sym (inside_last _ _ h)) reader;
-    line = let none : length (ended_lines front xs) ≡ 0 = ap length (inside_ended _ _ h) in omega (arith, line, none);
-  },
-)
-
-pub takes_none : (f : LineAnswers) (front : List ℕ) (n : ℕ) (p : Progress) (out : AnswerState)
-    → IsFed p.reader front → p.line ≡ n → has_fault out.target ≡ false → TakesBytes f front [] n p (Ok tt) out out
-takes_none f front n p out at line works =
-    takes_inside f front [] n p out (All-nil (λ b. b ≢ 10)) (subst (λ v. IsFed p.reader v) (sym (append-nil front)) at) line works
-
 -- bytes, and more bytes
-
 lines_joined : (f : LineAnswers) (front xs ys : List ℕ) (n : ℕ) → answers_from f n (ended_lines front (xs ++ ys))
     ≡ then_answer (answers_from f n (ended_lines front xs)) (answers_from f (n + length (ended_lines front xs)) (ended_lines (last_part front xs) ys))
 lines_joined f front xs ys n = ap (answers_from f n) (ended_lines-append front xs ys) ∙ answers_from-append f n _ _
-
-pub takes_more : (f : LineAnswers) (front xs ys : List ℕ) (n : ℕ) (q s : Progress) (r : Result (Unit {0}) Stop) (a b c : AnswerState)
-    → TakesBytes f front xs n q (Ok tt) a b → TakesBytes f (last_part front xs) ys q.line s r b c → TakesBytes f front (xs ++ ys) n s r a c
-takes_more f front xs ys n q s r a b c x y = (
-  subst (λ d. Answers d r a c) (sym (lines_joined f front xs ys n))
-      (answers_more _ _ r a c x.0 (subst (λ k. Answers (answers_from f k (ended_lines (last_part front xs) ys)) r b c) x.1.line y.0)),
-  on_ok r (λ at last. record {
-    reader = subst (λ v. IsFed s.reader v) (sym (last_part-append _ _ _)) last.reader;
-    line = let e : length (ended_lines front (xs ++ ys)) ≡ length (ended_lines front xs) + length (ended_lines (last_part front xs) ys) =
-        ap length (ended_lines-append _ _ _) ∙ length-append (ended_lines front xs) (ended_lines (last_part front xs) ys)
-        in omega (arith, e, x.1.line, last.line);
-  }) y.1 y.1,
-)
 
 -- the first byte of a block
 
@@ -77,16 +36,6 @@ piece_within bytes i h l =
     let e : length (between i (length bytes) bytes) ≡ length (drop i bytes) = ap length (between_to_end bytes i (length bytes) (omega arith)) in
     omega (arith, e, length-drop i bytes)
 
--- one piece
-
-pub none_taken : {f : LineAnswers} {p : Progress} {out : AnswerState} → has_fault out.target ≡ false → TakesNext f [] p p (Ok tt) out out
-none_taken works = record { takes = λ front at. takes_none _ front _ _ _ at refl works }
-
-pub inside_taken : {f : LineAnswers} {bytes : List ℕ} {p q : Progress} {out : AnswerState} → HasNoLineFeed bytes
-    → ((front : List ℕ) → IsFed p.reader front → IsFed q.reader (front ++ bytes)) → q.line ≡ p.line → has_fault out.target ≡ false
-    → TakesNext f bytes p q (Ok tt) out out
-inside_taken inside fed line works = record { takes = λ front at. takes_inside _ front _ _ _ _ inside (fed front at) line works }
-
 -- where no moves were taken first
 pub still_fed : {r s : Reader} (bytes : List ℕ) (k : ℕ) → k ≤ 0 → ((front : List ℕ) → IsFed r front → IsFed s (front ++ take k bytes))
     → (front : List ℕ) → IsFed r front → IsFed s front
@@ -94,91 +43,141 @@ still_fed {s = s} bytes k none fed front at =
     let zero : k ≡ 0 = omega (arith, none) in
     subst (λ (xs : List ℕ). IsFed s xs) (ap (λ (i : ℕ). front ++ take i bytes) zero ∙ append-nil front) (fed front at)
 
-pub line_feed_taken : {f : LineAnswers} (bytes : List ℕ) {p q : Progress} {r : Result (Unit {0}) Stop} {old new : AnswerState}
-    → 0 < length bytes → get_or bytes 0 0 ≡ 10
-    → ((front : List ℕ) → IsFed p.reader front → Answers (answer_at f p.line front) r old new)
-    → OnOk r (IsFed q.reader []) → OnOk r (q.line ≡ p.line + 1) → TakesNext f (take 1 bytes) p q r old new
-unfolding ended_lines last_part
-line_feed_taken {f = f} bytes {p = p} {q = q} {r = r} {old = old} {new = new} some feed answers reader line = record {
-  takes = λ front at. subst (λ xs. TakesBytes f front xs p.line q r old new) (sym (first_byte bytes some feed))
-      (answered_line f p.line front r old new (answers front at), on_ok r (λ fed next. record { reader = fed; line = next }) reader line);
-}
+module _ {W : Type 0} (call : W → TargetCall → W → Type 0) where
+  -- one line, and no line
 
-pub byte_taken : {f : LineAnswers} (bytes : List ℕ) {p q : Progress} {out : AnswerState}
-    → 0 < length bytes → get_or bytes 0 0 ≢ 10
-    → ((front : List ℕ) → IsFed p.reader front → IsFed q.reader (front ++ get_or bytes 0 0 ∷ []))
-    → q.line ≡ p.line → has_fault out.target ≡ false → TakesNext f (take 1 bytes) p q (Ok tt) out out
-byte_taken {f = f} bytes {p = p} {q = q} {out = out} some other fed line works = record {
-  takes = λ front at. subst (λ xs. TakesBytes f front xs p.line q (Ok tt) out out) (sym (first_byte bytes some refl))
-      (takes_inside _ front _ p.line q out (All-cons (λ b. b ≢ 10) _ [] other (All-nil (λ b. b ≢ 10))) (fed front at) line works);
-}
+  pub answered_line : (f : LineAnswers) (n : ℕ) (front : List ℕ) (r : Result (Unit {0}) Stop) (old new : AnswerState W)
+      → Answers call (answer_at f n front) r old new → Answers call (answers_from f n (front ∷ [])) r old new
+  unfolding answers_from
+  answered_line f n front r old new p = subst (λ a. Answers call a r old new) (sym (then_nothing (answer_at f n front))) p
 
--- a block, piece by piece
+  pub answered_none : (f : LineAnswers) (n : ℕ) (out : AnswerState W) → Answers call (answers_from f n []) (Ok tt) out out
+  unfolding answers_from
+  answered_none f n out = answered call false _ (Ok tt) out out refl (delivers_nothing call out)
 
-pub block_more : {f : LineAnswers} (bytes : List ℕ) {rest : List ℕ} (n k : ℕ) {p q s : Progress} {r : Result (Unit {0}) Stop} {h i j : AnswerState}
-    → rest ≡ drop n bytes → TakesNext f (take n bytes) p q (Ok tt) h i → TakesNext f (take k rest) q s r i j
-    → TakesNext f (take (n + k) bytes) p s r h j
-block_more {f = f} bytes n k {p = p} {s = s} {r = r} {h = h} {j = j} e x y = record {
-  takes = λ front at.
-      let z = x.takes front at in
-      subst (λ xs. TakesBytes f front xs p.line s r h j) (ap (λ t. take n bytes ++ take k t) e ∙ sym (take-add n k bytes))
-      (takes_more _ _ _ _ _ _ _ _ _ _ _ z (y.takes (last_part front (take n bytes)) z.1.reader));
-}
+  pub takes_inside : (f : LineAnswers) (front xs : List ℕ) (n : ℕ) (q : Progress) (out : AnswerState W)
+      → HasNoLineFeed xs → IsFed q.reader (front ++ xs) → q.line ≡ n
+      → TakesBytes call f front xs n q (Ok tt) out out
+  takes_inside f front xs n q out h reader line = (
+    subst (λ ls. Answers call (answers_from f n ls) (Ok tt) out out) (sym (inside_ended _ _ h)) (answered_none f n out),
+    record {
+      reader = subst (λ v. IsFed q.reader v) (sym (inside_last _ _ h)) reader;
+      line = let none : length (ended_lines front xs) ≡ 0 = ap length (inside_ended _ _ h) in omega (arith, line, none);
+    },
+  )
 
--- a block in which the run was stopped
-pub block_stopped : {f : LineAnswers} (bytes : List ℕ) {rest : List ℕ} (n k : ℕ) {p q s : Progress} {stop : Stop} {h i j : AnswerState}
-    → rest ≡ drop n bytes → TakesNext f (take n bytes) p q (Ok tt) h i → TakesNext f (take k rest) q s (Err stop) i j
-    → TakesNext f bytes p s (Err stop) h j
-block_stopped {f = f} bytes n k {p = p} {s = s} {stop = stop} {h = h} {j = j} e x y = record {
-  takes = λ front at.
-      let z = (block_more bytes n k e x y).takes front at in
-      subst (λ xs. TakesBytes f front xs p.line s (Err stop) h j) (take-append-drop (n + k) bytes)
-      (subst (λ d. Answers d (Err stop) h j) (sym (lines_joined f front (take (n + k) bytes) (drop (n + k) bytes) p.line)) (answers_stopped _ _ stop h j z.0), tt);
-}
+  pub takes_none : (f : LineAnswers) (front : List ℕ) (n : ℕ) (p : Progress) (out : AnswerState W)
+      → IsFed p.reader front → p.line ≡ n → TakesBytes call f front [] n p (Ok tt) out out
+  takes_none f front n p out at line =
+      takes_inside f front [] n p out (All-nil (λ b. b ≢ 10)) (subst (λ v. IsFed p.reader v) (sym (append-nil front)) at) line
 
--- all bytes of a block
-pub block_whole : {f : LineAnswers} (bytes : List ℕ) (n : ℕ) {p q : Progress} {r : Result (Unit {0}) Stop} {h i : AnswerState}
-    → length bytes ≤ n → TakesNext f (take n bytes) p q r h i → TakesNext f bytes p q r h i
-block_whole {f = f} bytes n {p = p} {q = q} {r = r} {h = h} {i = i} fits x = subst (λ v. TakesNext f v p q r h i) (take_all n bytes fits) x
+  pub takes_more : (f : LineAnswers) (front xs ys : List ℕ) (n : ℕ) (q s : Progress) (r : Result (Unit {0}) Stop) (a b c : AnswerState W)
+      → TakesBytes call f front xs n q (Ok tt) a b → TakesBytes call f (last_part front xs) ys q.line s r b c → TakesBytes call f front (xs ++ ys) n s r a c
+  takes_more f front xs ys n q s r a b c x y = (
+    subst (λ d. Answers call d r a c) (sym (lines_joined f front xs ys n))
+        (answers_more call _ _ r a b c x.0 (subst (λ k. Answers call (answers_from f k (ended_lines (last_part front xs) ys)) r b c) x.1.line y.0)),
+    on_ok r (λ at last. record {
+      reader = subst (λ v. IsFed s.reader v) (sym (last_part-append _ _ _)) last.reader;
+      line = let e : length (ended_lines front (xs ++ ys)) ≡ length (ended_lines front xs) + length (ended_lines (last_part front xs) ys) =
+          ap length (ended_lines-append _ _ _) ∙ length-append (ended_lines front xs) (ended_lines (last_part front xs) ys)
+          in omega (arith, e, x.1.line, last.line);
+    }) y.1 y.1,
+  )
 
-pub block_sent : {f : LineAnswers} {bytes : List ℕ} {p q : Progress} {h i j : AnswerState}
-    → TakesNext f bytes p q (Ok tt) h i → Writes [] 0 i j → TakesNext f bytes p q (Ok tt) h j
-block_sent {f = f} {bytes = bytes} {p = p} x w = record {
-  takes = λ front at. let y = x.takes front at in (answers_sent (answers_from f p.line (ended_lines front bytes)) y.0 w, y.1);
-}
+  -- one piece
 
-pub block_unsent : {f : LineAnswers} {bytes : List ℕ} {p q : Progress} {h i j : AnswerState}
-    → TakesNext f bytes p q (Ok tt) h i → Refuses [] 0 i j → TakesNext f bytes p q (Err CannotWrite) h j
-block_unsent {f = f} {bytes = bytes} {p = p} x w = record {
-  takes = λ front at. (answers_unsent (answers_from f p.line (ended_lines front bytes)) (x.takes front at).0 w, tt);
-}
+  pub none_taken : {f : LineAnswers} {p : Progress} (out : AnswerState W) → TakesNext call f [] p p (Ok tt) out out
+  none_taken out = record { takes = λ front at. takes_none _ front _ _ out at refl }
 
--- the end of an input
+  pub inside_taken : {f : LineAnswers} {bytes : List ℕ} {p q : Progress} (out : AnswerState W) → HasNoLineFeed bytes
+      → ((front : List ℕ) → IsFed p.reader front → IsFed q.reader (front ++ bytes)) → q.line ≡ p.line
+      → TakesNext call f bytes p q (Ok tt) out out
+  inside_taken out inside fed line = record { takes = λ front at. takes_inside _ front _ _ _ out inside (fed front at) line }
 
-takes_no_line : (f : LineAnswers) (front : List ℕ) (n : ℕ) {r : Reader} (out : AnswerState)
-    → IsFed r front → r.fed ≡ 0 → has_fault out.target ≡ false → TakesEnd f front n (Ok tt) out out
-takes_no_line f [] n out at none works = answered_none f n works
-takes_no_line f (b ∷ bs) n out at none works = absurd (omega (arith, at.fed, none))
+  pub line_feed_taken : {f : LineAnswers} (bytes : List ℕ) {p q : Progress} {r : Result (Unit {0}) Stop} {old new : AnswerState W}
+      → 0 < length bytes → get_or bytes 0 0 ≡ 10
+      → ((front : List ℕ) → IsFed p.reader front → Answers call (answer_at f p.line front) r old new)
+      → OnOk r (IsFed q.reader []) → OnOk r (q.line ≡ p.line + 1) → TakesNext call f (take 1 bytes) p q r old new
+  unfolding ended_lines last_part
+  line_feed_taken {f = f} bytes {p = p} {q = q} {r = r} {old = old} {new = new} some feed answers reader line = record {
+    takes = λ front at. subst (λ xs. TakesBytes call f front xs p.line q r old new) (sym (first_byte bytes some feed))
+        (answered_line f p.line front r old new (answers front at), on_ok r (λ fed next. record { reader = fed; line = next }) reader line);
+  }
 
-takes_last_line : (f : LineAnswers) (front : List ℕ) (n : ℕ) {r : Reader} (result : Result (Unit {0}) Stop) (old new : AnswerState)
-    → IsFed r front → r.fed ≢ 0 → Answers (answer_at f n front) result old new → TakesEnd f front n result old new
-takes_last_line f [] n result old new at some answers = absurd (some at.fed)
-takes_last_line f (b ∷ bs) n result old new at some answers = answered_line f n (b ∷ bs) result old new answers
+  pub byte_taken : {f : LineAnswers} (bytes : List ℕ) {p q : Progress} {out : AnswerState W}
+      → 0 < length bytes → get_or bytes 0 0 ≢ 10
+      → ((front : List ℕ) → IsFed p.reader front → IsFed q.reader (front ++ get_or bytes 0 0 ∷ []))
+      → q.line ≡ p.line → TakesNext call f (take 1 bytes) p q (Ok tt) out out
+  byte_taken {f = f} bytes {p = p} {q = q} {out = out} some other fed line = record {
+    takes = λ front at. subst (λ xs. TakesBytes call f front xs p.line q (Ok tt) out out) (sym (first_byte bytes some refl))
+        (takes_inside _ front _ p.line q out (All-cons (λ b. b ≢ 10) _ [] other (All-nil (λ b. b ≢ 10))) (fed front at) line);
+  }
 
-pub no_last : {f : LineAnswers} {p : Progress} {out : AnswerState} → p.reader.fed ≡ 0 → has_fault out.target ≡ false → TakesLast f p (Ok tt) out out
-no_last none works = record { takes = λ front at. takes_no_line _ front _ _ at none works }
+  -- a block, piece by piece
 
-pub last_line : {f : LineAnswers} {p : Progress} {r : Result (Unit {0}) Stop} {old new : AnswerState}
-    → p.reader.fed ≢ 0 → ((front : List ℕ) → IsFed p.reader front → Answers (answer_at f p.line front) r old new) → TakesLast f p r old new
-last_line some answers = record { takes = λ front at. takes_last_line _ front _ _ _ _ at some (answers front at) }
+  pub block_more : {f : LineAnswers} (bytes : List ℕ) {rest : List ℕ} (n k : ℕ) {p q s : Progress} {r : Result (Unit {0}) Stop} {h i j : AnswerState W}
+      → rest ≡ drop n bytes → TakesNext call f (take n bytes) p q (Ok tt) h i → TakesNext call f (take k rest) q s r i j
+      → TakesNext call f (take (n + k) bytes) p s r h j
+  block_more {f = f} bytes n k {p = p} {s = s} {r = r} {h = h} {j = j} e x y = record {
+    takes = λ front at.
+        let z = x.takes front at in
+        subst (λ xs. TakesBytes call f front xs p.line s r h j) (ap (λ t. take n bytes ++ take k t) e ∙ sym (take-add n k bytes))
+        (takes_more _ _ _ _ _ _ _ _ _ _ _ z (y.takes (last_part front (take n bytes)) z.1.reader));
+  }
 
-pub last_sent : {f : LineAnswers} {p : Progress} {h i j : AnswerState}
-    → TakesLast f p (Ok tt) h i → Writes [] 0 i j → TakesLast f p (Ok tt) h j
-last_sent {f = f} {p = p} x w = record { takes = λ front at. answers_sent (answers_from f p.line (line_with_bytes front)) (x.takes front at) w }
+  -- a block in which the run was stopped
+  pub block_stopped : {f : LineAnswers} (bytes : List ℕ) {rest : List ℕ} (n k : ℕ) {p q s : Progress} {stop : Stop} {h i j : AnswerState W}
+      → rest ≡ drop n bytes → TakesNext call f (take n bytes) p q (Ok tt) h i → TakesNext call f (take k rest) q s (Err stop) i j
+      → TakesNext call f bytes p s (Err stop) h j
+  block_stopped {f = f} bytes n k {p = p} {s = s} {stop = stop} {h = h} {j = j} e x y = record {
+    takes = λ front at.
+        let z = (block_more bytes n k e x y).takes front at in
+        subst (λ xs. TakesBytes call f front xs p.line s (Err stop) h j) (take-append-drop (n + k) bytes)
+        (subst (λ d. Answers call d (Err stop) h j) (sym (lines_joined f front (take (n + k) bytes) (drop (n + k) bytes) p.line)) (answers_stopped call _ _ stop h j z.0), tt);
+  }
 
-pub last_unsent : {f : LineAnswers} {p : Progress} {h i j : AnswerState}
-    → TakesLast f p (Ok tt) h i → Refuses [] 0 i j → TakesLast f p (Err CannotWrite) h j
-last_unsent {f = f} {p = p} x w = record { takes = λ front at. answers_unsent (answers_from f p.line (line_with_bytes front)) (x.takes front at) w }
+  -- all bytes of a block
+  pub block_whole : {f : LineAnswers} (bytes : List ℕ) (n : ℕ) {p q : Progress} {r : Result (Unit {0}) Stop} {h i : AnswerState W}
+      → length bytes ≤ n → TakesNext call f (take n bytes) p q r h i → TakesNext call f bytes p q r h i
+  block_whole {f = f} bytes n {p = p} {q = q} {r = r} {h = h} {i = i} fits x = subst (λ v. TakesNext call f v p q r h i) (take_all n bytes fits) x
+
+  pub block_sent : {f : LineAnswers} {bytes : List ℕ} {p q : Progress} {h i j : AnswerState W}
+      → TakesNext call f bytes p q (Ok tt) h i → Delivered call false [] 0 i j → TakesNext call f bytes p q (Ok tt) h j
+  block_sent {f = f} {bytes = bytes} {p = p} {h = h} {i = i} {j = j} x w = record {
+    takes = λ front at. let y = x.takes front at in
+        (answers_sent call (answers_from f p.line (ended_lines front bytes)) false (Ok tt) h i j refl y.0 w, y.1);
+  }
+
+  pub block_unsent : {f : LineAnswers} {bytes : List ℕ} {p q : Progress} {h i j : AnswerState W}
+      → TakesNext call f bytes p q (Ok tt) h i → Delivered call true [] 0 i j → TakesNext call f bytes p q (Err CannotWrite) h j
+  block_unsent {f = f} {bytes = bytes} {p = p} {h = h} {i = i} {j = j} x w = record {
+    takes = λ front at. (answers_sent call (answers_from f p.line (ended_lines front bytes)) true (Err CannotWrite) h i j refl (x.takes front at).0 w, tt);
+  }
+
+  -- the end of an input
+
+  takes_no_line : (f : LineAnswers) (front : List ℕ) (n : ℕ) {r : Reader} (out : AnswerState W)
+      → IsFed r front → r.fed ≡ 0 → TakesEnd call f front n (Ok tt) out out
+  takes_no_line f [] n out at none = answered_none f n out
+  takes_no_line f (b ∷ bs) n out at none = absurd (omega (arith, at.fed, none))
+
+  takes_last_line : (f : LineAnswers) (front : List ℕ) (n : ℕ) {r : Reader} (result : Result (Unit {0}) Stop) (old new : AnswerState W)
+      → IsFed r front → r.fed ≢ 0 → Answers call (answer_at f n front) result old new → TakesEnd call f front n result old new
+  takes_last_line f [] n result old new at some answers = absurd (some at.fed)
+  takes_last_line f (b ∷ bs) n result old new at some answers = answered_line f n (b ∷ bs) result old new answers
+
+  pub no_last : {f : LineAnswers} {p : Progress} (out : AnswerState W) → p.reader.fed ≡ 0 → TakesLast call f p (Ok tt) out out
+  no_last out none = record { takes = λ front at. takes_no_line _ front _ out at none }
+
+  pub last_line : {f : LineAnswers} {p : Progress} {r : Result (Unit {0}) Stop} {old new : AnswerState W}
+      → p.reader.fed ≢ 0 → ((front : List ℕ) → IsFed p.reader front → Answers call (answer_at f p.line front) r old new) → TakesLast call f p r old new
+  last_line some answers = record { takes = λ front at. takes_last_line _ front _ _ _ _ at some (answers front at) }
+
+  pub last_sent : {f : LineAnswers} {p : Progress} (refused : Bool) (o : Result (Unit {0}) Stop) {h i j : AnswerState W} → o ≡ outcome_before refused (Ok tt)
+      → TakesLast call f p (Ok tt) h i → Delivered call refused [] 0 i j → TakesLast call f p o h j
+  last_sent {f = f} {p = p} refused o {h = h} {i = i} {j = j} e x w = record {
+    takes = λ front at. answers_sent call (answers_from f p.line (line_with_bytes front)) refused o h i j e (x.takes front at) w;
+  }
 
 -- what lines take that keep their work
 
@@ -192,10 +191,11 @@ module _ {A : Type 0} where
   same_answers : {a b : Lines A} → Keeps a b → answers_of b ≡ answers_of a
   same_answers p = ap (λ w. line_answers (command_of w.now)) p.work
 
-  pub kept : {a b : Lines A} {bytes : List ℕ} {p q : Progress} {r : Result (Unit {0}) Stop} {i j : AnswerState}
-      → Keeps a b → TakesNext (answers_of b) bytes p q r i j → TakesNext (answers_of a) bytes p q r i j
-  kept {bytes = bytes} {p = p} {q = q} {r = r} {i = i} {j = j} same x = subst (λ f. TakesNext f bytes p q r i j) (same_answers same) x
+  module _ {W : Type 0} (call : W → TargetCall → W → Type 0) where
+    pub kept : {a b : Lines A} {bytes : List ℕ} {p q : Progress} {r : Result (Unit {0}) Stop} {i j : AnswerState W}
+        → Keeps a b → TakesNext call (answers_of b) bytes p q r i j → TakesNext call (answers_of a) bytes p q r i j
+    kept {bytes = bytes} {p = p} {q = q} {r = r} {i = i} {j = j} same x = subst (λ f. TakesNext call f bytes p q r i j) (same_answers same) x
 
-  pub last_kept : {a b : Lines A} {p : Progress} {r : Result (Unit {0}) Stop} {i j : AnswerState}
-      → Keeps a b → TakesLast (answers_of b) p r i j → TakesLast (answers_of a) p r i j
-  last_kept {p = p} {r = r} {i = i} {j = j} same x = subst (λ f. TakesLast f p r i j) (same_answers same) x
+    pub last_kept : {a b : Lines A} {p : Progress} {r : Result (Unit {0}) Stop} {i j : AnswerState W}
+        → Keeps a b → TakesLast call (answers_of b) p r i j → TakesLast call (answers_of a) p r i j
+    last_kept {p = p} {r = r} {i = i} {j = j} same x = subst (λ f. TakesLast call f p r i j) (same_answers same) x

@@ -8,7 +8,7 @@ pub use Rattle.std.proofs.Math.Seq.{take-append-add, take-add}
 pub use Rattle.std.proofs.lemmas.Bool.{eqb-true, ne_eqb, or_parts}
 pub use Rattle.std.proofs.lemmas.Fmt.{length-decimal-le_wide, decimal_step_wide, decimal_digit}
 pub use Rattle.std.proofs.lemmas.Grind.{common_steps, flat_map-append}
-pub use Rattle.std.proofs.lemmas.List.{take_all, take-append-drop, length-drop, drop-drop, take_more, take-append-le, nil_from_length}
+pub use Rattle.std.proofs.lemmas.List.{take_all, take-append-drop, length-drop, drop-drop, take_more, take-append-le, nil_from_length, drop-append-le}
 pub use Rattle.std.proofs.lemmas.List.{map-append, length-map}
 pub use Rattle.std.proofs.lemmas.List.Elements.{All-nil, All-cons, All-head, All-tail, All-push}
 pub use Rattle.std.proofs.lemmas.List.FromFn.{map-range_with_len_more, take-map-range_with_len}
@@ -17,7 +17,6 @@ pub use Rattle.std.proofs.lemmas.Slice.{between_to_end}
 pub use Rattle.std.proofs.lemmas.Slice.Eq.{bytes_eq-Decides}
 pub use Rattle.std.proofs.lemmas.Str.Parse.{IsNumeralModel, numerals_by_value, parse_digits}
 pub use Rattle.std.specs.Char.{is_ascii_digit}
-pub use Rattle.std.specs.Io.KnownBytes.{ReadConsumes}
 pub use Rattle.std.specs.List.{between, list_all}
 pub use Rattle.std.specs.Prelude.{flat_map, string_bytes, OnOk, nat_lt, OnErr, decimal, nat_le, IsTrue, All, is_err, IsErr, MatchResult}
 pub use Rattle.std.specs.Prelude.{find, bytes_eq, slice_get}
@@ -35,12 +34,12 @@ pub use Rattle.niss_search.specs.Cubes.{near_looks_of, least_length_of, near_sol
 pub use Rattle.niss_search.specs.Delivery.{WentThrough, StoppedIn}
 pub use Rattle.niss_search.specs.Draw.{after_words, next_words, draw}
 pub use Rattle.niss_search.specs.Laws.{LooksWithinBound}
-pub use Rattle.niss_shell.specs.Device.{has_fault, TargetState, Appended, SourceState, WriteRefused, Gave, is_empty_answer, Reads, Room}
-pub use Rattle.niss_shell.specs.Device.{FilledOf, GaveOf, AppendedOf, StaysSilentOf, StaysSilent, moved_bytes, Flushes, IsCut}
-pub use Rattle.niss_shell.specs.Engine.{Writes, AnswerState, Refuses, Answers, output_state, Progress, TakesBytes, pending_state}
-pub use Rattle.niss_shell.specs.Engine.{TakesNext, TakesLast, IsAt, AnswersSource, WritesOrRefuses, HasRoom, TakesEnd, Delivers}
-pub use Rattle.niss_shell.specs.Engine.{TakesLine, RefusesLine, MayBegin, EndsUnflushed, RunsUnflushed, flushed_outcome, FlushesLast}
-pub use Rattle.niss_shell.specs.Engine.{answer_at_moves, TakesIn}
+pub use Rattle.niss_shell.specs.Device.{SourceCall, TargetCall, Read, Write, Flush, IsPiece, Ending, More, End, Fail, left_after}
+pub use Rattle.niss_shell.specs.Device.{Writes, WasRead, SourceState, is_end, ReadShows}
+unfoldable pub use Rattle.niss_shell.specs.Device.{Calls, Reads, Sends}
+pub use Rattle.niss_shell.specs.Engine.{AnswerState, Answers, output_state, Progress, TakesBytes, TakesNext, TakesLast, IsAt}
+pub use Rattle.niss_shell.specs.Engine.{AnswersSource, HasRoom, TakesEnd, Delivered, Delivers, TakesLine, MayBegin, RunsUnflushed}
+pub use Rattle.niss_shell.specs.Engine.{FlushesLast, answer_at_moves, EndsAtOnce}
 pub use Rattle.niss_shell.specs.Job.{command_of, IsInput, Keeps, answers_of, lines_state, progress_of, Takes}
 pub use Rattle.niss_shell.specs.Lines.{line_feed}
 unfoldable pub use Rattle.niss_shell.specs.Lines.{ended_lines, last_part}
@@ -49,13 +48,13 @@ pub use Rattle.niss_shell.specs.MoreInput.{Begins, MoreInputKeepsAnswers}
 pub use Rattle.niss_shell.specs.Names.{Report}
 pub use Rattle.niss_shell.specs.Names.{Stop, DeviceFault, Step, CannotWrite, InputTooLong, LineCommand, Search, Solutions, CannotRead}
 pub use Rattle.niss_shell.specs.Names.{Turn, Output, UsageFault, Rewrite, LineFault, ReadFault, Usage, OutOfMemory, Query, NoStart, Lines}
-pub use Rattle.niss_shell.specs.Output.{LineAnswers, answer_at, unsearched, then_answer, home, Ending, More, End, answer_lines}
+pub use Rattle.niss_shell.specs.Output.{LineAnswers, answer_at, unsearched, then_answer, home, answer_lines}
 pub use Rattle.niss_shell.specs.Output.{line_with_bytes, complete_lines, outcome_of, Answer, joined_answer, line_answers, solution_line}
-pub use Rattle.niss_shell.specs.Output.{where_it_starts, step_line, Fail, ending, last_line, answer_to, looks_at, line_answer, ending_of}
+pub use Rattle.niss_shell.specs.Output.{where_it_starts, step_line, last_line, answer_to, looks_at, line_answer}
 pub use Rattle.niss_shell.specs.Output.{none_line, solve_text, count_text, outcome_at_end, most_line_looks, answer_request, out_of}
 pub use Rattle.niss_shell.specs.Output.{error_text, status_of, fault_answer, search_text, start_cube}
 unfoldable pub use Rattle.niss_shell.specs.Output.{answers_from}
-pub use Rattle.niss_shell.specs.Run.{devices, Runs, Devices, Ends, ReportsError, Looked}
+pub use Rattle.niss_shell.specs.Run.{Runs, Looked, due_without, outcome_before, flushed_outcome}
 pub use Rattle.niss_shell.specs.Scrambles.{scramble_text, scramble, scrambles, turns_line}
 pub use Rattle.niss_shell.specs.SolveLaw.{AcceptedLinesAreSolved, SearchesBeginAtCubes, search_answer}
 pub use Rattle.niss_shell.specs.Words.{most_bytes, spaced_word, OnLines, ListSteps, DrawScrambles, request_of, joined, search_command}

@@ -2,8 +2,8 @@
 use Rattle.niss_shell.proofs.Names.{◌≡◌, ℕ, zero, suc, ◌+◌, ◌*◌, ◌≤◌, ◌<◌, None, List, [], ◌∷◌, ◌++◌, take, drop, refl, sym, ap, ◌∙◌}
 use Rattle.niss_shell.proofs.Names.{subst, append-nil, arith, flat_map, flat_map-append, take-append-drop, map-range_with_len_more}
 use Rattle.niss_shell.proofs.Names.{take-map-range_with_len, next_words, after_words, draw, Lcg, state_after, scramble, scrambles}
-use Rattle.niss_shell.proofs.Names.{turns_line, scramble_text, AnswerState, Writes, Refuses}
-use Rattle.niss_shell.proofs.StateLemmas.{writes_more, writes_as, refuses_more, refuses_front, refuses_as}
+use Rattle.niss_shell.proofs.Names.{turns_line, scramble_text, AnswerState, Delivered, TargetCall, Bool, true, false}
+use Rattle.niss_shell.proofs.StateLemmas.{delivers_more, refuses_front}
 
 -- steps and more steps of a generator
 state_after-add : (w k p m n s : ℕ) → state_after w k p n (state_after w k p m s) ≡ state_after w k p (m + n) s
@@ -49,21 +49,27 @@ text_front turns i count g h =
 
 -- what an output takes of it
 
-pub written_more : (turns i : ℕ) (g : Lcg) (line : List ℕ) (a b c : AnswerState)
-    → line ≡ turns_line (scramble turns g i) → Writes (scramble_text turns i g) 0 a b → Writes line 0 b c
-    → Writes (scramble_text turns (i + 1) g) 0 a c
-written_more turns i g line a b c e p q =
-    writes_as (ap (λ l. scramble_text turns i g ++ l) e ∙ sym (text_more _ _ _)) refl (writes_more p q)
+module _ {W : Type 0} (call : W → TargetCall → W → Type 0) where
+  pub written_more : (turns i : ℕ) (g : Lcg) (line : List ℕ) (a b c : AnswerState W)
+      → line ≡ turns_line (scramble turns g i) → Delivered call false (scramble_text turns i g) 0 a b → Delivered call false line 0 b c
+      → Delivered call false (scramble_text turns (i + 1) g) 0 a c
+  written_more turns i g line a b c e p q =
+      delivers_more call false (scramble_text turns i g) line (scramble_text turns (i + 1) g) 0 0 0 a b c
+      (ap (λ l. scramble_text turns i g ++ l) e ∙ sym (text_more turns i g)) refl p q
 
-pub all_written : (turns : ℕ) {i count : ℕ} (g : Lcg) (a b : AnswerState) → i ≡ count
-    → Writes (scramble_text turns i g) 0 a b → Writes (scramble_text turns count g) 0 a b
-all_written turns g a b e w = subst (λ n. Writes (scramble_text turns n g) 0 a b) e w
+  -- what waits is written at the end, or a write is refused
+  pub all_written : (refused : Bool) (turns : ℕ) {i count : ℕ} (g : Lcg) (a b c : AnswerState W) → i ≡ count
+      → Delivered call false (scramble_text turns i g) 0 a b → Delivered call refused [] 0 b c → Delivered call refused (scramble_text turns count g) 0 a c
+  all_written refused turns {count = count} g a b c e p q =
+      delivers_more call refused (scramble_text turns count g) [] (scramble_text turns count g) 0 0 0 a b c (append-nil (scramble_text turns count g)) refl
+      (subst (λ n. Delivered call false (scramble_text turns n g) 0 a b) e p) q
 
-pub refused_line : (turns i count : ℕ) (g : Lcg) {line : List ℕ} {a b c : AnswerState}
-    → i < count → line ≡ turns_line (scramble turns g i) → Writes (scramble_text turns i g) 0 a b → Refuses line 0 b c
-    → Refuses (scramble_text turns count g) 0 a c
-refused_line turns i count g h e p q =
-    let rest = flat_map turns_line (drop (i + 1) (scrambles turns count g)) in
-    refuses_as
-    (ap (λ l. (scramble_text turns i g ++ l) ++ rest) e ∙ ap (λ t. t ++ rest) (sym (text_more turns i g)) ∙ text_front turns (i + 1) count g (omega arith)) refl
-    (refuses_front _ (omega arith) (refuses_more p q))
+  pub refused_line : (turns i count : ℕ) (g : Lcg) (line : List ℕ) (a b c : AnswerState W)
+      → i < count → line ≡ turns_line (scramble turns g i) → Delivered call false (scramble_text turns i g) 0 a b → Delivered call true line 0 b c
+      → Delivered call true (scramble_text turns count g) 0 a c
+  refused_line turns i count g line a b c h e p q =
+      let rest = flat_map turns_line (drop (i + 1) (scrambles turns count g)) in
+      let more = scramble_text turns (i + 1) g in
+      refuses_front call more rest (scramble_text turns count g) 0 0 a c (text_front turns (i + 1) count g (omega arith)) (omega arith)
+      (delivers_more call true (scramble_text turns i g) line more 0 0 0 a b c
+      (ap (λ l. scramble_text turns i g ++ l) e ∙ sym (text_more turns i g)) refl p q)

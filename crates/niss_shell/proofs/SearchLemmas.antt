@@ -1,9 +1,10 @@
 -- How what a search wrote answers a line.
 use Rattle.niss_shell.proofs.Names.{◌≡◌, ℕ, Bool, true, false, Result, Ok, Err, List, refl, sym, ap, ◌∙◌, subst, IsTrue, Step}
-use Rattle.niss_shell.proofs.Names.{LineCommand, Search, Query, NoStart, Stop, AnswerState, Answers, Writes, answer_at_moves, may_start}
+use Rattle.niss_shell.proofs.Names.{LineCommand, Search, Query, NoStart, Stop, AnswerState, Answers, Delivered, TargetCall, outcome_before, answer_at_moves, may_start}
 use Rattle.niss_shell.proofs.Names.{Moves, near_looks_of, fault_answer, where_it_starts, search_text, home, search_command}
 use Rattle.niss_shell.proofs.Names.{LooksWithinBound, Solutions, answer_to, looks_at, AcceptedLinesAreSolved, SearchesBeginAtCubes, search_answer}
 use Rattle.niss_shell.proofs.Names.{start_cube, ReadFault, read_line, Place}
+use Rattle.niss_shell.proofs.StateLemmas.{answered as answered_by}
 
 -- a line on whose cube the step may start, or may not
 
@@ -17,25 +18,25 @@ starts_not step false text h = refl
 
 -- the same of the command on the line
 
-module _ (command : LineCommand) (line given : Moves) (query : Query) (step : Step) (n : ℕ) (old new : AnswerState)
-    (searches : command ≡ Search query) (of_step : step ≡ query.step) (same : given ≡ line) where
+module _ {W : Type 0} (call : W → TargetCall → W → Type 0)
+    (command : LineCommand) (line given : Moves) (query : Query) (step : Step) (n : ℕ) (old new : AnswerState W) (searches : command ≡ Search query) (of_step : step ≡ query.step) (same : given ≡ line) where
   searched : search_command query.report step query.limit query.slack ≡ command
   searched = ap (λ s. search_command query.report s query.limit query.slack) of_step ∙ sym searches
 
-  answered : (r : Result (Unit {0}) Stop) → Answers (answer_at_moves (search_command query.report step query.limit query.slack) n given) r old new
-      → Answers (answer_at_moves command n line) r old new
+  answered : (r : Result (Unit {0}) Stop) → Answers call (answer_at_moves (search_command query.report step query.limit query.slack) n given) r old new
+      → Answers call (answer_at_moves command n line) r old new
   answered r x =
-      subst (λ k. Answers (answer_at_moves k n line) r old new) searched
-      (subst (λ m. Answers (answer_at_moves (search_command query.report step query.limit query.slack) n m) r old new) same x)
+      subst (λ k. Answers call (answer_at_moves k n line) r old new) searched
+      (subst (λ m. Answers call (answer_at_moves (search_command query.report step query.limit query.slack) n m) r old new) same x)
 
-  pub all_reported : IsTrue (may_start step (home given))
-      → Writes (search_text query.report step query.limit query.slack (home given)) (near_looks_of step (home given) query.limit query.slack) old new
-      → Answers (answer_at_moves command n line) (Ok tt) old new
-  all_reported e p = answered (Ok tt) (rw starts (refl, p))
+  pub all_reported : (refused : Bool) (o : Result (Unit {0}) Stop) → o ≡ outcome_before refused (Ok tt) → IsTrue (may_start step (home given))
+      → Delivered call refused (search_text query.report step query.limit query.slack (home given)) (near_looks_of step (home given) query.limit query.slack) old new
+      → Answers call (answer_at_moves command n line) o old new
+  all_reported refused o f e p = answered o (rw starts (answered_by call refused _ o old new f p))
 
   pub not_started : (named : Step) (r : Result (Unit {0}) Stop) → may_start step (home given) ≡ false → named ≡ step
-      → Answers (fault_answer n (NoStart named)) r old new → Answers (answer_at_moves command n line) r old new
-  not_started named r e f h = answered r (rw starts_not (subst (λ s. Answers (fault_answer n (NoStart s)) r old new) f h))
+      → Answers call (fault_answer n (NoStart named)) r old new → Answers call (answer_at_moves command n line) r old new
+  not_started named r e f h = answered r (rw starts_not (subst (λ s. Answers call (fault_answer n (NoStart s)) r old new) f h))
 
 -- what a search answers, by the cube that it begins at
 pub begin_at_cubes : SearchesBeginAtCubes

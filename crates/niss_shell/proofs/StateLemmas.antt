@@ -1,230 +1,209 @@
--- How the bytes that calls move join, and how what is written and looked at adds up.
-use Rattle.niss_shell.proofs.Names.{◌≡◌, ℕ, ◌+◌, zero, suc, ◌≢◌, ◌<◌, ◌||◌, Bool, true, false, Option, Some, None, Result, Ok, Err}
-use Rattle.niss_shell.proofs.Names.{if◌then◌else◌, List, [], ◌∷◌, ◌++◌, take, drop, length, length-append, refl, sym, ap, ◌∙◌, subst}
-use Rattle.niss_shell.proofs.Names.{append_assoc, append-nil, arith, is_err, IsErr, MatchResult, ReadConsumes, drop-drop, length-drop}
-use Rattle.niss_shell.proofs.Names.{or-false, or_parts, SourceState, TargetState, Room, FilledOf, has_fault, GaveOf, Gave, AppendedOf}
-use Rattle.niss_shell.proofs.Names.{Appended, StaysSilentOf, StaysSilent, is_empty_answer, moved_bytes, DeviceFault, ◌≤◌, IsCut}
-use Rattle.niss_shell.proofs.Names.{WriteRefused, Answer, unsearched, joined_answer, then_answer, AnswerState, TakesIn, Writes, Refuses}
-use Rattle.niss_shell.proofs.Names.{Answers, Stop, CannotWrite, pending_state, WritesOrRefuses}
+-- How the calls of a device join, what they give and send, and how answers join.
+use Rattle.niss_shell.proofs.Names.{◌≡◌, ◌≢◌, ℕ, ◌+◌, ◌<◌, ◌≤◌, zero, suc, Bool, true, false, if◌then◌else◌, Option, Some, None}
+use Rattle.niss_shell.proofs.Names.{Result, Ok, Err, List, [], ◌∷◌, ◌++◌, take, drop, length, length-append, refl, sym, ap, ◌∙◌, subst}
+use Rattle.niss_shell.proofs.Names.{append_assoc, append-nil, arith, drop-append-le, SourceCall, TargetCall, Read, Write, Flush, Calls}
+use Rattle.niss_shell.proofs.Names.{Reads, Sends, IsPiece, Ending, More, End, Fail, left_after, Writes, WasRead, DeviceFault, Stop}
+use Rattle.niss_shell.proofs.Names.{is_end, ReadShows, SourceState, ◌||◌}
+use Rattle.niss_shell.proofs.Names.{Answer, unsearched, joined_answer, then_answer, AnswerState, Delivered, Answers, Output, output_state}
+use Rattle.niss_shell.proofs.Names.{outcome_before, Looked}
 
-nothing_appended : (held : Option (List ℕ)) (failed : Bool) → AppendedOf held held failed []
-nothing_appended None failed = tt
-nothing_appended (Some all) failed = sym (append-nil all)
+-- calls, and more calls
 
-nothing_filled : (room : Option Room) → FilledOf 0 room room
-nothing_filled None = tt
-nothing_filled (Some room) = record { fits = omega arith; left = refl; same_reference = refl }
+pub calls_more : {D C : Type 0} (call : D → C → D → Type 0) (xs ys : List C) (a b c : D) → Calls call a b xs → Calls call b c ys → Calls call a c (xs ++ ys)
+unfolding Calls
+calls_more call [] ys a b c p q = subst (λ d. Calls call d c ys) (sym p) q
+calls_more call (x ∷ xs) ys a b c p q = (p.0, (p.1.0, calls_more call xs ys p.0 b c p.1.1 q))
 
-pub appended_nothing : (a : TargetState) → Appended a a []
-appended_nothing a = record { text = nothing_appended _ _; filled = nothing_filled _ }
+pub no_call : {D C : Type 0} (call : D → C → D → Type 0) (a : D) → Calls call a a []
+unfolding Calls
+no_call call a = refl
 
-more_appended : (a b c : Option (List ℕ)) {s t : Bool} (x y : List ℕ) → (s ≡ true → t ≡ true) → StaysSilentOf s b c
-    → AppendedOf a b s x → AppendedOf b c t y → AppendedOf a c t (x ++ y)
-more_appended None b c x y sticks silent p q = tt
-more_appended (Some old) None None x y sticks silent p q = sticks p
-more_appended (Some old) None (Some new) x y sticks silent p q =
-    absurd (let silenced : StaysSilentOf true None (Some new) = subst (λ f. StaysSilentOf f None (Some new)) p silent in silenced)
-more_appended (Some old) (Some mid) None x y sticks silent p q = q
-more_appended (Some old) (Some mid) (Some new) x y sticks silent p q = q ∙ ap (λ v. v ++ y) p ∙ append_assoc old x y
+pub one_call : {D C : Type 0} (call : D → C → D → Type 0) (a b : D) {c : C} → call a c b → Calls call a b (c ∷ [])
+unfolding Calls
+one_call call a b p = (b, (p, refl))
 
-more_filled : (a b c : Option Room) (n m : ℕ) → FilledOf n a b → FilledOf m b c → FilledOf (n + m) a c
-more_filled None b c n m p q = tt
-more_filled (Some old) None c n m p q = absurd p
-more_filled (Some old) (Some mid) None n m p q = q
-more_filled (Some old) (Some mid) (Some new) n m p q = record {
-  fits = omega (arith, p.fits, q.fits, ap (length {A = ℕ}) p.left, length-drop n old.free);
-  left = q.left ∙ ap (drop m) p.left ∙ drop-drop m n old.free;
-  same_reference = q.same_reference ∙ p.same_reference;
+-- a text and more text behind it
+
+abbrev with_more : Option (List ℕ) → List ℕ → Option (List ℕ)
+with_more None more = None
+with_more (Some rest) more = Some (rest ++ more)
+
+piece_front : {piece text : List ℕ} (more : List ℕ) → IsPiece piece text → IsPiece piece (text ++ more)
+piece_front {piece = piece} more p = record {
+  rest = p.rest ++ more;
+  whole = sym (append_assoc piece p.rest more) ∙ ap (λ t. t ++ more) p.whole;
+  some = p.some;
 }
 
--- two calls, also on a target that failed before
-pub appended_on : (a b c : TargetState) (x y : List ℕ) → (has_fault b ≡ true → has_fault c ≡ true) → StaysSilent b c
-    → Appended a b x → Appended b c y → Appended a c (x ++ y)
-appended_on a b c x y sticks silent p q = record {
-  text = more_appended _ _ _ _ _ sticks silent p.text q.text;
-  filled = subst (λ n. FilledOf n a.room c.room) (sym (length-append x y)) (more_filled _ _ _ _ _ p.filled q.filled);
-}
+piece_fits : {piece text : List ℕ} → IsPiece piece text → length piece ≤ length text
+piece_fits {piece = piece} p = omega (arith, ap (length {A = ℕ}) p.whole, length-append piece p.rest)
 
-pub appended_more : (a b c : TargetState) (x y : List ℕ) → has_fault b ≡ false → Appended a b x → Appended b c y → Appended a c (x ++ y)
-appended_more a b c x y e p q =
-    appended_on a b c x y (λ h. absurd (cc (e, h))) (subst (λ f. StaysSilentOf f b.held c.held) (sym e) tt) p q
+sends_front : (calls : List TargetCall) (text more : List ℕ) (left : Option (List ℕ)) → Sends calls text left → Sends calls (text ++ more) (with_more left more)
+unfolding Sends
+sends_front [] text more left p = ap (λ l. with_more l more) p
+sends_front (Flush result ∷ calls) text more left p = absurd p
+sends_front (Write piece (Ok zero) ∷ calls) text more left p = (piece_front more p.0, p.1, ap (λ l. with_more l more) p.2)
+sends_front (Write piece (Err fault) ∷ calls) text more left p = (piece_front more p.0, p.1, ap (λ l. with_more l more) p.2)
+sends_front (Write piece (Ok (suc n)) ∷ calls) text more left p = (
+  piece_front more p.0,
+  p.1,
+  subst (λ t. Sends calls t (with_more left more)) (sym (drop-append-le (suc n) text more (omega (arith, p.1, piece_fits p.0))))
+      (sends_front calls (drop (suc n) text) more left p.2),
+)
 
--- a call that appends nothing, after one that worked
-pub appended_then : (a b c : TargetState) (x : List ℕ) → has_fault b ≡ false → Appended a b x → Appended b c [] → Appended a c x
-appended_then a b c x e p q = subst (λ v. Appended a c v) (append-nil x) (appended_more a b c x [] e p q)
+sends_more : (xs ys : List TargetCall) (text mid : List ℕ) (left : Option (List ℕ)) → Sends xs text (Some mid) → Sends ys mid left → Sends (xs ++ ys) text left
+unfolding Sends
+sends_more [] ys text mid left p q = let e : mid ≡ text = cc p in subst (λ t. Sends ys t left) e q
+sends_more (Flush result ∷ calls) ys text mid left p q = absurd p
+sends_more (Write piece (Ok zero) ∷ calls) ys text mid left p q = absurd (cc p.2)
+sends_more (Write piece (Err fault) ∷ calls) ys text mid left p q = absurd (cc p.2)
+sends_more (Write piece (Ok (suc n)) ∷ calls) ys text mid left p q = (p.0, p.1, sends_more calls ys (drop (suc n) text) mid left p.2 q)
 
--- a flush after a failure
-pub appended_after_failure : (a b c : TargetState) (x : List ℕ) → has_fault c ≡ true → StaysSilent b c → Appended a b x → Appended b c [] → Appended a c x
-appended_after_failure a b c x e silent p q = subst (λ v. Appended a c v) (append-nil x) (appended_on a b c x [] (λ h. e) silent p q)
+whole_piece : (piece : List ℕ) → 0 < length piece → IsPiece piece piece
+whole_piece piece h = record { rest = []; whole = append-nil piece; some = h }
 
--- a call that adds these faults
-pub same_fault : (s t : TargetState) {refused : Bool} → t.write_failed ≡ (s.write_failed || refused) → t.flush_failed ≡ s.flush_failed
-    → refused ≡ false → has_fault t ≡ has_fault s
-same_fault s t p q e =
-    ap (λ f. f || t.flush_failed) (p ∙ ap (λ f. s.write_failed || f) e ∙ or-false s.write_failed) ∙ ap (λ f. s.write_failed || f) q
+sends_one : (piece : List ℕ) (n : ℕ) → n ≢ 0 → n ≤ length piece → Sends (Write piece (Ok n) ∷ []) piece (Some (drop n piece))
+unfolding Sends
+sends_one piece zero some fits = absurd (some refl)
+sends_one piece (suc n) some fits = (whole_piece piece (omega (arith, fits)), fits, refl)
 
-pub fault_of_write : (t : TargetState) → t.write_failed ≡ true → has_fault t ≡ true
-fault_of_write t e = ap (λ f. f || t.flush_failed) e
+sends_none : (piece : List ℕ) (n : ℕ) → n ≡ 0 → 0 < length piece → Sends (Write piece (Ok n) ∷ []) piece None
+unfolding Sends
+sends_none piece zero none some = (whole_piece piece some, refl, refl)
+sends_none piece (suc n) none some = absurd (cc none)
 
-pub no_write_fault : (h : TargetState) → has_fault h ≡ false → h.write_failed ≡ false
-no_write_fault h e = (or_parts h.write_failed h.flush_failed e).0
+sends_fault : (piece : List ℕ) (fault : DeviceFault) → 0 < length piece → Sends (Write piece (Err fault) ∷ []) piece None
+unfolding Sends
+sends_fault piece fault some = (whole_piece piece some, refl, refl)
 
-pub no_flush_fault : (h : TargetState) → has_fault h ≡ false → h.flush_failed ≡ false
-no_flush_fault h e = (or_parts h.write_failed h.flush_failed e).1
+-- the same with the device
 
-nothing_given : (left : Option (List ℕ)) (failed : Bool) → GaveOf left left failed []
-nothing_given None failed = tt
-nothing_given (Some all) failed = refl
+module _ {W : Type 0} (call : W → TargetCall → W → Type 0) where
+  pub writes_none : (text : List ℕ) (a : W) → Writes call false text text a a
+  unfolding Sends
+  writes_none text a = record { calls = []; made = no_call call a; sends = refl }
 
-pub gave_nothing : (a : SourceState) → Gave a a []
-gave_nothing a = nothing_given _ _
+  pub writes_more : (refused : Bool) (text mid rest : List ℕ) (a b c : W)
+      → Writes call false text mid a b → Writes call refused mid rest b c → Writes call refused text rest a c
+  writes_more refused text mid rest a b c p q = record {
+    calls = p.calls ++ q.calls;
+    made = calls_more call p.calls q.calls a b c p.made q.made;
+    sends = sends_more p.calls q.calls text mid (left_after refused rest) p.sends q.sends;
+  }
 
-more_given : (a b c : Option (List ℕ)) {s : Bool} (t : Bool) (x y : List ℕ) → s ≡ false → GaveOf a b s x → GaveOf b c t y → GaveOf a c t (x ++ y)
-more_given None b c t x y e p q = tt
-more_given (Some old) None c t x y e p q = absurd (cc (e, p.0))
-more_given (Some old) (Some mid) None t x y e p q = (q.0, (q.1.0, p ∙ ap (λ v. x ++ v) q.1.1 ∙ sym (append_assoc x y q.1.0)))
-more_given (Some old) (Some mid) (Some new) t x y e p q = p ∙ ap (λ v. x ++ v) q ∙ sym (append_assoc x y new)
+  pub writes_front : (refused : Bool) (text rest more : List ℕ) (a b : W) → Writes call refused text rest a b
+      → Writes call refused (text ++ more) (rest ++ more) a b
+  writes_front true text rest more a b p =
+      record { calls = p.calls; made = p.made; sends = sends_front p.calls text more None p.sends }
+  writes_front false text rest more a b p =
+      record { calls = p.calls; made = p.made; sends = sends_front p.calls text more (Some rest) p.sends }
 
-pub gave_more : (a b c : SourceState) (x y : List ℕ) → b.has_failed ≡ false → Gave a b x → Gave b c y → Gave a c (x ++ y)
-gave_more a b c x y e p q = more_given _ _ _ _ _ _ e p q
+  -- one write, which took some bytes or none
 
-pub is_empty_answer-some : (n : ℕ) (bytes : List ℕ) → n ≢ 0 → is_empty_answer n bytes ≡ false
-is_empty_answer-some zero bytes h = absurd (h refl)
-is_empty_answer-some (suc n) [] h = refl
-is_empty_answer-some (suc n) (b ∷ bytes) h = refl
+  pub writes_some : {piece : List ℕ} (n : ℕ) (a b : W) → n ≢ 0 → n ≤ length piece → call a (Write piece (Ok n)) b → Writes call false piece (drop n piece) a b
+  writes_some {piece = piece} n a b some fits p =
+      record { calls = Write piece (Ok n) ∷ []; made = one_call call a b p; sends = sends_one piece n some fits }
 
-pub is_empty_answer-none : (n : ℕ) (bytes : List ℕ) → n ≡ 0 → 0 < length bytes → is_empty_answer n bytes ≡ true
-is_empty_answer-none zero [] e h = absurd (omega (arith, h))
-is_empty_answer-none zero (b ∷ bytes) e h = refl
-is_empty_answer-none (suc n) bytes e h = absurd (omega (arith, e))
+  pub refuses_none : {piece : List ℕ} (n : ℕ) (a b : W) → n ≡ 0 → 0 < length piece → call a (Write piece (Ok n)) b → Writes call true piece [] a b
+  refuses_none {piece = piece} n a b none some p =
+      record { calls = Write piece (Ok n) ∷ []; made = one_call call a b p; sends = sends_none piece n none some }
 
--- what a judged read of a reader gave
-pub gave_answer : {E : Type 0} (answer : Result ℕ E) (result : Result ℕ DeviceFault) (failed failed_now : Bool) (old new : Option (List ℕ)) (buf : List ℕ)
-    → failed ≡ false → failed_now ≡ is_err answer → MatchResult result (λ n. answer ≡ Ok n) (λ _. IsErr answer) → ReadConsumes old new answer buf
-    → GaveOf (if failed then None else old) (if failed_now then None else new) failed_now (moved_bytes result buf)
-gave_answer answer result true failed_now old new buf works fails same reads = absurd (cc works)
-gave_answer (Ok n) (Ok m) false true old new buf works fails same reads = absurd (cc fails)
-gave_answer (Ok n) (Ok m) false false None new buf works fails same reads = tt
-gave_answer (Ok n) (Ok m) false false (Some all) None buf works fails same reads = absurd reads.0
-gave_answer (Ok n) (Ok m) false false (Some all) (Some rest) buf works fails same reads =
-    let e : n ≡ m = cc same in subst (λ k. all ≡ take k buf ++ rest) e reads.0
-gave_answer (Ok n) (Err x) false failed_now old new buf works fails same reads = absurd (cc same)
-gave_answer (Err e) (Ok m) false failed_now old new buf works fails same reads = absurd (cc same)
-gave_answer (Err e) (Err x) false false old new buf works fails same reads = absurd (cc fails)
-gave_answer (Err e) (Err x) false true None new buf works fails same reads = tt
-gave_answer (Err e) (Err x) false true (Some all) new buf works fails same reads = (refl, (all, refl))
+  pub refuses_fault : {piece : List ℕ} (fault : DeviceFault) (a b : W) → 0 < length piece → call a (Write piece (Err fault)) b → Writes call true piece [] a b
+  refuses_fault {piece = piece} fault a b some p =
+      record { calls = Write piece (Err fault) ∷ []; made = one_call call a b p; sends = sends_fault piece fault some }
 
--- Nothing was written, and nothing looked at.
-pub writes_nothing : (a : AnswerState) → has_fault a.target ≡ false → Writes [] 0 a a
-writes_nothing a works = record {
-  same_target = refl;
-  works = works;
-  written = record { sent = []; whole = sym (append-nil a.pending); appended = appended_nothing a.target };
-  looked = omega arith;
-}
+-- reads, and more reads
 
--- what was sent, and what was sent after it
-sent_more : (s t p q r x y : List ℕ) → s ++ q ≡ p ++ x → t ++ r ≡ q ++ y → (s ++ t) ++ r ≡ p ++ (x ++ y)
-sent_more s t p q r x y e f =
-    append_assoc s t r ∙ ap (λ v. s ++ v) f ∙ sym (append_assoc s q y) ∙ ap (λ v. v ++ y) e ∙ append_assoc p x y
+pub no_read : Reads [] [] More
+unfolding Reads
+no_read = (refl, refl)
 
-taken_more : (x y : List ℕ) (a b c : AnswerState) → has_fault b.target ≡ false → TakesIn x a b → TakesIn y b c → TakesIn (x ++ y) a c
-taken_more x y a b c works p q = record {
-  sent = p.sent ++ q.sent;
-  whole = sent_more p.sent q.sent a.pending b.pending c.pending x y p.whole q.whole;
-  appended = appended_more a.target b.target c.target p.sent q.sent works p.appended q.appended;
-}
+pub reads_more : (xs ys : List SourceCall) (x y : List ℕ) (ended : Ending) → Reads xs x More → Reads ys y ended → Reads (xs ++ ys) (x ++ y) ended
+unfolding Reads
+reads_more [] ys x y ended p q = subst (λ v. Reads ys (v ++ y) ended) (sym p.0) q
+reads_more (Read asked (Ok []) ∷ xs) ys x y ended p q = absurd (cc p.3)
+reads_more (Read asked (Err fault) ∷ xs) ys x y ended p q = absurd (cc p.2)
+reads_more (Read asked (Ok (b ∷ bytes)) ∷ xs) ys x y ended p q =
+    (p.0 ++ y, ap (λ v. v ++ y) p.1 ∙ append_assoc (b ∷ bytes) p.0 y, reads_more xs ys p.0 y ended p.2 q)
 
--- where nothing waits, a text that was taken was sent
-pub all_sent : (text : List ℕ) (a b : AnswerState) → a.pending ≡ [] → b.pending ≡ [] → TakesIn text a b → Appended a.target b.target text
-all_sent text a b e f p =
-    subst (λ t. Appended a.target b.target t)
-    (sym (append-nil p.sent) ∙ ap (λ v. p.sent ++ v) (sym f) ∙ p.whole ∙ ap (λ v. v ++ text) e) p.appended
+pub reads_some : (asked : ℕ) (bytes : List ℕ) → 0 < length bytes → Reads (Read asked (Ok bytes) ∷ []) bytes More
+unfolding Reads
+reads_some asked [] some = absurd (omega (arith, some))
+reads_some asked (b ∷ bytes) some = ([], sym (append-nil (b ∷ bytes)), (refl, refl))
 
-pub writes_more : {x y : List ℕ} {l k : ℕ} {a b c : AnswerState} → Writes x l a b → Writes y k b c → Writes (x ++ y) (l + k) a c
-writes_more p q = record {
-  same_target = q.same_target ∙ p.same_target;
-  works = q.works;
-  written = taken_more _ _ _ _ _ p.works p.written q.written;
-  looked = omega (arith, p.looked, q.looked);
-}
+pub reads_end : (asked : ℕ) (bytes : List ℕ) → 0 < asked → length bytes ≡ 0 → Reads (Read asked (Ok bytes) ∷ []) [] End
+unfolding Reads
+reads_end asked [] some none = (some, refl, refl, refl)
+reads_end asked (b ∷ bytes) some none = absurd (omega (arith, none))
 
-cut_more : (part xs : List ℕ) {ys : List ℕ} → IsCut part ys → IsCut (xs ++ part) (xs ++ ys)
-cut_more part xs p = (p.0, append_assoc xs part p.0 ∙ ap (λ v. xs ++ v) p.1, p.2)
+pub reads_fault : (asked : ℕ) (fault : DeviceFault) → Reads (Read asked (Err fault) ∷ []) [] Fail
+unfolding Reads
+reads_fault asked fault = (refl, refl, refl)
 
-cut_front : (part : List ℕ) {xs : List ℕ} (ys : List ℕ) → IsCut part xs → IsCut part (xs ++ ys)
-cut_front part ys p = (p.0 ++ ys, sym (append_assoc part p.0 ys) ∙ ap (λ v. v ++ ys) p.1, omega (arith, p.2, length-append p.0 ys))
+-- a read that gave some bytes didn't find the end
+some_is_no_end : (n : ℕ) (buf : List ℕ) → n ≢ 0 → n ≤ length buf → is_end (Read (length buf) (Ok (take n buf))) ≡ false
+some_is_no_end zero buf some fits = absurd (some refl)
+some_is_no_end (suc n) [] some fits = absurd (omega (arith, fits))
+some_is_no_end (suc n) (b ∷ buf) some fits = refl
 
-refused_more : (xs : List ℕ) {ys : List ℕ} (a b c : TargetState)
-    → has_fault b ≡ false → Appended a b xs → WriteRefused ys b c → WriteRefused (xs ++ ys) a c
-refused_more xs a b c works p q = record {
-  refused = q.refused;
-  part = xs ++ q.part;
-  cut = cut_more _ _ q.cut;
-  appended = appended_more a b c xs q.part works p q.appended;
-  flushes_work = λ e. q.flushes_work (no_flush_fault b works);
-}
+-- nor does it raise the flag
+pub still_open : (n : ℕ) (buf : List ℕ) (old new : SourceState) → n ≢ 0 → n ≤ length buf → old.has_ended ≡ false
+    → ReadShows (Read (length buf) (Ok (take n buf))) old new → new.has_ended ≡ false
+still_open n buf old new some fits e shown = shown.ended ∙ ap (λ f. f || is_end (Read (length buf) (Ok (take n buf)))) e ∙ some_is_no_end n buf some fits
 
-refused_front : {xs : List ℕ} (ys : List ℕ) {a c : TargetState} → WriteRefused xs a c → WriteRefused (xs ++ ys) a c
-refused_front ys q = record {
-  refused = q.refused;
-  part = q.part;
-  cut = cut_front _ _ q.cut;
-  appended = q.appended;
-  flushes_work = q.flushes_work;
-}
+abbrev pub nothing_read : {R : Type 0} (call : R → SourceCall → R → Type 0) (a : R) → WasRead (Calls call a a)
+nothing_read call a = record { reads = []; made = no_call call a; input = []; ended = More; gave = no_read }
 
-pub refuses_more : {x y : List ℕ} {l k : ℕ} {a b c : AnswerState} → Writes x l a b → Refuses y k b c → Refuses (x ++ y) (l + k) a c
-refuses_more {x = x} {y = y} {a = a} {b = b} {c = c} p q = record {
-  same_target = q.same_target ∙ p.same_target;
-  refused = subst (λ t. WriteRefused t a.target c.target)
-      (sym (append_assoc p.written.sent b.pending y) ∙ ap (λ v. v ++ y) p.written.whole ∙ append_assoc a.pending x y)
-      (refused_more _ _ _ _ p.works p.written.appended q.refused);
-  rises = omega (arith, p.looked, q.rises);
-  looked = omega (arith, p.looked, q.looked);
-}
+-- what an output takes, and what it takes after it
 
-pub refuses_front : {x : List ℕ} (y : List ℕ) {l k : ℕ} {a c : AnswerState} → l ≤ k → Refuses x l a c → Refuses (x ++ y) k a c
-refuses_front {x = x} y {a = a} {c = c} p r = record {
-  same_target = r.same_target;
-  refused = subst (λ t. WriteRefused t a.target c.target) (append_assoc a.pending x y) (refused_front _ r.refused);
-  rises = r.rises;
-  looked = omega (arith, r.looked, p);
-}
+looked_more : (refused : Bool) (l k n a b c : ℕ) → l + k ≡ n → Looked false l a b → Looked refused k b c → Looked refused n a c
+looked_more true l k n a b c e p q = (omega (arith, p, q.0), omega (arith, e, p, q.1))
+looked_more false l k n a b c e p q = omega (arith, e, p, q)
 
--- the same where the text and the numbers are known by equations
+module _ {W : Type 0} (call : W → TargetCall → W → Type 0) where
+  pub delivers_nothing : (a : AnswerState W) → Delivered call false [] 0 a a
+  delivers_nothing a = record {
+    same_target = refl;
+    writes = subst (λ t. Writes call false t a.pending a.target a.target) (sym (append-nil a.pending)) (writes_none call a.pending a.target);
+    looked = omega arith;
+  }
 
-pub writes_as : {x y : List ℕ} {l k : ℕ} {a b : AnswerState} → x ≡ y → l ≡ k → Writes x l a b → Writes y k a b
-writes_as {a = a} {b = b} e f p = record {
-  same_target = p.same_target;
-  works = p.works;
-  written = subst (λ t. TakesIn t a b) e p.written;
-  looked = omega (arith, p.looked, f);
-}
+  -- a text waits after what waited
+  pub waits : (text : List ℕ) (a b : AnswerState W) → b.reference ≡ a.reference → b.target ≡ a.target → b.pending ≡ a.pending ++ text → b.looks ≡ a.looks
+      → Delivered call false text 0 a b
+  waits text a b same target e looks = record {
+    same_target = same;
+    writes = subst (λ w. Writes call false (a.pending ++ text) b.pending a.target w) (sym target)
+        (subst (λ t. Writes call false t b.pending a.target a.target) e (writes_none call b.pending a.target));
+    looked = omega (arith, looks);
+  }
 
-pub refuses_as : {x y : List ℕ} {l k : ℕ} {a b : AnswerState} → x ≡ y → l ≡ k → Refuses x l a b → Refuses y k a b
-refuses_as {a = a} {b = b} e f p = record {
-  same_target = p.same_target;
-  refused = subst (λ t. WriteRefused (a.pending ++ t) a.target b.target) e p.refused;
-  rises = p.rises;
-  looked = omega (arith, p.looked, f);
-}
+  pub delivers_more : (refused : Bool) (x y text : List ℕ) (l k looks : ℕ) (a b c : AnswerState W) → x ++ y ≡ text → l + k ≡ looks
+      → Delivered call false x l a b → Delivered call refused y k b c → Delivered call refused text looks a c
+  delivers_more refused x y text l k looks a b c e f p q = record {
+    same_target = q.same_target ∙ p.same_target;
+    writes = writes_more call refused (a.pending ++ text) (b.pending ++ y) c.pending a.target b.target c.target
+        (subst (λ t. Writes call false t (b.pending ++ y) a.target b.target) (append_assoc a.pending x y ∙ ap (λ t. a.pending ++ t) e)
+        (writes_front call false (a.pending ++ x) b.pending y a.target b.target p.writes)) q.writes;
+    looked = looked_more refused l k looks a.looks b.looks c.looks f p.looked q.looked;
+  }
 
--- a text waits after what waited
-pub waits : {text pending rest : List ℕ} {n : ℕ} (a : TargetState) {looks : ℕ} → rest ≡ pending ++ text → has_fault a ≡ false
-    → Writes text 0 (pending_state n a pending looks) (pending_state n a rest looks)
-waits a e works = record {
-  same_target = refl;
-  works = works;
-  written = record { sent = []; whole = e; appended = appended_nothing a };
-  looked = omega arith;
-}
+  -- a refused write of a beginning
+  pub refuses_front : (x y text : List ℕ) (l looks : ℕ) (a c : AnswerState W) → x ++ y ≡ text → l ≤ looks
+      → Delivered call true x l a c → Delivered call true text looks a c
+  refuses_front x y text l looks a c e f p = record {
+    same_target = p.same_target;
+    writes =
+        let w = writes_front call true (a.pending ++ x) c.pending y a.target c.target p.writes in
+        subst (λ t. Writes call true t c.pending a.target c.target) (append_assoc a.pending x y ∙ ap (λ t. a.pending ++ t) e)
+        (record { calls = w.calls; made = w.made; sends = w.sends });
+    looked = (p.looked.0, omega (arith, f, p.looked.1));
+  }
 
--- a text, and what an output does with the next one
-pub then_written : {T : Type 0} (r : Result T DeviceFault) {x : List ℕ} (y : List ℕ) {text : List ℕ} {looks : ℕ} {a b : AnswerState} (c : AnswerState)
-    → x ++ y ≡ text → Writes x looks a b → WritesOrRefuses r y 0 b c → WritesOrRefuses r text looks a c
-then_written (Ok u) y c e p q = writes_as e (omega arith) (writes_more p q)
-then_written (Err x) y c e p q = refuses_as e (omega arith) (refuses_more p q)
+  -- the same with looks that were made meanwhile
+  pub looks_meanwhile : (refused : Bool) (text : List ℕ) (looks now before after : ℕ) (a b : Output W) → Looked refused looks before after
+      → Delivered call refused text 0 (output_state a now) (output_state b now) → Delivered call refused text looks (output_state a before) (output_state b after)
+  looks_meanwhile refused text looks now before after a b looked p = record { same_target = p.same_target; writes = p.writes; looked = looked }
 
 -- an answer, and the one after it
 
@@ -257,30 +236,49 @@ then_joined a b c (Err stop) p e f = after_fault a c a.outcome e
 pub then_then : (a b c : Answer) → then_answer (then_answer a b) c ≡ then_answer a (then_answer b c)
 then_then a b c = then_joined a b c a.outcome b.outcome refl refl
 
-pub answers_more : (a b : Answer) (r : Result (Unit {0}) Stop) (x : AnswerState) {y : AnswerState} (z : AnswerState)
-    → Answers a (Ok tt) x y → Answers b r y z → Answers (then_answer a b) r x z
-answers_more a b (Err CannotWrite) x z p q =
-    subst (λ o. Refuses (joined_answer o a b).output (joined_answer o a b).looks x z) p.0 (refuses_more p.1 q)
-answers_more a b r x z p q =
-    subst (λ o. (r ≡ (joined_answer o a b).outcome) × Writes (joined_answer o a b).output (joined_answer o a b).looks x z) p.0
-    (q.0, writes_more p.1 q.1)
+-- what is answered, and what is answered after it
 
-refused_first : (a b : Answer) (o : Result (Unit {0}) Stop) {x z : AnswerState}
-    → Refuses a.output a.looks x z → Refuses (joined_answer o a b).output (joined_answer o a b).looks x z
-refused_first a b (Ok u) p = refuses_front b.output (omega arith) p
-refused_first a b (Err stop) p = p
+good_first : (refused : Bool) (o : Result (Unit {0}) Stop) → Ok tt ≡ outcome_before refused o → (refused ≡ false) × (o ≡ Ok tt)
+good_first true o e = absurd (cc e)
+good_first false o e = (refl, sym e)
 
-pub answers_stopped : (a b : Answer) (stop : Stop) (x z : AnswerState) → Answers a (Err stop) x z → Answers (then_answer a b) (Err stop) x z
-answers_stopped a b CannotWrite x z p = refused_first a b a.outcome p
-answers_stopped a b stop x z p = subst (λ d. Answers d (Err stop) x z) (sym (after_fault a b a.outcome (sym p.0))) p
+module _ {W : Type 0} (call : W → TargetCall → W → Type 0) where
+  pub answered : (refused : Bool) (a : Answer) (o : Result (Unit {0}) Stop) (x y : AnswerState W)
+      → o ≡ outcome_before refused a.outcome → Delivered call refused a.output a.looks x y → Answers call a o x y
+  answered refused a o x y e p = record { refused = refused; outcome_is = e; delivered = p }
 
--- what waited is written after it, or a write is refused
+  good_delivered : (a : Answer) (x y : AnswerState W) → Answers call a (Ok tt) x y → Delivered call false a.output a.looks x y
+  good_delivered a x y p = subst (λ r. Delivered call r a.output a.looks x y) (good_first p.refused a.outcome p.outcome_is).0 p.delivered
 
-pub answers_sent : (a : Answer) {x y z : AnswerState} → Answers a (Ok tt) x y → Writes [] 0 y z → Answers a (Ok tt) x z
-answers_sent a p q = (p.0, writes_as (append-nil _) (omega arith) (writes_more p.1 q))
+  pub answers_more : (a b : Answer) (r : Result (Unit {0}) Stop) (x y z : AnswerState W)
+      → Answers call a (Ok tt) x y → Answers call b r y z → Answers call (then_answer a b) r x z
+  answers_more a b r x y z p q =
+      subst (λ o. Answers call (joined_answer o a b) r x z) (sym (good_first p.refused a.outcome p.outcome_is).1)
+      (answered q.refused (joined_answer (Ok tt) a b) r x z q.outcome_is
+      (delivers_more call q.refused a.output b.output (a.output ++ b.output) a.looks b.looks (a.looks + b.looks) x y z refl refl
+      (good_delivered a x y p) q.delivered))
 
-pub answers_unsent : (a : Answer) {x y z : AnswerState} → Answers a (Ok tt) x y → Refuses [] 0 y z → Answers a (Err CannotWrite) x z
-answers_unsent a p q = refuses_as (append-nil _) (omega arith) (refuses_more p.1 q)
+  refused_first : (a b : Answer) (o : Result (Unit {0}) Stop) (x z : AnswerState W)
+      → Delivered call true a.output a.looks x z → Delivered call true (joined_answer o a b).output (joined_answer o a b).looks x z
+  refused_first a b (Ok u) x z p =
+      refuses_front call a.output b.output (a.output ++ b.output) a.looks (a.looks + b.looks) x z refl (omega arith) p
+  refused_first a b (Err stop) x z p = p
+
+  pub answers_stopped : (a b : Answer) (stop : Stop) (x z : AnswerState W) → Answers call a (Err stop) x z → Answers call (then_answer a b) (Err stop) x z
+  answers_stopped a b stop x z p = by_refusal p.refused p.outcome_is p.delivered
+    where
+      by_refusal : (refused : Bool) → Err stop ≡ outcome_before refused a.outcome → Delivered call refused a.output a.looks x z
+          → Answers call (then_answer a b) (Err stop) x z
+      by_refusal true e d = answered true (then_answer a b) (Err stop) x z e (refused_first a b a.outcome x z d)
+      by_refusal false e d =
+          subst (λ v. Answers call v (Err stop) x z) (sym (after_fault a b a.outcome (sym e))) (answered false a (Err stop) x z e d)
+
+  -- what waited is written after it, or a write is refused
+  pub answers_sent : (a : Answer) (refused : Bool) (o : Result (Unit {0}) Stop) (x y z : AnswerState W) → o ≡ outcome_before refused (Ok tt)
+      → Answers call a (Ok tt) x y → Delivered call refused [] 0 y z → Answers call a o x z
+  answers_sent a refused o x y z e p q =
+      answered refused a o x z (e ∙ ap (outcome_before refused) (sym (good_first p.refused a.outcome p.outcome_is).1))
+      (delivers_more call refused a.output [] a.output a.looks 0 a.looks x y z (append-nil a.output) (omega arith) (good_delivered a x y p) q)
 
 -- what is chosen by a test whose answer is known
 

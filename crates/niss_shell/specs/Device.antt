@@ -1,83 +1,38 @@
--- What a contract sees of a source and of a target of bytes, and what calls do to them.
-use Rattle.std.specs.Prelude.{◌≡◌, ℕ, zero, suc, ◌<◌, ◌≤◌, ◌||◌, not, Bool, true, false}
-use Rattle.std.specs.Prelude.{Option, Some, None, Result, Ok, Err, is_err, IfOk, List, [], ◌∷◌, ◌++◌, take, drop, length}
+-- What a contract sees of a source and of a target of bytes: the calls that are made of it, each with what it returned.
+use Rattle.std.specs.Prelude.{◌≡◌, ℕ, zero, suc, ◌<◌, ◌≤◌, ◌||◌, Bool, true, false, is_err, Option, Some, None, Result, Ok, Err}
+use Rattle.std.specs.Prelude.{List, [], ◌∷◌, ◌++◌, take, drop, length}
+use Rattle.std.specs.Io.KnownBytes.{Consumes, IsAtEnd, Keeps, WriteAppends}
 use Rattle.niss_shell.specs.Names.{DeviceFault}
 
--- The bytes that a source will give, where they are known; whether a read failed; whether a read found the end.
-pub record SourceState : Type 0 where
-  pub left : Option (List ℕ)
-  pub has_failed : Bool
-  pub has_ended : Bool
+-- A read: how many bytes it asked for, and the bytes that it gave.
+pub data SourceCall : Type 0 where
+  Read : ℕ → Result (List ℕ) DeviceFault → SourceCall
 
--- The room of a target in memory that it borrows: the reference, by its name, and the bytes there that aren't overwritten
--- yet.
-pub record Room : Type 0 where
-  pub reference : ℕ
-  pub free : List ℕ
+-- A write of a piece, with how many of its first bytes were taken; or a flush.
+pub data TargetCall : Type 0 where
+  Write : List ℕ → Result ℕ DeviceFault → TargetCall
+  Flush : Result (Unit {0}) DeviceFault → TargetCall
 
--- The bytes that a target holds, where they are known; its room, where it has an end that is known; whether a write failed;
--- whether a flush failed; whether a flush came after the last write, good or refused; whether the last one that came so was
--- good.
-pub record TargetState : Type 0 where
-  pub held : Option (List ℕ)
-  pub room : Option Room
-  pub write_failed : Bool
-  pub flush_failed : Bool
-  pub flush_tried : Bool
-  pub is_flushed : Bool
+-- The calls, one after another, led a device from one state to another.
+unfoldable pub Calls : {D C : Type 0} → (D → C → D → Type 0) → D → D → List C → Type 0
+Calls call old new [] = old ≡ new
+Calls {D} call old new (c ∷ calls) = (next : D) × (call old c next × Calls call next new calls)
 
--- a write or a flush failed
-abbrev pub has_fault : TargetState → Bool
-has_fault target = target.write_failed || target.flush_failed
+-- the bytes that a read gave, by what it returned and the buffer then
+abbrev pub given : Result ℕ DeviceFault → List ℕ → Result (List ℕ) DeviceFault
+given (Ok count) buf = Ok (take count buf)
+given (Err fault) buf = Err fault
 
--- what `Gave` says of the bytes left before and after; nothing where they aren't known
-abbrev pub GaveOf : Option (List ℕ) → Option (List ℕ) → Bool → List ℕ → Type 0
-GaveOf None left_now failed bytes = Unit {0}
-GaveOf (Some all) None failed bytes = (failed ≡ true) × ((rest : List ℕ) × (all ≡ bytes ++ rest))
-GaveOf (Some all) (Some rest) failed bytes = all ≡ bytes ++ rest
+abbrev pub read_call : Result ℕ DeviceFault → List ℕ → SourceCall
+read_call result buf = Read (length buf) (given result buf)
 
--- A source gave these bytes, the next ones that it had. Of one that failed it may no longer be known what is left.
-abbrev pub Gave : SourceState → SourceState → List ℕ → Type 0
-Gave old new bytes = GaveOf old.left new.left new.has_failed bytes
+-- a read found the end: it gave no byte, though it asked for some
+abbrev pub is_end : SourceCall → Bool
+is_end (Read (suc n) (Ok [])) = true
+is_end call = false
 
--- what `Appended` says of the bytes held before and after; nothing where they aren't known
-abbrev pub AppendedOf : Option (List ℕ) → Option (List ℕ) → Bool → List ℕ → Type 0
-AppendedOf None held_now failed bytes = Unit {0}
-AppendedOf (Some all) None failed bytes = failed ≡ true
-AppendedOf (Some all) (Some all_now) failed bytes = all_now ≡ all ++ bytes
-
--- So many first bytes of the room were overwritten, and no others.
-pub record IsFilled (count : ℕ) (old new : Room) : Type 0 where
-  pub fits : count ≤ length old.free
-  pub left : new.free ≡ drop count old.free
-  pub same_reference : new.reference ≡ old.reference
-
--- the same of a room that may not be known
-abbrev pub FilledOf : ℕ → Option Room → Option Room → Type 0
-FilledOf count None room_now = Unit {0}
-FilledOf count (Some room) None = ⊥
-FilledOf count (Some room) (Some room_now) = IsFilled count room room_now
-
--- A target took these bytes after what it held, and into its room. What one that failed holds may no longer be known.
-pub record Appended (old new : TargetState) (bytes : List ℕ) : Type 0 where
-  pub text : AppendedOf old.held new.held (has_fault new) bytes
-  pub filled : FilledOf (length bytes) old.room new.room
-
--- what `StaysSilent` says of the bytes held before and after, where the target had failed or hadn't
-abbrev pub StaysSilentOf : Bool → Option (List ℕ) → Option (List ℕ) → Type 0
-StaysSilentOf false held held_now = Unit {0}
-StaysSilentOf true (Some all) held_now = Unit {0}
-StaysSilentOf true None None = Unit {0}
-StaysSilentOf true None (Some all) = ⊥
-
--- Where it isn't known what a target that failed holds, it won't be later.
-abbrev pub StaysSilent : TargetState → TargetState → Type 0
-StaysSilent old new = StaysSilentOf (has_fault old) old.held new.held
-
--- the bytes that a call with this answer gave or took
-abbrev pub moved_bytes : {E : Type 0} → Result ℕ E → List ℕ → List ℕ
-moved_bytes (Ok count) bytes = take count bytes
-moved_bytes (Err e) bytes = []
+abbrev pub is_failed_read : SourceCall → Bool
+is_failed_read (Read asked gave) = is_err gave
 
 -- the answer is 0, though there are bytes
 abbrev pub is_empty_answer : ℕ → List ℕ → Bool
@@ -85,52 +40,99 @@ is_empty_answer zero [] = false
 is_empty_answer zero (b ∷ bytes) = true
 is_empty_answer (suc n) bytes = false
 
--- a read with this answer found the end
-abbrev pub found_end : {E : Type 0} → Result ℕ E → List ℕ → Bool
-found_end (Ok count) buf = is_empty_answer count buf
-found_end (Err e) buf = false
-
 -- a write with this answer failed
 abbrev pub is_refused : {E : Type 0} → Result ℕ E → List ℕ → Bool
 is_refused (Ok count) piece = is_empty_answer count piece
 is_refused (Err e) piece = true
 
--- A read with this answer gave the next bytes, with which `buf` begins, and none where it failed.
-pub record Reads (result : Result ℕ DeviceFault) (buf : List ℕ) (old new : SourceState) : Type 0 where
-  pub bound : IfOk result (λ count. count ≤ length buf)
-  pub bytes : Gave old new (moved_bytes result buf)
-  pub failed : new.has_failed ≡ is_err result
-  pub ended : new.has_ended ≡ found_end result buf
+abbrev pub is_failure : TargetCall → Bool
+is_failure (Write piece result) = is_refused result piece
+is_failure (Flush result) = is_err result
 
--- A write with this answer took first bytes of `piece`, and none where it failed.
-pub record TakesPiece (result : Result ℕ DeviceFault) (piece : List ℕ) (old new : TargetState) : Type 0 where
-  pub bound : IfOk result (λ count. count ≤ length piece)
-  pub bytes : Appended old new (moved_bytes result piece)
-  pub silent : StaysSilent old new
-  pub write_failed : new.write_failed ≡ (old.write_failed || is_refused result piece)
-  pub flush_failed : new.flush_failed ≡ old.flush_failed
-  -- no flush came after it
-  pub untried : new.flush_tried ≡ false
-  pub unflushed : new.is_flushed ≡ false
+-- What a source shows: the bytes that it will give, where they are known; whether a read failed; whether one found the end.
+pub record SourceState : Type 0 where
+  pub left : Option (List ℕ)
+  pub has_failed : Bool
+  pub has_ended : Bool
 
--- A flush, which was refused or wasn't, moved no bytes.
-pub record Flushes (refused : Bool) (old new : TargetState) : Type 0 where
-  pub bytes : Appended old new []
-  pub silent : StaysSilent old new
-  pub write_failed : new.write_failed ≡ old.write_failed
-  pub flush_failed : new.flush_failed ≡ (old.flush_failed || refused)
-  pub tried : new.flush_tried ≡ true
-  pub flushed : new.is_flushed ≡ not refused
+abbrev pub source_state : Option (List ℕ) → Bool → Bool → SourceState
+source_state left failed ended = record { left = left; has_failed = failed; has_ended = ended }
 
--- a beginning of the bytes, and not all of them
-abbrev pub IsCut : List ℕ → List ℕ → Type 0
-IsCut part bytes = (rest : List ℕ) × (part ++ rest ≡ bytes) × (0 < length rest)
+-- What a target shows: the bytes that it holds, where they are known; whether a call failed.
+pub record TargetState : Type 0 where
+  pub held : Option (List ℕ)
+  pub has_failed : Bool
 
--- A write was refused before all of the text was written.
-pub record WriteRefused (text : List ℕ) (old new : TargetState) : Type 0 where
-  pub refused : new.write_failed ≡ true
-  pub part : List ℕ
-  pub cut : IsCut part text
-  pub appended : Appended old new part
-  -- no flush was refused on the way
-  pub flushes_work : old.flush_failed ≡ false → new.flush_failed ≡ false
+abbrev pub target_state : Option (List ℕ) → Bool → TargetState
+target_state held failed = record { held = held; has_failed = failed }
+
+-- A read gives the next bytes, and none at the end alone or where it asks for none; one that fails takes none away.
+abbrev pub Gives : SourceCall → Option (List ℕ) → Option (List ℕ) → Type 0
+Gives (Read asked (Ok bytes)) left left_now =
+    Consumes left left_now bytes × (bytes ≡ [] → 0 < asked → IsAtEnd left_now)
+Gives (Read asked (Err fault)) left left_now = Keeps left left_now
+
+-- A write appends the bytes that it takes, and one that fails none; a flush appends none.
+abbrev pub Takes : TargetCall → Option (List ℕ) → Option (List ℕ) → Type 0
+Takes (Write piece result) held held_now = WriteAppends held held_now result piece
+Takes (Flush result) held held_now = Keeps held held_now
+
+-- What a read does to what a source shows. Only a failed read sets the one flag, and only the end the other.
+pub record ReadShows (call : SourceCall) (old new : SourceState) : Type 0 where
+  pub bytes : Gives call old.left new.left
+  pub failed : new.has_failed ≡ (old.has_failed || is_failed_read call)
+  pub ended : new.has_ended ≡ (old.has_ended || is_end call)
+
+-- What a call does to what a target shows. Only a failed call sets the flag.
+pub record CallShows (call : TargetCall) (old new : TargetState) : Type 0 where
+  pub bytes : Takes call old.held new.held
+  pub failed : new.has_failed ≡ (old.has_failed || is_failure call)
+
+-- how reads ended: there may be more, the end was found, or a read failed
+pub data Ending : Type 0 where
+  More : Ending
+  End : Ending
+  Fail : Ending
+
+-- The reads gave this input, and ended so: each but the last one gave some bytes.
+unfoldable pub Reads : List SourceCall → List ℕ → Ending → Type 0
+Reads [] input ended = (input ≡ []) × (ended ≡ More)
+Reads (Read asked (Ok (b ∷ bytes)) ∷ calls) input ended =
+    (rest : List ℕ) × (input ≡ (b ∷ bytes) ++ rest) × Reads calls rest ended
+Reads (Read asked (Ok []) ∷ calls) input ended = (0 < asked) × (calls ≡ []) × (input ≡ []) × (ended ≡ End)
+Reads (Read asked (Err fault) ∷ calls) input ended = (calls ≡ []) × (input ≡ []) × (ended ≡ Fail)
+
+-- A source was read by these calls, and gave this input.
+pub record WasRead (source : List SourceCall → Type 0) : Type 0 where
+  pub reads : List SourceCall
+  pub made : source reads
+  pub input : List ℕ
+  pub ended : Ending
+  pub gave : Reads reads input ended
+
+-- A piece of a text: a beginning of it that has a byte.
+pub record IsPiece (piece text : List ℕ) : Type 0 where
+  pub rest : List ℕ
+  pub whole : piece ++ rest ≡ text
+  pub some : 0 < length piece
+
+-- The calls are writes of a text: each is brought a piece of what is left, and takes first bytes of it. `Some rest` is left
+-- at the end, or `None` where the last one was refused.
+unfoldable pub Sends : List TargetCall → List ℕ → Option (List ℕ) → Type 0
+Sends [] text left = left ≡ Some text
+Sends (Flush result ∷ calls) text left = ⊥
+Sends (Write piece (Ok (suc n)) ∷ calls) text left =
+    IsPiece piece text × (suc n ≤ length piece) × Sends calls (drop (suc n) text) left
+Sends (Write piece result ∷ calls) text left = IsPiece piece text × (calls ≡ []) × (left ≡ None)
+
+-- what is left of a text where the last write was refused, or wasn't
+abbrev pub left_after : Bool → List ℕ → Option (List ℕ)
+left_after true rest = None
+left_after false rest = Some rest
+
+-- A text was written up to this rest of it, or a write of it was refused.
+pub record Writes {W : Type 0} (call : W → TargetCall → W → Type 0)
+    (refused : Bool) (text rest : List ℕ) (old new : W) : Type 0 where
+  pub calls : List TargetCall
+  pub made : Calls call old new calls
+  pub sends : Sends calls text (left_after refused rest)

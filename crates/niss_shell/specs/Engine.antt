@@ -1,92 +1,61 @@
 -- What the engine's steps do. `front` are the bytes of the line that is being read.
-use Rattle.std.specs.Prelude.{◌≡◌, ℕ, ◌+◌, ◌*◌, ◌^◌, ◌≤◌, Bool, true, false, Result, Ok, Err, OnOk, List, [], ◌++◌, length}
-use Rattle.niss_shell.specs.Device.{SourceState, TargetState, has_fault, Gave, Appended, Flushes, WriteRefused}
+use Rattle.std.specs.Prelude.{◌≡◌, ℕ, ◌+◌, ◌*◌, ◌^◌, ◌≤◌, Bool, true, false, is_err, Result, Ok, Err, OnOk, List, [], ◌++◌, length}
+use Rattle.niss_shell.specs.Device.{SourceState, SourceCall, TargetCall, Flush, More, End, WasRead, Writes}
 use Rattle.niss_shell.specs.Lines.{ended_lines, last_part}
 use Rattle.niss_moves.specs.Line.{Moves}
 use Rattle.niss_moves.specs.Reader.{Reader, IsFed}
 use Rattle.niss_shell.specs.Words.{Request, reads_source, takes_memory}
 use Rattle.niss_shell.specs.Output.{Answer, LineAnswers, answer_to_moves, looks_at_moves, most_line_looks, line_answer}
-use Rattle.niss_shell.specs.Output.{answers_from, answer_lines, answer_request, line_with_bytes, ending}
-use Rattle.niss_shell.specs.Names.{LineCommand, UsageFault, DeviceFault, Stop, CannotWrite, OutOfMemory, Output}
+use Rattle.niss_shell.specs.Output.{answers_from, answer_lines, answer_request, line_with_bytes, unsearched}
+use Rattle.niss_shell.specs.Run.{due_without, outcome_before, flushed_outcome, Looked}
+use Rattle.niss_shell.specs.Names.{LineCommand, UsageFault, DeviceFault, Stop, OutOfMemory, Output}
 
--- What answers to lines change: the target that they are written to, by the name of its reference, the answers that wait to
--- be written to it, and the count of the looks.
-pub record AnswerState : Type 0 where
+-- What answers to lines change: the target that they are written to, by the name of its reference and by what it is, the
+-- answers that wait to be written to it, and the count of the looks.
+pub record AnswerState (W : Type 0) : Type 0 where
   pub reference : ℕ
-  pub target : TargetState
+  pub target : W
   pub pending : List ℕ
   pub looks : ℕ
 
-abbrev pub pending_state : ℕ → TargetState → List ℕ → ℕ → AnswerState
-pending_state reference target pending looks = record {
-  reference = reference;
-  target = target;
-  pending = pending;
+abbrev pub output_state : {W : Type 0} → Output W → ℕ → AnswerState W
+output_state output looks = record {
+  reference = output.target.ghost_name;
+  target = output.target.now;
+  pending = output.pending.items;
   looks = looks;
 }
 
--- an output, by what a contract sees of its target
-abbrev pub output_state : {W : Type 0} → (W → TargetState) → Output W → ℕ → AnswerState
-output_state state output looks =
-    pending_state output.target.ghost_name (state output.target.now) output.pending.items looks
-
--- A run may begin: the source can be read, the target works, no answer waits, and the meter has room for the looks of a run.
-pub record MayBegin (source : SourceState) (state : AnswerState) : Type 0 where
+-- A run may begin: the source can be read, no answer waits, and the meter has room for the looks of a run.
+pub record MayBegin {W : Type 0} (source : SourceState) (state : AnswerState W) : Type 0 where
   pub reads : source.has_failed ≡ false
   pub goes_on : source.has_ended ≡ false
-  pub works : has_fault state.target ≡ false
   pub empty : state.pending ≡ []
   pub room : state.looks ≤ 2 ^ 64
 
--- A text was taken after what waited: some of these bytes went out, and the others wait now.
-pub record TakesIn (text : List ℕ) (old new : AnswerState) : Type 0 where
-  pub sent : List ℕ
-  pub whole : sent ++ new.pending ≡ old.pending ++ text
-  pub appended : Appended old.target new.target sent
+module _ {W : Type 0} (call : W → TargetCall → W → Type 0) where
+  -- A text was taken with so many looks: what waited and the text were written up to what waits now, or a write of them was
+  -- refused, with no more looks.
+  pub record Delivered (refused : Bool) (text : List ℕ) (looks : ℕ) (old new : AnswerState W) : Type 0 where
+    pub same_target : new.reference ≡ old.reference
+    pub writes : Writes call refused (old.pending ++ text) new.pending old.target new.target
+    pub looked : Looked refused looks old.looks new.looks
 
--- A text was written or waits, with so many looks.
-pub record Writes (text : List ℕ) (looks : ℕ) (old new : AnswerState) : Type 0 where
-  pub same_target : new.reference ≡ old.reference
-  pub works : has_fault new.target ≡ false
-  pub written : TakesIn text old new
-  pub looked : new.looks ≡ old.looks + looks
+  -- An output took a text, or refused a write of what waited and of it.
+  abbrev pub Delivers : {T : Type 0} → Result T DeviceFault → List ℕ → Output W → Output W → Type 0
+  Delivers result text old new =
+      (looks : ℕ) → Delivered (is_err result) text 0 (output_state old looks) (output_state new looks)
 
--- A write was refused before all of the text was written, with no more looks than the text takes.
-pub record Refuses (text : List ℕ) (looks : ℕ) (old new : AnswerState) : Type 0 where
-  pub same_target : new.reference ≡ old.reference
-  pub refused : WriteRefused (old.pending ++ text) old.target new.target
-  pub rises : old.looks ≤ new.looks
-  pub looked : new.looks ≤ old.looks + looks
+  -- An output took a text or refused a write, and nothing waits.
+  abbrev pub TakesLine : (refused : Bool) → List ℕ → Output W → Output W → Type 0
+  TakesLine refused text old new =
+      (new.pending.items ≡ []) × ((looks : ℕ) → Delivered refused text 0 (output_state old looks) (output_state new looks))
 
--- The text was written, or a write of it was refused.
-abbrev pub WritesOrRefuses :
-    {T : Type 0} → Result T DeviceFault → List ℕ → ℕ → AnswerState → AnswerState → Type 0
-WritesOrRefuses (Ok x) text looks old new = Writes text looks old new
-WritesOrRefuses (Err e) text looks old new = Refuses text looks old new
-
--- An output that worked took a text: it was written or waits, or a write of what waited and of it was refused.
-abbrev pub Delivers :
-    {W T : Type 0} → (W → TargetState) → Result T DeviceFault → List ℕ → Output W → Output W → Type 0
-Delivers state result text old new =
-    has_fault (state old.target.now) ≡ false → (looks : ℕ) →
-    WritesOrRefuses result text 0 (output_state state old looks) (output_state state new looks)
-
--- An output took a text, and nothing waits. One that worked took it whole, or refused a write of what waited and of the
--- text.
-abbrev pub TakesLine : {W : Type 0} → (W → TargetState) → List ℕ → Output W → Output W → Type 0
-TakesLine state text old new =
-    (new.pending.items ≡ []) × (has_fault (state old.target.now) ≡ false → (looks : ℕ) →
-    Writes text 0 (output_state state old looks) (output_state state new looks))
-
-abbrev pub RefusesLine : {W : Type 0} → (W → TargetState) → List ℕ → Output W → Output W → Type 0
-RefusesLine state text old new =
-    (new.pending.items ≡ []) × (has_fault (state old.target.now) ≡ false → (looks : ℕ) →
-    Refuses text 0 (output_state state old looks) (output_state state new looks))
-
--- what a run does before its last flush, where a write may be refused
-abbrev pub Answers : Answer → Result (Unit {0}) Stop → AnswerState → AnswerState → Type 0
-Answers a (Err CannotWrite) old new = Refuses a.output a.looks old new
-Answers a outcome old new = (outcome ≡ a.outcome) × Writes a.output a.looks old new
+  -- What is due was answered before the last flush, or a write was refused.
+  pub record Answers (due : Answer) (outcome : Result (Unit {0}) Stop) (old new : AnswerState W) : Type 0 where
+    pub refused : Bool
+    pub outcome_is : outcome ≡ outcome_before refused due.outcome
+    pub delivered : Delivered refused due.output due.looks old new
 
 -- The line that is being read, and its number.
 pub record Progress : Type 0 where
@@ -98,12 +67,6 @@ pub record Advanced (front bytes : List ℕ) (n : ℕ) (progress : Progress) : T
   pub reader : IsFed progress.reader (last_part front bytes)
   pub line : progress.line ≡ n + length (ended_lines front bytes)
 
--- The bytes after `front`, in line n, were taken.
-abbrev pub TakesBytes :
-    LineAnswers → List ℕ → List ℕ → ℕ → Progress → Result (Unit {0}) Stop → AnswerState → AnswerState → Type 0
-TakesBytes f front bytes n progress result old new =
-    Answers (answers_from f n (ended_lines front bytes)) result old new × OnOk result (Advanced front bytes n progress)
-
 -- how many bytes were taken: one where the run stops
 abbrev pub piece_of : Result ℕ Stop → ℕ
 piece_of (Ok n) = n
@@ -112,21 +75,6 @@ piece_of (Err stop) = 1
 abbrev pub only_stop : Result ℕ Stop → Result (Unit {0}) Stop
 only_stop (Ok n) = Ok tt
 only_stop (Err stop) = Err stop
-
--- The end of the input after `front`, in line n, was taken.
-abbrev pub TakesEnd : LineAnswers → List ℕ → ℕ → Result (Unit {0}) Stop → AnswerState → AnswerState → Type 0
-TakesEnd f front n result old new = Answers (answers_from f n (line_with_bytes front)) result old new
-
--- The next bytes were taken, whatever stood before them in their line.
-pub record TakesNext (f : LineAnswers) (bytes : List ℕ) (before after : Progress)
-    (result : Result (Unit {0}) Stop) (old new : AnswerState) : Type 0 where
-  pub takes : (front : List ℕ) → IsFed before.reader front →
-      TakesBytes f front bytes before.line after result old new
-
--- The end of the input was taken, whatever stood before it in its line.
-pub record TakesLast (f : LineAnswers) (before : Progress)
-    (result : Result (Unit {0}) Stop) (old new : AnswerState) : Type 0 where
-  pub takes : (front : List ℕ) → IsFed before.reader front → TakesEnd f front before.line result old new
 
 -- the answer to the moves of line n, by a command
 abbrev pub answer_at_moves : LineCommand → ℕ → Moves → Answer
@@ -138,54 +86,62 @@ answer_at_moves command n line =
 abbrev pub HasRoom : ℕ → ℕ → Type 0
 HasRoom n looks = looks ≤ 2 ^ 64 + n * 2 ^ 93
 
--- This many bytes of the input were read and taken.
-pub record IsAt (f : LineAnswers) (count : ℕ) (progress : Progress)
-    (source source_now : SourceState) (old new : AnswerState) : Type 0 where
-  pub input : List ℕ
-  pub gave : Gave source source_now input
-  pub takes : TakesBytes f [] input 1 progress (Ok tt) old new
-  pub count_is : count ≡ length input
+module _ {W : Type 0} (call : W → TargetCall → W → Type 0) where
+  -- The bytes after `front`, in line n, were taken.
+  abbrev pub TakesBytes :
+      LineAnswers → List ℕ → List ℕ → ℕ → Progress → Result (Unit {0}) Stop → AnswerState W → AnswerState W → Type 0
+  TakesBytes f front bytes n progress result old new =
+      Answers call (answers_from f n (ended_lines front bytes)) result old new × OnOk result (Advanced front bytes n progress)
 
--- The source was read as far as needed, and its lines answered.
-pub record AnswersSource (f : LineAnswers) (outcome : Result (Unit {0}) Stop)
-    (source source_now : SourceState) (old new : AnswerState) : Type 0 where
-  pub input : List ℕ
-  pub gave : Gave source source_now input
-  pub answers : Answers (answer_lines f input (ending source_now)) outcome old new
-  pub read_whole : outcome ≡ Ok tt → source_now.has_ended ≡ true
+  -- The end of the input after `front`, in line n, was taken.
+  abbrev pub TakesEnd : LineAnswers → List ℕ → ℕ → Result (Unit {0}) Stop → AnswerState W → AnswerState W → Type 0
+  TakesEnd f front n result old new = Answers call (answers_from f n (line_with_bytes front)) result old new
 
--- how a run ends before its last flush
-abbrev pub EndsUnflushed :
-    Result (Unit {0}) Stop → Answer → Result Request UsageFault →
-    SourceState → SourceState → AnswerState → AnswerState → Type 0
-EndsUnflushed (Err OutOfMemory) a asked source source_now old new =
-    (takes_memory asked ≡ true) × (source_now ≡ source) × Writes [] 0 old new
-EndsUnflushed outcome a asked source source_now old new = Answers a outcome old new
+  -- The next bytes were taken, whatever stood before them in their line.
+  pub record TakesNext (f : LineAnswers) (bytes : List ℕ) (before after : Progress)
+      (result : Result (Unit {0}) Stop) (old new : AnswerState W) : Type 0 where
+    pub takes : (front : List ℕ) → IsFed before.reader front →
+        TakesBytes f front bytes before.line after result old new
 
--- What a run does before its last flush. No answer waits then.
-pub record RunsUnflushed (asked : Result Request UsageFault) (outcome : Result (Unit {0}) Stop)
-    (source source_now : SourceState) (old new : AnswerState) : Type 0 where
-  pub input : List ℕ
-  pub gave : Gave source source_now input
-  pub ends : EndsUnflushed outcome (answer_request asked input (ending source_now)) asked
-      source source_now old new
-  pub read_whole : outcome ≡ Ok tt → reads_source asked ≡ true → source_now.has_ended ≡ true
-  pub unread : reads_source asked ≡ false → source_now ≡ source
-  pub empty : new.pending ≡ []
+  -- The end of the input was taken, whatever stood before it in its line.
+  pub record TakesLast (f : LineAnswers) (before : Progress)
+      (result : Result (Unit {0}) Stop) (old new : AnswerState W) : Type 0 where
+    pub takes : (front : List ℕ) → IsFed before.reader front → TakesEnd f front before.line result old new
+
+  -- This many bytes of the input were read and taken.
+  pub record IsAt (f : LineAnswers) (count : ℕ) (progress : Progress)
+      (source : List SourceCall → Type 0) (old new : AnswerState W) : Type 0 where
+    pub read : WasRead source
+    pub goes_on : read.ended ≡ More
+    pub takes : TakesBytes f [] read.input 1 progress (Ok tt) old new
+    pub count_is : count ≡ length read.input
+
+  -- The source was read as far as needed, and its lines answered.
+  pub record AnswersSource (f : LineAnswers) (outcome : Result (Unit {0}) Stop)
+      (source : List SourceCall → Type 0) (old new : AnswerState W) : Type 0 where
+    pub read : WasRead source
+    pub answers : Answers call (answer_lines f read.input read.ended) outcome old new
+    pub read_whole : outcome ≡ Ok tt → read.ended ≡ End
+
+  -- What a run does before its last flush. No answer waits then.
+  pub record RunsUnflushed (asked : Result Request UsageFault) (outcome : Result (Unit {0}) Stop)
+      (source : List SourceCall → Type 0) (old new : AnswerState W) : Type 0 where
+    pub read : WasRead source
+    pub unread : reads_source asked ≡ false → read.reads ≡ []
+    pub no_memory : Bool
+    pub asks_memory : no_memory ≡ true → (takes_memory asked ≡ true) × (read.reads ≡ [])
+    pub answers : Answers call (due_without no_memory (answer_request asked read.input read.ended)) outcome old new
+    pub read_whole : outcome ≡ Ok tt → reads_source asked ≡ true → read.ended ≡ End
+    pub empty : new.pending ≡ []
 
 -- A run may stop so before anything was read or written.
 abbrev pub EndsAtOnce : Result Request UsageFault → Stop → Type 0
-EndsAtOnce asked stop =
-    (source : SourceState) (old : AnswerState) → MayBegin source old →
-    RunsUnflushed asked (Err stop) source source old old
-
--- a refused last flush ends a good run, and changes nothing otherwise
-abbrev pub flushed_outcome : Result (Unit {0}) Stop → Bool → Result (Unit {0}) Stop
-flushed_outcome (Ok u) true = Err CannotWrite
-flushed_outcome outcome refused = outcome
+EndsAtOnce asked OutOfMemory = takes_memory asked ≡ true
+EndsAtOnce asked stop = answer_request asked [] More ≡ unsearched [] (Err stop)
 
 -- The last flush, which may be refused.
-pub record FlushesLast (outcome outcome_now : Result (Unit {0}) Stop) (old new : TargetState) : Type 0 where
-  pub refused : Bool
-  pub outcome_is : outcome_now ≡ flushed_outcome outcome refused
-  pub flush : Flushes refused old new
+pub record FlushesLast {W : Type 0} (call : W → TargetCall → W → Type 0)
+    (outcome outcome_now : Result (Unit {0}) Stop) (old new : W) : Type 0 where
+  pub flushed : Result (Unit {0}) DeviceFault
+  pub made : call old (Flush flushed) new
+  pub outcome_is : outcome_now ≡ flushed_outcome outcome flushed

@@ -1,7 +1,8 @@
 -- What holds of an input that goes on, proved as the contract of a function.
 use Rattle.std.specs.Prelude.{◌≡◌, ℕ, Result, Err, List, ◌++◌}
+use Rattle.niss_shell.specs.Device.{More, End}
 use Rattle.niss_shell.specs.Words.{Request}
-use Rattle.niss_shell.specs.Output.{Answer, More, End, answer_request}
+use Rattle.niss_shell.specs.Output.{Answer, answer_request}
 use Rattle.niss_shell.specs.Names.{UsageFault, Stop}
 
 -- What is written of a part of an input is a beginning of what is written of the whole. A fault of the part is that of the

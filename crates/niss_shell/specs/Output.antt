@@ -1,7 +1,7 @@
 -- What a run is to write and to answer.
 use Rattle.std.specs.Prelude.{◌≡◌, ℕ, zero, suc, ◌+◌, nat_lt, Bool, true, false, if◌then◌else◌, codes, decimal}
 use Rattle.std.specs.Prelude.{Option, Some, None, Result, Ok, Err, List, [], ◌∷◌, ◌++◌, map, flat_map, take, length, unwrap_or}
-use Rattle.niss_shell.specs.Device.{SourceState}
+use Rattle.niss_shell.specs.Device.{Ending, More, End, Fail}
 use Rattle.niss_shell.specs.Lines.{line_feed, space, ended_lines, last_part}
 use Rattle.niss_cube.specs.Steps.{name_of, start_name_of, steps, turns_of, may_start}
 use Rattle.niss_moves.specs.Cleaning.{with_clean_line}
@@ -173,20 +173,6 @@ line_answers command = record {
   most_looks = most_line_looks command;
 }
 
--- how the source was left: with more to give, at its end, or failed
-pub data Ending : Type 0 where
-  More : Ending
-  End : Ending
-  Fail : Ending
-
-abbrev pub ending_of : Bool → Bool → Ending
-ending_of true has_ended = Fail
-ending_of false true = End
-ending_of false false = More
-
-abbrev pub ending : SourceState → Ending
-ending source = ending_of source.has_failed source.has_ended
-
 -- What is to be written, how the run is to end, the looks that all of it takes, and the most that it may take.
 pub record Answer : Type 0 where
   pub output : List ℕ
@@ -275,6 +261,6 @@ answer_request (Ok ListSteps) input ended = unsearched (flat_map step_line steps
 answer_request (Ok (DrawScrambles state stream turns count)) input ended =
     unsearched (scramble_text turns count (generator_of state stream)) (Ok tt)
 
--- what a run with these words is to write and to answer, where the source gave this input and was left so
-abbrev pub out_of : List (List ℕ) → List ℕ → SourceState → Answer
-out_of words input source = answer_request (request_of words) input (ending source)
+-- what a run with these words is to write and to answer, where the source gave this input and its reads ended so
+abbrev pub out_of : List (List ℕ) → List ℕ → Ending → Answer
+out_of words input ended = answer_request (request_of words) input ended

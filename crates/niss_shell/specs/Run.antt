@@ -1,104 +1,60 @@
 -- What a run does to its three devices.
-use Rattle.std.specs.Prelude.{◌≡◌, ℕ, ◌+◌, ◌<◌, ◌≤◌, not, Bool, true, false, Result, Ok, Err, List, [], ◌++◌, length}
-use Rattle.niss_shell.specs.Device.{SourceState, TargetState, has_fault, Gave, Appended}
-use Rattle.niss_shell.specs.Words.{Request, request_of, reads_source, takes_memory}
-use Rattle.niss_shell.specs.Output.{Answer, out_of, error_text, status_of}
-use Rattle.niss_shell.specs.Names.{UsageFault, Stop, CannotWrite, OutOfMemory}
+use Rattle.std.specs.Prelude.{◌≡◌, ℕ, ◌+◌, ◌≤◌, Bool, true, false, Result, Ok, Err, List, [], ◌∷◌, ◌++◌}
+use Rattle.niss_shell.specs.Device.{SourceCall, TargetCall, Flush, WasRead, End, Sends, left_after}
+use Rattle.niss_shell.specs.Words.{request_of, reads_source, takes_memory}
+use Rattle.niss_shell.specs.Output.{Answer, unsearched, out_of, error_text, status_of}
+use Rattle.niss_shell.specs.Names.{DeviceFault, Stop, CannotWrite, OutOfMemory}
 
--- the source, the output and the error writer
-pub record Devices : Type 0 where
-  pub source : SourceState
-  pub output : TargetState
-  pub error : TargetState
+-- what a run is to write and to answer, where memory was refused or wasn't
+abbrev pub due_without : Bool → Answer → Answer
+due_without true due = unsearched [] (Err OutOfMemory)
+due_without false due = due
 
-abbrev pub devices : SourceState → TargetState → TargetState → Devices
-devices source output error = record { source = source; output = output; error = error }
+-- how it ends before the last flush, where a write was refused or wasn't
+abbrev pub outcome_before : Bool → Result (Unit {0}) Stop → Result (Unit {0}) Stop
+outcome_before true outcome = Err CannotWrite
+outcome_before false outcome = outcome
 
--- Nothing ended the run before its end: it has no fault, and where the input comes from the source, that was read to its
--- end.
-pub record ReachesEnd (due : Answer) (asked : Result Request UsageFault)
-    (source_now : SourceState) : Type 0 where
-  pub good : due.outcome ≡ Ok tt
-  pub read_whole : reads_source asked ≡ true → source_now.has_ended ≡ true
+-- a refused last flush ends a good run, and changes nothing otherwise
+abbrev pub flushed_outcome : Result (Unit {0}) Stop → Result (Unit {0}) DeviceFault → Result (Unit {0}) Stop
+flushed_outcome (Ok u) (Err fault) = Err CannotWrite
+flushed_outcome outcome flushed = outcome
 
--- A good run: the whole output was written, and flushed.
-pub record Finishes (due : Answer) (asked : Result Request UsageFault) (old new : Devices) : Type 0 where
-  pub ends : ReachesEnd due asked new.source
-  pub works : has_fault new.output ≡ false
-  pub written : Appended old.output new.output due.output
-  pub flushed : new.output.is_flushed ≡ true
+-- how far the meter rises, where so many looks are due: no further where a write was refused
+abbrev pub Looked : Bool → (due looks looks_now : ℕ) → Type 0
+Looked true due looks looks_now = (looks ≤ looks_now) × (looks_now ≤ looks + due)
+Looked false due looks looks_now = looks_now ≡ looks + due
 
--- `cannot write`: a write was refused and left a rest, or else all was written and the last flush was refused, of a run
--- that has no fault.
-pub record OutputRefused (due : Answer) (asked : Result Request UsageFault) (old new : Devices) : Type 0 where
-  pub refused : has_fault new.output ≡ true
-  pub text : List ℕ
-  pub rest : List ℕ
-  pub beginning : text ++ rest ≡ due.output
-  pub written : Appended old.output new.output text
-  pub cut : new.output.write_failed ≡ true → 0 < length rest
-  pub whole : new.output.write_failed ≡ false → rest ≡ []
-  pub last : new.output.write_failed ≡ false → ReachesEnd due asked new.source
-  pub last_flush : new.output.write_failed ≡ false → new.output.is_flushed ≡ false
-
--- `out of memory`: the request takes memory, nothing was read, and nothing written or refused.
-pub record MemoryRefused (asked : Result Request UsageFault) (old new : Devices) : Type 0 where
-  pub asks : takes_memory asked ≡ true
-  pub unread : new.source ≡ old.source
-  pub nothing : Appended old.output new.output []
-  pub unrefused : new.output.write_failed ≡ false
-
--- A fault of the words, of a line or of the input, which comes after the answers before it. No write was refused.
-pub record EndsByFault (stop : Stop) (due : Answer) (old new : Devices) : Type 0 where
-  pub fault : due.outcome ≡ Err stop
-  pub written : Appended old.output new.output due.output
-  pub unrefused : new.output.write_failed ≡ false
-
--- how a run ends, where `due` is what it is to write and to answer
-abbrev pub Ends :
-    Result (Unit {0}) Stop → Answer → Result Request UsageFault → Devices → Devices → Type 0
-Ends (Ok u) due asked old new = Finishes due asked old new
-Ends (Err CannotWrite) due asked old new = OutputRefused due asked old new
-Ends (Err OutOfMemory) due asked old new = MemoryRefused asked old new
-Ends (Err stop) due asked old new = EndsByFault stop due old new
-
--- The error writer took this text, or a beginning of it where it refused a write.
-pub record ReportsError (text : List ℕ) (old new : TargetState) : Type 0 where
-  pub part : List ℕ
-  pub rest : List ℕ
-  pub beginning : part ++ rest ≡ text
-  pub whole : new.write_failed ≡ false → rest ≡ []
-  -- where nothing had failed before, a refused write left a rest
-  pub cut : has_fault old ≡ false → new.write_failed ≡ true → 0 < length rest
-  pub written : Appended old new part
-  -- it isn't flushed: a flush might have been refused
-  pub unflushed : new.flush_failed ≡ old.flush_failed
-
--- how far the meter rises, where the run is due to look so often: not at all where memory was refused, and no further
--- where a write was
-abbrev pub Looked : Result (Unit {0}) Stop → Bool → ℕ → ℕ → ℕ → Type 0
-Looked (Err OutOfMemory) write_refused due looks looks_now = looks_now ≡ looks
-Looked outcome true due looks looks_now = (looks ≤ looks_now) × (looks_now ≤ looks + due)
-Looked outcome false due looks looks_now = looks_now ≡ looks + due
-
--- What a run with these words does to its devices and to the meter of its looks, and the status that it answers.
-pub record Runs (words : List (List ℕ)) (old new : Devices) (looks looks_now : ℕ) (status : ℕ) : Type 0 where
-  -- the bytes that the source gave
-  pub input : List ℕ
-  pub gave : Gave old.source new.source input
-  -- nothing is read but by a command that takes its input from the source
-  pub unread : reads_source (request_of words) ≡ false → new.source ≡ old.source
-  -- how the run ended, and what was written
+-- What a run with these words does to its devices, by the calls that it makes of each, to the meter of its looks, and the
+-- status that it returns.
+pub record Runs (words : List (List ℕ)) (source : List SourceCall → Type 0) (output error : List TargetCall → Type 0)
+    (looks looks_now status : ℕ) : Type 0 where
+  -- The source is read until its end or until the run stops, and only by a command that takes its input from there.
+  pub read : WasRead source
+  pub unread : reads_source (request_of words) ≡ false → read.reads ≡ []
+  -- Memory may be refused to a request that takes some: then nothing was read.
+  pub no_memory : Bool
+  pub asks_memory : no_memory ≡ true → (takes_memory (request_of words) ≡ true) × (read.reads ≡ [])
+  -- what is due
+  pub due : Answer
+  pub due_is : due ≡ due_without no_memory (out_of words read.input read.ended)
+  -- What is due is written piece by piece, up to a write that may be refused. One flush comes after it, which may be refused
+  -- too.
+  pub refused : Bool
+  pub writes : List TargetCall
+  pub flushed : Result (Unit {0}) DeviceFault
+  pub made : output (writes ++ Flush flushed ∷ [])
+  pub sends : Sends writes due.output (left_after refused [])
+  -- how it ends
   pub outcome : Result (Unit {0}) Stop
-  pub ends : Ends outcome (out_of words input new.source) (request_of words) old new
-  -- however it ended, a flush of the output was tried after its last write
-  pub tried : new.output.flush_tried ≡ true
-  -- No flush but that last one was refused. So none came earlier, since an earlier one may be refused and the last one
-  -- not.
-  pub one_flush : new.output.flush_failed ≡ not new.output.is_flushed
-  -- the looks at positions
-  pub looked : Looked outcome new.output.write_failed (out_of words input new.source).looks looks looks_now
-  pub within_bound : looks_now ≤ looks + (out_of words input new.source).most_looks
-  -- what was written on the error writer
-  pub reports : ReportsError (error_text outcome) old.error new.error
+  pub outcome_is : outcome ≡ flushed_outcome (outcome_before refused due.outcome) flushed
+  pub read_whole : outcome_before refused due.outcome ≡ Ok tt → reads_source (request_of words) ≡ true → read.ended ≡ End
   pub answers : status ≡ status_of outcome
+  -- the looks at positions
+  pub looked : Looked refused due.looks looks looks_now
+  pub within_bound : looks_now ≤ looks + due.most_looks
+  -- What went wrong is written to the error writer, up to a write that may be refused, and isn't flushed.
+  pub error_refused : Bool
+  pub reports : List TargetCall
+  pub made_reports : error reports
+  pub sends_reports : Sends reports (error_text outcome) (left_after error_refused [])

@@ -1,6 +1,7 @@
 //! A command on lines with all that its run takes memory for, taken before the first byte is read or written.
 ghost use Rattle.std.specs.Prelude.{◌≡◌, ◌<◌, ◌≤◌, ◌++◌, Ok, List, ℕ, map, flat_map, string_bytes, length};
 ghost use Rattle.std.specs.Prelude.{OnOk, IfOk, IfErr, IfSome, MatchOption};
+ghost use Rattle.niss_shell.specs.Device.{Calls};
 ghost use Rattle.niss_shell.specs.Words.{most_bytes, joined, spaced_word, OnLines};
 ghost use Rattle.niss_shell.specs.Engine.{MayBegin, RunsUnflushed, EndsAtOnce, output_state};
 ghost use Rattle.niss_shell.specs.Job.{IsInput, command_of};
@@ -96,12 +97,12 @@ impl<A: Allocator> Input<A> {
         output: &mut Output<W>,
         looks: &mut Meter,
     ) -> Result<(), Stop>
-        requires begins { MayBegin (R.state source.old) (output_state W.state output.old looks.old) }
+        requires begins { MayBegin (R.state source.old) (output_state output.old looks.old) }
         requires fits { IfSome self.now.text (λ text. length text.items ≤ most_bytes) }
         ensures { (words : List (List ℕ)) → IsInput (λ text. text.items) self.now.text words →
-            RunsUnflushed (Ok (OnLines (command_of work.now) words)) result
-            (R.state source.old) (R.state source.new)
-            (output_state W.state output.old looks.old) (output_state W.state output.new looks.new) }
+            RunsUnflushed W.call (Ok (OnLines (command_of work.now) words)) result
+            (Calls R.call source.old source.new)
+            (output_state output.old looks.old) (output_state output.new looks.new) }
     {
         let mut lines = Lines::new(work, looks);
         match &self.text {
@@ -111,7 +112,6 @@ impl<A: Allocator> Input<A> {
     }
 
     /// Answers them by a search, whose tables take memory before the first byte is read or written.
-    #[tactic(auto, using(crate::proofs::RunLemmas::runs_tables))]
     fn search<R: Source, W: Target>(
         &self,
         alloc: A,
@@ -122,12 +122,12 @@ impl<A: Allocator> Input<A> {
     ) -> Result<(), Stop>
     where
         A: Copy,
-        requires begins { MayBegin (R.state source.old) (output_state W.state output.old looks.old) }
+        requires begins { MayBegin (R.state source.old) (output_state output.old looks.old) }
         requires fits { IfSome self.now.text (λ text. length text.items ≤ most_bytes) }
         ensures { (words : List (List ℕ)) → IsInput (λ text. text.items) self.now.text words →
-            RunsUnflushed (Ok (OnLines (LineCommand.Search query) words)) result
-            (R.state source.old) (R.state source.new)
-            (output_state W.state output.old looks.old) (output_state W.state output.new looks.new) }
+            RunsUnflushed W.call (Ok (OnLines (LineCommand.Search query) words)) result
+            (Calls R.call source.old source.new)
+            (output_state output.old looks.old) (output_state output.new looks.new) }
     {
         // what fills the tables is no look at a line
         let tables = Tables::build_in(alloc, query.step, &mut Meter::new())?;
@@ -140,7 +140,6 @@ impl<A: Allocator> Input<A> {
 /// then for tables, before the first byte is read or written.
 ///
 /// It is a function of its own so that the input's drop, which is long, is proved apart from `answer_command`.
-#[tactic(auto, using(std::proofs::lemmas::Result::err_from_is_err_and))]
 pub fn run_on_lines<A: Allocator + Copy, B: Allocator, R: Source, W: Target>(
     alloc: A,
     request: LineRequest<'_, B>,
@@ -148,11 +147,11 @@ pub fn run_on_lines<A: Allocator + Copy, B: Allocator, R: Source, W: Target>(
     output: &mut Output<W>,
     looks: &mut Meter,
 ) -> Result<(), Stop>
-    requires { MayBegin (R.state source.old) (output_state W.state output.old looks.old) }
-    ensures { RunsUnflushed
+    requires { MayBegin (R.state source.old) (output_state output.old looks.old) }
+    ensures { RunsUnflushed W.call
         (Ok (OnLines request.entry.command (map string_bytes request.entry.words.now)))
-        result (R.state source.old) (R.state source.new)
-        (output_state W.state output.old looks.old) (output_state W.state output.new looks.new) }
+        result (Calls R.call source.old source.new)
+        (output_state output.old looks.old) (output_state output.new looks.new) }
 {
     let LineRequest { command, words } = request;
     let input = Input::new(alloc, words)?;

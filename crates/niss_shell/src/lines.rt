@@ -1,6 +1,6 @@
 //! The lines of a run, and how each is answered.
 ghost use Rattle.std.specs.Prelude.{◌≡◌, ◌+◌, ◌^◌, ◌<◌, ◌≤◌, false, Err, [], length, take, OnOk, OnErr, IfOk};
-ghost use Rattle.niss_shell.specs.Device.{has_fault};
+ghost use Rattle.niss_shell.specs.Device.{Calls, End};
 ghost use Rattle.niss_moves.specs.Reader.{IsFed};
 ghost use Rattle.niss_shell.specs.Words.{most_bytes};
 
@@ -43,7 +43,7 @@ pub struct Lines<'a, A: Allocator> {
 impl<'a, A: Allocator> Lines<'a, A> {
     ghost use Rattle.niss_moves.specs.Reader.{moves_of};
     ghost use Rattle.niss_shell.specs.Engine.{MayBegin, Answers, AnswersSource, HasRoom, answer_at_moves, piece_of, only_stop};
-    ghost use Rattle.niss_shell.specs.Output.{answer_lines, fault_answer, End};
+    ghost use Rattle.niss_shell.specs.Output.{answer_lines, fault_answer};
     ghost use Rattle.niss_shell.specs.Job.{command_of, Keeps, AnswersOpenLine, Takes, Ends, answers_of, lines_state};
 
     /// The first line, of which nothing was read.
@@ -66,10 +66,9 @@ impl<'a, A: Allocator> Lines<'a, A> {
     /// Writes what waits, and stops the run by a fault of the line.
     #[tactic(auto, using(std::proofs::lemmas::Result::err_from_is_err_and))]
     fn refuse<W: Target>(&mut self, fault: LineFault, output: &mut Output<W>) -> Result<(), Stop>
-        requires works { has_fault (W.state output.old.target.now) ≡ false }
         ensures keeps { Keeps self.old self.new }
-        ensures refused { Answers (fault_answer self.old.line fault) result
-            (lines_state W.state output.old self.old) (lines_state W.state output.new self.new) }
+        ensures refused { Answers W.call (fault_answer self.old.line fault) result
+            (lines_state output.old self.old) (lines_state output.new self.new) }
         ensures stops { OnOk result ⊥ }
         ensures empty { OnErr result (output.new.pending.items ≡ []) }
         ensures meter { self.new.looks.now ≡ self.old.looks.now }
@@ -86,13 +85,11 @@ impl<'a, A: Allocator> Lines<'a, A> {
     /// Takes the answer to the moves that were read after what waits. Without a search, and for its counts, it waits too;
     /// each solution is written as it is found.
     fn answer<W: Target>(&mut self, output: &mut Output<W>) -> Result<(), Stop>
-        requires works { has_fault (W.state output.old.target.now) ≡ false }
         requires meter { self.old.looks.now ≤ 2 ^ 127 }
         ensures keeps { Keeps self.old self.new }
-        ensures answers { Answers
+        ensures answers { Answers W.call
             (answer_at_moves (command_of self.old.work.now) self.old.line (moves_of self.old.reader)) result
-            (lines_state W.state output.old self.old) (lines_state W.state output.new self.new) }
-        ensures works { OnOk result (has_fault (W.state output.new.target.now) ≡ false) }
+            (lines_state output.old self.old) (lines_state output.new self.new) }
         ensures empty { OnErr result (output.new.pending.items ≡ []) }
         ensures meter { self.new.looks.now ≤ self.old.looks.now + 2 ^ 93 }
         ensures reader { self.new.reader ≡ self.old.reader }
@@ -117,13 +114,11 @@ impl<'a, A: Allocator> Lines<'a, A> {
 
     /// Takes the answer to the line after what waits, and begins the next one.
     fn end_line<W: Target>(&mut self, output: &mut Output<W>) -> Result<(), Stop>
-        requires works { has_fault (W.state output.old.target.now) ≡ false }
         requires lines { self.old.line ≤ most_bytes + 1 }
         requires meter { HasRoom self.old.line self.old.looks.now }
         ensures keeps { Keeps self.old self.new }
-        ensures answers { AnswersOpenLine result self.old
-            (lines_state W.state output.old self.old) (lines_state W.state output.new self.new) }
-        ensures works { OnOk result (has_fault (W.state output.new.target.now) ≡ false) }
+        ensures answers { AnswersOpenLine W.call result self.old
+            (lines_state output.old self.old) (lines_state output.new self.new) }
         ensures empty { OnErr result (output.new.pending.items ≡ []) }
         ensures reader { OnOk result (IsFed self.new.reader []) }
         ensures line { OnOk result (self.new.line ≡ self.old.line + 1) }
@@ -142,15 +137,13 @@ impl<'a, A: Allocator> Lines<'a, A> {
     #[tactic(auto, using(crate::proofs::EngineLemmas::inside_taken))]
     fn take_piece<W: Target>(&mut self, bytes: &[u8], output: &mut Output<W>) -> Result<usize, Stop>
         requires some { 0 < length bytes.now }
-        requires works { has_fault (W.state output.old.target.now) ≡ false }
         requires column { self.old.reader.fed + length bytes.now ≤ most_bytes }
         requires lines { self.old.line ≤ most_bytes }
         requires meter { HasRoom self.old.line self.old.looks.now }
         ensures keeps { Keeps self.old self.new }
         ensures count { IfOk result (λ n. (0 < n) × (n ≤ length bytes.now)) }
-        ensures takes { Takes (take (piece_of result) bytes.now) (only_stop result) self.old self.new
-            (lines_state W.state output.old self.old) (lines_state W.state output.new self.new) }
-        ensures works { OnOk result (has_fault (W.state output.new.target.now) ≡ false) }
+        ensures takes { Takes W.call (take (piece_of result) bytes.now) (only_stop result) self.old self.new
+            (lines_state output.old self.old) (lines_state output.new self.new) }
         ensures empty { OnErr result (output.new.pending.items ≡ []) }
         ensures column { IfOk result (λ n. self.new.reader.fed ≤ self.old.reader.fed + n) }
         ensures lines { IfOk result (λ n. self.new.line ≤ self.old.line + n) }
@@ -171,14 +164,12 @@ impl<'a, A: Allocator> Lines<'a, A> {
 
     /// Takes the next bytes of the input, and writes the answers to the lines that they end.
     fn take_block<W: Target>(&mut self, bytes: &[u8], output: &mut Output<W>) -> Result<(), Stop>
-        requires works { has_fault (W.state output.old.target.now) ≡ false }
         requires column { self.old.reader.fed + length bytes.now ≤ most_bytes }
         requires lines { self.old.line + length bytes.now ≤ most_bytes + 1 }
         requires meter { HasRoom self.old.line self.old.looks.now }
         ensures keeps { Keeps self.old self.new }
-        ensures takes { Takes bytes.now result self.old self.new
-            (lines_state W.state output.old self.old) (lines_state W.state output.new self.new) }
-        ensures works { OnOk result (has_fault (W.state output.new.target.now) ≡ false) }
+        ensures takes { Takes W.call bytes.now result self.old self.new
+            (lines_state output.old self.old) (lines_state output.new self.new) }
         ensures empty { output.new.pending.items ≡ [] }
         ensures column { OnOk result (self.new.reader.fed ≤ self.old.reader.fed + length bytes.now) }
         ensures lines { OnOk result (self.new.line ≤ self.old.line + length bytes.now) }
@@ -194,13 +185,12 @@ impl<'a, A: Allocator> Lines<'a, A> {
     /// Takes the end of the input. A last line counts where it has a byte.
     #[tactic(auto, using(crate::proofs::EngineLemmas::no_last, crate::proofs::EngineLemmas::last_line))]
     fn take_end<W: Target>(&mut self, output: &mut Output<W>) -> Result<(), Stop>
-        requires works { has_fault (W.state output.old.target.now) ≡ false }
         requires empty { output.old.pending.items ≡ [] }
         requires lines { self.old.line ≤ most_bytes + 1 }
         requires meter { HasRoom self.old.line self.old.looks.now }
         ensures keeps { Keeps self.old self.new }
-        ensures ends { Ends result self.old
-            (lines_state W.state output.old self.old) (lines_state W.state output.new self.new) }
+        ensures ends { Ends W.call result self.old
+            (lines_state output.old self.old) (lines_state output.new self.new) }
         ensures empty { output.new.pending.items ≡ [] }
     {
         if self.reader.fed() == 0 {
@@ -216,13 +206,13 @@ impl<'a, A: Allocator> Lines<'a, A> {
         source: &mut S,
         output: &mut Output<W>,
     ) -> Result<(), Stop>
-        requires begins { MayBegin (S.state source.old) (lines_state W.state output.old self.old) }
+        requires begins { MayBegin (S.state source.old) (lines_state output.old self.old) }
         requires reader { IsFed self.old.reader [] }
         requires line { self.old.line ≡ 1 }
         ensures keeps { Keeps self.old self.new }
-        ensures answers { AnswersSource (answers_of self.old) result
-            (S.state source.old) (S.state source.new)
-            (lines_state W.state output.old self.old) (lines_state W.state output.new self.new) }
+        ensures answers { AnswersSource W.call (answers_of self.old) result
+            (Calls S.call source.old source.new)
+            (lines_state output.old self.old) (lines_state output.new self.new) }
         ensures empty { output.new.pending.items ≡ [] }
     {
         let mut block = [0u8; BLOCK];
@@ -248,13 +238,12 @@ impl<'a, A: Allocator> Lines<'a, A> {
     #[tactic(auto, using(crate::proofs::AnswerLemmas::text_laws))]
     pub fn take_text<W: Target>(&mut self, text: &[u8], output: &mut Output<W>) -> Result<(), Stop>
         requires fits { length text.now ≤ most_bytes }
-        requires works { has_fault (W.state output.old.target.now) ≡ false }
         requires reader { IsFed self.old.reader [] }
         requires line { self.old.line ≡ 1 }
         requires meter { self.old.looks.now ≤ 2 ^ 64 }
         ensures keeps { Keeps self.old self.new }
-        ensures answers { Answers (answer_lines (answers_of self.old) text.now End) result
-            (lines_state W.state output.old self.old) (lines_state W.state output.new self.new) }
+        ensures answers { Answers W.call (answer_lines (answers_of self.old) text.now End) result
+            (lines_state output.old self.old) (lines_state output.new self.new) }
         ensures empty { output.new.pending.items ≡ [] }
     {
         self.take_block(text, output)?;

@@ -1,7 +1,6 @@
 //! Where the answers of a run go.
-ghost use Rattle.std.specs.Prelude.{◌≡◌, [], OnOk, OnErr};
-ghost use Rattle.niss_shell.specs.Device.{Appended, WriteRefused, has_fault};
-ghost use Rattle.niss_shell.specs.Engine.{Delivers, TakesLine, RefusesLine, FlushesLast};
+ghost use Rattle.std.specs.Prelude.{◌≡◌, true, false, [], OnErr};
+ghost use Rattle.niss_shell.specs.Engine.{Delivers, TakesLine, FlushesLast};
 ghost use Rattle.niss_shell.specs.Output.{solution_line};
 
 use crate::device::{DeviceFault, Target};
@@ -35,13 +34,7 @@ impl<'a, W: Target> Output<'a, W> {
     /// Writes what waits.
     pub fn send(&mut self) -> Result<(), DeviceFault>
         ensures same_target { self.new.target.ghost_name ≡ self.old.target.ghost_name }
-        ensures sent { Delivers W.state result [] self.old self.new }
-        ensures whole { OnOk result (Appended
-            (W.state self.old.target.now) (W.state self.new.target.now) self.old.pending.items) }
-        ensures works { OnOk result
-            (has_fault (W.state self.new.target.now) ≡ has_fault (W.state self.old.target.now)) }
-        ensures refused { OnErr result (WriteRefused self.old.pending.items
-            (W.state self.old.target.now) (W.state self.new.target.now)) }
+        ensures sent { Delivers W.call result [] self.old self.new }
         ensures empty { self.new.pending.items ≡ [] }
     {
         let sent = write_all(self.target, self.pending.as_slice());
@@ -52,7 +45,7 @@ impl<'a, W: Target> Output<'a, W> {
     /// Takes a text after what waits. Where there is no room for it, what waits is written first.
     pub fn put(&mut self, text: &LineText) -> Result<(), DeviceFault>
         ensures same_target { self.new.target.ghost_name ≡ self.old.target.ghost_name }
-        ensures taken { Delivers W.state result text.now.items self.old self.new }
+        ensures taken { Delivers W.call result text.now.items self.old self.new }
         ensures empty { OnErr result (self.new.pending.items ≡ []) }
     {
         if text.len() > self.pending.remaining_capacity() {
@@ -64,7 +57,7 @@ impl<'a, W: Target> Output<'a, W> {
 
     /// Writes what waits, and the text after it.
     pub fn write(&mut self, text: &LineText) -> Result<(), DeviceFault>
-        ensures written { Delivers W.state result text.now.items self.old self.new }
+        ensures written { Delivers W.call result text.now.items self.old self.new }
         ensures empty { self.new.pending.items ≡ [] }
     {
         self.put(text)?;
@@ -74,8 +67,8 @@ impl<'a, W: Target> Output<'a, W> {
     /// Ends a run by its last flush. Where that is refused, a good run ends with a fault.
     pub fn finish(&mut self, answered: Result<(), Stop>) -> Result<(), Stop>
         ensures same_target { self.new.target.ghost_name ≡ self.old.target.ghost_name }
-        ensures flushes { FlushesLast answered result
-            (W.state self.old.target.now) (W.state self.new.target.now) }
+        ensures flushes { FlushesLast W.call answered result
+            self.old.target.now self.new.target.now }
     {
         // a run that was stopped is flushed too
         let flushed = self.target.flush();
@@ -96,11 +89,10 @@ pub fn solution_text(path: &TurnPath) -> LineText
 impl<'a, W: Target> Sink for Output<'a, W> {
     type Fault = DeviceFault;
 
-    ghost took = { λ old path new. TakesLine W.state (solution_line path.turns) old new };
+    ghost took = { λ old path new. TakesLine W.call false (solution_line path.turns) old new };
 
-    ghost refused = { λ old path new. RefusesLine W.state (solution_line path.turns) old new };
+    ghost refused = { λ old path new. TakesLine W.call true (solution_line path.turns) old new };
 
-    #[tactic(auto, using(crate::proofs::OutputLemmas::line_taken, crate::proofs::OutputLemmas::line_refused))]
     fn take(&mut self, path: &TurnPath) -> Result<(), DeviceFault> {
         if !self.pending.is_empty() {
             return self.write(&solution_text(path));

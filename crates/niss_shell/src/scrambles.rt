@@ -1,7 +1,6 @@
 //! The scrambles that a run writes.
 ghost use Rattle.std.specs.Prelude.{◌≡◌, ◌≤◌, ◌++◌, ◌∷◌, ℕ, [], drop, false, length, None, Ok};
 ghost use Rattle.niss_search.specs.Draw.{next_words, after_words, draw};
-ghost use Rattle.niss_shell.specs.Device.{has_fault};
 ghost use Rattle.niss_shell.specs.Engine.{Answers, output_state};
 ghost use Rattle.niss_shell.specs.Lines.{line_feed};
 ghost use Rattle.niss_shell.specs.Output.{unsearched};
@@ -61,11 +60,10 @@ pub fn write_scrambles<W: Target>(
     count: usize,
     output: &mut Output<W>,
 ) -> Result<(), Stop>
-    requires works { has_fault (W.state output.old.target.now) ≡ false }
     requires turns { turns ≤ 256 }
     ensures answers { (looks : ℕ) →
-        Answers (unsearched (scramble_text turns count rng) (Ok tt)) result
-        (output_state W.state output.old looks) (output_state W.state output.new looks) }
+        Answers W.call (unsearched (scramble_text turns count rng) (Ok tt)) result
+        (output_state output.old looks) (output_state output.new looks) }
     ensures empty { output.new.pending.items ≡ [] }
 {
     let mut line = LineText::new();

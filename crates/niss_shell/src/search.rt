@@ -37,7 +37,7 @@ impl<A: Allocator> Search<A> {
         requires meter { looks.old ≤ 2 ^ 127 }
         ensures empty { OnErr result (output.new.pending.items ≡ []) }
         ensures reported { (e : Place → Place) → HasPosition self.now.tables e position.now →
-            Reported W.state result self.now e output.old output.new looks.old looks.new }
+            Reported W.call result self.now e output.old output.new looks.old looks.new }
         ensures bound { looks.new ≤ looks.old + look_bound (turns_of self.now.tables) self.now.query.limit }
     {
         let Query { limit, slack, .. } = self.query;

@@ -1,11 +1,11 @@
 //! A run, from the words of a command line to the exit status.
-ghost use Rattle.std.specs.Prelude.{◌≡◌, ◌≤◌, ◌^◌, false, [], ℕ, Ok, length, map, flat_map, string_bytes};
-ghost use Rattle.niss_shell.specs.Device.{has_fault};
+ghost use Rattle.std.specs.Prelude.{◌≡◌, ◌≤◌, ◌^◌, Bool, false, [], ℕ, Ok, length, map, flat_map, string_bytes};
+ghost use Rattle.niss_shell.specs.Device.{Calls, Writes};
 ghost use Rattle.niss_shell.specs.Words.{request_of};
 ghost use Rattle.niss_shell.specs.Output.{error_text, status_of, step_line, unsearched};
 ghost use Rattle.niss_cube.specs.Steps.{steps};
 ghost use Rattle.niss_shell.specs.Engine.{MayBegin, Answers, RunsUnflushed, output_state};
-ghost use Rattle.niss_shell.specs.Run.{Runs, ReportsError, devices};
+ghost use Rattle.niss_shell.specs.Run.{Runs};
 
 use crate::command::{Command, parse_words};
 use crate::device::{Source, Target};
@@ -35,10 +35,9 @@ pub fn put_steps(text: &mut LineText)
 
 /// Writes the names of the steps, each on a line.
 fn write_steps<W: Target>(output: &mut Output<W>) -> Result<(), Stop>
-    requires works { has_fault (W.state output.old.target.now) ≡ false }
     ensures answers { (looks : ℕ) →
-        Answers (unsearched (flat_map step_line steps) (Ok tt)) result
-        (output_state W.state output.old looks) (output_state W.state output.new looks) }
+        Answers W.call (unsearched (flat_map step_line steps) (Ok tt)) result
+        (output_state output.old looks) (output_state output.new looks) }
     ensures empty { output.new.pending.items ≡ [] }
 {
     let mut text = LineText::new();
@@ -54,10 +53,10 @@ fn answer_command<A: Allocator + Copy, B: Allocator, R: Source, W: Target>(
     output: &mut Output<W>,
     looks: &mut Meter,
 ) -> Result<(), Stop>
-    requires { MayBegin (R.state source.old) (output_state W.state output.old looks.old) }
-    ensures { RunsUnflushed (request_of (map string_bytes words.now)) result
-        (R.state source.old) (R.state source.new)
-        (output_state W.state output.old looks.old) (output_state W.state output.new looks.new) }
+    requires { MayBegin (R.state source.old) (output_state output.old looks.old) }
+    ensures { RunsUnflushed W.call (request_of (map string_bytes words.now)) result
+        (Calls R.call source.old source.new)
+        (output_state output.old looks.old) (output_state output.new looks.new) }
 {
     let Ok(command) = parse_words(words) else {
         return Err(Stop::Usage);
@@ -79,9 +78,9 @@ fn answer_command<A: Allocator + Copy, B: Allocator, R: Source, W: Target>(
 }
 
 /// Writes what went wrong, or as much of it as the error writer takes, and answers the exit status.
-#[tactic(auto, using(crate::proofs::RunLemmas::reported))]
+#[tactic(auto, using(crate::proofs::RunLemmas::reported, crate::proofs::RunLemmas::nothing_reported))]
 fn report<E: Target>(outcome: Result<(), Stop>, err: &mut E) -> u8
-    ensures reports { ReportsError (error_text outcome) (E.state err.old) (E.state err.new) }
+    ensures reports { (refused : Bool) × Writes E.call refused (error_text outcome) [] err.old err.new }
     ensures status { result ≡ status_of outcome }
 {
     let Err(stop) = outcome else {
@@ -104,11 +103,10 @@ pub fn run_in<A: Allocator + Copy, B: Allocator, R: Source, W: Target, E: Target
 ) -> u8
     requires reads { (R.state input.old).has_failed ≡ false }
     requires goes_on { (R.state input.old).has_ended ≡ false }
-    requires works { has_fault (W.state out.old) ≡ false }
     requires meter { looks.old ≤ 2 ^ 64 }
     ensures runs { Runs (map string_bytes words.now)
-        (devices (R.state input.old) (W.state out.old) (E.state err.old))
-        (devices (R.state input.new) (W.state out.new) (E.state err.new)) looks.old looks.new result }
+        (Calls R.call input.old input.new) (Calls W.call out.old out.new) (Calls E.call err.old err.new)
+        looks.old looks.new result }
 {
     // no search looks more often than its bound says
     counts_and_bounds();
@@ -122,10 +120,10 @@ pub fn run_in<A: Allocator + Copy, B: Allocator, R: Source, W: Target, E: Target
 /// command, 3 for an input that is too long, and where a read, a write, a flush or memory was refused.
 ///
 /// The words are those after the program's name. The input, where no words give it, comes from `input`, of which no read has
-/// failed or found the end yet. The answers go to `out`, of which no write or flush has failed yet, and what went wrong to
-/// `err`. `looks` counts the looks at positions of the searches for the lines; it stands at 2^64 or below. Memory is taken
-/// only to join words that give the input, and for the tables of a step, and before anything is read or written;
-/// `nissy: out of memory` comes only where the command takes memory.
+/// failed or found the end yet. The answers go to `out`, which is flushed once, at the end, and what went wrong to `err`,
+/// which isn't flushed; what these two did before doesn't matter. `looks` counts the looks at positions of the searches for
+/// the lines; it stands at 2^64 or below. Memory is taken only to join words that give the input, and for the tables of a
+/// step, and before anything is read or written; `nissy: out of memory` comes only where the command takes memory.
 pub fn run<R: Source, W: Target, E: Target>(
     alloc: Global,
     words: &[String],
@@ -136,11 +134,10 @@ pub fn run<R: Source, W: Target, E: Target>(
 ) -> u8
     requires reads { (R.state input.old).has_failed ≡ false }
     requires goes_on { (R.state input.old).has_ended ≡ false }
-    requires works { has_fault (W.state out.old) ≡ false }
     requires meter { looks.old ≤ 2 ^ 64 }
     ensures runs { Runs (map string_bytes words.now)
-        (devices (R.state input.old) (W.state out.old) (E.state err.old))
-        (devices (R.state input.new) (W.state out.new) (E.state err.new)) looks.old looks.new result }
+        (Calls R.call input.old input.new) (Calls W.call out.old out.new) (Calls E.call err.old err.new)
+        looks.old looks.new result }
 {
     run_in(alloc, words, input, out, err, looks)
 }

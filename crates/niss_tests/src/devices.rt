@@ -1,6 +1,6 @@
 //! Devices in memory, which fail where a test says.
-ghost use Rattle.std.specs.Prelude.{◌≡◌, ◌≤◌, ◌++◌, Bool, true, false, Option, Some, None, ◌||◌, IfOk, is_err, length};
-ghost use Rattle.niss_shell.specs.Device.{SourceState, TargetState, found_end, has_fault, moved_bytes};
+ghost use Rattle.std.specs.Prelude.{◌≡◌, ◌≤◌, false, Some, IfOk, length};
+ghost use Rattle.niss_shell.specs.Device.{ReadShows, CallShows, read_call, source_state, target_state};
 
 use linked_list_allocator::LocalHeap;
 use niss_shell::{DeviceFault, Source, Target};
@@ -64,10 +64,7 @@ impl Devices<'_> {
     }
 
     /// What the output goes to.
-    pub fn target(self, alloc: Global) -> Held
-        ensures write_works { result.write_failed ≡ false }
-        ensures flush_works { result.flush_failed ≡ false }
-    {
+    pub fn target(self, alloc: Global) -> Held {
         Held {
             bytes: Vec::new(alloc),
             most: self.most_written,
@@ -77,10 +74,8 @@ impl Devices<'_> {
             writes: 0,
             least_brought: usize::MAX,
             flushes: 0,
-            write_failed: false,
-            flush_failed: false,
+            failed: false,
             flush_tried: false,
-            flushed: false,
         }
     }
 
@@ -113,21 +108,22 @@ pub struct Bytes<'a> {
 impl Bytes<'_> {
     fn give(&mut self, buf: &mut [u8]) -> Result<usize, DeviceFault>
         ensures bound { IfOk result (λ count. count ≤ length buf.new) }
-        ensures bytes { self.old.rest.now ≡ moved_bytes result buf.new ++ self.new.rest.now }
-        ensures failed { self.new.failed ≡ is_err result }
-        ensures ended { self.new.ended ≡ found_end result buf.new }
+        ensures made { ReadShows (read_call result buf.new)
+            (source_state (Some self.old.rest.now) self.old.failed self.old.ended)
+            (source_state (Some self.new.rest.now) self.new.failed self.new.ended) }
     {
         self.reads = self.reads.saturating_add(1);
         self.least_asked = self.least_asked.min(buf.len());
         self.most_asked = self.most_asked.max(buf.len());
-        self.ended = false;
-        self.failed = self.fails_at == Some(self.reads);
-        if self.failed {
+        if self.fails_at == Some(self.reads) {
+            self.failed = true;
             return Err(DeviceFault);
         }
         let all = self.rest;
         let count = all.len().min(buf.len()).min(self.most.max(1));
-        self.ended = count == 0 && !buf.is_empty();
+        if count == 0 && !buf.is_empty() {
+            self.ended = true;
+        }
         buf[..count].copy_from_slice(&all[..count]);
         self.rest = &all[count..];
         Ok(count)
@@ -135,7 +131,10 @@ impl Bytes<'_> {
 }
 
 impl Source for Bytes<'_> {
-    ghost state = { λ s. record { left = Some s.rest.now; has_failed = s.failed; has_ended = s.ended } };
+    ghost call = { λ s c t. ReadShows c (source_state (Some s.rest.now) s.failed s.ended)
+        (source_state (Some t.rest.now) t.failed t.ended) };
+
+    ghost state = { λ s. source_state (Some s.rest.now) s.failed s.ended };
 
     fn read(&mut self, buf: &mut [u8]) -> Result<usize, DeviceFault> {
         self.give(buf)
@@ -148,6 +147,8 @@ impl Source for Bytes<'_> {
     fn ended(&self) -> bool {
         self.ended
     }
+
+    ghost shown = { λ old new c did. did };
 }
 
 impl io::Read for Bytes<'_> {
@@ -171,40 +172,33 @@ pub struct Held {
     pub writes: usize,
     pub least_brought: usize,
     pub flushes: usize,
-    write_failed: bool,
-    flush_failed: bool,
+    failed: bool,
     /// Whether a flush came after the last write.
     pub flush_tried: bool,
-    flushed: bool,
 }
 
 impl Target for Held {
-    ghost state = { λ t. record {
-      held = Some t.bytes.items;
-      room = None;
-      write_failed = t.write_failed;
-      flush_failed = t.flush_failed;
-      flush_tried = t.flush_tried;
-      is_flushed = t.flushed;
-    } };
+    ghost call = { λ s c t. CallShows c (target_state (Some s.bytes.items) s.failed)
+        (target_state (Some t.bytes.items) t.failed) };
+
+    ghost state = { λ t. target_state (Some t.bytes.items) t.failed };
 
     fn write(&mut self, piece: &[u8]) -> Result<usize, DeviceFault> {
         self.writes = self.writes.saturating_add(1);
         self.least_brought = self.least_brought.min(piece.len());
         self.flush_tried = false;
-        self.flushed = false;
         if self.fails_at == Some(self.writes) {
-            self.write_failed = true;
+            self.failed = true;
             return Err(DeviceFault);
         }
         let count = piece.len().min(self.most);
         if count == 0 && !piece.is_empty() {
-            self.write_failed = true;
+            self.failed = true;
         }
         match self.bytes.extend_from_slice(&piece[..count]) {
             Ok(()) => Ok(count),
             Err(_) => {
-                self.write_failed = true;
+                self.failed = true;
                 Err(DeviceFault)
             }
         }
@@ -214,17 +208,17 @@ impl Target for Held {
         self.flushes = self.flushes.saturating_add(1);
         self.flush_tried = true;
         if self.flush_fails {
-            self.flushed = false;
-            self.flush_failed = true;
+            self.failed = true;
             return Err(DeviceFault);
         }
-        self.flushed = true;
         Ok(())
     }
 
     fn failed(&self) -> bool {
-        self.write_failed || self.flush_failed
+        self.failed
     }
+
+    ghost shown = { λ old new c did. did };
 }
 
 impl io::Write for Held {

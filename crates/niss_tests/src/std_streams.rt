@@ -7,7 +7,7 @@ use crate::runs::{
     CANNOT_READ, CANNOT_WRITE, check_bytes, check_count, check_each_read, check_each_write,
     check_nothing_taken, repeated, words_of,
 };
-use niss_shell::{FromReader, Meter, ToWriter, run};
+use niss_shell::{FromReader, Meter, Source, Target, ToWriter, run};
 use std::alloc::Global;
 use std::io;
 use std::io::Cursor;
@@ -158,4 +158,45 @@ fn each_call_of_a_stream_fails_once(rt: HostRuntime) {
     for kind in KINDS {
         check_kind(&rt, rt.alloc(), *kind);
     }
+}
+
+/// One read for this many bytes, one write of this piece and one flush are each one call of the stream, which may fail.
+fn check_calls(rt: &impl Abort, alloc: Global, buf: &mut [u8], piece: &[u8], fails: bool) {
+    let failed = if fails { Some(1) } else { None };
+    let devices = Devices {
+        failed_read: failed,
+        failed_write: failed,
+        flush_fails: fails,
+        ..good_streams()
+    };
+    let asked = buf.len();
+    let mut input = devices.source(b"R");
+    let _ = FromReader::new(&mut input).read(buf);
+    check_count(rt, "reads", input.reads, 1);
+    check_count(rt, "bytes that a read asks for", input.least_asked, asked);
+    let mut out = devices.target(alloc);
+    let mut target = ToWriter::new(&mut out);
+    let _ = target.write(piece);
+    let _ = target.flush();
+    check_count(rt, "writes", out.writes, 1);
+    check_count(
+        rt,
+        "bytes that a write brings",
+        out.least_brought,
+        piece.len(),
+    );
+    check_count(rt, "flushes", out.flushes, 1);
+}
+
+#[test]
+fn each_call_is_one_of_the_stream(rt: HostRuntime) {
+    check_calls(&rt, rt.alloc(), &mut [0; 4], b"R'\n", false);
+    check_calls(&rt, rt.alloc(), &mut [0; 4], b"R'\n", true);
+}
+
+/// A call that moves no byte is handed on too.
+#[test]
+fn empty_calls_are_handed_on(rt: HostRuntime) {
+    check_calls(&rt, rt.alloc(), &mut [], b"", false);
+    check_calls(&rt, rt.alloc(), &mut [], b"", true);
 }

@@ -1,24 +1,26 @@
-use Rattle.niss_shell.proofs.Names.{◌≡◌, ℕ, List, ◌++◌, take, drop, ap, ◌∙◌, append_assoc, arith, take-append-drop, common_steps, has_fault}
-use Rattle.niss_shell.proofs.Names.{is_empty_answer}
-use Rattle.niss_shell.proofs.StateLemmas.{appended_on, same_fault, is_empty_answer-some}
+use Rattle.niss_shell.proofs.Names.{◌≡◌, ◌<◌, length, drop, subst, false, true, arith, common_steps, err_from_is_err_and, Writes}
+use Rattle.niss_shell.proofs.StateLemmas.{writes_none, writes_more, writes_some, refuses_none, refuses_fault}
 use Rattle.niss_shell.proofs.writing.write_all.Goals as goal
 
--- what is gone and what is left after n more bytes
-split_again : (gone rest left piece : List ℕ) (n : ℕ) → gone ++ rest ≡ piece → left ≡ drop n rest → (gone ++ take n rest) ++ left ≡ piece
-split_again gone rest left piece n e l = append_assoc gone (take n rest) left ∙ ap (λ v. gone ++ (take n rest ++ v)) l ∙ ap (λ v. gone ++ v) (take-append-drop n rest) ∙ e
+pub loop-rest-init : goal.loop-rest-init
+loop-rest-init g c = writes_none g.W.Target.call c.args.piece.now c.args.out.now
+
+pub returns-in_err-count : goal.returns-in_err-count
+returns-in_err-count g c =
+    let p = err_from_is_err_and c.from_residual.result c.from_residual.ensures.1 in
+    let some : 0 < length c.loop-rest.rest.now = grind (arith, common_steps) in
+    rw p.1 (writes_more g.W.Target.call true _ _ _ _ c.loop-rest.out _ c.loop-rest.invariant
+    (refuses_fault g.W.Target.call c.in_err-count.field-0.0 c.loop-rest.out c.write.new.self some c.in_err-count.ensures.made))
+
+pub returns-then-count-eq0 : goal.returns-then-count-eq0
+returns-then-count-eq0 g c =
+    let some : 0 < length c.loop-rest.rest.now = grind (arith, common_steps) in
+    writes_more g.W.Target.call true _ _ _ _ c.loop-rest.out _ c.loop-rest.invariant
+    (refuses_none g.W.Target.call c.in_ok-count.count c.loop-rest.out c.write.new.self c.if-count-eq0.true some c.in_ok-count.ensures.made)
 
 pub loop-rest-preserved : goal.loop-rest-preserved
 loop-rest-preserved g c =
-    let some = is_empty_answer-some _ _ c.if-count-eq0.false in
-    let same : has_fault (g.W.Target.state c.write.new.self) ≡ has_fault (g.W.Target.state c.loop-rest.out) = same_fault (g.W.Target.state c.loop-rest.out) (g.W.Target.state c.write.new.self)
-    {refused = is_empty_answer c.in_ok-count.count c.loop-rest.rest.now} c.in_ok-count.ensures.takes.write_failed c.in_ok-count.ensures.takes.flush_failed some in
-    record {
-      written = (
-        c.loop-rest.invariant.written.0 ++ take c.in_ok-count.count c.loop-rest.rest.now,
-        split_again c.loop-rest.invariant.written.0 c.loop-rest.rest.now _ c.args.piece.now c.in_ok-count.count c.loop-rest.invariant.written.1 (grind (arith, common_steps)),
-        appended_on (g.W.Target.state c.args.out.now) (g.W.Target.state c.loop-rest.out) (g.W.Target.state c.write.new.self) c.loop-rest.invariant.written.0 (take c.in_ok-count.count c.loop-rest.rest.now)
-            (λ h. same ∙ h) c.in_ok-count.ensures.takes.silent c.loop-rest.invariant.written.2 c.in_ok-count.ensures.takes.bytes,
-      );
-      works = same ∙ c.loop-rest.invariant.works;
-      flushes = c.in_ok-count.ensures.takes.flush_failed ∙ c.loop-rest.invariant.flushes;
-    }
+    let left : drop c.in_ok-count.count c.loop-rest.rest.now ≡ _ = grind (arith, common_steps) in
+    subst (λ t. Writes g.W.Target.call false c.args.piece.now t c.args.out.now c.write.new.self) left
+    (writes_more g.W.Target.call false _ _ _ _ c.loop-rest.out _ c.loop-rest.invariant
+    (writes_some g.W.Target.call c.in_ok-count.count c.loop-rest.out c.write.new.self c.if-count-eq0.false c.in_ok-count.ensures.bound c.in_ok-count.ensures.made))

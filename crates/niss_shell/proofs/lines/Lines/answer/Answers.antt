@@ -1,27 +1,34 @@
-use Rattle.niss_shell.proofs.Names.{refl, ap, err_from_is_err_and, home, command_of}
+use Rattle.niss_shell.proofs.Names.{Ok, Err, true, false, refl, ap, err_from_is_err_and, home, command_of, CannotWrite}
 use Rattle.niss_shell.proofs.SearchLemmas.{all_reported, not_started}
+use Rattle.niss_shell.proofs.StateLemmas.{answered}
 use Rattle.niss_shell.proofs.lines.Lines.answer.Goals as goal
 
 pub returns-in_err-put-in-Rewrite-clause-answers : goal.returns-in_err-put-in-Rewrite-clause-answers
 returns-in_err-put-in-Rewrite-clause-answers g c =
     let p = err_from_is_err_and c.from_residual.result c.from_residual.ensures.1 in
-    rw (p.1, p.2, c.in-Rewrite.is, ← c.moves.ensures, ← c.rewrite.ensures) (c.in_err-put-in-Rewrite.ensures.taken c.requires.works c.args.self.now.looks.now)
+    rw (p.1, p.2, c.in-Rewrite.is, ← c.moves.ensures, ← c.rewrite.ensures)
+    (answered g.W.Target.call true _ (Err CannotWrite) _ _ refl (c.in_err-put-in-Rewrite.ensures.taken c.args.self.now.looks.now))
 
 pub returns-in_ok-put-in-Rewrite-clause-answers : goal.returns-in_ok-put-in-Rewrite-clause-answers
 returns-in_ok-put-in-Rewrite-clause-answers g c =
-    rw (c.in-Rewrite.is, ← c.moves.ensures, ← c.rewrite.ensures) (refl, c.in_ok-put-in-Rewrite.ensures.taken c.requires.works c.args.self.now.looks.now)
-
-pub returns-in_ok-put-in-Rewrite-clause-works : goal.returns-in_ok-put-in-Rewrite-clause-works
-returns-in_ok-put-in-Rewrite-clause-works g c = (c.in_ok-put-in-Rewrite.ensures.taken c.requires.works c.args.self.now.looks.now).works
+    rw (c.in-Rewrite.is, ← c.moves.ensures, ← c.rewrite.ensures)
+    (answered g.W.Target.call false _ (Ok tt) _ _ refl (c.in_ok-put-in-Rewrite.ensures.taken c.args.self.now.looks.now))
 
 pub returns-in_default-clause-answers : goal.returns-in_default-clause-answers
 returns-in_default-clause-answers g c =
-    not_started _ _ _ c.in-Search.search.query _ _ _ _
+    not_started g.W.Target.call _ _ _ c.in-Search.search.query _ _ _ _
     (ap command_of c.in-Search.is) c.in-Search.search.of_step c.moves-in-Search.ensures c.step.result c.refuse.result
     c.in_default.ensures c.step.ensures c.refuse.ensures.refused
 
 pub returns-in_ok-answer-in-Search-clause-answers : goal.returns-in_ok-answer-in-Search-clause-answers
 returns-in_ok-answer-in-Search-clause-answers g c =
-    all_reported _ _ c.moves-in-Search.result.now c.in-Search.search.query _ _ _ _
+    all_reported g.W.Target.call _ _ c.moves-in-Search.result.now c.in-Search.search.query _ _ _ _
     (ap command_of c.in-Search.is) c.in-Search.search.of_step c.moves-in-Search.ensures
-    c.in-Some.ensures.starts (c.in_ok-answer-in-Search.ensures.reported (home c.moves-in-Search.result.now) c.in-Some.ensures c.requires.works)
+    false (Ok tt) refl c.in-Some.ensures.starts (c.in_ok-answer-in-Search.ensures.reported (home c.moves-in-Search.result.now) c.in-Some.ensures)
+
+pub returns-in_err-answer-in-Search-clause-answers : goal.returns-in_err-answer-in-Search-clause-answers
+returns-in_err-answer-in-Search-clause-answers g c =
+    let p = err_from_is_err_and c.from_residual-in_err-answer-in-Search.result c.from_residual-in_err-answer-in-Search.ensures.1 in
+    rw (p.1, p.2) (all_reported g.W.Target.call _ _ c.moves-in-Search.result.now c.in-Search.search.query _ _ _ _
+    (ap command_of c.in-Search.is) c.in-Search.search.of_step c.moves-in-Search.ensures
+    true (Err CannotWrite) refl c.in-Some.ensures.starts (c.in_err-answer-in-Search.ensures.reported (home c.moves-in-Search.result.now) c.in-Some.ensures))

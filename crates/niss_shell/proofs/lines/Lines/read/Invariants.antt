@@ -1,15 +1,14 @@
-use Rattle.niss_shell.proofs.Names.{◌≡◌, ◌+◌, ◌-◌, ◌≤◌, ◌<◌, length, false, [], has_fault, most_bytes, IsAt, HasRoom, Keeps, answers_of}
+use Rattle.niss_shell.proofs.Names.{◌≡◌, ◌+◌, ◌-◌, ◌≤◌, ◌<◌, length, false, [], Calls, most_bytes, IsAt, HasRoom, Keeps, answers_of}
 use Rattle.niss_shell.proofs.Names.{lines_state, progress_of}
 use Rattle.niss_shell.proofs.lines.Lines.read.Given as goal
 
 abbrev pub invariant-loop-given : goal.invariant-loop-given
 invariant-loop-given g l = record {
   keeps : Keeps l.initial.self l.self;
-  at : IsAt (answers_of l.initial.self) l.count (progress_of l.self) (g.S.Source.state l.initial.source) (g.S.Source.state l.source)
-      (lines_state g.W.Target.state l.initial.output l.initial.self) (lines_state g.W.Target.state l.output l.self);
+  at : IsAt g.W.Target.call (answers_of l.initial.self) l.count (progress_of l.self) (Calls g.S.Source.call l.initial.source l.source)
+      (lines_state l.initial.output l.initial.self) (lines_state l.output l.self);
   reads : (g.S.Source.state l.source).has_failed ≡ false;
   goes_on : (g.S.Source.state l.source).has_ended ≡ false;
-  works : has_fault (g.W.Target.state l.output.target.now) ≡ false;
   empty : l.output.pending.items ≡ [];
   room : l.count ≤ most_bytes;
   column : l.self.reader.fed ≤ l.count;

@@ -1,12 +1,11 @@
-use Rattle.niss_shell.proofs.Names.{◌≡◌, ◌+◌, ◌≤◌, ◌-◌, length, take, false, Ok, has_fault, HasRoom, Keeps, Takes, lines_state}
+use Rattle.niss_shell.proofs.Names.{◌+◌, ◌≤◌, ◌-◌, length, take, Ok, HasRoom, Keeps, Takes, lines_state}
 use Rattle.niss_shell.proofs.lines.Lines.take_block.Given as goal
 
 abbrev pub invariant-loop-index : goal.invariant-loop-index
 invariant-loop-index g l = record {
   keeps : Keeps l.initial.self l.self;
-  takes : Takes (take l.index l.bytes) (Ok tt) l.initial.self l.self
-      (lines_state g.W.Target.state l.initial.output l.initial.self) (lines_state g.W.Target.state l.output l.self);
-  works : has_fault (g.W.Target.state l.output.target.now) ≡ false;
+  takes : Takes g.W.Target.call (take l.index l.bytes) (Ok tt) l.initial.self l.self
+      (lines_state l.initial.output l.initial.self) (lines_state l.output l.self);
   column : l.self.reader.fed ≤ l.initial.self.reader.fed + l.index;
   lines : l.self.line ≤ l.initial.self.line + l.index;
   meter : HasRoom l.self.line l.self.looks.now;

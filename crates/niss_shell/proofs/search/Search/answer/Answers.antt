@@ -6,29 +6,29 @@ use Rattle.niss_shell.proofs.search.Search.answer.Goals as goal
 pub returns-in_err-outcome-in-Solutions-clause-empty : goal.returns-in_err-outcome-in-Solutions-clause-empty
 returns-in_err-outcome-in-Solutions-clause-empty g c =
     let p = err_from_is_err_and c.from_residual.result c.from_residual.ensures.1 in
-    rw p.1 (nothing_waits g.W.Target.state
+    rw p.1 (nothing_waits g.W.Target.call
     _ _ _ (c.in_err-outcome-in-Solutions.ensures.err c.requires.position.0 c.requires.position.1))
 
 pub returns-in_err-outcome-in-Solutions-clause-reported : goal.returns-in_err-outcome-in-Solutions-clause-reported
 returns-in_err-outcome-in-Solutions-clause-reported g c =
     let limit_is : c.new-path.result.limit ≡ c.args.self.now.query.limit = ap (λ p. p.limit) c.new-path.ensures in
     let p = err_from_is_err_and c.from_residual.result c.from_residual.ensures.1 in
-    rw (p.1, ← limit_is, c.in-Solutions.is) (λ e at works. unsolved g.W.Target.state _ _ _ _ _ _ _ works
+    rw (p.1, ← limit_is, c.in-Solutions.is) (λ e at. unsolved g.W.Target.call _ _ _ _ _ _ _
     (c.in_err-outcome-in-Solutions.ensures.err e at) c.in_err-outcome-in-Solutions.ensures.rises (c.in_err-outcome-in-Solutions.ensures.looks_at_most e at))
 
 pub returns-in_ok-outcome-in-Solutions-clause-reported : goal.returns-in_ok-outcome-in-Solutions-clause-reported
 returns-in_ok-outcome-in-Solutions-clause-reported g c =
     let limit_is : c.new-path.result.limit ≡ c.args.self.now.query.limit = ap (λ p. p.limit) c.new-path.ensures in
-    rw (← limit_is, c.in-Solutions.is) (λ e at works. solved g.W.Target.state _ _ _ _ _ _ c.args.output.now c.search.new.sink c.put.new.self works
+    rw (← limit_is, c.in-Solutions.is) (λ e at. solved g.W.Target.call _ _ _ _ _ _ c.args.output.now c.search.new.sink c.put.new.self
     (c.in_ok-outcome-in-Solutions.ensures.ok e at) (c.in_ok-outcome-in-Solutions.ensures.solutions e at) (c.in_ok-outcome-in-Solutions.ensures.looks e at)
     (rw limit_is c.put_end.ensures) c.put.ensures.taken)
 
 pub returns-in-Counts-clause-reported : goal.returns-in-Counts-clause-reported
-returns-in-Counts-clause-reported g c = λ e at works.
+returns-in-Counts-clause-reported g c = λ e at.
     let found = c.count_solutions-outcome.ensures.found e at in
     let looked = c.count_solutions-outcome.ensures.looked e at in
     let nodes_are : c.count.result - c.count-before.result ≡ near_looks_of c.args.self.now.tables e c.args.self.now.query.limit c.args.self.now.query.slack =
     omega (arith, c.count.ensures, c.count-before.ensures, looked) in
-    rw c.in-Counts.is (reported_after g.W.Target.state _ _ _ _ c.args.output.now c.put-in-Counts.new.self
+    rw c.in-Counts.is (reported_after g.W.Target.call _ _ _ _ c.args.output.now c.put-in-Counts.new.self
     (c.put_count.ensures ∙ same_count _ _ _ _ found.length_is found.solutions_are nodes_are)
-    looked c.put-in-Counts.ensures.taken works)
+    looked c.put-in-Counts.ensures.taken)
