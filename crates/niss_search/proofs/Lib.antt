@@ -1,3 +1,4 @@
+pub mod WordLemmas
 pub mod Words
 pub mod ListLemmas
 pub mod DepthFirst

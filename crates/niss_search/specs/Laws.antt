@@ -1,5 +1,5 @@
 -- Laws over counts and looks, and over positions.
-use Rattle.std.specs.Prelude.{◌≡◌, ℕ, ◌+◌, ◌*◌, ◌^◌, ◌≤◌, ◌<◌, min, Bool, IsTrue, None, option_map, unwrap_or}
+use Rattle.std.specs.Prelude.{◌≡◌, ◌×◌, ℕ, ◌+◌, ◌*◌, ◌^◌, ◌≤◌, ◌<◌, min, Bool, IsTrue, None, option_map, unwrap_or}
 use Rattle.std.specs.Prelude.{List, [], ◌∷◌, filter, length, slice_get, sum_by}
 use Rattle.std.specs.Option.{option_map_or}
 use Rattle.niss_moves.specs.Places.{Place, SameMap}
@@ -26,29 +26,41 @@ PartHasNoMore =
     (part : Turn → Bool) (turns : List Turn) (k : ℕ) →
     count_of_length (filter part turns) k ≤ count_of_length turns k
 
--- In any space of cubes, whatever turns it has, what its goal is and what a look at a cube answers: no search looks
--- more often than the bound says.
-abbrev pub LooksWithinBound : Type 0
-LooksWithinBound =
-    (turns : List Turn) (space : Space turns (Place → Place)) (look : (Place → Place) → ℕ) →
-    (e : Place → Place) (n slack : ℕ) →
+-- In any space, whatever turns it has, what its goal is and what a look at a state answers: no search looks more often
+-- than the bound says.
+abbrev pub LooksWithinBoundIn : Type 0 → Type 0
+LooksWithinBoundIn S =
+    (turns : List Turn) (space : Space turns S) (look : S → ℕ) (e : S) (n slack : ℕ) →
     all_looks space look e n slack ≤ look_bound turns n
 
 -- Without slack a search is for the solutions of least length alone, and deepens to that length.
-pub record NoSlackIsLeast : Type 0 where
+pub record NoSlackIsLeastIn (S : Type 0) : Type 0 where
   pub listed :
-      (turns : List Turn) (space : Space turns (Place → Place)) (e : Place → Place) (n : ℕ) →
+      (turns : List Turn) (space : Space turns S) (e : S) (n : ℕ) →
       solutions space e n 0 ≡ option_map_or (reaching space e) (least_length space e n) []
   pub looked :
-      (turns : List Turn) (space : Space turns (Place → Place)) (look : (Place → Place) → ℕ) →
-      (e : Place → Place) (n : ℕ) →
+      (turns : List Turn) (space : Space turns S) (look : S → ℕ) (e : S) (n : ℕ) →
       all_looks space look e n 0 ≡ sum_by (looks space look e) (up_to (unwrap_or (least_length space e n) n))
 
--- The least length is that of the first solution, and there is none where there is no solution.
-abbrev pub FirstIsLeast : Type 0
-FirstIsLeast =
-    (turns : List Turn) (space : Space turns (Place → Place)) (e : Place → Place) (n slack : ℕ) →
+-- The least length is that of the first solution, and there is none if there is no solution.
+abbrev pub FirstIsLeastIn : Type 0 → Type 0
+FirstIsLeastIn S =
+    (turns : List Turn) (space : Space turns S) (e : S) (n slack : ℕ) →
     least_length space e n ≡ option_map length (slice_get (solutions space e n slack) 0)
+
+-- A law that holds in every space of cubes, and in every space whose states are the sequences themselves, so also for
+-- any test and any look that is made of a sequence.
+abbrev pub InSpaces : (Type 0 → Type 0) → Type 0
+InSpaces law = law (Place → Place) × law (List Turn)
+
+abbrev pub LooksWithinBound : Type 0
+LooksWithinBound = InSpaces LooksWithinBoundIn
+
+abbrev pub NoSlackIsLeast : Type 0
+NoSlackIsLeast = InSpaces NoSlackIsLeastIn
+
+abbrev pub FirstIsLeast : Type 0
+FirstIsLeast = InSpaces FirstIsLeastIn
 
 -- The bound of a step is at most that over the 18 turns.
 abbrev pub StepBoundIsLess : Type 0
