@@ -1,8 +1,15 @@
--- Facts on the public definitions that the crates above cite. Of this crate's proofs they name this file alone.
-
+-- Facts on the public definitions that the crates above cite, and the laws for the functions that state them. Of this crate's
+-- proofs the crates above name this file alone.
+use Rattle.niss_cube.proofs.CoordinateLaws.{are_coordinates}
+use Rattle.niss_cube.proofs.CubieKinds.{cubes_permute_places}
+use Rattle.niss_cube.proofs.Codes.{kept_is_tested, sets_are_places}
+use Rattle.niss_cube.proofs.StepLemmas.{start_is_kept, steps_see_places, other_turns_leave_start, inverses_of_steps}
+use Rattle.niss_cube.proofs.StepLemmas.{step_turns_in_order, step_turns_are_counted, domino_keeps_start}
 -- maps of cubes
 pub use Rattle.niss_cube.proofs.CoordinateLaws.{cube-itself, alike_is_cube}
 -- a number that is 0 where a set is kept
 pub use Rattle.niss_cube.proofs.Codes.{zero_test}
 -- how many turns a step has
-pub use Rattle.niss_cube.proofs.StepTurns.{turns_of-length, turns_of-oriented}
+pub use Rattle.niss_cube.proofs.StepLemmas.{turns_of-length, turns_of-oriented}
+
+pub ruleset laws = (cubes_permute_places, are_coordinates, kept_is_tested, sets_are_places, start_is_kept, other_turns_leave_start, steps_see_places, inverses_of_steps, step_turns_in_order, step_turns_are_counted, domino_keeps_start)

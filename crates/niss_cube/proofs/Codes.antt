@@ -1,22 +1,25 @@
 -- A coordinate as a code of the cubies that it depends on, which says its number after a turn, and is 0 where its set of places is kept.
-use Rattle.niss_cube.proofs.Words.{arith, edges_down, Equal, Below, Numbers, holds, [], ◌≡◌, ℕ, ◌<◌, refl, sym, ap, List, get_or, take}
-use Rattle.niss_cube.proofs.Words.{reverse, count_by, ◌==◌, Place, SameMap, turned, Turn, Axis, Coordinate, Flip, Twist, Slice, number}
-use Rattle.niss_cube.proofs.Words.{rank, flip_of, twist_of, slice_of, number_of, count_of, renamed_for, standard_axis, turn_for}
-use Rattle.niss_cube.proofs.Words.{twists_home, flips_home, flips_of_number, twists_of_number, edges_of_number, number_after, corners_home}
-use Rattle.niss_cube.proofs.Words.{edges_home, ArePlaced, AreOriented, false_from_ne_true, SetsArePlaces, renamed_turn, rotated_back}
-use Rattle.niss_cube.proofs.Words.{renaming_for, ext_get_or, renamed_if, ArePlaces, eqb_tells, twist_set, slice_set, eqb-true, is_place}
-use Rattle.niss_cube.proofs.Words.{Renaming, XCounter, XQuarter, YQuarter, ZCounter, flip_set, and_left, Fact, is_edge, is_kept, face_if}
-use Rattle.niss_cube.proofs.Words.{rotated, Places, Option, nat_le, set_of, tested, Holds, false, Same, None, Some, Bool, true, ◌&&◌, Kept}
-use Rattle.niss_cube.proofs.Words.{◌∙◌, inl, inr, ◌+◌, ◌%◌, not, ◌↔◌, Ud, Rl, Fb, map, length, get_or-map, length-map, Yes, When, ◌||◌}
-use Rattle.niss_cube.proofs.Words.{places, list_all-from_AllPass, KeptIsTested}
-use Rattle.niss_cube.proofs.CubieKinds.{CubieLists, Valid, map_lists, Corners, Edges, Kind, count, facelets, at, is_of, home_at, turn_at}
-use Rattle.niss_cube.proofs.CubieKinds.{place_of, stand, stands, stands-at, low, some_facelet, unturned, kind_place, Located, located}
-use Rattle.niss_cube.proofs.CubieKinds.{shown_at, map_place}
-use Rattle.niss_cube.proofs.ShownCubies.{turns_shown, slice_shown}
-use Rattle.niss_cube.proofs.SliceEdges.{slice-below, slice_occupied, of_number-placed, of_number-rank, rank-turned, edge-once, slice-same}
-use Rattle.niss_cube.proofs.Orientations.{of_number-are, of_number-number, turns_number-below, turns_number-same, turns_number-zero}
-use Rattle.niss_cube.proofs.MovedCubies.{By, moved, KeepsPlaces, IsRenaming, by_rotation, not_renamed, back-place, out-back, back-out}
-use Rattle.niss_cube.proofs.MovedCubies.{Under}
+use Rattle.niss_cube.proofs.Words.{arith, edges_down, Equal, Below, Numbers, holds, [], ◌≡◌, ℕ, ◌<◌, refl, sym, ap}
+use Rattle.niss_cube.proofs.Words.{List, get_or, take, reverse, count_by, ◌==◌, Place, SameMap, turned, Turn, Axis}
+use Rattle.niss_cube.proofs.Words.{Coordinate, Flip, Twist, Slice, number, rank_places, flip_of, twist_of, slice_of}
+use Rattle.niss_cube.proofs.Words.{rank_of, count_of, renamed_for, standard_axis, turn_for, twists_home, flips_home}
+use Rattle.niss_cube.proofs.Words.{flips_of_number, twists_of_number, edges_of_number, number_after, corners_home}
+use Rattle.niss_cube.proofs.Words.{edges_home, ArePlaced, AreOriented, false_from_ne_true, SetsArePlaces, renamed_turn}
+use Rattle.niss_cube.proofs.Words.{rotated_back, renaming_for, ext_get_or, renamed_if, HasOnlyPlaces, eqb_tells, twist_set}
+use Rattle.niss_cube.proofs.Words.{slice_set, eqb-true, is_place, Renaming, XCounter, XQuarter, YQuarter, ZCounter}
+use Rattle.niss_cube.proofs.Words.{flip_set, and_left, Fact, is_edge, is_kept, face_if, rotated, Places, Option, nat_le}
+use Rattle.niss_cube.proofs.Words.{set_of, tested, Holds, false, Same, None, Some, Bool, true, ◌&&◌, Kept, ◌∙◌, inl}
+use Rattle.niss_cube.proofs.Words.{inr, ◌+◌, ◌%◌, not, ◌↔◌, Ud, Rl, Fb, map, length, get_or-map, length-map, Yes, When}
+use Rattle.niss_cube.proofs.Words.{◌||◌, places, list_all-from_AllPass, KeptIsTested, set}
+use Rattle.niss_cube.proofs.CubieKinds.{CubieLists, Valid, map_lists, Corners, Edges, Kind, count, facelets, at, is_of}
+use Rattle.niss_cube.proofs.CubieKinds.{home_at, turn_at, place_of, stand, stands, stands-at, low, some_facelet}
+use Rattle.niss_cube.proofs.CubieKinds.{unturned, kind_place, Located, located, shown_at, map_place}
+use Rattle.niss_cube.proofs.Shown.{turns_shown, slice_shown}
+use Rattle.niss_cube.proofs.Ranks.{slice-below, slice_occupied, of_number-placed, of_number-rank, rank-turned}
+use Rattle.niss_cube.proofs.Ranks.{edge-once, slice-same, of_number-are, of_number-number, turns_number-below}
+use Rattle.niss_cube.proofs.Ranks.{turns_number-same, turns_number-zero}
+use Rattle.niss_cube.proofs.MovedCubies.{By, moved, KeepsPlaces, IsRenaming, by_rotation, not_renamed, back-place}
+use Rattle.niss_cube.proofs.MovedCubies.{out-back, back-out, Under}
 use Rattle.niss_cube.proofs.Sums.{one_if-same, one_if, below_permuted, below_all_same, one_if-at_most, eqb-itself}
 
 corners_home-are : ArePlaced 8 corners_home
@@ -54,13 +57,13 @@ home-valid = cubies_of-valid twists_home edges_home flips_home twists_home-are e
 abbrev pub code : Coordinate → CubieLists → ℕ
 code Flip c = number 2 (take 11 c.flips)
 code Twist c = number 3 (take 7 c.twists)
-code Slice c = rank (slice_occupied c.edges) 4
+code Slice c = rank_places (slice_occupied c.edges) 4
 
-pub number_of-code : (k : Coordinate) (a : Axis) (e : Place → Place) (c : CubieLists) → Valid c → SameMap (map_lists c) (renamed_for k a e) → number_of k a e ≡ code k c
+pub rank_of-code : (k : Coordinate) (a : Axis) (e : Place → Place) (c : CubieLists) → Valid c → SameMap (map_lists c) (renamed_for k a e) → rank_of k a e ≡ code k c
 unfolding flip_of twist_of slice_of
-number_of-code Flip a e c v s = ap (λ ds. number 2 (take 11 ds)) (turns_shown Edges c v (renamed_for Flip a e) (λ q p. sym (s q p)))
-number_of-code Twist a e c v s = ap (λ ds. number 3 (take 7 ds)) (turns_shown Corners c v (renamed_for Twist a e) (λ q p. sym (s q p)))
-number_of-code Slice a e c v s = ap (λ os. rank (reverse os) 4) (slice_shown c v (renamed_for Slice a e) (λ q p. sym (s q p)))
+rank_of-code Flip a e c v s = ap (λ ds. number 2 (take 11 ds)) (turns_shown Edges c v (renamed_for Flip a e) (λ q p. sym (s q p)))
+rank_of-code Twist a e c v s = ap (λ ds. number 3 (take 7 ds)) (turns_shown Corners c v (renamed_for Twist a e) (λ q p. sym (s q p)))
+rank_of-code Slice a e c v s = ap (λ os. rank_places (reverse os) 4) (slice_shown c v (renamed_for Slice a e) (λ q p. sym (s q p)))
 
 pub code-below : (k : Coordinate) (c : CubieLists) → Valid c → code k c < count_of k
 code-below Flip c v = turns_number-below Edges c.flips v.flips_oriented
@@ -85,7 +88,7 @@ cubies_with-code Flip i l = of_number-number Edges i l
 cubies_with-code Twist i l = of_number-number Corners i l
 cubies_with-code Slice i l = of_number-rank i l
 
-pub number_after-is : (k : Coordinate) (a : Axis) (i : ℕ) (t : Turn) → number_after k a i t ≡ number_of k (standard_axis k) (λ q. turned (turn_for k a t) (map_lists (cubies_with k i) q))
+pub number_after-is : (k : Coordinate) (a : Axis) (i : ℕ) (t : Turn) → number_after k a i t ≡ rank_of k (standard_axis k) (λ q. turned (turn_for k a t) (map_lists (cubies_with k i) q))
 unfolding number_after
 number_after-is Flip a i t = refl
 number_after-is Twist a i t = refl
@@ -124,7 +127,7 @@ kept_is_tested set e inside = (
 )
 
 -- whether a set of places is kept depends on the places alone
-pub kept_same : (set : Place → Bool) (d e : Place → Place) → ArePlaces set → SameMap d e → Kept set d → Kept set e
+pub kept_same : (set : Place → Bool) (d e : Place → Place) → HasOnlyPlaces set → SameMap d e → Kept set d → Kept set e
 kept_same set d e inside s kept q m = ap set (sym (s q (inside q m))) ∙ kept q m
 
 -- the cubies from which a coordinate on an axis is read
@@ -172,7 +175,7 @@ standard_kind Twist a q h = and_left _ _ h
 standard_kind Slice a q h = and_left _ _ h
 
 -- a set is kept where the renamed set is kept by the renamed map
-renaming_kept : (v : Renaming) (set renamed_set : Place → Bool) → ((q : Place) → is_place q ≡ true → set q ≡ renamed_set (rotated v q)) → ArePlaces set → ArePlaces renamed_set → (e : Place → Place) → KeepsPlaces e →
+renaming_kept : (v : Renaming) (set renamed_set : Place → Bool) → ((q : Place) → is_place q ≡ true → set q ≡ renamed_set (rotated v q)) → HasOnlyPlaces set → HasOnlyPlaces renamed_set → (e : Place → Place) → KeepsPlaces e →
     Kept set e ↔ Kept renamed_set (λ q. rotated v (e (rotated_back v q)))
 renaming_kept v set renamed_set same p p' e keep = (
   (λ kept q q_in.
@@ -244,13 +247,13 @@ AtHome edges = (i : ℕ) → i < 12 → nat_le 8 (get_or edges i 0) ≡ nat_le 8
 slice_home : (i : ℕ) → i < 12 → get_or (map (nat_le 8) edges_home) i false ≡ nat_le 8 i
 slice_home = holds (Numbers 12 λ i. Same (get_or (map (nat_le 8) edges_home) i false) (nat_le 8 i)) refl
 
-slice_number_zero : (c : CubieLists) → Valid c → (rank (slice_occupied c.edges) 4 ≡ 0) ↔ AtHome c.edges
+slice_number_zero : (c : CubieLists) → Valid c → (rank_places (slice_occupied c.edges) 4 ≡ 0) ↔ AtHome c.edges
 slice_number_zero c v =
     let at : (i : ℕ) → i < 12 → get_or (map (nat_le 8) c.edges) i false ≡ nat_le 8 (get_or c.edges i 0) =
     λ i l. get_or-map (nat_le 8) c.edges i 0 false (omega (arith, l, v.edges_placed.places)) in
     let len : length (map (nat_le 8) c.edges) ≡ 12 = length-map c.edges (nat_le 8) ∙ v.edges_placed.places in (
       (λ e i l. sym (at i l) ∙ ap (λ os. get_or os i false) (slice-same c home v home-valid e) ∙ slice_home i l),
-      (λ h. ap (λ os. rank (reverse os) 4) (ext_get_or false (map (nat_le 8) c.edges) (map (nat_le 8) edges_home) len (λ i l.
+      (λ h. ap (λ os. rank_places (reverse os) 4) (ext_get_or false (map (nat_le 8) c.edges) (map (nat_le 8) edges_home) len (λ i l.
           at i (omega (arith, l, len)) ∙ h i (omega (arith, l, len)) ∙ sym (slice_home i (omega (arith, l, len)))))),
     )
 
@@ -294,12 +297,12 @@ kept_zero Flip Fb c v e same = turns_kept Edges (standard_set Flip Fb) (standard
 kept_zero Twist a c v e same = turns_kept Corners (standard_set Twist a) (standard_kind Twist a) 0 (some_facelet Corners) (holds (row_fact Corners (standard_set Twist a) 0) refl) c v e same
 kept_zero Slice a c v e same = (kept-home c v e same, home-kept c v e same)
 
-pub zero-kept : (k : Coordinate) (a : Axis) (c : CubieLists) → Valid c → (number_of k a (map_lists c) ≡ 0) ↔ Kept (set_of k a) (map_lists c)
+pub zero-kept : (k : Coordinate) (a : Axis) (c : CubieLists) → Valid c → (rank_of k a (map_lists c) ≡ 0) ↔ Kept (set_of k a) (map_lists c)
 zero-kept k a c v =
     let w : CubieLists = cubies_for k a c in
     let wv : Valid w = (renaming k a).valid c v in
     let is : SameMap (map_lists w) (renamed_for k a (map_lists c)) = (renaming k a).map_is c v in
-    let number = number_of-code k a (map_lists c) w wv is in
+    let number = rank_of-code k a (map_lists c) w wv is in
     let code_is = code_zero k w wv in
     let kept = kept_zero k a w wv (renamed_for k a (map_lists c)) (λ q p. sym (is q p)) in
     let renamed = kept_renamed k a (map_lists c) (map_place c v) in

@@ -1,15 +1,16 @@
 -- Flips, twists and slices are coordinates, by their codes; and the rows of the tables, as they are written.
 use Rattle.niss_cube.proofs.Words.{Alike, Places, Turns, holds, ◌≡◌, ℕ, ◌<◌, refl, sym, ◌∙◌, ap, subst, true, ◌↔◌}
 use Rattle.niss_cube.proofs.Words.{Place, is_place, SameMap, turned, inverse_turn, Turn, Axis, Cube, Coordinate, map_of}
-use Rattle.niss_cube.proofs.Words.{Kept, set_of, number_of, count_of, renamed_for, standard_axis, turn_for}
+use Rattle.niss_cube.proofs.Words.{Kept, set_of, rank_of, count_of, renamed_for, standard_axis, turn_for}
 use Rattle.niss_cube.proofs.Words.{number_after, IsCube, every_turn, every_face, every_power, TurnedIsCube}
-use Rattle.niss_cube.proofs.Words.{AreCoordinates, Both, turn_order, Yes, Below, turn_in, turn_number}
+use Rattle.niss_cube.proofs.Words.{AreCoordinates, Both, turn_order, Yes, Below, turn_in, turn_number, IsRank}
+use Rattle.niss_cube.proofs.Words.{IsRankAfter}
 use Rattle.niss_cube.proofs.CubieKinds.{lists_of, cube_of, CubieLists, Valid, map_lists, map_place}
-use Rattle.niss_cube.proofs.Codes.{kept_same, cubies_for, renaming, sets_are_places, zero-kept, code, number_of-code}
+use Rattle.niss_cube.proofs.Codes.{kept_same, cubies_for, renaming, sets_are_places, zero-kept, code, rank_of-code}
 use Rattle.niss_cube.proofs.Codes.{code-below, cubies_with, cubies_with-valid, cubies_with-code, number_after-is}
 use Rattle.niss_cube.proofs.Codes.{code-turned, unrenamed}
 use Rattle.niss_cube.proofs.MovedCubies.{By, moved, moved-map, moved-valid}
-use Rattle.niss_cube.proofs.StepTurns.{same_turn, same_turn-is}
+use Rattle.niss_cube.proofs.StepLemmas.{same_turn, same_turn-is}
 
 turned-inverse_turn : (t : Turn) (q : Place) → is_place q ≡ true → turned (inverse_turn t) (turned t q) ≡ q
 unfolding every_turn every_face every_power
@@ -29,16 +30,16 @@ turned_is_cube e t h =
     (cube_of (moved (By t) c) (moved-valid (By t) c v), λ q p. moved-map (By t) c v q p ∙ ap (turned t) (h.1 q p))
 
 -- what a number is on the standard axis
-pub standard-code : (k : Coordinate) (c : CubieLists) → Valid c → number_of k (standard_axis k) (map_lists c) ≡ code k c
-standard-code k c v = number_of-code k (standard_axis k) (map_lists c) c v (λ q p. sym (unrenamed k (map_lists c) q))
+pub standard-code : (k : Coordinate) (c : CubieLists) → Valid c → rank_of k (standard_axis k) (map_lists c) ≡ code k c
+standard-code k c v = rank_of-code k (standard_axis k) (map_lists c) c v (λ q p. sym (unrenamed k (map_lists c) q))
 
 -- the number on the standard axis of the cube that is renamed for an axis
-pub renamed-number : (k : Coordinate) (a : Axis) (c : Cube) (e : Place → Place) → SameMap (map_of c) (renamed_for k a e) → number_of k (standard_axis k) (map_of c) ≡ number_of k a e
-renamed-number k a c e s = standard-code k (lists_of c) c.are_cubies ∙ sym (number_of-code k a e (lists_of c) c.are_cubies s)
+pub renamed-rank : (k : Coordinate) (a : Axis) (c : Cube) (e : Place → Place) → SameMap (map_of c) (renamed_for k a e) → rank_of k (standard_axis k) (map_of c) ≡ rank_of k a e
+renamed-rank k a c e s = standard-code k (lists_of c) c.are_cubies ∙ sym (rank_of-code k a e (lists_of c) c.are_cubies s)
 
-pub standard-turned : (k : Coordinate) (t : Turn) (c : CubieLists) → Valid c → number_of k (standard_axis k) (λ q. turned t (map_lists c q)) ≡ code k (moved (By t) c)
+pub standard-turned : (k : Coordinate) (t : Turn) (c : CubieLists) → Valid c → rank_of k (standard_axis k) (λ q. turned t (map_lists c q)) ≡ code k (moved (By t) c)
 standard-turned k t c v =
-    number_of-code k (standard_axis k) (λ q. turned t (map_lists c q)) (moved (By t) c) (moved-valid (By t) c v)
+    rank_of-code k (standard_axis k) (λ q. turned t (map_lists c q)) (moved (By t) c) (moved-valid (By t) c v)
     (λ q p. moved-map (By t) c v q p ∙ sym (unrenamed k (λ q. turned t (map_lists c q)) q))
 
 module _ (k : Coordinate) (a : Axis) where
@@ -53,23 +54,23 @@ module _ (k : Coordinate) (a : Axis) where
     here-valid : Valid here
     here-valid = (renaming k a).valid c v
 
-    number-here : number_of k a e ≡ code k here
+    number-here : rank_of k a e ≡ code k here
     number-here =
-        number_of-code k a e here here-valid (λ q p. (renaming k a).map_is c v q p ∙ (renaming k a).same (map_lists c) e same q p)
+        rank_of-code k a e here here-valid (λ q p. (renaming k a).map_is c v q p ∙ (renaming k a).same (map_lists c) e same q p)
 
-    turned-here : (t : Turn) → number_of k a (λ q. turned t (e q)) ≡ code k (moved (By (turn_for k a t)) here)
+    turned-here : (t : Turn) → rank_of k a (λ q. turned t (e q)) ≡ code k (moved (By (turn_for k a t)) here)
     turned-here t =
         let s : Turn = turn_for k a t in
-        number_of-code k a (λ q. turned t (e q)) (moved (By s) here) (moved-valid (By s) here here-valid)
+        rank_of-code k a (λ q. turned t (e q)) (moved (By s) here) (moved-valid (By s) here here-valid)
         (λ q p. moved-map (By s) here here-valid q p
         ∙ ap (turned s) ((renaming k a).map_is c v q p)
         ∙ sym ((renaming k a).turned_is t (map_lists c) (map_place c v) q p)
         ∙ (renaming k a).same (λ q. turned t (map_lists c q)) (λ q. turned t (e q)) (λ q p. ap (turned t) (same q p)) q p)
 
-    number-below : number_of k a e < count_of k
+    number-below : rank_of k a e < count_of k
     number-below = let P : ℕ → Type 0 = λ n. n < count_of k in subst P (sym number-here) (code-below k here here-valid)
 
-    follow : (t : Turn) → number_of k a (λ q. turned t (e q)) ≡ number_after k a (number_of k a e) t
+    follow : (t : Turn) → rank_of k a (λ q. turned t (e q)) ≡ number_after k a (rank_of k a e) t
     follow t =
         let i : ℕ = code k here in
         let l : i < count_of k = code-below k here here-valid in
@@ -78,30 +79,30 @@ module _ (k : Coordinate) (a : Axis) where
         ∙ sym (after_code i t l)
         ∙ ap (λ i. number_after k a i t) (sym number-here)
 
-  alike : (d e : Place → Place) → IsCube d → SameMap d e → number_of k a d ≡ number_of k a e
+  alike : (d e : Place → Place) → IsCube d → SameMap d e → rank_of k a d ≡ rank_of k a e
   alike d e h s =
       number-here (lists_of h.0) h.0.are_cubies d h.1
       ∙ sym (number-here (lists_of h.0) h.0.are_cubies e (λ q p. h.1 q p ∙ s q p))
 
-  zero : (e : Place → Place) → IsCube e → (number_of k a e ≡ 0) ↔ Kept (set_of k a) e
+  zero : (e : Place → Place) → IsCube e → (rank_of k a e ≡ 0) ↔ Kept (set_of k a) e
   zero e h =
       let d : Place → Place = map_of h.0 in
-      let same : number_of k a d ≡ number_of k a e = alike d e (h.0, λ q p. refl) h.1 in
+      let same : rank_of k a d ≡ rank_of k a e = alike d e (h.0, λ q p. refl) h.1 in
       let z = zero-kept k a (lists_of h.0) h.0.are_cubies in
       ((λ n. kept_same (set_of k a) d e (sets_are_places k a) h.1 (z.0 (same ∙ n))), (λ m. sym same ∙ z.1 (kept_same (set_of k a) e d (sets_are_places k a) (λ q p. sym (h.1 q p)) m)))
 
   -- cubies that have a number once they are renamed
-  some : (i : ℕ) → i < count_of k → (c : Cube) × (number_of k a (map_of c) ≡ i)
+  some : (i : ℕ) → i < count_of k → (c : Cube) × (rank_of k a (map_of c) ≡ i)
   some i l =
       let w = (renaming k a).onto (cubies_with k i) (cubies_with-valid k i l) in
-      (cube_of w.0 w.1, number_of-code k a (map_lists w.0) (cubies_with k i) (cubies_with-valid k i l) w.2 ∙ cubies_with-code k i l)
+      (cube_of w.0 w.1, rank_of-code k a (map_lists w.0) (cubies_with k i) (cubies_with-valid k i l) w.2 ∙ cubies_with-code k i l)
 
   -- the number after a turn, and after two, is that of the turned cube
-  pub after_turn : (c : Cube) (t : Turn) → number_after k a (number_of k a (map_of c)) t ≡ number_of k a (λ q. turned t (map_of c q))
+  pub after_turn : (c : Cube) (t : Turn) → number_after k a (rank_of k a (map_of c)) t ≡ rank_of k a (λ q. turned t (map_of c q))
   after_turn c t = sym (follow (lists_of c) c.are_cubies (map_of c) (λ q p. refl) t)
 
   pub after_both : (c : Cube) (s t : Turn) →
-      number_after k a (number_after k a (number_of k a (map_of c)) s) t ≡ number_of k a (λ q. turned t (turned s (map_of c q)))
+      number_after k a (number_after k a (rank_of k a (map_of c)) s) t ≡ rank_of k a (λ q. turned t (turned s (map_of c q)))
   after_both c s t =
       let d = turned_is_cube (map_of c) s (cube-itself c) in
       ap (λ i. number_after k a i t) (after_turn c s) ∙ sym (follow (lists_of d.0) d.0.are_cubies (λ q. turned s (map_of c q)) d.1 t)
@@ -134,14 +135,28 @@ are_coordinates k a = record {
   back_again = goes_back k a;
 }
 
+pub is_rank : (k : Coordinate) (a : Axis) (c : Cube) → IsRank k a (map_of c) (rank_of k a (map_of c))
+is_rank k a c = let law = are_coordinates k a in record {
+  value = refl;
+  in_range = law.below (map_of c) (cube-itself c);
+  kept = law.zero_where_kept (map_of c) (cube-itself c);
+}
+
 -- a cube that has a number has another one after a turn that does on the standard axis what t does
-pub after_standard_turn : (k : Coordinate) (a : Axis) (i : ℕ) (c : Cube) (s t : Turn) → number_of k (standard_axis k) (map_of c) ≡ i →
-    ((n : ℕ) → number_after k (standard_axis k) n s ≡ number_after k a n t) → number_of k (standard_axis k) (λ q. turned s (map_of c q)) ≡ number_after k a i t
+pub after_standard_turn : (k : Coordinate) (a : Axis) (i : ℕ) (c : Cube) (s t : Turn) → rank_of k (standard_axis k) (map_of c) ≡ i →
+    ((n : ℕ) → number_after k (standard_axis k) n s ≡ number_after k a n t) → rank_of k (standard_axis k) (λ q. turned s (map_of c q)) ≡ number_after k a i t
 after_standard_turn k a i c s t e same =
     sym (after_turn k (standard_axis k) c s) ∙ ap (λ j. number_after k (standard_axis k) j s) e ∙ same i
 
 pub row-below : (k : Coordinate) (a : Axis) (i : ℕ) (t : Turn) (n : ℕ) → i < count_of k → n ≡ number_after k a i t → n < count_of k
 row-below k a i t n l e = let P : ℕ → Type 0 = λ n. n < count_of k in subst P (sym e) (stays_below k a i t l)
+
+pub is_rank_after : (k : Coordinate) (a : Axis) (i : ℕ) (t : Turn) (n : ℕ) → i < count_of k → n ≡ number_after k a i t → IsRankAfter k a i t n
+is_rank_after k a i t n l e = record {
+  value = e;
+  in_range = row-below k a i t n l e;
+  of_each = λ f h is. e ∙ ap (λ i. number_after k a i t) (sym is) ∙ sym ((are_coordinates k a).follows f t h);
+}
 
 -- each turn has its place in turn order
 pub turn-found : (t : Turn) → (turn_number t < 18) × (turn_in turn_order (turn_number t) ≡ t)

@@ -1,13 +1,14 @@
 -- Corners and edges as two kinds of cubies: what holds of both, and where the map of cubies brings their facelets, as a permutation.
-use Rattle.niss_cube.proofs.Words.{and_left, Fact, Yes, Same, Equal, Below, Alike, Both, When, Numbers, Places, Holds, holds, refl, sym}
-use Rattle.niss_cube.proofs.Words.{◌∙◌, ap, arith, inl, inr, ◌≡◌, ℕ, ◌+◌, ◌-◌, ◌%◌, ◌<◌, List, length, get_or, Bool, true, false, ◌⊎◌}
-use Rattle.niss_cube.proofs.Words.{list_any, Place, same_place, is_place, is_corner, is_edge, SameMap, index_in, row_at, facelet_at}
-use Rattle.niss_cube.proofs.Words.{corner_facelets, edge_facelets, sticker_place, cases_Bool, ArePlaced, AreOriented, Cube, map}
-use Rattle.niss_cube.proofs.Words.{slice_index, range_with_len, ext_get_or, sticker_map, EachIndex, get_or-map-range_with_len}
-use Rattle.niss_cube.proofs.Words.{length-map-range_with_len, AreCubies, ◌*◌, ◌==◌, eq-eqb, eqb-true, same_truth, places, facelet, U, Kept}
-use Rattle.niss_cube.proofs.Words.{PermutesPlaces, CubesPermutePlaces, KeptIsEqual}
-use Rattle.niss_cube.proofs.Sums.{times_in, place_in, place_in-found, place_in-is, count_by-times, one_if-same, below, below_same}
-use Rattle.niss_cube.proofs.Sums.{below_permuted, one_if, one_of, below_all_same, one_if-at_most}
+use Rattle.niss_cube.proofs.Words.{and_left, Fact, Yes, Same, Equal, Below, Alike, Both, When, Numbers, Places, Holds}
+use Rattle.niss_cube.proofs.Words.{holds, refl, sym, ◌∙◌, ap, arith, inl, inr, ◌≡◌, ℕ, ◌+◌, ◌-◌, ◌%◌, ◌<◌, List, length}
+use Rattle.niss_cube.proofs.Words.{get_or, Bool, true, false, ◌⊎◌, list_any, Place, same_place, is_place, is_corner}
+use Rattle.niss_cube.proofs.Words.{is_edge, SameMap, index_in, row_at, facelet_at, corner_facelets, edge_facelets}
+use Rattle.niss_cube.proofs.Words.{sticker_place, cases_Bool, ArePlaced, AreOriented, Cube, map, slice_index}
+use Rattle.niss_cube.proofs.Words.{range_with_len, ext_get_or, sticker_map, EachIndex, get_or-map-range_with_len}
+use Rattle.niss_cube.proofs.Words.{length-map-range_with_len, AreCubies, ◌*◌, ◌==◌, eq-eqb, eqb-true, same_truth}
+use Rattle.niss_cube.proofs.Words.{places, facelet, U, Kept, PermutesPlaces, CubesPermutePlaces, KeptIsEqual, set}
+use Rattle.niss_cube.proofs.Sums.{times_in, place_in, place_in-found, place_in-is, count_by-times, one_if-same, below}
+use Rattle.niss_cube.proofs.Sums.{below_same, below_permuted, one_if, one_of, below_all_same, one_if-at_most}
 
 pub record CubieLists : Type 0 where
   pub corners : List ℕ

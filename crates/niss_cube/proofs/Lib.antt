@@ -2,13 +2,9 @@ pub mod CallerLemmas
 pub mod Codes
 pub mod CoordinateLaws
 pub mod CubieKinds
-pub mod FollowedLetters
-pub mod LawLemmas
 pub mod MovedCubies
-pub mod Orientations
-pub mod ShownCubies
-pub mod SliceEdges
-pub mod StepMaps
-pub mod StepTurns
+pub mod Ranks
+pub mod Shown
+pub mod StepLemmas
 pub mod Sums
 pub mod Words

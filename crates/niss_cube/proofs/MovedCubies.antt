@@ -4,8 +4,8 @@ use Rattle.niss_cube.proofs.Words.{length, not, sum, arith, inl, inr, Turn, Rena
 use Rattle.niss_cube.proofs.Words.{is_edge, turned, turn_table, every_turn, every_face, every_power, eqb-true, eq-eqb}
 use Rattle.niss_cube.proofs.Words.{same_truth, Fact, Both, Below, Equal, Alike, Same, When, Numbers, Places, Turns}
 use Rattle.niss_cube.proofs.Words.{Holds, holds, rotated, rotated_back, renaming_table, true, is_place, renamed_turn}
-use Rattle.niss_cube.proofs.Words.{renamed_by, Yes, face_by, turn, tested, places, XCounter}
-use Rattle.niss_cube.proofs.Words.{XQuarter, YQuarter, ZCounter}
+use Rattle.niss_cube.proofs.Words.{renamed_by, Yes, face_by, tested, XCounter, XQuarter, YQuarter}
+use Rattle.niss_cube.proofs.Words.{ZCounter}
 use Rattle.niss_cube.proofs.CubieKinds.{lists_path, CubieLists, Valid, map_lists, tabulated, tabulated-length}
 use Rattle.niss_cube.proofs.CubieKinds.{tabulated-at, Kind, Corners, Edges, count, facelets, at, home_at, turn_at}
 use Rattle.niss_cube.proofs.CubieKinds.{homes, turns, place_of, Stand, stand, standing-valid, stands, once, low}

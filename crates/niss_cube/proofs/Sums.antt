@@ -1,8 +1,8 @@
 -- Sums over the numbers below a bound, over the places of a permutation, and a number that stands once in a list.
 use Rattle.std.proofs.lemmas.Bool.{ne_eqb}
-use Rattle.niss_cube.proofs.Words.{sum_by-cons, eqb_tells, length, get_or, eq-eqb, sum_by, arith, false, refl}
-use Rattle.niss_cube.proofs.Words.{zero, List, Bool, true, ◌==◌, cond, sym, ◌∙◌, inl, inr, ◌≡◌, suc, ◌+◌, ◌*◌, ◌<◌, ◌≤◌, ◌∷◌, ap, [], ℕ}
-use Rattle.niss_cube.proofs.Words.{count_by, index_in}
+use Rattle.niss_cube.proofs.Words.{sum_by-cons, eqb_tells, length, get_or, eq-eqb, sum_by, arith, false, refl, zero}
+use Rattle.niss_cube.proofs.Words.{List, Bool, true, ◌==◌, cond, sym, ◌∙◌, inl, inr, ◌≡◌, suc, ◌+◌, ◌*◌, ◌<◌, ◌≤◌, ◌∷◌}
+use Rattle.niss_cube.proofs.Words.{ap, [], ℕ, count_by, index_in}
 
 abbrev pub below : ℕ → (ℕ → ℕ) → ℕ
 below zero f = 0

@@ -1,16 +1,11 @@
 pub mod Names
-pub mod CubieFacelets
 pub mod Cubies
 pub mod Map
 pub mod Sets
-pub mod Permutations
-pub mod Coordinates
 pub mod CubieTurns
-pub mod Renamings
-pub mod NumberedCubies
+pub mod Coordinates
 pub mod NumberAfter
 pub mod AfterTurn
 pub mod TableRows
-pub mod PlacePositions
 pub mod Steps
 pub mod StepLaws

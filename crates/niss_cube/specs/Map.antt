@@ -1,8 +1,9 @@
--- A cube as a map of the sticker places, and when two cubes are equal.
-use Rattle.std.specs.Prelude.{ℕ, ◌+◌, ◌%◌, if◌then◌else◌, List, slice_index, ◌==◌, Bool, ◌&&◌, nat_eq}
+-- A cube as a map of the sticker places, when two cubes are equal, and places by their positions in the facelet text.
+use Rattle.std.specs.Prelude.{◌≡◌, ℕ, ◌+◌, ◌%◌, ◌<◌, if◌then◌else◌, List, slice_index, get_or, ◌==◌, Bool, ◌&&◌, nat_eq}
 use Rattle.std.specs.List.{list_any}
-use Rattle.niss_cube.specs.Names.{Place, same_place, is_corner, is_edge, Cube}
-use Rattle.niss_cube.specs.CubieFacelets.{index_in, row_at, facelet_at, corner_facelets, edge_facelets}
+use Rattle.niss_moves.specs.Effects.{effect}
+use Rattle.niss_cube.specs.Names.{Place, places, facelet, U, same_place, is_corner, is_edge, Token, Cube}
+use Rattle.niss_cube.specs.Cubies.{index_in, row_at, facelet_at, corner_facelets, edge_facelets}
 use lib.Pointwise.{pointwise}
 
 -- Where the sticker that began at p stands: p is facelet k of the home of cubie h, which stands at place n.
@@ -30,3 +31,14 @@ same_cubies c d =
     pointwise nat_eq c.corners d.corners
     && (pointwise nat_eq c.twists d.twists
     && (pointwise nat_eq c.edges d.edges && pointwise nat_eq c.flips d.flips))
+
+unfoldable pub place_at : ℕ → Place
+place_at n = get_or places n (facelet U 5)
+
+-- each of the 26 new positions is that of the place to which a sequence brings what stands at the old one
+abbrev pub AreMoved : (old new : List ℕ) → List Token → Type 0
+AreMoved old new s = (k : ℕ) → k < 26 → place_at (slice_index new k) ≡ effect s (place_at (slice_index old k))
+
+-- The sticker that a cube has at a position began at another one.
+abbrev pub BeganAt : Cube → (position origin : ℕ) → Type 0
+BeganAt c position origin = (origin < 54) × (map_of c (place_at origin) ≡ place_at position)

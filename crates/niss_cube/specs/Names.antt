@@ -13,8 +13,8 @@ pub use Rattle.niss_moves.specs.declared.token.Token.{Token}
 pub use Rattle.niss_cube.specs.declared.cube.Cube.{Cube}
 pub use Rattle.niss_cube.specs.declared.cube.coordinate.Coordinate.{Coordinate}
 pub use Rattle.niss_cube.specs.declared.cube.coordinate.Coordinate.TheVariants.{Flip, Twist, Slice}
-pub use Rattle.niss_cube.specs.declared.renaming.Renaming.{Renaming}
-pub use Rattle.niss_cube.specs.declared.renaming.Renaming.TheVariants.{XCounter, XQuarter, YQuarter, ZCounter}
+pub use Rattle.niss_cube.specs.declared.cube.coordinate.renaming.Renaming.{Renaming}
+pub use Rattle.niss_cube.specs.declared.cube.coordinate.renaming.Renaming.TheVariants.{XCounter, XQuarter, YQuarter, ZCounter}
 pub use Rattle.niss_cube.specs.declared.step.Step.{Step}
 pub use Rattle.niss_cube.specs.declared.step.Step.TheVariants.{Eofb, Eorl, Eoud, DrudEofb, DrrlEofb, DrudEorl, DrfbEorl, DrrlEoud, DrfbEoud}
 pub use Rattle.niss_cube.specs.declared.step.Step.TheVariants.{Eo, DrEofb, DrEorl, DrEoud}

@@ -1,10 +1,17 @@
--- The rows of move tables: the numbers of a coordinate after turns.
+-- The number of a coordinate after a turn, and the rows of move tables.
 use Rattle.std.specs.Prelude.{◌≡◌, ℕ, ◌<◌, ◌+◌, ◌*◌, List, [], length, slice_index, get_or}
 use Rattle.niss_moves.specs.Canonical.{turn_order}
 use Rattle.niss_moves.specs.Indices.{face_index, power_index}
-use Rattle.niss_cube.specs.Names.{U, Quarter, Axis, Turn, Coordinate}
-use Rattle.niss_cube.specs.Coordinates.{count_of, standard_axis}
+use Rattle.niss_cube.specs.Names.{Place, turned, U, Quarter, Axis, Turn, Coordinate}
+use Rattle.niss_cube.specs.Coordinates.{count_of, rank_of, standard_axis}
 use Rattle.niss_cube.specs.NumberAfter.{number_after}
+use Rattle.niss_cube.specs.AfterTurn.{IsCube}
+
+-- The number on an axis after a turn of any cube that had the number i before it.
+pub record IsRankAfter (k : Coordinate) (a : Axis) (i : ℕ) (t : Turn) (n : ℕ) : Type 0 where
+  pub value : n ≡ number_after k a i t
+  pub in_range : n < count_of k
+  pub of_each : (e : Place → Place) → IsCube e → rank_of k a e ≡ i → n ≡ rank_of k a (λ q. turned t (e q))
 
 -- the turn of a column
 abbrev pub turn_in : List Turn → ℕ → Turn

@@ -6,8 +6,8 @@ ghost use Rattle.niss_cube.specs.Cubies.{AreCubies};
 use crate::cubie_turns::{cubie_turn, turn_homes, turn_orientations};
 use crate::followed_places::{CORNER_POSITIONS, CUBIE_LETTERS, CUBIES, EDGE_POSITIONS, FACELETS};
 use crate::place_positions::position_before;
-use crate::renaming::Renaming;
 use coordinate::Coordinate;
+use coordinate::renaming::Renaming;
 use niss_moves::{Axis, Power, Rotation, Turn};
 use std::alloc::AllocError;
 
@@ -40,11 +40,10 @@ impl Cube {
     ghost use Rattle.niss_moves.specs.Facelets.{places, letter_of, letters};
     ghost use Rattle.niss_moves.specs.Effects.{effect, effect_of_turns, turned};
     ghost use Rattle.niss_moves.specs.Rotations.{spelling};
-    ghost use Rattle.niss_cube.specs.Map.{map_of, same_cubies};
-    ghost use Rattle.niss_cube.specs.Sets.{Kept, flip_set, twist_set, slice_set};
-    ghost use Rattle.niss_cube.specs.Renamings.{renamed_by};
-    ghost use Rattle.niss_cube.specs.PlacePositions.{BeganAt, place_at};
-    ghost use Rattle.niss_cube.specs.Coordinates.{flip_of, twist_of, slice_of};
+    ghost use Rattle.niss_cube.specs.Map.{map_of, same_cubies, BeganAt, place_at};
+    ghost use Rattle.niss_cube.specs.CubieTurns.{renamed_by};
+    ghost use Rattle.niss_cube.specs.Coordinates.{IsRank};
+    ghost use Rattle.niss_cube.specs.declared.cube.coordinate.Coordinate.TheVariants.{Flip, Twist, Slice};
 
     /// The solved cube.
     pub fn solved() -> Self
@@ -99,33 +98,27 @@ impl Cube {
     /// that is renamed for this axis (by `x'` for Ud, by `y` for Rl), as a number in base 2. It is 0 exactly where all
     /// edges are oriented: where their stickers of the set `flip_set` stand on places of this set.
     pub fn flip(&self, axis: Axis) -> u16
-        ensures value { result ≡ flip_of axis (map_of self.now) }
-        ensures in_range { result < 2048 }
-        ensures kept { (result ≡ 0) ↔ Kept (flip_set axis) (map_of self.now) }
+        ensures { IsRank Flip axis (map_of self.now) result }
     {
-        Coordinate::Flip.number(axis, self)
+        Coordinate::Flip.rank(axis, self)
     }
 
     /// The corner orientation with respect to an axis, from 0 to 2,186: the twists at the first seven corner places of the
     /// cube that is renamed for this axis (by `z'` for Rl, by `x` for Fb), as a number in base 3. It is 0 exactly where all
     /// corners are oriented: where their stickers of the set `twist_set` stand on places of this set.
     pub fn twist(&self, axis: Axis) -> u16
-        ensures value { result ≡ twist_of axis (map_of self.now) }
-        ensures in_range { result < 2187 }
-        ensures kept { (result ≡ 0) ↔ Kept (twist_set axis) (map_of self.now) }
+        ensures { IsRank Twist axis (map_of self.now) result }
     {
-        Coordinate::Twist.number(axis, self)
+        Coordinate::Twist.rank(axis, self)
     }
 
     /// The slice coordinate of an axis, from 0 to 494: the number of the places at which the four edges between the axis's
     /// two faces stand, in any order, on the cube that is renamed for this axis (by `z'` for Rl, by `x` for Fb). It is 0
     /// exactly where each of them stands in the slice.
     pub fn slice(&self, axis: Axis) -> u16
-        ensures value { result ≡ slice_of axis (map_of self.now) }
-        ensures in_range { result < 495 }
-        ensures kept { (result ≡ 0) ↔ Kept (slice_set axis) (map_of self.now) }
+        ensures { IsRank Slice axis (map_of self.now) result }
     {
-        Coordinate::Slice.number(axis, self)
+        Coordinate::Slice.rank(axis, self)
     }
 
     /// Whether the same cubies stand at the same places, turned alike.
@@ -169,7 +162,7 @@ impl Cube {
 
     /// The facelet text of the cube, then rotated as a whole: the faces in the order U, R, F, D, L, B with nine letters
     /// each, row by row as one looks at the face. The letter at a place names the face on which its sticker began.
-    #[tactic(auto, using(crate::proofs::FollowedLetters::text_is))]
+    #[tactic(auto, using(crate::proofs::Shown::text_is))]
     pub fn facelets(&self, rotation: Rotation) -> [u8; 54]
         ensures { result ≡ letters (λ q. effect (spelling rotation) (map_of self.now q)) }
     {
@@ -209,7 +202,7 @@ impl PartialEq for Cube {
 
     ghost laws = { Prim.search (comparing, rules) };
 
-    #[tactic(auto, using(crate::proofs::ShownCubies::equal_cubes))]
+    #[tactic(auto, using(crate::proofs::Shown::equal_cubes))]
     fn eq(&self, other: &Cube) -> bool
         ensures value { result ≡ same_cubies self.now other.now }
         ensures map { IsTrue result ↔ SameMap (map_of self.now) (map_of other.now) }

@@ -69,7 +69,7 @@ impl FollowedPlaces {
     ghost use Rattle.std.specs.Prelude.{◌≡◌, ◌∷◌, [], List};
     ghost use Rattle.niss_moves.specs.Effects.{inverse};
     ghost use Rattle.niss_moves.specs.declared.token.Token.{Token};
-    ghost use Rattle.niss_cube.specs.PlacePositions.{AreMoved};
+    ghost use Rattle.niss_cube.specs.Map.{AreMoved};
 
     /// The first facelets.
     fn new() -> FollowedPlaces

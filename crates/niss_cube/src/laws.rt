@@ -1,9 +1,8 @@
 //! Laws over the definitions, each as a contract.
-#![tactic(auto, using(crate::proofs::LawLemmas::laws))]
+#![tactic(auto, using(crate::proofs::CallerLemmas::laws))]
 
 ghost use Rattle.niss_cube.specs.AfterTurn.{TurnedIsCube, AreCoordinates};
-ghost use Rattle.niss_cube.specs.Sets.{KeptIsTested, SetsArePlaces};
-ghost use Rattle.niss_cube.specs.Permutations.{CubesPermutePlaces, KeptIsEqual};
+ghost use Rattle.niss_cube.specs.Sets.{KeptIsTested, SetsArePlaces, CubesPermutePlaces, KeptIsEqual};
 ghost use Rattle.niss_cube.specs.StepLaws.{StartIsKept, OtherTurnsLeaveStart, StepsSeePlaces, InversesOfSteps};
 ghost use Rattle.niss_cube.specs.StepLaws.{StepTurnsInOrder, StepTurnsAreCounted, DominoKeepsStart};
 

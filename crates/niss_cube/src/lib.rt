@@ -36,12 +36,9 @@
 
 mod cube;
 mod cubie_turns;
-mod digits;
 mod followed_places;
 pub mod laws;
 mod place_positions;
-mod renaming;
-mod slice_places;
 mod step;
 mod turn_tables;
 

@@ -2,7 +2,7 @@
 ghost use Rattle.std.specs.Prelude.{◌≡◌, ℕ, ◌+◌, ◌<◌, slice_index};
 ghost use Rattle.niss_moves.specs.Effects.{effect, inverse, moved_by};
 ghost use Rattle.niss_moves.specs.Rotations.{rotation_if};
-ghost use Rattle.niss_cube.specs.PlacePositions.{place_at};
+ghost use Rattle.niss_cube.specs.Map.{place_at};
 
 use niss_moves::{Axis, Power, Token};
 

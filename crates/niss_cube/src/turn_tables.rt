@@ -1,11 +1,7 @@
 //! Tables of the coordinates after a turn.
 ghost use Rattle.std.specs.Prelude.{◌≡◌, ◌<◌, IfOk};
-ghost use Rattle.niss_moves.specs.Effects.{turned};
-ghost use Rattle.niss_moves.specs.Places.{Place};
-ghost use Rattle.niss_cube.specs.Coordinates.{count_of, number_of};
-ghost use Rattle.niss_cube.specs.NumberAfter.{number_after};
-ghost use Rattle.niss_cube.specs.AfterTurn.{IsCube};
-ghost use Rattle.niss_cube.specs.TableRows.{AreMoveRows, turn_number};
+ghost use Rattle.niss_cube.specs.Coordinates.{count_of};
+ghost use Rattle.niss_cube.specs.TableRows.{AreMoveRows, IsRankAfter, turn_number};
 ghost use Rattle.niss_cube.specs.declared.cube.coordinate.Coordinate as kinds;
 ghost use Rattle.niss_cube.specs.declared.cube.coordinate.Coordinate.TheVariants.{Flip, Twist, Slice};
 
@@ -72,10 +68,7 @@ impl<A: Allocator> TurnTable<A> {
     #[inline(always)]
     pub fn next(&self, axis: Axis, number: u16, turn: Turn) -> u16
         requires { number < count_of self.now }
-        ensures value { result ≡ number_after self.now axis number turn }
-        ensures in_range { result < count_of self.now }
-        ensures of_each { (e : Place → Place) → IsCube e → number_of self.now axis e ≡ number →
-            result ≡ number_of self.now axis (λ q. turned turn (e q)) }
+        ensures { IsRankAfter self.now axis number turn result }
     {
         let standard = self.coordinate.standard_turn(axis, turn);
         self.rows[number as usize][turn_number(standard)]
@@ -102,8 +95,6 @@ impl TurnTables {
 }
 
 impl<A: Allocator> TurnTables<A> {
-    ghost use Rattle.niss_cube.specs.Coordinates.{flip_of, twist_of, slice_of};
-
     /// `build` over any allocator, for a caller that has a heap of its own, or that refuses growths.
     pub fn build_in(alloc: A) -> Result<TurnTables<A>, OutOfMemory>
     where
@@ -120,10 +111,7 @@ impl<A: Allocator> TurnTables<A> {
     #[inline(always)]
     pub fn next_flip(&self, axis: Axis, number: u16, turn: Turn) -> u16
         requires { number < 2048 }
-        ensures value { result ≡ number_after Flip axis number turn }
-        ensures in_range { result < 2048 }
-        ensures of_each { (e : Place → Place) → IsCube e → flip_of axis e ≡ number →
-            result ≡ flip_of axis (λ q. turned turn (e q)) }
+        ensures { IsRankAfter Flip axis number turn result }
     {
         self.flips.next(axis, number, turn)
     }
@@ -132,10 +120,7 @@ impl<A: Allocator> TurnTables<A> {
     #[inline(always)]
     pub fn next_twist(&self, axis: Axis, number: u16, turn: Turn) -> u16
         requires { number < 2187 }
-        ensures value { result ≡ number_after Twist axis number turn }
-        ensures in_range { result < 2187 }
-        ensures of_each { (e : Place → Place) → IsCube e → twist_of axis e ≡ number →
-            result ≡ twist_of axis (λ q. turned turn (e q)) }
+        ensures { IsRankAfter Twist axis number turn result }
     {
         self.twists.next(axis, number, turn)
     }
@@ -144,10 +129,7 @@ impl<A: Allocator> TurnTables<A> {
     #[inline(always)]
     pub fn next_slice(&self, axis: Axis, number: u16, turn: Turn) -> u16
         requires { number < 495 }
-        ensures value { result ≡ number_after Slice axis number turn }
-        ensures in_range { result < 495 }
-        ensures of_each { (e : Place → Place) → IsCube e → slice_of axis e ≡ number →
-            result ≡ slice_of axis (λ q. turned turn (e q)) }
+        ensures { IsRankAfter Slice axis number turn result }
     {
         self.slices.next(axis, number, turn)
     }

@@ -11,7 +11,7 @@ use Rattle.niss_search.proofs.Words.{Contains, All, All-head, All-filter, All-co
 use Rattle.niss_search.proofs.Words.{all_deepenings, distance_of}
 use Rattle.std.specs.Prelude.{option_map, slice_get}
 use Rattle.std.proofs.lemmas.List.{nil_from_length}
-use Rattle.niss_search.specs.Laws.{FirstIsLeast}
+use Rattle.niss_search.specs.Laws.{FirstIsLeast, FirstIsLeastIn, NoSlackIsLeastIn}
 use Rattle.niss_moves.specs.Laws.{CanonicalMembers}
 use Rattle.niss_search.proofs.Bounds.{last-within, least-within, looks-sum-small}
 use Rattle.niss_search.proofs.ListLemmas.{flat_map-none, in-range, range-push, range-split, sum_by-range_more, flat_map-range_more}
@@ -100,9 +100,9 @@ last-is : (o : Option ℕ) (n : ℕ) → ((d : ℕ) → o ≡ Some d → d ≤ n
 last-is None n h = refl
 last-is (Some d) n h = omega (arith, h d refl)
 
-pub no_slack : NoSlackIsLeast
+no_slack_in : (S : Type 0) → NoSlackIsLeastIn S
 unfolding solutions all_looks
-no_slack = record {
+no_slack_in S = record {
   listed = λ turns space start n. listed (reaching space start) n (least_length space start n) (least-within space start n);
   looked = λ turns space look start n. ap (λ k. sum_by (looks space look start) (up_to k)) (last-is (least_length space start n) n (least-within space start n));
 } where
@@ -111,6 +111,9 @@ no_slack = record {
   listed each n (Some d) h =
       let one : min n (d + 0) + 1 - d ≡ 1 = omega (arith, h d refl) in
       ap (λ k. flat_map each (range_with_len d k)) one ∙ append-nil (each d)
+
+pub no_slack : NoSlackIsLeast
+no_slack = (no_slack_in (Place → Place), no_slack_in (List Turn))
 
 -- what is found passes
 find-passes : {X : Type 0} (p : X → Bool) (xs : List X) (x : X) → find p xs ≡ Some x → p x ≡ true
@@ -121,9 +124,9 @@ find-passes {X} p (y ∷ ys) x h = by_test (p y) refl h (λ k. find-passes p ys 
   by_test false e k rec = rec k
 
 -- the first of the sequences that reach at the least length is the first of them all
-pub first_least : CanonicalMembers → FirstIsLeast
+first_least_in : CanonicalMembers → (S : Type 0) → FirstIsLeastIn S
 unfolding solutions least_length
-first_least members turns space start n slack = by_least (least_length space start n) refl (least-within space start n) where
+first_least_in members S turns space start n slack = by_least (least_length space start n) refl (least-within space start n) where
   each : ℕ → List (List Turn)
   each = reaching space start
 
@@ -145,6 +148,9 @@ first_least members turns space start n slack = by_least (least_length space sta
       let more : min n (d + slack) + 1 - d ≡ suc count = omega (arith, within d refl) in
       of_length d (each d) (flat_map each (range_with_len (d + 1) count)) refl (find-passes (is_length space start) (up_to n) d same)
       ∙ ap (λ k. option_map (length {A = Turn}) (slice_get (flat_map each (range_with_len d k)) 0)) (sym more)
+
+pub first_least : CanonicalMembers → FirstIsLeast
+first_least members = (first_least_in members (Place → Place), first_least_in members (List Turn))
 
 -- All deepenings are those to each length up to the last.
 whole-parts : {turns : List Turn} {S : Type 0} (space : Space turns S) (look : S → ℕ) (start : S) (n slack : ℕ)

@@ -4,18 +4,20 @@ ghost use Rattle.niss_moves.specs.Effects.{turned};
 ghost use Rattle.niss_moves.specs.Places.{SameMap};
 ghost use Rattle.niss_cube.specs.Map.{map_of};
 ghost use Rattle.niss_cube.specs.Sets.{Kept, is_kept, set_of};
-ghost use Rattle.niss_cube.specs.Coordinates.{count_of, face_for, number_of, renamed_for, renaming_for, standard_axis, turn_for};
+ghost use Rattle.niss_cube.specs.Coordinates.{IsRank, count_of, face_for, rank_of, renamed_for, renaming_for, standard_axis, turn_for};
 ghost use Rattle.niss_cube.specs.NumberAfter.{number_after};
 ghost use Rattle.niss_cube.specs.TableRows.{IsMoveRow};
 
 use super::{CORNERS_HOME, Cube, EDGES_HOME};
 use crate::cubie_turns::{cubie_turn, turn_homes, turn_orientations};
-use crate::digits::{number_from_digits, write_orientations};
-use crate::renaming::Renaming;
-use crate::slice_places::{edges_with_slice, slice_number};
 use niss_moves::{Axis, Face, Turn};
+use ranking::{rank_digits, rank_slice, unrank_orientations, unrank_slice};
+use renaming::Renaming;
 
-/// A coordinate of a cube, which has a number on each axis.
+mod ranking;
+pub(crate) mod renaming;
+
+/// A coordinate of a cube, which has a rank on each axis: a number below `count`.
 #[derive(Clone, Copy, Debug, PartialEq, Eq)]
 pub enum Coordinate {
     /// How the edges are flipped.
@@ -27,7 +29,7 @@ pub enum Coordinate {
 }
 
 impl Coordinate {
-    /// How many numbers it has: 2,048, 2,187 or 495.
+    /// How many ranks it has: 2,048, 2,187 or 495.
     pub fn count(self) -> usize
         ensures { result ≡ count_of self }
     {
@@ -38,13 +40,11 @@ impl Coordinate {
         }
     }
 
-    /// The number of a cube on an axis, below `count`. It is 0 exactly where the cube keeps the coordinate's set of places.
-    pub fn number(self, axis: Axis, cube: &Cube) -> u16
-        ensures value { result ≡ number_of self axis (map_of cube.now) }
-        ensures in_range { result < count_of self }
-        ensures kept { (result ≡ 0) ↔ Kept (set_of self axis) (map_of cube.now) }
+    /// The rank of a cube on an axis, below `count`. It is 0 exactly where the cube keeps the coordinate's set of places.
+    pub fn rank(self, axis: Axis, cube: &Cube) -> u16
+        ensures { IsRank self axis (map_of cube.now) result }
     {
-        self.standard_number(&self.renamed(axis, cube))
+        self.standard_rank(&self.renamed(axis, cube))
     }
 
     /// Whether it is 0 on an axis: whether the cube keeps its set of places.
@@ -52,7 +52,7 @@ impl Coordinate {
         ensures value { result ≡ is_kept (set_of self axis) (map_of cube.now) }
         ensures kept { IsTrue result ↔ Kept (set_of self axis) (map_of cube.now) }
     {
-        self.number(axis, cube) == 0
+        self.rank(axis, cube) == 0
     }
 
     /// The rotation by which a cube is renamed before the coordinate on an axis is read, if it is.
@@ -84,27 +84,27 @@ impl Coordinate {
         }
     }
 
-    /// The number of a cube on the standard axis, for which it isn't renamed.
-    fn standard_number(self, cube: &Cube) -> u16
-        ensures { result ≡ number_of self (standard_axis self) (map_of cube.now) }
+    /// The rank of a cube on the standard axis, for which it isn't renamed.
+    fn standard_rank(self, cube: &Cube) -> u16
+        ensures { result ≡ rank_of self (standard_axis self) (map_of cube.now) }
     {
         match self {
-            Coordinate::Flip => number_from_digits(2, &cube.flips[..11]),
-            Coordinate::Twist => number_from_digits(3, &cube.twists[..7]),
-            Coordinate::Slice => slice_number(&cube.edges),
+            Coordinate::Flip => rank_digits(2, &cube.flips[..11]),
+            Coordinate::Twist => rank_digits(3, &cube.twists[..7]),
+            Coordinate::Slice => rank_slice(&cube.edges),
         }
     }
 
-    /// A cube with a number on the standard axis, its other cubies at home.
-    fn cube_with(self, number: u16) -> Cube
+    /// A cube with a rank on the standard axis, its other cubies at home.
+    fn unrank(self, number: u16) -> Cube
         requires { number < count_of self }
-        ensures { number_of self (standard_axis self) (map_of result) ≡ number }
+        ensures { rank_of self (standard_axis self) (map_of result) ≡ number }
     {
         let (mut twists, mut edges, mut flips) = ([0; 8], EDGES_HOME, [0; 12]);
         match self {
-            Coordinate::Flip => write_orientations(2, number, &mut flips),
-            Coordinate::Twist => write_orientations(3, number, &mut twists),
-            Coordinate::Slice => edges = edges_with_slice(number),
+            Coordinate::Flip => unrank_orientations(2, number, &mut flips),
+            Coordinate::Twist => unrank_orientations(3, number, &mut twists),
+            Coordinate::Slice => edges = unrank_slice(number),
         }
         Cube {
             corners: CORNERS_HOME,
@@ -114,21 +114,21 @@ impl Coordinate {
         }
     }
 
-    /// The number on the standard axis after a turn, for which the cubies that it depends on are turned alone.
-    fn standard_number_after(self, cube: &Cube, turn: Turn) -> u16
-        ensures { result ≡ number_of self (standard_axis self) (λ q. turned turn (map_of cube.now q)) }
+    /// The rank on the standard axis after a turn, for which the cubies that it depends on are turned alone.
+    fn standard_rank_after(self, cube: &Cube, turn: Turn) -> u16
+        ensures { result ≡ rank_of self (standard_axis self) (λ q. turned turn (map_of cube.now q)) }
     {
         let table = cubie_turn(turn);
         match self {
             Coordinate::Flip => {
                 let flips = turn_orientations::<12, 2>(&cube.flips, &table.edges, &table.flips);
-                number_from_digits(2, &flips[..11])
+                rank_digits(2, &flips[..11])
             }
             Coordinate::Twist => {
                 let twists = turn_orientations::<8, 3>(&cube.twists, &table.corners, &table.twists);
-                number_from_digits(3, &twists[..7])
+                rank_digits(3, &twists[..7])
             }
-            Coordinate::Slice => slice_number(&turn_homes(&cube.edges, &table.edges)),
+            Coordinate::Slice => rank_slice(&turn_homes(&cube.edges, &table.edges)),
         }
     }
 
@@ -143,7 +143,7 @@ impl Coordinate {
         }
     }
 
-    /// The turn that does to the number on the standard axis, Fb for flips and Ud for twists and slices, what `turn` does to
+    /// The turn that does to the rank on the standard axis, Fb for flips and Ud for twists and slices, what `turn` does to
     /// that on `axis`.
     #[inline(always)]
     pub fn standard_turn(self, axis: Axis, turn: Turn) -> Turn
@@ -167,20 +167,17 @@ impl Coordinate {
         }
     }
 
-    /// The row of a number in a move table: the numbers on an axis after some turns, at most 18, of any cube that has this
-    /// number before them. They stand in the order of the turns, and each is below `count`.
+    /// The row of a rank in a move table: the ranks on an axis after some turns, at most 18, of any cube that has this rank
+    /// before them. They stand in the order of the turns, and each is below `count`.
     pub fn move_row(self, axis: Axis, number: u16, turns: &[Turn]) -> [u16; 18]
         requires number { number < count_of self }
         requires few { length turns.now ≤ 18 }
         ensures { IsMoveRow self axis turns.now number result }
     {
-        let cube = self.cube_with(number);
+        let cube = self.unrank(number);
         let mut row = [0; 18];
         for column in 0..turns.len() {
-            row[column] = self.standard_number_after(
-                &cube,
-                self.standard_turn(axis, turns[column]),
-            );
+            row[column] = self.standard_rank_after(&cube, self.standard_turn(axis, turns[column]));
         }
         row
     }

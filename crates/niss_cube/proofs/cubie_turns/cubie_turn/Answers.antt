@@ -1,5 +1,6 @@
-use Rattle.niss_cube.proofs.Words.{ℕ, List, length, get_or, refl, sym, subst, rules, Turn, turn_table, every_turn, every_face, every_power}
-use Rattle.niss_cube.proofs.Words.{CubieTurn, IsInRange, Fact, Both, Below, Numbers, Turns, holds}
+use Rattle.niss_cube.proofs.Words.{ℕ, List, length, get_or, refl, sym, subst, rules, Turn, turn_table, every_turn}
+use Rattle.niss_cube.proofs.Words.{every_face, every_power, CubieTurn, IsInRange, Fact, Both, Below, Numbers, Turns}
+use Rattle.niss_cube.proofs.Words.{holds}
 use Rattle.niss_cube.proofs.cubie_turns.cubie_turn.Goals as goal
 
 abbrev within : List ℕ → ℕ → Fact

@@ -1,4 +1,5 @@
-use Rattle.niss_cube.proofs.Words.{sym, ap, ◌∙◌, ◌++◌, effect, inverse, place_at, slice_index, effect-append, inverse_after, inverse_before}
+use Rattle.niss_cube.proofs.Words.{sym, ap, ◌∙◌, ◌++◌, effect, inverse, place_at, slice_index, effect-append}
+use Rattle.niss_cube.proofs.Words.{inverse_after, inverse_before}
 use Rattle.niss_cube.proofs.followed_places.facelets_after.Goals as goal
 
 pub returns : goal.returns

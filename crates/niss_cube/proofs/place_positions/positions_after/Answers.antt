@@ -1,5 +1,6 @@
-use Rattle.niss_cube.proofs.Words.{Below, Alike, Both, Numbers, Tokens, holds, ◌≡◌, ℕ, ◌<◌, refl, [], get_or, moved_by, Token, place_at}
-use Rattle.niss_cube.proofs.Words.{every_token, every_face, every_power, every_slice, every_axis, token_index, POSITIONS_AFTER}
+use Rattle.niss_cube.proofs.Words.{Below, Alike, Both, Numbers, Tokens, holds, ◌≡◌, ℕ, ◌<◌, refl, [], get_or, moved_by}
+use Rattle.niss_cube.proofs.Words.{Token, place_at, every_token, every_face, every_power, every_slice, every_axis}
+use Rattle.niss_cube.proofs.Words.{token_index, POSITIONS_AFTER}
 use Rattle.niss_cube.proofs.place_positions.positions_after.Goals as goal
 
 abbrev after : Token → ℕ → ℕ

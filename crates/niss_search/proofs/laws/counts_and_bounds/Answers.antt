@@ -7,7 +7,7 @@ pub returns : goal.returns
 returns c = record {
   recurrence = count-recurrence;
   part = part-has-no-more;
-  within = λ turns space look e n slack. all_looks-bound space look e n slack;
+  within = (λ turns space look e n slack. all_looks-bound space look e n slack, λ turns space look e n slack. all_looks-bound space look e n slack);
   step = step-bound c.step_turns_in_order.ensures;
   small = bound-small;
   entries = entries-counted;

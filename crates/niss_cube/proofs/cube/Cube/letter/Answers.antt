@@ -1,7 +1,8 @@
-use Rattle.niss_cube.proofs.Words.{◌≡◌, ap, sym, ◌∙◌, arith, List, Place, Token, effect, to_top, about_vertical, rotation_if, spelling}
-use Rattle.niss_cube.proofs.Words.{inverse, map_of, place_at, places, letter_of, effect-append, inverse_before}
+use Rattle.niss_cube.proofs.Words.{◌≡◌, ap, sym, ◌∙◌, arith, List, Place, Token, effect, to_top, about_vertical}
+use Rattle.niss_cube.proofs.Words.{rotation_if, spelling, inverse, map_of, place_at, places, letter_of, effect-append}
+use Rattle.niss_cube.proofs.Words.{inverse_before}
 use Rattle.niss_cube.proofs.CubieKinds.{lists_of, one_to_one}
-use Rattle.niss_cube.proofs.FollowedLetters.{effect_one_to_one, brought_letter, letters_are}
+use Rattle.niss_cube.proofs.Shown.{effect_one_to_one, brought_letter, letters_are}
 use Rattle.niss_cube.proofs.cube.Cube.letter.Goals as goal
 
 pub returns : goal.returns

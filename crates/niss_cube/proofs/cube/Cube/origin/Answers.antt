@@ -1,8 +1,9 @@
-use Rattle.niss_cube.proofs.Words.{Fact, Same, Below, Alike, Both, When, Numbers, Holds, holds, refl, ap, ◌∙◌, ◌≡◌, ℕ, ◌+◌, ◌-◌, ◌*◌, ◌%◌}
-use Rattle.niss_cube.proofs.Words.{◌<◌, get_or, false, nat_lt, nat_le, ◌&&◌, arith, is_corner, is_edge, place_at, CUBIES, FACELETS}
-use Rattle.niss_cube.proofs.Words.{CORNER_POSITIONS, EDGE_POSITIONS, lt-ltb, le-leb, and_both}
-use Rattle.niss_cube.proofs.CubieKinds.{CubieLists, Valid, lists_of, map_lists, Kind, Corners, Edges, count, facelets, at, home_at, turn_at}
-use Rattle.niss_cube.proofs.CubieKinds.{Stand, stand, low, rewound, origin, centre_stays}
+use Rattle.niss_cube.proofs.Words.{Fact, Same, Below, Alike, Both, When, Numbers, Holds, holds, refl, ap, ◌∙◌, ◌≡◌, ℕ}
+use Rattle.niss_cube.proofs.Words.{◌+◌, ◌-◌, ◌*◌, ◌%◌, ◌<◌, get_or, false, nat_lt, nat_le, ◌&&◌, arith, is_corner}
+use Rattle.niss_cube.proofs.Words.{is_edge, place_at, CUBIES, FACELETS, CORNER_POSITIONS, EDGE_POSITIONS, lt-ltb}
+use Rattle.niss_cube.proofs.Words.{le-leb, and_both}
+use Rattle.niss_cube.proofs.CubieKinds.{CubieLists, Valid, lists_of, map_lists, Kind, Corners, Edges, count, facelets}
+use Rattle.niss_cube.proofs.CubieKinds.{at, home_at, turn_at, Stand, stand, low, rewound, origin, centre_stays}
 use Rattle.niss_cube.proofs.cube.Cube.origin.Goals as goal
 
 -- the position of a facelet of a cubie

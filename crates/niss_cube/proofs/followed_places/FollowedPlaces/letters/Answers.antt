@@ -1,5 +1,5 @@
 use Rattle.niss_cube.proofs.Words.{◌∙◌, arith, effect}
-use Rattle.niss_cube.proofs.FollowedLetters.{is_facelet, followed_letter, text_is}
+use Rattle.niss_cube.proofs.Shown.{is_facelet, followed_letter, text_is}
 use Rattle.niss_cube.proofs.followed_places.FollowedPlaces.letters.Goals as goal
 
 pub bounds-self-position : goal.bounds-self-position

@@ -1,7 +1,7 @@
-use Rattle.niss_cube.proofs.Words.{Option, Some, None, ◌≡◌, ◌∙◌, ap, subst, rules, arith, length, ◌≢◌, IfNone, IfSome, MatchOption}
-use Rattle.niss_cube.proofs.Words.{slice_index_or, steps, name_of}
+use Rattle.niss_cube.proofs.Words.{Option, Some, None, ◌≡◌, ◌∙◌, ap, subst, rules, arith, length, ◌≢◌, IfNone, IfSome}
+use Rattle.niss_cube.proofs.Words.{MatchOption, slice_index_or, steps, name_of}
 use Rattle.std.proofs.lemmas.Option.{IfSome_then}
-use Rattle.niss_cube.proofs.StepTurns.{member}
+use Rattle.niss_cube.proofs.StepLemmas.{member}
 use Rattle.niss_cube.proofs.step.Step.from_name.Goals as goal
 
 where_none : {X W Q : Type 0} (E : X → Type 0) (r : Option X) → MatchOption r W E → (W → Q) → IfNone r Q

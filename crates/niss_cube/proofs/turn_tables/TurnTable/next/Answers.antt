@@ -1,25 +1,18 @@
-use Rattle.niss_cube.proofs.Words.{◌≡◌, [], get_or, get_or_default, sym, ◌∙◌, ap, arith, number_after, standard_axis, AreMoveRows, turn_number}
-use Rattle.niss_cube.proofs.CoordinateLaws.{are_coordinates, row-below, turn-found}
+use Rattle.niss_cube.proofs.Words.{◌≡◌, [], get_or, get_or_default, ◌∙◌, ap, arith, number_after, standard_axis}
+use Rattle.niss_cube.proofs.Words.{AreMoveRows, turn_number}
+use Rattle.niss_cube.proofs.CoordinateLaws.{is_rank_after, turn-found}
 use Rattle.niss_cube.proofs.turn_tables.TurnTable.next.Goals as goal
 
-pub returns-clause-value : goal.returns-clause-value
-returns-clause-value g c =
+pub returns : goal.returns
+returns g c =
     let standard = c.standard_turn-standard.result in
     let found = turn-found standard in
     let rows : AreMoveRows c.args.self.now c.self.inside.rows.items = rw c.self.view_is at c.self.invariant in
     let row : c.index.result.now ≡ get_or c.self.inside.rows.items c.args.number [] =
     c.index.ensures ∙ get_or_default c.self.inside.rows.items c.args.number _ [] (omega (arith, rows.size, c.requires)) in
-    ap (λ n. get_or c.index.result.now n 0) c.turn_number.ensures
+    is_rank_after c.args.self.now c.args.axis c.args.number c.args.turn _ c.requires
+    (ap (λ n. get_or c.index.result.now n 0) c.turn_number.ensures
     ∙ ap (λ xs. get_or xs (turn_number standard) 0) row
     ∙ (rows.each c.args.number c.requires).after (turn_number standard) found.0
     ∙ ap (number_after c.args.self.now (standard_axis c.args.self.now) c.args.number) found.1
-    ∙ (rw c.self.view_is at c.standard_turn-standard.ensures.same_number) c.args.number
-
-pub returns-clause-in_range : goal.returns-clause-in_range
-returns-clause-in_range g c = row-below c.args.self.now c.args.axis c.args.number c.args.turn _ c.requires (returns-clause-value g c)
-
-pub returns-clause-of_each : goal.returns-clause-of_each
-returns-clause-of_each g c = λ e h is.
-    returns-clause-value g c
-    ∙ ap (λ i. number_after c.args.self.now c.args.axis i c.args.turn) (sym is)
-    ∙ sym ((are_coordinates c.args.self.now c.args.axis).follows e c.args.turn h)
+    ∙ (rw c.self.view_is at c.standard_turn-standard.ensures.same_number) c.args.number)

@@ -1,4 +1,4 @@
 use Rattle.niss_cube.proofs.turn_tables.TurnTables.next_slice.Goals as goal
 
-pub returns-clause-of_each : goal.returns-clause-of_each
-returns-clause-of_each g c = rw c.args.self.now.are_slices at c.next.ensures.of_each
+pub returns : goal.returns
+returns g c = rw c.args.self.now.are_slices at c.next.ensures

@@ -3,4 +3,4 @@ use Rattle.niss_cube.proofs.Codes.{zero_test}
 use Rattle.niss_cube.proofs.cube.coordinate.Coordinate.is_zero.Goals as goal
 
 pub returns-clause-value : goal.returns-clause-value
-returns-clause-value c = zero_test c.args.self c.args.axis (map_of c.args.cube.now) c.number.result c.number.ensures.kept
+returns-clause-value c = zero_test c.args.self c.args.axis (map_of c.args.cube.now) c.rank.result c.rank.ensures.kept

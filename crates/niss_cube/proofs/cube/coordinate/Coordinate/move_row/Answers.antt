@@ -4,9 +4,9 @@ use Rattle.niss_cube.proofs.cube.coordinate.Coordinate.move_row.Goals as goal
 
 pub loop-column-preserved : goal.loop-column-preserved
 loop-column-preserved c =
-    let after : c.standard_number_after.result ≡ number_after c.args.self c.args.axis c.args.number (turn_in c.args.turns.now c.loop-column.column) =
-    c.standard_number_after.ensures
-    ∙ after_standard_turn c.args.self c.args.axis c.args.number c.cube_with-cube.result c.standard_turn.result _ c.cube_with-cube.ensures c.standard_turn.ensures.same_number in
+    let after : c.standard_rank_after.result ≡ number_after c.args.self c.args.axis c.args.number (turn_in c.args.turns.now c.loop-column.column) =
+    c.standard_rank_after.ensures
+    ∙ after_standard_turn c.args.self c.args.axis c.args.number c.unrank-cube.result c.standard_turn.result _ c.unrank-cube.ensures c.standard_turn.ensures.same_number in
     search (rules, after)
 
 pub returns : goal.returns

@@ -1,0 +1,377 @@
+-- The numbers of orientations and of slice edges, what they determine, also after a turn; and the loops over them, step by step.
+use Rattle.niss_cube.proofs.Words.{Fact, Yes, Equal, Below, Both, When, Numbers, Digits, Holds, holds, refl, sym, ◌∙◌}
+use Rattle.niss_cube.proofs.Words.{ap, arith, ◌≡◌, ℕ, ◌%◌, ◌<◌, ◌==◌, List, length, get_or, take, sum, ◌↔◌, ext_get_or}
+use Rattle.niss_cube.proofs.Words.{eq-eqb, nat_eq, pointwise, same_text, number, orientations_of_number, AreOriented}
+use Rattle.niss_cube.proofs.Words.{append_assoc, suc, ◌+◌, ◌-◌, ◌/◌, [], ◌∷◌, ◌++◌, set, drop, length-set, sum_by-cons}
+use Rattle.niss_cube.proofs.Words.{take-length, digits_of_number, drop-set_at, take-suc-set, Same, Truths, map, reverse}
+use Rattle.niss_cube.proofs.Words.{Bool, false, nat_le, sum_by, get_or-reverse, length-reverse, length-map, get_or-map}
+use Rattle.niss_cube.proofs.Words.{rank_places, edges_down, reverse-reverse, count_by, Turn, turn_table}
+use Rattle.niss_cube.proofs.Words.{edges_of_number, ArePlaced, ◌≤◌, le-leb, drop-cons, choose, length-drop, zero}
+use Rattle.niss_cube.proofs.Words.{CHOICES, choices_with, lt-leb, leb-true, nat_lt, subst, reverse-append, lt-ltb}
+use Rattle.niss_cube.proofs.Words.{le-ltb}
+use Rattle.niss_cube.proofs.CubieKinds.{Kind, Corners, Edges, count, facelets, CubieLists, Valid, once, tabulated}
+use Rattle.niss_cube.proofs.CubieKinds.{tabulated-length, tabulated-at, brought}
+use Rattle.std.proofs.Math.Nat.{mod-add-mod}
+use Rattle.niss_cube.proofs.Sums.{below, one_if, below_same, below_permuted, sum_by-below}
+use Rattle.niss_cube.proofs.MovedCubies.{By, table}
+
+-- how many orientations are free, since the last one follows, and how many numbers they have
+abbrev free : Kind → ℕ
+free Corners = 7
+free Edges = 11
+
+abbrev pub numbers : Kind → ℕ
+numbers Corners = 2187
+numbers Edges = 2048
+
+abbrev pub turns_number : Kind → List ℕ → ℕ
+turns_number k xs = number (facelets k) (take (free k) xs)
+
+abbrev pub of_number : Kind → ℕ → List ℕ
+of_number k i = orientations_of_number (facelets k) (free k) i
+
+-- orientations are those of their number
+abbrev list_fact : Kind → Fact
+list_fact k = Digits (facelets k) (count k) λ xs. When (sum xs % facelets k == 0)
+    (Both (Below (turns_number k xs) (numbers k)) (Yes (pointwise nat_eq xs (of_number k (turns_number k xs)))))
+
+all_lists : (k : Kind) → Holds (list_fact k)
+all_lists Corners = holds (list_fact Corners) refl
+all_lists Edges = holds (list_fact Edges) refl
+
+-- each number is that of its orientations, and no cubie is turned at 0
+abbrev number_fact : Kind → Fact
+number_fact k = Both (Numbers (count k) λ j. Equal (get_or (of_number k 0) j 0) 0) (Numbers (numbers k) λ i.
+    Both (Equal (turns_number k (of_number k i)) i)
+    (Both (Equal (length (of_number k i)) (count k)) (Both (Equal (sum (of_number k i) % facelets k) 0)
+    (Numbers (count k) λ j. Below (get_or (of_number k i) j 0) (facelets k)))))
+
+all_numbers : (k : Kind) → Holds (number_fact k)
+all_numbers Corners = holds (number_fact Corners) refl
+all_numbers Edges = holds (number_fact Edges) refl
+
+pub of_number-are : (k : Kind) (i : ℕ) → i < numbers k → AreOriented (facelets k) (count k) (of_number k i)
+of_number-are k i l =
+    let t = (all_numbers k).1 i l in
+    record { places = t.1.0; range = t.1.1.1; whole = t.1.1.0 }
+
+pub of_number-number : (k : Kind) (i : ℕ) → i < numbers k → turns_number k (of_number k i) ≡ i
+of_number-number k i l = ((all_numbers k).1 i l).0
+
+module _ (k : Kind) (xs : List ℕ) (o : AreOriented (facelets k) (count k) xs) where
+  pub turns_number-below : turns_number k xs < numbers k
+  turns_number-below = (all_lists k xs o.places o.range (eq-eqb _ 0 o.whole)).0
+
+  pub turns_number-is : xs ≡ of_number k (turns_number k xs)
+  turns_number-is = same_text _ _ (sym (all_lists k xs o.places o.range (eq-eqb _ 0 o.whole)).1)
+
+-- orientations are determined by their number
+pub turns_number-same : (k : Kind) (xs ys : List ℕ) → AreOriented (facelets k) (count k) xs → AreOriented (facelets k) (count k) ys →
+    turns_number k xs ≡ turns_number k ys → xs ≡ ys
+turns_number-same k xs ys p q e = turns_number-is k xs p ∙ ap (of_number k) e ∙ sym (turns_number-is k ys q)
+
+-- their number is 0 exactly where no cubie is turned
+pub turns_number-zero : (k : Kind) (xs : List ℕ) → AreOriented (facelets k) (count k) xs →
+    (turns_number k xs ≡ 0) ↔ ((i : ℕ) → i < count k → get_or xs i 0 ≡ 0)
+turns_number-zero k xs o =
+    let home : (i : ℕ) → i < count k → get_or (of_number k 0) i 0 ≡ 0 = (all_numbers k).0 in (
+      (λ e i l. ap (λ ys. get_or ys i 0) (turns_number-is k xs o ∙ ap (of_number k) e) ∙ home i l),
+      (λ h.
+          let some : 0 < numbers k = some_number k in
+          let len : length xs ≡ length (of_number k 0) = o.places ∙ sym (of_number-are k 0 some).places in
+          let none : xs ≡ of_number k 0 = ext_get_or 0 xs (of_number k 0) len (λ i l.
+          let li : i < count k = omega (arith, l, o.places) in h i li ∙ sym (home i li)) in
+          ap (turns_number k) none ∙ of_number-number k 0 some),
+    )
+  where
+    some_number : (k : Kind) → 0 < numbers k
+    some_number Corners = omega arith
+    some_number Edges = omega arith
+
+-- the last digits of n
+abbrev last_digits : (n met : ℕ) → List ℕ → List ℕ
+last_digits n met xs = take met (drop (n - met) xs)
+
+last_digits-set : (n met : ℕ) (xs : List ℕ) (d : ℕ) → met < n → length xs ≡ suc n → last_digits n (met + 1) (set xs (n - 1 - met) d) ≡ d ∷ last_digits n met xs
+last_digits-set n met xs d h l =
+    ap (λ k. take k (drop (n - (met + 1)) (set xs (n - 1 - met) d))) (let a : met + 1 ≡ suc met = omega arith in a)
+    ∙ ap (take (suc met)) (drop-set_at xs (n - 1 - met) (n - (met + 1)) d (omega arith) (omega arith))
+    ∙ ap (λ k. d ∷ take met (drop k xs)) (let a : (n - 1 - met) + 1 ≡ n - met = omega arith in a)
+
+-- what the loop keeps: the digits still to come and those written are those of the number, and the sum of those written
+pub record Written (b n number met rest total : ℕ) (xs : List ℕ) : Type 0 where
+  pub places : length xs ≡ suc n
+  pub digits : digits_of_number b (n - met) rest ++ last_digits n met xs ≡ digits_of_number b n number
+  pub total_is : sum (last_digits n met xs) % b ≡ total
+
+pub written-step : (b n number met rest total : ℕ) (xs : List ℕ) → met < n → Written b n number met rest total xs → Written b n number (met + 1) (rest / b) ((total + rest % b) % b) (set xs (n - 1 - met) (rest % b))
+written-step b n number met rest total xs h w =
+    let d : ℕ = rest % b in
+    let e : last_digits n (met + 1) (set xs (n - 1 - met) d) ≡ d ∷ last_digits n met xs = last_digits-set n met xs d h w.places in
+    record {
+      places = length-set xs (n - 1 - met) d ∙ w.places;
+      digits =
+          ap (λ ys. digits_of_number b (n - (met + 1)) (rest / b) ++ ys) e
+          ∙ sym (append_assoc (digits_of_number b (n - (met + 1)) (rest / b)) (d ∷ []) (last_digits n met xs))
+          ∙ ap (λ k. digits_of_number b k rest ++ last_digits n met xs) (let a : suc (n - (met + 1)) ≡ n - met = omega arith in a)
+          ∙ w.digits;
+      total_is =
+          ap (λ ys. sum ys % b) e
+          ∙ ap (λ k. k % b) (sum_by-cons (λ x. x) d (last_digits n met xs))
+          ∙ ap (λ k. k % b) (let a : d + sum (last_digits n met xs) ≡ sum (last_digits n met xs) + d = omega arith in a)
+          ∙ sym (mod-add-mod (sum (last_digits n met xs)) b d)
+          ∙ ap (λ k. (k + d) % b) w.total_is;
+    }
+
+set_last : (n : ℕ) (xs : List ℕ) (d : ℕ) → length xs ≡ suc n → set xs n d ≡ take n xs ++ d ∷ []
+set_last n xs d l =
+    sym (take-length (set xs n d))
+    ∙ ap (λ k. take k (set xs n d)) (length-set xs n d ∙ l)
+    ∙ take-suc-set xs n d (omega arith)
+
+pub written-end : (b n number met rest total : ℕ) (xs : List ℕ) → met ≡ n → Written b n number met rest total xs → set xs n ((b - total) % b) ≡ orientations_of_number b n number
+written-end b n number met rest total xs e w =
+    let none : n - met ≡ 0 = omega arith in
+    let all : take n xs ≡ digits_of_number b n number =
+    ap (λ k. take k xs) (sym e)
+    ∙ ap (λ k. take met (drop k xs)) (sym none)
+    ∙ ap (λ k. digits_of_number b k rest ++ last_digits n met xs) (sym none)
+    ∙ w.digits in
+    let total_of : total ≡ sum (digits_of_number b n number) % b =
+    sym w.total_is
+    ∙ ap (λ k. sum (take met (drop k xs)) % b) none
+    ∙ ap (λ k. sum (take k xs) % b) e
+    ∙ ap (λ ys. sum ys % b) all in
+    set_last n xs ((b - total) % b) w.places
+    ∙ ap (λ ys. ys ++ ((b - total) % b) ∷ []) all
+    ∙ ap (λ k. digits_of_number b n number ++ ((b - k) % b) ∷ []) total_of
+
+-- each edge stands at one place
+pub edge-once : (c : CubieLists) → Valid c → (h : ℕ) → h < 12 → below 12 (λ i. one_if (get_or c.edges i 0 == h)) ≡ 1
+edge-once c v h l = ap (λ n. below n (λ i. one_if (get_or c.edges i 0 == h))) (sym v.edges_placed.places) ∙ once Edges c v h l
+
+down-once : (h : ℕ) → h < 12 → below 12 (λ k. one_if (11 - k == h)) ≡ 1
+down-once = holds (Numbers 12 λ h. Equal (below 12 (λ k. one_if (11 - k == h))) 1) refl
+
+-- which places, from the last down, hold an edge of the slice
+abbrev pub slice_occupied : List ℕ → List Bool
+slice_occupied edges = reverse (map (nat_le 8) edges)
+
+pub slice_occupied-length : (edges : List ℕ) → length edges ≡ 12 → length (slice_occupied edges) ≡ 12
+slice_occupied-length edges l = length-reverse (map (nat_le 8) edges) ∙ length-map edges (nat_le 8) ∙ l
+
+pub slice_occupied-at : (edges : List ℕ) → length edges ≡ 12 → (k : ℕ) → k < 12 → get_or (slice_occupied edges) k false ≡ nat_le 8 (get_or edges (11 - k) 0)
+slice_occupied-at edges l k lk =
+    let m : length (map (nat_le 8) edges) ≡ 12 = length-map edges (nat_le 8) ∙ l in
+    get_or-reverse (map (nat_le 8) edges) k false (omega arith)
+    ∙ ap (λ n. get_or (map (nat_le 8) edges) (n - 1 - k) false) m
+    ∙ get_or-map (nat_le 8) edges (11 - k) 0 false (omega arith)
+
+-- how many places are occupied, which are four
+abbrev filled : List Bool → ℕ
+filled os = sum_by one_if os
+
+slice_occupied-filled : (c : CubieLists) → Valid c → filled (slice_occupied c.edges) ≡ 4
+slice_occupied-filled c v =
+    sum_by-below one_if false (slice_occupied c.edges)
+    ∙ ap (λ n. below n (λ k. one_if (get_or (slice_occupied c.edges) k false))) (slice_occupied-length c.edges v.edges_placed.places)
+    ∙ below_same 12 (λ k. one_if (get_or (slice_occupied c.edges) k false)) (λ k. one_if (nat_le 8 (get_or c.edges (11 - k) 0))) (λ k l. ap one_if (slice_occupied-at c.edges v.edges_placed.places k l))
+    ∙ below_permuted 12 (λ k. 11 - k) (λ k. one_if (nat_le 8 (get_or c.edges k 0))) (λ k l. omega arith) down-once
+    ∙ below_permuted 12 (λ k. get_or c.edges k 0) (λ h. one_if (nat_le 8 h)) v.edges_placed.range (edge-once c v)
+
+-- the number of any places, and that of four, which determines them
+abbrev of_slice : ℕ → ℕ → Bool
+of_slice i k = get_or (map (nat_le 8) (edges_down 12 4 i)) k false
+
+abbrev occupied_fact : List Bool → Fact
+occupied_fact os =
+    Both (Below (rank_places os 4) 496) (When (filled os == 4)
+    (Both (Below (rank_places os 4) 495) (Numbers 12 λ k. Same (get_or os k false) (of_slice (rank_places os 4) k))))
+
+all_occupied : Holds (Truths 12 occupied_fact)
+unfolding edges_down
+all_occupied = holds (Truths 12 occupied_fact) refl
+
+pub slice-at_most : (edges : List ℕ) → length edges ≡ 12 → rank_places (slice_occupied edges) 4 < 496
+slice-at_most edges l = (all_occupied (slice_occupied edges) (slice_occupied-length edges l)).0
+
+pub slice-below : (c : CubieLists) → Valid c → rank_places (slice_occupied c.edges) 4 < 495
+slice-below c v =
+    let all = all_occupied (slice_occupied c.edges) (slice_occupied-length c.edges v.edges_placed.places) in
+    (all.1 (eq-eqb _ 4 (slice_occupied-filled c v))).0
+
+pub slice-same : (c d : CubieLists) → Valid c → Valid d → rank_places (slice_occupied c.edges) 4 ≡ rank_places (slice_occupied d.edges) 4 →
+    map (nat_le 8) c.edges ≡ map (nat_le 8) d.edges
+slice-same c d v w e =
+    sym (reverse-reverse (map (nat_le 8) c.edges))
+    ∙ ap reverse (ext_get_or false (slice_occupied c.edges) (slice_occupied d.edges) (len c v ∙ sym (len d w)) (λ k l.
+    let lk : k < 12 = omega (arith, l, len c v) in
+    at c v k lk ∙ ap (λ i. of_slice i k) e ∙ sym (at d w k lk)))
+    ∙ reverse-reverse (map (nat_le 8) d.edges)
+  where
+    len : (c : CubieLists) → Valid c → length (slice_occupied c.edges) ≡ 12
+    len c v = slice_occupied-length c.edges v.edges_placed.places
+
+    at : (c : CubieLists) (v : Valid c) (k : ℕ) → k < 12 → get_or (slice_occupied c.edges) k false ≡ of_slice (rank_places (slice_occupied c.edges) 4) k
+    at c v = ((all_occupied (slice_occupied c.edges) (len c v)).1 (eq-eqb _ 4 (slice_occupied-filled c v))).1
+
+-- each number is that of its edges
+abbrev edges_fact : ℕ → List ℕ → Fact
+edges_fact i edges = Both (Equal (rank_places (slice_occupied edges) 4) i) (Both (Equal (length edges) 12) (Numbers 12 λ h.
+    Both (Equal (count_by (λ x. x == h) edges) 1) (Below (get_or edges h 0) 12)))
+
+all_edges : Holds (Numbers 495 λ i. edges_fact i (edges_of_number i))
+unfolding edges_of_number edges_down
+all_edges = holds (Numbers 495 λ i. edges_fact i (edges_of_number i)) refl
+
+pub of_number-placed : (i : ℕ) → i < 495 → ArePlaced 12 (edges_of_number i)
+of_number-placed i l =
+    let t = all_edges i l in
+    record { places = t.1.0; each = λ h lh. (t.1.1 h lh).0; range = λ n ln. (t.1.1 n ln).1 }
+
+pub of_number-rank : (i : ℕ) → i < 495 → rank_places (slice_occupied (edges_of_number i)) 4 ≡ i
+of_number-rank i l = (all_edges i l).0
+
+-- where the edges of the slice stand after a turn depends on where they stood
+turned-occupied : (t : Turn) (xs ys : List ℕ) → length xs ≡ 12 → length ys ≡ 12 → map (nat_le 8) xs ≡ map (nat_le 8) ys →
+    map (nat_le 8) (tabulated 12 (brought (turn_table t.face t.power).edges xs)) ≡ map (nat_le 8) (tabulated 12 (brought (turn_table t.face t.power).edges ys))
+turned-occupied t xs ys lx ly e =
+    ext_get_or false (map (nat_le 8) (tabulated 12 (brought from xs))) (map (nat_le 8) (tabulated 12 (brought from ys))) (len xs ∙ sym (len ys)) (λ i l.
+    let li : i < 12 = omega (arith, l, len xs) in
+    at xs lx i li ∙ ap (λ os. get_or os (get_or from i 0) false) e ∙ sym (at ys ly i li))
+  where
+    from : List ℕ
+    from = (turn_table t.face t.power).edges
+
+    len : (zs : List ℕ) → length (map (nat_le 8) (tabulated 12 (brought from zs))) ≡ 12
+    len zs = length-map (tabulated 12 (brought from zs)) (nat_le 8) ∙ tabulated-length 12 (brought from zs)
+
+    at : (zs : List ℕ) → length zs ≡ 12 → (i : ℕ) → i < 12 → get_or (map (nat_le 8) (tabulated 12 (brought from zs))) i false ≡ get_or (map (nat_le 8) zs) (get_or from i 0) false
+    at zs lz i l =
+        get_or-map (nat_le 8) (tabulated 12 (brought from zs)) i 0 false (omega (arith, l, tabulated-length 12 (brought from zs)))
+        ∙ ap (nat_le 8) (tabulated-at 12 (brought from zs) i l)
+        ∙ sym (get_or-map (nat_le 8) zs (get_or from i 0) 0 false (omega (arith, (table Edges (By t)).from_below i l, lz)))
+
+-- and so it depends on their number
+pub rank-turned : (t : Turn) (c d : CubieLists) → Valid c → Valid d → rank_places (slice_occupied c.edges) 4 ≡ rank_places (slice_occupied d.edges) 4 →
+    rank_places (slice_occupied (tabulated 12 (brought (turn_table t.face t.power).edges c.edges))) 4
+    ≡ rank_places (slice_occupied (tabulated 12 (brought (turn_table t.face t.power).edges d.edges))) 4
+rank-turned t c d v w e =
+    ap (λ os. rank_places (reverse os) 4) (turned-occupied t c.edges d.edges v.edges_placed.places w.edges_placed.places (slice-same c d v w e))
+
+choices-are : (n : ℕ) → n < 12 → (k : ℕ) → k < 4 → get_or (get_or CHOICES n []) k 0 ≡ choose n k
+choices-are = holds (Numbers 12 λ n. Numbers 4 λ k. Equal (get_or (get_or CHOICES n []) k 0) (choose n k)) refl
+
+pub choices_with_are : (n k : ℕ) → n < 12 → k ≤ 4 → 0 < k → get_or (get_or CHOICES n []) (k - 1) 0 ≡ choices_with n k
+choices_with_are n zero l few some = absurd (omega arith)
+choices_with_are n (suc k) l few some = let e : suc k - 1 ≡ k = omega arith in rw e (choices-are n l k (omega arith))
+
+module _ (edges : List ℕ) (l : length edges ≡ 12) (met n : ℕ) (lm : met < 12) where
+  next : drop met (slice_occupied edges) ≡ nat_le 8 (get_or edges (11 - met) 0) ∷ drop (suc met) (slice_occupied edges)
+  next =
+      drop-cons (slice_occupied edges) met false (omega (arith, slice_occupied-length edges l))
+      ∙ ap (λ b. b ∷ drop (suc met) (slice_occupied edges)) (slice_occupied-at edges l met lm)
+
+  left : length (drop (suc met) (slice_occupied edges)) ≡ 11 - met
+  left = omega (arith, length-drop (suc met) (slice_occupied edges), slice_occupied-length edges l)
+
+  step_yes : (w : ℕ) → 8 ≤ get_or edges (11 - met) 0 → rank_places (drop met (slice_occupied edges)) (suc w) ≡ rank_places (drop (suc met) (slice_occupied edges)) w
+  step_yes w h =
+      ap (λ os. rank_places os (suc w)) next
+      ∙ ap (λ b. rank_places (b ∷ drop (suc met) (slice_occupied edges)) (suc w)) (le-leb 8 (get_or edges (11 - met) 0) h)
+
+  step_no : (w : ℕ) → get_or edges (11 - met) 0 < 8 → rank_places (drop met (slice_occupied edges)) (suc w) ≡ choose (11 - met) w + rank_places (drop (suc met) (slice_occupied edges)) (suc w)
+  step_no w h =
+      ap (λ os. rank_places os (suc w)) next
+      ∙ ap (λ b. rank_places (b ∷ drop (suc met) (slice_occupied edges)) (suc w)) (lt-leb 8 (get_or edges (11 - met) 0) h)
+      ∙ ap (λ k. choose k w + rank_places (drop (suc met) (slice_occupied edges)) (suc w)) left
+
+  pub counted_yes : (w w' n' total : ℕ) → 0 < w → 8 ≤ get_or edges (11 - met) 0 → w' ≡ w - 1 → n' ≡ n → n + rank_places (drop met (slice_occupied edges)) w ≡ total → n' + rank_places (drop (met + 1) (slice_occupied edges)) w' ≡ total
+  counted_yes w w' n' total p h ew en e =
+      let some : w ≡ suc (w - 1) = omega arith in
+      let more : met + 1 ≡ suc met = omega arith in
+      let step = step_yes (w - 1) h in
+      let same : rank_places (drop met (slice_occupied edges)) w ≡ rank_places (drop (met + 1) (slice_occupied edges)) w' = cc in
+      omega (arith, same)
+
+  pub counted_no : (w w' n' total : ℕ) → 0 < w → w ≤ 4 → get_or edges (11 - met) 0 < 8 → w' ≡ w → n' ≡ n + get_or (get_or CHOICES (11 - met) []) (w - 1) 0 →
+      n + rank_places (drop met (slice_occupied edges)) w ≡ total → n' + rank_places (drop (met + 1) (slice_occupied edges)) w' ≡ total
+  counted_no w w' n' total p q h ew en e =
+      let some : w ≡ suc (w - 1) = omega arith in
+      let more : met + 1 ≡ suc met = omega arith in
+      let step = step_no (w - 1) h in
+      let same : rank_places (drop met (slice_occupied edges)) w ≡ choose (11 - met) (w - 1) + rank_places (drop (met + 1) (slice_occupied edges)) w' = cc in
+      omega (arith, same, choices-are (11 - met) (omega arith) (w - 1) (omega arith))
+
+-- what the loop keeps: the edges still to come, and those placed, are the edges of the number
+pub record Placed (number n wanted rest : ℕ) (edges : List ℕ) : Type 0 where
+  pub places : length edges ≡ 12
+  pub fits : rest < choose n wanted
+  pub few : wanted ≤ 4
+  pub is : reverse (edges_down n wanted rest) ++ drop n edges ≡ edges_of_number number
+
+-- the choices by which the last place is wanted, and those by which it isn't
+choices : (n k : ℕ) → choose (suc n) k ≡ choices_with n k + choose n k
+choices n zero = omega arith
+choices n (suc k) = refl
+
+choosable : (n k : ℕ) → n < 12 → k < 5 → 0 < choose n k → k ≤ n
+choosable n k ln lk some =
+    leb-true k n (holds (Numbers 12 λ n. Numbers 5 λ k. When (nat_lt 0 (choose n k)) (Yes (nat_le k n))) refl n ln k lk (lt-ltb 0 _ some))
+
+one_less : (n k i : ℕ) → i < choices_with n k → i < choose n (k - 1)
+one_less n zero i l = absurd (omega arith)
+one_less n (suc k) i l = let e : suc k - 1 ≡ k = omega arith in rw e l
+
+head_slice : (n k i : ℕ) → i < choices_with n k → edges_down (suc n) k i ≡ (8 + (k - 1)) ∷ edges_down n (k - 1) i
+unfolding edges_down
+head_slice n zero i l = absurd (omega arith)
+head_slice n (suc k) i l = let e : suc k - 1 ≡ k = omega arith in rw (lt-ltb i (choose n k) l, e) refl
+
+head_free : (n k i : ℕ) → choices_with n k ≤ i → edges_down (suc n) k i ≡ (n - k) ∷ edges_down n k (i - choices_with n k)
+unfolding edges_down
+head_free n zero i l =
+    let a : n - 0 ≡ n = omega arith in
+    let b : i - 0 ≡ i = omega arith in
+    cc
+head_free n (suc k) i l = rw (le-ltb i (choose n k) l) refl
+
+module _ (number met w r : ℕ) (edges edges' : List ℕ) (l : met < 12) (now : Placed number (12 - met) w r edges) where
+  abbrev n : ℕ
+  n = 11 - met
+
+  here : Placed number (suc n) w r edges
+  here = subst (λ n. Placed number n w r edges) (let e : 12 - met ≡ suc (11 - met) = omega arith in e) now
+
+  placed-step : (w' r' x : ℕ) → edges_down (suc n) w r ≡ x ∷ edges_down n w' r' → r' < choose n w' → w' ≤ 4 → edges' ≡ set edges n x → Placed number (12 - (met + 1)) w' r' edges'
+  placed-step w' r' x head fits few e =
+      let left : 12 - (met + 1) ≡ n = omega arith in
+      rw (e, left) record {
+        places = length-set edges n x ∙ now.places;
+        fits = fits;
+        few = few;
+        is =
+            ap (λ ys. reverse (edges_down n w' r') ++ ys) (drop-set_at edges n n x refl (omega (arith, now.places)) ∙ ap (λ k. x ∷ drop k edges) (let m : n + 1 ≡ suc n = omega arith in m))
+            ∙ sym (append_assoc (reverse (edges_down n w' r')) (x ∷ []) (drop (suc n) edges))
+            ∙ ap (λ ys. ys ++ drop (suc n) edges) (sym (reverse-append (x ∷ []) (edges_down n w' r')) ∙ ap reverse (sym head))
+            ∙ here.is;
+      }
+
+  -- the place is given to an edge of the slice, or to another one
+  pub placed-slice : r < choices_with n w → edges' ≡ set edges n (8 + (w - 1)) → Placed number (12 - (met + 1)) (w - 1) r edges'
+  placed-slice h e = placed-step (w - 1) r (8 + (w - 1)) (head_slice n w r h) (one_less n w r h) (omega (arith, now.few)) e
+
+  left_over : choices_with n w ≤ r → r - choices_with n w < choose n w
+  left_over h = omega (arith, here.fits, choices n w)
+
+  pub placed-free : choices_with n w ≤ r → edges' ≡ set edges n (n - w) → Placed number (12 - (met + 1)) w (r - choices_with n w) edges'
+  placed-free h e = placed-step w (r - choices_with n w) (n - w) (head_free n w r h) (left_over h) now.few e
+
+  pub wanted-below : choices_with n w ≤ r → w ≤ n
+  wanted-below h = choosable n w (omega arith) (omega (arith, now.few)) (omega (arith, left_over h))
+
+pub placed-end : (number met w r : ℕ) (edges : List ℕ) → met ≡ 12 → Placed number (12 - met) w r edges → edges ≡ edges_of_number number
+unfolding edges_down
+placed-end number met w r edges e h =
+    let none : 12 - met ≡ 0 = omega arith in
+    (subst (λ n. Placed number n w r edges) none h).is

@@ -1,0 +1,106 @@
+//! The numbers of orientations and of the places of a slice's edges, and what has a number.
+ghost use Rattle.std.specs.Prelude.{◌≡◌, ◌<◌, ◌≤◌, ◌^◌, ◌-◌, ◌⊎◌, length, map, reverse, nat_le};
+ghost use Rattle.niss_cube.specs.Coordinates.{number, rank_places, orientations_of_number, choices_with, edges_of_number};
+
+/// The digits as a number, the first digit the highest.
+pub fn rank_digits(base: u16, digits: &[u8]) -> u16
+    requires some { 0 < base }
+    requires fits { number base digits.now < 2 ^ 16 }
+    ensures { result ≡ number base digits.now }
+{
+    let mut n = 0;
+    for d in digits {
+        n = base * n + u16::from(*d);
+    }
+    n
+}
+
+/// Writes the orientations that have a number: its digits, and a last one that makes the sum a multiple of the base.
+pub fn unrank_orientations(base: u8, number: u16, orientations: &mut [u8])
+    requires some { 0 < length orientations.old }
+    requires base { (base ≡ 2) ⊎ (base ≡ 3) }
+    ensures { orientations.new ≡ orientations_of_number base (length orientations.old - 1) number }
+{
+    let last = orientations.len() - 1;
+    let mut rest = number;
+    let mut sum = 0;
+    for met in 0..last {
+        let digit = (rest % u16::from(base)) as u8;
+        orientations[last - 1 - met] = digit;
+        sum = (sum + digit) % base;
+        rest /= u16::from(base);
+    }
+    orientations[last] = (base - sum) % base;
+}
+
+/// At a number of places below, the choices of 0 to 3 of them.
+const CHOICES: [[u16; 4]; 12] = [
+    [1, 0, 0, 0],
+    [1, 1, 0, 0],
+    [1, 2, 1, 0],
+    [1, 3, 3, 1],
+    [1, 4, 6, 4],
+    [1, 5, 10, 10],
+    [1, 6, 15, 20],
+    [1, 7, 21, 35],
+    [1, 8, 28, 56],
+    [1, 9, 36, 84],
+    [1, 10, 45, 120],
+    [1, 11, 55, 165],
+];
+
+/// The number of the places at which one of the edges 8 to 11 stands.
+pub fn rank_slice(edges: &[u8; 12]) -> u16
+    ensures { result ≡ rank_places (reverse (map (nat_le 8) edges.now)) 4 }
+{
+    let mut wanted: usize = 4;
+    let mut n = 0;
+    for met in 0..12 {
+        if wanted == 0 {
+            return n;
+        }
+        let place = 11 - met;
+        if edges[place] >= 8 {
+            wanted -= 1;
+        } else {
+            n += CHOICES[place][wanted - 1];
+        }
+    }
+    n
+}
+
+/// At a place with a number of places below, the choices that leave the last of the wanted edges to it.
+#[tactic(auto, using(crate::proofs::Ranks::choices_with_are))]
+fn choices_with(below: usize, wanted: usize) -> u16
+    requires below { below < 12 }
+    requires wanted { wanted ≤ 4 }
+    ensures { result ≡ choices_with below wanted }
+{
+    if wanted == 0 {
+        0
+    } else {
+        CHOICES[below][wanted - 1]
+    }
+}
+
+/// The edges by place, those of the slice at the places that have a number.
+pub fn unrank_slice(number: u16) -> [u8; 12]
+    requires { number < 495 }
+    ensures { result ≡ edges_of_number number }
+{
+    let mut edges = [0; 12];
+    let mut wanted: usize = 4;
+    let mut rest = number;
+    for met in 0..12 {
+        let place = 11 - met;
+        let with = choices_with(place, wanted);
+        if rest < with {
+            wanted -= 1;
+            edges[place] = (8 + wanted) as u8;
+        } else {
+            rest -= with;
+            edges[place] = (place - wanted) as u8;
+        }
+    }
+    edges
+}
