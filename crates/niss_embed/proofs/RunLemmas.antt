@@ -5,7 +5,7 @@ use Rattle.niss_shell.specs.Device.{Appended}
 use Rattle.niss_shell.specs.Words.{Request, OnLines, request_of, reads_source, takes_memory}
 use Rattle.niss_shell.specs.Output.{Answer, Ending, More, End, ending_of, out_of, answer_request, unsearched, error_text, status_of}
 use Rattle.niss_shell.specs.Run.{Devices, devices, Finishes, OutputRefused, MemoryRefused, EndsByFault, Ends, ReportsError, Runs}
-use Rattle.niss_shell.specs.MoreInput.{Begins, MoreInputKeepsAnswers}
+use Rattle.niss_shell.specs.Laws.{Begins, MoreInputKeepsAnswers}
 use Rattle.niss_embed.specs.Names.{Answer as Given, UsageFault, Stop, CannotWrite, OutOfMemory}
 use Rattle.niss_embed.specs.Memory.{Memory, memory, source_state, target_state}
 use Rattle.niss_embed.specs.Words.{text_words, TakesWords}

@@ -3,7 +3,7 @@ use Rattle.niss_shell.proofs.Names.{◌≡◌, ◌≢◌, ℕ, ◌+◌, ◌≤�
 use Rattle.niss_shell.proofs.Names.{sym, ap, ◌∙◌, subst, append-nil, length-append, arith, nat_lt, common_steps, take_all}
 use Rattle.niss_shell.proofs.Names.{take-append-add, SourceState, has_fault, Gave, Reads, ended_lines, last_part, IsFed, most_bytes}
 use Rattle.niss_shell.proofs.Names.{Ending, More, End, Fail, ending, ending_of, LineAnswers, answers_from, answer_lines}
-use Rattle.niss_shell.proofs.Names.{line_with_bytes, last_line, complete_lines, outcome_of, unsearched, AnswerState, Progress}
+use Rattle.niss_shell.proofs.Names.{line_with_bytes, last_line, complete_lines, outcome_of_input, unsearched, AnswerState, Progress}
 use Rattle.niss_shell.proofs.Names.{TakesBytes, TakesEnd, TakesNext, TakesLast, IsAt, Answers, AnswersSource, DeviceFault, Stop}
 use Rattle.niss_shell.proofs.Names.{InputTooLong, CannotRead}
 use Rattle.niss_shell.proofs.StateLemmas.{gave_nothing, gave_more, is_empty_answer-some, is_empty_answer-none, writes_nothing}
@@ -19,7 +19,7 @@ stopped_answers f input m stop a b e x =
     answers_stopped _ _ stop a b (subst (λ ls. Answers (answers_from f 1 ls) (Err stop) a b) (sym e) x)
 
 faultless_answers : (f : LineAnswers) (input : List ℕ) (m : Ending) {lines : List (List ℕ)} (r : Result (Unit {0}) Stop) (a b : AnswerState)
-    → complete_lines input m ≡ lines → Answers (answers_from f 1 lines) (Ok tt) a b → Answers (unsearched [] (outcome_of input m)) r b b
+    → complete_lines input m ≡ lines → Answers (answers_from f 1 lines) (Ok tt) a b → Answers (unsearched [] (outcome_of_input input m)) r b b
     → Answers (answer_lines f input m) r a b
 faultless_answers f input m r a b e x end =
     answers_more _ _ r a b (subst (λ ls. Answers (answers_from f 1 ls) (Ok tt) a b) (sym e) x) end
@@ -42,7 +42,7 @@ begun_lines input e = append-nil (ended_lines [] (take most_bytes input)) ∙ ap
 answers_cannot_read : (f : LineAnswers) (input : List ℕ) {q : Progress} {a b : AnswerState}
     → length input ≤ most_bytes → TakesBytes f [] input 1 q (Ok tt) a b → Answers (answer_lines f input Fail) (Err CannotRead) a b
 answers_cannot_read f input h x =
-    let end : outcome_of input Fail ≡ Err CannotRead = choose_false _ _ _ (short_test h) in
+    let end : outcome_of_input input Fail ≡ Err CannotRead = choose_false _ _ _ (short_test h) in
     faultless_answers _ _ Fail (Err CannotRead) _ _ (begun_lines input (whole_input _ h)) x.0 (sym end, writes_nothing _ x.0.1.works)
 
 all_lines : (input : List ℕ) → length input ≤ most_bytes → complete_lines input End ≡ ended_lines [] input ++ line_with_bytes (last_part [] input)
@@ -137,7 +137,7 @@ too_long_answers : (f : LineAnswers) (input : List ℕ) {whole : List ℕ} (q : 
     → most_bytes < length input → take most_bytes input ≡ whole → TakesBytes f [] whole 1 q r h j
     → Answers (answer_lines f input More) (Err (stop_unless r InputTooLong)) h j
 too_long_answers f input q h j (Ok u) long e x =
-    let end : outcome_of input More ≡ Err InputTooLong = choose_true _ _ _ (long_test long) in
+    let end : outcome_of_input input More ≡ Err InputTooLong = choose_true _ _ _ (long_test long) in
     faultless_answers f input More (Err InputTooLong) h j (begun_lines input e) x.0 (sym end, writes_nothing _ x.0.1.works)
 too_long_answers f input q h j (Err stop) long e x = stopped_answers f input More stop h j (begun_lines input e) x.0
 

@@ -2,18 +2,18 @@
 use Rattle.niss_shell.proofs.Names.{◌≡◌, ◌≢◌, ℕ, ◌+◌, ◌<◌, ◌≤◌, take, drop, get_or, false, Result, Ok, Err, List, [], ◌∷◌, ◌++◌, length}
 use Rattle.niss_shell.proofs.Names.{refl, sym, ap, ◌∙◌, subst, append-nil, length-append, arith, OnOk, between, between_to_end}
 use Rattle.niss_shell.proofs.Names.{take_more, take-append-drop, length-drop, All-nil, has_fault, ended_lines, last_part, HasNoLineFeed}
-use Rattle.niss_shell.proofs.Names.{Reader, IsFed, LineAnswers, answer_at, answers_from, then_answer, AnswerState, Progress, Answers}
-use Rattle.niss_shell.proofs.Names.{TakesBytes, Stop, take_all, take-add, All-cons, line_answers, line_with_bytes, Writes, Refuses}
-use Rattle.niss_shell.proofs.Names.{TakesNext, TakesLast, command_of, Keeps, answers_of, Lines, CannotWrite, TakesEnd}
+use Rattle.niss_shell.proofs.Names.{Reader, IsFed, LineAnswers, answers_from, then_answer, AnswerState, Progress, Answers}
+use Rattle.niss_shell.proofs.Names.{TakesBytes, Stop, take_all, take-add, All-cons, line_answer, line_with_bytes, Writes, Refuses}
+use Rattle.niss_shell.proofs.Names.{TakesNext, TakesLast, Keeps, answers_of, Lines, CannotWrite, TakesEnd}
 use Rattle.niss_shell.proofs.LinesLemmas.{ended_after, last_after, ended_lines-append, last_part-append, answers_from-append}
 use Rattle.niss_shell.proofs.StateLemmas.{writes_nothing, then_nothing, answers_more, answers_stopped, answers_sent, answers_unsent}
 
 -- one line, and no line
 
 pub answered_line : (f : LineAnswers) (n : ℕ) (front : List ℕ) (r : Result (Unit {0}) Stop) (old new : AnswerState)
-    → Answers (answer_at f n front) r old new → Answers (answers_from f n (front ∷ [])) r old new
+    → Answers (f n front) r old new → Answers (answers_from f n (front ∷ [])) r old new
 unfolding answers_from
-answered_line f n front r old new p = subst (λ a. Answers a r old new) (sym (then_nothing (answer_at f n front))) p
+answered_line f n front r old new p = subst (λ a. Answers a r old new) (sym (then_nothing (f n front))) p
 
 pub answered_none : (f : LineAnswers) (n : ℕ) {out : AnswerState} → has_fault out.target ≡ false → Answers (answers_from f n []) (Ok tt) out out
 unfolding answers_from
@@ -96,7 +96,7 @@ still_fed {s = s} bytes k none fed front at =
 
 pub line_feed_taken : {f : LineAnswers} (bytes : List ℕ) {p q : Progress} {r : Result (Unit {0}) Stop} {old new : AnswerState}
     → 0 < length bytes → get_or bytes 0 0 ≡ 10
-    → ((front : List ℕ) → IsFed p.reader front → Answers (answer_at f p.line front) r old new)
+    → ((front : List ℕ) → IsFed p.reader front → Answers (f p.line front) r old new)
     → OnOk r (IsFed q.reader []) → OnOk r (q.line ≡ p.line + 1) → TakesNext f (take 1 bytes) p q r old new
 unfolding ended_lines last_part
 line_feed_taken {f = f} bytes {p = p} {q = q} {r = r} {old = old} {new = new} some feed answers reader line = record {
@@ -161,7 +161,7 @@ takes_no_line f [] n out at none works = answered_none f n works
 takes_no_line f (b ∷ bs) n out at none works = absurd (omega (arith, at.fed, none))
 
 takes_last_line : (f : LineAnswers) (front : List ℕ) (n : ℕ) {r : Reader} (result : Result (Unit {0}) Stop) (old new : AnswerState)
-    → IsFed r front → r.fed ≢ 0 → Answers (answer_at f n front) result old new → TakesEnd f front n result old new
+    → IsFed r front → r.fed ≢ 0 → Answers (f n front) result old new → TakesEnd f front n result old new
 takes_last_line f [] n result old new at some answers = absurd (some at.fed)
 takes_last_line f (b ∷ bs) n result old new at some answers = answered_line f n (b ∷ bs) result old new answers
 
@@ -169,7 +169,7 @@ pub no_last : {f : LineAnswers} {p : Progress} {out : AnswerState} → p.reader.
 no_last none works = record { takes = λ front at. takes_no_line _ front _ _ at none works }
 
 pub last_line : {f : LineAnswers} {p : Progress} {r : Result (Unit {0}) Stop} {old new : AnswerState}
-    → p.reader.fed ≢ 0 → ((front : List ℕ) → IsFed p.reader front → Answers (answer_at f p.line front) r old new) → TakesLast f p r old new
+    → p.reader.fed ≢ 0 → ((front : List ℕ) → IsFed p.reader front → Answers (f p.line front) r old new) → TakesLast f p r old new
 last_line some answers = record { takes = λ front at. takes_last_line _ front _ _ _ _ at some (answers front at) }
 
 pub last_sent : {f : LineAnswers} {p : Progress} {h i j : AnswerState}
@@ -184,13 +184,13 @@ last_unsent {f = f} {p = p} x w = record { takes = λ front at. answers_unsent (
 
 module _ {A : Type 0} where
   pub keeps_same : {a : Lines A} → Keeps a a
-  keeps_same = record { work = refl; looks = refl }
+  keeps_same = record { command = refl; looks = refl }
 
   pub keeps_more : {a b c : Lines A} → Keeps a b → Keeps b c → Keeps a c
-  keeps_more p q = record { work = q.work ∙ p.work; looks = q.looks ∙ p.looks }
+  keeps_more p q = record { command = q.command ∙ p.command; looks = q.looks ∙ p.looks }
 
   same_answers : {a b : Lines A} → Keeps a b → answers_of b ≡ answers_of a
-  same_answers p = ap (λ w. line_answers (command_of w.now)) p.work
+  same_answers p = ap (λ c. line_answer c.now) p.command
 
   pub kept : {a b : Lines A} {bytes : List ℕ} {p q : Progress} {r : Result (Unit {0}) Stop} {i j : AnswerState}
       → Keeps a b → TakesNext (answers_of b) bytes p q r i j → TakesNext (answers_of a) bytes p q r i j

@@ -20,7 +20,7 @@ pub use Rattle.std.specs.Char.{is_ascii_digit}
 pub use Rattle.std.specs.Io.KnownBytes.{ReadConsumes}
 pub use Rattle.std.specs.List.{between, list_all}
 pub use Rattle.std.specs.Prelude.{flat_map, string_bytes, OnOk, nat_lt, OnErr, decimal, nat_le, IsTrue, All, is_err, IsErr, MatchResult}
-pub use Rattle.std.specs.Prelude.{find, bytes_eq, slice_get}
+pub use Rattle.std.specs.Prelude.{find, bytes_eq, slice_get, IfOk}
 pub use Rattle.std.specs.Str.Parse.{digits_value, ParsesUnsigned}
 pub use Rattle.rand_pcg.specs.Lcg.{Lcg}
 unfoldable pub use Rattle.rand_pcg.specs.Lcg.{state_after}
@@ -41,23 +41,19 @@ pub use Rattle.niss_shell.specs.Device.{FilledOf, GaveOf, AppendedOf, StaysSilen
 pub use Rattle.niss_shell.specs.Engine.{Writes, AnswerState, Refuses, Answers, output_state, Progress, TakesBytes, pending_state}
 pub use Rattle.niss_shell.specs.Engine.{TakesNext, TakesLast, IsAt, AnswersSource, WritesOrRefuses, HasRoom, TakesEnd, Delivers}
 pub use Rattle.niss_shell.specs.Engine.{TakesLine, RefusesLine, MayBegin, EndsUnflushed, RunsUnflushed, flushed_outcome, FlushesLast}
-pub use Rattle.niss_shell.specs.Engine.{answer_at_moves, TakesIn}
-pub use Rattle.niss_shell.specs.Job.{command_of, IsInput, Keeps, answers_of, lines_state, progress_of, Takes}
+pub use Rattle.niss_shell.specs.Engine.{TakesIn, IsInput, Keeps, answers_of, lines_state, progress_of, Takes}
 pub use Rattle.niss_shell.specs.Lines.{line_feed}
 unfoldable pub use Rattle.niss_shell.specs.Lines.{ended_lines, last_part}
-pub use Rattle.niss_shell.specs.LinesLaws.{line_to_feed, IsCutInto, TextIsCut, OneCut}
-pub use Rattle.niss_shell.specs.MoreInput.{Begins, MoreInputKeepsAnswers}
-pub use Rattle.niss_shell.specs.Names.{Report}
+pub use Rattle.niss_shell.specs.Lines.{HasNo, ended_by, IsCutAt}
+pub use Rattle.niss_shell.specs.Laws.{TextIsCut, OneCut, Begins, MoreInputKeepsAnswers, AcceptedLinesAreSolved}
 pub use Rattle.niss_shell.specs.Names.{Stop, DeviceFault, Step, CannotWrite, InputTooLong, LineCommand, Search, Solutions, CannotRead}
-pub use Rattle.niss_shell.specs.Names.{Turn, Output, UsageFault, Rewrite, LineFault, ReadFault, Usage, OutOfMemory, Query, NoStart, Lines}
-pub use Rattle.niss_shell.specs.Output.{LineAnswers, answer_at, unsearched, then_answer, home, Ending, More, End, answer_lines}
-pub use Rattle.niss_shell.specs.Output.{line_with_bytes, complete_lines, outcome_of, Answer, joined_answer, line_answers, solution_line}
-pub use Rattle.niss_shell.specs.Output.{where_it_starts, step_line, Fail, ending, last_line, answer_to, looks_at, line_answer, ending_of}
-pub use Rattle.niss_shell.specs.Output.{none_line, solve_text, count_text, outcome_at_end, most_line_looks, answer_request, out_of}
-pub use Rattle.niss_shell.specs.Output.{error_text, status_of, fault_answer, search_text, start_cube}
+pub use Rattle.niss_shell.specs.Names.{Turn, Output, Command, UsageFault, Rewrite, LineFault, ReadFault, Usage, OutOfMemory, Query, NoStart, Lines}
+pub use Rattle.niss_shell.specs.Output.{LineAnswers, line_answer, unsearched, then_answer, home, Ending, More, End, answer_lines}
+pub use Rattle.niss_shell.specs.Output.{line_with_bytes, complete_lines, outcome_of_input, Answer, joined_answer, solution_line}
+pub use Rattle.niss_shell.specs.Output.{started, step_line, Fail, ending, last_line, answer_to, answer_from, ending_of, searched}
+pub use Rattle.niss_shell.specs.Output.{none_line, solve_text, count_text, outcome_at_end, answer_request, out_of, limit_of, slack_of}
+pub use Rattle.niss_shell.specs.Output.{error_text, status_of, fault_answer, start_cube, scramble_text, scramble, scrambles, turns_line}
 unfoldable pub use Rattle.niss_shell.specs.Output.{answers_from}
 pub use Rattle.niss_shell.specs.Run.{devices, Runs, Devices, Ends, ReportsError, Looked}
-pub use Rattle.niss_shell.specs.Scrambles.{scramble_text, scramble, scrambles, turns_line}
-pub use Rattle.niss_shell.specs.SolveLaw.{AcceptedLinesAreSolved, SearchesBeginAtCubes, search_answer}
-pub use Rattle.niss_shell.specs.Words.{most_bytes, spaced_word, OnLines, ListSteps, DrawScrambles, request_of, joined, search_command}
-pub use Rattle.niss_shell.specs.Words.{number_of, step_named, Request, reads_source, has_step, takes_memory, request_named, requested}
+pub use Rattle.niss_shell.specs.Words.{most_bytes, spaced_word, OnLines, ListSteps, DrawScrambles, request_of, joined, Parses, IsInRange, name_of_command}
+pub use Rattle.niss_shell.specs.Words.{spelled_number, step_named, Request, reads_source, has_step, takes_memory, request_named, requested}

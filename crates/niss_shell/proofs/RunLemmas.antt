@@ -3,10 +3,10 @@ use Rattle.niss_shell.proofs.Names.{◌≡◌, ◌≢◌, ℕ, ◌+◌, ◌≤�
 use Rattle.niss_shell.proofs.Names.{Ok, Err, List, [], ◌∷◌, ◌++◌, length, refl, sym, ap, ◌∙◌, subst, append-nil, add-zero, arith, OnOk}
 use Rattle.niss_shell.proofs.Names.{OnErr, nat_lt, nat_le, common_steps, SourceState, TargetState, has_fault, Appended, Flushes}
 use Rattle.niss_shell.proofs.Names.{WriteRefused, most_bytes, Request, OnLines, request_of, reads_source, has_step, joined, Answer}
-use Rattle.niss_shell.proofs.Names.{Ending, End, Fail, ending, outcome_at_end, answer_to, looks_at, most_line_looks, home}
-use Rattle.niss_shell.proofs.Names.{where_it_starts, complete_lines, LineAnswers, line_answer, answer_at, answers_from, joined_answer}
-use Rattle.niss_shell.proofs.Names.{line_answers, answer_lines, answer_request, unsearched, outcome_of, out_of, error_text, status_of}
-use Rattle.niss_shell.proofs.Names.{may_start, Moves, read_line, AnswerState, MayBegin, pending_state, AnswersSource, Answers}
+use Rattle.niss_shell.proofs.Names.{Ending, End, Fail, ending, outcome_at_end, answer_to, answer_from, searched}
+use Rattle.niss_shell.proofs.Names.{complete_lines, LineAnswers, line_answer, answers_from, joined_answer}
+use Rattle.niss_shell.proofs.Names.{answer_lines, answer_request, unsearched, outcome_of_input, out_of, error_text, status_of}
+use Rattle.niss_shell.proofs.Names.{limit_of, slack_of, start_cube, Moves, read_line, AnswerState, MayBegin, pending_state, AnswersSource, Answers}
 use Rattle.niss_shell.proofs.Names.{Writes, EndsUnflushed, RunsUnflushed, flushed_outcome, FlushesLast, IsInput, Devices, devices, Ends}
 use Rattle.niss_shell.proofs.Names.{ReportsError, Looked, Runs, DeviceFault, UsageFault, LineCommand, Rewrite, Search, LineFault}
 use Rattle.niss_shell.proofs.Names.{ReadFault, Step, Stop, Usage, InputTooLong, CannotWrite, OutOfMemory, LooksWithinBound}
@@ -43,15 +43,15 @@ reported text (Err x) a b e whole same refused unflushed = record {
 -- what holds of the answer to each line, to none, and of two that are joined, holds of that to an input
 
 module _ (P : Answer → Type 0) (joins : (a b : Answer) (o : Result (Unit {0}) Stop) → P a → P b → P (joined_answer o a b))
-    (f : LineAnswers) (one : (n : ℕ) (line : List ℕ) → P (answer_at f n line)) (none : P (unsearched [] (Ok tt))) where
+    (f : LineAnswers) (one : (n : ℕ) (line : List ℕ) → P (f n line)) (none : P (unsearched [] (Ok tt))) where
   lines_have : (n : ℕ) (lines : List (List ℕ)) → P (answers_from f n lines)
   unfolding answers_from
   lines_have n [] = none
-  lines_have n (line ∷ lines) = joins (answer_at f n line) (answers_from f (n + 1) lines) _ (one n line) (lines_have (n + 1) lines)
+  lines_have n (line ∷ lines) = joins (f n line) (answers_from f (n + 1) lines) _ (one n line) (lines_have (n + 1) lines)
 
-  input_has : (input : List ℕ) (m : Ending) → P (unsearched [] (outcome_of input m)) → P (answer_lines f input m)
+  input_has : (input : List ℕ) (m : Ending) → P (unsearched [] (outcome_of_input input m)) → P (answer_lines f input m)
   input_has input m end =
-      joins (answers_from f 1 (complete_lines input m)) (unsearched [] (outcome_of input m)) _ (lines_have 1 (complete_lines input m)) end
+      joins (answers_from f 1 (complete_lines input m)) (unsearched [] (outcome_of_input input m)) _ (lines_have 1 (complete_lines input m)) end
 
 -- no answer is that memory was refused
 
@@ -62,18 +62,24 @@ joins_without_memory : (a b : Answer) (o : Result (Unit {0}) Stop) → IsNotMemo
 joins_without_memory a b (Ok u) p q = q
 joins_without_memory a b (Err stop) p q = p
 
-line_is_not_memory : (n looks most : ℕ) (r : Result (List ℕ) LineFault) → IsNotMemory (line_answer n looks most r)
-line_is_not_memory n looks most (Ok text) = λ e. cc e
-line_is_not_memory n looks most (Err fault) = λ e. cc e
+found_is_not_memory : {X : Type 0} (answer : X → Answer) (n : ℕ) (r : Result X LineFault)
+    → ((x : X) → IsNotMemory (answer x)) → IsNotMemory (answer_from answer n r)
+found_is_not_memory answer n (Ok x) good = good x
+found_is_not_memory answer n (Err fault) good = λ e. cc e
+
+line_is_not_memory : (command : LineCommand Step) (n : ℕ) (read : Result Moves ReadFault) → IsNotMemory (answer_to command n read)
+line_is_not_memory (Rewrite rewriting) n (Ok line) = λ e. cc e
+line_is_not_memory (Search step query) n (Ok line) = found_is_not_memory (searched step query) n (start_cube step (Ok line)) (λ cube e. cc e)
+line_is_not_memory command n (Err fault) = λ e. cc e
 
 end_is_not_memory : (long : Bool) (m : Ending) → (if long then Err InputTooLong else outcome_at_end m) ≢ Err OutOfMemory
 end_is_not_memory true m = λ e. cc e
 end_is_not_memory false Fail = λ e. cc e
 end_is_not_memory false m = λ e. cc e
 
-is_not_memory : (f : LineAnswers) (input : List ℕ) (m : Ending) → IsNotMemory (answer_lines f input m)
-is_not_memory f input m =
-    input_has IsNotMemory joins_without_memory f (λ n line. line_is_not_memory n _ _ (f.answer_of line)) (λ e. cc e) input m
+is_not_memory : (command : LineCommand Step) (input : List ℕ) (m : Ending) → IsNotMemory (answer_lines (line_answer command) input m)
+is_not_memory command input m =
+    input_has IsNotMemory joins_without_memory (line_answer command) (λ n line. line_is_not_memory command n (read_line line)) (λ e. cc e) input m
     (end_is_not_memory (nat_lt most_bytes (length input)) m)
 
 ends_of_answers : (a : Answer) (asked : Result Request UsageFault) (outcome : Result (Unit {0}) Stop) (source source_now : SourceState) (h i : AnswerState)
@@ -83,13 +89,13 @@ ends_of_answers a asked (Err CannotWrite) source source_now h i n w = w
 ends_of_answers a asked _ source source_now h i n w = w
 
 -- The input comes from the source. What the run is of, by its command and its states, may be known by equations.
-pub runs_source : {command given : LineCommand} {ws : List (List ℕ)} {outcome : Result (Unit {0}) Stop} {a b : SourceState} {h k i j : AnswerState}
-    → given ≡ command → k ≡ h → j ≡ i → length ws ≡ 0 → AnswersSource (line_answers given) outcome a b k j → j.pending ≡ []
+pub runs_source : {command given : LineCommand Step} {ws : List (List ℕ)} {outcome : Result (Unit {0}) Stop} {a b : SourceState} {h k i j : AnswerState}
+    → given ≡ command → k ≡ h → j ≡ i → length ws ≡ 0 → AnswersSource (line_answer given) outcome a b k j → j.pending ≡ []
     → RunsUnflushed (Ok (OnLines command ws)) outcome a b h i
 runs_source {given = given} {ws = []} {b = b} e f g none x empty = rw (← e, ← f, ← g) (record {
   input = x.input;
   gave = x.gave;
-  ends = ends_of_answers (answer_lines (line_answers given) x.input (ending b)) _ _ _ b _ _ (is_not_memory (line_answers given) x.input (ending b)) x.answers;
+  ends = ends_of_answers (answer_lines (line_answer given) x.input (ending b)) _ _ _ b _ _ (is_not_memory given x.input (ending b)) x.answers;
   read_whole = λ d r. x.read_whole d;
   unread = λ r. absurd (cc r);
   empty = empty;
@@ -111,17 +117,17 @@ unread_run asked outcome a h i unread empty ends = record {
 
 -- the input comes from the words
 
-pub runs_text : {command given : LineCommand} {ws : List (List ℕ)} {text : List ℕ} {outcome : Result (Unit {0}) Stop} {a : SourceState} {h k i j : AnswerState}
+pub runs_text : {command given : LineCommand Step} {ws : List (List ℕ)} {text : List ℕ} {outcome : Result (Unit {0}) Stop} {a : SourceState} {h k i j : AnswerState}
     → given ≡ command → k ≡ h → j ≡ i → 0 < length ws → text ≡ joined ws → length (joined ws) ≤ most_bytes
-    → Answers (answer_lines (line_answers given) text End) outcome k j → j.pending ≡ [] → RunsUnflushed (Ok (OnLines command ws)) outcome a a h i
+    → Answers (answer_lines (line_answer given) text End) outcome k j → j.pending ≡ [] → RunsUnflushed (Ok (OnLines command ws)) outcome a a h i
 runs_text {ws = []} e f g some whole fits x empty = absurd (omega arith)
 runs_text {given = given} {ws = v ∷ ws} {text = text} {outcome = outcome} {a = a} {k = k} {j = j} e f g some whole fits x empty =
     rw (← e, ← f, ← g) (unread_run (Ok (OnLines given (v ∷ ws))) outcome a k j (λ d r. cc r) empty
     (subst (λ y. EndsUnflushed outcome y (Ok (OnLines given (v ∷ ws))) a a k j)
-    (ap (λ t. answer_lines (line_answers given) t End) whole ∙ sym (choose_false _ _ _ (short_test fits)))
-    (ends_of_answers (answer_lines (line_answers given) text End) (Ok (OnLines given (v ∷ ws))) _ a a k j (is_not_memory (line_answers given) text End) x)))
+    (ap (λ t. answer_lines (line_answer given) t End) whole ∙ sym (choose_false _ _ _ (short_test fits)))
+    (ends_of_answers (answer_lines (line_answer given) text End) (Ok (OnLines given (v ∷ ws))) _ a a k j (is_not_memory given text End) x)))
 
-pub runs_too_long : (command : LineCommand) (ws : List (List ℕ)) (a : SourceState) (h : AnswerState)
+pub runs_too_long : (command : LineCommand Step) (ws : List (List ℕ)) (a : SourceState) (h : AnswerState)
     → 0 < length ws → MayBegin a h → most_bytes < length (joined ws)
     → RunsUnflushed (Ok (OnLines command ws)) (Err InputTooLong) a a h h
 runs_too_long command [] a h n begins long = absurd (omega arith)
@@ -137,13 +143,13 @@ no_memory : (asked : Result Request UsageFault) (a : SourceState) (h : AnswerSta
     → RunsUnflushed asked (Err OutOfMemory) a a h h
 no_memory asked a h begins asks = unread_run asked (Err OutOfMemory) a h h (λ d. cc d) begins.empty (asks, refl, writes_nothing _ begins.works)
 
-pub runs_memory : (command : LineCommand) (ws : List (List ℕ)) (a : SourceState) (h : AnswerState)
+pub runs_memory : (command : LineCommand Step) (ws : List (List ℕ)) (a : SourceState) (h : AnswerState)
     → 0 < length ws → MayBegin a h → length (joined ws) ≤ most_bytes
     → RunsUnflushed (Ok (OnLines command ws)) (Err OutOfMemory) a a h h
 runs_memory command [] a h n begins fits = absurd (omega arith)
 runs_memory command (v ∷ ws) a h n begins fits = no_memory (Ok (OnLines command (v ∷ ws))) a h begins (fits_test fits)
 
-pub runs_tables : {T : Type 0} (bytes : T → List ℕ) (text : Option T) (command : LineCommand) (ws : List (List ℕ)) (a : SourceState) (h : AnswerState)
+pub runs_tables : {T : Type 0} (bytes : T → List ℕ) (text : Option T) (command : LineCommand Step) (ws : List (List ℕ)) (a : SourceState) (h : AnswerState)
     → IsInput bytes text ws → MayBegin a h → has_step command ≡ true
     → RunsUnflushed (Ok (OnLines command ws)) (Err OutOfMemory) a a h h
 runs_tables bytes None command [] a h none begins asks = no_memory (Ok (OnLines command [])) a h begins asks
@@ -244,27 +250,25 @@ joined_within : (a b : Answer) (o : Result (Unit {0}) Stop) → IsWithin a → I
 joined_within a b (Ok u) p q = omega (arith, p, q)
 joined_within a b (Err stop) p q = p
 
-start_within : (step : Step) (starts : Bool) (text : List ℕ) (n : ℕ) {looks most : ℕ} → looks ≤ most
-    → IsWithin (line_answer n looks most (where_it_starts step starts text))
-start_within step true text n h = h
-start_within step false text n h = omega arith
+found_within : {X : Type 0} (answer : X → Answer) (n : ℕ) (r : Result X LineFault) → ((x : X) → IsWithin (answer x)) → IsWithin (answer_from answer n r)
+found_within answer n (Ok x) within = within x
+found_within answer n (Err fault) within = omega arith
 
 module _ (law : LooksWithinBound) where
-  line_within : (command : LineCommand) (n : ℕ) (read : Result Moves ReadFault)
-      → IsWithin (line_answer n (looks_at command read) (most_line_looks command) (answer_to command read))
+  line_within : (command : LineCommand Step) (n : ℕ) (read : Result Moves ReadFault) → IsWithin (answer_to command n read)
   line_within (Rewrite rewriting) n (Ok line) = omega arith
-  line_within (Search query) n (Ok line) =
-      start_within query.step (may_start query.step (home line)) _ n (law _ _ _ _ query.limit query.slack)
+  line_within (Search step query) n (Ok line) =
+      found_within (searched step query) n (start_cube step (Ok line)) (λ e. law _ _ _ _ (limit_of query) (slack_of query))
   line_within command n (Err fault) = omega arith
 
-  input_within : (command : LineCommand) (input : List ℕ) (m : Ending) → IsWithin (answer_lines (line_answers command) input m)
+  input_within : (command : LineCommand Step) (input : List ℕ) (m : Ending) → IsWithin (answer_lines (line_answer command) input m)
   input_within command input m =
-      input_has IsWithin joined_within (line_answers command) (λ n line. line_within command n (read_line line)) (omega arith) input m (omega arith)
+      input_has IsWithin joined_within (line_answer command) (λ n line. line_within command n (read_line line)) (omega arith) input m (omega arith)
 
   answer_within : (asked : Result Request UsageFault) (input : List ℕ) (m : Ending) → IsWithin (answer_request asked input m)
   answer_within (Ok (OnLines command [])) input m = input_within command input m
   answer_within (Ok (OnLines command (word ∷ words))) input m =
-      let answered = answer_lines (line_answers command) (joined (word ∷ words)) End in
+      let answered = answer_lines (line_answer command) (joined (word ∷ words)) End in
       by_test (λ long. IsWithin (if long then unsearched [] (Err InputTooLong) else answered))
       (nat_lt most_bytes (length (joined (word ∷ words)))) (omega arith) (input_within command (joined (word ∷ words)) End)
   answer_within _ input m = omega arith

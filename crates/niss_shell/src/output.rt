@@ -5,9 +5,8 @@ ghost use Rattle.niss_shell.specs.Engine.{Delivers, TakesLine, RefusesLine, Flus
 ghost use Rattle.niss_shell.specs.Output.{solution_line};
 
 use crate::device::{DeviceFault, Target};
-use crate::search_text::put_solution;
 use crate::stop::Stop;
-use crate::text::put_text;
+use crate::text::{put_solution, put_text};
 use crate::writing::write_all;
 use niss_moves::LineText;
 use niss_search::{Sink, TurnPath};

@@ -1,4 +1,4 @@
-use Rattle.niss_shell.proofs.Names.{refl, ap, err_from_is_err_and, home, command_of}
+use Rattle.niss_shell.proofs.Names.{refl, ap, err_from_is_err_and, home}
 use Rattle.niss_shell.proofs.SearchLemmas.{all_reported, not_started}
 use Rattle.niss_shell.proofs.lines.Lines.answer.Goals as goal
 
@@ -16,12 +16,10 @@ returns-in_ok-put-in-Rewrite-clause-works g c = (c.in_ok-put-in-Rewrite.ensures.
 
 pub returns-in_default-clause-answers : goal.returns-in_default-clause-answers
 returns-in_default-clause-answers g c =
-    not_started _ _ _ c.in-Search.search.query _ _ _ _
-    (ap command_of c.in-Search.is) c.in-Search.search.of_step c.moves-in-Search.ensures c.step.result c.refuse.result
-    c.in_default.ensures c.step.ensures c.refuse.ensures.refused
+    not_started c.in-Search.tables c.in-Search.query _ c.moves-in-Search.result.now _ _ c.in-Search.is c.moves-in-Search.ensures
+    c.step.result c.refuse.result c.in_default.ensures c.step.ensures c.refuse.ensures.refused
 
 pub returns-in_ok-answer-in-Search-clause-answers : goal.returns-in_ok-answer-in-Search-clause-answers
 returns-in_ok-answer-in-Search-clause-answers g c =
-    all_reported _ _ c.moves-in-Search.result.now c.in-Search.search.query _ _ _ _
-    (ap command_of c.in-Search.is) c.in-Search.search.of_step c.moves-in-Search.ensures
-    c.in-Some.ensures.starts (c.in_ok-answer-in-Search.ensures.reported (home c.moves-in-Search.result.now) c.in-Some.ensures c.requires.works)
+    all_reported c.in-Search.tables c.in-Search.query _ c.moves-in-Search.result.now _ _ c.in-Search.is c.moves-in-Search.ensures
+    c.in-Some.ensures.starts (c.in_ok-answer-in-Search.ensures.reports (home c.moves-in-Search.result.now) c.in-Some.ensures c.requires.works)
