@@ -4,7 +4,7 @@ use Rattle.niss_shell.specs.Device.{SourceCall, TargetCall, Read, ReadShows, End
 use Rattle.niss_shell.specs.Words.{Request, OnLines, request_of, reads_source, takes_memory}
 use Rattle.niss_shell.specs.Output.{Answer, out_of, answer_request, unsearched, error_text, status_of}
 use Rattle.niss_shell.specs.Run.{due_without, outcome_before, flushed_outcome, Runs}
-use Rattle.niss_shell.specs.MoreInput.{Begins, MoreInputKeepsAnswers}
+use Rattle.niss_shell.specs.Laws.{Begins, MoreInputKeepsAnswers}
 use Rattle.niss_shell.specs.declared.device.DeviceFault.{DeviceFault}
 use Rattle.niss_embed.specs.Names.{Answer as Given, UsageFault, Stop, OutOfMemory}
 use Rattle.niss_embed.specs.Memory.{Memory, memory, shown_input, Lent}

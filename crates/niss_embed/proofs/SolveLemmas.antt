@@ -326,7 +326,7 @@ module _ (step : Step) (n slack : ℕ) (e : Place → Place) (a b : SolutionLine
     all = near_solutions_of step e n slack
 
     least_is : l.first ≡ first_of None all → unwrap_or l.first 0 ≡ unwrap_or (least_length_of step e n) 0
-    least_is h = ap (λ o. unwrap_or o 0) (h ∙ first_is all ∙ sym (least _ (cubes step) e n slack))
+    least_is h = ap (λ o. unwrap_or o 0) (h ∙ first_is all ∙ sym (least.0 _ (cubes step) e n slack))
 
     by_result : (r : Result Outcome Refused) → OnOk r (WentThrough TakesPath a all b) → OnErr r (StoppedIn TakesPath RefusesPath a all b)
         → OnOk r (looks_now ≡ looks + near_looks_of step e n slack)

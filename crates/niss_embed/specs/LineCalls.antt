@@ -13,7 +13,7 @@ use Rattle.niss_cube.specs.Steps.{steps}
 use Rattle.niss_shell.specs.Names.{Step}
 use Rattle.niss_shell.specs.Words.{most_bytes, most_turns, step_named}
 use Rattle.niss_shell.specs.Output.{line_text, step_line, start_text}
-use Rattle.niss_shell.specs.Scrambles.{generator_of, scramble}
+use Rattle.niss_shell.specs.Output.{generator_of, scramble}
 use Rattle.niss_embed.specs.declared.answer.Status.{Status}
 use Rattle.niss_embed.specs.declared.answer.Status.TheVariants as status
 use Rattle.niss_embed.specs.declared.answer.LineAnswer.{LineAnswer}

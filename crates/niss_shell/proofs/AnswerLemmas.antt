@@ -3,7 +3,7 @@ use Rattle.niss_shell.proofs.Names.{◌≡◌, ◌≢◌, ℕ, ◌+◌, ◌≤�
 use Rattle.niss_shell.proofs.Names.{refl, sym, ap, ◌∙◌, subst, append-nil, length-append, arith, nat_lt, common_steps, take_all}
 use Rattle.niss_shell.proofs.Names.{take-append-add, SourceCall, TargetCall, Read, Calls, Reads, WasRead, ended_lines, last_part, IsFed}
 use Rattle.niss_shell.proofs.Names.{most_bytes, Ending, More, End, Fail, LineAnswers, answers_from, answer_lines, line_with_bytes}
-use Rattle.niss_shell.proofs.Names.{last_line, complete_lines, outcome_of, unsearched, AnswerState, Progress, TakesBytes, TakesEnd}
+use Rattle.niss_shell.proofs.Names.{last_line, complete_lines, outcome_of_input, unsearched, AnswerState, Progress, TakesBytes, TakesEnd}
 use Rattle.niss_shell.proofs.Names.{TakesNext, TakesLast, IsAt, Answers, AnswersSource, DeviceFault, Stop, InputTooLong, CannotRead}
 use Rattle.niss_shell.proofs.StateLemmas.{calls_more, one_call, reads_more, reads_some, reads_end, reads_fault, nothing_read}
 use Rattle.niss_shell.proofs.StateLemmas.{delivers_nothing, answered, answers_more, answers_stopped, choose_false, choose_true}
@@ -79,16 +79,16 @@ module _ {W : Type 0} (call : W → TargetCall → W → Type 0) (f : LineAnswer
       answers_stopped call _ _ stop a b (subst (λ ls. Answers call (answers_from f 1 ls) (Err stop) a b) (sym e) x)
 
   faultless_answers : (input : List ℕ) (m : Ending) {lines : List (List ℕ)} (r : Result (Unit {0}) Stop) (a b : AnswerState W)
-      → complete_lines input m ≡ lines → Answers call (answers_from f 1 lines) (Ok tt) a b → r ≡ outcome_of input m
+      → complete_lines input m ≡ lines → Answers call (answers_from f 1 lines) (Ok tt) a b → r ≡ outcome_of_input input m
       → Answers call (answer_lines f input m) r a b
   faultless_answers input m r a b e x end =
       answers_more call _ _ r a b b (subst (λ ls. Answers call (answers_from f 1 ls) (Ok tt) a b) (sym e) x)
-      (answered call false (unsearched [] (outcome_of input m)) r b b end (delivers_nothing call b))
+      (answered call false (unsearched [] (outcome_of_input input m)) r b b end (delivers_nothing call b))
 
   answers_cannot_read : (input : List ℕ) {q : Progress} (a b : AnswerState W)
       → length input ≤ most_bytes → TakesBytes call f [] input 1 q (Ok tt) a b → Answers call (answer_lines f input Fail) (Err CannotRead) a b
   answers_cannot_read input a b h x =
-      let end : outcome_of input Fail ≡ Err CannotRead = choose_false _ _ _ (short_test h) in
+      let end : outcome_of_input input Fail ≡ Err CannotRead = choose_false _ _ _ (short_test h) in
       faultless_answers input Fail (Err CannotRead) a b (begun_lines input (whole_input _ h)) x.0 (sym end)
 
   -- the end of an input of which all bytes were taken
@@ -108,7 +108,7 @@ module _ {W : Type 0} (call : W → TargetCall → W → Type 0) (f : LineAnswer
       → most_bytes < length input → take most_bytes input ≡ whole → TakesBytes call f [] whole 1 q r h j
       → Answers call (answer_lines f input More) (Err (stop_unless r InputTooLong)) h j
   too_long_answers input q h j (Ok u) long e x =
-      let end : outcome_of input More ≡ Err InputTooLong = choose_true _ _ _ (long_test long) in
+      let end : outcome_of_input input More ≡ Err InputTooLong = choose_true _ _ _ (long_test long) in
       faultless_answers input More (Err InputTooLong) h j (begun_lines input e) x.0 (sym end)
   too_long_answers input q h j (Err stop) long e x = stopped_answers input More stop h j (begun_lines input e) x.0
 

@@ -2,9 +2,9 @@
 use Rattle.niss_shell.proofs.Names.{◌≡◌, ◌≢◌, ℕ, ◌+◌, ◌<◌, ◌≤◌, take, drop, get_or, Bool, false, Result, Ok, Err, List, [], ◌∷◌, ◌++◌}
 use Rattle.niss_shell.proofs.Names.{length, refl, sym, ap, ◌∙◌, subst, append-nil, length-append, arith, OnOk, between, between_to_end}
 use Rattle.niss_shell.proofs.Names.{take_more, take-append-drop, length-drop, All-nil, TargetCall, ended_lines, last_part, HasNoLineFeed}
-use Rattle.niss_shell.proofs.Names.{Reader, IsFed, LineAnswers, answer_at, answers_from, then_answer, AnswerState, Progress, Answers}
-use Rattle.niss_shell.proofs.Names.{TakesBytes, Stop, take_all, take-add, All-cons, line_answers, line_with_bytes, Delivered}
-use Rattle.niss_shell.proofs.Names.{TakesNext, TakesLast, command_of, Keeps, answers_of, Lines, TakesEnd, outcome_before, CannotWrite, true}
+use Rattle.niss_shell.proofs.Names.{Reader, IsFed, LineAnswers, answers_from, then_answer, AnswerState, Progress, Answers}
+use Rattle.niss_shell.proofs.Names.{TakesBytes, Stop, take_all, take-add, All-cons, line_answer, line_with_bytes, Delivered}
+use Rattle.niss_shell.proofs.Names.{TakesNext, TakesLast, Keeps, answers_of, Lines, TakesEnd, outcome_before, CannotWrite, true}
 use Rattle.niss_shell.proofs.LinesLemmas.{ended_after, last_after, ended_lines-append, last_part-append, answers_from-append}
 use Rattle.niss_shell.proofs.StateLemmas.{delivers_nothing, then_nothing, answered, answers_more, answers_stopped, answers_sent}
 
@@ -47,9 +47,9 @@ module _ {W : Type 0} (call : W → TargetCall → W → Type 0) where
   -- one line, and no line
 
   pub answered_line : (f : LineAnswers) (n : ℕ) (front : List ℕ) (r : Result (Unit {0}) Stop) (old new : AnswerState W)
-      → Answers call (answer_at f n front) r old new → Answers call (answers_from f n (front ∷ [])) r old new
+      → Answers call (f n front) r old new → Answers call (answers_from f n (front ∷ [])) r old new
   unfolding answers_from
-  answered_line f n front r old new p = subst (λ a. Answers call a r old new) (sym (then_nothing (answer_at f n front))) p
+  answered_line f n front r old new p = subst (λ a. Answers call a r old new) (sym (then_nothing (f n front))) p
 
   pub answered_none : (f : LineAnswers) (n : ℕ) (out : AnswerState W) → Answers call (answers_from f n []) (Ok tt) out out
   unfolding answers_from
@@ -96,7 +96,7 @@ module _ {W : Type 0} (call : W → TargetCall → W → Type 0) where
 
   pub line_feed_taken : {f : LineAnswers} (bytes : List ℕ) {p q : Progress} {r : Result (Unit {0}) Stop} {old new : AnswerState W}
       → 0 < length bytes → get_or bytes 0 0 ≡ 10
-      → ((front : List ℕ) → IsFed p.reader front → Answers call (answer_at f p.line front) r old new)
+      → ((front : List ℕ) → IsFed p.reader front → Answers call (f p.line front) r old new)
       → OnOk r (IsFed q.reader []) → OnOk r (q.line ≡ p.line + 1) → TakesNext call f (take 1 bytes) p q r old new
   unfolding ended_lines last_part
   line_feed_taken {f = f} bytes {p = p} {q = q} {r = r} {old = old} {new = new} some feed answers reader line = record {
@@ -162,7 +162,7 @@ module _ {W : Type 0} (call : W → TargetCall → W → Type 0) where
   takes_no_line f (b ∷ bs) n out at none = absurd (omega (arith, at.fed, none))
 
   takes_last_line : (f : LineAnswers) (front : List ℕ) (n : ℕ) {r : Reader} (result : Result (Unit {0}) Stop) (old new : AnswerState W)
-      → IsFed r front → r.fed ≢ 0 → Answers call (answer_at f n front) result old new → TakesEnd call f front n result old new
+      → IsFed r front → r.fed ≢ 0 → Answers call (f n front) result old new → TakesEnd call f front n result old new
   takes_last_line f [] n result old new at some answers = absurd (some at.fed)
   takes_last_line f (b ∷ bs) n result old new at some answers = answered_line f n (b ∷ bs) result old new answers
 
@@ -170,7 +170,7 @@ module _ {W : Type 0} (call : W → TargetCall → W → Type 0) where
   no_last out none = record { takes = λ front at. takes_no_line _ front _ out at none }
 
   pub last_line : {f : LineAnswers} {p : Progress} {r : Result (Unit {0}) Stop} {old new : AnswerState W}
-      → p.reader.fed ≢ 0 → ((front : List ℕ) → IsFed p.reader front → Answers call (answer_at f p.line front) r old new) → TakesLast call f p r old new
+      → p.reader.fed ≢ 0 → ((front : List ℕ) → IsFed p.reader front → Answers call (f p.line front) r old new) → TakesLast call f p r old new
   last_line some answers = record { takes = λ front at. takes_last_line _ front _ _ _ _ at some (answers front at) }
 
   pub last_sent : {f : LineAnswers} {p : Progress} (refused : Bool) (o : Result (Unit {0}) Stop) {h i j : AnswerState W} → o ≡ outcome_before refused (Ok tt)
@@ -183,13 +183,13 @@ module _ {W : Type 0} (call : W → TargetCall → W → Type 0) where
 
 module _ {A : Type 0} where
   pub keeps_same : {a : Lines A} → Keeps a a
-  keeps_same = record { work = refl; looks = refl }
+  keeps_same = record { command = refl; looks = refl }
 
   pub keeps_more : {a b c : Lines A} → Keeps a b → Keeps b c → Keeps a c
-  keeps_more p q = record { work = q.work ∙ p.work; looks = q.looks ∙ p.looks }
+  keeps_more p q = record { command = q.command ∙ p.command; looks = q.looks ∙ p.looks }
 
   same_answers : {a b : Lines A} → Keeps a b → answers_of b ≡ answers_of a
-  same_answers p = ap (λ w. line_answers (command_of w.now)) p.work
+  same_answers p = ap (λ c. line_answer c.now) p.command
 
   module _ {W : Type 0} (call : W → TargetCall → W → Type 0) where
     pub kept : {a b : Lines A} {bytes : List ℕ} {p q : Progress} {r : Result (Unit {0}) Stop} {i j : AnswerState W}

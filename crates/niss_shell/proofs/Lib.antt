@@ -7,5 +7,4 @@ pub mod AnswerLemmas
 pub mod SearchLemmas
 pub mod OutputLemmas
 pub mod RunLemmas
-pub mod MoreInputLemmas
 pub mod WordsLemmas

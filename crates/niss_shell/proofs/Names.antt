@@ -19,7 +19,7 @@ pub use Rattle.std.proofs.lemmas.Str.Parse.{IsNumeralModel, numerals_by_value, p
 pub use Rattle.std.specs.Char.{is_ascii_digit}
 pub use Rattle.std.specs.List.{between, list_all}
 pub use Rattle.std.specs.Prelude.{flat_map, string_bytes, OnOk, nat_lt, OnErr, decimal, nat_le, IsTrue, All, is_err, IsErr, MatchResult}
-pub use Rattle.std.specs.Prelude.{find, bytes_eq, slice_get}
+pub use Rattle.std.specs.Prelude.{find, bytes_eq, slice_get, IfOk}
 pub use Rattle.std.specs.Str.Parse.{digits_value, ParsesUnsigned}
 pub use Rattle.rand_pcg.specs.Lcg.{Lcg}
 unfoldable pub use Rattle.rand_pcg.specs.Lcg.{state_after}
@@ -39,23 +39,19 @@ pub use Rattle.niss_shell.specs.Device.{Writes, WasRead, SourceState, is_end, Re
 unfoldable pub use Rattle.niss_shell.specs.Device.{Calls, Reads, Sends}
 pub use Rattle.niss_shell.specs.Engine.{AnswerState, Answers, output_state, Progress, TakesBytes, TakesNext, TakesLast, IsAt}
 pub use Rattle.niss_shell.specs.Engine.{AnswersSource, HasRoom, TakesEnd, Delivered, Delivers, TakesLine, MayBegin, RunsUnflushed}
-pub use Rattle.niss_shell.specs.Engine.{FlushesLast, answer_at_moves, EndsAtOnce}
-pub use Rattle.niss_shell.specs.Job.{command_of, IsInput, Keeps, answers_of, lines_state, progress_of, Takes}
+pub use Rattle.niss_shell.specs.Engine.{FlushesLast, EndsAtOnce, IsInput, Keeps, answers_of, lines_state, progress_of, Takes}
 pub use Rattle.niss_shell.specs.Lines.{line_feed}
 unfoldable pub use Rattle.niss_shell.specs.Lines.{ended_lines, last_part}
-pub use Rattle.niss_shell.specs.LinesLaws.{line_to_feed, IsCutInto, TextIsCut, OneCut}
-pub use Rattle.niss_shell.specs.MoreInput.{Begins, MoreInputKeepsAnswers}
-pub use Rattle.niss_shell.specs.Names.{Report}
+pub use Rattle.niss_shell.specs.Lines.{HasNo, ended_by, IsCutAt}
+pub use Rattle.niss_shell.specs.Laws.{TextIsCut, OneCut, Begins, MoreInputKeepsAnswers, AcceptedLinesAreSolved}
 pub use Rattle.niss_shell.specs.Names.{Stop, DeviceFault, Step, CannotWrite, InputTooLong, LineCommand, Search, Solutions, CannotRead}
-pub use Rattle.niss_shell.specs.Names.{Turn, Output, UsageFault, Rewrite, LineFault, ReadFault, Usage, OutOfMemory, Query, NoStart, Lines}
-pub use Rattle.niss_shell.specs.Output.{LineAnswers, answer_at, unsearched, then_answer, home, answer_lines}
-pub use Rattle.niss_shell.specs.Output.{line_with_bytes, complete_lines, outcome_of, Answer, joined_answer, line_answers, solution_line}
-pub use Rattle.niss_shell.specs.Output.{where_it_starts, step_line, last_line, answer_to, looks_at, line_answer}
-pub use Rattle.niss_shell.specs.Output.{none_line, solve_text, count_text, outcome_at_end, most_line_looks, answer_request, out_of}
-pub use Rattle.niss_shell.specs.Output.{error_text, status_of, fault_answer, search_text, start_cube}
+pub use Rattle.niss_shell.specs.Names.{Turn, Output, Command, UsageFault, Rewrite, LineFault, ReadFault, Usage, OutOfMemory, Query, NoStart, Lines}
+pub use Rattle.niss_shell.specs.Output.{LineAnswers, line_answer, unsearched, then_answer, home, answer_lines}
+pub use Rattle.niss_shell.specs.Output.{line_with_bytes, complete_lines, outcome_of_input, Answer, joined_answer, solution_line}
+pub use Rattle.niss_shell.specs.Output.{started, step_line, last_line, answer_to, answer_from, searched}
+pub use Rattle.niss_shell.specs.Output.{none_line, solve_text, count_text, outcome_at_end, answer_request, out_of, limit_of, slack_of}
+pub use Rattle.niss_shell.specs.Output.{error_text, status_of, fault_answer, start_cube, scramble_text, scramble, scrambles, turns_line}
 unfoldable pub use Rattle.niss_shell.specs.Output.{answers_from}
 pub use Rattle.niss_shell.specs.Run.{Runs, Looked, due_without, outcome_before, flushed_outcome}
-pub use Rattle.niss_shell.specs.Scrambles.{scramble_text, scramble, scrambles, turns_line}
-pub use Rattle.niss_shell.specs.SolveLaw.{AcceptedLinesAreSolved, SearchesBeginAtCubes, search_answer}
-pub use Rattle.niss_shell.specs.Words.{most_bytes, spaced_word, OnLines, ListSteps, DrawScrambles, request_of, joined, search_command}
-pub use Rattle.niss_shell.specs.Words.{number_of, step_named, Request, reads_source, has_step, takes_memory, request_named, requested}
+pub use Rattle.niss_shell.specs.Words.{most_bytes, spaced_word, OnLines, ListSteps, DrawScrambles, request_of, joined, Parses, IsInRange, name_of_command}
+pub use Rattle.niss_shell.specs.Words.{spelled_number, step_named, Request, reads_source, has_step, takes_memory, request_named, requested}

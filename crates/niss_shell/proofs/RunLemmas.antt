@@ -3,11 +3,11 @@ use Rattle.niss_shell.proofs.Names.{◌≡◌, ◌≢◌, ℕ, ◌+◌, ◌≤�
 use Rattle.niss_shell.proofs.Names.{List, [], ◌∷◌, ◌++◌, length, refl, sym, ap, ◌∙◌, subst, arith, nat_lt, nat_le, common_steps}
 use Rattle.niss_shell.proofs.Names.{SourceState, SourceCall, TargetCall, Flush, Calls, Sends, Writes, More, End, Ending, left_after}
 use Rattle.niss_shell.proofs.Names.{most_bytes, Request, OnLines, request_of, reads_source, has_step, joined, Answer}
-use Rattle.niss_shell.proofs.Names.{answer_to, looks_at, most_line_looks, home, where_it_starts, complete_lines, LineAnswers, line_answer}
-use Rattle.niss_shell.proofs.Names.{answer_at, answers_from, joined_answer, line_answers, answer_lines, answer_request, unsearched}
-use Rattle.niss_shell.proofs.Names.{outcome_of, error_text, status_of, may_start, Moves, read_line, AnswerState, MayBegin}
+use Rattle.niss_shell.proofs.Names.{answer_to, answer_from, searched, complete_lines, LineAnswers, line_answer}
+use Rattle.niss_shell.proofs.Names.{answers_from, joined_answer, answer_lines, answer_request, unsearched}
+use Rattle.niss_shell.proofs.Names.{outcome_of_input, error_text, status_of, limit_of, slack_of, start_cube, Moves, read_line, AnswerState, MayBegin}
 use Rattle.niss_shell.proofs.Names.{AnswersSource, Answers, RunsUnflushed, EndsAtOnce, FlushesLast, IsInput, Looked, Runs, due_without}
-use Rattle.niss_shell.proofs.Names.{flushed_outcome, UsageFault, LineCommand, Rewrite, Search, ReadFault, Step, Stop, Usage}
+use Rattle.niss_shell.proofs.Names.{flushed_outcome, UsageFault, LineCommand, Rewrite, Search, LineFault, ReadFault, Step, Stop, Usage}
 use Rattle.niss_shell.proofs.Names.{InputTooLong, OutOfMemory, LooksWithinBound}
 use Rattle.niss_shell.proofs.StateLemmas.{calls_more, one_call, nothing_read, writes_none, delivers_nothing, answered, choose_false}
 use Rattle.niss_shell.proofs.StateLemmas.{choose_true}
@@ -26,32 +26,32 @@ nothing_reported call a = (false, writes_none call [] a)
 -- what holds of the answer to each line, to none, and of two that are joined, holds of that to an input
 
 module _ (P : Answer → Type 0) (joins : (a b : Answer) (o : Result (Unit {0}) Stop) → P a → P b → P (joined_answer o a b))
-    (f : LineAnswers) (one : (n : ℕ) (line : List ℕ) → P (answer_at f n line)) (none : P (unsearched [] (Ok tt))) where
+    (f : LineAnswers) (one : (n : ℕ) (line : List ℕ) → P (f n line)) (none : P (unsearched [] (Ok tt))) where
   lines_have : (n : ℕ) (lines : List (List ℕ)) → P (answers_from f n lines)
   unfolding answers_from
   lines_have n [] = none
-  lines_have n (line ∷ lines) = joins (answer_at f n line) (answers_from f (n + 1) lines) _ (one n line) (lines_have (n + 1) lines)
+  lines_have n (line ∷ lines) = joins (f n line) (answers_from f (n + 1) lines) _ (one n line) (lines_have (n + 1) lines)
 
-  input_has : (input : List ℕ) (m : Ending) → P (unsearched [] (outcome_of input m)) → P (answer_lines f input m)
+  input_has : (input : List ℕ) (m : Ending) → P (unsearched [] (outcome_of_input input m)) → P (answer_lines f input m)
   input_has input m end =
-      joins (answers_from f 1 (complete_lines input m)) (unsearched [] (outcome_of input m)) _ (lines_have 1 (complete_lines input m)) end
+      joins (answers_from f 1 (complete_lines input m)) (unsearched [] (outcome_of_input input m)) _ (lines_have 1 (complete_lines input m)) end
 
 -- what ends a run before anything is read or written
 
 fits_test : {n : ℕ} → n ≤ most_bytes → nat_le n most_bytes ≡ true
 fits_test h = grind (arith, common_steps)
 
-pub runs_too_long : (command : LineCommand) (ws : List (List ℕ)) → 0 < length ws → most_bytes < length (joined ws)
+pub runs_too_long : (command : LineCommand Step) (ws : List (List ℕ)) → 0 < length ws → most_bytes < length (joined ws)
     → EndsAtOnce (Ok (OnLines command ws)) InputTooLong
 runs_too_long command [] n long = absurd (omega arith)
 runs_too_long command (v ∷ ws) n long = choose_true _ _ _ (long_test long)
 
-pub runs_memory : (command : LineCommand) (ws : List (List ℕ)) → 0 < length ws → length (joined ws) ≤ most_bytes
+pub runs_memory : (command : LineCommand Step) (ws : List (List ℕ)) → 0 < length ws → length (joined ws) ≤ most_bytes
     → EndsAtOnce (Ok (OnLines command ws)) OutOfMemory
 runs_memory command [] n fits = absurd (omega arith)
 runs_memory command (v ∷ ws) n fits = fits_test fits
 
-tables_memory : {T : Type 0} (bytes : T → List ℕ) (text : Option T) (command : LineCommand) (ws : List (List ℕ))
+tables_memory : {T : Type 0} (bytes : T → List ℕ) (text : Option T) (command : LineCommand Step) (ws : List (List ℕ))
     → IsInput bytes text ws → has_step command ≡ true → EndsAtOnce (Ok (OnLines command ws)) OutOfMemory
 tables_memory bytes None command [] none asks = asks
 tables_memory bytes None command (v ∷ ws) none asks = absurd (omega arith)
@@ -88,7 +88,7 @@ module _ {R W : Type 0} (read : R → SourceCall → R → Type 0) (call : W →
       (subst (λ due. Answers call due (Err stop) h h) (sym e)
       (answered call false (unsearched [] (Err stop)) (Err stop) h h refl (delivers_nothing call h)))
 
-  pub runs_tables : {T : Type 0} (bytes : T → List ℕ) (text : Option T) (command : LineCommand) (ws : List (List ℕ)) {source : SourceState} (a : R) (h : AnswerState W)
+  pub runs_tables : {T : Type 0} (bytes : T → List ℕ) (text : Option T) (command : LineCommand Step) (ws : List (List ℕ)) {source : SourceState} (a : R) (h : AnswerState W)
       → IsInput bytes text ws → MayBegin source h → has_step command ≡ true
       → RunsUnflushed call (Ok (OnLines command ws)) (Err OutOfMemory) (Calls read a a) h h
   runs_tables bytes text command ws a h input begins asks =
@@ -99,8 +99,8 @@ module _ {R W : Type 0} (read : R → SourceCall → R → Type 0) (call : W →
   runs_usage {fault = fault} a h e begins = rw e (ends_at_once (Err fault) Usage a h begins refl)
 
   -- The input comes from the source. What the run is of, by its command and its states, may be known by equations.
-  pub runs_source : {command given : LineCommand} {ws : List (List ℕ)} {outcome : Result (Unit {0}) Stop} {source : List SourceCall → Type 0} {h k i j : AnswerState W}
-      → given ≡ command → k ≡ h → j ≡ i → length ws ≡ 0 → AnswersSource call (line_answers given) outcome source k j → j.pending ≡ []
+  pub runs_source : {command given : LineCommand Step} {ws : List (List ℕ)} {outcome : Result (Unit {0}) Stop} {source : List SourceCall → Type 0} {h k i j : AnswerState W}
+      → given ≡ command → k ≡ h → j ≡ i → length ws ≡ 0 → AnswersSource call (line_answer given) outcome source k j → j.pending ≡ []
       → RunsUnflushed call (Ok (OnLines command ws)) outcome source h i
   runs_source {ws = []} e f g none x empty = rw (← e, ← f, ← g) (record {
     read = x.read;
@@ -114,14 +114,14 @@ module _ {R W : Type 0} (read : R → SourceCall → R → Type 0) (call : W →
   runs_source {ws = w ∷ ws} e f g none x empty = absurd (omega arith)
 
   -- the input comes from the words
-  pub runs_text : {command given : LineCommand} {ws : List (List ℕ)} {text : List ℕ} {outcome : Result (Unit {0}) Stop} (a : R) {h k i j : AnswerState W}
+  pub runs_text : {command given : LineCommand Step} {ws : List (List ℕ)} {text : List ℕ} {outcome : Result (Unit {0}) Stop} (a : R) {h k i j : AnswerState W}
       → given ≡ command → k ≡ h → j ≡ i → 0 < length ws → text ≡ joined ws → length (joined ws) ≤ most_bytes
-      → Answers call (answer_lines (line_answers given) text End) outcome k j → j.pending ≡ [] → RunsUnflushed call (Ok (OnLines command ws)) outcome (Calls read a a) h i
+      → Answers call (answer_lines (line_answer given) text End) outcome k j → j.pending ≡ [] → RunsUnflushed call (Ok (OnLines command ws)) outcome (Calls read a a) h i
   runs_text {ws = []} a e f g some whole fits x empty = absurd (omega arith)
   runs_text {given = given} {ws = v ∷ ws} {text = text} {outcome = outcome} a {k = k} {j = j} e f g some whole fits x empty =
       rw (← e, ← f, ← g) (unread_run (Ok (OnLines given (v ∷ ws))) outcome a k j (λ d r. cc r) empty
       (subst (λ y. Answers call y outcome k j)
-      (ap (λ t. answer_lines (line_answers given) t End) whole ∙ sym (choose_false _ _ _ (short_test fits))) x))
+      (ap (λ t. answer_lines (line_answer given) t End) whole ∙ sym (choose_false _ _ _ (short_test fits))) x))
 
   -- other requests: nothing is read, and the text doesn't depend on what was
   pub runs_unread : {asked : Result Request UsageFault} (request : Request) {text : List ℕ} (outcome : Result (Unit {0}) Stop) (a : R) (h i : AnswerState W)
@@ -139,27 +139,25 @@ joined_within : (a b : Answer) (o : Result (Unit {0}) Stop) → IsWithin a → I
 joined_within a b (Ok u) p q = omega (arith, p, q)
 joined_within a b (Err stop) p q = p
 
-start_within : (step : Step) (starts : Bool) (text : List ℕ) (n : ℕ) {looks most : ℕ} → looks ≤ most
-    → IsWithin (line_answer n looks most (where_it_starts step starts text))
-start_within step true text n h = h
-start_within step false text n h = omega arith
+found_within : {X : Type 0} (answer : X → Answer) (n : ℕ) (r : Result X LineFault) → ((x : X) → IsWithin (answer x)) → IsWithin (answer_from answer n r)
+found_within answer n (Ok x) within = within x
+found_within answer n (Err fault) within = omega arith
 
 module _ (law : LooksWithinBound) where
-  line_within : (command : LineCommand) (n : ℕ) (read : Result Moves ReadFault)
-      → IsWithin (line_answer n (looks_at command read) (most_line_looks command) (answer_to command read))
+  line_within : (command : LineCommand Step) (n : ℕ) (read : Result Moves ReadFault) → IsWithin (answer_to command n read)
   line_within (Rewrite rewriting) n (Ok line) = omega arith
-  line_within (Search query) n (Ok line) =
-      start_within query.step (may_start query.step (home line)) _ n (law _ _ _ _ query.limit query.slack)
+  line_within (Search step query) n (Ok line) =
+      found_within (searched step query) n (start_cube step (Ok line)) (λ e. law.0 _ _ _ _ (limit_of query) (slack_of query))
   line_within command n (Err fault) = omega arith
 
-  input_within : (command : LineCommand) (input : List ℕ) (m : Ending) → IsWithin (answer_lines (line_answers command) input m)
+  input_within : (command : LineCommand Step) (input : List ℕ) (m : Ending) → IsWithin (answer_lines (line_answer command) input m)
   input_within command input m =
-      input_has IsWithin joined_within (line_answers command) (λ n line. line_within command n (read_line line)) (omega arith) input m (omega arith)
+      input_has IsWithin joined_within (line_answer command) (λ n line. line_within command n (read_line line)) (omega arith) input m (omega arith)
 
   answer_within : (asked : Result Request UsageFault) (input : List ℕ) (m : Ending) → IsWithin (answer_request asked input m)
   answer_within (Ok (OnLines command [])) input m = input_within command input m
   answer_within (Ok (OnLines command (word ∷ words))) input m =
-      let answered = answer_lines (line_answers command) (joined (word ∷ words)) End in
+      let answered = answer_lines (line_answer command) (joined (word ∷ words)) End in
       by_test (λ long. IsWithin (if long then unsearched [] (Err InputTooLong) else answered))
       (nat_lt most_bytes (length (joined (word ∷ words)))) (omega arith) (input_within command (joined (word ∷ words)) End)
   answer_within _ input m = omega arith

@@ -1,14 +1,14 @@
 -- What the engine's steps do. `front` are the bytes of the line that is being read.
-use Rattle.std.specs.Prelude.{◌≡◌, ℕ, ◌+◌, ◌*◌, ◌^◌, ◌≤◌, Bool, true, false, is_err, Result, Ok, Err, OnOk, List, [], ◌++◌, length}
+use Rattle.std.specs.Prelude.{◌≡◌, ℕ, ◌+◌, ◌*◌, ◌^◌, ◌<◌, ◌≤◌, Bool, true, false, is_err, Option, Some, None}
+use Rattle.std.specs.Prelude.{Result, Ok, Err, OnOk, List, [], ◌++◌, length}
 use Rattle.niss_shell.specs.Device.{SourceState, SourceCall, TargetCall, Flush, More, End, WasRead, Writes}
 use Rattle.niss_shell.specs.Lines.{ended_lines, last_part}
-use Rattle.niss_moves.specs.Line.{Moves}
 use Rattle.niss_moves.specs.Reader.{Reader, IsFed}
-use Rattle.niss_shell.specs.Words.{Request, reads_source, takes_memory}
-use Rattle.niss_shell.specs.Output.{Answer, LineAnswers, answer_to_moves, looks_at_moves, most_line_looks, line_answer}
-use Rattle.niss_shell.specs.Output.{answers_from, answer_lines, answer_request, line_with_bytes, unsearched}
+use Rattle.niss_shell.specs.Words.{Request, reads_source, takes_memory, most_bytes, joined}
+use Rattle.niss_shell.specs.Output.{Answer, LineAnswers, line_answer, answers_from, answer_lines, answer_request}
+use Rattle.niss_shell.specs.Output.{line_with_bytes, unsearched}
 use Rattle.niss_shell.specs.Run.{due_without, outcome_before, flushed_outcome, Looked}
-use Rattle.niss_shell.specs.Names.{LineCommand, UsageFault, DeviceFault, Stop, OutOfMemory, Output}
+use Rattle.niss_shell.specs.Names.{UsageFault, DeviceFault, Stop, OutOfMemory, Output, Lines}
 
 -- What answers to lines change: the target that they are written to, by the name of its reference and by what it is, the
 -- answers that wait to be written to it, and the count of the looks.
@@ -76,10 +76,6 @@ abbrev pub only_stop : Result ℕ Stop → Result (Unit {0}) Stop
 only_stop (Ok n) = Ok tt
 only_stop (Err stop) = Err stop
 
--- the answer to the moves of line n, by a command
-abbrev pub answer_at_moves : LineCommand → ℕ → Moves → Answer
-answer_at_moves command n line =
-    line_answer n (looks_at_moves command line) (most_line_looks command) (answer_to_moves command line)
 
 -- The looks before line n leave room for those of the rest of a run: at most 2 ^ 64 before the first line, and less
 -- than 2 ^ 93 at each.
@@ -145,3 +141,46 @@ pub record FlushesLast {W : Type 0} (call : W → TargetCall → W → Type 0)
   pub flushed : Result (Unit {0}) DeviceFault
   pub made : call old (Flush flushed) new
   pub outcome_is : outcome_now ≡ flushed_outcome outcome flushed
+
+-- The words are the input, joined, or there are none.
+abbrev pub IsInput : {T : Type 0} → (T → List ℕ) → Option T → List (List ℕ) → Type 0
+IsInput bytes None words = length words ≡ 0
+IsInput bytes (Some text) words =
+    (0 < length words) × (bytes text ≡ joined words) × (length (joined words) ≤ most_bytes)
+
+-- An output took this answer after what waited, with its looks, or refused a write.
+abbrev pub Reports :
+    {W T : Type 0} → (W → TargetCall → W → Type 0) → Result T DeviceFault → Answer → Output W → Output W → ℕ → ℕ → Type 0
+Reports call result answer old new looks looks_now =
+    Delivered call (is_err result) answer.output answer.looks (output_state old looks) (output_state new looks_now)
+
+-- what lines change of their output
+abbrev pub lines_state : {A W : Type 0} → Output W → Lines A → AnswerState W
+lines_state output lines = output_state output lines.looks.now
+
+abbrev pub answers_of : {A : Type 0} → Lines A → LineAnswers
+answers_of lines = line_answer lines.command.now
+
+abbrev pub progress_of : {A : Type 0} → Lines A → Progress
+progress_of lines = record { reader = lines.reader; line = lines.line }
+
+-- The command is the same, and so is the meter that the lines borrow.
+pub record Keeps {A : Type 0} (old new : Lines A) : Type 0 where
+  pub command : new.command ≡ old.command
+  pub looks : new.looks.ghost_name ≡ old.looks.ghost_name
+
+module _ {A W : Type 0} (call : W → TargetCall → W → Type 0) where
+  -- The line that is being read was answered, whatever its bytes are.
+  abbrev pub AnswersOpenLine : Result (Unit {0}) Stop → Lines A → AnswerState W → AnswerState W → Type 0
+  AnswersOpenLine result lines old new =
+      (bytes : List ℕ) → IsFed lines.reader bytes →
+      Answers call (answers_of lines lines.line bytes) result old new
+
+  -- The next bytes were taken.
+  abbrev pub Takes : List ℕ → Result (Unit {0}) Stop → Lines A → Lines A → AnswerState W → AnswerState W → Type 0
+  Takes bytes result lines lines_now old new =
+      TakesNext call (answers_of lines) bytes (progress_of lines) (progress_of lines_now) result old new
+
+  -- The end of the input was taken.
+  abbrev pub Ends : Result (Unit {0}) Stop → Lines A → AnswerState W → AnswerState W → Type 0
+  Ends result lines old new = TakesLast call (answers_of lines) (progress_of lines) result old new

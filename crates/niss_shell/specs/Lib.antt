@@ -1,12 +1,8 @@
 pub mod Names
 pub mod Device
 pub mod Lines
-pub mod LinesLaws
 pub mod Words
-pub mod Scrambles
 pub mod Output
-pub mod Job
 pub mod Engine
 pub mod Run
-pub mod SolveLaw
-pub mod MoreInput
+pub mod Laws

@@ -1,6 +1,7 @@
 -- What a run is to write and to answer.
-use Rattle.std.specs.Prelude.{◌≡◌, ℕ, zero, suc, ◌+◌, nat_lt, Bool, true, false, if◌then◌else◌, codes, decimal}
+use Rattle.std.specs.Prelude.{◌≡◌, ℕ, zero, suc, ◌+◌, ◌*◌, nat_lt, Bool, true, false, if◌then◌else◌, codes, decimal}
 use Rattle.std.specs.Prelude.{Option, Some, None, Result, Ok, Err, List, [], ◌∷◌, ◌++◌, map, flat_map, take, length, unwrap_or}
+use Rattle.std.specs.List.{range_with_len}
 use Rattle.niss_shell.specs.Device.{Ending, More, End, Fail}
 use Rattle.niss_shell.specs.Lines.{line_feed, space, ended_lines, last_part}
 use Rattle.niss_cube.specs.Steps.{name_of, start_name_of, steps, turns_of, may_start}
@@ -16,9 +17,11 @@ use Rattle.niss_moves.specs.Text.{word, with_words, turn_words}
 use Rattle.niss_search.specs.Cubes.{least_length_of, near_solutions_of, near_looks_of}
 use Rattle.niss_search.specs.Solutions.{look_bound}
 use Rattle.niss_search.specs.declared.deepening.Outcome.{Outcome}
-use Rattle.niss_shell.specs.Scrambles.{generator_of, scramble_text}
+use Rattle.niss_search.specs.Draw.{next_words, after_words, draw}
+use Rattle.rand_pcg.specs.Lcg.{Lcg, started as started_lcg, increment_of}
+use Rattle.rand_pcg.specs.Pcg.{multiplier_64}
 use Rattle.niss_shell.specs.Words.{most_bytes, Request, OnLines, ListSteps, DrawScrambles, request_of, joined}
-use Rattle.niss_shell.specs.Names.{UsageFault, LineCommand, Rewrite, Search, Report, Solutions, Counts, Rewriting}
+use Rattle.niss_shell.specs.Names.{UsageFault, LineCommand, Rewrite, Search, Query, Solutions, Counts, Rewriting}
 use Rattle.niss_shell.specs.Names.{Invert, Unniss, Cleanup, Print, LineFault, Unread, NoStart, Stop, Line}
 use Rattle.niss_shell.specs.Names.{Usage, InputTooLong, CannotRead, CannotWrite, OutOfMemory, Step, Token, Turn, ReadFault}
 
@@ -104,74 +107,25 @@ count_text least solutions looks =
     codes "length " ++ length_text least ++ codes " solutions " ++ decimal solutions
     ++ codes " nodes " ++ decimal looks ++ line_feed ∷ []
 
--- what is written of the search for a step, of at most n turns, and of at most `slack` more than the least, from a cube
-abbrev pub search_text : Report → Step → (n slack : ℕ) → (Place → Place) → List ℕ
-search_text Solutions step n slack e = solve_text n (near_solutions_of step e n slack)
-search_text Counts step n slack e =
-    count_text (least_length_of step e n) (length (near_solutions_of step e n slack))
-    (near_looks_of step e n slack)
-
 -- A search from a cube found this: the least length of a solution, and how many there are.
 pub record Finds (step : Step) (n slack : ℕ) (e : Place → Place) (outcome : Outcome) : Type 0 where
   pub length_is : outcome.length ≡ least_length_of step e n
   pub solutions_are : outcome.solutions ≡ length (near_solutions_of step e n slack)
 
--- this where the step may start on the cube, and else the fault
-abbrev pub where_it_starts : {X : Type 0} → Step → Bool → X → Result X LineFault
-where_it_starts step true x = Ok x
-where_it_starts step false x = Err (NoStart step)
+-- the most turns that a search allows a solution, and how many it allows more than the least
+abbrev pub limit_of : Query → ℕ
+limit_of (Solutions n slack) = n
+limit_of (Counts n) = n
 
--- what a command writes for the moves of a line, or why it can't
-abbrev pub answer_to_moves : LineCommand → Moves → Result (List ℕ) LineFault
-answer_to_moves (Rewrite rewriting) line = Ok (line_text rewriting line ++ line_feed ∷ [])
-answer_to_moves (Search query) line =
-    where_it_starts query.step (may_start query.step (home line))
-    (search_text query.report query.step query.limit query.slack (home line))
+abbrev pub slack_of : Query → ℕ
+slack_of (Solutions n slack) = slack
+slack_of (Counts n) = 0
 
--- what a command answers to a line that was read so
-abbrev pub answer_to : LineCommand → Result Moves ReadFault → Result (List ℕ) LineFault
-answer_to command (Ok line) = answer_to_moves command line
-answer_to command (Err fault) = Err (Unread fault)
-
--- what a command answers to the bytes of a line: what it writes, or the fault of the line
-abbrev pub answer : LineCommand → List ℕ → Result (List ℕ) LineFault
-answer command line = answer_to command (read_line line)
-
--- the cube that a search for a step begins at where a line was read so: that of the line, or the fault of the line
-abbrev pub start_cube : Step → Result Moves ReadFault → Result (Place → Place) LineFault
-start_cube step (Ok line) = where_it_starts step (may_start step (home line)) (home line)
-start_cube step (Err fault) = Err (Unread fault)
-
--- the looks of a command at the moves of a line
-abbrev pub looks_at_moves : LineCommand → Moves → ℕ
-looks_at_moves (Rewrite rewriting) line = 0
-looks_at_moves (Search query) line = near_looks_of query.step (home line) query.limit query.slack
-
-abbrev pub looks_at : LineCommand → Result Moves ReadFault → ℕ
-looks_at command (Ok line) = looks_at_moves command line
-looks_at command (Err fault) = 0
-
--- the looks of a command at the bytes of a line
-abbrev pub line_looks : LineCommand → List ℕ → ℕ
-line_looks command line = looks_at command (read_line line)
-
--- the most looks of a command at one line
-abbrev pub most_line_looks : LineCommand → ℕ
-most_line_looks (Rewrite rewriting) = 0
-most_line_looks (Search query) = look_bound (turns_of query.step) query.limit
-
--- what is answered to each line, the looks that it takes, and the most that any line may take
-pub record LineAnswers : Type 0 where
-  pub answer_of : List ℕ → Result (List ℕ) LineFault
-  pub looks_of : List ℕ → ℕ
-  pub most_looks : ℕ
-
-abbrev pub line_answers : LineCommand → LineAnswers
-line_answers command = record {
-  answer_of = answer command;
-  looks_of = line_looks command;
-  most_looks = most_line_looks command;
-}
+-- what is written of the search for a step from a cube
+abbrev pub search_text : Step → Query → (Place → Place) → List ℕ
+search_text step (Solutions n slack) e = solve_text n (near_solutions_of step e n slack)
+search_text step (Counts n) e =
+    count_text (least_length_of step e n) (length (near_solutions_of step e n 0)) (near_looks_of step e n 0)
 
 -- What is to be written, how the run is to end, the looks that all of it takes, and the most that it may take.
 pub record Answer : Type 0 where
@@ -183,6 +137,53 @@ pub record Answer : Type 0 where
 -- an answer without a search
 abbrev pub unsearched : List ℕ → Result (Unit {0}) Stop → Answer
 unsearched output outcome = record { output = output; outcome = outcome; looks = 0; most_looks = 0 }
+
+-- the fault of line n as an answer
+abbrev pub fault_answer : ℕ → LineFault → Answer
+fault_answer n fault = unsearched [] (Err (Line n fault))
+
+-- the answer to what was found in line n, or the fault of the line
+abbrev pub answer_from : {X : Type 0} → (X → Answer) → ℕ → Result X LineFault → Answer
+answer_from answer n (Ok x) = answer x
+answer_from answer n (Err fault) = fault_answer n fault
+
+-- the answer of a search for a step from a cube
+abbrev pub searched : Step → Query → (Place → Place) → Answer
+searched step query e = record {
+  output = search_text step query e;
+  outcome = Ok tt;
+  looks = near_looks_of step e (limit_of query) (slack_of query);
+  most_looks = look_bound (turns_of step) (limit_of query);
+}
+
+-- the cube, where the step may start on it
+abbrev pub started : Step → Bool → (Place → Place) → Result (Place → Place) LineFault
+started step true e = Ok e
+started step false e = Err (NoStart step)
+
+-- the cube that a search for a step begins at where a line was read so: that of the line, or the fault of the line
+abbrev pub start_cube : Step → Result Moves ReadFault → Result (Place → Place) LineFault
+start_cube step (Ok line) = started step (may_start step (home line)) (home line)
+start_cube step (Err fault) = Err (Unread fault)
+
+-- the answer of a command to line n, by its moves
+abbrev pub moves_answer : LineCommand Step → ℕ → Moves → Answer
+moves_answer (Rewrite rewriting) n line = unsearched (line_text rewriting line ++ line_feed ∷ []) (Ok tt)
+moves_answer (Search step query) n line = answer_from (searched step query) n (start_cube step (Ok line))
+
+-- the answer of a command to line n, by what was read of it
+abbrev pub answer_to : LineCommand Step → ℕ → Result Moves ReadFault → Answer
+answer_to command n (Ok line) = moves_answer command n line
+answer_to command n (Err fault) = fault_answer n (Unread fault)
+
+-- the answer of a command to line n, by its bytes
+abbrev pub line_answer : LineCommand Step → ℕ → List ℕ → Answer
+line_answer command n bytes = answer_to command n (read_line bytes)
+
+-- what is answered to each line, by its number and its bytes
+abbrev pub LineAnswers : Type 0
+LineAnswers = ℕ → List ℕ → Answer
+
 
 -- an answer that ends so, and the one after it: nothing comes after a fault
 abbrev pub joined_answer : Result (Unit {0}) Stop → Answer → Answer → Answer
@@ -197,21 +198,10 @@ joined_answer (Err stop) first next = first
 abbrev pub then_answer : Answer → Answer → Answer
 then_answer first next = joined_answer first.outcome first next
 
--- the answer to line n: its fault, or a text with its looks and the most that there may be
-abbrev pub fault_answer : ℕ → LineFault → Answer
-fault_answer n fault = unsearched [] (Err (Line n fault))
-
-abbrev pub line_answer : ℕ → (looks most_looks : ℕ) → Result (List ℕ) LineFault → Answer
-line_answer n looks most (Ok text) = record { output = text; outcome = Ok tt; looks = looks; most_looks = most }
-line_answer n looks most (Err fault) = fault_answer n fault
-
-abbrev pub answer_at : LineAnswers → ℕ → List ℕ → Answer
-answer_at answers n line = line_answer n (answers.looks_of line) answers.most_looks (answers.answer_of line)
-
 -- the answers to lines, the first of which has the number n, up to the first fault
 unfoldable pub answers_from : LineAnswers → ℕ → List (List ℕ) → Answer
 answers_from answers n [] = unsearched [] (Ok tt)
-answers_from answers n (line ∷ lines) = then_answer (answer_at answers n line) (answers_from answers (n + 1) lines)
+answers_from answers n (line ∷ lines) = then_answer (answers n line) (answers_from answers (n + 1) lines)
 
 -- the line alone, or no line where it has no byte
 abbrev pub line_with_bytes : List ℕ → List (List ℕ)
@@ -233,13 +223,13 @@ outcome_at_end End = Ok tt
 outcome_at_end More = Ok tt
 
 -- how a run ends whose lines have no fault
-abbrev pub outcome_of : List ℕ → Ending → Result (Unit {0}) Stop
-outcome_of input ended = if nat_lt most_bytes (length input) then Err InputTooLong else outcome_at_end ended
+abbrev pub outcome_of_input : List ℕ → Ending → Result (Unit {0}) Stop
+outcome_of_input input ended = if nat_lt most_bytes (length input) then Err InputTooLong else outcome_at_end ended
 
 -- the answers to the complete lines of an input, up to the first fault
 abbrev pub answer_lines : LineAnswers → List ℕ → Ending → Answer
 answer_lines answers input ended =
-    then_answer (answers_from answers 1 (complete_lines input ended)) (unsearched [] (outcome_of input ended))
+    then_answer (answers_from answers 1 (complete_lines input ended)) (unsearched [] (outcome_of_input input ended))
 
 -- Words that give the input take the source's place, and are refused as a whole where they are too long.
 abbrev pub answer_on_lines : LineAnswers → List (List ℕ) → List ℕ → Ending → Answer
@@ -249,6 +239,27 @@ answer_on_lines answers (word ∷ words) input ended =
     then unsearched [] (Err InputTooLong)
     else answer_lines answers (joined (word ∷ words)) End
 
+-- the generator of a state and a stream
+abbrev pub generator_of : ℕ → ℕ → Lcg
+generator_of state stream = started_lcg 64 multiplier_64 state (increment_of 64 stream)
+
+-- Scramble number i, from 0, of so many turns. It takes its words after those of the scrambles before it, and begins with
+-- no turn before it.
+abbrev pub scramble : ℕ → Lcg → ℕ → List Turn
+scramble turns g i = draw None (next_words turns (after_words (turns * i) g))
+
+-- the first scrambles
+abbrev pub scrambles : ℕ → ℕ → Lcg → List (List Turn)
+scrambles turns count g = map (scramble turns g) (range_with_len 0 count)
+
+-- turns as words on a line
+abbrev pub turns_line : List Turn → List ℕ
+turns_line turns = with_words [] (turn_words turns) ++ line_feed ∷ []
+
+-- the scrambles, each on a line
+abbrev pub scramble_text : ℕ → ℕ → Lcg → List ℕ
+scramble_text turns count g = flat_map turns_line (scrambles turns count g)
+
 -- a step's name on a line
 abbrev pub step_line : Step → List ℕ
 step_line step = name_of step ++ line_feed ∷ []
@@ -256,7 +267,7 @@ step_line step = name_of step ++ line_feed ∷ []
 abbrev pub answer_request : Result Request UsageFault → List ℕ → Ending → Answer
 answer_request (Err fault) input ended = unsearched [] (Err Usage)
 answer_request (Ok (OnLines command words)) input ended =
-    answer_on_lines (line_answers command) words input ended
+    answer_on_lines (line_answer command) words input ended
 answer_request (Ok ListSteps) input ended = unsearched (flat_map step_line steps) (Ok tt)
 answer_request (Ok (DrawScrambles state stream turns count)) input ended =
     unsearched (scramble_text turns count (generator_of state stream)) (Ok tt)

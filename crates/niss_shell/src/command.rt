@@ -1,11 +1,10 @@
 //! The commands, and how the words of a command line name them.
-ghost use Rattle.std.specs.Prelude.{◌≡◌, Ok, Err, Some, false, IfOk, MatchOption, MatchResult};
-ghost use Rattle.std.specs.Prelude.{map, codes, slice_get, string_bytes};
-ghost use Rattle.niss_shell.specs.Words.{OnLines, ListSteps, search_command, step_named};
-ghost use Rattle.niss_shell.specs.Words.{search_words, near_words, scramble_words};
-ghost use Rattle.niss_shell.specs.Words.{without_words, request_of, requested, name_of_command, name_of_report, takes_lines, IsInRange};
+ghost use Rattle.std.specs.Prelude.{◌≡◌, Some, Ok, Err, IfOk, MatchResult, codes, map, slice_get, string_bytes};
+ghost use Rattle.std.specs.Char.{is_ascii_digit};
+ghost use Rattle.std.specs.List.{list_all};
+ghost use Rattle.niss_shell.specs.Words.{Parses, IsInRange, ListSteps, request_of, requested, name_of_command, without_words, most_limit};
+ghost use Rattle.niss_shell.specs.Words.{solve_words, count_words, near_words, scramble_words, spelled_number, step_named};
 
-use crate::number::{limit_of, number_of};
 use niss_cube::Step;
 use niss_search::Limit;
 use std::alloc::{Allocator, Global};
@@ -40,51 +39,6 @@ pub enum Rewriting {
     Print,
 }
 
-/// What is written of a search.
-#[derive(Clone, Copy)]
-pub enum Report {
-    /// Each solution.
-    Solutions,
-    /// The length of the solutions, how many they are, and how often the search looked at a position.
-    Counts,
-}
-
-/// A search for each line: what is written of it, for which step, the most turns of a solution, and how many turns a solution
-/// may have more than the shortest.
-#[derive(Clone, Copy)]
-pub struct Query {
-    pub report: Report,
-    pub step: Step,
-    pub limit: Limit,
-    pub slack: Limit,
-}
-
-/// A command on each line of the input.
-#[derive(Clone, Copy)]
-pub enum LineCommand {
-    Rewrite(Rewriting),
-    Search(Query),
-}
-
-/// The search of these parts.
-fn search_for(report: Report, step: Step, limit: Limit, slack: Limit) -> LineCommand
-    ensures { result ≡ search_command report step limit slack }
-{
-    LineCommand::Search(Query {
-        report,
-        step,
-        limit,
-        slack,
-    })
-}
-
-/// What is done with each line, and the words that give the lines; without words they are read.
-#[derive_where(Clone, Copy)]
-pub struct LineRequest<'a, B: Allocator = Global> {
-    pub command: LineCommand,
-    pub words: &'a [String<B>],
-}
-
 /// A command. The words that it lends, whose memory is of an allocator `B`, are the input; where there are none, the input
 /// comes from the source.
 #[derive_where(Clone, Copy)]
@@ -115,33 +69,35 @@ pub enum Command<'a, B: Allocator = Global> {
     },
 }
 
-impl<'a, B: Allocator> Command<'a, B> {
-    /// What a command on lines asks for.
-    pub(crate) fn on_lines(&self) -> Option<LineRequest<'a, B>>
-        ensures { MatchOption result (takes_lines (requested self.now) ≡ false)
-            (λ asked. requested self.now ≡ OnLines asked.command (map string_bytes asked.words.now)) }
-    {
-        let (command, words) = match *self {
-            Command::Invert(words) => (LineCommand::Rewrite(Rewriting::Invert), words),
-            Command::Unniss(words) => (LineCommand::Rewrite(Rewriting::Unniss), words),
-            Command::Cleanup(words) => (LineCommand::Rewrite(Rewriting::Cleanup), words),
-            Command::Print(words) => (LineCommand::Rewrite(Rewriting::Print), words),
-            Command::Solve(step, limit, words) => (
-                search_for(Report::Solutions, step, limit, Limit::ZERO),
-                words,
-            ),
-            Command::Count(step, limit, words) => (
-                search_for(Report::Counts, step, limit, Limit::ZERO),
-                words,
-            ),
-            Command::Near(step, limit, slack, words) => (
-                search_for(Report::Solutions, step, limit, slack),
-                words,
-            ),
-            Command::Steps | Command::Scramble { .. } => return None,
-        };
-        Some(LineRequest { command, words })
+/// Whether all that the word has are decimal digits.
+fn has_digits_alone(word: &str) -> bool
+    ensures { result ≡ list_all is_ascii_digit word.now }
+{
+    word.as_bytes().iter().all(|byte| byte.is_ascii_digit())
+}
+
+/// The number that the word spells in decimal digits, if it is at most `most`; `None` for any other word. Zeros may lead it.
+#[tactic(auto, using(crate::proofs::WordsLemmas::number_too_large))]
+fn parse_number(word: &str, most: u64) -> Option<u64>
+    ensures { result ≡ spelled_number most word.now }
+{
+    // `parse` would take a sign too
+    if !has_digits_alone(word) {
+        return None;
     }
+    let number = word.parse::<u64>().ok()?;
+    if number > most {
+        return None;
+    }
+    Some(number)
+}
+
+/// The limit that the word spells in decimal digits, 0 to 20; `None` for any other word.
+fn parse_limit(word: &str) -> Option<Limit>
+    ensures { result ≡ spelled_number most_limit word.now }
+{
+    let turns = parse_number(word, Limit::MOST as u64)?;
+    Limit::new(turns as u8)
 }
 
 /// The step of this name.
@@ -152,52 +108,46 @@ pub fn step_named(name: &[u8]) -> Option<Step>
     Step::from_name(name)
 }
 
-/// The command that searches each line for a report, by its step, its limit and the words that are the input.
-fn parse_search<B: Allocator>(
-    report: Report,
-    words: &[String<B>],
-) -> Result<Command<'_, B>, UsageFault>
-    ensures command { MatchResult result
-        (λ command. search_words report (map string_bytes words.now) ≡ Ok (requested command))
-        (λ fault. search_words report (map string_bytes words.now) ≡ Err fault) }
-    ensures in_range { IfOk result (λ command. IsInRange (requested command)) }
-    ensures named { IfOk result (λ command. name_of_command command ≡ name_of_report report) }
+/// The command `solve`, by its step, its limit and the words that are the input.
+fn parse_solve<B: Allocator>(words: &[String<B>]) -> Result<Command<'_, B>, UsageFault>
+    ensures { Parses result (solve_words (map string_bytes words.now)) (Some (codes "solve")) }
 {
-    let [step, most, rest @ ..] = words else {
+    let [step, limit, rest @ ..] = words else {
         return Err(UsageFault::WrongCount);
     };
     let step = step_named(step.as_bytes()).ok_or(UsageFault::UnknownStep)?;
-    let limit = limit_of(most.as_str()).ok_or(UsageFault::BadNumber)?;
-    match report {
-        Report::Solutions => Ok(Command::Solve(step, limit, rest)),
-        Report::Counts => Ok(Command::Count(step, limit, rest)),
-    }
+    let limit = parse_limit(limit.as_str()).ok_or(UsageFault::BadNumber)?;
+    Ok(Command::Solve(step, limit, rest))
+}
+
+/// The command `count`, by the same.
+fn parse_count<B: Allocator>(words: &[String<B>]) -> Result<Command<'_, B>, UsageFault>
+    ensures { Parses result (count_words (map string_bytes words.now)) (Some (codes "count")) }
+{
+    let [step, limit, rest @ ..] = words else {
+        return Err(UsageFault::WrongCount);
+    };
+    let step = step_named(step.as_bytes()).ok_or(UsageFault::UnknownStep)?;
+    let limit = parse_limit(limit.as_str()).ok_or(UsageFault::BadNumber)?;
+    Ok(Command::Count(step, limit, rest))
 }
 
 /// The command `near`, by its step, its limit, its slack and the words that are the input.
 fn parse_near<B: Allocator>(words: &[String<B>]) -> Result<Command<'_, B>, UsageFault>
-    ensures command { MatchResult result
-        (λ command. near_words (map string_bytes words.now) ≡ Ok (requested command))
-        (λ fault. near_words (map string_bytes words.now) ≡ Err fault) }
-    ensures in_range { IfOk result (λ command. IsInRange (requested command)) }
-    ensures named { IfOk result (λ command. name_of_command command ≡ codes "near") }
+    ensures { Parses result (near_words (map string_bytes words.now)) (Some (codes "near")) }
 {
-    let [name, most, slack, rest @ ..] = words else {
+    let [step, limit, slack, rest @ ..] = words else {
         return Err(UsageFault::WrongCount);
     };
-    let step = step_named(name.as_bytes()).ok_or(UsageFault::UnknownStep)?;
-    let limit = limit_of(most.as_str()).ok_or(UsageFault::BadNumber)?;
-    let slack = limit_of(slack.as_str()).ok_or(UsageFault::BadNumber)?;
+    let step = step_named(step.as_bytes()).ok_or(UsageFault::UnknownStep)?;
+    let limit = parse_limit(limit.as_str()).ok_or(UsageFault::BadNumber)?;
+    let slack = parse_limit(slack.as_str()).ok_or(UsageFault::BadNumber)?;
     Ok(Command::Near(step, limit, slack, rest))
 }
 
 /// The command `steps`, which takes no words.
 fn parse_steps<B: Allocator>(words: &[String<B>]) -> Result<Command<'_, B>, UsageFault>
-    ensures command { MatchResult result
-        (λ command. without_words ListSteps (map string_bytes words.now) ≡ Ok (requested command))
-        (λ fault. without_words ListSteps (map string_bytes words.now) ≡ Err fault) }
-    ensures in_range { IfOk result (λ command. IsInRange (requested command)) }
-    ensures named { IfOk result (λ command. name_of_command command ≡ codes "steps") }
+    ensures { Parses result (without_words ListSteps (map string_bytes words.now)) (Some (codes "steps")) }
 {
     match words {
         [] => Ok(Command::Steps),
@@ -211,15 +161,15 @@ fn parse_scramble<B: Allocator>(words: &[String<B>]) -> Result<Command<'_, B>, U
         (λ command. scramble_words (map string_bytes words.now) ≡ Ok (requested command))
         (λ fault. scramble_words (map string_bytes words.now) ≡ Err fault) }
     ensures in_range { IfOk result (λ command. IsInRange (requested command)) }
-    ensures named { IfOk result (λ command. name_of_command command ≡ codes "scramble") }
+    ensures named { IfOk result (λ command. Some (codes "scramble") ≡ Some (name_of_command command)) }
 {
     let [state, stream, length, count] = words else {
         return Err(UsageFault::WrongCount);
     };
-    let state = number_of(state.as_str(), u64::MAX).ok_or(UsageFault::BadNumber)?;
-    let stream = number_of(stream.as_str(), u64::MAX).ok_or(UsageFault::BadNumber)?;
-    let length = number_of(length.as_str(), MOST_TURNS).ok_or(UsageFault::BadNumber)?;
-    let count = number_of(count.as_str(), MOST_SCRAMBLES).ok_or(UsageFault::BadNumber)?;
+    let state = parse_number(state.as_str(), u64::MAX).ok_or(UsageFault::BadNumber)?;
+    let stream = parse_number(stream.as_str(), u64::MAX).ok_or(UsageFault::BadNumber)?;
+    let length = parse_number(length.as_str(), MOST_TURNS).ok_or(UsageFault::BadNumber)?;
+    let count = parse_number(count.as_str(), MOST_SCRAMBLES).ok_or(UsageFault::BadNumber)?;
     Ok(Command::Scramble {
         state,
         stream,
@@ -230,14 +180,10 @@ fn parse_scramble<B: Allocator>(words: &[String<B>]) -> Result<Command<'_, B>, U
 
 /// The command that the words name, or their first fault: of the command, then of the count of words, of the step, and of
 /// the numbers from left to right.
+#[tactic(auto, using(crate::proofs::WordsLemmas::named_command))]
 pub fn parse_words<B: Allocator>(words: &[String<B>]) -> Result<Command<'_, B>, UsageFault>
-    ensures command { MatchResult result
-        (λ command. request_of (map string_bytes words.now) ≡ Ok (requested command))
-        (λ fault. request_of (map string_bytes words.now) ≡ Err fault) }
-    ensures in_range { IfOk result (λ command. IsInRange (requested command)) }
-    // The request of `solve` is that of `near` with a slack of 0.
-    ensures named { IfOk result (λ command.
-        slice_get (map string_bytes words.now) 0 ≡ Some (name_of_command command)) }
+    // The request of `solve` is that of `near` with a slack of 0, so the first word is said too.
+    ensures { Parses result (request_of (map string_bytes words.now)) (slice_get (map string_bytes words.now) 0) }
 {
     let Some((name, rest)) = words.split_first() else {
         return Err(UsageFault::NoCommand);
@@ -247,8 +193,8 @@ pub fn parse_words<B: Allocator>(words: &[String<B>]) -> Result<Command<'_, B>, 
         "unniss" => Ok(Command::Unniss(rest)),
         "cleanup" => Ok(Command::Cleanup(rest)),
         "print" => Ok(Command::Print(rest)),
-        "solve" => parse_search(Report::Solutions, rest),
-        "count" => parse_search(Report::Counts, rest),
+        "solve" => parse_solve(rest),
+        "count" => parse_count(rest),
         "near" => parse_near(rest),
         "steps" => parse_steps(rest),
         "scramble" => parse_scramble(rest),

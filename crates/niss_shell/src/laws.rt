@@ -1,7 +1,5 @@
 //! What holds of all texts and of all lines. Each law is the contract of a function that does nothing.
-ghost use Rattle.niss_shell.specs.LinesLaws.{TextIsCut, OneCut};
-ghost use Rattle.niss_shell.specs.MoreInput.{MoreInputKeepsAnswers};
-ghost use Rattle.niss_shell.specs.SolveLaw.{AcceptedLinesAreSolved, SearchesBeginAtCubes};
+ghost use Rattle.niss_shell.specs.Laws.{TextIsCut, OneCut, AcceptedLinesAreSolved, MoreInputKeepsAnswers};
 
 use niss_search::laws::counts_and_bounds;
 
@@ -20,15 +18,9 @@ pub fn accepted_lines_are_solved()
     counts_and_bounds();
 }
 
-/// What a command that searches answers to a line is what the search writes of the line's cube, or the fault of the line.
-#[tactic(auto, using(crate::proofs::SearchLemmas::begin_at_cubes))]
-pub fn searches_begin_at_cubes()
-    ensures { SearchesBeginAtCubes }
-{}
-
 /// What is answered while more input is to come is a beginning of what is answered of the whole, and a fault stays. So a run
 /// of which the words and the whole input are known writes what these say, however much of the input it reads.
-#[tactic(auto, using(crate::proofs::MoreInputLemmas::more_input))]
+#[tactic(auto, using(crate::proofs::LinesLemmas::more_input))]
 pub fn more_input_keeps_answers()
     ensures { MoreInputKeepsAnswers }
 {}

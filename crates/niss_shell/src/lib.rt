@@ -19,33 +19,24 @@
 //! ```
 #![tactic(auto)]
 
-mod answer;
 mod command;
-mod counting;
 mod device;
-mod job;
+mod input;
 mod laws;
-mod line_cube;
+mod line_command;
 mod lines;
-mod number;
 mod output;
 mod scrambles;
-mod search;
-mod search_text;
 mod shell;
 mod stop;
 mod streams;
 mod text;
 mod writing;
 
-pub use answer::rewrite;
 pub use command::{Command, Rewriting, UsageFault, parse_words, step_named};
-pub use counting::count_solutions;
 pub use device::{DeviceFault, Source, Target};
-pub use laws::{
-    accepted_lines_are_solved, lines_are_cut, more_input_keeps_answers, searches_begin_at_cubes,
-};
-pub use line_cube::start_position;
+pub use laws::{accepted_lines_are_solved, lines_are_cut, more_input_keeps_answers};
+pub use line_command::{count_solutions, rewrite, start_position};
 pub use niss_cube::Step;
 pub use niss_search::{Limit, Meter};
 pub use output::solution_text;

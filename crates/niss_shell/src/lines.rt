@@ -4,16 +4,13 @@ ghost use Rattle.niss_shell.specs.Device.{Calls, End};
 ghost use Rattle.niss_moves.specs.Reader.{IsFed};
 ghost use Rattle.niss_shell.specs.Words.{most_bytes};
 
-use crate::answer::rewrite;
-use crate::command::Rewriting;
 use crate::device::{Source, Target};
-use crate::line_cube::start_position;
+use crate::line_command::{LineCommand, rewrite, start_position};
 use crate::output::Output;
-use crate::search::Search;
 use crate::stop::{LineFault, Stop};
 use niss_moves::{LineReader, LineText};
-use niss_search::Meter;
 use niss_search::laws::counts_and_bounds;
+use niss_search::{Meter, Tables};
 use std::alloc::Allocator;
 
 /// The most bytes of input.
@@ -22,17 +19,10 @@ pub const MOST_BYTES: usize = 16_777_216;
 /// How many bytes a read asks for.
 const BLOCK: usize = 4096;
 
-/// What is done with each line: a command, with the tables of its step where it has one.
-#[derive(Drop)]
-pub enum Work<A: Allocator> {
-    Rewrite(Rewriting),
-    Search(Search<A>),
-}
-
 /// The lines of a run: what is done with each, the looks, and the line that is being read, with its number.
 #[derive(Drop)]
 pub struct Lines<'a, A: Allocator> {
-    work: &'a Work<A>,
+    command: &'a LineCommand<Tables<A>>,
     looks: &'a mut Meter,
     reader: LineReader,
     line: u32,
@@ -42,20 +32,20 @@ pub struct Lines<'a, A: Allocator> {
 
 impl<'a, A: Allocator> Lines<'a, A> {
     ghost use Rattle.niss_moves.specs.Reader.{moves_of};
-    ghost use Rattle.niss_shell.specs.Engine.{MayBegin, Answers, AnswersSource, HasRoom, answer_at_moves, piece_of, only_stop};
-    ghost use Rattle.niss_shell.specs.Output.{answer_lines, fault_answer};
-    ghost use Rattle.niss_shell.specs.Job.{command_of, Keeps, AnswersOpenLine, Takes, Ends, answers_of, lines_state};
+    ghost use Rattle.niss_shell.specs.Engine.{MayBegin, Answers, AnswersSource, HasRoom, piece_of, only_stop};
+    ghost use Rattle.niss_shell.specs.Output.{answer_lines, answer_to, fault_answer};
+    ghost use Rattle.niss_shell.specs.Engine.{Keeps, AnswersOpenLine, Takes, Ends, answers_of, lines_state};
 
     /// The first line, of which nothing was read.
-    pub fn new(work: &'a Work<A>, looks: &'a mut Meter) -> Lines<'a, A>
-        ensures work { result.work.now ≡ work.now }
+    pub fn new(command: &'a LineCommand<Tables<A>>, looks: &'a mut Meter) -> Lines<'a, A>
+        ensures command { result.command.now ≡ command.now }
         ensures same_meter { result.looks.ghost_name ≡ looks.entry.ghost_name }
         ensures looks { result.looks.now ≡ looks.old }
         ensures reader { IsFed result.reader [] }
         ensures line { result.line ≡ 1 }
     {
         Lines {
-            work,
+            command,
             looks,
             reader: LineReader::new(),
             line: 1,
@@ -88,26 +78,26 @@ impl<'a, A: Allocator> Lines<'a, A> {
         requires meter { self.old.looks.now ≤ 2 ^ 127 }
         ensures keeps { Keeps self.old self.new }
         ensures answers { Answers W.call
-            (answer_at_moves (command_of self.old.work.now) self.old.line (moves_of self.old.reader)) result
+            (answer_to self.old.command.now self.old.line (Ok (moves_of self.old.reader))) result
             (lines_state output.old self.old) (lines_state output.new self.new) }
         ensures empty { OnErr result (output.new.pending.items ≡ []) }
         ensures meter { self.new.looks.now ≤ self.old.looks.now + 2 ^ 93 }
         ensures reader { self.new.reader ≡ self.old.reader }
         ensures line { self.new.line ≡ self.old.line }
     {
-        match self.work {
-            Work::Rewrite(rewriting) => {
+        match self.command {
+            LineCommand::Rewrite(rewriting) => {
                 rewrite(*rewriting, self.reader.moves(), &mut self.text);
                 Ok(output.put(&self.text)?)
             }
-            Work::Search(search) => {
+            LineCommand::Search(tables, query) => {
                 counts_and_bounds();
                 // this call shows that the limit is at most 20, which bounds the looks
-                let _at_most_20 = search.query.limit.get();
-                let Some(position) = start_position(&search.tables, self.reader.moves()) else {
-                    return self.refuse(LineFault::NoStart(search.tables.step()), output);
+                let _at_most_20 = query.limit().get();
+                let Some(position) = start_position(tables, self.reader.moves()) else {
+                    return self.refuse(LineFault::NoStart(tables.step()), output);
                 };
-                Ok(search.answer(&position, output, self.looks)?)
+                Ok(query.answer(tables, &position, output, self.looks)?)
             }
         }
     }

@@ -4,9 +4,8 @@ ghost use Rattle.niss_shell.specs.Engine.{Delivers, TakesLine, FlushesLast};
 ghost use Rattle.niss_shell.specs.Output.{solution_line};
 
 use crate::device::{DeviceFault, Target};
-use crate::search_text::put_solution;
 use crate::stop::Stop;
-use crate::text::put_text;
+use crate::text::{put_solution, put_text};
 use crate::writing::write_all;
 use niss_moves::LineText;
 use niss_search::{Sink, TurnPath};

@@ -3,8 +3,7 @@ ghost use Rattle.std.specs.Prelude.{◌≡◌, ◌≤◌, ◌++◌, ◌∷◌, �
 ghost use Rattle.niss_search.specs.Draw.{next_words, after_words, draw};
 ghost use Rattle.niss_shell.specs.Engine.{Answers, output_state};
 ghost use Rattle.niss_shell.specs.Lines.{line_feed};
-ghost use Rattle.niss_shell.specs.Output.{unsearched};
-ghost use Rattle.niss_shell.specs.Scrambles.{turns_line, scramble, scramble_text, generator_of};
+ghost use Rattle.niss_shell.specs.Output.{unsearched, turns_line, scramble, scramble_text, generator_of};
 
 use crate::device::Target;
 use crate::output::Output;

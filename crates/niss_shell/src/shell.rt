@@ -1,15 +1,16 @@
 //! A run, from the words of a command line to the exit status.
 ghost use Rattle.std.specs.Prelude.{◌≡◌, ◌≤◌, ◌^◌, Bool, false, [], ℕ, Ok, length, map, flat_map, string_bytes};
 ghost use Rattle.niss_shell.specs.Device.{Calls, Writes};
-ghost use Rattle.niss_shell.specs.Words.{request_of};
+ghost use Rattle.niss_shell.specs.Words.{OnLines, request_of};
 ghost use Rattle.niss_shell.specs.Output.{error_text, status_of, step_line, unsearched};
 ghost use Rattle.niss_cube.specs.Steps.{steps};
 ghost use Rattle.niss_shell.specs.Engine.{MayBegin, Answers, RunsUnflushed, output_state};
 ghost use Rattle.niss_shell.specs.Run.{Runs};
 
-use crate::command::{Command, parse_words};
+use crate::command::{Command, Rewriting, parse_words};
 use crate::device::{Source, Target};
-use crate::job::run_on_lines;
+use crate::input::{answer_input, joined_input};
+use crate::line_command::{LineCommand, Query};
 use crate::output::Output;
 use crate::scrambles::write_scrambles;
 use crate::stop::Stop;
@@ -17,8 +18,8 @@ use crate::text::put_text;
 use crate::writing::write_all;
 use niss_cube::Step;
 use niss_moves::LineText;
-use niss_search::Meter;
 use niss_search::laws::counts_and_bounds;
+use niss_search::{Limit, Meter};
 use rand_pcg::Lcg64Xsh32;
 use std::alloc::{Allocator, Global};
 
@@ -45,6 +46,27 @@ fn write_steps<W: Target>(output: &mut Output<W>) -> Result<(), Stop>
     Ok(output.write(&text)?)
 }
 
+/// Does a command on the lines of the words, or of the source if there are none. Memory is taken for joined words, and then for
+/// tables, before the first byte is read or written.
+#[tactic(auto, using(std::proofs::lemmas::Result::err_from_is_err_and))]
+fn run_on_lines<A: Allocator + Copy, B: Allocator, R: Source, W: Target>(
+    alloc: A,
+    command: LineCommand<Step>,
+    words: &[String<B>],
+    source: &mut R,
+    output: &mut Output<W>,
+    looks: &mut Meter,
+) -> Result<(), Stop>
+    requires { MayBegin (R.state source.old) (output_state output.old looks.old) }
+    ensures { RunsUnflushed W.call (Ok (OnLines command (map string_bytes words.now)))
+        result (Calls R.call source.old source.new)
+        (output_state output.old looks.old) (output_state output.new looks.new) }
+{
+    let input = joined_input(alloc, words)?;
+    let command = command.with_tables(alloc)?;
+    answer_input(&command, &input, source, output, looks)
+}
+
 /// Does what the words ask for, up to the last flush.
 fn answer_command<A: Allocator + Copy, B: Allocator, R: Source, W: Target>(
     alloc: A,
@@ -61,20 +83,35 @@ fn answer_command<A: Allocator + Copy, B: Allocator, R: Source, W: Target>(
     let Ok(command) = parse_words(words) else {
         return Err(Stop::Usage);
     };
-    if let Some(request) = command.on_lines() {
-        return run_on_lines(alloc, request, source, output, looks);
-    }
-    match command {
+    let (command, words) = match command {
+        Command::Invert(words) => (LineCommand::Rewrite(Rewriting::Invert), words),
+        Command::Unniss(words) => (LineCommand::Rewrite(Rewriting::Unniss), words),
+        Command::Cleanup(words) => (LineCommand::Rewrite(Rewriting::Cleanup), words),
+        Command::Print(words) => (LineCommand::Rewrite(Rewriting::Print), words),
+        Command::Solve(step, limit, words) => {
+            (
+                LineCommand::Search(step, Query::Solutions(limit, Limit::ZERO)),
+                words,
+            )
+        }
+        Command::Count(step, limit, words) => {
+            (LineCommand::Search(step, Query::Counts(limit)), words)
+        }
+        Command::Near(step, limit, slack, words) => {
+            (
+                LineCommand::Search(step, Query::Solutions(limit, slack)),
+                words,
+            )
+        }
+        Command::Steps => return write_steps(output),
         Command::Scramble {
             state,
             stream,
             length,
             count,
-        } => write_scrambles(Lcg64Xsh32::new(state, stream), length, count, output),
-        Command::Steps => write_steps(output),
-        // the others are commands on lines
-        _ => unreachable!(),
-    }
+        } => return write_scrambles(Lcg64Xsh32::new(state, stream), length, count, output),
+    };
+    run_on_lines(alloc, command, words, source, output, looks)
 }
 
 /// Writes what went wrong, or as much of it as the error writer takes, and answers the exit status.

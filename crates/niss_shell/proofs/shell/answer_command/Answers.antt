@@ -1,16 +1,31 @@
-use Rattle.niss_shell.proofs.Names.{Ok, refl, sym, ap, ◌∙◌, requested, unsearched, scramble_text}
+use Rattle.niss_shell.proofs.Names.{◌≡◌, Ok, refl, sym, ap, ◌∙◌, map, string_bytes, request_of, requested, OnLines, unsearched, scramble_text}
 use Rattle.niss_shell.proofs.RunLemmas.{runs_usage, runs_unread}
+use Rattle.niss_shell.proofs.shell.answer_command.Goals.{in-Invert, in-Unniss, in-Cleanup, in-Print, in-Solve, in-Count, in-Near}
 use Rattle.niss_shell.proofs.shell.answer_command.Goals as goal
 
 pub returns-in_default : goal.returns-in_default
-returns-in_default g c = runs_usage g.R.Source.call g.W.Target.call _ _ c.in_default.ensures.command c.requires
+returns-in_default g c = runs_usage g.R.Source.call g.W.Target.call _ _ c.in_default.ensures c.requires
 
 pub returns-in-Scramble : goal.returns-in-Scramble
 returns-in-Scramble g c = runs_unread g.R.Source.call g.W.Target.call _ _ _ _ _
-    (c.in-Ok.ensures.command ∙ ap (λ k. Ok (requested k)) c.in-Scramble.is) (λ r. cc r)
+    (c.in-Ok.ensures.0 ∙ ap (λ k. Ok (requested k)) c.in-Scramble.is) (λ r. cc r)
     (ap (λ x. unsearched (scramble_text c.in-Scramble.length c.in-Scramble.count x) (Ok tt)) (sym c.new.ensures))
     (c.write_scrambles.ensures.answers c.args.looks.now) c.write_scrambles.ensures.empty
 
 pub returns-in-Steps : goal.returns-in-Steps
-returns-in-Steps g c = runs_unread g.R.Source.call g.W.Target.call _ _ _ _ _ (c.in-Ok.ensures.command ∙ ap (λ k. Ok (requested k)) c.in-Steps.is) (λ r. cc r) refl
+returns-in-Steps g c = runs_unread g.R.Source.call g.W.Target.call _ _ _ _ _ (c.in-Ok.ensures.0 ∙ ap (λ k. Ok (requested k)) c.in-Steps.is) (λ r. cc r) refl
     (c.write_steps.ensures.answers c.args.looks.now) c.write_steps.ensures.empty
+
+pub returns : goal.returns
+returns g c =
+    let asked : request_of (map string_bytes c.args.words.now) ≡ Ok (OnLines c.match-command.command.0 (map string_bytes c.match-command.command.1.now)) =
+    elim c.match-command.branch [
+      | in-Invert w ↦ rw w.command-is (c.in-Ok.ensures.0 ∙ ap (λ k. Ok (requested k)) w.in-Invert.is)
+      | in-Unniss w ↦ rw w.command-is (c.in-Ok.ensures.0 ∙ ap (λ k. Ok (requested k)) w.in-Unniss.is)
+      | in-Cleanup w ↦ rw w.command-is (c.in-Ok.ensures.0 ∙ ap (λ k. Ok (requested k)) w.in-Cleanup.is)
+      | in-Print w ↦ rw w.command-is (c.in-Ok.ensures.0 ∙ ap (λ k. Ok (requested k)) w.in-Print.is)
+      | in-Solve w ↦ rw w.command-is (c.in-Ok.ensures.0 ∙ ap (λ k. Ok (requested k)) w.in-Solve.is)
+      | in-Count w ↦ rw w.command-is (c.in-Ok.ensures.0 ∙ ap (λ k. Ok (requested k)) w.in-Count.is)
+      | in-Near w ↦ rw w.command-is (c.in-Ok.ensures.0 ∙ ap (λ k. Ok (requested k)) w.in-Near.is)
+    ] in
+    rw asked c.run_on_lines.ensures

@@ -1,4 +1,4 @@
-use Rattle.niss_shell.proofs.Names.{Ok, Err, true, false, refl, ap, err_from_is_err_and, home, command_of, CannotWrite}
+use Rattle.niss_shell.proofs.Names.{Ok, Err, true, false, refl, err_from_is_err_and, home, CannotWrite}
 use Rattle.niss_shell.proofs.SearchLemmas.{all_reported, not_started}
 use Rattle.niss_shell.proofs.StateLemmas.{answered}
 use Rattle.niss_shell.proofs.lines.Lines.answer.Goals as goal
@@ -16,19 +16,17 @@ returns-in_ok-put-in-Rewrite-clause-answers g c =
 
 pub returns-in_default-clause-answers : goal.returns-in_default-clause-answers
 returns-in_default-clause-answers g c =
-    not_started g.W.Target.call _ _ _ c.in-Search.search.query _ _ _ _
-    (ap command_of c.in-Search.is) c.in-Search.search.of_step c.moves-in-Search.ensures c.step.result c.refuse.result
-    c.in_default.ensures c.step.ensures c.refuse.ensures.refused
+    not_started g.W.Target.call c.in-Search.tables c.in-Search.query _ c.moves-in-Search.result.now _ _ c.in-Search.is c.moves-in-Search.ensures
+    c.step.result c.refuse.result c.in_default.ensures c.step.ensures c.refuse.ensures.refused
 
 pub returns-in_ok-answer-in-Search-clause-answers : goal.returns-in_ok-answer-in-Search-clause-answers
 returns-in_ok-answer-in-Search-clause-answers g c =
-    all_reported g.W.Target.call _ _ c.moves-in-Search.result.now c.in-Search.search.query _ _ _ _
-    (ap command_of c.in-Search.is) c.in-Search.search.of_step c.moves-in-Search.ensures
-    false (Ok tt) refl c.in-Some.ensures.starts (c.in_ok-answer-in-Search.ensures.reported (home c.moves-in-Search.result.now) c.in-Some.ensures)
+    all_reported g.W.Target.call c.in-Search.tables c.in-Search.query _ c.moves-in-Search.result.now _ _ c.in-Search.is c.moves-in-Search.ensures
+    false (Ok tt) refl c.in-Some.ensures.starts (c.in_ok-answer-in-Search.ensures.reports (home c.moves-in-Search.result.now) c.in-Some.ensures)
 
 pub returns-in_err-answer-in-Search-clause-answers : goal.returns-in_err-answer-in-Search-clause-answers
 returns-in_err-answer-in-Search-clause-answers g c =
     let p = err_from_is_err_and c.from_residual-in_err-answer-in-Search.result c.from_residual-in_err-answer-in-Search.ensures.1 in
-    rw (p.1, p.2) (all_reported g.W.Target.call _ _ c.moves-in-Search.result.now c.in-Search.search.query _ _ _ _
-    (ap command_of c.in-Search.is) c.in-Search.search.of_step c.moves-in-Search.ensures
-    true (Err CannotWrite) refl c.in-Some.ensures.starts (c.in_err-answer-in-Search.ensures.reported (home c.moves-in-Search.result.now) c.in-Some.ensures))
+    rw (p.1, p.2)
+    (all_reported g.W.Target.call c.in-Search.tables c.in-Search.query _ c.moves-in-Search.result.now _ _ c.in-Search.is c.moves-in-Search.ensures
+    true (Err CannotWrite) refl c.in-Some.ensures.starts (c.in_err-answer-in-Search.ensures.reports (home c.moves-in-Search.result.now) c.in-Some.ensures))
