@@ -76,7 +76,6 @@ abbrev pub only_stop : Result ℕ Stop → Result (Unit {0}) Stop
 only_stop (Ok n) = Ok tt
 only_stop (Err stop) = Err stop
 
-
 -- The looks before line n leave room for those of the rest of a run: at most 2 ^ 64 before the first line, and less
 -- than 2 ^ 93 at each.
 abbrev pub HasRoom : ℕ → ℕ → Type 0

@@ -184,7 +184,6 @@ line_answer command n bytes = answer_to command n (read_line bytes)
 abbrev pub LineAnswers : Type 0
 LineAnswers = ℕ → List ℕ → Answer
 
-
 -- an answer that ends so, and the one after it: nothing comes after a fault
 abbrev pub joined_answer : Result (Unit {0}) Stop → Answer → Answer → Answer
 joined_answer (Ok u) first next = record {
