@@ -33,7 +33,7 @@ holds "a function of another crate is named" says "NOT MADE: $body: the crate ha
     own 's/^refused: .*/refused: niss_cube::cube::Cube::turn/'
 holds "old lines that are gone are shown" says "NOT MADE: $body: this stands 0 times in src/turn.rt, and not once: Face::U => Face::X," \
     own 's/^- .*/- Face::U => Face::X,/'
-holds "old lines that stand several times are shown" says "NOT MADE: $body: this stands 3 times in src/turn.rt, and not once: match self {" \
+holds "old lines that stand several times are shown" says "NOT MADE: $body: this stands 4 times in src/turn.rt, and not once: match self {" \
     own 's/^- .*/- match self {/'
 holds "a file that is gone is named" says "NOT MADE: $body: the crate has no src/gone.rt" own '/^refused/afile: src/gone.rt
 '

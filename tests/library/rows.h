@@ -1,8 +1,7 @@
 /* Runs with what they are to answer: the words, the input, the status, the output and the error text; and the most blocks of memory that
    each has at once. One is the list of the words where there are any, one each word that has a byte, one the line that words give. The tables of
-   a step have three for an orientation on one axis (the turns of its coordinate, then its moves and its distances) and seven for one on any axis
-   (the turns, and two for each axis); five for a domino reduction (the turns and the moves of its two coordinates, and its distances), and eight
-   for one of two (the turns, and three for each). */
+   a step have two for each axis of an orientation, its moves and its distances, and three for each domino reduction: the moves of its two
+   coordinates, and its distances. */
 #ifndef ROWS_H
 #define ROWS_H
 
@@ -33,16 +32,16 @@ static const run_row RUNS[] = {
     {WORDS("invert\0R '"), "", NISSY_FAULT, "", "nissy: line 1, column 3: not a move\n", 4},
     {WORDS("invert\0"), "", NISSY_DONE, "\n", "", 3},
     {WORDS("invert"), "", NISSY_DONE, "", "", 2},
-    {WORDS("solve\0eofb\0" "7"), "F\n", NISSY_DONE, "F (1)\nF' (1)\n\n", "", 7},
-    {WORDS("solve\0eofb\0" "0\0F"), "", NISSY_DONE, "no solution within 0 moves\n\n", "", 9},
-    {WORDS("solve\0eofb\0" "5\0F\0B"), "", NISSY_DONE, "F B (2)\nF B' (2)\nF' B (2)\nF' B' (2)\n\n", "", 10},
-    {WORDS("solve\0eofb\0" "2"), "R\nF\nq\nF", NISSY_FAULT, "(0)\n\nF (1)\nF' (1)\n\n", "nissy: line 3, column 1: not a move\n", 7},
-    {WORDS("count\0eofb\0" "5\0F B"), "", NISSY_DONE, "length 2 solutions 4 nodes 75\n", "", 9},
-    {WORDS("solve\0drud-eofb\0" "5\0F"), "", NISSY_FAULT, "", "nissy: line 1: eofb does not hold\n", 11},
-    {WORDS("count\0drud-eofb\0" "5"), "R U\n", NISSY_DONE, "length 2 solutions 2 nodes 28\n", "", 9},
-    {WORDS("count\0eo\0" "1"), "\n", NISSY_DONE, "length 0 solutions 1 nodes 1\n", "", 11},
-    {WORDS("count\0dr-eofb\0" "1"), "\n", NISSY_DONE, "length 0 solutions 1 nodes 1\n", "", 12},
-    {WORDS("near\0eofb\0" "1\0" "0"), "F\n", NISSY_DONE, "F (1)\nF' (1)\n\n", "", 8},
+    {WORDS("solve\0eofb\0" "7"), "F\n", NISSY_DONE, "F (1)\nF' (1)\n\n", "", 6},
+    {WORDS("solve\0eofb\0" "0\0F"), "", NISSY_DONE, "no solution within 0 moves\n\n", "", 8},
+    {WORDS("solve\0eofb\0" "5\0F\0B"), "", NISSY_DONE, "F B (2)\nF B' (2)\nF' B (2)\nF' B' (2)\n\n", "", 9},
+    {WORDS("solve\0eofb\0" "2"), "R\nF\nq\nF", NISSY_FAULT, "(0)\n\nF (1)\nF' (1)\n\n", "nissy: line 3, column 1: not a move\n", 6},
+    {WORDS("count\0eofb\0" "5\0F B"), "", NISSY_DONE, "length 2 solutions 4 nodes 75\n", "", 8},
+    {WORDS("solve\0drud-eofb\0" "5\0F"), "", NISSY_FAULT, "", "nissy: line 1: eofb does not hold\n", 9},
+    {WORDS("count\0drud-eofb\0" "5"), "R U\n", NISSY_DONE, "length 2 solutions 2 nodes 28\n", "", 7},
+    {WORDS("count\0eo\0" "1"), "\n", NISSY_DONE, "length 0 solutions 1 nodes 1\n", "", 10},
+    {WORDS("count\0dr-eofb\0" "1"), "\n", NISSY_DONE, "length 0 solutions 1 nodes 1\n", "", 10},
+    {WORDS("near\0eofb\0" "1\0" "0"), "F\n", NISSY_DONE, "F (1)\nF' (1)\n\n", "", 7},
     {WORDS("scramble\0" "42\0" "54\0" "3\0" "2"), "q", NISSY_DONE, "L' D' F'\nL F' L'\n", "", 6},
     {WORDS("solve\0eofb\0" "21\0F"), "", NISSY_USAGE, "", "usage: nissy COMMAND [ARGUMENTS]\n", 5},
     {WORDS("solve\0htr\0" "3\0F"), "", NISSY_USAGE, "", "usage: nissy COMMAND [ARGUMENTS]\n", 5},

@@ -15,9 +15,9 @@ const FILLED = 0x23;
 
 // The least room of a call, its words, its input, and its status in that room. A room of at most 4,160 bytes is given whole where a call
 // first asks for memory: a block of 2^k - 16 bytes, of which 48 are the arena's own, for a first word of at most 2^k - 64. Of a larger room
-// the arena takes whole pages of 4,096 bytes at once, less 16, and leaves 4,096 bytes and a few. A step takes the memory of its turns, moves
-// and distances, 149,504 bytes (36.5 pages) for an orientation on one axis, 301,056 (73.5) for one on any, 1,275,669 (311.4) for a domino
-// reduction, and 2,454,786 (599.3) for one of two; its words take less than half a page.
+// the arena takes whole pages of 4,096 bytes at once, less 16, and leaves 4,096 bytes and a few. A step takes the memory of its moves and
+// distances, 75,776 bytes (18.5 pages) for an orientation on one axis, 227,328 (55.5) for one on any, 1,179,117 (287.87) for a domino
+// reduction, and 2,358,234 (575.74) for one of two; its words take less than an eighth of a page.
 const inPages = (pages, ...steps) => steps.map((step) => [pages * 4096 + 16, `count\0${step}\0` + "1\0", "\n", 0]);
 const LEAST_ROOMS = [
   [512 - 16, "invert\0", "R\n", 0],
@@ -25,10 +25,10 @@ const LEAST_ROOMS = [
   [1024 - 16, `${"q".repeat(600)}\0`, "", 2],
   [2048 - 16, `${"q".repeat(1500)}\0`, "", 2],
   [4096 - 16, `${"q".repeat(3000)}\0`, "", 2],
-  ...inPages(37, "eofb", "eorl", "eoud"),
-  ...inPages(74, "eo"),
-  ...inPages(312, "drud-eofb", "drrl-eofb", "drud-eorl", "drfb-eorl", "drrl-eoud", "drfb-eoud"),
-  ...inPages(600, "dr-eofb", "dr-eorl", "dr-eoud"),
+  ...inPages(19, "eofb", "eorl", "eoud"),
+  ...inPages(56, "eo"),
+  ...inPages(288, "drud-eofb", "drrl-eofb", "drud-eorl", "drfb-eorl", "drrl-eoud", "drfb-eoud"),
+  ...inPages(576, "dr-eofb", "dr-eorl", "dr-eoud"),
 ];
 
 /** Runs: where each number of an answer stands, and what becomes of a room. */
