@@ -40,19 +40,31 @@ limited_file() {
     return "$status"
 }
 "$nissy" scramble 1 1 25 40 > "$room/unlimited"
+# COMMAND..: waits until it succeeds, ten seconds at most
+comes_true() {
+    local tries=200
+    until "$@"; do
+        [ $((tries -= 1)) -gt 0 ] || return 1
+        sleep 0.05
+    done
+}
+has_answered() { [ "$(wc -l < answers)" -eq "$1" ]; } # LINES
+
 # The program is stopped and goes on, and at last is ended, while it answers lines as they come.
 stopped_and_ended() {
     local program status
     mkfifo lines
-    "$nissy" invert < lines > answers &
+    # opened to be read too, so that no program that fails to begin is waited for
+    exec 9<> lines
+    : > answers
+    "$nissy" invert <&9 >> answers &
     program=$!
-    exec 9> lines
     echo "R U" >&9
-    until [ -s answers ]; do sleep 0.05; done
+    comes_true has_answered 1
     kill -STOP "$program"
     echo "F2" >&9
     kill -CONT "$program"
-    until [ "$(wc -l < answers)" -eq 2 ]; do sleep 0.05; done
+    comes_true has_answered 2
     kill -TERM "$program"
     wait "$program" 2> /dev/null
     status=$?
