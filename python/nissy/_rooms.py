@@ -58,5 +58,6 @@ def large() -> Room:
 
 
 def larger(room: Room) -> Room:
-    """Returns a room for an output that this one was too small for."""
+    """Returns a room for an output that this one was too small for. A search stops at the solution that has no room, so hardly anything is
+    searched twice."""
     return large() if room.size <= ORDINARY else Room(room.size * _GROWTH)

@@ -27,7 +27,10 @@ const MOST_BYTES = 65_536 * PAGE;
 /** Structs, and the memory for tables, stand at multiples of it. */
 const ALIGNMENT = 16;
 
-/** How many bytes are lent for the tables of a run at first: those of any step fit. Longer words take more. */
+/**
+ * How many bytes are lent for the tables of a run at first: those of any step fit, so that a page takes the same memory from call to call.
+ * Longer words take more.
+ */
 const FIRST_LENT = 3 * 1_048_576;
 const MOST_LENT = 1_024 * 1_048_576;
 

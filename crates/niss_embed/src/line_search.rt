@@ -64,7 +64,8 @@ fn line_is_short(turns: &[Turn])
 struct Refused;
 
 /// Solutions as lines, at most so many, from the beginning of lent memory. One that it has no room for is refused, and
-/// so is one too many; nothing of it is written.
+/// so is one too many; nothing of it is written. So the caller learns whether there are more: since the distance is exact,
+/// the way to the next one is short.
 #[derive(Drop)]
 struct SolutionLines<'a> {
     bytes: &'a mut [u8],
@@ -129,7 +130,7 @@ impl Sink for SolutionLines<'_> {
     }
 }
 
-/// The number, or the greatest one of 64 bits.
+/// The number, or the greatest one of 64 bits: C doesn't have the 128 by which the engine counts.
 fn capped(number: u128) -> u64
     ensures { result ≡ capped number }
 {

@@ -145,7 +145,7 @@ impl PartialLine {
         ReadFault::NotAMove { column }
     }
 
-    /// The fault of a U+2019 that is cut after two bytes. So at least two were fed.
+    /// The fault of a U+2019 that is cut after two bytes, also by the line's end. So at least two were fed.
     fn cut_fault(&self) -> ReadFault
         ensures { result ≡ NotAMove (self.now.fed - 1) }
     {
@@ -269,6 +269,7 @@ impl PartialLine {
         ensures { IsStep (begun 256 base) self.old result self.new }
     {
         self.settle();
+        // here alone: blanks and brackets may follow 256 moves, and any other byte is no move
         if self.niss.len() >= 256 {
             let column = self.column();
             return Err(ReadFault::TooLong { column });

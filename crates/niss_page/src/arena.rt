@@ -10,7 +10,7 @@ use niss_search::{Meter, Tables};
 /// What an arena takes at most beside the bytes that it is asked for: it adds its footer, and goes up to whole pages.
 const BESIDE: usize = 4160;
 
-/// An arena over lent memory.
+/// An arena over lent memory: it splits the one block, and its proofs are the kit's.
 pub(crate) type Arena = Bump<OneBlock>;
 
 /// Tables in an arena that stays.

@@ -90,7 +90,7 @@ impl<W: io::Write> ToWriter<W> {
     }
 
     /// Sets the flag by what the writer answered to the piece: every error is a failure, and so is to take none of some
-    /// bytes.
+    /// bytes, as in the standard library's `write_all`.
     fn judge_write(&mut self, answer: io::Result<usize>, piece: &[u8]) -> Result<usize, DeviceFault>
         ensures answer { MatchResult result (λ count. answer ≡ Ok count) (λ _. IsErr answer) }
         ensures failed { self.new.failed ≡ (self.old.failed || is_refused result piece.now) }
