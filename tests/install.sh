@@ -1,6 +1,6 @@
 #!/usr/bin/env bash
 # Installs into a folder of its own, with the library if `make lib` built it, and takes everything away again; compares the names that
-# completions and manuals give with those of PROGRAM:
+# completions and manuals give with those of PROGRAM. The library is found by pkg-config and by CMake.
 #
 #     tests/install.sh [PROGRAM]
 #

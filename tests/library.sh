@@ -1,5 +1,7 @@
 #!/usr/bin/env bash
-# Tries the library of `make lib` from C and from Python, as they find it in FOLDER, beside PROGRAM:
+# Tries the library of `make lib` from C, C++ and Python, as they find it in FOLDER, beside PROGRAM: plain, with the sanitizers and under
+# valgrind, by drawn calls, and in processes of their own. A buffer of tests/library/trial.h ends where no memory follows, so one byte too far
+# ends the test.
 #
 #     tests/library.sh [PROGRAM [FOLDER]]
 #

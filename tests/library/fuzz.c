@@ -2,7 +2,9 @@
  *
  *     fuzz [SEED [SECONDS]]
  *
- * The draws are numbered from SEED on, for two seconds where none are said; `fuzz N 0` makes draw N alone. */
+ * The draws are numbered from SEED on, for two seconds if none are said; `fuzz N 0` makes draw N alone. At the top of the repository:
+ *
+ *     cc -Iinclude -Itests/library -Wl,--wrap=malloc,--wrap=realloc,--wrap=free -o build/fuzz tests/library/fuzz.c build/libnissy.a */
 #include "refused.h"
 #include "trial.h"
 
