@@ -3,7 +3,7 @@
 #
 #     tests/answers.sh [PROGRAM]
 #
-# The program is build/nissy where none is named. The last line is `N passed, M failed`, and the status is 1 where M isn't 0.
+# The program is build/nissy if none is named. The last line is `N passed, M failed`, and the status is 1 if M isn't 0.
 set -u
 # shellcheck source=tests/shared
 . "$(dirname "$0")/shared"

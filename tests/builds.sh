@@ -4,7 +4,7 @@
 #
 #     tests/builds.sh
 #
-# Where there is no Rattle kit nothing is tried. The last line is `N passed, M failed`, and the status is 1 where M isn't 0.
+# If there is no Rattle kit nothing is tried. The last line is `N passed, M failed`, and the status is 1 if M isn't 0.
 set -u
 cd "$(dirname "$0")/.." || exit 2
 # shellcheck source=tests/shared

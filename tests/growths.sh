@@ -4,8 +4,8 @@
 #
 #     tests/growths.sh [BUILDS]
 #
-# BUILDS is the one that a check of the crate left where none is named. Where there is none, or no C compiler, nothing is tried. The last line is
-# `N passed, M failed`, and the status is 1 where M isn't 0.
+# BUILDS is the one that a check of the crate left if none is named. If there is none, or no C compiler, nothing is tried. The last line is
+# `N passed, M failed`, and the status is 1 if M isn't 0.
 set -u
 cd "$(dirname "$0")/.." || exit 2
 # shellcheck source=tests/shared

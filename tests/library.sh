@@ -1,12 +1,12 @@
 #!/usr/bin/env bash
 # Tries the library of `make lib` from C, C++ and Python, as they find it in FOLDER, beside PROGRAM: plain, with the sanitizers and under
-# valgrind, by drawn calls, and in processes of their own. A buffer of tests/library/trial.h ends where no memory follows, so one byte too far
+# valgrind, by drawn calls, and in processes of their own. A buffer of tests/library/trial.h ends if no memory follows, so one byte too far
 # ends the test.
 #
 #     tests/library.sh [PROGRAM [FOLDER]]
 #
-# The program is build/nissy where none is named, and the folder build. What needs a tool that isn't here is skipped, and named. The last
-# line is `N passed, M failed`, and the status is 1 where M isn't 0.
+# The program is build/nissy if none is named, and the folder build. What needs a tool that isn't here is skipped, and named. The last
+# line is `N passed, M failed`, and the status is 1 if M isn't 0.
 set -u
 # shellcheck source=tests/shared
 . "$(dirname "$0")/shared"

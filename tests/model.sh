@@ -5,8 +5,8 @@
 #
 #     tests/model.sh [PROGRAM]
 #
-# The program is build/nissy where none is named. The last line is `N passed, M failed`, by kinds of runs, and the status is 1 where
-# M isn't 0. Where there is no python3 nothing is compared.
+# The program is build/nissy if none is named. The last line is `N passed, M failed`, by kinds of runs, and the status is 1 if
+# M isn't 0. If there is no python3 nothing is compared.
 set -u
 # shellcheck source=tests/shared
 . "$(dirname "$0")/shared"
