@@ -1,5 +1,6 @@
 #!/usr/bin/env bash
 # What the built program does where it meets a limit: much input and too much, no input, a reader that goes, no memory.
+# The model draws such devices and limits by the thousand; these few take seconds, and need neither Python nor strace nor a compiler.
 #
 #     tests/limits.sh [PROGRAM]
 #

@@ -1,5 +1,6 @@
 #!/usr/bin/env bash
 # What the built program does with its words, its three streams and its status, as a user calls it.
+# The model draws such devices and limits by the thousand; these few take seconds, and need neither Python nor strace nor a compiler.
 #
 #     tests/program.sh [PROGRAM]
 #

@@ -73,7 +73,8 @@ class Tables:
 
     They are built when they are first needed in a process, once for each step, whoever asks, and stay in its memory until it ends: 0.1
     million bytes for an edge orientation, 1.2 million for a domino reduction, and as much for each axis of a step that has several; some 15
-    million for all thirteen steps. So there is nothing to close, and nothing can be given back. Any threads may ask at the same time.
+    million for all thirteen steps. So there is nothing to close, and nothing can be given back: a cache that dropped some would build them
+    again beside the old ones. Any threads may ask at the same time.
     """
 
     __slots__ = ("_step", "_kept", "_tables")

@@ -242,8 +242,8 @@ answer_on_lines answers (word ∷ words) input ended =
 abbrev pub generator_of : ℕ → ℕ → Lcg
 generator_of state stream = started_lcg 64 multiplier_64 state (increment_of 64 stream)
 
--- Scramble number i, from 0, of so many turns. It takes its words after those of the scrambles before it, and begins with
--- no turn before it.
+-- Scramble number i, from 0, of so many turns. It takes its words after those of the scrambles before it, to which the
+-- generator jumps ahead, and begins with no turn before it: so it is told without those.
 abbrev pub scramble : ℕ → Lcg → ℕ → List Turn
 scramble turns g i = draw None (next_words turns (after_words (turns * i) g))
 
