@@ -1,5 +1,5 @@
-//! The facelet text after moves of any kind: from each place the sticker is followed back to where it began. No cube is made,
-//! so any move costs what a face turn does.
+//! The facelet text after moves of any kind: from each place the sticker is followed back to where it began. No cube
+//! is made, so any move costs what a face turn does.
 ghost use Rattle.std.specs.Prelude.{◌≡◌, ℕ, ◌<◌, ◌++◌, slice_index};
 ghost use Rattle.niss_moves.specs.Effects.{effect, inverse};
 ghost use Rattle.niss_moves.specs.Facelets.{letters};

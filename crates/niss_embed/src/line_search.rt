@@ -64,8 +64,8 @@ fn line_is_short(turns: &[Turn])
 struct Refused;
 
 /// Solutions as lines, at most so many, from the beginning of lent memory. One that it has no room for is refused, and
-/// so is one too many; nothing of it is written. So the caller learns whether there are more: since the distance is exact,
-/// the way to the next one is short.
+/// so is one too many; nothing of it is written. So the caller learns whether there are more: since the distance is
+/// exact, the way to the next one is short.
 #[derive(Drop)]
 struct SolutionLines<'a> {
     bytes: &'a mut [u8],

@@ -2,8 +2,8 @@
 ghost use Rattle.std.specs.Prelude.{◌≡◌, ◌≤◌, length};
 ghost use Rattle.niss_moves.specs.Faults.{fault_column, fault_text};
 
-/// What is wrong in a line, and where. Columns count bytes from 1. There is no `Display` of it: `column` and `text` give
-/// what a caller writes, in the bytes that the engine writes.
+/// What is wrong in a line, and where. Columns count bytes from 1. There is no `Display` of it: `column` and `text`
+/// give what a caller writes, in the bytes that the engine writes.
 #[derive(Clone, Copy, Debug, PartialEq, Eq)]
 pub enum ReadFault {
     /// A byte that can't go on there; of a cut U+2019, its first byte.

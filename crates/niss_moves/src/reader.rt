@@ -10,7 +10,8 @@ use std::marker::Model;
 
 /// Reads a line byte by byte, in at most 16,777,216 bytes.
 ///
-/// The `PartialLine` reads, the reader keeps the first fault: in one type each step would have to say what a fault does to it.
+/// The `PartialLine` reads, the reader keeps the first fault: in one type each step would have to say what a fault does
+/// to it.
 #[derive(Drop)]
 pub struct LineReader {
     line: PartialLine,

@@ -77,9 +77,9 @@ macro_rules! words_of {
 /// By the numbers of the moves.
 static WORDS: [Word; 54] = words_of!(b'U' b'D' b'R' b'L' b'F' b'B'; b'M' b'E' b'S' b'y' b'x' b'z');
 
-/// Writes a space and the word of a face turn over the bytes from `start` on, of which there are four or more, and returns
-/// where the word ends. Of these four bytes those after it aren't kept, since a piece of fixed length is copied fastest; all
-/// other bytes stay.
+/// Writes a space and the word of a face turn over the bytes from `start` on, of which there are four or more, and
+/// returns where the word ends. Of these four bytes those after it aren't kept, since a piece of fixed length is copied
+/// fastest; all other bytes stay.
 #[tactic(auto, using(crate::proofs::Words::copied, crate::proofs::Words::kept_behind))]
 pub fn write_turn(turn: Turn, bytes: &mut [u8], start: usize) -> usize
     requires { start + 4 ≤ length bytes.old }

@@ -28,8 +28,8 @@ impl Block {
 }
 
 /// Memory for the tables of a call: where it is and how many bytes it has, both multiples of 16. The host lends it
-/// until the call has returned, and uses it for nothing else. It owns its memory, since a proof may give borrowed memory to an
-/// allocator only if every block comes back, which the contract of a run doesn't say.
+/// until the call has returned, and uses it for nothing else. It owns its memory, since a proof may give borrowed
+/// memory to an allocator only if every block comes back, which the contract of a run doesn't say.
 #[repr(C)]
 #[derive(Drop)]
 pub struct Room {

@@ -165,8 +165,8 @@ abbrev pub has_step : LineCommand Step → Bool
 has_step (Rewrite rewriting) = false
 has_step (Search step query) = true
 
--- The request asks for memory: for the tables of a step, and for the input, where words of at most so many bytes give it. What
--- is written doesn't tell it: that of `invert` is the same whether words or the source give the input.
+-- The request asks for memory: for the tables of a step, and for the input, if words of at most so many bytes give it.
+-- What is written doesn't tell it: that of `invert` is the same whether words or the source give the input.
 abbrev pub takes_memory : Result Request UsageFault → Bool
 takes_memory (Ok (OnLines command [])) = has_step command
 takes_memory (Ok (OnLines command (word ∷ words))) = nat_le (length (joined (word ∷ words))) most_bytes
