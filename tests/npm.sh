@@ -74,6 +74,12 @@ writes "L' D' F'\nL F' L'\n" scramble 42 54 3 2
 takes 'R2\n(U)' "R2\nU'\n" unniss
 stops "R (U)\n\nq" "R U'\n\n" '3, column 1: not a move' unniss
 stops 'F\nR\n' '' '1: eofb does not hold' count drud-eofb 3
+# what reads lines is found by the engine, so that a new command needs no line there
+holds "the command names none that rewrites lines" refuses grep -qE '"(invert|unniss|cleanup|print)"' "$package/command.js"
+for command in invert unniss cleanup print; do takes '' '' $command; done
+writes '' scramble 1 2 3 0
+has_fault ', column 1: not a move' invert q
+usage mirror
 usage
 usage solve eofb 21 F
 by_npx() { { printf 'R\n' && sleep 1 && printf 'U\n'; } | in_folder npx --offline nissy invert; }

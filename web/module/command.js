@@ -10,7 +10,6 @@ import { countRequest, runRequest, solveRequest, stepsRequest } from "./requests
 import { Stop } from "./stop.js";
 import { readSome, writeAll } from "./streams.js";
 
-/** @typedef {import("./input-lines.js").Answering} Answering */
 /** @typedef {import("./replies.js").CountReply} CountReply */
 /** @typedef {import("./replies.js").LineReply} LineReply */
 /** @typedef {import("./replies.js").Answer} Answer */
@@ -24,7 +23,7 @@ const INPUT = 0;
 const OUTPUT = 1;
 const ERRORS = 2;
 
-const REWRITINGS = ["invert", "unniss", "cleanup", "print"];
+const NOTHING = new Uint8Array(0);
 
 /** How many numbers follow the step. */
 const SEARCHES = { solve: 1, count: 1, near: 2 };
@@ -62,6 +61,7 @@ function read(buffer) {
  * @param {(string | Uint8Array)[]} words
  * @param {Uint8Array} input
  * @param {number} [first] the number of the input's first line
+ * @returns {number} how many bytes it wrote
  */
 function run(engine, words, input, first = 1) {
   let written = 0;
@@ -71,7 +71,7 @@ function run(engine, words, input, first = 1) {
     written = out.length;
     if (full) continue;
     if (status !== STATUS.done) throw new Stop(status, textIn(err)).after(first - 1);
-    return;
+    return written;
   }
   throw Stop.outOfMemory();
 }
@@ -115,7 +115,7 @@ function answerSearch(engine, words, search, line, number) {
   if (reply.status === STATUS.fault) throw Stop.ofLine(number, reply);
   if (reply.status !== STATUS.done) throw Stop.outOfMemory();
   const answer = answerOf(search, reply);
-  if (answer === undefined) run(engine, [...words, line], new Uint8Array(0));
+  if (answer === undefined) run(engine, [...words, line], NOTHING);
   else write(encoder.encode(answer));
 }
 
@@ -135,38 +135,33 @@ function searchOf(engine, [command, step, ...numbers]) {
 }
 
 /**
- * What answers the lines of standard input, if these words read it.
+ * Answers the lines of the input by the tables that stay. They are built before anything is read.
  * @param {Engine} engine
  * @param {string[]} words
- * @returns {Answering | undefined}
+ * @param {Search} search
  */
-function answering(engine, words) {
-  if (words.length === 1 && REWRITINGS.includes(words[0])) return (lines, first) => run(engine, words, lines, first);
-  const search = searchOf(engine, words);
-  if (search === undefined) return undefined;
-  // the tables are built before anything is read
+function searchLines(engine, words, search) {
   engine.answer(countRequest(search.step, "", { limit: 0 }));
-  return (lines, first) => {
+  new InputLines(read).answer((lines, first) => {
     let number = first;
     for (const line of split(lines)) {
       answerSearch(engine, words, search, line, number);
       number += 1;
     }
-  };
+  });
 }
 
 /**
- * Does what the words say.
+ * Does what the words say. If they read lines, they write nothing for an input without any; of the others only no scrambles write nothing.
  * @param {Engine} engine
  * @param {string[]} words
  */
 function obey(engine, words) {
-  const answer = answering(engine, words);
-  if (answer === undefined) {
-    run(engine, words, new Uint8Array(0));
-    return;
+  const search = searchOf(engine, words);
+  if (search !== undefined) searchLines(engine, words, search);
+  else if (run(engine, words, NOTHING) === 0 && words[0] !== "scramble") {
+    new InputLines(read).answer((lines, first) => run(engine, words, lines, first));
   }
-  new InputLines(read).answer(answer);
 }
 
 /** @returns {Promise<Engine>} */
