@@ -1,4 +1,11 @@
-//! What a search knows of its step: where a turn leads, and what a look at a position answers.
+//! What a search knows of its step: where a turn leads, and what a look at a position returns.
+//!
+//! `Tables`: a step, with its tables behind one public type; a `Position` has the coordinates of each goal, with their axis
+//!   `Kind`: by the number of its goals and their shape, one of four searches, each compiled by itself
+//!     `SearchTables`: the turns that may follow (`Followers`), and a `StateSpace`, whose states are such coordinates without the axis
+//!       `StateSpace`: one `PruningTable`, or an `Either`, which has the table of one goal more
+//!         `PruningTable`: a byte for each entry, and the `GoalMoves` of the goal
+//!           `GoalMoves`: `EdgeMoves` with one `MoveTable`, or `DominoMoves` with two: the number after a turn
 mod fill;
 mod followers;
 mod goal_moves;
