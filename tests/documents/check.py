@@ -86,17 +86,26 @@ def map_of_crates(code: Code) -> list[str]:
     return found
 
 
-def map_of_scripts(section: str, folder: str) -> list[str]:
-    """Returns what a table of scripts and their folder don't have in common."""
-    listed = rows(Page(TOP, "docs/ARCHITECTURE.md").section(section))
+def map_of_scripts() -> list[str]:
+    """Returns what the table of the page's scripts and their folder don't have in common."""
+    listed = rows(Page(TOP, "docs/ARCHITECTURE.md").section("The page"))
     on_map = {name for row in listed for name in re.findall(r"[\w-]+\.js", row[0])}
-    there = {path.name for path in (TOP / folder).glob("*.js")}
-    return [f"gone: {folder}: {it}" for it in sorted(on_map - there)] + [f"missing: {folder}: {it}" for it in sorted(there - on_map)]
+    there = {path.name for path in (TOP / "web/page").glob("*.js")}
+    return [f"gone: web/page: {it}" for it in sorted(on_map - there)] + [f"missing: web/page: {it}" for it in sorted(there - on_map)]
 
 
-def maps_of_scripts() -> list[str]:
-    """Returns that of the page's scripts and of the module's."""
-    return map_of_scripts("The page", "web/page") + map_of_scripts("The module in JavaScript", "web/module")
+def says_its_task(script: Path) -> bool:
+    """Whether the first line of a script, but the one that names its interpreter, is a comment."""
+    lines = [line for line in script.read_text(encoding="utf-8").splitlines() if not line.startswith("#!")]
+    return re.match(r"// \S|/\*\*$", lines[0]) is not None
+
+
+def heads_of_scripts(tally: Tally) -> None:
+    """The first line of each script for the page and the module says its task, as docs/ARCHITECTURE.md has it."""
+    scripts = sorted(path for folder in ("page", "module") for path in (TOP / "web" / folder).glob("*.*js"))
+    tally.holds("there are scripts", scripts)
+    for script in scripts:
+        tally.holds(f"the first line of {script.relative_to(TOP)} says its task", says_its_task(script))
 
 
 def clauses_of_functions(texts: list[str]) -> list[str]:
@@ -157,7 +166,7 @@ def examples(tally: Tally) -> None:
 def main() -> None:
     """All checks, or the maps alone."""
     code = Code(TOP)
-    unlike = map_of_crates(code) + maps_of_scripts()
+    unlike = map_of_crates(code) + map_of_scripts()
     if sys.argv[1:] == ["map"]:
         print("\n".join(unlike), end="\n" if unlike else "")
         sys.exit(1 if unlike else 0)
@@ -167,6 +176,7 @@ def main() -> None:
     names_of_code(tally, code)
     for what in unlike or [""]:
         tally.holds(f"docs/ARCHITECTURE.md maps each file: {what}", not what)
+    heads_of_scripts(tally)
     promises(tally, code)
     examples(tally)
     tally.end()

@@ -1,4 +1,4 @@
-// An instance of the module: what is asked of it is written into its memory, and what it answers is read from there.
+// An instance of the module: what is asked of it is written into its memory, and what it returns is read from there.
 import { bytesOf, roomFor, textIn, writeLine } from "./bytes.js";
 import { EngineMissing } from "./faults.js";
 import { STATUS } from "./replies.js";

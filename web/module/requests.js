@@ -1,4 +1,4 @@
-// What is asked of the engine, in plain values that a worker can be sent, each checked where it comes from a caller.
+// What is asked of the engine, in plain values that a worker can be sent, each checked if it comes from a caller.
 import { bytesOf, joinedWords, stringOf, takenLine, wholeNumber, wideNumber } from "./bytes.js";
 
 /** @typedef {import("./bytes.js").Text} Text */

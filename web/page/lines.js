@@ -1,4 +1,4 @@
-// How lines are read: as the engine writes them, and by face turns alone where they turn the whole cube. The engine pushes such turns to
+// How lines are read: as the engine writes them, and by face turns alone if they turn the whole cube. The engine pushes such turns to
 // the end of a line; there they are left out, so that each letter names the same face in all that follows.
 import { EngineFault, cleanAll, joinAll } from "./engine.js";
 import { plainLine } from "./pasted.js";

@@ -1,4 +1,4 @@
-// Draws a cube as a net: U above, then L, F, R and B, and D below, as SVG. Each sticker has its colour and its letter, and where pieces are
+// Draws a cube as a net: U above, then L, F, R and B, and D below, as SVG. Each sticker has its colour and its letter, and if pieces are
 // marked a ring and a dot, or a grey. The view may be turned by y and x, which changes no letter and no move.
 
 const SVG = "http://www.w3.org/2000/svg";

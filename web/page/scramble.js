@@ -1,5 +1,5 @@
 // The card of the scramble: its field, with what was left out of a text and what is at fault, examples, random scrambles from a seed, and
-// the fold of it where the page is narrow.
+// the fold of it if the page is narrow.
 import { LONGEST_SCRAMBLE } from "./address.js";
 import { announce, element, part, tell } from "./element.js";
 import { EngineFault, scrambleOf } from "./engine.js";

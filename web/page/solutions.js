@@ -1,4 +1,4 @@
-// The list of a step's solutions: grouped by length or by case, filtered by turns and by case, and cut where it is long; and its engine: a
+// The list of a step's solutions: grouped by length or by case, filtered by turns and by case, and cut if it is long; and its engine: a
 // list that is looked for gives way to another one, and can be stopped.
 import { Stopped } from "./calls.js";
 import { caseName, farnessOf, sizeOf } from "./cases.js";
