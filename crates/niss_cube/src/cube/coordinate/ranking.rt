@@ -49,7 +49,7 @@ const CHOICES: [[u16; 4]; 12] = [
     [1, 11, 55, 165],
 ];
 
-/// The number of the places at which one of the edges 8 to 11 stands: a numbering of this project's own.
+/// The rank of the places at which one of the edges 8 to 11 stands: a numbering of this project's own.
 pub fn rank_slice(edges: &[u8; 12]) -> u16
     ensures { result ≡ rank_places (reverse (map (nat_le 8) edges.now)) 4 }
 {
