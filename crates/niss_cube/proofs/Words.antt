@@ -10,7 +10,7 @@ pub use Rattle.std.proofs.lemmas.Bool.Decides.{eqb_tells}
 pub use Rattle.std.proofs.lemmas.Grind.{drop-set_at}
 pub use Rattle.std.proofs.lemmas.List.{ext_get_or, get_or-map, length-map, length-set, length-reverse, append-nil}
 pub use Rattle.std.proofs.lemmas.List.{at_drop_more, get_or-reverse, get_or_default, reverse-reverse, length-drop}
-pub use Rattle.std.proofs.lemmas.List.{at_drop_all, reverse-append}
+pub use Rattle.std.proofs.lemmas.List.{at_drop_all, reverse-append, get_or-set_same, get_or-set_other, get_or-take}
 pub use Rattle.std.proofs.lemmas.List.Folds.{Any-from_list_any, list_any_at}
 pub use Rattle.std.proofs.lemmas.List.FromFn.{get_or-map-range_with_len, length-map-range_with_len}
 pub use Rattle.std.proofs.lemmas.List.FromFn.{get_or-range_with_len, length-range_with_len}
@@ -26,7 +26,7 @@ pub use lib.Pointwise.{pointwise}
 pub use Rattle.niss_moves.proofs.CallerLemmas.{same_place_is, same_place_of, effect-append, inverse_after}
 pub use Rattle.niss_moves.proofs.CallerLemmas.{inverse_before, same_face_is, same_power, same_power_is, turn, and_left}
 pub use Rattle.niss_moves.proofs.CallerLemmas.{and_right, and_both, at_member, Fact, Yes, Same, Equal, Below, Alike}
-pub use Rattle.niss_moves.proofs.CallerLemmas.{Both, When, Numbers, Places, Turns, Among, Tokens, Digits, Truths, Holds}
+pub use Rattle.niss_moves.proofs.CallerLemmas.{Both, When, Numbers, Places, Faces, Turns, Among, Tokens, Digits, Truths, Holds}
 pub use Rattle.niss_moves.proofs.CallerLemmas.{tested, holds}
 unfoldable pub use Rattle.niss_moves.proofs.CallerLemmas.{every_face, every_power, every_turn, every_axis, every_slice}
 unfoldable pub use Rattle.niss_moves.proofs.CallerLemmas.{every_token}
@@ -52,7 +52,7 @@ unfoldable pub use Rattle.niss_cube.specs.Map.{place_at}
 pub use Rattle.niss_cube.specs.Names.{Turn, U, Axis, Flip, Fb, Rl, Slice, Twist, Ud, Coordinate, Face, Token, Cube}
 pub use Rattle.niss_cube.specs.Names.{Renaming, Step, Domino, DrEofb, DrEorl, DrEoud, DrfbEorl, DrfbEoud, DrrlEofb}
 pub use Rattle.niss_cube.specs.Names.{DrrlEoud, DrudEofb, DrudEorl, Eo, Eofb, Eorl, Eoud, Goal, Half, XCounter}
-pub use Rattle.niss_cube.specs.Names.{XQuarter, YQuarter, ZCounter}
+pub use Rattle.niss_cube.specs.Names.{XQuarter, YQuarter, ZCounter, Quarter, Counter}
 unfoldable pub use Rattle.niss_cube.specs.NumberAfter.{number_after}
 pub use Rattle.niss_cube.specs.Sets.{PermutesPlaces, CubesPermutePlaces, KeptIsEqual, Kept, flip_set, HasOnlyPlaces, set_of}
 pub use Rattle.niss_cube.specs.Sets.{slice_set, twist_set, SetsArePlaces, KeptIsTested}
@@ -62,6 +62,7 @@ pub use Rattle.niss_cube.specs.StepLaws.{InversesOfSteps, StepTurnsInOrder, Step
 pub use Rattle.niss_cube.specs.Steps.{start_of, goals_of, powers_from, is_face_of, steps, name_of}
 unfoldable pub use Rattle.niss_cube.specs.Steps.{turns_of, may_start, reached}
 pub use Rattle.niss_cube.specs.TableRows.{IsMoveRow, IsRankAfter, AreMoveRows, turn_in, turn_number}
+pub use Rattle.niss_cube.specs.MoveRows.{AreWritten, GoOn, GoesOn}
 pub use Rattle.niss_cube.specs.declared.cube.coordinate.ranking.TheConstants.{CHOICES}
 pub use Rattle.niss_cube.specs.declared.cubie_turns.CubieTurn.{CubieTurn}
 pub use Rattle.niss_cube.specs.declared.followed_places.TheConstants.{FIRST_FACELETS, CUBIES, FACELETS}

@@ -7,5 +7,6 @@ pub mod Coordinates
 pub mod NumberAfter
 pub mod AfterTurn
 pub mod TableRows
+pub mod MoveRows
 pub mod Steps
 pub mod StepLaws

@@ -1,9 +1,8 @@
 -- The number of a coordinate after a turn, and the rows of move tables.
 use Rattle.std.specs.Prelude.{◌≡◌, ℕ, ◌<◌, ◌+◌, ◌*◌, List, [], length, slice_index, get_or}
-use Rattle.niss_moves.specs.Canonical.{turn_order}
 use Rattle.niss_moves.specs.Indices.{face_index, power_index}
 use Rattle.niss_cube.specs.Names.{Place, turned, U, Quarter, Axis, Turn, Coordinate}
-use Rattle.niss_cube.specs.Coordinates.{count_of, rank_of, standard_axis}
+use Rattle.niss_cube.specs.Coordinates.{count_of, rank_of}
 use Rattle.niss_cube.specs.NumberAfter.{number_after}
 use Rattle.niss_cube.specs.AfterTurn.{IsCube}
 
@@ -26,7 +25,7 @@ pub record IsMoveRow (k : Coordinate) (a : Axis) (turns : List Turn) (number : �
 abbrev pub turn_number : Turn → ℕ
 turn_number t = 3 * face_index t.face + power_index t.power
 
--- There is a row for each number, with the numbers after the 18 turns on the standard axis.
-pub record AreMoveRows (k : Coordinate) (rows : List (List ℕ)) : Type 0 where
+-- There is a row for each number, with the numbers after some turns.
+pub record AreMoveRows (k : Coordinate) (a : Axis) (turns : List Turn) (rows : List (List ℕ)) : Type 0 where
   pub size : length rows ≡ count_of k
-  pub each : (i : ℕ) → i < count_of k → IsMoveRow k (standard_axis k) turn_order i (get_or rows i [])
+  pub each : (i : ℕ) → i < count_of k → IsMoveRow k a turns i (get_or rows i [])

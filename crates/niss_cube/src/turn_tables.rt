@@ -1,6 +1,7 @@
 //! Tables of the coordinates after a turn.
 ghost use Rattle.std.specs.Prelude.{◌≡◌, ◌<◌, IfOk};
-ghost use Rattle.niss_cube.specs.Coordinates.{count_of};
+ghost use Rattle.niss_moves.specs.Canonical.{turn_order};
+ghost use Rattle.niss_cube.specs.Coordinates.{count_of, standard_axis};
 ghost use Rattle.niss_cube.specs.TableRows.{AreMoveRows, IsRankAfter, turn_number};
 ghost use Rattle.niss_cube.specs.declared.cube.coordinate.Coordinate as kinds;
 ghost use Rattle.niss_cube.specs.declared.cube.coordinate.Coordinate.TheVariants.{Flip, Twist, Slice};
@@ -36,7 +37,7 @@ impl<A: Allocator> Model for TurnTable<A> {
 
     ghost view = { λ t. t.coordinate };
 
-    ghost invariant = { λ t. AreMoveRows t.coordinate t.rows.items };
+    ghost invariant = { λ t. AreMoveRows t.coordinate (standard_axis t.coordinate) turn_order t.rows.items };
 }
 
 impl<A: Allocator> TurnTable<A> {
@@ -47,13 +48,7 @@ impl<A: Allocator> TurnTable<A> {
         let Ok(mut rows) = Vec::from_elem(alloc, [0; 18], coordinate.count()) else {
             return Err(OutOfMemory);
         };
-        for number in 0..rows.len() {
-            rows[number] = coordinate.move_row(
-                coordinate.standard_axis(),
-                number as u16,
-                turn_order(),
-            );
-        }
+        coordinate.fill_move_rows(coordinate.standard_axis(), turn_order(), &mut rows);
         Ok(TurnTable { coordinate, rows })
     }
 

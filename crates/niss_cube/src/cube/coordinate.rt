@@ -1,12 +1,11 @@
 //! The coordinates of a cube, each as one value.
-ghost use Rattle.std.specs.Prelude.{◌≡◌, ◌<◌, ◌≤◌, ◌↔◌, ℕ, length, IsTrue};
+ghost use Rattle.std.specs.Prelude.{◌≡◌, ◌<◌, ◌↔◌, ℕ, IsTrue};
 ghost use Rattle.niss_moves.specs.Effects.{turned};
 ghost use Rattle.niss_moves.specs.Places.{SameMap};
 ghost use Rattle.niss_cube.specs.Map.{map_of};
 ghost use Rattle.niss_cube.specs.Sets.{Kept, is_kept, set_of};
 ghost use Rattle.niss_cube.specs.Coordinates.{IsRank, count_of, face_for, rank_of, renamed_for, renaming_for, standard_axis, turn_for};
 ghost use Rattle.niss_cube.specs.NumberAfter.{number_after};
-ghost use Rattle.niss_cube.specs.TableRows.{IsMoveRow};
 
 use super::{CORNERS_HOME, Cube, EDGES_HOME};
 use crate::cubie_turns::{cubie_turn, turn_homes, turn_orientations};
@@ -14,6 +13,7 @@ use niss_moves::{Axis, Face, Turn};
 use ranking::{rank_digits, rank_slice, unrank_orientations, unrank_slice};
 use renaming::Renaming;
 
+mod move_rows;
 mod ranking;
 pub(crate) mod renaming;
 
@@ -167,20 +167,5 @@ impl Coordinate {
             Coordinate::Flip => Axis::Fb,
             Coordinate::Twist | Coordinate::Slice => Axis::Ud,
         }
-    }
-
-    /// The row of a rank in a move table: the ranks on an axis after some turns, at most 18, of any cube that has this rank
-    /// before them. They stand in the order of the turns, and each is below `count`.
-    pub fn move_row(self, axis: Axis, number: u16, turns: &[Turn]) -> [u16; 18]
-        requires number { number < count_of self }
-        requires few { length turns.now ≤ 18 }
-        ensures { IsMoveRow self axis turns.now number result }
-    {
-        let cube = self.unrank(number);
-        let mut row = [0; 18];
-        for column in 0..turns.len() {
-            row[column] = self.standard_rank_after(&cube, self.standard_turn(axis, turns[column]));
-        }
-        row
     }
 }

@@ -27,13 +27,15 @@ pub struct MoveTable<A: Allocator> {
 }
 
 impl<A: Allocator> Model for MoveTable<A> {
-    ghost use Rattle.niss_search.specs.Moves.{Moves, AreRowsOf};
+    ghost use Rattle.niss_cube.specs.Steps.{turns_of};
+    ghost use Rattle.niss_cube.specs.TableRows.{AreMoveRows};
+    ghost use Rattle.niss_search.specs.Moves.{Moves};
 
     ghost Value = { Moves };
 
     ghost view = { λ t. record { coordinate = t.coordinate; axis = t.axis; step = t.step } };
 
-    ghost invariant = { λ t. AreRowsOf record { coordinate = t.coordinate; axis = t.axis; step = t.step } t.rows.items };
+    ghost invariant = { λ t. AreMoveRows t.coordinate t.axis (turns_of t.step) t.rows.items };
 }
 
 impl<A: Allocator> MoveTable<A> {
@@ -50,9 +52,7 @@ impl<A: Allocator> MoveTable<A> {
         let Ok(mut rows) = Vec::from_elem(alloc, [0; MOST_TURNS], coordinate.count()) else {
             return Err(OutOfMemory);
         };
-        for number in 0..rows.len() {
-            rows[number] = coordinate.move_row(axis, number as u16, step.turns());
-        }
+        coordinate.fill_move_rows(axis, step.turns(), &mut rows);
         Ok(MoveTable {
             coordinate,
             axis,

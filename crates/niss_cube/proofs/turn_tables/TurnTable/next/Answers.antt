@@ -1,5 +1,5 @@
 use Rattle.niss_cube.proofs.Words.{◌≡◌, [], get_or, get_or_default, ◌∙◌, ap, arith, number_after, standard_axis}
-use Rattle.niss_cube.proofs.Words.{AreMoveRows, turn_number}
+use Rattle.niss_cube.proofs.Words.{AreMoveRows, turn_number, turn_order}
 use Rattle.niss_cube.proofs.CoordinateLaws.{is_rank_after, turn-found}
 use Rattle.niss_cube.proofs.turn_tables.TurnTable.next.Goals as goal
 
@@ -7,7 +7,7 @@ pub returns : goal.returns
 returns g c =
     let standard = c.standard_turn-standard.result in
     let found = turn-found standard in
-    let rows : AreMoveRows c.args.self.now c.self.inside.rows.items = rw c.self.view_is at c.self.invariant in
+    let rows : AreMoveRows c.args.self.now (standard_axis c.args.self.now) turn_order c.self.inside.rows.items = rw c.self.view_is at c.self.invariant in
     let row : c.index.result.now ≡ get_or c.self.inside.rows.items c.args.number [] =
     c.index.ensures ∙ get_or_default c.self.inside.rows.items c.args.number _ [] (omega (arith, rows.size, c.requires)) in
     is_rank_after c.args.self.now c.args.axis c.args.number c.args.turn _ c.requires
