@@ -3,7 +3,7 @@ use Rattle.niss_cube.proofs.Words.{arith, edges_down, Equal, Below, Numbers, hol
 use Rattle.niss_cube.proofs.Words.{List, get_or, take, reverse, count_by, ◌==◌, Place, SameMap, turned, Turn, Axis}
 use Rattle.niss_cube.proofs.Words.{Coordinate, Flip, Twist, Slice, number, rank_places, flip_of, twist_of, slice_of}
 use Rattle.niss_cube.proofs.Words.{rank_of, count_of, renamed_for, standard_axis, turn_for, twists_home, flips_home}
-use Rattle.niss_cube.proofs.Words.{flips_of_number, twists_of_number, edges_of_number, number_after, corners_home}
+use Rattle.niss_cube.proofs.Words.{flips_of_rank, twists_of_rank, edges_of_rank, rank_after, corners_home}
 use Rattle.niss_cube.proofs.Words.{edges_home, ArePlaced, AreOriented, false_from_ne_true, SetsArePlaces, renamed_turn}
 use Rattle.niss_cube.proofs.Words.{rotated_back, renaming_for, ext_get_or, renamed_if, HasOnlyPlaces, eqb_tells, twist_set}
 use Rattle.niss_cube.proofs.Words.{slice_set, eqb-true, is_place, Renaming, XCounter, XQuarter, YQuarter, ZCounter}
@@ -15,8 +15,8 @@ use Rattle.niss_cube.proofs.CubieKinds.{CubieLists, Valid, map_lists, Corners, E
 use Rattle.niss_cube.proofs.CubieKinds.{home_at, turn_at, place_of, stand, stands, stands-at, low, some_facelet}
 use Rattle.niss_cube.proofs.CubieKinds.{unturned, kind_place, Located, located, shown_at, map_place}
 use Rattle.niss_cube.proofs.Shown.{turns_shown, slice_shown}
-use Rattle.niss_cube.proofs.Ranks.{slice-below, slice_occupied, of_number-placed, of_number-rank, rank-turned}
-use Rattle.niss_cube.proofs.Ranks.{edge-once, slice-same, of_number-are, of_number-number, turns_number-below}
+use Rattle.niss_cube.proofs.Ranks.{slice-below, slice_occupied, of_rank-placed, of_rank-rank, rank-turned}
+use Rattle.niss_cube.proofs.Ranks.{edge-once, slice-same, of_rank-are, of_rank-number, turns_number-below}
 use Rattle.niss_cube.proofs.Ranks.{turns_number-same, turns_number-zero}
 use Rattle.niss_cube.proofs.MovedCubies.{By, moved, KeepsPlaces, IsRenaming, by_rotation, not_renamed, back-place}
 use Rattle.niss_cube.proofs.MovedCubies.{out-back, back-out, Under}
@@ -30,14 +30,14 @@ corners_home-are = record {
 }
 
 edges_home-are : ArePlaced 12 edges_home
-unfolding edges_of_number edges_down
-edges_home-are = of_number-placed 0 (omega arith)
+unfolding edges_of_rank edges_down
+edges_home-are = of_rank-placed 0 (omega arith)
 
 flips_home-are : AreOriented 2 12 flips_home
-flips_home-are = of_number-are Edges 0 (omega arith)
+flips_home-are = of_rank-are Edges 0 (omega arith)
 
 twists_home-are : AreOriented 3 8 twists_home
-twists_home-are = of_number-are Corners 0 (omega arith)
+twists_home-are = of_rank-are Corners 0 (omega arith)
 
 -- cubies with corners at home
 abbrev pub cubies_of : (twists edges flips : List ℕ) → CubieLists
@@ -72,34 +72,34 @@ code-below Slice c v = slice-below c v
 
 -- cubies that have a number
 abbrev pub cubies_with : Coordinate → ℕ → CubieLists
-cubies_with Flip i = cubies_of twists_home edges_home (flips_of_number i)
-cubies_with Twist i = cubies_of (twists_of_number i) edges_home flips_home
-cubies_with Slice i = cubies_of twists_home (edges_of_number i) flips_home
+cubies_with Flip i = cubies_of twists_home edges_home (flips_of_rank i)
+cubies_with Twist i = cubies_of (twists_of_rank i) edges_home flips_home
+cubies_with Slice i = cubies_of twists_home (edges_of_rank i) flips_home
 
 pub cubies_with-valid : (k : Coordinate) (i : ℕ) → i < count_of k → Valid (cubies_with k i)
-unfolding flips_of_number twists_of_number
-cubies_with-valid Flip i l = cubies_of-valid twists_home edges_home (flips_of_number i) twists_home-are edges_home-are (of_number-are Edges i l)
-cubies_with-valid Twist i l = cubies_of-valid (twists_of_number i) edges_home flips_home (of_number-are Corners i l) edges_home-are flips_home-are
-cubies_with-valid Slice i l = cubies_of-valid twists_home (edges_of_number i) flips_home twists_home-are (of_number-placed i l) flips_home-are
+unfolding flips_of_rank twists_of_rank
+cubies_with-valid Flip i l = cubies_of-valid twists_home edges_home (flips_of_rank i) twists_home-are edges_home-are (of_rank-are Edges i l)
+cubies_with-valid Twist i l = cubies_of-valid (twists_of_rank i) edges_home flips_home (of_rank-are Corners i l) edges_home-are flips_home-are
+cubies_with-valid Slice i l = cubies_of-valid twists_home (edges_of_rank i) flips_home twists_home-are (of_rank-placed i l) flips_home-are
 
 pub cubies_with-code : (k : Coordinate) (i : ℕ) → i < count_of k → code k (cubies_with k i) ≡ i
-unfolding flips_of_number twists_of_number
-cubies_with-code Flip i l = of_number-number Edges i l
-cubies_with-code Twist i l = of_number-number Corners i l
-cubies_with-code Slice i l = of_number-rank i l
+unfolding flips_of_rank twists_of_rank
+cubies_with-code Flip i l = of_rank-number Edges i l
+cubies_with-code Twist i l = of_rank-number Corners i l
+cubies_with-code Slice i l = of_rank-rank i l
 
-pub number_after-is : (k : Coordinate) (a : Axis) (i : ℕ) (t : Turn) → number_after k a i t ≡ rank_of k (standard_axis k) (λ q. turned (turn_for k a t) (map_lists (cubies_with k i) q))
-unfolding number_after
-number_after-is Flip a i t = refl
-number_after-is Twist a i t = refl
-number_after-is Slice a i t = refl
+pub rank_after-is : (k : Coordinate) (a : Axis) (i : ℕ) (t : Turn) → rank_after k a i t ≡ rank_of k (standard_axis k) (λ q. turned (turn_for k a t) (map_lists (cubies_with k i) q))
+unfolding rank_after
+rank_after-is Flip a i t = refl
+rank_after-is Twist a i t = refl
+rank_after-is Slice a i t = refl
 
 -- a turn does on an axis what the renamed turn does on the standard axis
-pub number_after-standard : (k : Coordinate) (a : Axis) (i : ℕ) (t : Turn) → number_after k (standard_axis k) i (turn_for k a t) ≡ number_after k a i t
-unfolding number_after
-number_after-standard Flip a i t = refl
-number_after-standard Twist a i t = refl
-number_after-standard Slice a i t = refl
+pub rank_after-standard : (k : Coordinate) (a : Axis) (i : ℕ) (t : Turn) → rank_after k (standard_axis k) i (turn_for k a t) ≡ rank_after k a i t
+unfolding rank_after
+rank_after-standard Flip a i t = refl
+rank_after-standard Twist a i t = refl
+rank_after-standard Slice a i t = refl
 
 -- cubies of one code have one code after a turn
 pub code-turned : (k : Coordinate) (t : Turn) (c d : CubieLists) → Valid c → Valid d → code k c ≡ code k d → code k (moved (By t) c) ≡ code k (moved (By t) d)

@@ -2,12 +2,12 @@
 use Rattle.niss_cube.proofs.Words.{Alike, Places, Turns, holds, ◌≡◌, ℕ, ◌<◌, refl, sym, ◌∙◌, ap, subst, true, ◌↔◌}
 use Rattle.niss_cube.proofs.Words.{Place, is_place, SameMap, turned, inverse_turn, Turn, Axis, Cube, Coordinate, map_of}
 use Rattle.niss_cube.proofs.Words.{Kept, set_of, rank_of, count_of, renamed_for, standard_axis, turn_for}
-use Rattle.niss_cube.proofs.Words.{number_after, IsCube, every_turn, every_face, every_power, TurnedIsCube}
+use Rattle.niss_cube.proofs.Words.{rank_after, IsCube, every_turn, every_face, every_power, TurnedIsCube}
 use Rattle.niss_cube.proofs.Words.{AreCoordinates, Both, turn_order, Yes, Below, turn_in, turn_number, IsRank}
 use Rattle.niss_cube.proofs.Words.{IsRankAfter}
 use Rattle.niss_cube.proofs.CubieKinds.{lists_of, cube_of, CubieLists, Valid, map_lists, map_place}
 use Rattle.niss_cube.proofs.Codes.{kept_same, cubies_for, renaming, sets_are_places, zero-kept, code, rank_of-code}
-use Rattle.niss_cube.proofs.Codes.{code-below, cubies_with, cubies_with-valid, cubies_with-code, number_after-is}
+use Rattle.niss_cube.proofs.Codes.{code-below, cubies_with, cubies_with-valid, cubies_with-code, rank_after-is}
 use Rattle.niss_cube.proofs.Codes.{code-turned, unrenamed}
 use Rattle.niss_cube.proofs.MovedCubies.{By, moved, moved-map, moved-valid}
 use Rattle.niss_cube.proofs.StepLemmas.{same_turn, same_turn-is}
@@ -43,8 +43,8 @@ standard-turned k t c v =
     (λ q p. moved-map (By t) c v q p ∙ sym (unrenamed k (λ q. turned t (map_lists c q)) q))
 
 module _ (k : Coordinate) (a : Axis) where
-  after_code : (i : ℕ) (t : Turn) → i < count_of k → number_after k a i t ≡ code k (moved (By (turn_for k a t)) (cubies_with k i))
-  after_code i t l = number_after-is k a i t ∙ standard-turned k (turn_for k a t) (cubies_with k i) (cubies_with-valid k i l)
+  after_code : (i : ℕ) (t : Turn) → i < count_of k → rank_after k a i t ≡ code k (moved (By (turn_for k a t)) (cubies_with k i))
+  after_code i t l = rank_after-is k a i t ∙ standard-turned k (turn_for k a t) (cubies_with k i) (cubies_with-valid k i l)
 
   -- the cubies of a map, renamed for the axis
   module _ (c : CubieLists) (v : Valid c) (e : Place → Place) (same : SameMap (map_lists c) e) where
@@ -70,14 +70,14 @@ module _ (k : Coordinate) (a : Axis) where
     number-below : rank_of k a e < count_of k
     number-below = let P : ℕ → Type 0 = λ n. n < count_of k in subst P (sym number-here) (code-below k here here-valid)
 
-    follow : (t : Turn) → rank_of k a (λ q. turned t (e q)) ≡ number_after k a (rank_of k a e) t
+    follow : (t : Turn) → rank_of k a (λ q. turned t (e q)) ≡ rank_after k a (rank_of k a e) t
     follow t =
         let i : ℕ = code k here in
         let l : i < count_of k = code-below k here here-valid in
         turned-here t
         ∙ code-turned k (turn_for k a t) here (cubies_with k i) here-valid (cubies_with-valid k i l) (sym (cubies_with-code k i l))
         ∙ sym (after_code i t l)
-        ∙ ap (λ i. number_after k a i t) (sym number-here)
+        ∙ ap (λ i. rank_after k a i t) (sym number-here)
 
   alike : (d e : Place → Place) → IsCube d → SameMap d e → rank_of k a d ≡ rank_of k a e
   alike d e h s =
@@ -98,27 +98,27 @@ module _ (k : Coordinate) (a : Axis) where
       (cube_of w.0 w.1, rank_of-code k a (map_lists w.0) (cubies_with k i) (cubies_with-valid k i l) w.2 ∙ cubies_with-code k i l)
 
   -- the number after a turn, and after two, is that of the turned cube
-  pub after_turn : (c : Cube) (t : Turn) → number_after k a (rank_of k a (map_of c)) t ≡ rank_of k a (λ q. turned t (map_of c q))
+  pub after_turn : (c : Cube) (t : Turn) → rank_after k a (rank_of k a (map_of c)) t ≡ rank_of k a (λ q. turned t (map_of c q))
   after_turn c t = sym (follow (lists_of c) c.are_cubies (map_of c) (λ q p. refl) t)
 
   pub after_both : (c : Cube) (s t : Turn) →
-      number_after k a (number_after k a (rank_of k a (map_of c)) s) t ≡ rank_of k a (λ q. turned t (turned s (map_of c q)))
+      rank_after k a (rank_after k a (rank_of k a (map_of c)) s) t ≡ rank_of k a (λ q. turned t (turned s (map_of c q)))
   after_both c s t =
       let d = turned_is_cube (map_of c) s (cube-itself c) in
-      ap (λ i. number_after k a i t) (after_turn c s) ∙ sym (follow (lists_of d.0) d.0.are_cubies (λ q. turned s (map_of c q)) d.1 t)
+      ap (λ i. rank_after k a i t) (after_turn c s) ∙ sym (follow (lists_of d.0) d.0.are_cubies (λ q. turned s (map_of c q)) d.1 t)
 
-  stays_below : (i : ℕ) (t : Turn) → i < count_of k → number_after k a i t < count_of k
+  stays_below : (i : ℕ) (t : Turn) → i < count_of k → rank_after k a i t < count_of k
   stays_below i t l =
       let P : ℕ → Type 0 = λ n. n < count_of k in
       let c = some i l in
       let d = turned_is_cube (map_of c.0) t (cube-itself c.0) in
-      subst P (sym (after_turn c.0 t) ∙ ap (λ j. number_after k a j t) c.1)
+      subst P (sym (after_turn c.0 t) ∙ ap (λ j. rank_after k a j t) c.1)
       (number-below (lists_of d.0) d.0.are_cubies (λ q. turned t (map_of c.0 q)) d.1)
 
-  goes_back : (i : ℕ) (t : Turn) → i < count_of k → number_after k a (number_after k a i t) (inverse_turn t) ≡ i
+  goes_back : (i : ℕ) (t : Turn) → i < count_of k → rank_after k a (rank_after k a i t) (inverse_turn t) ≡ i
   goes_back i t l =
       let c = some i l in
-      ap (λ j. number_after k a (number_after k a j t) (inverse_turn t)) (sym c.1)
+      ap (λ j. rank_after k a (rank_after k a j t) (inverse_turn t)) (sym c.1)
       ∙ after_both c.0 t (inverse_turn t)
       ∙ sym (alike (map_of c.0) (λ q. turned (inverse_turn t) (turned t (map_of c.0 q))) (cube-itself c.0) (λ q p.
       sym (turned-inverse_turn t (map_of c.0 q) (map_place (lists_of c.0) c.0.are_cubies q p))))
@@ -144,18 +144,18 @@ is_rank k a c = let law = are_coordinates k a in record {
 
 -- a cube that has a number has another one after a turn that does on the standard axis what t does
 pub after_standard_turn : (k : Coordinate) (a : Axis) (i : ℕ) (c : Cube) (s t : Turn) → rank_of k (standard_axis k) (map_of c) ≡ i →
-    ((n : ℕ) → number_after k (standard_axis k) n s ≡ number_after k a n t) → rank_of k (standard_axis k) (λ q. turned s (map_of c q)) ≡ number_after k a i t
+    ((n : ℕ) → rank_after k (standard_axis k) n s ≡ rank_after k a n t) → rank_of k (standard_axis k) (λ q. turned s (map_of c q)) ≡ rank_after k a i t
 after_standard_turn k a i c s t e same =
-    sym (after_turn k (standard_axis k) c s) ∙ ap (λ j. number_after k (standard_axis k) j s) e ∙ same i
+    sym (after_turn k (standard_axis k) c s) ∙ ap (λ j. rank_after k (standard_axis k) j s) e ∙ same i
 
-pub row-below : (k : Coordinate) (a : Axis) (i : ℕ) (t : Turn) (n : ℕ) → i < count_of k → n ≡ number_after k a i t → n < count_of k
+pub row-below : (k : Coordinate) (a : Axis) (i : ℕ) (t : Turn) (n : ℕ) → i < count_of k → n ≡ rank_after k a i t → n < count_of k
 row-below k a i t n l e = let P : ℕ → Type 0 = λ n. n < count_of k in subst P (sym e) (stays_below k a i t l)
 
-pub is_rank_after : (k : Coordinate) (a : Axis) (i : ℕ) (t : Turn) (n : ℕ) → i < count_of k → n ≡ number_after k a i t → IsRankAfter k a i t n
+pub is_rank_after : (k : Coordinate) (a : Axis) (i : ℕ) (t : Turn) (n : ℕ) → i < count_of k → n ≡ rank_after k a i t → IsRankAfter k a i t n
 is_rank_after k a i t n l e = record {
   value = e;
   in_range = row-below k a i t n l e;
-  of_each = λ f h is. e ∙ ap (λ i. number_after k a i t) (sym is) ∙ sym ((are_coordinates k a).follows f t h);
+  of_each = λ f h is. e ∙ ap (λ i. rank_after k a i t) (sym is) ∙ sym ((are_coordinates k a).follows f t h);
 }
 
 -- each turn has its place in turn order

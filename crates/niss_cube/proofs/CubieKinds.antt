@@ -324,8 +324,8 @@ number_at q = index_in (same_place q) places
 at_number : (q : Place) → is_place q ≡ true → (number_at q < 54) × (place_at (number_at q) ≡ q)
 at_number = holds (Places λ q. Both (Below (number_at q) 54) (Alike (place_at (number_at q)) q)) refl
 
-of_number : (k : ℕ) → k < 54 → (number_at (place_at k) ≡ k) × (is_place (place_at k) ≡ true)
-of_number = holds (Numbers 54 λ k. Both (Equal (number_at (place_at k)) k) (Yes (is_place (place_at k)))) refl
+of_rank : (k : ℕ) → k < 54 → (number_at (place_at k) ≡ k) × (is_place (place_at k) ≡ true)
+of_rank = holds (Numbers 54 λ k. Both (Equal (number_at (place_at k)) k) (Yes (is_place (place_at k)))) refl
 
 -- a numbering of the places, and a map that permutes them
 module _ (n : ℕ) (nth : ℕ → Place) (number : Place → ℕ) (numbers : (q : Place) → is_place q ≡ true → (number q < n) × (nth (number q) ≡ q)) (each : (k : ℕ) → k < n → (number (nth k) ≡ k) × (is_place (nth k) ≡ true))
@@ -361,4 +361,4 @@ module _ (n : ℕ) (nth : ℕ → Place) (number : Place → ℕ) (numbers : (q 
       one_if-same (set q) true (ap (λ z. one_if (set z)) (sym at_q.1) ∙ same ∙ ap (λ z. one_if (set (e z))) at_q.1 ∙ ap one_if m)
 
 pub kept_is_equal : KeptIsEqual
-kept_is_equal c set kept q l m = kept_back 54 place_at number_at at_number of_number (map_lists (lists_of c)) (cubes_permute_places c) set kept q l m
+kept_is_equal c set kept q l m = kept_back 54 place_at number_at at_number of_rank (map_lists (lists_of c)) (cubes_permute_places c) set kept q l m

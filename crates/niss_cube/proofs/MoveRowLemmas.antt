@@ -3,24 +3,24 @@ use Rattle.niss_cube.proofs.Words.{◌≡◌, ℕ, ◌<◌, ◌≤◌, ◌-◌, 
 use Rattle.niss_cube.proofs.Words.{List, [], length, set, get_or, slice_index, get_or-set_same}
 use Rattle.niss_cube.proofs.Words.{get_or-set_other, eqb_tells, Option, None, Some, Place, is_place, turned, Turn, Face}
 use Rattle.niss_cube.proofs.Words.{turn, Quarter, Half, Counter, Axis, Coordinate, map_of, count_of, standard_axis}
-use Rattle.niss_cube.proofs.Words.{number_after, turn_in, AreMoveRows, AreWritten, GoOn, GoesOn, every_face, IfSome}
+use Rattle.niss_cube.proofs.Words.{rank_after, turn_in, AreMoveRows, AreWritten, GoOn, GoesOn, every_face, IfSome}
 use Rattle.niss_cube.proofs.Words.{holds, Faces, Places, Both, Alike, length-set, ◌==◌, false, rules}
 use Rattle.niss_cube.proofs.CubieKinds.{lists_of, map_place}
 use Rattle.niss_cube.proofs.CoordinateLaws.{are_coordinates, turned_is_cube, cube-itself, after_turn, after_both, row-below}
 
 -- a turn and another one after it are one if they bring each place alike
 after_one : (k : Coordinate) (a : Axis) (s t u : Turn) → ((q : Place) → is_place q ≡ true → turned t (turned s q) ≡ turned u q) →
-    (i : ℕ) → i < count_of k → number_after k a (number_after k a i s) t ≡ number_after k a i u
+    (i : ℕ) → i < count_of k → rank_after k a (rank_after k a i s) t ≡ rank_after k a i u
 after_one k a s t u same i l =
     let law = are_coordinates k a in
     let c = law.some_cube i l in
     let e : Place → Place = map_of c.0 in
-    ap (λ j. number_after k a (number_after k a j s) t) (sym c.1)
+    ap (λ j. rank_after k a (rank_after k a j s) t) (sym c.1)
     ∙ after_both k a c.0 s t
     ∙ sym (law.of_places (λ q. turned u (e q)) (λ q. turned t (turned s (e q))) (turned_is_cube e u (cube-itself c.0))
     (λ q p. sym (same (e q) (map_place (lists_of c.0) c.0.are_cubies q p))))
     ∙ sym (after_turn k a c.0 u)
-    ∙ ap (λ j. number_after k a j u) c.1
+    ∙ ap (λ j. rank_after k a j u) c.1
 
 -- a half turn is two quarters, a counter turn three
 powers-hold : (f : Face) (q : Place) → is_place q ≡ true →
@@ -95,7 +95,7 @@ goes_on turns quarters column quarter on l some =
 
 -- the rank after the turn of a column, on the standard axis
 abbrev after_column : Coordinate → List Turn → ℕ → ℕ → ℕ
-after_column k turns i c = number_after k (standard_axis k) i (turn_in turns c)
+after_column k turns i c = rank_after k (standard_axis k) i (turn_in turns c)
 
 -- What a column that is looked up has in the row of a rank.
 module _ (k : Coordinate) (turns : List Turn) (quarters : List (Option ℕ)) (column : ℕ) (rows : List (List ℕ)) (w : AreWritten k turns quarters column rows)

@@ -1,12 +1,12 @@
 -- The numbers of orientations and of slice edges, what they determine, also after a turn; and the loops over them, step by step.
 use Rattle.niss_cube.proofs.Words.{Fact, Yes, Equal, Below, Both, When, Numbers, Digits, Holds, holds, refl, sym, ◌∙◌}
 use Rattle.niss_cube.proofs.Words.{ap, arith, ◌≡◌, ℕ, ◌%◌, ◌<◌, ◌==◌, List, length, get_or, take, sum, ◌↔◌, ext_get_or}
-use Rattle.niss_cube.proofs.Words.{eq-eqb, nat_eq, pointwise, same_text, number, orientations_of_number, AreOriented}
+use Rattle.niss_cube.proofs.Words.{eq-eqb, nat_eq, pointwise, same_text, number, orientations_of_rank, AreOriented}
 use Rattle.niss_cube.proofs.Words.{append_assoc, suc, ◌+◌, ◌-◌, ◌/◌, [], ◌∷◌, ◌++◌, set, drop, length-set, sum_by-cons}
 use Rattle.niss_cube.proofs.Words.{take-length, digits_of_number, drop-set_at, take-suc-set, Same, Truths, map, reverse}
 use Rattle.niss_cube.proofs.Words.{Bool, false, nat_le, sum_by, get_or-reverse, length-reverse, length-map, get_or-map}
 use Rattle.niss_cube.proofs.Words.{rank_places, edges_down, reverse-reverse, count_by, Turn, turn_table}
-use Rattle.niss_cube.proofs.Words.{edges_of_number, ArePlaced, ◌≤◌, le-leb, drop-cons, choose, length-drop, zero}
+use Rattle.niss_cube.proofs.Words.{edges_of_rank, ArePlaced, ◌≤◌, le-leb, drop-cons, choose, length-drop, zero}
 use Rattle.niss_cube.proofs.Words.{CHOICES, choices_with, lt-leb, leb-true, nat_lt, subst, reverse-append, lt-ltb}
 use Rattle.niss_cube.proofs.Words.{le-ltb}
 use Rattle.niss_cube.proofs.CubieKinds.{Kind, Corners, Edges, count, facelets, CubieLists, Valid, once, tabulated}
@@ -27,13 +27,13 @@ numbers Edges = 2048
 abbrev pub turns_number : Kind → List ℕ → ℕ
 turns_number k xs = number (facelets k) (take (free k) xs)
 
-abbrev pub of_number : Kind → ℕ → List ℕ
-of_number k i = orientations_of_number (facelets k) (free k) i
+abbrev pub of_rank : Kind → ℕ → List ℕ
+of_rank k i = orientations_of_rank (facelets k) (free k) i
 
 -- orientations are those of their number
 abbrev list_fact : Kind → Fact
 list_fact k = Digits (facelets k) (count k) λ xs. When (sum xs % facelets k == 0)
-    (Both (Below (turns_number k xs) (numbers k)) (Yes (pointwise nat_eq xs (of_number k (turns_number k xs)))))
+    (Both (Below (turns_number k xs) (numbers k)) (Yes (pointwise nat_eq xs (of_rank k (turns_number k xs)))))
 
 all_lists : (k : Kind) → Holds (list_fact k)
 all_lists Corners = holds (list_fact Corners) refl
@@ -41,47 +41,47 @@ all_lists Edges = holds (list_fact Edges) refl
 
 -- each number is that of its orientations, and no cubie is turned at 0
 abbrev number_fact : Kind → Fact
-number_fact k = Both (Numbers (count k) λ j. Equal (get_or (of_number k 0) j 0) 0) (Numbers (numbers k) λ i.
-    Both (Equal (turns_number k (of_number k i)) i)
-    (Both (Equal (length (of_number k i)) (count k)) (Both (Equal (sum (of_number k i) % facelets k) 0)
-    (Numbers (count k) λ j. Below (get_or (of_number k i) j 0) (facelets k)))))
+number_fact k = Both (Numbers (count k) λ j. Equal (get_or (of_rank k 0) j 0) 0) (Numbers (numbers k) λ i.
+    Both (Equal (turns_number k (of_rank k i)) i)
+    (Both (Equal (length (of_rank k i)) (count k)) (Both (Equal (sum (of_rank k i) % facelets k) 0)
+    (Numbers (count k) λ j. Below (get_or (of_rank k i) j 0) (facelets k)))))
 
 all_numbers : (k : Kind) → Holds (number_fact k)
 all_numbers Corners = holds (number_fact Corners) refl
 all_numbers Edges = holds (number_fact Edges) refl
 
-pub of_number-are : (k : Kind) (i : ℕ) → i < numbers k → AreOriented (facelets k) (count k) (of_number k i)
-of_number-are k i l =
+pub of_rank-are : (k : Kind) (i : ℕ) → i < numbers k → AreOriented (facelets k) (count k) (of_rank k i)
+of_rank-are k i l =
     let t = (all_numbers k).1 i l in
     record { places = t.1.0; range = t.1.1.1; whole = t.1.1.0 }
 
-pub of_number-number : (k : Kind) (i : ℕ) → i < numbers k → turns_number k (of_number k i) ≡ i
-of_number-number k i l = ((all_numbers k).1 i l).0
+pub of_rank-number : (k : Kind) (i : ℕ) → i < numbers k → turns_number k (of_rank k i) ≡ i
+of_rank-number k i l = ((all_numbers k).1 i l).0
 
 module _ (k : Kind) (xs : List ℕ) (o : AreOriented (facelets k) (count k) xs) where
   pub turns_number-below : turns_number k xs < numbers k
   turns_number-below = (all_lists k xs o.places o.range (eq-eqb _ 0 o.whole)).0
 
-  pub turns_number-is : xs ≡ of_number k (turns_number k xs)
+  pub turns_number-is : xs ≡ of_rank k (turns_number k xs)
   turns_number-is = same_text _ _ (sym (all_lists k xs o.places o.range (eq-eqb _ 0 o.whole)).1)
 
 -- orientations are determined by their number
 pub turns_number-same : (k : Kind) (xs ys : List ℕ) → AreOriented (facelets k) (count k) xs → AreOriented (facelets k) (count k) ys →
     turns_number k xs ≡ turns_number k ys → xs ≡ ys
-turns_number-same k xs ys p q e = turns_number-is k xs p ∙ ap (of_number k) e ∙ sym (turns_number-is k ys q)
+turns_number-same k xs ys p q e = turns_number-is k xs p ∙ ap (of_rank k) e ∙ sym (turns_number-is k ys q)
 
 -- their number is 0 exactly where no cubie is turned
 pub turns_number-zero : (k : Kind) (xs : List ℕ) → AreOriented (facelets k) (count k) xs →
     (turns_number k xs ≡ 0) ↔ ((i : ℕ) → i < count k → get_or xs i 0 ≡ 0)
 turns_number-zero k xs o =
-    let home : (i : ℕ) → i < count k → get_or (of_number k 0) i 0 ≡ 0 = (all_numbers k).0 in (
-      (λ e i l. ap (λ ys. get_or ys i 0) (turns_number-is k xs o ∙ ap (of_number k) e) ∙ home i l),
+    let home : (i : ℕ) → i < count k → get_or (of_rank k 0) i 0 ≡ 0 = (all_numbers k).0 in (
+      (λ e i l. ap (λ ys. get_or ys i 0) (turns_number-is k xs o ∙ ap (of_rank k) e) ∙ home i l),
       (λ h.
           let some : 0 < numbers k = some_number k in
-          let len : length xs ≡ length (of_number k 0) = o.places ∙ sym (of_number-are k 0 some).places in
-          let none : xs ≡ of_number k 0 = ext_get_or 0 xs (of_number k 0) len (λ i l.
+          let len : length xs ≡ length (of_rank k 0) = o.places ∙ sym (of_rank-are k 0 some).places in
+          let none : xs ≡ of_rank k 0 = ext_get_or 0 xs (of_rank k 0) len (λ i l.
           let li : i < count k = omega (arith, l, o.places) in h i li ∙ sym (home i li)) in
-          ap (turns_number k) none ∙ of_number-number k 0 some),
+          ap (turns_number k) none ∙ of_rank-number k 0 some),
     )
   where
     some_number : (k : Kind) → 0 < numbers k
@@ -129,7 +129,7 @@ set_last n xs d l =
     ∙ ap (λ k. take k (set xs n d)) (length-set xs n d ∙ l)
     ∙ take-suc-set xs n d (omega arith)
 
-pub written-end : (b n number met rest total : ℕ) (xs : List ℕ) → met ≡ n → Written b n number met rest total xs → set xs n ((b - total) % b) ≡ orientations_of_number b n number
+pub written-end : (b n number met rest total : ℕ) (xs : List ℕ) → met ≡ n → Written b n number met rest total xs → set xs n ((b - total) % b) ≡ orientations_of_rank b n number
 written-end b n number met rest total xs e w =
     let none : n - met ≡ 0 = omega arith in
     let all : take n xs ≡ digits_of_number b n number =
@@ -220,17 +220,17 @@ abbrev edges_fact : ℕ → List ℕ → Fact
 edges_fact i edges = Both (Equal (rank_places (slice_occupied edges) 4) i) (Both (Equal (length edges) 12) (Numbers 12 λ h.
     Both (Equal (count_by (λ x. x == h) edges) 1) (Below (get_or edges h 0) 12)))
 
-all_edges : Holds (Numbers 495 λ i. edges_fact i (edges_of_number i))
-unfolding edges_of_number edges_down
-all_edges = holds (Numbers 495 λ i. edges_fact i (edges_of_number i)) refl
+all_edges : Holds (Numbers 495 λ i. edges_fact i (edges_of_rank i))
+unfolding edges_of_rank edges_down
+all_edges = holds (Numbers 495 λ i. edges_fact i (edges_of_rank i)) refl
 
-pub of_number-placed : (i : ℕ) → i < 495 → ArePlaced 12 (edges_of_number i)
-of_number-placed i l =
+pub of_rank-placed : (i : ℕ) → i < 495 → ArePlaced 12 (edges_of_rank i)
+of_rank-placed i l =
     let t = all_edges i l in
     record { places = t.1.0; each = λ h lh. (t.1.1 h lh).0; range = λ n ln. (t.1.1 n ln).1 }
 
-pub of_number-rank : (i : ℕ) → i < 495 → rank_places (slice_occupied (edges_of_number i)) 4 ≡ i
-of_number-rank i l = (all_edges i l).0
+pub of_rank-rank : (i : ℕ) → i < 495 → rank_places (slice_occupied (edges_of_rank i)) 4 ≡ i
+of_rank-rank i l = (all_edges i l).0
 
 -- where the edges of the slice stand after a turn depends on where they stood
 turned-occupied : (t : Turn) (xs ys : List ℕ) → length xs ≡ 12 → length ys ≡ 12 → map (nat_le 8) xs ≡ map (nat_le 8) ys →
@@ -308,7 +308,7 @@ pub record Placed (number n wanted rest : ℕ) (edges : List ℕ) : Type 0 where
   pub places : length edges ≡ 12
   pub fits : rest < choose n wanted
   pub few : wanted ≤ 4
-  pub is : reverse (edges_down n wanted rest) ++ drop n edges ≡ edges_of_number number
+  pub is : reverse (edges_down n wanted rest) ++ drop n edges ≡ edges_of_rank number
 
 -- the choices by which the last place is wanted, and those by which it isn't
 choices : (n k : ℕ) → choose (suc n) k ≡ choices_with n k + choose n k
@@ -370,7 +370,7 @@ module _ (number met w r : ℕ) (edges edges' : List ℕ) (l : met < 12) (now : 
   pub wanted-below : choices_with n w ≤ r → w ≤ n
   wanted-below h = choosable n w (omega arith) (omega (arith, now.few)) (omega (arith, left_over h))
 
-pub placed-end : (number met w r : ℕ) (edges : List ℕ) → met ≡ 12 → Placed number (12 - met) w r edges → edges ≡ edges_of_number number
+pub placed-end : (number met w r : ℕ) (edges : List ℕ) → met ≡ 12 → Placed number (12 - met) w r edges → edges ≡ edges_of_rank number
 unfolding edges_down
 placed-end number met w r edges e h =
     let none : 12 - met ≡ 0 = omega arith in

@@ -40,9 +40,9 @@ pub use Rattle.niss_moves.specs.Rotations.{renamed_turn, rotation_if, to_top, ab
 pub use Rattle.niss_cube.specs.AfterTurn.{IsCube, TurnedIsCube, AreCoordinates}
 pub use Rattle.niss_cube.specs.Coordinates.{IsRank, rank_places, rank_of, number, count_of, standard_axis, choose}
 pub use Rattle.niss_cube.specs.Coordinates.{renamed_for, turn_for, renaming_for, firsts, brings, orientations, occupied}
-pub use Rattle.niss_cube.specs.Coordinates.{choices_with, digits_of_number, orientations_of_number}
-unfoldable pub use Rattle.niss_cube.specs.Coordinates.{flip_of, slice_of, twist_of, edges_down, edges_of_number}
-unfoldable pub use Rattle.niss_cube.specs.Coordinates.{flips_of_number, twists_of_number}
+pub use Rattle.niss_cube.specs.Coordinates.{choices_with, digits_of_number, orientations_of_rank}
+unfoldable pub use Rattle.niss_cube.specs.Coordinates.{flip_of, slice_of, twist_of, edges_down, edges_of_rank}
+unfoldable pub use Rattle.niss_cube.specs.Coordinates.{flips_of_rank, twists_of_rank}
 pub use Rattle.niss_cube.specs.CubieTurns.{turn_table, IsInRange, renamed_by, renamed_home, renamed_orientation}
 pub use Rattle.niss_cube.specs.CubieTurns.{face_by, rotated, rotated_back, renamed_if, face_if, renaming_table}
 pub use Rattle.niss_cube.specs.Cubies.{index_in, edge_facelets, corner_facelets, facelet_at, row_at, flips_home}
@@ -53,7 +53,7 @@ pub use Rattle.niss_cube.specs.Names.{Turn, U, Axis, Flip, Fb, Rl, Slice, Twist,
 pub use Rattle.niss_cube.specs.Names.{Renaming, Step, Domino, DrEofb, DrEorl, DrEoud, DrfbEorl, DrfbEoud, DrrlEofb}
 pub use Rattle.niss_cube.specs.Names.{DrrlEoud, DrudEofb, DrudEorl, Eo, Eofb, Eorl, Eoud, Goal, Half, XCounter}
 pub use Rattle.niss_cube.specs.Names.{XQuarter, YQuarter, ZCounter, Quarter, Counter}
-unfoldable pub use Rattle.niss_cube.specs.NumberAfter.{number_after}
+unfoldable pub use Rattle.niss_cube.specs.AfterTurn.{rank_after}
 pub use Rattle.niss_cube.specs.Sets.{PermutesPlaces, CubesPermutePlaces, KeptIsEqual, Kept, flip_set, HasOnlyPlaces, set_of}
 pub use Rattle.niss_cube.specs.Sets.{slice_set, twist_set, SetsArePlaces, KeptIsTested}
 unfoldable pub use Rattle.niss_cube.specs.Sets.{is_kept}
@@ -61,7 +61,7 @@ pub use Rattle.niss_cube.specs.StepLaws.{OtherTurnsLeaveStart, DominoKeepsStart,
 pub use Rattle.niss_cube.specs.StepLaws.{InversesOfSteps, StepTurnsInOrder, StepTurnsAreCounted}
 pub use Rattle.niss_cube.specs.Steps.{start_of, goals_of, powers_from, is_face_of, steps, name_of}
 unfoldable pub use Rattle.niss_cube.specs.Steps.{turns_of, may_start, reached}
-pub use Rattle.niss_cube.specs.TableRows.{IsMoveRow, IsRankAfter, AreMoveRows, turn_in, turn_number}
+pub use Rattle.niss_cube.specs.AfterTurn.{IsMoveRow, IsRankAfter, AreMoveRows, turn_in, turn_number}
 pub use Rattle.niss_cube.specs.MoveRows.{AreWritten, GoOn, GoesOn}
 pub use Rattle.niss_cube.specs.declared.cube.coordinate.ranking.TheConstants.{CHOICES}
 pub use Rattle.niss_cube.specs.declared.cubie_turns.CubieTurn.{CubieTurn}

@@ -1,4 +1,4 @@
--- The coordinates of a map of the sticker places, in the order of the cubies, and the cubies that have a number.
+-- The coordinates of a map of the sticker places, in the order of the cubies, and the cubies that have a rank.
 use Rattle.std.specs.Prelude.{◌≡◌, ◌<◌, ◌↔◌, ℕ, zero, suc, ◌+◌, Option, None, Some, Bool, true, false, List, [], ◌∷◌, map, reverse}
 use Rattle.std.specs.Prelude.{length, ◌*◌, take, drop, fold, ◌-◌, ◌%◌, if◌then◌else◌, ◌/◌, ◌++◌, sum, nat_lt}
 use Rattle.std.specs.List.{list_any}
@@ -67,7 +67,7 @@ choose n zero = 1
 choose zero (suc k) = 0
 choose (suc n) (suc k) = choose n k + choose n (suc k)
 
--- the number of an occupied set, of places from the last one down, with k of them still to be met
+-- the rank of an occupied set, of places from the last one down, with k of them still to be met
 abbrev pub rank_places : List Bool → ℕ → ℕ
 rank_places os zero = 0
 rank_places [] (suc k) = 0
@@ -77,19 +77,19 @@ rank_places (false ∷ os) (suc k) = choose (length os) k + rank_places os (suc 
 unfoldable pub slice_of : Axis → (Place → Place) → ℕ
 slice_of a e = rank_places (reverse (occupied (renamed_for Slice a e))) 4
 
--- the number of a coordinate on an axis
+-- the rank of a coordinate on an axis
 abbrev pub rank_of : Coordinate → Axis → (Place → Place) → ℕ
 rank_of Flip = flip_of
 rank_of Twist = twist_of
 rank_of Slice = slice_of
 
--- how many numbers a coordinate has
+-- how many ranks a coordinate has
 abbrev pub count_of : Coordinate → ℕ
 count_of Flip = 2048
 count_of Twist = 2187
 count_of Slice = 495
 
--- A number is that of a map on an axis, below the count, and 0 exactly where the map keeps the coordinate's set.
+-- A rank is that of a map on an axis, below the count, and 0 exactly where the map keeps the coordinate's set.
 pub record IsRank (k : Coordinate) (a : Axis) (e : Place → Place) (n : ℕ) : Type 0 where
   pub value : n ≡ rank_of k a e
   pub in_range : n < count_of k
@@ -105,24 +105,24 @@ abbrev pub digits_of_number : (b n i : ℕ) → List ℕ
 digits_of_number b zero i = []
 digits_of_number b (suc n) i = digits_of_number b n (i / b) ++ (i % b) ∷ []
 
--- the orientations of n + 1 pieces, b of each, that have the number i: the last one makes their sum a multiple of b
-abbrev pub orientations_of_number : (b n i : ℕ) → List ℕ
-orientations_of_number b n i = digits_of_number b n i ++ ((b - sum (digits_of_number b n i) % b) % b) ∷ []
+-- the orientations of n + 1 pieces, b of each, that have the rank i: the last one makes their sum a multiple of b
+abbrev pub orientations_of_rank : (b n i : ℕ) → List ℕ
+orientations_of_rank b n i = digits_of_number b n i ++ ((b - sum (digits_of_number b n i) % b) % b) ∷ []
 
--- the flips of the edges that have the number i
-unfoldable pub flips_of_number : ℕ → List ℕ
-flips_of_number i = orientations_of_number 2 11 i
+-- the flips of the edges that have the rank i
+unfoldable pub flips_of_rank : ℕ → List ℕ
+flips_of_rank i = orientations_of_rank 2 11 i
 
--- the twists of the corners that have the number i
-unfoldable pub twists_of_number : ℕ → List ℕ
-twists_of_number i = orientations_of_number 3 7 i
+-- the twists of the corners that have the rank i
+unfoldable pub twists_of_rank : ℕ → List ℕ
+twists_of_rank i = orientations_of_rank 3 7 i
 
 -- at a place with n below, the choices that leave the last of k wanted ones to it
 abbrev pub choices_with : ℕ → ℕ → ℕ
 choices_with n zero = 0
 choices_with n (suc k) = choose n k
 
--- the edges at n places from the last down that have the number i: k of the slice, from 8 on, and others, each in order
+-- the edges at n places from the last down that have the rank i: k of the slice, from 8 on, and others, each in order
 unfoldable pub edges_down : (n k i : ℕ) → List ℕ
 edges_down zero k i = []
 edges_down (suc n) zero i = n ∷ edges_down n zero i
@@ -131,12 +131,12 @@ edges_down (suc n) (suc k) i =
     then (8 + k) ∷ edges_down n k i
     else (n - suc k) ∷ edges_down n (suc k) (i - choose n k)
 
--- edges whose places have the number i
-unfoldable pub edges_of_number : ℕ → List ℕ
-edges_of_number i = reverse (edges_down 12 4 i)
+-- edges whose places have the rank i
+unfoldable pub edges_of_rank : ℕ → List ℕ
+edges_of_rank i = reverse (edges_down 12 4 i)
 
--- the map of a cube that has the number i on the standard axis, its other cubies at home
-abbrev pub numbered : Coordinate → ℕ → Place → Place
-numbered Flip i = sticker_map corners_home twists_home edges_home (flips_of_number i)
-numbered Twist i = sticker_map corners_home (twists_of_number i) edges_home flips_home
-numbered Slice i = sticker_map corners_home twists_home (edges_of_number i) flips_home
+-- the map of a cube that has the rank i on the standard axis, its other cubies at home
+abbrev pub ranked : Coordinate → ℕ → Place → Place
+ranked Flip i = sticker_map corners_home twists_home edges_home (flips_of_rank i)
+ranked Twist i = sticker_map corners_home (twists_of_rank i) edges_home flips_home
+ranked Slice i = sticker_map corners_home twists_home (edges_of_rank i) flips_home

@@ -4,9 +4,7 @@ pub mod Map
 pub mod Sets
 pub mod CubieTurns
 pub mod Coordinates
-pub mod NumberAfter
 pub mod AfterTurn
-pub mod TableRows
 pub mod MoveRows
 pub mod Steps
 pub mod StepLaws

@@ -3,8 +3,7 @@ use Rattle.std.specs.Prelude.{◌≡◌, ℕ, ◌<◌, ◌-◌, ◌⊎◌, true,
 use Rattle.niss_moves.specs.Places.{is_place}
 use Rattle.niss_cube.specs.Names.{Place, turned, Turn, Coordinate}
 use Rattle.niss_cube.specs.Coordinates.{count_of, standard_axis}
-use Rattle.niss_cube.specs.NumberAfter.{number_after}
-use Rattle.niss_cube.specs.TableRows.{turn_in}
+use Rattle.niss_cube.specs.AfterTurn.{rank_after, turn_in}
 
 -- The turn of a column is that of the column before it and then that of an earlier column.
 pub record GoesOn (turns : List Turn) (column quarter : ℕ) : Type 0 where
@@ -20,4 +19,4 @@ GoOn turns quarters = (column : ℕ) → column < length turns → IfSome (get_o
 pub record AreWritten (k : Coordinate) (turns : List Turn) (quarters : List (Option ℕ)) (column : ℕ) (rows : List (List ℕ)) : Type 0 where
   pub size : length rows ≡ count_of k
   pub right : (i c : ℕ) → i < count_of k → c < length turns → (c < column) ⊎ (get_or quarters c None ≡ None) →
-      slice_index (get_or rows i []) c ≡ number_after k (standard_axis k) i (turn_in turns c)
+      slice_index (get_or rows i []) c ≡ rank_after k (standard_axis k) i (turn_in turns c)

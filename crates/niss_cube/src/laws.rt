@@ -21,8 +21,8 @@ pub fn kept_is_equal()
     ensures { KeptIsEqual }
 {}
 
-/// Flips, twists and slices are coordinates on each axis: each number is some cube's, 0 is where a set of places is kept,
-/// and the number after a turn follows from the number alone.
+/// Flips, twists and slices are coordinates on each axis: each rank is some cube's, 0 is where a set of places is kept,
+/// and the rank after a turn follows from the rank alone.
 pub fn are_coordinates()
     ensures { AreCoordinates }
 {}

@@ -2,7 +2,7 @@
 ghost use Rattle.std.specs.Prelude.{◌≡◌, ◌<◌, IfOk};
 ghost use Rattle.niss_moves.specs.Canonical.{turn_order};
 ghost use Rattle.niss_cube.specs.Coordinates.{count_of, standard_axis};
-ghost use Rattle.niss_cube.specs.TableRows.{AreMoveRows, IsRankAfter, turn_number};
+ghost use Rattle.niss_cube.specs.AfterTurn.{AreMoveRows, IsRankAfter, turn_number};
 ghost use Rattle.niss_cube.specs.declared.cube.coordinate.Coordinate as kinds;
 ghost use Rattle.niss_cube.specs.declared.cube.coordinate.Coordinate.TheVariants.{Flip, Twist, Slice};
 
@@ -23,12 +23,12 @@ fn turn_number(turn: Turn) -> usize
 #[derive(Clone, Copy, Debug, PartialEq, Eq)]
 pub struct OutOfMemory;
 
-/// The numbers of a coordinate after a turn. The number of a turned cube follows from its number before the turn alone, so
-/// there is a row for each number, and one table serves the three axes.
+/// The ranks of a coordinate after a turn. The rank of a turned cube follows from its rank before the turn alone, so there
+/// is a row for each rank, and one table serves the three axes.
 #[derive(Drop)]
 pub struct TurnTable<A: Allocator = Global> {
     coordinate: Coordinate,
-    // of each number the numbers after the 18 turns, on the standard axis
+    // of each rank the ranks after the 18 turns, on the standard axis
     rows: Vec<[u16; 18], A>,
 }
 
@@ -41,7 +41,7 @@ impl<A: Allocator> Model for TurnTable<A> {
 }
 
 impl<A: Allocator> TurnTable<A> {
-    /// Builds the table of a coordinate, 36 bytes for each of its numbers. Where the allocator refuses memory nothing is kept.
+    /// Builds the table of a coordinate, 36 bytes for each of its ranks. Where the allocator refuses memory nothing is kept.
     pub fn build_in(alloc: A, coordinate: Coordinate) -> Result<TurnTable<A>, OutOfMemory>
         ensures { IfOk result (λ table. table ≡ coordinate) }
     {
@@ -59,14 +59,14 @@ impl<A: Allocator> TurnTable<A> {
         self.coordinate
     }
 
-    /// The number on an axis after a turn of any cube that has this number before it; both are below the coordinate's `count`.
+    /// The rank on an axis after a turn of any cube that has this rank before it; both are below the coordinate's `count`.
     #[inline(always)]
-    pub fn next(&self, axis: Axis, number: u16, turn: Turn) -> u16
-        requires { number < count_of self.now }
-        ensures { IsRankAfter self.now axis number turn result }
+    pub fn next(&self, axis: Axis, rank: u16, turn: Turn) -> u16
+        requires { rank < count_of self.now }
+        ensures { IsRankAfter self.now axis rank turn result }
     {
         let standard = self.coordinate.standard_turn(axis, turn);
-        self.rows[number as usize][turn_number(standard)]
+        self.rows[rank as usize][turn_number(standard)]
     }
 }
 
@@ -102,30 +102,30 @@ impl<A: Allocator> TurnTables<A> {
         })
     }
 
-    /// The flip number on an axis, below 2048, after a turn of any cube that has this flip number before it.
+    /// The rank of the flips on an axis, below 2048, after a turn of any cube that has this rank before it.
     #[inline(always)]
-    pub fn next_flip(&self, axis: Axis, number: u16, turn: Turn) -> u16
-        requires { number < 2048 }
-        ensures { IsRankAfter Flip axis number turn result }
+    pub fn next_flip(&self, axis: Axis, rank: u16, turn: Turn) -> u16
+        requires { rank < 2048 }
+        ensures { IsRankAfter Flip axis rank turn result }
     {
-        self.flips.next(axis, number, turn)
+        self.flips.next(axis, rank, turn)
     }
 
-    /// The twist number on an axis, below 2187, after a turn of any cube that has this twist number before it.
+    /// The rank of the twists on an axis, below 2187, after a turn of any cube that has this rank before it.
     #[inline(always)]
-    pub fn next_twist(&self, axis: Axis, number: u16, turn: Turn) -> u16
-        requires { number < 2187 }
-        ensures { IsRankAfter Twist axis number turn result }
+    pub fn next_twist(&self, axis: Axis, rank: u16, turn: Turn) -> u16
+        requires { rank < 2187 }
+        ensures { IsRankAfter Twist axis rank turn result }
     {
-        self.twists.next(axis, number, turn)
+        self.twists.next(axis, rank, turn)
     }
 
-    /// The slice number on an axis, below 495, after a turn of any cube that has this slice number before it.
+    /// The rank of the slice on an axis, below 495, after a turn of any cube that has this rank before it.
     #[inline(always)]
-    pub fn next_slice(&self, axis: Axis, number: u16, turn: Turn) -> u16
-        requires { number < 495 }
-        ensures { IsRankAfter Slice axis number turn result }
+    pub fn next_slice(&self, axis: Axis, rank: u16, turn: Turn) -> u16
+        requires { rank < 495 }
+        ensures { IsRankAfter Slice axis rank turn result }
     {
-        self.slices.next(axis, number, turn)
+        self.slices.next(axis, rank, turn)
     }
 }

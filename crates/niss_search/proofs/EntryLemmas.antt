@@ -1,6 +1,6 @@
 -- The entries of a pruning table by number, and how the turns lead from one to another.
 use Rattle.niss_search.proofs.Words.{entry_distance, position_after, coordinates_after, coordinates_of, InversesOfSteps, get_or-replicate}
-use Rattle.niss_search.proofs.Words.{ℕ, slice_index, is_reached_at, AreCoordinates, inverse_turn, number_after, entry_number, TwistAndSlice}
+use Rattle.niss_search.proofs.Words.{ℕ, slice_index, is_reached_at, AreCoordinates, inverse_turn, rank_after, entry_number, TwistAndSlice}
 use Rattle.niss_search.proofs.Words.{Coordinates, distance_at, Alternative, HasPosition, entry_after, EntriesTurn, div-mul-add, mod-mul-add}
 use Rattle.niss_search.proofs.Words.{count_for, replicate, AreEntries, ArePlaces, AreStarts, row_length, nat_tests, position_of, arith}
 use Rattle.niss_search.proofs.Words.{turns_of, Contains, turn_at, IsFilled, are_zero, goals_of, byte_at, entry_at, or-false, IsEntry, ◌≡◌}
@@ -112,7 +112,7 @@ row_edges step axis row h k place l r =
     let first : row * 2048 + place ≡ place = omega arith in
     rw (get_or-replicate {A = ℕ} 18 k 0 0 (omega (arith, turns_of-length step)), first) (omega arith)
 
-pub row-domino : (step : Step) (edges axis : Axis) (row : ℕ) (starts : List ℕ) → ((k : ℕ) → k < length (turns_of step) → slice_index starts k ≡ number_after coordinate.Twist axis row (turn_at step k) * 495) → AreStarts record { step = step; goal = Domino edges axis } (row * row_length (Domino edges axis)) starts
+pub row-domino : (step : Step) (edges axis : Axis) (row : ℕ) (starts : List ℕ) → ((k : ℕ) → k < length (turns_of step) → slice_index starts k ≡ rank_after coordinate.Twist axis row (turn_at step k) * 495) → AreStarts record { step = step; goal = Domino edges axis } (row * row_length (Domino edges axis)) starts
 unfolding entry_after
 row-domino step edges axis row starts led k place l r =
     rw (led k l, div-mul-add row 495 place r, mod-mul-add row 495 place r) refl

@@ -33,7 +33,7 @@ pub use Rattle.niss_cube.specs.AfterTurn.{AreCoordinates, IsCube, TurnedIsCube}
 pub use Rattle.niss_cube.specs.Coordinates.{count_of}
 unfoldable pub use Rattle.niss_cube.specs.Coordinates.{flip_of, slice_of, twist_of}
 pub use Rattle.niss_cube.specs.Map.{map_of}
-unfoldable pub use Rattle.niss_cube.specs.NumberAfter.{number_after}
+unfoldable pub use Rattle.niss_cube.specs.AfterTurn.{rank_after}
 pub use Rattle.niss_cube.specs.StepLaws.{DominoKeepsStart, InversesOfSteps, StartIsKept, StepTurnsInOrder, StepsSeePlaces}
 pub use Rattle.niss_cube.specs.Steps.{goals_of, holds, start_of}
 unfoldable pub use Rattle.niss_cube.specs.Steps.{turns_of, reached, may_start}
@@ -59,7 +59,6 @@ pub use Rattle.niss_search.specs.Followers.{IsFollower, distance_after, AreFar, 
 pub use Rattle.niss_search.specs.Laws.{PositionsFollowCubes, BoundIsSmall, CountRecurrence, DistanceIsLeast, EdgeFillIsSmall}
 pub use Rattle.niss_search.specs.Laws.{EntriesAreCounted, FillIsSmall, NoSlackIsLeast, PartHasNoMore, StepBoundIsLess}
 pub use Rattle.niss_search.specs.Moves.{turn_at}
-pub use Rattle.niss_cube.specs.TableRows.{IsMoveRow}
 pub use Rattle.niss_search.specs.Names.{Turn, Coordinates, Step, Flip, Follower, no_turn, Axis, Domino, Edges, Goal, B, D, F, Face, L, R, U}
 pub use Rattle.niss_search.specs.Names.{TwistAndSlice}
 pub use Rattle.niss_search.specs.Positions.{are_zero, coordinates_after, coordinates_of, positions}

@@ -3,7 +3,7 @@ use Rattle.std.specs.Prelude.{◌≡◌, ◌≢◌, ℕ, ◌+◌, ◌*◌, ◌/�
 use Rattle.std.specs.Prelude.{List, [], ◌∷◌, length, slice_index, Contains, count_by}
 use Rattle.niss_moves.specs.Effects.{inverse_turn}
 use Rattle.niss_search.specs.Names.{Turn, Goal, Edges, Domino, Step, Coordinates, Flip, TwistAndSlice}
-use Rattle.niss_cube.specs.NumberAfter.{number_after}
+use Rattle.niss_cube.specs.AfterTurn.{rank_after}
 use Rattle.niss_cube.specs.declared.cube.coordinate.Coordinate.TheVariants as coordinate
 use Rattle.niss_cube.specs.Steps.{turns_of}
 use Rattle.niss_cube.specs.StepLaws.{InversesOfSteps}
@@ -32,8 +32,8 @@ row_length (Domino edges axis) = 495
 
 -- the place in its row to which a turn leads a place
 abbrev pub place_after : Goal → ℕ → Turn → ℕ
-place_after (Edges axis) place t = number_after coordinate.Flip axis place t
-place_after (Domino edges axis) place t = number_after coordinate.Slice axis place t
+place_after (Edges axis) place t = rank_after coordinate.Flip axis place t
+place_after (Domino edges axis) place t = rank_after coordinate.Slice axis place t
 
 -- A step and one of its goals: what a pruning table is for.
 pub record Alternative : Type 0 where

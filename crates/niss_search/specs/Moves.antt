@@ -1,9 +1,9 @@
--- The numbers of a coordinate after the turns of a step, which have their columns in turn order. (For the functions of
+-- The ranks of a coordinate after the turns of a step, which have their columns in turn order. (For the functions of
 -- the tables.)
 use Rattle.std.specs.Prelude.{ℕ}
 use Rattle.niss_search.specs.Names.{Axis, Turn, Step, Coordinate}
 use Rattle.niss_cube.specs.Steps.{turns_of}
-use Rattle.niss_cube.specs.TableRows.{turn_in}
+use Rattle.niss_cube.specs.AfterTurn.{turn_in}
 
 -- the turn of a column
 abbrev pub turn_at : Step → ℕ → Turn

@@ -4,7 +4,7 @@ use Rattle.std.specs.List.{list_any}
 use Rattle.niss_moves.specs.Places.{Place}
 use Rattle.niss_search.specs.Names.{Turn, Goal, Edges, Domino, Step, Coordinates, Flip, TwistAndSlice}
 use Rattle.niss_cube.specs.Coordinates.{flip_of, twist_of, slice_of}
-use Rattle.niss_cube.specs.NumberAfter.{number_after}
+use Rattle.niss_cube.specs.AfterTurn.{rank_after}
 use Rattle.niss_cube.specs.Steps.{goals_of, turns_of}
 use Rattle.niss_cube.specs.declared.cube.coordinate.Coordinate.TheVariants as coordinate
 use Rattle.niss_search.specs.Solutions.{Space, distance}
@@ -16,9 +16,9 @@ coordinates_of (Domino edges axis) e = TwistAndSlice axis (twist_of axis e) (sli
 
 -- those after a turn
 abbrev pub coordinates_after : Coordinates → Turn → Coordinates
-coordinates_after (Flip axis flip) t = Flip axis (number_after coordinate.Flip axis flip t)
+coordinates_after (Flip axis flip) t = Flip axis (rank_after coordinate.Flip axis flip t)
 coordinates_after (TwistAndSlice axis twist slice) t =
-    TwistAndSlice axis (number_after coordinate.Twist axis twist t) (number_after coordinate.Slice axis slice t)
+    TwistAndSlice axis (rank_after coordinate.Twist axis twist t) (rank_after coordinate.Slice axis slice t)
 
 -- Are they those of the goal?
 abbrev pub are_zero : Coordinates → Bool

@@ -5,7 +5,7 @@ ghost use Rattle.niss_moves.specs.Places.{SameMap};
 ghost use Rattle.niss_cube.specs.Map.{map_of};
 ghost use Rattle.niss_cube.specs.Sets.{Kept, is_kept, set_of};
 ghost use Rattle.niss_cube.specs.Coordinates.{IsRank, count_of, face_for, rank_of, renamed_for, renaming_for, standard_axis, turn_for};
-ghost use Rattle.niss_cube.specs.NumberAfter.{number_after};
+ghost use Rattle.niss_cube.specs.AfterTurn.{rank_after};
 
 use super::{CORNERS_HOME, Cube, EDGES_HOME};
 use crate::cubie_turns::{cubie_turn, turn_homes, turn_orientations};
@@ -98,15 +98,15 @@ impl Coordinate {
     }
 
     /// A cube with a rank on the standard axis, its other cubies at home.
-    fn unrank(self, number: u16) -> Cube
-        requires { number < count_of self }
-        ensures { rank_of self (standard_axis self) (map_of result) ≡ number }
+    fn unrank(self, rank: u16) -> Cube
+        requires { rank < count_of self }
+        ensures { rank_of self (standard_axis self) (map_of result) ≡ rank }
     {
         let (mut twists, mut edges, mut flips) = ([0; 8], EDGES_HOME, [0; 12]);
         match self {
-            Coordinate::Flip => unrank_orientations(2, number, &mut flips),
-            Coordinate::Twist => unrank_orientations(3, number, &mut twists),
-            Coordinate::Slice => edges = unrank_slice(number),
+            Coordinate::Flip => unrank_orientations(2, rank, &mut flips),
+            Coordinate::Twist => unrank_orientations(3, rank, &mut twists),
+            Coordinate::Slice => edges = unrank_slice(rank),
         }
         Cube {
             corners: CORNERS_HOME,
@@ -150,8 +150,8 @@ impl Coordinate {
     #[inline(always)]
     pub fn standard_turn(self, axis: Axis, turn: Turn) -> Turn
         ensures value { result ≡ turn_for self axis turn }
-        ensures same_number { (number : ℕ)
-            → number_after self (standard_axis self) number result ≡ number_after self axis number turn }
+        ensures same_rank { (rank : ℕ)
+            → rank_after self (standard_axis self) rank result ≡ rank_after self axis rank turn }
     {
         Turn {
             face: self.renamed_face(axis, turn.face),

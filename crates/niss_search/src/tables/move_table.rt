@@ -1,9 +1,8 @@
-//! The numbers of a coordinate after the turns of a step.
+//! The ranks of a coordinate after the turns of a step.
 ghost use Rattle.std.specs.Prelude.{◌≡◌, ◌<◌, ◌≤◌, length, IfOk};
+ghost use Rattle.niss_cube.specs.AfterTurn.{IsMoveRow, rank_after};
 ghost use Rattle.niss_cube.specs.Coordinates.{count_of};
-ghost use Rattle.niss_cube.specs.NumberAfter.{number_after};
 ghost use Rattle.niss_cube.specs.Steps.{turns_of};
-ghost use Rattle.niss_cube.specs.TableRows.{IsMoveRow};
 ghost use Rattle.niss_search.specs.Moves.{turn_at};
 
 use niss_cube::{Axis, Coordinate, OutOfMemory, Step};
@@ -13,10 +12,10 @@ use std::marker::Model;
 /// The most turns of a step.
 pub const MOST_TURNS: usize = 18;
 
-/// The numbers after the turns of a step, in turn order.
+/// The ranks after the turns of a step, in turn order.
 pub type Row = [u16; MOST_TURNS];
 
-/// A coordinate on an axis after the turns of a step: a row for each number, and in it a column for each turn. So a look has
+/// A coordinate on an axis after the turns of a step: a row for each rank, and in it a column for each turn. So a look has
 /// neither an axis to ask nor a face to rename.
 #[derive(Drop)]
 pub struct MoveTable<A: Allocator> {
@@ -27,8 +26,8 @@ pub struct MoveTable<A: Allocator> {
 }
 
 impl<A: Allocator> Model for MoveTable<A> {
+    ghost use Rattle.niss_cube.specs.AfterTurn.{AreMoveRows};
     ghost use Rattle.niss_cube.specs.Steps.{turns_of};
-    ghost use Rattle.niss_cube.specs.TableRows.{AreMoveRows};
     ghost use Rattle.niss_search.specs.Moves.{Moves};
 
     ghost Value = { Moves };
@@ -39,7 +38,7 @@ impl<A: Allocator> Model for MoveTable<A> {
 }
 
 impl<A: Allocator> MoveTable<A> {
-    /// The table of a coordinate on an axis, 36 bytes for each of its numbers.
+    /// The table of a coordinate on an axis, 36 bytes for each of its ranks.
     #[tactic(auto, using(crate::proofs::Bounds::few_turns))]
     pub fn build_in(
         alloc: A,
@@ -77,25 +76,25 @@ impl<A: Allocator> MoveTable<A> {
         self.step.turns().len()
     }
 
-    /// The numbers after the turns of the step, in turn order.
+    /// The ranks after the turns of the step, in turn order.
     #[inline(always)]
-    pub fn row(&self, number: u16) -> &Row
-        requires { number < count_of self.now.coordinate }
-        ensures { IsMoveRow self.now.coordinate self.now.axis (turns_of self.now.step) number result.now }
+    pub fn row(&self, rank: u16) -> &Row
+        requires { rank < count_of self.now.coordinate }
+        ensures { IsMoveRow self.now.coordinate self.now.axis (turns_of self.now.step) rank result.now }
     {
-        &self.rows[number as usize]
+        &self.rows[rank as usize]
     }
 
-    /// The number after the turn of a column.
+    /// The rank after the turn of a column.
     #[tactic(auto, using(crate::proofs::Bounds::few_turns))]
     #[inline(always)]
-    pub fn after(&self, number: u16, column: usize) -> u16
-        requires in_range { number < count_of self.now.coordinate }
+    pub fn after(&self, rank: u16, column: usize) -> u16
+        requires in_range { rank < count_of self.now.coordinate }
         requires of_step { column < length (turns_of self.now.step) }
         ensures value { result
-            ≡ number_after self.now.coordinate self.now.axis number (turn_at self.now.step column) }
+            ≡ rank_after self.now.coordinate self.now.axis rank (turn_at self.now.step column) }
         ensures below { result < count_of self.now.coordinate }
     {
-        self.row(number)[column]
+        self.row(rank)[column]
     }
 }

@@ -1,9 +1,8 @@
 //! The rows of a move table.
 ghost use Rattle.std.specs.Prelude.{◌≡◌, ◌<◌, ◌≤◌, ◌+◌, ℕ, length, slice_index, get_or, None, IfSome};
+ghost use Rattle.niss_cube.specs.AfterTurn.{AreMoveRows, rank_after, turn_in};
 ghost use Rattle.niss_cube.specs.Coordinates.{count_of, standard_axis};
 ghost use Rattle.niss_cube.specs.MoveRows.{AreWritten, GoOn, GoesOn};
-ghost use Rattle.niss_cube.specs.NumberAfter.{number_after};
-ghost use Rattle.niss_cube.specs.TableRows.{AreMoveRows, turn_in};
 
 use super::Coordinate;
 use niss_moves::{Axis, Power, Turn};
@@ -30,8 +29,8 @@ impl Coordinate {
     fn standard_turns(self, axis: Axis, turns: &[Turn]) -> [Turn; MOST_TURNS]
         requires few { length turns.now ≤ 18 }
         ensures { (c i : ℕ) → c < length turns.now →
-            number_after self (standard_axis self) i (turn_in result c)
-            ≡ number_after self axis i (turn_in turns.now c) }
+            rank_after self (standard_axis self) i (turn_in result c)
+            ≡ rank_after self axis i (turn_in turns.now c) }
     {
         let mut standard = [Turn::default(); MOST_TURNS];
         for column in 0..turns.len() {
@@ -40,8 +39,8 @@ impl Coordinate {
         standard
     }
 
-    /// Writes the rows on the standard axis. To look a rank up is quicker than to turn cubies, so this is done for each half
-    /// and counter turn just after the others of its face.
+    /// Writes the rows on the standard axis. Looking a rank up is quicker than turning cubies, so each half and counter turn
+    /// just after the others of its face is looked up.
     fn fill_standard_rows(self, turns: &[Turn], rows: &mut [[u16; MOST_TURNS]])
         requires few { length turns.now ≤ 18 }
         requires each_rank { length rows.old ≡ count_of self }
@@ -70,7 +69,7 @@ impl Coordinate {
         requires few { length turns.now ≤ 18 }
         requires rank { rank < count_of self }
         ensures { (c : ℕ) → c < length turns.now → get_or quarters.now c None ≡ None →
-            slice_index result c ≡ number_after self (standard_axis self) rank (turn_in turns.now c) }
+            slice_index result c ≡ rank_after self (standard_axis self) rank (turn_in turns.now c) }
     {
         let cube = self.unrank(rank);
         let mut row = [0; MOST_TURNS];

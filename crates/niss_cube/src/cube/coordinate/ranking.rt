@@ -1,6 +1,6 @@
-//! The numbers of orientations and of the places of a slice's edges, and what has a number.
+//! The ranks of orientations and of the places of a slice's edges, and what has a rank.
 ghost use Rattle.std.specs.Prelude.{◌≡◌, ◌<◌, ◌≤◌, ◌^◌, ◌-◌, ◌⊎◌, length, map, reverse, nat_le};
-ghost use Rattle.niss_cube.specs.Coordinates.{number, rank_places, orientations_of_number, choices_with, edges_of_number};
+ghost use Rattle.niss_cube.specs.Coordinates.{number, rank_places, orientations_of_rank, choices_with, edges_of_rank};
 
 /// The digits as a number, the first digit the highest.
 pub fn rank_digits(base: u16, digits: &[u8]) -> u16
@@ -15,14 +15,14 @@ pub fn rank_digits(base: u16, digits: &[u8]) -> u16
     n
 }
 
-/// Writes the orientations that have a number: its digits, and a last one that makes the sum a multiple of the base.
-pub fn unrank_orientations(base: u8, number: u16, orientations: &mut [u8])
+/// Writes the orientations that have a rank: its digits, and a last one that makes the sum a multiple of the base.
+pub fn unrank_orientations(base: u8, rank: u16, orientations: &mut [u8])
     requires some { 0 < length orientations.old }
     requires base { (base ≡ 2) ⊎ (base ≡ 3) }
-    ensures { orientations.new ≡ orientations_of_number base (length orientations.old - 1) number }
+    ensures { orientations.new ≡ orientations_of_rank base (length orientations.old - 1) rank }
 {
     let last = orientations.len() - 1;
-    let mut rest = number;
+    let mut rest = rank;
     let mut sum = 0;
     for met in 0..last {
         let digit = (rest % u16::from(base)) as u8;
@@ -49,7 +49,7 @@ const CHOICES: [[u16; 4]; 12] = [
     [1, 11, 55, 165],
 ];
 
-/// The number of the places at which one of the edges 8 to 11 stands: a numbering of this project's own.
+/// The rank of the places at which one of the edges 8 to 11 stands: a numbering of this project's own.
 pub fn rank_slice(edges: &[u8; 12]) -> u16
     ensures { result ≡ rank_places (reverse (map (nat_le 8) edges.now)) 4 }
 {
@@ -83,14 +83,14 @@ fn choices_with(below: usize, wanted: usize) -> u16
     }
 }
 
-/// The edges by place, those of the slice at the places that have a number.
-pub fn unrank_slice(number: u16) -> [u8; 12]
-    requires { number < 495 }
-    ensures { result ≡ edges_of_number number }
+/// The edges by place, those of the slice at the places that have a rank.
+pub fn unrank_slice(rank: u16) -> [u8; 12]
+    requires { rank < 495 }
+    ensures { result ≡ edges_of_rank rank }
 {
     let mut edges = [0; 12];
     let mut wanted: usize = 4;
-    let mut rest = number;
+    let mut rest = rank;
     for met in 0..12 {
         let place = 11 - met;
         let with = choices_with(place, wanted);

@@ -2,4 +2,4 @@ use Rattle.niss_cube.proofs.Ranks.{Written}
 use Rattle.niss_cube.proofs.cube.coordinate.ranking.unrank_orientations.Given as goal
 
 abbrev pub invariant-loop-met : goal.invariant-loop-met
-invariant-loop-met l = Written l.base l.last l.number l.met l.rest l.sum l.orientations
+invariant-loop-met l = Written l.base l.last l.rank l.met l.rest l.sum l.orientations
