@@ -10,7 +10,7 @@ pub use Rattle.std.proofs.lemmas.Bool.Decides.{eqb_tells}
 pub use Rattle.std.proofs.lemmas.Grind.{drop-set_at}
 pub use Rattle.std.proofs.lemmas.List.{ext_get_or, get_or-map, length-map, length-set, length-reverse, append-nil}
 pub use Rattle.std.proofs.lemmas.List.{at_drop_more, get_or-reverse, get_or_default, reverse-reverse, length-drop}
-pub use Rattle.std.proofs.lemmas.List.{at_drop_all, reverse-append, get_or-set_same, get_or-set_other, get_or-take}
+pub use Rattle.std.proofs.lemmas.List.{at_drop_all, reverse-append, get_or-set_same, get_or-set_other}
 pub use Rattle.std.proofs.lemmas.List.Folds.{Any-from_list_any, list_any_at}
 pub use Rattle.std.proofs.lemmas.List.FromFn.{get_or-map-range_with_len, length-map-range_with_len}
 pub use Rattle.std.proofs.lemmas.List.FromFn.{get_or-range_with_len, length-range_with_len}

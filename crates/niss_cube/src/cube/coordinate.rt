@@ -57,7 +57,7 @@ impl Coordinate {
 
     /// The rotation by which a cube is renamed before the coordinate on an axis is read, if it is. The flips on Ud are
     /// read from the renamed cube, whose set is the complement, among the edge places, of the set that geometry
-    /// defines: a cube keeps both or neither, so the number is 0 exactly if it keeps this one.
+    /// defines: a cube keeps both or neither, so the rank is 0 exactly if it keeps this one.
     #[inline(always)]
     fn renaming(self, axis: Axis) -> Option<Renaming>
         ensures { result ≡ renaming_for self axis }
