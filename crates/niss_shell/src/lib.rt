@@ -39,8 +39,8 @@ pub use laws::{accepted_lines_are_solved, lines_are_cut, more_input_keeps_answer
 pub use line_command::{count_solutions, rewrite, start_position};
 pub use niss_cube::Step;
 pub use niss_search::{Limit, Meter};
-pub use output::solution_text;
 pub use scrambles::put_scramble;
 pub use shell::{put_steps, run, run_in};
 pub use stop::LineFault;
 pub use streams::{FromReader, ToWriter};
+pub use text::put_solution;

@@ -8,7 +8,7 @@ use crate::device::{Source, Target};
 use crate::line_command::{LineCommand, rewrite, start_position};
 use crate::output::Output;
 use crate::stop::{LineFault, Stop};
-use niss_moves::{LineReader, LineText};
+use niss_moves::LineReader;
 use niss_search::laws::counts_and_bounds;
 use niss_search::{Meter, Tables};
 use std::alloc::Allocator;
@@ -26,8 +26,6 @@ pub struct Lines<'a, A: Allocator> {
     looks: &'a mut Meter,
     reader: LineReader,
     line: u32,
-    // the last answer: one text serves all lines, since a new one would be zeroed for each
-    text: LineText,
 }
 
 impl<'a, A: Allocator> Lines<'a, A> {
@@ -49,7 +47,6 @@ impl<'a, A: Allocator> Lines<'a, A> {
             looks,
             reader: LineReader::new(),
             line: 1,
-            text: LineText::new(),
         }
     }
 
@@ -87,8 +84,8 @@ impl<'a, A: Allocator> Lines<'a, A> {
     {
         match self.command {
             LineCommand::Rewrite(rewriting) => {
-                rewrite(*rewriting, self.reader.moves(), &mut self.text);
-                Ok(output.put(&self.text)?)
+                rewrite(*rewriting, self.reader.moves(), &mut output.next);
+                Ok(output.put()?)
             }
             LineCommand::Search(tables, query) => {
                 counts_and_bounds();

@@ -23,11 +23,11 @@ use niss_search::{Limit, Meter};
 use rand_pcg::Lcg64Xsh32;
 use std::alloc::{Allocator, Global};
 
-/// Writes the names of the steps into the empty text, each on a line.
+/// Sets the text to the names of the steps, each on a line.
 pub fn put_steps(text: &mut LineText)
-    requires { length text.old.items ≡ 0 }
     ensures { text.new.items ≡ flat_map step_line steps }
 {
+    text.clear();
     for step in Step::all() {
         put_text(step.name().as_bytes(), text);
         text.push(b'\n');
@@ -41,9 +41,8 @@ fn write_steps<W: Target>(output: &mut Output<W>) -> Result<(), Stop>
         (output_state output.old looks) (output_state output.new looks) }
     ensures empty { output.new.pending.items ≡ [] }
 {
-    let mut text = LineText::new();
-    put_steps(&mut text);
-    Ok(output.write(&text)?)
+    put_steps(&mut output.next);
+    Ok(output.write()?)
 }
 
 /// Does a command on the lines of the words, or of the source if there are none. Memory is taken for joined words, and then for
