@@ -10,7 +10,8 @@ use Rattle.std.proofs.lemmas.List.{map-append}
 use Rattle.std.proofs.lemmas.List.Elements.{All-nil, All-cons, All-head, All-tail}
 use Rattle.std.proofs.lemmas.List.Folds.{list_all-append}
 use Rattle.niss_shell.specs.Output.{line_with_bytes}
-use Rattle.niss_embed.specs.Run.{HasNoZero, ended_word, AreCutInto, AreWords, TakesWords, IsFirstWord}
+use Rattle.niss_shell.specs.Lines.{HasNo, IsCutAt, ended_by}
+use Rattle.niss_embed.specs.Run.{AreWords, TakesWords, IsFirstWord}
 
 abbrev pub IsNotZero : ℕ → Type 0
 IsNotZero byte = byte ≢ 0
@@ -21,17 +22,17 @@ nothing_ends : (word rest : List ℕ) → (word ++ 0 ∷ []) ++ rest ≢ []
 nothing_ends [] rest e = absurd (cc e)
 nothing_ends (b ∷ word) rest e = absurd (cc e)
 
-no_cut : (ended : List (List ℕ)) (last : List ℕ) → flat_map ended_word ended ++ last ≡ [] → ended ++ line_with_bytes last ≡ []
+no_cut : (ended : List (List ℕ)) (last : List ℕ) → flat_map (ended_by 0) ended ++ last ≡ [] → ended ++ line_with_bytes last ≡ []
 no_cut [] [] e = refl
 no_cut [] (b ∷ last) e = absurd (cc e)
 no_cut (word ∷ ended) last e =
-    absurd (nothing_ends word (flat_map ended_word ended ++ last) (sym (append_assoc (word ++ 0 ∷ []) (flat_map ended_word ended) last) ∙ e))
+    absurd (nothing_ends word (flat_map (ended_by 0) ended ++ last) (sym (append_assoc (word ++ 0 ∷ []) (flat_map (ended_by 0) ended) last) ∙ e))
 
 pub no_words : {words : List (List ℕ)} → AreWords [] words → words ≡ []
 no_words p = p.all ∙ no_cut p.ended p.last p.cut.whole
 
-nil_cut : AreCutInto [] [] []
-nil_cut = record { unbroken_words = All-nil HasNoZero; unbroken_last = All-nil IsNotZero; whole = refl }
+nil_cut : IsCutAt 0 [] [] []
+nil_cut = record { unbroken_parts = All-nil (HasNo 0); unbroken_last = All-nil IsNotZero; whole = refl }
 
 nil_words : AreWords [] []
 nil_words = record { ended = []; last = []; cut = nil_cut; all = refl }
@@ -39,18 +40,18 @@ nil_words = record { ended = []; last = []; cut = nil_cut; all = refl }
 -- all bytes have words
 
 abbrev Cut : List ℕ → Type 0
-Cut bytes = (ended : List (List ℕ)) × ((last : List ℕ) × AreCutInto bytes ended last)
+Cut bytes = (ended : List (List ℕ)) × ((last : List ℕ) × IsCutAt 0 bytes ended last)
 
 not_zero : {b : ℕ} → (b == 0) ≡ false → b ≢ 0
 not_zero e h = cc (e, ap (λ n. n == 0) h)
 
-longer_first : (b : ℕ) (bytes : List ℕ) → b ≢ 0 → (ended : List (List ℕ)) (last : List ℕ) → AreCutInto bytes ended last → Cut (b ∷ bytes)
+longer_first : (b : ℕ) (bytes : List ℕ) → b ≢ 0 → (ended : List (List ℕ)) (last : List ℕ) → IsCutAt 0 bytes ended last → Cut (b ∷ bytes)
 longer_first b bytes h [] last p = (
   [],
   (
     b ∷ last,
     record {
-      unbroken_words = All-nil HasNoZero;
+      unbroken_parts = All-nil (HasNo 0);
       unbroken_last = All-cons IsNotZero b last h p.unbroken_last;
       whole = ap (λ v. b ∷ v) p.whole;
     },
@@ -61,8 +62,8 @@ longer_first b bytes h (word ∷ words) last p = (
   (
     last,
     record {
-      unbroken_words = All-cons HasNoZero (b ∷ word) words
-          (All-cons IsNotZero b word h (All-head HasNoZero word words p.unbroken_words)) (All-tail HasNoZero word words p.unbroken_words);
+      unbroken_parts = All-cons (HasNo 0) (b ∷ word) words
+          (All-cons IsNotZero b word h (All-head (HasNo 0) word words p.unbroken_parts)) (All-tail (HasNo 0) word words p.unbroken_parts);
       unbroken_last = p.unbroken_last;
       whole = ap (λ v. b ∷ v) p.whole;
     },
@@ -75,7 +76,7 @@ one_more true b bytes e p = (
   (
     p.1.0,
     record {
-      unbroken_words = All-cons HasNoZero [] p.0 (All-nil IsNotZero) p.1.1.unbroken_words;
+      unbroken_parts = All-cons (HasNo 0) [] p.0 (All-nil IsNotZero) p.1.1.unbroken_parts;
       unbroken_last = p.1.1.unbroken_last;
       whole = ap (λ v. 0 ∷ v) p.1.1.whole ∙ ap (λ n. n ∷ bytes) (sym (eqb-true b 0 e));
     },
@@ -98,15 +99,15 @@ one_line : (word : List ℕ) → 0 < length word → word ∷ [] ≡ line_with_b
 one_line [] h = absurd (omega (arith, h))
 one_line (b ∷ word) h = refl
 
-word_before : (bytes word after : List ℕ) (more : List (List ℕ)) → HasNoZero word → AreWords after more
+word_before : (bytes word after : List ℕ) (more : List (List ℕ)) → HasNo 0 word → AreWords after more
     → (word ++ 0 ∷ after ≡ bytes) ⊎ ((word ≡ bytes) × (after ≡ []) × (0 < length bytes)) → AreWords bytes (word ∷ more)
 word_before bytes word after more h m (inl e) = record {
   ended = word ∷ m.ended;
   last = m.last;
   cut = record {
-    unbroken_words = All-cons HasNoZero word m.ended h m.cut.unbroken_words;
+    unbroken_parts = All-cons (HasNo 0) word m.ended h m.cut.unbroken_parts;
     unbroken_last = m.cut.unbroken_last;
-    whole = append_assoc (word ++ 0 ∷ []) (flat_map ended_word m.ended) m.last ∙ ap (λ v. (word ++ 0 ∷ []) ++ v) m.cut.whole
+    whole = append_assoc (word ++ 0 ∷ []) (flat_map (ended_by 0) m.ended) m.last ∙ ap (λ v. (word ++ 0 ∷ []) ++ v) m.cut.whole
         ∙ append_assoc word (0 ∷ []) after ∙ e;
   };
   all = ap (λ v. word ∷ v) m.all;
@@ -114,7 +115,7 @@ word_before bytes word after more h m (inl e) = record {
 word_before bytes word after more h m (inr p) = record {
   ended = [];
   last = word;
-  cut = record { unbroken_words = All-nil HasNoZero; unbroken_last = h; whole = p.0 };
+  cut = record { unbroken_parts = All-nil (HasNo 0); unbroken_last = h; whole = p.0 };
   all = ap (λ v. word ∷ v) (no_words (subst (λ v. AreWords v more) p.1 m)) ∙ one_line word (subst (λ v. 0 < length v) (sym p.0) p.2);
 }
 
@@ -186,7 +187,7 @@ pub on_err : {T E P : Type 0} (r : Result T E) → P → OnErr r P
 on_err (Ok x) p = tt
 on_err (Err e) p = p
 
-pub none_before : (bytes : List ℕ) → HasNoZero (take 0 bytes)
+pub none_before : (bytes : List ℕ) → HasNo 0 (take 0 bytes)
 none_before [] = All-nil IsNotZero
 none_before (b ∷ bytes) = All-nil IsNotZero
 

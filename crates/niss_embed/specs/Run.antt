@@ -1,35 +1,21 @@
 -- What a call that runs a command in memory does: the words of a command line, one after the other in the bytes of one
 -- text, and what it answers.
-use Rattle.std.specs.Prelude.{◌≡◌, ◌≢◌, ◌⊎◌, ℕ, ◌<◌, if◌then◌else◌, Bool, true, false, Result, Err, List, [], ◌∷◌, ◌++◌}
-use Rattle.std.specs.Prelude.{All, flat_map, length}
+use Rattle.std.specs.Prelude.{◌≡◌, ◌⊎◌, ℕ, ◌<◌, if◌then◌else◌, Bool, true, List, [], ◌∷◌, ◌++◌, length}
 use Rattle.std.specs.List.{list_all}
 use Rattle.std.specs.Str.{is_utf8}
 use Rattle.niss_shell.specs.Words.{request_of}
 use Rattle.niss_shell.specs.Device.{End}
+use Rattle.niss_shell.specs.Lines.{HasNo, IsCutAt}
 use Rattle.niss_shell.specs.Output.{Answer, answer_request, error_text, status_of, line_with_bytes}
 use Rattle.niss_shell.specs.Run.{due_without, outcome_before}
-use Rattle.niss_embed.specs.Names.{Answer as Given, Stop, CannotWrite, OutOfMemory}
+use Rattle.niss_embed.specs.Names.{Answer as Given}
 use Rattle.niss_embed.specs.Memory.{Memory, Puts}
 
--- no byte of it is zero
-abbrev pub HasNoZero : List ℕ → Type 0
-HasNoZero word = All (λ byte. byte ≢ 0) word
-
--- a word, and the zero byte that ends it
-abbrev pub ended_word : List ℕ → List ℕ
-ended_word word = word ++ 0 ∷ []
-
--- The bytes are these words, each with the zero byte that ends it, and what stands after the last zero byte.
-pub record AreCutInto (bytes : List ℕ) (words : List (List ℕ)) (last : List ℕ) : Type 0 where
-  pub unbroken_words : All HasNoZero words
-  pub unbroken_last : HasNoZero last
-  pub whole : flat_map ended_word words ++ last ≡ bytes
-
--- These are the words of the bytes: what stands after the last zero byte is one where it has a byte.
+-- These are the words of the bytes, each of which a zero byte ends: what stands after the last one is one where it has a byte.
 pub record AreWords (bytes : List ℕ) (words : List (List ℕ)) : Type 0 where
   pub ended : List (List ℕ)
   pub last : List ℕ
-  pub cut : AreCutInto bytes ended last
+  pub cut : IsCutAt 0 bytes ended last
   pub all : words ≡ ended ++ line_with_bytes last
 
 -- the words that a command line with these is run with: none where one of them is no text
@@ -44,7 +30,7 @@ pub record TakesWords (bytes : List ℕ) (taken : List (List ℕ)) : Type 0 wher
 
 -- The first word of the bytes, and what is after it and the zero byte that ends it.
 pub record IsFirstWord (bytes word after : List ℕ) : Type 0 where
-  pub unbroken : HasNoZero word
+  pub unbroken : HasNo 0 word
   pub ends : (word ++ 0 ∷ after ≡ bytes) ⊎ ((word ≡ bytes) × (after ≡ []) × (0 < length bytes))
 
 -- what a run with these words on this input is to write and to answer, where memory was refused or wasn't

@@ -4,7 +4,8 @@ ghost use Rattle.std.specs.Prelude.{drop, length};
 ghost use Rattle.niss_shell.specs.Output.{unsearched};
 ghost use Rattle.niss_embed.specs.Names.{OutOfMemory};
 ghost use Rattle.niss_embed.specs.Memory.{memory};
-ghost use Rattle.niss_embed.specs.Run.{HasNoZero, IsFirstWord, TakesWords, Answers, RunsBytes, RunsWords};
+ghost use Rattle.niss_shell.specs.Lines.{HasNo};
+ghost use Rattle.niss_embed.specs.Run.{IsFirstWord, TakesWords, Answers, RunsBytes, RunsWords};
 
 use crate::answer::{Answer, Status};
 use crate::memory::{MemorySource, MemoryTarget, put};
@@ -13,8 +14,8 @@ use std::alloc::{AllocError, Allocator};
 
 /// Where the first zero byte is.
 fn first_zero(bytes: &[u8]) -> Option<usize>
-    ensures { MatchOption result (HasNoZero bytes.now) (λ at. (at < length bytes.now)
-        × HasNoZero (take at bytes.now) × (drop at bytes.now ≡ 0 ∷ drop (at + 1) bytes.now)) }
+    ensures { MatchOption result (HasNo 0 bytes.now) (λ at. (at < length bytes.now)
+        × HasNo 0 (take at bytes.now) × (drop at bytes.now ≡ 0 ∷ drop (at + 1) bytes.now)) }
 {
     for (at, &byte) in bytes.iter().enumerate() {
         if byte == 0 {

@@ -5,7 +5,7 @@ ghost use Rattle.niss_moves.specs.Places.{Place};
 ghost use Rattle.niss_moves.specs.Reader.{read_line};
 ghost use Rattle.niss_search.specs.Cubes.{IsPosition, HasPosition};
 ghost use Rattle.niss_shell.specs.Output.{solution_line, start_cube};
-ghost use Rattle.niss_shell.specs.Words.{most_limit};
+ghost use Rattle.niss_shell.specs.Words.{most_bytes, most_limit};
 ghost use Rattle.niss_embed.specs.Memory.{memory};
 ghost use Rattle.niss_embed.specs.LineCalls.{status_number};
 ghost use Rattle.niss_embed.specs.LineSearch.{most_of_line, lines_state, Takes, Refuses, capped, SolvesCube};
@@ -13,12 +13,12 @@ ghost use Rattle.niss_embed.specs.LineSearch.{SolvesLine, count_at, CountsLine};
 ghost use Rattle.niss_embed.specs.declared.answer.Status.TheVariants.{Done, NoRoom};
 
 use crate::answer::{CountAnswer, SolveAnswer, Status};
-use crate::line_texts::{MOST_BYTES, feed_line};
+use crate::line_texts::feed_line;
 use crate::memory::put;
-use niss_moves::{LineReader, Turn};
+use niss_moves::{LineReader, LineText, Turn};
 use niss_search::laws::first_is_least;
 use niss_search::{Limit, Meter, Position, Sink, Tables, TurnPath, search};
-use niss_shell::{LineFault, count_solutions, solution_text, start_position};
+use niss_shell::{LineFault, MOST_BYTES, count_solutions, put_solution, start_position};
 use std::alloc::Allocator;
 
 /// Which solutions are asked for, in numbers that a caller may give in any way.
@@ -75,6 +75,8 @@ struct SolutionLines<'a> {
     /// How many turns the first solution has that was taken or refused.
     first: Option<u8>,
     too_small: bool,
+    /// The line of the last solution. One text serves all, since a new one would be zeroed for each.
+    line: LineText,
     ghost within: { written ≤ length bytes.now },
     ghost few: { solutions ≤ most },
 }
@@ -97,6 +99,7 @@ impl<'a> SolutionLines<'a> {
             most,
             first: None,
             too_small: false,
+            line: LineText::new(),
         }
     }
 }
@@ -119,12 +122,12 @@ impl Sink for SolutionLines<'_> {
         if self.solutions == self.most {
             return Err(Refused);
         }
-        let line = solution_text(path);
-        if line.len() > self.bytes.len() - self.written {
+        put_solution(path, &mut self.line);
+        if self.line.len() > self.bytes.len() - self.written {
             self.too_small = true;
             return Err(Refused);
         }
-        self.written += put(self.bytes, self.written, line.as_slice());
+        self.written += put(self.bytes, self.written, self.line.as_slice());
         self.solutions += 1;
         Ok(())
     }
@@ -140,7 +143,7 @@ fn capped(number: u128) -> u64
 /// The position that the search begins at: that of the line's cube, if the line is read and the step
 /// may start there.
 fn begin<A: Allocator>(tables: &Tables<A>, line: &[u8]) -> Result<Position, LineFault>
-    requires { length line.now ≤ 16777216 }
+    requires { length line.now ≤ most_bytes }
     ensures { MatchResult result
         (λ position. (e : Place → Place) × (start_cube tables.now (read_line line.now) ≡ Ok e)
         × HasPosition tables.now e position)

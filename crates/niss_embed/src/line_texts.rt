@@ -4,16 +4,14 @@ ghost use Rattle.std.specs.Prelude.{◌≡◌, ◌≢◌, ◌+◌, ◌<◌, ◌�
 ghost use Rattle.std.specs.Option.{option_copied};
 ghost use Rattle.niss_moves.specs.Reader.{IsFed};
 ghost use Rattle.niss_shell.specs.Output.{line_text};
+ghost use Rattle.niss_shell.specs.Words.{most_bytes};
 ghost use Rattle.niss_embed.specs.LineCalls.{status_number, Does, Rewrites, outcome_of_text, outcome_of_scramble};
 ghost use Rattle.niss_embed.specs.LineCalls.{outcome_of_steps, outcome_of_start, outcome_of_some, fault_text_of};
 ghost use Rattle.niss_embed.specs.declared.answer.Status.TheVariants.{NoRoom};
 
 use crate::answer::LineAnswer;
 use niss_moves::{LineReader, LineText, Niss, ReadFault};
-use niss_shell::{Rewriting, put_scramble, put_steps, rewrite, step_named};
-
-/// The most bytes of a line.
-pub(crate) const MOST_BYTES: usize = 16_777_216;
+use niss_shell::{MOST_BYTES, Rewriting, put_scramble, put_steps, rewrite, step_named};
 
 /// The most turns of a scramble.
 const MOST_TURNS: u32 = 256;
@@ -21,7 +19,7 @@ const MOST_TURNS: u32 = 256;
 /// Feeds the first bytes, whole moves or one byte, and answers how many.
 fn feed_some(reader: &mut LineReader, bytes: &[u8]) -> usize
     requires some { 0 < length bytes.now }
-    requires room { reader.old.fed + length bytes.now ≤ 16777216 }
+    requires room { reader.old.fed + length bytes.now ≤ most_bytes }
     ensures some { 0 < result }
     ensures within { result ≤ length bytes.now }
     ensures fed { (front : List ℕ) → IsFed reader.old front →
@@ -39,7 +37,7 @@ fn feed_some(reader: &mut LineReader, bytes: &[u8]) -> usize
 /// Feeds a whole line to a new reader.
 pub(crate) fn feed_line(reader: &mut LineReader, line: &[u8])
     requires new { IsFed reader.old [] }
-    requires room { length line.now ≤ 16777216 }
+    requires room { length line.now ≤ most_bytes }
     ensures { IsFed reader.new line.now }
 {
     let mut index = 0;

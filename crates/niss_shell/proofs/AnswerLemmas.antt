@@ -1,11 +1,12 @@
 -- From the steps of the engine to the answers to a whole input.
 use Rattle.niss_shell.proofs.Names.{◌≡◌, ◌≢◌, ℕ, ◌+◌, ◌≤◌, ◌<◌, take, true, false, Result, Ok, Err, List, [], ◌∷◌, ◌++◌, length}
 use Rattle.niss_shell.proofs.Names.{refl, sym, ap, ◌∙◌, subst, append-nil, length-append, arith, nat_lt, common_steps, take_all}
-use Rattle.niss_shell.proofs.Names.{take-append-add, SourceCall, TargetCall, Read, Calls, Reads, WasRead, ended_lines, last_part, IsFed}
+use Rattle.niss_shell.proofs.Names.{take-append-add, SourceCall, TargetCall, Read, Calls, Reads, WasRead, ended_lines, last_part, IsFirst}
 use Rattle.niss_shell.proofs.Names.{most_bytes, Ending, More, End, Fail, LineAnswers, answers_from, answer_lines, line_with_bytes}
 use Rattle.niss_shell.proofs.Names.{last_line, complete_lines, outcome_of_input, unsearched, AnswerState, Progress, TakesBytes, TakesEnd}
 use Rattle.niss_shell.proofs.Names.{TakesNext, TakesLast, IsAt, Answers, AnswersSource, DeviceFault, Stop, InputTooLong, CannotRead}
-use Rattle.niss_shell.proofs.StateLemmas.{calls_more, one_call, reads_more, reads_some, reads_end, reads_fault, nothing_read}
+use Rattle.niss_shell.proofs.Names.{Bool, outcome_before, ReadsWhile, IsFaultless}
+use Rattle.niss_shell.proofs.StateLemmas.{calls_more, one_call, reads_more, reads_some, reads_end, reads_fault, nothing_read, while_none, while_more}
 use Rattle.niss_shell.proofs.StateLemmas.{delivers_nothing, answered, answers_more, answers_stopped, choose_false, choose_true}
 use Rattle.niss_shell.proofs.LinesLemmas.{answers_from-append}
 use Rattle.niss_shell.proofs.EngineLemmas.{takes_none, takes_more, last_kept}
@@ -47,7 +48,7 @@ abbrev pub stop_unless : Result (Unit {0}) Stop → Stop → Stop
 stop_unless (Ok u) otherwise = otherwise
 stop_unless (Err stop) otherwise = stop
 
--- a source that gave so many bytes, and is read once more
+-- a source that gave some bytes, and is read once more
 
 module _ {R : Type 0} (read : R → SourceCall → R → Type 0) (a b c : R) (x : WasRead (Calls read a b)) (goes_on : x.ended ≡ More)
     {asked : ℕ} {gave : Result (List ℕ) DeviceFault} (made : read b (Read asked gave) c) where
@@ -70,6 +71,10 @@ module _ {R : Type 0} (read : R → SourceCall → R → Type 0) (a b c : R) (x 
         (reads_more x.reads (Read asked gave ∷ []) x.input [] ended (subst (λ m. Reads x.reads x.input m) goes_on x.gave) once);
   }
 
+no_fault : (refused : Bool) (due : Result (Unit {0}) Stop) → Ok tt ≡ outcome_before refused due → due ≡ Ok tt
+no_fault true due e = absurd (cc e)
+no_fault false due e = sym e
+
 module _ {W : Type 0} (call : W → TargetCall → W → Type 0) (f : LineAnswers) where
   -- the complete lines of an input stopped the run, or have no fault
 
@@ -90,6 +95,13 @@ module _ {W : Type 0} (call : W → TargetCall → W → Type 0) (f : LineAnswer
   answers_cannot_read input a b h x =
       let end : outcome_of_input input Fail ≡ Err CannotRead = choose_false _ _ _ (short_test h) in
       faultless_answers input Fail (Err CannotRead) a b (begun_lines input (whole_input _ h)) x.0 (sym end)
+
+  faultless : (input : List ℕ) {q : Progress} (a b : AnswerState W)
+      → length input ≤ most_bytes → TakesBytes call f [] input 1 q (Ok tt) a b → IsFaultless f input
+  faultless input a b h x =
+      let end : outcome_of_input input More ≡ Ok tt = choose_false _ _ _ (short_test h) in
+      let all = faultless_answers input More (Ok tt) a b (begun_lines input (whole_input _ h)) x.0 (sym end) in
+      no_fault all.refused _ all.outcome_is
 
   -- the end of an input of which all bytes were taken
   input_ends : (input : List ℕ) (q : Progress) (a b c : AnswerState W) (r : Result (Unit {0}) Stop)
@@ -116,19 +128,26 @@ module _ {W : Type 0} (call : W → TargetCall → W → Type 0) (f : LineAnswer
 
   module _ {R : Type 0} (read : R → SourceCall → R → Type 0) where
     pub at_start : (p : Progress) (source : R) (out : AnswerState W)
-        → IsFed p.reader [] → p.line ≡ 1 → IsAt call f 0 p (Calls read source source) out out
-    at_start p source out reader line = record {
+        → IsFirst p → IsAt call f 0 p (Calls read source source) out out
+    at_start p source out first = record {
       read = nothing_read read source;
       goes_on = refl;
-      takes = takes_none call f [] 1 p out reader line;
+      stops = while_none (IsFaultless f);
+      takes = takes_none call f [] 1 p out first.reader first.line;
       count_is = refl;
     }
 
     module _ (a b c : R) {count : ℕ} {p : Progress} {h i : AnswerState W} (x : IsAt call f count p (Calls read a b) h i) where
+      stops_after : (last : SourceCall) → count ≤ most_bytes → ReadsWhile (IsFaultless f) (x.read.reads ++ last ∷ [])
+      stops_after last room =
+          while_more (IsFaultless f) x.read.reads x.read.input last x.stops (subst (λ m. Reads x.read.reads x.read.input m) x.goes_on x.read.gave)
+          (faultless x.read.input h i (omega (arith, x.count_is, room)) x.takes)
+
       pub at_failure : (asked : ℕ) (fault : DeviceFault) → count ≤ most_bytes → read b (Read asked (Err fault)) c
           → AnswersSource call f (Err CannotRead) (Calls read a c) h i
       at_failure asked fault room made = record {
         read = read_last read a b c x.read x.goes_on made Fail (reads_fault asked fault);
+        stops = stops_after _ room;
         answers = answers_cannot_read x.read.input h i (omega (arith, x.count_is, room)) x.takes;
         read_whole = λ e. absurd (cc e);
       }
@@ -141,11 +160,12 @@ module _ {W : Type 0} (call : W → TargetCall → W → Type 0) (f : LineAnswer
         given some = read_more read a b c x.read x.goes_on made (take n block) More
             (reads_some (length block) (take n block) (omega (arith, length_taken block bound, some)))
 
-        pub at_more : {q : Progress} (j : AnswerState W) → n ≢ 0 → TakesNext call f (take n block) p q (Ok tt) i j
+        pub at_more : {q : Progress} (j : AnswerState W) → count ≤ most_bytes → n ≢ 0 → TakesNext call f (take n block) p q (Ok tt) i j
             → IsAt call f (count + n) q (Calls read a c) h j
-        at_more j some next = record {
+        at_more j room some next = record {
           read = given some;
           goes_on = refl;
+          stops = stops_after _ room;
           takes = takes_more call f [] x.read.input (take n block) 1 _ _ (Ok tt) h i j x.takes (next.takes (last_part [] x.read.input) x.takes.1.reader);
           count_is = sym given_length;
         }
@@ -154,20 +174,22 @@ module _ {W : Type 0} (call : W → TargetCall → W → Type 0) (f : LineAnswer
             → TakesLast call f p r i j → AnswersSource call f r (Calls read a c) h j
         at_end r j room none asked last = record {
           read = read_last read a b c x.read x.goes_on made End (reads_end (length block) (take n block) asked (length_taken block bound ∙ none));
+          stops = stops_after _ room;
           answers = input_ends x.read.input _ h i j r (omega (arith, x.count_is, room)) x.takes (last.takes (last_part [] x.read.input) x.takes.1.reader);
           read_whole = λ d. refl;
         }
 
         -- a block in which the run was stopped
-        stopped_at : (stop : Stop) (j : AnswerState W) → n ≢ 0 → Answers call (answer_lines f (x.read.input ++ take n block) More) (Err stop) h j
+        stopped_at : (stop : Stop) (j : AnswerState W) → count ≤ most_bytes → n ≢ 0 → Answers call (answer_lines f (x.read.input ++ take n block) More) (Err stop) h j
             → AnswersSource call f (Err stop) (Calls read a c) h j
-        stopped_at stop j some answers = record { read = given some; answers = answers; read_whole = λ e. absurd (cc e) }
+        stopped_at stop j room some answers =
+            record { read = given some; stops = stops_after _ room; answers = answers; read_whole = λ e. absurd (cc e) }
 
         pub at_limit : (room : ℕ) {q : Progress} (r : Result (Unit {0}) Stop) (j : AnswerState W) → room + count ≡ most_bytes → room < n
             → TakesNext call f (take room block) p q r i j → AnswersSource call f (Err (stop_unless r InputTooLong)) (Calls read a c) h j
         at_limit room {q = q} r j sum long next =
             let y = takes_more call f [] x.read.input (take room block) 1 _ q r h i j x.takes (next.takes (last_part [] x.read.input) x.takes.1.reader) in
-            stopped_at _ j (λ e. omega (arith, e, long))
+            stopped_at _ j (omega (arith, sum)) (λ e. omega (arith, e, long))
             (too_long_answers (x.read.input ++ take n block) q h j r (omega (arith, given_length, sum, long))
             (cut_block x.read.input block n room x.count_is sum (omega (arith, long)) bound) y)
 
@@ -175,27 +197,27 @@ module _ {W : Type 0} (call : W → TargetCall → W → Type 0) (f : LineAnswer
             → TakesNext call f (take n block) p q (Err stop) i j → AnswersSource call f (Err stop) (Calls read a c) h j
         at_stop {q = q} stop j room some next =
             let y = takes_more call f [] x.read.input (take n block) 1 _ q (Err stop) h i j x.takes (next.takes (last_part [] x.read.input) x.takes.1.reader) in
-            stopped_at stop j some (stopped_answers _ More stop h j
+            stopped_at stop j (omega (arith, room)) some (stopped_answers _ More stop h j
             (begun_lines (x.read.input ++ take n block) (whole_input (x.read.input ++ take n block) (omega (arith, given_length, room)))) y.0)
 
   -- a whole text at once
 
   text_taken : (text : List ℕ) {p q : Progress} (r : Result (Unit {0}) Stop) {h i : AnswerState W}
-      → IsFed p.reader [] → p.line ≡ 1 → TakesNext call f text p q r h i → TakesBytes call f [] text 1 q r h i
-  text_taken text {q = q} r {h = h} {i = i} reader line next = subst (λ n. TakesBytes call f [] text n q r h i) line (next.takes [] reader)
+      → IsFirst p → TakesNext call f text p q r h i → TakesBytes call f [] text 1 q r h i
+  text_taken text {q = q} r {h = h} {i = i} first next = subst (λ n. TakesBytes call f [] text n q r h i) first.line (next.takes [] first.reader)
 
   pub text_stopped : {text : List ℕ} {p q : Progress} {stop : Stop} {h j : AnswerState W}
-      → length text ≤ most_bytes → IsFed p.reader [] → p.line ≡ 1 → TakesNext call f text p q (Err stop) h j → Answers call (answer_lines f text End) (Err stop) h j
-  text_stopped {text = text} {stop = stop} {h = h} {j = j} fits reader line next =
+      → length text ≤ most_bytes → IsFirst p → TakesNext call f text p q (Err stop) h j → Answers call (answer_lines f text End) (Err stop) h j
+  text_stopped {text = text} {stop = stop} {h = h} {j = j} fits first next =
       stopped_answers _ End stop h j (all_lines _ fits)
       (subst (λ d. Answers call d (Err stop) h j) (sym (answers_from-append f 1 (ended_lines [] text) (line_with_bytes (last_part [] text))))
-      (answers_stopped call _ _ stop h j (text_taken text (Err stop) reader line next).0))
+      (answers_stopped call _ _ stop h j (text_taken text (Err stop) first next).0))
 
   pub text_done : {text : List ℕ} {p q : Progress} {r : Result (Unit {0}) Stop} {h i j : AnswerState W}
-      → length text ≤ most_bytes → IsFed p.reader [] → p.line ≡ 1 → TakesNext call f text p q (Ok tt) h i → TakesLast call f q r i j
+      → length text ≤ most_bytes → IsFirst p → TakesNext call f text p q (Ok tt) h i → TakesLast call f q r i j
       → Answers call (answer_lines f text End) r h j
-  text_done {text = text} {q = q} {r = r} {h = h} {i = i} {j = j} fits reader line next last =
-      let x = text_taken text {q = q} (Ok tt) {h = h} {i = i} reader line next in
+  text_done {text = text} {q = q} {r = r} {h = h} {i = i} {j = j} fits first next last =
+      let x = text_taken text {q = q} (Ok tt) {h = h} {i = i} first next in
       input_ends text q h i j r fits x (last.takes (last_part [] text) x.1.reader)
 
 pub ruleset text_laws = (text_stopped, text_done, last_kept)

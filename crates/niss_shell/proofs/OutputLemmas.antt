@@ -1,14 +1,10 @@
 -- What an output takes: a text, the lines of a search, and what stands after them.
-use Rattle.niss_shell.proofs.Names.{◌≡◌, ◌==◌, Bool, true, ℕ, ◌+◌, ◌≤◌, false, Option, Result, Ok, Err, List, [], ◌∷◌, ◌++◌, inl, inr}
-use Rattle.niss_shell.proofs.Names.{length, refl, sym, ap, ◌∙◌, subst, append_assoc, arith, eqb-true, nil_from_length, OnOk, OnErr, is_err}
+use Rattle.niss_shell.proofs.Names.{◌≡◌, Bool, true, ℕ, ◌+◌, ◌≤◌, false, Option, Result, Ok, Err, List, [], ◌∷◌, ◌++◌, inl, inr}
+use Rattle.niss_shell.proofs.Names.{length, refl, sym, ap, ◌∙◌, subst, append_assoc, arith, OnOk, OnErr, is_err}
 use Rattle.niss_shell.proofs.Names.{flat_map, Turn, DeviceFault, Output, WentThrough, StoppedIn, TargetCall, line_feed, none_line}
-use Rattle.niss_shell.proofs.Names.{solution_line, solve_text, count_text, AnswerState, output_state, Delivered, Delivers, TakesLine}
-use Rattle.niss_shell.proofs.Names.{append-nil, Looked}
-use Rattle.niss_shell.proofs.StateLemmas.{waits, delivers_nothing, delivers_more, refuses_front, looks_meanwhile}
-
--- a text that was tested to be empty
-pub no_bytes : {empty : Bool} (bytes : List ℕ) → empty ≡ (length bytes == 0) → empty ≡ true → bytes ≡ []
-no_bytes bytes e k = nil_from_length bytes (eqb-true (length bytes) 0 (sym e ∙ k))
+use Rattle.niss_shell.proofs.Names.{solution_line, solve_text, count_text, output_state, Delivered, Delivers, TakesLine}
+use Rattle.niss_shell.proofs.Names.{Looked}
+use Rattle.niss_shell.proofs.StateLemmas.{delivers_nothing, delivers_more, refuses_front, looks_meanwhile}
 
 -- what is written of a search, by what it found
 pub same_count : {least : Option ℕ} (found : Option ℕ) (count solutions nodes : ℕ) {looks : ℕ} → least ≡ found → count ≡ solutions → nodes ≡ looks
@@ -34,20 +30,6 @@ module _ {W : Type 0} (call : W → TargetCall → W → Type 0) where
   line_refused (Ok u) old new e none d = tt
   line_refused (Err x) old new e none d =
       (none, λ looks. subst (λ t. Delivered call true t 0 (output_state old looks) (output_state new looks)) e (d looks))
-
-  -- an output where this text waits
-  abbrev waiting : Output W → List ℕ → ℕ → AnswerState W
-  waiting output text looks =
-      record { reference = output.target.ghost_name; target = output.target.now; pending = text; looks = looks }
-
-  -- a line that was put where nothing waited, and written
-  pub line_sent : (r : Result (Unit {0}) DeviceFault) (line : List ℕ) {text : List ℕ} (old new : Output W)
-      → text ≡ line → old.pending.items ≡ []
-      → ((looks : ℕ) → Delivered call (is_err r) [] 0 (waiting old text looks) (output_state new looks))
-      → Delivers call r line old new
-  line_sent r line {text = text} old new e none then = λ looks.
-      delivers_more call (is_err r) line [] line 0 0 0 (output_state old looks) (waiting old text looks) (output_state new looks) (append-nil line) refl
-      (waits call line (output_state old looks) (waiting old text looks) refl refl (e ∙ ap (λ p. p ++ line) (sym none)) refl) (then looks)
 
   pub reported_after : (r : Result (Unit {0}) DeviceFault) {piece text : List ℕ} (looks before after : ℕ) (old new : Output W)
       → piece ≡ text → after ≡ before + looks → Delivers call r piece old new

@@ -9,7 +9,7 @@ use Rattle.niss_shell.proofs.Names.{outcome_of_input, error_text, status_of, lim
 use Rattle.niss_shell.proofs.Names.{AnswersSource, Answers, RunsUnflushed, EndsAtOnce, FlushesLast, IsInput, Looked, Runs, due_without}
 use Rattle.niss_shell.proofs.Names.{flushed_outcome, UsageFault, LineCommand, Rewrite, Search, LineFault, ReadFault, Step, Stop, Usage}
 use Rattle.niss_shell.proofs.Names.{InputTooLong, OutOfMemory, LooksWithinBound}
-use Rattle.niss_shell.proofs.StateLemmas.{calls_more, one_call, nothing_read, writes_none, delivers_nothing, answered, choose_false}
+use Rattle.niss_shell.proofs.StateLemmas.{calls_more, one_call, nothing_read, while_none, writes_none, delivers_nothing, answered, choose_false}
 use Rattle.niss_shell.proofs.StateLemmas.{choose_true}
 use Rattle.niss_shell.proofs.AnswerLemmas.{short_test, long_test}
 use Rattle.niss_shell.proofs.LinesLemmas.{by_test}
@@ -51,7 +51,7 @@ pub runs_memory : (command : LineCommand Step) (ws : List (List ℕ)) → 0 < le
 runs_memory command [] n fits = absurd (omega arith)
 runs_memory command (v ∷ ws) n fits = fits_test fits
 
-tables_memory : {T : Type 0} (bytes : T → List ℕ) (text : Option T) (command : LineCommand Step) (ws : List (List ℕ))
+pub tables_memory : {T : Type 0} (bytes : T → List ℕ) (text : Option T) (command : LineCommand Step) (ws : List (List ℕ))
     → IsInput bytes text ws → has_step command ≡ true → EndsAtOnce (Ok (OnLines command ws)) OutOfMemory
 tables_memory bytes None command [] none asks = asks
 tables_memory bytes None command (v ∷ ws) none asks = absurd (omega arith)
@@ -65,6 +65,7 @@ module _ {R W : Type 0} (read : R → SourceCall → R → Type 0) (call : W →
   unread_run asked outcome a h i unread empty answers = record {
     read = nothing_read read a;
     unread = λ r. refl;
+    stops = while_none _;
     no_memory = false;
     asks_memory = λ e. absurd (cc e);
     answers = answers;
@@ -77,6 +78,7 @@ module _ {R W : Type 0} (read : R → SourceCall → R → Type 0) (call : W →
   ends_at_once asked OutOfMemory a h begins asks = record {
     read = nothing_read read a;
     unread = λ r. refl;
+    stops = while_none _;
     no_memory = true;
     asks_memory = λ e. (asks, refl);
     answers = answered call false (unsearched [] (Err OutOfMemory)) (Err OutOfMemory) h h refl (delivers_nothing call h);
@@ -87,12 +89,6 @@ module _ {R W : Type 0} (read : R → SourceCall → R → Type 0) (call : W →
       unread_run asked (Err stop) a h h (λ d. cc d) begins.empty
       (subst (λ due. Answers call due (Err stop) h h) (sym e)
       (answered call false (unsearched [] (Err stop)) (Err stop) h h refl (delivers_nothing call h)))
-
-  pub runs_tables : {T : Type 0} (bytes : T → List ℕ) (text : Option T) (command : LineCommand Step) (ws : List (List ℕ)) {source : SourceState} (a : R) (h : AnswerState W)
-      → IsInput bytes text ws → MayBegin source h → has_step command ≡ true
-      → RunsUnflushed call (Ok (OnLines command ws)) (Err OutOfMemory) (Calls read a a) h h
-  runs_tables bytes text command ws a h input begins asks =
-      ends_at_once (Ok (OnLines command ws)) OutOfMemory a h begins (tables_memory bytes text command ws input asks)
 
   pub runs_usage : {asked : Result Request UsageFault} {fault : UsageFault} {source : SourceState} (a : R) (h : AnswerState W)
       → asked ≡ Err fault → MayBegin source h → RunsUnflushed call asked (Err Usage) (Calls read a a) h h
@@ -105,6 +101,7 @@ module _ {R W : Type 0} (read : R → SourceCall → R → Type 0) (call : W →
   runs_source {ws = []} e f g none x empty = rw (← e, ← f, ← g) (record {
     read = x.read;
     unread = λ r. absurd (cc r);
+    stops = x.stops;
     no_memory = false;
     asks_memory = λ e. absurd (cc e);
     answers = x.answers;
@@ -182,6 +179,7 @@ runs_flushed call reports law words outcome outcome_now x y j k l none r flush e
     record {
       read = r.read;
       unread = r.unread;
+      stops = r.stops;
       no_memory = r.no_memory;
       asks_memory = r.asks_memory;
       due = due;

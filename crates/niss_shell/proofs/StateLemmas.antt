@@ -2,7 +2,7 @@
 use Rattle.niss_shell.proofs.Names.{◌≡◌, ◌≢◌, ℕ, ◌+◌, ◌<◌, ◌≤◌, zero, suc, Bool, true, false, if◌then◌else◌, Option, Some, None}
 use Rattle.niss_shell.proofs.Names.{Result, Ok, Err, List, [], ◌∷◌, ◌++◌, take, drop, length, length-append, refl, sym, ap, ◌∙◌, subst}
 use Rattle.niss_shell.proofs.Names.{append_assoc, append-nil, arith, drop-append-le, SourceCall, TargetCall, Read, Write, Flush, Calls}
-use Rattle.niss_shell.proofs.Names.{Reads, Sends, IsPiece, Ending, More, End, Fail, left_after, Writes, WasRead, DeviceFault, Stop}
+use Rattle.niss_shell.proofs.Names.{Reads, ReadsWhile, Sends, IsPiece, Ending, More, End, Fail, left_after, Writes, WasRead, DeviceFault, Stop}
 use Rattle.niss_shell.proofs.Names.{is_end, ReadShows, SourceState, ◌||◌}
 use Rattle.niss_shell.proofs.Names.{Answer, unsearched, joined_answer, then_answer, AnswerState, Delivered, Answers, Output, output_state}
 use Rattle.niss_shell.proofs.Names.{outcome_before, Looked}
@@ -125,6 +125,33 @@ reads_more (Read asked (Ok []) ∷ xs) ys x y ended p q = absurd (cc p.3)
 reads_more (Read asked (Err fault) ∷ xs) ys x y ended p q = absurd (cc p.2)
 reads_more (Read asked (Ok (b ∷ bytes)) ∷ xs) ys x y ended p q =
     (p.0 ++ y, ap (λ v. v ++ y) p.1 ∙ append_assoc (b ∷ bytes) p.0 y, reads_more xs ys p.0 y ended p.2 q)
+
+-- what held before each of some reads, and before one more
+
+nothing_is_more : (before after : List SourceCall) (call : SourceCall) → before ++ call ∷ after ≢ []
+nothing_is_more [] after call e = absurd (cc e)
+nothing_is_more (b ∷ before) after call e = absurd (cc e)
+
+pub while_none : (P : List ℕ → Type 0) → ReadsWhile P []
+while_none P = λ before after call input e gave. absurd (nothing_is_more before after call e)
+
+pub while_more : (P : List ℕ → Type 0) (reads : List SourceCall) (whole : List ℕ) (last : SourceCall)
+    → ReadsWhile P reads → Reads reads whole More → P whole → ReadsWhile P (reads ++ last ∷ [])
+unfolding Reads
+while_more P [] whole last held all here [] after call input e gave = subst P (all.0 ∙ sym gave.0) here
+while_more P [] whole last held all here (b ∷ before) after call input e gave =
+    let none : before ++ call ∷ after ≡ [] = cc e in absurd (nothing_is_more before after call none)
+while_more P (r ∷ reads) whole last held all here [] after call input e gave = held [] reads r input refl gave
+while_more P (Read asked (Ok []) ∷ reads) whole last held all here (b ∷ before) after call input e gave = absurd (cc all.3)
+while_more P (Read asked (Err fault) ∷ reads) whole last held all here (b ∷ before) after call input e gave = absurd (cc all.2)
+while_more P (Read asked (Ok (x ∷ xs)) ∷ reads) whole last held all here (b ∷ before) after call input e gave =
+    let first : SourceCall = Read asked (Ok (x ∷ xs)) in
+    let same : b ≡ first = cc e in
+    let others : before ++ call ∷ after ≡ reads ++ last ∷ [] = cc e in
+    let p = subst (λ c. Reads (c ∷ before) input More) same gave in
+    subst P (sym p.1) (while_more (λ i. P ((x ∷ xs) ++ i)) reads all.0 last
+    (λ front more next given f g. held (first ∷ front) more next ((x ∷ xs) ++ given) (ap (λ v. first ∷ v) f) (given, refl, g))
+    all.2 (subst P all.1 here) before after call p.0 others p.2)
 
 pub reads_some : (asked : ℕ) (bytes : List ℕ) → 0 < length bytes → Reads (Read asked (Ok bytes) ∷ []) bytes More
 unfolding Reads

@@ -110,6 +110,12 @@ pub record WasRead (source : List SourceCall → Type 0) : Type 0 where
   pub ended : Ending
   pub gave : Reads reads input ended
 
+-- Each read was made where this holds of the input that the reads before it gave.
+abbrev pub ReadsWhile : (List ℕ → Type 0) → List SourceCall → Type 0
+ReadsWhile Holds reads =
+    (before after : List SourceCall) (call : SourceCall) (input : List ℕ) →
+    before ++ call ∷ after ≡ reads → Reads before input More → Holds input
+
 -- A piece of a text: a beginning of it that has a byte.
 pub record IsPiece (piece text : List ℕ) : Type 0 where
   pub rest : List ℕ

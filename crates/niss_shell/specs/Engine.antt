@@ -1,7 +1,7 @@
 -- What the engine's steps do. `front` are the bytes of the line that is being read.
 use Rattle.std.specs.Prelude.{◌≡◌, ℕ, ◌+◌, ◌*◌, ◌^◌, ◌<◌, ◌≤◌, Bool, true, false, is_err, Option, Some, None}
 use Rattle.std.specs.Prelude.{Result, Ok, Err, OnOk, List, [], ◌++◌, length}
-use Rattle.niss_shell.specs.Device.{SourceState, SourceCall, TargetCall, Flush, More, End, WasRead, Writes}
+use Rattle.niss_shell.specs.Device.{SourceState, SourceCall, TargetCall, Flush, More, End, WasRead, ReadsWhile, Writes}
 use Rattle.niss_shell.specs.Lines.{ended_lines, last_part}
 use Rattle.niss_moves.specs.Reader.{Reader, IsFed}
 use Rattle.niss_shell.specs.Words.{Request, reads_source, takes_memory, most_bytes, joined}
@@ -81,6 +81,15 @@ only_stop (Err stop) = Err stop
 abbrev pub HasRoom : ℕ → ℕ → Type 0
 HasRoom n looks = looks ≤ 2 ^ 64 + n * 2 ^ 93
 
+-- No byte of the first line was read.
+pub record IsFirst (progress : Progress) : Type 0 where
+  pub reader : IsFed progress.reader []
+  pub line : progress.line ≡ 1
+
+-- The lines that a line feed ends in this input have no fault, and it isn't too long.
+abbrev pub IsFaultless : LineAnswers → List ℕ → Type 0
+IsFaultless f input = (answer_lines f input More).outcome ≡ Ok tt
+
 module _ {W : Type 0} (call : W → TargetCall → W → Type 0) where
   -- The bytes after `front`, in line n, were taken.
   abbrev pub TakesBytes :
@@ -108,6 +117,7 @@ module _ {W : Type 0} (call : W → TargetCall → W → Type 0) where
       (source : List SourceCall → Type 0) (old new : AnswerState W) : Type 0 where
     pub read : WasRead source
     pub goes_on : read.ended ≡ More
+    pub stops : ReadsWhile (IsFaultless f) read.reads
     pub takes : TakesBytes f [] read.input 1 progress (Ok tt) old new
     pub count_is : count ≡ length read.input
 
@@ -115,6 +125,7 @@ module _ {W : Type 0} (call : W → TargetCall → W → Type 0) where
   pub record AnswersSource (f : LineAnswers) (outcome : Result (Unit {0}) Stop)
       (source : List SourceCall → Type 0) (old new : AnswerState W) : Type 0 where
     pub read : WasRead source
+    pub stops : ReadsWhile (IsFaultless f) read.reads
     pub answers : Answers call (answer_lines f read.input read.ended) outcome old new
     pub read_whole : outcome ≡ Ok tt → read.ended ≡ End
 
@@ -123,6 +134,7 @@ module _ {W : Type 0} (call : W → TargetCall → W → Type 0) where
       (source : List SourceCall → Type 0) (old new : AnswerState W) : Type 0 where
     pub read : WasRead source
     pub unread : reads_source asked ≡ false → read.reads ≡ []
+    pub stops : ReadsWhile (λ input. (answer_request asked input More).outcome ≡ Ok tt) read.reads
     pub no_memory : Bool
     pub asks_memory : no_memory ≡ true → (takes_memory asked ≡ true) × (read.reads ≡ [])
     pub answers : Answers call (due_without no_memory (answer_request asked read.input read.ended)) outcome old new
@@ -162,6 +174,18 @@ answers_of lines = line_answer lines.command.now
 
 abbrev pub progress_of : {A : Type 0} → Lines A → Progress
 progress_of lines = record { reader = lines.reader; line = lines.line }
+
+-- So many more bytes may come: the column and the number of the line stay within the most, and the meter has room.
+pub record MayTake {A : Type 0} (count : ℕ) (lines : Lines A) : Type 0 where
+  pub column : lines.reader.fed + count ≤ most_bytes
+  pub line : lines.line + count ≤ most_bytes + 1
+  pub looks : HasRoom lines.line lines.looks.now
+
+-- So many bytes came: the column and the number of the line rose by at most as many, and the meter has room.
+pub record Rises {A : Type 0} (count : ℕ) (old new : Lines A) : Type 0 where
+  pub column : new.reader.fed ≤ old.reader.fed + count
+  pub line : new.line ≤ old.line + count
+  pub looks : HasRoom new.line new.looks.now
 
 -- The command is the same, and so is the meter that the lines borrow.
 pub record Keeps {A : Type 0} (old new : Lines A) : Type 0 where

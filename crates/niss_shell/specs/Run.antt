@@ -1,6 +1,6 @@
 -- What a run does to its three devices.
 use Rattle.std.specs.Prelude.{◌≡◌, ℕ, ◌+◌, ◌≤◌, Bool, true, false, Result, Ok, Err, List, [], ◌∷◌, ◌++◌}
-use Rattle.niss_shell.specs.Device.{SourceCall, TargetCall, Flush, WasRead, End, Sends, left_after}
+use Rattle.niss_shell.specs.Device.{SourceCall, TargetCall, Flush, WasRead, ReadsWhile, More, End, Sends, left_after}
 use Rattle.niss_shell.specs.Words.{request_of, reads_source, takes_memory}
 use Rattle.niss_shell.specs.Output.{Answer, unsearched, out_of, error_text, status_of}
 use Rattle.niss_shell.specs.Names.{DeviceFault, Stop, CannotWrite, OutOfMemory}
@@ -32,6 +32,8 @@ pub record Runs (words : List (List ℕ)) (source : List SourceCall → Type 0) 
   -- The source is read until its end or until the run stops, and only by a command that takes its input from there.
   pub read : WasRead source
   pub unread : reads_source (request_of words) ≡ false → read.reads ≡ []
+  -- After a fault in a line nothing more is read, nor where the input is too long.
+  pub stops : ReadsWhile (λ input. (out_of words input More).outcome ≡ Ok tt) read.reads
   -- Memory may be refused to a request that takes some: then nothing was read.
   pub no_memory : Bool
   pub asks_memory : no_memory ≡ true → (takes_memory (request_of words) ≡ true) × (read.reads ≡ [])

@@ -11,6 +11,7 @@ use crate::line_command::LineCommand;
 use crate::lines::{Lines, MOST_BYTES};
 use crate::output::Output;
 use crate::stop::Stop;
+use niss_cube::Step;
 use niss_search::{Meter, Tables};
 use std::alloc::{AllocError, Allocator};
 
@@ -65,7 +66,7 @@ fn joined_words<A: Allocator, B: Allocator>(
 }
 
 /// The words joined, if there are any; nothing if the source is read.
-pub fn joined_input<A: Allocator, B: Allocator>(
+fn joined_input<A: Allocator, B: Allocator>(
     alloc: A,
     words: &[String<B>],
 ) -> Result<Option<Vec<u8, A>>, Stop>
@@ -84,24 +85,52 @@ pub fn joined_input<A: Allocator, B: Allocator>(
     Ok(Some(text))
 }
 
-/// Answers the lines of the text, or of the source if there is none.
-pub fn answer_input<A: Allocator, R: Source, W: Target>(
-    command: &LineCommand<Tables<A>>,
-    input: &Option<Vec<u8, A>>,
-    source: &mut R,
-    output: &mut Output<W>,
-    looks: &mut Meter,
-) -> Result<(), Stop>
-    requires begins { MayBegin (R.state source.old) (output_state output.old looks.old) }
-    requires fits { IfSome input.now (λ text. length text.items ≤ most_bytes) }
-    ensures { (words : List (List ℕ)) → IsInput (λ text. text.items) input.now words →
-        RunsUnflushed W.call (Ok (OnLines command.now words)) result
-        (Calls R.call source.old source.new)
-        (output_state output.old looks.old) (output_state output.new looks.new) }
-{
-    let mut lines = Lines::new(command, looks);
-    match input {
-        None => lines.read(source, output),
-        Some(text) => lines.take_text(text.as_slice(), output),
+/// A command on lines with all that takes memory: its tables, and the words that give the lines, joined. Without words the
+/// lines are the source's.
+#[derive(Drop)]
+pub struct Prepared<A: Allocator> {
+    command: LineCommand<Tables<A>>,
+    input: Option<Vec<u8, A>>,
+}
+
+impl<A: Allocator> Prepared<A> {
+    /// Takes memory for the joined words, and then for the tables.
+    #[tactic(auto, using(std::proofs::lemmas::Result::err_from_is_err_and))]
+    pub fn new<B: Allocator>(
+        alloc: A,
+        command: LineCommand<Step>,
+        words: &[String<B>],
+    ) -> Result<Prepared<A>, Stop>
+    where
+        A: Copy,
+        ensures command { IfOk result (λ prepared. prepared.command ≡ command) }
+        ensures input { IfOk result
+            (λ prepared. IsInput (λ text. text.items) prepared.input (map string_bytes words.now)) }
+        ensures refused { IfErr result (λ stop. EndsAtOnce (Ok (OnLines command (map string_bytes words.now))) stop) }
+    {
+        let input = joined_input(alloc, words)?;
+        let command = command.with_tables(alloc)?;
+        Ok(Prepared { command, input })
+    }
+
+    /// Answers the lines of the joined words, or of the source if there are none.
+    pub fn answer<R: Source, W: Target>(
+        &self,
+        source: &mut R,
+        output: &mut Output<W>,
+        looks: &mut Meter,
+    ) -> Result<(), Stop>
+        requires begins { MayBegin (R.state source.old) (output_state output.old looks.old) }
+        requires fits { IfSome self.now.input (λ text. length text.items ≤ most_bytes) }
+        ensures { (words : List (List ℕ)) → IsInput (λ text. text.items) self.now.input words →
+            RunsUnflushed W.call (Ok (OnLines self.now.command words)) result
+            (Calls R.call source.old source.new)
+            (output_state output.old looks.old) (output_state output.new looks.new) }
+    {
+        let mut lines = Lines::new(&self.command, looks);
+        match &self.input {
+            None => lines.read(source, output),
+            Some(text) => lines.take_text(text.as_slice(), output),
+        }
     }
 }

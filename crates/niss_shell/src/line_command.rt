@@ -173,19 +173,18 @@ impl Query {
             Reports W.call result (searched tables.now self e) output.old output.new looks.old looks.new }
         ensures bound { looks.new ≤ looks.old + look_bound (turns_of tables.now) (limit_of self) }
     {
-        let mut text = LineText::new();
         match self {
             Query::Solutions(limit, slack) => {
                 let mut path = TurnPath::new(limit);
                 let outcome = search(tables, position, slack, &mut path, looks, output)?;
-                put_end(outcome.solutions, limit, &mut text);
-                output.put(&text)
+                put_end(outcome.solutions, limit, &mut output.next);
+                output.put()
             }
             Query::Counts(limit) => {
                 let before = looks.count();
                 let outcome = count_solutions(tables, position, limit, Limit::ZERO, looks);
-                put_count(outcome, looks.count() - before, &mut text);
-                output.put(&text)
+                put_count(outcome, looks.count() - before, &mut output.next);
+                output.put()
             }
         }
     }

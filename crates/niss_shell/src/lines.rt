@@ -8,12 +8,12 @@ use crate::device::{Source, Target};
 use crate::line_command::{LineCommand, rewrite, start_position};
 use crate::output::Output;
 use crate::stop::{LineFault, Stop};
-use niss_moves::{LineReader, LineText};
+use niss_moves::LineReader;
 use niss_search::laws::counts_and_bounds;
 use niss_search::{Meter, Tables};
 use std::alloc::Allocator;
 
-/// The most bytes of input.
+/// The most bytes of input, and so of a line.
 pub const MOST_BYTES: usize = 16_777_216;
 
 /// How many bytes a read asks for.
@@ -26,30 +26,27 @@ pub struct Lines<'a, A: Allocator> {
     looks: &'a mut Meter,
     reader: LineReader,
     line: u32,
-    // the last answer: one text serves all lines, since a new one would be zeroed for each
-    text: LineText,
 }
 
 impl<'a, A: Allocator> Lines<'a, A> {
     ghost use Rattle.niss_moves.specs.Reader.{moves_of};
     ghost use Rattle.niss_shell.specs.Engine.{MayBegin, Answers, AnswersSource, HasRoom, piece_of, only_stop};
     ghost use Rattle.niss_shell.specs.Output.{answer_lines, answer_to, fault_answer};
-    ghost use Rattle.niss_shell.specs.Engine.{Keeps, AnswersOpenLine, Takes, Ends, answers_of, lines_state};
+    ghost use Rattle.niss_shell.specs.Engine.{Keeps, MayTake, Rises, IsFirst, AnswersOpenLine, Takes, Ends};
+    ghost use Rattle.niss_shell.specs.Engine.{answers_of, lines_state, progress_of};
 
     /// The first line, of which nothing was read.
     pub fn new(command: &'a LineCommand<Tables<A>>, looks: &'a mut Meter) -> Lines<'a, A>
         ensures command { result.command.now ≡ command.now }
         ensures same_meter { result.looks.ghost_name ≡ looks.entry.ghost_name }
         ensures looks { result.looks.now ≡ looks.old }
-        ensures reader { IsFed result.reader [] }
-        ensures line { result.line ≡ 1 }
+        ensures first { IsFirst (progress_of result) }
     {
         Lines {
             command,
             looks,
             reader: LineReader::new(),
             line: 1,
-            text: LineText::new(),
         }
     }
 
@@ -87,8 +84,8 @@ impl<'a, A: Allocator> Lines<'a, A> {
     {
         match self.command {
             LineCommand::Rewrite(rewriting) => {
-                rewrite(*rewriting, self.reader.moves(), &mut self.text);
-                Ok(output.put(&self.text)?)
+                rewrite(*rewriting, self.reader.moves(), &mut output.next);
+                Ok(output.put()?)
             }
             LineCommand::Search(tables, query) => {
                 counts_and_bounds();
@@ -104,8 +101,7 @@ impl<'a, A: Allocator> Lines<'a, A> {
 
     /// Takes the answer to the line after what waits, and begins the next one.
     fn end_line<W: Target>(&mut self, output: &mut Output<W>) -> Result<(), Stop>
-        requires lines { self.old.line ≤ most_bytes + 1 }
-        requires meter { HasRoom self.old.line self.old.looks.now }
+        requires ready { MayTake 0 self.old }
         ensures keeps { Keeps self.old self.new }
         ensures answers { AnswersOpenLine W.call result self.old
             (lines_state output.old self.old) (lines_state output.new self.new) }
@@ -127,17 +123,13 @@ impl<'a, A: Allocator> Lines<'a, A> {
     #[tactic(auto, using(crate::proofs::EngineLemmas::inside_taken))]
     fn take_piece<W: Target>(&mut self, bytes: &[u8], output: &mut Output<W>) -> Result<usize, Stop>
         requires some { 0 < length bytes.now }
-        requires column { self.old.reader.fed + length bytes.now ≤ most_bytes }
-        requires lines { self.old.line ≤ most_bytes }
-        requires meter { HasRoom self.old.line self.old.looks.now }
+        requires ready { MayTake (length bytes.now) self.old }
         ensures keeps { Keeps self.old self.new }
         ensures count { IfOk result (λ n. (0 < n) × (n ≤ length bytes.now)) }
         ensures takes { Takes W.call (take (piece_of result) bytes.now) (only_stop result) self.old self.new
             (lines_state output.old self.old) (lines_state output.new self.new) }
         ensures empty { OnErr result (output.new.pending.items ≡ []) }
-        ensures column { IfOk result (λ n. self.new.reader.fed ≤ self.old.reader.fed + n) }
-        ensures lines { IfOk result (λ n. self.new.line ≤ self.old.line + n) }
-        ensures meter { OnOk result (HasRoom self.new.line self.new.looks.now) }
+        ensures rises { IfOk result (λ n. Rises n self.old self.new) }
     {
         let count = self.reader.feed_moves(bytes);
         if count > 0 {
@@ -154,16 +146,12 @@ impl<'a, A: Allocator> Lines<'a, A> {
 
     /// Takes the next bytes of the input, and writes the answers to the lines that they end.
     fn take_block<W: Target>(&mut self, bytes: &[u8], output: &mut Output<W>) -> Result<(), Stop>
-        requires column { self.old.reader.fed + length bytes.now ≤ most_bytes }
-        requires lines { self.old.line + length bytes.now ≤ most_bytes + 1 }
-        requires meter { HasRoom self.old.line self.old.looks.now }
+        requires ready { MayTake (length bytes.now) self.old }
         ensures keeps { Keeps self.old self.new }
         ensures takes { Takes W.call bytes.now result self.old self.new
             (lines_state output.old self.old) (lines_state output.new self.new) }
         ensures empty { output.new.pending.items ≡ [] }
-        ensures column { OnOk result (self.new.reader.fed ≤ self.old.reader.fed + length bytes.now) }
-        ensures lines { OnOk result (self.new.line ≤ self.old.line + length bytes.now) }
-        ensures meter { OnOk result (HasRoom self.new.line self.new.looks.now) }
+        ensures rises { OnOk result (Rises (length bytes.now) self.old self.new) }
     {
         let mut index = 0;
         while index < bytes.len() {
@@ -176,8 +164,7 @@ impl<'a, A: Allocator> Lines<'a, A> {
     #[tactic(auto, using(crate::proofs::EngineLemmas::no_last, crate::proofs::EngineLemmas::last_line))]
     fn take_end<W: Target>(&mut self, output: &mut Output<W>) -> Result<(), Stop>
         requires empty { output.old.pending.items ≡ [] }
-        requires lines { self.old.line ≤ most_bytes + 1 }
-        requires meter { HasRoom self.old.line self.old.looks.now }
+        requires ready { MayTake 0 self.old }
         ensures keeps { Keeps self.old self.new }
         ensures ends { Ends W.call result self.old
             (lines_state output.old self.old) (lines_state output.new self.new) }
@@ -197,8 +184,7 @@ impl<'a, A: Allocator> Lines<'a, A> {
         output: &mut Output<W>,
     ) -> Result<(), Stop>
         requires begins { MayBegin (S.state source.old) (lines_state output.old self.old) }
-        requires reader { IsFed self.old.reader [] }
-        requires line { self.old.line ≡ 1 }
+        requires first { IsFirst (progress_of self.old) }
         ensures keeps { Keeps self.old self.new }
         ensures answers { AnswersSource W.call (answers_of self.old) result
             (Calls S.call source.old source.new)
@@ -228,8 +214,7 @@ impl<'a, A: Allocator> Lines<'a, A> {
     #[tactic(auto, using(crate::proofs::AnswerLemmas::text_laws))]
     pub fn take_text<W: Target>(&mut self, text: &[u8], output: &mut Output<W>) -> Result<(), Stop>
         requires fits { length text.now ≤ most_bytes }
-        requires reader { IsFed self.old.reader [] }
-        requires line { self.old.line ≡ 1 }
+        requires first { IsFirst (progress_of self.old) }
         requires meter { self.old.looks.now ≤ 2 ^ 64 }
         ensures keeps { Keeps self.old self.new }
         ensures answers { Answers W.call (answer_lines (answers_of self.old) text.now End) result

@@ -15,6 +15,8 @@ use niss_search::{Sink, TurnPath};
 pub struct Output<'a, W> {
     target: &'a mut W,
     pending: LineText,
+    /// The text that is put next. One serves all, since a new one would be zeroed for each.
+    pub next: LineText,
 }
 
 impl<'a, W: Target> Output<'a, W> {
@@ -27,6 +29,7 @@ impl<'a, W: Target> Output<'a, W> {
         Output {
             target,
             pending: LineText::new(),
+            next: LineText::new(),
         }
     }
 
@@ -35,31 +38,32 @@ impl<'a, W: Target> Output<'a, W> {
         ensures same_target { self.new.target.ghost_name ≡ self.old.target.ghost_name }
         ensures sent { Delivers W.call result [] self.old self.new }
         ensures empty { self.new.pending.items ≡ [] }
+        ensures next { self.new.next ≡ self.old.next }
     {
         let sent = write_all(self.target, self.pending.as_slice());
         self.pending.clear();
         sent
     }
 
-    /// Takes a text after what waits. Where there is no room for it, what waits is written first.
-    pub fn put(&mut self, text: &LineText) -> Result<(), DeviceFault>
+    /// Takes the next text after what waits. Where there is no room for it, what waits is written first.
+    pub fn put(&mut self) -> Result<(), DeviceFault>
         ensures same_target { self.new.target.ghost_name ≡ self.old.target.ghost_name }
-        ensures taken { Delivers W.call result text.now.items self.old self.new }
+        ensures taken { Delivers W.call result self.old.next.items self.old self.new }
         ensures empty { OnErr result (self.new.pending.items ≡ []) }
     {
-        if text.len() > self.pending.remaining_capacity() {
+        if self.next.len() > self.pending.remaining_capacity() {
             self.send()?;
         }
-        put_text(text.as_slice(), &mut self.pending);
+        put_text(self.next.as_slice(), &mut self.pending);
         Ok(())
     }
 
-    /// Writes what waits, and the text after it.
-    pub fn write(&mut self, text: &LineText) -> Result<(), DeviceFault>
-        ensures written { Delivers W.call result text.now.items self.old self.new }
+    /// Writes what waits, and the next text after it.
+    pub fn write(&mut self) -> Result<(), DeviceFault>
+        ensures written { Delivers W.call result self.old.next.items self.old self.new }
         ensures empty { self.new.pending.items ≡ [] }
     {
-        self.put(text)?;
+        self.put()?;
         self.send()
     }
 
@@ -76,15 +80,6 @@ impl<'a, W: Target> Output<'a, W> {
     }
 }
 
-/// A solution on a line.
-pub fn solution_text(path: &TurnPath) -> LineText
-    ensures { result.items ≡ solution_line path.now.turns }
-{
-    let mut text = LineText::new();
-    put_solution(path.turns(), &mut text);
-    text
-}
-
 impl<'a, W: Target> Sink for Output<'a, W> {
     type Fault = DeviceFault;
 
@@ -93,10 +88,7 @@ impl<'a, W: Target> Sink for Output<'a, W> {
     ghost refused = { λ old path new. TakesLine W.call true (solution_line path.turns) old new };
 
     fn take(&mut self, path: &TurnPath) -> Result<(), DeviceFault> {
-        if !self.pending.is_empty() {
-            return self.write(&solution_text(path));
-        }
-        put_solution(path.turns(), &mut self.pending);
-        self.send()
+        put_solution(path, &mut self.next);
+        self.write()
     }
 }

@@ -65,10 +65,9 @@ pub fn write_scrambles<W: Target>(
         (output_state output.old looks) (output_state output.new looks) }
     ensures empty { output.new.pending.items ≡ [] }
 {
-    let mut line = LineText::new();
     for _ in 0..count {
-        draw_line(&mut rng, turns, &mut line);
-        output.put(&line)?;
+        draw_line(&mut rng, turns, &mut output.next);
+        output.put()?;
     }
     Ok(output.send()?)
 }

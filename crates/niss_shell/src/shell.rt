@@ -1,7 +1,7 @@
 //! A run, from the words of a command line to the exit status.
 ghost use Rattle.std.specs.Prelude.{◌≡◌, ◌≤◌, ◌^◌, Bool, false, [], ℕ, Ok, length, map, flat_map, string_bytes};
 ghost use Rattle.niss_shell.specs.Device.{Calls, Writes};
-ghost use Rattle.niss_shell.specs.Words.{OnLines, request_of};
+ghost use Rattle.niss_shell.specs.Words.{request_of};
 ghost use Rattle.niss_shell.specs.Output.{error_text, status_of, step_line, unsearched};
 ghost use Rattle.niss_cube.specs.Steps.{steps};
 ghost use Rattle.niss_shell.specs.Engine.{MayBegin, Answers, RunsUnflushed, output_state};
@@ -9,7 +9,7 @@ ghost use Rattle.niss_shell.specs.Run.{Runs};
 
 use crate::command::{Command, Rewriting, parse_words};
 use crate::device::{Source, Target};
-use crate::input::{answer_input, joined_input};
+use crate::input::Prepared;
 use crate::line_command::{LineCommand, Query};
 use crate::output::Output;
 use crate::scrambles::write_scrambles;
@@ -23,11 +23,11 @@ use niss_search::{Limit, Meter};
 use rand_pcg::Lcg64Xsh32;
 use std::alloc::{Allocator, Global};
 
-/// Writes the names of the steps into the empty text, each on a line.
+/// Sets the text to the names of the steps, each on a line.
 pub fn put_steps(text: &mut LineText)
-    requires { length text.old.items ≡ 0 }
     ensures { text.new.items ≡ flat_map step_line steps }
 {
+    text.clear();
     for step in Step::all() {
         put_text(step.name().as_bytes(), text);
         text.push(b'\n');
@@ -41,33 +41,11 @@ fn write_steps<W: Target>(output: &mut Output<W>) -> Result<(), Stop>
         (output_state output.old looks) (output_state output.new looks) }
     ensures empty { output.new.pending.items ≡ [] }
 {
-    let mut text = LineText::new();
-    put_steps(&mut text);
-    Ok(output.write(&text)?)
+    put_steps(&mut output.next);
+    Ok(output.write()?)
 }
 
-/// Does a command on the lines of the words, or of the source if there are none. Memory is taken for joined words, and then for
-/// tables, before the first byte is read or written.
-#[tactic(auto, using(std::proofs::lemmas::Result::err_from_is_err_and))]
-fn run_on_lines<A: Allocator + Copy, B: Allocator, R: Source, W: Target>(
-    alloc: A,
-    command: LineCommand<Step>,
-    words: &[String<B>],
-    source: &mut R,
-    output: &mut Output<W>,
-    looks: &mut Meter,
-) -> Result<(), Stop>
-    requires { MayBegin (R.state source.old) (output_state output.old looks.old) }
-    ensures { RunsUnflushed W.call (Ok (OnLines command (map string_bytes words.now)))
-        result (Calls R.call source.old source.new)
-        (output_state output.old looks.old) (output_state output.new looks.new) }
-{
-    let input = joined_input(alloc, words)?;
-    let command = command.with_tables(alloc)?;
-    answer_input(&command, &input, source, output, looks)
-}
-
-/// Does what the words ask for, up to the last flush.
+/// Does what the words ask for, up to the last flush. A command on lines takes memory before the first byte is read or written.
 fn answer_command<A: Allocator + Copy, B: Allocator, R: Source, W: Target>(
     alloc: A,
     words: &[String<B>],
@@ -111,7 +89,8 @@ fn answer_command<A: Allocator + Copy, B: Allocator, R: Source, W: Target>(
             count,
         } => return write_scrambles(Lcg64Xsh32::new(state, stream), length, count, output),
     };
-    run_on_lines(alloc, command, words, source, output, looks)
+    let prepared = Prepared::new(alloc, command, words)?;
+    prepared.answer(source, output, looks)
 }
 
 /// Writes what went wrong, or as much of it as the error writer takes, and answers the exit status.

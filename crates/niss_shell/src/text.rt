@@ -1,10 +1,10 @@
-//! What answers are made of: bytes, numbers, solutions and counts, appended to a text.
+//! What answers are made of: bytes and numbers, which are appended to a text, and lines, which a text is set to.
 ghost use Rattle.std.specs.Prelude.{◌≡◌, ◌+◌, ◌≤◌, ◌∷◌, ◌++◌, [], decimal, length};
 ghost use Rattle.niss_shell.specs.Lines.{line_feed};
 ghost use Rattle.niss_shell.specs.Output.{solution_line, none_line, count_text, length_text};
 
-use niss_moves::{LineText, Turn, put_faces};
-use niss_search::{Limit, Outcome};
+use niss_moves::{LineText, put_faces};
+use niss_search::{Limit, Outcome, TurnPath};
 
 /// Appends the number in decimal digits, from the first.
 #[tactic(auto, using(crate::proofs::WordsLemmas::digit_laws))]
@@ -40,12 +40,12 @@ pub fn put_text(part: &[u8], text: &mut LineText)
     text.try_extend_from_slice(part).unwrap();
 }
 
-/// Writes a solution into the empty text: its turns, their number in brackets, and a line feed.
-pub fn put_solution(turns: &[Turn], text: &mut LineText)
-    requires empty { length text.old.items ≡ 0 }
-    requires short { length turns.now ≤ 20 }
-    ensures words { text.new.items ≡ solution_line turns.now }
+/// Sets the text to a solution on a line: its turns, their number in brackets, and a line feed.
+pub fn put_solution(path: &TurnPath, text: &mut LineText)
+    ensures { text.new.items ≡ solution_line path.now.turns }
 {
+    let turns = path.turns();
+    text.clear();
     if !turns.is_empty() {
         put_faces(turns, text);
         text.push(b' ');
@@ -55,12 +55,11 @@ pub fn put_solution(turns: &[Turn], text: &mut LineText)
     put_text(b")\n", text);
 }
 
-/// Writes what stands after so many solutions into the empty text: where they are none, a line that says so; and an empty
-/// line.
+/// Sets the text to what stands after so many solutions: where they are none, a line that says so; and an empty line.
 pub fn put_end(solutions: u128, limit: Limit, text: &mut LineText)
-    requires { length text.old.items ≡ 0 }
     ensures { text.new.items ≡ none_line limit solutions ++ line_feed ∷ [] }
 {
+    text.clear();
     if solutions == 0 {
         put_text(b"no solution within ", text);
         put_number(limit.get() as u128, text);
@@ -81,11 +80,11 @@ fn put_length(least: Option<u8>, text: &mut LineText)
     }
 }
 
-/// Writes what a search found, and how often it looked at a position, and a line feed into the empty text.
+/// Sets the text to what a search found, how often it looked at a position, and a line feed.
 pub fn put_count(outcome: Outcome, looks: u128, text: &mut LineText)
-    requires { length text.old.items ≡ 0 }
     ensures { text.new.items ≡ count_text outcome.length outcome.solutions looks }
 {
+    text.clear();
     put_text(b"length ", text);
     put_length(outcome.length, text);
     put_text(b" solutions ", text);

@@ -1,7 +1,7 @@
 use Rattle.std.proofs.Common.{◌+◌, ◌∷◌, ap, ◌∙◌, subst, drop, arith}
 use Rattle.std.proofs.lemmas.List.{drop_more, take_all}
 use Rattle.std.proofs.lemmas.List.Elements.{All-more}
-use Rattle.niss_embed.specs.Run.{HasNoZero}
+use Rattle.niss_shell.specs.Lines.{HasNo}
 use Rattle.niss_embed.proofs.WordLemmas.{IsNotZero, none_before}
 use Rattle.niss_embed.proofs.call.first_zero.Goals as goal
 
@@ -19,4 +19,4 @@ pub loop-at-preserved : goal.loop-at-preserved
 loop-at-preserved c = All-more IsNotZero c.args.bytes.now c.loop-at.at 0 c.loop-at-test.true c.loop-at.invariant c.if-byte-eq0.false
 
 pub returns : goal.returns
-returns c = subst (λ v. HasNoZero v) (take_all c.loop-at.at c.args.bytes.now (omega (arith, c.loop-at-test.false))) c.loop-at.invariant
+returns c = subst (λ v. HasNo 0 v) (take_all c.loop-at.at c.args.bytes.now (omega (arith, c.loop-at-test.false))) c.loop-at.invariant

@@ -1,8 +1,8 @@
-use Rattle.niss_shell.proofs.Names.{◌≡◌, take, length, ap, ◌∙◌, arith, flat_map, take_all, steps, Step, step_line, nil_from_length}
+use Rattle.niss_shell.proofs.Names.{◌≡◌, take, length, ap, ◌∙◌, arith, flat_map, take_all, steps, Step, step_line, ℕ}
 use Rattle.niss_shell.proofs.shell.put_steps.Goals as goal
 
 pub loop-step-init : goal.loop-step-init
-loop-step-init c = record { names = nil_from_length _ c.requires; room = omega (arith, c.requires); items = c.all-step-items.ensures }
+loop-step-init c = record { names = c.clear.ensures; room = omega (arith, ap (length {A = ℕ}) c.clear.ensures); items = c.all-step-items.ensures }
 
 pub returns : goal.returns
 returns c =

@@ -7,14 +7,16 @@ use Rattle.niss_shell.proofs.lines.Lines.read.Goals as goal
 pub loop-given-init : goal.loop-given-init
 loop-given-init g c = record {
   keeps = keeps_same;
-  at = at_start g.W.Target.call _ g.S.Source.call _ c.args.source.now _ c.requires.reader c.requires.line;
+  at = at_start g.W.Target.call _ g.S.Source.call _ c.args.source.now _ c.requires.first;
   reads = c.requires.begins.reads;
   goes_on = c.requires.begins.goes_on;
   empty = c.requires.begins.empty;
   room = omega arith;
-  column = omega (arith, c.requires.reader.fed);
-  lines = omega (arith, c.requires.line);
-  meter = omega (arith, c.requires.line, c.requires.begins.room);
+  ready = record {
+    column = omega (arith, c.requires.first.reader.fed);
+    line = omega (arith, c.requires.first.line);
+    looks = omega (arith, c.requires.first.line, c.requires.begins.room);
+  };
   block = omega arith;
 }
 
@@ -52,17 +54,20 @@ returns-in_err-take_block-2-clause-answers g c =
 pub loop-given-preserved : goal.loop-given-preserved
 loop-given-preserved g c =
     let e : length (take c.in-Ok.given c.read.new.buf) ≡ c.in-Ok.given = length_taken _ c.in-Ok.ensures.bound in
+    let rises = c.in_ok-take_block-2.ensures.rises in
     let shown = g.met.S.Source.shown c.loop-given.source c.read.new.self _ c.in-Ok.ensures.made in
     record {
       keeps = keeps_more c.loop-given.invariant.keeps c.in_ok-take_block-2.ensures.keeps;
       at = at_more g.W.Target.call _ g.S.Source.call c.args.source.now c.loop-given.source c.read.new.self c.loop-given.invariant.at c.in-Ok.given c.read.new.buf
-          c.in-Ok.ensures.bound c.in-Ok.ensures.made _ c.if-given-eq0.false (kept g.W.Target.call c.loop-given.invariant.keeps c.in_ok-take_block-2.ensures.takes);
+          c.in-Ok.ensures.bound c.in-Ok.ensures.made _ c.loop-given.invariant.room c.if-given-eq0.false (kept g.W.Target.call c.loop-given.invariant.keeps c.in_ok-take_block-2.ensures.takes);
       reads = shown.failed ∙ ap (λ f. f || false) c.loop-given.invariant.reads;
       goes_on = still_open c.in-Ok.given c.read.new.buf _ _ c.if-given-eq0.false c.in-Ok.ensures.bound c.loop-given.invariant.goes_on shown;
       empty = c.take_block-in-loop-given.ensures.empty;
       room = omega (arith, c.loop-given.invariant.room, c.if-given-room.false);
-      column = omega (arith, e, c.in_ok-take_block-2.ensures.column, c.loop-given.invariant.column);
-      lines = omega (arith, e, c.in_ok-take_block-2.ensures.lines, c.loop-given.invariant.lines);
-      meter = c.in_ok-take_block-2.ensures.meter;
+      ready = record {
+        column = omega (arith, e, rises.column, c.loop-given.invariant.ready.column, c.if-given-room.false);
+        line = omega (arith, e, rises.line, c.loop-given.invariant.ready.line, c.if-given-room.false);
+        looks = rises.looks;
+      };
       block = rw c.read.auto.buf c.loop-given.invariant.block;
     }

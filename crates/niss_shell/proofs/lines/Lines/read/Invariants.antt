@@ -1,4 +1,4 @@
-use Rattle.niss_shell.proofs.Names.{◌≡◌, ◌+◌, ◌-◌, ◌≤◌, ◌<◌, length, false, [], Calls, most_bytes, IsAt, HasRoom, Keeps, answers_of}
+use Rattle.niss_shell.proofs.Names.{◌≡◌, ◌-◌, ◌≤◌, ◌<◌, length, false, [], Calls, most_bytes, IsAt, MayTake, Keeps, answers_of}
 use Rattle.niss_shell.proofs.Names.{lines_state, progress_of}
 use Rattle.niss_shell.proofs.lines.Lines.read.Given as goal
 
@@ -11,9 +11,7 @@ invariant-loop-given g l = record {
   goes_on : (g.S.Source.state l.source).has_ended ≡ false;
   empty : l.output.pending.items ≡ [];
   room : l.count ≤ most_bytes;
-  column : l.self.reader.fed ≤ l.count;
-  lines : l.self.line ≤ l.count + 1;
-  meter : HasRoom l.self.line l.self.looks.now;
+  ready : MayTake (most_bytes - l.count) l.self;
   block : 0 < length l.block;
 }
 

@@ -6,9 +6,7 @@ pub loop-index-init : goal.loop-index-init
 loop-index-init g c = record {
   keeps = keeps_same;
   takes = none_taken g.W.Target.call _;
-  column = omega arith;
-  lines = omega arith;
-  meter = c.requires.meter;
+  rises = record { column = omega arith; line = omega arith; looks = c.requires.ready.looks };
   within = omega arith;
 }
 
@@ -17,9 +15,11 @@ loop-index-preserved g c = record {
   keeps = keeps_more c.loop-index.invariant.keeps c.in_ok-index.ensures.keeps;
   takes = block_more g.W.Target.call c.args.bytes.now c.loop-index.index c.in_ok-index.field-0 (between_to_end c.args.bytes.now c.loop-index.index _ (omega arith))
       c.loop-index.invariant.takes (kept g.W.Target.call c.loop-index.invariant.keeps c.in_ok-index.ensures.takes);
-  column = omega (arith, c.in_ok-index.ensures.column, c.loop-index.invariant.column);
-  lines = omega (arith, c.in_ok-index.ensures.lines, c.loop-index.invariant.lines);
-  meter = c.in_ok-index.ensures.meter;
+  rises = record {
+    column = omega (arith, c.in_ok-index.ensures.rises.column, c.loop-index.invariant.rises.column);
+    line = omega (arith, c.in_ok-index.ensures.rises.line, c.loop-index.invariant.rises.line);
+    looks = c.in_ok-index.ensures.rises.looks;
+  };
   within = piece_within _ _ c.loop-index-test.true c.in_ok-index.ensures.count.1;
 }
 

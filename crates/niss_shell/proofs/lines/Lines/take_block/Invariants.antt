@@ -1,4 +1,4 @@
-use Rattle.niss_shell.proofs.Names.{◌+◌, ◌≤◌, ◌-◌, length, take, Ok, HasRoom, Keeps, Takes, lines_state}
+use Rattle.niss_shell.proofs.Names.{◌≤◌, ◌-◌, length, take, Ok, Rises, Keeps, Takes, lines_state}
 use Rattle.niss_shell.proofs.lines.Lines.take_block.Given as goal
 
 abbrev pub invariant-loop-index : goal.invariant-loop-index
@@ -6,9 +6,7 @@ invariant-loop-index g l = record {
   keeps : Keeps l.initial.self l.self;
   takes : Takes g.W.Target.call (take l.index l.bytes) (Ok tt) l.initial.self l.self
       (lines_state l.initial.output l.initial.self) (lines_state l.output l.self);
-  column : l.self.reader.fed ≤ l.initial.self.reader.fed + l.index;
-  lines : l.self.line ≤ l.initial.self.line + l.index;
-  meter : HasRoom l.self.line l.self.looks.now;
+  rises : Rises l.index l.initial.self l.self;
   within : l.index ≤ length l.bytes;
 }
 

@@ -4,7 +4,7 @@ use Rattle.niss_shell.proofs.output.Output.write.Goals as goal
 
 pub returns-clause-written : goal.returns-clause-written
 returns-clause-written g c = λ looks.
-    let text = c.args.text.now.items in
+    let text = c.args.self.now.next.items in
     delivers_more g.W.Target.call (is_err c.send.result) text [] text 0 0 0
     (output_state c.args.self.now looks) (output_state c.put.new.self looks) (output_state c.send.new.self looks)
     (append-nil text) refl (c.in_ok-put.ensures.taken looks) (c.send.ensures.sent looks)

@@ -1,6 +1,6 @@
 use Rattle.niss_shell.proofs.Names.{◌≡◌, ◌∙◌, ap, sym, subst, IsInput, output_state}
 use Rattle.niss_shell.proofs.RunLemmas.{runs_source, runs_text}
-use Rattle.niss_shell.proofs.input.answer_input.Goals as goal
+use Rattle.niss_shell.proofs.input.Prepared.answer.Goals as goal
 
 pub returns-in-None : goal.returns-in-None
 returns-in-None g c = λ words input.
