@@ -15,6 +15,9 @@ const LOOKING_FOR_BEST = "Looking for the best …";
 /** How many rows are shown at first: where the page is narrow fewer, so that the table below them is seen. */
 const SHOWN_FIRST = { narrow: 3, wide: 8 };
 const SHOWN_MORE = 40;
+/** How many signs the style adds to a row that was seen, and how wide a sign of a twin is beside one of the moves. */
+const SEEN_SIGNS = 2;
+const SIGN_OF_TWIN = 0.7;
 /** Of how many searches what was found is kept. */
 const MOST_KEPT_SEARCHES = 8;
 
@@ -27,6 +30,20 @@ const nameOfSearch = ({ now, slack, isAll }) => [now.normal, now.inverse, slack,
 function cell(name, attributes, ...children) {
     const role = name === "th" ? { role: "rowheader", scope: "row" } : { role: "cell" };
     return element(name, { ...role, ...attributes }, ...children);
+}
+
+/**
+ * The cell of a row's moves and twins, which tells the style how many signs stand on one line where the page is narrow.
+ * @param {HTMLElement} take @param {string[]} others the last turns of the twins @param {boolean} isBeside whether they stand beside the
+ * moves there
+ */
+function movesCell(take, others, isBeside) {
+    const either = others.length === 1 ? others[0] : `${others.length} twins`;
+    const twin = others.length === 0 ? "" : ` or ${either}`;
+    const made = cell("td", {}, take, ...(twin === "" ? [] : [element("small", { class: "twins" }, twin)]));
+    const seen = take.classList.contains("seen") ? SEEN_SIGNS : 0;
+    made.style.setProperty("--signs", String(take.textContent.length + seen + (isBeside ? SIGN_OF_TWIN * twin.length : 0)));
+    return made;
 }
 
 export class BestContinuations {
@@ -225,10 +242,8 @@ export class BestContinuations {
         const isSeen = this.#acts.isSeen(added, next?.step);
         const all = Number.isFinite(total) ? String(total) : "–";
         const take = takeButton(line, { key, isSeen }, () => this.#acts.goOn(row));
-        const either = others.length === 1 ? others[0] : `${others.length} twins`;
-        const twin = others.length === 0 ? [] : [element("small", { class: "twins" }, ` or ${either}`)];
         const star = starButton(line, this.#acts.isStarred(added), () => this.#acts.star(added));
-        const cells = [cell("th", {}, all), cell("td", {}, take, ...twin), cell("td", { class: "axis" }, state)];
+        const cells = [cell("th", {}, all), movesCell(take, others, next !== null), cell("td", { class: "axis" }, state)];
         if (next) {
             cells.push(cell("td", { class: "axis" }, next.marks, " ", element("span", { class: "case" }, next.case)));
             cells.push(...SIDES.map((side) => this.#length(next, side)));
