@@ -1,10 +1,10 @@
 // The card of the best continuations: looked for by themselves, with progress, a way to stop, filters, and rows that go on.
 import { Stopped } from "./calls.js";
-import { announce, counted, element, part, setBusy, tell } from "./element.js";
-import { CaseFilter } from "./filter.js";
+import { announce, announceLater, counted, element, part, setBusy, tell } from "./element.js";
+import { BestFilter, NOT_MOVES } from "./filter.js";
 import { byCase, byTotal, findContinuations } from "./finder.js";
 import { focusButton, focusWithin, roveWithin, starButton, takeButton } from "./rows.js";
-import { SIDES, bracketed, isReduced } from "./steps.js";
+import { SIDES, bracketed, isReduced, reducedAfter } from "./steps.js";
 import { isNarrow } from "./view.js";
 
 /** @typedef {import("./finder.js").Row} Row */
@@ -49,7 +49,7 @@ function movesCell(take, others, isBeside) {
 export class BestContinuations {
     #finders;
     #acts;
-    #cases;
+    #filter = new BestFilter({ changed: () => this.#filtered(), typed: () => this.#typed() });
     #question = null;
     #progress = null;
     #found = new Map();
@@ -67,8 +67,7 @@ export class BestContinuations {
         roveWithin(this.#body);
         part("best-stop").addEventListener("click", () => this.#stop());
         for (const name of ["best-slack", "best-all"]) part(name).addEventListener("change", () => this.#ask());
-        this.#cases = new CaseFilter("best", () => this.#filtered());
-        for (const name of ["best-axis", "best-sort"]) part(name).addEventListener("change", () => this.#filtered());
+        part("best-sort").addEventListener("change", () => this.#filtered());
         part("best-more").addEventListener("click", () => this.#more());
     }
 
@@ -90,9 +89,8 @@ export class BestContinuations {
             this.#working(false);
             return;
         }
-        const isOriented = cube.reached.length > 0;
-        part("best-table").classList.toggle("of-reductions", isOriented);
-        part("best-filters").hidden = isOriented;
+        part("best-table").classList.toggle("of-reductions", cube.reached.length > 0);
+        this.#filter.begin(reducedAfter(cube.reached));
         this.#ask();
     }
 
@@ -112,9 +110,15 @@ export class BestContinuations {
         this.#draw();
     }
 
+    /** The same once nothing more is typed, and says it. */
+    #typed() {
+        this.#filtered();
+        if (this.#progress !== null) announceLater(part("best-note").textContent);
+    }
+
     /** Makes the row seen that has this name, and answers its button, or null. @param {string} key */
     reveal(key) {
-        const at = this.#rows().findIndex((row) => row.key === key);
+        const at = (this.#rows() ?? []).findIndex((row) => row.key === key);
         if (at < 0) return null;
         this.#shown = Math.max(this.#shown, at + 1);
         this.#draw();
@@ -181,6 +185,7 @@ export class BestContinuations {
             part("best-progress").value = progress.done;
         }
         if (progress.done === progress.all) this.#working(false);
+        this.#filter.offer(progress.rows);
         this.#draw();
         this.#acts.shown();
     }
@@ -193,27 +198,30 @@ export class BestContinuations {
         return all === null ? `${counted(done, "EO")} tried.` : `${done.toLocaleString("en")} of ${counted(all, "EO")} tried.`;
     }
 
-    /** The rows that the filters leave, in their order. */
+    /** The rows that the filters leave, in their order; or null if what is typed isn't moves. */
     #rows() {
-        const axis = part("best-axis").value;
-        const hasCase = this.#cases.test() ?? (() => true);
-        const isLeft = ({ next, state }) => next === null || (hasCase(next.case) && (axis === "" || state === axis));
-        const rows = (this.#progress?.rows ?? []).filter(isLeft);
-        if (part("best-sort").value === "case") rows.sort((one, other) => byCase(one, other) || byTotal(one, other));
+        const rows = this.#filter.left(this.#progress?.rows ?? []);
+        if (part("best-sort").value === "case") rows?.sort((one, other) => byCase(one, other) || byTotal(one, other));
         return rows;
     }
 
     #draw() {
         if (this.#progress === null) return this.#showRows([]);
-        const rows = this.#rows();
+        const left = this.#rows();
+        const rows = left ?? [];
         const shown = rows.slice(0, this.#shown);
         this.#showRows(shown.map((row) => this.#row(row)));
         part("best-more").hidden = shown.length === rows.length;
         part("best-more").textContent = `Show more of ${rows.length.toLocaleString("en")}`;
-        const all = counted(this.#progress.rows.length, "row");
-        const of = rows.length === this.#progress.rows.length ? all : `${rows.length.toLocaleString("en")} of ${all}`;
-        const cut = this.#progress.isCut ? " The list is cut: the best are kept." : "";
-        tell(part("best-note"), `${this.#tried()} ${of}.${cut}`.trim());
+        tell(part("best-note"), left === null ? NOT_MOVES : this.#note(rows.length));
+    }
+
+    /** @param {number} left how many rows are left */
+    #note(left) {
+        const { rows, isCut } = this.#progress;
+        const all = counted(rows.length, "row");
+        const of = left === rows.length ? all : `${left.toLocaleString("en")} of ${all}`;
+        return `${this.#tried()} ${of}.${isCut ? " The list is cut: the best are kept." : ""}`.trim();
     }
 
     #more() {
