@@ -16,7 +16,7 @@ import { ScrambleField } from "./scramble.js";
 import { OpenList, SolutionList } from "./solutions.js";
 import { ORIENTATIONS, bracketed, isReduced, stateOf, stepNamed } from "./steps.js";
 import { StepTable } from "./table.js";
-import { keepInView, listenToKeys, setUsable, showStart, star } from "./view.js";
+import { keepInView, listenToKeys, setUsable, showStart, star, withoutMoving } from "./view.js";
 import { NO_ROOM, titleOfPage, unanswered, whyNotListed } from "./words.js";
 
 /** @typedef {import("./address.js").State} State */
@@ -332,7 +332,7 @@ export class Page {
         const isKept = this.#kept.has(parts);
         part("keep-line").textContent = isKept ? "★ Kept" : "☆ Keep";
         part("keep-line").setAttribute("aria-pressed", String(isKept));
-        if (kept.length === 0 || !this.#cube) return;
+        if (kept.length === 0 || !this.#cube || this.#kept.isDescribed(this.#cube.written)) return;
         const { scramble, written } = this.#cube;
         try {
             const walks = await walkAll(this.#keptCalls, scramble, kept.map((each) => each.parts));
@@ -349,7 +349,7 @@ export class Page {
             tell(part("alert"), NO_ROOM);
             return;
         }
-        this.#change({ kept });
+        withoutMoving(part("results"), () => this.#change({ kept }));
         announce(`${spoken(bracketed(parts)) || "No moves"}: ${isKept ? "kept" : "no longer kept"}.`);
     }
 
