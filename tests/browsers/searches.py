@@ -211,13 +211,13 @@ def marked(tally: Tally, browser: Browser) -> None:
         tally.equal(f"bad edges on the {side} side", browser.script(bad, side), edges)
     looks = """const seen = (selector) => {
             const it = document.querySelector(selector); const own = getComputedStyle(it.querySelector('rect'));
-            return [own.fill, own.strokeWidth, getComputedStyle(it.querySelector('.dot')).display]; };
+            return [own.fill, own.strokeWidth, getComputedStyle(it.querySelector('.dot')).visibility]; };
         return [seen('#net-normal .bad'), seen('#net-normal .sticker:not(.bad)')]"""
     (_, wide, dot), (grey, thin, none) = browser.script(looks)
     tally.equal(
         "a bad one has a ring and a dot, another neither",
         (float(wide[:-2]) > 2 * float(thin[:-2]), dot, none),
-        (True, "block", "none"),
+        (True, "visible", "hidden"),
     )
     parts = [int(part) for part in re.findall(r"\d+", grey)]
     tally.holds(f"the rest is grey: {parts}", max(parts) - min(parts) < 20)
