@@ -126,7 +126,11 @@ const SOON = 50;
 export async function inPortions(groups) {
     const all = Promise.all(groups);
     const isSoon = await Promise.race([all.then(() => true, () => false), new Promise((later) => setTimeout(later, SOON, false))]);
-    return isSoon ? [all] : groups.map(async (group) => [await group]);
+    if (isSoon) return [all];
+    const portions = groups.map((group) => group.then((offers) => [offers]));
+    // what is wrong is said where they are waited for
+    for (const portion of portions) portion.catch(() => {});
+    return portions;
 }
 
 /** What solvers choose a step by: bad edges, or the case. @param {string} letters @param {import("./steps.js").OfferedStep} step */
