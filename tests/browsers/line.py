@@ -191,7 +191,43 @@ def solved(tally: Tally, browser: Browser) -> None:
         tally.equal("no cell leads to an empty list", [name for name in browser.cells() if " 0 moves" in name or "reached" in name], [])
 
 
+def leads_to_kept(tally: Tally, browser: Browser) -> None:
+    """Where the page is narrow a button that stays in view leads to what is kept and back; a star moves nothing under a finger."""
+    browser.command("Emulation.setDeviceMetricsOverride", width=360, height=740, deviceScaleFactor=1, mobile=False)
+    seen = "return ['bar', 'bar-undo', 'bar-kept'].map((name) => document.getElementById(name).checkVisibility())"
+    star = """const star = document.querySelector('#best-body .star'); if (arguments[0]) star.scrollIntoView({ block: 'center' });
+        const { top } = star.getBoundingClientRect(); star.click();
+        return document.querySelector('#best-body .star').getBoundingClientRect().top - top"""
+    for is_scrolled in (True, False):
+        browser.open(ADDRESS)
+        browser.wait_best()
+        tally.equal("there is no bar without a step or a line that is kept", browser.script(seen), [False, False, False])
+        moved = browser.script(star, is_scrolled)
+        tally.holds(f"a star stays where it is: {moved}", abs(moved) < 2)
+        tally.equal("what is kept is led to", (browser.script(seen), browser.text("bar-kept")), ([True, False, True], "★ 1"))
+    browser.script("document.querySelectorAll('#best-body .star')[1].click(); scrollTo({ top: 150, behavior: 'instant' })")
+    tally.equal("the button counts", browser.text("bar-kept"), "★ 2")
+    leaves = "return document.getElementById('bar-kept').textContent === '★ 2'"
+    is_seen = "const { top, bottom } = document.getElementById('kept').getBoundingClientRect(); return top >= 0 && top < innerHeight"
+    tally.equal("they are far below", browser.script(is_seen), False)
+    browser.click("#bar-kept")
+    tally.equal("it leads there", (browser.script(is_seen), browser.focused(), browser.text("bar-kept")), (True, "kept-heading", "Back"))
+    browser.click("#bar-kept")
+    tally.equal("and back", (browser.script("return scrollY"), browser.text("bar-kept")), (150, "★ 2"))
+    browser.click("#bar-kept")
+    browser.script("scrollTo({ top: 0, behavior: 'instant' })")
+    tally.holds("whoever leaves isn't led back", browser.until(leaves))
+    browser.click("#bar-kept")
+    browser.act("#kept-list li:nth-child(1) button")
+    tally.equal("whoever goes on comes to what follows", (browser.script(seen), browser.until(leaves)), ([True, True, True], True))
+    tally.equal("and has the focus there", browser.script("return document.activeElement.classList.contains('least')"), True)
+    fits = "return document.documentElement.scrollWidth <= innerWidth"
+    tally.holds("the bar has room for all", browser.script(fits))
+    browser.command("Emulation.setDeviceMetricsOverride", width=1280, height=1000, deviceScaleFactor=1, mobile=False)
+    tally.equal("where the page is wide there is no bar", browser.script(seen), [False, False, False])
+
+
 def try_all(tally: Tally, browser: Browser) -> None:
     """All of them."""
-    for part in (keeps, fmc_text, edits, by_keys, plays, solved):
+    for part in (keeps, leads_to_kept, fmc_text, edits, by_keys, plays, solved):
         part(tally, browser)

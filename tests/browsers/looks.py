@@ -11,6 +11,28 @@ STOPS = ("skip", "scramble-edit", "undo-move", "own", "switch", "copy-joined", "
     "marks", "play", "view-y", "keep-line", "copy-link", "theme", "solutions-close", "twins", "last-turn")
 # what a finger presses is at least so high and wide where the page is narrow
 TARGET = 44
+# a star beside a row that is pressed as a whole is at least so high and wide
+LEAST_TARGET = 24
+# how high a row of the best may be there, and how small its signs
+MOST_OF_ROW = 56
+LEAST_SIGN = 10
+ROWS_OF_BEST = """
+    const areOn = (one, other) => one.left < other.right - 0.5 && other.left < one.right - 0.5
+        && one.top < other.bottom - 0.5 && other.top < one.bottom - 0.5;
+    const textOf = (node) => {
+        const range = document.createRange();
+        range.selectNodeContents(node);
+        return range.getBoundingClientRect();
+    };
+    return [...document.querySelectorAll('#best-body tr')].map((row) => {
+        const [take, twins, star] = ['.take', '.twins', '.star'].map((name) => row.querySelector(name));
+        const parts = [take, twins, star, ...row.querySelectorAll('th, .axis, .number')].filter((each) => each?.checkVisibility())
+            .map((each) => each === star ? star.getBoundingClientRect() : textOf(each));
+        const box = row.getBoundingClientRect(), { width, height } = star.getBoundingClientRect(), own = getComputedStyle(take);
+        return { moves: take.textContent, hasTwins: twins !== null, height: box.height, star: [width, height],
+            size: parseFloat(own.fontSize), lines: Math.round(textOf(take).height / (1.5 * parseFloat(own.fontSize))),
+            on: parts.some((one, at) => parts.some((other, next) => next > at && areOn(one, other))) };
+    })"""
 # the least contrast of all text that is seen, with the text; what can't be used meanwhile doesn't count
 CONTRAST = """
     const channels = (text) => text.match(/[\\d.]+/g).map(Number);
@@ -110,6 +132,25 @@ def presses(tally: Tally, browser: Browser) -> None:
         const { left, right, bottom } = row.getBoundingClientRect();
         return document.elementFromPoint((left + right) / 2, bottom - 4).className"""
     tally.holds("and their whole row is pressed", "take" in browser.script(hit))
+
+
+def has_two_lines(tally: Tally, browser: Browser) -> None:
+    """On a phone a row of the best has two lines at most, however long its moves are; nothing in it stands on something else."""
+    for after in ("", "&steps=inverse.B_D_R_F2_B_D"):
+        browser.open(SCRAMBLE + after)
+        browser.choose("best-slack", "2")
+        browser.wait_best()
+        browser.choose("best-sort", "case")
+        for _ in range(3):
+            browser.script("document.getElementById('best-more').click()")
+        rows = browser.script(ROWS_OF_BEST)
+        longest = max(len(row["moves"]) for row in rows)
+        tally.holds(f"{after}: there are long rows and twins: {longest}", longest > 15 and any(row["hasTwins"] for row in rows))
+        tally.equal(f"{after}: rows of more than two lines", [row for row in rows if row["lines"] > 1 or row["height"] > MOST_OF_ROW], [])
+        tally.equal(f"{after}: parts of a row on each other", [row for row in rows if row["on"]], [])
+        tally.equal(f"{after}: signs that are too small", [row for row in rows if row["size"] < LEAST_SIGN], [])
+        tally.equal(f"{after}: stars that are too small", [row for row in rows if min(row["star"]) < LEAST_TARGET], [])
+    browser.choose("best-sort", "total")
 
 
 def begins(tally: Tally, browser: Browser) -> None:
@@ -331,7 +372,7 @@ def try_all(tally: Tally, browser: Browser) -> None:
         is_named(tally, browser, colours)
         fits(tally, browser, colours)
     is_told_apart(tally, browser)
-    for part in (presses, begins, prints, themes, hovers, helps, copies):
+    for part in (presses, has_two_lines, begins, prints, themes, hovers, helps, copies):
         part(tally, browser)
     shows_focus(tally, browser)
     shows_focus_below(tally, browser)

@@ -100,6 +100,43 @@ def best(tally: Tally, browser: Browser) -> None:
     tally.equal("one of them finishes", browser.text("finished").split(".")[0], f"{reached} is reached: {total} moves")
 
 
+def filters_reductions(tally: Tally, browser: Browser, rows: list[tuple[int, str, str]]) -> None:
+    """The best reductions are filtered by their axis, by turns and by the last turn; those of another cube aren't."""
+    seen = "return ['best-filters', 'best-turns'].map((name) => !document.getElementById(name).hidden)"
+    tally.equal("cases aren't filtered by, turns are", browser.script(seen), [False, True])
+    moves = "return [...document.querySelectorAll('#best-body .take')].map((each) => each.textContent)"
+    choices = "return [...document.getElementById(arguments[0]).options].map((each) => each.value).slice(1)"
+    tally.equal("the axes", sorted(browser.script(choices, "best-reduction")), sorted({state for _, _, state in rows}))
+    plain = [line.strip("()") for _, line, _ in rows]
+    tally.equal("the last turns", browser.script(choices, "best-last"), sorted({line.split()[-1] for line in plain}))
+    for state in sorted({state for _, _, state in rows}):
+        browser.choose("best-reduction", state)
+        tally.equal(f"those of {state}", (browser.until(MORE), browser.script(moves)), (True, [row[1] for row in rows if row[2] == state]))
+    browser.choose("best-reduction", "")
+    first, last = " ".join(plain[0].split()[:2]), plain[-1].split()[-1]
+    browser.script(TYPE.replace("'filter'", "'best-filter'"), "", first)
+    typed = [row[1] for row, line in zip(rows, plain) if f" {first} " in f" {line} "]
+    tally.equal(f"those with {first}", (browser.until(MORE), browser.script(moves)), (True, typed))
+    tally.holds("are some, and not all", 0 < len(typed) < len(rows))
+    tally.equal("which the note says", browser.text("best-note"), f"{len(typed)} of {len(rows)} rows.")
+    browser.script(TYPE.replace("'filter'", "'best-filter'"), "", "x")
+    tally.equal("no moves", (browser.script(moves), "not moves" in browser.text("best-note")), ([], True))
+    browser.script(TYPE.replace("'filter'", "'best-filter'"), "", "")
+    browser.choose("best-last", last)
+    tally.holds(f"those that end with {last}", browser.until(MORE))
+    ended = browser.script(moves)
+    wanted = [row[1] for row, line in zip(rows, plain) if line.split()[-1] == last]
+    tally.holds("are all of them, and twins", set(wanted) <= set(ended) and len(ended) < len(rows))
+    browser.act("#undo-step")
+    browser.wait_best()
+    tally.equal("before an orientation cases are filtered by", browser.script(seen), [True, False])
+    browser.script("history.back()")
+    browser.until("return document.getElementById('best-table').classList.contains('of-reductions')")
+    browser.wait_best()
+    tally.equal("a filter of another cube is gone", browser.script("return document.getElementById('best-last').value"), "")
+    tally.equal("so all are there again", browser.text("best-note"), f"{len(rows)} rows.")
+
+
 def after_orientation(tally: Tally, browser: Browser) -> None:
     """After an orientation the best are its reductions on both axes and sides, by all moves; after a reduction there are none."""
     browser.open(address_of(LONGER) + "&steps=inverse.B_D_R_F2_B_D")
@@ -119,6 +156,7 @@ def after_orientation(tally: Tally, browser: Browser) -> None:
     rows = [(int(total), moves, state) for total, moves, state in browser.script(cells)]
     tally.equal("its reductions", sorted(rows), sorted(wanted))
     tally.equal("by all moves", [row[0] for row in rows], sorted(row[0] for row in rows))
+    filters_reductions(tally, browser, rows)
     browser.act("#best-body .take")
     tally.equal("the first finishes", browser.text("finished"), f"{rows[0][2]} is reached: {rows[0][0]} moves. nissy goes no further.")
     tally.equal("then there is no best", browser.script("return document.getElementById('best').checkVisibility()"), False)
@@ -173,13 +211,13 @@ def marked(tally: Tally, browser: Browser) -> None:
         tally.equal(f"bad edges on the {side} side", browser.script(bad, side), edges)
     looks = """const seen = (selector) => {
             const it = document.querySelector(selector); const own = getComputedStyle(it.querySelector('rect'));
-            return [own.fill, own.strokeWidth, getComputedStyle(it.querySelector('.dot')).display]; };
+            return [own.fill, own.strokeWidth, getComputedStyle(it.querySelector('.dot')).visibility]; };
         return [seen('#net-normal .bad'), seen('#net-normal .sticker:not(.bad)')]"""
     (_, wide, dot), (grey, thin, none) = browser.script(looks)
     tally.equal(
         "a bad one has a ring and a dot, another neither",
         (float(wide[:-2]) > 2 * float(thin[:-2]), dot, none),
-        (True, "block", "none"),
+        (True, "visible", "hidden"),
     )
     parts = [int(part) for part in re.findall(r"\d+", grey)]
     tally.holds(f"the rest is grey: {parts}", max(parts) - min(parts) < 20)

@@ -1,10 +1,10 @@
 // The card of the best continuations: looked for by themselves, with progress, a way to stop, filters, and rows that go on.
 import { Stopped } from "./calls.js";
-import { announce, counted, element, part, setBusy, tell } from "./element.js";
-import { CaseFilter } from "./filter.js";
+import { announce, announceLater, counted, element, part, setBusy, tell } from "./element.js";
+import { BestFilter, NOT_MOVES } from "./filter.js";
 import { byCase, byTotal, findContinuations } from "./finder.js";
 import { focusButton, focusWithin, roveWithin, starButton, takeButton } from "./rows.js";
-import { SIDES, bracketed, isReduced } from "./steps.js";
+import { SIDES, bracketed, isReduced, reducedAfter } from "./steps.js";
 import { isNarrow } from "./view.js";
 
 /** @typedef {import("./finder.js").Row} Row */
@@ -15,6 +15,9 @@ const LOOKING_FOR_BEST = "Looking for the best …";
 /** How many rows are shown at first: where the page is narrow fewer, so that the table below them is seen. */
 const SHOWN_FIRST = { narrow: 3, wide: 8 };
 const SHOWN_MORE = 40;
+/** How many signs the style adds to a row that was seen, and how wide a sign of a twin is beside one of the moves. */
+const SEEN_SIGNS = 2;
+const SIGN_OF_TWIN = 0.7;
 /** Of how many searches what was found is kept. */
 const MOST_KEPT_SEARCHES = 8;
 
@@ -29,10 +32,24 @@ function cell(name, attributes, ...children) {
     return element(name, { ...role, ...attributes }, ...children);
 }
 
+/**
+ * The cell of a row's moves and twins, which tells the style how many signs stand on one line where the page is narrow.
+ * @param {HTMLElement} take @param {string[]} others the last turns of the twins @param {boolean} isBeside whether they stand beside the
+ * moves there
+ */
+function movesCell(take, others, isBeside) {
+    const either = others.length === 1 ? others[0] : `${others.length} twins`;
+    const twin = others.length === 0 ? "" : ` or ${either}`;
+    const made = cell("td", {}, take, ...(twin === "" ? [] : [element("small", { class: "twins" }, twin)]));
+    const seen = take.classList.contains("seen") ? SEEN_SIGNS : 0;
+    made.style.setProperty("--signs", String(take.textContent.length + seen + (isBeside ? SIGN_OF_TWIN * twin.length : 0)));
+    return made;
+}
+
 export class BestContinuations {
     #finders;
     #acts;
-    #cases;
+    #filter = new BestFilter({ changed: () => this.#filtered(), typed: () => this.#typed() });
     #question = null;
     #progress = null;
     #found = new Map();
@@ -50,8 +67,7 @@ export class BestContinuations {
         roveWithin(this.#body);
         part("best-stop").addEventListener("click", () => this.#stop());
         for (const name of ["best-slack", "best-all"]) part(name).addEventListener("change", () => this.#ask());
-        this.#cases = new CaseFilter("best", () => this.#filtered());
-        for (const name of ["best-axis", "best-sort"]) part(name).addEventListener("change", () => this.#filtered());
+        part("best-sort").addEventListener("change", () => this.#filtered());
         part("best-more").addEventListener("click", () => this.#more());
     }
 
@@ -73,9 +89,8 @@ export class BestContinuations {
             this.#working(false);
             return;
         }
-        const isOriented = cube.reached.length > 0;
-        part("best-table").classList.toggle("of-reductions", isOriented);
-        part("best-filters").hidden = isOriented;
+        part("best-table").classList.toggle("of-reductions", cube.reached.length > 0);
+        this.#filter.begin(reducedAfter(cube.reached));
         this.#ask();
     }
 
@@ -95,9 +110,15 @@ export class BestContinuations {
         this.#draw();
     }
 
+    /** The same once nothing more is typed, and says it. */
+    #typed() {
+        this.#filtered();
+        if (this.#progress !== null) announceLater(part("best-note").textContent);
+    }
+
     /** Makes the row seen that has this name, and answers its button, or null. @param {string} key */
     reveal(key) {
-        const at = this.#rows().findIndex((row) => row.key === key);
+        const at = (this.#rows() ?? []).findIndex((row) => row.key === key);
         if (at < 0) return null;
         this.#shown = Math.max(this.#shown, at + 1);
         this.#draw();
@@ -164,6 +185,7 @@ export class BestContinuations {
             part("best-progress").value = progress.done;
         }
         if (progress.done === progress.all) this.#working(false);
+        this.#filter.offer(progress.rows);
         this.#draw();
         this.#acts.shown();
     }
@@ -176,27 +198,30 @@ export class BestContinuations {
         return all === null ? `${counted(done, "EO")} tried.` : `${done.toLocaleString("en")} of ${counted(all, "EO")} tried.`;
     }
 
-    /** The rows that the filters leave, in their order. */
+    /** The rows that the filters leave, in their order; or null if what is typed isn't moves. */
     #rows() {
-        const axis = part("best-axis").value;
-        const hasCase = this.#cases.test() ?? (() => true);
-        const isLeft = ({ next, state }) => next === null || (hasCase(next.case) && (axis === "" || state === axis));
-        const rows = (this.#progress?.rows ?? []).filter(isLeft);
-        if (part("best-sort").value === "case") rows.sort((one, other) => byCase(one, other) || byTotal(one, other));
+        const rows = this.#filter.left(this.#progress?.rows ?? []);
+        if (part("best-sort").value === "case") rows?.sort((one, other) => byCase(one, other) || byTotal(one, other));
         return rows;
     }
 
     #draw() {
         if (this.#progress === null) return this.#showRows([]);
-        const rows = this.#rows();
+        const left = this.#rows();
+        const rows = left ?? [];
         const shown = rows.slice(0, this.#shown);
         this.#showRows(shown.map((row) => this.#row(row)));
         part("best-more").hidden = shown.length === rows.length;
         part("best-more").textContent = `Show more of ${rows.length.toLocaleString("en")}`;
-        const all = counted(this.#progress.rows.length, "row");
-        const of = rows.length === this.#progress.rows.length ? all : `${rows.length.toLocaleString("en")} of ${all}`;
-        const cut = this.#progress.isCut ? " The list is cut: the best are kept." : "";
-        tell(part("best-note"), `${this.#tried()} ${of}.${cut}`.trim());
+        tell(part("best-note"), left === null ? NOT_MOVES : this.#note(rows.length));
+    }
+
+    /** @param {number} left how many rows are left */
+    #note(left) {
+        const { rows, isCut } = this.#progress;
+        const all = counted(rows.length, "row");
+        const of = left === rows.length ? all : `${left.toLocaleString("en")} of ${all}`;
+        return `${this.#tried()} ${of}.${isCut ? " The list is cut: the best are kept." : ""}`.trim();
     }
 
     #more() {
@@ -225,10 +250,8 @@ export class BestContinuations {
         const isSeen = this.#acts.isSeen(added, next?.step);
         const all = Number.isFinite(total) ? String(total) : "–";
         const take = takeButton(line, { key, isSeen }, () => this.#acts.goOn(row));
-        const either = others.length === 1 ? others[0] : `${others.length} twins`;
-        const twin = others.length === 0 ? [] : [element("small", { class: "twins" }, ` or ${either}`)];
         const star = starButton(line, this.#acts.isStarred(added), () => this.#acts.star(added));
-        const cells = [cell("th", {}, all), cell("td", {}, take, ...twin), cell("td", { class: "axis" }, state)];
+        const cells = [cell("th", {}, all), movesCell(take, others, next !== null), cell("td", { class: "axis" }, state)];
         if (next) {
             cells.push(cell("td", { class: "axis" }, next.marks, " ", element("span", { class: "case" }, next.case)));
             cells.push(...SIDES.map((side) => this.#length(next, side)));

@@ -88,7 +88,8 @@ export class Cube {
         const pointed = target?.closest("[data-marks]")?.dataset.marks ?? "";
         if (pointed === this.#pointed) return;
         this.#pointed = pointed;
-        this.#draw();
+        // what moves the focus may lay the page out for it, and needs no marks for that
+        queueMicrotask(() => this.#draw());
     }
 
     #turn(turn) {

@@ -1,9 +1,24 @@
-// What is left of rows: by how many corners and edges their cases may have, by turns that are typed, and by the last turn.
+// What is left of rows: by how many corners and edges their cases may have, by turns that are typed, by the last turn, and by the axis.
 import { sizeOf } from "./cases.js";
 import { element, part } from "./element.js";
 
+/** @typedef {import("./finder.js").Row} Row */
+
+/** What is said of a text that isn't moves. */
+export const NOT_MOVES = "The text in the filter is not moves: type face turns such as F B'.";
+
 /** How many corners and edges of a case may be asked for; the first of each leaves all. */
 const MOST_OF_CASE = { corners: [8, 7, 6, 5, 4, 3, 2, 0], edges: [4, 3, 2, 1, 0] };
+
+/**
+ * Offers choices, of which the first leaves all; the one that is chosen stays, if it is among them.
+ * @param {HTMLElement} field @param {string[]} choices
+ */
+function offerChoices(field, choices) {
+    const chosen = field.value;
+    field.replaceChildren(element("option", { value: "" }, "any"), ...choices.map((each) => element("option", { value: each }, each)));
+    field.value = choices.includes(chosen) ? chosen : "";
+}
 
 /** Two fields for the most corners and edges of a case. */
 export class CaseFilter {
@@ -64,15 +79,18 @@ const hasTurns = (moves, wanted) => wanted.length === 0 || ` ${moves} `.includes
 /** The last turn of some moves, "" where there is none. @param {string} moves */
 const lastTurn = (moves) => moves.slice(moves.lastIndexOf(" ") + 1);
 
-/** The filters of a list. */
-export class ListFilter {
-    #cases;
-    #typed = part("filter");
-    #last = part("last-turn");
+/**
+ * Fields for turns that stand one after another, and for the last turn.
+ * @typedef {{moves: string, others: string[]}} Ends moves, and the last turns of their twins
+ */
+export class TurnFilter {
+    #typed;
+    #last;
 
-    /** @param {() => void} changed @param {() => void} typed */
-    constructor(changed, typed) {
-        this.#cases = new CaseFilter("most", changed);
+    /** @param {{typed: string, last: string}} names of the fields @param {{changed: () => void, typed: () => void}} acts */
+    constructor(names, { changed, typed }) {
+        this.#typed = part(names.typed);
+        this.#last = part(names.last);
         this.#typed.addEventListener("input", typed);
         this.#last.addEventListener("change", changed);
     }
@@ -81,7 +99,6 @@ export class ListFilter {
     clear() {
         this.#typed.value = "";
         this.#last.value = "";
-        this.#cases.clear();
     }
 
     focus() {
@@ -89,12 +106,52 @@ export class ListFilter {
     }
 
     /** Offers the last turns of a list; the one that is chosen stays, if it is among them. @param {{moves: string}[]} entries */
-    offerLastTurns(entries) {
-        const chosen = this.#last.value;
+    offer(entries) {
         const turns = [...new Set(entries.map(({ moves }) => lastTurn(moves)).filter(Boolean))].sort();
-        const choices = turns.map((turn) => element("option", { value: turn }, turn));
-        this.#last.replaceChildren(element("option", { value: "" }, "any"), ...choices);
-        this.#last.value = turns.includes(chosen) ? chosen : "";
+        offerChoices(this.#last, turns);
+    }
+
+    /**
+     * What says of moves or one of their twins whether they are left; or null if what is typed isn't moves.
+     * @returns {((ends: Ends) => boolean) | null}
+     */
+    test() {
+        const wanted = turnsOf(this.#typed.value);
+        this.#typed.setAttribute("aria-invalid", String(wanted === null));
+        if (wanted === null) return null;
+        const last = this.#last.value;
+        return ({ moves, others }) => {
+            const own = moves.split(" ");
+            const twins = others.map((end) => [...own.slice(0, -end.split(" ").length), end].join(" "));
+            return [moves, ...twins].some((each) => hasTurns(each, wanted) && (last === "" || lastTurn(each) === last));
+        };
+    }
+}
+
+/** The filters of a list. */
+export class ListFilter {
+    #cases;
+    #turns;
+
+    /** @param {{changed: () => void, typed: () => void}} acts */
+    constructor(acts) {
+        this.#cases = new CaseFilter("most", acts.changed);
+        this.#turns = new TurnFilter({ typed: "filter", last: "last-turn" }, acts);
+    }
+
+    /** Leaves all. */
+    clear() {
+        this.#turns.clear();
+        this.#cases.clear();
+    }
+
+    focus() {
+        this.#turns.focus();
+    }
+
+    /** Offers the last turns of a list. @param {{moves: string}[]} entries */
+    offerLastTurns(entries) {
+        this.#turns.offer(entries);
     }
 
     /**
@@ -103,17 +160,56 @@ export class ListFilter {
      * @param {Entry[]} entries @param {(entry: Entry) => {name: string}[]} casesOf @returns {Entry[] | null}
      */
     left(entries, casesOf) {
-        const wanted = turnsOf(this.#typed.value);
-        this.#typed.setAttribute("aria-invalid", String(wanted === null));
-        if (wanted === null) return null;
-        const last = this.#last.value;
+        const hasTurn = this.#turns.test();
+        if (hasTurn === null) return null;
         const isLeft = this.#cases.test();
         const hasCase = (entry) => isLeft === null || casesOf(entry).some(({ name }) => isLeft(name));
-        const hasAny = ({ moves, others }) => {
-            const own = moves.split(" ");
-            const twins = others.map((end) => [...own.slice(0, -end.split(" ").length), end].join(" "));
-            return [moves, ...twins].some((each) => hasTurns(each, wanted) && (last === "" || lastTurn(each) === last));
-        };
-        return entries.filter((entry) => hasAny(entry) && hasCase(entry));
+        return entries.filter((entry) => hasTurn(entry) && hasCase(entry));
+    }
+}
+
+/**
+ * The filters of the best: of orientations their axis and the cases that follow, of reductions, after which there is no case, their axis
+ * and their turns. Those of reductions belong to one cube.
+ */
+export class BestFilter {
+    #cases;
+    #turns;
+    #orientation = part("best-axis");
+    #reduction = part("best-reduction");
+    #isOfReductions = false;
+
+    /** @param {{changed: () => void, typed: () => void}} acts */
+    constructor(acts) {
+        this.#cases = new CaseFilter("best", acts.changed);
+        this.#turns = new TurnFilter({ typed: "best-filter", last: "best-last" }, acts);
+        for (const field of [this.#orientation, this.#reduction]) field.addEventListener("change", acts.changed);
+    }
+
+    /** Takes another cube. @param {string[]} reductions what may be reached, if an orientation holds; none before one */
+    begin(reductions) {
+        this.#isOfReductions = reductions.length > 0;
+        part("best-filters").hidden = this.#isOfReductions;
+        part("best-turns").hidden = !this.#isOfReductions;
+        this.#turns.clear();
+        this.#reduction.value = "";
+        offerChoices(this.#reduction, reductions);
+    }
+
+    /** Offers the last turns of the rows. @param {Row[]} rows */
+    offer(rows) {
+        if (this.#isOfReductions) this.#turns.offer(rows.map(({ part: { moves } }) => ({ moves })));
+    }
+
+    /** What is left of the rows, or null if what is typed isn't moves. @param {Row[]} rows @returns {Row[] | null} */
+    left(rows) {
+        const axis = (this.#isOfReductions ? this.#reduction : this.#orientation).value;
+        const ofAxis = rows.filter(({ state }) => axis === "" || state === axis);
+        if (!this.#isOfReductions) {
+            const hasCase = this.#cases.test() ?? (() => true);
+            return ofAxis.filter(({ next }) => hasCase(next.case));
+        }
+        const hasTurn = this.#turns.test();
+        return hasTurn && ofAxis.filter(({ part: { moves }, others }) => hasTurn({ moves, others }));
     }
 }

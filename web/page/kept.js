@@ -3,6 +3,7 @@ import { LONGEST_NOTE } from "./address.js";
 import { caseName } from "./cases.js";
 import { copy, fmcOfAll } from "./copying.js";
 import { counted, element, part, spoken, tell } from "./element.js";
+import { WayTo } from "./places.js";
 import { ORIENTATIONS, bracketed, isReduced, reductionsAfter, statesOf } from "./steps.js";
 
 /** @typedef {import("./address.js").Candidate} Candidate */
@@ -44,6 +45,7 @@ export class KeptCandidates {
     #walks = [];
     #scramble = "";
     #list = part("kept-list");
+    #way = new WayTo(part("bar-kept"), part("kept"), part("kept-heading"));
 
     /** @param {{goOn: (parts: Part[]) => void, change: (kept: Candidate[]) => void}} acts */
     constructor(acts) {
@@ -58,7 +60,13 @@ export class KeptCandidates {
         this.#candidates = candidates;
         this.#walks = [];
         part("kept").hidden = candidates.length === 0;
+        this.#way.show(candidates.length === 0 ? "" : `★ ${candidates.length}`, `Kept: ${counted(candidates.length, "line")}`);
         this.#draw();
+    }
+
+    /** Whether it is shown what the engine says of the candidates after a scramble. @param {string} scramble */
+    isDescribed(scramble) {
+        return this.#scramble === scramble && this.#walks.length === this.#candidates.length;
     }
 
     /** @param {Walk[]} walks in the order of the candidates @param {string} scramble */

@@ -14,6 +14,7 @@ import { showFault } from "./words.js";
 /** @typedef {import("./steps.js").Side} Side */
 
 const UNKNOWN = "…";
+const NO_MOVES = "No moves yet";
 
 /** The parts without their last move. @param {Part[]} parts @returns {Part[]} */
 export function withoutLastMove(parts) {
@@ -92,7 +93,7 @@ export class LineSoFar {
         part("line-empty").hidden = parts.length > 0;
         // where the engine can't read them, no line of other parts stays to be copied
         if (bracketed(parts) !== part("bracketed").textContent) this.#showWhole(bracketed(parts), "", UNKNOWN);
-        for (const name of ["line-list", "whole", "undo", "bar"]) part(name).hidden = parts.length === 0;
+        for (const name of ["line-list", "whole", "undo", "bar-total", "bar-undo"]) part(name).hidden = parts.length === 0;
     }
 
     /**
@@ -112,7 +113,7 @@ export class LineSoFar {
 
     /** @param {string} line @param {string} joined @param {string} total */
     #showWhole(line, joined, total) {
-        const texts = { bracketed: line, joined, total, "bar-line": line, "bar-total": total };
+        const texts = { bracketed: line, joined, total, "bar-line": line || NO_MOVES, "bar-total": total };
         for (const [name, text] of Object.entries(texts)) part(name).textContent = text;
     }
 

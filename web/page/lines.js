@@ -35,11 +35,17 @@ async function readLine(calls, line) {
     return read;
 }
 
+/** What the last scramble was read as: each step asks for it again. @type {{text: string, line: string, isTurned: boolean} | null} */
+let lastRead = null;
+
 /** A scramble by its face turns, and whether turns of the whole cube were left out. @param {Calls} calls @param {string} text */
 export async function readScramble(calls, text) {
-    const [cleaned] = await cleanAll(calls, [await readLine(calls, text)]);
-    const line = withoutTurns(cleaned);
-    return { line, isTurned: line !== cleaned };
+    if (lastRead?.text !== text) {
+        const [cleaned] = await cleanAll(calls, [await readLine(calls, text)]);
+        const line = withoutTurns(cleaned);
+        lastRead = { text, line, isTurned: line !== cleaned };
+    }
+    return lastRead;
 }
 
 /**

@@ -11,12 +11,12 @@ import { LineSoFar } from "./line.js";
 import { readAllByHand, readScramble, readSteps } from "./lines.js";
 import { plainLine } from "./pasted.js";
 import { Seen, dropAddress, goTo, keepPlace, placeIn, writeAddress } from "./places.js";
-import { examine, framesOf, offersOf, walkAll } from "./position.js";
+import { examine, framesOf, inPortions, offersOf, walkAll } from "./position.js";
 import { ScrambleField } from "./scramble.js";
 import { OpenList, SolutionList } from "./solutions.js";
 import { ORIENTATIONS, bracketed, isReduced, stateOf, stepNamed } from "./steps.js";
 import { StepTable } from "./table.js";
-import { keepInView, listenToKeys, setUsable, showStart, star } from "./view.js";
+import { keepInView, listenToKeys, setUsable, showStart, star, withoutMoving } from "./view.js";
 import { NO_ROOM, titleOfPage, unanswered, whyNotListed } from "./words.js";
 
 /** @typedef {import("./address.js").State} State */
@@ -189,6 +189,7 @@ export class Page {
         this.#line.turnTo(this.#state.side);
         this.#kept.show(this.#state.kept);
         this.#table.hold();
+        if (!this.#state.list) this.#openList.show("", null, "");
         this.#best.reset(null);
         announceLater("");
         setBusy("results", true);
@@ -206,10 +207,10 @@ export class Page {
         if (read === null) return;
         const cube = await examine(this.#calls, read.line, this.#state.parts);
         if (turn !== this.#turn) return;
-        // the engine counts while the cube is drawn
-        const groups = offersOf(this.#calls, cube.walk.reached.at(-1), cube.now);
+        const offers = await inPortions(offersOf(this.#calls, cube.walk.reached.at(-1), cube.now));
+        if (turn !== this.#turn) return;
         this.#showCube(read, cube);
-        await this.#showOffers(turn, groups);
+        await this.#showOffers(turn, offers);
         if (turn !== this.#turn) return;
         this.#showAnswered();
         this.#readiness.begin(this.#cube.reached, part("choices").hidden, () => this.#best.isWorking());
@@ -259,12 +260,12 @@ export class Page {
     }
 
     /** Shows the steps that may follow as soon as they are known, and has the best looked for. @param {number} turn */
-    async #showOffers(turn, groups) {
+    async #showOffers(turn, portions) {
         let isFirst = true;
-        for (const group of groups.length > 0 ? groups : [[]]) {
-            const offers = await group;
+        for (const portion of portions) {
+            const groups = await portion;
             if (turn !== this.#turn) return;
-            this.#table.add(offers, this.#cube, this.#state.list);
+            this.#table.add(groups, this.#cube, this.#state.list);
             if (isFirst) this.#startBest();
             isFirst = false;
         }
@@ -296,9 +297,10 @@ export class Page {
 
     /** After a step what follows comes into view and has the focus. @param {boolean} isFinished */
     #showTaken(isFinished) {
+        // first, since the page is laid out for it, and the focus changes the marks
+        showStart(isFinished);
         if (isFinished) part("copy-fmc").focus({ preventScroll: true });
         else this.#table.focus();
-        showStart(isFinished);
     }
 
     /** Goes back to where one was, once what had the focus there is shown. */
@@ -332,7 +334,7 @@ export class Page {
         const isKept = this.#kept.has(parts);
         part("keep-line").textContent = isKept ? "★ Kept" : "☆ Keep";
         part("keep-line").setAttribute("aria-pressed", String(isKept));
-        if (kept.length === 0 || !this.#cube) return;
+        if (kept.length === 0 || !this.#cube || this.#kept.isDescribed(this.#cube.written)) return;
         const { scramble, written } = this.#cube;
         try {
             const walks = await walkAll(this.#keptCalls, scramble, kept.map((each) => each.parts));
@@ -349,7 +351,7 @@ export class Page {
             tell(part("alert"), NO_ROOM);
             return;
         }
-        this.#change({ kept });
+        withoutMoving(part("results"), () => this.#change({ kept }));
         announce(`${spoken(bracketed(parts)) || "No moves"}: ${isKept ? "kept" : "no longer kept"}.`);
     }
 

@@ -1,5 +1,6 @@
 // Where one was: with each entry of the browser's history that is left, what had the focus there and how far the page was scrolled is kept,
-// so that Back leads to the same place; and the lines that were taken in this session, which lists and the best mark.
+// so that Back leads to the same place; the way to a card and back; and the lines that were taken in this session,
+// which lists and the best mark.
 import { bracketed } from "./steps.js";
 
 /** @typedef {import("./steps.js").Part} Part */
@@ -49,6 +50,44 @@ export function writeAddress(address, isStep) {
 export function goTo({ scroll }, found) {
     found?.focus({ preventScroll: true });
     scrollTo({ top: scroll, behavior: "instant" });
+}
+
+const BACK = "Back";
+
+/** A button that leads to a card, and from there back to where one was, as long as the card is in view. */
+export class WayTo {
+    #button;
+    #words = "";
+    #name = "";
+    /** @type {number | null} how far the page was scrolled, where the button leads back */
+    #scroll = null;
+
+    /** @param {HTMLElement} button @param {HTMLElement} card @param {HTMLElement} heading of the card, which takes the focus */
+    constructor(button, card, heading) {
+        this.#button = button;
+        button.addEventListener("click", () => {
+            const scroll = this.#scroll;
+            this.#setScroll(scroll === null ? scrollY : null);
+            if (scroll !== null) return scrollTo({ top: scroll, behavior: "instant" });
+            heading.focus({ preventScroll: true });
+            card.scrollIntoView({ block: "start", behavior: "instant" });
+        });
+        new IntersectionObserver(([{ isIntersecting }]) => isIntersecting || this.#setScroll(null)).observe(card);
+    }
+
+    /** Says what the button leads to; where that is nothing there is no button. @param {string} words @param {string} name as it is said */
+    show(words, name) {
+        [this.#words, this.#name] = [words, name];
+        this.#button.hidden = words === "";
+        this.#setScroll(this.#scroll);
+    }
+
+    /** @param {number | null} scroll */
+    #setScroll(scroll) {
+        this.#scroll = scroll;
+        this.#button.textContent = scroll === null ? this.#words : BACK;
+        this.#button.setAttribute("aria-label", scroll === null ? this.#name : BACK);
+    }
 }
 
 /** @param {string} scramble @param {Part[]} parts @param {string} next the step that was gone on to, or "" */

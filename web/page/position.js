@@ -115,6 +115,24 @@ export function offersOf(calls, reached, now) {
     });
 }
 
+/** How long the page waits for all offers, to show them together with the cube. */
+const SOON = 50;
+
+/**
+ * Some groups of offers in portions: all in one if they are there soon, since each part of the page that is shown by itself is laid out and
+ * painted by itself, which costs more than most counts; else each as it comes.
+ * @param {Promise<Offer[]>[]} groups @returns {Promise<Promise<Offer[][]>[]>}
+ */
+export async function inPortions(groups) {
+    const all = Promise.all(groups);
+    const isSoon = await Promise.race([all.then(() => true, () => false), new Promise((later) => setTimeout(later, SOON, false))]);
+    if (isSoon) return [all];
+    const portions = groups.map((group) => group.then((offers) => [offers]));
+    // what is wrong is said where they are waited for
+    for (const portion of portions) portion.catch(() => {});
+    return portions;
+}
+
 /** What solvers choose a step by: bad edges, or the case. @param {string} letters @param {import("./steps.js").OfferedStep} step */
 export function caseOfStep(letters, { axis, needs }) {
     if (needs !== null) return caseName(letters, axis);

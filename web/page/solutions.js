@@ -4,7 +4,7 @@ import { Stopped } from "./calls.js";
 import { caseName, farnessOf, sizeOf } from "./cases.js";
 import { announce, announceLater, counted, element, part, setBusy, spoken, tell } from "./element.js";
 import { printAll, solve } from "./engine.js";
-import { ListFilter } from "./filter.js";
+import { ListFilter, NOT_MOVES } from "./filter.js";
 import { focusButton, focusWithin, roveWithin, starButton, takeButton } from "./rows.js";
 import { bracketed, reductionsAfter, stateOf, stepNamed, titleOf } from "./steps.js";
 import { mergeTwins, withoutEarlier } from "./twins.js";
@@ -20,7 +20,6 @@ export const MOST_SHOWN = 200;
 /** Of how many solutions the cases are asked for. */
 export const MOST_WITH_CASES = 50000;
 const LOOKING = "Looking …";
-const NOT_MOVES = "The text in the filter is not moves: type face turns such as F B'.";
 
 /** @template Item @param {Item[]} items @param {(item: Item) => string} nameOf @returns {Map<string, Item[]>} */
 function grouped(items, nameOf) {
@@ -42,7 +41,7 @@ export class SolutionList {
     #whole = true;
     #ordered = [];
     #shown = MOST_SHOWN;
-    #filter = new ListFilter(() => this.#filtered(), () => this.#typed());
+    #filter = new ListFilter({ changed: () => this.#filtered(), typed: () => this.#typed() });
     #groups = part("solutions-groups");
 
     /**

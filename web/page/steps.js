@@ -35,6 +35,10 @@ export const reductionsAfter = (orientation) => REDUCTIONS.filter(({ needs }) =>
 /** What holds once a step is reached. @param {OfferedStep} step */
 export const stateOf = (step) => `${step.needs === null ? "EO" : "DR"} ${step.axis}`;
 
+/** What may be reached by a reduction where some orientations hold. @param {string[]} orientations by the names of their steps */
+export const reducedAfter = (orientations) =>
+    [...new Set(orientations.flatMap(reductionsAfter).map(stateOf))];
+
 /** What a step is called on the page. @param {OfferedStep} step */
 export const titleOf = (step) => (step.needs === null ? stateOf(step) : `${stateOf(step)} after ${stateOf(stepNamed(step.needs))}`);
 

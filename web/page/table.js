@@ -48,11 +48,11 @@ export class StepTable {
     }
 
     /**
-     * Adds offers; of all that are shown a reduction comes before an orientation.
-     * @param {Offer[]} offers @param {Cube} cube @param {import("./address.js").List | null} list
+     * Adds groups of offers; of all that are shown a reduction comes before an orientation.
+     * @param {Offer[][]} added @param {Cube} cube @param {import("./address.js").List | null} list
      */
-    add(offers, cube, list) {
-        if (offers.length > 0) this.#groups.push(offers);
+    add(added, cube, list) {
+        this.#groups.push(...added);
         const isReduction = (group) => Number(group[0].step.needs !== null);
         const groups = [...this.#groups].sort((one, other) => isReduction(other) - isReduction(one));
         const focused = this.#body.contains(document.activeElement) ? document.activeElement.dataset.cell : null;

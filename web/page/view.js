@@ -32,6 +32,16 @@ export function keepInView(column) {
     column.addEventListener("focusin", ({ target }) => requestAnimationFrame(() => showFocused(column, target)));
 }
 
+/**
+ * Makes a change that may show or hide what stands above a part, without moving the part under a finger.
+ * @param {HTMLElement} still @param {() => void} change
+ */
+export function withoutMoving(still, change) {
+    const { top } = still.getBoundingClientRect();
+    change();
+    scrollBy({ top: still.getBoundingClientRect().top - top, behavior: "instant" });
+}
+
 /** Makes what rests on a readable scramble usable or not. @param {boolean} usable */
 export function setUsable(usable) {
     for (const name of ["line", "results", "kept", "cube"]) part(name).inert = !usable;
